@@ -1,0 +1,39 @@
+-- What a device answered, its count of failures, and what went in and out.
+use Rattle.std.specs.Prelude.{◌≡◌, ℕ, ◌+◌, ◌-◌, ◌^◌, ◌<◌, ◌++◌, min, List, Option, Result, Ok, Err, zero, suc, ◌⊎◌}
+use Rattle.std.specs.Io.KnownBytes.{Appends}
+use Rattle.rasta_pcap.specs.declared.counted.Counted.{Counted}
+
+-- the greatest count
+abbrev pub greatest_count : ℕ
+greatest_count = 2 ^ 64 - 1
+
+-- one failure more, as far as the count goes
+abbrev pub one_failure_more : ℕ → ℕ
+one_failure_more n = min (n + 1) greatest_count
+
+-- the count after a read
+abbrev pub after_read : {E : Type 0} → ℕ → Result ℕ E → ℕ
+after_read n (Ok k) = n
+after_read n (Err e) = one_failure_more n
+
+-- the count after a write: to take no byte is a failure
+abbrev pub after_write : {E : Type 0} → ℕ → Result ℕ E → ℕ
+after_write n (Ok zero) = one_failure_more n
+after_write n (Ok (suc k)) = n
+after_write n (Err e) = one_failure_more n
+
+-- the device failed between these two counts: the count rose, or it can rise no more
+abbrev pub HasFailed : ℕ → ℕ → Type 0
+HasFailed old new = (old < new) ⊎ (new ≡ greatest_count)
+
+-- a beginning of these bytes went out
+abbrev pub AppendsBeginning : Option (List ℕ) → Option (List ℕ) → List ℕ → Type 0
+AppendsBeginning old new bytes = (front : List ℕ) × (rest : List ℕ) × Appends old new front × (bytes ≡ front ++ rest)
+
+-- the device of a counted one
+abbrev pub device_of : {D : Type 0} → Counted D → D
+device_of c = c.device
+
+-- how many calls of a counted device have failed
+abbrev pub failures_of : {D : Type 0} → Counted D → ℕ
+failures_of c = c.failures

@@ -1,0 +1,105 @@
+-- Faults: their numbers by name, and what is printed of them.
+use Rattle.std.specs.Prelude.{ℕ, List, [], ◌∷◌, ◌==◌, if◌then◌else◌, codes, Option, Some, None}
+use Rattle.rasta_pcap.specs.declared.fault.Fault.{Fault}
+use Rattle.rasta_pcap.specs.declared.fault.Side.{Side}
+
+-- the fault of this number at this place, which speaks of no end
+abbrev pub fault_at : ℕ → ℕ → Fault
+fault_at number place = record { number = number; place = place; end = None }
+
+-- the fault of this number at this place, which speaks of this end
+abbrev pub fault_of_end : ℕ → ℕ → Side → Fault
+fault_of_end number place side = record { number = number; place = place; end = Some side }
+
+abbrev pub no_memory : Fault
+no_memory = fault_at 1 0
+
+abbrev pub read_failed : Fault
+read_failed = fault_at 2 0
+
+abbrev pub write_failed : Fault
+write_failed = fault_at 3 0
+
+abbrev pub not_pcap : ℕ
+not_pcap = 10
+
+abbrev pub wrong_version : ℕ
+wrong_version = 11
+
+abbrev pub wrong_link_type : ℕ
+wrong_link_type = 12
+
+abbrev pub cut_header : ℕ
+cut_header = 13
+
+abbrev pub cut_record : ℕ
+cut_record = 14
+
+abbrev pub cut_packet : ℕ
+cut_packet = 15
+
+abbrev pub fragment : ℕ
+fragment = 16
+
+abbrev pub too_many : ℕ
+too_many = 17
+
+abbrev pub record_too_long : ℕ
+record_too_long = 18
+
+abbrev pub bad_udp : ℕ
+bad_udp = 19
+
+abbrev pub redundancy_length : ℕ
+redundancy_length = 20
+
+abbrev pub too_short : ℕ
+too_short = 21
+
+abbrev pub safety_length : ℕ
+safety_length = 22
+
+abbrev pub wrong_type : ℕ
+wrong_type = 23
+
+abbrev pub wrong_payload : ℕ
+wrong_payload = 24
+
+abbrev pub wrong_code : ℕ
+wrong_code = 25
+
+abbrev pub wrong_ids : ℕ
+wrong_ids = 26
+
+abbrev pub not_toml : ℕ
+not_toml = 50
+
+abbrev pub missing_key : ℕ
+missing_key = 51
+
+abbrev pub bad_value : ℕ
+bad_value = 52
+
+-- the printed name of each number
+abbrev pub names : List (ℕ × List ℕ)
+names = (1, codes "NoMemory") ∷ (2, codes "ReadFailed") ∷ (3, codes "WriteFailed")
+    ∷ (10, codes "NotPcap") ∷ (11, codes "Version") ∷ (12, codes "LinkType") ∷ (13, codes "CutHeader")
+    ∷ (14, codes "CutRecord") ∷ (15, codes "CutPacket") ∷ (16, codes "Fragment") ∷ (17, codes "TooMany")
+    ∷ (18, codes "RecordTooLong") ∷ (19, codes "BadUdp") ∷ (20, codes "RedundancyLength")
+    ∷ (21, codes "TooShort") ∷ (22, codes "SafetyLength") ∷ (23, codes "Type") ∷ (24, codes "Payload")
+    ∷ (25, codes "Code") ∷ (26, codes "Ids") ∷ (27, codes "CopyDiffers") ∷ (28, codes "NumberGap")
+    ∷ (29, codes "TooLong") ∷ (30, codes "Syntax") ∷ (31, codes "SlotOrder") ∷ (32, codes "NotFirstCopy")
+    ∷ (33, codes "MakeMissing") ∷ (34, codes "NotYetCrossed") ∷ (35, codes "NotRising")
+    ∷ (36, codes "ClockDiffers") ∷ (37, codes "ClockFalls") ∷ (38, codes "PastDeadline")
+    ∷ (39, codes "ConfirmedNumber") ∷ (40, codes "ConfirmedTime") ∷ (41, codes "NotAllowed")
+    ∷ (42, codes "ReplyOwed") ∷ (43, codes "ResendDiffers") ∷ (44, codes "Closed") ∷ (45, codes "TooMany")
+    ∷ (46, codes "TooEarlyTimeout") ∷ (47, codes "SequenceNumber") ∷ (50, codes "Toml")
+    ∷ (51, codes "MissingKey") ∷ (52, codes "BadValue") ∷ (60, codes "NotFound") ∷ []
+
+-- the text beside the number, or nothing
+abbrev pub text_beside : ℕ → List (ℕ × List ℕ) → List ℕ
+text_beside n [] = []
+text_beside n (row ∷ rows) = if n == row.0 then row.1 else text_beside n rows
+
+unfoldable pub name_of : ℕ → List ℕ
+name_of number = text_beside number names

@@ -1,0 +1,132 @@
+//! Faults and their names.
+ghost use Rattle.std.specs.Prelude.{◌≡◌, Option, None};
+ghost use Rattle.rasta_pcap.specs.Fault.{fault_at, name_of};
+
+/// One of the two ends of the connection.
+#[derive(Clone, Copy, Debug, PartialEq, Eq)]
+pub enum Side {
+    Client,
+    Server,
+}
+
+/// Why something was refused: the fault's number, the place it names (0 where it names none), and
+/// the end that it speaks of.
+#[derive(Clone, Copy, Debug, PartialEq, Eq)]
+pub struct Fault {
+    pub number: u8,
+    pub place: u32,
+    pub end: Option<Side>,
+}
+
+impl Fault {
+    pub const NO_MEMORY: u8 = 1;
+
+    pub const READ_FAILED: u8 = 2;
+
+    pub const WRITE_FAILED: u8 = 3;
+
+    pub const NOT_PCAP: u8 = 10;
+
+    pub const VERSION: u8 = 11;
+
+    pub const LINK_TYPE: u8 = 12;
+
+    pub const CUT_HEADER: u8 = 13;
+
+    pub const CUT_RECORD: u8 = 14;
+
+    pub const CUT_PACKET: u8 = 15;
+
+    pub const FRAGMENT: u8 = 16;
+
+    pub const TOO_MANY: u8 = 17;
+
+    pub const RECORD_TOO_LONG: u8 = 18;
+
+    pub const BAD_UDP: u8 = 19;
+
+    pub const REDUNDANCY_LENGTH: u8 = 20;
+
+    pub const TOO_SHORT: u8 = 21;
+
+    pub const SAFETY_LENGTH: u8 = 22;
+
+    pub const TYPE: u8 = 23;
+
+    pub const PAYLOAD: u8 = 24;
+
+    pub const CODE: u8 = 25;
+
+    pub const IDS: u8 = 26;
+
+    pub const TOML: u8 = 50;
+
+    pub const MISSING_KEY: u8 = 51;
+
+    pub const BAD_VALUE: u8 = 52;
+
+    /// A fault that speaks of no end.
+    pub const fn at(number: u8, place: u32) -> Fault
+        ensures { result ≡ fault_at number place }
+    {
+        Fault {
+            number,
+            place,
+            end: None,
+        }
+    }
+
+    /// The name that is printed, empty for a number that no fault has.
+    #[tactic(auto, unfolding(crate::specs::Fault::name_of))]
+    pub fn name(&self) -> &'static str
+        ensures { result.now ≡ name_of self.now.number }
+    {
+        match self.number {
+            1 => "NoMemory",
+            2 => "ReadFailed",
+            3 => "WriteFailed",
+            10 => "NotPcap",
+            11 => "Version",
+            12 => "LinkType",
+            13 => "CutHeader",
+            14 => "CutRecord",
+            15 => "CutPacket",
+            16 => "Fragment",
+            17 | 45 => "TooMany",
+            18 => "RecordTooLong",
+            19 => "BadUdp",
+            20 => "RedundancyLength",
+            21 => "TooShort",
+            22 => "SafetyLength",
+            23 => "Type",
+            24 => "Payload",
+            25 => "Code",
+            26 => "Ids",
+            27 => "CopyDiffers",
+            28 => "NumberGap",
+            29 => "TooLong",
+            30 => "Syntax",
+            31 => "SlotOrder",
+            32 => "NotFirstCopy",
+            33 => "MakeMissing",
+            34 => "NotYetCrossed",
+            35 => "NotRising",
+            36 => "ClockDiffers",
+            37 => "ClockFalls",
+            38 => "PastDeadline",
+            39 => "ConfirmedNumber",
+            40 => "ConfirmedTime",
+            41 => "NotAllowed",
+            42 => "ReplyOwed",
+            43 => "ResendDiffers",
+            44 => "Closed",
+            46 => "TooEarlyTimeout",
+            47 => "SequenceNumber",
+            50 => "Toml",
+            51 => "MissingKey",
+            52 => "BadValue",
+            60 => "NotFound",
+            _ => "",
+        }
+    }
+}

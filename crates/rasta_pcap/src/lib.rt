@@ -1,0 +1,10 @@
+//! Captures in the classic libpcap format: faults, devices, and the records of a file.
+#![tactic(auto)]
+
+mod counted;
+mod fault;
+mod pcap;
+
+pub use counted::{Counted, Sink, Source, read_all, write_all};
+pub use fault::{Fault, Side};
+pub use pcap::{Pcap, Record};

@@ -1,0 +1,3 @@
+pub use Rattle.rasta_pcap.specs.Fault
+pub use Rattle.rasta_pcap.specs.Devices
+pub use Rattle.rasta_pcap.specs.Capture
