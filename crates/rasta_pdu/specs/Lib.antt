@@ -1,0 +1,5 @@
+pub use Rattle.rasta_udp.specs.Fault
+pub use Rattle.rasta_udp.specs.Devices
+pub use Rattle.rasta_udp.specs.Capture
+pub mod Params
+pub mod Stored

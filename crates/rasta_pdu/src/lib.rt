@@ -1,0 +1,9 @@
+//! The PDUs of the safety and retransmission layer and of the redundancy layer, and the recorded
+//! parameters of a connection.
+#![tactic(auto)]
+
+mod params;
+mod route;
+
+pub use params::Params;
+pub use rasta_udp::{Channel, Endpoint, Fault, Side, Sink, Source};
