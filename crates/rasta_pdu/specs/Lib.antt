@@ -3,3 +3,4 @@ pub use Rattle.rasta_udp.specs.Devices
 pub use Rattle.rasta_udp.specs.Capture
 pub mod Params
 pub mod Stored
+pub mod Pdu

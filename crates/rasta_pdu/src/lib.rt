@@ -3,7 +3,9 @@
 #![tactic(auto)]
 
 mod params;
+mod pdu;
 mod route;
 
 pub use params::Params;
+pub use pdu::{Kind, Pdu, decode};
 pub use rasta_udp::{Channel, Endpoint, Fault, Side, Sink, Source};

@@ -1,0 +1,67 @@
+-- Bytes read as numbers, and the numbers' bytes.
+use Rattle.std.proofs.Common.{◌≡◌, ℕ, ◌+◌, ◌*◌, ◌^◌, ◌<◌, ◌≤◌, List, ◌++◌, length, take, drop, get_or, refl, ap, sym, ◌∙◌, arith, inl, inr, w16, w32, length-take, length-drop, get_or-take, get_or-drop, drop-drop}
+use Rattle.std.proofs.lemmas.Nat.{le_bytes_2, le_bytes_4}
+use Rattle.std.proofs.lemmas.List.{take-append-drop, get_or_past}
+use Rattle.std.proofs.lemmas.Bool.{cases_lt}
+use Rattle.std.specs.Int.{from_le_bytes}
+use Rattle.byteorder.specs.Endian.{little_bytes, little_number, little_from}
+use Rattle.byteorder.specs.Numbers.{little_from-append, little_from-lt}
+use Rattle.rasta_pdu.specs.Pdu.{number_at}
+
+-- each of the list is a byte
+pub record AreBytes (xs : List ℕ) : Type 0 where
+  pub fits : (i : ℕ) → get_or xs i 0 < 256
+
+-- bytes from a place on are bytes
+pub AreBytes-drop : (at : ℕ) (xs : List ℕ) → AreBytes xs → AreBytes (drop at xs)
+AreBytes-drop at xs are = record { fits = λ i. rw get_or-drop (are.fits (at + i)) }
+
+-- the first bytes are bytes
+take_fits : (n : ℕ) (xs : List ℕ) → AreBytes xs → n ≤ length xs → (i : ℕ) → get_or (take n xs) i 0 < 256
+take_fits n xs are long i =
+    elim (cases_lt i n) [
+      | inl h ↦ rw get_or-take (are.fits i)
+      | inr h ↦
+          let front : length (take n xs) ≡ n = rw length-take (omega arith) in
+          omega (arith, get_or_past (take n xs) i 0 (omega arith))
+    ]
+
+-- the number of the first bytes is that of the bytes before the rest
+same_front : (n : ℕ) (xs : List ℕ) → n ≤ length xs → little_from 0 n (take n xs) ≡ little_from 0 n xs
+same_front n xs long =
+    let front : length (take n xs) ≡ n = rw length-take (omega arith) in
+    sym (little_from-append n (take n xs) (drop n xs) (omega arith)) ∙ ap (little_from 0 n) (take-append-drop n xs)
+
+-- four bytes in front are those of their number
+four : (xs : List ℕ) → AreBytes xs → 4 ≤ length xs → xs ≡ little_bytes 4 (little_number 4 xs) ++ drop 4 xs
+four xs are long =
+    let front : length (take 4 xs) ≡ 4 = rw length-take (omega arith) in
+    let same = same_front 4 xs long in
+    let read : little_number 4 xs ≡ from_le_bytes w32 (take 4 xs) = omega (arith, same) in
+    sym (take-append-drop 4 xs)
+    ∙ ap (λ l. l ++ drop 4 xs) (sym (le_bytes_4 (take 4 xs) (little_number 4 xs) front (take_fits 4 xs are long) read))
+
+-- two bytes in front are those of their number
+two : (xs : List ℕ) → AreBytes xs → 2 ≤ length xs → xs ≡ little_bytes 2 (little_number 2 xs) ++ drop 2 xs
+two xs are long =
+    let front : length (take 2 xs) ≡ 2 = rw length-take (omega arith) in
+    let same = same_front 2 xs long in
+    let read : little_number 2 xs ≡ from_le_bytes w16 (take 2 xs) = omega (arith, same) in
+    sym (take-append-drop 2 xs)
+    ∙ ap (λ l. l ++ drop 2 xs) (sym (le_bytes_2 (take 2 xs) (little_number 2 xs) front (take_fits 2 xs are long) read))
+
+-- four bytes at a place are those of their number
+pub four_at : (at : ℕ) (xs : List ℕ) → AreBytes xs → at + 4 ≤ length xs → drop at xs ≡ little_bytes 4 (number_at 4 at xs) ++ drop (at + 4) xs
+four_at at xs are long =
+    four (drop at xs) (AreBytes-drop at xs are) (rw length-drop (omega arith))
+    ∙ ap (λ l. little_bytes 4 (number_at 4 at xs) ++ l) (drop-drop 4 at xs)
+
+-- two bytes at a place are those of their number
+pub two_at : (at : ℕ) (xs : List ℕ) → AreBytes xs → at + 2 ≤ length xs → drop at xs ≡ little_bytes 2 (number_at 2 at xs) ++ drop (at + 2) xs
+two_at at xs are long =
+    two (drop at xs) (AreBytes-drop at xs are) (rw length-drop (omega arith))
+    ∙ ap (λ l. little_bytes 2 (number_at 2 at xs) ++ l) (drop-drop 2 at xs)
+
+-- so many bytes spell a number below that power
+pub number_at-lt : (n at : ℕ) (xs : List ℕ) → AreBytes xs → number_at n at xs < 256 ^ n
+number_at-lt n at xs are = little_from-lt 0 n (drop at xs) (AreBytes-drop at xs are).fits
