@@ -1,5 +1,5 @@
 //! Faults and their names.
-ghost use Rattle.std.specs.Prelude.{◌≡◌, Option, None};
+ghost use Rattle.std.specs.Prelude.{◌≡◌, ◌≤◌, length, Option, None};
 ghost use Rattle.rasta_pcap.specs.Fault.{fault_at, name_of};
 
 /// One of the two ends of the connection.
@@ -79,7 +79,8 @@ impl Fault {
     /// The name that is printed, empty for a number that no fault has.
     #[tactic(auto, unfolding(crate::specs::Fault::name_of))]
     pub fn name(&self) -> &'static str
-        ensures { result.now ≡ name_of self.now.number }
+        ensures text { result.now ≡ name_of self.now.number }
+        ensures short { length result.now ≤ 16 }
     {
         match self.number {
             1 => "NoMemory",

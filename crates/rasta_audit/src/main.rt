@@ -1,0 +1,7 @@
+//! Shows the PDUs of a RaSTA connection in a capture.
+#![tactic(auto)]
+
+mod line;
+mod texts;
+
+fn main() {}
