@@ -2,6 +2,7 @@
 #![tactic(auto)]
 
 mod channel;
+mod frame;
 
 pub use channel::{Channel, Datagram, Endpoint};
-pub use rasta_pcap::{Fault, Side, Sink, Source};
+pub use rasta_pcap::{Fault, Record, Side, Sink, Source};

@@ -1,0 +1,2 @@
+mod Directions
+mod Tags

@@ -1,0 +1,188 @@
+//! The datagram in a captured frame.
+ghost use Rattle.std.specs.Prelude.{◌≡◌, ◌+◌, ◌≤◌, length, option_map, ◌||◌, ◌&&◌, nat_lt, ◌==◌};
+ghost use Rattle.std.specs.List.{list_any};
+ghost use Rattle.rasta_udp.specs.Frame.{Direction, address_of, number_at, header_length_of, fields_of, has_addresses, has_known_addresses, goes, direction_of, map_found, packet_of, packet_at, untagged_of, packet_in};
+
+use crate::channel::{Channel, Datagram, Endpoint};
+use byteorder::{BigEndian, ByteOrder};
+use rasta_pcap::{Fault, Record, Side};
+
+// The type field of Ethernet II for IPv4.
+const IPV4: u16 = 0x0800;
+
+// The type field of a tag of IEEE 802.1Q.
+const TAGGED: u16 = 0x8100;
+
+// The protocol number of UDP.
+const UDP: u8 = 17;
+
+// Where the addresses of IPv4 end.
+const ADDRESSES_END: usize = 34;
+
+// The flag of more fragments, and the fragment offset.
+const FRAGMENT_BITS: u16 = 0x3fff;
+
+#[tactic(auto, unfolding(crate::specs::Frame::number_at))]
+fn u16_at(bytes: &[u8], place: usize) -> u16
+    requires { place + 2 ≤ length bytes.now }
+    ensures { result ≡ number_at 2 place bytes.now }
+{
+    BigEndian::read_u16(&bytes[place..])
+}
+
+#[tactic(auto, unfolding(crate::specs::Frame::number_at))]
+fn u32_at(bytes: &[u8], place: usize) -> u32
+    requires { place + 4 ≤ length bytes.now }
+    ensures { result ≡ number_at 4 place bytes.now }
+{
+    BigEndian::read_u32(&bytes[place..])
+}
+
+fn address(endpoint: &Endpoint) -> u32
+    ensures { result ≡ address_of endpoint.now }
+{
+    u32_at(&endpoint.address, 0)
+}
+
+// The length of the IPv4 header, in bytes.
+fn header_length(frame: &[u8]) -> usize
+    requires { 15 ≤ length frame.now }
+    ensures { result ≡ header_length_of frame.now }
+{
+    4 * (frame[14] & 0x0f) as usize
+}
+
+fn is_fragment(frame: &[u8]) -> bool
+    requires { 22 ≤ length frame.now }
+    ensures { let x = fields_of frame.now in result ≡ (x.more_fragments == 1 || nat_lt 0 x.fragment_offset) }
+{
+    u16_at(frame, 20) & FRAGMENT_BITS != 0
+}
+
+// Whether the frame goes from one end to the other, by its addresses.
+#[tactic(auto, unfolding(crate::specs::Frame::has_addresses))]
+fn has_addresses(frame: &[u8], source: &Endpoint, destination: &Endpoint) -> bool
+    requires { 34 ≤ length frame.now }
+    ensures { result ≡ has_addresses (fields_of frame.now) source.now destination.now }
+{
+    u32_at(frame, 26) == address(source) && u32_at(frame, 30) == address(destination)
+}
+
+// Whether the frame goes from one end to the other, by its addresses and ports.
+#[tactic(auto, unfolding(crate::specs::Frame::goes))]
+fn goes(frame: &[u8], source: &Endpoint, destination: &Endpoint) -> bool
+    requires addresses { 34 ≤ length frame.now }
+    requires ports { 18 + header_length_of frame.now ≤ length frame.now }
+    ensures { result ≡ goes (fields_of frame.now) source.now destination.now }
+{
+    let header = header_length(frame);
+    has_addresses(frame, source, destination)
+        && u16_at(frame, 14 + header) == source.port
+        && u16_at(frame, 16 + header) == destination.port
+}
+
+// Whether the frame goes between the ends of the channel, by its addresses.
+fn has_addresses_of(frame: &[u8], channel: &Channel) -> bool
+    requires { 34 ≤ length frame.now }
+    ensures { let x = fields_of frame.now in result
+        ≡ (has_addresses x channel.now.client channel.now.server || has_addresses x channel.now.server channel.now.client) }
+{
+    has_addresses(frame, &channel.client, &channel.server)
+        || has_addresses(frame, &channel.server, &channel.client)
+}
+
+// Whether the frame goes between the ends of some channel, by its addresses.
+fn has_known_addresses(frame: &[u8], channels: &[Channel]) -> bool
+    requires { 34 ≤ length frame.now }
+    ensures { result ≡ has_known_addresses channels.now (fields_of frame.now) }
+{
+    channels
+        .iter()
+        .any(|channel| has_addresses_of(frame, channel))
+}
+
+// The number of the channel and the side that sends, where the frame goes between two ends.
+fn direction(frame: &[u8], channels: &[Channel]) -> Option<(u8, Side)>
+    requires channels { length channels.now ≤ 255 }
+    requires addresses { 34 ≤ length frame.now }
+    requires ports { 18 + header_length_of frame.now ≤ length frame.now }
+    ensures { result ≡ option_map (λ (d : Direction). (d.channel, d.side)) (direction_of channels.now (fields_of frame.now)) }
+{
+    for (i, channel) in channels.iter().enumerate() {
+        let number = (i + 1) as u8;
+        if goes(frame, &channel.client, &channel.server) {
+            return Some((number, Side::Client));
+        }
+        if goes(frame, &channel.server, &channel.client) {
+            return Some((number, Side::Server));
+        }
+    }
+    None
+}
+
+// The datagram in a frame that has no tag.
+#[tactic(auto, unfolding(crate::specs::Frame::found_by))]
+fn untagged<'a>(frame: &'a [u8], channels: &[Channel]) -> Result<Option<Datagram<'a>>, Fault>
+    requires { length channels.now ≤ 255 }
+    ensures { map_found packet_of result ≡ map_found (packet_at frame.now) (untagged_of channels.now frame.now) }
+{
+    if frame.len() < ADDRESSES_END || u16_at(frame, 12) != IPV4 {
+        return Ok(None);
+    }
+    let header = header_length(frame);
+    if frame[14] >> 4 != 4
+        || header < 20
+        || frame[23] != UDP
+        || !has_known_addresses(frame, channels)
+    {
+        return Ok(None);
+    }
+    if is_fragment(frame) {
+        return Err(Fault::at(Fault::FRAGMENT, 0));
+    }
+    let total = u16_at(frame, 16) as usize;
+    if total < header + 8 {
+        return Err(Fault::at(Fault::BAD_UDP, 0));
+    }
+    if frame.len() < 14 + header + 8 {
+        return Err(Fault::at(Fault::CUT_PACKET, 0));
+    }
+    let Some((channel, side)) = direction(frame, channels) else {
+        return Ok(None);
+    };
+    let length = u16_at(frame, 18 + header) as usize;
+    if length < 8 || length > total - header {
+        return Err(Fault::at(Fault::BAD_UDP, 0));
+    }
+    if frame.len() < 14 + header + length {
+        return Err(Fault::at(Fault::CUT_PACKET, 0));
+    }
+    let payload = &frame[22 + header..14 + header + length];
+    Ok(Some(Datagram {
+        channel,
+        side,
+        payload,
+    }))
+}
+
+/// The datagram of a channel that a record's frame holds, or `None` where it is of no channel.
+/// Channels are numbered from 1, in their order.
+///
+/// One tag of IEEE 802.1Q and options of IPv4 are passed over, and what stands behind the datagram
+/// is no data. Refused, at place 0, by [`Fault::FRAGMENT`], [`Fault::BAD_UDP`] (a total length or a
+/// UDP length that can't be) and [`Fault::CUT_PACKET`] (not all of it was captured).
+#[tactic(auto, unfolding(crate::specs::Frame::datagram_of))]
+pub fn datagram<'a>(
+    record: &Record<'a>,
+    channels: &[Channel],
+) -> Result<Option<Datagram<'a>>, Fault>
+    requires { length channels.now ≤ 255 }
+    ensures { map_found packet_of result ≡ packet_in channels.now «record».now.bytes.now }
+{
+    let frame = record.bytes;
+    if frame.len() >= 16 && u16_at(frame, 12) == TAGGED {
+        untagged(&frame[4..], channels)
+    } else {
+        untagged(frame, channels)
+    }
+}
