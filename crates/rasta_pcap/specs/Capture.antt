@@ -1,5 +1,5 @@
 -- A capture file in the classic libpcap format, its records, and the cursor that goes over them.
-use Rattle.std.specs.Prelude.{◌≡◌, ℕ, zero, suc, ◌+◌, ◌<◌, ◌≤◌, List, [], ◌∷◌, ◌++◌, length, take, drop, map, Option, Some, None, Result, Ok, Err, Bool, ◌||◌, ◌&&◌, nat_lt, nat_le, ◌⊎◌, ◌==◌, if◌then◌else◌}
+use Rattle.std.specs.Prelude.{◌≡◌, ℕ, zero, suc, ◌+◌, ◌≤◌, List, [], ◌∷◌, ◌++◌, length, take, drop, map, Option, Some, None, Result, Ok, Err, Bool, ◌||◌, ◌&&◌, nat_lt, nat_le, ◌⊎◌, ◌==◌, if◌then◌else◌}
 use Rattle.std.specs.List.{flat_map, AllByRecursion}
 use Rattle.byteorder.specs.Endian.{little_number, big_number}
 use Rattle.rasta_pcap.specs.declared.fault.Fault.{Fault}
