@@ -1,8 +1,7 @@
 -- The header of a file, and the cursor behind it.
-use Rattle.std.proofs.Common.{◌≡◌, ℕ, ◌+◌, ◌*◌, ◌<◌, ◌≤◌, ◌⊎◌, ◌∙◌, inl, inr, List, ◌++◌, length, take, drop, slice_index, Option, Some, None, Result, Ok, Err, Bool, true, false, nat_lt, nat_eq, cond, refl, ap, sym, arith, subst, length-append, length-take, length-drop, min}
-use Rattle.std.specs.Prelude.{◌||◌, ◌&&◌}
+use Rattle.std.proofs.Common.{◌≡◌, ℕ, ◌+◌, ◌*◌, ◌≤◌, ◌⊎◌, ◌∙◌, inl, inr, List, ◌++◌, length, take, drop, slice_index, Option, Some, None, Result, Ok, Err, Bool, true, false, nat_lt, nat_eq, cond, refl, ap, sym, arith, subst, length-take, length-drop, min}
+use Rattle.std.specs.Prelude.{◌&&◌}
 use Rattle.std.proofs.lemmas.List.{take-append-drop, drop-append-le}
-use Rattle.std.proofs.Math.Seq.{take-append_seam, drop-append_seam}
 use Rattle.std.proofs.lemmas.Bool.{ltb-false, eqb-true}
 use Rattle.std.proofs.lemmas.Bool.Decides.{nat_tests}
 use Rattle.byteorder.specs.Endian.{little_number, big_number}
@@ -83,6 +82,12 @@ at_start order file = record { order = order; rest = drop 24 file; count = 0 }
 abbrev judged : Bool → Bool → Bool → Cursor → Result Cursor Fault
 judged major minor link_type c = cond (major && minor) (cond link_type (Ok c) (Err (fault_at wrong_link_type 0))) (Err (fault_at wrong_version 0))
 
+abbrev of_fault : Fault → Result Cursor Fault
+of_fault f = Err f
+
+at_place_0 : (f : Fault) (number : ℕ) → of_fault (fault_at number 0) ≡ of_fault f → f ≡ fault_at f.number 0
+at_place_0 f number h = let e : fault_at number 0 ≡ f = cc in rw (← e) refl
+
 record IsJudged (major minor link_type : Bool) (c d : Cursor) : Type 0 where
   is : d ≡ c
   major_is : major ≡ true
@@ -128,28 +133,33 @@ opening-header order file h =
 
 opened : (short : Bool) (o : Option Endianness) (file : List ℕ) (c : Cursor) → cond short (Err (fault_at cut_header 0)) (opening_in o file) ≡ Ok c
     → (short ≡ false) × (o ≡ Some c.order) × IsJudged (nat_eq (number_in c.order 2 (drop 4 file)) 2) (nat_eq (number_in c.order 2 (drop 6 file)) 4)
-        (nat_eq (number_in c.order 4 (drop 20 file)) 1) (at_start c.order file) c
+    (nat_eq (number_in c.order 4 (drop 20 file)) 1) (at_start c.order file) c
 opened true o file c h = absurd (cc)
 opened false None file c h = absurd (cc)
 opened false (Some order) file c h =
     let j = judged-ok (nat_eq (number_in order 2 (drop 4 file)) 2) (nat_eq (number_in order 2 (drop 6 file)) 4)
-        (nat_eq (number_in order 4 (drop 20 file)) 1) (at_start order file) c h in
-    let e : c.order ≡ order = ap (λ (k : Cursor). k.order) j.is in
-    (refl, ap Some (sym e), subst (λ (x : Endianness). IsJudged (nat_eq (number_in x 2 (drop 4 file)) 2) (nat_eq (number_in x 2 (drop 6 file)) 4)
-        (nat_eq (number_in x 4 (drop 20 file)) 1) (at_start x file) c) (sym e) j)
+    (nat_eq (number_in order 4 (drop 20 file)) 1) (at_start order file) c h in
+    let e : c.order ≡ order = ap (λ (k : Cursor). k.order) j.is in (
+      refl,
+      ap Some (sym e),
+      subst (λ (x : Endianness). IsJudged (nat_eq (number_in x 2 (drop 4 file)) 2) (nat_eq (number_in x 2 (drop 6 file)) 4)
+          (nat_eq (number_in x 4 (drop 20 file)) 1) (at_start x file) c) (sym e) j,
+    )
 
 -- a file that is opened has such a header, and the cursor stands behind it
 pub opening-is_header : (file : List ℕ) (c : Cursor) → opening file ≡ Ok c → IsHeader c.order (take 24 file) × (c ≡ at_start c.order file)
 opening-is_header file c h =
     let o = opened (nat_lt (length file) 24) (order_of file) file c h in
-    let long = ltb-false (length file) 24 o.0 in
-    (record {
-      size = simp length-take (omega arith);
-      magic = subst IsMagic (number-in_header c.order 0 4 file (omega arith) long) (order_of-is_magic file c.order o.1);
-      major = sym (number-in_header c.order 4 2 file (omega arith) long) ∙ eqb-true _ 2 o.2.major_is;
-      minor = sym (number-in_header c.order 6 2 file (omega arith) long) ∙ eqb-true _ 4 o.2.minor_is;
-      link_type = sym (number-in_header c.order 20 4 file (omega arith) long) ∙ eqb-true _ 1 o.2.link_is;
-    }, o.2.is)
+    let long = ltb-false (length file) 24 o.0 in (
+      record {
+        size = simp length-take (omega arith);
+        magic = subst IsMagic (number-in_header c.order 0 4 file (omega arith) long) (order_of-is_magic file c.order o.1);
+        major = sym (number-in_header c.order 4 2 file (omega arith) long) ∙ eqb-true _ 2 o.2.major_is;
+        minor = sym (number-in_header c.order 6 2 file (omega arith) long) ∙ eqb-true _ 4 o.2.minor_is;
+        link_type = sym (number-in_header c.order 20 4 file (omega arith) long) ∙ eqb-true _ 1 o.2.link_is;
+      },
+      o.2.is,
+    )
 
 -- a header has one order
 pub IsHeader-one_order : (a b : Endianness) (header : List ℕ) → IsHeader a header → IsHeader b header → a ≡ b
@@ -157,3 +167,21 @@ IsHeader-one_order Little Little header x y = refl
 IsHeader-one_order Little Big header x y = absurd (magic-one_order header x.magic y.magic)
 IsHeader-one_order Big Little header x y = absurd (magic-one_order header y.magic x.magic)
 IsHeader-one_order Big Big header x y = refl
+
+judged-fault : (major minor link_type : Bool) (c : Cursor) (f : Fault) → judged major minor link_type c ≡ Err f → f ≡ fault_at f.number 0
+judged-fault false minor link_type c f h = at_place_0 f wrong_version h
+judged-fault true false link_type c f h = at_place_0 f wrong_version h
+judged-fault true true false c f h = at_place_0 f wrong_link_type h
+judged-fault true true true c f h = absurd (cc)
+
+refused : (short : Bool) (o : Option Endianness) (file : List ℕ) (f : Fault) → cond short (Err (fault_at cut_header 0)) (opening_in o file) ≡ Err f
+    → f ≡ fault_at f.number 0
+refused true o file f h = at_place_0 f cut_header h
+refused false None file f h = at_place_0 f not_pcap h
+refused false (Some order) file f h =
+    judged-fault (nat_eq (number_in order 2 (drop 4 file)) 2) (nat_eq (number_in order 2 (drop 6 file)) 4)
+    (nat_eq (number_in order 4 (drop 20 file)) 1) (at_start order file) f h
+
+-- a header's fault is at no record, and speaks of no end
+pub opening-fault_place : (file : List ℕ) (f : Fault) → opening file ≡ Err f → f ≡ fault_at f.number 0
+opening-fault_place file f h = refused (nat_lt (length file) 24) (order_of file) file f h
