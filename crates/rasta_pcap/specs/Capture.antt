@@ -155,3 +155,17 @@ reading_of limit file = reading_opened limit (opening file)
 
 abbrev pub bytes_of : Reading → List (List ℕ)
 bytes_of r = map (λ (n : Numbered). n.1) r.records
+
+-- a file that is refused behind these records, fewer than the bound: the file is its header, these
+-- records, and then bytes that begin with no record, for this fault
+pub record IsRefused (limit : ℕ) (file : List ℕ) (records : List (List ℕ)) (fault : Fault) : Type 0 where
+  pub order : Endianness
+  pub header : List ℕ
+  pub entries : List Entry
+  pub rest : List ℕ
+  pub is_header : IsHeader order header
+  pub each : AllByRecursion (IsEntry order) entries
+  pub whole : file ≡ header ++ (flat_map entry_bytes entries ++ rest)
+  pub bytes_are : records ≡ map (λ (e : Entry). e.bytes) entries
+  pub below : length entries < limit
+  pub refused : next (record { order = order; rest = rest; count = length entries }) ≡ Err fault

@@ -3,6 +3,7 @@
 
 mod counted;
 mod fault;
+pub mod laws;
 mod pcap;
 
 pub use counted::{Counted, Sink, Source, read_all, write_all};
