@@ -1,2 +1,4 @@
 pub mod Lines
+pub mod Show
+pub mod Runs
 pub mod Shown

@@ -2,6 +2,7 @@
 #![tactic(auto)]
 
 mod line;
+mod show;
 mod texts;
 
 fn main() {}

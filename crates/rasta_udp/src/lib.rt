@@ -4,5 +4,6 @@
 mod channel;
 mod frame;
 
+pub use frame::datagram;
 pub use channel::{Channel, Datagram, Endpoint};
 pub use rasta_pcap::{Fault, Record, Side, Sink, Source};

@@ -1,0 +1,23 @@
+use Rattle.std.proofs.Common.{◌≡◌, ◌∙◌, Ok, Some, ap, sym}
+use Rattle.rasta_pcap.specs.Capture.{Cursor, behind, moved, next, reading}
+use Rattle.rasta_audit.specs.Show.{shown_of}
+use Rattle.rasta_audit.specs.Shown.{with_next}
+use Rattle.rasta_audit.proofs.Showing.{shown-end, shown-fault, shown-record}
+use Rattle.rasta_audit.proofs.show.take_next.Goals as goal
+
+pub returns-in-Ok-None : goal.returns-in-Ok-None
+returns-in-Ok-None c left =
+    shown-end c.args.params.now left c.args.pcap.now (rw c.in-Ok-None.field-0-is at c.in-Ok-None.ensures.found)
+
+pub returns-in-Ok-Some : goal.returns-in-Ok-Some
+returns-in-Ok-Some c left =
+    let p = c.args.params.now in
+    let old = c.args.pcap.now in
+    let found = rw c.in-Ok-Some.field-0-is at c.in-Ok-Some.ensures.found in
+    let gone : c.next_record.new.self ≡ behind old = c.next_record.ensures.moves ∙ ap (λ o. moved o old) found in
+    shown-record p left old _ found
+    ∙ sym (c.sight.ensures (shown_of p (reading left (behind old))))
+    ∙ ap (λ (k : Cursor). with_next c.sight.result (shown_of p (reading left k))) (sym gone)
+
+pub returns-in-Err : goal.returns-in-Err
+returns-in-Err c left = shown-fault c.args.params.now left c.args.pcap.now c.in-Err.fault c.in-Err.ensures.found

@@ -1,0 +1,41 @@
+-- What a run read and wrote.
+use Rattle.std.specs.Prelude.{◌≡◌, ◌⊎◌, Bool, true, ℕ, List, [], ◌++◌, Option}
+use Rattle.std.specs.Io.KnownBytes.{Appends, Consumes, IsAtEnd}
+use Rattle.rasta_pcap.specs.declared.fault.Fault.{Fault}
+use Rattle.rasta_pcap.specs.Fault.{no_memory, read_failed, write_failed}
+use Rattle.rasta_pcap.specs.Devices.{HasFailed}
+
+-- nothing follows where the end of input was met
+abbrev pub MayFollow : Bool → List ℕ → Type 0
+MayFollow met_end more = met_end ≡ true → more ≡ []
+
+-- some input was read, perhaps to its end, and what was written is the text of every input that
+-- begins so; the answer is the status of each of them
+pub record WritesText (text : List ℕ → List ℕ) (status : List ℕ → ℕ) (answer : ℕ)
+    (old_input new_input old_output new_output : Option (List ℕ)) : Type 0 where
+  pub input : List ℕ
+  pub met_end : Bool
+  pub consumed : Consumes old_input new_input input
+  pub at_end : met_end ≡ true → IsAtEnd new_input
+  pub output : List ℕ
+  pub appended : Appends old_output new_output output
+  pub whole : (more : List ℕ) → MayFollow met_end more → text (input ++ more) ≡ output
+  pub answered : (more : List ℕ) → MayFollow met_end more → status (input ++ more) ≡ answer
+
+-- some input was read, perhaps to its end, and what was written begins the text of every input that
+-- begins so
+pub record WritesBeginning (text : List ℕ → List ℕ)
+    (old_input new_input old_output new_output : Option (List ℕ)) : Type 0 where
+  pub input : List ℕ
+  pub met_end : Bool
+  pub consumed : Consumes old_input new_input input
+  pub at_end : met_end ≡ true → IsAtEnd new_input
+  pub output : List ℕ
+  pub appended : Appends old_output new_output output
+  pub begins : (more : List ℕ) → MayFollow met_end more → (rest : List ℕ) × (text (input ++ more) ≡ output ++ rest)
+
+-- want of memory, a reader that failed, or a writer that failed or took no byte
+abbrev pub IsRunFault : Fault → ℕ → ℕ → ℕ → ℕ → Type 0
+IsRunFault f old_reads new_reads old_writes new_writes = (f ≡ no_memory)
+    ⊎ (((f ≡ read_failed) × HasFailed old_reads new_reads)
+    ⊎ ((f ≡ write_failed) × HasFailed old_writes new_writes))
