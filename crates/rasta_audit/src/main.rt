@@ -1,6 +1,10 @@
 //! Shows the PDUs of a RaSTA connection in a capture.
 #![tactic(auto)]
 
+mod command;
+mod endpoint;
+mod failure;
+mod form;
 mod line;
 mod show;
 mod texts;

@@ -1,0 +1,57 @@
+-- Endpoints as texts: `a.b.c.d:port`, in decimal without leading zeros.
+use Rattle.std.specs.Prelude.{ℕ, ◌<◌, ◌≤◌, List, [], ◌∷◌, ◌++◌, length, Bool, ◌&&◌, ◌==◌, nat_lt, nat_le, if◌then◌else◌, Option, Some, None}
+use Rattle.std.specs.Fmt.{decimal}
+use Rattle.std.specs.List.{position_or_len, before_first, after_first}
+use Rattle.std.specs.Str.{bytes_eq}
+use Rattle.std.specs.Str.Parse.{digits_value}
+use Rattle.rasta_udp.specs.declared.channel.Endpoint.{Endpoint}
+
+-- the text of an endpoint of these bytes and this port
+unfoldable pub endpoint_text : (a b c d port : ℕ) → List ℕ
+endpoint_text a b c d port = decimal a ++ (46 ∷ (decimal b ++ (46 ∷ (decimal c ++ (46 ∷ (decimal d ++ (58 ∷ decimal port)))))))
+
+abbrev pub and_then : {A B : Type 0} → Option A → (A → Option B) → Option B
+and_then None f = None
+and_then (Some x) f = f x
+
+-- the number, not above the bound, whose decimal text this is
+unfoldable pub decimal_of : ℕ → List ℕ → Option ℕ
+decimal_of most text =
+    let n = digits_value 10 text in
+    if bytes_eq text (decimal n) && nat_le n most then Some n else None
+
+-- the parts of a text around the first of this byte
+unfoldable pub cut : ℕ → List ℕ → Option (List ℕ × List ℕ)
+cut byte text =
+    if nat_lt (position_or_len (λ b. b == byte) text) (length text)
+    then Some (before_first (λ b. b == byte) text, after_first (λ b. b == byte) text) else None
+
+-- four texts with points between them
+pub record Four : Type 0 where
+  pub first : List ℕ
+  pub second : List ℕ
+  pub third : List ℕ
+  pub fourth : List ℕ
+
+unfoldable pub four_of : List ℕ → Option Four
+four_of text =
+    and_then (cut 46 text) (λ one. and_then (cut 46 one.1) (λ two. and_then (cut 46 two.1)
+    (λ three. Some (record { first = one.0; second = two.0; third = three.0; fourth = three.1 }))))
+
+abbrev pub octet_of : List ℕ → Option ℕ
+octet_of text = decimal_of 255 text
+
+unfoldable pub address_in : Four → Option (List ℕ)
+address_in parts =
+    and_then (octet_of parts.first) (λ a. and_then (octet_of parts.second) (λ b. and_then (octet_of parts.third)
+    (λ c. and_then (octet_of parts.fourth) (λ d. Some (a ∷ b ∷ c ∷ d ∷ [])))))
+
+-- a port is no 0
+unfoldable pub port_of : List ℕ → Option ℕ
+port_of text = and_then (decimal_of 65535 text) (λ port. if port == 0 then None else Some port)
+
+-- the endpoint whose text this is
+unfoldable pub endpoint_of : List ℕ → Option Endpoint
+endpoint_of text =
+    and_then (cut 58 text) (λ parts. and_then (and_then (four_of parts.0) address_in)
+    (λ address. and_then (port_of parts.1) (λ port. Some (record { address = address; port = port }))))

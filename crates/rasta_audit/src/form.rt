@@ -1,0 +1,23 @@
+//! What the program is asked for.
+
+/// What the program is asked for, with the paths of its files.
+#[derive(Clone, Copy, Debug, PartialEq, Eq)]
+pub enum Form<'a> {
+    Show {
+        capture: &'a str,
+        params: &'a str,
+    },
+    Build {
+        capture: &'a str,
+        params: &'a str,
+    },
+    Check {
+        capture: &'a str,
+        params: &'a str,
+        certificate: &'a str,
+    },
+    Audit {
+        capture: &'a str,
+        params: &'a str,
+    },
+}
