@@ -5,3 +5,4 @@ pub mod Shown
 pub mod Failing
 pub mod Endpoints
 pub mod Stored
+pub mod Keys

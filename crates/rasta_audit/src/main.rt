@@ -5,7 +5,9 @@ mod command;
 mod endpoint;
 mod failure;
 mod form;
+mod key;
 mod line;
+mod params;
 mod show;
 mod texts;
 

@@ -1,0 +1,189 @@
+-- The parameters of a document, key by key.
+use Rattle.std.specs.Prelude.{◌≡◌, ◌⊎◌, ℕ, ◌+◌, ◌<◌, pos, ℤ, List, [], ◌∷◌, length, Bool, true, false, ◌&&◌, ◌||◌, ◌==◌, not, nat_le, if◌then◌else◌, Option, Some, None, is_some, Result, Ok, Err, codes}
+use Rattle.std.specs.List.{list_any, list_all}
+use Rattle.std.specs.Str.{bytes_eq, is_utf8}
+use Rattle.toml.specs.Data.{Data, Items, item, no_items, Members, member, no_members, get_member, as_array, as_integer, as_str, as_table}
+use Rattle.toml.specs.Parse.{parse_document}
+use Rattle.rasta_pcap.specs.declared.fault.Fault.{Fault}
+use Rattle.rasta_pcap.specs.Fault.{fault_at, no_memory, not_toml, missing_key, bad_value}
+use Rattle.rasta_udp.specs.declared.channel.Channel.{Channel}
+use Rattle.rasta_udp.specs.declared.channel.Endpoint.{Endpoint}
+use Rattle.rasta_pdu.specs.Params.{Parameters, are_distinct, routes}
+use Rattle.rasta_audit.specs.Endpoints.{endpoint_of}
+use Rattle.rasta_audit.specs.declared.params.Ids.{Ids}
+use Rattle.rasta_audit.specs.declared.params.Lengths.{Lengths}
+use Rattle.rasta_audit.specs.declared.params.Limits.{Limits}
+use Rattle.rasta_audit.specs.declared.params.Window.{Window}
+
+infixl 10 ◌>>=◌
+abbrev pub ◌>>=◌ : {A B : Type 0} → Result A Fault → (A → Result B Fault) → Result B Fault
+(Ok x) >>= f = f x
+(Err e) >>= f = Err e
+
+abbrev pub missing_at : {A : Type 0} → ℕ → Result A Fault
+missing_at place = Err (fault_at missing_key place)
+
+abbrev pub bad_at : {A : Type 0} → ℕ → Result A Fault
+bad_at place = Err (fault_at bad_value place)
+
+-- the value, or a bad one at this place
+abbrev pub or_bad : {A : Type 0} → ℕ → Option A → Result A Fault
+or_bad place None = bad_at place
+or_bad place (Some x) = Ok x
+
+-- a key that has to be there, with a value that is read so
+abbrev pub required : {A : Type 0} → ℕ → (Data → Option A) → Option Data → Result A Fault
+required place read None = missing_at place
+required place read (Some d) = or_bad place (read d)
+
+-- a key that may be missing
+abbrev pub optional : {A : Type 0} → ℕ → A → (Data → Option A) → Option Data → Result A Fault
+optional place missing read None = Ok missing
+optional place missing read (Some d) = or_bad place (read d)
+
+-- a whole number from low to high
+abbrev pub in_range : ℕ → ℕ → Option ℤ → Option ℕ
+in_range low high (Some (pos n)) = if nat_le low n && nat_le n high then Some n else None
+in_range low high _ = None
+
+abbrev pub whole : ℕ → ℕ → Data → Option ℕ
+whole low high d = in_range low high (as_integer d)
+
+unfoldable pub number_at : ℕ → List ℕ → ℕ → ℕ → Members → Result ℕ Fault
+number_at place key low high ms = required place (whole low high) (get_member key ms)
+
+unfoldable pub optional_at : ℕ → List ℕ → ℕ → ℕ → ℕ → Members → Result ℕ Fault
+optional_at place key low high missing ms = optional place missing (whole low high) (get_member key ms)
+
+abbrev pub endpoint_text_of : Option (List ℕ) → Option Endpoint
+endpoint_text_of None = None
+endpoint_text_of (Some text) = endpoint_of text
+
+unfoldable pub endpoint_at : List ℕ → Members → Result Endpoint Fault
+endpoint_at key ms = required 11 (λ d. endpoint_text_of (as_str d)) (get_member key ms)
+
+-- each key is one of these
+abbrev pub are_among : List (List ℕ) → Members → Bool
+are_among names no_members = true
+are_among names (member key d ms) = list_any (bytes_eq key) names && are_among names ms
+
+abbrev pub channel_keys : List (List ℕ)
+channel_keys = codes "client" ∷ codes "server" ∷ []
+
+-- a channel: presence and value of `client`, then of `server`, then keys of other names
+unfoldable pub channel_in : Members → Result Channel Fault
+channel_in ms = do
+  client ← endpoint_at (codes "client") ms
+  server ← endpoint_at (codes "server") ms
+  if are_among channel_keys ms then Ok (record { client = client; server = server }) else bad_at 11
+
+abbrev pub channel_of_table : Option Members → Result Channel Fault
+channel_of_table None = bad_at 11
+channel_of_table (Some ms) = channel_in ms
+
+abbrev pub channel_of : Data → Result Channel Fault
+channel_of d = channel_of_table (as_table d)
+
+abbrev pub with_channel : Result Channel Fault → Result (List Channel) Fault → Result (List Channel) Fault
+with_channel (Err e) more = Err e
+with_channel (Ok c) (Err e) = Err e
+with_channel (Ok c) (Ok cs) = Ok (c ∷ cs)
+
+-- the channels of an array's tables, one after the other
+unfoldable pub channels_in : Items → Result (List Channel) Fault
+channels_in no_items = Ok []
+channels_in (item d ds) = with_channel (channel_of d) (channels_in ds)
+
+abbrev pub count_of : Items → ℕ
+count_of no_items = 0
+count_of (item d ds) = count_of ds + 1
+
+abbrev pub are_tables : Items → Bool
+are_tables no_items = true
+are_tables (item d ds) = is_some (as_table d) && are_tables ds
+
+-- an array of one to four tables
+abbrev pub few_tables : Option Items → Option Items
+few_tables None = None
+few_tables (Some ds) =
+    if nat_le 1 (count_of ds) && nat_le (count_of ds) 4 && are_tables ds then Some ds else None
+
+-- that it is an array of one to four tables; then the tables; then that no route stands there twice
+unfoldable pub channels_at : Members → Result (List Channel) Fault
+channels_at ms = do
+  tables ← required 11 (λ d. few_tables (as_array d)) (get_member (codes "channel") ms)
+  channels ← channels_in tables
+  if are_distinct (routes channels) then Ok channels else bad_at 11
+
+-- the start words of the RFC, where none are recorded
+abbrev pub rfc_words : List ℕ
+rfc_words = 0x67452301 ∷ 0xefcdab89 ∷ 0x98badcfe ∷ 0x10325476 ∷ []
+
+abbrev pub known_keys : List (List ℕ)
+known_keys = codes "client_id" ∷ codes "server_id" ∷ codes "code_length" ∷ codes "check_length" ∷ codes "n_sendmax"
+    ∷ codes "t_max" ∷ codes "slack" ∷ codes "first_record" ∷ codes "last_record" ∷ codes "channel" ∷ []
+
+-- the ids, which are not the same
+unfoldable pub ids_of : Members → Result Ids Fault
+ids_of ms = do
+  client_id ← number_at 1 (codes "client_id") 0 4294967295 ms
+  server_id ← number_at 2 (codes "server_id") 0 4294967295 ms
+  if client_id == server_id then bad_at 2 else Ok (record { client_id = client_id; server_id = server_id })
+
+-- the lengths of safety code and check code, which are not read yet
+unfoldable pub lengths_of : Members → Result Lengths Fault
+lengths_of ms = do
+  code_length ← number_at 3 (codes "code_length") 0 0 ms
+  check_length ← number_at 5 (codes "check_length") 0 0 ms
+  Ok (record { code_length = code_length; check_length = check_length })
+
+unfoldable pub limits_of : Members → Result Limits Fault
+limits_of ms = do
+  n_sendmax ← number_at 6 (codes "n_sendmax") 1 65535 ms
+  t_max ← number_at 7 (codes "t_max") 1 60000 ms
+  slack ← number_at 8 (codes "slack") 0 1000 ms
+  Ok (record { n_sendmax = n_sendmax; t_max = t_max; slack = slack })
+
+-- the window of records: the whole file, where nothing else is said
+unfoldable pub window_of : Members → Result Window Fault
+window_of ms = do
+  first_record ← optional_at 9 (codes "first_record") 1 4000000000 1 ms
+  last_record ← optional_at 10 (codes "last_record") first_record 4000000000 4000000000 ms
+  Ok (record { first_record = first_record; last_record = last_record })
+
+abbrev pub parameters_with : Ids → Lengths → Limits → Window → List Channel → Parameters
+parameters_with ids lengths limits window channels = record {
+  client_id = ids.client_id;
+  server_id = ids.server_id;
+  code_length = lengths.code_length;
+  md4_start = rfc_words;
+  check_length = lengths.check_length;
+  n_sendmax = limits.n_sendmax;
+  t_max = limits.t_max;
+  slack = limits.slack;
+  first_record = window.first_record;
+  last_record = window.last_record;
+  channels = channels;
+}
+
+-- the parameters of a document, or the first fault in the order of the keys; keys of other names last
+unfoldable pub parameters_of : Members → Result Parameters Fault
+parameters_of ms = do
+  ids ← ids_of ms
+  lengths ← lengths_of ms
+  limits ← limits_of ms
+  window ← window_of ms
+  channels ← channels_at ms
+  if are_among known_keys ms then Ok (parameters_with ids lengths limits window channels) else bad_at 12
+
+-- the document of a text, where it is one
+abbrev pub document_of : List ℕ → Option Members
+document_of text = if is_utf8 text then parse_document text else None
+
+abbrev pub parameters_in : Option Members → Result Parameters Fault
+parameters_in None = Err (fault_at not_toml 0)
+parameters_in (Some ms) = parameters_of ms
+
+-- the parameters of a text, or their first fault, or want of memory
+abbrev pub ReadsParameters : List ℕ → Result Parameters Fault → Type 0
+ReadsParameters text r = (r ≡ Err no_memory) ⊎ (r ≡ parameters_in (document_of text))
