@@ -58,7 +58,7 @@ block_at-part m s i e h =
     ∙ block_at-drop m i 0 ∙ ap (block_at m) (add-zero i)
 
 -- how many blocks a message has
-length-blocks : (m : List ℕ) → length (blocks m) ≡ length m / 64
+pub length-blocks : (m : List ℕ) → length (blocks m) ≡ length m / 64
 unfolding blocks
 length-blocks m = length-map-range_with_len (block_at m) 0 (length m / 64)
 
