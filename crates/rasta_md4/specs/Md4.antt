@@ -60,7 +60,7 @@ round_1 =
     ∷ first 8 3 ∷ first 9 7 ∷ first 10 11 ∷ first 11 19
     ∷ first 12 3 ∷ first 13 7 ∷ first 14 11 ∷ first 15 19 ∷ []
 
--- Round 2: the words by columns of the four by four, the shifts 3, 5, 9 and 13.
+-- Round 2: each fourth word, from word 0, 1, 2 and 3 on, the shifts 3, 5, 9 and 13.
 unfoldable pub round_2 : List Row
 round_2 =
     second 0 3 ∷ second 4 5 ∷ second 8 9 ∷ second 12 13
@@ -68,7 +68,8 @@ round_2 =
     ∷ second 2 3 ∷ second 6 5 ∷ second 10 9 ∷ second 14 13
     ∷ second 3 3 ∷ second 7 5 ∷ second 11 9 ∷ second 15 13 ∷ []
 
--- Round 3: the words by their places' bits in reverse, the shifts 3, 9, 11 and 15.
+-- Round 3: the words in the order of their places' four bits read backwards, the shifts 3, 9, 11
+-- and 15.
 unfoldable pub round_3 : List Row
 round_3 =
     third 0 3 ∷ third 8 9 ∷ third 4 11 ∷ third 12 15

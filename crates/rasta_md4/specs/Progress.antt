@@ -12,8 +12,8 @@ pub record Progress : Type 0 where
 abbrev pub behind_blocks : List ℕ → List ℕ
 behind_blocks message = drop (length message / 64 * 64) message
 
--- what is kept of a message after these start words; its length is counted modulo 2 ^ 64, of which
--- the padding's length field shows all that it has room for
+-- what is kept of a message that came after these start words; its length is taken modulo 2 ^ 64,
+-- since the padding reads no more of it
 unfoldable pub holding : List ℕ → List ℕ → Progress
 holding words message = record {
   registers = fold compress words (blocks message);

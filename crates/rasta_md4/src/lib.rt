@@ -64,7 +64,7 @@ impl Md4 {
     pub fn update(&mut self, bytes: &[u8])
         ensures { (words message : List ℕ) → self.old ≡ holding words message → self.new ≡ holding words (message ++ bytes.now) }
     {
-        let used = (self.count % 64) as usize;
+        let used = (self.count % BLOCK_LEN as u64) as usize;
         self.registers = absorb(self.registers, &mut self.buffer, used, bytes);
         self.count = self.count.wrapping_add(bytes.len() as u64);
     }
@@ -73,7 +73,7 @@ impl Md4 {
     pub fn finish(self) -> [u8; DIGEST_LEN]
         ensures { (words message : List ℕ) → self ≡ holding words message → result ≡ md4 words message }
     {
-        let used = (self.count % 64) as usize;
+        let used = (self.count % BLOCK_LEN as u64) as usize;
         let tail = tail_of(&self.buffer[..used], self.count);
         let registers = after_blocks(self.registers, &tail[..tail_len(used)]);
         digest_of(registers)
@@ -134,7 +134,7 @@ fn tail_of(waiting: &[u8], count: u64) -> [u8; 2 * BLOCK_LEN]
     requires { length waiting.now ≡ count % 64 }
     ensures { take (count % 64 + length (padding count)) result ≡ waiting.now ++ padding count }
 {
-    let mut tail = [0; 128];
+    let mut tail = [0; 2 * BLOCK_LEN];
     tail[..waiting.len()].copy_from_slice(waiting);
     tail[waiting.len()] = 0x80;
     let field = tail_len(waiting.len()) - FIELD_LEN;

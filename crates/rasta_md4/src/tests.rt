@@ -1,10 +1,15 @@
+ghost use Rattle.std.specs.Prelude.{◌≡◌, ◌++◌};
+ghost use Rattle.rasta_md4.specs.Md4.{md4};
+
 use crate::{DIGEST_LEN, Md4};
 
 // The start words of RFC 1320, section 3.3.
 const RFC_WORDS: [u32; 4] = [0x6745_2301, 0xefcd_ab89, 0x98ba_dcfe, 0x1032_5476];
 
 // The digest of a message that comes in two pieces.
-fn digest_of_two(words: [u32; 4], first: &[u8], second: &[u8]) -> [u8; DIGEST_LEN] {
+fn digest_of_two(words: [u32; 4], first: &[u8], second: &[u8]) -> [u8; DIGEST_LEN]
+    ensures { result ≡ md4 words (first.now ++ second.now) }
+{
     let mut message = Md4::with_words(words);
     message.update(first);
     message.update(second);
@@ -41,7 +46,9 @@ fn digests_of_the_standard(rt: HostRuntime) {
 }
 
 // The digest of a message that comes in one piece.
-fn digest_of_whole(message: &[u8]) -> [u8; DIGEST_LEN] {
+fn digest_of_whole(message: &[u8]) -> [u8; DIGEST_LEN]
+    ensures { result ≡ md4 RFC_WORDS message.now }
+{
     let mut whole = Md4::with_words(RFC_WORDS);
     whole.update(message);
     whole.finish()
