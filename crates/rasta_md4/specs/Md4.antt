@@ -106,8 +106,9 @@ increased before after =
 unfoldable pub compress : List ℕ → List ℕ → List ℕ
 compress registers block = increased registers (fold (step block) registers table)
 
--- The padding of a message of n bytes: the byte 80, zeros up to 56 bytes modulo 64, and the
--- low-order 64 bits of the message's length in bits (sections 3.1 and 3.2).
+-- The padding of a message of n bytes: the byte 80, zeros up to 56 bytes modulo 64 (as many as 55 - n
+-- modulo 64), and the low-order 64 bits of the message's length in bits, low-order byte first
+-- (sections 3.1 and 3.2).
 unfoldable pub padding : ℕ → List ℕ
 padding n = 0x80 ∷ replicate ((119 - n % 64) % 64) 0 ++ little_bytes 8 (8 * n % 2 ^ 64)
 

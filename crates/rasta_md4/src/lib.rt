@@ -4,7 +4,7 @@
 //! cryptographic hash.
 #![tactic(auto)]
 
-ghost use Rattle.std.specs.Prelude.{◌≡◌, ℕ, ◌+◌, ◌*◌, ◌%◌, ◌^◌, ◌<◌, ◌≤◌, List, [], ◌++◌, length, take, fold};
+ghost use Rattle.std.specs.Prelude.{◌≡◌, ℕ, ◌+◌, ◌%◌, ◌<◌, ◌≤◌, List, [], ◌++◌, length, take, fold};
 ghost use Rattle.std.specs.List.{flat_map};
 ghost use Rattle.byteorder.specs.Endian.{little_bytes};
 ghost use Rattle.rasta_md4.specs.Md4.{blocks, compress, md4, padding};
@@ -44,7 +44,11 @@ impl Model for Md4 {
 
     ghost Value = { Progress };
 
-    ghost view = { λ s. record { registers = s.registers; waiting = take (s.count % 64) s.buffer; count = s.count } };
+    ghost view = { λ s. record {
+      registers = s.registers;
+      waiting = take (s.count % 64) s.buffer;
+      count = s.count;
+    } };
 }
 
 impl Md4 {
@@ -62,16 +66,19 @@ impl Md4 {
 
     /// Adds `bytes` at the end of the message.
     pub fn update(&mut self, bytes: &[u8])
-        ensures { (words message : List ℕ) → self.old ≡ holding words message → self.new ≡ holding words (message ++ bytes.now) }
+        ensures { (words message : List ℕ) → self.old ≡ holding words message
+            → self.new ≡ holding words (message ++ bytes.now) }
     {
         let used = (self.count % BLOCK_LEN as u64) as usize;
         self.registers = absorb(self.registers, &mut self.buffer, used, bytes);
         self.count = self.count.wrapping_add(bytes.len() as u64);
     }
 
-    /// The digest of the message.
+    /// The digest of the message: its registers A, B, C and D in this order, low-order byte first.
+    /// From 2^61 bytes on, the padding has the low-order 64 bits of the length in bits.
     pub fn finish(self) -> [u8; DIGEST_LEN]
-        ensures { (words message : List ℕ) → self ≡ holding words message → result ≡ md4 words message }
+        ensures { (words message : List ℕ) → self ≡ holding words message
+            → result ≡ md4 words message }
     {
         let used = (self.count % BLOCK_LEN as u64) as usize;
         let tail = tail_of(&self.buffer[..used], self.count);
@@ -85,8 +92,10 @@ impl Md4 {
 #[inline]
 fn absorb(registers: [u32; 4], buffer: &mut [u8; BLOCK_LEN], used: usize, bytes: &[u8]) -> [u32; 4]
     requires { used < 64 }
-    ensures registers { result ≡ fold compress registers (blocks (take used buffer.old ++ bytes.now)) }
-    ensures waiting { take ((used + length bytes.now) % 64) buffer.new ≡ behind_blocks (take used buffer.old ++ bytes.now) }
+    ensures registers { result
+        ≡ fold compress registers (blocks (take used buffer.old ++ bytes.now)) }
+    ensures waiting { take ((used + length bytes.now) % 64) buffer.new
+        ≡ behind_blocks (take used buffer.old ++ bytes.now) }
 {
     if used == 0 {
         return absorb_aligned(registers, buffer, bytes);

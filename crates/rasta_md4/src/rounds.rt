@@ -12,6 +12,7 @@ const ROOT_OF_2: u32 = 0x5a82_7999;
 // The constant of round 3: the square root of 3, in 30 bits behind the point.
 const ROOT_OF_3: u32 = 0x6ed9_eba1;
 
+// F, of round 1: in each bit, if x then y else z.
 #[inline(always)]
 fn conditional(x: u32, y: u32, z: u32) -> u32
     ensures { result ≡ conditional x y z }
@@ -19,6 +20,7 @@ fn conditional(x: u32, y: u32, z: u32) -> u32
     (x & y) | (!x & z)
 }
 
+// G, of round 2: in each bit, what at least two of the three have.
 #[inline(always)]
 fn majority(x: u32, y: u32, z: u32) -> u32
     ensures { result ≡ majority x y z }
@@ -26,6 +28,7 @@ fn majority(x: u32, y: u32, z: u32) -> u32
     (x & y) | (x & z) | (y & z)
 }
 
+// H, of round 3: in each bit, the parity of the three.
 #[inline(always)]
 fn parity(x: u32, y: u32, z: u32) -> u32
     ensures { result ≡ parity x y z }
@@ -75,70 +78,73 @@ fn third(block: &[u32; 16], registers: [u32; 4], place: usize, shift: u32) -> [u
     [d, sum.rotate_left(shift), b, c]
 }
 
+// Round 1: the words in order.
 #[inline(always)]
-fn round_1(x: &[u32; 16], r: [u32; 4]) -> [u32; 4]
-    ensures { result ≡ fold (step x.now) r round_1 }
+fn round_1(block: &[u32; 16], registers: [u32; 4]) -> [u32; 4]
+    ensures { result ≡ fold (step block.now) registers round_1 }
 {
-    let r = first(x, r, 0, 3);
-    let r = first(x, r, 1, 7);
-    let r = first(x, r, 2, 11);
-    let r = first(x, r, 3, 19);
-    let r = first(x, r, 4, 3);
-    let r = first(x, r, 5, 7);
-    let r = first(x, r, 6, 11);
-    let r = first(x, r, 7, 19);
-    let r = first(x, r, 8, 3);
-    let r = first(x, r, 9, 7);
-    let r = first(x, r, 10, 11);
-    let r = first(x, r, 11, 19);
-    let r = first(x, r, 12, 3);
-    let r = first(x, r, 13, 7);
-    let r = first(x, r, 14, 11);
-    first(x, r, 15, 19)
+    let registers = first(block, registers, 0, 3);
+    let registers = first(block, registers, 1, 7);
+    let registers = first(block, registers, 2, 11);
+    let registers = first(block, registers, 3, 19);
+    let registers = first(block, registers, 4, 3);
+    let registers = first(block, registers, 5, 7);
+    let registers = first(block, registers, 6, 11);
+    let registers = first(block, registers, 7, 19);
+    let registers = first(block, registers, 8, 3);
+    let registers = first(block, registers, 9, 7);
+    let registers = first(block, registers, 10, 11);
+    let registers = first(block, registers, 11, 19);
+    let registers = first(block, registers, 12, 3);
+    let registers = first(block, registers, 13, 7);
+    let registers = first(block, registers, 14, 11);
+    first(block, registers, 15, 19)
 }
 
+// Round 2: each fourth word, from word 0, 1, 2 and 3 on.
 #[inline(always)]
-fn round_2(x: &[u32; 16], r: [u32; 4]) -> [u32; 4]
-    ensures { result ≡ fold (step x.now) r round_2 }
+fn round_2(block: &[u32; 16], registers: [u32; 4]) -> [u32; 4]
+    ensures { result ≡ fold (step block.now) registers round_2 }
 {
-    let r = second(x, r, 0, 3);
-    let r = second(x, r, 4, 5);
-    let r = second(x, r, 8, 9);
-    let r = second(x, r, 12, 13);
-    let r = second(x, r, 1, 3);
-    let r = second(x, r, 5, 5);
-    let r = second(x, r, 9, 9);
-    let r = second(x, r, 13, 13);
-    let r = second(x, r, 2, 3);
-    let r = second(x, r, 6, 5);
-    let r = second(x, r, 10, 9);
-    let r = second(x, r, 14, 13);
-    let r = second(x, r, 3, 3);
-    let r = second(x, r, 7, 5);
-    let r = second(x, r, 11, 9);
-    second(x, r, 15, 13)
+    let registers = second(block, registers, 0, 3);
+    let registers = second(block, registers, 4, 5);
+    let registers = second(block, registers, 8, 9);
+    let registers = second(block, registers, 12, 13);
+    let registers = second(block, registers, 1, 3);
+    let registers = second(block, registers, 5, 5);
+    let registers = second(block, registers, 9, 9);
+    let registers = second(block, registers, 13, 13);
+    let registers = second(block, registers, 2, 3);
+    let registers = second(block, registers, 6, 5);
+    let registers = second(block, registers, 10, 9);
+    let registers = second(block, registers, 14, 13);
+    let registers = second(block, registers, 3, 3);
+    let registers = second(block, registers, 7, 5);
+    let registers = second(block, registers, 11, 9);
+    second(block, registers, 15, 13)
 }
 
+// Round 3: the words in the order of their places' four bits read backwards.
 #[inline(always)]
-fn round_3(x: &[u32; 16], r: [u32; 4]) -> [u32; 4]
-    ensures { result ≡ fold (step x.now) r round_3 }
+fn round_3(block: &[u32; 16], registers: [u32; 4]) -> [u32; 4]
+    ensures { result ≡ fold (step block.now) registers round_3 }
 {
-    let r = third(x, r, 0, 3);
-    let r = third(x, r, 8, 9);
-    let r = third(x, r, 4, 11);
-    let r = third(x, r, 12, 15);
-    let r = third(x, r, 2, 3);
-    let r = third(x, r, 10, 9);
-    let r = third(x, r, 6, 11);
-    let r = third(x, r, 14, 15);
-    let r = third(x, r, 1, 3);
-    let r = third(x, r, 9, 9);
-    let r = third(x, r, 5, 11);
-    let r = third(x, r, 13, 15);
-    let r = third(x, r, 3, 3);
-    let r = third(x, r, 11, 9);
-    let r = third(x, r, 7, 11);
-    third(x, r, 15, 15)
+    let registers = third(block, registers, 0, 3);
+    let registers = third(block, registers, 8, 9);
+    let registers = third(block, registers, 4, 11);
+    let registers = third(block, registers, 12, 15);
+    let registers = third(block, registers, 2, 3);
+    let registers = third(block, registers, 10, 9);
+    let registers = third(block, registers, 6, 11);
+    let registers = third(block, registers, 14, 15);
+    let registers = third(block, registers, 1, 3);
+    let registers = third(block, registers, 9, 9);
+    let registers = third(block, registers, 5, 11);
+    let registers = third(block, registers, 13, 15);
+    let registers = third(block, registers, 3, 3);
+    let registers = third(block, registers, 11, 9);
+    let registers = third(block, registers, 7, 11);
+    third(block, registers, 15, 15)
 }
 
 // Works off a block of 64 bytes.
