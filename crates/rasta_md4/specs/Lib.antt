@@ -1,0 +1,2 @@
+pub mod Md4
+pub mod Progress
