@@ -1,7 +1,7 @@
 -- A tagged frame without its tag is read like the frame 4 bytes on: nothing of the first 12 bytes is
 -- read.
-use Rattle.std.proofs.Common.{◌≡◌, true, ℕ, ◌+◌, ◌-◌, ◌≤◌, List, ◌++◌, length, take, drop, get_or, slice_range, refl, ap, ◌∙◌, sym, subst, arith, Result, Ok, Err, Option, Some, None}
-use Rattle.std.proofs.lemmas.List.{drop-drop, drop_at, length-take-le, length-append, length-drop, get_or-drop}
+use Rattle.std.proofs.Common.{◌≡◌, true, false, ℕ, ◌+◌, ◌-◌, ◌≤◌, List, length, take, drop, get_or, slice_range, refl, ap, ◌∙◌, sym, subst, arith, Result, Ok, Err, Option, Some, None}
+use Rattle.std.proofs.lemmas.List.{drop-drop, drop_at, take_rest, length-take-le, length-append, length-drop, get_or-drop}
 use Rattle.byteorder.specs.Endian.{big_number}
 use Rattle.rasta_pcap.specs.declared.fault.Fault.{Fault}
 use Rattle.rasta_udp.specs.declared.channel.Channel.{Channel}
@@ -66,8 +66,17 @@ module _ (f : List ℕ) (whole : 16 ≤ length f) where
       ap (λ (bytes : List ℕ). Ok (Some (record { channel = d.channel; side = d.side; payload = bytes }))) (slice_behind d.start d.end)
   packet_moved (Err e) = refl
 
-  pub packet_behind : (channels : List Channel) → is_tagged f ≡ true →
-      packet_in channels f ≡ map_found (packet_at (drop 4 f)) (untagged_of channels (drop 4 f))
-  unfolding datagram_of
-  packet_behind channels tagged =
-      rw tagged (packet_moved _ ∙ ap (λ (x : Fields). map_found (packet_at (drop 4 f)) (found_by channels x)) fields_behind)
+-- what a tagged frame holds is read 4 bytes on
+pub packet_in_tagged : (channels : List Channel) (f : List ℕ) → 16 ≤ length f → number_at 2 12 f ≡ 0x8100 →
+    packet_in channels f ≡ map_found (packet_at (take (length f - 4) (drop 4 f))) (untagged_of channels (take (length f - 4) (drop 4 f)))
+unfolding packet_in datagram_of
+packet_in_tagged channels f whole type_is =
+    let tagged : is_tagged f ≡ true = grind arith in
+    rw tagged (rw (take_rest f 4)
+    (packet_moved f whole _ ∙ ap (λ (x : Fields). map_found (packet_at (drop 4 f)) (found_by channels x)) (fields_behind f whole)))
+
+-- what a frame without a tag holds is read where it stands
+pub packet_in_untagged : (channels : List Channel) (f : List ℕ) → is_tagged f ≡ false →
+    packet_in channels f ≡ map_found (packet_at f) (untagged_of channels f)
+unfolding packet_in datagram_of
+packet_in_untagged channels f plain = rw plain refl

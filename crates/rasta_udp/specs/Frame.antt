@@ -81,7 +81,8 @@ directions channels = directions_from 1 channels
 
 -- the frame goes from one end to the other, by its addresses
 unfoldable pub has_addresses : Fields → Endpoint → Endpoint → Bool
-has_addresses x source destination = x.source_address == address_of source && x.destination_address == address_of destination
+has_addresses x source destination =
+    x.source_address == address_of source && x.destination_address == address_of destination
 
 -- the same by its addresses and ports
 unfoldable pub goes : Fields → Endpoint → Endpoint → Bool
@@ -90,7 +91,8 @@ goes x source destination = has_addresses x source destination
 
 -- the addresses are those of some direction
 unfoldable pub has_known_addresses : List Channel → Fields → Bool
-has_known_addresses channels x = list_any (λ (d : Direction). has_addresses x d.source d.destination) (directions channels)
+has_known_addresses channels x =
+    list_any (λ (d : Direction). has_addresses x d.source d.destination) (directions channels)
 
 -- the first direction in which the frame goes
 unfoldable pub direction_of : List Channel → Fields → Option Direction
@@ -113,8 +115,8 @@ found_in x d = record {
   end = 14 + x.header_length + x.udp_length;
 }
 
--- what a frame without a tag is: the first case that applies decides, and none is a frame that is not
--- of these channels
+-- what a frame without a tag is: the first case that applies decides. None is a frame that is not of
+-- these channels; 0800 is the type of IPv4, and 17 the protocol of UDP
 unfoldable pub found_by : List Channel → Fields → Result (Option Found) Fault
 found_by channels x =
     if nat_lt x.captured 34 then Ok None
@@ -126,7 +128,8 @@ found_by channels x =
     else if nat_lt x.total_length (x.header_length + 8) then Err (fault_at bad_udp 0)
     else if nat_lt x.captured (14 + x.header_length + 8) then Err (fault_at cut_packet 0)
     else if is_none (direction_of channels x) then Ok None
-    else if nat_lt x.udp_length 8 || nat_lt (x.total_length - x.header_length) x.udp_length then Err (fault_at bad_udp 0)
+    else if nat_lt x.udp_length 8 || nat_lt (x.total_length - x.header_length) x.udp_length
+    then Err (fault_at bad_udp 0)
     else if nat_lt x.captured (14 + x.header_length + x.udp_length) then Err (fault_at cut_packet 0)
     else Ok (option_map (found_in x) (direction_of channels x))
 
@@ -172,5 +175,5 @@ abbrev pub packet_of : Datagram → Packet
 packet_of d = record { channel = d.channel; side = d.side; payload = d.payload.now }
 
 -- the packet of these channels that a frame holds: none, or a fault
-abbrev pub packet_in : List Channel → List ℕ → Result (Option Packet) Fault
+unfoldable pub packet_in : List Channel → List ℕ → Result (Option Packet) Fault
 packet_in channels frame = map_found (packet_at frame) (datagram_of channels frame)

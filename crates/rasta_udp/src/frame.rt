@@ -1,23 +1,27 @@
 //! The datagram in a captured frame.
-ghost use Rattle.std.specs.Prelude.{◌≡◌, ◌+◌, ◌≤◌, length, option_map, ◌||◌, ◌&&◌, nat_lt, ◌==◌};
-ghost use Rattle.std.specs.List.{list_any};
+ghost use Rattle.std.specs.Prelude.{◌≡◌, ◌+◌, ◌≤◌, [], ◌∷◌, length, option_map, ◌||◌, nat_lt, ◌==◌};
 ghost use Rattle.rasta_udp.specs.Frame.{Direction, address_of, number_at, header_length_of, fields_of, has_addresses, has_known_addresses, goes, direction_of, map_found, packet_of, packet_at, untagged_of, packet_in};
 
 use crate::channel::{Channel, Datagram, Endpoint};
 use byteorder::{BigEndian, ByteOrder};
 use rasta_pcap::{Fault, Record, Side};
 
-// The type field of Ethernet II for IPv4.
+// Type fields of Ethernet II: a packet of IPv4, and a tag of IEEE 802.1Q.
 const IPV4: u16 = 0x0800;
 
-// The type field of a tag of IEEE 802.1Q.
 const TAGGED: u16 = 0x8100;
 
 // The protocol number of UDP.
 const UDP: u8 = 17;
 
-// Where the addresses of IPv4 end.
-const ADDRESSES_END: usize = 34;
+// Lengths in bytes; the header of IPv4 has options beyond the least.
+const ETHERNET_HEADER: usize = 14;
+
+const TAG: usize = 4;
+
+const LEAST_IPV4_HEADER: usize = 20;
+
+const UDP_HEADER: usize = 8;
 
 // The flag of more fragments, and the fragment offset.
 const FRAGMENT_BITS: u16 = 0x3fff;
@@ -75,10 +79,10 @@ fn goes(frame: &[u8], source: &Endpoint, destination: &Endpoint) -> bool
     requires ports { 18 + header_length_of frame.now ≤ length frame.now }
     ensures { result ≡ goes (fields_of frame.now) source.now destination.now }
 {
-    let header = header_length(frame);
+    let udp = ETHERNET_HEADER + header_length(frame);
     has_addresses(frame, source, destination)
-        && u16_at(frame, 14 + header) == source.port
-        && u16_at(frame, 16 + header) == destination.port
+        && u16_at(frame, udp) == source.port
+        && u16_at(frame, udp + 2) == destination.port
 }
 
 // Whether the frame goes between the ends of the channel, by its addresses.
@@ -101,7 +105,23 @@ fn has_known_addresses(frame: &[u8], channels: &[Channel]) -> bool
         .any(|channel| has_addresses_of(frame, channel))
 }
 
-// The number of the channel and the side that sends, where the frame goes between two ends.
+// The side that sends, where the frame goes between the ends of the channel.
+#[tactic(auto, unfolding(crate::specs::Frame::direction_of))]
+fn sender(frame: &[u8], channel: &Channel) -> Option<Side>
+    requires addresses { 34 ≤ length frame.now }
+    requires ports { 18 + header_length_of frame.now ≤ length frame.now }
+    ensures { result ≡ option_map (λ (d : Direction). d.side) (direction_of (channel.now ∷ []) (fields_of frame.now)) }
+{
+    if goes(frame, &channel.client, &channel.server) {
+        Some(Side::Client)
+    } else if goes(frame, &channel.server, &channel.client) {
+        Some(Side::Server)
+    } else {
+        None
+    }
+}
+
+// The number of the first channel between whose ends the frame goes, and the side that sends.
 fn direction(frame: &[u8], channels: &[Channel]) -> Option<(u8, Side)>
     requires channels { length channels.now ≤ 255 }
     requires addresses { 34 ≤ length frame.now }
@@ -109,12 +129,8 @@ fn direction(frame: &[u8], channels: &[Channel]) -> Option<(u8, Side)>
     ensures { result ≡ option_map (λ (d : Direction). (d.channel, d.side)) (direction_of channels.now (fields_of frame.now)) }
 {
     for (i, channel) in channels.iter().enumerate() {
-        let number = (i + 1) as u8;
-        if goes(frame, &channel.client, &channel.server) {
-            return Some((number, Side::Client));
-        }
-        if goes(frame, &channel.server, &channel.client) {
-            return Some((number, Side::Server));
+        if let Some(side) = sender(frame, channel) {
+            return Some(((i + 1) as u8, side));
         }
     }
     None
@@ -126,38 +142,38 @@ fn untagged<'a>(frame: &'a [u8], channels: &[Channel]) -> Result<Option<Datagram
     requires { length channels.now ≤ 255 }
     ensures { map_found packet_of result ≡ map_found (packet_at frame.now) (untagged_of channels.now frame.now) }
 {
-    if frame.len() < ADDRESSES_END || u16_at(frame, 12) != IPV4 {
+    if frame.len() < ETHERNET_HEADER + LEAST_IPV4_HEADER || u16_at(frame, 12) != IPV4 {
         return Ok(None);
     }
     let header = header_length(frame);
-    if frame[14] >> 4 != 4
-        || header < 20
-        || frame[23] != UDP
-        || !has_known_addresses(frame, channels)
-    {
+    if frame[14] >> 4 != 4 || header < LEAST_IPV4_HEADER || frame[23] != UDP {
+        return Ok(None);
+    }
+    if !has_known_addresses(frame, channels) {
         return Ok(None);
     }
     if is_fragment(frame) {
         return Err(Fault::at(Fault::FRAGMENT, 0));
     }
     let total = u16_at(frame, 16) as usize;
-    if total < header + 8 {
+    if total < header + UDP_HEADER {
         return Err(Fault::at(Fault::BAD_UDP, 0));
     }
-    if frame.len() < 14 + header + 8 {
+    let udp = ETHERNET_HEADER + header;
+    if frame.len() < udp + UDP_HEADER {
         return Err(Fault::at(Fault::CUT_PACKET, 0));
     }
     let Some((channel, side)) = direction(frame, channels) else {
         return Ok(None);
     };
-    let length = u16_at(frame, 18 + header) as usize;
-    if length < 8 || length > total - header {
+    let length = u16_at(frame, udp + 4) as usize;
+    if length < UDP_HEADER || length > total - header {
         return Err(Fault::at(Fault::BAD_UDP, 0));
     }
-    if frame.len() < 14 + header + length {
+    if frame.len() < udp + length {
         return Err(Fault::at(Fault::CUT_PACKET, 0));
     }
-    let payload = &frame[22 + header..14 + header + length];
+    let payload = &frame[udp + UDP_HEADER..udp + length];
     Ok(Some(Datagram {
         channel,
         side,
@@ -171,7 +187,7 @@ fn untagged<'a>(frame: &'a [u8], channels: &[Channel]) -> Result<Option<Datagram
 /// One tag of IEEE 802.1Q and options of IPv4 are passed over, and what stands behind the datagram
 /// is no data. Refused, at place 0, by [`Fault::FRAGMENT`], [`Fault::BAD_UDP`] (a total length or a
 /// UDP length that can't be) and [`Fault::CUT_PACKET`] (not all of it was captured).
-#[tactic(auto, unfolding(crate::specs::Frame::datagram_of))]
+#[tactic(auto, using(crate::proofs::Tags::packet_in_tagged, crate::proofs::Tags::packet_in_untagged))]
 pub fn datagram<'a>(
     record: &Record<'a>,
     channels: &[Channel],
@@ -181,8 +197,12 @@ pub fn datagram<'a>(
 {
     let frame = record.bytes;
     if frame.len() >= 16 && u16_at(frame, 12) == TAGGED {
-        untagged(&frame[4..], channels)
+        // Nothing of the first 12 bytes is read.
+        untagged(&frame[TAG..], channels)
     } else {
         untagged(frame, channels)
     }
 }
+
+#[cfg(test)]
+mod tests;

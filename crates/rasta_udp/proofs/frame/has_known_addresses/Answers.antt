@@ -1,4 +1,4 @@
-use Rattle.std.proofs.Common.{rules, tests, ◌∙◌, ◌≡◌, ◌||◌, Bool}
+use Rattle.std.proofs.Common.{rules, tests, ◌∙◌, ◌||◌, Bool}
 use Rattle.std.proofs.lemmas.Iterator.{YieldsList-from_slice}
 use Rattle.std.proofs.lemmas.Iterator.Search.{any_from_yields_List}
 use Rattle.rasta_udp.specs.declared.channel.Channel.{Channel}
