@@ -2,6 +2,7 @@
 #![tactic(auto)]
 
 mod counted;
+pub mod devices;
 mod fault;
 pub mod laws;
 mod pcap;

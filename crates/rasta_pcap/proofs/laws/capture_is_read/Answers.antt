@@ -1,5 +1,5 @@
 use Rattle.rasta_pcap.proofs.Captures.{IsCapture-reading_of, reading_of-IsCapture}
-use Rattle.rasta_pcap.proofs.laws.captures.Goals as goal
+use Rattle.rasta_pcap.proofs.laws.capture_is_read.Goals as goal
 
 pub returns-clause-read : goal.returns-clause-read
 returns-clause-read c limit file h = IsCapture-reading_of limit file h
