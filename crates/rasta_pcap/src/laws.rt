@@ -1,5 +1,5 @@
 //! Laws on the records of a capture file: functions without a body, whose contracts are the laws.
-ghost use Rattle.std.specs.Prelude.{◌≡◌, ◌↔◌, ℕ, ◌+◌, ◌-◌, ◌<◌, ◌≤◌, List, length, take, drop, map, Ok, Err, Some, None};
+ghost use Rattle.std.specs.Prelude.{◌≡◌, ◌↔◌, ℕ, ◌+◌, ◌-◌, ◌<◌, ◌≤◌, List, ◌++◌, length, take, drop, map, Ok, Err, Some, None};
 ghost use Rattle.std.specs.List.{range_with_len};
 ghost use Rattle.rasta_pcap.specs.declared.fault.Fault.{Fault};
 ghost use Rattle.rasta_pcap.specs.declared.pcap.Endianness.{Endianness};
@@ -31,6 +31,10 @@ pub fn capture_is_read()
     ensures only { (limit : ℕ) (file : List ℕ) (records : List (List ℕ)) → limit ≤ max_records
         → IsCapture limit file records
         → (bytes_of (reading_of limit file) ≡ records) × ((reading_of limit file).fault ≡ None) }
+    // Where as many records stand as may be read, bytes behind them change nothing.
+    ensures behind { (limit : ℕ) (file more : List ℕ) (records : List (List ℕ))
+        → IsCapture limit file records → length records ≡ limit
+        → IsCapture limit (file ++ more) records }
 {}
 
 /// A file that is refused at a record has exactly the records in front of it.
