@@ -350,3 +350,22 @@ pub numbers-reading_of : (limit : ℕ) (file : List ℕ)
     → map (λ (n : Numbered). n.0) (reading_of limit file).records ≡ range_with_len 1 (length (reading_of limit file).records)
 unfolding reading_of
 numbers-reading_of limit file = numbers_by_opening limit file (opening file) refl
+
+-- bytes behind the last record that may be read change nothing
+pub IsCapture-append : (limit : ℕ) (file more : List ℕ) (records : List (List ℕ)) → IsCapture limit file records → length records ≡ limit
+    → IsCapture limit (file ++ more) records
+IsCapture-append limit file more records h full =
+    let body = flat_map entry_bytes h.entries in
+    let count : length h.entries ≡ length records = sym (length-map h.entries (λ (e : Entry). e.bytes)) ∙ ap length (sym h.bytes_are) in record {
+      order = h.order;
+      header = h.header;
+      entries = h.entries;
+      rest = h.rest ++ more;
+      is_header = h.is_header;
+      each = h.each;
+      whole = ap (λ l. l ++ more) h.whole ∙ append_assoc h.header (body ++ h.rest) more
+          ∙ ap (λ l. h.header ++ l) (append_assoc body h.rest more);
+      bytes_are = h.bytes_are;
+      within = h.within;
+      stops = inr (count ∙ full);
+    }

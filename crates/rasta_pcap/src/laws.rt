@@ -1,5 +1,5 @@
 //! Laws on the records of a capture file: functions without a body, whose contracts are the laws.
-ghost use Rattle.std.specs.Prelude.{◌≡◌, ◌↔◌, ℕ, ◌+◌, ◌-◌, ◌<◌, ◌≤◌, List, length, take, drop, map, Ok, Err, Some, None};
+ghost use Rattle.std.specs.Prelude.{◌≡◌, ◌↔◌, ℕ, ◌+◌, ◌-◌, ◌<◌, ◌≤◌, List, ◌++◌, length, take, drop, map, Ok, Err, Some, None};
 ghost use Rattle.std.specs.List.{range_with_len};
 ghost use Rattle.rasta_pcap.specs.declared.fault.Fault.{Fault};
 ghost use Rattle.rasta_pcap.specs.declared.pcap.Endianness.{Endianness};
@@ -8,7 +8,7 @@ ghost use Rattle.rasta_pcap.specs.Capture.{Cursor, IsHeader, IsCapture, IsRefuse
 
 /// A file is opened exactly where its first 24 bytes are a header that is read, and a header is
 /// read in one byte order alone.
-pub fn headers()
+pub fn header_is_read()
     // Where the first 24 bytes are such a header, the cursor stands behind them.
     ensures opened { (file : List ℕ) (order : Endianness) → IsHeader order (take 24 file)
         → opening file ≡ Ok (record { order = order; rest = drop 24 file; count = 0 }) }
@@ -23,7 +23,7 @@ pub fn headers()
 
 /// A file that is read without a fault has exactly the records that were read, so no file has two
 /// lists of records.
-pub fn captures()
+pub fn capture_is_read()
     // What is read without a fault are the records of the file.
     ensures read { (limit : ℕ) (file : List ℕ) → (reading_of limit file).fault ≡ None
         → IsCapture limit file (bytes_of (reading_of limit file)) }
@@ -31,10 +31,14 @@ pub fn captures()
     ensures only { (limit : ℕ) (file : List ℕ) (records : List (List ℕ)) → limit ≤ max_records
         → IsCapture limit file records
         → (bytes_of (reading_of limit file) ≡ records) × ((reading_of limit file).fault ≡ None) }
+    // Where as many records stand as may be read, bytes behind them change nothing.
+    ensures behind { (limit : ℕ) (file more : List ℕ) (records : List (List ℕ))
+        → IsCapture limit file records → length records ≡ limit
+        → IsCapture limit (file ++ more) records }
 {}
 
 /// A file that is refused at a record has exactly the records in front of it.
-pub fn refusals()
+pub fn refusal_is_read()
     // What is read in front of a record's fault are the records of the file there.
     ensures read { (limit : ℕ) (file : List ℕ) (fault : Fault)
         → (reading_of limit file).fault ≡ Some fault → 0 < fault.place
@@ -54,7 +58,7 @@ pub fn refusals()
 {}
 
 /// A fault that names no record is the header's.
-pub fn header_refusals()
+pub fn header_refusal_is_read()
     // A fault at no record is that of the header.
     ensures read { (limit : ℕ) (file : List ℕ) (fault : Fault)
         → (reading_of limit file).fault ≡ Some fault → fault.place ≡ 0
@@ -65,7 +69,7 @@ pub fn header_refusals()
 {}
 
 /// The records of a file are numbered in their order, from 1.
-pub fn numbers()
+pub fn records_are_numbered()
     ensures { (limit : ℕ) (file : List ℕ) → let records = (reading_of limit file).records in
         map (λ (r : Numbered). r.0) records ≡ range_with_len 1 (length records) }
 {}

@@ -2,6 +2,7 @@
 #![tactic(auto)]
 
 mod counted;
+pub mod devices;
 mod fault;
 pub mod laws;
 mod pcap;
@@ -9,3 +10,6 @@ mod pcap;
 pub use counted::{Counted, Sink, Source, read_all, write_all};
 pub use fault::{Fault, Side};
 pub use pcap::{Pcap, Record};
+
+#[cfg(test)]
+mod tests;

@@ -1,5 +1,5 @@
 use Rattle.rasta_pcap.proofs.Headers.{opening-header, opening-is_header, IsHeader-one_order}
-use Rattle.rasta_pcap.proofs.laws.headers.Goals as goal
+use Rattle.rasta_pcap.proofs.laws.header_is_read.Goals as goal
 
 pub returns-clause-opened : goal.returns-clause-opened
 returns-clause-opened c file order h = opening-header order file h

@@ -1,5 +1,5 @@
 use Rattle.rasta_pcap.proofs.Captures.{IsRefused-reading_of, reading_of-IsRefused, IsRefused-place, IsCapture-IsRefused}
-use Rattle.rasta_pcap.proofs.laws.refusals.Goals as goal
+use Rattle.rasta_pcap.proofs.laws.refusal_is_read.Goals as goal
 
 pub returns-clause-read : goal.returns-clause-read
 returns-clause-read c limit file fault h place = IsRefused-reading_of limit file fault h place

@@ -1,8 +1,0 @@
-use Rattle.rasta_pcap.proofs.Captures.{IsCapture-reading_of, reading_of-IsCapture}
-use Rattle.rasta_pcap.proofs.laws.captures.Goals as goal
-
-pub returns-clause-read : goal.returns-clause-read
-returns-clause-read c limit file h = IsCapture-reading_of limit file h
-
-pub returns-clause-only : goal.returns-clause-only
-returns-clause-only c limit file records bound h = reading_of-IsCapture limit file records bound h
