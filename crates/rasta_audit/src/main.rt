@@ -36,7 +36,7 @@ fn read_params<R: AllocGlobal + Files>(rt: &R, path: &str) -> Result<Params, Fau
     params(rt.alloc(), &text)
 }
 
-fn show<R: AllocGlobal + Files + Print>(
+fn show_file<R: AllocGlobal + Files + Print>(
     rt: &R,
     capture: &str,
     params_path: &str,
@@ -56,7 +56,7 @@ fn show<R: AllocGlobal + Files + Print>(
 
 fn run<R: AllocGlobal + Files + Print>(rt: &R, words: &[String]) -> Result<u8, Failure> {
     match form(rt.alloc(), words)? {
-        Form::Show { capture, params } => show(rt, capture, params).map_err(Failure::Refused),
+        Form::Show { capture, params } => show_file(rt, capture, params).map_err(Failure::Refused),
         Form::Build { .. } | Form::Check { .. } | Form::Audit { .. } => Err(Failure::Usage),
     }
 }
