@@ -1,3 +1,4 @@
 pub mod Showing
 pub mod EndpointTexts
 pub mod Documents
+pub mod EndpointLaws

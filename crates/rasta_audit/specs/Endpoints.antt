@@ -1,5 +1,5 @@
 -- Endpoints as texts: `a.b.c.d:port`, in decimal without leading zeros.
-use Rattle.std.specs.Prelude.{ℕ, ◌<◌, ◌≤◌, List, [], ◌∷◌, ◌++◌, length, Bool, ◌&&◌, ◌==◌, nat_lt, nat_le, if◌then◌else◌, Option, Some, None}
+use Rattle.std.specs.Prelude.{◌≡◌, ℕ, ◌<◌, ◌≤◌, List, [], ◌∷◌, ◌++◌, length, Bool, ◌&&◌, ◌==◌, nat_lt, nat_le, if◌then◌else◌, Option, Some, None}
 use Rattle.std.specs.Fmt.{decimal}
 use Rattle.std.specs.List.{position_or_len, before_first, after_first}
 use Rattle.std.specs.Str.{bytes_eq}
@@ -55,3 +55,19 @@ unfoldable pub endpoint_of : List ℕ → Option Endpoint
 endpoint_of text =
     and_then (cut 58 text) (λ parts. and_then (and_then (four_of parts.0) address_in)
     (λ address. and_then (port_of parts.1) (λ port. Some (record { address = address; port = port }))))
+
+-- numbers that an address and a port can have, of which the text is this
+pub record IsEndpointText (text : List ℕ) (a b c d port : ℕ) : Type 0 where
+  pub octets : (a < 256) × (b < 256) × (c < 256) × (d < 256)
+  pub from_one : 1 ≤ port
+  pub to_most : port ≤ 65535
+  pub text_is : text ≡ endpoint_text a b c d port
+
+-- the text is that of the endpoint
+pub record HasText (e : Endpoint) (text : List ℕ) : Type 0 where
+  pub a : ℕ
+  pub b : ℕ
+  pub c : ℕ
+  pub d : ℕ
+  pub address : e.address ≡ a ∷ b ∷ c ∷ d ∷ []
+  pub is_text : IsEndpointText text a b c d e.port

@@ -10,6 +10,8 @@ mod key;
 mod line;
 mod params;
 mod show;
+#[cfg(test)]
+mod tests;
 mod texts;
 
 use crate::command::form;
