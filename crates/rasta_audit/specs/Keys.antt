@@ -102,11 +102,13 @@ abbrev pub are_tables : Items → Bool
 are_tables no_items = true
 are_tables (item d ds) = is_some (as_table d) && are_tables ds
 
+abbrev pub are_few_tables : Items → Bool
+are_few_tables ds = nat_le 1 (count_of ds) && nat_le (count_of ds) 4 && are_tables ds
+
 -- an array of one to four tables
 abbrev pub few_tables : Option Items → Option Items
 few_tables None = None
-few_tables (Some ds) =
-    if nat_le 1 (count_of ds) && nat_le (count_of ds) 4 && are_tables ds then Some ds else None
+few_tables (Some ds) = if are_few_tables ds then Some ds else None
 
 -- that it is an array of one to four tables; then the tables; then that no route stands there twice
 unfoldable pub channels_at : Members → Result (List Channel) Fault

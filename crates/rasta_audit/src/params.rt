@@ -1,16 +1,18 @@
 //! The parameters of a parameter file.
-ghost use Rattle.std.specs.Prelude.{◌≡◌, ◌≢◌, ◌≤◌, ◌⊎◌, length, IsTrue, IfOk, MatchResult, Ok, Err, Some, option_map, is_some};
+ghost use Rattle.std.specs.Prelude.{◌≡◌, ◌≢◌, ◌≤◌, ◌⊎◌, length, IsTrue, IfOk, MatchResult, Ok, Err, Some, option_map, is_some, string_bytes, nat_le, ◌&&◌, true, IfSome};
 ghost use Rattle.rasta_pcap.specs.Fault.{no_memory};
 ghost use Rattle.rasta_pdu.specs.Params.{are_distinct, routes};
 ghost use Rattle.std.specs.Str.{bytes_eq};
-ghost use Rattle.std.specs.List.{list_any};
-ghost use Rattle.toml.specs.Data.{as_array};
+ghost use Rattle.std.specs.List.{list_all, list_any};
+ghost use Rattle.std.specs.BTreeMap.{keys};
+ghost use Rattle.toml.specs.Data.{as_array, as_table};
 ghost use Rattle.toml.specs.View.{items_view, table_view, view};
-ghost use Rattle.rasta_audit.specs.Keys.{ReadsParameters, are_among, channel_in, channel_keys, channel_of, channels_at, channels_in, endpoint_at, few_tables, ids_of, known_keys, lengths_of, limits_of, parameters_of, window_of};
+ghost use Rattle.rasta_audit.specs.Keys.{ReadsParameters, are_among, are_few_tables, channel_in, channel_of, channels_at, channels_in, endpoint_at, few_tables, ids_of, lengths_of, limits_of, parameters_of, parameters_with, window_of};
+ghost use Rattle.rasta_audit.specs.Stored.{texts_of};
 
 use crate::endpoint::endpoint_in;
 use crate::key::{number, optional, value_at};
-use rasta_pdu::{Channel, Endpoint, Fault, Params};
+use rasta_pdu::{Channel, Endpoint, Fault, Params, are_distinct_routes};
 use std::alloc::Global;
 use toml::{Table, Value};
 
@@ -123,37 +125,39 @@ fn read_endpoint(table: &Table, key: &str) -> Result<Endpoint, Fault>
     }
 }
 
-fn is_channel_key(key: &str) -> bool
-    ensures { result ≡ list_any (bytes_eq key.now) channel_keys }
+const KNOWN_KEYS: [&str; 10] = [
+    "client_id",
+    "server_id",
+    "code_length",
+    "check_length",
+    "n_sendmax",
+    "t_max",
+    "slack",
+    "first_record",
+    "last_record",
+    "channel",
+];
+
+fn is_among(key: &str, names: &[&str]) -> bool
+    ensures { result ≡ list_any (bytes_eq key.now) (texts_of names.now) }
 {
-    key == "client" || key == "server"
+    match names {
+        [] => false,
+        [first, rest @ ..] => key == *first || is_among(key, rest),
+    }
 }
 
-fn has_channel_keys_alone(table: &Table) -> bool
-    ensures { result ≡ are_among channel_keys (table_view table.now) }
+fn are_all_among(table: &Table, names: &[&str]) -> bool
+    ensures { result ≡ list_all (λ k. list_any (bytes_eq (string_bytes k)) (texts_of names.now)) (keys table.now) }
 {
-    table.keys().all(|key| is_channel_key(key.as_str()))
+    table.keys().all(|key| is_among(key.as_str(), names))
 }
 
-fn is_known_key(key: &str) -> bool
-    ensures { result ≡ list_any (bytes_eq key.now) known_keys }
+// Whether a table has keys of these names alone.
+fn has_keys_among(table: &Table, names: &[&str]) -> bool
+    ensures { result ≡ are_among (texts_of names.now) (table_view table.now) }
 {
-    key == "client_id"
-        || key == "server_id"
-        || key == "code_length"
-        || key == "check_length"
-        || key == "n_sendmax"
-        || key == "t_max"
-        || key == "slack"
-        || key == "first_record"
-        || key == "last_record"
-        || key == "channel"
-}
-
-fn has_known_keys_alone(table: &Table) -> bool
-    ensures { result ≡ are_among known_keys (table_view table.now) }
-{
-    table.keys().all(|key| is_known_key(key.as_str()))
+    are_all_among(table, names)
 }
 
 #[tactic(auto, unfolding(crate::specs::Keys::channel_in))]
@@ -162,7 +166,7 @@ fn read_channel(table: &Table) -> Result<Channel, Fault>
 {
     let client = read_endpoint(table, "client")?;
     let server = read_endpoint(table, "server")?;
-    if !has_channel_keys_alone(table) {
+    if !has_keys_among(table, &["client", "server"]) {
         return Err(Fault::at(Fault::BAD_VALUE, 11));
     }
     Ok(Channel { client, server })
@@ -179,33 +183,136 @@ fn channel_in_value(value: &Value) -> Result<Channel, Fault>
 }
 
 fn read_channels(alloc: Global, values: &[Value]) -> Result<Vec<Channel>, Fault>
-    ensures { MatchResult result (λ channels. channels_in (items_view values.now) ≡ Ok channels.items)
+    ensures value { MatchResult result (λ channels. channels_in (items_view values.now) ≡ Ok channels.items)
         (λ f. (f ≡ no_memory) ⊎ (channels_in (items_view values.now) ≡ Err f)) }
+    ensures count { IfOk result (λ channels. length channels.items ≡ length values.now) }
 {
     let mut channels = Vec::new(alloc);
     for value in values {
-        let channel = channel_in_value(value)?;
-        if channels.push(channel).is_err() {
-            return Err(Fault::at(Fault::NO_MEMORY, 0));
+        match channel_in_value(value) {
+            Ok(channel) => {
+                if channels.push(channel).is_err() {
+                    return Err(Fault::at(Fault::NO_MEMORY, 0));
+                }
+            }
+            Err(fault) => return Err(fault),
         }
     }
     Ok(channels)
 }
 
-fn are_few_tables(values: &[Value]) -> bool
-    ensures { result ≡ is_some (few_tables (Some (items_view values.now))) }
+fn are_all_tables(values: &[Value]) -> bool
+    ensures { result ≡ list_all (λ v. is_some (as_table (view v))) values.now }
 {
-    (1..=4).contains(&values.len()) && values.iter().all(|value| value.is_table())
+    values.iter().all(|value| value.is_table())
+}
+
+fn are_few(values: &[Value]) -> bool
+    ensures { result ≡ (nat_le 1 (length values.now) && nat_le (length values.now) 4) }
+{
+    (1..=4).contains(&values.len())
+}
+
+// Whether the values are one to four tables.
+fn are_few_tables(values: &[Value]) -> bool
+    ensures value { result ≡ are_few_tables (items_view values.now) }
+    ensures few { result ≡ true → (1 ≤ length values.now) × (length values.now ≤ 4) }
+{
+    are_few(values) && are_all_tables(values)
 }
 
 // The values of the key of the channels, which have to be one to four tables.
 fn few_values(value: &Value) -> Option<&[Value]>
-    ensures { option_map (λ v. items_view v.now) result ≡ few_tables (as_array (view value.now)) }
+    ensures value { option_map (λ v. items_view v.now) result ≡ few_tables (as_array (view value.now)) }
+    ensures few { IfSome result (λ v. (1 ≤ length v.now) × (length v.now ≤ 4)) }
 {
     let values = value.as_array()?.as_slice();
     if are_few_tables(values) {
         Some(values)
     } else {
         None
+    }
+}
+
+#[tactic(auto, unfolding(crate::specs::Keys::channels_at))]
+fn channels_of(alloc: Global, table: &Table) -> Result<Vec<Channel>, Fault>
+    ensures value { MatchResult result (λ channels. channels_at (table_view table.now) ≡ Ok channels.items)
+        (λ f. (f ≡ no_memory) ⊎ (channels_at (table_view table.now) ≡ Err f)) }
+    ensures distinct { IfOk result (λ channels. IsTrue (are_distinct (routes channels.items))) }
+    ensures few { IfOk result (λ channels. (1 ≤ length channels.items) × (length channels.items ≤ 4)) }
+{
+    let Some(value) = value_at(table, "channel") else {
+        return Err(Fault::at(Fault::MISSING_KEY, 11));
+    };
+    let Some(values) = few_values(value) else {
+        return Err(Fault::at(Fault::BAD_VALUE, 11));
+    };
+    let channels = read_channels(alloc, values)?;
+    if !are_distinct_routes(&channels) {
+        return Err(Fault::at(Fault::BAD_VALUE, 11));
+    }
+    Ok(channels)
+}
+
+const RFC_WORDS: [u32; 4] = [0x6745_2301, 0xefcd_ab89, 0x98ba_dcfe, 0x1032_5476];
+
+// The parameters of these values, which are all in their ranges.
+fn assembled(
+    ids: Ids,
+    lengths: Lengths,
+    limits: Limits,
+    window: Window,
+    channels: &[Channel],
+) -> Option<Params>
+    requires distinct { ids.client_id ≢ ids.server_id }
+    requires none { (lengths.code_length ≡ 0) × (lengths.check_length ≡ 0) }
+    requires limits { (1 ≤ limits.n_sendmax) × (limits.n_sendmax ≤ 65535) × (1 ≤ limits.t_max) × (limits.t_max ≤ 60000) × (limits.slack ≤ 1000) }
+    requires window { (1 ≤ window.first_record) × (window.first_record ≤ window.last_record) × (window.last_record ≤ 4000000000) }
+    requires few { (1 ≤ length channels.now) × (length channels.now ≤ 4) }
+    requires routes { IsTrue (are_distinct (routes channels.now)) }
+    ensures { result ≡ Some (parameters_with ids lengths limits window channels.now) }
+{
+    Params::new(
+        ids.client_id,
+        ids.server_id,
+        lengths.code_length as u8,
+        RFC_WORDS,
+        lengths.check_length as u8,
+        limits.n_sendmax as u16,
+        limits.t_max as u16,
+        limits.slack as u16,
+        window.first_record,
+        window.last_record,
+        channels,
+    )
+}
+
+#[tactic(auto, unfolding(crate::specs::Keys::parameters_of))]
+fn read_parameters(alloc: Global, table: &Table) -> Result<Params, Fault>
+    ensures { (result ≡ Err no_memory) ⊎ (result ≡ parameters_of (table_view table.now)) }
+{
+    let ids = read_ids(table)?;
+    let lengths = read_lengths(table)?;
+    let limits = read_limits(table)?;
+    let window = read_window(table)?;
+    let channels = channels_of(alloc, table)?;
+    if !has_keys_among(table, &KNOWN_KEYS) {
+        return Err(Fault::at(Fault::BAD_VALUE, 12));
+    }
+    assembled(ids, lengths, limits, window, &channels).ok_or(Fault::at(Fault::BAD_VALUE, 11))
+}
+
+/// The parameters of a parameter file: a TOML document, whose keys are read in the order of their
+/// numbers, the table of channels last, and then keys of other names.
+///
+/// Refused by [`Fault::TOML`] at place 0, by [`Fault::MISSING_KEY`] and [`Fault::BAD_VALUE`] at the
+/// key's number, and by [`Fault::NO_MEMORY`].
+pub fn params(alloc: Global, text: &[u8]) -> Result<Params, Fault>
+    ensures { ReadsParameters text.now result }
+{
+    match toml::table_from_slice(alloc, text) {
+        Ok(table) => read_parameters(alloc, &table),
+        Err(error) if error.is_memory() => Err(Fault::at(Fault::NO_MEMORY, 0)),
+        Err(_) => Err(Fault::at(Fault::TOML, 0)),
     }
 }

@@ -284,14 +284,15 @@ fn longest_record_is_read(rt: HostRuntime) -> Result<(), Fail> {
 }
 
 #[test]
-fn all_bytes_are_read(rt: HostRuntime) -> Result<(), Fail> {
+fn all_bytes_are_read(rt: HostRuntime) {
     for most in [1, 7, 20, 8192] {
         let mut reader = Counted::new(Pieces::new(&TEXT, most));
-        let bytes = read_all(rt.alloc(), &mut reader).ok().ok_or("read")?;
-        assert_eq!(rt; bytes.as_slice(), TEXT.as_slice(), "pieces of {most}");
+        match read_all(rt.alloc(), &mut reader) {
+            Ok(bytes) => assert_eq!(rt; bytes.as_slice(), TEXT.as_slice(), "pieces of {most}"),
+            Err(fault) => panic!(rt; "pieces of {most}: {}", fault.name()),
+        }
         assert_eq!(rt; reader.failures(), 0);
     }
-    Ok(())
 }
 
 // Pieces of 7 bytes: three with bytes, and the end.

@@ -8,4 +8,5 @@ mod route;
 
 pub use params::Params;
 pub use pdu::{Kind, Pdu, decode};
+pub use route::are_distinct_routes;
 pub use rasta_udp::{Channel, Endpoint, Fault, Side, Sink, Source};

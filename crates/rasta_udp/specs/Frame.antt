@@ -20,8 +20,8 @@ number_at n place bytes = big_number n (drop place bytes)
 abbrev pub address_of : Endpoint → ℕ
 address_of e = number_at 4 0 e.address
 
--- the fields of a frame that are read, under the names of RFC 791 and RFC 768; the header length in
--- bytes
+-- what is read of a frame: how many bytes were captured, the type of Ethernet II, and fields under
+-- the names of RFC 791 and RFC 768, the header length in bytes
 pub record Fields : Type 0 where
   pub captured : ℕ
   pub ether_type : ℕ
@@ -37,11 +37,11 @@ pub record Fields : Type 0 where
   pub destination_port : ℕ
   pub udp_length : ℕ
 
--- four times the low half of the first byte of the IPv4 header
+-- the internet header length, in bytes: the field counts words of 32 bits
 abbrev pub header_length_of : List ℕ → ℕ
 header_length_of frame = 4 * (slice_index frame 14 % 16)
 
--- where each field stands: the IPv4 header at 14, the UDP header behind it
+-- where each field stands: the header of IPv4 at 14, and that of UDP behind it
 abbrev pub fields_of : List ℕ → Fields
 fields_of frame = record {
   captured = length frame;

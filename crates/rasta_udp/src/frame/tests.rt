@@ -174,6 +174,7 @@ fn first_direction_decides(rt: HostRuntime) -> Result<(), Fail> {
         number: 7,
         bytes: &frame,
     };
+    assert!(rt; matches!(datagram(&record, &[]), Ok(None)));
     let forth = Channel {
         client: CLIENT,
         server: SERVER,
