@@ -1,5 +1,5 @@
 -- Tables and arrays of a document, as the code holds them.
-use Rattle.std.proofs.Common.{◌≡◌, ◌≢◌, ℕ, ◌+◌, ◌<◌, ◌≤◌, List, [], ◌∷◌, ◌++◌, length, Bool, true, false, ◌&&◌, Option, Some, None, is_some, Result, Ok, Err, ap, refl, sym, ◌∙◌, append_assoc, append-nil, string_bytes, map, drop, get_or, nat_le, cond, ◌⊎◌, inl, inr, arith}
+use Rattle.std.proofs.Common.{◌≡◌, ℕ, ◌+◌, ◌<◌, ◌≤◌, List, [], ◌∷◌, ◌++◌, length, Bool, true, false, ◌&&◌, Some, None, is_some, Result, Ok, Err, ap, refl, sym, ◌∙◌, append_assoc, append-nil, string_bytes, drop, get_or, nat_le, cond, ◌⊎◌, inl, inr, arith}
 use Rattle.std.specs.List.{list_all, list_any}
 use Rattle.std.specs.Map.{keys_of}
 use Rattle.std.specs.Str.{bytes_eq}

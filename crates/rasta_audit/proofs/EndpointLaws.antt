@@ -1,5 +1,5 @@
 -- The text of an endpoint is read as that endpoint, and no other text is.
-use Rattle.std.proofs.Common.{◌≡◌, ◌≢◌, ◌⊎◌, inl, inr, ℕ, ◌+◌, ◌-◌, ◌^◌, ◌<◌, ◌≤◌, List, [], ◌∷◌, ◌++◌, length, take, drop, get_or, Bool, true, false, cond, nat_eq, nat_lt, Option, Some, None, option_map, IfSome, IfNone, refl, sym, ap, subst, ◌∙◌, arith, append_assoc, length-append}
+use Rattle.std.proofs.Common.{◌≡◌, ◌⊎◌, inl, inr, ℕ, ◌+◌, ◌-◌, ◌^◌, ◌<◌, ◌≤◌, List, [], ◌∷◌, ◌++◌, length, take, drop, get_or, Bool, true, false, cond, nat_eq, nat_lt, Option, Some, None, IfSome, IfNone, refl, sym, ap, ◌∙◌, arith, append_assoc, length-append}
 use Rattle.std.proofs.Math.Seq.{get_or-append_right, get_or-append_seam, take-append_seam, drop-append_seam}
 use Rattle.std.proofs.Math.ListN.{get_or-append}
 use Rattle.std.proofs.lemmas.Bool.{cases_lt, eqb-true}
@@ -23,7 +23,7 @@ Lacks-decimal : (byte n : ℕ) → n < 2 ^ 64 → (byte < 48) ⊎ (57 < byte) �
 Lacks-decimal byte n small other = record {
   at = λ k below.
       let range = digit_at (decimal n) k (decimal_is_IsNumeral n small).0.1 below in
-      elim other [ | inl h ↦ grind (arith, nat_tests) | inr h ↦ grind (arith, nat_tests) ];
+      elim other [ inl h ↦ grind (arith, nat_tests) | inr h ↦ grind (arith, nat_tests) ];
 }
 
 Lacks-append : (byte : ℕ) (xs ys : List ℕ) → Lacks byte xs → Lacks byte ys → Lacks byte (xs ++ ys)
@@ -48,8 +48,8 @@ cut-first byte xs ys lacks =
     let long : length all ≡ length xs + length (byte ∷ ys) = length-append xs (byte ∷ ys) in
     let same : nat_eq byte byte ≡ true = grind (arith, nat_tests) in
     let at : position_or_len p all ≡ length xs = position_or_len_is p all (length xs) 0 (omega arith)
-        (λ k below. ap (λ (c : ℕ). nat_eq c byte) (get_or-append xs (byte ∷ ys) 0 k below) ∙ lacks.at k below)
-        (λ h. ap (λ (c : ℕ). nat_eq c byte) (get_or-append_seam xs byte ys 0) ∙ same) in
+    (λ k below. ap (λ (c : ℕ). nat_eq c byte) (get_or-append xs (byte ∷ ys) 0 k below) ∙ lacks.at k below)
+    (λ h. ap (λ (c : ℕ). nat_eq c byte) (get_or-append_seam xs byte ys 0) ∙ same) in
     let within : nat_lt (length xs) (length all) ≡ true = grind (arith, nat_tests) in
     let rest : drop (length xs + 1) all ≡ ys = sym (drop-drop 1 (length xs) all) ∙ ap (drop 1) (drop-append_seam xs (byte ∷ ys)) in
     ap (λ (n : ℕ). cond (nat_lt n (length all)) (Some (take n all, drop (n + 1) all)) None) at
@@ -58,14 +58,14 @@ cut-first byte xs ys lacks =
     ∙ ap (λ (l : List ℕ). Some (xs, l)) rest
 
 -- four texts with points between them
-pub four_of-texts : (a b c d : List ℕ) → Lacks 46 a → Lacks 46 b → Lacks 46 c
+four_of-texts : (a b c d : List ℕ) → Lacks 46 a → Lacks 46 b → Lacks 46 c
     → four_of (a ++ (46 ∷ (b ++ (46 ∷ (c ++ (46 ∷ d)))))) ≡ Some (record { first = a; second = b; third = c; fourth = d })
 unfolding four_of
 four_of-texts a b c d la lb lc =
     let Parts : Type 0 = List ℕ × List ℕ in
     let last : Parts → Parts → Parts → Option Four = λ one two three. Some (record { first = one.0; second = two.0; third = three.0; fourth = three.1 }) in
     ap (λ (o : Option Parts). and_then o (λ one. and_then (cut 46 one.1) (λ two. and_then (cut 46 two.1) (last one two))))
-        (cut-first 46 a (b ++ (46 ∷ (c ++ (46 ∷ d)))) la)
+    (cut-first 46 a (b ++ (46 ∷ (c ++ (46 ∷ d)))) la)
     ∙ ap (λ (o : Option Parts). and_then o (λ two. and_then (cut 46 two.1) (last (a, b ++ (46 ∷ (c ++ (46 ∷ d)))) two))) (cut-first 46 b (c ++ (46 ∷ d)) lb)
     ∙ ap (λ (o : Option Parts). and_then o (last (a, b ++ (46 ∷ (c ++ (46 ∷ d)))) (b, c ++ (46 ∷ d)))) (cut-first 46 c d lc)
 
@@ -102,7 +102,7 @@ endpoint_text-host a b c d port =
     ∙ sym (append_assoc A (46 ∷ (B ++ (46 ∷ (C ++ (46 ∷ D))))) (58 ∷ P))
 
 -- the text of an endpoint is read as that endpoint
-pub endpoint_of-text : (text : List ℕ) (a b c d port : ℕ) → IsEndpointText text a b c d port
+endpoint_of-text : (text : List ℕ) (a b c d port : ℕ) → IsEndpointText text a b c d port
     → endpoint_of text ≡ Some (record { address = a ∷ b ∷ c ∷ d ∷ []; port = port })
 unfolding endpoint_of
 endpoint_of-text text a b c d port h =
@@ -112,11 +112,11 @@ endpoint_of-text text a b c d port h =
     let host = host_text a b c d in
     let lacks : (n : ℕ) → n < 256 → Lacks 58 (decimal n) = λ n small. Lacks-decimal 58 n (omega arith) (inr (omega arith)) in
     let point : (xs ys : List ℕ) → Lacks 58 xs → Lacks 58 ys → Lacks 58 (xs ++ (46 ∷ ys)) =
-        λ xs ys lx ly. Lacks-append 58 xs (46 ∷ ys) lx (Lacks-append 58 (46 ∷ []) ys (Lacks-one 58 46 refl) ly) in
+    λ xs ys lx ly. Lacks-append 58 xs (46 ∷ ys) lx (Lacks-append 58 (46 ∷ []) ys (Lacks-one 58 46 refl) ly) in
     let no_colon : Lacks 58 host = point A _ (lacks a ha) (point B _ (lacks b hb) (point C D (lacks c hc) (lacks d hd))) in
     let dots : (n : ℕ) → n < 256 → Lacks 46 (decimal n) = λ n small. Lacks-decimal 46 n (omega arith) (inl (omega arith)) in
     let address : and_then (four_of host) address_in ≡ Some (a ∷ b ∷ c ∷ d ∷ []) =
-        ap (λ (o : Option Four). and_then o address_in) (four_of-texts A B C D (dots a ha) (dots b hb) (dots c hc)) ∙ address_in-texts a b c d ha hb hc hd in
+    ap (λ (o : Option Four). and_then o address_in) (four_of-texts A B C D (dots a ha) (dots b hb) (dots c hc)) ∙ address_in-texts a b c d ha hb hc hd in
     let Parts : Type 0 = List ℕ × List ℕ in
     let made : List ℕ → ℕ → Option Endpoint = λ address port. Some (record { address = address; port = port }) in
     ap endpoint_of (h.text_is ∙ endpoint_text-host a b c d port)
@@ -165,7 +165,7 @@ no_zero n m h = elim (cases_lt 0 n) [
 ]
 
 -- what is read as an endpoint is its text
-pub endpoint_of-Some : (text : List ℕ) (e : Endpoint) → endpoint_of text ≡ Some e → HasText e text
+endpoint_of-Some : (text : List ℕ) (e : Endpoint) → endpoint_of text ≡ Some e → HasText e text
 unfolding endpoint_of four_of address_in port_of
 endpoint_of-Some text e h =
     let parts = gave (cut 58 text) _ e h in
@@ -185,29 +185,32 @@ endpoint_of-Some text e h =
     let numbers = no_zero n.value port.value n.then_is in
     let port_is : n.value ≡ e.port = numbers.0 ∙ ap (λ (q : Endpoint). q.port) made in
     let quarters : ◌≡◌ {A = Four} (record { first = one.value.0; second = two.value.0; third = three.value.0; fourth = three.value.1 }) four.value =
-        some_is three.then_is in
+    some_is three.then_is in
     let a = decimal_of-Some 255 w.value four.value.first w.is in
     let b = decimal_of-Some 255 x.value four.value.second x.is in
     let c = decimal_of-Some 255 y.value four.value.third y.is in
     let d = decimal_of-Some 255 z.value four.value.fourth z.is in
     let t = decimal_of-Some 65535 n.value parts.value.1 n.is in
     let host : parts.value.0 ≡ host_text w.value x.value y.value z.value =
-        cut-Some 46 parts.value.0 one.value one.is
-        ∙ ap (λ (l : List ℕ). one.value.0 ++ (46 ∷ l)) (cut-Some 46 one.value.1 two.value two.is
-            ∙ ap (λ (l : List ℕ). two.value.0 ++ (46 ∷ l)) (cut-Some 46 two.value.1 three.value three.is))
-        ∙ ap (λ (q : Four). q.first ++ (46 ∷ (q.second ++ (46 ∷ (q.third ++ (46 ∷ q.fourth)))))) quarters
-        ∙ ap (λ (l : List ℕ). l ++ (46 ∷ (four.value.second ++ (46 ∷ (four.value.third ++ (46 ∷ four.value.fourth)))))) a.0
-        ∙ ap (λ (l : List ℕ). decimal w.value ++ (46 ∷ (l ++ (46 ∷ (four.value.third ++ (46 ∷ four.value.fourth)))))) b.0
-        ∙ ap (λ (l : List ℕ). decimal w.value ++ (46 ∷ (decimal x.value ++ (46 ∷ (l ++ (46 ∷ four.value.fourth)))))) c.0
-        ∙ ap (λ (l : List ℕ). decimal w.value ++ (46 ∷ (decimal x.value ++ (46 ∷ (decimal y.value ++ (46 ∷ l)))))) d.0 in
+    cut-Some 46 parts.value.0 one.value one.is
+    ∙ ap (λ (l : List ℕ). one.value.0 ++ (46 ∷ l)) (cut-Some 46 one.value.1 two.value two.is
+    ∙ ap (λ (l : List ℕ). two.value.0 ++ (46 ∷ l)) (cut-Some 46 two.value.1 three.value three.is))
+    ∙ ap (λ (q : Four). q.first ++ (46 ∷ (q.second ++ (46 ∷ (q.third ++ (46 ∷ q.fourth)))))) quarters
+    ∙ ap (λ (l : List ℕ). l ++ (46 ∷ (four.value.second ++ (46 ∷ (four.value.third ++ (46 ∷ four.value.fourth)))))) a.0
+    ∙ ap (λ (l : List ℕ). decimal w.value ++ (46 ∷ (l ++ (46 ∷ (four.value.third ++ (46 ∷ four.value.fourth)))))) b.0
+    ∙ ap (λ (l : List ℕ). decimal w.value ++ (46 ∷ (decimal x.value ++ (46 ∷ (l ++ (46 ∷ four.value.fourth)))))) c.0
+    ∙ ap (λ (l : List ℕ). decimal w.value ++ (46 ∷ (decimal x.value ++ (46 ∷ (decimal y.value ++ (46 ∷ l)))))) d.0 in
     let whole : text ≡ endpoint_text w.value x.value y.value z.value e.port =
-        cut-Some 58 text parts.value parts.is
-        ∙ ap (λ (l : List ℕ). l ++ (58 ∷ parts.value.1)) host
-        ∙ ap (λ (l : List ℕ). host_text w.value x.value y.value z.value ++ (58 ∷ l)) (t.0 ∙ ap decimal port_is)
-        ∙ sym (endpoint_text-host w.value x.value y.value z.value e.port) in
+    cut-Some 58 text parts.value parts.is
+    ∙ ap (λ (l : List ℕ). l ++ (58 ∷ parts.value.1)) host
+    ∙ ap (λ (l : List ℕ). host_text w.value x.value y.value z.value ++ (58 ∷ l)) (t.0 ∙ ap decimal port_is)
+    ∙ sym (endpoint_text-host w.value x.value y.value z.value e.port) in
     let wa = a.1 in let xb = b.1 in let yc = c.1 in let zd = d.1 in let np = t.1 in let some = numbers.1 in
     record {
-      a = w.value; b = x.value; c = y.value; d = z.value;
+      a = w.value;
+      b = x.value;
+      c = y.value;
+      d = z.value;
       address = sym (address_is ∙ ap (λ (q : Endpoint). q.address) made);
       is_text = record {
         octets = (omega arith, omega arith, omega arith, omega arith);
@@ -216,3 +219,13 @@ endpoint_of-Some text e h =
         text_is = whole;
       };
     }
+
+pub HasText-found : (text : List ℕ) (r : Option Endpoint) → r ≡ endpoint_of text → IfSome r (λ e. HasText e text)
+HasText-found text None h = tt
+HasText-found text (Some e) h = endpoint_of-Some text e (sym h)
+
+pub no_text : (text : List ℕ) (r : Option Endpoint) → r ≡ endpoint_of text
+    → IfNone r ((a b c d port : ℕ) → ¬ (IsEndpointText text a b c d port))
+no_text text None h = λ a b c d port is.
+    let clash : ◌≡◌ {A = Option Endpoint} None (Some (record { address = a ∷ b ∷ c ∷ d ∷ []; port = port })) = h ∙ endpoint_of-text text a b c d port is in absurd (cc)
+no_text text (Some e) h = tt

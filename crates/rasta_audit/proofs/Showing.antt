@@ -1,11 +1,11 @@
 -- What records show, one by one, and the text of it.
-use Rattle.std.proofs.Common.{◌≡◌, ℕ, suc, zero, ◌+◌, ◌-◌, ◌<◌, ◌++◌, append_assoc, List, [], ◌∷◌, length, Option, Some, None, Result, Ok, Err, OnErr, option_map, append-nil, refl, ap, subst, ◌∙◌, sym, arith}
+use Rattle.std.proofs.Common.{◌≡◌, ℕ, suc, zero, ◌+◌, ◌-◌, ◌<◌, ◌++◌, append_assoc, List, [], ◌∷◌, length, Option, Some, None, Result, Ok, Err, OnErr, append-nil, refl, ap, subst, ◌∙◌, sym, arith}
 use Rattle.rasta_pcap.specs.declared.fault.Fault.{Fault}
 use Rattle.rasta_pcap.specs.Capture.{Cursor, Numbered, next, behind, opening, reading}
 use Rattle.rasta_pcap.proofs.Steps.{reading-record, reading-end, reading-fault, reading-none_left, reading_of-opened, reading_of-refused}
 use Rattle.rasta_pdu.specs.Params.{Parameters}
 use Rattle.rasta_audit.specs.Lines.{Packet, packet_line, packets_line, refused_line}
-use Rattle.rasta_audit.specs.Show.{Sight, passed_over, packet, refused, sight_of, Shown, with_sight, shown, shown_in, shown_of, lines_from, last_line, text_from, status_after}
+use Rattle.rasta_audit.specs.Show.{packet, sight_of, Shown, with_sight, shown, shown_in, shown_of, lines_from, last_line, text_from, status_after}
 use Rattle.std.specs.Io.KnownBytes.{Appends}
 use Rattle.std.proofs.KnownBytes.{Appends-nil, Appends-trans}
 use Rattle.rasta_pcap.specs.Devices.{AppendsBeginning}

@@ -1,6 +1,5 @@
 -- The exit status of a failure.
 use Rattle.std.specs.Prelude.{ℕ, ◌&&◌, nat_le, if◌then◌else◌}
-use Rattle.rasta_pcap.specs.declared.fault.Fault.{Fault}
 use Rattle.rasta_audit.specs.declared.failure.Failure.{Failure}
 use Rattle.rasta_audit.specs.declared.failure.Failure.TheVariants.{Refused, Usage}
 

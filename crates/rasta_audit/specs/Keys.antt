@@ -1,6 +1,6 @@
 -- The parameters of a document, key by key.
-use Rattle.std.specs.Prelude.{◌≡◌, ◌⊎◌, ℕ, ◌+◌, ◌<◌, pos, ℤ, List, [], ◌∷◌, length, Bool, true, false, ◌&&◌, ◌||◌, ◌==◌, not, nat_le, if◌then◌else◌, Option, Some, None, is_some, Result, Ok, Err, codes}
-use Rattle.std.specs.List.{list_any, list_all}
+use Rattle.std.specs.Prelude.{◌≡◌, ◌⊎◌, ℕ, ◌+◌, pos, ℤ, List, [], ◌∷◌, Bool, true, ◌&&◌, ◌==◌, nat_le, if◌then◌else◌, Option, Some, None, is_some, Result, Ok, Err, codes}
+use Rattle.std.specs.List.{list_any}
 use Rattle.std.specs.Str.{bytes_eq, is_utf8}
 use Rattle.toml.specs.Data.{Data, Items, item, no_items, Members, member, no_members, get_member, as_array, as_integer, as_str, as_table}
 use Rattle.toml.specs.Parse.{parse_document}

@@ -1,7 +1,7 @@
 //! Endpoints as texts.
 ghost use Rattle.std.specs.Prelude.{◌≡◌, ◌≢◌, ◌≤◌, ◌<◌, ℕ, ◌↔◌, IsTrue, IfNone, IfSome, option_map};
 ghost use Rattle.std.specs.Fmt.{decimal};
-ghost use Rattle.rasta_audit.specs.Endpoints.{Four, address_in, cut, decimal_of, endpoint_of, four_of, octet_of, port_of};
+ghost use Rattle.rasta_audit.specs.Endpoints.{Four, HasText, IsEndpointText, address_in, cut, decimal_of, endpoint_of, four_of, octet_of, port_of};
 ghost use Rattle.rasta_audit.specs.Stored.{four_texts};
 
 use itoa::Buffer;
@@ -102,13 +102,21 @@ fn port(text: &str) -> Option<u16>
     }
 }
 
-/// The endpoint of a text `a.b.c.d:port`, in decimal without leading zeros, with a port from 1.
 #[tactic(auto, unfolding(crate::specs::Endpoints::endpoint_of))]
-pub fn endpoint_in(text: &str) -> Option<Endpoint>
+fn read(text: &str) -> Option<Endpoint>
     ensures { result ≡ endpoint_of text.now }
 {
     let (host, port_text) = parts(text, ':')?;
     let address = address(&quarters(host)?)?;
     let port = port(port_text)?;
     Some(Endpoint { address, port })
+}
+
+/// The endpoint of a text `a.b.c.d:port`, in decimal without leading zeros, with a port from 1.
+pub fn endpoint_in(text: &str) -> Option<Endpoint>
+    ensures value { result ≡ endpoint_of text.now }
+    ensures spelled { IfSome result (λ e. HasText e text.now) }
+    ensures none { IfNone result ((a b c d port : ℕ) → ¬ (IsEndpointText text.now a b c d port)) }
+{
+    read(text)
 }

@@ -1,4 +1,4 @@
-use Rattle.std.proofs.Common.{◌≡◌, Ok, arith, sym}
+use Rattle.std.proofs.Common.{◌≡◌, arith}
 use Rattle.rasta_audit.proofs.EndpointTexts.{parsed}
 use Rattle.rasta_audit.proofs.endpoint.spelled.Goals as goal
 use Rattle.rasta_audit.proofs.endpoint.spelled.Goals.{else-n-most-via-then-n-most+else-is_text_of, else-n-most-via-else-n-most}

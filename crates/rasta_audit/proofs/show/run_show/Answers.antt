@@ -1,4 +1,4 @@
-use Rattle.std.proofs.Common.{◌≡◌, ◌∙◌, ◌++◌, [], List, ℕ, true, false, ap, append-nil, refl, sym}
+use Rattle.std.proofs.Common.{◌∙◌, ◌++◌, [], List, ℕ, true, false, ap, append-nil, refl, sym}
 use Rattle.std.proofs.KnownBytes.{Appends-nil}
 use Rattle.rasta_audit.specs.Show.{show_text}
 use Rattle.rasta_audit.proofs.Showing.{on_err_map, where_failed}

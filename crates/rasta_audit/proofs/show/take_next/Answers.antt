@@ -1,5 +1,5 @@
-use Rattle.std.proofs.Common.{◌≡◌, ◌∙◌, Ok, Some, ap, sym}
-use Rattle.rasta_pcap.specs.Capture.{Cursor, behind, moved, next, reading}
+use Rattle.std.proofs.Common.{◌≡◌, ◌∙◌, ap, sym}
+use Rattle.rasta_pcap.specs.Capture.{Cursor, behind, moved, reading}
 use Rattle.rasta_audit.specs.Show.{shown_of}
 use Rattle.rasta_audit.specs.Shown.{with_next}
 use Rattle.rasta_audit.proofs.Showing.{shown-end, shown-fault, shown-record}

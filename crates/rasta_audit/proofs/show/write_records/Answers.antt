@@ -1,8 +1,8 @@
-use Rattle.std.proofs.Common.{◌≡◌, ◌∙◌, ◌+◌, ◌-◌, ℕ, suc, [], Some, ap, sym, arith, refl}
+use Rattle.std.proofs.Common.{◌≡◌, ◌∙◌, ◌+◌, ◌-◌, ℕ, suc, [], Some, ap, sym, arith}
 use Rattle.rasta_pcap.specs.Capture.{reading}
 use Rattle.rasta_audit.specs.Show.{Shown, packet, shown_of, status_after, text_from, with_sight}
 use Rattle.rasta_audit.specs.Shown.{packet_of}
-use Rattle.rasta_audit.proofs.Showing.{Continues-begun, Continues-last, Continues-last_begun, Continues-packet, Continues-packet_begun, Continues-passed, left-behind, nothing, shown-none_left, text_from-fault, text_from-nothing, where_failed}
+use Rattle.rasta_audit.proofs.Showing.{Continues-last, Continues-last_begun, Continues-packet, Continues-packet_begun, Continues-passed, left-behind, nothing, shown-none_left, text_from-fault, text_from-nothing, where_failed}
 use Rattle.rasta_audit.proofs.show.write_records.Goals as goal
 use Rattle.rasta_audit.proofs.show.write_records.Goals.{in-PassedOver, in-Packet+in_ok-write_all-in-Packet, else-loop-test, then-loop-test+in-End}
 
