@@ -5,6 +5,8 @@
 mod params;
 mod pdu;
 mod route;
+#[cfg(test)]
+mod tests;
 
 pub use params::Params;
 pub use pdu::{Kind, Pdu, decode};

@@ -1,7 +1,7 @@
 //! The PDU of a datagram.
-ghost use Rattle.std.specs.Prelude.{◌≡◌, ◌≤◌, ◌+◌, length, Ok, Err, IfOk, MatchResult, IsOkAnd};
+ghost use Rattle.std.specs.Prelude.{◌≡◌, ◌≤◌, ◌+◌, ◌<◌, ◌^◌, ◌==◌, ◌&&◌, length, Ok, Err, IfOk, MatchResult, IsOkAnd};
 ghost use Rattle.rasta_pdu.specs.Params.{AreParameters};
-ghost use Rattle.rasta_pdu.specs.Pdu.{RedundancyPdu, IsRedundancyPdu, redundancy_bytes, number_at, decode_of, receiver_of, sender_of, value_of, type_of, kind_of, fields_of, has_ids, is_payload};
+ghost use Rattle.rasta_pdu.specs.Pdu.{RedundancyPdu, IsRedundancyPdu, redundancy_bytes, number_at, decode_of, receiver_of, sender_of, value_of, type_of, kind_of, fields_of, is_payload};
 
 use crate::params::Params;
 use byteorder::{ByteOrder, LittleEndian};
@@ -149,12 +149,12 @@ fn sender(params: &Params, side: Side) -> u32
     }
 }
 
-// Whether receiver and sender are the recorded ones.
-fn are_ids_recorded(params: &Params, side: Side, bytes: &[u8]) -> bool
+// Whether these are the receiver and the sender.
+fn are_ids(receiver: u32, sender: u32, bytes: &[u8]) -> bool
     requires { 36 ≤ length bytes.now }
-    ensures { result ≡ has_ids params.now side bytes.now }
+    ensures { result ≡ (number_at 4 12 bytes.now == receiver && number_at 4 16 bytes.now == sender) }
 {
-    u32_at(bytes, 12) == receiver(params, side) && u32_at(bytes, 16) == sender(params, side)
+    u32_at(bytes, 12) == receiver && u32_at(bytes, 16) == sender
 }
 
 // The fields of a datagram of this kind, whose check code begins there.
@@ -179,7 +179,11 @@ fn read<'a>(params: &Params, side: Side, bytes: &'a [u8]) -> Result<Pdu<'a>, Fau
     ensures value { MatchResult result (λ d. decode_of params.now side bytes.now ≡ Ok (value_of d))
         (λ f. decode_of params.now side bytes.now ≡ Err f) }
     ensures valid { AreParameters params.now }
+    ensures receiver { receiver_of params.now side < 2 ^ 32 }
+    ensures sender { sender_of params.now side < 2 ^ 32 }
 {
+    let receiver = receiver(params, side);
+    let sender = sender(params, side);
     let len = bytes.len();
     let check_length = usize::from(params.check_length());
     if len < 2 || usize::from(u16_at(bytes, 0)) != len {
@@ -198,7 +202,7 @@ fn read<'a>(params: &Params, side: Side, bytes: &'a [u8]) -> Result<Pdu<'a>, Fau
     if !kind.has_payload(&bytes[FIELDS..check_at]) {
         return Err(Fault::at(Fault::PAYLOAD, 0));
     }
-    if !are_ids_recorded(params, side, bytes) {
+    if !are_ids(receiver, sender, bytes) {
         return Err(Fault::at(Fault::IDS, 0));
     }
     Ok(fields(kind, bytes, check_at))
@@ -221,7 +225,5 @@ pub fn decode<'a>(params: &Params, side: Side, bytes: &'a [u8]) -> Result<Pdu<'a
     ensures read_back { (r : RedundancyPdu) → IsRedundancyPdu params.now r
         → bytes.now ≡ redundancy_bytes params.now side r → IsOkAnd result (λ d. value_of d ≡ r) }
 {
-    let _receiver = receiver(params, side);
-    let _sender = sender(params, side);
     read(params, side, bytes)
 }

@@ -11,4 +11,4 @@ returns-clause-spelled c =
 pub returns-clause-read_back : goal.returns-clause-read_back
 returns-clause-read_back c r is e =
     read_back_by c.args.params.now c.args.side c.args.bytes.now c.read.result r c.read.ensures.valid
-    (omega (arith, c.receiver-receiver.ensures)) (omega (arith, c.sender-sender.ensures)) is e c.read.ensures.value
+    c.read.ensures.receiver c.read.ensures.sender is e c.read.ensures.value
