@@ -10,5 +10,5 @@ mod tests;
 
 pub use params::Params;
 pub use pdu::{Kind, Pdu, decode};
-pub use route::are_distinct_routes;
 pub use rasta_udp::{Channel, Endpoint, Fault, Side, Sink, Source};
+pub use route::are_distinct_routes;

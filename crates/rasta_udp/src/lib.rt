@@ -4,6 +4,6 @@
 mod channel;
 mod frame;
 
-pub use frame::datagram;
 pub use channel::{Channel, Datagram, Endpoint};
+pub use frame::datagram;
 pub use rasta_pcap::{Fault, Record, Side, Sink, Source};
