@@ -71,6 +71,39 @@ wrong_code = 25
 abbrev pub wrong_ids : ℕ
 wrong_ids = 26
 
+abbrev pub clock_differs : ℕ
+clock_differs = 36
+
+abbrev pub clock_falls : ℕ
+clock_falls = 37
+
+abbrev pub past_deadline : ℕ
+past_deadline = 38
+
+abbrev pub confirmed_number : ℕ
+confirmed_number = 39
+
+abbrev pub confirmed_time : ℕ
+confirmed_time = 40
+
+abbrev pub not_allowed : ℕ
+not_allowed = 41
+
+abbrev pub reply_owed : ℕ
+reply_owed = 42
+
+abbrev pub resend_differs : ℕ
+resend_differs = 43
+
+abbrev pub closed : ℕ
+closed = 44
+
+abbrev pub too_early_timeout : ℕ
+too_early_timeout = 46
+
+abbrev pub sequence_number : ℕ
+sequence_number = 47
+
 abbrev pub not_toml : ℕ
 not_toml = 50
 

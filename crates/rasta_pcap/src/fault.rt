@@ -1,6 +1,6 @@
 //! Faults and their names.
 ghost use Rattle.std.specs.Prelude.{◌≡◌, ◌≤◌, length, Option, None};
-ghost use Rattle.rasta_pcap.specs.Fault.{fault_at, name_of};
+ghost use Rattle.rasta_pcap.specs.Fault.{fault_at, fault_of_end, name_of};
 
 /// One of the two ends of the connection.
 #[derive(Clone, Copy, Debug, PartialEq, Eq)]
@@ -59,6 +59,28 @@ impl Fault {
 
     pub const IDS: u8 = 26;
 
+    pub const CLOCK_DIFFERS: u8 = 36;
+
+    pub const CLOCK_FALLS: u8 = 37;
+
+    pub const PAST_DEADLINE: u8 = 38;
+
+    pub const CONFIRMED_NUMBER: u8 = 39;
+
+    pub const CONFIRMED_TIME: u8 = 40;
+
+    pub const NOT_ALLOWED: u8 = 41;
+
+    pub const REPLY_OWED: u8 = 42;
+
+    pub const RESEND_DIFFERS: u8 = 43;
+
+    pub const CLOSED: u8 = 44;
+
+    pub const TOO_EARLY_TIMEOUT: u8 = 46;
+
+    pub const SEQUENCE_NUMBER: u8 = 47;
+
     pub const TOML: u8 = 50;
 
     pub const MISSING_KEY: u8 = 51;
@@ -73,6 +95,17 @@ impl Fault {
             number,
             place,
             end: None,
+        }
+    }
+
+    /// A fault that speaks of one end.
+    pub const fn of_end(number: u8, place: u32, end: Side) -> Fault
+        ensures { result ≡ fault_of_end number place end }
+    {
+        Fault {
+            number,
+            place,
+            end: Some(end),
         }
     }
 

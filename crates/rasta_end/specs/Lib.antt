@@ -1,0 +1,9 @@
+pub use Rattle.rasta_pdu.specs.Fault
+pub use Rattle.rasta_pdu.specs.Devices
+pub use Rattle.rasta_pdu.specs.Capture
+pub mod State
+pub mod Units
+pub mod MakeRule
+pub mod TakeRule
+pub mod Starts
+pub mod Kept

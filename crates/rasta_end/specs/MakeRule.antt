@@ -1,0 +1,209 @@
+-- The make rule: which PDU an end may make, why, and what it is afterwards.
+use Rattle.std.specs.Prelude.{◌≡◌, ◌×◌, ℕ, suc, ◌+◌, ◌%◌, ◌^◌, Bool, true, false, ◌&&◌, ◌||◌, not, if◌then◌else◌, nat_lt, ◌==◌, List, [], ◌∷◌, ◌++◌, length, Option, Some, None, slice_get, map, filter}
+use Rattle.std.specs.Str.{bytes_eq}
+use Rattle.rasta_pcap.specs.Fault.{closed, not_allowed, reply_owed, sequence_number, clock_differs, clock_falls, past_deadline, too_early_timeout, confirmed_number, confirmed_time, resend_differs}
+use Rattle.rasta_pcap.specs.declared.fault.Side.{Side}
+use Rattle.rasta_pdu.specs.declared.kind.Kind.{Kind}
+use Rattle.rasta_pdu.specs.declared.kind.Kind.TheVariants.{ConnectionRequest, ConnectionResponse, RetransmissionRequest, RetransmissionResponse, DisconnectionRequest, Heartbeat, Data, RetransmittedData}
+use Rattle.rasta_pdu.specs.Params.{Parameters}
+use Rattle.rasta_pdu.specs.Pdu.{SafetyPdu}
+use Rattle.rasta_end.specs.declared.phase.Phase.{Phase}
+use Rattle.rasta_end.specs.declared.phase.Phase.TheVariants.{Closed, Start}
+use Rattle.rasta_end.specs.declared.why.Why.{Why}
+use Rattle.rasta_end.specs.declared.why.Why.TheVariants.{Open, Reply, Beat, Fresh, Again, Ask, Bye, Expired}
+use Rattle.rasta_end.specs.declared.make_row.MakeRow.{MakeRow}
+use Rattle.rasta_end.specs.declared.make_row.MakeRow.TheVariants.{Opens, Answers, StartsBeating, Returns, Resends, Requests, Beats, Offers, Leaves, TimesOut}
+use Rattle.rasta_end.specs.declared.owed.Owed.{Owed}
+use Rattle.rasta_end.specs.declared.owed.Owed.TheVariants.{ConnectionResponse as OweConnectionResponse, FirstHeartbeat as OweFirstHeartbeat, RetransmissionResponse as OweRetransmissionResponse, Resend as OweResend, RetransmissionRequest as OweRetransmissionRequest}
+use Rattle.rasta_end.specs.declared.owed.Demand.{Demand}
+use Rattle.rasta_end.specs.declared.owed.Demand.TheVariants.{First, Nothing, Anything}
+use Rattle.rasta_end.specs.State.{Made, EndState, wrapped, sn_at, has_made, is_client, is_closed, is_start, is_up, is_connected, is_active, reason_of, content_of}
+
+abbrev pub row_where : Bool → MakeRow → Option MakeRow
+row_where true row = Some row
+row_where false row = None
+
+-- the make table: why, type, and who may follow the row in which phase
+abbrev pub make_row : Side → Phase → ℕ → Why → Kind → Option MakeRow
+make_row side phase reason Open ConnectionRequest = row_where (is_client side && is_closed phase) Opens
+make_row side phase reason Reply ConnectionResponse = row_where (not (is_client side) && is_start phase) Answers
+make_row side phase reason Reply Heartbeat = row_where (is_client side && is_up phase) StartsBeating
+make_row side phase reason Reply RetransmissionResponse = row_where (is_connected phase) Returns
+make_row side phase reason (Again unit) RetransmittedData = row_where (is_connected phase) (Resends unit)
+make_row side phase reason Ask RetransmissionRequest = row_where (is_connected phase) Requests
+make_row side phase reason Beat Heartbeat = row_where (is_connected phase) Beats
+make_row side phase reason Fresh Data = row_where (is_connected phase) Offers
+make_row side phase reason Bye DisconnectionRequest = row_where (is_active phase && not (reason == 4)) Leaves
+make_row side phase reason Expired DisconnectionRequest = row_where (is_active phase && reason == 4) TimesOut
+make_row side phase reason _ _ = None
+
+-- the make table: what a row wants of the owed list
+abbrev pub demand_of : MakeRow → Demand
+demand_of Opens = Anything
+demand_of Answers = First OweConnectionResponse
+demand_of StartsBeating = First OweFirstHeartbeat
+demand_of Returns = First OweRetransmissionResponse
+demand_of (Resends unit) = First (OweResend unit)
+demand_of Requests = First OweRetransmissionRequest
+demand_of Beats = Nothing
+demand_of Offers = Nothing
+demand_of Leaves = Anything
+demand_of TimesOut = Anything
+
+abbrev pub same_owed : Owed → Owed → Bool
+same_owed OweConnectionResponse OweConnectionResponse = true
+same_owed OweFirstHeartbeat OweFirstHeartbeat = true
+same_owed OweRetransmissionResponse OweRetransmissionResponse = true
+same_owed (OweResend j) (OweResend k) = j == k
+same_owed OweRetransmissionRequest OweRetransmissionRequest = true
+same_owed _ _ = false
+
+-- the row wants something owed, and nothing is
+abbrev pub lacks : Demand → List Owed → Bool
+lacks (First owed) [] = true
+lacks _ _ = false
+
+-- the row wants something else owed, or nothing
+abbrev pub owes_else : Demand → List Owed → Bool
+owes_else (First wanted) (o ∷ os) = not (same_owed o wanted)
+owes_else Nothing (o ∷ os) = true
+owes_else _ _ = false
+
+abbrev pub is_refused_row : Option MakeRow → List Owed → Bool
+is_refused_row None owed = true
+is_refused_row (Some row) owed = lacks (demand_of row) owed
+
+abbrev pub is_owing_else : Option MakeRow → List Owed → Bool
+is_owing_else None owed = false
+is_owing_else (Some row) owed = owes_else (demand_of row) owed
+
+-- the connection of this end is over
+abbrev pub has_ended : EndState → Bool
+has_ended e = is_closed e.phase && (not (is_client e.side) || has_made e.made)
+
+-- the next SN; the first is free
+abbrev pub is_next_sn : List Made → ℕ → Bool
+is_next_sn [] sn = true
+is_next_sn (m ∷ ms) sn = sn == sn_at (m ∷ ms) (length (m ∷ ms))
+
+-- the moment lies more than the slack behind the deadline
+abbrev pub is_past : Parameters → Option ℕ → ℕ → Bool
+is_past p None moment = false
+is_past p (Some deadline) moment = nat_lt (deadline + p.slack) (moment + 2 ^ 32)
+
+-- the moment lies more than the slack in front of the deadline
+abbrev pub is_early : Parameters → Option ℕ → ℕ → Bool
+is_early p None moment = false
+is_early p (Some deadline) moment = nat_lt (moment + 2 ^ 32 + p.slack) deadline
+
+abbrev pub is_expired : Why → Bool
+is_expired Expired = true
+is_expired _ = false
+
+abbrev pub is_connection_request : Kind → Bool
+is_connection_request ConnectionRequest = true
+is_connection_request _ = false
+
+abbrev pub is_disconnection_request : Kind → Bool
+is_disconnection_request DisconnectionRequest = true
+is_disconnection_request _ = false
+
+-- a client that was never answered gives up
+abbrev pub gives_up : EndState → Kind → Bool
+gives_up e kind = is_disconnection_request kind && (e.accepted == 0 && (is_client e.side && is_start e.phase))
+
+-- CS and CTS are judged: of all but a connection request and the disconnection request of a client that gives up
+abbrev pub is_judged : EndState → Kind → Bool
+is_judged e kind = not (is_connection_request kind) && not (gives_up e kind)
+
+-- CS is the SN of the last accepted PDU
+abbrev pub confirms_last : EndState → ℕ → Bool
+confirms_last e cs = not (e.accepted == 0) && cs == e.last_sn
+
+abbrev pub is_there : Option ℕ → ℕ → Bool
+is_there None n = false
+is_there (Some m) n = m == n
+
+-- CTS is the TS of the last accepted PDU, of the last accepted time-relevant one, or of the last handed up
+abbrev pub confirms_a_time : EndState → ℕ → Bool
+confirms_a_time e cts = (not (e.accepted == 0) && cts == e.last_ts) || (is_there e.timed_ts cts || is_there e.handed_ts cts)
+
+abbrev pub is_data : Made → Bool
+is_data m = is_kind_data m.pdu.kind
+  where
+    is_kind_data : Kind → Bool
+    is_kind_data Data = true
+    is_kind_data _ = false
+
+-- the contents of the units offered, in order
+abbrev pub contents : List Made → List (List ℕ)
+contents ms = map (λ (m : Made). content_of m.pdu.body) (filter is_data ms)
+
+abbrev pub is_content : Option (List ℕ) → List ℕ → Bool
+is_content None content = false
+is_content (Some unit) content = bytes_eq unit content
+
+-- retransmitted data with other messages than those of its unit
+abbrev pub differs : List Made → Option MakeRow → List ℕ → Bool
+differs made (Some (Resends unit)) content = not (is_content (slice_get (contents made) unit) content)
+differs made _ content = false
+
+abbrev pub row_of : EndState → SafetyPdu → Why → Option MakeRow
+row_of e x why = make_row e.side e.phase (reason_of x.body) why x.kind
+
+-- why an end may not make this PDU, in the order in which it is judged
+abbrev pub make_faults : Parameters → EndState → SafetyPdu → ℕ → Why → List (Bool × ℕ)
+make_faults p e x clock why =
+    (has_ended e, closed)
+    ∷ (is_refused_row (row_of e x why) e.owed, not_allowed)
+    ∷ (is_owing_else (row_of e x why) e.owed, reply_owed)
+    ∷ (not (is_next_sn e.made x.sn), sequence_number)
+    ∷ (not (x.ts == wrapped clock), clock_differs)
+    ∷ (nat_lt clock e.clock, clock_falls)
+    ∷ (not (is_expired why) && is_past p e.deadline clock, past_deadline)
+    ∷ (is_expired why && is_early p e.deadline clock, too_early_timeout)
+    ∷ (is_judged e x.kind && not (confirms_last e x.cs), confirmed_number)
+    ∷ (is_judged e x.kind && not (confirms_a_time e x.cts), confirmed_time)
+    ∷ (differs e.made (row_of e x why) (content_of x.body), resend_differs)
+    ∷ []
+
+abbrev pub first_fault : List (Bool × ℕ) → Option ℕ
+first_fault [] = None
+first_fault (t ∷ ts) = if t.0 then Some t.1 else first_fault ts
+
+abbrev pub make_fault : Parameters → EndState → SafetyPdu → ℕ → Why → Option ℕ
+make_fault p e x clock why = first_fault (make_faults p e x clock why)
+
+abbrev pub without_first : List Owed → List Owed
+without_first [] = []
+without_first (o ∷ os) = os
+
+-- the make table: afterwards
+abbrev pub after_row : MakeRow → EndState → EndState
+after_row Opens e = record e { phase = Start }
+after_row Answers e = record e { owed = without_first e.owed }
+after_row StartsBeating e = record e { owed = without_first e.owed }
+after_row Returns e = record e { owed = without_first e.owed }
+after_row (Resends unit) e = record e { owed = without_first e.owed }
+after_row Requests e = record e { owed = without_first e.owed }
+after_row Beats e = e
+after_row Offers e = record e { offered = suc e.offered }
+after_row Leaves e = record e { phase = Closed; owed = [] }
+after_row TimesOut e = record e { phase = Closed; owed = [] }
+
+-- the number of the unit that the PDU carries
+abbrev pub unit_of : MakeRow → ℕ → Option ℕ
+unit_of (Resends unit) offered = Some unit
+unit_of Offers offered = Some offered
+unit_of _ offered = None
+
+abbrev pub after_make_by : Option MakeRow → EndState → SafetyPdu → ℕ → EndState
+after_make_by None e x clock = e
+after_make_by (Some row) e x clock = record (after_row row e) { made = e.made ++ record { pdu = x; unit = unit_of row e.offered } ∷ []; clock = clock }
+
+abbrev pub after_make : EndState → SafetyPdu → ℕ → Why → EndState
+after_make e x clock why = after_make_by (row_of e x why) e x clock
+
+-- the make rule: this end makes this PDU at this clock for this reason, and is that end afterwards
+abbrev pub Makes : Parameters → EndState → SafetyPdu → ℕ → Why → EndState → Type 0
+Makes p e x clock why e' = (make_fault p e x clock why ≡ None) × (e' ≡ after_make e x clock why)

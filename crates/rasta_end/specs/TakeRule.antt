@@ -1,0 +1,170 @@
+-- The take rule: what an end does with a PDU that it takes. The retransmission burst and the deadline.
+use Rattle.std.specs.Prelude.{◌≡◌, ◌×◌, ℕ, zero, suc, ◌+◌, ◌-◌, ◌*◌, ◌^◌, Bool, true, false, ◌&&◌, ◌||◌, not, if◌then◌else◌, nat_lt, nat_le, ◌==◌, List, [], ◌∷◌, ◌++◌, length, Option, Some, None}
+use Rattle.rasta_pcap.specs.Fault.{reply_owed, past_deadline}
+use Rattle.rasta_pdu.specs.declared.kind.Kind.{Kind}
+use Rattle.rasta_pdu.specs.declared.kind.Kind.TheVariants.{ConnectionRequest, ConnectionResponse, RetransmissionRequest, RetransmissionResponse, DisconnectionRequest, Heartbeat, Data, RetransmittedData}
+use Rattle.rasta_pdu.specs.Params.{Parameters}
+use Rattle.rasta_pdu.specs.Pdu.{SafetyPdu}
+use Rattle.rasta_end.specs.declared.phase.Phase.{Phase}
+use Rattle.rasta_end.specs.declared.phase.Phase.TheVariants.{Closed, Start, Up, RetrReq, RetrRun}
+use Rattle.rasta_end.specs.declared.take_row.TakeRow.{TakeRow}
+use Rattle.rasta_end.specs.declared.take_row.TakeRow.TheVariants.{Opened, Answered, FirstHeartbeat, InSequence, ResentInSequence, Gap, GapInRetransmission, Resumed, Requested, RequestedAhead, RequestedAgain, Disconnected}
+use Rattle.rasta_end.specs.declared.owed.Owed.{Owed}
+use Rattle.rasta_end.specs.declared.owed.Owed.TheVariants.{ConnectionResponse as OweConnectionResponse, FirstHeartbeat as OweFirstHeartbeat, RetransmissionResponse as OweRetransmissionResponse, Resend as OweResend, RetransmissionRequest as OweRetransmissionRequest}
+use Rattle.rasta_end.specs.Units.{units_conveyed}
+use Rattle.rasta_end.specs.State.{EndState, ahead_by, sn_at, kinds, is_owing, is_client, is_closed, is_down, is_start, is_up, is_retr_req, is_retr_run, is_flowing, is_active, is_timed, carries_unit}
+use Rattle.rasta_end.specs.MakeRule.{first_fault, is_past, is_connection_request, is_disconnection_request}
+
+-- how many steps behind the next position of the peer the PDU stands, modulo 2^32
+abbrev pub steps_past_next : EndState → SafetyPdu → ℕ
+steps_past_next e x = ahead_by x.sn (e.last_sn + 1)
+
+abbrev pub is_in : EndState → SafetyPdu → Bool
+is_in e x = steps_past_next e x == 0
+
+abbrev pub is_ahead : Parameters → EndState → SafetyPdu → Bool
+is_ahead p e x = nat_lt 0 (steps_past_next e x) && nat_le (steps_past_next e x) (10 * p.n_sendmax)
+
+-- how many steps behind the confirmed position the PDU confirms, modulo 2^32
+abbrev pub steps_past_confirmed : EndState → SafetyPdu → ℕ
+steps_past_confirmed e x = ahead_by x.cs (sn_at e.made e.confirmed)
+
+-- CS is valid: it lies from the SN of the confirmed position on and before the next SN
+abbrev pub is_valid : EndState → SafetyPdu → Bool
+is_valid e x = nat_lt (steps_past_confirmed e x) (ahead_by (sn_at e.made (length e.made)) (sn_at e.made e.confirmed))
+
+abbrev pub is_connection_response : Kind → Bool
+is_connection_response ConnectionResponse = true
+is_connection_response _ = false
+
+abbrev pub is_heartbeat : Kind → Bool
+is_heartbeat Heartbeat = true
+is_heartbeat _ = false
+
+abbrev pub is_heartbeat_or_data : Kind → Bool
+is_heartbeat_or_data Heartbeat = true
+is_heartbeat_or_data Data = true
+is_heartbeat_or_data _ = false
+
+abbrev pub is_retransmitted_data : Kind → Bool
+is_retransmitted_data RetransmittedData = true
+is_retransmitted_data _ = false
+
+abbrev pub is_retransmission_request : Kind → Bool
+is_retransmission_request RetransmissionRequest = true
+is_retransmission_request _ = false
+
+abbrev pub is_retransmission_response : Kind → Bool
+is_retransmission_response RetransmissionResponse = true
+is_retransmission_response _ = false
+
+-- the take table: phase and PDU of each row
+abbrev pub take_rows : Parameters → EndState → SafetyPdu → List (Bool × TakeRow)
+take_rows p e x =
+    (is_down e.phase && is_connection_request x.kind, Opened)
+    ∷ (is_start e.phase && (is_client e.side && (is_connection_response x.kind && is_valid e x)), Answered)
+    ∷ (is_start e.phase && (not (is_client e.side) && (is_heartbeat x.kind && (is_in e x && is_valid e x))), FirstHeartbeat)
+    ∷ (is_flowing e.phase && (is_heartbeat_or_data x.kind && (is_in e x && is_valid e x)), InSequence)
+    ∷ (is_retr_run e.phase && (is_retransmitted_data x.kind && (is_in e x && is_valid e x)), ResentInSequence)
+    ∷ (is_up e.phase && (is_heartbeat_or_data x.kind && (is_ahead p e x && is_valid e x)), Gap)
+    ∷ (is_retr_run e.phase && (is_timed x.kind && (is_ahead p e x && is_valid e x)), GapInRetransmission)
+    ∷ (is_retr_req e.phase && (is_retransmission_response x.kind && is_valid e x), Resumed)
+    ∷ (is_flowing e.phase && (is_retransmission_request x.kind && (is_in e x && is_valid e x)), Requested)
+    ∷ (is_flowing e.phase && (is_retransmission_request x.kind && (is_ahead p e x && is_valid e x)), RequestedAhead)
+    ∷ (is_retr_req e.phase && (is_retransmission_request x.kind && (is_ahead p e x && is_valid e x)), RequestedAgain)
+    ∷ (is_active e.phase && is_disconnection_request x.kind, Disconnected)
+    ∷ []
+
+abbrev pub first_row : List (Bool × TakeRow) → Option TakeRow
+first_row [] = None
+first_row (t ∷ ts) = if t.0 then Some t.1 else first_row ts
+
+-- the deadline that a confirmed time sets: T_max behind the greatest number that is not above the clock and congruent
+-- to it modulo 2^32; moved by 2^32
+abbrev pub deadline_from : Parameters → ℕ → ℕ → ℕ
+deadline_from p clock cts = clock + 2 ^ 32 - ahead_by clock cts + p.t_max
+
+-- the PDU is now the last accepted one, at this position
+abbrev pub note_accepted : ℕ → EndState → SafetyPdu → EndState
+note_accepted position e x = record e { accepted = suc position; last_sn = x.sn; last_ts = x.ts }
+
+abbrev pub note_time : Parameters → EndState → SafetyPdu → EndState
+note_time p e x = if is_timed x.kind then record e { timed_ts = Some x.ts; deadline = Some (deadline_from p e.clock x.cts) } else e
+
+abbrev pub position_confirmed : EndState → SafetyPdu → ℕ
+position_confirmed e x = e.confirmed + steps_past_confirmed e x
+
+abbrev pub confirm : ℕ → EndState → EndState
+confirm position e = record e { confirmed = position }
+
+abbrev pub enter : Phase → EndState → EndState
+enter phase e = record e { phase = phase }
+
+abbrev pub owe : List Owed → EndState → EndState
+owe owed e = record e { owed = owed }
+
+abbrev pub note_ask : ℕ → EndState → EndState
+note_ask position e = record e { asks = e.asks ++ position ∷ [] }
+
+abbrev pub hand_up : ℕ → EndState → SafetyPdu → EndState
+hand_up position e x = record e { handed = e.handed ++ position ∷ []; handed_pdus = e.handed_pdus ++ x ∷ []; handed_ts = Some x.ts }
+
+-- accepts the PDU at the position of its SN, from the next one on
+abbrev pub accept : Parameters → EndState → SafetyPdu → EndState
+accept p e x = note_time p (confirm (position_confirmed e x) (note_accepted (e.accepted + steps_past_next e x) e x)) x
+
+-- the units numbered from one on
+abbrev pub resends : ℕ → ℕ → List Owed
+resends unit zero = []
+resends unit (suc count) = OweResend unit ∷ resends (suc unit) count
+
+-- the retransmission burst that a request owes which confirms this own position
+abbrev pub burst : EndState → ℕ → List Owed
+burst e position =
+    OweRetransmissionResponse ∷ resends (units_conveyed e.asks (kinds e.made) position) (e.offered - units_conveyed e.asks (kinds e.made) position)
+
+abbrev pub hand_up_unit : Kind → EndState → ℕ → SafetyPdu → EndState
+hand_up_unit kind e position x = if carries_unit kind then hand_up position e x else e
+
+-- the take table: effect of each row
+abbrev pub effect : Parameters → TakeRow → EndState → SafetyPdu → EndState
+effect p Opened e x = owe (OweConnectionResponse ∷ []) (enter Start (note_accepted 0 e x))
+effect p Answered e x = owe (OweFirstHeartbeat ∷ []) (enter Up (confirm (position_confirmed e x) (note_accepted 0 e x)))
+effect p FirstHeartbeat e x = enter Up (accept p e x)
+effect p InSequence e x = hand_up_unit x.kind (enter Up (accept p e x)) e.accepted x
+effect p ResentInSequence e x = hand_up_unit x.kind (accept p e x) e.accepted x
+effect p Gap e x = owe (OweRetransmissionRequest ∷ []) (enter RetrReq e)
+effect p GapInRetransmission e x = owe (OweRetransmissionRequest ∷ []) (enter RetrReq e)
+effect p Resumed e x = enter RetrRun (accept p e x)
+effect p Requested e x = owe (burst e (position_confirmed e x)) (note_ask (position_confirmed e x) (accept p e x))
+effect p RequestedAhead e x = owe (burst e (position_confirmed e x) ++ OweRetransmissionRequest ∷ []) (enter RetrReq (note_ask (position_confirmed e x) (confirm (position_confirmed e x) e)))
+effect p RequestedAgain e x = owe (burst e (position_confirmed e x)) (note_ask (position_confirmed e x) (confirm (position_confirmed e x) e))
+effect p Disconnected e x = enter Closed e
+
+abbrev pub take_row : Parameters → EndState → SafetyPdu → Option TakeRow
+take_row p e x = first_row (take_rows p e x)
+
+abbrev pub effect_by : Parameters → Option TakeRow → EndState → SafetyPdu → EndState
+effect_by p None e x = e
+effect_by p (Some row) e x = effect p row e x
+
+abbrev pub after_take : Parameters → EndState → SafetyPdu → EndState
+after_take p e x = effect_by p (take_row p e x) e x
+
+-- why an end may not take anything at this moment, in the order in which it is judged
+abbrev pub take_fault : Parameters → EndState → ℕ → Option ℕ
+take_fault p e moment =
+    if is_closed e.phase then None else first_fault ((is_owing e.owed, reply_owed) ∷ (is_past p e.deadline moment, past_deadline) ∷ [])
+
+-- the take rule: this end takes this PDU at this moment, and is that end afterwards
+abbrev pub Takes : Parameters → EndState → SafetyPdu → ℕ → EndState → Type 0
+Takes p e x moment e' = (take_fault p e moment ≡ None) × (e' ≡ after_take p e x)
+
+-- taking the PDU adds to a list
+abbrev pub adds_to_a_list : Option TakeRow → Kind → Bool
+adds_to_a_list (Some InSequence) kind = carries_unit kind
+adds_to_a_list (Some ResentInSequence) kind = carries_unit kind
+adds_to_a_list (Some Requested) kind = true
+adds_to_a_list (Some RequestedAhead) kind = true
+adds_to_a_list (Some RequestedAgain) kind = true
+adds_to_a_list _ kind = false
