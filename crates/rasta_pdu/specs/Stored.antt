@@ -26,6 +26,7 @@ parameters_of i = record {
   first_record = i.first_record;
   last_record = i.last_record;
   channels = take i.channel_count i.channels;
+  quiet = i.quiet;
 }
 
 -- four places, of which the channels take the first
@@ -51,6 +52,7 @@ stored p = record {
   last_record = p.last_record;
   channels = in_places p.channels;
   channel_count = length p.channels;
+  quiet = p.quiet;
 }
 
 -- nothing of what is stored is lost in the parameters
