@@ -1,6 +1,6 @@
 -- How parameters are stored: the channels stand in front of a list of four places.
 use Rattle.std.specs.Prelude.{◌≡◌, ℕ, ◌-◌, List, [], ◌∷◌, ◌++◌, length, take, replicate}
-use Rattle.std.proofs.Common.{sym, ◌∙◌, ap, refl}
+use Rattle.std.proofs.Common.{◌∙◌, ap}
 use Rattle.rasta_udp.specs.declared.channel.Channel.{Channel}
 use Rattle.rasta_udp.specs.declared.channel.Endpoint.{Endpoint}
 use Rattle.rasta_pdu.specs.Params.{Parameters, AreParameters}
