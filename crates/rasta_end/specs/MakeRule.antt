@@ -1,5 +1,5 @@
 -- The make rule: which PDU an end may make, why, and what it is afterwards.
-use Rattle.std.specs.Prelude.{◌≡◌, ◌×◌, ℕ, suc, ◌+◌, ◌%◌, ◌^◌, Bool, true, false, ◌&&◌, ◌||◌, not, if◌then◌else◌, nat_lt, ◌==◌, List, [], ◌∷◌, ◌++◌, length, Option, Some, None, slice_get, map, filter}
+use Rattle.std.specs.Prelude.{◌≡◌, ℕ, suc, ◌+◌, ◌%◌, ◌^◌, Bool, true, false, ◌&&◌, ◌||◌, not, if◌then◌else◌, nat_lt, ◌==◌, List, [], ◌∷◌, ◌++◌, length, Option, Some, None, slice_get, map, filter}
 use Rattle.std.specs.Str.{bytes_eq}
 use Rattle.rasta_pcap.specs.Fault.{closed, not_allowed, reply_owed, sequence_number, clock_differs, clock_falls, past_deadline, too_early_timeout, confirmed_number, confirmed_time, resend_differs}
 use Rattle.rasta_pcap.specs.declared.fault.Side.{Side}
@@ -128,16 +128,13 @@ is_there (Some m) n = m == n
 abbrev pub confirms_a_time : EndState → ℕ → Bool
 confirms_a_time e cts = (not (e.accepted == 0) && cts == e.last_ts) || (is_there e.timed_ts cts || is_there e.handed_ts cts)
 
-abbrev pub is_data : Made → Bool
-is_data m = is_kind_data m.pdu.kind
-  where
-    is_kind_data : Kind → Bool
-    is_kind_data Data = true
-    is_kind_data _ = false
+abbrev pub is_data : Kind → Bool
+is_data Data = true
+is_data _ = false
 
 -- the contents of the units offered, in order
 abbrev pub contents : List Made → List (List ℕ)
-contents ms = map (λ (m : Made). content_of m.pdu.body) (filter is_data ms)
+contents ms = map (λ (m : Made). content_of m.pdu.body) (filter (λ (m : Made). is_data m.pdu.kind) ms)
 
 abbrev pub is_content : Option (List ℕ) → List ℕ → Bool
 is_content None content = false

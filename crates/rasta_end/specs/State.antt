@@ -41,10 +41,14 @@ wrapped n = n % 2 ^ 32
 abbrev pub ahead_by : ℕ → ℕ → ℕ
 ahead_by a b = (a % 2 ^ 32 + (2 ^ 32 - b % 2 ^ 32)) % 2 ^ 32
 
+-- the SN of the first that was made
+abbrev pub first_sn : List Made → ℕ
+first_sn [] = 0
+first_sn (m ∷ ms) = m.pdu.sn
+
 -- the SN of an own position
 abbrev pub sn_at : List Made → ℕ → ℕ
-sn_at [] position = position
-sn_at (m ∷ ms) position = wrapped (m.pdu.sn + position)
+sn_at made position = wrapped (first_sn made + position)
 
 abbrev pub kinds : List Made → List Kind
 kinds ms = map (λ (m : Made). m.pdu.kind) ms

@@ -43,3 +43,8 @@ all_units_conveyed asks kinds = (conveyed asks kinds).units
 
 abbrev pub units_conveyed : List ℕ → List Kind → ℕ → ℕ
 units_conveyed asks kinds position = slice_index_or (all_units_conveyed asks kinds) position 0
+
+-- how many retransmission responses there are
+abbrev pub responses_in : List Kind → ℕ
+responses_in [] = 0
+responses_in (kind ∷ kinds) = responses_after (responses_in kinds) kind

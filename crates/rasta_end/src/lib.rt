@@ -2,6 +2,12 @@
 //! profile, modelled on the standard.
 #![tactic(auto)]
 
+mod make_row;
+mod owed;
+mod own;
+mod phase;
+mod take_row;
 mod why;
 
+pub use phase::Phase;
 pub use why::Why;

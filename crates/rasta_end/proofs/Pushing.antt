@@ -1,0 +1,167 @@
+-- An end makes one more PDU: what it keeps stays in step.
+use Rattle.std.proofs.Common.{◌≡◌, ℕ, zero, suc, ◌+◌, ◌<◌, ◌≤◌, Bool, true, false, not, List, [], ◌∷◌, ◌++◌, length, Option, Some, None, slice_get, refl, ap, sym, ◌∙◌, arith, subst}
+use Rattle.std.specs.Prelude.{map, filter, if◌then◌else◌}
+use Rattle.std.specs.Borrow.{Bor}
+use Rattle.rasta_pdu.specs.declared.kind.Kind.{Kind}
+use Rattle.rasta_pdu.specs.declared.kind.Kind.TheVariants.{ConnectionRequest, ConnectionResponse, RetransmissionRequest, RetransmissionResponse, DisconnectionRequest, Heartbeat, Data, RetransmittedData}
+use Rattle.rasta_end.specs.TakeRule.{is_retransmission_response}
+use Rattle.rasta_end.specs.declared.own.MadePdu.{MadePdu}
+use Rattle.rasta_end.specs.declared.own.QuietPdu.{QuietPdu}
+use Rattle.rasta_end.specs.State.{Made, kinds, content_of}
+use Rattle.rasta_end.specs.MakeRule.{contents, is_data}
+use Rattle.rasta_end.specs.Units.{all_units_conveyed, conveyed, units_behind, responses_in, responses_after}
+use Rattle.rasta_end.specs.Kept.{made_of, conveyed_of, quiet_made, quiet_units, OwnPdus}
+use Rattle.rasta_end.proofs.Conveying.{all_units-push, responses_in-push, more_asks}
+
+append-assoc : {A : Type 0} (xs ys zs : List A) → (xs ++ ys) ++ zs ≡ xs ++ (ys ++ zs)
+append-assoc [] ys zs = refl
+append-assoc (x ∷ xs) ys zs = ap (λ ws. x ∷ ws) (append-assoc xs ys zs)
+
+map-push : {A B : Type 0} (f : A → B) (xs : List A) (x : A) → map f (xs ++ x ∷ []) ≡ map f xs ++ f x ∷ []
+map-push f [] x = refl
+map-push f (y ∷ ys) x = ap (λ ws. f y ∷ ws) (map-push f ys x)
+
+pub made-push : (q : Option QuietPdu) (ms : List MadePdu) (m : MadePdu)
+    → quiet_made q ++ map made_of (ms ++ m ∷ []) ≡ (quiet_made q ++ map made_of ms) ++ made_of m ∷ []
+made-push q ms m = ap (λ ws. quiet_made q ++ ws) (map-push made_of ms m) ∙ sym (append-assoc (quiet_made q) (map made_of ms) (made_of m ∷ []))
+
+kinds-push : (ms : List Made) (m : Made) → kinds (ms ++ m ∷ []) ≡ kinds ms ++ m.pdu.kind ∷ []
+kinds-push ms m = map-push (λ (n : Made). n.pdu.kind) ms m
+
+units-pushed : (q : Option QuietPdu) (ms : List MadePdu) (m : MadePdu) (asks : List ℕ)
+    → quiet_units q ++ map conveyed_of ms ≡ all_units_conveyed asks (kinds (quiet_made q ++ map made_of ms))
+    → m.conveyed ≡ units_behind asks (all_units_conveyed asks (kinds (quiet_made q ++ map made_of ms))) (conveyed asks (kinds (quiet_made q ++ map made_of ms))).responses (made_of m).pdu.kind
+    → quiet_units q ++ map conveyed_of (ms ++ m ∷ []) ≡ all_units_conveyed asks (kinds (quiet_made q ++ map made_of (ms ++ m ∷ [])))
+units-pushed q ms m asks h e =
+    ap (λ ws. quiet_units q ++ ws) (map-push conveyed_of ms m)
+    ∙ (sym (append-assoc (quiet_units q) (map conveyed_of ms) (m.conveyed ∷ []))
+    ∙ (ap (λ ws. ws ++ m.conveyed ∷ []) h
+    ∙ (ap (λ n. all_units_conveyed asks (kinds (quiet_made q ++ map made_of ms)) ++ n ∷ []) e
+    ∙ (sym (all_units-push asks (kinds (quiet_made q ++ map made_of ms)) (made_of m).pdu.kind)
+    ∙ ap (all_units_conveyed asks) (sym (kinds-push (quiet_made q ++ map made_of ms) (made_of m)) ∙ ap kinds (sym (made-push q ms m)))))))
+
+responses-pushed : (q : Option QuietPdu) (ms : List MadePdu) (m : MadePdu)
+    → responses_in (kinds (quiet_made q ++ map made_of (ms ++ m ∷ []))) ≡ responses_after (responses_in (kinds (quiet_made q ++ map made_of ms))) (made_of m).pdu.kind
+responses-pushed q ms m =
+    ap (λ ns. responses_in (kinds ns)) (made-push q ms m)
+    ∙ (ap responses_in (kinds-push (quiet_made q ++ map made_of ms) (made_of m)) ∙ responses_in-push (kinds (quiet_made q ++ map made_of ms)) (made_of m).pdu.kind)
+
+contents-data : (ms : List Made) (m : Made) → is_data m.pdu.kind ≡ true → contents (ms ++ m ∷ []) ≡ contents ms ++ content_of m.pdu.body ∷ []
+contents-data [] m e = rw e refl
+contents-data (n ∷ ms) m e = by (is_data n.pdu.kind) refl (contents-data ms m e)
+  where
+    by : (b : Bool) → is_data n.pdu.kind ≡ b → contents (ms ++ m ∷ []) ≡ contents ms ++ content_of m.pdu.body ∷ []
+        → contents (n ∷ (ms ++ m ∷ [])) ≡ contents (n ∷ ms) ++ content_of m.pdu.body ∷ []
+    by true h r = rw h (ap (λ ws. content_of n.pdu.body ∷ ws) r)
+    by false h r = rw h r
+
+contents-other : (ms : List Made) (m : Made) → is_data m.pdu.kind ≡ false → contents (ms ++ m ∷ []) ≡ contents ms
+contents-other [] m e = rw e refl
+contents-other (n ∷ ms) m e = by (is_data n.pdu.kind) refl (contents-other ms m e)
+  where
+    by : (b : Bool) → is_data n.pdu.kind ≡ b → contents (ms ++ m ∷ []) ≡ contents ms → contents (n ∷ (ms ++ m ∷ [])) ≡ contents (n ∷ ms)
+    by true h r = rw h (ap (λ ws. content_of n.pdu.body ∷ ws) r)
+    by false h r = rw h r
+
+contents-pushed : (q : Option QuietPdu) (ms : List MadePdu) (m : MadePdu) (cs : List (Bor (List ℕ))) (c : Bor (List ℕ))
+    → is_data (made_of m).pdu.kind ≡ true → c.now ≡ content_of (made_of m).pdu.body
+    → map (λ (b : Bor (List ℕ)). b.now) cs ≡ contents (quiet_made q ++ map made_of ms)
+    → map (λ (b : Bor (List ℕ)). b.now) (cs ++ c ∷ []) ≡ contents (quiet_made q ++ map made_of (ms ++ m ∷ []))
+contents-pushed q ms m cs c e d h =
+    map-push (λ (b : Bor (List ℕ)). b.now) cs c
+    ∙ (ap (λ ws. ws ++ c.now ∷ []) h
+    ∙ (ap (λ w. contents (quiet_made q ++ map made_of ms) ++ w ∷ []) d
+    ∙ (sym (contents-data (quiet_made q ++ map made_of ms) (made_of m) e) ∙ ap contents (sym (made-push q ms m)))))
+
+pub not-response : (n : ℕ) (k : Kind) → is_retransmission_response k ≡ false → responses_after n k ≡ n
+not-response n RetransmissionResponse e = absurd (cc)
+not-response n _ e = refl
+
+pub one-response : (n : ℕ) (k : Kind) → is_retransmission_response k ≡ true → responses_after n k ≡ suc n
+one-response n RetransmissionResponse e = refl
+one-response n ConnectionRequest e = absurd (cc)
+one-response n ConnectionResponse e = absurd (cc)
+one-response n RetransmissionRequest e = absurd (cc)
+one-response n DisconnectionRequest e = absurd (cc)
+one-response n Heartbeat e = absurd (cc)
+one-response n Data e = absurd (cc)
+one-response n RetransmittedData e = absurd (cc)
+
+pub data-not-response : (k : Kind) → is_data k ≡ true → is_retransmission_response k ≡ false
+data-not-response Data e = refl
+data-not-response RetransmissionResponse e = absurd (cc)
+data-not-response ConnectionRequest e = absurd (cc)
+data-not-response ConnectionResponse e = absurd (cc)
+data-not-response RetransmissionRequest e = absurd (cc)
+data-not-response DisconnectionRequest e = absurd (cc)
+data-not-response Heartbeat e = absurd (cc)
+data-not-response RetransmittedData e = absurd (cc)
+
+pub response-not-data : (k : Kind) → is_retransmission_response k ≡ true → is_data k ≡ false
+response-not-data RetransmissionResponse e = refl
+response-not-data Data e = absurd (cc)
+response-not-data ConnectionRequest e = absurd (cc)
+response-not-data ConnectionResponse e = absurd (cc)
+response-not-data RetransmissionRequest e = absurd (cc)
+response-not-data DisconnectionRequest e = absurd (cc)
+response-not-data Heartbeat e = absurd (cc)
+response-not-data RetransmittedData e = absurd (cc)
+
+contents-stay : (q : Option QuietPdu) (ms : List MadePdu) (m : MadePdu) (cs : List (Bor (List ℕ)))
+    → is_data (made_of m).pdu.kind ≡ false
+    → map (λ (b : Bor (List ℕ)). b.now) cs ≡ contents (quiet_made q ++ map made_of ms)
+    → map (λ (b : Bor (List ℕ)). b.now) cs ≡ contents (quiet_made q ++ map made_of (ms ++ m ∷ []))
+contents-stay q ms m cs e h = h ∙ (sym (contents-other (quiet_made q ++ map made_of ms) (made_of m) e) ∙ ap contents (sym (made-push q ms m)))
+
+-- the same of the lists that the calls answer
+abbrev units_in_step : Option QuietPdu → List MadePdu → List ℕ → Type 0
+units_in_step q ms asks = quiet_units q ++ map conveyed_of ms ≡ all_units_conveyed asks (kinds (quiet_made q ++ map made_of ms))
+
+abbrev contents_in_step : Option QuietPdu → List MadePdu → List (Bor (List ℕ)) → Type 0
+contents_in_step q ms cs = map (λ (b : Bor (List ℕ)). b.now) cs ≡ contents (quiet_made q ++ map made_of ms)
+
+pub units-push : (q : Option QuietPdu) (ms ns : List MadePdu) (m : MadePdu) (o : OwnPdus) (asks : List ℕ) → ns ≡ ms ++ m ∷ []
+    → record { quiet = q; made = quiet_made q ++ map made_of ms; asks = asks } ≡ o
+    → units_in_step q ms asks
+    → (k : Kind) → (made_of m).pdu.kind ≡ k → m.conveyed ≡ units_behind o.asks (all_units_conveyed o.asks (kinds o.made)) (conveyed o.asks (kinds o.made)).responses k
+    → units_in_step q ns asks
+units-push q ms ns m o asks items view h k kind e =
+    subst (λ (l : List MadePdu). units_in_step q l asks) (sym items) (units-pushed q ms m asks h now)
+  where
+    there : m.conveyed ≡ units_behind asks (all_units_conveyed asks (kinds (quiet_made q ++ map made_of ms))) (conveyed asks (kinds (quiet_made q ++ map made_of ms))).responses k
+    there = subst (λ (v : OwnPdus). m.conveyed ≡ units_behind v.asks (all_units_conveyed v.asks (kinds v.made)) (conveyed v.asks (kinds v.made)).responses k) (sym view) e
+    now : m.conveyed ≡ units_behind asks (all_units_conveyed asks (kinds (quiet_made q ++ map made_of ms))) (conveyed asks (kinds (quiet_made q ++ map made_of ms))).responses (made_of m).pdu.kind
+    now = subst (λ (j : Kind). m.conveyed ≡ units_behind asks (all_units_conveyed asks (kinds (quiet_made q ++ map made_of ms))) (conveyed asks (kinds (quiet_made q ++ map made_of ms))).responses j) (sym kind) there
+
+pub contents-push : (q : Option QuietPdu) (ms ns : List MadePdu) (m : MadePdu) (cs ds : List (Bor (List ℕ))) (c : Bor (List ℕ)) → ns ≡ ms ++ m ∷ [] → ds ≡ cs ++ c ∷ []
+    → is_data (made_of m).pdu.kind ≡ true → c.now ≡ content_of (made_of m).pdu.body → contents_in_step q ms cs → contents_in_step q ns ds
+contents-push q ms ns m cs ds c items stored e d h =
+    subst (λ (l : List MadePdu). contents_in_step q l ds) (sym items) (subst (λ (l : List (Bor (List ℕ))). contents_in_step q (ms ++ m ∷ []) l) (sym stored) (contents-pushed q ms m cs c e d h))
+
+pub contents-kept : (q : Option QuietPdu) (ms ns : List MadePdu) (m : MadePdu) (cs : List (Bor (List ℕ))) → ns ≡ ms ++ m ∷ []
+    → is_data (made_of m).pdu.kind ≡ false → contents_in_step q ms cs → contents_in_step q ns cs
+contents-kept q ms ns m cs items e h = subst (λ (l : List MadePdu). contents_in_step q l cs) (sym items) (contents-stay q ms m cs e h)
+
+pub responses-kept : (q : Option QuietPdu) (ms ns : List MadePdu) (m : MadePdu) (n : ℕ) → ns ≡ ms ++ m ∷ []
+    → is_retransmission_response (made_of m).pdu.kind ≡ false → n ≡ responses_in (kinds (quiet_made q ++ map made_of ms)) → n ≡ responses_in (kinds (quiet_made q ++ map made_of ns))
+responses-kept q ms ns m n items e h =
+    subst (λ (l : List MadePdu). n ≡ responses_in (kinds (quiet_made q ++ map made_of l))) (sym items)
+    (h ∙ sym (responses-pushed q ms m ∙ not-response (responses_in (kinds (quiet_made q ++ map made_of ms))) (made_of m).pdu.kind e))
+
+pub responses-push : (q : Option QuietPdu) (ms ns : List MadePdu) (m : MadePdu) (n : ℕ) → ns ≡ ms ++ m ∷ []
+    → is_retransmission_response (made_of m).pdu.kind ≡ true → n ≡ responses_in (kinds (quiet_made q ++ map made_of ms)) → n + 1 ≡ responses_in (kinds (quiet_made q ++ map made_of ns))
+responses-push q ms ns m n items e h =
+    subst (λ (l : List MadePdu). n + 1 ≡ responses_in (kinds (quiet_made q ++ map made_of l))) (sym items)
+    (more ∙ sym (responses-pushed q ms m ∙ one-response (responses_in (kinds (quiet_made q ++ map made_of ms))) (made_of m).pdu.kind e))
+  where
+    more : n + 1 ≡ suc (responses_in (kinds (quiet_made q ++ map made_of ms)))
+    more = omega (arith, h)
+
+pub asks-more : (q : Option QuietPdu) (ms : List MadePdu) (o : OwnPdus) (asks more : List ℕ) (ask : ℕ) → more ≡ asks ++ ask ∷ []
+    → record { quiet = q; made = quiet_made q ++ map made_of ms; asks = asks } ≡ o → responses_in (kinds o.made) ≤ length o.asks
+    → units_in_step q ms asks → units_in_step q ms more
+asks-more q ms o asks more ask items view room h =
+    subst (λ (l : List ℕ). units_in_step q ms l) (sym items) (h ∙ sym (more_asks asks (ask ∷ []) (kinds (quiet_made q ++ map made_of ms)) here))
+  where
+    here : responses_in (kinds (quiet_made q ++ map made_of ms)) ≤ length asks
+    here = subst (λ (v : OwnPdus). responses_in (kinds v.made) ≤ length v.asks) (sym view) room

@@ -1,0 +1,31 @@
+use Rattle.std.proofs.Common.{◌≡◌, ◌<◌, ◌≤◌, ◌-◌, length, arith, ◌∙◌, suc}
+use Rattle.rasta_end.specs.State.{kinds}
+use Rattle.rasta_end.proofs.Conveying.{last_units-few, length-kinds, behind-response, behind-data, behind-retransmitted}
+use Rattle.rasta_end.proofs.own.Own.units_behind.Goals as goal
+
+pub overflow_add-result : goal.overflow_add-result
+overflow_add-result c =
+    let k = length-kinds c.args.self.now.made in
+    let l = last_units-few c.args.self.now.asks (kinds c.args.self.now.made) (c.len.result - 1) (omega (arith, k)) in
+    omega (arith, k, l)
+
+pub overflow_add-result-in-RetransmittedData : goal.overflow_add-result-in-RetransmittedData
+overflow_add-result-in-RetransmittedData c =
+    let k = length-kinds c.args.self.now.made in
+    let l = last_units-few c.args.self.now.asks (kinds c.args.self.now.made) (c.len.result - 1) (omega (arith, k)) in
+    omega (arith, k, l)
+
+pub returns-in-RetransmissionResponse : goal.returns-in-RetransmissionResponse
+returns-in-RetransmissionResponse c =
+    let k = length-kinds c.args.self.now.made in
+    record { room = omega arith; value = behind-response c.args.self.now.asks (kinds c.args.self.now.made) c.asked_units.result c.args.kind c.in-RetransmissionResponse.is (omega (arith, k)) c.asked_units.ensures }
+
+pub returns-in-Data : goal.returns-in-Data
+returns-in-Data c =
+    let k = length-kinds c.args.self.now.made in
+    record { room = omega arith; value = behind-data c.args.self.now.asks (kinds c.args.self.now.made) c.last_units.result c.args.kind c.in-Data.is (omega (arith, k)) c.last_units.ensures }
+
+pub returns-in-RetransmittedData : goal.returns-in-RetransmittedData
+returns-in-RetransmittedData c =
+    let k = length-kinds c.args.self.now.made in
+    record { room = omega arith; value = behind-retransmitted c.args.self.now.asks (kinds c.args.self.now.made) c.last_units-in-RetransmittedData.result c.args.kind c.in-RetransmittedData.is (omega (arith, k)) c.last_units-in-RetransmittedData.ensures }

@@ -1,0 +1,83 @@
+//! The make table.
+ghost use Rattle.std.specs.Prelude.{◌≡◌};
+ghost use Rattle.rasta_end.specs.State;
+ghost use Rattle.rasta_end.specs.MakeRule;
+ghost use Rattle.rasta_end.specs.MakeRule.{make_row};
+
+use crate::phase::Phase;
+use crate::why::Why;
+use rasta_pdu::{Kind, Side};
+
+/// A row of the make table.
+#[derive(Clone, Copy, Debug)]
+pub enum MakeRow {
+    /// The connection request.
+    Opens,
+    /// The connection response.
+    Answers,
+    /// The first heartbeat of the client.
+    StartsBeating,
+    /// A retransmission response.
+    Returns,
+    /// Retransmitted data, of the unit of this number.
+    Resends(u32),
+    /// A retransmission request.
+    Requests,
+    /// A heartbeat.
+    Beats,
+    /// Data.
+    Offers,
+    /// A disconnection request for another reason than the deadline.
+    Leaves,
+    /// A disconnection request since the deadline has passed.
+    TimesOut,
+}
+
+fn row_where(test: bool, row: MakeRow) -> Option<MakeRow>
+    ensures { result ≡ MakeRule.row_where test row }
+{
+    if test { Some(row) } else { None }
+}
+
+fn is_client(side: Side) -> bool
+    ensures { result ≡ State.is_client side }
+{
+    matches!(side, Side::Client)
+}
+
+impl MakeRow {
+    /// The row of this reason and type; `reason` is that of a disconnection request.
+    pub fn of(side: Side, phase: Phase, reason: u16, why: Why, kind: Kind) -> Option<MakeRow>
+        ensures { result ≡ make_row side phase reason why kind }
+    {
+        match (why, kind) {
+            (Why::Open, Kind::ConnectionRequest) => {
+                row_where(is_client(side) && phase.is_closed(), MakeRow::Opens)
+            }
+            (Why::Reply, Kind::ConnectionResponse) => {
+                row_where(!is_client(side) && phase.is_start(), MakeRow::Answers)
+            }
+            (Why::Reply, Kind::Heartbeat) => {
+                row_where(is_client(side) && phase.is_up(), MakeRow::StartsBeating)
+            }
+            (Why::Reply, Kind::RetransmissionResponse) => {
+                row_where(phase.is_connected(), MakeRow::Returns)
+            }
+            (Why::Again(unit), Kind::RetransmittedData) => {
+                row_where(phase.is_connected(), MakeRow::Resends(unit))
+            }
+            (Why::Ask, Kind::RetransmissionRequest) => {
+                row_where(phase.is_connected(), MakeRow::Requests)
+            }
+            (Why::Beat, Kind::Heartbeat) => row_where(phase.is_connected(), MakeRow::Beats),
+            (Why::Fresh, Kind::Data) => row_where(phase.is_connected(), MakeRow::Offers),
+            (Why::Bye, Kind::DisconnectionRequest) => {
+                row_where(phase.is_active() && reason != 4, MakeRow::Leaves)
+            }
+            (Why::Expired, Kind::DisconnectionRequest) => {
+                row_where(phase.is_active() && reason == 4, MakeRow::TimesOut)
+            }
+            _ => None,
+        }
+    }
+}
