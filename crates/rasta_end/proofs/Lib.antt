@@ -1,3 +1,4 @@
 pub mod Lists
 pub mod Conveying
 pub mod Pushing
+pub mod Owing

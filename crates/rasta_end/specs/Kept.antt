@@ -1,19 +1,15 @@
 -- How an end keeps its state: what its parts stand for.
-use Rattle.std.specs.Prelude.{◌≡◌, ℕ, zero, suc, ◌+◌, Bool, true, false, if◌then◌else◌, List, [], ◌∷◌, ◌++◌, length, map, Option, Some, None}
+use Rattle.std.specs.Prelude.{◌≡◌, ℕ, Bool, true, false, List, [], ◌∷◌, ◌++◌, map, Option, Some, None}
 use Rattle.std.specs.Borrow.{Bor}
-use Rattle.rasta_pcap.specs.declared.fault.Side.{Side}
-use Rattle.rasta_pdu.specs.Params.{Parameters}
 use Rattle.rasta_pdu.specs.declared.kind.Kind.TheVariants.{Heartbeat}
-use Rattle.rasta_pdu.specs.Pdu.{SafetyPdu, Empty, value_of}
-use Rattle.rasta_pdu.specs.declared.pdu.Pdu.{Pdu}
-use Rattle.rasta_pdu.specs.declared.quiet_point.Quiet.{Quiet}
+use Rattle.rasta_pdu.specs.Pdu.{Empty, value_of}
 use Rattle.rasta_end.specs.declared.own.MadePdu.{MadePdu}
 use Rattle.rasta_end.specs.declared.own.QuietPdu.{QuietPdu}
 use Rattle.rasta_end.specs.declared.own.Own.TheInside.{Inside}
 use Rattle.rasta_end.specs.declared.owed.Owed.{Owed}
 use Rattle.rasta_end.specs.declared.owed.Owed.TheVariants.{RetransmissionRequest as OweRetransmissionRequest}
 use Rattle.rasta_end.specs.declared.owed.Owes.{Owes}
-use Rattle.rasta_end.specs.State.{Made, EndState, kinds}
+use Rattle.rasta_end.specs.State.{Made, kinds}
 use Rattle.rasta_end.specs.MakeRule.{contents}
 use Rattle.rasta_end.specs.Units.{all_units_conveyed, responses_in}
 use Rattle.rasta_end.specs.TakeRule.{resends}
@@ -33,11 +29,6 @@ owed_list o = owed_reply o.reply ++ (resends o.unit o.units ++ owed_request o.re
 abbrev pub first_owed : List Owed → Option Owed
 first_owed [] = None
 first_owed (o ∷ os) = Some o
-
--- an end with the parameters by which it is judged
-pub record JudgedEnd : Type 0 where
-  pub params : Parameters
-  pub state : EndState
 
 -- what contracts see of the PDUs that an end made and of the asks
 pub record OwnPdus : Type 0 where

@@ -7,3 +7,4 @@ pub mod MakeRule
 pub mod TakeRule
 pub mod Starts
 pub mod Kept
+pub mod Judged

@@ -1,5 +1,5 @@
 -- The state of one end of a connection. All rules of an end are this project's profile, modelled on the standard.
-use Rattle.std.specs.Prelude.{ℕ, ◌+◌, ◌-◌, ◌%◌, ◌^◌, Bool, true, false, ◌||◌, ◌==◌, List, [], ◌∷◌, length, map, Option, Some, None}
+use Rattle.std.specs.Prelude.{ℕ, ◌+◌, ◌-◌, ◌%◌, ◌^◌, Bool, true, false, ◌||◌, List, [], ◌∷◌, map, Option}
 use Rattle.rasta_pcap.specs.declared.fault.Side.{Side}
 use Rattle.rasta_pcap.specs.declared.fault.Side.TheVariants.{Client, Server}
 use Rattle.rasta_pdu.specs.declared.kind.Kind.{Kind}
@@ -18,6 +18,7 @@ pub record Made : Type 0 where
 pub record EndState : Type 0 where
   pub side : Side
   pub phase : Phase
+  pub base : ℕ                -- the position of the first PDU made since the start: 0, or 1 at a quiet point
   pub made : List Made
   pub accepted : ℕ            -- one more than the peer's position that was accepted last, 0 where there is none
   pub last_sn : ℕ             -- of the PDU that was accepted last

@@ -1,8 +1,8 @@
 -- The take rule: what an end does with a PDU that it takes. The retransmission burst and the deadline.
-use Rattle.std.specs.Prelude.{◌≡◌, ℕ, zero, suc, ◌+◌, ◌-◌, ◌*◌, ◌^◌, Bool, true, false, ◌&&◌, ◌||◌, not, if◌then◌else◌, nat_lt, nat_le, ◌==◌, List, [], ◌∷◌, ◌++◌, length, Option, Some, None}
+use Rattle.std.specs.Prelude.{◌≡◌, ℕ, zero, suc, ◌+◌, ◌-◌, ◌*◌, ◌^◌, Bool, true, false, ◌&&◌, not, if◌then◌else◌, nat_lt, nat_le, ◌==◌, List, [], ◌∷◌, ◌++◌, length, Option, Some, None}
 use Rattle.rasta_pcap.specs.Fault.{reply_owed, past_deadline}
 use Rattle.rasta_pdu.specs.declared.kind.Kind.{Kind}
-use Rattle.rasta_pdu.specs.declared.kind.Kind.TheVariants.{ConnectionRequest, ConnectionResponse, RetransmissionRequest, RetransmissionResponse, DisconnectionRequest, Heartbeat, Data, RetransmittedData}
+use Rattle.rasta_pdu.specs.declared.kind.Kind.TheVariants.{ConnectionResponse, RetransmissionRequest, RetransmissionResponse, Heartbeat, Data, RetransmittedData}
 use Rattle.rasta_pdu.specs.Params.{Parameters}
 use Rattle.rasta_pdu.specs.Pdu.{SafetyPdu}
 use Rattle.rasta_end.specs.declared.phase.Phase.{Phase}
@@ -89,7 +89,10 @@ abbrev pub note_accepted : ℕ → EndState → SafetyPdu → EndState
 note_accepted position e x = record e { accepted = suc position; last_sn = x.sn; last_ts = x.ts }
 
 abbrev pub note_time : Parameters → EndState → SafetyPdu → EndState
-note_time p e x = if is_timed x.kind then record e { timed_ts = Some x.ts; deadline = Some (deadline_from p e.clock x.cts) } else e
+note_time p e x = record e {
+  timed_ts = if is_timed x.kind then Some x.ts else e.timed_ts;
+  deadline = if is_timed x.kind then Some (deadline_from p e.clock x.cts) else e.deadline;
+}
 
 abbrev pub position_confirmed : EndState → SafetyPdu → ℕ
 position_confirmed e x = e.confirmed + steps_past_confirmed e x
@@ -159,6 +162,12 @@ take_fault p e moment =
 -- the take rule: this end takes this PDU at this moment, and is that end afterwards
 abbrev pub Takes : Parameters → EndState → SafetyPdu → ℕ → EndState → Type 0
 Takes p e x moment e' = (take_fault p e moment ≡ None) × (e' ≡ after_take p e x)
+
+-- rows that want a valid CS
+abbrev pub wants_valid : TakeRow → Bool
+wants_valid Opened = false
+wants_valid Disconnected = false
+wants_valid _ = true
 
 -- taking the PDU adds to a list
 abbrev pub adds_to_a_list : Option TakeRow → Kind → Bool

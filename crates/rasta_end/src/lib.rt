@@ -2,6 +2,8 @@
 //! profile, modelled on the standard.
 #![tactic(auto)]
 
+mod deadline;
+mod end;
 mod make_row;
 mod owed;
 mod own;
@@ -9,5 +11,6 @@ mod phase;
 mod take_row;
 mod why;
 
+pub use end::End;
 pub use phase::Phase;
 pub use why::Why;

@@ -1,9 +1,9 @@
 //! What an end owes.
-ghost use Rattle.std.specs.Prelude.{◌≡◌, ◌<◌, ◌+◌, ◌^◌, not, [], ◌∷◌};
+ghost use Rattle.std.specs.Prelude.{◌≡◌, ◌<◌, ◌+◌, ◌^◌, ◌≤◌, not, length, [], ◌∷◌, None, Some};
 ghost use Rattle.rasta_end.specs.State.{is_owing};
 ghost use Rattle.rasta_end.specs.MakeRule;
 ghost use Rattle.rasta_end.specs.MakeRule.{demand_of, without_first};
-ghost use Rattle.rasta_end.specs.Kept.{owed_list, first_owed};
+ghost use Rattle.rasta_end.specs.Kept.{owed_list, owed_reply, owed_request, first_owed};
 
 use crate::make_row::MakeRow;
 
@@ -71,9 +71,28 @@ pub struct Owes {
     pub request: bool,
 }
 
+fn replies(reply: Option<Owed>) -> usize
+    ensures value { result ≡ length (owed_reply reply) }
+    ensures bound { result ≤ 1 }
+{
+    match reply {
+        Some(_) => 1,
+        None => 0,
+    }
+}
+
+fn requests(request: bool) -> usize
+    ensures value { result ≡ length (owed_request request) }
+    ensures bound { result ≤ 1 }
+{
+    if request { 1 } else { 0 }
+}
+
 impl Owes {
     pub fn nothing() -> Owes
-        ensures { owed_list result ≡ [] }
+        ensures list { owed_list result ≡ [] }
+        ensures reply { result.reply ≡ None }
+        ensures units { result.unit + result.units ≡ 0 }
     {
         Owes {
             reply: None,
@@ -84,7 +103,9 @@ impl Owes {
     }
 
     pub fn reply(owed: Owed) -> Owes
-        ensures { owed_list result ≡ owed ∷ [] }
+        ensures list { owed_list result ≡ owed ∷ [] }
+        ensures reply { result.reply ≡ Some owed }
+        ensures units { result.unit + result.units ≡ 0 }
     {
         Owes {
             reply: Some(owed),
@@ -98,6 +119,15 @@ impl Owes {
         ensures { result ≡ is_owing (owed_list self) }
     {
         self.reply.is_some() || self.units > 0 || self.request
+    }
+
+    /// How many PDUs are owed.
+    pub fn len(self) -> usize
+        requires { self.units + 2 < 2 ^ 64 }
+        ensures value { result ≡ length (owed_list self) }
+        ensures bound { result ≤ self.units + 2 }
+    {
+        replies(self.reply) + self.units + requests(self.request)
     }
 
     /// What is to be made next.

@@ -91,7 +91,7 @@ impl<'a> Own<'a> {
     /// How many PDUs there are, the quiet one too.
     pub fn len(&self) -> usize
         ensures value { result ≡ length self.now.made }
-        ensures room { result + 1 < 2 ^ 64 }
+        ensures room { result + 2 ^ 33 < 2 ^ 64 }
     {
         usize::from(self.quiet.is_some()) + self.made.len()
     }
@@ -162,7 +162,7 @@ impl<'a> Own<'a> {
 
     // The units conveyed through a next PDU of this type.
     fn units_behind(&self, kind: Kind) -> usize
-        ensures room { length self.now.made + 1 < 2 ^ 64 }
+        ensures room { length self.now.made + 2 ^ 33 < 2 ^ 64 }
         ensures value { result ≡ Units.units_behind self.now.asks (all_units_conveyed self.now.asks (kinds self.now.made)) (conveyed self.now.asks (kinds self.now.made)).responses kind }
     {
         if self.len() == 0 {
@@ -179,7 +179,7 @@ impl<'a> Own<'a> {
     // The PDU as it is kept.
     fn made_pdu(&self, pdu: &Pdu<'a>, unit: Option<usize>) -> MadePdu<'a>
         ensures pdu { made_of result ≡ record { pdu = (value_of pdu.now).safety; unit = unit } }
-        ensures room { length self.now.made + 1 < 2 ^ 64 }
+        ensures room { length self.now.made + 2 ^ 33 < 2 ^ 64 }
         ensures conveyed { result.conveyed ≡ Units.units_behind self.now.asks (all_units_conveyed self.now.asks (kinds self.now.made)) (conveyed self.now.asks (kinds self.now.made)).responses (value_of pdu.now).safety.kind }
     {
         MadePdu {
@@ -191,6 +191,7 @@ impl<'a> Own<'a> {
 
     fn push_data(&mut self, pdu: &Pdu<'a>, unit: Option<usize>) -> Result<(), AllocError>
         requires { MakeRule.is_data (value_of pdu.now).safety.kind ≡ true }
+        ensures room { length self.old.made + 2 ^ 33 < 2 ^ 64 }
         ensures ok { OnOk result (self.new ≡ record self.old { made = self.old.made ++ record { pdu = (value_of pdu.now).safety; unit = unit } ∷ [] }) }
         ensures err { OnErr result (self.new ≡ self.old) }
     {
@@ -205,6 +206,7 @@ impl<'a> Own<'a> {
 
     fn push_response(&mut self, pdu: &Pdu<'a>, unit: Option<usize>) -> Result<(), AllocError>
         requires { TakeRule.is_retransmission_response (value_of pdu.now).safety.kind ≡ true }
+        ensures room { length self.old.made + 2 ^ 33 < 2 ^ 64 }
         ensures ok { OnOk result (self.new ≡ record self.old { made = self.old.made ++ record { pdu = (value_of pdu.now).safety; unit = unit } ∷ [] }) }
         ensures err { OnErr result (self.new ≡ self.old) }
     {
@@ -219,6 +221,7 @@ impl<'a> Own<'a> {
     fn push_other(&mut self, pdu: &Pdu<'a>, unit: Option<usize>) -> Result<(), AllocError>
         requires data { MakeRule.is_data (value_of pdu.now).safety.kind ≡ false }
         requires response { TakeRule.is_retransmission_response (value_of pdu.now).safety.kind ≡ false }
+        ensures room { length self.old.made + 2 ^ 33 < 2 ^ 64 }
         ensures ok { OnOk result (self.new ≡ record self.old { made = self.old.made ++ record { pdu = (value_of pdu.now).safety; unit = unit } ∷ [] }) }
         ensures err { OnErr result (self.new ≡ self.old) }
     {
@@ -231,6 +234,7 @@ impl<'a> Own<'a> {
 
     /// Appends a PDU that was made; nothing changes where memory is wanting.
     pub fn push(&mut self, pdu: &Pdu<'a>, unit: Option<usize>) -> Result<(), AllocError>
+        ensures room { length self.old.made + 2 ^ 33 < 2 ^ 64 }
         ensures ok { OnOk result (self.new ≡ record self.old { made = self.old.made ++ record { pdu = (value_of pdu.now).safety; unit = unit } ∷ [] }) }
         ensures err { OnErr result (self.new ≡ self.old) }
     {

@@ -1,8 +1,4 @@
-use Rattle.std.proofs.Common.{rules, ◌≡◌, ℕ, List, [], ◌∷◌, ◌++◌, length, ◌≤◌, arith, ap, sym, ◌∙◌}
-use Rattle.std.specs.Prelude.{map}
-use Rattle.rasta_end.specs.State.{kinds}
-use Rattle.rasta_end.specs.Units.{responses_in}
-use Rattle.rasta_end.specs.Kept.{made_of, quiet_made}
+use Rattle.std.proofs.Common.{rules, ◌≡◌, [], ◌∷◌, ◌++◌}
 use Rattle.rasta_end.proofs.Pushing.{asks-more}
 use Rattle.rasta_end.proofs.own.Own.ask.Goals as goal
 

@@ -1,15 +1,10 @@
-use Rattle.std.proofs.Common.{rules, true, false, suc, refl, add-one, ◌+◌, ◌≤◌, ◌≡◌, ℕ, List, [], ◌∷◌, ◌++◌, length, Option, arith, ap, sym, subst, ◌∙◌}
-use Rattle.std.specs.Prelude.{map}
-use Rattle.std.specs.Borrow.{Bor}
-use Rattle.rasta_pdu.specs.declared.kind.Kind.{Kind}
-use Rattle.rasta_end.specs.declared.own.MadePdu.{MadePdu}
-use Rattle.rasta_end.specs.State.{Made, kinds, content_of}
-use Rattle.rasta_end.specs.MakeRule.{contents, is_data}
-use Rattle.rasta_end.specs.Units.{all_units_conveyed, units_behind, conveyed, responses_in}
+use Rattle.std.proofs.Common.{rules, false, ◌≡◌, [], ◌∷◌, ◌++◌, ap, ◌∙◌}
+use Rattle.rasta_end.specs.State.{Made}
+use Rattle.rasta_end.specs.MakeRule.{is_data}
 use Rattle.rasta_end.specs.TakeRule.{is_retransmission_response}
 use Rattle.rasta_pdu.specs.Pdu.{value_of}
-use Rattle.rasta_end.specs.Kept.{made_of, conveyed_of, quiet_made, quiet_units}
-use Rattle.rasta_end.proofs.Pushing.{units-push, responses-push, contents-push, contents-kept, responses-kept, data-not-response, response-not-data}
+use Rattle.rasta_end.specs.Kept.{made_of}
+use Rattle.rasta_end.proofs.Pushing.{units-push, contents-kept, responses-kept}
 use Rattle.rasta_end.proofs.own.Own.push_other.Goals as goal
 
 pub invariant_of-self-2 : goal.invariant_of-self-2

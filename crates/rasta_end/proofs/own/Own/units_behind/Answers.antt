@@ -1,4 +1,4 @@
-use Rattle.std.proofs.Common.{◌≡◌, ◌<◌, ◌≤◌, ◌-◌, length, arith, ◌∙◌, suc}
+use Rattle.std.proofs.Common.{◌-◌, arith}
 use Rattle.rasta_end.specs.State.{kinds}
 use Rattle.rasta_end.proofs.Conveying.{last_units-few, length-kinds, behind-response, behind-data, behind-retransmitted}
 use Rattle.rasta_end.proofs.own.Own.units_behind.Goals as goal
