@@ -39,6 +39,6 @@ pub record IsKept (e : Inside) : Type 0 where
   pub deadline : IfSome e.deadline (λ (moment : ℕ). moment < 2 ^ 66)
   pub confirmed : e.confirmed ≤ length e.own.made
   pub offered : e.offered ≤ length e.own.made
-  pub room : e.offered + 2 ^ 32 < 2 ^ 64
+  pub room : length e.own.made + 2 ^ 32 < 2 ^ 64
   pub units : e.owes.unit + e.owes.units ≤ e.offered
   pub responses : responses_in (kinds e.own.made) + responses_owed e.owes.reply ≤ length e.own.asks

@@ -1,6 +1,7 @@
 -- The take rule: what an end does with a PDU that it takes. The retransmission burst and the deadline.
 use Rattle.std.specs.Prelude.{◌≡◌, ℕ, zero, suc, ◌+◌, ◌-◌, ◌*◌, ◌^◌, Bool, true, false, ◌&&◌, not, if◌then◌else◌, nat_lt, nat_le, ◌==◌, List, [], ◌∷◌, ◌++◌, length, Option, Some, None}
 use Rattle.rasta_pcap.specs.Fault.{reply_owed, past_deadline}
+use Rattle.rasta_pcap.specs.declared.fault.Side.{Side}
 use Rattle.rasta_pdu.specs.declared.kind.Kind.{Kind}
 use Rattle.rasta_pdu.specs.declared.kind.Kind.TheVariants.{ConnectionResponse, RetransmissionRequest, RetransmissionResponse, Heartbeat, Data, RetransmittedData}
 use Rattle.rasta_pdu.specs.Params.{Parameters}
@@ -58,21 +59,21 @@ abbrev pub is_retransmission_response : Kind → Bool
 is_retransmission_response RetransmissionResponse = true
 is_retransmission_response _ = false
 
--- the take table: phase and PDU of each row
-abbrev pub take_rows : Parameters → EndState → SafetyPdu → List (Bool × TakeRow)
-take_rows p e x =
-    (is_down e.phase && is_connection_request x.kind, Opened)
-    ∷ (is_start e.phase && (is_client e.side && (is_connection_response x.kind && is_valid e x)), Answered)
-    ∷ (is_start e.phase && (not (is_client e.side) && (is_heartbeat x.kind && (is_in e x && is_valid e x))), FirstHeartbeat)
-    ∷ (is_flowing e.phase && (is_heartbeat_or_data x.kind && (is_in e x && is_valid e x)), InSequence)
-    ∷ (is_retr_run e.phase && (is_retransmitted_data x.kind && (is_in e x && is_valid e x)), ResentInSequence)
-    ∷ (is_up e.phase && (is_heartbeat_or_data x.kind && (is_ahead p e x && is_valid e x)), Gap)
-    ∷ (is_retr_run e.phase && (is_timed x.kind && (is_ahead p e x && is_valid e x)), GapInRetransmission)
-    ∷ (is_retr_req e.phase && (is_retransmission_response x.kind && is_valid e x), Resumed)
-    ∷ (is_flowing e.phase && (is_retransmission_request x.kind && (is_in e x && is_valid e x)), Requested)
-    ∷ (is_flowing e.phase && (is_retransmission_request x.kind && (is_ahead p e x && is_valid e x)), RequestedAhead)
-    ∷ (is_retr_req e.phase && (is_retransmission_request x.kind && (is_ahead p e x && is_valid e x)), RequestedAgain)
-    ∷ (is_active e.phase && is_disconnection_request x.kind, Disconnected)
+-- the take table: phase and PDU of each row; next: the PDU is in sequence, ahead: it stands ahead, valid: its CS is valid
+abbrev pub take_rows : Side → Phase → Kind → Bool → Bool → Bool → List (Bool × TakeRow)
+take_rows side phase kind next ahead valid =
+    (is_down phase && is_connection_request kind, Opened)
+    ∷ (is_start phase && (is_client side && (is_connection_response kind && valid)), Answered)
+    ∷ (is_start phase && (not (is_client side) && (is_heartbeat kind && (next && valid))), FirstHeartbeat)
+    ∷ (is_flowing phase && (is_heartbeat_or_data kind && (next && valid)), InSequence)
+    ∷ (is_retr_run phase && (is_retransmitted_data kind && (next && valid)), ResentInSequence)
+    ∷ (is_up phase && (is_heartbeat_or_data kind && (ahead && valid)), Gap)
+    ∷ (is_retr_run phase && (is_timed kind && (ahead && valid)), GapInRetransmission)
+    ∷ (is_retr_req phase && (is_retransmission_response kind && valid), Resumed)
+    ∷ (is_flowing phase && (is_retransmission_request kind && (next && valid)), Requested)
+    ∷ (is_flowing phase && (is_retransmission_request kind && (ahead && valid)), RequestedAhead)
+    ∷ (is_retr_req phase && (is_retransmission_request kind && (ahead && valid)), RequestedAgain)
+    ∷ (is_active phase && is_disconnection_request kind, Disconnected)
     ∷ []
 
 abbrev pub first_row : List (Bool × TakeRow) → Option TakeRow
@@ -145,7 +146,7 @@ effect p RequestedAgain e x = owe (burst e (position_confirmed e x)) (note_ask (
 effect p Disconnected e x = enter Closed e
 
 abbrev pub take_row : Parameters → EndState → SafetyPdu → Option TakeRow
-take_row p e x = first_row (take_rows p e x)
+take_row p e x = first_row (take_rows e.side e.phase x.kind (is_in e x) (is_ahead p e x) (is_valid e x))
 
 abbrev pub effect_by : Parameters → Option TakeRow → EndState → SafetyPdu → EndState
 effect_by p None e x = e

@@ -8,7 +8,10 @@ mod make_row;
 mod owed;
 mod own;
 mod phase;
+mod seen;
 mod take_row;
+mod taking;
+mod verbs;
 mod why;
 
 pub use end::End;

@@ -39,7 +39,7 @@ fn row_where(test: bool, row: MakeRow) -> Option<MakeRow>
     if test { Some(row) } else { None }
 }
 
-fn is_client(side: Side) -> bool
+pub fn is_client(side: Side) -> bool
     ensures { result ≡ State.is_client side }
 {
     matches!(side, Side::Client)

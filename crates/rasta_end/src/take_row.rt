@@ -1,4 +1,12 @@
-//! The rows of the take table.
+//! The take table.
+ghost use Rattle.std.specs.Prelude.{◌≡◌, true, IfSome};
+ghost use Rattle.rasta_end.specs.State;
+ghost use Rattle.rasta_end.specs.MakeRule;
+ghost use Rattle.rasta_end.specs.TakeRule;
+
+use crate::make_row::is_client;
+use crate::phase::Phase;
+use rasta_pdu::{Kind, Side};
 
 /// A row of the take table.
 #[derive(Clone, Copy, Debug)]
@@ -27,4 +35,109 @@ pub enum TakeRow {
     RequestedAgain,
     /// A disconnection request.
     Disconnected,
+}
+
+pub fn is_connection_request(kind: Kind) -> bool
+    ensures { result ≡ MakeRule.is_connection_request kind }
+{
+    matches!(kind, Kind::ConnectionRequest)
+}
+
+pub fn is_connection_response(kind: Kind) -> bool
+    ensures { result ≡ TakeRule.is_connection_response kind }
+{
+    matches!(kind, Kind::ConnectionResponse)
+}
+
+pub fn is_disconnection_request(kind: Kind) -> bool
+    ensures { result ≡ MakeRule.is_disconnection_request kind }
+{
+    matches!(kind, Kind::DisconnectionRequest)
+}
+
+pub fn is_heartbeat(kind: Kind) -> bool
+    ensures { result ≡ TakeRule.is_heartbeat kind }
+{
+    matches!(kind, Kind::Heartbeat)
+}
+
+pub fn is_heartbeat_or_data(kind: Kind) -> bool
+    ensures { result ≡ TakeRule.is_heartbeat_or_data kind }
+{
+    matches!(kind, Kind::Heartbeat | Kind::Data)
+}
+
+pub fn is_retransmitted_data(kind: Kind) -> bool
+    ensures { result ≡ TakeRule.is_retransmitted_data kind }
+{
+    matches!(kind, Kind::RetransmittedData)
+}
+
+pub fn is_retransmission_request(kind: Kind) -> bool
+    ensures { result ≡ TakeRule.is_retransmission_request kind }
+{
+    matches!(kind, Kind::RetransmissionRequest)
+}
+
+pub fn is_retransmission_response(kind: Kind) -> bool
+    ensures { result ≡ TakeRule.is_retransmission_response kind }
+{
+    matches!(kind, Kind::RetransmissionResponse)
+}
+
+pub fn is_timed(kind: Kind) -> bool
+    ensures { result ≡ State.is_timed kind }
+{
+    matches!(kind, Kind::Heartbeat | Kind::Data | Kind::RetransmittedData)
+}
+
+pub fn carries_unit(kind: Kind) -> bool
+    ensures { result ≡ State.carries_unit kind }
+{
+    matches!(kind, Kind::Data | Kind::RetransmittedData)
+}
+
+/// Where a PDU stands and what it confirms: it is in sequence, it stands ahead, its CS is valid.
+#[derive(Clone, Copy, Debug)]
+pub struct Standing {
+    pub next: bool,
+    pub ahead: bool,
+    pub valid: bool,
+}
+
+impl TakeRow {
+    /// The row of this side and phase and of a PDU of this type.
+    pub fn of(side: Side, phase: Phase, kind: Kind, standing: Standing) -> Option<TakeRow>
+        ensures value { result ≡ TakeRule.first_row (TakeRule.take_rows side phase kind standing.next standing.ahead standing.valid) }
+        ensures valid { IfSome result (λ row. TakeRule.wants_valid row ≡ true → standing.valid ≡ true) }
+    {
+        let Standing { next, ahead, valid } = standing;
+        if phase.is_down() & is_connection_request(kind) {
+            Some(TakeRow::Opened)
+        } else if phase.is_start() & (is_client(side) & (is_connection_response(kind) & valid)) {
+            Some(TakeRow::Answered)
+        } else if phase.is_start() & (!is_client(side) & (is_heartbeat(kind) & (next & valid))) {
+            Some(TakeRow::FirstHeartbeat)
+        } else if phase.is_flowing() & (is_heartbeat_or_data(kind) & (next & valid)) {
+            Some(TakeRow::InSequence)
+        } else if phase.is_retr_run() & (is_retransmitted_data(kind) & (next & valid)) {
+            Some(TakeRow::ResentInSequence)
+        } else if phase.is_up() & (is_heartbeat_or_data(kind) & (ahead & valid)) {
+            Some(TakeRow::Gap)
+        } else if phase.is_retr_run() & (is_timed(kind) & (ahead & valid)) {
+            Some(TakeRow::GapInRetransmission)
+        } else if phase.is_retr_req() & (is_retransmission_response(kind) & valid) {
+            Some(TakeRow::Resumed)
+        } else if phase.is_flowing() & (is_retransmission_request(kind) & (next & valid)) {
+            Some(TakeRow::Requested)
+        } else if phase.is_flowing() & (is_retransmission_request(kind) & (ahead & valid)) {
+            Some(TakeRow::RequestedAhead)
+        } else if phase.is_retr_req() & (is_retransmission_request(kind) & (ahead & valid)) {
+            Some(TakeRow::RequestedAgain)
+        } else if phase.is_active() & is_disconnection_request(kind) {
+            Some(TakeRow::Disconnected)
+        } else {
+            None
+        }
+    }
 }
