@@ -1,6 +1,7 @@
 -- The take rule: what an end does with a PDU that it takes. The retransmission burst and the deadline.
-use Rattle.std.specs.Prelude.{◌≡◌, ℕ, zero, suc, ◌+◌, ◌-◌, ◌*◌, ◌^◌, Bool, true, false, ◌&&◌, not, if◌then◌else◌, nat_lt, nat_le, ◌==◌, List, [], ◌∷◌, ◌++◌, length, Option, Some, None}
-use Rattle.rasta_pcap.specs.Fault.{reply_owed, past_deadline}
+use Rattle.std.specs.Prelude.{◌≡◌, ◌⊎◌, ℕ, zero, suc, ◌+◌, ◌-◌, ◌*◌, ◌^◌, Bool, true, false, ◌&&◌, not, if◌then◌else◌, nat_lt, nat_le, ◌==◌, List, [], ◌∷◌, ◌++◌, length, Option, Some, None}
+use Rattle.rasta_pcap.specs.Fault.{fault_of_end, no_memory, reply_owed, past_deadline}
+use Rattle.rasta_pcap.specs.declared.fault.Fault.{Fault}
 use Rattle.rasta_pcap.specs.declared.fault.Side.{Side}
 use Rattle.rasta_pdu.specs.declared.kind.Kind.{Kind}
 use Rattle.rasta_pdu.specs.declared.kind.Kind.TheVariants.{ConnectionResponse, RetransmissionRequest, RetransmissionResponse, Heartbeat, Data, RetransmittedData}
@@ -178,3 +179,9 @@ adds_to_a_list (Some Requested) kind = true
 adds_to_a_list (Some RequestedAhead) kind = true
 adds_to_a_list (Some RequestedAgain) kind = true
 adds_to_a_list _ kind = false
+
+-- what a refused take answers: the first fault, else want of memory, which only a PDU that adds to a list can meet
+abbrev pub IsTakeRefusal : Parameters → EndState → SafetyPdu → Fault → Type 0
+IsTakeRefusal p e x fault =
+    ((number : ℕ) × (take_fault p e e.clock ≡ Some number) × (fault ≡ fault_of_end number 0 e.side))
+    ⊎ ((take_fault p e e.clock ≡ None) × (adds_to_a_list (take_row p e x) x.kind ≡ true) × (fault ≡ no_memory))

@@ -1,17 +1,19 @@
 //! What an end takes.
-ghost use Rattle.std.specs.Prelude.{◌≡◌, ◌≤◌, ◌<◌, ◌+◌, ◌^◌, length, true, false, if◌then◌else◌, OnOk, OnErr, IfSome};
+ghost use Rattle.std.specs.Prelude.{◌≡◌, ◌≤◌, ◌<◌, ◌+◌, ◌^◌, ◌++◌, ◌∷◌, [], length, true, false, if◌then◌else◌, Some, OnOk, OnErr, IfSome};
 ghost use Rattle.rasta_pdu.specs.Pdu.{value_of};
 ghost use Rattle.rasta_end.specs.State;
 ghost use Rattle.rasta_end.specs.State.{is_owing};
 ghost use Rattle.rasta_end.specs.TakeRule;
 ghost use Rattle.rasta_end.specs.TakeRule.{take_row, wants_valid, effect};
-ghost use Rattle.rasta_end.specs.Kept.{owed_list};
+ghost use Rattle.rasta_end.specs.Kept.{owed_list, owed_request};
+ghost use Rattle.rasta_end.specs.declared.owed.Owed.TheVariants.{RetransmissionResponse as OweRetransmissionResponse, RetransmissionRequest as OweRetransmissionRequest};
+ghost use Rattle.rasta_end.specs.declared.phase.Phase.TheVariants.{RetrReq};
 ghost use Rattle.rasta_end.specs.declared.take_row.TakeRow.TheVariants.{Opened, Answered, FirstHeartbeat, InSequence, ResentInSequence, Gap, GapInRetransmission, Resumed, Requested, RequestedAhead, RequestedAgain, Disconnected};
 
 use crate::end::End;
 use crate::owed::{Owed, Owes};
 use crate::phase::Phase;
-use crate::take_row::{Standing, TakeRow};
+use crate::take_row::{Standing, TakeRow, carries_unit};
 use rasta_pdu::Pdu;
 use std::alloc::AllocError;
 
@@ -27,5 +29,162 @@ impl<'a> End<'a> {
             valid: self.is_valid(pdu),
         };
         TakeRow::of(self.side, self.phase, pdu.kind(), standing)
+    }
+
+    fn accept(&mut self, pdu: &Pdu<'a>)
+        requires valid { TakeRule.is_valid self.old.state (value_of pdu.now).safety ≡ true }
+        requires room { self.old.state.accepted < 2 ^ 63 }
+        ensures { self.new ≡ record self.old { state = TakeRule.accept self.old.params self.old.state (value_of pdu.now).safety } }
+    {
+        let position = self.accepted + u64::from(self.steps_past_next(pdu));
+        let confirmed = self.position_confirmed(pdu);
+        self.note_accepted(position, pdu);
+        self.confirm(confirmed);
+        self.note_time(pdu);
+    }
+
+    // The burst that a request owes which confirms this position, and then perhaps a request.
+    fn burst(&self, position: usize, request: bool) -> Owes
+        ensures list { owed_list result ≡ TakeRule.burst self.now.state position ++ owed_request request }
+        ensures units { result.unit + result.units ≤ self.now.state.offered }
+        ensures reply { result.reply ≡ Some OweRetransmissionResponse }
+    {
+        let unit = self.own.units_through(position).min(self.offered);
+        Owes {
+            reply: Some(Owed::RetransmissionResponse),
+            unit,
+            units: self.offered - unit,
+            request,
+        }
+    }
+
+    fn opened(&mut self, pdu: &Pdu<'a>)
+        ensures { self.new ≡ record self.old { state = effect self.old.params Opened self.old.state (value_of pdu.now).safety } }
+    {
+        self.note_accepted(0, pdu);
+        self.enter(Phase::Start);
+        self.owe(Owes::reply(Owed::ConnectionResponse));
+    }
+
+    fn answered(&mut self, pdu: &Pdu<'a>)
+        requires valid { TakeRule.is_valid self.old.state (value_of pdu.now).safety ≡ true }
+        ensures { self.new ≡ record self.old { state = effect self.old.params Answered self.old.state (value_of pdu.now).safety } }
+    {
+        let confirmed = self.position_confirmed(pdu);
+        self.note_accepted(0, pdu);
+        self.confirm(confirmed);
+        self.enter(Phase::Up);
+        self.owe(Owes::reply(Owed::FirstHeartbeat));
+    }
+
+    fn gap(&mut self)
+        ensures { self.new ≡ record self.old { state = TakeRule.owe (OweRetransmissionRequest ∷ []) (TakeRule.enter RetrReq self.old.state) } }
+    {
+        self.enter(Phase::RetrReq);
+        self.owe(Owes::reply(Owed::RetransmissionRequest));
+    }
+
+    fn in_sequence(&mut self, pdu: &Pdu<'a>) -> Result<(), AllocError>
+        requires valid { TakeRule.is_valid self.old.state (value_of pdu.now).safety ≡ true }
+        requires room { self.old.state.accepted < 2 ^ 63 }
+        ensures ok { OnOk result (self.new ≡ record self.old { state = effect self.old.params InSequence self.old.state (value_of pdu.now).safety }) }
+        ensures err { OnErr result (self.new ≡ self.old) }
+        ensures grows { OnErr result (State.carries_unit (value_of pdu.now).safety.kind ≡ true) }
+    {
+        if carries_unit(pdu.kind()) {
+            self.hand_up(self.accepted, pdu)?;
+        }
+        self.accept(pdu);
+        self.enter(Phase::Up);
+        Ok(())
+    }
+
+    fn resent_in_sequence(&mut self, pdu: &Pdu<'a>) -> Result<(), AllocError>
+        requires valid { TakeRule.is_valid self.old.state (value_of pdu.now).safety ≡ true }
+        requires room { self.old.state.accepted < 2 ^ 63 }
+        ensures ok { OnOk result (self.new ≡ record self.old { state = effect self.old.params ResentInSequence self.old.state (value_of pdu.now).safety }) }
+        ensures err { OnErr result (self.new ≡ self.old) }
+        ensures grows { OnErr result (State.carries_unit (value_of pdu.now).safety.kind ≡ true) }
+    {
+        if carries_unit(pdu.kind()) {
+            self.hand_up(self.accepted, pdu)?;
+        }
+        self.accept(pdu);
+        Ok(())
+    }
+
+    fn requested(&mut self, pdu: &Pdu<'a>) -> Result<(), AllocError>
+        requires valid { TakeRule.is_valid self.old.state (value_of pdu.now).safety ≡ true }
+        requires room { self.old.state.accepted < 2 ^ 63 }
+        ensures ok { OnOk result (self.new ≡ record self.old { state = effect self.old.params Requested self.old.state (value_of pdu.now).safety }) }
+        ensures err { OnErr result (self.new ≡ self.old) }
+    {
+        let position = self.position_confirmed(pdu);
+        let burst = self.burst(position, false);
+        self.note_ask(position)?;
+        self.accept(pdu);
+        self.owe(burst);
+        Ok(())
+    }
+
+    fn requested_ahead(&mut self, pdu: &Pdu<'a>) -> Result<(), AllocError>
+        requires valid { TakeRule.is_valid self.old.state (value_of pdu.now).safety ≡ true }
+        ensures ok { OnOk result (self.new ≡ record self.old { state = effect self.old.params RequestedAhead self.old.state (value_of pdu.now).safety }) }
+        ensures err { OnErr result (self.new ≡ self.old) }
+    {
+        let position = self.position_confirmed(pdu);
+        let burst = self.burst(position, true);
+        self.note_ask(position)?;
+        self.confirm(position);
+        self.enter(Phase::RetrReq);
+        self.owe(burst);
+        Ok(())
+    }
+
+    fn requested_again(&mut self, pdu: &Pdu<'a>) -> Result<(), AllocError>
+        requires valid { TakeRule.is_valid self.old.state (value_of pdu.now).safety ≡ true }
+        ensures ok { OnOk result (self.new ≡ record self.old { state = effect self.old.params RequestedAgain self.old.state (value_of pdu.now).safety }) }
+        ensures err { OnErr result (self.new ≡ self.old) }
+    {
+        let position = self.position_confirmed(pdu);
+        let burst = self.burst(position, false);
+        self.note_ask(position)?;
+        self.confirm(position);
+        self.owe(burst);
+        Ok(())
+    }
+
+    fn accept_and_enter(&mut self, pdu: &Pdu<'a>, phase: Phase)
+        requires valid { TakeRule.is_valid self.old.state (value_of pdu.now).safety ≡ true }
+        requires room { self.old.state.accepted < 2 ^ 63 }
+        ensures { self.new ≡ record self.old { state = TakeRule.enter phase (TakeRule.accept self.old.params self.old.state (value_of pdu.now).safety) } }
+    {
+        self.accept(pdu);
+        self.enter(phase);
+    }
+
+    // What a row of the table does.
+    fn follow(&mut self, row: TakeRow, pdu: &Pdu<'a>) -> Result<(), AllocError>
+        requires valid { wants_valid row ≡ true → TakeRule.is_valid self.old.state (value_of pdu.now).safety ≡ true }
+        requires room { self.old.state.accepted < 2 ^ 63 }
+        ensures ok { OnOk result (self.new ≡ record self.old { state = effect self.old.params row self.old.state (value_of pdu.now).safety }) }
+        ensures err { OnErr result (self.new ≡ self.old) }
+        ensures grows { OnErr result (TakeRule.adds_to_a_list (Some row) (value_of pdu.now).safety.kind ≡ true) }
+    {
+        match row {
+            TakeRow::Opened => self.opened(pdu),
+            TakeRow::Answered => self.answered(pdu),
+            TakeRow::FirstHeartbeat => self.accept_and_enter(pdu, Phase::Up),
+            TakeRow::InSequence => return self.in_sequence(pdu),
+            TakeRow::ResentInSequence => return self.resent_in_sequence(pdu),
+            TakeRow::Gap => self.gap(),
+            TakeRow::GapInRetransmission => self.gap(),
+            TakeRow::Resumed => self.accept_and_enter(pdu, Phase::RetrRun),
+            TakeRow::Requested => return self.requested(pdu),
+            TakeRow::RequestedAhead => return self.requested_ahead(pdu),
+            TakeRow::RequestedAgain => return self.requested_again(pdu),
+            TakeRow::Disconnected => self.enter(Phase::Closed),
+        }
+        Ok(())
     }
 }

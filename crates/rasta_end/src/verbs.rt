@@ -42,7 +42,8 @@ impl<'a> End<'a> {
     }
 
     pub(crate) fn enter(&mut self, phase: Phase)
-        ensures { self.new ≡ record self.old { state = TakeRule.enter phase self.old.state } }
+        ensures state { self.new ≡ record self.old { state = TakeRule.enter phase self.old.state } }
+        ensures responses { responses_in (kinds self.old.state.made) ≤ length self.old.state.asks }
     {
         self.phase = phase;
     }
@@ -57,6 +58,7 @@ impl<'a> End<'a> {
 
     pub(crate) fn note_ask(&mut self, position: usize) -> Result<(), AllocError>
         ensures ok { OnOk result (self.new ≡ record self.old { state = TakeRule.note_ask position self.old.state }) }
+        ensures responses { responses_in (kinds self.old.state.made) ≤ length self.old.state.asks }
         ensures err { OnErr result (self.new ≡ self.old) }
     {
         self.own.ask(position)
