@@ -1,4 +1,5 @@
 -- An end makes one more PDU: what it keeps stays in step.
+use Rattle.std.proofs.lemmas.List.{length_push}
 use Rattle.std.proofs.Common.{◌≡◌, ℕ, suc, ◌+◌, ◌≤◌, Bool, true, false, List, [], ◌∷◌, ◌++◌, length, Option, refl, ap, sym, ◌∙◌, arith, subst}
 use Rattle.std.specs.Prelude.{map}
 use Rattle.std.specs.Borrow.{Bor}
@@ -25,7 +26,7 @@ pub made-push : (q : Option QuietPdu) (ms : List MadePdu) (m : MadePdu)
     → quiet_made q ++ map made_of (ms ++ m ∷ []) ≡ (quiet_made q ++ map made_of ms) ++ made_of m ∷ []
 made-push q ms m = ap (λ ws. quiet_made q ++ ws) (map-push made_of ms m) ∙ sym (append-assoc (quiet_made q) (map made_of ms) (made_of m ∷ []))
 
-kinds-push : (ms : List Made) (m : Made) → kinds (ms ++ m ∷ []) ≡ kinds ms ++ m.pdu.kind ∷ []
+pub kinds-push : (ms : List Made) (m : Made) → kinds (ms ++ m ∷ []) ≡ kinds ms ++ m.pdu.kind ∷ []
 kinds-push ms m = map-push (λ (n : Made). n.pdu.kind) ms m
 
 units-pushed : (q : Option QuietPdu) (ms : List MadePdu) (m : MadePdu) (asks : List ℕ)
@@ -130,6 +131,7 @@ units-push q ms ns m o asks items view h k kind e =
   where
     there : m.conveyed ≡ units_behind asks (all_units_conveyed asks (kinds (quiet_made q ++ map made_of ms))) (conveyed asks (kinds (quiet_made q ++ map made_of ms))).responses k
     there = subst (λ (v : OwnPdus). m.conveyed ≡ units_behind v.asks (all_units_conveyed v.asks (kinds v.made)) (conveyed v.asks (kinds v.made)).responses k) (sym view) e
+
     now : m.conveyed ≡ units_behind asks (all_units_conveyed asks (kinds (quiet_made q ++ map made_of ms))) (conveyed asks (kinds (quiet_made q ++ map made_of ms))).responses (made_of m).pdu.kind
     now = subst (λ (j : Kind). m.conveyed ≡ units_behind asks (all_units_conveyed asks (kinds (quiet_made q ++ map made_of ms))) (conveyed asks (kinds (quiet_made q ++ map made_of ms))).responses j) (sym kind) there
 
@@ -165,3 +167,17 @@ asks-more q ms o asks more ask items view room h =
   where
     here : responses_in (kinds (quiet_made q ++ map made_of ms)) ≤ length asks
     here = subst (λ (v : OwnPdus). responses_in (kinds v.made) ≤ length v.asks) (sym view) room
+
+after-zero : (n : ℕ) (k : Kind) → responses_after n k ≡ n + responses_after 0 k
+after-zero n RetransmissionResponse = omega arith
+after-zero n _ = omega arith
+
+-- the responses made and owed stay within the asks
+pub responses-made : (ms : List Made) (m : Made) (asks : List ℕ) (owed paid left : ℕ) → responses_in (kinds ms) + owed ≤ length asks
+    → responses_after 0 m.pdu.kind ≤ paid → paid + left ≤ owed → responses_in (kinds (ms ++ m ∷ [])) + left ≤ length asks
+responses-made ms m asks owed paid left h pays pay =
+    let one = ap responses_in (kinds-push ms m) ∙ (responses_in-push (kinds ms) m.pdu.kind ∙ after-zero (responses_in (kinds ms)) m.pdu.kind) in
+    omega (arith, one, h, pays, pay)
+
+pub length-made : (ms : List Made) (m : Made) → length (ms ++ m ∷ []) ≡ length ms + 1
+length-made ms m = length_push ms m

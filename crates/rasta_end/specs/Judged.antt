@@ -6,6 +6,8 @@ use Rattle.rasta_pdu.specs.declared.pdu.Pdu.{Pdu}
 use Rattle.rasta_end.specs.declared.end.End.TheInside.{Inside}
 use Rattle.rasta_end.specs.declared.owed.Owed.{Owed}
 use Rattle.rasta_end.specs.declared.owed.Owed.TheVariants.{RetransmissionResponse as OweRetransmissionResponse}
+use Rattle.rasta_end.specs.declared.make_row.MakeRow.{MakeRow}
+use Rattle.rasta_end.specs.declared.make_row.MakeRow.TheVariants.{Returns}
 use Rattle.rasta_end.specs.State.{EndState, kinds}
 use Rattle.rasta_end.specs.Units.{responses_in}
 use Rattle.rasta_end.specs.Kept.{owed_list, quiet_count}
@@ -22,10 +24,23 @@ abbrev pub judged_end : Inside → JudgedEnd
 judged_end e = record {
   params = e.params;
   state = record {
-    side = e.side; phase = e.phase; base = quiet_count e.own.quiet; made = e.own.made; accepted = e.accepted; last_sn = e.last_sn; last_ts = e.last_ts;
-    timed_ts = e.timed_ts; handed_ts = e.handed_ts; confirmed = e.confirmed; offered = e.offered;
-    handed = e.handed_positions.items; handed_pdus = map safety_of e.handed.items; asks = e.own.asks;
-    owed = owed_list e.owes; clock = e.clock; deadline = e.deadline;
+    side = e.side;
+    phase = e.phase;
+    base = quiet_count e.own.quiet;
+    made = e.own.made;
+    accepted = e.accepted;
+    last_sn = e.last_sn;
+    last_ts = e.last_ts;
+    timed_ts = e.timed_ts;
+    handed_ts = e.handed_ts;
+    confirmed = e.confirmed;
+    offered = e.offered;
+    handed = e.handed_positions.items;
+    handed_pdus = map safety_of e.handed.items;
+    asks = e.own.asks;
+    owed = owed_list e.owes;
+    clock = e.clock;
+    deadline = e.deadline;
   };
 }
 
@@ -33,6 +48,11 @@ judged_end e = record {
 abbrev pub responses_owed : Option Owed → ℕ
 responses_owed (Some OweRetransmissionResponse) = 1
 responses_owed _ = 0
+
+-- the retransmission responses that a make of this row pays
+abbrev pub responses_paid : MakeRow → ℕ
+responses_paid Returns = 1
+responses_paid _ = 0
 
 -- bounds that every end keeps
 pub record IsKept (e : Inside) : Type 0 where

@@ -1,7 +1,8 @@
 -- The make rule: which PDU an end may make, why, and what it is afterwards.
-use Rattle.std.specs.Prelude.{◌≡◌, ℕ, suc, ◌+◌, ◌^◌, Bool, true, false, ◌&&◌, ◌||◌, not, if◌then◌else◌, nat_lt, ◌==◌, List, [], ◌∷◌, ◌++◌, length, Option, Some, None, slice_get, map, filter}
+use Rattle.std.specs.Prelude.{◌≡◌, ◌⊎◌, ℕ, suc, ◌+◌, ◌^◌, Bool, true, false, ◌&&◌, ◌||◌, not, if◌then◌else◌, nat_lt, ◌==◌, List, [], ◌∷◌, ◌++◌, length, Option, Some, None, slice_get, map, filter}
 use Rattle.std.specs.Str.{bytes_eq}
-use Rattle.rasta_pcap.specs.Fault.{closed, not_allowed, reply_owed, sequence_number, clock_differs, clock_falls, past_deadline, too_early_timeout, confirmed_number, confirmed_time, resend_differs}
+use Rattle.rasta_pcap.specs.declared.fault.Fault.{Fault}
+use Rattle.rasta_pcap.specs.Fault.{fault_of_end, no_memory, closed, not_allowed, reply_owed, sequence_number, clock_differs, clock_falls, past_deadline, too_early_timeout, confirmed_number, confirmed_time, resend_differs}
 use Rattle.rasta_pcap.specs.declared.fault.Side.{Side}
 use Rattle.rasta_pdu.specs.declared.kind.Kind.{Kind}
 use Rattle.rasta_pdu.specs.declared.kind.Kind.TheVariants.{ConnectionRequest, ConnectionResponse, RetransmissionRequest, RetransmissionResponse, DisconnectionRequest, Heartbeat, Data, RetransmittedData}
@@ -175,18 +176,28 @@ abbrev pub without_first : List Owed → List Owed
 without_first [] = []
 without_first (o ∷ os) = os
 
--- the make table: afterwards
-abbrev pub after_row : MakeRow → EndState → EndState
-after_row Opens e = record e { phase = Start }
-after_row Answers e = record e { owed = without_first e.owed }
-after_row StartsBeating e = record e { owed = without_first e.owed }
-after_row Returns e = record e { owed = without_first e.owed }
-after_row (Resends unit) e = record e { owed = without_first e.owed }
-after_row Requests e = record e { owed = without_first e.owed }
-after_row Beats e = e
-after_row Offers e = record e { offered = suc e.offered }
-after_row Leaves e = record e { phase = Closed; owed = [] }
-after_row TimesOut e = record e { phase = Closed; owed = [] }
+-- the make table: phase afterwards
+abbrev pub phase_after : MakeRow → Phase → Phase
+phase_after Opens phase = Start
+phase_after Leaves phase = Closed
+phase_after TimesOut phase = Closed
+phase_after _ phase = phase
+
+-- the make table: what is owed afterwards; what was made is taken off
+abbrev pub owed_after : MakeRow → List Owed → List Owed
+owed_after Answers owed = without_first owed
+owed_after StartsBeating owed = without_first owed
+owed_after Returns owed = without_first owed
+owed_after (Resends unit) owed = without_first owed
+owed_after Requests owed = without_first owed
+owed_after Leaves owed = []
+owed_after TimesOut owed = []
+owed_after _ owed = owed
+
+-- the make table: units offered afterwards
+abbrev pub offered_after : MakeRow → ℕ → ℕ
+offered_after Offers offered = suc offered
+offered_after _ offered = offered
 
 -- the number of the unit that the PDU carries
 abbrev pub unit_of : MakeRow → ℕ → Option ℕ
@@ -196,7 +207,13 @@ unit_of _ offered = None
 
 abbrev pub after_make_by : Option MakeRow → EndState → SafetyPdu → ℕ → EndState
 after_make_by None e x clock = e
-after_make_by (Some row) e x clock = record (after_row row e) { made = e.made ++ record { pdu = x; unit = unit_of row e.offered } ∷ []; clock = clock }
+after_make_by (Some row) e x clock = record e {
+  phase = phase_after row e.phase;
+  made = e.made ++ record { pdu = x; unit = unit_of row e.offered } ∷ [];
+  offered = offered_after row e.offered;
+  owed = owed_after row e.owed;
+  clock = clock;
+}
 
 abbrev pub after_make : EndState → SafetyPdu → ℕ → Why → EndState
 after_make e x clock why = after_make_by (row_of e x why) e x clock
@@ -204,3 +221,9 @@ after_make e x clock why = after_make_by (row_of e x why) e x clock
 -- the make rule: this end makes this PDU at this clock for this reason, and is that end afterwards
 abbrev pub Makes : Parameters → EndState → SafetyPdu → ℕ → Why → EndState → Type 0
 Makes p e x clock why e' = (make_fault p e x clock why ≡ None) × (e' ≡ after_make e x clock why)
+
+-- what a refused make answers: the first fault, else want of memory
+abbrev pub IsMakeRefusal : Parameters → EndState → SafetyPdu → ℕ → Why → Fault → Type 0
+IsMakeRefusal p e x clock why fault =
+    ((number : ℕ) × (make_fault p e x clock why ≡ Some number) × (fault ≡ fault_of_end number 0 e.side))
+    ⊎ ((make_fault p e x clock why ≡ None) × (fault ≡ no_memory))

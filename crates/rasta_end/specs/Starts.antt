@@ -14,8 +14,23 @@ use Rattle.rasta_end.specs.State.{EndState, wrapped}
 -- an end that made, accepted and owes nothing
 abbrev pub fresh_end : Side → Phase → EndState
 fresh_end side phase = record {
-  side = side; phase = phase; base = 0; made = []; accepted = 0; last_sn = 0; last_ts = 0; timed_ts = None; handed_ts = None;
-  confirmed = 0; offered = 0; handed = []; handed_pdus = []; asks = []; owed = []; clock = 0; deadline = None;
+  side = side;
+  phase = phase;
+  base = 0;
+  made = [];
+  accepted = 0;
+  last_sn = 0;
+  last_ts = 0;
+  timed_ts = None;
+  handed_ts = None;
+  confirmed = 0;
+  offered = 0;
+  handed = [];
+  handed_pdus = [];
+  asks = [];
+  owed = [];
+  clock = 0;
+  deadline = None;
 }
 
 -- the SN before this one
@@ -34,9 +49,23 @@ moved_deadline (Some deadline) = Some (deadline + 2 ^ 32)
 -- an end at the quiet point: connected, with its quiet PDU made and confirmed and that of its peer accepted
 abbrev pub quiet_end : Side → QuietEnd → QuietEnd → EndState
 quiet_end side own other = record {
-  side = side; phase = Up; base = 1; made = record { pdu = quiet_pdu own other; unit = None } ∷ []; accepted = 1;
-  last_sn = sn_before other.next_sn; last_ts = wrapped other.clock; timed_ts = Some (wrapped other.clock); handed_ts = other.handed_ts;
-  confirmed = 0; offered = 0; handed = []; handed_pdus = []; asks = []; owed = []; clock = own.clock; deadline = moved_deadline own.deadline;
+  side = side;
+  phase = Up;
+  base = 1;
+  made = record { pdu = quiet_pdu own other; unit = None } ∷ [];
+  accepted = 1;
+  last_sn = sn_before other.next_sn;
+  last_ts = wrapped other.clock;
+  timed_ts = Some (wrapped other.clock);
+  handed_ts = other.handed_ts;
+  confirmed = 0;
+  offered = 0;
+  handed = [];
+  handed_pdus = [];
+  asks = [];
+  owed = [];
+  clock = own.clock;
+  deadline = moved_deadline own.deadline;
 }
 
 abbrev pub client_start : Option Quiet → EndState

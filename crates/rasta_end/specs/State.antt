@@ -18,21 +18,21 @@ pub record Made : Type 0 where
 pub record EndState : Type 0 where
   pub side : Side
   pub phase : Phase
-  pub base : ℕ                -- the position of the first PDU made since the start: 0, or 1 at a quiet point
+  pub base : ℕ  -- the position of the first PDU made since the start: 0, or 1 at a quiet point
   pub made : List Made
-  pub accepted : ℕ            -- one more than the peer's position that was accepted last, 0 where there is none
-  pub last_sn : ℕ             -- of the PDU that was accepted last
+  pub accepted : ℕ  -- one more than the peer's position that was accepted last, 0 where there is none
+  pub last_sn : ℕ  -- of the PDU that was accepted last
   pub last_ts : ℕ
-  pub timed_ts : Option ℕ     -- of the time-relevant PDU that was accepted last
-  pub handed_ts : Option ℕ    -- of the PDU that was handed up last
-  pub confirmed : ℕ           -- own position, 0 before the first make
-  pub offered : ℕ             -- units
-  pub handed : List ℕ         -- the peer's positions whose units were handed up, in order
+  pub timed_ts : Option ℕ  -- of the time-relevant PDU that was accepted last
+  pub handed_ts : Option ℕ  -- of the PDU that was handed up last
+  pub confirmed : ℕ  -- own position, 0 before the first make
+  pub offered : ℕ  -- units
+  pub handed : List ℕ  -- the peer's positions whose units were handed up, in order
   pub handed_pdus : List SafetyPdu
-  pub asks : List ℕ           -- own positions that the requests it answered confirm, in order
-  pub owed : List Owed        -- the first is to be made next
-  pub clock : ℕ               -- of the last make, in milliseconds
-  pub deadline : Option ℕ     -- moved by 2^32, since it may lie below 0
+  pub asks : List ℕ  -- own positions that the requests it answered confirm, in order
+  pub owed : List Owed  -- the first is to be made next
+  pub clock : ℕ  -- of the last make, in milliseconds
+  pub deadline : Option ℕ  -- moved by 2^32, since it may lie below 0
 
 -- a number as 32 bits carry it
 abbrev pub wrapped : ℕ → ℕ

@@ -20,9 +20,7 @@ pub fn is_past(params: &Params, deadline: Option<u128>, moment: u64) -> bool
 {
     match deadline {
         None => false,
-        Some(deadline) => {
-            deadline + u128::from(params.slack()) < u128::from(moment) + (1 << 32)
-        }
+        Some(deadline) => { deadline + u128::from(params.slack()) < u128::from(moment) + (1 << 32) }
     }
 }
 
@@ -32,9 +30,7 @@ pub fn is_early(params: &Params, deadline: Option<u128>, moment: u64) -> bool
 {
     match deadline {
         None => false,
-        Some(deadline) => {
-            u128::from(moment) + (1 << 32) + u128::from(params.slack()) < deadline
-        }
+        Some(deadline) => { u128::from(moment) + (1 << 32) + u128::from(params.slack()) < deadline }
     }
 }
 

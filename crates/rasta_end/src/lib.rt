@@ -5,6 +5,7 @@
 mod deadline;
 mod end;
 mod make_row;
+mod making;
 mod owed;
 mod own;
 mod phase;

@@ -1,7 +1,9 @@
 //! The make table.
-ghost use Rattle.std.specs.Prelude.{◌≡◌};
+ghost use Rattle.std.specs.Prelude.{◌≡◌, ◌≤◌, IfSome};
 ghost use Rattle.rasta_end.specs.State;
 ghost use Rattle.rasta_end.specs.MakeRule;
+ghost use Rattle.rasta_end.specs.Units.{responses_after};
+ghost use Rattle.rasta_end.specs.Judged.{responses_paid};
 ghost use Rattle.rasta_end.specs.MakeRule.{make_row};
 
 use crate::phase::Phase;
@@ -48,7 +50,8 @@ pub fn is_client(side: Side) -> bool
 impl MakeRow {
     /// The row of this reason and type; `reason` is that of a disconnection request.
     pub fn of(side: Side, phase: Phase, reason: u16, why: Why, kind: Kind) -> Option<MakeRow>
-        ensures { result ≡ make_row side phase reason why kind }
+        ensures value { result ≡ make_row side phase reason why kind }
+        ensures pays { IfSome result (λ row. responses_after 0 kind ≤ responses_paid row) }
     {
         match (why, kind) {
             (Why::Open, Kind::ConnectionRequest) => {

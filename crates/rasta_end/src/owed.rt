@@ -130,6 +130,11 @@ impl Owes {
         replies(self.reply) + self.units + requests(self.request)
     }
 
+    /// At most a reply, the units and a request are owed. For proofs alone.
+    pub fn are_few(self)
+        ensures { length (owed_list self) ≤ self.units + 2 }
+    {}
+
     /// What is to be made next.
     pub fn first(self) -> Option<Owed>
         ensures { result ≡ first_owed (owed_list self) }
@@ -169,7 +174,9 @@ impl Owes {
     /// What is left once the first was made.
     pub fn without_first(self) -> Owes
         requires { self.unit + self.units < 2 ^ 64 }
-        ensures { owed_list result ≡ without_first (owed_list self) }
+        ensures list { owed_list result ≡ without_first (owed_list self) }
+        ensures reply { result.reply ≡ None }
+        ensures units { result.unit + result.units ≤ self.unit + self.units }
     {
         if self.reply.is_some() {
             Owes {

@@ -1,20 +1,21 @@
 //! What an end takes.
-ghost use Rattle.std.specs.Prelude.{◌≡◌, ◌≤◌, ◌<◌, ◌+◌, ◌^◌, ◌++◌, ◌∷◌, [], length, true, false, if◌then◌else◌, Some, OnOk, OnErr, IfSome};
+ghost use Rattle.std.specs.Prelude.{◌≡◌, ◌≤◌, ◌<◌, ◌+◌, ◌^◌, ◌++◌, ◌∷◌, [], length, true, false, if◌then◌else◌, Some, None, OnOk, OnErr, IfErr, IfSome};
 ghost use Rattle.rasta_pdu.specs.Pdu.{value_of};
 ghost use Rattle.rasta_end.specs.State;
 ghost use Rattle.rasta_end.specs.State.{is_owing};
 ghost use Rattle.rasta_end.specs.TakeRule;
-ghost use Rattle.rasta_end.specs.TakeRule.{take_row, wants_valid, effect};
+ghost use Rattle.rasta_end.specs.TakeRule.{take_row, wants_valid, effect, IsTakeRefusal};
 ghost use Rattle.rasta_end.specs.Kept.{owed_list, owed_request};
 ghost use Rattle.rasta_end.specs.declared.owed.Owed.TheVariants.{RetransmissionResponse as OweRetransmissionResponse, RetransmissionRequest as OweRetransmissionRequest};
 ghost use Rattle.rasta_end.specs.declared.phase.Phase.TheVariants.{RetrReq};
 ghost use Rattle.rasta_end.specs.declared.take_row.TakeRow.TheVariants.{Opened, Answered, FirstHeartbeat, InSequence, ResentInSequence, Gap, GapInRetransmission, Resumed, Requested, RequestedAhead, RequestedAgain, Disconnected};
 
+use crate::deadline::is_past;
 use crate::end::End;
 use crate::owed::{Owed, Owes};
 use crate::phase::Phase;
 use crate::take_row::{Standing, TakeRow, carries_unit};
-use rasta_pdu::Pdu;
+use rasta_pdu::{Fault, Pdu};
 use std::alloc::AllocError;
 
 impl<'a> End<'a> {
@@ -186,5 +187,53 @@ impl<'a> End<'a> {
             TakeRow::Disconnected => self.enter(Phase::Closed),
         }
         Ok(())
+    }
+
+    fn take_fault(&self) -> Option<u8>
+        ensures { result ≡ TakeRule.take_fault self.now.params self.now.state self.now.state.clock }
+    {
+        if self.phase.is_closed() {
+            return None;
+        }
+        if self.owes.is_some() {
+            return Some(Fault::REPLY_OWED);
+        }
+        if is_past(&self.params, self.deadline, self.clock) {
+            return Some(Fault::PAST_DEADLINE);
+        }
+        None
+    }
+
+    fn try_take(&mut self, pdu: &Pdu<'a>) -> Result<(), Fault>
+        requires { self.old.state.accepted < 2 ^ 63 }
+        ensures ok { OnOk result ((TakeRule.take_fault self.old.params self.old.state self.old.state.clock ≡ None) × (self.new ≡ record self.old { state = TakeRule.after_take self.old.params self.old.state (value_of pdu.now).safety })) }
+        ensures err { IfErr result (λ fault. (self.new ≡ self.old) × IsTakeRefusal self.old.params self.old.state (value_of pdu.now).safety fault) }
+    {
+        if let Some(number) = self.take_fault() {
+            return Err(Fault::of_end(number, 0, self.side));
+        }
+        let Some(row) = self.take_row(pdu) else {
+            return Ok(());
+        };
+        if self.follow(row, pdu).is_err() {
+            return Err(Fault::at(Fault::NO_MEMORY, 0));
+        }
+        Ok(())
+    }
+
+    /// Takes a PDU of the other side, by the row of the take table that applies; nothing changes where
+    /// none does, or where the end is closed. The moment is the clock of the end's last make.
+    ///
+    /// Refused, in this order, by [`Fault::REPLY_OWED`], [`Fault::PAST_DEADLINE`] (both with place 0 and
+    /// this end) and [`Fault::NO_MEMORY`]; the end is then as before.
+    pub fn take(&mut self, pdu: &Pdu<'a>) -> Result<(), Fault>
+        requires { self.old.state.accepted < 2 ^ 63 }
+        ensures ok { OnOk result ((TakeRule.take_fault self.old.params self.old.state self.old.state.clock ≡ None) × (self.new ≡ record self.old { state = TakeRule.after_take self.old.params self.old.state (value_of pdu.now).safety })) }
+        ensures err { IfErr result (λ fault. (self.new ≡ self.old) × IsTakeRefusal self.old.params self.old.state (value_of pdu.now).safety fault) }
+        ensures owed { length self.new.state.owed ≤ self.new.state.offered + 2 }
+    {
+        let taken = self.try_take(pdu);
+        self.owes_few();
+        taken
     }
 }

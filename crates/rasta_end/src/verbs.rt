@@ -76,4 +76,11 @@ impl<'a> End<'a> {
         self.handed_ts = Some(pdu.ts());
         Ok(())
     }
+
+    /// An end owes at most a reply, the units that it offered, and a request. For proofs alone.
+    pub(crate) fn owes_few(&self)
+        ensures { length self.now.state.owed ≤ self.now.state.offered + 2 }
+    {
+        self.owes.are_few();
+    }
 }
