@@ -2,3 +2,4 @@ pub mod Lists
 pub mod Conveying
 pub mod Pushing
 pub mod Owing
+pub mod Meant

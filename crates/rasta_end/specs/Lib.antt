@@ -8,3 +8,4 @@ pub mod TakeRule
 pub mod Starts
 pub mod Kept
 pub mod Judged
+pub mod Meanings

@@ -4,6 +4,7 @@
 
 mod deadline;
 mod end;
+pub mod laws;
 mod make_row;
 mod making;
 mod owed;
