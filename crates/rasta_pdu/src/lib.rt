@@ -7,6 +7,7 @@ mod bytes;
 mod code;
 mod ids;
 mod kind;
+pub mod laws;
 mod layout;
 mod messages;
 mod params;
