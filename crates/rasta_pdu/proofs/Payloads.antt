@@ -178,10 +178,10 @@ first_split n xs are more false h = record {
 first_split n xs are more true h = record {
   rest = more.rest;
   is = front_is xs are h
-  ∙ ap (λ (l : List ℕ). little_bytes 2 (length (first_message xs)) ++ (first_message xs ++ l)) more.is
-  ∙ ap (λ (l : List ℕ). little_bytes 2 (length (first_message xs)) ++ l)
-  (sym (append_assoc (first_message xs) (payload_of_messages (messages_up_to n (behind_message xs))) more.rest))
-  ∙ ap (λ (t : Bool). payload_of_messages (cond t (first_message xs ∷ messages_up_to n (behind_message xs)) []) ++ more.rest) (sym h);
+      ∙ ap (λ (l : List ℕ). little_bytes 2 (length (first_message xs)) ++ (first_message xs ++ l)) more.is
+      ∙ ap (λ (l : List ℕ). little_bytes 2 (length (first_message xs)) ++ l)
+      (sym (append_assoc (first_message xs) (payload_of_messages (messages_up_to n (behind_message xs))) more.rest))
+      ∙ ap (λ (t : Bool). payload_of_messages (cond t (first_message xs ∷ messages_up_to n (behind_message xs)) []) ++ more.rest) (sym h);
 }
 
 splits : (n : ℕ) (xs : List ℕ) → AreBytes xs → Splits n xs

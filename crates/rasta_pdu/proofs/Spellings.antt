@@ -231,9 +231,9 @@ is_spelled p side r are is =
       type = ap kind_of n10 ∙ kind_of-type_of s.kind;
       payload = ap (body_in (layout_of s.kind)) parts.payload ∙ body_in-payload_of (layout_of s.kind) s.body is.body;
       value = same_value s.kind s.body _ _ _ _ _ _ r.reserve r.number s.sn s.cs s.ts s.cts _ r.check_bytes
-      (little_number-reads_back 2 r.reserve [] is.reserve) (little_number-reads_back 4 r.number [] is.number)
-      (little_number-reads_back 4 s.sn [] is.sn) (little_number-reads_back 4 s.cs [] is.cs)
-      (little_number-reads_back 4 s.ts [] is.ts) (little_number-reads_back 4 s.cts [] is.cts) parts.check;
+          (little_number-reads_back 2 r.reserve [] is.reserve) (little_number-reads_back 4 r.number [] is.number)
+          (little_number-reads_back 4 s.sn [] is.sn) (little_number-reads_back 4 s.cs [] is.cs)
+          (little_number-reads_back 4 s.ts [] is.ts) (little_number-reads_back 4 s.cts [] is.cts) parts.check;
     }
 
 -- the value is what is read of its spelling
@@ -272,10 +272,11 @@ unique p xs r s a b =
     sym a.value ∙ ap (λ (k : Kind). fields_of k r.safety.body (check_at p xs) xs) kinds
     ∙ ap (λ (o : SafetyBody). fields_of s.safety.kind o (check_at p xs) xs) bodies ∙ b.value
   where
-  same_kind : {x y : Kind} → ◌≡◌ {A = Option Kind} (Some x) (Some y) → x ≡ y
-  same_kind {x} {y} h = cc
-  same_body : {x y : SafetyBody} → ◌≡◌ {A = Option SafetyBody} (Some x) (Some y) → x ≡ y
-  same_body {x} {y} h = cc
+    same_kind : {x y : Kind} → ◌≡◌ {A = Option Kind} (Some x) (Some y) → x ≡ y
+    same_kind {x} {y} h = cc
+
+    same_body : {x y : SafetyBody} → ◌≡◌ {A = Option SafetyBody} (Some x) (Some y) → x ≡ y
+    same_body {x} {y} h = cc
 
 -- no two values share a spelling
 pub redundancy_bytes-injective : (p : Parameters) (side : Side) (r s : RedundancyPdu) → AreParameters p → IsRedundancyPdu p r → IsRedundancyPdu p s

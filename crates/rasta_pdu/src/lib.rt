@@ -21,6 +21,8 @@ mod route;
 #[cfg(test)]
 mod tests;
 mod write;
+#[cfg(test)]
+mod write_tests;
 
 pub use body::Body;
 pub use kind::Kind;
