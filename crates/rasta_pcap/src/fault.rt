@@ -59,6 +59,8 @@ impl Fault {
 
     pub const IDS: u8 = 26;
 
+    pub const TOO_LONG: u8 = 29;
+
     pub const CLOCK_DIFFERS: u8 = 36;
 
     pub const CLOCK_FALLS: u8 = 37;
@@ -103,9 +105,8 @@ impl Fault {
         ensures { result ≡ fault_of_end number place end }
     {
         Fault {
-            number,
-            place,
             end: Some(end),
+            ..Fault::at(number, place)
         }
     }
 
