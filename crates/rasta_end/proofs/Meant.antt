@@ -68,8 +68,10 @@ asked asks xs ys (Some c) = by (nat_lt c (length xs)) refl
   where
     lt : nat_lt c (length xs) ≡ true → c < length xs
     lt e = grind (arith, nat_tests)
+
     ge : nat_lt c (length xs) ≡ false → length xs ≤ c
     ge e = grind (arith, nat_tests)
+
     by : (b : Bool) → nat_lt c (length xs) ≡ b → slice_index_or (all_units_conveyed asks xs) c 0 ≡ (if b then units_conveyed asks (xs ++ ys) c else 0)
     by true e = sym (conveyed-front asks xs ys c (lt e))
     by false e = (let z = length-all_units asks xs in let l = ge e in get_or_past (all_units_conveyed asks xs) c 0 (omega arith))
@@ -94,4 +96,3 @@ conveyed-is asks (b ∷ bs) rest k =
 
 pub deadline_is : (p : Parameters) (clock cts : ℕ) → (l : ℕ) × (deadline_from p clock cts ≡ l + p.t_max) × (l ≤ clock + 2 ^ 32) × (clock < l) × (l % 2 ^ 32 ≡ cts % 2 ^ 32)
 deadline_is p clock cts = (clock + 2 ^ 32 - ahead_by clock cts, refl, omega arith, omega arith, omega arith)
-
