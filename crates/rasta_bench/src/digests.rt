@@ -1,14 +1,11 @@
-//! Measures `rasta_md4` beside `md5`: on a long input, and on messages of 28 bytes.
+//! `rasta_md4` beside `md5`: on a long input, and on messages of 28 bytes.
 //!
-//! Both take the same input, turn and turn about, and the least time of each counts. Without the
-//! argument `measure` a usage line is all that is printed.
-#![tactic(auto)]
-
+//! Both take the same input, turn and turn about, and the least time of each counts.
 use md5::{Digest, Md5};
 use rasta_md4::Md4;
-use std::rt::{Clock, Env};
+use std::io;
+use std::rt::Clock;
 use std::time::Instant;
-use std::{env, io};
 
 // The start words of RFC 1320, section 3.3.
 const WORDS: [u32; 4] = [0x6745_2301, 0xefcd_ab89, 0x98ba_dcfe, 0x1032_5476];
@@ -71,12 +68,12 @@ struct Least {
     md5: u64,
 }
 
-fn nanos_since(clock: &impl Clock, start: Instant) -> io::Result<u64> {
+pub fn nanos_since(clock: &impl Clock, start: Instant) -> io::Result<u64> {
     let nanos = start.elapsed(clock)?.as_nanos();
     Ok(u64::try_from(nanos).unwrap_or(u64::MAX))
 }
 
-fn measure_long(rt: &(impl Clock + Print + AllocGlobal)) -> io::Result<()> {
+pub fn measure_long(rt: &(impl Clock + Print + AllocGlobal)) -> io::Result<()> {
     let piece = vec![in rt.alloc(); 0x61u8; PIECE_LEN]?;
     let mut least = Least {
         md4: u64::MAX,
@@ -98,7 +95,7 @@ fn measure_long(rt: &(impl Clock + Print + AllocGlobal)) -> io::Result<()> {
     println!(rt; "long input: md4 {md4} MB/s, md5 {md5} MB/s")
 }
 
-fn measure_short(rt: &(impl Clock + Print)) -> io::Result<()> {
+pub fn measure_short(rt: &(impl Clock + Print)) -> io::Result<()> {
     let mut least = Least {
         md4: u64::MAX,
         md5: u64::MAX,
@@ -115,23 +112,4 @@ fn measure_short(rt: &(impl Clock + Print)) -> io::Result<()> {
     let md4 = least.md4 / MESSAGES;
     let md5 = least.md5 / MESSAGES;
     println!(rt; "a message of 28 bytes: md4 {md4} ns, md5 {md5} ns")
-}
-
-// Whether the program was called with the one argument `measure`.
-fn is_asked(rt: &(impl Env + AllocGlobal)) -> io::Result<bool> {
-    let mut words = env::args(rt)?;
-    let _program = words.next();
-    Ok(match words.next() {
-        Some(word) => word.as_str() == "measure",
-        None => false,
-    })
-}
-
-fn main(rt: HostRuntime) -> io::Result<()> {
-    if is_asked(&rt)? {
-        measure_long(&rt)?;
-        measure_short(&rt)
-    } else {
-        println!(rt; "usage: md4_bench measure")
-    }
 }
