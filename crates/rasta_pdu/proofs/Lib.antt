@@ -1,2 +1,2 @@
-pub mod Bytes
-pub mod Spellings
+pub mod Numbers
+pub mod Payloads

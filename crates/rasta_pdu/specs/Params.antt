@@ -1,12 +1,15 @@
 -- The recorded parameters of a connection.
-use Rattle.std.specs.Prelude.{◌≡◌, ◌≢◌, ℕ, ◌≤◌, List, [], ◌∷◌, ◌++◌, length, Bool, true, not, ◌&&◌, ◌==◌, IsTrue}
+use Rattle.std.specs.Prelude.{◌≡◌, ◌≢◌, ◌⊎◌, ℕ, ◌+◌, ◌≤◌, List, [], ◌∷◌, length, Bool, true, not, ◌&&◌, ◌==◌, IsTrue, Option, IfSome}
 use Rattle.std.specs.List.{list_any}
 use Rattle.std.specs.Str.{bytes_eq}
 use Rattle.rasta_udp.specs.declared.channel.Channel.{Channel}
 use Rattle.rasta_udp.specs.declared.channel.Endpoint.{Endpoint}
+use Rattle.rasta_pdu.specs.declared.quiet_point.QuietEnd.{QuietEnd}
+use Rattle.rasta_pdu.specs.declared.quiet_point.Quiet.{Quiet}
 use Rattle.rasta_pdu.specs.declared.route.Route.{Route}
 
--- the ids of both ends, the layout of their PDUs, their limits, the window of records, their channels
+-- the ids of both ends, the layout of their PDUs, their limits, the window of records, their channels,
+-- and the quiet point from which they are followed
 pub record Parameters : Type 0 where
   pub client_id : ℕ
   pub server_id : ℕ
@@ -19,6 +22,7 @@ pub record Parameters : Type 0 where
   pub first_record : ℕ
   pub last_record : ℕ
   pub channels : List Channel
+  pub quiet : Option Quiet
 
 -- both ways over each channel
 abbrev pub routes : List Channel → List Route
@@ -37,18 +41,47 @@ abbrev pub are_distinct : List Route → Bool
 are_distinct [] = true
 are_distinct (r ∷ rs) = not (list_any (same_route r) rs) && are_distinct rs
 
--- values that a connection can have; safety codes and check bytes are not read yet
+-- no safety code, or one of 8 or of 16 bytes; no check code, or one of 2 or of 4 bytes
+pub record AreLengths (code_length check_length : ℕ) : Type 0 where
+  pub code : (code_length ≡ 0) ⊎ (code_length ≡ 8) ⊎ (code_length ≡ 16)
+  pub check : (check_length ≡ 0) ⊎ (check_length ≡ 2) ⊎ (check_length ≡ 4)
+
+pub record AreLimits (n_sendmax t_max slack : ℕ) : Type 0 where
+  pub sends_some : 1 ≤ n_sendmax
+  pub waits_some : 1 ≤ t_max
+  pub waits_most : t_max ≤ 60000
+  pub slack_most : slack ≤ 1000
+
+pub record IsWindow (first_record last_record : ℕ) : Type 0 where
+  pub from_one : 1 ≤ first_record
+  pub in_order : first_record ≤ last_record
+  pub last_most : last_record ≤ 4000000000
+
+-- one to four channels, over which no route stands twice
+pub record AreChannels (channels : List Channel) : Type 0 where
+  pub some : 1 ≤ length channels
+  pub few : length channels ≤ 4
+  pub distinct_routes : IsTrue (are_distinct (routes channels))
+
+-- the greatest clock of a quiet point
+abbrev pub most_clock : ℕ
+most_clock = 9223372036854775807
+
+-- an end at a quiet point, whose clock hasn't passed its deadline by more than the slack
+pub record IsQuietEnd (slack : ℕ) (e : QuietEnd) : Type 0 where
+  pub clock_most : e.clock ≤ most_clock
+  pub deadline_most : IfSome e.deadline (λ d. d ≤ most_clock)
+  pub in_time : IfSome e.deadline (λ d. e.clock ≤ d + slack)
+
+pub record IsQuiet (slack : ℕ) (q : Quiet) : Type 0 where
+  pub client : IsQuietEnd slack q.client
+  pub server : IsQuietEnd slack q.server
+
+-- values that a connection can have
 pub record AreParameters (p : Parameters) : Type 0 where
   pub distinct_ids : p.client_id ≢ p.server_id
-  pub no_code : p.code_length ≡ 0
-  pub no_check : p.check_length ≡ 0
-  pub sends_some : 1 ≤ p.n_sendmax
-  pub waits_some : 1 ≤ p.t_max
-  pub waits_most : p.t_max ≤ 60000
-  pub slack_most : p.slack ≤ 1000
-  pub from_one : 1 ≤ p.first_record
-  pub window : p.first_record ≤ p.last_record
-  pub last_most : p.last_record ≤ 4000000000
-  pub some_channel : 1 ≤ length p.channels
-  pub few_channels : length p.channels ≤ 4
-  pub distinct_routes : IsTrue (are_distinct (routes p.channels))
+  pub lengths : AreLengths p.code_length p.check_length
+  pub limits : AreLimits p.n_sendmax p.t_max p.slack
+  pub window : IsWindow p.first_record p.last_record
+  pub channels : AreChannels p.channels
+  pub quiet : IfSome p.quiet (IsQuiet p.slack)

@@ -1,6 +1,6 @@
 -- How parameters are stored: the channels stand in front of a list of four places.
 use Rattle.std.specs.Prelude.{◌≡◌, ℕ, ◌-◌, List, [], ◌∷◌, ◌++◌, length, take, replicate}
-use Rattle.std.proofs.Common.{sym, ◌∙◌, ap, refl}
+use Rattle.std.proofs.Common.{◌∙◌, ap}
 use Rattle.rasta_udp.specs.declared.channel.Channel.{Channel}
 use Rattle.rasta_udp.specs.declared.channel.Endpoint.{Endpoint}
 use Rattle.rasta_pdu.specs.Params.{Parameters, AreParameters}
@@ -26,6 +26,7 @@ parameters_of i = record {
   first_record = i.first_record;
   last_record = i.last_record;
   channels = take i.channel_count i.channels;
+  quiet = i.quiet;
 }
 
 -- four places, of which the channels take the first
@@ -51,6 +52,7 @@ stored p = record {
   last_record = p.last_record;
   channels = in_places p.channels;
   channel_count = length p.channels;
+  quiet = p.quiet;
 }
 
 -- nothing of what is stored is lost in the parameters

@@ -1,7 +1,8 @@
 //! The recorded parameters of a connection.
-ghost use Rattle.std.specs.Prelude.{◌≡◌, ◌↔◌, ◌≤◌, length, IsSome, IfSome};
-ghost use Rattle.rasta_pdu.specs.Params.{Parameters, AreParameters, are_distinct, routes};
+ghost use Rattle.std.specs.Prelude.{◌≡◌, ◌↔◌, ◌≤◌, length, IsSome, IsTrue, IfSome};
+ghost use Rattle.rasta_pdu.specs.Params.{Parameters, AreChannels, AreLengths, AreLimits, AreParameters, IsQuiet, IsWindow};
 
+use crate::quiet_point::Quiet;
 use crate::route::are_distinct_routes;
 use rasta_udp::{Channel, Endpoint};
 use std::marker::Model;
@@ -22,6 +23,7 @@ pub struct Params {
     last_record: u32,
     channels: [Channel; 4],
     channel_count: usize,
+    quiet: Option<Quiet>,
 }
 
 impl Model for Params {
@@ -50,14 +52,48 @@ const UNUSED: Channel = Channel {
     server: NOWHERE,
 };
 
+fn are_lengths(code_length: u8, check_length: u8) -> bool
+    ensures { IsTrue result ↔ AreLengths code_length check_length }
+{
+    matches!(code_length, 0 | 8 | 16) && matches!(check_length, 0 | 2 | 4)
+}
+
+fn are_limits(n_sendmax: u16, t_max: u16, slack: u16) -> bool
+    ensures { IsTrue result ↔ AreLimits n_sendmax t_max slack }
+{
+    n_sendmax >= 1 && (1..=60_000).contains(&t_max) && slack <= 1000
+}
+
+fn is_window(first_record: u32, last_record: u32) -> bool
+    ensures { IsTrue result ↔ IsWindow first_record last_record }
+{
+    1 <= first_record && first_record <= last_record && last_record <= 4_000_000_000
+}
+
+fn are_channels(channels: &[Channel]) -> bool
+    ensures { IsTrue result ↔ AreChannels channels.now }
+{
+    (1..=4).contains(&channels.len()) && are_distinct_routes(channels)
+}
+
+fn is_quiet(slack: u16, quiet: Option<Quiet>) -> bool
+    ensures { IsTrue result ↔ IfSome quiet (IsQuiet slack) }
+{
+    match quiet {
+        Some(quiet) => quiet.is_valid(slack),
+        None => true,
+    }
+}
+
 impl Params {
     /// The parameters of these values, in the order of their keys; none where a value is out of its
-    /// range, where the ids are the same, or where two of the channels' ways have the same source and
-    /// destination.
+    /// range, where the ids are the same, where two of the channels' ways have the same source and
+    /// destination, or where an end's clock at the quiet point has passed its deadline by more than the
+    /// slack.
     ///
-    /// `code_length` and `check_length` are bytes, and 0 is the only value that is read yet; `t_max`
-    /// (1 to 60,000) and `slack` (0 to 1,000) are milliseconds; the records are numbered from 1 to
-    /// 4,000,000,000; there are 1 to 4 channels.
+    /// `code_length` (0, 8 or 16) and `check_length` (0, 2 or 4) are bytes; `t_max` (1 to 60,000) and
+    /// `slack` (0 to 1,000) are milliseconds; the records are numbered from 1 to 4,000,000,000; there are
+    /// 1 to 4 channels. Without a quiet point both ends are followed from their opening.
     pub fn new(
         client_id: u32,
         server_id: u32,
@@ -70,6 +106,7 @@ impl Params {
         first_record: u32,
         last_record: u32,
         channels: &[Channel],
+        quiet: Option<Quiet>,
     ) -> Option<Params>
         ensures valid { IsSome result ↔ AreParameters (record {
           client_id = client_id;
@@ -83,6 +120,7 @@ impl Params {
           first_record = first_record;
           last_record = last_record;
           channels = channels.now;
+          quiet = quiet;
         }) }
         ensures value { IfSome result (λ p. p ≡ record {
           client_id = client_id;
@@ -96,19 +134,20 @@ impl Params {
           first_record = first_record;
           last_record = last_record;
           channels = channels.now;
+          quiet = quiet;
         }) }
     {
+        let has_lengths = are_lengths(code_length, check_length);
+        let has_limits = are_limits(n_sendmax, t_max, slack);
+        let has_window = is_window(first_record, last_record);
+        let has_channels = are_channels(channels);
+        let has_quiet = is_quiet(slack, quiet);
         let is_valid = client_id != server_id
-            && code_length == 0
-            && check_length == 0
-            && n_sendmax >= 1
-            && (1..=60_000).contains(&t_max)
-            && slack <= 1000
-            && 1 <= first_record
-            && first_record <= last_record
-            && last_record <= 4_000_000_000
-            && (1..=4).contains(&channels.len())
-            && are_distinct_routes(channels);
+            && has_lengths
+            && has_limits
+            && has_window
+            && has_channels
+            && has_quiet;
         if !is_valid {
             return None;
         }
@@ -127,6 +166,7 @@ impl Params {
             last_record,
             channels: places,
             channel_count: channels.len(),
+            quiet,
         })
     }
 
@@ -216,5 +256,14 @@ impl Params {
         ensures valid { AreParameters self.now }
     {
         &self.channels[..self.channel_count]
+    }
+
+    /// The quiet point from which the ends are followed; none where they are followed from their
+    /// opening.
+    pub fn quiet(&self) -> Option<Quiet>
+        ensures value { result ≡ self.now.quiet }
+        ensures valid { AreParameters self.now }
+    {
+        self.quiet
     }
 }

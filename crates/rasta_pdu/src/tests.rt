@@ -1,4 +1,4 @@
-//! A heartbeat, its refusals, and the edges of the parameters.
+//! A heartbeat and its refusals.
 use super::*;
 use std::process::Abort;
 use std::test::Fail;
@@ -32,60 +32,22 @@ const HEARTBEAT: [u8; 36] = [
     0xf4, 1, 0, 0, 0xf2, 3, 0, 0, 0x28, 0x23, 0, 0,
 ];
 
-fn channel(client: [u8; 4], server: [u8; 4], port: u16) -> Channel {
-    Channel {
-        client: Endpoint {
-            address: client,
-            port,
-        },
-        server: Endpoint {
-            address: server,
-            port,
-        },
-    }
-}
-
-#[derive(Clone, Copy)]
-struct Values<'a> {
-    ids: [u32; 2],
-    code_length: u8,
-    check_length: u8,
-    n_sendmax: u16,
-    t_max: u16,
-    slack: u16,
-    window: [u32; 2],
-    channels: &'a [Channel],
-}
-
-impl<'a> Values<'a> {
-    fn over(channels: &'a [Channel]) -> Values<'a> {
-        Values {
-            ids: [96, 97],
-            code_length: 0,
-            check_length: 0,
-            n_sendmax: 20,
-            t_max: 1800,
-            slack: 0,
-            window: [1, 4_000_000_000],
-            channels,
-        }
-    }
-
-    fn params(self) -> Option<Params> {
-        Params::new(
-            self.ids[0],
-            self.ids[1],
-            self.code_length,
-            [0x6745_2301, 0xefcd_ab89, 0x98ba_dcfe, 0x1032_5476],
-            self.check_length,
-            self.n_sendmax,
-            self.t_max,
-            self.slack,
-            self.window[0],
-            self.window[1],
-            self.channels,
-        )
-    }
+fn params() -> Option<Params> {
+    let words = [0x6745_2301, 0xefcd_ab89, 0x98ba_dcfe, 0x1032_5476];
+    Params::new(
+        96,
+        97,
+        0,
+        words,
+        0,
+        20,
+        1800,
+        0,
+        1,
+        4_000_000_000,
+        &CHANNELS,
+        None,
+    )
 }
 
 // The heartbeat with these lengths, this type and these ids, and a byte behind it.
@@ -110,7 +72,7 @@ fn compare_fields(rt: &impl Abort, pdu: &Pdu) {
 
 #[test]
 fn heartbeat_is_read(rt: HostRuntime) -> Result<(), Fail> {
-    let params = Values::over(&CHANNELS).params().ok_or("parameters")?;
+    let params = params().ok_or("parameters")?;
     let by_client = decode(&params, Side::Client, &HEARTBEAT);
     compare_fields(&rt, &by_client.ok().ok_or("of the client")?);
     let mut turned = HEARTBEAT;
@@ -138,7 +100,7 @@ fn first_fault(params: &Params, bytes: &[u8], count: usize) -> Option<Fault> {
 // Bytes of the datagram, its lengths, its type, receiver and sender, and the fault.
 #[test]
 fn first_fault_is_answered(rt: HostRuntime) -> Result<(), Fail> {
-    let params = Values::over(&CHANNELS).params().ok_or("parameters")?;
+    let params = params().ok_or("parameters")?;
     let ids = [97, 96];
     for (count, length, safety_length, number, ids, want) in [
         (0, 36, 28, 6220, ids, 20),
@@ -180,185 +142,4 @@ fn first_fault_is_answered(rt: HostRuntime) -> Result<(), Fail> {
         Err(Fault::at(21, 0))
     );
     Ok(())
-}
-
-#[test]
-fn parameters_are_kept(rt: HostRuntime) -> Result<(), Fail> {
-    let params = Values::over(&CHANNELS).params().ok_or("parameters")?;
-    assert_eq!(rt; (params.client_id(), params.server_id()), (96, 97));
-    assert_eq!(rt; (params.code_length(), params.check_length()), (0, 0));
-    assert_eq!(rt;
-        params.md4_start(),
-        [0x6745_2301, 0xefcd_ab89, 0x98ba_dcfe, 0x1032_5476]
-    );
-    assert_eq!(rt;
-        (params.n_sendmax(), params.t_max(), params.slack()),
-        (20, 1800, 0)
-    );
-    assert_eq!(rt;
-        (params.first_record(), params.last_record()),
-        (1, 4_000_000_000)
-    );
-    assert_eq!(rt; params.channel(), CHANNELS.as_slice());
-    Ok(())
-}
-
-#[test]
-fn ranges_end_where_they_should(rt: HostRuntime) {
-    let worked = Values::over(&CHANNELS);
-    for (i, (values, is_valid)) in [
-        (
-            Values {
-                ids: [96, 96],
-                ..worked
-            },
-            false,
-        ),
-        (
-            Values {
-                ids: [0, u32::MAX],
-                ..worked
-            },
-            true,
-        ),
-        (
-            Values {
-                code_length: 1,
-                ..worked
-            },
-            false,
-        ),
-        (
-            Values {
-                code_length: 8,
-                ..worked
-            },
-            false,
-        ),
-        (
-            Values {
-                check_length: 2,
-                ..worked
-            },
-            false,
-        ),
-        (
-            Values {
-                n_sendmax: 0,
-                ..worked
-            },
-            false,
-        ),
-        (
-            Values {
-                n_sendmax: 1,
-                ..worked
-            },
-            true,
-        ),
-        (
-            Values {
-                n_sendmax: 65_535,
-                ..worked
-            },
-            true,
-        ),
-        (Values { t_max: 0, ..worked }, false),
-        (Values { t_max: 1, ..worked }, true),
-        (
-            Values {
-                t_max: 60_000,
-                ..worked
-            },
-            true,
-        ),
-        (
-            Values {
-                t_max: 60_001,
-                ..worked
-            },
-            false,
-        ),
-        (
-            Values {
-                slack: 1000,
-                ..worked
-            },
-            true,
-        ),
-        (
-            Values {
-                slack: 1001,
-                ..worked
-            },
-            false,
-        ),
-        (
-            Values {
-                window: [0, 7],
-                ..worked
-            },
-            false,
-        ),
-        (
-            Values {
-                window: [1, 1],
-                ..worked
-            },
-            true,
-        ),
-        (
-            Values {
-                window: [8, 7],
-                ..worked
-            },
-            false,
-        ),
-        (
-            Values {
-                window: [4_000_000_000, 4_000_000_000],
-                ..worked
-            },
-            true,
-        ),
-        (
-            Values {
-                window: [1, 4_000_000_001],
-                ..worked
-            },
-            false,
-        ),
-    ]
-    .into_iter()
-    .enumerate()
-    {
-        assert_eq!(rt; values.params().is_some(), is_valid, "row {i}");
-    }
-}
-
-#[test]
-fn ways_are_different(rt: HostRuntime) {
-    let [first, second] = CHANNELS;
-    let third = channel([10, 0, 0, 1], [10, 0, 0, 2], 5001);
-    let fourth = channel([10, 0, 0, 1], [10, 0, 1, 2], 5000);
-    let fifth = channel([10, 0, 2, 1], [10, 0, 2, 2], 5000);
-    let closed = channel([10, 0, 0, 1], [10, 0, 0, 1], 5000);
-    let turned = channel([10, 0, 0, 2], [10, 0, 0, 1], 5000);
-    let rows: [(&[Channel], bool); 8] = [
-        (&[], false),
-        (&[first], true),
-        (&[first, second, third, fourth], true),
-        (&[first, second, third, fourth, fifth], false),
-        (&[closed], false),
-        (&[first, second, first], false),
-        (&[first, turned], false),
-        (&[second, third, first, turned], false),
-    ];
-    for (i, (channels, is_valid)) in rows.iter().enumerate() {
-        assert_eq!(rt;
-            Values::over(channels).params().is_some(),
-            *is_valid,
-            "row {i}"
-        );
-    }
 }
