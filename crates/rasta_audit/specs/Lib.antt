@@ -5,4 +5,5 @@ pub mod Shown
 pub mod Failing
 pub mod Endpoints
 pub mod Stored
+pub mod StartWords
 pub mod Keys

@@ -9,7 +9,9 @@ mod form;
 mod key;
 mod line;
 mod params;
+mod quiet_table;
 mod show;
+mod start_words;
 #[cfg(test)]
 mod tests;
 mod texts;
