@@ -1,2 +1,5 @@
 pub mod Numbers
 pub mod Payloads
+pub mod Places
+pub mod Bodies
+pub mod Spellings

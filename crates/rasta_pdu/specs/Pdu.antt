@@ -184,6 +184,10 @@ value_of d = record {
   check_bytes = d.check_bytes.now;
 }
 
+-- the safety code of a PDU that was read
+abbrev pub read_code : Pdu → List ℕ
+read_code d = d.code.now
+
 -- ---- reading: from bytes to the value, or the first fault
 
 -- the number of n bytes at an offset

@@ -18,7 +18,10 @@ pub enum Body<M> {
         reserved: [u8; 8],
     },
     /// Of a disconnection request.
-    Bye { detail: u16, reason: u16 },
+    Bye {
+        detail: u16,
+        reason: u16,
+    },
     /// Of data and retransmitted data.
     Messages(M),
     /// Of the other types.

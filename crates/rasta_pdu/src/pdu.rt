@@ -1,6 +1,6 @@
 //! The PDU of a datagram.
 ghost use Rattle.std.specs.Prelude.{◌≡◌};
-ghost use Rattle.rasta_pdu.specs.Pdu.{value_of, body_of};
+ghost use Rattle.rasta_pdu.specs.Pdu.{value_of, body_of, read_code};
 
 use crate::body::Body;
 use crate::kind::Kind;
@@ -80,7 +80,7 @@ impl<'a> Pdu<'a> {
 
     /// The safety code, empty where its length is 0. It was judged.
     pub fn code(&self) -> &'a [u8]
-        ensures { result.now ≡ self.now.code.now }
+        ensures { result.now ≡ read_code self.now }
     {
         self.code
     }

@@ -1,35 +1,29 @@
 //! Reading a datagram.
 ghost use Rattle.std.specs.Prelude.{◌≡◌, ◌≤◌, ◌+◌, ◌-◌, ◌<◌, ◌^◌, ◌==◌, ◌&&◌, length, take, slice_range, Ok, Err, IfOk, MatchResult, IsOkAnd, bytes_eq};
 ghost use Rattle.rasta_pdu.specs.Params.{AreParameters};
-ghost use Rattle.rasta_pdu.specs.Pdu.{RedundancyPdu, IsRedundancyPdu, redundancy_bytes, decode_of, receiver_of, sender_of, value_of, body_of, fields_of, has_length, has_fields, has_safety_length, has_code, has_ids, code_at, check_at, code_over, number_at};
+ghost use Rattle.rasta_pdu.specs.Pdu.{RedundancyPdu, IsRedundancyPdu, redundancy_bytes, decode_of, receiver_of, sender_of, value_of, body_of, read_code, code_of, fields_of, has_length, has_fields, code_at, check_at, code_over, number_at};
 
 use crate::body::{Body, body_in};
 use crate::bytes::{u16_at, u32_at};
 use crate::kind::Kind;
 use crate::layout::{
-    CS_AT, CTS_AT, LENGTH_AT, LENGTH_LEN, NUMBER_AT, PAYLOAD_AT, RECEIVER_AT, RESERVE_AT, SAFETY_AT, SENDER_AT, SN_AT,
-    TS_AT, TYPE_AT,
+    CS_AT, CTS_AT, LENGTH_AT, LENGTH_LEN, NUMBER_AT, PAYLOAD_AT, RECEIVER_AT, RESERVE_AT,
+    SAFETY_AT, SENDER_AT, SN_AT, TS_AT, TYPE_AT,
 };
 use crate::params::Params;
 use crate::pdu::Pdu;
 use rasta_md4::Md4;
 use rasta_udp::{Fault, Side};
 
-fn receiver(params: &Params, side: Side) -> u32
-    ensures { result ≡ receiver_of params.now side }
+// The receiver and the sender of what this side sends.
+fn recorded_ids(params: &Params, side: Side) -> (u32, u32)
+    ensures receiver { result.0 ≡ receiver_of params.now side }
+    ensures sender { result.1 ≡ sender_of params.now side }
+    ensures valid { AreParameters params.now }
 {
     match side {
-        Side::Client => params.server_id(),
-        Side::Server => params.client_id(),
-    }
-}
-
-fn sender(params: &Params, side: Side) -> u32
-    ensures { result ≡ sender_of params.now side }
-{
-    match side {
-        Side::Client => params.client_id(),
-        Side::Server => params.server_id(),
+        Side::Client => (params.server_id(), params.client_id()),
+        Side::Server => (params.client_id(), params.server_id()),
     }
 }
 
@@ -80,21 +74,27 @@ fn is_code(params: &Params, covered: &[u8], code: &[u8]) -> bool
     expected == code
 }
 
-// Whether receiver and sender are the recorded ones.
-fn has_ids(params: &Params, side: Side, bytes: &[u8]) -> bool
+// Whether these are the receiver and the sender.
+fn are_ids(bytes: &[u8], receiver: u32, sender: u32) -> bool
     requires { 36 ≤ length bytes.now }
-    ensures { result ≡ has_ids params.now side bytes.now }
+    ensures { result ≡ (number_at 4 12 bytes.now == receiver && number_at 4 16 bytes.now == sender) }
 {
-    u32_at(bytes, RECEIVER_AT) == receiver(params, side) && u32_at(bytes, SENDER_AT) == sender(params, side)
+    u32_at(bytes, RECEIVER_AT) == receiver && u32_at(bytes, SENDER_AT) == sender
 }
 
 // The fields of a datagram of this kind and body, whose codes begin there.
-fn fields<'a>(kind: Kind, body: Body<&'a [u8]>, bytes: &'a [u8], code_at: usize, check_at: usize) -> Pdu<'a>
+fn fields<'a>(
+    kind: Kind,
+    body: Body<&'a [u8]>,
+    bytes: &'a [u8],
+    code_at: usize,
+    check_at: usize,
+) -> Pdu<'a>
     requires fields { 36 ≤ code_at }
     requires code { code_at ≤ check_at }
     requires check { check_at ≤ length bytes.now }
     ensures value { value_of result ≡ fields_of kind (body_of body.entry) check_at bytes.now }
-    ensures code { result.code.now ≡ slice_range bytes.now code_at check_at }
+    ensures code { read_code result ≡ slice_range bytes.now code_at check_at }
 {
     Pdu {
         reserve: u16_at(bytes, RESERVE_AT),
@@ -114,8 +114,12 @@ fn fields<'a>(kind: Kind, body: Body<&'a [u8]>, bytes: &'a [u8], code_at: usize,
 fn read<'a>(params: &Params, side: Side, bytes: &'a [u8]) -> Result<Pdu<'a>, Fault>
     ensures value { MatchResult result (λ d. decode_of params.now side bytes.now ≡ Ok (value_of d))
         (λ f. decode_of params.now side bytes.now ≡ Err f) }
-    ensures code { IfOk result (λ d. d.code.now ≡ slice_range bytes.now (code_at params.now bytes.now) (check_at params.now bytes.now)) }
+    ensures code { IfOk result (λ d. read_code d ≡ slice_range bytes.now (code_at params.now bytes.now) (check_at params.now bytes.now)) }
+    ensures valid { AreParameters params.now }
+    ensures receiver { receiver_of params.now side < 2 ^ 32 }
+    ensures sender { sender_of params.now side < 2 ^ 32 }
 {
+    let (receiver, sender) = recorded_ids(params, side);
     if !has_length(bytes) {
         return Err(Fault::at(Fault::REDUNDANCY_LENGTH, 0));
     }
@@ -132,10 +136,14 @@ fn read<'a>(params: &Params, side: Side, bytes: &'a [u8]) -> Result<Pdu<'a>, Fau
     let Some(body) = body_in(kind, &bytes[PAYLOAD_AT..code_at]) else {
         return Err(Fault::at(Fault::PAYLOAD, 0));
     };
-    if !is_code(params, &bytes[SAFETY_AT..code_at], &bytes[code_at..check_at]) {
+    if !is_code(
+        params,
+        &bytes[SAFETY_AT..code_at],
+        &bytes[code_at..check_at],
+    ) {
         return Err(Fault::at(Fault::CODE, 0));
     }
-    if !has_ids(params, side, bytes) {
+    if !are_ids(bytes, receiver, sender) {
         return Err(Fault::at(Fault::IDS, 0));
     }
     Ok(fields(kind, body, bytes, code_at, check_at))
@@ -149,6 +157,19 @@ fn read<'a>(params: &Params, side: Side, bytes: &'a [u8]) -> Result<Pdu<'a>, Fau
 pub fn decode<'a>(params: &Params, side: Side, bytes: &'a [u8]) -> Result<Pdu<'a>, Fault>
     ensures value { MatchResult result (λ d. decode_of params.now side bytes.now ≡ Ok (value_of d))
         (λ f. decode_of params.now side bytes.now ≡ Err f) }
+
+    // What is read is spelled so.
+    ensures spelled { IfOk result (λ d. IsRedundancyPdu params.now (value_of d)
+        × (bytes.now ≡ redundancy_bytes params.now side (value_of d))) }
+
+    // What is spelled for the side is read as that value.
+    ensures read_back { (r : RedundancyPdu) → IsRedundancyPdu params.now r
+        → bytes.now ≡ redundancy_bytes params.now side r → IsOkAnd result (λ d. value_of d ≡ r) }
+
+    // The code that is lent is that of the value, and stands between the payload and the check code.
+    ensures code { IfOk result (λ d. read_code d ≡ code_of params.now side (value_of d).safety) }
+    ensures code_place { IfOk result (λ d. read_code d
+        ≡ slice_range bytes.now (code_at params.now bytes.now) (check_at params.now bytes.now)) }
 {
     read(params, side, bytes)
 }
