@@ -2,3 +2,4 @@ pub mod Showing
 pub mod EndpointTexts
 pub mod Documents
 pub mod EndpointLaws
+pub mod Sending

@@ -1,21 +1,25 @@
 -- Packets and records as the code holds them.
-use Rattle.std.specs.Prelude.{[], Option, Some, None, Result, Ok, Err}
-use Rattle.rasta_pcap.specs.declared.fault.Fault.{Fault}
+use Rattle.std.specs.Prelude.{◌≤◌, [], length, Option, Some, None}
 use Rattle.rasta_pdu.specs.declared.pdu.Pdu.{Pdu}
-use Rattle.rasta_pdu.specs.Pdu.{RedundancyPdu, value_of}
+use Rattle.rasta_pdu.specs.Pdu.{read_code, value_of}
 use Rattle.rasta_audit.specs.Lines.{Packet}
 use Rattle.rasta_audit.specs.Show.{packet, passed_over, refused, Shown, Sight, with_sight}
-use Rattle.rasta_audit.specs.declared.texts.ShownPacket.{ShownPacket}
+use Rattle.rasta_audit.specs.declared.packet.ShownPacket.{ShownPacket}
 use Rattle.rasta_audit.specs.declared.show.Next.{Next}
 use Rattle.rasta_audit.specs.declared.show.Next.TheVariants as next
 
 abbrev pub packet_of : ShownPacket → Packet
-packet_of q = record { record_number = q.«record»; channel = q.channel; side = q.side; pdu = value_of q.pdu }
+packet_of q = record {
+  record_number = q.«record»;
+  channel = q.channel;
+  side = q.side;
+  pdu = value_of q.pdu;
+  code = read_code q.pdu;
+}
 
--- what was read of a datagram
-abbrev pub pdu_in : Result Pdu Fault → Result RedundancyPdu Fault
-pdu_in (Ok d) = Ok (value_of d)
-pdu_in (Err f) = Err f
+-- a code of at most 16 bytes, and check bytes of at most 4
+abbrev pub HasShortCodes : Pdu → Type 0
+HasShortCodes d = (length (read_code d) ≤ 16) × (length (value_of d).check_bytes ≤ 4)
 
 -- what the next record is, if there is one
 abbrev pub sight_in : Next → Option Sight

@@ -8,6 +8,8 @@ mod failure;
 mod form;
 mod key;
 mod line;
+mod messages;
+mod packet;
 mod params;
 mod quiet_table;
 mod show;

@@ -4,15 +4,18 @@ ghost use Rattle.std.specs.Io.KnownBytes.{Appends};
 ghost use Rattle.rasta_pcap.specs.Fault.{write_failed};
 ghost use Rattle.rasta_pcap.specs.Devices.{AppendsBeginning, HasFailed};
 ghost use Rattle.rasta_pcap.specs.Capture.{reading};
+ghost use Rattle.rasta_pdu.specs.Params.{AreParameters};
+ghost use Rattle.rasta_pdu.specs.Pdu.{decode_of};
 ghost use Rattle.rasta_audit.specs.Show.{show_status, show_text, shown_of, sight_of, sight_of_frame, sight_of_pdu, status_after, text_from};
-ghost use Rattle.rasta_audit.specs.Shown.{pdu_in, sight_in, with_next};
+ghost use Rattle.rasta_audit.specs.Shown.{sight_in, with_next};
 ghost use Rattle.rasta_udp.specs.Frame.{packet_in, packet_of};
 ghost use Rattle.rasta_audit.specs.Runs.{IsRunFault, WritesBeginning, WritesText};
 
 use crate::line::Line;
-use crate::texts::{ShownPacket, count_line, refusal_line};
+use crate::packet::{ShownPacket, write_packet};
+use crate::texts::{count_line, refusal_line};
 use rasta_pcap::{Pcap, Record, read_all, write_all};
-use rasta_pdu::{Fault, Params, Pdu, Sink, Source, decode};
+use rasta_pdu::{Fault, Params, Sink, Source, decode};
 use rasta_udp::{Datagram, datagram};
 use std::alloc::Global;
 
@@ -32,11 +35,13 @@ fn is_in_front(params: &Params, number: u32) -> bool
     number < params.first_record()
 }
 
-// What a datagram of the connection shows: its PDU, or the fault of its sender.
-fn sight_of_datagram<'a>(number: u32, found: Datagram<'a>, read: Result<Pdu<'a>, Fault>) -> Next<'a>
-    ensures { sight_in result ≡ Some (sight_of_pdu number (packet_of found.entry) (pdu_in read.entry)) }
+// What a datagram of the connection shows. A PDU's fault speaks of its sender.
+fn sight_of_datagram<'a>(params: &Params, number: u32, found: Datagram<'a>) -> Next<'a>
+    requires { AreParameters params.now }
+    ensures { sight_in result ≡ Some (sight_of_pdu params.now number (packet_of found.entry)
+        (decode_of params.now found.entry.side found.entry.payload.now)) }
 {
-    match read {
+    match decode(params, found.side, found.payload) {
         Ok(pdu) => Next::Packet(ShownPacket {
             record: number,
             channel: found.channel,
@@ -58,10 +63,7 @@ fn sight_in_window<'a>(params: &Params, record: &Record<'a>) -> Next<'a>
 {
     match datagram(record, params.channel()) {
         Ok(None) => Next::PassedOver,
-        Ok(Some(found)) => {
-            let read = decode(params, found.side, found.payload);
-            sight_of_datagram(record.number, found, read)
-        }
+        Ok(Some(found)) => sight_of_datagram(params, record.number, found),
         Err(fault) => Next::Refused(Fault::at(fault.number, record.number)),
     }
 }
@@ -106,7 +108,7 @@ fn write_records<W: Sink>(params: &Params, mut pcap: Pcap<'_>, writer: &mut W) -
             Next::End => break,
             Next::PassedOver => {}
             Next::Packet(packet) => {
-                write_all(writer, packet.line(place).as_bytes())?;
+                write_packet(&packet, place, writer)?;
                 place += 1;
             }
             Next::Refused(fault) => {
