@@ -73,3 +73,7 @@ unfolding are_messages
 are_messages-is payload rest h e =
     let none = filled_none rest h in
     full (filled payload) (length rest) (length payload) (omega arith)
+
+-- no bytes are no messages
+pub no_messages : messages_of [] ≡ []
+no_messages = messages_of-none [] refl

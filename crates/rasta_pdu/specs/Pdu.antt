@@ -12,6 +12,7 @@ use Rattle.rasta_pdu.specs.declared.body.Body.{Body}
 use Rattle.rasta_pdu.specs.declared.body.Body.TheVariants.{Opening as OpeningBody, Bye as ByeBody, Messages as MessagesBody, Empty as EmptyBody}
 use Rattle.rasta_pdu.specs.declared.kind.Kind.{Kind}
 use Rattle.rasta_pdu.specs.declared.kind.Kind.TheVariants.{ConnectionRequest, ConnectionResponse, RetransmissionRequest, RetransmissionResponse, DisconnectionRequest, Heartbeat, Data, RetransmittedData}
+use Rattle.rasta_pdu.specs.declared.messages.Messages.{Messages as MessagesLeft}
 use Rattle.rasta_pdu.specs.declared.pdu.Pdu.{Pdu}
 use Rattle.rasta_pdu.specs.Params.{Parameters}
 use Rattle.rasta_pdu.specs.Messages.{are_messages}
@@ -187,6 +188,15 @@ value_of d = record {
 -- the safety code of a PDU that was read
 abbrev pub read_code : Pdu → List ℕ
 read_code d = d.code.now
+
+-- the messages of a body, in their order; other bodies have none
+abbrev pub messages_in : SafetyBody → List (List ℕ)
+messages_in (Messages payload) = messages_of payload
+messages_in _ = []
+
+-- the messages that an iterator has yet to give
+abbrev pub messages_left : MessagesLeft → List (List ℕ)
+messages_left m = messages_of m.rest.now
 
 -- ---- reading: from bytes to the value, or the first fault
 

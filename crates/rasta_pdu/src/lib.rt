@@ -19,6 +19,7 @@ mod tests;
 
 pub use body::Body;
 pub use kind::Kind;
+pub use messages::Messages;
 pub use params::Params;
 pub use pdu::Pdu;
 pub use quiet_point::{Quiet, QuietEnd};

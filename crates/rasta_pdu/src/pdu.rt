@@ -1,9 +1,10 @@
 //! The PDU of a datagram.
 ghost use Rattle.std.specs.Prelude.{◌≡◌};
-ghost use Rattle.rasta_pdu.specs.Pdu.{value_of, body_of, read_code};
+ghost use Rattle.rasta_pdu.specs.Pdu.{value_of, body_of, read_code, messages_in, messages_left};
 
 use crate::body::Body;
 use crate::kind::Kind;
+use crate::messages::Messages;
 
 /// A PDU of the redundancy layer, with the PDU of the safety and retransmission layer in it. Its slices
 /// are slices of the datagram.
@@ -76,6 +77,20 @@ impl<'a> Pdu<'a> {
         ensures { body_of result ≡ (value_of self.now).safety.body }
     {
         self.body
+    }
+
+    /// The messages of data and retransmitted data; none of the other types.
+    #[tactic(auto, using(crate::proofs::Payloads::no_messages))]
+    pub fn messages(&self) -> Messages<'a>
+        ensures { messages_left result ≡ messages_in (value_of self.now).safety.body }
+    {
+        let rest: &'a [u8] = match self.body {
+            Body::Messages(payload) => payload,
+            Body::Opening { .. } => &[],
+            Body::Bye { .. } => &[],
+            Body::Empty => &[],
+        };
+        Messages { rest }
     }
 
     /// The safety code, empty where its length is 0. It was judged.
