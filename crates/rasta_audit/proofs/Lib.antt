@@ -3,3 +3,4 @@ pub mod EndpointTexts
 pub mod Documents
 pub mod EndpointLaws
 pub mod Sending
+pub mod Lines

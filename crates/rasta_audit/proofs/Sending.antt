@@ -1,8 +1,8 @@
 -- What was sent of a text, piece by piece.
-use Rattle.std.proofs.Common.{◌≡◌, ◌∙◌, ℕ, ◌++◌, append_assoc, append-nil, List, [], ◌∷◌, Option, ap, refl, subst, sym}
+use Rattle.std.proofs.Common.{◌≡◌, ◌∙◌, ℕ, ◌/◌, ◌%◌, ◌++◌, slice_index, take, drop, length, take-append-drop, arith, append_assoc, append-nil, List, [], ◌∷◌, Option, ap, refl, subst, sym}
 use Rattle.std.specs.Io.KnownBytes.{Appends}
 use Rattle.std.proofs.KnownBytes.{Appends-nil, Appends-trans}
-use Rattle.hex.specs.Hex.{encode_with}
+use Rattle.hex.specs.Hex.{encode_lower, encode_with, lower_digits}
 use Rattle.rasta_pcap.specs.Devices.{AppendsBeginning}
 use Rattle.rasta_audit.specs.Lines.{in_front}
 
@@ -45,10 +45,34 @@ Sent-begun whole rest part more old mid new h e begun =
 pub encode_with-append : (t xs ys : List ℕ) → encode_with t (xs ++ ys) ≡ encode_with t xs ++ encode_with t ys
 unfolding encode_with
 encode_with-append t [] ys = refl
-encode_with-append t (x ∷ xs) ys = ap (λ (l : List ℕ). _ ∷ _ ∷ l) (encode_with-append t xs ys)
+encode_with-append t (x ∷ xs) ys = ap (λ (l : List ℕ). slice_index t (x / 16) ∷ slice_index t (x % 16) ∷ l) (encode_with-append t xs ys)
 
 -- words in front of two parts of the rest
 pub in_front-append : (words : List (List ℕ)) (xs ys : List ℕ) → in_front words (xs ++ ys) ≡ in_front words xs ++ ys
 in_front-append [] xs ys = refl
 in_front-append (w ∷ words) xs ys =
     ap (λ (l : List ℕ). w ++ (32 ∷ l)) (in_front-append words xs ys) ∙ sym (append_assoc w (32 ∷ in_front words xs) ys)
+
+-- the digits of a list that is cut in two
+pub digits-cut : (xs : List ℕ) (n : ℕ) → encode_lower xs ≡ encode_lower (take n xs) ++ encode_lower (drop n xs)
+digits-cut xs n = ap encode_lower (sym (take-append-drop n xs)) ∙ encode_with-append lower_digits (take n xs) (drop n xs)
+
+-- no digits of nothing
+pub digits-none : (xs : List ℕ) → length xs ≡ 0 → encode_lower xs ≡ []
+unfolding encode_with
+digits-none [] h = refl
+digits-none (x ∷ xs) h = absurd (omega (arith, h))
+
+pub digits-parts : (xs front back : List ℕ) (n : ℕ) → front ≡ take n xs → back ≡ drop n xs
+    → encode_lower xs ≡ encode_lower front ++ encode_lower back
+digits-parts xs front back n e f = rw (e, f) (digits-cut xs n)
+
+-- a beginning of the last part went out
+pub Sent-last_begun : (whole rest : List ℕ) (old mid new : Option (List ℕ)) → Sent whole rest old mid
+    → AppendsBeginning mid new rest → AppendsBeginning old new whole
+Sent-last_begun whole rest old mid new h begun = Sent-begun whole rest rest [] old mid new h (sym (append-nil rest)) begun
+
+-- the last part went out
+pub Sent-last : (whole rest : List ℕ) (old mid new : Option (List ℕ)) → Sent whole rest old mid
+    → Appends mid new rest → Appends old new whole
+Sent-last whole rest old mid new h out = Sent-all whole [] old new (Sent-more whole rest rest [] old mid new h (sym (append-nil rest)) out) refl

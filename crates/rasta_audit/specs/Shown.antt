@@ -1,10 +1,9 @@
 -- Packets and records as the code holds them.
-use Rattle.std.specs.Prelude.{◌≤◌, [], length, Option, Some, None}
-use Rattle.rasta_pdu.specs.declared.pdu.Pdu.{Pdu}
-use Rattle.rasta_pdu.specs.Pdu.{read_code, value_of}
-use Rattle.rasta_audit.specs.Lines.{Packet}
+use Rattle.std.specs.Prelude.{ℕ, List, [], ◌∷◌, codes, Option, Some, None}
+use Rattle.rasta_pdu.specs.Pdu.{messages_in, read_code, value_of}
+use Rattle.rasta_audit.specs.Lines.{Packet, front_words, in_front, messages_text}
 use Rattle.rasta_audit.specs.Show.{packet, passed_over, refused, Shown, Sight, with_sight}
-use Rattle.rasta_audit.specs.declared.packet.ShownPacket.{ShownPacket}
+use Rattle.rasta_audit.specs.declared.shown_packet.ShownPacket.{ShownPacket}
 use Rattle.rasta_audit.specs.declared.show.Next.{Next}
 use Rattle.rasta_audit.specs.declared.show.Next.TheVariants as next
 
@@ -17,9 +16,14 @@ packet_of q = record {
   code = read_code q.pdu;
 }
 
--- a code of at most 16 bytes, and check bytes of at most 4
-abbrev pub HasShortCodes : Pdu → Type 0
-HasShortCodes d = (length (read_code d) ≤ 16) × (length (value_of d).check_bytes ≤ 4)
+-- what stands in front of the messages of a packet at its place
+abbrev pub data_front : ℕ → Packet → List ℕ
+data_front place q = in_front (front_words place q) (in_front (codes "data" ∷ []) [])
+
+-- a packet with messages at its place, and this end of the line behind them
+abbrev pub data_line : ℕ → Packet → List ℕ → List ℕ
+data_line place q end = in_front (front_words place q)
+    (in_front (codes "data" ∷ messages_text (messages_in q.pdu.safety.body) ∷ []) end)
 
 -- what the next record is, if there is one
 abbrev pub sight_in : Next → Option Sight

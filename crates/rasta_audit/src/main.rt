@@ -13,6 +13,7 @@ mod packet;
 mod params;
 mod quiet_table;
 mod show;
+mod shown_packet;
 mod start_words;
 #[cfg(test)]
 mod tests;

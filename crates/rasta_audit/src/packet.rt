@@ -1,26 +1,19 @@
 //! The line of a packet.
-ghost use Rattle.std.specs.Prelude.{◌≡◌, ◌≤◌, ◌×◌, [], ◌∷◌, length, IfErr, OnErr, OnOk};
+ghost use Rattle.std.specs.Prelude.{◌≡◌, ◌≤◌, [], ◌∷◌, length, IfErr, OnErr, OnOk};
 ghost use Rattle.std.specs.Io.KnownBytes.{Appends};
 ghost use Rattle.rasta_pcap.specs.Fault.{write_failed};
 ghost use Rattle.rasta_pcap.specs.Devices.{AppendsBeginning, HasFailed};
 ghost use Rattle.rasta_pdu.specs.Pdu.{Bye, Empty, Opening, read_code, value_of};
+ghost use Rattle.rasta_audit.specs.Codes.{HasShortCodes};
 ghost use Rattle.rasta_audit.specs.Lines.{body_words, codes_line, front_words, in_front, packet_line};
-ghost use Rattle.rasta_audit.specs.Shown.{HasShortCodes, packet_of};
+ghost use Rattle.rasta_audit.specs.Shown.{data_front, data_line, packet_of};
 
 use crate::line::Line;
+use crate::messages::write_messages;
+use crate::shown_packet::ShownPacket;
 use crate::texts::end_name;
 use rasta_pcap::write_all;
-use rasta_pdu::{Body, Fault, Pdu, Side, Sink};
-
-/// A packet of the connection, with its record's number and its channel's, both from 1.
-#[derive(Clone, Copy, Debug)]
-pub struct ShownPacket<'a> {
-    pub record: u32,
-    pub channel: u8,
-    pub side: Side,
-    pub pdu: Pdu<'a>,
-    ghost short: { HasShortCodes pdu },
-}
+use rasta_pdu::{Body, Fault, Pdu, Sink};
 
 // Safety code and check code.
 fn codes_line(pdu: &Pdu<'_>) -> Line
@@ -90,11 +83,42 @@ impl ShownPacket<'_> {
         self.put_front(place, end);
         write_all(writer, end.as_bytes())
     }
+
+    // What stands in front of messages.
+    fn data_front(&self, place: u32) -> Line
+        ensures { result ≡ data_front place (packet_of self.now) }
+    {
+        let mut front = Line::new();
+        front.word(b"data");
+        self.put_front(place, &mut front);
+        front
+    }
+
+    // Writes the line of a packet with messages, which ends in these codes.
+    fn write_data<W: Sink>(&self, place: u32, codes: &mut Line, writer: &mut W) -> Result<(), Fault>
+        requires { length codes.old ≤ 44 }
+        ensures ok { OnOk result (Appends (W.contents writer.old) (W.contents writer.new)
+            (data_line place (packet_of self.now) codes.old)) }
+        ensures steady { OnOk result (W.failure_count writer.new ≡ W.failure_count writer.old) }
+        ensures err { IfErr result (λ f. (f ≡ write_failed)
+            × HasFailed (W.failure_count writer.old) (W.failure_count writer.new)) }
+        ensures begun { OnErr result (AppendsBeginning (W.contents writer.old) (W.contents writer.new)
+            (data_line place (packet_of self.now) codes.old)) }
+    {
+        codes.space();
+        write_all(writer, self.data_front(place).as_bytes())?;
+        write_messages(self.pdu.messages(), writer)?;
+        write_all(writer, codes.as_bytes())
+    }
 }
 
 /// Writes the line of a packet at its place.
 #[tactic(auto, unfolding(crate::specs::Lines::packet_line))]
-pub fn write_packet<W: Sink>(packet: &ShownPacket<'_>, place: u32, writer: &mut W) -> Result<(), Fault>
+pub fn write_packet<W: Sink>(
+    packet: &ShownPacket<'_>,
+    place: u32,
+    writer: &mut W,
+) -> Result<(), Fault>
     ensures ok { OnOk result (Appends (W.contents writer.old) (W.contents writer.new)
         (packet_line place (packet_of packet.now))) }
     ensures steady { OnOk result (W.failure_count writer.new ≡ W.failure_count writer.old) }
@@ -121,6 +145,6 @@ pub fn write_packet<W: Sink>(packet: &ShownPacket<'_>, place: u32, writer: &mut 
             end.word(b"-");
             packet.write(place, &mut end, writer)
         }
-        Body::Messages(payload) => packet.write_data(place, payload, &mut end, writer),
+        Body::Messages(_) => packet.write_data(place, &mut end, writer),
     }
 }

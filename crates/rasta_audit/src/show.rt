@@ -12,7 +12,8 @@ ghost use Rattle.rasta_udp.specs.Frame.{packet_in, packet_of};
 ghost use Rattle.rasta_audit.specs.Runs.{IsRunFault, WritesBeginning, WritesText};
 
 use crate::line::Line;
-use crate::packet::{ShownPacket, write_packet};
+use crate::packet::write_packet;
+use crate::shown_packet::ShownPacket;
 use crate::texts::{count_line, refusal_line};
 use rasta_pcap::{Pcap, Record, read_all, write_all};
 use rasta_pdu::{Fault, Params, Sink, Source, decode};
