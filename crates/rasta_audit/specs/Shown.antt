@@ -1,7 +1,7 @@
 -- Packets and records as the code holds them.
 use Rattle.std.specs.Prelude.{ℕ, List, [], ◌∷◌, codes, Option, Some, None}
 use Rattle.rasta_pdu.specs.Pdu.{messages_in, read_code, value_of}
-use Rattle.rasta_audit.specs.Lines.{Packet, front_words, in_front, messages_text}
+use Rattle.rasta_audit.specs.Lines.{Packet, codes_line, front_words, in_front, messages_text}
 use Rattle.rasta_audit.specs.Show.{packet, passed_over, refused, Shown, Sight, with_sight}
 use Rattle.rasta_audit.specs.declared.shown_packet.ShownPacket.{ShownPacket}
 use Rattle.rasta_audit.specs.declared.show.Next.{Next}
@@ -20,10 +20,10 @@ packet_of q = record {
 abbrev pub data_front : ℕ → Packet → List ℕ
 data_front place q = in_front (front_words place q) (in_front (codes "data" ∷ []) [])
 
--- a packet with messages at its place, and this end of the line behind them
-abbrev pub data_line : ℕ → Packet → List ℕ → List ℕ
-data_line place q end = in_front (front_words place q)
-    (in_front (codes "data" ∷ messages_text (messages_in q.pdu.safety.body) ∷ []) end)
+-- a packet with messages at its place
+abbrev pub data_line : ℕ → Packet → List ℕ
+data_line place q = in_front (front_words place q)
+    (in_front (codes "data" ∷ messages_text (messages_in q.pdu.safety.body) ∷ []) (codes_line q.code q.pdu.check_bytes))
 
 -- what the next record is, if there is one
 abbrev pub sight_in : Next → Option Sight

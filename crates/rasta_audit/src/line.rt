@@ -109,16 +109,21 @@ impl Line {
         Line { room, start }
     }
 
-    /// A line of this code alone.
-    pub fn of_last_code(code: &[u8]) -> Line
-        requires { length code.now ≤ 16 }
-        ensures line { result ≡ code_text code.now ++ 10 ∷ [] }
-        ensures short { length result ≤ 2 + 2 * length code.now }
+    /// Takes everything away, the end of the line too.
+    pub fn clear(&mut self)
+        ensures { self.new ≡ [] }
     {
-        let mut room = [0u8; ROOM];
-        let end = put(&mut room, ROOM, b"\n");
-        let start = put_code(&mut room, end, code);
-        Line { room, start }
+        self.start = ROOM;
+    }
+
+    /// Begins anew with this last code.
+    pub fn begin_with_code(&mut self, code: &[u8])
+        requires { length code.now ≤ 16 }
+        ensures line { self.new ≡ code_text code.now ++ 10 ∷ [] }
+        ensures short { length self.new ≤ 2 + 2 * length code.now }
+    {
+        let end = put(&mut self.room, ROOM, b"\n");
+        self.start = put_code(&mut self.room, end, code);
     }
 
     /// Puts a space in front.

@@ -15,15 +15,14 @@ use crate::texts::end_name;
 use rasta_pcap::write_all;
 use rasta_pdu::{Body, Fault, Pdu, Sink};
 
-// Safety code and check code.
-fn codes_line(pdu: &Pdu<'_>) -> Line
+// Begins the line with safety code and check code.
+fn put_codes(line: &mut Line, pdu: &Pdu<'_>)
     requires { HasShortCodes pdu.now }
-    ensures line { result ≡ codes_line (read_code pdu.now) (value_of pdu.now).check_bytes }
-    ensures short { length result ≤ 44 }
+    ensures line { line.new ≡ codes_line (read_code pdu.now) (value_of pdu.now).check_bytes }
+    ensures short { length line.new ≤ 44 }
 {
-    let mut line = Line::of_last_code(pdu.check_bytes());
+    line.begin_with_code(pdu.check_bytes());
     line.code(pdu.code());
-    line
 }
 
 // Puts the body of a connection request or response in front.
@@ -84,39 +83,47 @@ impl ShownPacket<'_> {
         write_all(writer, end.as_bytes())
     }
 
-    // What stands in front of messages.
-    fn data_front(&self, place: u32) -> Line
-        ensures { result ≡ data_front place (packet_of self.now) }
+    // Puts what stands in front of messages.
+    fn put_data_front(&self, place: u32, line: &mut Line)
+        ensures { line.new ≡ data_front place (packet_of self.now) }
     {
-        let mut front = Line::new();
-        front.word(b"data");
-        self.put_front(place, &mut front);
-        front
+        line.clear();
+        line.word(b"data");
+        self.put_front(place, line);
     }
 
-    // Writes the line of a packet with messages, which ends in these codes.
-    fn write_data<W: Sink>(&self, place: u32, codes: &mut Line, writer: &mut W) -> Result<(), Fault>
-        requires { length codes.old ≤ 44 }
+    // Puts what stands behind messages.
+    fn put_data_end(&self, line: &mut Line)
+        ensures { line.new ≡ 32 ∷ codes_line (packet_of self.now).code (packet_of self.now).pdu.check_bytes }
+    {
+        put_codes(line, &self.pdu);
+        line.space();
+    }
+
+    // Writes the line of a packet with messages.
+    fn write_data<W: Sink>(&self, place: u32, line: &mut Line, writer: &mut W) -> Result<(), Fault>
         ensures ok { OnOk result (Appends (W.contents writer.old) (W.contents writer.new)
-            (data_line place (packet_of self.now) codes.old)) }
+            (data_line place (packet_of self.now))) }
         ensures steady { OnOk result (W.failure_count writer.new ≡ W.failure_count writer.old) }
         ensures err { IfErr result (λ f. (f ≡ write_failed)
             × HasFailed (W.failure_count writer.old) (W.failure_count writer.new)) }
         ensures begun { OnErr result (AppendsBeginning (W.contents writer.old) (W.contents writer.new)
-            (data_line place (packet_of self.now) codes.old)) }
+            (data_line place (packet_of self.now))) }
     {
-        codes.space();
-        write_all(writer, self.data_front(place).as_bytes())?;
+        self.put_data_front(place, line);
+        write_all(writer, line.as_bytes())?;
         write_messages(self.pdu.messages(), writer)?;
-        write_all(writer, codes.as_bytes())
+        self.put_data_end(line);
+        write_all(writer, line.as_bytes())
     }
 }
 
-/// Writes the line of a packet at its place.
+/// Writes the line of a packet at its place. What the room held doesn't matter.
 #[tactic(auto, unfolding(crate::specs::Lines::packet_line))]
 pub fn write_packet<W: Sink>(
     packet: &ShownPacket<'_>,
     place: u32,
+    room: &mut Line,
     writer: &mut W,
 ) -> Result<(), Fault>
     ensures ok { OnOk result (Appends (W.contents writer.old) (W.contents writer.new)
@@ -127,24 +134,26 @@ pub fn write_packet<W: Sink>(
     ensures begun { OnErr result (AppendsBeginning (W.contents writer.old) (W.contents writer.new)
         (packet_line place (packet_of packet.now))) }
 {
-    let mut end = codes_line(&packet.pdu);
     match packet.pdu.body() {
         Body::Opening {
             version,
             sendmax,
             reserved,
         } => {
-            put_opening(&mut end, version, sendmax, reserved);
-            packet.write(place, &mut end, writer)
+            put_codes(room, &packet.pdu);
+            put_opening(room, version, sendmax, reserved);
+            packet.write(place, room, writer)
         }
         Body::Bye { detail, reason } => {
-            put_bye(&mut end, detail, reason);
-            packet.write(place, &mut end, writer)
+            put_codes(room, &packet.pdu);
+            put_bye(room, detail, reason);
+            packet.write(place, room, writer)
         }
         Body::Empty => {
-            end.word(b"-");
-            packet.write(place, &mut end, writer)
+            put_codes(room, &packet.pdu);
+            room.word(b"-");
+            packet.write(place, room, writer)
         }
-        Body::Messages(_) => packet.write_data(place, &mut end, writer),
+        Body::Messages(_) => packet.write_data(place, room, writer),
     }
 }

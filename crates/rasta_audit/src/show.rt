@@ -103,13 +103,14 @@ fn write_records<W: Sink>(params: &Params, mut pcap: Pcap<'_>, writer: &mut W) -
     ensures err { IfErr result (λ f. (f ≡ write_failed)
         × HasFailed (W.failure_count writer.old) (W.failure_count writer.new)) }
 {
+    let mut line = Line::new();
     let mut place = 0u32;
     for _ in 0..params.last_record() {
         match take_next(params, &mut pcap) {
             Next::End => break,
             Next::PassedOver => {}
             Next::Packet(packet) => {
-                write_packet(&packet, place, writer)?;
+                write_packet(&packet, place, &mut line, writer)?;
                 place += 1;
             }
             Next::Refused(fault) => {
