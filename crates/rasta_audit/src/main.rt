@@ -9,6 +9,8 @@ mod form;
 mod key;
 mod line;
 mod params;
+#[cfg(test)]
+mod params_tests;
 mod quiet_table;
 mod show;
 mod start_words;
