@@ -65,3 +65,14 @@ two_at at xs are long =
 -- so many bytes spell a number below that power
 pub number_at-lt : (n at : ℕ) (xs : List ℕ) → AreBytes xs → number_at n at xs < 256 ^ n
 number_at-lt n at xs are = little_from-lt 0 n (drop at xs) (AreBytes-drop at xs are).fits
+
+-- the first of some bytes are bytes
+pub AreBytes-take : (n : ℕ) (xs : List ℕ) → AreBytes xs → AreBytes (take n xs)
+AreBytes-take n xs are = record {
+  fits = λ i. elim (cases_lt i n) [
+    | inl h ↦ rw get_or-take (are.fits i)
+    | inr h ↦
+        let count = length-take n xs in
+        omega (arith, get_or_past (take n xs) i 0 (omega arith))
+  ];
+}

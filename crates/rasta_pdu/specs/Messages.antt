@@ -1,0 +1,35 @@
+-- The messages of a payload: how they are spelled, and how they are read.
+use Rattle.std.specs.Prelude.{ℕ, zero, suc, ◌+◌, ◌-◌, List, [], ◌∷◌, ◌++◌, length, drop, slice_range, Bool, ◌&&◌, nat_lt, nat_le, ◌==◌, if◌then◌else◌}
+use Rattle.byteorder.specs.Endian.{little_bytes, little_number}
+
+-- each message is its length and its bytes
+abbrev pub payload_of_messages : List (List ℕ) → List ℕ
+payload_of_messages [] = []
+payload_of_messages (m ∷ ms) = little_bytes 2 (length m) ++ (m ++ payload_of_messages ms)
+
+-- the bytes end no sooner than the message that begins there
+abbrev pub has_message : List ℕ → Bool
+has_message bytes = nat_le (2 + little_number 2 bytes) (length bytes)
+
+-- the bytes of the message that begins there
+abbrev pub first_message : List ℕ → List ℕ
+first_message bytes = slice_range bytes 2 (2 + little_number 2 bytes)
+
+-- the bytes behind it
+abbrev pub behind_message : List ℕ → List ℕ
+behind_message bytes = drop (2 + little_number 2 bytes) bytes
+
+-- at most so many messages, one behind the other
+abbrev pub messages_up_to : ℕ → List ℕ → List (List ℕ)
+messages_up_to zero bytes = []
+messages_up_to (suc n) bytes =
+    if has_message bytes then first_message bytes ∷ messages_up_to n (behind_message bytes) else []
+
+-- the messages of a payload
+unfoldable pub messages_of : List ℕ → List (List ℕ)
+messages_of payload = messages_up_to (length payload) payload
+
+-- there is a message, and nothing is left behind the last
+unfoldable pub are_messages : List ℕ → Bool
+are_messages payload =
+    nat_lt 0 (length payload) && length (payload_of_messages (messages_of payload)) == length payload

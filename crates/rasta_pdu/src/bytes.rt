@@ -1,0 +1,19 @@
+//! Numbers at offsets.
+ghost use Rattle.std.specs.Prelude.{◌≡◌, ◌+◌, ◌≤◌, length};
+ghost use Rattle.rasta_pdu.specs.Pdu.{number_at};
+
+use byteorder::{ByteOrder, LittleEndian};
+
+pub fn u16_at(bytes: &[u8], at: usize) -> u16
+    requires { at + 2 ≤ length bytes.now }
+    ensures { result ≡ number_at 2 at bytes.now }
+{
+    LittleEndian::read_u16(&bytes[at..])
+}
+
+pub fn u32_at(bytes: &[u8], at: usize) -> u32
+    requires { at + 4 ≤ length bytes.now }
+    ensures { result ≡ number_at 4 at bytes.now }
+{
+    LittleEndian::read_u32(&bytes[at..])
+}

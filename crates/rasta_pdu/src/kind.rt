@@ -1,0 +1,51 @@
+//! The types of safety PDUs.
+ghost use Rattle.std.specs.Prelude.{◌≡◌};
+ghost use Rattle.rasta_pdu.specs.Pdu.{type_of, kind_of};
+
+/// The type of a PDU of the safety and retransmission layer.
+#[derive(Clone, Copy, Debug, PartialEq, Eq)]
+pub enum Kind {
+    ConnectionRequest,
+    ConnectionResponse,
+    RetransmissionRequest,
+    RetransmissionResponse,
+    DisconnectionRequest,
+    Heartbeat,
+    Data,
+    RetransmittedData,
+}
+
+impl Kind {
+    // The kind of a type number.
+    pub(crate) fn of(number: u16) -> Option<Kind>
+        ensures { result ≡ kind_of number }
+    {
+        match number {
+            6200 => Some(Kind::ConnectionRequest),
+            6201 => Some(Kind::ConnectionResponse),
+            6212 => Some(Kind::RetransmissionRequest),
+            6213 => Some(Kind::RetransmissionResponse),
+            6216 => Some(Kind::DisconnectionRequest),
+            6220 => Some(Kind::Heartbeat),
+            6240 => Some(Kind::Data),
+            6241 => Some(Kind::RetransmittedData),
+            _ => None,
+        }
+    }
+
+    /// The type number, as it stands in the PDU.
+    pub fn number(self) -> u16
+        ensures { result ≡ type_of self }
+    {
+        match self {
+            Kind::ConnectionRequest => 6200,
+            Kind::ConnectionResponse => 6201,
+            Kind::RetransmissionRequest => 6212,
+            Kind::RetransmissionResponse => 6213,
+            Kind::DisconnectionRequest => 6216,
+            Kind::Heartbeat => 6220,
+            Kind::Data => 6240,
+            Kind::RetransmittedData => 6241,
+        }
+    }
+}

@@ -1,0 +1,53 @@
+//! The messages of a payload.
+ghost use Rattle.std.specs.Prelude.{◌≡◌, ◌≤◌, MatchOption, IsTrue, false, length};
+ghost use Rattle.std.specs.Iterator.{YieldsFirstRef, item_count};
+ghost use Rattle.rasta_pdu.specs.Messages.{are_messages, has_message, first_message, behind_message, messages_of};
+
+use crate::bytes::u16_at;
+use crate::layout::LENGTH_LEN;
+
+/// The messages of a payload, in their order. Each is a slice of the datagram.
+#[derive(Clone, Debug, Drop)]
+pub struct Messages<'a> {
+    pub(crate) rest: &'a [u8],
+}
+
+impl<'a> Iterator for Messages<'a> {
+    type Item = &'a [u8];
+
+    ghost next_gives = { YieldsFirstRef (λ s. messages_of s.rest.now) };
+
+    ghost remaining = { item_count (λ s. messages_of s.rest.now) };
+
+    fn next(&mut self) -> Option<&'a [u8]> {
+        let (message, behind) = split_message(self.rest)?;
+        self.rest = behind;
+        Some(message)
+    }
+}
+
+// The message that begins there, and the bytes behind it; none where the bytes end too soon.
+fn split_message<'a>(bytes: &'a [u8]) -> Option<(&'a [u8], &'a [u8])>
+    ensures { MatchOption result (has_message bytes.now ≡ false)
+        (λ parts. IsTrue (has_message bytes.now) × (parts.0.now ≡ first_message bytes.now) × (parts.1.now ≡ behind_message bytes.now)) }
+{
+    if bytes.len() < LENGTH_LEN {
+        return None;
+    }
+    let end = LENGTH_LEN + usize::from(u16_at(bytes, 0));
+    if bytes.len() < end {
+        return None;
+    }
+    Some((&bytes[LENGTH_LEN..end], &bytes[end..]))
+}
+
+// Whether a payload is one or more messages, one behind the other, and nothing else.
+pub fn are_messages(payload: &[u8]) -> bool
+    ensures { result ≡ are_messages payload.now }
+{
+    let mut rest = payload;
+    while let Some((_, behind)) = split_message(rest) {
+        rest = behind;
+    }
+    !payload.is_empty() && rest.is_empty()
+}

@@ -1,0 +1,149 @@
+//! Reading a datagram.
+ghost use Rattle.std.specs.Prelude.{◌≡◌, ◌≤◌, ◌+◌, ◌-◌, ◌<◌, ◌^◌, ◌==◌, ◌&&◌, length, take, slice_range, Ok, Err, IfOk, MatchResult, IsOkAnd, bytes_eq};
+ghost use Rattle.rasta_pdu.specs.Params.{AreParameters};
+ghost use Rattle.rasta_pdu.specs.Pdu.{RedundancyPdu, IsRedundancyPdu, redundancy_bytes, decode_of, receiver_of, sender_of, value_of, body_of, read_code, code_of, fields_of, has_length, has_fields, code_at, check_at, code_over, number_at};
+
+use crate::body::{Body, body_in};
+use crate::bytes::{u16_at, u32_at};
+use crate::code::is_code;
+use crate::ids::recorded_ids;
+use crate::kind::Kind;
+use crate::layout::{
+    CS_AT, CTS_AT, LENGTH_AT, LENGTH_LEN, NUMBER_AT, PAYLOAD_AT, RECEIVER_AT, RESERVE_AT,
+    SAFETY_AT, SENDER_AT, SN_AT, TS_AT, TYPE_AT,
+};
+use crate::params::Params;
+use crate::pdu::Pdu;
+use rasta_udp::{Fault, Side};
+
+fn has_length(bytes: &[u8]) -> bool
+    ensures { result ≡ has_length bytes.now }
+{
+    bytes.len() >= LENGTH_LEN && usize::from(u16_at(bytes, LENGTH_AT)) == bytes.len()
+}
+
+fn has_fields(params: &Params, bytes: &[u8]) -> bool
+    ensures { result ≡ has_fields params.now bytes.now }
+{
+    let codes = usize::from(params.code_length()) + usize::from(params.check_length());
+    bytes.len() >= PAYLOAD_AT + codes
+}
+
+// Where the safety code begins, and where the check code begins.
+fn codes_at(params: &Params, bytes: &[u8]) -> (usize, usize)
+    requires { 36 + params.now.code_length + params.now.check_length ≤ length bytes.now }
+    ensures code { result.0 ≡ code_at params.now bytes.now }
+    ensures check { result.1 ≡ check_at params.now bytes.now }
+{
+    let check_at = bytes.len() - usize::from(params.check_length());
+    (check_at - usize::from(params.code_length()), check_at)
+}
+
+// Whether the safety PDU ends where the check code begins.
+fn has_safety_length(bytes: &[u8], check_at: usize) -> bool
+    requires fields { 36 ≤ length bytes.now }
+    requires check { 36 ≤ check_at }
+    ensures { result ≡ (number_at 2 8 bytes.now == check_at - 8) }
+{
+    usize::from(u16_at(bytes, SAFETY_AT)) == check_at - SAFETY_AT
+}
+
+// Whether these are the receiver and the sender.
+fn are_ids(bytes: &[u8], receiver: u32, sender: u32) -> bool
+    requires { 36 ≤ length bytes.now }
+    ensures { result ≡ (number_at 4 12 bytes.now == receiver && number_at 4 16 bytes.now == sender) }
+{
+    u32_at(bytes, RECEIVER_AT) == receiver && u32_at(bytes, SENDER_AT) == sender
+}
+
+// The fields of a datagram of this kind and body, whose codes begin there.
+fn fields<'a>(
+    kind: Kind,
+    body: Body<&'a [u8]>,
+    bytes: &'a [u8],
+    code_at: usize,
+    check_at: usize,
+) -> Pdu<'a>
+    requires fields { 36 ≤ code_at }
+    requires code { code_at ≤ check_at }
+    requires check { check_at ≤ length bytes.now }
+    ensures value { value_of result ≡ fields_of kind (body_of body.entry) check_at bytes.now }
+    ensures code { read_code result ≡ slice_range bytes.now code_at check_at }
+{
+    Pdu {
+        reserve: u16_at(bytes, RESERVE_AT),
+        number: u32_at(bytes, NUMBER_AT),
+        kind,
+        sn: u32_at(bytes, SN_AT),
+        cs: u32_at(bytes, CS_AT),
+        ts: u32_at(bytes, TS_AT),
+        cts: u32_at(bytes, CTS_AT),
+        body,
+        code: &bytes[code_at..check_at],
+        check_bytes: &bytes[check_at..],
+    }
+}
+
+#[tactic(auto, unfolding(crate::specs::Pdu::decode_of))]
+fn read<'a>(params: &Params, side: Side, bytes: &'a [u8]) -> Result<Pdu<'a>, Fault>
+    ensures value { MatchResult result (λ d. decode_of params.now side bytes.now ≡ Ok (value_of d))
+        (λ f. decode_of params.now side bytes.now ≡ Err f) }
+    ensures code { IfOk result (λ d. read_code d ≡ slice_range bytes.now (code_at params.now bytes.now) (check_at params.now bytes.now)) }
+    ensures valid { AreParameters params.now }
+    ensures receiver { receiver_of params.now side < 2 ^ 32 }
+    ensures sender { sender_of params.now side < 2 ^ 32 }
+{
+    let (receiver, sender) = recorded_ids(params, side);
+    if !has_length(bytes) {
+        return Err(Fault::at(Fault::REDUNDANCY_LENGTH, 0));
+    }
+    if !has_fields(params, bytes) {
+        return Err(Fault::at(Fault::TOO_SHORT, 0));
+    }
+    let (code_at, check_at) = codes_at(params, bytes);
+    if !has_safety_length(bytes, check_at) {
+        return Err(Fault::at(Fault::SAFETY_LENGTH, 0));
+    }
+    let Some(kind) = Kind::of(u16_at(bytes, TYPE_AT)) else {
+        return Err(Fault::at(Fault::TYPE, 0));
+    };
+    let Some(body) = body_in(kind, &bytes[PAYLOAD_AT..code_at]) else {
+        return Err(Fault::at(Fault::PAYLOAD, 0));
+    };
+    if !is_code(
+        params,
+        &bytes[SAFETY_AT..code_at],
+        &bytes[code_at..check_at],
+    ) {
+        return Err(Fault::at(Fault::CODE, 0));
+    }
+    if !are_ids(bytes, receiver, sender) {
+        return Err(Fault::at(Fault::IDS, 0));
+    }
+    Ok(fields(kind, body, bytes, code_at, check_at))
+}
+
+/// Reads the datagram that this side sent. No memory is taken.
+///
+/// Refused, in this order, by [`Fault::REDUNDANCY_LENGTH`], [`Fault::TOO_SHORT`],
+/// [`Fault::SAFETY_LENGTH`], [`Fault::TYPE`], [`Fault::PAYLOAD`], [`Fault::CODE`] and [`Fault::IDS`],
+/// at place 0.
+pub fn decode<'a>(params: &Params, side: Side, bytes: &'a [u8]) -> Result<Pdu<'a>, Fault>
+    ensures value { MatchResult result (λ d. decode_of params.now side bytes.now ≡ Ok (value_of d))
+        (λ f. decode_of params.now side bytes.now ≡ Err f) }
+
+    // What is read is spelled so.
+    ensures spelled { IfOk result (λ d. IsRedundancyPdu params.now (value_of d)
+        × (bytes.now ≡ redundancy_bytes params.now side (value_of d))) }
+
+    // What is spelled for the side is read as that value.
+    ensures read_back { (r : RedundancyPdu) → IsRedundancyPdu params.now r
+        → bytes.now ≡ redundancy_bytes params.now side r → IsOkAnd result (λ d. value_of d ≡ r) }
+
+    // The code that is lent is that of the value, and stands between the payload and the check code.
+    ensures code { IfOk result (λ d. read_code d ≡ code_of params.now side (value_of d).safety) }
+    ensures code_place { IfOk result (λ d. read_code d
+        ≡ slice_range bytes.now (code_at params.now bytes.now) (check_at params.now bytes.now)) }
+{
+    read(params, side, bytes)
+}
