@@ -11,6 +11,8 @@ mod line;
 mod messages;
 mod packet;
 mod params;
+#[cfg(test)]
+mod params_tests;
 mod quiet_table;
 mod show;
 mod shown_packet;

@@ -1,11 +1,11 @@
 //! The parameters of a parameter file.
-ghost use Rattle.std.specs.Prelude.{◌≡◌, ◌≢◌, ◌≤◌, ◌⊎◌, length, IfOk, MatchResult, Ok, Err, Some, option_map, is_some, nat_le, ◌&&◌, true, IfSome};
+ghost use Rattle.std.specs.Prelude.{◌≡◌, ◌≢◌, ◌≤◌, ◌⊎◌, length, IfOk, MatchResult, Ok, Err, Some, codes, option_map, is_some, nat_le, ◌&&◌, true, IfSome};
 ghost use Rattle.rasta_pcap.specs.Fault.{no_memory};
 ghost use Rattle.rasta_pdu.specs.Params.{AreChannels, AreLengths, AreLimits, IsQuiet, IsWindow, are_distinct, routes};
 ghost use Rattle.std.specs.List.{list_all};
 ghost use Rattle.toml.specs.Data.{as_array, as_integer, as_table};
 ghost use Rattle.toml.specs.View.{items_view, table_view, view};
-ghost use Rattle.rasta_audit.specs.Keys.{ReadsParameters, are_few_tables, channel_in, channel_of, channels_at, channels_in, check_length, check_length_at, code_length, code_length_at, endpoint_at, few_tables, ids_of, layout_of, limits_of, md4_start_at, parameters_of, parameters_with, window_of};
+ghost use Rattle.rasta_audit.specs.Keys.{ReadsParameters, are_among, are_few_tables, channel_in, channel_of, channels_at, channels_in, check_length, check_length_at, code_length, code_length_at, endpoint_at, few_tables, ids_of, known_keys, layout_of, limits_of, md4_start_at, number_at, parameters_of, parameters_with, window_of};
 
 use crate::endpoint::endpoint_in;
 use crate::key::{has_keys_among, number, optional, value_at};
@@ -144,15 +144,36 @@ fn read_layout(table: &Table) -> Result<Layout, Fault>
     })
 }
 
+fn read_n_sendmax(table: &Table) -> Result<u32, Fault>
+    ensures value { result ≡ number_at 6 (codes "n_sendmax") 1 65535 (table_view table.now) }
+    ensures range { IfOk result (λ n. (1 ≤ n) × (n ≤ 65535)) }
+{
+    number(table, 6, "n_sendmax", 1, 65535)
+}
+
+fn read_t_max(table: &Table) -> Result<u32, Fault>
+    ensures value { result ≡ number_at 7 (codes "t_max") 1 60000 (table_view table.now) }
+    ensures range { IfOk result (λ n. (1 ≤ n) × (n ≤ 60000)) }
+{
+    number(table, 7, "t_max", 1, 60000)
+}
+
+fn read_slack(table: &Table) -> Result<u32, Fault>
+    ensures value { result ≡ number_at 8 (codes "slack") 0 1000 (table_view table.now) }
+    ensures range { IfOk result (λ n. n ≤ 1000) }
+{
+    number(table, 8, "slack", 0, 1000)
+}
+
 #[tactic(auto, unfolding(crate::specs::Keys::limits_of))]
 fn read_limits(table: &Table) -> Result<Limits, Fault>
     ensures value { result ≡ limits_of (table_view table.now) }
     ensures most { IfOk result (λ l. l.n_sendmax ≤ 65535) }
     ensures valid { IfOk result (λ l. AreLimits l.n_sendmax l.t_max l.slack) }
 {
-    let n_sendmax = number(table, 6, "n_sendmax", 1, 65535)?;
-    let t_max = number(table, 7, "t_max", 1, 60000)?;
-    let slack = number(table, 8, "slack", 0, 1000)?;
+    let n_sendmax = read_n_sendmax(table)?;
+    let t_max = read_t_max(table)?;
+    let slack = read_slack(table)?;
     Ok(Limits {
         n_sendmax,
         t_max,
@@ -304,6 +325,12 @@ const KNOWN_KEYS: [&str; 12] = [
     "quiet",
 ];
 
+fn has_known_keys(table: &Table) -> bool
+    ensures { result ≡ are_among known_keys (table_view table.now) }
+{
+    has_keys_among(table, &KNOWN_KEYS)
+}
+
 // The parameters of these values, which are all in their ranges.
 fn assembled(
     ids: Ids,
@@ -348,7 +375,7 @@ fn read_parameters(alloc: Global, table: &Table) -> Result<Params, Fault>
     let window = read_window(table)?;
     let channels = channels_of(alloc, table)?;
     let quiet = quiet_of(table, limits.slack)?;
-    if !has_keys_among(table, &KNOWN_KEYS) {
+    if !has_known_keys(table) {
         return Err(Fault::at(Fault::BAD_VALUE, 12));
     }
     assembled(ids, layout, limits, window, &channels, quiet).ok_or(Fault::at(Fault::BAD_VALUE, 11))

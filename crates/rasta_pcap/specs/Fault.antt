@@ -71,6 +71,9 @@ wrong_code = 25
 abbrev pub wrong_ids : ℕ
 wrong_ids = 26
 
+abbrev pub too_long : ℕ
+too_long = 29
+
 abbrev pub not_toml : ℕ
 not_toml = 50
 

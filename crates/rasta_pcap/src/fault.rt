@@ -59,6 +59,8 @@ impl Fault {
 
     pub const IDS: u8 = 26;
 
+    pub const TOO_LONG: u8 = 29;
+
     pub const TOML: u8 = 50;
 
     pub const MISSING_KEY: u8 = 51;

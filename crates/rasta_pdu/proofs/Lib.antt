@@ -3,3 +3,4 @@ pub mod Payloads
 pub mod Places
 pub mod Bodies
 pub mod Spellings
+pub mod Writing

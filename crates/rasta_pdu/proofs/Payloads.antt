@@ -1,10 +1,13 @@
 -- The messages of a payload, read and spelled.
-use Rattle.std.proofs.Common.{◌≡◌, ℕ, zero, suc, ◌+◌, ◌-◌, ◌^◌, ◌<◌, ◌≤◌, List, [], ◌∷◌, ◌++◌, length, take, drop, slice_range, Bool, true, false, cond, nat_le, nat_eq, nat_lt, ◌&&◌, not, refl, ap, sym, ◌∙◌, arith, length-drop, length-append, length-take}
+use Rattle.std.proofs.Common.{◌≡◌, ℕ, zero, suc, ◌+◌, ◌-◌, ◌^◌, ◌<◌, ◌≤◌, List, [], ◌∷◌, ◌++◌, length, take, drop, slice_range, Bool, true, false, cond, nat_le, nat_eq, nat_lt, ◌&&◌, not, get_or, refl, ap, sym, ◌∙◌, arith, length-drop, length-append, length-take}
 use Rattle.std.proofs.Math.Seq.{take-append_seam, drop-append_seam}
 use Rattle.std.proofs.lemmas.List.{drop_all, nil_from_length}
 use Rattle.std.proofs.lemmas.Bool.{leb-true, leb-false}
 use Rattle.std.proofs.lemmas.Bool.Decides.{nat_tests}
 use Rattle.byteorder.specs.Endian.{little_bytes, little_number}
+use Rattle.byteorder.specs.Numbers.{little_number-reads_back}
+use Rattle.std.specs.Borrow.{Bor}
+use Rattle.rasta_pdu.specs.Parts.{lists_of}
 use Rattle.rasta_pdu.specs.Messages.{payload_of_messages, has_message, first_message, behind_message, messages_up_to, messages_of, are_messages}
 
 -- the bytes behind a message are fewer
@@ -77,3 +80,75 @@ are_messages-is payload rest h e =
 -- no bytes are no messages
 pub no_messages : messages_of [] ≡ []
 no_messages = messages_of-none [] refl
+
+-- the spelling of messages that are lent
+abbrev pub spelled : List (Bor (List ℕ)) → List ℕ
+spelled ms = payload_of_messages (lists_of ms)
+
+-- from a place on there are the message there and those behind it
+pub spelled-drop : (ms : List (Bor (List ℕ))) (i : ℕ) (d : Bor (List ℕ)) → i < length ms
+    → spelled (drop i ms) ≡ little_bytes 2 (length (get_or ms i d).now) ++ ((get_or ms i d).now ++ spelled (drop (i + 1) ms))
+spelled-drop [] i d h = absurd (omega arith)
+spelled-drop (m ∷ ms) zero d h = refl
+spelled-drop (m ∷ ms) (suc i) d h =
+    let next : suc (i + 1) ≡ suc i + 1 = omega arith in
+    spelled-drop ms i d (omega arith)
+    ∙ ap (λ (n : ℕ). little_bytes 2 (length (get_or ms i d).now) ++ ((get_or ms i d).now ++ spelled (drop n (m ∷ ms)))) next
+
+-- each message is shorter than that
+pub record AreShort (ms : List (List ℕ)) : Type 0 where
+  pub short : (i : ℕ) → length (get_or ms i []) < 2 ^ 16
+
+-- spelled messages are no fewer bytes than one of them
+short_by : (ms : List (List ℕ)) (i : ℕ) → length (get_or ms i []) ≤ length (payload_of_messages ms)
+short_by [] i = omega arith
+short_by (m ∷ ms) zero = let size = length-append m (payload_of_messages ms) in omega arith
+short_by (m ∷ ms) (suc i) =
+    let size = length-append m (payload_of_messages ms) in
+    let more = short_by ms i in
+    omega arith
+
+-- few bytes are short messages
+pub AreShort-few : (ms : List (List ℕ)) → length (payload_of_messages ms) < 2 ^ 16 → AreShort ms
+AreShort-few ms h = record { short = λ i. let less = short_by ms i in omega arith }
+
+-- where a spelled message begins, it is read
+first_is : (m rest : List ℕ) → length m < 2 ^ 16 → messages_of (little_bytes 2 (length m) ++ (m ++ rest)) ≡ m ∷ messages_of rest
+first_is m rest short =
+    let xs : List ℕ = little_bytes 2 (length m) ++ (m ++ rest) in
+    let n : little_number 2 xs ≡ length m = little_number-reads_back 2 (length m) (m ++ rest) short in
+    let size = length-append m rest in
+    let has : has_message xs ≡ true = most (2 + little_number 2 xs) (length xs) (omega arith) in
+    let first : first_message xs ≡ m = ap (λ (k : ℕ). take (2 + k - 2) (m ++ rest)) n ∙ ap (λ (k : ℕ). take k (m ++ rest)) (omega arith) ∙ take-append_seam m rest in
+    let behind : behind_message xs ≡ rest = ap (λ (k : ℕ). drop (2 + k) xs) n ∙ skip m rest (length m) xs refl (omega arith) in
+    messages_of-first xs has ∙ ap (λ (l : List ℕ). l ∷ messages_of (behind_message xs)) first ∙ ap (λ (l : List ℕ). m ∷ messages_of l) behind
+  where
+    most : (a b : ℕ) → a ≤ b → nat_le a b ≡ true
+    most a b h = grind (arith, nat_tests)
+
+    skip : (m rest : List ℕ) (n : ℕ) (xs : List ℕ) → xs ≡ little_bytes 2 n ++ (m ++ rest) → n ≡ length m → drop (2 + n) xs ≡ rest
+    skip m rest n xs e f =
+        let two : 2 + n ≡ suc (suc n) = omega arith in
+        ap (λ (l : List ℕ). drop (2 + n) l) e ∙ ap (λ (k : ℕ). drop k (little_bytes 2 n ++ (m ++ rest))) two
+        ∙ ap (λ (k : ℕ). drop k (m ++ rest)) f ∙ drop-append_seam m rest
+
+AreShort-rest : (m : List ℕ) (ms : List (List ℕ)) → AreShort (m ∷ ms) → AreShort ms
+AreShort-rest m ms are = record { short = λ i. are.short (suc i) }
+
+-- what is spelled is read as the same messages
+pub messages_of-payload : (ms : List (List ℕ)) → AreShort ms → messages_of (payload_of_messages ms) ≡ ms
+messages_of-payload [] are = no_messages
+messages_of-payload (m ∷ ms) are =
+    first_is m (payload_of_messages ms) (are.short 0)
+    ∙ ap (λ (l : List (List ℕ)). m ∷ l) (messages_of-payload ms (AreShort-rest m ms are))
+
+-- one or more spelled messages fill their payload
+pub are_messages-payload : (ms : List (List ℕ)) → AreShort ms → 0 < length ms → are_messages (payload_of_messages ms) ≡ true
+unfolding are_messages
+are_messages-payload [] are some = absurd (omega arith)
+are_messages-payload (m ∷ ms) are some =
+    let same = ap (λ (l : List (List ℕ)). length (payload_of_messages l)) (messages_of-payload (m ∷ ms) are) in
+    both (length (payload_of_messages (messages_of (payload_of_messages (m ∷ ms))))) (length (payload_of_messages (m ∷ ms))) same (omega arith)
+  where
+    both : (a b : ℕ) → a ≡ b → 0 < b → (nat_lt 0 b && nat_eq a b) ≡ true
+    both a b e h = grind (arith, nat_tests)

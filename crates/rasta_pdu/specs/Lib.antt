@@ -5,3 +5,4 @@ pub mod Params
 pub mod Stored
 pub mod Messages
 pub mod Pdu
+pub mod Parts

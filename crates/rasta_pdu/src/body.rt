@@ -41,7 +41,7 @@ fn are_digits(bytes: &[u8]) -> bool
 }
 
 // Whether these are four ASCII digits.
-fn is_version(version: &[u8]) -> bool
+pub fn is_version(version: &[u8]) -> bool
     ensures { result ≡ is_version version.now }
 {
     version.len() == VERSION_LEN && are_digits(version)

@@ -4,25 +4,31 @@
 
 mod body;
 mod bytes;
+mod code;
+mod ids;
 mod kind;
 mod layout;
 mod messages;
 mod params;
 #[cfg(test)]
 mod params_tests;
+mod parts;
 mod pdu;
 mod quiet_point;
 mod read;
 mod route;
 #[cfg(test)]
 mod tests;
+mod write;
 
 pub use body::Body;
 pub use kind::Kind;
 pub use messages::Messages;
 pub use params::Params;
+pub use parts::PduParts;
 pub use pdu::Pdu;
 pub use quiet_point::{Quiet, QuietEnd};
 pub use rasta_udp::{Channel, Endpoint, Fault, Side, Sink, Source};
 pub use read::decode;
 pub use route::are_distinct_routes;
+pub use write::encode;

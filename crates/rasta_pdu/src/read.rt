@@ -5,6 +5,8 @@ ghost use Rattle.rasta_pdu.specs.Pdu.{RedundancyPdu, IsRedundancyPdu, redundancy
 
 use crate::body::{Body, body_in};
 use crate::bytes::{u16_at, u32_at};
+use crate::code::is_code;
+use crate::ids::recorded_ids;
 use crate::kind::Kind;
 use crate::layout::{
     CS_AT, CTS_AT, LENGTH_AT, LENGTH_LEN, NUMBER_AT, PAYLOAD_AT, RECEIVER_AT, RESERVE_AT,
@@ -12,20 +14,7 @@ use crate::layout::{
 };
 use crate::params::Params;
 use crate::pdu::Pdu;
-use rasta_md4::Md4;
 use rasta_udp::{Fault, Side};
-
-// The receiver and the sender of what this side sends.
-fn recorded_ids(params: &Params, side: Side) -> (u32, u32)
-    ensures receiver { result.0 ≡ receiver_of params.now side }
-    ensures sender { result.1 ≡ sender_of params.now side }
-    ensures valid { AreParameters params.now }
-{
-    match side {
-        Side::Client => (params.server_id(), params.client_id()),
-        Side::Server => (params.client_id(), params.server_id()),
-    }
-}
 
 fn has_length(bytes: &[u8]) -> bool
     ensures { result ≡ has_length bytes.now }
@@ -57,21 +46,6 @@ fn has_safety_length(bytes: &[u8], check_at: usize) -> bool
     ensures { result ≡ (number_at 2 8 bytes.now == check_at - 8) }
 {
     usize::from(u16_at(bytes, SAFETY_AT)) == check_at - SAFETY_AT
-}
-
-// Whether this is the safety code over the bytes.
-fn is_code(params: &Params, covered: &[u8], code: &[u8]) -> bool
-    requires { length code.now ≡ params.now.code_length }
-    ensures { result ≡ bytes_eq (code_over params.now covered.now) code.now }
-{
-    if code.is_empty() {
-        return true;
-    }
-    let mut md4 = Md4::with_words(params.md4_start());
-    md4.update(covered);
-    let digest = md4.finish();
-    let expected = &digest[..code.len()];
-    expected == code
 }
 
 // Whether these are the receiver and the sender.
