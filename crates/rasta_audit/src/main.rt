@@ -15,6 +15,8 @@ mod params;
 mod params_tests;
 mod quiet_table;
 mod show;
+#[cfg(test)]
+mod show_tests;
 mod shown_packet;
 mod start_words;
 #[cfg(test)]
