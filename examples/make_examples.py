@@ -479,6 +479,18 @@ RETRANSMISSION = HANDSHAKE + [
     Pdu("server", 43, DISCONNECTION_REQUEST, 503, 107, 9050, 1050, (3, 0)),
 ]
 
+ONE_COMMENT = """\
+# Parameters of one_heartbeat.pcap: a connection with one redundancy channel.
+# All keys that have to be there are here; the window is the whole file, since first_record and
+# last_record are missing.
+
+"""
+
+TWO_COMMENT = """\
+# Parameters of two_channels.pcap: a connection with two redundancy channels.
+
+"""
+
 HANDSHAKE_COMMENT = """\
 # Parameters of handshake.pcap: a connection with one redundancy channel.
 
