@@ -10,7 +10,8 @@ use Rattle.rasta_pdu.specs.declared.kind.Kind.{Kind}
 use Rattle.rasta_pdu.specs.declared.kind.Kind.TheVariants.{ConnectionRequest, ConnectionResponse, RetransmissionRequest, RetransmissionResponse, DisconnectionRequest, Heartbeat, Data, RetransmittedData}
 use Rattle.rasta_pdu.specs.Pdu.{SafetyBody, Opening, Bye, Messages, Empty, Layout, OpeningFields, ByeFields, MessageList, Nothing, HasLayout, payload_of, body_in, number_at, is_version, type_of, kind_of}
 use Rattle.rasta_pdu.specs.Messages.{are_messages}
-use Rattle.rasta_pdu.proofs.Numbers.{AreBytes, two_at, number_at-lt}
+use Rattle.rasta_pdu.specs.Messages.{AreBytes}
+use Rattle.rasta_pdu.proofs.Numbers.{two_at, number_at-lt}
 
 -- a type number is that of its kind alone
 pub kind_of-type_of : (kind : Kind) → kind_of (type_of kind) ≡ Some kind

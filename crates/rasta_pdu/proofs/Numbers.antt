@@ -6,11 +6,8 @@ use Rattle.std.proofs.lemmas.Bool.{cases_lt}
 use Rattle.std.specs.Int.{from_le_bytes}
 use Rattle.byteorder.specs.Endian.{little_bytes, little_number, little_from}
 use Rattle.byteorder.specs.Numbers.{little_from-append, little_from-lt}
+use Rattle.rasta_pdu.specs.Messages.{AreBytes}
 use Rattle.rasta_pdu.specs.Pdu.{number_at}
-
--- each of the list is a byte
-pub record AreBytes (xs : List ℕ) : Type 0 where
-  pub fits : (i : ℕ) → get_or xs i 0 < 256
 
 -- bytes from a place on are bytes
 pub AreBytes-drop : (at : ℕ) (xs : List ℕ) → AreBytes xs → AreBytes (drop at xs)

@@ -1,14 +1,17 @@
 -- The messages of a payload, read and spelled.
-use Rattle.std.proofs.Common.{◌≡◌, ℕ, zero, suc, ◌+◌, ◌-◌, ◌^◌, ◌<◌, ◌≤◌, List, [], ◌∷◌, ◌++◌, length, take, drop, slice_range, Bool, true, false, cond, nat_le, nat_eq, nat_lt, ◌&&◌, not, get_or, refl, ap, sym, ◌∙◌, arith, length-drop, length-append, length-take}
+use Rattle.std.proofs.Common.{◌≡◌, ℕ, zero, suc, ◌+◌, ◌-◌, ◌^◌, ◌<◌, ◌≤◌, List, [], ◌∷◌, ◌++◌, length, take, drop, slice_range, Bool, true, false, cond, nat_le, nat_eq, nat_lt, ◌&&◌, not, get_or, refl, ap, sym, ◌∙◌, arith, append_assoc, append-nil, length-drop, length-append, length-take}
 use Rattle.std.proofs.Math.Seq.{take-append_seam, drop-append_seam}
-use Rattle.std.proofs.lemmas.List.{drop_all, nil_from_length}
-use Rattle.std.proofs.lemmas.Bool.{leb-true, leb-false}
+use Rattle.std.proofs.lemmas.List.{nil_from_length}
+use Rattle.std.proofs.lemmas.List.Folds.{drop_split}
+use Rattle.rasta_pdu.proofs.Places.{length-slice_range}
+use Rattle.rasta_pdu.proofs.Numbers.{AreBytes-drop, two_at}
+use Rattle.std.proofs.lemmas.Bool.{leb-true, eqb-true, and_parts}
 use Rattle.std.proofs.lemmas.Bool.Decides.{nat_tests}
 use Rattle.byteorder.specs.Endian.{little_bytes, little_number}
 use Rattle.byteorder.specs.Numbers.{little_number-reads_back}
 use Rattle.std.specs.Borrow.{Bor}
 use Rattle.rasta_pdu.specs.Parts.{lists_of}
-use Rattle.rasta_pdu.specs.Messages.{payload_of_messages, has_message, first_message, behind_message, messages_up_to, messages_of, are_messages}
+use Rattle.rasta_pdu.specs.Messages.{payload_of_messages, has_message, first_message, behind_message, messages_up_to, messages_of, are_messages, AreBytes, AreShort}
 
 -- the bytes behind a message are fewer
 length-behind : (xs : List ℕ) → length (behind_message xs) ≡ length xs - (2 + little_number 2 xs)
@@ -95,10 +98,6 @@ spelled-drop (m ∷ ms) (suc i) d h =
     spelled-drop ms i d (omega arith)
     ∙ ap (λ (n : ℕ). little_bytes 2 (length (get_or ms i d).now) ++ ((get_or ms i d).now ++ spelled (drop n (m ∷ ms)))) next
 
--- each message is shorter than that
-pub record AreShort (ms : List (List ℕ)) : Type 0 where
-  pub short : (i : ℕ) → length (get_or ms i []) < 2 ^ 16
-
 -- spelled messages are no fewer bytes than one of them
 short_by : (ms : List (List ℕ)) (i : ℕ) → length (get_or ms i []) ≤ length (payload_of_messages ms)
 short_by [] i = omega arith
@@ -152,3 +151,53 @@ are_messages-payload (m ∷ ms) are some =
   where
     both : (a b : ℕ) → a ≡ b → 0 < b → (nat_lt 0 b && nat_eq a b) ≡ true
     both a b e h = grind (arith, nat_tests)
+
+-- ---- a payload and its messages
+
+-- where a message begins, the bytes are its length, itself and what stands behind it
+front_is : (xs : List ℕ) → AreBytes xs → has_message xs ≡ true
+    → xs ≡ little_bytes 2 (length (first_message xs)) ++ (first_message xs ++ behind_message xs)
+front_is xs are h =
+    let n : ℕ = little_number 2 xs in
+    let room : 2 + n ≤ length xs = leb-true (2 + n) (length xs) h in
+    let size : length (first_message xs) ≡ n = length-slice_range xs 2 (2 + n) (omega arith) room ∙ omega arith in
+    two_at 0 xs are (omega arith)
+    ∙ ap (λ (m : ℕ). little_bytes 2 m ++ drop 2 xs) (sym size)
+    ∙ ap (λ (l : List ℕ). little_bytes 2 (length (first_message xs)) ++ l) (drop_split xs 2 (2 + n) (omega arith))
+
+-- the bytes are the spelling of so many of their messages, and what is left
+record Splits (n : ℕ) (xs : List ℕ) : Type 0 where
+  rest : List ℕ
+  is : xs ≡ payload_of_messages (messages_up_to n xs) ++ rest
+
+first_split : (n : ℕ) (xs : List ℕ) → AreBytes xs → Splits n (behind_message xs) → (b : Bool) → has_message xs ≡ b → Splits (suc n) xs
+first_split n xs are more false h = record {
+  rest = xs;
+  is = ap (λ (t : Bool). payload_of_messages (cond t (first_message xs ∷ messages_up_to n (behind_message xs)) []) ++ xs) (sym h);
+}
+first_split n xs are more true h = record {
+  rest = more.rest;
+  is = front_is xs are h
+      ∙ ap (λ (l : List ℕ). little_bytes 2 (length (first_message xs)) ++ (first_message xs ++ l)) more.is
+      ∙ ap (λ (l : List ℕ). little_bytes 2 (length (first_message xs)) ++ l)
+      (sym (append_assoc (first_message xs) (payload_of_messages (messages_up_to n (behind_message xs))) more.rest))
+      ∙ ap (λ (t : Bool). payload_of_messages (cond t (first_message xs ∷ messages_up_to n (behind_message xs)) []) ++ more.rest) (sym h);
+}
+
+splits : (n : ℕ) (xs : List ℕ) → AreBytes xs → Splits n xs
+splits zero xs are = record { rest = xs; is = refl }
+splits (suc n) xs are =
+    first_split n xs are (splits n (behind_message xs) (AreBytes-drop (2 + little_number 2 xs) xs are)) (has_message xs) refl
+
+-- a payload that its messages fill is their spelling
+pub payload_of_messages-messages_of : (xs : List ℕ) → AreBytes xs → are_messages xs ≡ true → xs ≡ payload_of_messages (messages_of xs)
+unfolding messages_of are_messages
+payload_of_messages-messages_of xs are h =
+    let all = splits (length xs) xs are in
+    let spelled : List ℕ = payload_of_messages (messages_up_to (length xs) xs) in
+    let tests = and_parts (nat_lt 0 (length xs)) (nat_eq (length spelled) (length xs)) h in
+    let size : length spelled ≡ length xs = eqb-true (length spelled) (length xs) tests.1 in
+    let whole = ap length all.is in
+    let parts = length-append spelled all.rest in
+    let none : all.rest ≡ [] = nil_from_length all.rest (omega arith) in
+    all.is ∙ ap (λ (l : List ℕ). spelled ++ l) none ∙ append-nil spelled

@@ -14,7 +14,8 @@ use Rattle.rasta_pdu.specs.declared.kind.Kind.{Kind}
 use Rattle.rasta_pdu.specs.declared.pdu.Pdu.{Pdu}
 use Rattle.rasta_pdu.specs.Params.{Parameters, AreParameters}
 use Rattle.rasta_pdu.specs.Pdu.{SafetyBody, SafetyPdu, RedundancyPdu, IsRedundancyPdu, HasLayout, layout_of, type_of, kind_of, payload_of, body_in, length_of, uncoded_bytes, code_over, code_of, safety_bytes, redundancy_bytes, receiver_of, sender_of, number_at, check_at, code_at, has_length, has_fields, has_safety_length, has_code, has_ids, fields_of, refused, decode_body, decode_kind, decode_of, value_of}
-use Rattle.rasta_pdu.proofs.Numbers.{AreBytes, AreBytes-drop, AreBytes-take, two_at, four_at, number_at-lt}
+use Rattle.rasta_pdu.specs.Messages.{AreBytes}
+use Rattle.rasta_pdu.proofs.Numbers.{AreBytes-drop, AreBytes-take, two_at, four_at, number_at-lt}
 use Rattle.rasta_pdu.proofs.Places.{first_part, second_part, third_part, length-three, three_parts, length-slice_range}
 use Rattle.rasta_pdu.proofs.Bodies.{kind_of-type_of, type_of-kind_of, type_of-lt, IsBodyOf, body_in-Some, body_in-payload_of}
 
@@ -196,6 +197,45 @@ same_value : (kind : Kind) (body : SafetyBody) (a b c d e f a' b' c' d' e' f' : 
     → k ≡ k' → value kind body a b c d e f k ≡ value kind body a' b' c' d' e' f' k'
 same_value kind body a b c d e f a' b' c' d' e' f' k k' ea eb ec ed ee ef ek = rw (ea, eb, ec, ed, ee, ef, ek) refl
 
+-- what the spelling of a value shows of it, whatever the ids
+record IsSpelled (p : Parameters) (r : RedundancyPdu) (xs : List ℕ) : Type 0 where
+  type : kind_of (number_at 2 10 xs) ≡ Some r.safety.kind
+  payload : body_in (layout_of r.safety.kind) (slice_range xs 36 (code_at p xs)) ≡ Some r.safety.body
+  value : fields_of r.safety.kind r.safety.body (check_at p xs) xs ≡ r
+
+parts_of : (p : Parameters) (side : Side) (r : RedundancyPdu) → AreParameters p → IsRedundancyPdu p r
+    → HasParts p (redundancy_bytes p side r) (uncoded_bytes p side r.safety) (payload_of r.safety.body) (code_of p side r.safety) r.check_bytes
+unfolding redundancy_bytes
+parts_of p side r are is =
+    let s : SafetyPdu = r.safety in
+    has_parts p (length_of p r) r.reserve r.number (28 + length (payload_of s.body) + p.code_length) (type_of s.kind) (receiver_of p side) (sender_of p side)
+    s.sn s.cs s.ts s.cts (payload_of s.body) (code_of p side s) r.check_bytes (length-code p (uncoded_bytes p side s) are) is.check_bytes
+
+-- how many bytes a datagram has
+pub length-redundancy_bytes : (p : Parameters) (side : Side) (r : RedundancyPdu) → AreParameters p → IsRedundancyPdu p r
+    → length (redundancy_bytes p side r) ≡ length_of p r
+length-redundancy_bytes p side r are is =
+    let parts = parts_of p side r are is in
+    let size = parts.size in
+    let check = is.check_bytes in
+    omega arith
+
+is_spelled : (p : Parameters) (side : Side) (r : RedundancyPdu) → AreParameters p → IsRedundancyPdu p r → IsSpelled p r (redundancy_bytes p side r)
+unfolding redundancy_bytes
+is_spelled p side r are is =
+    let s : SafetyPdu = r.safety in
+    let xs : List ℕ = redundancy_bytes p side r in
+    let parts = parts_of p side r are is in
+    let n10 : number_at 2 10 xs ≡ type_of s.kind = little_number-reads_back 2 (type_of s.kind) [] (type_of-lt s.kind) in
+    record {
+      type = ap kind_of n10 ∙ kind_of-type_of s.kind;
+      payload = ap (body_in (layout_of s.kind)) parts.payload ∙ body_in-payload_of (layout_of s.kind) s.body is.body;
+      value = same_value s.kind s.body _ _ _ _ _ _ r.reserve r.number s.sn s.cs s.ts s.cts _ r.check_bytes
+          (little_number-reads_back 2 r.reserve [] is.reserve) (little_number-reads_back 4 r.number [] is.number)
+          (little_number-reads_back 4 s.sn [] is.sn) (little_number-reads_back 4 s.cs [] is.cs)
+          (little_number-reads_back 4 s.ts [] is.ts) (little_number-reads_back 4 s.cts [] is.cts) parts.check;
+    }
+
 -- the value is what is read of its spelling
 pub decode_of-redundancy_bytes : (p : Parameters) (side : Side) (r : RedundancyPdu) → AreParameters p
     → receiver_of p side < 2 ^ 32 → sender_of p side < 2 ^ 32 → IsRedundancyPdu p r
@@ -203,32 +243,46 @@ pub decode_of-redundancy_bytes : (p : Parameters) (side : Side) (r : RedundancyP
 unfolding redundancy_bytes
 decode_of-redundancy_bytes p side r are to from is =
     let s : SafetyPdu = r.safety in
-    let b : List ℕ = payload_of s.body in
-    let u : List ℕ = uncoded_bytes p side s in
-    let c : List ℕ = code_over p u in
-    let k : List ℕ = r.check_bytes in
-    let d : ℕ = 28 + length b + p.code_length in
+    let d : ℕ = 28 + length (payload_of s.body) + p.code_length in
     let xs : List ℕ = redundancy_bytes p side r in
-    let parts : HasParts p xs u b c k = has_parts p (length_of p r) r.reserve r.number d (type_of s.kind) (receiver_of p side) (sender_of p side)
-    s.sn s.cs s.ts s.cts b c k (length-code p u are) is.check_bytes in
+    let parts = parts_of p side r are is in
+    let spelled = is_spelled p side r are is in
+    let size : length xs ≡ length_of p r = length-redundancy_bytes p side r are is in
     let n0 : number_at 2 0 xs ≡ length_of p r = little_number-reads_back 2 (length_of p r) [] is.size in
     let n8 : number_at 2 8 xs ≡ d = little_number-reads_back 2 d [] (omega arith) in
-    let n10 : number_at 2 10 xs ≡ type_of s.kind = little_number-reads_back 2 (type_of s.kind) [] (type_of-lt s.kind) in
     let n12 : number_at 4 12 xs ≡ receiver_of p side = little_number-reads_back 4 (receiver_of p side) [] to in
     let n16 : number_at 4 16 xs ≡ sender_of p side = little_number-reads_back 4 (sender_of p side) [] from in
     passed p side xs s.kind s.body (record {
       length = is_whole (number_at 2 0 xs) (length xs) (omega arith) (omega arith);
       fields = is_most (36 + p.code_length + p.check_length) (length xs) (omega arith);
       safety = is_same (number_at 2 8 xs) (check_at p xs - 8) (omega arith);
-      type = ap kind_of n10 ∙ kind_of-type_of s.kind;
-      payload = ap (body_in (layout_of s.kind)) parts.payload ∙ body_in-payload_of (layout_of s.kind) s.body is.body;
+      type = spelled.type;
+      payload = spelled.payload;
       code = same_bytes _ _ (ap (code_over p) parts.covered ∙ sym parts.code);
       ids = are_same (number_at 4 12 xs) (receiver_of p side) (number_at 4 16 xs) (sender_of p side) n12 n16;
     })
-    ∙ ap (λ (v : RedundancyPdu). Ok v) (same_value s.kind s.body _ _ _ _ _ _ r.reserve r.number s.sn s.cs s.ts s.cts _ k
-    (little_number-reads_back 2 r.reserve [] is.reserve) (little_number-reads_back 4 r.number [] is.number)
-    (little_number-reads_back 4 s.sn [] is.sn) (little_number-reads_back 4 s.cs [] is.cs)
-    (little_number-reads_back 4 s.ts [] is.ts) (little_number-reads_back 4 s.cts [] is.cts) parts.check)
+    ∙ ap (λ (v : RedundancyPdu). Ok v) spelled.value
+
+-- no bytes are the spelling of two values
+unique : (p : Parameters) (xs : List ℕ) (r s : RedundancyPdu) → IsSpelled p r xs → IsSpelled p s xs → r ≡ s
+unique p xs r s a b =
+    let kinds : r.safety.kind ≡ s.safety.kind = same_kind (sym a.type ∙ b.type) in
+    let bodies : r.safety.body ≡ s.safety.body = same_body (sym a.payload
+    ∙ ap (λ (k : Kind). body_in (layout_of k) (slice_range xs 36 (code_at p xs))) kinds ∙ b.payload) in
+    sym a.value ∙ ap (λ (k : Kind). fields_of k r.safety.body (check_at p xs) xs) kinds
+    ∙ ap (λ (o : SafetyBody). fields_of s.safety.kind o (check_at p xs) xs) bodies ∙ b.value
+  where
+    same_kind : {x y : Kind} → ◌≡◌ {A = Option Kind} (Some x) (Some y) → x ≡ y
+    same_kind {x} {y} h = cc
+
+    same_body : {x y : SafetyBody} → ◌≡◌ {A = Option SafetyBody} (Some x) (Some y) → x ≡ y
+    same_body {x} {y} h = cc
+
+-- no two values share a spelling
+pub redundancy_bytes-injective : (p : Parameters) (side : Side) (r s : RedundancyPdu) → AreParameters p → IsRedundancyPdu p r → IsRedundancyPdu p s
+    → redundancy_bytes p side r ≡ redundancy_bytes p side s → r ≡ s
+redundancy_bytes-injective p side r s are ir is e =
+    unique p (redundancy_bytes p side s) r s (subst (λ (xs : List ℕ). IsSpelled p r xs) e (is_spelled p side r are ir)) (is_spelled p side s are is)
 
 -- ---- from the bytes to the value and back
 

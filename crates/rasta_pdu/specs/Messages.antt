@@ -1,6 +1,14 @@
 -- The messages of a payload: how they are spelled, and how they are read.
-use Rattle.std.specs.Prelude.{ℕ, zero, suc, ◌+◌, ◌-◌, List, [], ◌∷◌, ◌++◌, length, drop, slice_range, Bool, ◌&&◌, nat_lt, nat_le, ◌==◌, if◌then◌else◌}
+use Rattle.std.specs.Prelude.{ℕ, zero, suc, ◌+◌, ◌-◌, ◌<◌, ◌^◌, List, [], ◌∷◌, ◌++◌, length, drop, slice_range, slice_index, slice_index_or, Bool, ◌&&◌, nat_lt, nat_le, ◌==◌, if◌then◌else◌}
 use Rattle.byteorder.specs.Endian.{little_bytes, little_number}
+
+-- each of the list is a byte
+pub record AreBytes (xs : List ℕ) : Type 0 where
+  pub fits : (i : ℕ) → slice_index xs i < 256
+
+-- the length of each message fits its field
+pub record AreShort (ms : List (List ℕ)) : Type 0 where
+  pub short : (i : ℕ) → length (slice_index_or ms i []) < 2 ^ 16
 
 -- each message is its length and its bytes
 abbrev pub payload_of_messages : List (List ℕ) → List ℕ

@@ -7,6 +7,7 @@ mod bytes;
 mod code;
 mod ids;
 mod kind;
+pub mod laws;
 mod layout;
 mod messages;
 mod params;
@@ -20,6 +21,8 @@ mod route;
 #[cfg(test)]
 mod tests;
 mod write;
+#[cfg(test)]
+mod write_tests;
 
 pub use body::Body;
 pub use kind::Kind;
