@@ -8,11 +8,16 @@ mod failure;
 mod form;
 mod key;
 mod line;
+mod messages;
+mod packet;
 mod params;
 #[cfg(test)]
 mod params_tests;
 mod quiet_table;
 mod show;
+#[cfg(test)]
+mod show_tests;
+mod shown_packet;
 mod start_words;
 #[cfg(test)]
 mod tests;
