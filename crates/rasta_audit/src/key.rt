@@ -6,7 +6,7 @@ ghost use Rattle.std.specs.Str.{bytes_eq};
 ghost use Rattle.toml.specs.Data.{get_member};
 ghost use Rattle.toml.specs.View.{table_view, view};
 ghost use Rattle.rasta_pdu.specs.Params.{most_clock};
-ghost use Rattle.rasta_audit.specs.Keys.{are_among, found_or_bad, if_any_at, number_at, optional_at, or_bad, whole};
+ghost use Rattle.rasta_audit.specs.Keys.{are_among, if_any_at, number_at, optional_at, or_bad, whole};
 ghost use Rattle.rasta_audit.specs.Stored.{texts_of};
 
 use rasta_pdu::Fault;

@@ -1,10 +1,9 @@
 //! The quiet point of a parameter file.
-ghost use Rattle.std.specs.Prelude.{◌≡◌, ◌≤◌, IfOk, IfSome, IsTrue, true, codes};
+ghost use Rattle.std.specs.Prelude.{◌≡◌, ◌≤◌, IfOk, IfSome};
 ghost use Rattle.toml.specs.Data.{as_table};
 ghost use Rattle.toml.specs.View.{table_view, view};
 ghost use Rattle.rasta_pdu.specs.Params.{IsQuiet, most_clock};
 ghost use Rattle.rasta_audit.specs.Keys.{has_keys_among, is_in_time, quiet_at, quiet_end_in, quiet_end_of, quiet_in, quiet_keys, quiet_of_table};
-ghost use Rattle.rasta_audit.specs.Stored.{texts_of};
 
 use crate::key::{clock, clock_if_any, has_keys_among, number, number_if_any, value_at};
 use rasta_pdu::{Fault, Quiet, QuietEnd};

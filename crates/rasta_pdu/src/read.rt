@@ -1,7 +1,8 @@
 //! Reading a datagram.
-ghost use Rattle.std.specs.Prelude.{◌≡◌, ◌≤◌, ◌+◌, ◌-◌, ◌<◌, ◌^◌, ◌==◌, ◌&&◌, length, take, slice_range, Ok, Err, IfOk, MatchResult, IsOkAnd, bytes_eq};
+ghost use Rattle.std.specs.Prelude.{◌≡◌, ◌≤◌, ◌+◌, ◌-◌, ◌<◌, ◌^◌, ◌==◌, ◌&&◌, length, slice_range, Ok, Err, IfOk, MatchResult, IsOkAnd};
+ghost use Rattle.rasta_udp.specs.Fault.{fault_at};
 ghost use Rattle.rasta_pdu.specs.Params.{AreParameters};
-ghost use Rattle.rasta_pdu.specs.Pdu.{RedundancyPdu, IsRedundancyPdu, redundancy_bytes, decode_of, receiver_of, sender_of, value_of, body_of, read_code, code_of, fields_of, has_length, has_fields, code_at, check_at, code_over, number_at};
+ghost use Rattle.rasta_pdu.specs.Pdu.{RedundancyPdu, IsRedundancyPdu, redundancy_bytes, decode_of, receiver_of, sender_of, value_of, body_of, read_code, code_of, fields_of, has_length, has_fields, has_safety_length, has_code, code_at, check_at, number_at};
 
 use crate::body::{Body, body_in};
 use crate::bytes::{u16_at, u32_at};
@@ -15,6 +16,13 @@ use crate::layout::{
 use crate::params::Params;
 use crate::pdu::Pdu;
 use rasta_udp::{Fault, Side};
+
+// The fault of this number. It has no place and no end.
+fn refused(number: u8) -> Fault
+    ensures { result ≡ fault_at number 0 }
+{
+    Fault::at(number, 0)
+}
 
 fn has_length(bytes: &[u8]) -> bool
     ensures { result ≡ has_length bytes.now }
@@ -40,12 +48,22 @@ fn codes_at(params: &Params, bytes: &[u8]) -> (usize, usize)
 }
 
 // Whether the safety PDU ends where the check code begins.
-fn has_safety_length(bytes: &[u8], check_at: usize) -> bool
-    requires fields { 36 ≤ length bytes.now }
-    requires check { 36 ≤ check_at }
-    ensures { result ≡ (number_at 2 8 bytes.now == check_at - 8) }
+fn has_safety_length(params: &Params, bytes: &[u8]) -> bool
+    requires { 36 + params.now.code_length + params.now.check_length ≤ length bytes.now }
+    ensures { result ≡ has_safety_length params.now bytes.now }
 {
+    let check_at = bytes.len() - usize::from(params.check_length());
     usize::from(u16_at(bytes, SAFETY_AT)) == check_at - SAFETY_AT
+}
+
+// Whether the safety code is that of the safety PDU's other bytes.
+fn has_code(params: &Params, bytes: &[u8]) -> bool
+    requires { 36 + params.now.code_length + params.now.check_length ≤ length bytes.now }
+    ensures { result ≡ has_code params.now bytes.now }
+{
+    let (code_at, check_at) = codes_at(params, bytes);
+    let covered = &bytes[SAFETY_AT..code_at];
+    is_code(params, covered, &bytes[code_at..check_at])
 }
 
 // Whether these are the receiver and the sender.
@@ -95,30 +113,26 @@ fn read<'a>(params: &Params, side: Side, bytes: &'a [u8]) -> Result<Pdu<'a>, Fau
 {
     let (receiver, sender) = recorded_ids(params, side);
     if !has_length(bytes) {
-        return Err(Fault::at(Fault::REDUNDANCY_LENGTH, 0));
+        return Err(refused(Fault::REDUNDANCY_LENGTH));
     }
     if !has_fields(params, bytes) {
-        return Err(Fault::at(Fault::TOO_SHORT, 0));
+        return Err(refused(Fault::TOO_SHORT));
     }
-    let (code_at, check_at) = codes_at(params, bytes);
-    if !has_safety_length(bytes, check_at) {
-        return Err(Fault::at(Fault::SAFETY_LENGTH, 0));
+    if !has_safety_length(params, bytes) {
+        return Err(refused(Fault::SAFETY_LENGTH));
     }
     let Some(kind) = Kind::of(u16_at(bytes, TYPE_AT)) else {
-        return Err(Fault::at(Fault::TYPE, 0));
+        return Err(refused(Fault::TYPE));
     };
+    let (code_at, check_at) = codes_at(params, bytes);
     let Some(body) = body_in(kind, &bytes[PAYLOAD_AT..code_at]) else {
-        return Err(Fault::at(Fault::PAYLOAD, 0));
+        return Err(refused(Fault::PAYLOAD));
     };
-    if !is_code(
-        params,
-        &bytes[SAFETY_AT..code_at],
-        &bytes[code_at..check_at],
-    ) {
-        return Err(Fault::at(Fault::CODE, 0));
+    if !has_code(params, bytes) {
+        return Err(refused(Fault::CODE));
     }
     if !are_ids(bytes, receiver, sender) {
-        return Err(Fault::at(Fault::IDS, 0));
+        return Err(refused(Fault::IDS));
     }
     Ok(fields(kind, body, bytes, code_at, check_at))
 }
