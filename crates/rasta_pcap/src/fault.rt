@@ -1,5 +1,5 @@
 //! Faults and their names.
-ghost use Rattle.std.specs.Prelude.{◌≡◌, ◌≤◌, length, Option, None};
+ghost use Rattle.std.specs.Prelude.{◌≡◌, ◌≤◌, ◌<◌, length, Option, None};
 ghost use Rattle.rasta_pcap.specs.Fault.{fault_at, fault_of_end, name_of};
 
 /// One of the two ends of the connection.
@@ -111,57 +111,83 @@ impl Fault {
     }
 
     /// The name that is printed, empty for a number that no fault has.
-    #[tactic(auto, unfolding(crate::specs::Fault::name_of))]
     pub fn name(&self) -> &'static str
         ensures text { result.now ≡ name_of self.now.number }
         ensures short { length result.now ≤ 16 }
     {
-        match self.number {
-            1 => "NoMemory",
-            2 => "ReadFailed",
-            3 => "WriteFailed",
-            10 => "NotPcap",
-            11 => "Version",
-            12 => "LinkType",
-            13 => "CutHeader",
-            14 => "CutRecord",
-            15 => "CutPacket",
-            16 => "Fragment",
-            17 | 45 => "TooMany",
-            18 => "RecordTooLong",
-            19 => "BadUdp",
-            20 => "RedundancyLength",
-            21 => "TooShort",
-            22 => "SafetyLength",
-            23 => "Type",
-            24 => "Payload",
-            25 => "Code",
-            26 => "Ids",
-            27 => "CopyDiffers",
-            28 => "NumberGap",
-            29 => "TooLong",
-            30 => "Syntax",
-            31 => "SlotOrder",
-            32 => "NotFirstCopy",
-            33 => "MakeMissing",
-            34 => "NotYetCrossed",
-            35 => "NotRising",
-            36 => "ClockDiffers",
-            37 => "ClockFalls",
-            38 => "PastDeadline",
-            39 => "ConfirmedNumber",
-            40 => "ConfirmedTime",
-            41 => "NotAllowed",
-            42 => "ReplyOwed",
-            43 => "ResendDiffers",
-            44 => "Closed",
-            46 => "TooEarlyTimeout",
-            47 => "SequenceNumber",
-            50 => "Toml",
-            51 => "MissingKey",
-            52 => "BadValue",
-            60 => "NotFound",
-            _ => "",
+        if self.number < 30 {
+            reading_name(self.number)
+        } else {
+            judging_name(self.number)
         }
+    }
+}
+
+// The names of faults of devices, captures, datagrams and writing.
+#[tactic(auto, unfolding(crate::specs::Fault::name_of))]
+fn reading_name(number: u8) -> &'static str
+    requires { number < 30 }
+    ensures text { result.now ≡ name_of number }
+    ensures short { length result.now ≤ 16 }
+{
+    match number {
+        1 => "NoMemory",
+        2 => "ReadFailed",
+        3 => "WriteFailed",
+        10 => "NotPcap",
+        11 => "Version",
+        12 => "LinkType",
+        13 => "CutHeader",
+        14 => "CutRecord",
+        15 => "CutPacket",
+        16 => "Fragment",
+        17 => "TooMany",
+        18 => "RecordTooLong",
+        19 => "BadUdp",
+        20 => "RedundancyLength",
+        21 => "TooShort",
+        22 => "SafetyLength",
+        23 => "Type",
+        24 => "Payload",
+        25 => "Code",
+        26 => "Ids",
+        27 => "CopyDiffers",
+        28 => "NumberGap",
+        29 => "TooLong",
+        _ => "",
+    }
+}
+
+// The names of faults of certificates, ends, parameters and the builder.
+#[tactic(auto, unfolding(crate::specs::Fault::name_of))]
+fn judging_name(number: u8) -> &'static str
+    requires { 30 ≤ number }
+    ensures text { result.now ≡ name_of number }
+    ensures short { length result.now ≤ 16 }
+{
+    match number {
+        30 => "Syntax",
+        31 => "SlotOrder",
+        32 => "NotFirstCopy",
+        33 => "MakeMissing",
+        34 => "NotYetCrossed",
+        35 => "NotRising",
+        36 => "ClockDiffers",
+        37 => "ClockFalls",
+        38 => "PastDeadline",
+        39 => "ConfirmedNumber",
+        40 => "ConfirmedTime",
+        41 => "NotAllowed",
+        42 => "ReplyOwed",
+        43 => "ResendDiffers",
+        44 => "Closed",
+        45 => "TooMany",
+        46 => "TooEarlyTimeout",
+        47 => "SequenceNumber",
+        50 => "Toml",
+        51 => "MissingKey",
+        52 => "BadValue",
+        60 => "NotFound",
+        _ => "",
     }
 }
