@@ -1,5 +1,5 @@
-//! Audits one RaSTA connection from a capture. `show CAPTURE PARAMS` writes a line for each heartbeat
-//! of the recorded channels; the other commands are not there yet.
+//! Audits one RaSTA connection from a capture. `show CAPTURE PARAMS` writes a line for each PDU of
+//! the recorded channels; the other commands are not there yet.
 #![tactic(auto)]
 
 mod command;
