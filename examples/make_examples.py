@@ -3,8 +3,10 @@
 
 Plain Python 3, no other packages. Run it anywhere: the files go beside it,
 
-    one_heartbeat.pcap  one_heartbeat.toml  expected/one_heartbeat.txt
-    two_channels.pcap   two_channels.toml   expected/two_channels.txt
+    one_heartbeat.pcap   one_heartbeat.toml   expected/one_heartbeat.txt
+    two_channels.pcap    two_channels.toml    expected/two_channels.txt
+    handshake.pcap       handshake.toml       expected/handshake.txt
+    retransmission.pcap  retransmission.toml  expected/retransmission.txt
 
 and every run writes the same bytes. All addresses, clocks and numbers are made up.
 
@@ -15,13 +17,19 @@ Neither uses rasta_audit.
 
 import pathlib
 import struct
+import typing
+import zlib
 
 HERE = pathlib.Path(__file__).resolve().parent
 
 # ---- the connection
 
 CLIENT_ID, SERVER_ID = 96, 97
-HEARTBEAT = 6220
+
+# The types of PDUs.
+CONNECTION_REQUEST, CONNECTION_RESPONSE = 6200, 6201
+RETRANSMISSION_REQUEST, RETRANSMISSION_RESPONSE = 6212, 6213
+DISCONNECTION_REQUEST, HEARTBEAT, DATA, RETRANSMITTED_DATA = 6216, 6220, 6240, 6241
 
 # The channels: address and port of the client, address and port of the server.
 CHANNELS = [
@@ -34,19 +42,44 @@ SERVER_MAC = bytes.fromhex("020000000002")
 OTHER_MAC = bytes.fromhex("020000000003")
 BROADCAST = b"\xff" * 6
 
+# Start words of the digest in RFC 1320, and those of the capture with safety codes.
+RFC_1320 = "67452301efcdab8998badcfe10325476"
+OWN_START = "0f1e2d3c4b5a69788796a5b4c3d2e1f0"
+
+
+class Connection(typing.NamedTuple):
+    """What is recorded of a connection; lengths in bytes."""
+
+    channels: list
+    code_length: int = 0
+    check_length: int = 0
+    md4_start: str = RFC_1320
+
+
 PARAMETERS = """\
 client_id = 96
 server_id = 97
 
-# Lengths of the safety code and of the redundancy layer's check code, in bytes. Both are absent here.
-code_length = 0
-check_length = 0
-
+{lengths}
 n_sendmax = 20
 
 # Milliseconds.
 t_max = 1800
 slack = 0
+"""
+
+NO_LENGTHS = """\
+# Lengths of the safety code and of the redundancy layer's check code, in bytes. Both are absent here.
+code_length = 0
+check_length = 0
+"""
+
+LENGTHS = """\
+# Lengths of the safety code and of the redundancy layer's check code, in bytes, and the start words of
+# the code's digest.
+code_length = {0.code_length}
+check_length = {0.check_length}
+md4_start = "{0.md4_start}"
 """
 
 CHANNEL = """
@@ -56,20 +89,86 @@ server = "{}:{}"
 """
 
 
-def parameters(comment, channels):
+def parameters(comment, connection):
     """The text of a parameter file."""
-    tables = [CHANNEL.format(*client, *server) for client, server in channels]
-    return comment + PARAMETERS + "".join(tables)
+    lengths = LENGTHS.format(connection) if connection.code_length else NO_LENGTHS
+    tables = [CHANNEL.format(*client, *server) for client, server in connection.channels]
+    return comment + PARAMETERS.format(lengths=lengths) + "".join(tables)
+
+
+# ---- the digest of RFC 1320, with start words of one's own
+
+
+ROW = range(16)
+
+# Of each round: function, constant, shifts, and the words in their order.
+ROUNDS = (
+    (lambda x, y, z: x & y | ~x & z, 0, (3, 7, 11, 19), ROW),
+    (lambda x, y, z: x & y | x & z | y & z, 0x5A827999, (3, 5, 9, 13), [k % 4 * 4 + k // 4 for k in ROW]),
+    (lambda x, y, z: x ^ y ^ z, 0x6ED9EBA1, (3, 9, 11, 15), [int(f"{k:04b}"[::-1], 2) for k in ROW]),
+)
+
+
+def md4(start, message):
+    """The digest of a message from start words, which are 32 digits."""
+    state = [int(start[i : i + 8], 16) for i in range(0, 32, 8)]
+    padded = message + b"\x80" + bytes((55 - len(message)) % 64) + struct.pack("<Q", 8 * len(message))
+    for at in range(0, len(padded), 64):
+        words = struct.unpack_from("<16I", padded, at)
+        a, b, c, d = state
+        for function, constant, shifts, order in ROUNDS:
+            for step, word in enumerate(order):
+                total = (a + (function(b, c, d) & 0xFFFFFFFF) + words[word] + constant) & 0xFFFFFFFF
+                shift = shifts[step % 4]
+                a, b, c, d = d, (total << shift | total >> (32 - shift)) & 0xFFFFFFFF, b, c
+        state = [(old + new) & 0xFFFFFFFF for old, new in zip(state, (a, b, c, d))]
+    return struct.pack("<4I", *state)
+
+
+assert md4(RFC_1320, b"abc").hex() == "a448017aaf21d8525fc10ae87aa6729d"
 
 
 # ---- PDUs: all numbers little-endian
 
 
-def heartbeat(side, number, sn, cs, ts, cts):
-    """The datagram of a heartbeat: redundancy PDU with the safety PDU in it, 36 bytes."""
-    ids = (SERVER_ID, CLIENT_ID) if side == "client" else (CLIENT_ID, SERVER_ID)
-    safety = struct.pack("<HH6I", 28, HEARTBEAT, *ids, sn, cs, ts, cts)
-    return struct.pack("<HHI", 8 + len(safety), 0, number) + safety
+class Pdu(typing.NamedTuple):
+    """A PDU of both layers. The body is None, a list of messages, or a tuple: version, N_sendmax and
+    reserved bytes of an opening, detail and reason of a disconnection request."""
+
+    side: str
+    number: int
+    kind: int
+    sn: int
+    cs: int
+    ts: int
+    cts: int
+    body: object = None
+
+
+def payload_of(body):
+    if body is None:
+        return b""
+    if isinstance(body, list):
+        return b"".join(struct.pack("<H", len(message)) + message for message in body)
+    return struct.pack("<4sH8s", *body) if len(body) == 3 else struct.pack("<HH", *body)
+
+
+def codes_of(connection, safety, front):
+    """The safety code of a safety PDU up to its payload's end, and a check code for the datagram."""
+    code = md4(connection.md4_start, safety)[: connection.code_length]
+    check = struct.pack("<I", zlib.crc32(front + safety + code))
+    return code, check[: connection.check_length]
+
+
+def datagram(connection, pdu):
+    """The redundancy PDU with the safety PDU in it."""
+    ids = (SERVER_ID, CLIENT_ID) if pdu.side == "client" else (CLIENT_ID, SERVER_ID)
+    payload = payload_of(pdu.body)
+    size = 28 + len(payload) + connection.code_length
+    safety = struct.pack("<HH6I", size, pdu.kind, *ids, pdu.sn, pdu.cs, pdu.ts, pdu.cts) + payload
+    front = struct.pack("<HHI", 8 + size + connection.check_length, 0, pdu.number)
+    code, check = codes_of(connection, safety, front)
+    return front + safety + code + check
 
 
 # ---- frames: all numbers big-endian
@@ -163,13 +262,30 @@ def capture(records):
 # ---- what `show` prints, from the list of PDUs
 
 
-def show_line(place, record, channel, side, number, sn, cs, ts, cts):
-    return f"{place} {record} {channel} {side} {number} 0 {HEARTBEAT} {sn} {cs} {ts} {cts} - - -\n"
+def body_text(body):
+    if body is None:
+        return "-"
+    if isinstance(body, list):
+        return "data " + ",".join(message.hex() or "." for message in body)
+    if len(body) == 3:
+        return f"open {body[0].decode()} {body[1]} {body[2].hex()}"
+    return f"bye {body[0]} {body[1]}"
 
 
-def planned_text(packets):
-    """The text of packets, each a record's number, a channel and the fields of a heartbeat."""
-    lines = [show_line(place, *packet) for place, packet in enumerate(packets)]
+def show_line(place, record, channel, pdu, code, check):
+    fields = f"{pdu.side} {pdu.number} 0 {pdu.kind} {pdu.sn} {pdu.cs} {pdu.ts} {pdu.cts}"
+    codes = f"{code.hex() or '-'} {check.hex() or '-'}"
+    return f"{place} {record} {channel} {fields} {body_text(pdu.body)} {codes}\n"
+
+
+def planned_text(connection, packets):
+    """The text of packets, each a record's number, a channel and a PDU."""
+    lines = []
+    for place, (record, channel, pdu) in enumerate(packets):
+        whole = datagram(connection, pdu)
+        check_at = len(whole) - connection.check_length
+        code = whole[check_at - connection.code_length : check_at]
+        lines.append(show_line(place, record, channel, pdu, code, whole[check_at:]))
     return "".join(lines) + f"packets {len(lines)}\n"
 
 
@@ -210,32 +326,66 @@ def sender_in(frame, channels):
     return None
 
 
-def read_text(data, channels):
-    """The text of a file in which every datagram of the connection is a sound heartbeat."""
+def messages_in(payload):
+    messages = []
+    while payload:
+        size = int.from_bytes(payload[:2], "little")
+        assert len(payload) >= 2 + size
+        messages.append(payload[2 : 2 + size])
+        payload = payload[2 + size :]
+    assert messages
+    return messages
+
+
+def body_in(kind, payload):
+    """The body of this type that a payload spells."""
+    if kind in (CONNECTION_REQUEST, CONNECTION_RESPONSE):
+        assert len(payload) == 14 and payload[:4].isdigit()
+        return payload[:4], int.from_bytes(payload[4:6], "little"), payload[6:]
+    if kind == DISCONNECTION_REQUEST:
+        assert len(payload) == 4
+        return int.from_bytes(payload[:2], "little"), int.from_bytes(payload[2:], "little")
+    if kind in (DATA, RETRANSMITTED_DATA):
+        return messages_in(payload)
+    assert kind in (RETRANSMISSION_REQUEST, RETRANSMISSION_RESPONSE, HEARTBEAT) and not payload
+    return None
+
+
+def pdu_in(connection, side, whole):
+    """The PDU of a datagram with its safety code and its check code."""
+    check_at = len(whole) - connection.check_length
+    code_at = check_at - connection.code_length
+    fields = [int.from_bytes(whole[i : i + 4], "little") for i in range(4, 36, 4)]
+    number, kinds, receiver, sender, sn, cs, ts, cts = fields
+    assert int.from_bytes(whole[:4], "little") == len(whole) and kinds & 0xFFFF == check_at - 8
+    ends = (CLIENT_ID, SERVER_ID) if side == "client" else (SERVER_ID, CLIENT_ID)
+    assert (sender, receiver) == ends
+    code = whole[code_at:check_at]
+    assert code == md4(connection.md4_start, whole[8:code_at])[: len(code)]
+    body = body_in(kinds >> 16, whole[36:code_at])
+    return Pdu(side, number, kinds >> 16, sn, cs, ts, cts, body), code, whole[check_at:]
+
+
+def read_text(data, connection):
+    """The text of a file in which every datagram of the connection is a sound PDU."""
     lines = []
     for record, frame in enumerate(records_of(data), 1):
-        found = sender_in(frame, channels)
-        if found is None:
-            continue
-        channel, side, payload = found
-        fields = [int.from_bytes(payload[i : i + 4], "little") for i in range(4, 36, 4)]
-        number, kinds, receiver, sender, sn, cs, ts, cts = fields
-        assert payload[:4] == b"\x24\0\0\0" and len(payload) == 36
-        assert kinds == HEARTBEAT << 16 | 28
-        ends = (CLIENT_ID, SERVER_ID) if side == "client" else (SERVER_ID, CLIENT_ID)
-        assert (sender, receiver) == ends
-        lines.append(show_line(len(lines), record, channel, side, number, sn, cs, ts, cts))
+        found = sender_in(frame, connection.channels)
+        if found is not None:
+            channel, side, payload = found
+            pdu, code, check = pdu_in(connection, side, payload)
+            lines.append(show_line(len(lines), record, channel, pdu, code, check))
     return "".join(lines) + f"packets {len(lines)}\n"
 
 
-# ---- the two examples
+# ---- the examples
 
 
-def one_heartbeat():
+def one_heartbeat(connection):
     """One heartbeat of the client, with six bytes of padding behind its frame."""
-    fields = ("client", 8, 101, 500, 1010, 9000)
-    frame = frame_of("client", 1, heartbeat(*fields), padding=bytes(6), with_checksum=False)
-    return capture([(0, frame)]), planned_text([(1, 1) + fields])
+    pdu = Pdu("client", 8, HEARTBEAT, 101, 500, 1010, 9000)
+    frame = frame_of("client", 1, datagram(connection, pdu), padding=bytes(6), with_checksum=False)
+    return capture([(0, frame)]), planned_text(connection, [(1, 1, pdu)])
 
 
 # Midnight before 1 January 2026 (UTC), in microseconds.
@@ -250,10 +400,10 @@ def exchange():
         turn, is_server = divmod(i, 2)
         client_ts, server_ts = 1010 + PERIOD * turn, 9150 + PERIOD * turn
         if is_server:
-            pdu = ("server", 41 + turn, 501 + turn, 101 + turn, server_ts, client_ts)
+            pdu = Pdu("server", 41 + turn, HEARTBEAT, 501 + turn, 101 + turn, server_ts, client_ts)
         else:
             last_server_ts = 9000 if turn == 0 else server_ts - PERIOD
-            pdu = ("client", 8 + turn, 101 + turn, 500 + turn, client_ts, last_server_ts)
+            pdu = Pdu("client", 8 + turn, HEARTBEAT, 101 + turn, 500 + turn, client_ts, last_server_ts)
         yield START + 1000 * (PERIOD * i // 2), pdu
 
 
@@ -281,20 +431,53 @@ def foreign():
     ]
 
 
-def two_channels():
+def two_channels(connection):
     """Nine heartbeats and their copies, with seven foreign frames in between."""
     records, packets = [], []
     for i, (time, pdu) in enumerate(exchange()):
         for channel in (1, 2):
             if (i, channel) != LOST:
-                frame = frame_of(pdu[0], channel, heartbeat(*pdu), **VARIANTS.get((i, channel), {}))
+                variant = VARIANTS.get((i, channel), {})
+                frame = frame_of(pdu.side, channel, datagram(connection, pdu), **variant)
                 records.append((time + 1000 * (channel - 1), frame))
-                packets.append((len(records), channel) + pdu)
+                packets.append((len(records), channel, pdu))
         for behind, frame in foreign():
             if behind == i:
                 records.append((time + 40_000, frame))
-    return capture(records), planned_text(packets)
+    return capture(records), planned_text(connection, packets)
 
+
+def in_turn(connection, pdus):
+    """PDUs on the first channel, one every 5 milliseconds."""
+    frames = [frame_of(pdu.side, 1, datagram(connection, pdu)) for pdu in pdus]
+    records = [(START + 5000 * i, frame) for i, frame in enumerate(frames)]
+    return capture(records), planned_text(connection, [(i, 1, pdu) for i, pdu in enumerate(pdus, 1)])
+
+
+OPENING = (b"0303", 20, bytes(8))
+
+# The client asks for a connection, the server answers, and the client's first heartbeat completes it.
+HANDSHAKE = [
+    Pdu("client", 7, CONNECTION_REQUEST, 100, 0, 1000, 0, OPENING),
+    Pdu("server", 40, CONNECTION_RESPONSE, 500, 100, 9000, 1000, OPENING),
+    Pdu("client", 8, HEARTBEAT, 101, 500, 1010, 9000),
+]
+
+FIRST, SECOND, THIRD = [bytes.fromhex("ab01"), b""], [bytes(range(100))], [b"", bytes.fromhex("02")]
+
+# The server misses the data of the client's redundancy PDU 9, asks for it, and is sent all of it again.
+# Then it takes its leave.
+RETRANSMISSION = HANDSHAKE + [
+    Pdu("client", 9, DATA, 102, 500, 1015, 9000, FIRST),
+    Pdu("client", 10, DATA, 103, 500, 1020, 9000, SECOND),
+    Pdu("server", 41, RETRANSMISSION_REQUEST, 501, 101, 9020, 1010),
+    Pdu("client", 11, RETRANSMISSION_RESPONSE, 104, 501, 1030, 9020),
+    Pdu("client", 12, RETRANSMITTED_DATA, 105, 501, 1035, 9020, FIRST),
+    Pdu("client", 13, RETRANSMITTED_DATA, 106, 501, 1040, 9020, SECOND),
+    Pdu("server", 42, HEARTBEAT, 502, 106, 9040, 1040),
+    Pdu("client", 14, DATA, 107, 502, 1050, 9040, THIRD),
+    Pdu("server", 43, DISCONNECTION_REQUEST, 503, 107, 9050, 1050, (3, 0)),
+]
 
 ONE_COMMENT = """\
 # Parameters of one_heartbeat.pcap: a connection with one redundancy channel.
@@ -308,16 +491,30 @@ TWO_COMMENT = """\
 
 """
 
+HANDSHAKE_COMMENT = """\
+# Parameters of handshake.pcap: a connection with one redundancy channel.
 
-def write(name, made, channels, comment):
+"""
+
+RETRANSMISSION_COMMENT = """\
+# Parameters of retransmission.pcap: a connection with safety codes and check codes.
+
+"""
+
+
+def write(name, connection, made, comment):
     data, text = made
-    assert read_text(data, channels) == text, name
+    assert read_text(data, connection) == text, name
     (HERE / "expected").mkdir(exist_ok=True)
     (HERE / f"{name}.pcap").write_bytes(data)
-    (HERE / f"{name}.toml").write_bytes(parameters(comment, channels).encode())
+    (HERE / f"{name}.toml").write_bytes(parameters(comment, connection).encode())
     (HERE / "expected" / f"{name}.txt").write_bytes(text.encode())
 
 
 if __name__ == "__main__":
-    write("one_heartbeat", one_heartbeat(), CHANNELS[:1], ONE_COMMENT)
-    write("two_channels", two_channels(), CHANNELS, TWO_COMMENT)
+    one, two = Connection(CHANNELS[:1]), Connection(CHANNELS)
+    coded = Connection(CHANNELS[:1], 16, 4, OWN_START)
+    write("one_heartbeat", one, one_heartbeat(one), ONE_COMMENT)
+    write("two_channels", two, two_channels(two), TWO_COMMENT)
+    write("handshake", one, in_turn(one, HANDSHAKE), HANDSHAKE_COMMENT)
+    write("retransmission", coded, in_turn(coded, RETRANSMISSION), RETRANSMISSION_COMMENT)

@@ -2,3 +2,5 @@ pub mod Showing
 pub mod EndpointTexts
 pub mod Documents
 pub mod EndpointLaws
+pub mod Sending
+pub mod Lines

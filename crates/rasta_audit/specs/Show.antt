@@ -5,7 +5,7 @@ use Rattle.rasta_pcap.specs.Fault.{fault_at, fault_of_end}
 use Rattle.rasta_pcap.specs.Capture.{Numbered, Reading, reading_of}
 use Rattle.rasta_udp.specs.Frame as udp
 use Rattle.rasta_pdu.specs.Params.{Parameters}
-use Rattle.rasta_pdu.specs.Pdu.{RedundancyPdu, decode_of}
+use Rattle.rasta_pdu.specs.Pdu.{RedundancyPdu, code_of, decode_of}
 use Rattle.rasta_audit.specs.Lines.{Packet, packet_line, packets_line, refused_line}
 
 -- what a record is: in front of the window or of no channel, a packet of the connection, or refused
@@ -15,14 +15,20 @@ pub data Sight : Type 0 where
   refused : Fault → Sight
 
 -- a PDU's fault speaks of its sender
-abbrev pub sight_of_pdu : ℕ → udp.Packet → Result RedundancyPdu Fault → Sight
-sight_of_pdu number d (Ok pdu) = packet (record { record_number = number; channel = d.channel; side = d.side; pdu = pdu })
-sight_of_pdu number d (Err f) = refused (fault_of_end f.number number d.side)
+abbrev pub sight_of_pdu : Parameters → ℕ → udp.Packet → Result RedundancyPdu Fault → Sight
+sight_of_pdu p number d (Ok pdu) = packet (record {
+  record_number = number;
+  channel = d.channel;
+  side = d.side;
+  pdu = pdu;
+  code = code_of p d.side pdu.safety;
+})
+sight_of_pdu p number d (Err f) = refused (fault_of_end f.number number d.side)
 
 -- a frame's fault speaks of no end
 abbrev pub sight_of_frame : Parameters → ℕ → Result (Option udp.Packet) Fault → Sight
 sight_of_frame p number (Ok None) = passed_over
-sight_of_frame p number (Ok (Some d)) = sight_of_pdu number d (decode_of p d.side d.payload)
+sight_of_frame p number (Ok (Some d)) = sight_of_pdu p number d (decode_of p d.side d.payload)
 sight_of_frame p number (Err f) = refused (fault_at f.number number)
 
 -- records in front of the window are not judged

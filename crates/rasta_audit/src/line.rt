@@ -1,14 +1,16 @@
 //! Lines of words, made from their last word to their first.
-ghost use Rattle.std.specs.Prelude.{◌≡◌, ◌+◌, ◌≤◌, ◌++◌, ◌∷◌, [], length, drop, decimal};
+ghost use Rattle.std.specs.Prelude.{◌≡◌, ◌+◌, ◌*◌, ◌≤◌, ◌++◌, ◌∷◌, [], length, drop, decimal};
+ghost use Rattle.hex.specs.Hex.{encode_lower};
+ghost use Rattle.rasta_audit.specs.Lines.{code_text};
 
 use std::marker::Model;
 
-const ROOM: usize = 160;
+const ROOM: usize = 200;
 
 /// The end of a line, in front of which words are put.
 #[derive(Drop)]
 pub struct Line {
-    room: [u8; 160],
+    room: [u8; 200],
     start: usize,
 }
 
@@ -19,7 +21,7 @@ impl Model for Line {
 
     ghost view = { λ l. drop l.start l.room };
 
-    ghost invariant = { λ l. (length l.room ≡ 160) × (l.start ≤ 160) };
+    ghost invariant = { λ l. (length l.room ≡ 200) × (l.start ≤ 200) };
 }
 
 // Puts the bytes in front of what stands from `end` on, and answers where they begin.
@@ -45,7 +47,46 @@ fn put_number(room: &mut [u8], end: usize, n: u32) -> usize
     itoa::write_digits(u64::from(n), room, end)
 }
 
+// The same for bytes, in lower case digits.
+fn put_hex(room: &mut [u8], end: usize, bytes: &[u8]) -> usize
+    requires fits { 2 * length bytes.now ≤ end }
+    requires within { end ≤ length room.old }
+    ensures start { result + 2 * length bytes.now ≡ end }
+    ensures written { drop result room.new ≡ encode_lower bytes.now ++ drop end room.old }
+{
+    let start = end - 2 * bytes.len();
+    if hex::encode_to_slice(bytes, &mut room[start..end]).is_err() {
+        unreachable!();
+    }
+    start
+}
+
+// The same for a code.
+fn put_code(room: &mut [u8], end: usize, code: &[u8]) -> usize
+    requires short { length code.now ≤ 16 }
+    requires fits { 32 ≤ end }
+    requires within { end ≤ length room.old }
+    ensures bounds { (result ≤ end) × (end ≤ result + (1 + 2 * length code.now)) }
+    ensures written { drop result room.new ≡ code_text code.now ++ drop end room.old }
+{
+    if code.is_empty() {
+        put(room, end, b"-")
+    } else {
+        put_hex(room, end, code)
+    }
+}
+
 impl Line {
+    /// Nothing yet, and no end of a line.
+    pub fn new() -> Line
+        ensures { result ≡ [] }
+    {
+        Line {
+            room: [0u8; ROOM],
+            start: ROOM,
+        }
+    }
+
     /// A line of this last word.
     pub fn of_last(word: &[u8]) -> Line
         requires { length word.now ≤ 10 }
@@ -68,9 +109,34 @@ impl Line {
         Line { room, start }
     }
 
+    /// Takes everything away, the end of the line too.
+    pub fn clear(&mut self)
+        ensures { self.new ≡ [] }
+    {
+        self.start = ROOM;
+    }
+
+    /// Begins anew with this last code.
+    pub fn begin_with_code(&mut self, code: &[u8])
+        requires { length code.now ≤ 16 }
+        ensures line { self.new ≡ code_text code.now ++ 10 ∷ [] }
+        ensures short { length self.new ≤ 2 + 2 * length code.now }
+    {
+        let end = put(&mut self.room, ROOM, b"\n");
+        self.start = put_code(&mut self.room, end, code);
+    }
+
+    /// Puts a space in front.
+    pub fn space(&mut self)
+        requires { length self.old ≤ 199 }
+        ensures { self.new ≡ 32 ∷ self.old }
+    {
+        self.start = put(&mut self.room, self.start, b" ");
+    }
+
     /// Puts a word in front.
     pub fn word(&mut self, word: &[u8])
-        requires { length word.now + length self.old ≤ 159 }
+        requires { length word.now + length self.old ≤ 199 }
         ensures line { self.new ≡ word.now ++ 32 ∷ self.old }
     {
         let end = put(&mut self.room, self.start, b" ");
@@ -79,12 +145,33 @@ impl Line {
 
     /// Puts a number in front, in decimal.
     pub fn number(&mut self, n: u32)
-        requires { length self.old ≤ 149 }
+        requires { length self.old ≤ 189 }
         ensures line { self.new ≡ decimal n ++ 32 ∷ self.old }
         ensures short { length self.new ≤ length self.old + 11 }
     {
         let end = put(&mut self.room, self.start, b" ");
         self.start = put_number(&mut self.room, end, n);
+    }
+
+    /// Puts bytes in front, in lower case digits.
+    pub fn hex(&mut self, bytes: &[u8])
+        requires { 2 * length bytes.now + length self.old ≤ 199 }
+        ensures line { self.new ≡ encode_lower bytes.now ++ 32 ∷ self.old }
+        ensures short { length self.new ≤ length self.old + (1 + 2 * length bytes.now) }
+    {
+        let end = put(&mut self.room, self.start, b" ");
+        self.start = put_hex(&mut self.room, end, bytes);
+    }
+
+    /// Puts a code in front.
+    pub fn code(&mut self, code: &[u8])
+        requires short { length code.now ≤ 16 }
+        requires fits { length self.old ≤ 160 }
+        ensures line { self.new ≡ code_text code.now ++ 32 ∷ self.old }
+        ensures short { length self.new ≤ length self.old + (2 + 2 * length code.now) }
+    {
+        let end = put(&mut self.room, self.start, b" ");
+        self.start = put_code(&mut self.room, end, code);
     }
 
     pub fn as_bytes(&self) -> &[u8]

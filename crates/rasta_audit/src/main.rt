@@ -1,5 +1,5 @@
-//! Audits one RaSTA connection from a capture. `show CAPTURE PARAMS` writes a line for each heartbeat
-//! of the recorded channels; the other commands are not there yet.
+//! Audits one RaSTA connection from a capture. `show CAPTURE PARAMS` writes a line for each PDU of
+//! the recorded channels; the other commands are not there yet.
 #![tactic(auto)]
 
 mod command;
@@ -8,8 +8,17 @@ mod failure;
 mod form;
 mod key;
 mod line;
+mod messages;
+mod packet;
 mod params;
+#[cfg(test)]
+mod params_tests;
+mod quiet_table;
 mod show;
+#[cfg(test)]
+mod show_tests;
+mod shown_packet;
+mod start_words;
 #[cfg(test)]
 mod tests;
 mod texts;

@@ -1,18 +1,17 @@
 //! The parameters of a parameter file.
-ghost use Rattle.std.specs.Prelude.{◌≡◌, ◌≢◌, ◌≤◌, ◌⊎◌, length, IsTrue, IfOk, MatchResult, Ok, Err, Some, option_map, is_some, string_bytes, nat_le, ◌&&◌, true, IfSome};
+ghost use Rattle.std.specs.Prelude.{◌≡◌, ◌≢◌, ◌≤◌, ◌⊎◌, length, IfOk, MatchResult, Ok, Err, Some, codes, option_map, is_some, nat_le, ◌&&◌, true, IfSome};
 ghost use Rattle.rasta_pcap.specs.Fault.{no_memory};
-ghost use Rattle.rasta_pdu.specs.Params.{are_distinct, routes};
-ghost use Rattle.std.specs.Str.{bytes_eq};
-ghost use Rattle.std.specs.List.{list_all, list_any};
-ghost use Rattle.std.specs.BTreeMap.{keys};
-ghost use Rattle.toml.specs.Data.{as_array, as_table};
+ghost use Rattle.rasta_pdu.specs.Params.{AreChannels, AreLengths, AreLimits, IsQuiet, IsWindow, are_distinct, routes};
+ghost use Rattle.std.specs.List.{list_all};
+ghost use Rattle.toml.specs.Data.{as_array, as_integer, as_table};
 ghost use Rattle.toml.specs.View.{items_view, table_view, view};
-ghost use Rattle.rasta_audit.specs.Keys.{ReadsParameters, are_among, are_few_tables, channel_in, channel_of, channels_at, channels_in, endpoint_at, few_tables, ids_of, lengths_of, limits_of, parameters_of, parameters_with, window_of};
-ghost use Rattle.rasta_audit.specs.Stored.{texts_of};
+ghost use Rattle.rasta_audit.specs.Keys.{ReadsParameters, are_among, are_few_tables, channel_in, channel_of, channels_at, channels_in, check_length, check_length_at, code_length, code_length_at, endpoint_at, few_tables, ids_of, known_keys, known_of, layout_of, limits_of, md4_start_at, number_at, parameters_of, parameters_with, window_of};
 
 use crate::endpoint::endpoint_in;
-use crate::key::{number, optional, value_at};
-use rasta_pdu::{Channel, Endpoint, Fault, Params, are_distinct_routes};
+use crate::key::{has_keys_among, number, optional, value_at};
+use crate::quiet_table::quiet_of;
+use crate::start_words::start_words_in;
+use rasta_pdu::{Channel, Endpoint, Fault, Params, Quiet, are_distinct_routes};
 use std::alloc::Global;
 use toml::{Table, Value};
 
@@ -23,11 +22,13 @@ pub struct Ids {
     pub server_id: u32,
 }
 
-/// The lengths of safety code and check code, in bytes.
+/// The layout of the PDUs: the lengths of safety code and check code, in bytes, and the start words of
+/// the digest that safety codes are taken from.
 #[derive(Clone, Copy, Debug)]
-pub struct Lengths {
-    pub code_length: u32,
-    pub check_length: u32,
+pub struct Layout {
+    pub code_length: u8,
+    pub md4_start: [u32; 4],
+    pub check_length: u8,
 }
 
 /// The limits of the protocol: a number of PDUs, and milliseconds.
@@ -61,27 +62,118 @@ fn read_ids(table: &Table) -> Result<Ids, Fault>
     })
 }
 
-#[tactic(auto, unfolding(crate::specs::Keys::lengths_of))]
-fn read_lengths(table: &Table) -> Result<Lengths, Fault>
-    ensures value { result ≡ lengths_of (table_view table.now) }
-    ensures none { IfOk result (λ l. (l.code_length ≡ 0) × (l.check_length ≡ 0)) }
+fn code_length_in(value: &Value) -> Option<u8>
+    ensures value { result ≡ code_length (as_integer (view value.now)) }
+    ensures valid { IfSome result (λ n. (n ≡ 0) ⊎ (n ≡ 8) ⊎ (n ≡ 16)) }
 {
-    let code_length = number(table, 3, "code_length", 0, 0)?;
-    let check_length = number(table, 5, "check_length", 0, 0)?;
-    Ok(Lengths {
+    match value.as_integer() {
+        Some(0) => Some(0),
+        Some(8) => Some(8),
+        Some(16) => Some(16),
+        _ => None,
+    }
+}
+
+fn check_length_in(value: &Value) -> Option<u8>
+    ensures value { result ≡ check_length (as_integer (view value.now)) }
+    ensures valid { IfSome result (λ n. (n ≡ 0) ⊎ (n ≡ 2) ⊎ (n ≡ 4)) }
+{
+    match value.as_integer() {
+        Some(0) => Some(0),
+        Some(2) => Some(2),
+        Some(4) => Some(4),
+        _ => None,
+    }
+}
+
+#[tactic(auto, unfolding(crate::specs::Keys::code_length_at))]
+fn read_code_length(table: &Table) -> Result<u8, Fault>
+    ensures value { result ≡ code_length_at (table_view table.now) }
+    ensures valid { IfOk result (λ n. (n ≡ 0) ⊎ (n ≡ 8) ⊎ (n ≡ 16)) }
+{
+    match value_at(table, "code_length") {
+        Some(value) => match code_length_in(value) {
+            Some(length) => Ok(length),
+            None => Err(Fault::at(Fault::BAD_VALUE, 3)),
+        },
+        None => Err(Fault::at(Fault::MISSING_KEY, 3)),
+    }
+}
+
+#[tactic(auto, unfolding(crate::specs::Keys::check_length_at))]
+fn read_check_length(table: &Table) -> Result<u8, Fault>
+    ensures value { result ≡ check_length_at (table_view table.now) }
+    ensures valid { IfOk result (λ n. (n ≡ 0) ⊎ (n ≡ 2) ⊎ (n ≡ 4)) }
+{
+    match value_at(table, "check_length") {
+        Some(value) => match check_length_in(value) {
+            Some(length) => Ok(length),
+            None => Err(Fault::at(Fault::BAD_VALUE, 5)),
+        },
+        None => Err(Fault::at(Fault::MISSING_KEY, 5)),
+    }
+}
+
+const RFC_WORDS: [u32; 4] = [0x6745_2301, 0xefcd_ab89, 0x98ba_dcfe, 0x1032_5476];
+
+#[tactic(auto, unfolding(crate::specs::Keys::md4_start_at))]
+fn read_md4_start(table: &Table) -> Result<[u32; 4], Fault>
+    ensures { result ≡ md4_start_at (table_view table.now) }
+{
+    match value_at(table, "md4_start") {
+        Some(value) => match value.as_str() {
+            Some(text) => start_words_in(text).ok_or(Fault::at(Fault::BAD_VALUE, 4)),
+            None => Err(Fault::at(Fault::BAD_VALUE, 4)),
+        },
+        None => Ok(RFC_WORDS),
+    }
+}
+
+#[tactic(auto, unfolding(crate::specs::Keys::layout_of))]
+fn read_layout(table: &Table) -> Result<Layout, Fault>
+    ensures value { result ≡ layout_of (table_view table.now) }
+    ensures valid { IfOk result (λ l. AreLengths l.code_length l.check_length) }
+{
+    let code_length = read_code_length(table)?;
+    let md4_start = read_md4_start(table)?;
+    let check_length = read_check_length(table)?;
+    Ok(Layout {
         code_length,
+        md4_start,
         check_length,
     })
+}
+
+fn read_n_sendmax(table: &Table) -> Result<u32, Fault>
+    ensures value { result ≡ number_at 6 (codes "n_sendmax") 1 65535 (table_view table.now) }
+    ensures range { IfOk result (λ n. (1 ≤ n) × (n ≤ 65535)) }
+{
+    number(table, 6, "n_sendmax", 1, 65535)
+}
+
+fn read_t_max(table: &Table) -> Result<u32, Fault>
+    ensures value { result ≡ number_at 7 (codes "t_max") 1 60000 (table_view table.now) }
+    ensures range { IfOk result (λ n. (1 ≤ n) × (n ≤ 60000)) }
+{
+    number(table, 7, "t_max", 1, 60000)
+}
+
+fn read_slack(table: &Table) -> Result<u32, Fault>
+    ensures value { result ≡ number_at 8 (codes "slack") 0 1000 (table_view table.now) }
+    ensures range { IfOk result (λ n. n ≤ 1000) }
+{
+    number(table, 8, "slack", 0, 1000)
 }
 
 #[tactic(auto, unfolding(crate::specs::Keys::limits_of))]
 fn read_limits(table: &Table) -> Result<Limits, Fault>
     ensures value { result ≡ limits_of (table_view table.now) }
-    ensures ranges { IfOk result (λ l. (1 ≤ l.n_sendmax) × (l.n_sendmax ≤ 65535) × (1 ≤ l.t_max) × (l.t_max ≤ 60000) × (l.slack ≤ 1000)) }
+    ensures most { IfOk result (λ l. l.n_sendmax ≤ 65535) }
+    ensures valid { IfOk result (λ l. AreLimits l.n_sendmax l.t_max l.slack) }
 {
-    let n_sendmax = number(table, 6, "n_sendmax", 1, 65535)?;
-    let t_max = number(table, 7, "t_max", 1, 60000)?;
-    let slack = number(table, 8, "slack", 0, 1000)?;
+    let n_sendmax = read_n_sendmax(table)?;
+    let t_max = read_t_max(table)?;
+    let slack = read_slack(table)?;
     Ok(Limits {
         n_sendmax,
         t_max,
@@ -94,7 +186,7 @@ const MOST_RECORDS: u32 = 4_000_000_000;
 #[tactic(auto, unfolding(crate::specs::Keys::window_of))]
 fn read_window(table: &Table) -> Result<Window, Fault>
     ensures value { result ≡ window_of (table_view table.now) }
-    ensures ranges { IfOk result (λ w. (1 ≤ w.first_record) × (w.first_record ≤ w.last_record) × (w.last_record ≤ 4000000000)) }
+    ensures valid { IfOk result (λ w. IsWindow w.first_record w.last_record) }
 {
     let first_record = optional(table, 9, "first_record", 1, MOST_RECORDS, 1)?;
     let last_record = optional(
@@ -123,41 +215,6 @@ fn read_endpoint(table: &Table, key: &str) -> Result<Endpoint, Fault>
         },
         None => Err(Fault::at(Fault::MISSING_KEY, 11)),
     }
-}
-
-const KNOWN_KEYS: [&str; 10] = [
-    "client_id",
-    "server_id",
-    "code_length",
-    "check_length",
-    "n_sendmax",
-    "t_max",
-    "slack",
-    "first_record",
-    "last_record",
-    "channel",
-];
-
-fn is_among(key: &str, names: &[&str]) -> bool
-    ensures { result ≡ list_any (bytes_eq key.now) (texts_of names.now) }
-{
-    match names {
-        [] => false,
-        [first, rest @ ..] => key == *first || is_among(key, rest),
-    }
-}
-
-fn are_all_among(table: &Table, names: &[&str]) -> bool
-    ensures { result ≡ list_all (λ k. list_any (bytes_eq (string_bytes k)) (texts_of names.now)) (keys table.now) }
-{
-    table.keys().all(|key| is_among(key.as_str(), names))
-}
-
-// Whether a table has keys of these names alone.
-fn has_keys_among(table: &Table, names: &[&str]) -> bool
-    ensures { result ≡ are_among (texts_of names.now) (table_view table.now) }
-{
-    are_all_among(table, names)
 }
 
 #[tactic(auto, unfolding(crate::specs::Keys::channel_in))]
@@ -238,8 +295,7 @@ fn few_values(value: &Value) -> Option<&[Value]>
 fn channels_of(alloc: Global, table: &Table) -> Result<Vec<Channel>, Fault>
     ensures value { MatchResult result (λ channels. channels_at (table_view table.now) ≡ Ok channels.items)
         (λ f. (f ≡ no_memory) ⊎ (channels_at (table_view table.now) ≡ Err f)) }
-    ensures distinct { IfOk result (λ channels. IsTrue (are_distinct (routes channels.items))) }
-    ensures few { IfOk result (λ channels. (1 ≤ length channels.items) × (length channels.items ≤ 4)) }
+    ensures valid { IfOk result (λ channels. AreChannels channels.items) }
 {
     let Some(value) = value_at(table, "channel") else {
         return Err(Fault::at(Fault::MISSING_KEY, 11));
@@ -254,56 +310,88 @@ fn channels_of(alloc: Global, table: &Table) -> Result<Vec<Channel>, Fault>
     Ok(channels)
 }
 
-const RFC_WORDS: [u32; 4] = [0x6745_2301, 0xefcd_ab89, 0x98ba_dcfe, 0x1032_5476];
+const KNOWN_KEYS: [&str; 12] = [
+    "client_id",
+    "server_id",
+    "code_length",
+    "md4_start",
+    "check_length",
+    "n_sendmax",
+    "t_max",
+    "slack",
+    "first_record",
+    "last_record",
+    "channel",
+    "quiet",
+];
+
+fn has_known_keys(table: &Table) -> bool
+    ensures { result ≡ are_among known_keys (table_view table.now) }
+{
+    has_keys_among(table, &KNOWN_KEYS)
+}
 
 // The parameters of these values, which are all in their ranges.
 fn assembled(
     ids: Ids,
-    lengths: Lengths,
+    layout: Layout,
     limits: Limits,
     window: Window,
     channels: &[Channel],
+    quiet: Option<Quiet>,
 ) -> Option<Params>
     requires distinct { ids.client_id ≢ ids.server_id }
-    requires none { (lengths.code_length ≡ 0) × (lengths.check_length ≡ 0) }
-    requires limits { (1 ≤ limits.n_sendmax) × (limits.n_sendmax ≤ 65535) × (1 ≤ limits.t_max) × (limits.t_max ≤ 60000) × (limits.slack ≤ 1000) }
-    requires window { (1 ≤ window.first_record) × (window.first_record ≤ window.last_record) × (window.last_record ≤ 4000000000) }
-    requires few { (1 ≤ length channels.now) × (length channels.now ≤ 4) }
-    requires routes { IsTrue (are_distinct (routes channels.now)) }
-    ensures { result ≡ Some (parameters_with ids lengths limits window channels.now) }
+    requires lengths { AreLengths layout.code_length layout.check_length }
+    requires most { limits.n_sendmax ≤ 65535 }
+    requires limits { AreLimits limits.n_sendmax limits.t_max limits.slack }
+    requires window { IsWindow window.first_record window.last_record }
+    requires channels { AreChannels channels.now }
+    requires quiet { IfSome quiet (IsQuiet limits.slack) }
+    ensures { result ≡ Some (parameters_with ids layout limits window channels.now quiet) }
 {
     Params::new(
         ids.client_id,
         ids.server_id,
-        lengths.code_length as u8,
-        RFC_WORDS,
-        lengths.check_length as u8,
+        layout.code_length,
+        layout.md4_start,
+        layout.check_length,
         limits.n_sendmax as u16,
         limits.t_max as u16,
         limits.slack as u16,
         window.first_record,
         window.last_record,
         channels,
+        quiet,
     )
+}
+
+#[tactic(auto, unfolding(crate::specs::Keys::known_of))]
+fn read_known_keys(alloc: Global, table: &Table) -> Result<Params, Fault>
+    ensures { (result ≡ Err no_memory) ⊎ (result ≡ known_of (table_view table.now)) }
+{
+    let ids = read_ids(table)?;
+    let layout = read_layout(table)?;
+    let limits = read_limits(table)?;
+    let window = read_window(table)?;
+    let channels = channels_of(alloc, table)?;
+    let quiet = quiet_of(table, limits.slack)?;
+    assembled(ids, layout, limits, window, &channels, quiet).ok_or(Fault::at(Fault::BAD_VALUE, 11))
 }
 
 #[tactic(auto, unfolding(crate::specs::Keys::parameters_of))]
 fn read_parameters(alloc: Global, table: &Table) -> Result<Params, Fault>
     ensures { (result ≡ Err no_memory) ⊎ (result ≡ parameters_of (table_view table.now)) }
 {
-    let ids = read_ids(table)?;
-    let lengths = read_lengths(table)?;
-    let limits = read_limits(table)?;
-    let window = read_window(table)?;
-    let channels = channels_of(alloc, table)?;
-    if !has_keys_among(table, &KNOWN_KEYS) {
-        return Err(Fault::at(Fault::BAD_VALUE, 12));
+    let parameters = read_known_keys(alloc, table)?;
+    if has_known_keys(table) {
+        Ok(parameters)
+    } else {
+        Err(Fault::at(Fault::BAD_VALUE, 12))
     }
-    assembled(ids, lengths, limits, window, &channels).ok_or(Fault::at(Fault::BAD_VALUE, 11))
 }
 
 /// The parameters of a parameter file: a TOML document, whose keys are read in the order of their
-/// numbers, the table of channels last, and then keys of other names.
+/// numbers, the quiet point last, and then keys of other names.
 ///
 /// Refused by [`Fault::TOML`] at place 0, by [`Fault::MISSING_KEY`] and [`Fault::BAD_VALUE`] at the
 /// key's number, and by [`Fault::NO_MEMORY`].

@@ -1,18 +1,23 @@
 //! The text of `show`.
-ghost use Rattle.std.specs.Prelude.{◌≡◌, ℕ, suc, IfOk, IfErr, OnOk, OnErr};
+ghost use Rattle.std.specs.Prelude.{◌≡◌, ℕ, suc, Some, IfOk, IfErr, OnOk, OnErr, nat_lt};
 ghost use Rattle.std.specs.Io.KnownBytes.{Appends};
 ghost use Rattle.rasta_pcap.specs.Fault.{write_failed};
 ghost use Rattle.rasta_pcap.specs.Devices.{AppendsBeginning, HasFailed};
 ghost use Rattle.rasta_pcap.specs.Capture.{reading};
-ghost use Rattle.rasta_audit.specs.Show.{Shown, show_status, show_text, shown_of, sight_of, status_after, text_from, with_sight};
-ghost use Rattle.rasta_audit.specs.Shown.{with_next};
+ghost use Rattle.rasta_pdu.specs.Params.{AreParameters};
+ghost use Rattle.rasta_pdu.specs.Pdu.{decode_of};
+ghost use Rattle.rasta_audit.specs.Show.{show_status, show_text, shown_of, sight_of, sight_of_frame, sight_of_pdu, status_after, text_from};
+ghost use Rattle.rasta_audit.specs.Shown.{sight_in, with_next};
+ghost use Rattle.rasta_udp.specs.Frame.{packet_in, packet_of};
 ghost use Rattle.rasta_audit.specs.Runs.{IsRunFault, WritesBeginning, WritesText};
 
 use crate::line::Line;
-use crate::texts::{ShownPacket, count_line, refusal_line};
+use crate::packet::write_packet;
+use crate::shown_packet::ShownPacket;
+use crate::texts::{count_line, refusal_line};
 use rasta_pcap::{Pcap, Record, read_all, write_all};
 use rasta_pdu::{Fault, Params, Sink, Source, decode};
-use rasta_udp::datagram;
+use rasta_udp::{Datagram, datagram};
 use std::alloc::Global;
 
 /// The next record of a capture: none, of no interest, a packet of the connection, or refused.
@@ -24,31 +29,54 @@ pub enum Next<'a> {
     Refused(Fault),
 }
 
-#[tactic(auto, unfolding(crate::specs::Show::sight_of))]
-fn sight<'a>(params: &Params, record: &Record<'a>) -> Next<'a>
-    ensures { (more : Shown) → with_next result more
-        ≡ with_sight (sight_of params.now («record».now.number, «record».now.bytes.now)) more }
+// Records in front of the window are not judged.
+fn is_in_front(params: &Params, number: u32) -> bool
+    ensures { result ≡ nat_lt number params.now.first_record }
 {
-    let number = record.number;
-    if number < params.first_record() {
-        return Next::PassedOver;
+    number < params.first_record()
+}
+
+// What a datagram of the connection shows. A PDU's fault speaks of its sender.
+fn sight_of_datagram<'a>(params: &Params, number: u32, found: Datagram<'a>) -> Next<'a>
+    requires { AreParameters params.now }
+    ensures { sight_in result ≡ Some (sight_of_pdu params.now number (packet_of found.entry)
+        (decode_of params.now found.entry.side found.entry.payload.now)) }
+{
+    match decode(params, found.side, found.payload) {
+        Ok(pdu) => Next::Packet(ShownPacket {
+            record: number,
+            channel: found.channel,
+            side: found.side,
+            pdu,
+        }),
+        Err(fault) => Next::Refused(Fault {
+            number: fault.number,
+            place: number,
+            end: Some(found.side),
+        }),
     }
+}
+
+// What a record of the window shows. A frame's fault speaks of no end.
+fn sight_in_window<'a>(params: &Params, record: &Record<'a>) -> Next<'a>
+    ensures { sight_in result ≡ Some (sight_of_frame params.now «record».now.number
+        (packet_in params.now.channels «record».now.bytes.now)) }
+{
     match datagram(record, params.channel()) {
         Ok(None) => Next::PassedOver,
-        Ok(Some(found)) => match decode(params, found.side, found.payload) {
-            Ok(pdu) => Next::Packet(ShownPacket {
-                record: number,
-                channel: found.channel,
-                side: found.side,
-                pdu,
-            }),
-            Err(fault) => Next::Refused(Fault {
-                number: fault.number,
-                place: number,
-                end: Some(found.side),
-            }),
-        },
-        Err(fault) => Next::Refused(Fault::at(fault.number, number)),
+        Ok(Some(found)) => sight_of_datagram(params, record.number, found),
+        Err(fault) => Next::Refused(Fault::at(fault.number, record.number)),
+    }
+}
+
+#[tactic(auto, unfolding(crate::specs::Show::sight_of))]
+fn sight<'a>(params: &Params, record: &Record<'a>) -> Next<'a>
+    ensures { sight_in result ≡ Some (sight_of params.now («record».now.number, «record».now.bytes.now)) }
+{
+    if is_in_front(params, record.number) {
+        Next::PassedOver
+    } else {
+        sight_in_window(params, record)
     }
 }
 
@@ -75,13 +103,14 @@ fn write_records<W: Sink>(params: &Params, mut pcap: Pcap<'_>, writer: &mut W) -
     ensures err { IfErr result (λ f. (f ≡ write_failed)
         × HasFailed (W.failure_count writer.old) (W.failure_count writer.new)) }
 {
+    let mut line = Line::new();
     let mut place = 0u32;
     for _ in 0..params.last_record() {
         match take_next(params, &mut pcap) {
             Next::End => break,
             Next::PassedOver => {}
             Next::Packet(packet) => {
-                write_all(writer, packet.line(place).as_bytes())?;
+                write_packet(&packet, place, &mut line, writer)?;
                 place += 1;
             }
             Next::Refused(fault) => {

@@ -1,5 +1,5 @@
 //! The recorded parameters of a connection.
-ghost use Rattle.std.specs.Prelude.{◌≡◌, ◌↔◌, ◌≤◌, length, IsSome, IsTrue, IfSome};
+ghost use Rattle.std.specs.Prelude.{◌≡◌, ◌↔◌, length, IsSome, IsTrue, IfSome};
 ghost use Rattle.rasta_pdu.specs.Params.{Parameters, AreChannels, AreLengths, AreLimits, AreParameters, IsQuiet, IsWindow};
 
 use crate::quiet_point::Quiet;

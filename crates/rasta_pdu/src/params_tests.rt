@@ -20,7 +20,6 @@ fn channel(client: [u8; 4], server: [u8; 4], port: u16) -> Channel {
     }
 }
 
-// Lengths of safety code and check code; N_sendmax, T_max and slack; the window.
 fn params(
     ids: [u32; 2],
     lengths: [u8; 2],
@@ -80,58 +79,75 @@ fn parameters_are_kept(rt: HostRuntime) -> Result<(), Fail> {
         Some(quiet),
     );
     let read = read.ok_or("parameters")?;
-    assert_eq!(rt; (read.client_id(), read.server_id()), (96, 97));
-    assert_eq!(rt; (read.code_length(), read.check_length()), (16, 4));
+    let numbers = [
+        read.client_id(),
+        read.server_id(),
+        u32::from(read.code_length()),
+        u32::from(read.check_length()),
+        u32::from(read.n_sendmax()),
+        u32::from(read.t_max()),
+        u32::from(read.slack()),
+        read.first_record(),
+        read.last_record(),
+    ];
+    assert_eq!(rt; numbers, [96, 97, 16, 4, 20, 1800, 5, 3, 8]);
     assert_eq!(rt; read.md4_start(), WORDS);
-    assert_eq!(rt;
-        (read.n_sendmax(), read.t_max(), read.slack()),
-        (20, 1800, 5)
-    );
-    assert_eq!(rt; (read.first_record(), read.last_record()), (3, 8));
     assert_eq!(rt; read.channel(), channels.as_slice());
     assert_eq!(rt; read.quiet(), Some(quiet));
     Ok(())
 }
 
+const MOST: u32 = 4_000_000_000;
+
+// Ids; lengths of safety code and check code; N_sendmax, T_max and slack; the window.
+type Row = ([u32; 2], [u8; 2], [u16; 3], [u32; 2]);
+
+const ACCEPTED: [Row; 11] = [
+    ([96, 97], [0, 0], [20, 1800, 0], [1, MOST]),
+    ([0, u32::MAX], [0, 0], [20, 1800, 0], [1, MOST]),
+    ([96, 97], [8, 2], [20, 1800, 0], [1, MOST]),
+    ([96, 97], [16, 4], [20, 1800, 0], [1, MOST]),
+    ([96, 97], [0, 0], [1, 1800, 0], [1, MOST]),
+    ([96, 97], [0, 0], [65_535, 1800, 0], [1, MOST]),
+    ([96, 97], [0, 0], [20, 1, 0], [1, MOST]),
+    ([96, 97], [0, 0], [20, 60_000, 0], [1, MOST]),
+    ([96, 97], [0, 0], [20, 1800, 1000], [1, MOST]),
+    ([96, 97], [0, 0], [20, 1800, 0], [1, 1]),
+    ([96, 97], [0, 0], [20, 1800, 0], [MOST, MOST]),
+];
+
+const REFUSED: [Row; 16] = [
+    ([96, 96], [0, 0], [20, 1800, 0], [1, MOST]),
+    ([96, 97], [1, 0], [20, 1800, 0], [1, MOST]),
+    ([96, 97], [4, 0], [20, 1800, 0], [1, MOST]),
+    ([96, 97], [7, 0], [20, 1800, 0], [1, MOST]),
+    ([96, 97], [17, 0], [20, 1800, 0], [1, MOST]),
+    ([96, 97], [0, 1], [20, 1800, 0], [1, MOST]),
+    ([96, 97], [0, 3], [20, 1800, 0], [1, MOST]),
+    ([96, 97], [0, 5], [20, 1800, 0], [1, MOST]),
+    ([96, 97], [0, 8], [20, 1800, 0], [1, MOST]),
+    ([96, 97], [0, 0], [0, 1800, 0], [1, MOST]),
+    ([96, 97], [0, 0], [20, 0, 0], [1, MOST]),
+    ([96, 97], [0, 0], [20, 60_001, 0], [1, MOST]),
+    ([96, 97], [0, 0], [20, 1800, 1001], [1, MOST]),
+    ([96, 97], [0, 0], [20, 1800, 0], [0, 7]),
+    ([96, 97], [0, 0], [20, 1800, 0], [8, 7]),
+    ([96, 97], [0, 0], [20, 1800, 0], [1, MOST + 1]),
+];
+
+fn is_accepted(row: Row) -> bool {
+    let (ids, lengths, limits, window) = row;
+    let channels = [channel([10, 0, 0, 1], [10, 0, 0, 2], 5000)];
+    params(ids, lengths, limits, window, &channels, None).is_some()
+}
+
 #[test]
 fn ranges_end_where_they_should(rt: HostRuntime) {
-    let channels = [channel([10, 0, 0, 1], [10, 0, 0, 2], 5000)];
-    const MOST: u32 = 4_000_000_000;
-    for (ids, lengths, limits, window, is_valid) in [
-        ([96, 97], [0, 0], [20, 1800, 0], [1, MOST], true),
-        ([96, 96], [0, 0], [20, 1800, 0], [1, MOST], false),
-        ([0, u32::MAX], [0, 0], [20, 1800, 0], [1, MOST], true),
-        ([96, 97], [8, 2], [20, 1800, 0], [1, MOST], true),
-        ([96, 97], [16, 4], [20, 1800, 0], [1, MOST], true),
-        ([96, 97], [1, 0], [20, 1800, 0], [1, MOST], false),
-        ([96, 97], [4, 0], [20, 1800, 0], [1, MOST], false),
-        ([96, 97], [7, 0], [20, 1800, 0], [1, MOST], false),
-        ([96, 97], [17, 0], [20, 1800, 0], [1, MOST], false),
-        ([96, 97], [0, 1], [20, 1800, 0], [1, MOST], false),
-        ([96, 97], [0, 3], [20, 1800, 0], [1, MOST], false),
-        ([96, 97], [0, 5], [20, 1800, 0], [1, MOST], false),
-        ([96, 97], [0, 8], [20, 1800, 0], [1, MOST], false),
-        ([96, 97], [0, 0], [0, 1800, 0], [1, MOST], false),
-        ([96, 97], [0, 0], [1, 1800, 0], [1, MOST], true),
-        ([96, 97], [0, 0], [65_535, 1800, 0], [1, MOST], true),
-        ([96, 97], [0, 0], [20, 0, 0], [1, MOST], false),
-        ([96, 97], [0, 0], [20, 1, 0], [1, MOST], true),
-        ([96, 97], [0, 0], [20, 60_000, 0], [1, MOST], true),
-        ([96, 97], [0, 0], [20, 60_001, 0], [1, MOST], false),
-        ([96, 97], [0, 0], [20, 1800, 1000], [1, MOST], true),
-        ([96, 97], [0, 0], [20, 1800, 1001], [1, MOST], false),
-        ([96, 97], [0, 0], [20, 1800, 0], [0, 7], false),
-        ([96, 97], [0, 0], [20, 1800, 0], [1, 1], true),
-        ([96, 97], [0, 0], [20, 1800, 0], [8, 7], false),
-        ([96, 97], [0, 0], [20, 1800, 0], [MOST, MOST], true),
-        ([96, 97], [0, 0], [20, 1800, 0], [1, MOST + 1], false),
-    ] {
-        let read = params(ids, lengths, limits, window, &channels, None);
-        assert_eq!(rt;
-            read.is_some(),
-            is_valid,
-            "{ids:?} {lengths:?} {limits:?} {window:?}"
-        );
+    for row in ACCEPTED {
+        assert!(rt; is_accepted(row), "{row:?}");
+    }
+    for row in REFUSED {
+        assert!(rt; !is_accepted(row), "{row:?}");
     }
 }
 

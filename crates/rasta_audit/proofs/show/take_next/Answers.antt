@@ -1,7 +1,7 @@
 use Rattle.std.proofs.Common.{◌≡◌, ◌∙◌, ap, sym}
 use Rattle.rasta_pcap.specs.Capture.{Cursor, behind, moved, reading}
 use Rattle.rasta_audit.specs.Show.{shown_of}
-use Rattle.rasta_audit.specs.Shown.{with_next}
+use Rattle.rasta_audit.specs.Shown.{with_next, with_some}
 use Rattle.rasta_audit.proofs.Showing.{shown-end, shown-fault, shown-record}
 use Rattle.rasta_audit.proofs.show.take_next.Goals as goal
 
@@ -16,7 +16,7 @@ returns-in-Ok-Some c left =
     let found = rw c.in-Ok-Some.field-0-is at c.in-Ok-Some.ensures.found in
     let gone : c.next_record.new.self ≡ behind old = c.next_record.ensures.moves ∙ ap (λ o. moved o old) found in
     shown-record p left old _ found
-    ∙ sym (c.sight.ensures (shown_of p (reading left (behind old))))
+    ∙ ap (λ s. with_some s (shown_of p (reading left (behind old)))) (sym c.sight.ensures)
     ∙ ap (λ (k : Cursor). with_next c.sight.result (shown_of p (reading left k))) (sym gone)
 
 pub returns-in-Err : goal.returns-in-Err
