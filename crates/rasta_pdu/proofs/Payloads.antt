@@ -1,5 +1,5 @@
 -- The messages of a payload, read and spelled.
-use Rattle.std.proofs.Common.{◌≡◌, ℕ, zero, suc, ◌+◌, ◌-◌, ◌^◌, ◌<◌, ◌≤◌, List, [], ◌∷◌, ◌++◌, length, take, drop, slice_range, Bool, true, false, cond, nat_le, nat_eq, nat_lt, ◌&&◌, not, get_or, refl, ap, sym, ◌∙◌, arith, append_assoc, append-nil, length-drop, length-append, length-take}
+use Rattle.std.proofs.Common.{◌≡◌, ℕ, zero, suc, ◌+◌, ◌-◌, ◌^◌, ◌<◌, ◌≤◌, List, [], ◌∷◌, ◌++◌, length, take, drop, Bool, true, false, cond, nat_le, nat_eq, nat_lt, ◌&&◌, not, get_or, refl, ap, sym, ◌∙◌, arith, append_assoc, append-nil, length-drop, length-append, length-take}
 use Rattle.std.proofs.Math.Seq.{take-append_seam, drop-append_seam}
 use Rattle.std.proofs.lemmas.List.{nil_from_length}
 use Rattle.std.proofs.lemmas.List.Folds.{drop_split}
@@ -87,16 +87,6 @@ no_messages = messages_of-none [] refl
 -- the spelling of messages that are lent
 abbrev pub spelled : List (Bor (List ℕ)) → List ℕ
 spelled ms = payload_of_messages (lists_of ms)
-
--- from a place on there are the message there and those behind it
-pub spelled-drop : (ms : List (Bor (List ℕ))) (i : ℕ) (d : Bor (List ℕ)) → i < length ms
-    → spelled (drop i ms) ≡ little_bytes 2 (length (get_or ms i d).now) ++ ((get_or ms i d).now ++ spelled (drop (i + 1) ms))
-spelled-drop [] i d h = absurd (omega arith)
-spelled-drop (m ∷ ms) zero d h = refl
-spelled-drop (m ∷ ms) (suc i) d h =
-    let next : suc (i + 1) ≡ suc i + 1 = omega arith in
-    spelled-drop ms i d (omega arith)
-    ∙ ap (λ (n : ℕ). little_bytes 2 (length (get_or ms i d).now) ++ ((get_or ms i d).now ++ spelled (drop n (m ∷ ms)))) next
 
 -- spelled messages are no fewer bytes than one of them
 short_by : (ms : List (List ℕ)) (i : ℕ) → length (get_or ms i []) ≤ length (payload_of_messages ms)

@@ -1,5 +1,5 @@
 -- A datagram's spelling, read and written.
-use Rattle.std.proofs.Common.{◌≡◌, ℕ, ◌+◌, ◌-◌, ◌^◌, ◌<◌, ◌≤◌, List, [], ◌++◌, length, take, drop, slice_range, Bool, true, false, cond, nat_eq, nat_le, ◌&&◌, ◌⊎◌, Option, Some, None, Result, Ok, Err, refl, ap, sym, ◌∙◌, arith, subst, length-take, length-drop, IfOk, MatchResult, IsOkAnd, inl, inr}
+use Rattle.std.proofs.Common.{◌≡◌, ℕ, ◌+◌, ◌-◌, ◌^◌, ◌<◌, ◌≤◌, List, [], ◌++◌, length, drop, slice_range, Bool, true, false, cond, nat_eq, nat_le, ◌&&◌, Option, Some, None, Result, Ok, Err, refl, ap, sym, ◌∙◌, arith, subst, length-take, length-drop, IfOk, MatchResult, IsOkAnd, inl, inr}
 use Rattle.std.proofs.lemmas.Bool.{eqb-true, leb-true, and_parts}
 use Rattle.std.proofs.lemmas.Bool.Decides.{nat_tests}
 use Rattle.std.proofs.lemmas.Slice.Eq.{bytes_eq-Decides}
@@ -13,7 +13,7 @@ use Rattle.rasta_pcap.specs.declared.fault.Side.{Side}
 use Rattle.rasta_pdu.specs.declared.kind.Kind.{Kind}
 use Rattle.rasta_pdu.specs.declared.pdu.Pdu.{Pdu}
 use Rattle.rasta_pdu.specs.Params.{Parameters, AreParameters}
-use Rattle.rasta_pdu.specs.Pdu.{SafetyBody, SafetyPdu, RedundancyPdu, IsRedundancyPdu, HasLayout, layout_of, type_of, kind_of, payload_of, body_in, length_of, uncoded_bytes, code_over, code_of, safety_bytes, redundancy_bytes, receiver_of, sender_of, number_at, check_at, code_at, has_length, has_fields, has_safety_length, has_code, has_ids, fields_of, refused, decode_body, decode_kind, decode_of, value_of}
+use Rattle.rasta_pdu.specs.Pdu.{SafetyBody, SafetyPdu, RedundancyPdu, IsRedundancyPdu, layout_of, type_of, kind_of, payload_of, body_in, length_of, uncoded_bytes, code_over, code_of, redundancy_bytes, receiver_of, sender_of, number_at, check_at, code_at, has_length, has_fields, has_safety_length, has_code, has_ids, fields_of, refused, decode_body, decode_kind, decode_of, value_of}
 use Rattle.rasta_pdu.specs.Messages.{AreBytes}
 use Rattle.rasta_pdu.proofs.Numbers.{AreBytes-drop, AreBytes-take, two_at, four_at, number_at-lt}
 use Rattle.rasta_pdu.proofs.Places.{first_part, second_part, third_part, length-three, three_parts, length-slice_range}

@@ -1,5 +1,5 @@
 -- Appending a datagram.
-use Rattle.std.proofs.Common.{◌≡◌, ℕ, ◌+◌, ◌^◌, ◌<◌, ◌≤◌, List, [], ◌∷◌, ◌++◌, length, map, drop, Bool, true, false, nat_eq, refl, ap, sym, ◌∙◌, arith, append_assoc, length-append}
+use Rattle.std.proofs.Common.{◌≡◌, ℕ, ◌+◌, ◌^◌, ◌<◌, ◌≤◌, List, [], ◌∷◌, ◌++◌, length, drop, true, nat_eq, refl, ap, sym, ◌∙◌, arith, append_assoc, length-append}
 use Rattle.std.specs.Borrow.{Bor}
 use Rattle.std.proofs.lemmas.Bool.{eqb-true, ltb-true, and_parts}
 use Rattle.rasta_pdu.specs.declared.body.Body.{Body}

@@ -66,12 +66,19 @@ fn has_code(params: &Params, bytes: &[u8]) -> bool
     is_code(params, covered, &bytes[code_at..check_at])
 }
 
+fn has_id(bytes: &[u8], at: usize, id: u32) -> bool
+    requires { at + 4 ≤ length bytes.now }
+    ensures { result ≡ (number_at 4 at bytes.now == id) }
+{
+    u32_at(bytes, at) == id
+}
+
 // Whether these are the receiver and the sender.
 fn are_ids(bytes: &[u8], receiver: u32, sender: u32) -> bool
     requires { 36 ≤ length bytes.now }
     ensures { result ≡ (number_at 4 12 bytes.now == receiver && number_at 4 16 bytes.now == sender) }
 {
-    u32_at(bytes, RECEIVER_AT) == receiver && u32_at(bytes, SENDER_AT) == sender
+    has_id(bytes, RECEIVER_AT, receiver) && has_id(bytes, SENDER_AT, sender)
 }
 
 // The fields of a datagram of this kind and body, whose codes begin there.

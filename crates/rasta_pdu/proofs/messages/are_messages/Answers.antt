@@ -1,4 +1,4 @@
-use Rattle.std.proofs.Common.{arith, sym, ◌∙◌}
+use Rattle.std.proofs.Common.{arith}
 use Rattle.std.proofs.lemmas.Bool.Decides.{nat_tests}
 use Rattle.rasta_pdu.proofs.Payloads.{filled_more, are_messages-is}
 use Rattle.rasta_pdu.proofs.messages.are_messages.Goals as goal

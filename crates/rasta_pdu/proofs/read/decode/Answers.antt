@@ -1,6 +1,5 @@
-use Rattle.std.proofs.Common.{arith, sym, ◌∙◌}
-use Rattle.rasta_pdu.specs.Pdu.{read_code}
-use Rattle.rasta_pdu.proofs.Spellings.{IsRead, spelled_by, read_back_by, if_ok, if_ok_both}
+use Rattle.std.proofs.Common.{arith, ◌∙◌}
+use Rattle.rasta_pdu.proofs.Spellings.{spelled_by, read_back_by, if_ok, if_ok_both}
 use Rattle.rasta_pdu.proofs.read.decode.Goals as goal
 
 pub returns-clause-spelled : goal.returns-clause-spelled
