@@ -1,5 +1,5 @@
 -- The parameters of a document, key by key.
-use Rattle.std.specs.Prelude.{◌≡◌, ◌⊎◌, ℕ, ◌+◌, pos, ℤ, List, [], ◌∷◌, Bool, true, ◌&&◌, ◌||◌, ◌==◌, nat_le, if◌then◌else◌, Option, Some, None, is_some, Result, Ok, Err, codes}
+use Rattle.std.specs.Prelude.{◌≡◌, ◌⊎◌, ◌≤◌, IfSome, ℕ, ◌+◌, pos, ℤ, List, [], ◌∷◌, Bool, true, ◌&&◌, ◌||◌, ◌==◌, nat_le, if◌then◌else◌, Option, Some, None, is_some, Result, Ok, Err, codes}
 use Rattle.std.specs.List.{list_any}
 use Rattle.std.specs.Str.{bytes_eq, is_utf8}
 use Rattle.toml.specs.Data.{Data, Items, item, no_items, Members, member, no_members, get_member, as_array, as_integer, as_str, as_table}
@@ -146,6 +146,10 @@ quiet_end_in ms = do
   handed_ts ← if_any_at 13 (codes "handed_ts") 0 4294967295 ms
   Ok (record { next_sn = next_sn; clock = clock; deadline = deadline; handed_ts = handed_ts })
 
+-- the clock and the deadline are ones that a document can have
+abbrev pub HasClocks : QuietEnd → Type 0
+HasClocks e = (e.clock ≤ most_clock) × IfSome e.deadline (λ d. d ≤ most_clock)
+
 abbrev pub quiet_end_of_table : Option Members → Result QuietEnd Fault
 quiet_end_of_table None = bad_at 13
 quiet_end_of_table (Some ms) = quiet_end_in ms
@@ -170,16 +174,28 @@ abbrev pub present : {A : Type 0} → ℕ → Option A → Result A Fault
 present place None = missing_at place
 present place (Some x) = Ok x
 
--- presence of both ends; the client's keys, and the server's; keys of other names; and last the clocks
+-- the client's keys, and then the server's
+unfoldable pub ends_of : Data → Data → Result Quiet Fault
+ends_of of_client of_server = do
+  client ← quiet_end_of of_client
+  server ← quiet_end_of of_server
+  Ok (record { client = client; server = server })
+
+-- the quiet point has the keys of both ends alone, and each end its own
+abbrev pub have_quiet_keys : Members → Data → Data → Bool
+have_quiet_keys ms of_client of_server =
+    are_among channel_keys ms && has_keys_among quiet_keys (as_table of_client) && has_keys_among quiet_keys (as_table of_server)
+
+abbrev pub are_in_time : ℕ → Quiet → Bool
+are_in_time slack q = is_in_time slack q.client.clock q.client.deadline && is_in_time slack q.server.clock q.server.deadline
+
+-- presence of both ends; their keys; keys of other names; and last the clocks
 unfoldable pub quiet_in : ℕ → Members → Result Quiet Fault
 quiet_in slack ms = do
   of_client ← present 13 (get_member (codes "client") ms)
   of_server ← present 13 (get_member (codes "server") ms)
-  client ← quiet_end_of of_client
-  server ← quiet_end_of of_server
-  let known = are_among channel_keys ms && has_keys_among quiet_keys (as_table of_client) && has_keys_among quiet_keys (as_table of_server)
-  let in_time = is_in_time slack client.clock client.deadline && is_in_time slack server.clock server.deadline
-  if known && in_time then Ok (record { client = client; server = server }) else bad_at 13
+  quiet ← ends_of of_client of_server
+  if have_quiet_keys ms of_client of_server && are_in_time slack quiet then Ok quiet else bad_at 13
 
 abbrev pub quiet_of_table : ℕ → Option Members → Result Quiet Fault
 quiet_of_table slack None = bad_at 13
@@ -270,16 +286,22 @@ parameters_with ids layout limits window channels quiet = record {
   quiet = quiet;
 }
 
--- the parameters of a document, or the first fault in the order of the keys; keys of other names last
-unfoldable pub parameters_of : Members → Result Parameters Fault
-parameters_of ms = do
+-- the parameters that the known keys give, or the first fault in the order of the keys
+unfoldable pub known_of : Members → Result Parameters Fault
+known_of ms = do
   ids ← ids_of ms
   layout ← layout_of ms
   limits ← limits_of ms
   window ← window_of ms
   channels ← channels_at ms
   quiet ← quiet_at limits.slack ms
-  if are_among known_keys ms then Ok (parameters_with ids layout limits window channels quiet) else bad_at 12
+  Ok (parameters_with ids layout limits window channels quiet)
+
+-- the parameters of a document; keys of other names are judged last
+unfoldable pub parameters_of : Members → Result Parameters Fault
+parameters_of ms = do
+  parameters ← known_of ms
+  if are_among known_keys ms then Ok parameters else bad_at 12
 
 -- the document of a text, where it is one
 abbrev pub document_of : List ℕ → Option Members

@@ -5,7 +5,7 @@ ghost use Rattle.rasta_pdu.specs.Params.{AreChannels, AreLengths, AreLimits, IsQ
 ghost use Rattle.std.specs.List.{list_all};
 ghost use Rattle.toml.specs.Data.{as_array, as_integer, as_table};
 ghost use Rattle.toml.specs.View.{items_view, table_view, view};
-ghost use Rattle.rasta_audit.specs.Keys.{ReadsParameters, are_among, are_few_tables, channel_in, channel_of, channels_at, channels_in, check_length, check_length_at, code_length, code_length_at, endpoint_at, few_tables, ids_of, known_keys, layout_of, limits_of, md4_start_at, number_at, parameters_of, parameters_with, window_of};
+ghost use Rattle.rasta_audit.specs.Keys.{ReadsParameters, are_among, are_few_tables, channel_in, channel_of, channels_at, channels_in, check_length, check_length_at, code_length, code_length_at, endpoint_at, few_tables, ids_of, known_keys, known_of, layout_of, limits_of, md4_start_at, number_at, parameters_of, parameters_with, window_of};
 
 use crate::endpoint::endpoint_in;
 use crate::key::{has_keys_among, number, optional, value_at};
@@ -365,9 +365,9 @@ fn assembled(
     )
 }
 
-#[tactic(auto, unfolding(crate::specs::Keys::parameters_of))]
-fn read_parameters(alloc: Global, table: &Table) -> Result<Params, Fault>
-    ensures { (result ≡ Err no_memory) ⊎ (result ≡ parameters_of (table_view table.now)) }
+#[tactic(auto, unfolding(crate::specs::Keys::known_of))]
+fn read_known_keys(alloc: Global, table: &Table) -> Result<Params, Fault>
+    ensures { (result ≡ Err no_memory) ⊎ (result ≡ known_of (table_view table.now)) }
 {
     let ids = read_ids(table)?;
     let layout = read_layout(table)?;
@@ -375,10 +375,19 @@ fn read_parameters(alloc: Global, table: &Table) -> Result<Params, Fault>
     let window = read_window(table)?;
     let channels = channels_of(alloc, table)?;
     let quiet = quiet_of(table, limits.slack)?;
-    if !has_known_keys(table) {
-        return Err(Fault::at(Fault::BAD_VALUE, 12));
-    }
     assembled(ids, layout, limits, window, &channels, quiet).ok_or(Fault::at(Fault::BAD_VALUE, 11))
+}
+
+#[tactic(auto, unfolding(crate::specs::Keys::parameters_of))]
+fn read_parameters(alloc: Global, table: &Table) -> Result<Params, Fault>
+    ensures { (result ≡ Err no_memory) ⊎ (result ≡ parameters_of (table_view table.now)) }
+{
+    let parameters = read_known_keys(alloc, table)?;
+    if has_known_keys(table) {
+        Ok(parameters)
+    } else {
+        Err(Fault::at(Fault::BAD_VALUE, 12))
+    }
 }
 
 /// The parameters of a parameter file: a TOML document, whose keys are read in the order of their

@@ -1,9 +1,9 @@
 //! The quiet point of a parameter file.
-ghost use Rattle.std.specs.Prelude.{◌≡◌, ◌≤◌, IfOk, IfSome};
+ghost use Rattle.std.specs.Prelude.{◌≡◌, ◌≤◌, IfOk, IfSome, IsTrue};
 ghost use Rattle.toml.specs.Data.{as_table};
 ghost use Rattle.toml.specs.View.{table_view, view};
 ghost use Rattle.rasta_pdu.specs.Params.{IsQuiet, most_clock};
-ghost use Rattle.rasta_audit.specs.Keys.{has_keys_among, is_in_time, quiet_at, quiet_end_in, quiet_end_of, quiet_in, quiet_keys, quiet_of_table};
+ghost use Rattle.rasta_audit.specs.Keys.{HasClocks, are_in_time, ends_of, has_keys_among, have_quiet_keys, is_in_time, quiet_at, quiet_end_in, quiet_end_of, quiet_in, quiet_keys, quiet_of_table};
 
 use crate::key::{clock, clock_if_any, has_keys_among, number, number_if_any, value_at};
 use rasta_pdu::{Fault, Quiet, QuietEnd};
@@ -12,7 +12,7 @@ use toml::{Table, Value};
 #[tactic(auto, unfolding(crate::specs::Keys::quiet_end_in))]
 fn read_end(table: &Table) -> Result<QuietEnd, Fault>
     ensures value { result ≡ quiet_end_in (table_view table.now) }
-    ensures clocks { IfOk result (λ e. (e.clock ≤ most_clock) × IfSome e.deadline (λ d. d ≤ most_clock)) }
+    ensures clocks { IfOk result HasClocks }
 {
     let next_sn = number(table, 13, "next_sn", 0, 4294967295)?;
     let clock = clock(table, 13, "clock")?;
@@ -29,7 +29,7 @@ fn read_end(table: &Table) -> Result<QuietEnd, Fault>
 // The end of a value, which has to be a table.
 fn end_in_value(value: &Value) -> Result<QuietEnd, Fault>
     ensures value { result ≡ quiet_end_of (view value.now) }
-    ensures clocks { IfOk result (λ e. (e.clock ≤ most_clock) × IfSome e.deadline (λ d. d ≤ most_clock)) }
+    ensures clocks { IfOk result HasClocks }
 {
     match value.as_table() {
         Some(table) => read_end(table),
@@ -61,6 +61,35 @@ fn is_in_time(slack: u32, clock: u64, deadline: Option<u64>) -> bool
     }
 }
 
+#[tactic(auto, unfolding(crate::specs::Keys::ends_of))]
+fn read_ends(of_client: &Value, of_server: &Value) -> Result<Quiet, Fault>
+    ensures value { result ≡ ends_of (view of_client.now) (view of_server.now) }
+    ensures clocks { IfOk result (λ q. HasClocks q.client × HasClocks q.server) }
+{
+    let client = end_in_value(of_client)?;
+    let server = end_in_value(of_server)?;
+    Ok(Quiet { client, server })
+}
+
+// Whether the quiet point has the keys of both ends alone, and each end its own.
+fn have_quiet_keys(table: &Table, of_client: &Value, of_server: &Value) -> bool
+    ensures { result ≡ have_quiet_keys (table_view table.now) (view of_client.now) (view of_server.now) }
+{
+    has_keys_among(table, &["client", "server"])
+        && has_end_keys(of_client)
+        && has_end_keys(of_server)
+}
+
+fn are_in_time(slack: u32, quiet: Quiet) -> bool
+    requires small { slack ≤ 1000 }
+    requires clocks { HasClocks quiet.client × HasClocks quiet.server }
+    ensures value { result ≡ are_in_time slack quiet }
+    ensures valid { IsTrue result → IsQuiet slack quiet }
+{
+    is_in_time(slack, quiet.client.clock, quiet.client.deadline)
+        && is_in_time(slack, quiet.server.clock, quiet.server.deadline)
+}
+
 #[tactic(auto, unfolding(crate::specs::Keys::quiet_in))]
 fn read_quiet(table: &Table, slack: u32) -> Result<Quiet, Fault>
     requires { slack ≤ 1000 }
@@ -73,15 +102,9 @@ fn read_quiet(table: &Table, slack: u32) -> Result<Quiet, Fault>
     let Some(of_server) = value_at(table, "server") else {
         return Err(Fault::at(Fault::MISSING_KEY, 13));
     };
-    let client = end_in_value(of_client)?;
-    let server = end_in_value(of_server)?;
-    let is_valid = has_keys_among(table, &["client", "server"])
-        && has_end_keys(of_client)
-        && has_end_keys(of_server)
-        && is_in_time(slack, client.clock, client.deadline)
-        && is_in_time(slack, server.clock, server.deadline);
-    if is_valid {
-        Ok(Quiet { client, server })
+    let quiet = read_ends(of_client, of_server)?;
+    if have_quiet_keys(table, of_client, of_server) && are_in_time(slack, quiet) {
+        Ok(quiet)
     } else {
         Err(Fault::at(Fault::BAD_VALUE, 13))
     }
