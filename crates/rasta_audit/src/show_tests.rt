@@ -43,14 +43,20 @@ const DATA: (Side, &str) = (
     "2e0000000900000022006018610000006000000066000000f4010000fc030000282300000200ab010000aabbccdd",
 );
 
+const FOUR_CHECK_BYTES: &str = "code_length = 0\ncheck_length = 4\n";
+
 const DATA_SHOWN: &str =
     "0 1 1 client 9 0 6240 102 500 1020 9000 data ab01,. - aabbccdd\npackets 1\n";
 
-// Parameters of two channels, with these lengths of codes and these lines.
-fn parameters(alloc: Global, code: u8, check: u8, more: &str) -> Result<Params, Fail> {
-    let text = format!(in alloc;
-        "client_id = 96\nserver_id = 97\ncode_length = {code}\ncheck_length = {check}\nn_sendmax = 20\nt_max = 1800\nslack = 0\n{more}[[channel]]\nclient = \"10.0.0.1:5000\"\nserver = \"10.0.0.2:5000\"\n[[channel]]\nclient = \"10.0.1.1:5001\"\nserver = \"10.0.1.2:5001\"\n"
-    )?;
+const NO_CODES: &str = "code_length = 0\ncheck_length = 0\n";
+
+const TWO_CHANNELS: &str =
+    "client_id = 96\nserver_id = 97\nn_sendmax = 20\nt_max = 1800\nslack = 0\n[[channel]]\nclient = \"10.0.0.1:5000\"\nserver = \"10.0.0.2:5000\"\n[[channel]]\nclient = \"10.0.1.1:5001\"\nserver = \"10.0.1.2:5001\"\n";
+
+// Parameters of two channels, with these lines for the other keys.
+fn parameters(alloc: Global, lines: &str) -> Result<Params, Fail> {
+    let mut text = String::from_str(alloc, lines)?;
+    text.push_str(TWO_CHANNELS)?;
     Ok(params(alloc, text.as_bytes()).ok().ok_or("parameters")?)
 }
 
@@ -79,6 +85,20 @@ fn add_record(file: &mut Vec<u8>, magic: [u8; 4], frame: &[u8]) -> Result<(), Fa
     file.extend_from_slice(&length)?;
     file.extend_from_slice(frame)?;
     Ok(())
+}
+
+// What is shown of a changed heartbeat.
+fn shown_of_change(
+    alloc: Global,
+    params: &Params,
+    from: usize,
+    to: usize,
+    bytes: &[u8],
+    captured: usize,
+) -> Result<Vec<u8>, Fail> {
+    let frame = changed(alloc, from, to, bytes, captured)?;
+    let (_, text) = shown(alloc, params, &file_of(alloc, &[&frame])?)?;
+    Ok(text)
 }
 
 // A file of these frames.
@@ -153,114 +173,120 @@ fn changed(
     Ok(frame)
 }
 
+// Where the heartbeat's frame is changed, the bytes that stand there, and what is shown.
+const CHANGES: [(usize, &[u8], &str); 6] = [
+    (42, &[0x24], SHOWN),
+    (42, &[0x25, 0], "refused 20 RedundancyLength 1 client\n"),
+    (50, &[0x1d, 0], "refused 22 SafetyLength 1 client\n"),
+    (52, &[0x4d, 0x18], "refused 23 Type 1 client\n"),
+    (54, &[0x62, 0, 0, 0], "refused 26 Ids 1 client\n"),
+    (58, &[0x61, 0, 0, 0], "refused 26 Ids 1 client\n"),
+];
+
 #[test]
 fn one_heartbeat_and_its_refusals(rt: HostRuntime) -> Result<(), Fail> {
-    let params = parameters(rt.alloc(), 0, 0, "")?;
-    let cases: [(usize, &[u8], &str); 6] = [
-        (42, &[0x24], SHOWN),
-        (42, &[0x25, 0], "refused 20 RedundancyLength 1 client\n"),
-        (50, &[0x1d, 0], "refused 22 SafetyLength 1 client\n"),
-        (52, &[0x4d, 0x18], "refused 23 Type 1 client\n"),
-        (54, &[0x62, 0, 0, 0], "refused 26 Ids 1 client\n"),
-        (58, &[0x61, 0, 0, 0], "refused 26 Ids 1 client\n"),
-    ];
-    for (from, bytes, want) in cases {
-        let frame = changed(
-            rt.alloc(),
-            from,
-            from.saturating_add(bytes.len()),
-            bytes,
-            84,
-        )?;
-        let file = file_of(rt.alloc(), &[&frame])?;
-        let (code, text) = shown(rt.alloc(), &params, &file)?;
+    let params = parameters(rt.alloc(), NO_CODES)?;
+    for (from, bytes, want) in CHANGES {
+        let to = from.saturating_add(bytes.len());
+        let text = shown_of_change(rt.alloc(), &params, from, to, bytes, 84)?;
         assert_eq!(rt; text.as_slice(), want.as_bytes());
-        assert_eq!(rt; code == 0, want == SHOWN);
     }
     Ok(())
 }
 
+// How many bytes there are of a file of one heartbeat, and what is shown.
+const CUTS: [(usize, &str); 6] = [
+    (0, "refused 13 CutHeader 0 -\n"),
+    (23, "refused 13 CutHeader 0 -\n"),
+    (24, "packets 0\n"),
+    (39, "refused 14 CutRecord 1 -\n"),
+    (123, "refused 14 CutRecord 1 -\n"),
+    (124, SHOWN),
+];
+
 #[test]
 fn files_that_end_early(rt: HostRuntime) -> Result<(), Fail> {
-    let params = parameters(rt.alloc(), 0, 0, "")?;
+    let params = parameters(rt.alloc(), NO_CODES)?;
     let whole = file_of(rt.alloc(), &[&HEARTBEAT])?;
-    let cases: [(usize, &str); 6] = [
-        (0, "refused 13 CutHeader 0 -\n"),
-        (23, "refused 13 CutHeader 0 -\n"),
-        (24, "packets 0\n"),
-        (39, "refused 14 CutRecord 1 -\n"),
-        (123, "refused 14 CutRecord 1 -\n"),
-        (124, SHOWN),
-    ];
-    for (len, want) in cases {
+    for (len, want) in CUTS {
         let (_, text) = shown(rt.alloc(), &params, whole.get(..len).ok_or("len")?)?;
         assert_eq!(rt; text.as_slice(), want.as_bytes());
     }
     Ok(())
 }
 
+// A header of IPv4 with four bytes of options.
+const WITH_OPTIONS: &[u8] = &[
+    0x46, 0, 0, 68, 0, 0, 0, 0, 0x40, 17, 0, 0, 10, 0, 0, 1, 10, 0, 0, 2, 1, 1, 1, 0,
+];
+
+const SECOND: &[u8] = &[10, 0, 1, 1, 10, 0, 1, 2, 0x13, 0x89, 0x13, 0x89];
+
+const MIXED: &[u8] = &[10, 0, 0, 1, 10, 0, 1, 2, 0x13, 0x88, 0x13, 0x89];
+
+const TWICE: &[u8] = &[0x81, 0, 0, 5, 0x81, 0, 0, 5];
+
+const ON_SECOND: &str = "0 1 2 client 8 0 6220 101 500 1010 9000 - - -\npackets 1\n";
+
+const CUT: &str = "refused 15 CutPacket 1 -\n";
+
+const BAD_UDP: &str = "refused 19 BadUdp 1 -\n";
+
+// The range of the heartbeat's frame that is replaced, by which bytes, how many bytes were captured, and
+// what is shown.
+const FRAMES: [(usize, usize, &[u8], usize, &str); 20] = [
+    (14, 34, WITH_OPTIONS, 82, SHOWN),
+    (0, 0, &[], 78, SHOWN),
+    (20, 22, &[0x40, 0], 78, SHOWN),
+    (20, 22, &[0x20, 0], 78, "refused 16 Fragment 1 -\n"),
+    (20, 22, &[0, 1], 78, "refused 16 Fragment 1 -\n"),
+    (16, 18, &[0, 27], 78, BAD_UDP),
+    (38, 40, &[0, 7], 78, BAD_UDP),
+    (38, 40, &[0, 45], 78, BAD_UDP),
+    (
+        38,
+        40,
+        &[0, 43],
+        78,
+        "refused 20 RedundancyLength 1 client\n",
+    ),
+    (0, 0, &[], 77, CUT),
+    (0, 0, &[], 41, CUT),
+    (0, 0, &[], 33, "packets 0\n"),
+    (36, 38, &[0x17, 0x70], 78, "packets 0\n"),
+    (26, 38, SECOND, 78, ON_SECOND),
+    (26, 38, MIXED, 78, "packets 0\n"),
+    (12, 12, &[0x81, 0, 0, 5], 88, SHOWN),
+    (12, 12, &[0x81, 0, 0, 5], 82, SHOWN),
+    (12, 12, &[0x81, 0, 0, 5], 81, CUT),
+    (12, 12, TWICE, 92, "packets 0\n"),
+    (12, 12, &[0x88, 0xa8, 0, 5], 88, "packets 0\n"),
+];
+
 #[test]
 fn frames_by_their_table(rt: HostRuntime) -> Result<(), Fail> {
-    let params = parameters(rt.alloc(), 0, 0, "")?;
-    let second: &[u8] = &[10, 0, 1, 1, 10, 0, 1, 2, 0x13, 0x89, 0x13, 0x89];
-    let mixed: &[u8] = &[10, 0, 0, 1, 10, 0, 1, 2, 0x13, 0x88, 0x13, 0x89];
-    let twice: &[u8] = &[0x81, 0, 0, 5, 0x81, 0, 0, 5];
-    let on_second = "0 1 2 client 8 0 6220 101 500 1010 9000 - - -\npackets 1\n";
-    let cut = "refused 15 CutPacket 1 -\n";
-    let bad_udp = "refused 19 BadUdp 1 -\n";
-    let cases: [(usize, usize, &[u8], usize, &str); 19] = [
-        (0, 0, &[], 78, SHOWN),
-        (20, 22, &[0x40, 0], 78, SHOWN),
-        (20, 22, &[0x20, 0], 78, "refused 16 Fragment 1 -\n"),
-        (20, 22, &[0, 1], 78, "refused 16 Fragment 1 -\n"),
-        (16, 18, &[0, 27], 78, bad_udp),
-        (38, 40, &[0, 7], 78, bad_udp),
-        (38, 40, &[0, 45], 78, bad_udp),
-        (
-            38,
-            40,
-            &[0, 43],
-            78,
-            "refused 20 RedundancyLength 1 client\n",
-        ),
-        (0, 0, &[], 77, cut),
-        (0, 0, &[], 41, cut),
-        (0, 0, &[], 33, "packets 0\n"),
-        (36, 38, &[0x17, 0x70], 78, "packets 0\n"),
-        (26, 38, second, 78, on_second),
-        (26, 38, mixed, 78, "packets 0\n"),
-        (12, 12, &[0x81, 0, 0, 5], 88, SHOWN),
-        (12, 12, &[0x81, 0, 0, 5], 82, SHOWN),
-        (12, 12, &[0x81, 0, 0, 5], 81, cut),
-        (12, 12, twice, 92, "packets 0\n"),
-        (12, 12, &[0x88, 0xa8, 0, 5], 88, "packets 0\n"),
-    ];
-    for (from, to, bytes, captured, want) in cases {
-        let frame = changed(rt.alloc(), from, to, bytes, captured)?;
-        let file = file_of(rt.alloc(), &[&frame])?;
-        let (_, text) = shown(rt.alloc(), &params, &file)?;
+    let params = parameters(rt.alloc(), NO_CODES)?;
+    for (from, to, bytes, captured, want) in FRAMES {
+        let text = shown_of_change(rt.alloc(), &params, from, to, bytes, captured)?;
         assert_eq!(rt; text.as_slice(), want.as_bytes(), "{from} {captured}");
     }
-    let mut options = changed(rt.alloc(), 14, 18, &[0x46, 0, 0, 68], 34)?;
-    options.extend_from_slice(&[1, 1, 1, 0])?;
-    options.extend_from_slice(HEARTBEAT.get(34..78).ok_or("rest")?)?;
-    let (_, text) = shown(rt.alloc(), &params, &file_of(rt.alloc(), &[&options])?)?;
-    assert_eq!(rt; text.as_slice(), SHOWN.as_bytes());
     Ok(())
 }
+
+// The magic of a file, and the tag of its frames.
+const FORMATS: [([u8; 4], &[u8]); 5] = [
+    (LITTLE, &[]),
+    ([0x4d, 0x3c, 0xb2, 0xa1], &[]),
+    ([0xa1, 0xb2, 0xc3, 0xd4], &[]),
+    ([0xa1, 0xb2, 0x3c, 0x4d], &[]),
+    (LITTLE, &[0x81, 0, 0, 5]),
+];
 
 // The handshake in each kind of file, and with a tag.
 #[test]
 fn handshake(rt: HostRuntime) -> Result<(), Fail> {
-    let params = parameters(rt.alloc(), 0, 0, "")?;
-    let cases: [([u8; 4], &[u8]); 5] = [
-        (LITTLE, &[]),
-        ([0x4d, 0x3c, 0xb2, 0xa1], &[]),
-        ([0xa1, 0xb2, 0xc3, 0xd4], &[]),
-        ([0xa1, 0xb2, 0x3c, 0x4d], &[]),
-        (LITTLE, &[0x81, 0, 0, 5]),
-    ];
-    for (magic, tag) in cases {
+    let params = parameters(rt.alloc(), NO_CODES)?;
+    for (magic, tag) in FORMATS {
         let file = capture_of(rt.alloc(), magic, tag, &HANDSHAKE)?;
         let (code, text) = shown(rt.alloc(), &params, &file)?;
         assert_eq!(rt; text.as_slice(), HANDSHAKE_SHOWN.as_bytes());
@@ -285,41 +311,36 @@ const HALF: (Side, &str) = (
     "2c0000000800000024004c18610000006000000065000000f4010000f2030000282300004b0aba1c1dda672b",
 );
 
-const ZEROS: &str = "md4_start = \"00000000000000000000000000000000\"\n";
+const CODE_OF_16: &str = "code_length = 16\ncheck_length = 0\n";
+
+const CODE_OF_8: &str = "code_length = 8\ncheck_length = 0\n";
+
+const TWO_CHECK_BYTES: &str = "code_length = 0\ncheck_length = 2\n";
+
+const ZEROS: &str =
+    "code_length = 16\ncheck_length = 0\nmd4_start = \"00000000000000000000000000000000\"\n";
 
 const BAD_CODE: &str = "refused 25 Code 1 client\n";
 
-// Lengths of codes, lines of the parameter file, datagrams, and what is shown of them.
-type Case = (
-    u8,
-    u8,
-    &'static str,
-    &'static [(Side, &'static str)],
-    &'static str,
-);
+// Lines of the parameter file, datagrams, and what is shown of them.
+type Case = (&'static str, &'static [(Side, &'static str)], &'static str);
 
 const CASES: [Case; 6] = [
-    (0, 4, "", &[DATA], DATA_SHOWN),
+    (FOUR_CHECK_BYTES, &[DATA], DATA_SHOWN),
     (
-        16,
-        0,
-        "",
+        CODE_OF_16,
         &[CODED],
         "0 1 1 client 8 0 6220 101 500 1010 9000 - 7a9bef200a8e93ad6ea9b769f0c39b07 -\npackets 1\n",
     ),
-    (16, 0, ZEROS, &[CODED], BAD_CODE),
-    (16, 0, "", &[OTHER], BAD_CODE),
+    (ZEROS, &[CODED], BAD_CODE),
+    (CODE_OF_16, &[OTHER], BAD_CODE),
     (
-        8,
-        0,
-        "",
+        CODE_OF_8,
         &[HALF],
         "0 1 1 client 8 0 6220 101 500 1010 9000 - 4b0aba1c1dda672b -\npackets 1\n",
     ),
     (
-        0,
-        2,
-        "",
+        TWO_CHECK_BYTES,
         &[
             (
                 Side::Server,
@@ -348,8 +369,8 @@ const CASES: [Case; 6] = [
 
 #[test]
 fn bodies_and_codes(rt: HostRuntime) -> Result<(), Fail> {
-    for (code_length, check_length, more, datagrams, want) in CASES {
-        let params = parameters(rt.alloc(), code_length, check_length, more)?;
+    for (lines, datagrams, want) in CASES {
+        let params = parameters(rt.alloc(), lines)?;
         let file = capture_of(rt.alloc(), LITTLE, &[], datagrams)?;
         let (_, text) = shown(rt.alloc(), &params, &file)?;
         assert_eq!(rt; text.as_slice(), want.as_bytes());
@@ -357,21 +378,26 @@ fn bodies_and_codes(rt: HostRuntime) -> Result<(), Fail> {
     Ok(())
 }
 
+// Lines of the parameter file, and what is shown.
+const WINDOWS: [(&str, &str); 2] = [
+    (
+        "code_length = 0\ncheck_length = 0\nfirst_record = 2\nlast_record = 3\n",
+        "0 2 1 client 8 0 6220 101 500 1010 9000 - - -\n1 3 1 client 8 0 6220 101 500 1010 9000 - - -\npackets 2\n",
+    ),
+    (
+        "code_length = 0\ncheck_length = 0\nfirst_record = 4\n",
+        "refused 14 CutRecord 4 -\n",
+    ),
+];
+
 // Records outside the window aren't judged, and a copy has a line of its own.
 #[test]
 fn windows(rt: HostRuntime) -> Result<(), Fail> {
     let bad = changed(rt.alloc(), 52, 54, &[0x4d, 0x18], 84)?;
     let mut file = file_of(rt.alloc(), &[&bad, &HEARTBEAT, &HEARTBEAT])?;
     file.extend_from_slice(&[0])?;
-    let cases: [(&str, &str); 2] = [
-        (
-            "first_record = 2\nlast_record = 3\n",
-            "0 2 1 client 8 0 6220 101 500 1010 9000 - - -\n1 3 1 client 8 0 6220 101 500 1010 9000 - - -\npackets 2\n",
-        ),
-        ("first_record = 4\n", "refused 14 CutRecord 4 -\n"),
-    ];
-    for (window, want) in cases {
-        let params = parameters(rt.alloc(), 0, 0, window)?;
+    for (lines, want) in WINDOWS {
+        let params = parameters(rt.alloc(), lines)?;
         let (_, text) = shown(rt.alloc(), &params, &file)?;
         assert_eq!(rt; text.as_slice(), want.as_bytes());
     }
@@ -381,7 +407,7 @@ fn windows(rt: HostRuntime) -> Result<(), Fail> {
 // A reader in pieces gives the same text, and each read that fails is answered so.
 #[test]
 fn each_read_fails_in_turn(rt: HostRuntime) -> Result<(), Fail> {
-    let params = parameters(rt.alloc(), 0, 4, "")?;
+    let params = parameters(rt.alloc(), FOUR_CHECK_BYTES)?;
     let file = capture_of(rt.alloc(), LITTLE, &[], &[DATA])?;
     for call in 1..20 {
         let mut reader = Counted::new(FailAt::new(Pieces::new(&file, 9), call));
@@ -402,7 +428,7 @@ fn each_read_fails_in_turn(rt: HostRuntime) -> Result<(), Fail> {
 // What a writer that fails or takes no byte holds is a beginning of the text.
 #[test]
 fn each_write_goes_wrong_in_turn(rt: HostRuntime) -> Result<(), Fail> {
-    let params = parameters(rt.alloc(), 0, 4, "")?;
+    let params = parameters(rt.alloc(), FOUR_CHECK_BYTES)?;
     let file = capture_of(rt.alloc(), LITTLE, &[], &[DATA])?;
     for call in 1..9 {
         for idles in [false, true] {

@@ -3,77 +3,88 @@ use crate::command::form;
 use crate::failure::{Failure, status};
 use crate::form::Form;
 use rasta_pdu::{Fault, Side};
+use std::alloc::Global;
 use std::test::Fail;
+
+fn words_of(alloc: Global, words: &[&str]) -> Result<Vec<String>, Fail> {
+    let mut list = Vec::new(alloc);
+    for word in words {
+        list.push(String::from_str(alloc, word)?)?;
+    }
+    Ok(list)
+}
+
+// The form, none where the words are refused by the usage line.
+fn form_of<'a>(alloc: Global, words: &'a [String]) -> Result<Option<Form<'a>>, Fail> {
+    match form(alloc, words) {
+        Ok(form) => Ok(Some(form)),
+        Err(Failure::Usage) => Ok(None),
+        Err(Failure::Refused(_)) => Err("memory")?,
+    }
+}
+
+// Words, and their form, if they are one.
+const FORMS: [(&[&str], Option<Form<'_>>); 16] = [
+    (
+        &["show", "c", "p"],
+        Some(Form::Show {
+            capture: "c",
+            params: "p",
+        }),
+    ),
+    (
+        &["build", "c", "p"],
+        Some(Form::Build {
+            capture: "c",
+            params: "p",
+        }),
+    ),
+    (
+        &["check", "c", "p", "z"],
+        Some(Form::Check {
+            capture: "c",
+            params: "p",
+            certificate: "z",
+        }),
+    ),
+    (
+        &["audit", "c", "p"],
+        Some(Form::Audit {
+            capture: "c",
+            params: "p",
+        }),
+    ),
+    (
+        &["show", "--", "c", "p"],
+        Some(Form::Show {
+            capture: "c",
+            params: "p",
+        }),
+    ),
+    (
+        &["show", "--", "-c", "--help"],
+        Some(Form::Show {
+            capture: "-c",
+            params: "--help",
+        }),
+    ),
+    (&[], None),
+    (&["show"], None),
+    (&["show", "c"], None),
+    (&["show", "c", "p", "x"], None),
+    (&["check", "c", "p"], None),
+    (&["help"], None),
+    (&["--help"], None),
+    (&["show", "-h"], None),
+    (&["--version"], None),
+    (&["explain", "c", "p"], None),
+];
 
 #[test]
 fn forms_of_the_command_line(rt: HostRuntime) -> Result<(), Fail> {
-    let cases: [(&[&str], Option<Form<'_>>); 16] = [
-        (
-            &["show", "c", "p"],
-            Some(Form::Show {
-                capture: "c",
-                params: "p",
-            }),
-        ),
-        (
-            &["build", "c", "p"],
-            Some(Form::Build {
-                capture: "c",
-                params: "p",
-            }),
-        ),
-        (
-            &["check", "c", "p", "z"],
-            Some(Form::Check {
-                capture: "c",
-                params: "p",
-                certificate: "z",
-            }),
-        ),
-        (
-            &["audit", "c", "p"],
-            Some(Form::Audit {
-                capture: "c",
-                params: "p",
-            }),
-        ),
-        (
-            &["show", "--", "c", "p"],
-            Some(Form::Show {
-                capture: "c",
-                params: "p",
-            }),
-        ),
-        (
-            &["show", "--", "-c", "--help"],
-            Some(Form::Show {
-                capture: "-c",
-                params: "--help",
-            }),
-        ),
-        (&[], None),
-        (&["show"], None),
-        (&["show", "c"], None),
-        (&["show", "c", "p", "x"], None),
-        (&["check", "c", "p"], None),
-        (&["help"], None),
-        (&["--help"], None),
-        (&["show", "-h"], None),
-        (&["--version"], None),
-        (&["explain", "c", "p"], None),
-    ];
-    for (words, want) in cases {
-        let mut list = Vec::new(rt.alloc());
-        for word in words {
-            list.push(String::from_str(rt.alloc(), word)?)?;
-        }
-        match form(rt.alloc(), &list) {
-            Ok(got) => assert_eq!(rt; Some(got), want),
-            Err(failure) => {
-                assert_eq!(rt; None, want);
-                assert_eq!(rt; status(&failure), 2);
-            }
-        }
+    for (words, want) in FORMS {
+        let list = words_of(rt.alloc(), words)?;
+        assert_eq!(rt; form_of(rt.alloc(), &list)?, want);
     }
     Ok(())
 }
