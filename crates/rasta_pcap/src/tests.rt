@@ -1,5 +1,5 @@
 //! Files, devices and faults by example.
-ghost use Rattle.std.specs.Prelude.{Some};
+ghost use Rattle.std.specs.Prelude.{Some, None};
 
 use crate::devices::{FailAt, Pieces};
 use crate::{Counted, Fault, Pcap, Sink, Source, read_all, write_all};
@@ -384,4 +384,26 @@ fn counted_answers_what_its_device_answers(rt: HostRuntime) -> Result<(), Fail> 
     device.flush()?;
     assert_eq!(rt; device.into_inner().taken.as_slice(), b"xx".as_slice());
     Ok(())
+}
+
+// A writer whose flush fails.
+#[derive(Drop)]
+struct Clogged;
+
+impl Write for Clogged {
+    ghost contents = { λ c. None };
+
+    fn write(&mut self, buf: &[u8]) -> io::Result<usize> {
+        Ok(buf.len())
+    }
+
+    fn flush(&mut self) -> io::Result<()> {
+        Err(io::Error::from(ErrorKind::Other))
+    }
+}
+
+#[test]
+fn flush_is_handed_on(rt: HostRuntime) {
+    assert!(rt; FailAt::new(Clogged, 1).flush().is_err());
+    assert!(rt; FailAt::new(Vec::<u8>::new(rt.alloc()), 1).flush().is_ok());
 }
