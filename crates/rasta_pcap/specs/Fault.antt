@@ -74,6 +74,9 @@ wrong_ids = 26
 abbrev pub too_long : ℕ
 too_long = 29
 
+abbrev pub wrong_syntax : ℕ
+wrong_syntax = 30
+
 abbrev pub clock_differs : ℕ
 clock_differs = 36
 
@@ -100,6 +103,9 @@ resend_differs = 43
 
 abbrev pub closed : ℕ
 closed = 44
+
+abbrev pub too_many_entries : ℕ
+too_many_entries = 45
 
 abbrev pub too_early_timeout : ℕ
 too_early_timeout = 46

@@ -61,6 +61,8 @@ impl Fault {
 
     pub const TOO_LONG: u8 = 29;
 
+    pub const SYNTAX: u8 = 30;
+
     pub const CLOCK_DIFFERS: u8 = 36;
 
     pub const CLOCK_FALLS: u8 = 37;
@@ -78,6 +80,8 @@ impl Fault {
     pub const RESEND_DIFFERS: u8 = 43;
 
     pub const CLOSED: u8 = 44;
+
+    pub const TOO_MANY_ENTRIES: u8 = 45;
 
     pub const TOO_EARLY_TIMEOUT: u8 = 46;
 

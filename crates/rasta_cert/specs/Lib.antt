@@ -1,0 +1,3 @@
+pub use Rattle.rasta_end.specs.Fault
+pub use Rattle.rasta_end.specs.Devices
+pub mod Certificate

@@ -1,0 +1,12 @@
+//! Certificates: what each end of a connection took and made, and when.
+#![tactic(auto)]
+
+mod certificate;
+mod entry;
+mod line;
+mod writing;
+
+pub use certificate::Certificate;
+pub use entry::Entry;
+pub use writing::write;
+pub use rasta_pcap::{Fault, Side, Sink, Source};
