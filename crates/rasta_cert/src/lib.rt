@@ -8,5 +8,5 @@ mod writing;
 
 pub use certificate::Certificate;
 pub use entry::Entry;
-pub use writing::write;
 pub use rasta_pcap::{Fault, Side, Sink, Source};
+pub use writing::write;
