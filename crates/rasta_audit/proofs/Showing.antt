@@ -1,5 +1,5 @@
 -- What records show, one by one, and the text of it.
-use Rattle.std.proofs.Common.{◌≡◌, ℕ, suc, zero, ◌+◌, ◌-◌, ◌<◌, ◌++◌, append_assoc, List, [], ◌∷◌, length, Option, Some, None, Result, Ok, Err, OnErr, append-nil, refl, ap, subst, ◌∙◌, sym, arith}
+use Rattle.std.proofs.Common.{◌≡◌, ℕ, suc, zero, ◌+◌, ◌-◌, ◌<◌, ◌++◌, append_assoc, List, [], ◌∷◌, length, Option, Some, None, Ok, Err, append-nil, refl, ap, subst, ◌∙◌, sym, arith}
 use Rattle.rasta_pcap.specs.declared.fault.Fault.{Fault}
 use Rattle.rasta_pcap.specs.Capture.{Cursor, Numbered, next, behind, opening, reading}
 use Rattle.rasta_pcap.proofs.Steps.{reading-record, reading-end, reading-fault, reading-none_left, reading_of-opened, reading_of-refused}
@@ -48,11 +48,6 @@ text_from-fault place f = refl
 pub text_from-nothing : (place : ℕ) → text_from place nothing ≡ packets_line place
 unfolding text_from lines_from
 text_from-nothing place = ap packets_line (let same : place + 0 ≡ place = omega arith in same)
-
--- what holds of the state holds where the call failed
-pub where_failed : {A E : Type 0} {P : Type 0} (r : Result A E) → P → OnErr r P
-where_failed (Ok x) p = tt
-where_failed (Err e) p = p
 
 -- what was written, and then the text of the rest, is the text of the whole
 pub record Continues (whole rest : Shown) (place : ℕ) (old new : Option (List ℕ)) : Type 0 where
@@ -128,8 +123,3 @@ shown-refused p file f h = ap (shown_of p) (reading_of-refused p.last_record fil
 -- a file that is opened shows what its records show
 pub shown-opened : (p : Parameters) (file : List ℕ) (c : Cursor) → opening file ≡ Ok c → shown p file ≡ shown_of p (reading p.last_record c)
 shown-opened p file c h = ap (shown_of p) (reading_of-opened p.last_record file c h)
-
--- what follows where the call failed
-pub on_err_map : {A E : Type 0} {P Q : Type 0} (r : Result A E) → (P → Q) → OnErr r P → OnErr r Q
-on_err_map (Ok x) f h = tt
-on_err_map (Err e) f h = f h

@@ -1,7 +1,7 @@
 use Rattle.std.proofs.Common.{◌∙◌, ◌∷◌, [], ap, refl}
 use Rattle.rasta_audit.specs.Lines.{further_text}
-use Rattle.rasta_audit.proofs.Sending.{Sent-begun, Sent-more}
-use Rattle.rasta_audit.proofs.Showing.{where_failed}
+use Rattle.rasta_pcap.proofs.Sending.{Sent-begun, Sent-more}
+use Rattle.rasta_pcap.proofs.Sending.{where_failed}
 use Rattle.rasta_audit.proofs.messages.write_further.Goals as goal
 
 pub returns-in_err-write_all-clause-begun : goal.returns-in_err-write_all-clause-begun

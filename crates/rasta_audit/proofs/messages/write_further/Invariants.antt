@@ -1,7 +1,7 @@
 use Rattle.std.proofs.Common.{◌≡◌}
 use Rattle.rasta_pdu.specs.Pdu.{messages_left}
 use Rattle.rasta_audit.specs.Lines.{further_text}
-use Rattle.rasta_audit.proofs.Sending.{Sent}
+use Rattle.rasta_pcap.proofs.Sending.{Sent}
 use Rattle.rasta_audit.proofs.messages.write_further.Given as goal
 
 -- the text of the messages that are left is left, and no write failed

@@ -1,7 +1,8 @@
 use Rattle.std.proofs.Common.{◌≡◌, ◌∙◌, length, arith}
 use Rattle.std.proofs.lemmas.Bool.Decides.{nat_tests}
-use Rattle.rasta_audit.proofs.Sending.{Sent-all, Sent-begun, Sent-more, digits-none, digits-parts}
-use Rattle.rasta_audit.proofs.Showing.{where_failed}
+use Rattle.rasta_pcap.proofs.Sending.{Sent-all, Sent-begun, Sent-more}
+use Rattle.rasta_audit.proofs.Sending.{digits-none, digits-parts}
+use Rattle.rasta_pcap.proofs.Sending.{where_failed}
 use Rattle.rasta_audit.proofs.messages.write_hex.Goals as goal
 
 pub returns-in_err-write_piece-clause-begun : goal.returns-in_err-write_piece-clause-begun

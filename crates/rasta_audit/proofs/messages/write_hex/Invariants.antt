@@ -1,6 +1,6 @@
 use Rattle.std.proofs.Common.{◌≡◌, length}
 use Rattle.hex.specs.Hex.{encode_lower}
-use Rattle.rasta_audit.proofs.Sending.{Sent}
+use Rattle.rasta_pcap.proofs.Sending.{Sent}
 use Rattle.rasta_audit.proofs.messages.write_hex.Given as goal
 
 -- the digits of what is left are left, and no write failed

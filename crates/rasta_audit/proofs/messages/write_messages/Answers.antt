@@ -1,7 +1,7 @@
 use Rattle.std.proofs.Common.{ap}
 use Rattle.rasta_audit.specs.Lines.{messages_text}
-use Rattle.rasta_audit.proofs.Sending.{Sent-begun, Sent-last_begun, Sent-more, Sent-start}
-use Rattle.rasta_audit.proofs.Showing.{on_err_map, where_failed}
+use Rattle.rasta_pcap.proofs.Sending.{Sent-begun, Sent-last_begun, Sent-more, Sent-start}
+use Rattle.rasta_pcap.proofs.Sending.{on_err_map, where_failed}
 use Rattle.rasta_audit.proofs.messages.write_messages.Goals as goal
 
 pub returns-in_err-write_message-in-Some-clause-begun :

@@ -1,7 +1,7 @@
 use Rattle.std.proofs.Common.{◌∙◌, ◌++◌, [], List, ℕ, true, false, ap, append-nil, refl, sym}
 use Rattle.std.proofs.KnownBytes.{Appends-nil}
 use Rattle.rasta_audit.specs.Show.{show_text}
-use Rattle.rasta_audit.proofs.Showing.{on_err_map, where_failed}
+use Rattle.rasta_pcap.proofs.Sending.{on_err_map, where_failed}
 use Rattle.rasta_audit.proofs.show.run_show.Goals as goal
 
 pub returns-in_err-file-clause-begun : goal.returns-in_err-file-clause-begun

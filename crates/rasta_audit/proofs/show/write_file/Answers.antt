@@ -2,7 +2,8 @@ use Rattle.std.proofs.Common.{◌≡◌, ◌∙◌, List, ℕ, IfOk, OnErr, OnOk
 use Rattle.std.specs.Io.KnownBytes.{Appends}
 use Rattle.rasta_pcap.specs.Devices.{AppendsBeginning}
 use Rattle.rasta_audit.specs.Show.{Shown, show_text, status_after, text_from}
-use Rattle.rasta_audit.proofs.Showing.{shown-opened, shown-refused, text_from-fault, where_failed}
+use Rattle.rasta_pcap.proofs.Sending.{where_failed}
+use Rattle.rasta_audit.proofs.Showing.{shown-opened, shown-refused, text_from-fault}
 use Rattle.rasta_audit.proofs.show.write_file.Goals as goal
 
 pub returns-in_err-write_all-in-Err-clause-begun : goal.returns-in_err-write_all-in-Err-clause-begun

@@ -2,7 +2,8 @@ use Rattle.std.proofs.Common.{◌≡◌, ◌∙◌, ◌+◌, ◌-◌, ℕ, suc, 
 use Rattle.rasta_pcap.specs.Capture.{reading}
 use Rattle.rasta_audit.specs.Show.{Shown, packet, shown_of, status_after, text_from, with_sight}
 use Rattle.rasta_audit.specs.Shown.{packet_of}
-use Rattle.rasta_audit.proofs.Showing.{Continues-last, Continues-last_begun, Continues-packet, Continues-packet_begun, Continues-passed, left-behind, nothing, shown-none_left, text_from-fault, text_from-nothing, where_failed}
+use Rattle.rasta_pcap.proofs.Sending.{where_failed}
+use Rattle.rasta_audit.proofs.Showing.{Continues-last, Continues-last_begun, Continues-packet, Continues-packet_begun, Continues-passed, left-behind, nothing, shown-none_left, text_from-fault, text_from-nothing}
 use Rattle.rasta_audit.proofs.show.write_records.Goals as goal
 use Rattle.rasta_audit.proofs.show.write_records.Goals.{in-PassedOver, in-Packet+in_ok-write_packet-in-Packet, else-loop-test, then-loop-test+in-End}
 

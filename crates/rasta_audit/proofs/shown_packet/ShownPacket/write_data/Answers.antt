@@ -2,8 +2,8 @@ use Rattle.std.proofs.Common.{◌∙◌, ◌∷◌, ◌++◌, List, ℕ, ap, sym
 use Rattle.rasta_audit.specs.Lines.{codes_line, messages_text}
 use Rattle.rasta_audit.specs.Shown.{data_line, packet_of}
 use Rattle.rasta_audit.proofs.Lines.{data_line-parts, data_rest}
-use Rattle.rasta_audit.proofs.Sending.{Sent, Sent-begun, Sent-last_begun, Sent-more, Sent-start}
-use Rattle.rasta_audit.proofs.Showing.{on_err_map, where_failed}
+use Rattle.rasta_pcap.proofs.Sending.{Sent, Sent-begun, Sent-last_begun, Sent-more, Sent-start}
+use Rattle.rasta_pcap.proofs.Sending.{on_err_map, where_failed}
 use Rattle.rasta_audit.proofs.shown_packet.ShownPacket.write_data.Goals as goal
 
 pub returns-in_err-write_all-clause-begun : goal.returns-in_err-write_all-clause-begun
