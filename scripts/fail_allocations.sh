@@ -1,5 +1,5 @@
 #!/bin/sh
-# Runs the tests of rasta_tests once for each of the first N allocations, which then fails; the tests
+# Runs the rows of ends in rasta_tests once for each of the first N allocations, which then fails; the test
 # make each call again that wanted memory, and compare what it then answers. N is 60 if none is given,
 # which covers an end that follows a lost unit from the opening to its handing up.
 set -eu
@@ -7,7 +7,7 @@ cd "$(dirname "$0")/../crates/rasta_tests"
 last="${1:-60}"
 failed=0
 for n in $(seq 1 "$last"); do
-    if ! rt try --test --fail-alloc "$n" | grep -q 'test result: ok'; then
+    if ! rt try --test --fail-alloc "$n" -- ends_by_rows | grep -q "test result: ok"; then
         echo "allocation $n: a test failed"
         failed=$((failed + 1))
     fi
