@@ -1,6 +1,6 @@
 #!/bin/sh
 # Runs the rows of ends in rasta_tests once for each of the first N allocations, which then fails; the test
-# make each call again that wanted memory, and compare what it then answers. N is 60 if none is given,
+# makes each call again that wanted memory, and compares what it then answers. N is 60 if none is given,
 # which covers an end that follows a lost unit from the opening to its handing up.
 set -eu
 cd "$(dirname "$0")/../crates/rasta_tests"
