@@ -1,0 +1,5 @@
+//! Two ends of a RaSTA connection over a network that loses, repeats, delays and reorders: the model of
+//! what they may send, and its laws.
+#![tactic(auto)]
+
+pub use rasta_pcap::{Fault, Side, Sink, Source};
