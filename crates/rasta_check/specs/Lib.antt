@@ -5,3 +5,4 @@ pub mod World
 pub mod Taken
 pub mod Scripts
 pub mod Laws
+pub mod Theorem
