@@ -1,0 +1,6 @@
+pub mod Lists
+pub mod Distances
+pub mod Counting
+pub mod Numbering
+pub mod Naming
+pub mod Passing
