@@ -4,3 +4,6 @@ pub mod Counting
 pub mod Numbering
 pub mod Naming
 pub mod Passing
+pub mod MakeRows
+pub mod TakeRows
+pub mod Held

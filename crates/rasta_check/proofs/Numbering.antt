@@ -1,5 +1,5 @@
 -- SNs rise by one.
-use Rattle.std.proofs.Common.{◌≡◌, ℕ, zero, suc, ◌+◌, ◌%◌, ◌^◌, ◌<◌, ◌≤◌, ◌⊎◌, true, List, [], ◌∷◌, ◌++◌, length, Some, slice_get, refl, ap, sym, ◌∙◌, arith, ⊎_elim}
+use Rattle.std.proofs.Common.{◌≡◌, ℕ, zero, suc, ◌+◌, ◌%◌, ◌^◌, ◌<◌, ◌≤◌, true, List, [], ◌∷◌, ◌++◌, length, Some, slice_get, refl, ap, sym, ◌∙◌, arith, ⊎_elim}
 use Rattle.std.proofs.lemmas.Bool.Decides.{nat_tests}
 use Rattle.std.proofs.lemmas.Option.{slice_get_within}
 use Rattle.rasta_end.specs.State.{Made, sn_at}
@@ -16,8 +16,8 @@ numbered_push (x ∷ ms) m h t i n e =
     ⊎_elim
     (λ (old : slice_get ms i ≡ Some n). h i n old)
     (λ (new : (i ≡ length ms) × (m ≡ n)).
-        let same : m.pdu.sn ≡ sn_at (x ∷ ms) (suc (length ms)) = grind (arith, nat_tests) in
-        ap (λ (k : Made). k.pdu.sn) (sym new.1) ∙ (same ∙ ap (λ k. sn_at (x ∷ ms) (suc k)) (sym new.0)))
+    let same : m.pdu.sn ≡ sn_at (x ∷ ms) (suc (length ms)) = grind (arith, nat_tests) in
+    ap (λ (k : Made). k.pdu.sn) (sym new.1) ∙ (same ∙ ap (λ k. sn_at (x ∷ ms) (suc k)) (sym new.0)))
     (get_push_cases ms m i n e)
 
 -- an SN names one position
