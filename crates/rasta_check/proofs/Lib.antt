@@ -1,0 +1,9 @@
+pub mod Lists
+pub mod Distances
+pub mod Counting
+pub mod Numbering
+pub mod Naming
+pub mod Passing
+pub mod MakeRows
+pub mod TakeRows
+pub mod Held

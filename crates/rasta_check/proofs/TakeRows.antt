@@ -1,0 +1,207 @@
+-- The rows of the take table: what each of them knows, and what a take leaves alone.
+use Rattle.std.proofs.Common.{◌≡◌, ℕ, Bool, true, false, List, [], ◌∷◌, Option, Some, None, refl, subst}
+use Rattle.std.specs.Prelude.{not, ◌&&◌, if◌then◌else◌}
+use Rattle.rasta_pcap.specs.declared.fault.Side.{Side}
+use Rattle.rasta_pcap.specs.declared.fault.Side.TheVariants.{Client, Server}
+use Rattle.rasta_pdu.specs.declared.kind.Kind.{Kind}
+use Rattle.rasta_pdu.specs.declared.kind.Kind.TheVariants.{ConnectionRequest, ConnectionResponse, RetransmissionRequest, RetransmissionResponse, DisconnectionRequest, Heartbeat, RetransmittedData}
+use Rattle.rasta_pdu.specs.Pdu.{SafetyPdu}
+use Rattle.rasta_pdu.specs.Params.{Parameters}
+use Rattle.rasta_end.specs.declared.phase.Phase.{Phase}
+use Rattle.rasta_end.specs.declared.phase.Phase.TheVariants.{Closed, Down, Start, Up, RetrReq, RetrRun}
+use Rattle.rasta_end.specs.declared.take_row.TakeRow.{TakeRow}
+use Rattle.rasta_end.specs.declared.take_row.TakeRow.TheVariants.{Opened, Answered, FirstHeartbeat, InSequence, ResentInSequence, Gap, GapInRetransmission, Resumed, Requested, RequestedAhead, RequestedAgain, Disconnected}
+use Rattle.rasta_end.specs.State.{EndState, is_client, is_closed, is_down, is_start, is_up, is_retr_req, is_retr_run, is_flowing, is_active, is_timed, carries_unit}
+use Rattle.rasta_end.specs.MakeRule.{is_connection_request, is_disconnection_request}
+use Rattle.rasta_end.specs.TakeRule.{is_connection_response, is_heartbeat, is_heartbeat_or_data, is_retransmitted_data, is_retransmission_request, is_retransmission_response, take_rows, first_row, is_in, is_ahead, is_valid, take_row, effect, effect_by, accept, enter, hand_up, after_take}
+
+-- what a row knows of side, phase and type, and of the tests: next in sequence, ahead, a valid CS
+abbrev pub Premise : TakeRow → Side → Phase → Kind → Bool → Bool → Bool → Type 0
+Premise Opened s ph k n a v = (ph ≡ Down) × (k ≡ ConnectionRequest)
+Premise Answered s ph k n a v = (s ≡ Client) × (ph ≡ Start) × (k ≡ ConnectionResponse) × (v ≡ true)
+Premise FirstHeartbeat s ph k n a v = (s ≡ Server) × (ph ≡ Start) × (k ≡ Heartbeat) × (v ≡ true) × (n ≡ true)
+Premise InSequence s ph k n a v = (is_flowing ph ≡ true) × (is_heartbeat_or_data k ≡ true) × (v ≡ true) × (n ≡ true)
+Premise ResentInSequence s ph k n a v = (ph ≡ RetrRun) × (k ≡ RetransmittedData) × (v ≡ true) × (n ≡ true)
+Premise Gap s ph k n a v = (ph ≡ Up) × (is_heartbeat_or_data k ≡ true) × (v ≡ true) × (a ≡ true)
+Premise GapInRetransmission s ph k n a v = (ph ≡ RetrRun) × (is_timed k ≡ true) × (v ≡ true) × (a ≡ true)
+Premise Resumed s ph k n a v = (ph ≡ RetrReq) × (k ≡ RetransmissionResponse) × (v ≡ true)
+Premise Requested s ph k n a v = (is_flowing ph ≡ true) × (k ≡ RetransmissionRequest) × (v ≡ true) × (n ≡ true)
+Premise RequestedAhead s ph k n a v = (is_flowing ph ≡ true) × (k ≡ RetransmissionRequest) × (v ≡ true) × (a ≡ true)
+Premise RequestedAgain s ph k n a v = (ph ≡ RetrReq) × (k ≡ RetransmissionRequest) × (v ≡ true) × (a ≡ true)
+Premise Disconnected s ph k n a v = (is_active ph ≡ true) × (k ≡ DisconnectionRequest)
+
+-- each row whose test holds has this
+Each : (TakeRow → Type 0) → List (Bool × TakeRow) → Type 0
+Each P [] = Unit {0}
+Each P (t ∷ ts) = (t.0 ≡ true → P t.1) × Each P ts
+
+first_by : (P : TakeRow → Type 0) (b : Bool) (r : TakeRow) (ts : List (Bool × TakeRow)) → (b ≡ true → P r)
+    → ((row : TakeRow) → first_row ts ≡ Some row → P row) → (row : TakeRow) → first_row ((b, r) ∷ ts) ≡ Some row → P row
+first_by P true r ts h g row e = (let same : r ≡ row = cc in subst P same (h refl))
+first_by P false r ts h g row e = g row e
+
+first_has : (P : TakeRow → Type 0) (ts : List (Bool × TakeRow)) → Each P ts → (row : TakeRow) → first_row ts ≡ Some row → P row
+unfolding Each
+first_has P [] each row e = absurd (cc)
+first_has P (t ∷ ts) each row e = first_by P t.0 t.1 ts each.0 (first_has P ts each.1) row e
+
+both : (a b : Bool) → (a && b) ≡ true → (a ≡ true) × (b ≡ true)
+both true b e = (refl, e)
+both false b e = absurd (cc)
+
+client_is : (s : Side) → is_client s ≡ true → s ≡ Client
+client_is Client e = refl
+client_is Server e = absurd (cc)
+
+server_is : (s : Side) → not (is_client s) ≡ true → s ≡ Server
+server_is Client e = absurd (cc)
+server_is Server e = refl
+
+down_is : (ph : Phase) → is_down ph ≡ true → ph ≡ Down
+down_is Down e = refl
+down_is _ e = absurd (cc)
+
+start_is : (ph : Phase) → is_start ph ≡ true → ph ≡ Start
+start_is Start e = refl
+start_is _ e = absurd (cc)
+
+up_is : (ph : Phase) → is_up ph ≡ true → ph ≡ Up
+up_is Up e = refl
+up_is _ e = absurd (cc)
+
+retr_req_is : (ph : Phase) → is_retr_req ph ≡ true → ph ≡ RetrReq
+retr_req_is RetrReq e = refl
+retr_req_is _ e = absurd (cc)
+
+retr_run_is : (ph : Phase) → is_retr_run ph ≡ true → ph ≡ RetrRun
+retr_run_is RetrRun e = refl
+retr_run_is _ e = absurd (cc)
+
+connection_request_is : (k : Kind) → is_connection_request k ≡ true → k ≡ ConnectionRequest
+connection_request_is ConnectionRequest e = refl
+connection_request_is _ e = absurd (cc)
+
+connection_response_is : (k : Kind) → is_connection_response k ≡ true → k ≡ ConnectionResponse
+connection_response_is ConnectionResponse e = refl
+connection_response_is _ e = absurd (cc)
+
+heartbeat_is : (k : Kind) → is_heartbeat k ≡ true → k ≡ Heartbeat
+heartbeat_is Heartbeat e = refl
+heartbeat_is _ e = absurd (cc)
+
+retransmitted_data_is : (k : Kind) → is_retransmitted_data k ≡ true → k ≡ RetransmittedData
+retransmitted_data_is RetransmittedData e = refl
+retransmitted_data_is _ e = absurd (cc)
+
+request_is : (k : Kind) → is_retransmission_request k ≡ true → k ≡ RetransmissionRequest
+request_is RetransmissionRequest e = refl
+request_is _ e = absurd (cc)
+
+response_is : (k : Kind) → is_retransmission_response k ≡ true → k ≡ RetransmissionResponse
+response_is RetransmissionResponse e = refl
+response_is _ e = absurd (cc)
+
+disconnection_is : (k : Kind) → is_disconnection_request k ≡ true → k ≡ DisconnectionRequest
+disconnection_is DisconnectionRequest e = refl
+disconnection_is _ e = absurd (cc)
+
+-- the four tests of most rows
+four : (a b c d : Bool) → (a && (b && (c && d))) ≡ true → (a ≡ true) × (b ≡ true) × (c ≡ true) × (d ≡ true)
+four true true true true e = (refl, refl, refl, refl)
+four _ _ _ _ e = absurd (cc)
+
+three : (a b c : Bool) → (a && (b && c)) ≡ true → (a ≡ true) × (b ≡ true) × (c ≡ true)
+three true true true e = (refl, refl, refl)
+three _ _ _ e = absurd (cc)
+
+five : (a b c d f : Bool) → (a && (b && (c && (d && f)))) ≡ true → (a ≡ true) × (b ≡ true) × (c ≡ true) × (d ≡ true) × (f ≡ true)
+five true true true true true e = (refl, refl, refl, refl, refl)
+five _ _ _ _ _ e = absurd (cc)
+
+module _ (s : Side) (ph : Phase) (k : Kind) (n a v : Bool) where
+  opened : (is_down ph && is_connection_request k) ≡ true → Premise Opened s ph k n a v
+  opened t = let w = both (is_down ph) (is_connection_request k) t in (down_is ph w.0, connection_request_is k w.1)
+
+  answered : (is_start ph && (is_client s && (is_connection_response k && v))) ≡ true → Premise Answered s ph k n a v
+  answered t = let w = four (is_start ph) (is_client s) (is_connection_response k) v t in (client_is s w.1, start_is ph w.0, connection_response_is k w.2, w.3)
+
+  first_heartbeat : (is_start ph && (not (is_client s) && (is_heartbeat k && (n && v)))) ≡ true → Premise FirstHeartbeat s ph k n a v
+  first_heartbeat t = let w = five (is_start ph) (not (is_client s)) (is_heartbeat k) n v t in (server_is s w.1, start_is ph w.0, heartbeat_is k w.2, w.4, w.3)
+
+  in_sequence : (is_flowing ph && (is_heartbeat_or_data k && (n && v))) ≡ true → Premise InSequence s ph k n a v
+  in_sequence t = let w = four (is_flowing ph) (is_heartbeat_or_data k) n v t in (w.0, w.1, w.3, w.2)
+
+  resent : (is_retr_run ph && (is_retransmitted_data k && (n && v))) ≡ true → Premise ResentInSequence s ph k n a v
+  resent t = let w = four (is_retr_run ph) (is_retransmitted_data k) n v t in (retr_run_is ph w.0, retransmitted_data_is k w.1, w.3, w.2)
+
+  gap : (is_up ph && (is_heartbeat_or_data k && (a && v))) ≡ true → Premise Gap s ph k n a v
+  gap t = let w = four (is_up ph) (is_heartbeat_or_data k) a v t in (up_is ph w.0, w.1, w.3, w.2)
+
+  gap_again : (is_retr_run ph && (is_timed k && (a && v))) ≡ true → Premise GapInRetransmission s ph k n a v
+  gap_again t = let w = four (is_retr_run ph) (is_timed k) a v t in (retr_run_is ph w.0, w.1, w.3, w.2)
+
+  resumed : (is_retr_req ph && (is_retransmission_response k && v)) ≡ true → Premise Resumed s ph k n a v
+  resumed t = let w = three (is_retr_req ph) (is_retransmission_response k) v t in (retr_req_is ph w.0, response_is k w.1, w.2)
+
+  asked : (is_flowing ph && (is_retransmission_request k && (n && v))) ≡ true → Premise Requested s ph k n a v
+  asked t = let w = four (is_flowing ph) (is_retransmission_request k) n v t in (w.0, request_is k w.1, w.3, w.2)
+
+  asked_ahead : (is_flowing ph && (is_retransmission_request k && (a && v))) ≡ true → Premise RequestedAhead s ph k n a v
+  asked_ahead t = let w = four (is_flowing ph) (is_retransmission_request k) a v t in (w.0, request_is k w.1, w.3, w.2)
+
+  asked_again : (is_retr_req ph && (is_retransmission_request k && (a && v))) ≡ true → Premise RequestedAgain s ph k n a v
+  asked_again t = let w = four (is_retr_req ph) (is_retransmission_request k) a v t in (retr_req_is ph w.0, request_is k w.1, w.3, w.2)
+
+  disconnected : (is_active ph && is_disconnection_request k) ≡ true → Premise Disconnected s ph k n a v
+  disconnected t = let w = both (is_active ph) (is_disconnection_request k) t in (w.0, disconnection_is k w.1)
+
+  all_rows : Each (λ (row : TakeRow). Premise row s ph k n a v) (take_rows s ph k n a v)
+  unfolding Each
+  all_rows = (opened, (answered, (first_heartbeat, (in_sequence, (resent, (gap, (gap_again, (resumed, (asked, (asked_ahead, (asked_again, (disconnected, tt))))))))))))
+
+  -- the first row whose test holds has its premise
+  pub premise : (row : TakeRow) → first_row (take_rows s ph k n a v) ≡ Some row → Premise row s ph k n a v
+  premise row e = first_has (λ (r : TakeRow). Premise r s ph k n a v) (take_rows s ph k n a v) all_rows row e
+
+-- what an end knows of a PDU that it takes by a row
+abbrev pub Knows : Parameters → TakeRow → EndState → SafetyPdu → Type 0
+Knows p row e x = Premise row e.side e.phase x.kind (is_in e x) (is_ahead p e x) (is_valid e x)
+
+pub row_known : (p : Parameters) (e : EndState) (x : SafetyPdu) (row : TakeRow) → take_row p e x ≡ Some row → Knows p row e x
+row_known p e x row h = premise e.side e.phase x.kind (is_in e x) (is_ahead p e x) (is_valid e x) row h
+
+-- a closed end takes by no row
+pub closed_row : (s : Side) (ph : Phase) (k : Kind) (n a v : Bool) → is_closed ph ≡ true → first_row (take_rows s ph k n a v) ≡ None
+closed_row s Closed k n a v h = refl
+closed_row s _ k n a v h = absurd (cc)
+
+-- what a take leaves as it was
+pub record LeftAlone (e e' : EndState) : Type 0 where
+  pub side : e'.side ≡ e.side
+  pub base : e'.base ≡ e.base
+  pub made : e'.made ≡ e.made
+  pub offered : e'.offered ≡ e.offered
+  pub clock : e'.clock ≡ e.clock
+
+hand_up_leaves : (b : Bool) (i : ℕ) (e : EndState) (x : SafetyPdu) → LeftAlone e (if b then hand_up i e x else e)
+hand_up_leaves true i e x = record { side = refl; base = refl; made = refl; offered = refl; clock = refl }
+hand_up_leaves false i e x = record { side = refl; base = refl; made = refl; offered = refl; clock = refl }
+
+effect_leaves : (p : Parameters) (row : TakeRow) (e : EndState) (x : SafetyPdu) → LeftAlone e (effect p row e x)
+effect_leaves p InSequence e x =
+    let h = hand_up_leaves (carries_unit x.kind) e.accepted (enter Up (accept p e x)) x in
+    record { side = h.side; base = h.base; made = h.made; offered = h.offered; clock = h.clock }
+effect_leaves p ResentInSequence e x =
+    let h = hand_up_leaves (carries_unit x.kind) e.accepted (accept p e x) x in
+    record { side = h.side; base = h.base; made = h.made; offered = h.offered; clock = h.clock }
+effect_leaves p _ e x = record { side = refl; base = refl; made = refl; offered = refl; clock = refl }
+
+leaves_by : (p : Parameters) (row : Option TakeRow) (e : EndState) (x : SafetyPdu) → LeftAlone e (effect_by p row e x)
+leaves_by p None e x = record { side = refl; base = refl; made = refl; offered = refl; clock = refl }
+leaves_by p (Some row) e x = effect_leaves p row e x
+
+pub take_leaves : (p : Parameters) (e : EndState) (x : SafetyPdu) → LeftAlone e (after_take p e x)
+take_leaves p e x = leaves_by p (take_row p e x) e x
+
+pub take_made : (p : Parameters) (e : EndState) (x : SafetyPdu) → (after_take p e x).made ≡ e.made
+take_made p e x = (let h = take_leaves p e x in h.made)
