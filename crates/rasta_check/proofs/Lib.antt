@@ -7,3 +7,7 @@ pub mod Passing
 pub mod MakeRows
 pub mod TakeRows
 pub mod Held
+pub mod Copies
+pub mod Steps
+pub mod Spelled
+pub mod Scripted
