@@ -11,3 +11,5 @@ pub mod Copies
 pub mod Steps
 pub mod Spelled
 pub mod Scripted
+pub mod Sending
+pub mod Telling
