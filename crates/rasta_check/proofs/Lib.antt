@@ -13,3 +13,5 @@ pub mod Spelled
 pub mod Scripted
 pub mod Sending
 pub mod Telling
+pub mod Following
+pub mod Stuck
