@@ -15,3 +15,5 @@ pub mod Sending
 pub mod Telling
 pub mod Following
 pub mod Stuck
+pub mod Forms
+pub mod Faults
