@@ -1,8 +1,9 @@
 -- A packet has no fault exactly where it may come next.
-use Rattle.std.proofs.Common.{◌≡◌, ◌⊎◌, ℕ, zero, suc, ◌+◌, ◌<◌, ◌^◌, Bool, true, false, List, [], ◌∷◌, Option, Some, None, Result, Ok, Err, length, slice_get, refl, ap, sym, ◌∙◌, arith, inl, inr, ⊎_elim, subst}
+use Rattle.std.proofs.Common.{◌≡◌, ◌⊎◌, ℕ, zero, suc, ◌+◌, ◌<◌, ◌≤◌, ◌^◌, ◌++◌, Bool, true, false, List, [], ◌∷◌, Option, Some, None, Result, Ok, Err, length, slice_get, refl, ap, sym, ◌∙◌, arith, inl, inr, ⊎_elim, subst}
 use Rattle.std.specs.Prelude.{◌==◌, if◌then◌else◌}
 use Rattle.std.specs.Str.{bytes_eq}
 use Rattle.std.proofs.lemmas.Bool.Decides.{nat_tests}
+use Rattle.std.proofs.lemmas.List.{length_push}
 use Rattle.std.proofs.lemmas.Option.{slice_get_within}
 use Rattle.std.proofs.lemmas.Slice.Eq.{bytes_eq-Decides}
 use Rattle.rasta_pcap.specs.Fault.{copy_differs, number_gap}
@@ -10,19 +11,20 @@ use Rattle.rasta_pcap.specs.declared.fault.Fault.{Fault}
 use Rattle.rasta_pcap.specs.declared.fault.Side.{Side}
 use Rattle.rasta_pcap.specs.declared.fault.Side.TheVariants.{Client, Server}
 use Rattle.rasta_udp.specs.Frame.{Packet}
-use Rattle.rasta_pdu.specs.Params.{Parameters, AreParameters}
+use Rattle.rasta_pdu.specs.Params.{Parameters}
 use Rattle.rasta_pdu.specs.Messages.{AreBytes}
 use Rattle.rasta_pdu.specs.Pdu.{RedundancyPdu, redundancy_bytes, decode_of, receiver_of, sender_of}
 use Rattle.rasta_pdu.proofs.Spellings.{decode_of-Ok, decode_of-redundancy_bytes}
 use Rattle.rasta_end.specs.State.{wrapped}
-use Rattle.rasta_check.specs.Crossing.{FirstCopy, Spells, copy_with, is_next_number, repeat_fault, number_fault, read_fault, packet_fault}
+use Rattle.rasta_check.specs.Crossing.{FirstCopy, Sent, Spells, copy_with, is_next_number, repeat_fault, number_fault, read_fault}
 use Rattle.rasta_check.specs.Theorem.{OfConnection}
 use Rattle.rasta_check.proofs.Copies.{IsSent}
 use Rattle.rasta_check.proofs.Spelled.{read_once}
-use Rattle.rasta_check.proofs.Sending.{not_again}
+use Rattle.rasta_check.proofs.Sending.{not_again, sent_once}
 use Rattle.rasta_check.proofs.Scripted.{slice_get_some}
 use Rattle.rasta_check.proofs.Stuck.{number_once}
-use Rattle.rasta_check.proofs.Following.{CanFollow}
+use Rattle.rasta_check.proofs.Following.{CanFollow, grows, shorter}
+use Rattle.rasta_check.proofs.Forms.{of_record}
 
 receiver_small : (p : Parameters) (side : Side) → OfConnection p → receiver_of p side < 2 ^ 32
 receiver_small p Client h = h.server_id
@@ -128,3 +130,17 @@ module _ (p : Parameters) (packets : List Packet) (side : Side) (own : List Firs
 
   pub faultless : CanFollow p packets side own a → read_fault p side own a.payload (decode_of p side a.payload) ≡ None
   faultless f = none_fault f
+
+-- the sent list goes on behind a packet that may come next
+pub grown : (p : Parameters) (packets : List Packet) (a : Packet) (own : List FirstCopy) → IsSent p packets a.side own → length own ≤ 1000000 → CanFollow p packets a.side own a
+    → (more : List FirstCopy) × Sent p (packets ++ a ∷ []) a.side more
+grown p packets a own sent few f =
+    let g = grows p packets a.side own a sent refl f in
+    let s = shorter p packets a a.side g.0 g.1 in
+    let same : own ≡ s.own = sent_once p packets a.side own s.own sent s.sent (omega arith) in
+    let l = ap length same in
+    let longer : length g.0 ≤ suc (length s.own) = ⊎_elim
+        (λ (e : g.0 ≡ s.own). (let z = ap length e in omega arith))
+        (λ (w : (c : FirstCopy) × (g.0 ≡ s.own ++ c ∷ []) × (c.place ≡ length packets)). (let z = ap length w.1 in let k = length_push s.own w.0 in omega arith))
+        s.how in
+    (g.0, of_record p (packets ++ a ∷ []) a.side g.0 g.1 (omega arith))

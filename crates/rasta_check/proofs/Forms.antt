@@ -1,10 +1,10 @@
 -- The sent list of the definition, with no faults, and the record that the proofs use are the same.
-use Rattle.std.proofs.Common.{◌≡◌, ◌⊎◌, ℕ, ◌<◌, ◌^◌, List, Some, length, slice_get, ap, sym, inl, inr, ⊎_elim, subst}
+use Rattle.std.proofs.Common.{◌≡◌, ℕ, ◌<◌, List, Some, length, slice_get, inl, inr, ⊎_elim, subst}
 use Rattle.rasta_pcap.specs.declared.fault.Side.{Side}
 use Rattle.rasta_udp.specs.Frame.{Packet}
 use Rattle.rasta_pdu.specs.Params.{Parameters, AreParameters}
 use Rattle.rasta_pdu.specs.Pdu.{RedundancyPdu}
-use Rattle.rasta_check.specs.Crossing.{FirstCopy, Spells, IsKnown, IsCarried, IsSentList, IsRepeat, IsFaultless, Sent}
+use Rattle.rasta_check.specs.Crossing.{FirstCopy, Spells, IsKnown, IsRepeat, Sent}
 use Rattle.rasta_check.proofs.Copies.{IsSent}
 use Rattle.rasta_check.proofs.Spelled.{read_once}
 use Rattle.rasta_check.proofs.Stuck.{firsts_new, others_old}

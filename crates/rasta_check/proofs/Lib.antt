@@ -17,3 +17,4 @@ pub mod Following
 pub mod Stuck
 pub mod Forms
 pub mod Faults
+pub mod Writable

@@ -1,32 +1,27 @@
 -- Two scripts that fit give a run.
-use Rattle.std.proofs.Common.{◌≡◌, ◌≢◌, ℕ, zero, suc, ◌+◌, ◌-◌, ◌%◌, ◌^◌, ◌<◌, ◌≤◌, ◌⊎◌, Bool, true, false, List, [], ◌∷◌, ◌++◌, length, Option, Some, None, slice_get, take, refl, ap, sym, ◌∙◌, arith, inl, inr, ⊎_elim, subst, get_or, add-one}
-use Rattle.std.specs.Prelude.{Contains, slice_index_or, nat_lt}
-use Rattle.std.proofs.lemmas.Bool.Decides.{nat_tests}
+use Rattle.std.proofs.Common.{◌≡◌, ℕ, zero, suc, ◌+◌, ◌-◌, ◌%◌, ◌^◌, ◌<◌, ◌≤◌, List, [], ◌∷◌, ◌++◌, length, Some, slice_get, take, refl, ap, sym, ◌∙◌, arith, ⊎_elim, subst, get_or, add-one}
+use Rattle.std.specs.Prelude.{slice_index_or}
 use Rattle.std.proofs.lemmas.List.{length_push, take_all, take_more, length-take-le, get_or-take}
 use Rattle.std.proofs.lemmas.Option.{slice_get_within, slice_get-get_or, get_or_from_slice_get}
 use native.Mathlib.Decide.{dec_le, dec_lt}
-use Prim.{Dec, yes, no}
+use Prim.{yes, no}
 use Rattle.rasta_pcap.specs.declared.fault.Side.{Side}
 use Rattle.rasta_pcap.specs.declared.fault.Side.TheVariants.{Client, Server}
-use Rattle.rasta_end.specs.declared.phase.Phase.{Phase}
 use Rattle.rasta_end.specs.declared.why.Why.{Why}
 use Rattle.rasta_pdu.specs.Params.{Parameters}
-use Rattle.rasta_pdu.specs.Pdu.{SafetyPdu, RedundancyPdu}
+use Rattle.rasta_pdu.specs.Pdu.{SafetyPdu}
 use Rattle.rasta_end.specs.State.{Made, EndState, wrapped}
-use Rattle.rasta_pdu.specs.declared.kind.Kind.{Kind}
-use Rattle.rasta_end.specs.MakeRule.{Makes, after_make}
-use Rattle.rasta_end.specs.TakeRule.{Takes, after_take}
+use Rattle.rasta_end.specs.TakeRule.{Takes}
 use Rattle.rasta_udp.specs.Frame.{Packet}
-use Rattle.rasta_check.specs.World.{Station, World, IsRecorded, Moves, makes, repeats, arrives, takes, waits, Step, client_moves, server_moves, Reaches, begins, goes_on, first_station}
-use Rattle.rasta_end.specs.Starts.{start_of, start_by}
-use Rattle.rasta_check.proofs.Steps.{base, base_by, base_small, start_base, start_made, start_side, made_more}
+use Rattle.rasta_check.specs.World.{Station, World, Moves, makes, repeats, arrives, takes, waits, client_moves, server_moves, Reaches, begins, goes_on, first_station}
+use Rattle.rasta_end.specs.Starts.{start_of}
+use Rattle.rasta_check.proofs.Steps.{base, base_small, start_base, start_made, start_side, made_more}
 use Rattle.rasta_check.specs.Crossing.{Spells, FirstCopy, CrossRecorded}
 use Rattle.rasta_cert.specs.declared.entry.Entry.{Entry}
 use Rattle.rasta_cert.specs.declared.entry.Entry.TheVariants.{Take, Make}
 use Rattle.rasta_check.proofs.Copies.{IsSent}
 use Rattle.rasta_check.specs.Scripts.{Cursor, Advances, takes_next, makes_next, Leads, Fits, at_start}
-use Rattle.rasta_pdu.specs.declared.quiet_point.Quiet.{Quiet}
-use Rattle.rasta_check.proofs.Lists.{get_push_cases, get_front, get_push}
+use Rattle.rasta_check.proofs.Lists.{get_front, get_push}
 use Rattle.rasta_check.proofs.TakeRows.{take_leaves}
 
 -- several moves of one station

@@ -1,5 +1,5 @@
 -- What a make adds and leaves alone, and what holds at the start.
-use Rattle.std.proofs.Common.{◌≡◌, ℕ, ◌≤◌, Bool, false, List, [], ◌∷◌, ◌++◌, length, Option, Some, None, refl, ap, sym, ◌∙◌, arith}
+use Rattle.std.proofs.Common.{◌≡◌, ℕ, ◌≤◌, false, [], ◌∷◌, ◌++◌, length, Option, Some, None, refl, ap, sym, ◌∙◌, arith}
 use Rattle.std.specs.Prelude.{nat_lt}
 use Rattle.std.proofs.lemmas.Bool.Decides.{nat_tests}
 use Rattle.rasta_pcap.specs.declared.fault.Side.{Side}
@@ -10,7 +10,7 @@ use Rattle.rasta_pdu.specs.declared.quiet_point.Quiet.{Quiet}
 use Rattle.rasta_end.specs.declared.why.Why.{Why}
 use Rattle.rasta_end.specs.State.{Made, EndState}
 use Rattle.rasta_end.specs.MakeRule.{Makes, after_make_by}
-use Rattle.rasta_end.specs.Starts.{start_of, start_by}
+use Rattle.rasta_end.specs.Starts.{start_by}
 use Rattle.rasta_check.proofs.Passing.{passed}
 use Rattle.rasta_check.proofs.MakeRows.{made_by, after_row, new_made}
 

@@ -1,22 +1,20 @@
 -- Scripts are followed in one way, and first copies are the packets with a new number.
-use Rattle.std.proofs.Common.{◌≡◌, ◌≢◌, ℕ, zero, suc, ◌+◌, ◌<◌, ◌≤◌, ◌⊎◌, List, [], ◌∷◌, ◌++◌, length, Option, Some, None, slice_get, refl, ap, sym, ◌∙◌, arith, inl, inr, ⊎_elim, subst}
+use Rattle.std.proofs.Common.{◌≡◌, ℕ, suc, ◌<◌, ◌⊎◌, List, [], ◌∷◌, ◌++◌, length, Some, slice_get, refl, ap, sym, ◌∙◌, arith, inl, inr, ⊎_elim, subst}
 use Rattle.std.proofs.lemmas.Option.{slice_get_within}
 use native.Mathlib.Decide.{dec_lt}
-use Prim.{Dec, yes, no}
+use Prim.{yes, no}
 use Rattle.rasta_pcap.specs.declared.fault.Side.{Side}
 use Rattle.rasta_end.specs.declared.why.Why.{Why}
 use Rattle.rasta_pdu.specs.Params.{Parameters}
-use Rattle.rasta_pdu.specs.Pdu.{SafetyPdu, RedundancyPdu}
-use Rattle.rasta_end.specs.State.{EndState}
-use Rattle.rasta_end.specs.MakeRule.{Makes, after_make}
-use Rattle.rasta_end.specs.TakeRule.{Takes, after_take}
-use Rattle.rasta_end.specs.Starts.{start_of}
+use Rattle.rasta_pdu.specs.Pdu.{RedundancyPdu}
+use Rattle.rasta_end.specs.MakeRule.{after_make}
+use Rattle.rasta_end.specs.TakeRule.{after_take}
 use Rattle.rasta_check.specs.Crossing.{Spells, FirstCopy, IsKnown}
 use Rattle.rasta_udp.specs.Frame.{Packet}
 use Rattle.rasta_cert.specs.declared.entry.Entry.{Entry}
 use Rattle.rasta_cert.specs.declared.entry.Entry.TheVariants.{Take, Make}
 use Rattle.rasta_check.proofs.Copies.{IsSent}
-use Rattle.rasta_check.specs.Scripts.{Cursor, Advances, takes_next, makes_next, Leads, Fits, at_start}
+use Rattle.rasta_check.specs.Scripts.{Cursor, Advances, takes_next, makes_next, Leads}
 use Rattle.rasta_check.proofs.Spelled.{read_once}
 use Rattle.rasta_check.proofs.Sending.{earliest, not_again}
 use Rattle.rasta_check.proofs.Scripted.{slice_get_some}
@@ -95,3 +93,11 @@ module _ (p : Parameters) (n : ℕ) (packets : List Packet) (r : Side) (own peer
 
   pub stuck : (u v w : Cursor) (es rest : List Entry) (x : Entry) → Leads p n own peer u es v → ((z : Cursor) → Advances p n own peer v x z → ⊥) → Leads p n own peer u (es ++ x ∷ rest) w → ⊥
   stuck u v w es rest x f h g = (let r = leads_rest u v w es (x ∷ rest) f g in h r.0 r.1)
+
+  append_none : (es : List Entry) → es ++ [] ≡ es
+  append_none [] = refl
+  append_none (x ∷ es) = ap (λ xs. x ∷ xs) (append_none es)
+
+  -- a script leads to one cursor
+  pub leads_once : (u v w : Cursor) (es : List Entry) → Leads p n own peer u es v → Leads p n own peer u es w → v ≡ w
+  leads_once u v w es f g = leads_rest u v w es [] f (subst (λ (xs : List Entry). Leads p n own peer u xs w) (sym (append_none es)) g)

@@ -1,23 +1,21 @@
 -- Along a run: the first copies so far, and a script for each end.
-use Rattle.std.proofs.Common.{◌≡◌, ◌≢◌, ℕ, zero, suc, ◌+◌, ◌-◌, ◌%◌, ◌^◌, ◌<◌, ◌≤◌, ◌⊎◌, Bool, true, false, List, [], ◌∷◌, ◌++◌, length, Option, Some, None, slice_get, refl, ap, sym, ◌∙◌, arith, inl, inr, ⊎_elim, subst, append_assoc, length-append}
-use Rattle.std.specs.Prelude.{slice_index_or, map, nat_lt, ◌||◌, if◌then◌else◌}
+use Rattle.std.proofs.Common.{◌≡◌, ℕ, zero, suc, ◌+◌, ◌-◌, ◌<◌, ◌≤◌, Bool, true, false, List, [], ◌∷◌, ◌++◌, length, Option, Some, None, slice_get, refl, ap, sym, ◌∙◌, arith, ⊎_elim, subst, length-append}
+use Rattle.std.specs.Prelude.{map, if◌then◌else◌}
 use Rattle.std.proofs.lemmas.Bool.Decides.{nat_tests}
 use Rattle.std.proofs.lemmas.List.{length_push}
 use Rattle.std.proofs.lemmas.Option.{slice_get_within, slice_get-get_or}
 use Rattle.rasta_pcap.specs.declared.fault.Side.{Side}
 use Rattle.rasta_pcap.specs.declared.fault.Side.TheVariants.{Client, Server}
 use Rattle.rasta_end.specs.declared.why.Why.{Why}
-use Rattle.rasta_end.specs.declared.phase.Phase.{Phase}
 use Rattle.rasta_end.specs.declared.owed.Owed.{Owed}
 use Rattle.rasta_pcap.specs.Fault.{reply_owed, past_deadline}
 use Rattle.rasta_pdu.specs.Params.{Parameters, AreParameters}
 use Rattle.rasta_pdu.specs.Pdu.{SafetyPdu, RedundancyPdu}
 use Rattle.rasta_end.specs.State.{Made, EndState, wrapped, is_closed, is_owing}
-use Rattle.rasta_pdu.specs.declared.quiet_point.Quiet.{Quiet}
-use Rattle.rasta_end.specs.MakeRule.{Makes, after_make, is_past, first_fault}
+use Rattle.rasta_end.specs.MakeRule.{Makes, is_past, first_fault}
 use Rattle.rasta_end.specs.TakeRule.{Takes, after_take, take_fault}
-use Rattle.rasta_end.specs.Starts.{start_of, start_by}
-use Rattle.rasta_check.proofs.Steps.{base, base_by, start_base, start_made, start_side, made_more}
+use Rattle.rasta_end.specs.Starts.{start_of}
+use Rattle.rasta_check.proofs.Steps.{base, start_base, start_made, start_side, made_more}
 use Rattle.rasta_check.specs.Crossing.{Spells, FirstCopy}
 use Rattle.rasta_udp.specs.Frame.{Packet}
 use Rattle.rasta_check.specs.World.{Station, World, Moves, makes, repeats, arrives, takes, waits, Step, client_moves, server_moves, Reaches, begins, goes_on, first_station}
@@ -28,7 +26,6 @@ use Rattle.rasta_check.specs.Scripts.{Cursor, Advances, takes_next, makes_next, 
 use Rattle.rasta_check.specs.Taken.{pdus_of, pdus_made}
 use Rattle.rasta_check.proofs.Lists.{get_push_cases, get_front, get_push}
 use Rattle.rasta_check.proofs.TakeRows.{take_leaves}
-use Rattle.rasta_check.proofs.Scripted.{slice_get_some}
 use Rattle.rasta_check.proofs.Sending.{Counts_from, sent_other, sent_copy, sent_first, sent_none, sent_once}
 
 -- scripts in a wider setting, and one entry more

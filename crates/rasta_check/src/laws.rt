@@ -1,0 +1,23 @@
+//! Laws on runs of two ends: public functions without a body, whose contracts are the laws.
+ghost use Rattle.rasta_pdu.specs.Params.{Parameters};
+ghost use Rattle.rasta_check.specs.Theorem.{OfConnection, Definite, Simulation, Completeness, Stuck};
+
+/// No packet of a run has a fault: where a captured one has, no run sends the packets up to it.
+pub fn definite()
+    ensures { (p : Parameters) → OfConnection p → Definite p }
+{}
+
+/// Two scripts that fit, each without the other, give one run that sends exactly the packets.
+pub fn simulation()
+    ensures { (p : Parameters) → OfConnection p → Simulation p }
+{}
+
+/// Every run within the limits is told by two scripts that fit.
+pub fn complete()
+    ensures { (p : Parameters) → OfConnection p → Completeness p }
+{}
+
+/// A script leads to one end; where its next entry can't follow, no script that begins so fits.
+pub fn stuck()
+    ensures { (p : Parameters) → OfConnection p → Stuck p }
+{}
