@@ -7,3 +7,4 @@ pub mod Passing
 pub mod MakeRows
 pub mod TakeRows
 pub mod Held
+pub mod HeldMake
