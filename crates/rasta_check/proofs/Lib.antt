@@ -8,3 +8,4 @@ pub mod MakeRows
 pub mod TakeRows
 pub mod Held
 pub mod HeldMake
+pub mod HeldTake
