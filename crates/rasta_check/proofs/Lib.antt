@@ -9,3 +9,5 @@ pub mod TakeRows
 pub mod Held
 pub mod HeldMake
 pub mod HeldTake
+pub mod Runs
+pub mod HeldRuns
