@@ -7,3 +7,5 @@ pub mod Passing
 pub mod MakeRows
 pub mod TakeRows
 pub mod Held
+pub mod Values
+pub mod Valued
