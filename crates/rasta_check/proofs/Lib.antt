@@ -7,5 +7,6 @@ pub mod Passing
 pub mod MakeRows
 pub mod TakeRows
 pub mod Held
+pub mod HeldMake
 pub mod Values
 pub mod Valued
