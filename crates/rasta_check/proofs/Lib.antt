@@ -10,3 +10,4 @@ pub mod Held
 pub mod HeldMake
 pub mod Values
 pub mod Valued
+pub mod ValuedMake
