@@ -8,6 +8,7 @@ pub mod MakeRows
 pub mod TakeRows
 pub mod Held
 pub mod HeldMake
+pub mod HeldTake
 pub mod Values
 pub mod Valued
 pub mod ValuedMake

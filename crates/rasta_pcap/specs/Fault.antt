@@ -71,6 +71,12 @@ wrong_code = 25
 abbrev pub wrong_ids : ℕ
 wrong_ids = 26
 
+abbrev pub copy_differs : ℕ
+copy_differs = 27
+
+abbrev pub number_gap : ℕ
+number_gap = 28
+
 abbrev pub too_long : ℕ
 too_long = 29
 

@@ -1,0 +1,112 @@
+-- What crossed past the tap, and the list of PDUs that each side sent.
+use Rattle.std.specs.Prelude.{◌≡◌, ◌⊎◌, ℕ, suc, ◌+◌, ◌-◌, ◌≤◌, ◌<◌, Bool, true, false, List, [], ◌∷◌, length, drop, Option, Some, None, Result, Ok, Err, slice_get, filter_map, if◌then◌else◌, ◌==◌}
+use Rattle.std.specs.Str.{bytes_eq}
+use Rattle.rasta_pcap.specs.declared.fault.Fault.{Fault}
+use Rattle.rasta_pcap.specs.declared.fault.Side.{Side}
+use Rattle.rasta_pcap.specs.Fault.{copy_differs, number_gap}
+use Rattle.rasta_udp.specs.Frame.{Packet, packet_in}
+use Rattle.rasta_pdu.specs.Params.{Parameters}
+use Rattle.rasta_pdu.specs.Pdu.{RedundancyPdu, IsRedundancyPdu, redundancy_bytes, decode_of}
+use Rattle.rasta_end.specs.State.{wrapped}
+
+-- ---- the crossing list
+
+abbrev pub found_packet : Result (Option Packet) Fault → Option Packet
+found_packet (Ok found) = found
+found_packet (Err fault) = None
+
+-- the crossing list of a capture's records: the packets that the records of the window hold, in order
+abbrev pub crossing_list : Parameters → List (List ℕ) → List Packet
+crossing_list p records = filter_map (λ (frame : List ℕ). found_packet (packet_in p.channels frame)) (drop (p.first_record - 1) records)
+
+-- packets cross on recorded channels
+abbrev pub CrossRecorded : Parameters → List Packet → Type 0
+CrossRecorded p packets = (place : ℕ) (packet : Packet) → slice_get packets place ≡ Some packet → (1 ≤ packet.channel) × (packet.channel ≤ length p.channels)
+
+-- ---- the sent list of a side
+
+-- these bytes, sent by this side, spell this PDU
+pub record Spells (p : Parameters) (side : Side) (pdu : RedundancyPdu) (bytes : List ℕ) : Type 0 where
+  pub fits : IsRedundancyPdu p pdu
+  pub same : bytes ≡ redundancy_bytes p side pdu
+
+-- the first packet of a redundancy number: its place among the packets, counted from 0, and its PDU
+pub record FirstCopy : Type 0 where
+  pub place : ℕ
+  pub pdu : RedundancyPdu
+
+-- a packet in front of this place, of this side, has this redundancy number
+pub record IsKnown (p : Parameters) (packets : List Packet) (side : Side) (place number : ℕ) : Type 0 where
+  pub earlier : ℕ
+  pub packet : Packet
+  pub pdu : RedundancyPdu
+  pub in_front : earlier < place
+  pub there : slice_get packets earlier ≡ Some packet
+  pub of_side : packet.side ≡ side
+  pub spelled : Spells p side pdu packet.payload
+  pub same_number : pdu.number ≡ number
+
+-- a member of a sent list is a packet of this side, whose bytes spell its PDU
+pub record IsCarried (p : Parameters) (packets : List Packet) (side : Side) (copy : FirstCopy) : Type 0 where
+  pub packet : Packet
+  pub there : slice_get packets copy.place ≡ Some packet
+  pub of_side : packet.side ≡ side
+  pub spelled : Spells p side copy.pdu packet.payload
+
+-- the sent list of a side: in the order of the packets, those of this side whose number no earlier packet of that side has
+pub record IsSentList (p : Parameters) (packets : List Packet) (side : Side) (sent : List FirstCopy) : Type 0 where
+  pub carried : (i : ℕ) (copy : FirstCopy) → slice_get sent i ≡ Some copy → IsCarried p packets side copy
+  pub in_order : (i : ℕ) (copy next : FirstCopy) → slice_get sent i ≡ Some copy → slice_get sent (suc i) ≡ Some next → copy.place < next.place
+  pub first : (i : ℕ) (copy : FirstCopy) → slice_get sent i ≡ Some copy → IsKnown p packets side copy.place copy.pdu.number → ⊥
+  pub all : (place : ℕ) (packet : Packet) (pdu : RedundancyPdu) → slice_get packets place ≡ Some packet → packet.side ≡ side → Spells p side pdu packet.payload
+      → (IsKnown p packets side place pdu.number → ⊥) → (i : ℕ) × (copy : FirstCopy) × (slice_get sent i ≡ Some copy) × (copy.place ≡ place)
+
+-- a packet of this side in front of this place has the same bytes
+pub record IsRepeat (packets : List Packet) (side : Side) (place : ℕ) (bytes : List ℕ) : Type 0 where
+  pub earlier : ℕ
+  pub packet : Packet
+  pub in_front : earlier < place
+  pub there : slice_get packets earlier ≡ Some packet
+  pub of_side : packet.side ≡ side
+  pub same : packet.payload ≡ bytes
+
+-- no packet of this side has a fault: each is a first copy, or repeats an earlier packet byte for byte, and the numbers of the
+-- first copies rise by one modulo 2^32
+pub record IsFaultless (packets : List Packet) (side : Side) (sent : List FirstCopy) : Type 0 where
+  pub others : (place : ℕ) (packet : Packet) → slice_get packets place ≡ Some packet → packet.side ≡ side
+      → ((i : ℕ) × (copy : FirstCopy) × (slice_get sent i ≡ Some copy) × (copy.place ≡ place)) ⊎ IsRepeat packets side place packet.payload
+  pub numbers : (i : ℕ) (start copy : FirstCopy) → slice_get sent 0 ≡ Some start → slice_get sent i ≡ Some copy → copy.pdu.number ≡ wrapped (start.pdu.number + i)
+
+-- this side sent this list, and none of its packets has a fault
+pub record Sent (p : Parameters) (packets : List Packet) (side : Side) (sent : List FirstCopy) : Type 0 where
+  pub list : IsSentList p packets side sent
+  pub faultless : IsFaultless packets side sent
+
+-- ---- the fault of the next packet
+
+-- the first copy with this redundancy number
+abbrev pub copy_with : List FirstCopy → ℕ → Option FirstCopy
+copy_with [] number = None
+copy_with (copy ∷ copies) number = if copy.pdu.number == number then Some copy else copy_with copies number
+
+-- the number that follows those of a sent list; the first is free
+abbrev pub is_next_number : List FirstCopy → ℕ → Bool
+is_next_number [] number = true
+is_next_number (copy ∷ copies) number = number == wrapped (copy.pdu.number + length (copy ∷ copies))
+
+-- the fault of a packet of a known number: it differs from the first copy
+abbrev pub repeat_fault : Parameters → Side → FirstCopy → List ℕ → Option ℕ
+repeat_fault p side copy bytes = if bytes_eq (redundancy_bytes p side copy.pdu) bytes then None else Some copy_differs
+
+abbrev pub number_fault : Parameters → Side → List FirstCopy → List ℕ → RedundancyPdu → Option FirstCopy → Option ℕ
+number_fault p side sent bytes pdu (Some copy) = repeat_fault p side copy bytes
+number_fault p side sent bytes pdu None = if is_next_number sent pdu.number then None else Some number_gap
+
+abbrev pub read_fault : Parameters → Side → List FirstCopy → List ℕ → Result RedundancyPdu Fault → Option ℕ
+read_fault p side sent bytes (Err fault) = Some fault.number
+read_fault p side sent bytes (Ok pdu) = number_fault p side sent bytes pdu (copy_with sent pdu.number)
+
+-- the fault of a packet behind those of which this side sent this list: its bytes spell no PDU, or it differs from the first copy of
+-- its number, or its number skips some
+abbrev pub packet_fault : Parameters → List FirstCopy → Packet → Option ℕ
+packet_fault p sent packet = read_fault p packet.side sent packet.payload (decode_of p packet.side packet.payload)
