@@ -12,3 +12,4 @@ pub mod HeldTake
 pub mod Values
 pub mod Valued
 pub mod ValuedMake
+pub mod ValuedTake
