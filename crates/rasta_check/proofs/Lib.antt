@@ -9,5 +9,9 @@ pub mod TakeRows
 pub mod Held
 pub mod HeldMake
 pub mod HeldTake
+pub mod Values
+pub mod Valued
+pub mod ValuedMake
+pub mod ValuedTake
 pub mod Runs
 pub mod HeldRuns
