@@ -18,3 +18,11 @@ pub mod Stuck
 pub mod Forms
 pub mod Faults
 pub mod Writable
+pub mod HeldMake
+pub mod HeldTake
+pub mod Values
+pub mod Valued
+pub mod ValuedMake
+pub mod ValuedTake
+pub mod Runs
+pub mod HeldRuns

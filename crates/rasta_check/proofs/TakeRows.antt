@@ -175,6 +175,13 @@ pub closed_row : (s : Side) (ph : Phase) (k : Kind) (n a v : Bool) → is_closed
 closed_row s Closed k n a v h = refl
 closed_row s _ k n a v h = absurd (cc)
 
+away_by : (p : Parameters) (e : EndState) (x : SafetyPdu) (row : TakeRow) → take_row p e x ≡ Some row → (b : Bool) → is_closed e.phase ≡ b → b ≡ false
+away_by p e x row h false c = refl
+away_by p e x row h true c = absurd (let none : take_row p e x ≡ None = closed_row e.side e.phase x.kind (is_in e x) (is_ahead p e x) (is_valid e x) c in cc)
+
+pub not_closed : (p : Parameters) (e : EndState) (x : SafetyPdu) (row : TakeRow) → take_row p e x ≡ Some row → is_closed e.phase ≡ false
+not_closed p e x row h = away_by p e x row h (is_closed e.phase) refl
+
 -- what a take leaves as it was
 pub record LeftAlone (e e' : EndState) : Type 0 where
   pub side : e'.side ≡ e.side

@@ -34,9 +34,9 @@ pub record AnswersInOrder (e peer : EndState) : Type 0 where
   pub beginning : (rest : List ℕ) × (asked_positions (pdus_made e.made) (pdus_made peer.made) ≡ e.asks ++ rest)
   pub answers : (before behind : List Made) (m : Made) → e.made ≡ before ++ m ∷ behind → is_retransmission_response m.pdu.kind ≡ true
       → (ask : ℕ) × (request : Made)
-        × (slice_get e.asks (responses_in (kinds before)) ≡ Some ask) × (ask < length before)
-        × (slice_get (requests_of peer.made) (responses_in (kinds before)) ≡ Some request)
-        × (position_with (pdus_made e.made) request.pdu.cs ≡ Some ask)
+      × (slice_get e.asks (responses_in (kinds before)) ≡ Some ask) × (ask < length before)
+      × (slice_get (requests_of peer.made) (responses_in (kinds before)) ≡ Some request)
+      × (position_with (pdus_made e.made) request.pdu.cs ≡ Some ask)
 
 abbrev pub Asks : Type 0
 Asks = (p : Parameters) → Always AnswersInOrder p
