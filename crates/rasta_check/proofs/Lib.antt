@@ -13,3 +13,4 @@ pub mod Values
 pub mod Valued
 pub mod ValuedMake
 pub mod ValuedTake
+pub mod Handed
