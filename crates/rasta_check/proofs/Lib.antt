@@ -26,3 +26,4 @@ pub mod ValuedMake
 pub mod ValuedTake
 pub mod Runs
 pub mod HeldRuns
+pub mod Handed
