@@ -27,3 +27,4 @@ pub mod ValuedTake
 pub mod Runs
 pub mod HeldRuns
 pub mod Handed
+pub mod Carrying
