@@ -14,3 +14,4 @@ pub mod Valued
 pub mod ValuedMake
 pub mod ValuedTake
 pub mod Handed
+pub mod Shown
