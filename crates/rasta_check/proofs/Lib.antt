@@ -28,3 +28,4 @@ pub mod Runs
 pub mod HeldRuns
 pub mod Handed
 pub mod Carrying
+pub mod Shown
