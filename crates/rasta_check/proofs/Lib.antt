@@ -13,5 +13,6 @@ pub mod Values
 pub mod Valued
 pub mod ValuedMake
 pub mod ValuedTake
+pub mod Asking
 pub mod Runs
 pub mod HeldRuns
