@@ -24,6 +24,7 @@ pub mod Values
 pub mod Valued
 pub mod ValuedMake
 pub mod ValuedTake
+pub mod Asking
 pub mod Runs
 pub mod HeldRuns
 pub mod Handed

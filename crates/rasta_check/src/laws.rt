@@ -1,6 +1,27 @@
-//! Laws on runs of two ends: public functions without a body, whose contracts are the laws.
+//! Laws on every run of two ends: public functions without a body, whose contracts are the laws.
 ghost use Rattle.rasta_pdu.specs.Params.{Parameters};
+ghost use Rattle.rasta_check.specs.Laws;
 ghost use Rattle.rasta_check.specs.Theorem.{OfConnection, Definite, Simulation, Completeness, Stuck};
+
+/// The SN of a PDU names one position of its end.
+pub fn sn_once()
+    ensures { Laws.SnOnce }
+{}
+
+/// An end answers the requests of its peer in order, each by going back to the position that it confirms.
+pub fn asks()
+    ensures { Laws.Asks }
+{}
+
+/// The units conveyed through the last position of an end that owes nothing are those that it offered.
+pub fn units()
+    ensures { Laws.Units }
+{}
+
+/// A PDU confirms the position that its end accepted last, and no other.
+pub fn confirmed()
+    ensures { Laws.Confirmed }
+{}
 
 /// No packet of a run has a fault: where a captured one has, no run sends the packets up to it.
 pub fn definite()
