@@ -30,3 +30,4 @@ pub mod HeldRuns
 pub mod Handed
 pub mod Carrying
 pub mod Shown
+pub mod Showing
