@@ -13,6 +13,8 @@ pub mod Values
 pub mod Valued
 pub mod ValuedMake
 pub mod ValuedTake
-pub mod Asking
+pub mod Handed
+pub mod Shown
 pub mod Runs
 pub mod HeldRuns
+pub mod Asking

@@ -13,10 +13,10 @@ use Rattle.rasta_end.specs.declared.owed.Owed.TheVariants.{RetransmissionRespons
 use Rattle.rasta_end.specs.State.{Made, EndState, kinds, is_closed, is_flowing, is_connected, carries_unit}
 use Rattle.rasta_end.specs.Units.{units_conveyed, units_at, last_of}
 use Rattle.rasta_end.specs.MakeRule.{has_ended}
-use Rattle.rasta_end.specs.TakeRule.{is_retransmission_response, is_valid, is_in, is_ahead, position_confirmed, accept, enter, hand_up, note_ask, resends, take_row, effect, effect_by, after_take}
+use Rattle.rasta_end.specs.TakeRule.{is_retransmission_response, is_valid, position_confirmed, accept, enter, hand_up, note_ask, resends, take_row, effect, effect_by, after_take}
 use Rattle.rasta_check.proofs.Lists.{get_push_cases, get_push}
 use Rattle.rasta_check.proofs.Counting.{number, number_take_all, number_take_at}
-use Rattle.rasta_check.proofs.TakeRows.{Knows, row_known, closed_row}
+use Rattle.rasta_check.proofs.TakeRows.{Knows, row_known, not_closed}
 use Rattle.rasta_check.proofs.Held.{is_named}
 use Rattle.rasta_check.proofs.HeldTake.{Taken, mark, no_answers, over_not, fresh_named}
 use Rattle.rasta_check.proofs.Values.{values, jump, values_asks, get_or_is, get_or_none}
@@ -161,13 +161,11 @@ module _ (q : Parameters) (e f : EndState) (t u : ℕ) (m : Made) (p : ℕ) (k :
   v_row Disconnected x = valued_with e (λ o. w.due (over_not e.phase _ away)) (λ g. absurd (cc)) w
 
 module _ (q : Parameters) (e f : EndState) (t u : ℕ) (m : Made) (p : ℕ) (k : Taken e f t u m p) (w : Valued e) (free : is_closed e.phase ≡ false → e.owed ≡ []) where
-  v_some : (b : Bool) → is_closed e.phase ≡ b → (r : TakeRow) → take_row q e m.pdu ≡ Some r → Valued (effect q r e m.pdu)
-  v_some true c r g = absurd (let z = closed_row e.side e.phase m.pdu.kind (is_in e m.pdu) (is_ahead q e m.pdu) (is_valid e m.pdu) c in cc)
-  v_some false c r g = v_row q e f t u m p k w (free c) c r (row_known q e m.pdu r g)
-
   v_by : (o : Option TakeRow) → take_row q e m.pdu ≡ o → Valued (effect_by q o e m.pdu)
   v_by None g = w
-  v_by (Some r) g = v_some (is_closed e.phase) refl r g
+  v_by (Some r) g =
+      let away = not_closed q e m.pdu r g in
+      v_row q e f t u m p k w (free away) away r (row_known q e m.pdu r g)
 
   pub valued_take : Valued (after_take q e m.pdu)
   valued_take = v_by (take_row q e m.pdu) refl
