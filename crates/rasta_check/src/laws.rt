@@ -23,6 +23,12 @@ pub fn confirmed()
     ensures { Laws.Confirmed }
 {}
 
+/// An end hands up the units of its peer, each once and in order, as many as its peer conveyed through
+/// the position that it accepted last.
+pub fn handed()
+    ensures { Laws.Handed }
+{}
+
 /// No packet of a run has a fault: where a captured one has, no run sends the packets up to it.
 pub fn definite()
     ensures { (p : Parameters) → OfConnection p → Definite p }
