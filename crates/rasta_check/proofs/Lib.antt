@@ -31,3 +31,4 @@ pub mod Handed
 pub mod Carrying
 pub mod Shown
 pub mod Showing
+pub mod History

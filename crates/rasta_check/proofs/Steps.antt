@@ -17,6 +17,11 @@ use Rattle.rasta_check.proofs.MakeRows.{made_by, after_row, new_made}
 pub clock_le : (u v : ℕ) → nat_lt u v ≡ false → v ≤ u
 clock_le u v h = grind (arith, nat_tests)
 
+-- nothing more was handed up
+pub record SameHanded (e e' : EndState) : Type 0 where
+  pub positions : e'.handed ≡ e.handed
+  pub pdus : e'.handed_pdus ≡ e.handed_pdus
+
 -- an end after a make
 pub record AfterMake (e : EndState) (x : SafetyPdu) (clock : ℕ) (e' : EndState) : Type 0 where
   pub new : Made
@@ -26,6 +31,7 @@ pub record AfterMake (e : EndState) (x : SafetyPdu) (clock : ℕ) (e' : EndState
   pub rises : e.clock ≤ clock
   pub side : e'.side ≡ e.side
   pub base : e'.base ≡ e.base
+  pub same : SameHanded e e'
 
 pub made_more : (p : Parameters) (e : EndState) (x : SafetyPdu) (clock : ℕ) (why : Why) (e' : EndState) → Makes p e x clock why e' → AfterMake e x clock e'
 made_more p e x clock why e' mk =
@@ -40,6 +46,7 @@ made_more p e x clock why e' mk =
       rises = clock_le clock e.clock pass.clock_rises;
       side = ap (λ (z : EndState). z.side) after;
       base = ap (λ (z : EndState). z.base) after;
+      same = record { positions = ap (λ (z : EndState). z.handed) after; pdus = ap (λ (z : EndState). z.handed_pdus) after };
     }
 
 -- the position of the first PDU of a sent list: 0, or 1 from a quiet point
