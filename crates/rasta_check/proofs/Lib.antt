@@ -32,3 +32,4 @@ pub mod Carrying
 pub mod Shown
 pub mod Showing
 pub mod History
+pub mod Known
