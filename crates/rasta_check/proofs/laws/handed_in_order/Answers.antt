@@ -1,4 +1,4 @@
-use Rattle.std.proofs.Common.{◌≡◌, ℕ, zero, suc, List, refl, ◌∙◌}
+use Rattle.std.proofs.Common.{◌≡◌, ℕ, zero, suc, refl, ◌∙◌}
 use Rattle.rasta_end.specs.State.{EndState}
 use Rattle.rasta_check.specs.Laws.{HandsUp, conveyed_before}
 use Rattle.rasta_check.proofs.Values.{values}
