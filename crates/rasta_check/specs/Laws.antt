@@ -1,7 +1,6 @@
 -- Laws on every run: what the headline stands on. Each holds at every world in which no end has sent more than 1,000,000 PDUs.
-use Rattle.std.specs.Prelude.{◌≡◌, ℕ, zero, suc, ◌+◌, ◌<◌, List, [], ◌∷◌, ◌++◌, length, Option, Some, slice_get, filter, true, false}
-use Rattle.rasta_pdu.specs.declared.kind.Kind.{Kind}
-use Rattle.rasta_pdu.specs.Params.{Parameters, AreParameters}
+use Rattle.std.specs.Prelude.{◌≡◌, ℕ, zero, suc, ◌<◌, List, [], ◌∷◌, ◌++◌, length, Some, slice_get, filter, true, false}
+use Rattle.rasta_pdu.specs.Params.{Parameters}
 use Rattle.rasta_pdu.specs.Pdu.{SafetyPdu}
 use Rattle.rasta_end.specs.declared.why.Why.{Why}
 use Rattle.rasta_end.specs.State.{Made, EndState, kinds}
@@ -35,9 +34,9 @@ pub record AnswersInOrder (e peer : EndState) : Type 0 where
   pub beginning : (rest : List ℕ) × (asked_positions (pdus_made e.made) (pdus_made peer.made) ≡ e.asks ++ rest)
   pub answers : (before behind : List Made) (m : Made) → e.made ≡ before ++ m ∷ behind → is_retransmission_response m.pdu.kind ≡ true
       → (ask : ℕ) × (request : Made)
-        × (slice_get e.asks (responses_in (kinds before)) ≡ Some ask) × (ask < length before)
-        × (slice_get (requests_of peer.made) (responses_in (kinds before)) ≡ Some request)
-        × (position_with (pdus_made e.made) request.pdu.cs ≡ Some ask)
+      × (slice_get e.asks (responses_in (kinds before)) ≡ Some ask) × (ask < length before)
+      × (slice_get (requests_of peer.made) (responses_in (kinds before)) ≡ Some request)
+      × (position_with (pdus_made e.made) request.pdu.cs ≡ Some ask)
 
 abbrev pub Asks : Type 0
 Asks = (p : Parameters) → Always AnswersInOrder p

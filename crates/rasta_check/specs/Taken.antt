@@ -1,12 +1,11 @@
 -- What two sent lists show: which messages of one end its peer surely took.
-use Rattle.std.specs.Prelude.{◌≡◌, ℕ, suc, max, Bool, not, ◌&&◌, nat_lt, if◌then◌else◌, ◌==◌, List, [], ◌∷◌, ◌++◌, length, take, map, filter, filter_map, fold, Option, Some, None}
+use Rattle.std.specs.Prelude.{ℕ, suc, max, nat_lt, if◌then◌else◌, ◌==◌, List, [], ◌∷◌, ◌++◌, take, map, filter, filter_map, fold, Option, Some, None}
 use Rattle.std.specs.List.{flat_map}
 use Rattle.std.specs.Option.{option_map}
 use Rattle.rasta_pcap.specs.declared.fault.Side.{Side}
-use Rattle.rasta_pdu.specs.declared.kind.Kind.{Kind}
 use Rattle.rasta_pdu.specs.Params.{Parameters}
 use Rattle.rasta_pdu.specs.Pdu.{SafetyPdu, messages_in}
-use Rattle.rasta_end.specs.State.{Made, EndState}
+use Rattle.rasta_end.specs.State.{Made}
 use Rattle.rasta_end.specs.Units.{all_units_conveyed, units_at}
 use Rattle.rasta_end.specs.MakeRule.{is_data, is_connection_request}
 use Rattle.rasta_end.specs.TakeRule.{is_retransmission_request}

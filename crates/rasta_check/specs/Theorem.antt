@@ -1,5 +1,5 @@
 -- The theorem over runs: what two sent lists say of every run, and what scripts that fit say.
-use Rattle.std.specs.Prelude.{◌≡◌, ℕ, suc, ◌+◌, ◌<◌, ◌≤◌, ◌^◌, List, [], ◌∷◌, ◌++◌, length, map, filter, Option, Some, None, slice_get}
+use Rattle.std.specs.Prelude.{◌≡◌, ℕ, suc, ◌+◌, ◌<◌, ◌≤◌, ◌^◌, List, [], ◌∷◌, ◌++◌, length, map, filter, Some, None, slice_get}
 use Rattle.rasta_pcap.specs.declared.fault.Side.{Side}
 use Rattle.rasta_pcap.specs.declared.fault.Side.TheVariants.{Client, Server}
 use Rattle.rasta_udp.specs.Frame.{Packet}
@@ -58,7 +58,7 @@ pub record IsMade (p : Parameters) (ws : List World) (w : World) (side : Side) (
 abbrev pub SentLists : Parameters → Type 0
 SentLists p =
     ((ws : List World) (w : World) (side : Side) → Reaches p ws w → length (end_of w side).made ≤ (start_of p side).base + most_sent
-        → (sent : List FirstCopy) × IsMade p ws w side sent)
+    → (sent : List FirstCopy) × IsMade p ws w side sent)
     × ((ws : List World) (w : World) (place : ℕ) → Reaches p ws w → place < length w.crossed → (v next : World) × Appends ws w place v next)
     × ((packets : List Packet) (side : Side) (sent others : List FirstCopy) → Sent p packets side sent → Sent p packets side others → length sent < 2 ^ 32 → sent ≡ others)
 
@@ -69,10 +69,10 @@ SentLists p =
 abbrev pub Definite : Parameters → Type 0
 Definite p =
     ((ws : List World) (w : World) (packets rest : List Packet) (packet : Packet) (sent : List FirstCopy) → Reaches p ws w
-        → w.crossed ≡ packets ++ packet ∷ rest → Sent p packets packet.side sent → length sent ≤ most_sent → packet_fault p sent packet ≡ None)
+    → w.crossed ≡ packets ++ packet ∷ rest → Sent p packets packet.side sent → length sent ≤ most_sent → packet_fault p sent packet ≡ None)
     × ((packets : List Packet) (packet : Packet) (sent : List FirstCopy) → AreBytes packet.payload → Sent p packets packet.side sent → length sent ≤ most_sent
-        → (packet_fault p sent packet ≡ None → (more : List FirstCopy) × Sent p (packets ++ packet ∷ []) packet.side more)
-          × ((rest : List Packet) (more : List FirstCopy) → Sent p (packets ++ packet ∷ rest) packet.side more → packet_fault p sent packet ≡ None))
+    → (packet_fault p sent packet ≡ None → (more : List FirstCopy) × Sent p (packets ++ packet ∷ []) packet.side more)
+    × ((rest : List Packet) (more : List FirstCopy) → Sent p (packets ++ packet ∷ rest) packet.side more → packet_fault p sent packet ≡ None))
 
 -- ---- 3. simulation
 
@@ -110,9 +110,9 @@ Necessity p =
     (ws : List World) (w : World) (side : Side) (own peer : List FirstCopy) → Reaches p ws w
     → Sent p w.crossed side own → Sent p w.crossed (other_side side) peer → length own ≤ most_sent → length peer ≤ most_sent
     → HandsUpUnits (end_of w (other_side side)) (end_of w side)
-      × ((rest : List (List (List ℕ))) × (messages_handed (end_of w (other_side side)) ≡ messages_listed (surely_taken p side own peer) ++ rest))
-      × ((i : ℕ) (u : TakenUnit) (v next : World) → slice_get (surely_taken p side own peer) i ≡ Some u → Appends ws w u.proof_place v next
-          → HasHandedUp (end_of v (other_side side)) i u.messages)
+    × ((rest : List (List (List ℕ))) × (messages_handed (end_of w (other_side side)) ≡ messages_listed (surely_taken p side own peer) ++ rest))
+    × ((i : ℕ) (u : TakenUnit) (v next : World) → slice_get (surely_taken p side own peer) i ≡ Some u → Appends ws w u.proof_place v next
+    → HasHandedUp (end_of v (other_side side)) i u.messages)
 
 -- ---- 5. sharpness
 
@@ -123,8 +123,8 @@ Sharpness p =
     → Sent p packets Client c → Sent p packets Server s → length c ≤ most_sent → length s ≤ most_sent
     → Fits p Client (length packets) c s cs a → Fits p Server (length packets) s c ss b
     → (ws : List World) × (w : World) × Reaches p ws w × (w.crossed ≡ packets)
-      × (messages_handed w.server.state ≡ messages_listed (surely_taken p Client c s))
-      × (messages_handed w.client.state ≡ messages_listed (surely_taken p Server s c))
+    × (messages_handed w.server.state ≡ messages_listed (surely_taken p Client c s))
+    × (messages_handed w.client.state ≡ messages_listed (surely_taken p Server s c))
 
 -- ---- 6. completeness
 
@@ -153,7 +153,7 @@ Completeness p =
     → length w.crossed ≤ most_packets → length c ≤ most_sent → length s ≤ most_sent
     → w.client.state.clock < 2 ^ 64 → w.server.state.clock < 2 ^ 64
     → (cs ss : List Entry) × Fits p Client (length w.crossed) c s cs w.client.state × Fits p Server (length w.crossed) s c ss w.server.state
-      × (length cs + length ss ≤ 4000000) × AreWritable cs × AreWritable ss
+    × (length cs + length ss ≤ 4000000) × AreWritable cs × AreWritable ss
 
 -- ---- 7. scripts that are stuck
 
@@ -162,7 +162,7 @@ abbrev pub Stuck : Parameters → Type 0
 Stuck p =
     (packets : List Packet) (side : Side) (own peer : List FirstCopy) → Sent p packets (other_side side) peer → length peer < 2 ^ 32
     → ((u v w : Cursor) (entries : List Entry) → Leads p (length packets) own peer u entries v → Leads p (length packets) own peer u entries w → v ≡ w)
-      × ((entries rest : List Entry) (x : Entry) (v : Cursor) (e : EndState)
-          → Leads p (length packets) own peer (at_start (start_of p side)) entries v
-          → ((w : Cursor) → Advances p (length packets) own peer v x w → ⊥)
-          → Fits p side (length packets) own peer (entries ++ x ∷ rest) e → ⊥)
+    × ((entries rest : List Entry) (x : Entry) (v : Cursor) (e : EndState)
+    → Leads p (length packets) own peer (at_start (start_of p side)) entries v
+    → ((w : Cursor) → Advances p (length packets) own peer v x w → ⊥)
+    → Fits p side (length packets) own peer (entries ++ x ∷ rest) e → ⊥)

@@ -2,4 +2,6 @@
 //! what they may send, and its laws.
 #![tactic(auto)]
 
+pub mod laws;
+
 pub use rasta_pcap::{Fault, Side, Sink, Source};

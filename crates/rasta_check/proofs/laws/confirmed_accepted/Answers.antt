@@ -1,0 +1,60 @@
+use Rattle.std.proofs.Common.{◌≡◌, ℕ, suc, Bool, true, false, List, refl, sym, ◌∙◌, arith}
+use Rattle.std.specs.Prelude.{not, ◌&&◌, ◌==◌}
+use Rattle.std.proofs.lemmas.Bool.Decides.{nat_tests}
+use Rattle.rasta_pcap.specs.declared.fault.Side.{Side}
+use Rattle.rasta_pcap.specs.declared.fault.Side.TheVariants.{Client}
+use Rattle.rasta_pdu.specs.declared.kind.Kind.{Kind}
+use Rattle.rasta_pdu.specs.Pdu.{SafetyPdu}
+use Rattle.rasta_pdu.specs.Params.{Parameters}
+use Rattle.rasta_end.specs.declared.phase.Phase.{Phase}
+use Rattle.rasta_end.specs.declared.phase.Phase.TheVariants.{Closed}
+use Rattle.rasta_end.specs.declared.why.Why.{Why}
+use Rattle.rasta_end.specs.declared.owed.Owed.{Owed}
+use Rattle.rasta_end.specs.declared.make_row.MakeRow.{MakeRow}
+use Rattle.rasta_end.specs.State.{Made, EndState, is_client, is_start}
+use Rattle.rasta_end.specs.MakeRule.{is_judged, is_connection_request, is_disconnection_request}
+use Rattle.rasta_check.specs.Laws.{NamesOne, ConfirmsAccepted}
+use Rattle.rasta_check.proofs.Passing.{Passed, passed, cs_is}
+use Rattle.rasta_check.proofs.MakeRows.{Making, opening, made_by}
+use Rattle.rasta_check.proofs.Numbering.{numbered_once}
+use Rattle.rasta_check.proofs.Held.{Held}
+use Rattle.rasta_check.proofs.HeldMake.{nothing_made}
+use Rattle.rasta_check.proofs.HeldRuns.{all_held, few_made}
+use Rattle.rasta_check.proofs.laws.confirmed_accepted.Goals as goal
+
+-- a connection request is made by a closed client
+opening_is : (s : Side) (ph : Phase) (why : Why) (k : Kind) (os : List Owed) (row : MakeRow) → Making s ph why k os row → is_connection_request k ≡ true → (s ≡ Client) × (ph ≡ Closed)
+opening_is s ph why k os row opening h = (refl, refl)
+opening_is s ph why k os row _ h = absurd (cc)
+
+-- an end that has accepted something makes no connection request
+not_opening : (p : Parameters) (e : EndState) (x : SafetyPdu) (clock : ℕ) (why : Why) (t i : ℕ) (peer : List Made) → Passed p e x clock why → Held e t peer → e.accepted ≡ suc i
+    → (b : Bool) → is_connection_request x.kind ≡ b → is_connection_request x.kind ≡ false
+not_opening p e x clock why t i peer pass h a false b = b
+not_opening p e x clock why t i peer pass h a true b =
+    let by = made_by p e x clock why pass in
+    let o = opening_is e.side e.phase why x.kind e.owed by.row by.how b in
+    let none = h.unmade o.0 (nothing_made e.side e.phase e.made o.1 pass.open_yet) in
+    absurd (omega (arith, a, none.0))
+
+judged_by : (opens leaves none more : Bool) → opens ≡ false → none ≡ false → (not opens && not (leaves && (none && more))) ≡ true
+judged_by false true false more o n = refl
+judged_by false false none more o n = refl
+judged_by _ _ _ more o n = absurd (cc)
+
+confirms : (p : Parameters) (e peer : EndState) (t : ℕ) → Held e t peer.made → NamesOne peer e → ConfirmsAccepted p e peer
+confirms p e peer t h once x clock why after i mk a =
+    let pass = passed p e x clock why mk.0 in
+    let opens = not_opening p e x clock why t i peer.made pass h a (is_connection_request x.kind) refl in
+    let judged : is_judged e x.kind ≡ true = judged_by (is_connection_request x.kind) (is_disconnection_request x.kind) (e.accepted == 0) (is_client e.side && is_start e.phase) opens (grind (arith, nat_tests, a)) in
+    let cs = (cs_is e x.kind x.cs judged pass.cs).1 in
+    let last = h.last i a in
+    ((last.m, last.there, last.same ∙ sym cs), λ j n there same. once j i n last.m there last.there (same ∙ (cs ∙ sym last.same)))
+
+pub returns : goal.returns
+returns c p ws w r b =
+    let g = all_held p ws w r b in
+    let few = few_made p w b in (
+      confirms p w.client.state w.server.state w.client.taken g.mine (numbered_once w.server.state.made few.1 g.theirs.numbered),
+      confirms p w.server.state w.client.state w.server.taken g.theirs (numbered_once w.client.state.made few.0 g.mine.numbered),
+    )

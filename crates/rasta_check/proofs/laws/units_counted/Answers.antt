@@ -1,0 +1,16 @@
+use Rattle.rasta_end.specs.State.{EndState}
+use Rattle.rasta_end.specs.Units.{last_of}
+use Rattle.rasta_check.specs.Laws.{ConveysAll}
+use Rattle.rasta_check.proofs.Values.{values, jump}
+use Rattle.rasta_check.proofs.Valued.{Valued}
+use Rattle.rasta_check.proofs.ValuedTake.{bare_rest}
+use Rattle.rasta_check.proofs.HeldRuns.{all_held}
+use Rattle.rasta_check.proofs.laws.units_counted.Goals as goal
+
+conveys : (e peer : EndState) → Valued e → ConveysAll e peer
+conveys e peer h ended owed = bare_rest (jump e) (last_of (values e)) e.offered e.owed owed (h.due ended)
+
+pub returns : goal.returns
+returns c p ws w r b =
+    let g = all_held p ws w r b in
+    (conveys w.client.state w.server.state g.values, conveys w.server.state w.client.state g.their_values)
