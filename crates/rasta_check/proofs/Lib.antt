@@ -15,6 +15,6 @@ pub mod ValuedMake
 pub mod ValuedTake
 pub mod Handed
 pub mod Shown
+pub mod Asking
 pub mod Runs
 pub mod HeldRuns
-pub mod Asking
