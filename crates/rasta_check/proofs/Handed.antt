@@ -1,6 +1,6 @@
 -- What an end has handed up: the units conveyed through the last position of its peer that it accepted.
 use Rattle.std.proofs.Common.{◌≡◌, ℕ, zero, suc, ◌+◌, ◌<◌, ◌≤◌, ◌⊎◌, Bool, true, false, List, [], ◌∷◌, ◌++◌, length, Option, Some, None, slice_get, take, refl, ap, sym, ◌∙◌, arith, inl, inr, ⊎_elim, subst}
-use Rattle.std.specs.Prelude.{◌==◌, slice_index_or, if◌then◌else◌}
+use Rattle.std.specs.Prelude.{◌==◌, slice_index_or, if◌then◌else◌, map, filter}
 use Rattle.std.proofs.lemmas.Bool.Decides.{nat_tests}
 use Rattle.std.proofs.lemmas.List.{take-append-le, take_all, length_push}
 use Rattle.std.proofs.lemmas.Option.{slice_get_within, slice_get-get_or, get_or_from_slice_get}
@@ -9,7 +9,8 @@ use Rattle.rasta_pcap.specs.declared.fault.Side.TheVariants.{Server}
 use Rattle.rasta_pdu.specs.declared.kind.Kind.{Kind}
 use Rattle.rasta_pdu.specs.declared.kind.Kind.TheVariants.{RetransmissionRequest, RetransmissionResponse, Heartbeat, Data}
 use Rattle.rasta_pdu.specs.Params.{Parameters}
-use Rattle.rasta_pdu.specs.Pdu.{SafetyPdu}
+use Rattle.rasta_pdu.specs.Messages.{messages_of}
+use Rattle.rasta_pdu.specs.Pdu.{SafetyPdu, SafetyBody, Opening, Bye, Messages, Empty, messages_in}
 use Rattle.rasta_end.specs.declared.phase.Phase.{Phase}
 use Rattle.rasta_end.specs.declared.phase.Phase.TheVariants.{Start, Up, RetrReq, RetrRun}
 use Rattle.rasta_end.specs.declared.why.Why.{Why}
@@ -17,9 +18,11 @@ use Rattle.rasta_end.specs.declared.make_row.MakeRow.{MakeRow}
 use Rattle.rasta_end.specs.declared.take_row.TakeRow.{TakeRow}
 use Rattle.rasta_end.specs.declared.take_row.TakeRow.TheVariants.{Opened, Answered, FirstHeartbeat, InSequence, ResentInSequence, Gap, GapInRetransmission, Resumed, Requested, RequestedAhead, RequestedAgain, Disconnected}
 use Rattle.rasta_end.specs.declared.owed.Owed.TheVariants.{RetransmissionRequest as OweRetransmissionRequest}
-use Rattle.rasta_end.specs.State.{Made, EndState, is_closed, is_flowing, carries_unit}
-use Rattle.rasta_end.specs.MakeRule.{row_of, phase_after, owed_after, after_make, after_make_by}
+use Rattle.rasta_end.specs.State.{Made, EndState, is_closed, is_flowing, carries_unit, content_of}
+use Rattle.rasta_end.specs.MakeRule.{is_data, row_of, phase_after, owed_after, after_make, after_make_by}
 use Rattle.rasta_end.specs.TakeRule.{is_retransmission_request, is_retransmission_response, is_heartbeat_or_data, is_in, steps_past_next, position_confirmed, accept, enter, hand_up, burst, take_row, effect, effect_by, after_take}
+use Rattle.rasta_check.specs.Laws.{conveyed_before, HandsUp}
+use Rattle.rasta_check.specs.Theorem.{HandsUpUnits}
 use Rattle.rasta_check.proofs.Lists.{get_push_cases, get_front, get_push}
 use Rattle.rasta_check.proofs.Passing.{Passed, cs_is}
 use Rattle.rasta_check.proofs.MakeRows.{MadeBy, made_by, after_row, new_made}
@@ -295,3 +298,43 @@ module _ (q : Parameters) (e f : EndState) (t u : ℕ) (m : Made) (p : ℕ) (k :
 
   pub handed_take : Handed (after_take q e m.pdu) f
   handed_take = h_by (take_row q e m.pdu) refl
+
+-- What it handed up, unit by unit.
+
+worth_before : (f : EndState) (a : ℕ) → worth (values f) a ≡ conveyed_before f a
+worth_before f zero = refl
+worth_before f (suc i) = refl
+
+pub hands_up : (e f : EndState) → Handed e f → HandsUp e f
+hands_up e f w = record {
+  count = w.count ∙ worth_before f e.accepted;
+  same_count = w.as_many;
+  units = λ i pos g. (let r = w.labels i pos g in (r.0, r.1, r.3, r.4));
+}
+
+messages_by_content : (body : SafetyBody) → messages_in body ≡ messages_of (content_of body)
+unfolding messages_of
+messages_by_content (Messages payload) = refl
+messages_by_content (Opening version sendmax reserved) = refl
+messages_by_content (Bye detail reason) = refl
+messages_by_content Empty = refl
+
+-- the data PDU with this content
+data_with : (ms : List Made) (i : ℕ) (content : List ℕ) → slice_get (map (λ (n : Made). content_of n.pdu.body) ms) i ≡ Some content → (m : Made) × (slice_get ms i ≡ Some m) × (content_of m.pdu.body ≡ content)
+data_with [] i content g = absurd (cc)
+data_with (m ∷ ms) zero content g = (m, refl, cc)
+data_with (m ∷ ms) (suc i) content g = data_with ms i content g
+
+-- the i-th PDU handed up carries the messages of the i-th data PDU
+handed_messages : (e f : EndState) → Valued f → Handed e f → (i : ℕ) (x : SafetyPdu) → slice_get e.handed_pdus i ≡ Some x
+    → (m : Made) × (slice_get (filter (λ (n : Made). is_data n.pdu.kind) f.made) i ≡ Some m) × (messages_in x.body ≡ messages_in m.pdu.body)
+handed_messages e f vf w i x g =
+    let l : i < length e.handed = omega (arith, slice_get_within e.handed_pdus i x g, w.as_many) in
+    let r = w.labels i _ (slice_get-get_or e.handed i 0 l) in
+    let same : r.0.pdu ≡ x = (let z : Some r.0.pdu ≡ Some x = sym r.4 ∙ g in cc) in
+    let content = (vf.carried _ r.0 i r.1 r.3).1 in
+    let d = data_with (filter (λ (n : Made). is_data n.pdu.kind) f.made) i (content_of r.0.pdu.body) content in
+    (d.0, d.1, ap (λ (y : SafetyPdu). messages_in y.body) (sym same) ∙ (messages_by_content r.0.pdu.body ∙ (ap messages_of (sym d.2) ∙ sym (messages_by_content d.0.pdu.body))))
+
+pub hands_up_units : (e f : EndState) → Valued f → Handed e f → HandsUpUnits e f
+hands_up_units e f vf w = record { labels = hands_up e f w; messages = handed_messages e f vf w }

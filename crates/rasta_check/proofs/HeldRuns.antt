@@ -31,7 +31,7 @@ use Rattle.rasta_check.proofs.Shown.{Shown, shown_make, shown_peer_make, shown_t
 use Rattle.rasta_check.proofs.Numbering.{numbered_once}
 use Rattle.rasta_check.proofs.Runs.{always}
 
--- ---- the start
+-- ---- the start: a fresh end, or one at a quiet point
 
 nothing_at : {A B : Type 0} (i : ℕ) (x : A) → slice_get [] i ≡ Some x → B
 nothing_at i x e = absurd (cc)
