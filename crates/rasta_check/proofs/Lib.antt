@@ -16,5 +16,6 @@ pub mod ValuedTake
 pub mod Handed
 pub mod Shown
 pub mod Asking
+pub mod Necessary
 pub mod Runs
 pub mod HeldRuns
