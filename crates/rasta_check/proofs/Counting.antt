@@ -7,25 +7,32 @@ use Rattle.rasta_end.specs.declared.owed.Owed.TheVariants.{RetransmissionRespons
 use Rattle.rasta_end.specs.State.{Made}
 use Rattle.rasta_end.specs.TakeRule.{resends}
 
+-- one more where the test holds
 abbrev pub tally : Bool → ℕ → ℕ
 tally true n = suc n
 tally false n = n
 
+-- how many of these PDUs have such a type
 abbrev pub number : (Kind → Bool) → List Made → ℕ
 number f [] = 0
 number f (m ∷ ms) = tally (f m.pdu.kind) (number f ms)
 
+-- how many such things are owed
 abbrev pub owes : (Owed → Bool) → List Owed → ℕ
 owes f [] = 0
 owes f (o ∷ os) = tally (f o) (owes f os)
 
+-- a retransmission response is owed
 abbrev pub is_answer_owed : Owed → Bool
 is_answer_owed OweRetransmissionResponse = true
 is_answer_owed _ = false
 
+-- a retransmission request is owed
 abbrev pub is_request_owed : Owed → Bool
 is_request_owed OweRetransmissionRequest = true
 is_request_owed _ = false
+
+-- ---- counts as lists grow
 
 tally_swap : (a b : Bool) (n : ℕ) → tally a (tally b n) ≡ tally b (tally a n)
 tally_swap true true n = refl
@@ -55,6 +62,7 @@ number_take_all f ms zero = omega arith
 number_take_all f [] (suc i) = omega arith
 number_take_all f (m ∷ ms) (suc i) = tally_most (f m.pdu.kind) _ _ (number_take_all f ms i)
 
+-- behind a PDU of the type there is one more than in front of it
 pub number_take_at : (f : Kind → Bool) (ms : List Made) (p : ℕ) (m : Made) → slice_get ms p ≡ Some m → f m.pdu.kind ≡ true → number f (take (suc p) ms) ≡ suc (number f (take p ms))
 number_take_at f [] p m e h = absurd (cc)
 number_take_at f (x ∷ ms) zero m e h =
@@ -66,6 +74,8 @@ number_take_at f (x ∷ ms) (suc p) m e h = ap (tally (f x.pdu.kind)) (number_ta
     tally_suc : (b : Bool) (n : ℕ) → tally b (suc n) ≡ suc (tally b n)
     tally_suc true n = refl
     tally_suc false n = refl
+
+-- ---- what is owed
 
 pub owes-append : (f : Owed → Bool) (os ps : List Owed) → owes f (os ++ ps) ≡ owes f os + owes f ps
 owes-append f [] ps = omega arith
@@ -83,6 +93,7 @@ pub requests-resends : (k n : ℕ) → owes is_request_owed (resends k n) ≡ 0
 requests-resends k zero = refl
 requests-resends k (suc n) = requests-resends (suc k) n
 
+-- the count is the length of the list of those of the type
 pub number-filter : (f : Kind → Bool) (ms : List Made) → number f ms ≡ length (filter (λ (m : Made). f m.pdu.kind) ms)
 number-filter f [] = refl
 number-filter f (m ∷ ms) = filtered (f m.pdu.kind) m (filter (λ (k : Made). f k.pdu.kind) ms) (number f ms) (number-filter f ms)

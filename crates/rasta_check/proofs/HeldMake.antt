@@ -38,6 +38,8 @@ pub data Changed (s : Side) (ph : Phase) (k : Kind) (os : List Owed) (row : Make
       → owed_after row os ≡ without_first os
       → Changed s ph k os row
 
+-- ---- the rows
+
 off : {P : Type 0} → false ≡ true → P
 off e = absurd (cc)
 
@@ -64,6 +66,8 @@ changed s ph why k os row (beat r) = goes_on refl (connected_active ph r) refl r
 changed s ph why k os row (fresh r) = goes_on refl (connected_active ph r) refl refl (λ e. off e) (omega arith) refl
 changed s ph why k os row (bye r) = over refl refl refl refl refl
 changed s ph why k os row (expired r) = over refl refl refl refl refl
+
+-- ---- the parts of an end
 
 closed_over : (s : Side) (ms : List Made) (m : Made) → (not (is_client s) || has_made (ms ++ m ∷ [])) ≡ true
 closed_over Server ms m = refl
@@ -97,6 +101,8 @@ not_down _ e h = cc
 pub push_some : (ms : List Made) (m : Made) → ms ++ m ∷ [] ≡ [] → ⊥
 push_some [] m e = cc
 push_some (x ∷ ms) m e = cc
+
+-- ---- the peer
 
 -- a make leaves what holds of the peer
 pub peer_make : (f : EndState) (u : ℕ) (ms : List Made) (m : Made) → Held f u ms → Held f u (ms ++ m ∷ [])
@@ -133,6 +139,8 @@ peer_make f u ms m h =
       open_requests = omega (arith, same_answers, h.open_requests);
       named = λ p n e k. (let r = h.named p n e k in (r.0, r.1, SnIs_front ms m r.0 n.pdu.cs r.2));
     }
+
+-- ---- the maker
 
 start_not : (s : Side) → s ≡ Client → has_peer s Start ≡ true → ⊥
 start_not Client e h = cc

@@ -1,5 +1,5 @@
 -- Every run keeps what holds.
-use Rattle.std.proofs.Common.{◌≡◌, ℕ, zero, suc, ◌≤◌, Bool, false, List, [], ◌∷◌, ◌++◌, length, Option, Some, None, slice_get, refl, ap, sym, subst, ◌∙◌, arith, inl}
+use Rattle.std.proofs.Common.{◌≡◌, ℕ, zero, suc, ◌≤◌, Bool, false, List, [], ◌∷◌, ◌++◌, length, Option, Some, None, slice_get, refl, ap, sym, subst, ◌∙◌, arith, inl, inr, ◌<◌}
 use Rattle.std.proofs.lemmas.List.{length_push}
 use Rattle.rasta_pcap.specs.Fault.{reply_owed, past_deadline}
 use Rattle.rasta_pcap.specs.declared.fault.Side.{Side}
@@ -9,7 +9,7 @@ use Rattle.rasta_pdu.specs.Params.{Parameters}
 use Rattle.rasta_pdu.specs.declared.quiet_point.Quiet.{Quiet}
 use Rattle.rasta_pdu.specs.declared.quiet_point.QuietEnd.{QuietEnd}
 use Rattle.rasta_end.specs.declared.phase.Phase.{Phase}
-use Rattle.rasta_end.specs.declared.phase.Phase.TheVariants.{Closed, Down}
+use Rattle.rasta_end.specs.declared.phase.Phase.TheVariants.{Closed, Down, RetrReq}
 use Rattle.rasta_end.specs.declared.owed.Owed.{Owed}
 use Rattle.rasta_end.specs.State.{Made, EndState, is_owing, is_closed, is_connected, carries_unit}
 use Rattle.rasta_end.specs.MakeRule.{is_data, first_fault, is_past, after_make}
@@ -25,10 +25,13 @@ use Rattle.rasta_check.proofs.HeldMake.{own_make, peer_make}
 use Rattle.rasta_check.proofs.HeldTake.{Taken, own_take}
 use Rattle.rasta_check.proofs.Valued.{Valued}
 use Rattle.rasta_check.proofs.ValuedMake.{valued_make}
-use Rattle.rasta_check.proofs.ValuedTake.{valued_take}
+use Rattle.rasta_check.proofs.ValuedTake.{valued_take, values_take}
+use Rattle.rasta_check.proofs.Handed.{Handed, handed_make, handed_peer_make, handed_take, handed_peer_take}
+use Rattle.rasta_check.proofs.Shown.{Shown, shown_make, shown_peer_make, shown_take, shown_peer_take}
+use Rattle.rasta_check.proofs.Numbering.{numbered_once}
 use Rattle.rasta_check.proofs.Runs.{always}
 
--- ---- the start
+-- ---- the start: a fresh end, or one at a quiet point
 
 nothing_at : {A B : Type 0} (i : ℕ) (x : A) → slice_get [] i ≡ Some x → B
 nothing_at i x e = absurd (cc)
@@ -107,6 +110,10 @@ fresh_valued side phase c =
       carried = λ i m k e. nothing_at i m e;
     }
 
+zero_at : (i v : ℕ) → slice_get (0 ∷ []) i ≡ Some v → v ≤ 0
+zero_at zero v e = (let z : 0 ≡ v = cc in omega arith)
+zero_at (suc i) v e = nothing_at i v e
+
 quiet_valued : (side : Side) (own other : QuietEnd) → Valued (quiet_end side own other)
 quiet_valued side own other =
     record {
@@ -122,10 +129,32 @@ quiet_valued side own other =
       fresh = λ i m e k. absurd (let z = ap (λ (n : Made). is_data n.pdu.kind) (only_at _ m i e).1 in cc);
       carried = λ i m k e u. absurd (let z = ap (λ (n : Made). n.unit) (only_at _ m i e).1 in cc);
     }
-  where
-    zero_at : (i v : ℕ) → slice_get (0 ∷ []) i ≡ Some v → v ≤ 0
-    zero_at zero v e = (let z : 0 ≡ v = cc in omega arith)
-    zero_at (suc i) v e = nothing_at i v e
+
+fresh_handed : (side : Side) (phase : Phase) (e : EndState) → (phase ≡ RetrReq → ⊥) → Handed (fresh_end side phase) e
+fresh_handed side phase e c = record { count = refl; labels = λ i m g. nothing_at i m g; as_many = refl; awaited = λ v. absurd (c v) }
+
+quiet_handed : (side peer : Side) (own other : QuietEnd) → Handed (quiet_end side own other) (quiet_end peer other own)
+quiet_handed side peer own other = record { count = refl; labels = λ i m g. nothing_at i m g; as_many = refl; awaited = λ v. absurd (cc) }
+
+fresh_shown : (side : Side) (phase : Phase) (e : EndState) → is_connected e.phase ≡ false → (0 < e.offered → 0 < 0) → Shown (fresh_end side phase) e
+fresh_shown side phase e c offer =
+    record {
+      shown = λ i j v m g. nothing_at i m g;
+      judged = λ i m g. nothing_at i m g;
+      first_words = λ _ _ i m g. nothing_at i m g;
+      ready_run = λ r. absurd (cc);
+      ready_offer = offer;
+    }
+
+quiet_shown : (side peer : Side) (own other : QuietEnd) → Shown (quiet_end side own other) (quiet_end peer other own)
+quiet_shown side peer own other =
+    record {
+      shown = λ i j v m g k t u. zero_at j v u;
+      judged = λ i m g k. inr (0, omega arith, quiet_sn peer other own 0 m.pdu.cs refl (quiet_cs own other m (only_at _ m i g).1));
+      first_words = λ z. absurd (omega arith);
+      ready_run = λ _. omega arith;
+      ready_offer = λ _. omega arith;
+    }
 
 -- ---- the steps
 
@@ -143,6 +172,10 @@ pub record All (a b : Station) : Type 0 where
   pub theirs : Held b.state b.taken a.state.made
   pub values : Valued a.state
   pub their_values : Valued b.state
+  pub up : Handed a.state b.state
+  pub their_up : Handed b.state a.state
+  pub shows : Shown a.state b.state
+  pub their_shows : Shown b.state a.state
 
 abbrev Whole : Station → Station → Type 0
 Whole a b = length a.state.made ≤ 1000001 → length b.state.made ≤ 1000001 → All a b
@@ -154,17 +187,23 @@ all_kept p b a a' xs ys (makes x why after channel reserve check bytes mk sp rec
     let n : Made = new_made by.row a.state x in
     let now : after_make a.state x a.clock why ≡ after = sym mk.1 in
     let made : (after_make a.state x a.clock why).made ≡ a.state.made ++ n ∷ [] = ap (λ (e : EndState). e.made) (sym (after_row a.state x a.clock why by)) in
-    let l' : length (a.state.made ++ n ∷ []) ≤ 1000001 = subst (λ (ms : List Made). length ms ≤ 1000001) (ap (λ (e : EndState). e.made) (sym now) ∙ made) l in
-    let h = g (omega (arith, length_push a.state.made n)) r in
+    let few : length (after_make a.state x a.clock why).made ≤ 1000001 = subst (λ (e : EndState). length e.made ≤ 1000001) (sym now) l in
+    let h = g (let longer = ap (λ (ms : List Made). length ms) made in omega (arith, longer, few, length_push a.state.made n)) r in
+    let mine = own_make p a.state x a.clock why a.taken b.state.made ok h.mine in
+    let values = valued_make p a.state x a.clock why a.taken b.state.made ok h.mine h.values in
     let P : EndState → Type 0 = λ e. All (record a { state = e }) b in
     subst P now (record {
-      mine = own_make p a.state x a.clock why a.taken b.state.made ok h.mine;
+      mine = mine;
       theirs = subst (λ (ms : List Made). Held b.state b.taken ms) (sym made) (peer_make b.state b.taken a.state.made n h.theirs);
-      values = valued_make p a.state x a.clock why a.taken b.state.made ok h.mine h.values;
+      values = values;
       their_values = h.their_values;
+      up = handed_make p a.state b.state x a.clock why a.taken ok h.mine h.up;
+      their_up = handed_peer_make b.state a.state x a.clock why (let z = h.theirs in omega (arith, z.reached, z.within)) h.their_up;
+      shows = shown_make p a.state b.state x a.clock why a.taken ok h.mine (numbered_once b.state.made r h.theirs.numbered) h.their_values h.up h.shows;
+      their_shows = shown_peer_make p b.state a.state x a.clock why ok values (numbered_once (after_make a.state x a.clock why).made few mine.numbered) h.their_shows;
     }))
 all_kept p b a a' xs ys (repeats old channel c s rec) g = g
-all_kept p b a a' xs ys (arrives position i j) g = λ l r. (let h = g l r in record { mine = h.mine; theirs = h.theirs; values = h.values; their_values = h.their_values })
+all_kept p b a a' xs ys (arrives position i j) g = λ l r. (let h = g l r in record { mine = h.mine; theirs = h.theirs; values = h.values; their_values = h.their_values; up = h.up; their_up = h.their_up; shows = h.shows; their_shows = h.their_shows })
 all_kept p b a a' xs ys (takes position m after c i s t) g = λ l r. (
     let same : after.made ≡ a.state.made = ap (λ (e : EndState). e.made) t.1 ∙ take_made p a.state m.pdu in
     let few : length a.state.made ≤ 1000001 = subst (λ (ms : List Made). length ms ≤ 1000001) same l in
@@ -178,8 +217,12 @@ all_kept p b a a' xs ys (takes position m after c i s t) g = λ l r. (
       theirs = subst (λ (ms : List Made). Held b.state b.taken ms) (sym (take_made p a.state m.pdu)) h.theirs;
       values = valued_take p a.state b.state a.taken b.taken m position k h.values fr;
       their_values = h.their_values;
+      up = handed_take p a.state b.state a.taken b.taken m position k h.up h.their_values fr;
+      their_up = handed_peer_take b.state a.state (after_take p a.state m.pdu) (take_made p a.state m.pdu) (values_take p a.state m.pdu h.mine.asked) h.their_up;
+      shows = shown_take p a.state b.state m.pdu a.taken h.mine h.shows;
+      their_shows = shown_peer_take p b.state a.state b.taken m position h.theirs s (values_take p a.state m.pdu h.mine.asked) h.their_shows;
     }))
-all_kept p b a a' xs ys (waits clock i) g = λ l r. (let h = g l r in record { mine = h.mine; theirs = h.theirs; values = h.values; their_values = h.their_values })
+all_kept p b a a' xs ys (waits clock i) g = λ l r. (let h = g l r in record { mine = h.mine; theirs = h.theirs; values = h.values; their_values = h.their_values; up = h.up; their_up = h.their_up; shows = h.shows; their_shows = h.their_shows })
 
 -- ---- every run
 
@@ -194,6 +237,10 @@ first_all None m n =
       theirs = fresh_held Server Down (λ _. refl) refl;
       values = fresh_valued Client Closed refl;
       their_values = fresh_valued Server Down refl;
+      up = fresh_handed Client Closed _ (λ e. cc (e));
+      their_up = fresh_handed Server Down _ (λ e. cc (e));
+      shows = fresh_shown Client Closed (fresh_end Server Down) refl (λ l. omega arith);
+      their_shows = fresh_shown Server Down (fresh_end Client Closed) refl (λ l. omega arith);
     }
 first_all (Some quiet) m n =
     record {
@@ -201,6 +248,10 @@ first_all (Some quiet) m n =
       theirs = quiet_held Server Client quiet.server quiet.client;
       values = quiet_valued Client quiet.client quiet.server;
       their_values = quiet_valued Server quiet.server quiet.client;
+      up = quiet_handed Client Server quiet.client quiet.server;
+      their_up = quiet_handed Server Client quiet.server quiet.client;
+      shows = quiet_shown Client Server quiet.client quiet.server;
+      their_shows = quiet_shown Server Client quiet.server quiet.client;
     }
 
 base_by : (quiet : Option Quiet) (side : Side) → (start_by quiet side).base ≤ 1
@@ -221,5 +272,5 @@ unfolding station_by
 all_held p ws w r b =
     let few = few_made p w b in
     always p Whole
-    (λ x y g l m. (let h = g m l in record { mine = h.theirs; theirs = h.mine; values = h.their_values; their_values = h.values }))
+    (λ x y g l m. (let h = g m l in record { mine = h.theirs; theirs = h.mine; values = h.their_values; their_values = h.values; up = h.their_up; their_up = h.up; shows = h.their_shows; their_shows = h.shows }))
     (λ m n l k. first_all p.quiet m n) (all_kept p) ws w r few.0 few.1

@@ -24,6 +24,8 @@ use Rattle.rasta_check.proofs.Counting.{number, owes, number_take_all, number_ta
 use Rattle.rasta_check.proofs.Naming.{SnIs, position_is, confirms_is}
 use Rattle.rasta_check.proofs.Held.{Held, is_response_owed, is_opener, has_peer, is_named, open_bit}
 
+-- ---- phases and types
+
 flowing_bit : (ph : Phase) → is_flowing ph ≡ true → open_bit ph ≡ 0
 flowing_bit Up h = refl
 flowing_bit RetrRun h = refl
@@ -47,11 +49,13 @@ bit_most Closed = omega arith
 bit_most RetrReq = omega arith
 bit_most _ = omega arith
 
+-- ---- bursts
+
 responses-resends : (k n : ℕ) → owes is_response_owed (resends k n) ≡ 0
 responses-resends k zero = refl
 responses-resends k (suc n) = responses-resends (suc k) n
 
--- a burst owes one retransmission response, no request and no connection response
+-- a burst owes one retransmission response, no retransmission request and no connection response
 burst_answers : (e : EndState) (c : ℕ) → owes is_answer_owed (burst e c) ≡ 1
 burst_answers e c = let u = units_conveyed e.asks (kinds e.made) c in ap suc (answers-resends u (e.offered - u))
 
@@ -60,6 +64,8 @@ burst_requests e c = let u = units_conveyed e.asks (kinds e.made) c in requests-
 
 burst_responses : (e : EndState) (c : ℕ) → owes is_response_owed (burst e c) ≡ 0
 burst_responses e c = let u = units_conveyed e.asks (kinds e.made) c in responses-resends u (e.offered - u)
+
+-- ---- a take
 
 -- one end e, up to t taken, takes m at position p of what its peer f has made
 pub record Taken (e f : EndState) (t u : ℕ) (m : Made) (p : ℕ) : Type 0 where
@@ -170,6 +176,7 @@ module _ (q : Parameters) (e f : EndState) (t u : ℕ) (m : Made) (p : ℕ) (k :
         named = k.mine.named;
       }
 
+  -- the connection request
   opens : e.phase ≡ Down → m.pdu.kind ≡ ConnectionRequest → e.owed ≡ [] → is_closed e.phase ≡ false → Held (effect q Opened e m.pdu) (suc p) f.made
   opens ph ki free away =
       let first : p ≡ 0 = k.theirs.openers p m k.there (ap is_opener ki) in
@@ -194,6 +201,7 @@ module _ (q : Parameters) (e f : EndState) (t u : ℕ) (m : Made) (p : ℕ) (k :
         named = λ i n g b. absurd (let z : slice_get [] i ≡ Some n = subst (λ (l : List Made). slice_get l i ≡ Some n) (k.mine.down ph).0 g in cc);
       }
 
+  -- the connection response
   answers : e.phase ≡ Start → e.accepted ≡ 0 → m.pdu.kind ≡ ConnectionResponse → is_valid e m.pdu ≡ true → e.owed ≡ [] → is_closed e.phase ≡ false → Held (effect q Answered e m.pdu) (suc p) f.made
   answers ph zeroed ki vd free away =
       let first : p ≡ 0 = k.theirs.openers p m k.there (ap is_opener ki) in
@@ -329,9 +337,11 @@ module _ (q : Parameters) (e f : EndState) (t u : ℕ) (m : Made) (p : ℕ) (k :
         open_requests = (let b = before free in let r = more_answers in omega (arith, b, r, bit));
       }
 
-  -- an end that has accepted something has made something, if it is the client
+  -- a client that has accepted something has made something
   peer_made : has_peer e.side e.phase ≡ true → {P : Type 0} → e.side ≡ Client → e.made ≡ [] → P
   peer_made peer s v = absurd (let a = k.mine.connected peer in let z = (k.mine.unmade s v).0 in omega (arith, a.1, z))
+
+-- ---- the rows
 
 no_peer : (s : Side) → has_peer s Closed ≡ true → ⊥
 no_peer Client h = cc
@@ -350,6 +360,7 @@ no_start : (ph : Phase) → is_flowing ph ≡ true → ph ≡ Start → ⊥
 no_start Start e h = cc
 no_start _ e h = cc
 
+-- handing up changes nothing of this
 Held_hand_up : (b : Bool) (i : ℕ) (e : EndState) (x : SafetyPdu) (t : ℕ) (peer : List Made) → Held e t peer → Held (if b then hand_up i e x else e) t peer
 Held_hand_up false i e x t peer h = h
 Held_hand_up true i e x t peer h =
@@ -374,6 +385,7 @@ Held_hand_up true i e x t peer h =
     }
 
 module _ (q : Parameters) (e f : EndState) (t u : ℕ) (m : Made) (p : ℕ) (k : Taken e f t u m p) (free : is_closed e.phase ≡ false → e.owed ≡ []) where
+  -- the PDU stands ahead, so that a request is owed
   in_gap : is_flowing e.phase ≡ true → is_closed e.phase ≡ false → Held (record e { phase = RetrReq; owed = OweRetransmissionRequest ∷ [] }) (suc p) f.made
   in_gap ph c =
       let peer = flowing_peer e.side e.phase ph in
@@ -427,6 +439,7 @@ module _ (q : Parameters) (e f : EndState) (t u : ℕ) (m : Made) (p : ℕ) (k :
   by_row c Disconnected w =
       stays q e f t u m p k Closed e.confirmed e.owed e.asks k.mine.confirmed (λ v. cc) (λ v. cc) k.mine.unmade (λ v. absurd (no_peer e.side v)) (same_settled q e f t u m p k Closed (bit_most e.phase) (free c) c)
 
+  -- by a row, or by none
   by_rows : (r : Option TakeRow) → take_row q e m.pdu ≡ r → Held (effect_by q r e m.pdu) (suc p) f.made
   by_rows None h = ignored q e f t u m p k
   by_rows (Some row) h = by_row (not_closed q e m.pdu row h) row (row_known q e m.pdu row h)

@@ -41,6 +41,8 @@ Met (First o) os = (rest : List Owed) × (os ≡ o ∷ rest)
 Met Nothing os = os ≡ []
 Met Anything os = Unit {0}
 
+-- ---- each row in turn
+
 same_is : (q o : Owed) → same_owed q o ≡ true → q ≡ o
 same_is OweConnectionResponse OweConnectionResponse h = refl
 same_is OweFirstHeartbeat OweFirstHeartbeat h = refl
@@ -96,6 +98,8 @@ making s ph reason Fresh Data os e f = let m = met Offers (is_connected ph) os e
 making s ph reason Bye DisconnectionRequest os e f = let m = met Leaves (is_active ph && not (reason == 4)) os e f in (Leaves, ap (λ b. row_where b Leaves) m.0, bye (both _ _ m.0).0)
 making s ph reason Expired DisconnectionRequest os e f = let m = met TimesOut (is_active ph && (reason == 4)) os e f in (TimesOut, ap (λ b. row_where b TimesOut) m.0, expired (both _ _ m.0).0)
 making s ph reason _ _ os e f = absurd (cc)
+
+-- ---- the row of a make
 
 -- the row by which an end makes a PDU
 pub record MadeBy (e : EndState) (x : SafetyPdu) (why : Why) : Type 0 where

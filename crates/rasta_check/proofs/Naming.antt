@@ -15,6 +15,7 @@ pub record SnIs (ms : List Made) (i sn : ℕ) : Type 0 where
   pub there : slice_get ms i ≡ Some m
   pub same : m.pdu.sn ≡ sn
 
+-- modulo 2^32 an SN is the first one and its position
 sn_mod : (ms : List Made) (i sn : ℕ) → Numbered ms → SnIs ms i sn → sn % 2 ^ 32 ≡ (first_sn ms + i) % 2 ^ 32
 sn_mod [] i sn h s = absurd (let e = s.there in cc)
 sn_mod (m ∷ ms) zero sn h s =
@@ -27,11 +28,13 @@ sn_mod (m ∷ ms) (suc i) sn h s =
     let b = s.same in
     omega arith
 
+-- an SN behind that of position i names the position that is so far behind it
 pub position_is : (ms : List Made) (i p u v : ℕ) → Numbered ms → length ms ≤ 1000001 → SnIs ms p u → SnIs ms i v → i < p → i + suc (ahead_by u (v + 1)) ≡ p
 position_is ms i p u v h b x y l =
     let w : p < length ms = slice_get_within ms p x.m x.there in
     apart u v (first_sn ms) i p (sn_mod ms p u h x) (sn_mod ms i v h y) l (omega arith)
 
+-- a valid SN of a position lies as far behind the confirmed one as the position does
 valid_at : (ms : List Made) (c j u : ℕ) → Numbered ms → length ms ≤ 1000001 → c ≤ length ms → SnIs ms j u
     → nat_lt (ahead_by u (sn_at ms c)) (ahead_by (sn_at ms (length ms)) (sn_at ms c)) ≡ true → c + ahead_by u (sn_at ms c) ≡ j
 valid_at [] c j u h b l s v = absurd (let e = s.there in cc)

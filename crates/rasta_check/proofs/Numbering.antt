@@ -10,6 +10,7 @@ use Rattle.rasta_check.proofs.Lists.{get_push_cases}
 abbrev pub Numbered : List Made → Type 0
 Numbered ms = (i : ℕ) (m : Made) → slice_get ms (suc i) ≡ Some m → m.pdu.sn ≡ sn_at ms (suc i)
 
+-- a make goes on with the next SN
 pub numbered_push : (ms : List Made) (m : Made) → Numbered ms → is_next_sn ms m.pdu.sn ≡ true → Numbered (ms ++ m ∷ [])
 numbered_push [] m h t i n e = absurd (cc)
 numbered_push (x ∷ ms) m h t i n e =

@@ -45,6 +45,8 @@ unfolding Each
 first_has P [] each row e = absurd (cc)
 first_has P (t ∷ ts) each row e = first_by P t.0 t.1 ts each.0 (first_has P ts each.1) row e
 
+-- ---- what each test says
+
 both : (a b : Bool) → (a && b) ≡ true → (a ≡ true) × (b ≡ true)
 both true b e = (refl, e)
 both false b e = absurd (cc)
@@ -105,7 +107,6 @@ disconnection_is : (k : Kind) → is_disconnection_request k ≡ true → k ≡ 
 disconnection_is DisconnectionRequest e = refl
 disconnection_is _ e = absurd (cc)
 
--- the four tests of most rows
 four : (a b c d : Bool) → (a && (b && (c && d))) ≡ true → (a ≡ true) × (b ≡ true) × (c ≡ true) × (d ≡ true)
 four true true true true e = (refl, refl, refl, refl)
 four _ _ _ _ e = absurd (cc)
@@ -117,6 +118,8 @@ three _ _ _ e = absurd (cc)
 five : (a b c d f : Bool) → (a && (b && (c && (d && f)))) ≡ true → (a ≡ true) × (b ≡ true) × (c ≡ true) × (d ≡ true) × (f ≡ true)
 five true true true true true e = (refl, refl, refl, refl, refl)
 five _ _ _ _ _ e = absurd (cc)
+
+-- ---- each row in turn
 
 module _ (s : Side) (ph : Phase) (k : Kind) (n a v : Bool) where
   opened : (is_down ph && is_connection_request k) ≡ true → Premise Opened s ph k n a v
@@ -175,6 +178,7 @@ pub closed_row : (s : Side) (ph : Phase) (k : Kind) (n a v : Bool) → is_closed
 closed_row s Closed k n a v h = refl
 closed_row s _ k n a v h = absurd (cc)
 
+-- an end that takes by a row isn't closed
 away_by : (p : Parameters) (e : EndState) (x : SafetyPdu) (row : TakeRow) → take_row p e x ≡ Some row → (b : Bool) → is_closed e.phase ≡ b → b ≡ false
 away_by p e x row h false c = refl
 away_by p e x row h true c = absurd (let none : take_row p e x ≡ None = closed_row e.side e.phase x.kind (is_in e x) (is_ahead p e x) (is_valid e x) c in cc)

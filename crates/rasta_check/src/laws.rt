@@ -20,3 +20,9 @@ pub fn units_counted()
 pub fn confirmed_accepted()
     ensures { Laws.Confirmed }
 {}
+
+/// An end hands up the units of its peer, each once and in order, as many as its peer conveyed through
+/// the position that it accepted last.
+pub fn handed_in_order()
+    ensures { Laws.Handed }
+{}

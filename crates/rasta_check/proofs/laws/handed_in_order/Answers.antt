@@ -1,0 +1,8 @@
+use Rattle.rasta_check.proofs.Handed.{hands_up}
+use Rattle.rasta_check.proofs.HeldRuns.{all_held}
+use Rattle.rasta_check.proofs.laws.handed_in_order.Goals as goal
+
+pub returns : goal.returns
+returns c p ws w r b =
+    let g = all_held p ws w r b in
+    (hands_up w.client.state w.server.state g.up, hands_up w.server.state w.client.state g.their_up)
