@@ -25,6 +25,7 @@ pub mod Valued
 pub mod ValuedMake
 pub mod ValuedTake
 pub mod Asking
+pub mod Necessary
 pub mod Runs
 pub mod HeldRuns
 pub mod Handed

@@ -28,6 +28,7 @@ use Rattle.rasta_check.proofs.HeldMake.{Changed, changed, over, opened, goes_on,
 use Rattle.rasta_check.proofs.HeldTake.{fresh_named}
 use Rattle.rasta_check.proofs.Values.{values, values_push, length-values}
 use Rattle.rasta_check.proofs.Valued.{Valued}
+use Rattle.rasta_check.proofs.Asking.{OnceIn}
 use Rattle.rasta_check.proofs.Handed.{Handed, worth_at}
 
 -- e: the end whose PDUs show units; f: its peer, which offers them
@@ -39,10 +40,6 @@ pub record Shown (e f : EndState) : Type 0 where
   -- the peer is connected, or has offered a unit, only where this end has accepted something
   pub ready_run : is_connected f.phase ≡ true → 0 < e.accepted
   pub ready_offer : 0 < f.offered → 0 < e.accepted
-
--- no two positions have one SN
-abbrev pub SnsDiffer : List Made → Type 0
-SnsDiffer made = (i j : ℕ) (a b : Made) → slice_get made i ≡ Some a → slice_get made j ≡ Some b → a.pdu.sn ≡ b.pdu.sn → i ≡ j
 
 -- The end makes.
 
@@ -72,7 +69,7 @@ first_word s ph why k os row (fresh r) c named = absurd (named refl)
 first_word s ph why k os row (bye r) c named = absurd (cc)
 first_word s ph why k os row (expired r) c named = absurd (cc)
 
-module _ (p : Parameters) (e f : EndState) (x : SafetyPdu) (clock : ℕ) (why : Why) (t : ℕ) (pass : Passed p e x clock why) (h : Held e t f.made) (fnum : SnsDiffer f.made) (vf : Valued f) (hd : Handed e f) (w : Shown e f) (b : MadeBy e x why) where
+module _ (p : Parameters) (e f : EndState) (x : SafetyPdu) (clock : ℕ) (why : Why) (t : ℕ) (pass : Passed p e x clock why) (h : Held e t f.made) (fnum : OnceIn f.made) (vf : Valued f) (hd : Handed e f) (w : Shown e f) (b : MadeBy e x why) where
   abbrev new : Made
   new = new_made b.row e x
 
@@ -131,7 +128,7 @@ module _ (p : Parameters) (e f : EndState) (x : SafetyPdu) (clock : ℕ) (why : 
         ready_offer = w.ready_offer;
       }
 
-pub shown_make : (p : Parameters) (e f : EndState) (x : SafetyPdu) (clock : ℕ) (why : Why) (t : ℕ) → Passed p e x clock why → Held e t f.made → SnsDiffer f.made → Valued f → Handed e f → Shown e f → Shown (after_make e x clock why) f
+pub shown_make : (p : Parameters) (e f : EndState) (x : SafetyPdu) (clock : ℕ) (why : Why) (t : ℕ) → Passed p e x clock why → Held e t f.made → OnceIn f.made → Valued f → Handed e f → Shown e f → Shown (after_make e x clock why) f
 shown_make p e f x clock why t pass h fnum vf hd w =
     let b = made_by p e x clock why pass in
     subst (λ (e' : EndState). Shown e' f) (after_row e x clock why b) (shown_row p e f x clock why t pass h fnum vf hd w b)
@@ -151,7 +148,7 @@ offers_by s ph why k os row n (bye r) l = inl l
 offers_by s ph why k os row n (expired r) l = inl l
 
 module _ (e f : EndState) (x : SafetyPdu) (clock : ℕ) (why : Why) (b : MadeBy f x why) (vf' : Valued (after_make_by (Some b.row) f x clock))
-    (fnum' : SnsDiffer (f.made ++ new_made b.row f x ∷ [])) (w : Shown e f) where
+    (fnum' : OnceIn (f.made ++ new_made b.row f x ∷ [])) (w : Shown e f) where
   abbrev after : EndState
   after = after_make_by (Some b.row) f x clock
 
@@ -211,11 +208,11 @@ module _ (e f : EndState) (x : SafetyPdu) (clock : ℕ) (why : Why) (b : MadeBy 
       }
 
 pub shown_peer_make : (p : Parameters) (e f : EndState) (x : SafetyPdu) (clock : ℕ) (why : Why) → Passed p f x clock why
-    → Valued (after_make f x clock why) → SnsDiffer (after_make f x clock why).made → Shown e f → Shown e (after_make f x clock why)
+    → Valued (after_make f x clock why) → OnceIn (after_make f x clock why).made → Shown e f → Shown e (after_make f x clock why)
 shown_peer_make p e f x clock why pass vf' fnum' w =
     let b = made_by p f x clock why pass in
     let is = after_row f x clock why b in
-    subst (λ (f' : EndState). Shown e f') is (shown_peer_row e f x clock why b (subst Valued (sym is) vf') (subst (λ (f' : EndState). SnsDiffer f'.made) (sym is) fnum') w)
+    subst (λ (f' : EndState). Shown e f') is (shown_peer_row e f x clock why b (subst Valued (sym is) vf') (subst (λ (f' : EndState). OnceIn f'.made) (sym is) fnum') w)
 
 -- The end itself takes.
 

@@ -26,14 +26,17 @@ Due u v n (OweRetransmissionRequest ∷ os) = DueRest v n os
 Due u v n (OweResend k ∷ os) = DueRest v n (OweResend k ∷ os)
 
 pub record Valued (e : EndState) : Type 0 where
+  -- what is owed leads from the units conveyed to those offered
   pub due : has_ended e ≡ false → Due (jump e) (last_of (values e)) e.offered e.owed
   pub bounded : (p v : ℕ) → slice_get (values e) p ≡ Some v → v ≤ e.offered
+  -- a position that carries unit k conveys k + 1, and the one in front of it k; a plain one conveys no more than that; a response goes back to its ask
   pub units : (p : ℕ) (n : Made) → slice_get e.made p ≡ Some n → carries_unit n.pdu.kind ≡ true
       → (q : ℕ) × (k : ℕ) × (p ≡ suc q) × (n.unit ≡ Some k) × (slice_get (values e) q ≡ Some k) × (slice_get (values e) p ≡ Some (suc k))
   pub others : (q : ℕ) (n : Made) → slice_get e.made (suc q) ≡ Some n → is_plain n.pdu.kind ≡ true → slice_get (values e) (suc q) ≡ slice_get (values e) q
   pub jumps : (p : ℕ) (n : Made) (c : ℕ) → slice_get e.made p ≡ Some n → is_retransmission_response n.pdu.kind ≡ true
       → slice_get e.asks (number is_retransmission_response (take p e.made)) ≡ Some c → (c < p) × (slice_get (values e) p ≡ slice_get (values e) c)
   pub zeroth : (v : ℕ) → slice_get (values e) 0 ≡ Some v → v ≡ 0
+  -- asks are own positions
   pub asks_within : (i c : ℕ) → slice_get e.asks i ≡ Some c → c < length e.made
   pub grown : is_connected e.phase ≡ true → (m : Made) × (ms : List Made) × (e.made ≡ m ∷ ms)
   -- the k-th data PDU carries unit k, and whatever carries unit k has its content
