@@ -3,18 +3,20 @@ use Rattle.std.proofs.Common.{◌≡◌, ℕ, ◌+◌, ◌≤◌, List, length, 
 use Rattle.rasta_pcap.specs.declared.fault.Side.{Side}
 use Rattle.rasta_pcap.specs.declared.fault.Side.TheVariants.{Client, Server}
 use Rattle.rasta_pdu.specs.Params.{Parameters}
+use Rattle.rasta_pdu.specs.Pdu.{SafetyPdu}
 use Rattle.rasta_end.specs.State.{EndState}
 use Rattle.rasta_end.specs.Starts.{start_of}
 use Rattle.rasta_check.specs.Crossing.{FirstCopy}
 use Rattle.rasta_check.specs.World.{World, Reaches, IsWithin}
+use Rattle.rasta_check.specs.Laws.{NamesOne}
 use Rattle.rasta_check.specs.Taken.{pdus_made, pdus_of, all_made, units_along}
 use Rattle.rasta_check.proofs.Copies.{IsSent}
 use Rattle.rasta_check.proofs.Steps.{base, base_small, start_base}
 use Rattle.rasta_check.proofs.Numbering.{numbered_once}
 use Rattle.rasta_check.proofs.Values.{values}
 use Rattle.rasta_check.proofs.HeldRuns.{All, all_held, few_made}
-use Rattle.rasta_check.proofs.Asking.{in_order}
-use Rattle.rasta_check.proofs.Showing.{along_sent}
+use Rattle.rasta_check.proofs.Necessary.{values_agree}
+use Rattle.rasta_check.proofs.Showing.{quiet_asks}
 use Rattle.rasta_check.proofs.Telling.{Sends, sends_count, told_of}
 
 -- of the last world of a run whose sent lists are c and s
@@ -25,6 +27,8 @@ pub record Known (p : Parameters) (w : World) (c s : List FirstCopy) : Type 0 wh
   pub few_theirs : length w.server.state.made ≤ 1000001
   pub sends : Sends p Client w.crossed c w.client.state w.client.first_number
   pub their_sends : Sends p Server w.crossed s w.server.state w.server.first_number
+  pub once : NamesOne w.client.state w.server.state
+  pub their_once : NamesOne w.server.state w.client.state
   pub along : units_along (all_made p Client c) (pdus_of s) ≡ values w.client.state
   pub their_along : units_along (all_made p Server s) (pdus_of c) ≡ values w.server.state
 
@@ -42,8 +46,8 @@ known p ws w c s r hc hs lc ls =
     } in
     let few = few_made p w within in
     let all = all_held p ws w r within in
-    let order = in_order w.client.state w.server.state w.client.taken w.server.taken all.mine all.theirs all.values (numbered_once w.client.state.made few.0 all.mine.numbered) in
-    let their_order = in_order w.server.state w.client.state w.server.taken w.client.taken all.theirs all.mine all.their_values (numbered_once w.server.state.made few.1 all.theirs.numbered) in
+    let once = numbered_once w.client.state.made few.0 all.mine.numbered in
+    let their_once = numbered_once w.server.state.made few.1 all.theirs.numbered in
     record {
       within = within;
       all = all;
@@ -51,6 +55,10 @@ known p ws w c s r hc hs lc ls =
       few_theirs = few.1;
       sends = mine;
       their_sends = theirs;
-      along = along_sent p Server w.client.state w.server.state s (all_made p Client c) order all.mine.asked theirs.same mine.same;
-      their_along = along_sent p Client w.server.state w.client.state c (all_made p Server s) their_order all.theirs.asked mine.same theirs.same;
+      once = once;
+      their_once = their_once;
+      along = ap (λ (ms : List SafetyPdu). units_along ms (pdus_of s)) (sym mine.same)
+          ∙ values_agree w.client.state w.server.state w.client.taken w.server.taken all.mine all.theirs all.values once (pdus_made (start_of p Server).made) (pdus_of s) theirs.same (quiet_asks p.quiet Server _);
+      their_along = ap (λ (ms : List SafetyPdu). units_along ms (pdus_of c)) (sym theirs.same)
+          ∙ values_agree w.server.state w.client.state w.server.taken w.client.taken all.theirs all.mine all.their_values their_once (pdus_made (start_of p Client).made) (pdus_of c) mine.same (quiet_asks p.quiet Client _);
     }

@@ -29,7 +29,6 @@ pub mod Necessary
 pub mod Runs
 pub mod HeldRuns
 pub mod Handed
-pub mod Carrying
 pub mod Shown
 pub mod Showing
 pub mod History
