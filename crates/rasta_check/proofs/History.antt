@@ -95,7 +95,7 @@ pub record Stepped (v w : World) : Type 0 where
   pub client_most : length w.client.state.made ≤ suc (length v.client.state.made)
   pub server_most : length w.server.state.made ≤ suc (length v.server.state.made)
 
-stepped : (p : Parameters) (v w : World) → Step p v w → Stepped v w
+pub stepped : (p : Parameters) (v w : World) → Step p v w → Stepped v w
 stepped p v w (client_moves {a = a} {after = ys} m) =
     let c = crossed_by p v.server v.client a v.crossed ys m in
     record { less = c.0; more = c.1; client = c.2; server = λ h. record { positions = refl; pdus = refl }; client_made = (made_longer p v.server v.client a v.crossed ys m).0; server_made = omega arith; client_most = (made_longer p v.server v.client a v.crossed ys m).1; server_most = omega arith }
@@ -161,7 +161,7 @@ history p valid ws w (goes_on {ws = us} {w = u} r st) b = step (history p valid 
             (get_push_cases (us ++ u ∷ []) w i v x))
 
 -- two worlds one behind the other in a run are joined by a step
-joined : (p : Parameters) (ws : List World) (w : World) → Reaches p ws w → (i : ℕ) (u v : World) → slice_get (ws ++ w ∷ []) i ≡ Some u → slice_get (ws ++ w ∷ []) (suc i) ≡ Some v → Step p u v
+pub joined : (p : Parameters) (ws : List World) (w : World) → Reaches p ws w → (i : ℕ) (u v : World) → slice_get (ws ++ w ∷ []) i ≡ Some u → slice_get (ws ++ w ∷ []) (suc i) ≡ Some v → Step p u v
 joined p ws w (begins m n) i u v g h = absurd (cc)
 joined p ws w (goes_on {ws = us} {w = z} r st) i u v g h = ⊎_elim
     (λ (old : slice_get (us ++ z ∷ []) (suc i) ≡ Some v). (let l = slice_get_within (us ++ z ∷ []) (suc i) v old in

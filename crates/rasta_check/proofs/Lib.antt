@@ -33,3 +33,4 @@ pub mod Shown
 pub mod Showing
 pub mod History
 pub mod Known
+pub mod Placed

@@ -14,7 +14,7 @@ use Rattle.rasta_end.specs.State.{Made, EndState}
 use Rattle.rasta_end.specs.MakeRule.{is_data}
 use Rattle.rasta_end.specs.Starts.{start_of}
 use Rattle.rasta_check.specs.Crossing.{CrossRecorded, FirstCopy, Sent, packet_fault}
-use Rattle.rasta_check.specs.World.{Station, World, Reaches, most_sent}
+use Rattle.rasta_check.specs.World.{Station, World, Reaches, most_sent, IsWithin}
 use Rattle.rasta_check.specs.Taken.{pdus_made, all_made, TakenUnit, surely_taken}
 use Rattle.rasta_check.specs.Scripts.{Cursor, Advances, Leads, at_start, Fits}
 use Rattle.rasta_check.specs.Laws.{HandsUp}
@@ -57,8 +57,7 @@ pub record IsMade (p : Parameters) (ws : List World) (w : World) (side : Side) (
 -- of the worlds; and packets have one such list
 abbrev pub SentLists : Parameters → Type 0
 SentLists p =
-    ((ws : List World) (w : World) (side : Side) → Reaches p ws w → length (end_of w side).made ≤ (start_of p side).base + most_sent
-    → (sent : List FirstCopy) × IsMade p ws w side sent)
+    ((ws : List World) (w : World) (side : Side) → Reaches p ws w → IsWithin p w → (sent : List FirstCopy) × IsMade p ws w side sent)
     × ((ws : List World) (w : World) (place : ℕ) → Reaches p ws w → place < length w.crossed → (v next : World) × Appends ws w place v next)
     × ((packets : List Packet) (side : Side) (sent others : List FirstCopy) → Sent p packets side sent → Sent p packets side others → length sent < 2 ^ 32 → sent ≡ others)
 

@@ -1,7 +1,7 @@
 //! Laws on every run of two ends: public functions without a body, whose contracts are the laws.
 ghost use Rattle.rasta_pdu.specs.Params.{Parameters};
 ghost use Rattle.rasta_check.specs.Laws;
-ghost use Rattle.rasta_check.specs.Theorem.{OfConnection, Definite, Simulation, Completeness, Stuck};
+ghost use Rattle.rasta_check.specs.Theorem.{OfConnection, SentLists, Definite, Simulation, Completeness, Stuck};
 
 /// The SN of a PDU names one position of its end.
 pub fn sn_once()
@@ -27,6 +27,11 @@ pub fn confirmed()
 /// the position that it accepted last.
 pub fn handed()
     ensures { Laws.Handed }
+{}
+
+/// The sent lists of a run are what its ends made, at the places where it first crossed.
+pub fn sent_lists()
+    ensures { (p : Parameters) → OfConnection p → SentLists p }
 {}
 
 /// No packet of a run has a fault: where a captured one has, no run sends the packets up to it.
