@@ -108,7 +108,7 @@ asked_at own (x ∷ ms) all (suc p) m c e r h =
     more_asked own (is_retransmission_request x.pdu.kind) x.pdu (filter (λ (y : SafetyPdu). is_retransmission_request y.kind) (pdus_made ms)) (number is_retransmission_request (take p ms)) c
     (all 0 x refl) (asked_at own ms (λ q n g. all (suc q) n g) p m c e r h)
 
-begins_with : (xs ys : List ℕ) → ((k a : ℕ) → slice_get xs k ≡ Some a → slice_get ys k ≡ Some a) → (rest : List ℕ) × (ys ≡ xs ++ rest)
+pub begins_with : {A : Type 0} (xs ys : List A) → ((k : ℕ) (a : A) → slice_get xs k ≡ Some a → slice_get ys k ≡ Some a) → (rest : List A) × (ys ≡ xs ++ rest)
 begins_with [] ys h = (ys, refl)
 begins_with (x ∷ xs) [] h = absurd (let z = h 0 x refl in cc)
 begins_with (x ∷ xs) (y ∷ ys) h =

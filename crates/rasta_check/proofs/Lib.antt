@@ -34,3 +34,5 @@ pub mod Showing
 pub mod History
 pub mod Known
 pub mod Placed
+pub mod InTime
+pub mod Listing
