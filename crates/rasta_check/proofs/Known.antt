@@ -9,13 +9,13 @@ use Rattle.rasta_end.specs.Starts.{start_of}
 use Rattle.rasta_check.specs.Crossing.{FirstCopy}
 use Rattle.rasta_check.specs.World.{World, Reaches, IsWithin}
 use Rattle.rasta_check.specs.Laws.{NamesOne}
-use Rattle.rasta_check.specs.Taken.{pdus_made, pdus_of, all_made, units_along}
+use Rattle.rasta_check.specs.Taken.{pdus_made, pdus_of, all_made, units_along, units_taken}
 use Rattle.rasta_check.proofs.Copies.{IsSent}
 use Rattle.rasta_check.proofs.Steps.{base, base_small, start_base}
 use Rattle.rasta_check.proofs.Numbering.{numbered_once}
 use Rattle.rasta_check.proofs.Values.{values}
 use Rattle.rasta_check.proofs.HeldRuns.{All, all_held, few_made}
-use Rattle.rasta_check.proofs.Necessary.{values_agree}
+use Rattle.rasta_check.proofs.Necessary.{values_agree, necessary}
 use Rattle.rasta_check.proofs.Showing.{quiet_asks}
 use Rattle.rasta_check.proofs.Telling.{Sends, sends_count, told_of}
 
@@ -31,6 +31,8 @@ pub record Known (p : Parameters) (w : World) (c s : List FirstCopy) : Type 0 wh
   pub their_once : NamesOne w.server.state w.client.state
   pub along : units_along (all_made p Client c) (pdus_of s) ≡ values w.client.state
   pub their_along : units_along (all_made p Server s) (pdus_of c) ≡ values w.server.state
+  pub taken : units_taken (all_made p Client c) (pdus_of s) ≤ length w.server.state.handed
+  pub their_taken : units_taken (all_made p Server s) (pdus_of c) ≤ length w.client.state.handed
 
 within_by : (p : Parameters) (s : Side) (n made : ℕ) → made ≡ base p + n → n ≤ 1000000 → made ≤ (start_of p s).base + 1000000
 within_by p s n made e l = (let b = start_base p.quiet s in omega arith)
@@ -61,4 +63,8 @@ known p ws w c s r hc hs lc ls =
           ∙ values_agree w.client.state w.server.state w.client.taken w.server.taken all.mine all.theirs all.values once (pdus_made (start_of p Server).made) (pdus_of s) theirs.same (quiet_asks p.quiet Server _);
       their_along = ap (λ (ms : List SafetyPdu). units_along ms (pdus_of c)) (sym theirs.same)
           ∙ values_agree w.server.state w.client.state w.server.taken w.client.taken all.theirs all.mine all.their_values their_once (pdus_made (start_of p Client).made) (pdus_of c) mine.same (quiet_asks p.quiet Client _);
+      taken = subst (λ (ms : List SafetyPdu). units_taken ms (pdus_of s) ≤ length w.server.state.handed) mine.same
+          (necessary w.client.state w.server.state w.client.taken w.server.taken all.mine all.theirs all.values once (pdus_made (start_of p Server).made) (pdus_of s) theirs.same (quiet_asks p.quiet Server _) all.their_shows);
+      their_taken = subst (λ (ms : List SafetyPdu). units_taken ms (pdus_of c) ≤ length w.client.state.handed) theirs.same
+          (necessary w.server.state w.client.state w.server.taken w.client.taken all.theirs all.mine all.their_values their_once (pdus_made (start_of p Client).made) (pdus_of c) mine.same (quiet_asks p.quiet Client _) all.shows);
     }

@@ -36,3 +36,4 @@ pub mod Known
 pub mod Placed
 pub mod InTime
 pub mod Listing
+pub mod Necessity

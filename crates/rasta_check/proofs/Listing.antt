@@ -194,6 +194,19 @@ data_later ms ns h i m g =
 pub data_grown : (e f g : EndState) → ((i : ℕ) (m : Made) → slice_get f.made i ≡ Some m → slice_get g.made i ≡ Some m) → HandsUpData e f → HandsUpData e g
 data_grown e f g grown h = record { same_count = h.same_count; messages = λ i x a. (let r = h.messages i x a in (r.0, data_later f.made g.made grown i r.0 r.1, r.2)) }
 
+-- no more was handed up than there are data PDUs
+pub few_handed : (e f : EndState) → HandsUpData e f → length e.handed ≤ length (data_made f.made)
+few_handed e f h = by (length e.handed) refl
+  where
+    by : (n : ℕ) → length e.handed ≡ n → n ≤ length (data_made f.made)
+    by zero l = omega arith
+    by (suc n) l =
+        let c = h.same_count in
+        let x = slice_get_some e.handed_pdus n (omega (arith, c, l)) in
+        let r = h.messages n x.0 x.1 in
+        let z = slice_get_within (data_made f.made) n r.0 r.1 in
+        omega arith
+
 -- e takes the units of f; `own` is what f sent
 module _ (p : Parameters) (s : Side) (e f : EndState) (own peer : List FirstCopy) (told : pdus_made f.made ≡ all_made p s own) (h : HandsUpData e f) where
 
@@ -226,20 +239,21 @@ module _ (p : Parameters) (s : Side) (e f : EndState) (own peer : List FirstCopy
           let y = b.0 in
           unit_handed i u.0 (omega (arith, l, y)) u.1 ∙ ap Some u.2))
 
-  -- where there are as many data PDUs as units handed up, each unit taken is listed
-  pub all_listed : units_taken (all_made p s own) (pdus_of peer) ≤ length e.handed → length e.handed ≤ length (data_made f.made) → length (surely_taken p s own peer) ≡ units_taken (all_made p s own) (pdus_of peer)
-  all_listed l m =
+  -- each unit that was taken is listed
+  pub all_listed : units_taken (all_made p s own) (pdus_of peer) ≤ length e.handed → length (surely_taken p s own peer) ≡ units_taken (all_made p s own) (pdus_of peer)
+  all_listed l =
+      let m = few_handed e f h in
       let a = ap length (same_data p s f own told) in
       let b = length_made (data_made f.made) in
       let c = length_pdus (data_copies own) in
       length-units_from (all_made p s own) peer 0 _ ∙ length_take (data_copies own) _ (omega (arith, l, m, a, b, c))
 
   -- where no more was handed up than is listed, it is what is listed
-  pub exactly_listed : units_taken (all_made p s own) (pdus_of peer) ≤ length e.handed → length e.handed ≤ units_taken (all_made p s own) (pdus_of peer) → length e.handed ≤ length (data_made f.made)
+  pub exactly_listed : units_taken (all_made p s own) (pdus_of peer) ≤ length e.handed → length e.handed ≤ units_taken (all_made p s own) (pdus_of peer)
       → messages_handed e ≡ messages_listed (surely_taken p s own peer)
-  exactly_listed l m n =
+  exactly_listed l m =
       let r = listed_first l in
-      let a = all_listed l n in
+      let a = all_listed l in
       let b = length_listed (surely_taken p s own peer) in
       let c = length_handed e.handed_pdus in
       let few = h.same_count in

@@ -1,7 +1,7 @@
 //! Laws on every run of two ends: public functions without a body, whose contracts are the laws.
 ghost use Rattle.rasta_pdu.specs.Params.{Parameters};
 ghost use Rattle.rasta_check.specs.Laws;
-ghost use Rattle.rasta_check.specs.Theorem.{OfConnection, SentLists, Definite, Simulation, Completeness, Stuck};
+ghost use Rattle.rasta_check.specs.Theorem.{OfConnection, SentLists, Definite, Simulation, Necessity, Completeness, Stuck};
 
 /// The SN of a PDU names one position of its end.
 pub fn sn_once()
@@ -42,6 +42,12 @@ pub fn definite()
 /// Two scripts that fit, each without the other, give one run that sends exactly the packets.
 pub fn simulation()
     ensures { (p : Parameters) → OfConnection p → Simulation p }
+{}
+
+/// In every run that sends the packets, the far end handed up what is listed as taken, once each and in
+/// order, and each message before its proof crossed.
+pub fn necessity()
+    ensures { (p : Parameters) → OfConnection p → Necessity p }
 {}
 
 /// Every run within the limits is told by two scripts that fit.

@@ -1,0 +1,53 @@
+-- In every run that sends two lists, what they show to be taken was handed up, and in time.
+use Rattle.std.proofs.Common.{◌≡◌, ℕ, ◌+◌, ◌<◌, ◌≤◌, List, [], ◌∷◌, ◌++◌, Some, length, slice_get, ◌∙◌, arith, subst}
+use Rattle.rasta_pcap.specs.declared.fault.Side.TheVariants.{Client, Server}
+use Rattle.rasta_pdu.specs.Params.{Parameters}
+use Rattle.rasta_check.specs.Crossing.{FirstCopy}
+use Rattle.rasta_check.specs.World.{World, Reaches}
+use Rattle.rasta_check.specs.Taken.{pdus_of, all_made, TakenUnit, surely_taken}
+use Rattle.rasta_check.specs.Theorem.{Appends, HandsUpUnits, HasHandedUp, messages_handed, messages_listed}
+use Rattle.rasta_check.proofs.Copies.{IsSent}
+use Rattle.rasta_check.proofs.Handed.{hands_up_units}
+use Rattle.rasta_check.proofs.Known.{Known, known}
+use Rattle.rasta_check.proofs.InTime.{earlier, timed}
+use Rattle.rasta_check.proofs.Listing.{proof_of, HandsUpData, of_units, data_grown, unit_handed, listed_below, listed_first}
+
+module _ (p : Parameters) (ws : List World) (w : World) (c s : List FirstCopy) (r : Reaches p ws w) (hc : IsSent p w.crossed Client c) (hs : IsSent p w.crossed Server s)
+    (lc : length c ≤ 1000000) (ls : length s ≤ 1000000) where
+
+  kn : Known p w c s
+  kn = known p ws w c s r hc hs lc ls
+
+  -- what the server took
+  pub server_hands_up : HandsUpUnits w.server.state w.client.state
+  server_hands_up = hands_up_units w.server.state w.client.state kn.all.values kn.all.their_up
+
+  pub server_first : (rest : List (List (List ℕ))) × (messages_handed w.server.state ≡ messages_listed (surely_taken p Client c s) ++ rest)
+  server_first = listed_first p Client w.server.state w.client.state c s kn.sends.same (of_units w.server.state w.client.state server_hands_up) kn.taken
+
+  pub server_in_time : (i : ℕ) (u : TakenUnit) (v next : World) → slice_get (surely_taken p Client c s) i ≡ Some u → Appends ws w u.proof_place v next → HasHandedUp v.server.state i u.messages
+  server_in_time i u v next g a =
+      let below = listed_below p Client w.server.state w.client.state c s kn.sends.same (of_units w.server.state w.client.state server_hands_up) i u g in
+      let shown = proof_of (all_made p Client c) s i below.0 in
+      let t = (timed p ws w c s r hc hs lc ls shown.j shown.d v next (subst (λ k. Appends ws w k v next) (below.1 ∙ shown.place) a)).0 shown.there in
+      let more = shown.more in
+      let before = earlier p ws w c s r hc hs lc ls a.i v a.here in
+      let h : HandsUpData v.server.state w.client.state = data_grown v.server.state v.client.state w.client.state before.client.made (of_units v.server.state v.client.state (hands_up_units v.server.state v.client.state before.all.values before.all.their_up)) in
+      unit_handed p Client v.server.state w.client.state c s kn.sends.same h i u (omega arith) g
+
+  -- what the client took
+  pub client_hands_up : HandsUpUnits w.client.state w.server.state
+  client_hands_up = hands_up_units w.client.state w.server.state kn.all.their_values kn.all.up
+
+  pub client_first : (rest : List (List (List ℕ))) × (messages_handed w.client.state ≡ messages_listed (surely_taken p Server s c) ++ rest)
+  client_first = listed_first p Server w.client.state w.server.state s c kn.their_sends.same (of_units w.client.state w.server.state client_hands_up) kn.their_taken
+
+  pub client_in_time : (i : ℕ) (u : TakenUnit) (v next : World) → slice_get (surely_taken p Server s c) i ≡ Some u → Appends ws w u.proof_place v next → HasHandedUp v.client.state i u.messages
+  client_in_time i u v next g a =
+      let below = listed_below p Server w.client.state w.server.state s c kn.their_sends.same (of_units w.client.state w.server.state client_hands_up) i u g in
+      let shown = proof_of (all_made p Server s) c i below.0 in
+      let t = (timed p ws w c s r hc hs lc ls shown.j shown.d v next (subst (λ k. Appends ws w k v next) (below.1 ∙ shown.place) a)).1 shown.there in
+      let more = shown.more in
+      let before = earlier p ws w c s r hc hs lc ls a.i v a.here in
+      let h : HandsUpData v.client.state w.server.state = data_grown v.client.state v.server.state w.server.state before.server.made (of_units v.client.state v.server.state (hands_up_units v.client.state v.server.state before.all.their_values before.all.up)) in
+      unit_handed p Server v.client.state w.server.state s c kn.their_sends.same h i u (omega arith) g
