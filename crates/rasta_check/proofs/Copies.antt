@@ -14,4 +14,4 @@ pub record IsSent (p : Parameters) (packets : List Packet) (side : Side) (sent :
   pub numbers : (i : ℕ) (c d : FirstCopy) → slice_get sent 0 ≡ Some c → slice_get sent i ≡ Some d → d.pdu.number ≡ wrapped (c.pdu.number + i)
   pub others : (k : ℕ) (a : Packet) → slice_get packets k ≡ Some a → a.side ≡ side
       → ((i : ℕ) × (c : FirstCopy) × (slice_get sent i ≡ Some c) × (c.place ≡ k))
-        ⊎ ((j : ℕ) × (b : Packet) × (j < k) × (slice_get packets j ≡ Some b) × (b.side ≡ side) × (b.payload ≡ a.payload))
+      ⊎ ((j : ℕ) × (b : Packet) × (j < k) × (slice_get packets j ≡ Some b) × (b.side ≡ side) × (b.payload ≡ a.payload))

@@ -79,7 +79,6 @@ is_next [] n h = refl
 is_next (c ∷ own) n h = (let z = h c refl in grind (arith, nat_tests))
 
 module _ (p : Parameters) (packets : List Packet) (side : Side) (own : List FirstCopy) (a : Packet) (h : OfConnection p) (sent : IsSent p packets side own) (few : length own < 4294967296) where
-
   repeats_first : (d : RedundancyPdu) → Spells p side d a.payload → (i j : ℕ) (c e : FirstCopy) → slice_get own i ≡ Some c → slice_get own j ≡ Some e → c.pdu.number ≡ d.number → e.pdu ≡ d → repeat_fault p side c a.payload ≡ None
   repeats_first d s i j c e g k n m =
       let at : i ≡ j = number_once p packets side own sent few i j c e g k (n ∙ sym (ap (λ (z : RedundancyPdu). z.number) m)) in
@@ -96,7 +95,7 @@ module _ (p : Parameters) (packets : List Packet) (side : Side) (own : List Firs
 
   none_known : (d : RedundancyPdu) → Spells p side d a.payload
       → ((i : ℕ) × (c : FirstCopy) × (b : Packet) × (slice_get own i ≡ Some c) × (slice_get packets c.place ≡ Some b) × (c.pdu ≡ d) × (b.payload ≡ a.payload))
-          ⊎ ((c : FirstCopy) → slice_get own 0 ≡ Some c → d.number ≡ wrapped (c.pdu.number + length own))
+      ⊎ ((c : FirstCopy) → slice_get own 0 ≡ Some c → d.number ≡ wrapped (c.pdu.number + length own))
       → (o : Option FirstCopy) → copy_with own d.number ≡ o → number_fault p side own a.payload d o ≡ None
   none_known d s (inl w) (Some c) e = (let f = copy_found own d.number c e in repeats_first d s f.0 w.0 c w.1 f.1 w.3 f.2 w.5)
   none_known d s (inr w) (Some c) e = (let f = copy_found own d.number c e in absurd (not_next d f.0 c f.1 f.2 w))
@@ -140,7 +139,7 @@ grown p packets a own sent few f =
     let same : own ≡ s.own = sent_once p packets a.side own s.own sent s.sent (omega arith) in
     let l = ap length same in
     let longer : length g.0 ≤ suc (length s.own) = ⊎_elim
-        (λ (e : g.0 ≡ s.own). (let z = ap length e in omega arith))
-        (λ (w : (c : FirstCopy) × (g.0 ≡ s.own ++ c ∷ []) × (c.place ≡ length packets)). (let z = ap length w.1 in let k = length_push s.own w.0 in omega arith))
-        s.how in
+    (λ (e : g.0 ≡ s.own). (let z = ap length e in omega arith))
+    (λ (w : (c : FirstCopy) × (g.0 ≡ s.own ++ c ∷ []) × (c.place ≡ length packets)). (let z = ap length w.1 in let k = length_push s.own w.0 in omega arith))
+    s.how in
     (g.0, of_record p (packets ++ a ∷ []) a.side g.0 g.1 (omega arith))

@@ -23,8 +23,7 @@ abbrev pub CanFollow : Parameters → List Packet → Side → List FirstCopy �
 CanFollow p packets s own a =
     (d : RedundancyPdu) × Spells p s d a.payload
     × (((i : ℕ) × (c : FirstCopy) × (b : Packet) × (slice_get own i ≡ Some c) × (slice_get packets c.place ≡ Some b) × (c.pdu ≡ d) × (b.payload ≡ a.payload))
-       ⊎ ((c : FirstCopy) → slice_get own 0 ≡ Some c → d.number ≡ wrapped (c.pdu.number + length own)))
-
+    ⊎ ((c : FirstCopy) → slice_get own 0 ≡ Some c → d.number ≡ wrapped (c.pdu.number + length own)))
 
 -- a list that is empty or has a last member
 data Snoc : List FirstCopy → Type 0 where
@@ -79,9 +78,9 @@ sent_less p xs k s front c h at =
       others = λ j a g e. (let l = slice_get_within xs j a g in
           ⊎_elim
           (λ (w : First (xs ++ k ∷ []) s (front ++ c ∷ []) j). ⊎_elim
-              (λ (o : slice_get front w.0 ≡ Some w.1). inl (w.0, w.1, o, w.3))
-              (λ (n : (w.0 ≡ length front) × (c ≡ w.1)). absurd (let q = ap (λ (z : FirstCopy). z.place) n.1 in let p = w.3 in omega arith))
-              (get_push_cases front c w.0 w.1 w.2))
+          (λ (o : slice_get front w.0 ≡ Some w.1). inl (w.0, w.1, o, w.3))
+          (λ (n : (w.0 ≡ length front) × (c ≡ w.1)). absurd (let q = ap (λ (z : FirstCopy). z.place) n.1 in let p = w.3 in omega arith))
+          (get_push_cases front c w.0 w.1 w.2))
           (λ (w : Again (xs ++ k ∷ []) s j a.payload). inr (old_again xs k s j a.payload (omega arith) w))
           (h.others j a (get_front xs (k ∷ []) j a g) e));
     }
@@ -103,7 +102,7 @@ shorter_by : (p : Parameters) (xs : List Packet) (k : Packet) (s : Side) (big : 
 shorter_by p xs k s big none h = record { own = []; sent = sent_kept p xs k s [] h (λ i c g. absurd (cc)); how = inl refl }
 shorter_by p xs k s big (last front c) h =
     elim (dec_lt c.place (length xs)) [
-      yes l ↦ record { own = front ++ c ∷ []; sent = sent_kept p xs k s (front ++ c ∷ []) h (λ i d g. below i d g l); how = inl refl }
+      | yes l ↦ record { own = front ++ c ∷ []; sent = sent_kept p xs k s (front ++ c ∷ []) h (λ i d g. below i d g l); how = inl refl }
       | no l ↦ (let w = h.firsts (length front) c (get_push front c) in let z = slice_get_within (xs ++ k ∷ []) c.place w.0 w.1 in let q = length_push xs k in let at : c.place ≡ length xs = omega arith in
           record { own = front; sent = sent_less p xs k s front c h at; how = inr (c, refl, at) })
     ]
@@ -111,10 +110,10 @@ shorter_by p xs k s big (last front c) h =
     below : (i : ℕ) (d : FirstCopy) → slice_get (front ++ c ∷ []) i ≡ Some d → c.place < length xs → d.place < length xs
     below i d g l = ⊎_elim
         (λ (o : slice_get front i ≡ Some d).
-            let m = slice_get_within front i d o in
-            let there : slice_get (front ++ c ∷ []) (suc (length front - suc i) + i) ≡ Some c = subst (λ j. slice_get (front ++ c ∷ []) j ≡ Some c) (omega arith) (get_push front c) in
-            let r = places_rise p (xs ++ k ∷ []) s (front ++ c ∷ []) h (length front - suc i) i d c g there in
-            omega arith)
+        let m = slice_get_within front i d o in
+        let there : slice_get (front ++ c ∷ []) (suc (length front - suc i) + i) ≡ Some c = subst (λ j. slice_get (front ++ c ∷ []) j ≡ Some c) (omega arith) (get_push front c) in
+        let r = places_rise p (xs ++ k ∷ []) s (front ++ c ∷ []) h (length front - suc i) i d c g there in
+        omega arith)
         (λ (n : (i ≡ length front) × (c ≡ d)). (let q = ap (λ (z : FirstCopy). z.place) n.1 in omega arith))
         (get_push_cases front c i d g)
 
@@ -140,23 +139,23 @@ sent_front p (y ∷ ys) xs s big h =
 follow_by : (p : Parameters) (xs : List Packet) (s : Side) (own : List FirstCopy) (a : Packet) (big : List FirstCopy) → IsSent p xs s own → a.side ≡ s → IsSent p (xs ++ a ∷ []) s big → (big ≡ own) ⊎ ((c : FirstCopy) × (big ≡ own ++ c ∷ []) × (c.place ≡ length xs)) → CanFollow p xs s own a
 follow_by p xs s own a big h sd g how = ⊎_elim
     (λ (e : big ≡ own). ⊎_elim
-        (λ (w : First (xs ++ a ∷ []) s big (length xs)). absurd (
-            let at : slice_get own w.0 ≡ Some w.1 = subst (λ (cs : List FirstCopy). slice_get cs w.0 ≡ Some w.1) e w.2 in
-            let f = h.firsts w.0 w.1 at in
-            let l = slice_get_within xs w.1.place f.0 f.1 in
-            let p = w.3 in
-            omega arith))
-        (λ (w0 : Again (xs ++ a ∷ []) s (length xs) a.payload).
-            let w = old_again xs a s (length xs) a.payload (omega arith) w0 in
-            let r = earliest p xs s own h (suc w.0) w.0 (omega arith) w.1 w.3 w.4 in
-            let same : r.2.payload ≡ a.payload = r.6 ∙ w.5 in
-            (r.1.pdu, subst (λ (bs : List ℕ). Spells p s r.1.pdu bs) same r.7, inl (r.0, r.1, r.2, r.3, r.5, refl, same)))
-        (g.others (length xs) a (get_push xs a) sd))
+    (λ (w : First (xs ++ a ∷ []) s big (length xs)). absurd (
+    let at : slice_get own w.0 ≡ Some w.1 = subst (λ (cs : List FirstCopy). slice_get cs w.0 ≡ Some w.1) e w.2 in
+    let f = h.firsts w.0 w.1 at in
+    let l = slice_get_within xs w.1.place f.0 f.1 in
+    let p = w.3 in
+    omega arith))
+    (λ (w0 : Again (xs ++ a ∷ []) s (length xs) a.payload).
+    let w = old_again xs a s (length xs) a.payload (omega arith) w0 in
+    let r = earliest p xs s own h (suc w.0) w.0 (omega arith) w.1 w.3 w.4 in
+    let same : r.2.payload ≡ a.payload = r.6 ∙ w.5 in
+    (r.1.pdu, subst (λ (bs : List ℕ). Spells p s r.1.pdu bs) same r.7, inl (r.0, r.1, r.2, r.3, r.5, refl, same)))
+    (g.others (length xs) a (get_push xs a) sd))
     (λ (w : (c : FirstCopy) × (big ≡ own ++ c ∷ []) × (c.place ≡ length xs)).
-        let g' : IsSent p (xs ++ a ∷ []) s (own ++ w.0 ∷ []) = subst (λ (cs : List FirstCopy). IsSent p (xs ++ a ∷ []) s cs) w.1 g in
-        let f = g'.firsts (length own) w.0 (get_push own w.0) in
-        let same : f.0 ≡ a = (let z : slice_get (xs ++ a ∷ []) (length xs) ≡ Some f.0 = subst (λ j. slice_get (xs ++ a ∷ []) j ≡ Some f.0) w.2 f.1 in let y = get_push xs a in cc) in
-        (w.0.pdu, subst (λ (b : Packet). Spells p s w.0.pdu b.payload) same f.3, inr (λ c x. g'.numbers (length own) c w.0 (get_front own (w.0 ∷ []) 0 c x) (get_push own w.0))))
+    let g' : IsSent p (xs ++ a ∷ []) s (own ++ w.0 ∷ []) = subst (λ (cs : List FirstCopy). IsSent p (xs ++ a ∷ []) s cs) w.1 g in
+    let f = g'.firsts (length own) w.0 (get_push own w.0) in
+    let same : f.0 ≡ a = (let z : slice_get (xs ++ a ∷ []) (length xs) ≡ Some f.0 = subst (λ j. slice_get (xs ++ a ∷ []) j ≡ Some f.0) w.2 f.1 in let y = get_push xs a in cc) in
+    (w.0.pdu, subst (λ (b : Packet). Spells p s w.0.pdu b.payload) same f.3, inr (λ c x. g'.numbers (length own) c w.0 (get_front own (w.0 ∷ []) 0 c x) (get_push own w.0))))
     how
 
 pub can_follow : (p : Parameters) (xs rest : List Packet) (s : Side) (own : List FirstCopy) (a : Packet) → IsSent p xs s own → length own < 2 ^ 32 → a.side ≡ s → (more : List FirstCopy) → IsSent p (xs ++ a ∷ rest) s more → CanFollow p xs s own a
@@ -183,12 +182,12 @@ next_from (c ∷ own) d l h = h c refl
 pub grows : (p : Parameters) (xs : List Packet) (s : Side) (own : List FirstCopy) (a : Packet) → IsSent p xs s own → a.side ≡ s → CanFollow p xs s own a → (more : List FirstCopy) × IsSent p (xs ++ a ∷ []) s more
 grows p xs s own a h sd f = ⊎_elim
     (λ (w : (i : ℕ) × (c : FirstCopy) × (b : Packet) × (slice_get own i ≡ Some c) × (slice_get xs c.place ≡ Some b) × (c.pdu ≡ f.0) × (b.payload ≡ a.payload)).
-        let z = h.firsts w.0 w.1 w.3 in
-        let same : z.0 ≡ w.2 = (let x = z.1 in let y = w.4 in cc) in
-        (own, sent_copy p xs a s own w.1.place w.2 h w.4 (ap (λ (b : Packet). b.side) (sym same) ∙ z.2) w.6))
+    let z = h.firsts w.0 w.1 w.3 in
+    let same : z.0 ≡ w.2 = (let x = z.1 in let y = w.4 in cc) in
+    (own, sent_copy p xs a s own w.1.place w.2 h w.4 (ap (λ (b : Packet). b.side) (sym same) ∙ z.2) w.6))
     (λ (w : (c : FirstCopy) → slice_get own 0 ≡ Some c → f.0.number ≡ wrapped (c.pdu.number + length own)).
-        let r = sent_first p xs a s own f.0 (first_number own f.0) h (numbers_from p xs s own f.0 h) sd f.1 (next_from own f.0 f.1.fits.number w) in
-        (_, r.0))
+    let r = sent_first p xs a s own f.0 (first_number own f.0) h (numbers_from p xs s own f.0 h) sd f.1 (next_from own f.0 f.1.fits.number w) in
+    (_, r.0))
     f.2
 
 pub definite : (p : Parameters) (valid : AreParameters p) (ws : List World) (w : World) (xs rest : List Packet) (a : Packet) (own : List FirstCopy) → Reaches p ws w → w.crossed ≡ xs ++ a ∷ rest → IsSent p xs a.side own → length own < 2 ^ 32 → CanFollow p xs a.side own a

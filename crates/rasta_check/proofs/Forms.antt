@@ -32,14 +32,14 @@ of_record p packets side sent h few =
         all = λ place packet pdu g e spelled not_known. ⊎_elim
             (λ (w : (i : ℕ) × (c : FirstCopy) × (slice_get sent i ≡ Some c) × (c.place ≡ place)). w)
             (λ (w : (d : RedundancyPdu) × Spells p side d packet.payload × IsKnown p packets side place d.number).
-                absurd (not_known (subst (λ (d : RedundancyPdu). IsKnown p packets side place d.number) (read_once p h.valid side w.0 pdu packet.payload w.1 spelled) w.2)))
+            absurd (not_known (subst (λ (d : RedundancyPdu). IsKnown p packets side place d.number) (read_once p h.valid side w.0 pdu packet.payload w.1 spelled) w.2)))
             (others_old p packets side sent h place packet g e);
       };
       faultless = record {
         others = λ place packet g e. ⊎_elim
             (λ (w : (i : ℕ) × (c : FirstCopy) × (slice_get sent i ≡ Some c) × (c.place ≡ place)). inl w)
             (λ (w : (j : ℕ) × (b : Packet) × (j < place) × (slice_get packets j ≡ Some b) × (b.side ≡ side) × (b.payload ≡ packet.payload)).
-                inr (record { earlier = w.0; packet = w.1; in_front = w.2; there = w.3; of_side = w.4; same = w.5 }))
+            inr (record { earlier = w.0; packet = w.1; in_front = w.2; there = w.3; of_side = w.4; same = w.5 }))
             (h.others place packet g e);
         numbers = h.numbers;
       };

@@ -1,24 +1,21 @@
 -- What of an end stays along a run, and the worlds of a run.
-use Rattle.std.proofs.Common.{◌≡◌, ◌≢◌, ℕ, zero, suc, ◌+◌, ◌-◌, ◌<◌, ◌≤◌, ◌⊎◌, Bool, true, false, List, [], ◌∷◌, ◌++◌, length, Option, Some, None, slice_get, refl, ap, sym, ◌∙◌, arith, inl, inr, ⊎_elim, subst}
+use Rattle.std.proofs.Common.{◌≡◌, ℕ, zero, suc, ◌+◌, ◌<◌, ◌≤◌, Bool, true, false, List, [], ◌∷◌, ◌++◌, length, Option, Some, slice_get, refl, ap, sym, ◌∙◌, arith, ⊎_elim, subst}
 use Rattle.std.specs.Prelude.{◌&&◌}
 use Rattle.std.proofs.lemmas.List.{length_push}
 use Rattle.std.proofs.lemmas.Option.{slice_get_within}
 use native.Mathlib.Decide.{dec_lt}
-use Prim.{Dec, yes, no}
+use Prim.{yes, no}
 use Rattle.rasta_pcap.specs.declared.fault.Side.{Side}
 use Rattle.rasta_pcap.specs.declared.fault.Side.TheVariants.{Client, Server}
 use Rattle.rasta_udp.specs.Frame.{Packet}
 use Rattle.rasta_pdu.specs.Params.{Parameters, AreParameters}
-use Rattle.rasta_pdu.specs.Pdu.{SafetyPdu}
 use Rattle.rasta_end.specs.declared.take_row.TakeRow.{TakeRow}
 use Rattle.rasta_end.specs.State.{Made, EndState, is_closed}
 use Rattle.rasta_end.specs.MakeRule.{has_ended}
 use Rattle.rasta_end.specs.TakeRule.{is_retransmission_response, is_valid, is_in, is_ahead, effect_by}
-use Rattle.rasta_end.specs.Starts.{start_of}
 use Rattle.rasta_check.specs.Crossing.{FirstCopy}
 use Rattle.rasta_check.specs.World.{Station, World, Moves, makes, repeats, arrives, takes, waits, Step, client_moves, server_moves, Reaches, begins, goes_on, first_world, IsWithin}
 use Rattle.rasta_check.specs.Theorem.{Appends}
-use Rattle.rasta_check.proofs.Copies.{IsSent}
 use Rattle.rasta_check.proofs.Lists.{get_push_cases, get_front, get_push}
 use Rattle.rasta_check.proofs.Passing.{passed}
 use Rattle.rasta_check.proofs.MakeRows.{made_by, after_row, new_made}
@@ -28,8 +25,7 @@ use Rattle.rasta_check.proofs.Counting.{number}
 use Rattle.rasta_check.proofs.Values.{values, values_push}
 use Rattle.rasta_check.proofs.ValuedTake.{values_take}
 use Rattle.rasta_check.proofs.HeldRuns.{All, all_held}
-use Rattle.rasta_check.proofs.Telling.{Both, Sends, told, told_first, told_step, step_copies, step_front, sends_count, copy_at}
-
+use Rattle.rasta_check.proofs.Telling.{Both, Sends, told_first, told_step, step_copies, step_front, sends_count, copy_at}
 
 -- what of an end stays
 pub record Grown (e e' : EndState) : Type 0 where
@@ -135,8 +131,10 @@ history p valid ws w (goes_on {ws = us} {w = u} r st) b = step (history p valid 
   where
     sd : Stepped u w
     sd = stepped p u w st
+
     few : IsWithin p u
     few = (let s = stepped p u w st in record { client = (let z = s.client_made in let y = b.client in omega arith); server = (let z = s.server_made in let y = b.server in omega arith) })
+
     step : ((g : Both p Client Server u.crossed u.client u.server) × ((i : ℕ) (v : World) → slice_get (us ++ u ∷ []) i ≡ Some v → Behind p v u g.own g.peer))
         → (g : Both p Client Server w.crossed w.client w.server) × ((i : ℕ) (v : World) → slice_get ((us ++ u ∷ []) ++ w ∷ []) i ≡ Some v → Behind p v w g.own g.peer)
     step h =
@@ -144,49 +142,54 @@ history p valid ws w (goes_on {ws = us} {w = u} r st) b = step (history p valid 
         let cp = step_copies p u w st h.0 in
         let fr = step_front p u w st h.0 in
         let gr = grown_step p u w st (all_held p us u r few) in
-        let l = (stepped p u w st).less in
-        (g, λ i v x. ⊎_elim
-            (λ (old : slice_get (us ++ u ∷ []) i ≡ Some v). (let k = h.1 i v old in record {
-              us = k.us; reached = k.reached; few = k.few;
-              client = both_grown v.client.state u.client.state w.client.state k.client gr.0;
-              server = both_grown v.server.state u.server.state w.server.state k.server gr.1;
-              less = (let z = k.less in omega arith);
-              told = k.told;
-              own_copies = λ j d y z. k.own_copies j d (cp.0 j d y (let q = k.less in omega arith)) z;
-              peer_copies = λ j d y z. k.peer_copies j d (cp.1 j d y (let q = k.less in omega arith)) z;
-              own_front = λ j d y. fr.0 j d (k.own_front j d y);
-              peer_front = λ j d y. fr.1 j d (k.peer_front j d y);
-            }))
-            (λ (new : (i ≡ length (us ++ u ∷ [])) × (w ≡ v)). subst (λ (z : World). Behind p z w g.own g.peer) new.1 (behind_itself p (us ++ u ∷ []) w (goes_on r st) b g))
-            (get_push_cases (us ++ u ∷ []) w i v x))
+        let l = (stepped p u w st).less in (
+          g,
+          λ i v x. ⊎_elim
+              (λ (old : slice_get (us ++ u ∷ []) i ≡ Some v). (let k = h.1 i v old in record {
+                us = k.us;
+                reached = k.reached;
+                few = k.few;
+                client = both_grown v.client.state u.client.state w.client.state k.client gr.0;
+                server = both_grown v.server.state u.server.state w.server.state k.server gr.1;
+                less = (let z = k.less in omega arith);
+                told = k.told;
+                own_copies = λ j d y z. k.own_copies j d (cp.0 j d y (let q = k.less in omega arith)) z;
+                peer_copies = λ j d y z. k.peer_copies j d (cp.1 j d y (let q = k.less in omega arith)) z;
+                own_front = λ j d y. fr.0 j d (k.own_front j d y);
+                peer_front = λ j d y. fr.1 j d (k.peer_front j d y);
+              }))
+              (λ (new : (i ≡ length (us ++ u ∷ [])) × (w ≡ v)). subst (λ (z : World). Behind p z w g.own g.peer) new.1 (behind_itself p (us ++ u ∷ []) w (goes_on r st) b g))
+              (get_push_cases (us ++ u ∷ []) w i v x),
+        )
 
 -- two worlds one behind the other in a run are joined by a step
 pub joined : (p : Parameters) (ws : List World) (w : World) → Reaches p ws w → (i : ℕ) (u v : World) → slice_get (ws ++ w ∷ []) i ≡ Some u → slice_get (ws ++ w ∷ []) (suc i) ≡ Some v → Step p u v
 joined p ws w (begins m n) i u v g h = absurd (cc)
 joined p ws w (goes_on {ws = us} {w = z} r st) i u v g h = ⊎_elim
     (λ (old : slice_get (us ++ z ∷ []) (suc i) ≡ Some v). (let l = slice_get_within (us ++ z ∷ []) (suc i) v old in
-        ⊎_elim
-        (λ (o : slice_get (us ++ z ∷ []) i ≡ Some u). joined p us z r i u v o old)
-        (λ (n : (i ≡ length (us ++ z ∷ [])) × (w ≡ u)). absurd (omega arith))
-        (get_push_cases (us ++ z ∷ []) w i u g)))
+    ⊎_elim
+    (λ (o : slice_get (us ++ z ∷ []) i ≡ Some u). joined p us z r i u v o old)
+    (λ (n : (i ≡ length (us ++ z ∷ [])) × (w ≡ u)). absurd (omega arith))
+    (get_push_cases (us ++ z ∷ []) w i u g)))
     (λ (new : (suc i ≡ length (us ++ z ∷ [])) × (w ≡ v)).
-        let at : i ≡ length us = (let q = length_push us z in omega arith) in
-        let there : slice_get ((us ++ z ∷ []) ++ w ∷ []) i ≡ Some z = subst (λ j. slice_get ((us ++ z ∷ []) ++ w ∷ []) j ≡ Some z) (sym at) (get_front (us ++ z ∷ []) (w ∷ []) (length us) z (get_push us z)) in
-        let same : z ≡ u = cc in
-        subst (λ (y : World). Step p y v) same (subst (λ (y : World). Step p z y) new.1 st))
+    let at : i ≡ length us = (let q = length_push us z in omega arith) in
+    let there : slice_get ((us ++ z ∷ []) ++ w ∷ []) i ≡ Some z = subst (λ j. slice_get ((us ++ z ∷ []) ++ w ∷ []) j ≡ Some z) (sym at) (get_front (us ++ z ∷ []) (w ∷ []) (length us) z (get_push us z)) in
+    let same : z ≡ u = cc in
+    subst (λ (y : World). Step p y v) same (subst (λ (y : World). Step p z y) new.1 st))
     (get_push_cases (us ++ z ∷ []) w (suc i) v h)
 
 pub appended : (p : Parameters) (ws : List World) (w : World) → Reaches p ws w → (k : ℕ) → k < length w.crossed → (v next : World) × Appends ws w k v next
 appended p ws w (begins m n) k l = absurd (omega arith)
 appended p ws w (goes_on {ws = us} {w = u} r st) k l =
     elim (dec_lt k (length u.crossed)) [
-      yes y ↦ (let a = appended p us u r k y in (a.0, a.1, record { i = a.2.i; here = get_front (us ++ u ∷ []) (w ∷ []) a.2.i a.0 a.2.here; there = get_front (us ++ u ∷ []) (w ∷ []) (suc a.2.i) a.1 a.2.there; before = a.2.before; after = a.2.after }))
+      | yes y ↦ (let a = appended p us u r k y in (a.0, a.1, record { i = a.2.i; here = get_front (us ++ u ∷ []) (w ∷ []) a.2.i a.0 a.2.here; there = get_front (us ++ u ∷ []) (w ∷ []) (suc a.2.i) a.1 a.2.there; before = a.2.before; after = a.2.after }))
       | no y ↦ (let s = stepped p u w st in let m = s.more in let q = length_push us u in
           (u, w, record { i = length us; here = get_front (us ++ u ∷ []) (w ∷ []) (length us) u (get_push us u); there = subst (λ j. slice_get ((us ++ u ∷ []) ++ w ∷ []) j ≡ Some w) (let z : length (us ++ u ∷ []) ≡ suc (length us) = omega arith in z) (get_push (us ++ u ∷ []) w); before = at_end k (length u.crossed) (length w.crossed) y l m; after = at_next k (length u.crossed) (length w.crossed) y l m }))
     ]
   where
     at_end : (k m n : ℕ) → (k < m → ⊥) → k < n → n ≤ suc m → m ≡ k
     at_end k m n h l q = omega arith
+
     at_next : (k m n : ℕ) → (k < m → ⊥) → k < n → n ≤ suc m → n ≡ suc k
     at_next k m n h l q = omega arith
 
@@ -204,4 +207,3 @@ made_at p s xs own e f j d h g =
     some [] i l = absurd (omega arith)
     some (m ∷ ms) zero l = (m, refl)
     some (m ∷ ms) (suc i) l = some ms i (omega arith)
-

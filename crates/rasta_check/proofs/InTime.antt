@@ -1,18 +1,17 @@
 -- What a PDU shows was handed up before it crossed.
-use Rattle.std.proofs.Common.{◌≡◌, ℕ, zero, suc, ◌+◌, ◌<◌, ◌≤◌, ◌⊎◌, Bool, true, false, List, [], ◌∷◌, ◌++◌, length, Some, slice_get, refl, ap, sym, ◌∙◌, arith, ⊎_elim, subst}
+use Rattle.std.proofs.Common.{◌≡◌, ℕ, zero, suc, ◌+◌, ◌<◌, ◌≤◌, Bool, true, false, List, [], ◌∷◌, ◌++◌, length, Some, slice_get, refl, ap, sym, ◌∙◌, arith, ⊎_elim, subst}
 use Rattle.std.specs.Prelude.{slice_index_or, not, ◌&&◌, ◌||◌}
 use Rattle.std.proofs.lemmas.Option.{slice_get_within}
 use Rattle.rasta_pcap.specs.declared.fault.Side.{Side}
 use Rattle.rasta_pcap.specs.declared.fault.Side.TheVariants.{Client, Server}
 use Rattle.rasta_pdu.specs.Params.{Parameters}
-use Rattle.rasta_pdu.specs.Pdu.{SafetyPdu}
 use Rattle.rasta_end.specs.declared.phase.Phase.{Phase}
 use Rattle.rasta_end.specs.declared.phase.Phase.TheVariants.{Closed}
 use Rattle.rasta_end.specs.State.{Made, EndState, is_client, is_closed, has_made}
 use Rattle.rasta_end.specs.MakeRule.{is_connection_request}
 use Rattle.rasta_check.specs.Crossing.{FirstCopy}
 use Rattle.rasta_check.specs.World.{World, Reaches}
-use Rattle.rasta_check.specs.Taken.{pdus_made, pdus_of, all_made, units_shown}
+use Rattle.rasta_check.specs.Taken.{pdus_of, all_made, units_shown}
 use Rattle.rasta_check.specs.Theorem.{Appends}
 use Rattle.rasta_check.proofs.Copies.{IsSent}
 use Rattle.rasta_check.proofs.Steps.{base}
@@ -25,8 +24,8 @@ use Rattle.rasta_check.proofs.Valued.{Valued}
 use Rattle.rasta_check.proofs.Shown.{Shown}
 use Rattle.rasta_check.proofs.Showing.{shows_most}
 use Rattle.rasta_check.proofs.HeldRuns.{All, all_held}
-use Rattle.rasta_check.proofs.History.{Grown, Behind, history, stepped, joined, made_at}
-use Rattle.rasta_check.proofs.Known.{Known, known}
+use Rattle.rasta_check.proofs.History.{Grown, history, stepped, joined, made_at}
+use Rattle.rasta_check.proofs.Known.{known}
 
 made_over : (s : Side) (ph : Phase) (ms : List Made) (i : ℕ) (m : Made) → slice_get ms i ≡ Some m → is_closed ph ≡ true → (is_closed ph && (not (is_client s) || has_made ms)) ≡ true
 made_over s Closed [] i m g h = absurd (cc)
@@ -37,7 +36,6 @@ made_over s _ ms i m g h = absurd (cc)
 -- e0 and f0 in the world behind the make, e and f at the end
 module _ (e0 f0 e f : EndState) (t : ℕ) (w0 : Shown e0 f0) (w : Shown e f) (g : Held f t e.made) (vf : Valued f) (few : length f.made ≤ 1000001) (ge : Grown e0 e) (gf : Grown f0 f)
     (q : ℕ) (m : Made) (there : slice_get e0.made q ≡ Some m) where
-
   unheard : is_connection_request m.pdu.kind ≡ false → e0.accepted ≡ 0 → (b : Bool) → is_closed e0.phase ≡ b → f.offered ≡ 0
   unheard k a true c =
       let s : e ≡ e0 = ge.over (made_over e0.side e0.phase e0.made q m there c) in
@@ -53,15 +51,15 @@ module _ (e0 f0 e f : EndState) (t : ℕ) (w0 : Shown e0 f0) (w : Shown e f) (g 
   in_time_at k c v s h = ⊎_elim
       (λ (a : e0.accepted ≡ 0). (let z = unheard k a (is_closed e0.phase) refl in let b = vf.bounded c v h in omega arith))
       (λ (z : (i : ℕ) × (i < e0.accepted) × SnIs f0.made i m.pdu.cs).
-          let old = z.2 in
-          let same : c ≡ z.0 = numbered_once f.made few g.numbered c z.0 s.m old.m s.there (gf.made z.0 old.m old.there) (s.same ∙ sym old.same) in
-          let l = slice_get_within f0.made z.0 old.m old.there in
-          let len = length-values f0.asks f0.made in
-          let at : slice_get (values f0) z.0 ≡ Some (slice_index_or (values f0) z.0 0) = get_within (values f0) z.0 (omega arith) in
-          let now = gf.kept z.0 _ at in
-          let eq : slice_index_or (values f0) z.0 0 ≡ v = (let h' : slice_get (values f) z.0 ≡ Some v = subst (λ j. slice_get (values f) j ≡ Some v) same h in cc) in
-          let low = w0.shown q z.0 (slice_index_or (values f0) z.0 0) m there k old at in
-          omega (arith, low, eq))
+      let old = z.2 in
+      let same : c ≡ z.0 = numbered_once f.made few g.numbered c z.0 s.m old.m s.there (gf.made z.0 old.m old.there) (s.same ∙ sym old.same) in
+      let l = slice_get_within f0.made z.0 old.m old.there in
+      let len = length-values f0.asks f0.made in
+      let at : slice_get (values f0) z.0 ≡ Some (slice_index_or (values f0) z.0 0) = get_within (values f0) z.0 (omega arith) in
+      let now = gf.kept z.0 _ at in
+      let eq : slice_index_or (values f0) z.0 0 ≡ v = (let h' : slice_get (values f) z.0 ≡ Some v = subst (λ j. slice_get (values f) j ≡ Some v) same h in cc) in
+      let low = w0.shown q z.0 (slice_index_or (values f0) z.0 0) m there k old at in
+      omega (arith, low, eq))
       (w0.judged q m there k)
 
 -- an earlier world of the run, in which what a PDU shows had been handed up
@@ -82,7 +80,7 @@ pub timed : (p : Parameters) (ws : List World) (w : World) (c s : List FirstCopy
     → IsSent p w.crossed Client c → IsSent p w.crossed Server s → length c ≤ 1000000 → length s ≤ 1000000
     → (j : ℕ) (d : FirstCopy) (v next : World) → Appends ws w d.place v next
     → (slice_get s j ≡ Some d → units_shown (all_made p Client c) (pdus_of s) d.pdu.safety ≤ length v.server.state.handed)
-      × (slice_get c j ≡ Some d → units_shown (all_made p Server s) (pdus_of c) d.pdu.safety ≤ length v.client.state.handed)
+    × (slice_get c j ≡ Some d → units_shown (all_made p Server s) (pdus_of c) d.pdu.safety ≤ length v.client.state.handed)
 timed p ws w c s r hc hs lc ls j d v next a =
     let kn = known p ws w c s r hc hs lc ls in
     let hist = history p hc.valid ws w r kn.within in
@@ -92,20 +90,21 @@ timed p ws w c s r hc hs lc ls j d v next a =
     let all0 = all_held p b.us next b.reached b.few in
     let sd = stepped p v next (joined p ws w r a.i v next a.here a.there) in
     let more : length next.crossed ≡ suc (length v.crossed) = (let x = a.before in let y = a.after in omega arith) in
-    let crossing : d.place < length next.crossed = (let y = a.after in omega arith) in
-    (λ x.
-        let g = b.peer_copies j d (subst (λ (cs : List FirstCopy). slice_get cs j ≡ Some d) same_s x) crossing in
-        let m = made_at p Server next.crossed b.told.peer next.server.state _ j d b.told.their_sends g in
-        let t = shows_most w.client.state (all_made p Client c) (pdus_of s) kn.sends.same kn.along (length next.server.state.handed) m.0.pdu
-            (in_time_at next.server.state next.client.state w.server.state w.client.state w.client.taken all0.their_shows kn.all.their_shows kn.all.mine kn.all.values kn.few b.server b.client (base p + j) m.0 m.1) in
-        let e : units_shown (all_made p Client c) (pdus_of s) m.0.pdu ≡ units_shown (all_made p Client c) (pdus_of s) d.pdu.safety = ap (units_shown (all_made p Client c) (pdus_of s)) m.2 in
-        let h = ap length (sd.server more).positions in
-        omega (arith, t, e, h),
-     λ x.
-        let g = b.own_copies j d (subst (λ (cs : List FirstCopy). slice_get cs j ≡ Some d) same_c x) crossing in
-        let m = made_at p Client next.crossed b.told.own next.client.state _ j d b.told.sends g in
-        let t = shows_most w.server.state (all_made p Server s) (pdus_of c) kn.their_sends.same kn.their_along (length next.client.state.handed) m.0.pdu
-            (in_time_at next.client.state next.server.state w.client.state w.server.state w.server.taken all0.shows kn.all.shows kn.all.theirs kn.all.their_values kn.few_theirs b.client b.server (base p + j) m.0 m.1) in
-        let e : units_shown (all_made p Server s) (pdus_of c) m.0.pdu ≡ units_shown (all_made p Server s) (pdus_of c) d.pdu.safety = ap (units_shown (all_made p Server s) (pdus_of c)) m.2 in
-        let h = ap length (sd.client more).positions in
-        omega (arith, t, e, h))
+    let crossing : d.place < length next.crossed = (let y = a.after in omega arith) in (
+      λ x.
+          let g = b.peer_copies j d (subst (λ (cs : List FirstCopy). slice_get cs j ≡ Some d) same_s x) crossing in
+          let m = made_at p Server next.crossed b.told.peer next.server.state _ j d b.told.their_sends g in
+          let t = shows_most w.client.state (all_made p Client c) (pdus_of s) kn.sends.same kn.along (length next.server.state.handed) m.0.pdu
+          (in_time_at next.server.state next.client.state w.server.state w.client.state w.client.taken all0.their_shows kn.all.their_shows kn.all.mine kn.all.values kn.few b.server b.client (base p + j) m.0 m.1) in
+          let e : units_shown (all_made p Client c) (pdus_of s) m.0.pdu ≡ units_shown (all_made p Client c) (pdus_of s) d.pdu.safety = ap (units_shown (all_made p Client c) (pdus_of s)) m.2 in
+          let h = ap length (sd.server more).positions in
+          omega (arith, t, e, h),
+      λ x.
+          let g = b.own_copies j d (subst (λ (cs : List FirstCopy). slice_get cs j ≡ Some d) same_c x) crossing in
+          let m = made_at p Client next.crossed b.told.own next.client.state _ j d b.told.sends g in
+          let t = shows_most w.server.state (all_made p Server s) (pdus_of c) kn.their_sends.same kn.their_along (length next.client.state.handed) m.0.pdu
+          (in_time_at next.client.state next.server.state w.client.state w.server.state w.server.taken all0.shows kn.all.shows kn.all.theirs kn.all.their_values kn.few_theirs b.client b.server (base p + j) m.0 m.1) in
+          let e : units_shown (all_made p Server s) (pdus_of c) m.0.pdu ≡ units_shown (all_made p Server s) (pdus_of c) d.pdu.safety = ap (units_shown (all_made p Server s) (pdus_of c)) m.2 in
+          let h = ap length (sd.client more).positions in
+          omega (arith, t, e, h),
+    )

@@ -4,14 +4,13 @@ use Rattle.rasta_pcap.specs.declared.fault.Side.{Side}
 use Rattle.rasta_pcap.specs.declared.fault.Side.TheVariants.{Client, Server}
 use Rattle.rasta_pdu.specs.Params.{Parameters}
 use Rattle.rasta_pdu.specs.Pdu.{SafetyPdu}
-use Rattle.rasta_end.specs.State.{EndState}
 use Rattle.rasta_end.specs.Starts.{start_of}
 use Rattle.rasta_check.specs.Crossing.{FirstCopy}
 use Rattle.rasta_check.specs.World.{World, Reaches, IsWithin}
 use Rattle.rasta_check.specs.Laws.{NamesOne}
 use Rattle.rasta_check.specs.Taken.{pdus_made, pdus_of, all_made, units_along, units_taken}
 use Rattle.rasta_check.proofs.Copies.{IsSent}
-use Rattle.rasta_check.proofs.Steps.{base, base_small, start_base}
+use Rattle.rasta_check.proofs.Steps.{base, start_base}
 use Rattle.rasta_check.proofs.Numbering.{numbered_once}
 use Rattle.rasta_check.proofs.Values.{values}
 use Rattle.rasta_check.proofs.HeldRuns.{All, all_held, few_made}

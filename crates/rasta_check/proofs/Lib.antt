@@ -37,3 +37,4 @@ pub mod Placed
 pub mod InTime
 pub mod Listing
 pub mod Necessity
+pub mod Cutting

@@ -1,6 +1,6 @@
 -- The units that two lists show to be taken: their members, their proofs, and that they were handed up.
 use Rattle.std.proofs.Common.{◌≡◌, ◌⊎◌, ℕ, zero, suc, ◌+◌, ◌<◌, ◌≤◌, Bool, true, false, cond, List, [], ◌∷◌, ◌++◌, length, Option, Some, None, slice_get, take, refl, ap, sym, ◌∙◌, arith, inl, inr, ⊎_elim, subst}
-use Rattle.std.specs.Prelude.{map, filter, fold, max, nat_lt, slice_index_or, if◌then◌else◌}
+use Rattle.std.specs.Prelude.{map, filter, fold, max, nat_lt, if◌then◌else◌}
 use Rattle.std.proofs.lemmas.Bool.Decides.{nat_tests}
 use Rattle.std.proofs.lemmas.Option.{slice_get_within}
 use Rattle.rasta_pcap.specs.declared.fault.Side.{Side}
@@ -14,7 +14,7 @@ use Rattle.rasta_end.specs.Starts.{start_by}
 use Rattle.rasta_check.specs.Crossing.{FirstCopy}
 use Rattle.rasta_check.specs.Taken.{pdus_made, pdus_of, all_made, units_shown, units_taken, TakenUnit, proof_place, units_from, data_copies, surely_taken}
 use Rattle.rasta_check.specs.Theorem.{HandsUpUnits, messages_handed, messages_listed}
-use Rattle.std.proofs.lemmas.List.Elements.{filter-append, filter_map-append}
+use Rattle.std.proofs.lemmas.List.Elements.{filter-append}
 use Rattle.rasta_check.proofs.Scripted.{slice_get_some}
 use Rattle.rasta_check.proofs.Lists.{get_front}
 use Rattle.rasta_check.proofs.Asking.{begins_with}
@@ -76,6 +76,7 @@ proof_by own peer k a (d ∷ ds) l = by (nat_lt k (units_shown own peer d.pdu.sa
   where
     skip : nat_lt k (units_shown own peer d.pdu.safety) ≡ false → Proof own peer k ds → Proof own peer k (d ∷ ds)
     skip e r = record { j = suc r.j; d = r.d; there = r.there; more = r.more; place = ap (λ b. if b then d.place else proof_place own peer k ds) e ∙ r.place }
+
     by : (b : Bool) → nat_lt k (units_shown own peer d.pdu.safety) ≡ b → (k < max a (units_shown own peer d.pdu.safety)) ⊎ Proof own peer k ds → (k < a) ⊎ Proof own peer k (d ∷ ds)
     by true e r = inr (record { j = 0; d = d; there = refl; more = true_less k (units_shown own peer d.pdu.safety) e; place = ap (λ b. if b then d.place else proof_place own peer k ds) e })
     by false e r = ⊎_elim
@@ -209,7 +210,6 @@ few_handed e f h = by (length e.handed) refl
 
 -- e takes the units of f; `own` is what f sent
 module _ (p : Parameters) (s : Side) (e f : EndState) (own peer : List FirstCopy) (told : pdus_made f.made ≡ all_made p s own) (h : HandsUpData e f) where
-
   -- the i-th PDU handed up has the messages of the i-th unit that is listed
   pub unit_handed : (i : ℕ) (u : TakenUnit) → i < length e.handed → slice_get (surely_taken p s own peer) i ≡ Some u → slice_get (messages_handed e) i ≡ Some u.messages
   unit_handed i u l g =
@@ -235,9 +235,9 @@ module _ (p : Parameters) (s : Side) (e f : EndState) (own peer : List FirstCopy
   pub listed_first : units_taken (all_made p s own) (pdus_of peer) ≤ length e.handed → (rest : List (List (List ℕ))) × (messages_handed e ≡ messages_listed (surely_taken p s own peer) ++ rest)
   listed_first l = begins_with (messages_listed (surely_taken p s own peer)) (messages_handed e)
       (λ i a g. (let u = get_listed (surely_taken p s own peer) i a g in
-          let b = listed_below i u.0 u.1 in
-          let y = b.0 in
-          unit_handed i u.0 (omega (arith, l, y)) u.1 ∙ ap Some u.2))
+      let b = listed_below i u.0 u.1 in
+      let y = b.0 in
+      unit_handed i u.0 (omega (arith, l, y)) u.1 ∙ ap Some u.2))
 
   -- each unit that was taken is listed
   pub all_listed : units_taken (all_made p s own) (pdus_of peer) ≤ length e.handed → length (surely_taken p s own peer) ≡ units_taken (all_made p s own) (pdus_of peer)

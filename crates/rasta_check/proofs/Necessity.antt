@@ -1,10 +1,10 @@
 -- In every run that sends two lists, what they show to be taken was handed up, and in time.
-use Rattle.std.proofs.Common.{◌≡◌, ℕ, ◌+◌, ◌<◌, ◌≤◌, List, [], ◌∷◌, ◌++◌, Some, length, slice_get, ◌∙◌, arith, subst}
+use Rattle.std.proofs.Common.{◌≡◌, ℕ, ◌≤◌, List, ◌++◌, Some, length, slice_get, ◌∙◌, arith, subst}
 use Rattle.rasta_pcap.specs.declared.fault.Side.TheVariants.{Client, Server}
 use Rattle.rasta_pdu.specs.Params.{Parameters}
 use Rattle.rasta_check.specs.Crossing.{FirstCopy}
 use Rattle.rasta_check.specs.World.{World, Reaches}
-use Rattle.rasta_check.specs.Taken.{pdus_of, all_made, TakenUnit, surely_taken}
+use Rattle.rasta_check.specs.Taken.{all_made, TakenUnit, surely_taken}
 use Rattle.rasta_check.specs.Theorem.{Appends, HandsUpUnits, HasHandedUp, messages_handed, messages_listed}
 use Rattle.rasta_check.proofs.Copies.{IsSent}
 use Rattle.rasta_check.proofs.Handed.{hands_up_units}
@@ -14,7 +14,6 @@ use Rattle.rasta_check.proofs.Listing.{proof_of, HandsUpData, of_units, data_gro
 
 module _ (p : Parameters) (ws : List World) (w : World) (c s : List FirstCopy) (r : Reaches p ws w) (hc : IsSent p w.crossed Client c) (hs : IsSent p w.crossed Server s)
     (lc : length c ≤ 1000000) (ls : length s ≤ 1000000) where
-
   kn : Known p w c s
   kn = known p ws w c s r hc hs lc ls
 

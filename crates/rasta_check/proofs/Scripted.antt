@@ -87,25 +87,26 @@ one_take p n k slot number s own peer es a b xs bs r last last' m g f l (takes_n
     let arrived : Station = record a { arrived = q ∷ a.arrived } in
     let low : b.state.base ≤ q = (let z = g.based in omega arith) in
     let within : q < length b.state.made = omega (arith, g.count, w) in
-    let passed_mark : a.taken ≤ q = omega (arith, f.mark, above) in
-    (record arrived { state = e'; taken = suc q },
-     moves (arrives q low within) (moves (takes q x.0 e' (0, omega arith, refl) passed_mark x.1 t) stays),
-     record {
-       level = slot;
-       made = f.made;
-       taken = suc position;
-       low = l;
-       fits = rest;
-       based = ap (λ (e : EndState). e.base) t.1 ∙ (left.base ∙ f.based);
-       count = ap length same_made ∙ f.count;
-       mark = omega arith;
-       clock = f.clock ∙ sym (ap (λ (e : EndState). e.clock) t.1 ∙ left.clock);
-       number = f.number;
-       before = f.before;
-       after = f.after;
-       same = λ i d h v. moved_made a.state.made e'.made (base p + i) (λ (y : Made). y.pdu ≡ d.pdu.safety) same_made (f.same i d h v);
-       side = ap (λ (e : EndState). e.side) t.1 ∙ (left.side ∙ f.side);
-     })
+    let passed_mark : a.taken ≤ q = omega (arith, f.mark, above) in (
+      record arrived { state = e'; taken = suc q },
+      moves (arrives q low within) (moves (takes q x.0 e' (0, omega arith, refl) passed_mark x.1 t) stays),
+      record {
+        level = slot;
+        made = f.made;
+        taken = suc position;
+        low = l;
+        fits = rest;
+        based = ap (λ (e : EndState). e.base) t.1 ∙ (left.base ∙ f.based);
+        count = ap length same_made ∙ f.count;
+        mark = omega arith;
+        clock = f.clock ∙ sym (ap (λ (e : EndState). e.clock) t.1 ∙ left.clock);
+        number = f.number;
+        before = f.before;
+        after = f.after;
+        same = λ i d h v. moved_made a.state.made e'.made (base p + i) (λ (y : Made). y.pdu ≡ d.pdu.safety) same_made (f.same i d h v);
+        side = ap (λ (e : EndState). e.side) t.1 ∙ (left.side ∙ f.side);
+      },
+    )
 
 append_many : {p : Parameters} {b : Station} {xs ys zs : List Packet} {a a' a'' : Station} → Many p b xs a a' ys → Many p b ys a' a'' zs → Many p b xs a a'' zs
 append_many stays k = k
@@ -124,7 +125,7 @@ drain p n k s own peer [] a b xs bs r last last' g f = record { es = []; station
 drain p n k s own peer (Make place clock why ∷ es) a b xs bs r last last' g f = record { es = Make place clock why ∷ es; station = a; many = stays; tracks = f; drained = tt }
 drain p n k s own peer (Take slot number ∷ es) a b xs bs r last last' g f =
     elim (dec_le slot k) [
-      yes l ↦ (let o = one_take p n k slot number s own peer es a b xs bs r last last' f.fits.0 g f l f.fits.1 f.fits.2 in prepend o.1 (drain p n k s own peer es o.0 b xs bs r last last' g o.2))
+      | yes l ↦ (let o = one_take p n k slot number s own peer es a b xs bs r last last' f.fits.0 g f l f.fits.1 f.fits.2 in prepend o.1 (drain p n k s own peer es o.0 b xs bs r last last' g o.2))
       | no l ↦ record { es = Take slot number ∷ es; station = a; many = stays; tracks = f; drained = (let z = l in lt_of z) }
     ]
 
@@ -168,7 +169,6 @@ next_number : (f b m n c : ℕ) → n ≡ b + m → (f + b) % 2 ^ 32 ≡ c → (
 next_number f b m n c e h = omega arith
 
 module _ (p : Parameters) (packets : List Packet) (k : ℕ) (s : Side) (own peer : List FirstCopy) (sent : IsSent p packets s own) (recorded : CrossRecorded p packets) where
-
   make_one : (place clock : ℕ) (why : Why) (es : List Entry) (a b : Station) (here : Packet) (last m : Cursor) → slice_get packets k ≡ Some here → place ≡ k
       → (f : Tracks p (length packets) k s own peer (Make place clock why ∷ es) last a)
       → Advances p (length packets) own peer (record { level = f.level; made = f.made; taken = f.taken; state = a.state }) (Make place clock why) m → Leads p (length packets) own peer m es last
@@ -183,9 +183,9 @@ module _ (p : Parameters) (packets : List Packet) (k : ℕ) (s : Side) (own peer
       let now : e'.made ≡ a.state.made ++ n ∷ [] = made.made in
       let len = length_push a.state.made n in
       let numbered : c.pdu.number ≡ wrapped (a.first_number + length a.state.made) =
-          sent.numbers f.made head.0 c head.1 mine ∙ sym (next_number a.first_number (base p) f.made (length a.state.made) head.0.pdu.number f.count (f.number head.0 head.1)) in
+      sent.numbers f.made head.0 c head.1 mine ∙ sym (next_number a.first_number (base p) f.made (length a.state.made) head.0.pdu.number f.count (f.number head.0 head.1)) in
       let said : Spells p a.state.side (record { number = wrapped (a.first_number + length a.state.made); reserve = c.pdu.reserve; safety = c.pdu.safety; check_bytes = c.pdu.check_bytes }) first.0.payload =
-          subst (λ (j : ℕ). Spells p a.state.side (record { number = j; reserve = c.pdu.reserve; safety = c.pdu.safety; check_bytes = c.pdu.check_bytes }) first.0.payload) numbered (subst (λ (z : Side). Spells p z c.pdu first.0.payload) (sym f.side) first.3) in
+      subst (λ (j : ℕ). Spells p a.state.side (record { number = j; reserve = c.pdu.reserve; safety = c.pdu.safety; check_bytes = c.pdu.check_bytes }) first.0.payload) numbered (subst (λ (z : Side). Spells p z c.pdu first.0.payload) (sym f.side) first.3) in
       let count : length e'.made ≡ suc (base p + f.made) = ap length now ∙ (len ∙ (omega (arith, f.count))) in
       record {
         station = record waited { state = e' };
@@ -204,11 +204,11 @@ module _ (p : Parameters) (packets : List Packet) (k : ℕ) (s : Side) (own peer
           before = λ i d h v. elim (dec_lt d.place k) [ yes l ↦ (let z = f.before i d h l in omega (arith, z)) | no l ↦ (let z = places_once p packets s own sent i f.made d c h mine (omega arith) in omega (arith, z)) ];
           after = λ i d h v. elim (dec_lt i f.made) [ yes l ↦ (let z = f.after i d h l in omega (arith, z)) | no l ↦ (let same_i : i ≡ f.made = omega arith in let same_d : d ≡ c = (let h' : slice_get own f.made ≡ Some d = subst (λ (j : ℕ). slice_get own j ≡ Some d) same_i h in cc) in let q = ap (λ (z : FirstCopy). z.place) same_d in omega (arith, q)) ];
           same = λ i d h v. elim (dec_lt i f.made) [
-              yes l ↦ (let z = f.same i d h l in (z.0, subst (λ (ms : List Made). slice_get ms (base p + i) ≡ Some z.0) (sym now) (get_front a.state.made (n ∷ []) (base p + i) z.0 z.1), z.2))
-              | no l ↦ (let same_i : i ≡ f.made = omega arith in let same_d : d ≡ c = (let h' : slice_get own f.made ≡ Some d = subst (λ (j : ℕ). slice_get own j ≡ Some d) same_i h in cc) in
-                  let at_end : length a.state.made ≡ base p + i = omega (arith, f.count, same_i) in
-                  (n, subst (λ (ms : List Made). slice_get ms (base p + i) ≡ Some n) (sym now) (subst (λ (j : ℕ). slice_get (a.state.made ++ n ∷ []) j ≡ Some n) at_end (get_push a.state.made n)), made.pdu ∙ ap (λ (z : FirstCopy). z.pdu.safety) (sym same_d)))
-            ];
+            | yes l ↦ (let z = f.same i d h l in (z.0, subst (λ (ms : List Made). slice_get ms (base p + i) ≡ Some z.0) (sym now) (get_front a.state.made (n ∷ []) (base p + i) z.0 z.1), z.2))
+            | no l ↦ (let same_i : i ≡ f.made = omega arith in let same_d : d ≡ c = (let h' : slice_get own f.made ≡ Some d = subst (λ (j : ℕ). slice_get own j ≡ Some d) same_i h in cc) in
+                let at_end : length a.state.made ≡ base p + i = omega (arith, f.count, same_i) in
+                (n, subst (λ (ms : List Made). slice_get ms (base p + i) ≡ Some n) (sym now) (subst (λ (j : ℕ). slice_get (a.state.made ++ n ∷ []) j ≡ Some n) at_end (get_push a.state.made n)), made.pdu ∙ ap (λ (z : FirstCopy). z.pdu.safety) (sym same_d)))
+          ];
           side = made.side ∙ f.side;
         };
       }
@@ -230,7 +230,6 @@ Later : ℕ → List FirstCopy → ℕ → Type 0
 Later k own made = (i : ℕ) (c : FirstCopy) → slice_get own i ≡ Some c → made ≤ i → k < c.place
 
 module _ (p : Parameters) (packets : List Packet) (k : ℕ) (s : Side) (own peer : List FirstCopy) (sent : IsSent p packets s own) (recorded : CrossRecorded p packets) (last : Cursor) (whole : last.made ≡ length own) where
-
   later_by : (made : ℕ) → ((c : FirstCopy) → slice_get own made ≡ Some c → k < c.place) → Later k own made
   unfolding Later
   later_by made h i c g l =
@@ -239,7 +238,7 @@ module _ (p : Parameters) (packets : List Packet) (k : ℕ) (s : Side) (own peer
       let at : slice_get own made ≡ Some first = slice_get-get_or own made c (omega arith) in
       let low = h first at in
       elim (dec_lt made i) [
-        yes m ↦ (let z = places_rise p packets s own sent (i - suc made) made first c at (subst (λ (t : ℕ). slice_get own t ≡ Some c) (omega arith) g) in omega (arith, low, z))
+        | yes m ↦ (let z = places_rise p packets s own sent (i - suc made) made first c at (subst (λ (t : ℕ). slice_get own t ≡ Some c) (omega arith) g) in omega (arith, low, z))
         | no m ↦ (let e : i ≡ made = omega arith in let e' : first ≡ c = (let g' : slice_get own made ≡ Some c = subst (λ (t : ℕ). slice_get own t ≡ Some c) e g in cc) in let q = ap (λ (x : FirstCopy). x.place) e' in omega (arith, q, low))
       ]
 
@@ -285,7 +284,7 @@ module _ (p : Parameters) (packets : List Packet) (k : ℕ) (s : Side) (own peer
       ⊎_elim
       (λ (w : (i : ℕ) × (c : FirstCopy) × (slice_get own i ≡ Some c) × (c.place ≡ k)). absurd (not_first es a f l w.0 w.1 w.2 w.3))
       (λ (w : (j : ℕ) × (o : Packet) × (j < k) × (slice_get packets j ≡ Some o) × (o.side ≡ s) × (o.payload ≡ here.payload)).
-          copied_now (copy_moves a b here at (hs ∙ sym f.side) w.0 w.1 w.2 w.3 (w.4 ∙ sym hs) w.5) (untouched es a f l))
+      copied_now (copy_moves a b here at (hs ∙ sym f.side) w.0 w.1 w.2 w.3 (w.4 ∙ sym hs) w.5) (untouched es a f l))
       (sent.others k here at hs)
     where
       not_first : (es : List Entry) (a : Station) → (f : Tracks p (length packets) k s own peer es last a) → Later k own f.made → (i : ℕ) (c : FirstCopy) → slice_get own i ≡ Some c → c.place ≡ k → ⊥
@@ -303,7 +302,7 @@ module _ (p : Parameters) (packets : List Packet) (k : ℕ) (s : Side) (own peer
       → Next (Make place clock why ∷ es) a b here
   next_make a b here place clock why es at hs f m (makes_next c clock' why' e' lv mine mk) rest =
       elim (dec_lt k c.place) [
-        yes l ↦ copied (Make c.place clock why ∷ es) a b here at hs f (later_by f.made (λ d g. (let same : c ≡ d = cc in let q = ap (λ (x : FirstCopy). x.place) same in omega (arith, q))))
+        | yes l ↦ copied (Make c.place clock why ∷ es) a b here at hs f (later_by f.made (λ d g. (let same : c ≡ d = cc in let q = ap (λ (x : FirstCopy). x.place) same in omega (arith, q))))
         | no l ↦ (let low : k ≤ c.place = not_before f.made c mine (f.before f.made c mine) in made_now es (make_one p packets k s own peer sent recorded c.place clock why es a b here last m at (omega arith) f (makes_next c clock why e' lv mine mk) rest))
       ]
     where
@@ -320,11 +319,11 @@ module _ (p : Parameters) (packets : List Packet) (k : ℕ) (s : Side) (own peer
   unfolding Later
   other_side es a here at no_side f =
       untouched es a f
-          (λ i c g l.
-              let f1 = sent.firsts i c g in
-              let low : k ≤ c.place = elim (dec_lt c.place k) [ yes m ↦ (let z = f.before i c g m in absurd (omega (arith, z))) | no m ↦ omega arith ] in
-              let not_here : c.place ≡ k → ⊥ = λ e. no_side (let g' : slice_get packets k ≡ Some f1.0 = subst (λ (j : ℕ). slice_get packets j ≡ Some f1.0) e f1.1 in let q : f1.0 ≡ here = cc in sym (ap (λ (x : Packet). x.side) q) ∙ f1.2) in
-              omega arith)
+      (λ i c g l.
+      let f1 = sent.firsts i c g in
+      let low : k ≤ c.place = elim (dec_lt c.place k) [ yes m ↦ (let z = f.before i c g m in absurd (omega (arith, z))) | no m ↦ omega arith ] in
+      let not_here : c.place ≡ k → ⊥ = λ e. no_side (let g' : slice_get packets k ≡ Some f1.0 = subst (λ (j : ℕ). slice_get packets j ≡ Some f1.0) e f1.1 in let q : f1.0 ≡ here = cc in sym (ap (λ (x : Packet). x.side) q) ∙ f1.2) in
+      omega arith)
 
   -- when all packets have crossed and all takes that are due are done, nothing is left
   nothing_left : (a : Station) (es : List Entry) → length packets ≡ k → Drained k es → Tracks p (length packets) k s own peer es last a → a.state ≡ last.state
@@ -344,7 +343,6 @@ apart_sides : Client ≡ Server → ⊥
 apart_sides e = cc
 
 module _ (p : Parameters) (packets : List Packet) (c s : List FirstCopy) (sc : IsSent p packets Client c) (ss : IsSent p packets Server s) (rec : CrossRecorded p packets) (lc ls : Cursor) (wc : lc.made ≡ length c) (ws : ls.made ≡ length s) where
-
   pub record At (k : ℕ) : Type 0 where
     pub client : Station
     pub server : Station
@@ -400,10 +398,14 @@ module _ (p : Parameters) (packets : List Packet) (c s : List FirstCopy) (sc : I
 
   pub at_last : At 0 → (vs : List World) × (w : World) × Reaches p vs w × (w.crossed ≡ packets) × (w.client.state ≡ lc.state) × (w.server.state ≡ ls.state)
   at_last w =
-      let d = readied (length packets) (all_packets (length packets) 0 (omega arith) w) in
-      (d.worlds, record { client = d.client; server = d.server; crossed = take (length packets) packets }, d.reached, take_all (length packets) packets (omega arith),
-       nothing_left p packets (length packets) Client c s sc rec lc wc d.client d.client_script refl d.client_drained d.tracks_client,
-       nothing_left p packets (length packets) Server s c ss rec ls ws d.server d.server_script refl d.server_drained d.tracks_server)
+      let d = readied (length packets) (all_packets (length packets) 0 (omega arith) w) in (
+        d.worlds,
+        record { client = d.client; server = d.server; crossed = take (length packets) packets },
+        d.reached,
+        take_all (length packets) packets (omega arith),
+        nothing_left p packets (length packets) Client c s sc rec lc wc d.client d.client_script refl d.client_drained d.tracks_client,
+        nothing_left p packets (length packets) Server s c ss rec ls ws d.server d.server_script refl d.server_drained d.tracks_server,
+      )
 
 -- a first number so that the first PDU of the list has its own
 number_of : ℕ → List FirstCopy → ℕ

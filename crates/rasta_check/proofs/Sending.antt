@@ -77,30 +77,32 @@ pub sent_first : (p : Parameters) (xs : List Packet) (k : Packet) (s : Side) (ow
     → IsSent p (xs ++ k ∷ []) s (own ++ record { place = length xs; pdu = d } ∷ []) × Counts_from f (own ++ record { place = length xs; pdu = d } ∷ [])
 sent_first p xs k s own d f h cf side sp num =
     let c : FirstCopy = record { place = length xs; pdu = d } in
-    let cf' = counts_push f own c cf num in
-    (record {
-      valid = h.valid;
-      firsts = λ i e g. ⊎_elim
-          (λ (old : slice_get own i ≡ Some e). old_first p xs k s own i e h old)
-          (λ (new : (i ≡ length own) × (c ≡ e)). subst (λ (z : FirstCopy). (b : Packet) × (slice_get (xs ++ k ∷ []) z.place ≡ Some b) × (b.side ≡ s) × Spells p s z.pdu b.payload) new.1 (k, get_push xs k, side, sp))
-          (get_push_cases own c i e g);
-      rising = λ i a b x y. rise i a b x y;
-      numbers = λ i a b x y. from_first f a.pdu.number b.pdu.number i (cf' 0 a x) (cf' i b y);
-      others = λ i a g e. ⊎_elim
-          (λ (old : slice_get xs i ≡ Some a). ⊎_elim (λ (w : First (xs ++ k ∷ []) s own i). inl (w.0, w.1, get_front own (c ∷ []) w.0 w.1 w.2, w.3)) (λ (w : Again (xs ++ k ∷ []) s i a.payload). inr w) (old_other p xs k s own i a h old e))
-          (λ (new : (i ≡ length xs) × (k ≡ a)). inl (length own, c, get_push own c, sym new.0))
-          (get_push_cases xs k i a g);
-    }, cf')
+    let cf' = counts_push f own c cf num in (
+      record {
+        valid = h.valid;
+        firsts = λ i e g. ⊎_elim
+            (λ (old : slice_get own i ≡ Some e). old_first p xs k s own i e h old)
+            (λ (new : (i ≡ length own) × (c ≡ e)). subst (λ (z : FirstCopy). (b : Packet) × (slice_get (xs ++ k ∷ []) z.place ≡ Some b) × (b.side ≡ s) × Spells p s z.pdu b.payload) new.1 (k, get_push xs k, side, sp))
+            (get_push_cases own c i e g);
+        rising = λ i a b x y. rise i a b x y;
+        numbers = λ i a b x y. from_first f a.pdu.number b.pdu.number i (cf' 0 a x) (cf' i b y);
+        others = λ i a g e. ⊎_elim
+            (λ (old : slice_get xs i ≡ Some a). ⊎_elim (λ (w : First (xs ++ k ∷ []) s own i). inl (w.0, w.1, get_front own (c ∷ []) w.0 w.1 w.2, w.3)) (λ (w : Again (xs ++ k ∷ []) s i a.payload). inr w) (old_other p xs k s own i a h old e))
+            (λ (new : (i ≡ length xs) × (k ≡ a)). inl (length own, c, get_push own c, sym new.0))
+            (get_push_cases xs k i a g);
+      },
+      cf',
+    )
   where
     rise : (i : ℕ) (a b : FirstCopy) → slice_get (own ++ record { place = length xs; pdu = d } ∷ []) i ≡ Some a → slice_get (own ++ record { place = length xs; pdu = d } ∷ []) (suc i) ≡ Some b → a.place < b.place
     rise i a b x y = ⊎_elim
         (λ (old : slice_get own (suc i) ≡ Some b). (let l = slice_get_within own (suc i) b old in
-            ⊎_elim (λ (o : slice_get own i ≡ Some a). h.rising i a b o old) (λ (n : (i ≡ length own) × (record { place = length xs; pdu = d } ≡ a)). absurd (omega arith)) (get_push_cases own _ i a x)))
+        ⊎_elim (λ (o : slice_get own i ≡ Some a). h.rising i a b o old) (λ (n : (i ≡ length own) × (record { place = length xs; pdu = d } ≡ a)). absurd (omega arith)) (get_push_cases own _ i a x)))
         (λ (new : (suc i ≡ length own) × (record { place = length xs; pdu = d } ≡ b)).
-            ⊎_elim
-            (λ (o : slice_get own i ≡ Some a). (let w = h.firsts i a o in let l = slice_get_within xs a.place w.0 w.1 in let q = ap (λ (z : FirstCopy). z.place) new.1 in omega arith))
-            (λ (n : (i ≡ length own) × (record { place = length xs; pdu = d } ≡ a)). absurd (omega arith))
-            (get_push_cases own _ i a x))
+        ⊎_elim
+        (λ (o : slice_get own i ≡ Some a). (let w = h.firsts i a o in let l = slice_get_within xs a.place w.0 w.1 in let q = ap (λ (z : FirstCopy). z.place) new.1 in omega arith))
+        (λ (n : (i ≡ length own) × (record { place = length xs; pdu = d } ≡ a)). absurd (omega arith))
+        (get_push_cases own _ i a x))
         (get_push_cases own _ (suc i) b y)
 
 pub sent_none : (p : Parameters) (s : Side) → AreParameters p → IsSent p [] s []
@@ -113,8 +115,8 @@ earliest p xs s own h zero k l a g e = absurd (omega arith)
 earliest p xs s own h (suc n) k l a g e =
     ⊎_elim
     (λ (w : First xs s own k). (let f = h.firsts w.0 w.1 w.2 in
-        let same : f.0 ≡ a = (let z : slice_get xs k ≡ Some f.0 = subst (λ (t : ℕ). slice_get xs t ≡ Some f.0) w.3 f.1 in cc) in
-        (w.0, w.1, f.0, w.2, (let p = w.3 in omega arith), f.1, ap (λ (z : Packet). z.payload) same, f.3)))
+    let same : f.0 ≡ a = (let z : slice_get xs k ≡ Some f.0 = subst (λ (t : ℕ). slice_get xs t ≡ Some f.0) w.3 f.1 in cc) in
+    (w.0, w.1, f.0, w.2, (let p = w.3 in omega arith), f.1, ap (λ (z : Packet). z.payload) same, f.3)))
     (λ (w : Again xs s k a.payload). (let r = earliest p xs s own h n w.0 (let z = w.2 in omega arith) w.1 w.3 w.4 in (r.0, r.1, r.2, r.3, (let z = w.2 in let y = r.4 in omega arith), r.5, r.6 ∙ w.5, r.7)))
     (h.others k a g e)
 
@@ -123,7 +125,6 @@ not_again f i j m n x y l b e = omega arith
 
 -- two lists of first copies that agree p below i: the place of the one's i-th is not below that of the other's
 module _ (p : Parameters) (xs : List Packet) (s : Side) (c d : List FirstCopy) (hc : IsSent p xs s c) (hd : IsSent p xs s d) where
-
   abbrev Agree : ℕ → Type 0
   Agree i = (j : ℕ) → j < i → slice_get c j ≡ slice_get d j
 
@@ -143,11 +144,11 @@ module _ (p : Parameters) (xs : List Packet) (s : Side) (c d : List FirstCopy) (
 below_by : (p : Parameters) (xs : List Packet) (s : Side) (d : List FirstCopy) → IsSent p xs s d → (i j : ℕ) (a b e : FirstCopy) → slice_get d i ≡ Some e → a.place < e.place → slice_get d j ≡ Some b → b.place ≤ a.place → j < i
 below_by p xs s d h i j a b e at l g m =
     elim (dec_lt j i) [
-      yes z ↦ z
+      | yes z ↦ z
       | no z ↦ elim (dec_lt i j) [
-          yes y ↦ absurd (let r = places_rise p xs s d h (j - suc i) i e b at (subst (λ (t : ℕ). slice_get d t ≡ Some b) (omega arith) g) in omega arith)
-          | no y ↦ absurd (let same : i ≡ j = omega arith in let q : e ≡ b = (let g' : slice_get d i ≡ Some b = subst (λ (t : ℕ). slice_get d t ≡ Some b) (sym same) g in cc) in let w = ap (λ (u : FirstCopy). u.place) q in omega arith)
-        ]
+        | yes y ↦ absurd (let r = places_rise p xs s d h (j - suc i) i e b at (subst (λ (t : ℕ). slice_get d t ≡ Some b) (omega arith) g) in omega arith)
+        | no y ↦ absurd (let same : i ≡ j = omega arith in let q : e ≡ b = (let g' : slice_get d i ≡ Some b = subst (λ (t : ℕ). slice_get d t ≡ Some b) (sym same) g in cc) in let w = ap (λ (u : FirstCopy). u.place) q in omega arith)
+      ]
     ]
 
 at_same : (p : Parameters) (xs : List Packet) (s : Side) (c d : List FirstCopy) → IsSent p xs s c → IsSent p xs s d → (i : ℕ) (a b : FirstCopy) → slice_get c i ≡ Some a → slice_get d i ≡ Some b → a.place ≡ b.place → a ≡ b
@@ -174,7 +175,7 @@ agree : (p : Parameters) (xs : List Packet) (s : Side) (c d : List FirstCopy) �
 agree p xs s c d hc hd zero l j k = absurd (omega arith)
 agree p xs s c d hc hd (suc n) l j k =
     elim (dec_lt j n) [
-      yes z ↦ agree p xs s c d hc hd n (omega arith) j z
+      | yes z ↦ agree p xs s c d hc hd n (omega arith) j z
       | no z ↦ (let e : j ≡ n = omega arith in subst (λ (t : ℕ). slice_get c t ≡ slice_get d t) (sym e) (agree_at p xs s c d hc hd n (omega arith) (agree p xs s c d hc hd n (omega arith)) (slice_get c n) (slice_get d n) refl refl))
     ]
 

@@ -1,5 +1,5 @@
 -- What the PDUs of a sent list show of the units of the other side.
-use Rattle.std.proofs.Common.{◌≡◌, ℕ, zero, suc, ◌≤◌, Bool, true, false, List, [], ◌∷◌, Option, Some, None, slice_get, refl, ap, sym, ◌∙◌, arith}
+use Rattle.std.proofs.Common.{◌≡◌, ℕ, zero, suc, ◌≤◌, Bool, true, false, List, [], ◌∷◌, Option, Some, None, slice_get, refl, ap, ◌∙◌, arith}
 use Rattle.std.specs.Prelude.{slice_index_or, map, fold, max, if◌then◌else◌}
 use Rattle.std.proofs.lemmas.Option.{slice_get_within}
 use Rattle.rasta_pcap.specs.declared.fault.Side.{Side}
@@ -25,7 +25,6 @@ quiet_asks (Some q) Server own = refl
 -- f's units, by lists that tell what f made and what its peer did
 module _ (f : EndState) (own peer : List SafetyPdu) (told : pdus_made f.made ≡ own) (along : units_along own peer ≡ values f) (n : ℕ) (x : SafetyPdu)
     (most : is_connection_request x.kind ≡ false → (c v : ℕ) → SnIs f.made c x.cs → slice_get (values f) c ≡ Some v → v ≤ n) where
-
   at_position : is_connection_request x.kind ≡ false → (o : Option ℕ) → position_with own x.cs ≡ o → units_at (units_along own peer) o ≤ n
   at_position k None e = omega arith
   at_position k (Some c) e =

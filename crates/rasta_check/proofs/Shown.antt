@@ -50,7 +50,7 @@ judges false true false c e g = refl
 judges false false z c e g = refl
 
 -- once something is accepted, every CS is judged but that of a connection request
-judged_after : (e : EndState) (k : Kind) (i : ℕ) → e.accepted ≡ suc i → is_connection_request k ≡ false → is_judged e k ≡ true
+pub judged_after : (e : EndState) (k : Kind) (i : ℕ) → e.accepted ≡ suc i → is_connection_request k ≡ false → is_judged e k ≡ true
 judged_after e k i a c =
     let z : (e.accepted == 0) ≡ false = grind (arith, nat_tests) in
     judges (is_connection_request k) (is_disconnection_request k) (e.accepted == 0) (is_client e.side && is_start e.phase) c z

@@ -28,11 +28,11 @@ number_once p xs s own h l i j c d x y e =
     let ni = h.numbers i head.0 c head.1 x in
     let nj = h.numbers j head.0 d head.1 y in
     elim (dec_lt i j) [
-      yes z ↦ absurd (not_again head.0.pdu.number i j c.pdu.number d.pdu.number ni nj z (omega arith) e)
+      | yes z ↦ absurd (not_again head.0.pdu.number i j c.pdu.number d.pdu.number ni nj z (omega arith) e)
       | no z ↦ elim (dec_lt j i) [
-          yes w ↦ absurd (not_again head.0.pdu.number j i d.pdu.number c.pdu.number nj ni w (omega arith) (sym e))
-          | no w ↦ omega arith
-        ]
+        | yes w ↦ absurd (not_again head.0.pdu.number j i d.pdu.number c.pdu.number nj ni w (omega arith) (sym e))
+        | no w ↦ omega arith
+      ]
     ]
 
 pub firsts_new : (p : Parameters) (xs : List Packet) (s : Side) (own : List FirstCopy) → IsSent p xs s own → length own < 4294967296 → (i : ℕ) (c : FirstCopy) → slice_get own i ≡ Some c → IsKnown p xs s c.place c.pdu.number → ⊥
@@ -51,13 +51,12 @@ pub others_old : (p : Parameters) (xs : List Packet) (s : Side) (own : List Firs
 others_old p xs s own h k a g e = ⊎_elim
     (λ (w : (i : ℕ) × (c : FirstCopy) × (slice_get own i ≡ Some c) × (c.place ≡ k)). inl w)
     (λ (w : (j : ℕ) × (b : Packet) × (j < k) × (slice_get xs j ≡ Some b) × (b.side ≡ s) × (b.payload ≡ a.payload)).
-        let r = earliest p xs s own h (suc w.0) w.0 (omega arith) w.1 w.3 w.4 in
-        let there : Spells p s r.1.pdu w.1.payload = subst (λ (bs : List ℕ). Spells p s r.1.pdu bs) r.6 r.7 in
-        inr (r.1.pdu, subst (λ (bs : List ℕ). Spells p s r.1.pdu bs) w.5 there, record { earlier = w.0; packet = w.1; pdu = r.1.pdu; in_front = w.2; there = w.3; of_side = w.4; spelled = there; same_number = refl }))
+    let r = earliest p xs s own h (suc w.0) w.0 (omega arith) w.1 w.3 w.4 in
+    let there : Spells p s r.1.pdu w.1.payload = subst (λ (bs : List ℕ). Spells p s r.1.pdu bs) r.6 r.7 in
+    inr (r.1.pdu, subst (λ (bs : List ℕ). Spells p s r.1.pdu bs) w.5 there, record { earlier = w.0; packet = w.1; pdu = r.1.pdu; in_front = w.2; there = w.3; of_side = w.4; spelled = there; same_number = refl }))
     (h.others k a g e)
 
 module _ (p : Parameters) (n : ℕ) (packets : List Packet) (r : Side) (own peer : List FirstCopy) (sent : IsSent p packets r peer) (few : length peer < 4294967296) where
-
   take_once : (u v w : Cursor) (slot number : ℕ) → Advances p n own peer u (Take slot number) v → Advances p n own peer u (Take slot number) w → v ≡ w
   take_once u v w slot number (takes_next slot' i c e a b g d f t) y = by c refl w y
     where

@@ -211,7 +211,6 @@ told_longer p s n n' own peer e clock taken l h =
 module _ (p : Parameters) (s : Side) (xs : List Packet) (own peer : List FirstCopy) (e e' : EndState) (first clock taken channel reserve : ℕ) (check bytes : List ℕ) (x : SafetyPdu) (why : Why)
     (mk : Makes p e x clock why e') (sp : Spells p e.side (record { number = wrapped (first + length e.made); reserve = reserve; safety = x; check_bytes = check }) bytes)
     (h : Sends p s xs own e first) (t : Told p s (length xs) own peer e clock taken) where
-
   datagram : RedundancyPdu
   datagram = record { number = wrapped (first + length e.made); reserve = reserve; safety = x; check_bytes = check }
 
@@ -323,8 +322,14 @@ both_kept p s r xs ys a a' b apart (takes q m e' c l at tk) g =
       their_told = g.their_told;
     }
 both_kept p s r xs ys a a' b apart (waits c l) g =
-    record { own = g.own; peer = g.peer; sends = g.sends; their_sends = g.their_sends; their_told = g.their_told;
-      told = (let t = g.told in record { es = t.es; at = t.at; leads = t.leads; made = t.made; mark = t.mark; level = t.level; state = t.state; clock = (let z = t.clock in omega arith); clocks = t.clocks }) }
+    record {
+      own = g.own;
+      peer = g.peer;
+      sends = g.sends;
+      their_sends = g.their_sends;
+      their_told = g.their_told;
+      told = (let t = g.told in record { es = t.es; at = t.at; leads = t.leads; made = t.made; mark = t.mark; level = t.level; state = t.state; clock = (let z = t.clock in omega arith); clocks = t.clocks });
+    }
 
 turn : (p : Parameters) (s r : Side) (xs : List Packet) (a b : Station) → Both p s r xs a b → Both p r s xs b a
 turn p s r xs a b g = record { own = g.peer; peer = g.own; sends = g.their_sends; their_sends = g.sends; told = g.their_told; their_told = g.told }
@@ -382,27 +387,31 @@ same_peer p s r xs ys a a' b apart (waits c i) g = refl
 
 pub step_copies : (p : Parameters) (v w : World) (st : Step p v w) (g : Both p Client Server v.crossed v.client v.server)
     → ((j : ℕ) (d : FirstCopy) → slice_get (told_step p v w st g).own j ≡ Some d → d.place < length v.crossed → slice_get g.own j ≡ Some d)
-      × ((j : ℕ) (d : FirstCopy) → slice_get (told_step p v w st g).peer j ≡ Some d → d.place < length v.crossed → slice_get g.peer j ≡ Some d)
+    × ((j : ℕ) (d : FirstCopy) → slice_get (told_step p v w st g).peer j ≡ Some d → d.place < length v.crossed → slice_get g.peer j ≡ Some d)
 unfolding told_step turn
-step_copies p v w (client_moves {a = a} {after = ys} m) g =
-    (λ j d at l. kept_copies p Client Server v.crossed ys v.client a v.server (λ e. cc (e)) m g j d at l,
-     λ j d at l. subst (λ (cs : List FirstCopy). slice_get cs j ≡ Some d) (same_peer p Client Server v.crossed ys v.client a v.server (λ e. cc (e)) m g) at)
+step_copies p v w (client_moves {a = a} {after = ys} m) g = (
+  λ j d at l. kept_copies p Client Server v.crossed ys v.client a v.server (λ e. cc (e)) m g j d at l,
+  λ j d at l. subst (λ (cs : List FirstCopy). slice_get cs j ≡ Some d) (same_peer p Client Server v.crossed ys v.client a v.server (λ e. cc (e)) m g) at,
+)
 step_copies p v w (server_moves {a = a} {after = ys} m) g =
-    let h = turn p Client Server v.crossed v.client v.server g in
-    (λ j d at l. subst (λ (cs : List FirstCopy). slice_get cs j ≡ Some d) (same_peer p Server Client v.crossed ys v.server a v.client (λ e. cc (e)) m h) at,
-     λ j d at l. kept_copies p Server Client v.crossed ys v.server a v.client (λ e. cc (e)) m h j d at l)
+    let h = turn p Client Server v.crossed v.client v.server g in (
+      λ j d at l. subst (λ (cs : List FirstCopy). slice_get cs j ≡ Some d) (same_peer p Server Client v.crossed ys v.server a v.client (λ e. cc (e)) m h) at,
+      λ j d at l. kept_copies p Server Client v.crossed ys v.server a v.client (λ e. cc (e)) m h j d at l,
+    )
 
 pub step_front : (p : Parameters) (v w : World) (st : Step p v w) (g : Both p Client Server v.crossed v.client v.server)
     → ((j : ℕ) (d : FirstCopy) → slice_get g.own j ≡ Some d → slice_get (told_step p v w st g).own j ≡ Some d)
-      × ((j : ℕ) (d : FirstCopy) → slice_get g.peer j ≡ Some d → slice_get (told_step p v w st g).peer j ≡ Some d)
+    × ((j : ℕ) (d : FirstCopy) → slice_get g.peer j ≡ Some d → slice_get (told_step p v w st g).peer j ≡ Some d)
 unfolding told_step turn
-step_front p v w (client_moves {a = a} {after = ys} m) g =
-    (λ j d at. kept_front p Client Server v.crossed ys v.client a v.server (λ e. cc (e)) m g j d at,
-     λ j d at. subst (λ (cs : List FirstCopy). slice_get cs j ≡ Some d) (sym (same_peer p Client Server v.crossed ys v.client a v.server (λ e. cc (e)) m g)) at)
+step_front p v w (client_moves {a = a} {after = ys} m) g = (
+  λ j d at. kept_front p Client Server v.crossed ys v.client a v.server (λ e. cc (e)) m g j d at,
+  λ j d at. subst (λ (cs : List FirstCopy). slice_get cs j ≡ Some d) (sym (same_peer p Client Server v.crossed ys v.client a v.server (λ e. cc (e)) m g)) at,
+)
 step_front p v w (server_moves {a = a} {after = ys} m) g =
-    let h = turn p Client Server v.crossed v.client v.server g in
-    (λ j d at. subst (λ (cs : List FirstCopy). slice_get cs j ≡ Some d) (sym (same_peer p Server Client v.crossed ys v.server a v.client (λ e. cc (e)) m h)) at,
-     λ j d at. kept_front p Server Client v.crossed ys v.server a v.client (λ e. cc (e)) m h j d at)
+    let h = turn p Client Server v.crossed v.client v.server g in (
+      λ j d at. subst (λ (cs : List FirstCopy). slice_get cs j ≡ Some d) (sym (same_peer p Server Client v.crossed ys v.server a v.client (λ e. cc (e)) m h)) at,
+      λ j d at. kept_front p Server Client v.crossed ys v.server a v.client (λ e. cc (e)) m h j d at,
+    )
 
 -- the same for given lists of first copies
 pub told_of : (p : Parameters) (ws : List World) (w : World) (c s : List FirstCopy) → Reaches p ws w → IsSent p w.crossed Client c → IsSent p w.crossed Server s → length c ≤ 1000000 → length s ≤ 1000000
@@ -425,15 +434,15 @@ pub complete : (p : Parameters) (ws : List World) (w : World) (c s : List FirstC
     → IsSent p w.crossed Client c → IsSent p w.crossed Server s → length c ≤ 1000000 → length s ≤ 1000000
     → (n : ℕ) → w.client.state.clock ≤ n → w.server.state.clock ≤ n
     → (cs ss : List Entry)
-      × Fits p Client (length w.crossed) c s cs w.client.state × Fits p Server (length w.crossed) s c ss w.server.state
-      × (length cs + length ss ≤ 4000000) × ClocksWithin n cs × ClocksWithin n ss
+    × Fits p Client (length w.crossed) c s cs w.client.state × Fits p Server (length w.crossed) s c ss w.server.state
+    × (length cs + length ss ≤ 4000000) × ClocksWithin n cs × ClocksWithin n ss
 complete p ws w c s r hc hs lc ls n bc bs =
     let g = told_of p ws w c s r hc hs lc ls in
     let h = g.0 in
     let fc : Fits p Client (length w.crossed) c s h.told.es w.client.state =
-        subst (λ (o : List FirstCopy). Fits p Client (length w.crossed) o s h.told.es w.client.state) g.1 (subst (λ (q : List FirstCopy). Fits p Client (length w.crossed) h.own q h.told.es w.client.state) g.2 (told_fits p Client _ h.own h.peer _ _ _ h.told)) in
+    subst (λ (o : List FirstCopy). Fits p Client (length w.crossed) o s h.told.es w.client.state) g.1 (subst (λ (q : List FirstCopy). Fits p Client (length w.crossed) h.own q h.told.es w.client.state) g.2 (told_fits p Client _ h.own h.peer _ _ _ h.told)) in
     let fs : Fits p Server (length w.crossed) s c h.their_told.es w.server.state =
-        subst (λ (o : List FirstCopy). Fits p Server (length w.crossed) o c h.their_told.es w.server.state) g.2 (subst (λ (q : List FirstCopy). Fits p Server (length w.crossed) h.peer q h.their_told.es w.server.state) g.1 (told_fits p Server _ h.peer h.own _ _ _ h.their_told)) in
+    subst (λ (o : List FirstCopy). Fits p Server (length w.crossed) o c h.their_told.es w.server.state) g.2 (subst (λ (q : List FirstCopy). Fits p Server (length w.crossed) h.peer q h.their_told.es w.server.state) g.1 (told_fits p Server _ h.peer h.own _ _ _ h.their_told)) in
     let few = told_few p Client _ h.own h.peer _ _ _ h.told in
     let their_few = told_few p Server _ h.peer h.own _ _ _ h.their_told in
     let x = ap length g.1 in

@@ -79,7 +79,6 @@ rest_clocks (Make place clock why) es h = h.1
 
 module _ (p : Parameters) (packets : List Packet) (side other : Side) (own peer : List FirstCopy) (sent : IsSent p packets side own) (theirs : IsSent p packets other peer)
     (few : length packets ≤ 16000000) (short : length own ≤ 1000000) where
-
   entry_fits : (u v : Cursor) (x : Entry) → length u.state.made ≡ base p + u.made → Advances p (length packets) own peer u x v → ClocksWithin most_clock (x ∷ [])
       → IsWritable x × (length v.state.made ≡ base p + v.made)
   entry_fits u v x n (takes_next slot position c after a b g d f t) h =

@@ -1,7 +1,7 @@
 //! Laws on every run of two ends: public functions without a body, whose contracts are the laws.
 ghost use Rattle.rasta_pdu.specs.Params.{Parameters};
 ghost use Rattle.rasta_check.specs.Laws;
-ghost use Rattle.rasta_check.specs.Theorem.{OfConnection, SentLists, Definite, Simulation, Necessity, Completeness, Stuck};
+ghost use Rattle.rasta_check.specs.Theorem.{OfConnection, SentLists, Definite, Simulation, Necessity, Sharpness, Completeness, Stuck};
 
 /// The SN of a PDU names one position of its end.
 pub fn sn_once()
@@ -48,6 +48,11 @@ pub fn simulation()
 /// order, and each message before its proof crossed.
 pub fn necessity()
     ensures { (p : Parameters) → OfConnection p → Necessity p }
+{}
+
+/// Where both scripts fit, some run that sends the packets hands up exactly what is listed.
+pub fn sharpness()
+    ensures { (p : Parameters) → OfConnection p → Sharpness p }
 {}
 
 /// Every run within the limits is told by two scripts that fit.

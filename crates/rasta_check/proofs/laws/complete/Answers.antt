@@ -9,7 +9,12 @@ pub returns : goal.returns
 returns z p h ws w c s r hc hs few lc ls bc bs =
     let own = to_record p w.crossed Client c h.valid hc in
     let peer = to_record p w.crossed Server s h.valid hs in
-    let k = complete p ws w c s r own peer lc ls most_clock (omega arith) (omega arith) in
-    (k.0, k.1, k.2, k.3, k.4,
-     script_fits p w.crossed Client Server c s own peer few lc k.2.0 k.0 k.2.1 k.5,
-     script_fits p w.crossed Server Client s c peer own few ls k.3.0 k.1 k.3.1 k.6)
+    let k = complete p ws w c s r own peer lc ls most_clock (omega arith) (omega arith) in (
+      k.0,
+      k.1,
+      k.2,
+      k.3,
+      k.4,
+      script_fits p w.crossed Client Server c s own peer few lc k.2.0 k.0 k.2.1 k.5,
+      script_fits p w.crossed Server Client s c peer own few ls k.3.0 k.1 k.3.1 k.6,
+    )

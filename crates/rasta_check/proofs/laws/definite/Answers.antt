@@ -5,11 +5,13 @@ use Rattle.rasta_check.proofs.Following.{definite, can_follow}
 use Rattle.rasta_check.proofs.laws.definite.Goals as goal
 
 pub returns : goal.returns
-returns z p h =
-    ((λ ws w packets rest packet sent r e s few.
-        let own = to_record p packets packet.side sent h.valid s in
-        faultless p packets packet.side sent packet h own (omega arith) (definite p h.valid ws w packets rest packet sent r e own (omega arith))),
-     λ packets packet sent are s few.
-        let own = to_record p packets packet.side sent h.valid s in
-        ((λ n. grown p packets packet sent own few (follows p packets packet.side sent packet h own (omega arith) are n)),
-         λ rest more g. faultless p packets packet.side sent packet h own (omega arith) (can_follow p packets rest packet.side sent packet own (omega arith) refl more (to_record p _ packet.side more h.valid g))))
+returns z p h = (
+  (λ ws w packets rest packet sent r e s few.
+      let own = to_record p packets packet.side sent h.valid s in
+      faultless p packets packet.side sent packet h own (omega arith) (definite p h.valid ws w packets rest packet sent r e own (omega arith))),
+  λ packets packet sent are s few.
+      let own = to_record p packets packet.side sent h.valid s in (
+        (λ n. grown p packets packet sent own few (follows p packets packet.side sent packet h own (omega arith) are n)),
+        λ rest more g. faultless p packets packet.side sent packet h own (omega arith) (can_follow p packets rest packet.side sent packet own (omega arith) refl more (to_record p _ packet.side more h.valid g)),
+      ),
+)

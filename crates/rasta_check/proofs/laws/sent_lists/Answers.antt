@@ -5,7 +5,8 @@ use Rattle.rasta_check.proofs.Sending.{sent_once}
 use Rattle.rasta_check.proofs.laws.sent_lists.Goals as goal
 
 pub returns : goal.returns
-returns z p h =
-    (λ ws w side r within. made_list p h.valid ws w side r within,
-     λ ws w place r l. appended p ws w r place l,
-     λ packets side sent others a b few. sent_once p packets side sent others (to_record p packets side sent h.valid a) (to_record p packets side others h.valid b) few)
+returns z p h = (
+  λ ws w side r within. made_list p h.valid ws w side r within,
+  λ ws w place r l. appended p ws w r place l,
+  λ packets side sent others a b few. sent_once p packets side sent others (to_record p packets side sent h.valid a) (to_record p packets side others h.valid b) few,
+)

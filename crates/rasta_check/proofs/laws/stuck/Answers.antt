@@ -6,6 +6,7 @@ use Rattle.rasta_check.proofs.laws.stuck.Goals as goal
 
 pub returns : goal.returns
 returns z p h packets side own peer sent few =
-    let theirs = to_record p packets (other_side side) peer h.valid sent in
-    ((λ u v w es f g. leads_once p (length packets) packets (other_side side) own peer theirs few u v w es f g),
-     λ es rest x v e f n g. stuck p (length packets) packets (other_side side) own peer theirs few _ v g.0 es rest x f n g.1)
+    let theirs = to_record p packets (other_side side) peer h.valid sent in (
+      (λ u v w es f g. leads_once p (length packets) packets (other_side side) own peer theirs few u v w es f g),
+      λ es rest x v e f n g. stuck p (length packets) packets (other_side side) own peer theirs few _ v g.0 es rest x f n g.1,
+    )
