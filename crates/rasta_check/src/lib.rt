@@ -3,6 +3,7 @@
 #![tactic(auto)]
 
 pub mod laws;
+mod place_table;
 mod sent_list;
 
 pub use rasta_pcap::{Fault, Side, Sink, Source};
