@@ -7,3 +7,4 @@ pub mod Scripts
 pub mod Laws
 pub mod Theorem
 pub mod Lists
+pub mod Checking

@@ -83,6 +83,21 @@ too_long = 29
 abbrev pub wrong_syntax : ℕ
 wrong_syntax = 30
 
+abbrev pub slot_order : ℕ
+slot_order = 31
+
+abbrev pub not_first_copy : ℕ
+not_first_copy = 32
+
+abbrev pub make_missing : ℕ
+make_missing = 33
+
+abbrev pub not_yet_crossed : ℕ
+not_yet_crossed = 34
+
+abbrev pub not_rising : ℕ
+not_rising = 35
+
 abbrev pub clock_differs : ℕ
 clock_differs = 36
 

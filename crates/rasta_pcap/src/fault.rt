@@ -63,6 +63,16 @@ impl Fault {
 
     pub const SYNTAX: u8 = 30;
 
+    pub const SLOT_ORDER: u8 = 31;
+
+    pub const NOT_FIRST_COPY: u8 = 32;
+
+    pub const MAKE_MISSING: u8 = 33;
+
+    pub const NOT_YET_CROSSED: u8 = 34;
+
+    pub const NOT_RISING: u8 = 35;
+
     pub const CLOCK_DIFFERS: u8 = 36;
 
     pub const CLOCK_FALLS: u8 = 37;
