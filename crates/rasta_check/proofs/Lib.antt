@@ -34,3 +34,5 @@ pub mod Shown
 pub mod Showing
 pub mod History
 pub mod Known
+pub mod Positions
+pub mod Pushes
