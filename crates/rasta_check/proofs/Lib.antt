@@ -38,3 +38,5 @@ pub mod InTime
 pub mod Listing
 pub mod Necessity
 pub mod Cutting
+pub mod Positions
+pub mod Pushes

@@ -2,9 +2,13 @@
 //! what they may send, and its laws; and the lists of what each side of a capture sent.
 #![tactic(auto)]
 
+mod dense_list;
 pub mod laws;
+mod map_list;
 mod place_table;
 mod sent_list;
 
+pub use dense_list::DenseList;
+pub use map_list::MapList;
 pub use rasta_pcap::{Fault, Side, Sink, Source};
 pub use sent_list::SentList;

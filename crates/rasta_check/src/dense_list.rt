@@ -1,0 +1,76 @@
+//! A sent list in one vector.
+ghost use Rattle.std.specs.Prelude.{◌≡◌, [], ◌∷◌, ◌++◌, List, map, OnOk, OnErr};
+ghost use Rattle.rasta_check.specs.Crossing.{FirstCopy};
+ghost use Rattle.rasta_check.specs.Lists.{AreMarks, IsOrdered, copy_of};
+
+use crate::place_table::PlaceTable;
+use crate::sent_list::SentList;
+use rasta_pdu::Pdu;
+use std::alloc::{AllocError, Global};
+use std::marker::Model;
+
+/// A sent list as a vector: the position of a number is its distance from the first number.
+#[derive(Debug, Drop)]
+pub struct DenseList<'a> {
+    copies: Vec<(u32, Pdu<'a>)>,
+    places: PlaceTable,
+}
+
+impl<'a> Model for DenseList<'a> {
+    ghost Value = { List FirstCopy };
+
+    ghost view = { λ l. map copy_of l.copies.items };
+
+    ghost invariant = { λ l. IsOrdered (map copy_of l.copies.items) × AreMarks (map copy_of l.copies.items) l.places.marks.items };
+}
+
+impl<'a> DenseList<'a> {
+    /// A list without members.
+    pub fn new(alloc: Global) -> DenseList<'a>
+        ensures { result ≡ [] }
+    {
+        DenseList {
+            copies: Vec::new(alloc),
+            places: PlaceTable::new(alloc),
+        }
+    }
+
+    // Adds a first copy behind the others. Without memory for it the list stays as it was.
+    pub(crate) fn push(&mut self, place: u32, pdu: Pdu<'a>) -> Result<(), AllocError>
+        requires { IsOrdered (self.old ++ copy_of (place, pdu) ∷ []) }
+        ensures ok { OnOk result (self.new ≡ self.old ++ copy_of (place, pdu.entry) ∷ []) }
+        ensures err { OnErr result (self.new ≡ self.old) }
+    {
+        self.places.reserve(place)?;
+        self.copies.try_reserve(1)?;
+        self.places.mark(place, self.copies.len() as u32);
+        self.copies.push_reserved((place, pdu));
+        Ok(())
+    }
+}
+
+impl<'a> SentList<'a> for DenseList<'a> {
+    ghost content = { λ l. l };
+
+    fn len(&self) -> u32 {
+        self.copies.len() as u32
+    }
+
+    fn get(&self, position: u32) -> Option<(u32, Pdu<'a>)> {
+        self.copies.get(position as usize).copied()
+    }
+
+    fn position_of(&self, number: u32) -> Option<u32> {
+        let (_, first) = self.copies.first()?;
+        let position = number.wrapping_sub(first.number());
+        if (position as usize) < self.copies.len() {
+            Some(position)
+        } else {
+            None
+        }
+    }
+
+    fn at_place(&self, place: u32) -> Option<u32> {
+        self.places.position(place)
+    }
+}
