@@ -40,3 +40,4 @@ pub mod Necessity
 pub mod Cutting
 pub mod Positions
 pub mod Pushes
+pub mod Checked
