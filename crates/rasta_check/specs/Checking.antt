@@ -2,7 +2,7 @@
 use Rattle.std.specs.Prelude.{◌≡◌, ◌⊎◌, ℕ, suc, ◌+◌, Bool, not, ◌&&◌, ◌||◌, nat_lt, if◌then◌else◌, ◌==◌, List, [], ◌∷◌, length, Option, Some, None, Result, Ok, Err, slice_get}
 use Rattle.rasta_pcap.specs.declared.fault.Fault.{Fault}
 use Rattle.rasta_pcap.specs.declared.fault.Side.{Side}
-use Rattle.rasta_pcap.specs.Fault.{fault_of_end, slot_order, not_first_copy, make_missing, not_yet_crossed, not_rising}
+use Rattle.rasta_pcap.specs.Fault.{fault_of_end, no_memory, slot_order, not_first_copy, make_missing, not_yet_crossed, not_rising}
 use Rattle.rasta_pdu.specs.Params.{Parameters}
 use Rattle.rasta_cert.specs.declared.entry.Entry.{Entry}
 use Rattle.rasta_cert.specs.declared.entry.Entry.TheVariants.{Take, Make}
@@ -43,12 +43,16 @@ abbrev pub make_found : Parameters → List FirstCopy → Cursor → ℕ → ℕ
 make_found p own u index clock why None = Err not_first_copy
 make_found p own u index clock why (Some position) = if position == u.made then make_of p u index clock why (slice_get own position) else Err make_missing
 
--- one entry, where so many packets crossed: what follows, or the number of its first fault
+-- a take entry, where so many packets crossed: what follows, or the number of its first fault
+abbrev pub take_entry : Parameters → ℕ → List FirstCopy → Cursor → ℕ → ℕ → Result Cursor ℕ
+take_entry p packets peer u slot number = if nat_lt slot u.level || nat_lt packets slot then Err slot_order else take_found p peer u slot (position_of_number peer number)
+
+abbrev pub make_entry : Parameters → List FirstCopy → Cursor → ℕ → ℕ → Why → Result Cursor ℕ
+make_entry p own u index clock why = if nat_lt index u.level then Err slot_order else make_found p own u index clock why (position_of_place own index)
+
 unfoldable pub next_cursor : Parameters → ℕ → List FirstCopy → List FirstCopy → Cursor → Entry → Result Cursor ℕ
-next_cursor p packets own peer u (Take slot number) =
-    if nat_lt slot u.level || nat_lt packets slot then Err slot_order else take_found p peer u slot (position_of_number peer number)
-next_cursor p packets own peer u (Make index clock why) =
-    if nat_lt index u.level then Err slot_order else make_found p own u index clock why (position_of_place own index)
+next_cursor p packets own peer u (Take slot number) = take_entry p packets peer u slot number
+next_cursor p packets own peer u (Make index clock why) = make_entry p own u index clock why
 
 abbrev pub then_follow : (Cursor → Result EndState Fault) → ℕ → Side → Result Cursor ℕ → Result EndState Fault
 then_follow rest entry side (Err fault) = Err (fault_of_end fault entry side)
@@ -63,3 +67,25 @@ follow_from p side packets own peer entry u (x ∷ xs) = then_follow (λ v. foll
 -- a whole script
 abbrev pub follow : Parameters → Side → ℕ → List FirstCopy → List FirstCopy → List Entry → Result EndState Fault
 follow p side packets own peer entries = follow_from p side packets own peer 1 (at_start (start_of p side)) entries
+
+-- an end that follows its script: the entry of this number is the next
+pub record Followed : Type 0 where
+  pub params : Parameters
+  pub side : Side
+  pub entry : ℕ
+  pub cursor : Cursor
+
+-- the same end behind the entry that leads to this cursor
+abbrev pub moved_to : Followed → Cursor → Followed
+moved_to f v = record { params = f.params; side = f.side; entry = suc f.entry; cursor = v }
+
+-- what a refused entry answers: its fault, or want of memory
+abbrev pub IsRefused : Followed → Result Cursor ℕ → Fault → Type 0
+IsRefused f answer fault = ((number : ℕ) × (answer ≡ Err number) × (fault ≡ fault_of_end number f.entry f.side)) ⊎ (fault ≡ no_memory)
+
+-- where no rule of the end is broken, an entry leads here
+abbrev pub taken_there : Cursor → ℕ → ℕ → EndState → Cursor
+taken_there u slot position after = record { level = slot; made = u.made; taken = suc position; state = after }
+
+abbrev pub made_there : Cursor → ℕ → EndState → Cursor
+made_there u index after = record { level = suc index; made = suc u.made; taken = u.taken; state = after }

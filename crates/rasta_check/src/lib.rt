@@ -3,6 +3,7 @@
 #![tactic(auto)]
 
 mod dense_list;
+mod follower;
 pub mod laws;
 mod map_list;
 mod place_table;
