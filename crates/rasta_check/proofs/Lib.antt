@@ -41,3 +41,5 @@ pub mod Cutting
 pub mod Positions
 pub mod Pushes
 pub mod Checked
+pub mod Accepting
+pub mod Refusing

@@ -19,12 +19,13 @@ pub(crate) struct Follower<'a> {
     // The number of the next entry, from 1.
     entry: u32,
     level: u64,
-    made: u32,
-    taken: u32,
+    made: u64,
+    taken: u64,
     end: End<'a>,
 }
 
 impl<'a> Model for Follower<'a> {
+    ghost use Rattle.std.specs.Prelude.{◌≤◌, ◌*◌, ◌^◌};
     ghost use Rattle.rasta_check.specs.Checking.{Followed};
 
     ghost Value = { Followed };
@@ -35,6 +36,8 @@ impl<'a> Model for Follower<'a> {
         entry = f.entry;
         cursor = record { level = f.level; made = f.made; taken = f.taken; state = f.end.state };
     } };
+
+    ghost invariant = { λ f. (f.end.state.accepted ≤ f.entry * 2 ^ 32) × (f.made ≤ f.entry) };
 }
 
 impl<'a> Follower<'a> {
@@ -47,14 +50,11 @@ impl<'a> Follower<'a> {
 
     // A fault of the end, at the next entry; want of memory has no place.
     fn placed(&self, fault: Fault) -> Fault
-        ensures of_end { (number : ℕ) (side : _) → fault ≡ fault_of_end number 0 side → result ≡ fault_of_end number self.now.entry side }
+        ensures of_end { (number : ℕ) (side : _) → fault ≡ fault_of_end number 0 side → result ≡ fault_of_end number self.now.entry self.now.side }
         ensures memory { fault ≡ no_memory → result ≡ no_memory }
     {
         if fault.end.is_some() {
-            Fault {
-                place: self.entry,
-                ..fault
-            }
+            self.fault(fault.number)
         } else {
             fault
         }
@@ -80,10 +80,73 @@ impl<'a> Follower<'a> {
         };
         if place >= slot {
             Err(Fault::NOT_YET_CROSSED)
-        } else if position < self.taken {
+        } else if u64::from(position) < self.taken {
             Err(Fault::NOT_RISING)
         } else {
             Ok((position, pdu))
         }
+    }
+
+    // Takes the PDU of an entry.
+    fn take<S: SentList<'a>>(&mut self, packets: u32, peer: &S, slot: u32, number: u32) -> Result<(), Fault>
+        requires few { self.old.entry ≤ 4000000 }
+        ensures ok { OnOk result
+            ((take_entry self.old.params packets (S.content peer.now) self.old.cursor slot number ≡ Ok self.new.cursor) × (self.new ≡ moved_to self.old self.new.cursor)) }
+        ensures err { IfErr result (IsRefused self.old (take_entry self.old.params packets (S.content peer.now) self.old.cursor slot number)) }
+    {
+        let (position, pdu) = match self.takeable(packets, peer, slot, number) {
+            Ok(found) => found,
+            Err(fault) => return Err(self.fault(fault)),
+        };
+        if let Err(fault) = self.end.take(&pdu) {
+            return Err(self.placed(fault));
+        }
+        self.level = u64::from(slot);
+        self.taken = u64::from(position) + 1;
+        self.entry += 1;
+        Ok(())
+    }
+
+    // The PDU that an entry makes, or the number of the fault that comes before those of the end.
+    fn makeable<S: SentList<'a>>(&self, own: &S, index: u32) -> Result<Pdu<'a>, u8>
+        ensures { (clock : ℕ) (why : _) → MatchResult result
+            (λ pdu. make_entry self.now.params (S.content own.now) self.now.cursor index clock why
+                ≡ unless (make_fault self.now.params self.now.cursor.state (value_of pdu).safety clock why)
+                    (made_there self.now.cursor index (after_make self.now.cursor.state (value_of pdu).safety clock why)))
+            (λ n. make_entry self.now.params (S.content own.now) self.now.cursor index clock why ≡ Err n) }
+    {
+        if u64::from(index) < self.level {
+            return Err(Fault::SLOT_ORDER);
+        }
+        let Some(position) = own.at_place(index) else {
+            return Err(Fault::NOT_FIRST_COPY);
+        };
+        if u64::from(position) != self.made {
+            return Err(Fault::MAKE_MISSING);
+        }
+        match own.get(position) {
+            Some((_, pdu)) => Ok(pdu),
+            None => Err(Fault::NOT_FIRST_COPY),
+        }
+    }
+
+    // Makes the PDU of an entry.
+    fn make<S: SentList<'a>>(&mut self, own: &S, index: u32, clock: u64, why: Why) -> Result<(), Fault>
+        requires few { self.old.entry ≤ 4000000 }
+        ensures ok { OnOk result
+            ((make_entry self.old.params (S.content own.now) self.old.cursor index clock why ≡ Ok self.new.cursor) × (self.new ≡ moved_to self.old self.new.cursor)) }
+        ensures err { IfErr result (IsRefused self.old (make_entry self.old.params (S.content own.now) self.old.cursor index clock why)) }
+    {
+        let pdu = match self.makeable(own, index) {
+            Ok(pdu) => pdu,
+            Err(fault) => return Err(self.fault(fault)),
+        };
+        if let Err(fault) = self.end.make(&pdu, clock, why) {
+            return Err(self.placed(fault));
+        }
+        self.level = u64::from(index) + 1;
+        self.made += 1;
+        self.entry += 1;
+        Ok(())
     }
 }
