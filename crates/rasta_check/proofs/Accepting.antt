@@ -1,12 +1,12 @@
 -- A take raises the last accepted position by less than 2^32.
-use Rattle.std.proofs.Common.{◌≡◌, ℕ, suc, ◌+◌, ◌<◌, ◌≤◌, ◌^◌, Bool, true, false, Option, Some, None, arith}
+use Rattle.std.proofs.Common.{ℕ, ◌+◌, ◌<◌, ◌≤◌, ◌^◌, Bool, true, false, Option, Some, None, arith}
 use Rattle.std.specs.Prelude.{if◌then◌else◌}
 use Rattle.rasta_pdu.specs.Params.{Parameters}
 use Rattle.rasta_pdu.specs.Pdu.{SafetyPdu}
 use Rattle.rasta_end.specs.declared.take_row.TakeRow.{TakeRow}
 use Rattle.rasta_end.specs.declared.take_row.TakeRow.TheVariants.{Opened, Answered, FirstHeartbeat, InSequence, ResentInSequence, Gap, GapInRetransmission, Resumed, Requested, RequestedAhead, RequestedAgain, Disconnected}
 use Rattle.rasta_end.specs.State.{EndState, carries_unit, ahead_by}
-use Rattle.rasta_end.specs.TakeRule.{steps_past_next, accept, enter, hand_up, effect, effect_by, take_row, after_take}
+use Rattle.rasta_end.specs.TakeRule.{accept, enter, hand_up, effect, effect_by, take_row, after_take}
 
 ahead_most : (a b : ℕ) → ahead_by a b < 2 ^ 32
 ahead_most a b = omega arith

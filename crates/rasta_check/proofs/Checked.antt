@@ -1,5 +1,5 @@
 -- What the checker answers for a script is the end that it leads to, exactly where it fits.
-use Rattle.std.proofs.Common.{◌≡◌, ℕ, zero, suc, ◌+◌, ◌<◌, ◌≤◌, Bool, true, false, List, [], ◌∷◌, length, get_or, Option, Some, None, Result, Ok, Err, slice_get, map, position, nat_eq, refl, ap, sym, ◌∙◌, arith, subst}
+use Rattle.std.proofs.Common.{◌≡◌, ℕ, zero, suc, ◌+◌, ◌<◌, ◌≤◌, Bool, true, false, List, [], ◌∷◌, drop, length, get_or, Option, Some, None, Result, Ok, Err, slice_get, position, nat_eq, MatchResult, ◌⊎◌, inl, inr, ⊎_elim, refl, ap, sym, ◌∙◌, arith, subst}
 use Rattle.std.specs.Option.{option_map}
 use Rattle.std.specs.Prelude.{◌-◌, not, nat_lt, ◌==◌, ◌||◌, if◌then◌else◌}
 use Rattle.std.proofs.lemmas.Bool.Decides.{nat_tests}
@@ -7,9 +7,8 @@ use Rattle.std.proofs.lemmas.List.Quantifiers.{position-Some}
 use Rattle.std.proofs.lemmas.Option.{slice_get_within, slice_get-map, slice_get-get_or}
 use Rattle.rasta_pcap.specs.declared.fault.Fault.{Fault}
 use Rattle.rasta_pcap.specs.declared.fault.Side.{Side}
-use Rattle.rasta_pcap.specs.Fault.{fault_of_end, slot_order, not_first_copy, make_missing, not_yet_crossed, not_rising}
+use Rattle.rasta_pcap.specs.Fault.{fault_of_end, no_memory, slot_order, make_missing, not_yet_crossed, not_rising}
 use Rattle.rasta_pdu.specs.Params.{Parameters}
-use Rattle.rasta_pdu.specs.Pdu.{RedundancyPdu}
 use Rattle.rasta_cert.specs.declared.entry.Entry.{Entry}
 use Rattle.rasta_cert.specs.declared.entry.Entry.TheVariants.{Take, Make}
 use Rattle.rasta_end.specs.declared.why.Why.{Why}
@@ -17,10 +16,11 @@ use Rattle.rasta_end.specs.State.{EndState}
 use Rattle.rasta_end.specs.MakeRule.{make_fault, after_make}
 use Rattle.rasta_end.specs.TakeRule.{take_fault, after_take}
 use Rattle.rasta_end.specs.Starts.{start_of}
+use Rattle.rasta_end.specs.Judged.{JudgedEnd}
 use Rattle.rasta_check.specs.Crossing.{FirstCopy}
 use Rattle.rasta_check.specs.Lists.{IsOrdered, places_of, numbers_of, position_of_number, position_of_place}
 use Rattle.rasta_check.specs.Scripts.{Cursor, Advances, takes_next, makes_next, Leads, at_start, Fits}
-use Rattle.rasta_check.specs.Checking.{unless, take_at, take_found, make_of, make_found, next_cursor, then_follow, follow_from, follow}
+use Rattle.rasta_check.specs.Checking.{unless, take_at, take_found, make_of, make_found, next_cursor, then_follow, follow_from, follow, Followed, moved_to, IsRefused}
 use Rattle.rasta_check.proofs.Positions.{position_at, places_below}
 use Rattle.rasta_check.proofs.Sending.{not_again}
 use Rattle.rasta_check.proofs.Scripted.{slice_get_some}
@@ -81,7 +81,6 @@ neither true b e = absurd (cc)
 neither false true e = absurd (cc)
 
 module _ (p : Parameters) (packets : ℕ) (own peer : List FirstCopy) where
-
   take_leads : (u v : Cursor) (slot position : ℕ) (c : FirstCopy) → u.level ≤ slot → slot ≤ packets → slice_get peer position ≡ Some c
       → take_at p u slot position (Some c) ≡ Ok v → Advances p packets own peer u (Take slot c.pdu.number) v
   take_leads u v slot position c low high g e =
@@ -89,7 +88,7 @@ module _ (p : Parameters) (packets : ℕ) (own peer : List FirstCopy) where
       let b = passes (nat_lt position u.taken) not_rising _ v a.1 in
       let d = allowed (take_fault p u.state u.state.clock) _ v b.1 in
       let step : Advances p packets own peer u (Take slot c.pdu.number) (record { level = slot; made = u.made; taken = suc position; state = after_take p u.state c.pdu.safety })
-          = takes_next slot position c (after_take p u.state c.pdu.safety) low high g (less c.place slot a.0) (not_less position u.taken b.0) (d.0, refl) in
+      = takes_next slot position c (after_take p u.state c.pdu.safety) low high g (less c.place slot a.0) (not_less position u.taken b.0) (d.0, refl) in
       subst (λ (w : Cursor). Advances p packets own peer u (Take slot c.pdu.number) w) d.1 step
 
   make_leads : (u v : Cursor) (clock : ℕ) (why : Why) (c : FirstCopy) → u.level ≤ c.place → slice_get own u.made ≡ Some c
@@ -97,7 +96,7 @@ module _ (p : Parameters) (packets : ℕ) (own peer : List FirstCopy) where
   make_leads u v clock why c low g e =
       let d = allowed (make_fault p u.state c.pdu.safety clock why) _ v e in
       let step : Advances p packets own peer u (Make c.place clock why) (record { level = suc c.place; made = suc u.made; taken = u.taken; state = after_make u.state c.pdu.safety clock why })
-          = makes_next c clock why (after_make u.state c.pdu.safety clock why) low g (d.0, refl) in
+      = makes_next c clock why (after_make u.state c.pdu.safety clock why) low g (d.0, refl) in
       subst (λ (w : Cursor). Advances p packets own peer u (Make c.place clock why) w) d.1 step
 
   take_by : (u v : Cursor) (slot number : ℕ) → u.level ≤ slot → slot ≤ packets → (o : Option ℕ) → position_of_number peer number ≡ o
@@ -196,7 +195,6 @@ same_equal : (a b : ℕ) → a ≡ b → (a == b) ≡ true
 same_equal a b e = grind (arith, nat_tests)
 
 module _ (p : Parameters) (packets : ℕ) (own peer : List FirstCopy) (mine : IsOrdered own) (theirs : IsOrdered peer) where
-
   -- where an entry leads, the checker goes
   pub goes_on : (u v : Cursor) (x : Entry) → Advances p packets own peer u x v → next_cursor p packets own peer u x ≡ Ok v
   unfolding next_cursor
@@ -225,3 +223,90 @@ module _ (p : Parameters) (packets : ℕ) (own peer : List FirstCopy) (mine : Is
   -- a script that fits is followed to its end
   pub fits_follow : (side : Side) (es : List Entry) (e : EndState) → Fits p side packets own peer es e → follow p side packets own peer es ≡ Ok e
   fits_follow side es e f = follows_from side 1 (at_start (start_of p side)) f.0 es f.1 f.2 ∙ ap Ok f.3
+
+-- ---- step by step
+
+module _ (p : Parameters) (packets : ℕ) (own peer : List FirstCopy) (side : Side) where
+  next_of : (es : List Entry) (i : ℕ) (x : Entry) → slice_get es i ≡ Some x → drop i es ≡ x ∷ drop (suc i) es
+  next_of [] i x g = absurd (cc)
+  next_of (y ∷ es) zero x g = (let same : y ≡ x = cc in ap (λ (z : Entry). z ∷ es) same)
+  next_of (y ∷ es) (suc i) x g = next_of es i x g
+
+  -- an entry that is followed leads on
+  pub step_on : (entry : ℕ) (u v : Cursor) (es : List Entry) (i : ℕ) (x : Entry) → slice_get es i ≡ Some x → next_cursor p packets own peer u x ≡ Ok v
+      → follow_from p side packets own peer entry u (drop i es) ≡ follow_from p side packets own peer (suc entry) v (drop (suc i) es)
+  unfolding follow_from
+  step_on entry u v es i x g n =
+      ap (follow_from p side packets own peer entry u) (next_of es i x g) ∙ ap (then_follow (λ w. follow_from p side packets own peer (suc entry) w (drop (suc i) es)) entry side) n
+
+  -- one that is refused ends the script
+  pub step_off : (entry : ℕ) (u : Cursor) (es : List Entry) (i : ℕ) (x : Entry) (n : ℕ) → slice_get es i ≡ Some x → next_cursor p packets own peer u x ≡ Err n
+      → follow_from p side packets own peer entry u (drop i es) ≡ Err (fault_of_end n entry side)
+  unfolding follow_from
+  step_off entry u es i x n g e =
+      ap (follow_from p side packets own peer entry u) (next_of es i x g) ∙ ap (then_follow (λ w. follow_from p side packets own peer (suc entry) w (drop (suc i) es)) entry side) e
+
+  -- behind the last
+  pub step_end : (entry : ℕ) (u : Cursor) (es : List Entry) (i : ℕ) → length es ≤ i
+      → follow_from p side packets own peer entry u (drop i es) ≡ (if u.made == length own then Ok u.state else Err (fault_of_end make_missing entry side))
+  unfolding follow_from
+  step_end entry u es i l = ap (follow_from p side packets own peer entry u) (none_of es i l)
+    where
+      none_of : (es : List Entry) (i : ℕ) → length es ≤ i → drop i es ≡ []
+      none_of [] zero l = refl
+      none_of [] (suc i) l = refl
+      none_of (y ∷ es) zero l = absurd (omega arith)
+      none_of (y ∷ es) (suc i) l = none_of es i (omega arith)
+
+  -- the same for a follower
+  pub loop_on : (f f' : Followed) (es : List Entry) (i : ℕ) (d : Entry) → i < length es → f.params ≡ p → f.side ≡ side
+      → next_cursor f.params packets own peer f.cursor (get_or es i d) ≡ Ok f'.cursor → f' ≡ moved_to f f'.cursor
+      → follow_from p side packets own peer f'.entry f'.cursor (drop (i + 1) es) ≡ follow_from p side packets own peer f.entry f.cursor (drop i es)
+  loop_on f f' es i d l same_p same_s n m =
+      let n' : next_cursor p packets own peer f.cursor (get_or es i d) ≡ Ok f'.cursor = ap (λ q. next_cursor q packets own peer f.cursor (get_or es i d)) (sym same_p) ∙ n in
+      let number : f'.entry ≡ suc f.entry = ap (λ (g : Followed). g.entry) m in
+      let one : i + 1 ≡ suc i = omega arith in
+      sym (step_on f.entry f.cursor f'.cursor es i (get_or es i d) (slice_get-get_or es i d l) n'
+      ∙ (ap (λ k. follow_from p side packets own peer k f'.cursor (drop (suc i) es)) (sym number)
+      ∙ ap (λ k. follow_from p side packets own peer f'.entry f'.cursor (drop k es)) (sym one)))
+
+  pub loop_off : (f : Followed) (es : List Entry) (i : ℕ) (d : Entry) (fault : Fault) → i < length es → f.params ≡ p → f.side ≡ side
+      → IsRefused f (next_cursor f.params packets own peer f.cursor (get_or es i d)) fault
+      → (follow_from p side packets own peer f.entry f.cursor (drop i es) ≡ Err fault) ⊎ (fault ≡ no_memory)
+  loop_off f es i d fault l same_p same_s why = ⊎_elim
+      (λ (w : (number : ℕ) × (next_cursor f.params packets own peer f.cursor (get_or es i d) ≡ Err number) × (fault ≡ fault_of_end number f.entry f.side)).
+      let n : next_cursor p packets own peer f.cursor (get_or es i d) ≡ Err w.0 = ap (λ q. next_cursor q packets own peer f.cursor (get_or es i d)) (sym same_p) ∙ w.1 in
+      inl (step_off f.entry f.cursor es i (get_or es i d) w.0 (slice_get-get_or es i d l) n ∙ ap Err (ap (fault_of_end w.0 f.entry) (sym same_s) ∙ sym w.2)))
+      (λ (w : fault ≡ no_memory). inr w)
+      why
+
+  -- an entry that is refused is the answer of the whole script
+  pub loop_answer : (es : List Entry) (fault : Fault) → {here : Result EndState Fault} → here ≡ follow p side packets own peer es → (here ≡ Err fault) ⊎ (fault ≡ no_memory)
+      → (follow p side packets own peer es ≡ Err fault) ⊎ (fault ≡ no_memory)
+  loop_answer es fault {here = here} rest why = ⊎_elim (λ (w : here ≡ Err fault). inl (sym rest ∙ w)) (λ (w : fault ≡ no_memory). inr w) why
+
+  -- what the end of a script answers
+  abbrev pub Answers : Result JudgedEnd Fault → List Entry → Type 0
+  Answers result es = MatchResult result
+      (λ (e : JudgedEnd). (e.params ≡ p) × (follow p side packets own peer es ≡ Ok e.state))
+      (λ (f : Fault). (follow p side packets own peer es ≡ Err f) ⊎ (f ≡ no_memory))
+
+  if_true : {A B : Type 0} (b : Bool) (x y : Result A B) → b ≡ true → (if b then x else y) ≡ x
+  if_true true x y e = refl
+  if_true false x y e = absurd (cc)
+
+  if_false : {A B : Type 0} (b : Bool) (x y : Result A B) → b ≡ false → (if b then x else y) ≡ y
+  if_false true x y e = absurd (cc)
+  if_false false x y e = refl
+
+  pub loop_end : (f : Followed) (es : List Entry) (i : ℕ) (result : Result JudgedEnd Fault) → length es ≤ i → f.params ≡ p → f.side ≡ side
+      → follow_from p side packets own peer f.entry f.cursor (drop i es) ≡ follow p side packets own peer es
+      → MatchResult result (λ (e : JudgedEnd). (e ≡ record { params = f.params; state = f.cursor.state }) × (f.cursor.made ≡ length own))
+      (λ (fault : Fault). (fault ≡ fault_of_end make_missing f.entry f.side) × ((f.cursor.made == length own) ≡ false))
+      → Answers result es
+  loop_end f es i (Ok e) l same_p same_s rest h = (
+    ap (λ (x : JudgedEnd). x.params) h.0 ∙ same_p,
+    sym rest ∙ (step_end f.entry f.cursor es i l ∙ (if_true (f.cursor.made == length own) _ _ (same_equal f.cursor.made (length own) h.1) ∙ ap (λ (x : JudgedEnd). Ok x.state) (sym h.0))),
+  )
+  loop_end f es i (Err fault) l same_p same_s rest h =
+      inl (sym rest ∙ (step_end f.entry f.cursor es i l ∙ (if_false (f.cursor.made == length own) _ _ h.1 ∙ ap Err (ap (fault_of_end make_missing f.entry) (sym same_s) ∙ sym h.0))))

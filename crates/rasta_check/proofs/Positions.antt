@@ -1,12 +1,12 @@
 -- Positions in ordered lists of first copies.
-use Rattle.std.proofs.Common.{◌≡◌, ℕ, zero, suc, ◌+◌, ◌-◌, ◌%◌, ◌^◌, ◌<◌, ◌≤◌, ◌++◌, Bool, true, false, cond, nat_lt, nat_eq, List, [], ◌∷◌, Option, Some, None, length, get_or, map, slice_get, position, refl, ap, sym, ◌∙◌, arith, subst, inl, inr, ⊎_elim, lt-ltb, le-ltb, ◌⊎◌, true≢false, not, if◌then◌else◌, eqb}
+use Rattle.std.proofs.Common.{◌≡◌, ℕ, zero, suc, ◌+◌, ◌-◌, ◌%◌, ◌^◌, ◌<◌, ◌≤◌, ◌++◌, Bool, true, false, cond, nat_lt, nat_eq, List, [], ◌∷◌, Option, Some, None, length, get_or, slice_get, position, refl, ap, sym, ◌∙◌, arith, subst, ⊎_elim, lt-ltb, le-ltb, true≢false, not, if◌then◌else◌, eqb}
 use Rattle.std.specs.List.{position_or_len}
 use Rattle.std.specs.Option.{option_map}
 use Rattle.std.proofs.lemmas.Bool.Decides.{nat_tests}
 use Rattle.std.proofs.lemmas.List.{length_push}
 use Rattle.std.proofs.lemmas.List.Sums.{position_or_len_is}
 use Rattle.std.proofs.lemmas.List.Folds.{position_or_len_push}
-use Rattle.std.proofs.lemmas.Option.{slice_get_within, slice_get_past, slice_get-map, slice_get-get_or}
+use Rattle.std.proofs.lemmas.Option.{slice_get_within, slice_get-map, slice_get-get_or}
 use Rattle.rasta_end.specs.State.{wrapped}
 use Rattle.rasta_check.specs.Crossing.{FirstCopy}
 use Rattle.rasta_check.specs.Lists.{IsOrdered, places_of, numbers_of, position_of_number, position_of_place, AreMarks, marked}
@@ -140,11 +140,11 @@ module _ (sent : List FirstCopy) (c : FirstCopy) (h : IsOrdered (sent ++ c ∷ [
   place_last =
       ap (position (nat_eq c.place)) (places_push sent c)
       ∙ (position_at c.place (places_of sent ++ c.place ∷ []) (length (places_of sent)) (get_push (places_of sent) c.place)
-          (λ j y b g e. ⊎_elim
-              (λ (o : slice_get (places_of sent) j ≡ Some y). (let w = place_there sent j y o in let z = place_new sent c h j w.0 w.1 in let q = w.2 in omega arith))
-              (λ (n : (j ≡ length (places_of sent)) × (c.place ≡ y)). (let q = n.0 in omega arith))
-              (get_push_cases (places_of sent) c.place j y g))
-          ∙ ap Some (length_places sent))
+      (λ j y b g e. ⊎_elim
+      (λ (o : slice_get (places_of sent) j ≡ Some y). (let w = place_there sent j y o in let z = place_new sent c h j w.0 w.1 in let q = w.2 in omega arith))
+      (λ (n : (j ≡ length (places_of sent)) × (c.place ≡ y)). (let q = n.0 in omega arith))
+      (get_push_cases (places_of sent) c.place j y g))
+      ∙ ap Some (length_places sent))
 
   pub place_pushed : (q : ℕ) → position_of_place (sent ++ c ∷ []) q ≡ (if nat_eq q c.place then Some (length sent) else position_of_place sent q)
   place_pushed q = by (nat_eq q c.place) refl
@@ -179,11 +179,11 @@ module _ (sent : List FirstCopy) (h : IsOrdered sent) (start : FirstCopy) (g0 : 
       let at : c.0.pdu.number ≡ n = h.numbers d start c.0 g0 c.1 ∙ (ap (λ k. wrapped (start.pdu.number + k)) e ∙ sym (there_again start.pdu.number n start_small small)) in
       position_at n (numbers_of sent) d (slice_get-map (λ (x : FirstCopy). x.pdu.number) sent d ∙ (ap (option_map (λ (x : FirstCopy). x.pdu.number)) c.1 ∙ ap Some at))
       (λ j y b g q. (let w = number_there sent j y g in
-          let same = same_place start.pdu.number n j start_small (omega arith) (sym (w.2 ∙ q) ∙ h.numbers j start w.0 g0 w.1) in omega arith))
+      let same = same_place start.pdu.number n j start_small (omega arith) (sym (w.2 ∙ q) ∙ h.numbers j start w.0 g0 w.1) in omega arith))
 
   pub far : (d : ℕ) → d ≡ (n + (4294967296 - start.pdu.number)) % 2 ^ 32 → length sent ≤ d → position_of_number sent n ≡ None
   far d e l =
       let few = h.few in
       position_none n (numbers_of sent) (λ j y g q. (let w = number_there sent j y g in
-          let m = slice_get_within sent j w.0 w.1 in
-          let same = same_place start.pdu.number n j start_small (omega arith) (sym (w.2 ∙ q) ∙ h.numbers j start w.0 g0 w.1) in omega arith))
+      let m = slice_get_within sent j w.0 w.1 in
+      let same = same_place start.pdu.number n j start_small (omega arith) (sym (w.2 ∙ q) ∙ h.numbers j start w.0 g0 w.1) in omega arith))

@@ -1,8 +1,8 @@
 -- Lists of first copies as vectors and maps hold them, with one more.
-use Rattle.std.proofs.Common.{◌≡◌, ℕ, suc, ◌+◌, ◌++◌, Bool, false, List, [], ◌∷◌, Some, None, length, map, nat_eq, refl, ap, sym, ◌∙◌, arith, subst, if◌then◌else◌, slice_get}
-use Rattle.std.specs.HashMap.{HashMap, get}
+use Rattle.std.proofs.Common.{◌≡◌, ℕ, suc, ◌++◌, false, List, [], ◌∷◌, Some, length, map, nat_eq, refl, ap, sym, ◌∙◌, arith, subst, if◌then◌else◌, slice_get}
+use Rattle.std.specs.HashMap.{HashMap}
 use Rattle.std.specs.Map.{keys_of}
-use Rattle.std.proofs.lemmas.List.{map-append, length-map}
+use Rattle.std.proofs.lemmas.List.{map-append}
 use Rattle.std.proofs.lemmas.Map.{NonePasses, lookup-none}
 use Rattle.std.proofs.lemmas.Bool.Decides.{nat_tests}
 use Rattle.indexmap.specs.IndexMap.{insert_entry}
@@ -21,7 +21,7 @@ pub marks_grown : (sent all : List FirstCopy) (c : FirstCopy) (place position : 
     → IsOrdered all × AreMarks all new
 marks_grown sent all c place position old mid new e h m at count same set =
     let new_marks : AreMarks (sent ++ c ∷ []) new = marks_pushed sent c h old new m (λ q. set q ∙ (
-        (λ i. if nat_eq q (sym at i) then Some (count i) else same q i))) in
+    (λ i. if nat_eq q (sym at i) then Some (count i) else same q i))) in
     subst (λ (xs : List FirstCopy). IsOrdered xs × AreMarks xs new) (sym e) (h, new_marks)
 
 -- ---- a vector

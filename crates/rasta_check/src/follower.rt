@@ -1,15 +1,20 @@
 //! One script, followed entry by entry.
-ghost use Rattle.std.specs.Prelude.{◌≡◌, ◌⊎◌, ℕ, suc, ◌+◌, ◌*◌, ◌<◌, ◌≤◌, ◌^◌, Some, None, Ok, Err, OnOk, IfErr, MatchResult};
-ghost use Rattle.rasta_pcap.specs.Fault.{fault_of_end, no_memory};
+ghost use Rattle.std.specs.Prelude.{◌≡◌, ◌⊎◌, ◌==◌, ℕ, false, length, suc, ◌+◌, ◌*◌, ◌<◌, ◌≤◌, ◌^◌, Some, None, Ok, Err, OnOk, IfErr, MatchResult};
+ghost use Rattle.rasta_pcap.specs.Fault.{fault_of_end, no_memory, make_missing};
 ghost use Rattle.rasta_pdu.specs.Pdu.{value_of};
 ghost use Rattle.rasta_end.specs.TakeRule.{take_fault, after_take};
 ghost use Rattle.rasta_end.specs.MakeRule.{make_fault, after_make};
-ghost use Rattle.rasta_check.specs.Checking.{unless, take_entry, make_entry, taken_there, made_there, moved_to, IsRefused};
+ghost use Rattle.rasta_end.specs.Starts.{start_of};
+ghost use Rattle.rasta_check.specs.Scripts.{at_start};
+ghost use Rattle.rasta_check.specs.Checking;
+ghost use Rattle.rasta_check.specs.Checking.{unless, next_cursor, take_entry, make_entry, taken_there, made_there, moved_to, IsRefused};
 
 use crate::sent_list::SentList;
+use rasta_cert::Entry;
 use rasta_end::{End, Why};
 use rasta_pcap::{Fault, Side};
-use rasta_pdu::Pdu;
+use rasta_pdu::{Params, Pdu};
+use std::alloc::Global;
 use std::marker::Model;
 
 /// An end that follows its script.
@@ -31,10 +36,10 @@ impl<'a> Model for Follower<'a> {
     ghost Value = { Followed };
 
     ghost view = { λ f. record {
-        params = f.end.params;
-        side = f.side;
-        entry = f.entry;
-        cursor = record { level = f.level; made = f.made; taken = f.taken; state = f.end.state };
+      params = f.end.params;
+      side = f.side;
+      entry = f.entry;
+      cursor = record { level = f.level; made = f.made; taken = f.taken; state = f.end.state };
     } };
 
     ghost invariant = { λ f. (f.end.state.accepted ≤ f.entry * 2 ^ 32) × (f.made ≤ f.entry) };
@@ -62,11 +67,17 @@ impl<'a> Follower<'a> {
 
     // The PDU that an entry takes, with its position, or the number of the fault that comes before those
     // of the end.
-    fn takeable<S: SentList<'a>>(&self, packets: u32, peer: &S, slot: u32, number: u32) -> Result<(u32, Pdu<'a>), u8>
+    fn takeable<S: SentList<'a>>(
+        &self,
+        packets: u32,
+        peer: &S,
+        slot: u32,
+        number: u32,
+    ) -> Result<(u32, Pdu<'a>), u8>
         ensures { MatchResult result
             (λ r. take_entry self.now.params packets (S.content peer.now) self.now.cursor slot number
-                ≡ unless (take_fault self.now.params self.now.cursor.state self.now.cursor.state.clock)
-                    (taken_there self.now.cursor slot r.0 (after_take self.now.params self.now.cursor.state (value_of r.1).safety)))
+            ≡ unless (take_fault self.now.params self.now.cursor.state self.now.cursor.state.clock)
+            (taken_there self.now.cursor slot r.0 (after_take self.now.params self.now.cursor.state (value_of r.1).safety)))
             (λ n. take_entry self.now.params packets (S.content peer.now) self.now.cursor slot number ≡ Err n) }
     {
         if u64::from(slot) < self.level || packets < slot {
@@ -88,7 +99,13 @@ impl<'a> Follower<'a> {
     }
 
     // Takes the PDU of an entry.
-    fn take<S: SentList<'a>>(&mut self, packets: u32, peer: &S, slot: u32, number: u32) -> Result<(), Fault>
+    fn take<S: SentList<'a>>(
+        &mut self,
+        packets: u32,
+        peer: &S,
+        slot: u32,
+        number: u32,
+    ) -> Result<(), Fault>
         requires few { self.old.entry ≤ 4000000 }
         ensures ok { OnOk result
             ((take_entry self.old.params packets (S.content peer.now) self.old.cursor slot number ≡ Ok self.new.cursor) × (self.new ≡ moved_to self.old self.new.cursor)) }
@@ -111,8 +128,8 @@ impl<'a> Follower<'a> {
     fn makeable<S: SentList<'a>>(&self, own: &S, index: u32) -> Result<Pdu<'a>, u8>
         ensures { (clock : ℕ) (why : _) → MatchResult result
             (λ pdu. make_entry self.now.params (S.content own.now) self.now.cursor index clock why
-                ≡ unless (make_fault self.now.params self.now.cursor.state (value_of pdu).safety clock why)
-                    (made_there self.now.cursor index (after_make self.now.cursor.state (value_of pdu).safety clock why)))
+            ≡ unless (make_fault self.now.params self.now.cursor.state (value_of pdu).safety clock why)
+            (made_there self.now.cursor index (after_make self.now.cursor.state (value_of pdu).safety clock why)))
             (λ n. make_entry self.now.params (S.content own.now) self.now.cursor index clock why ≡ Err n) }
     {
         if u64::from(index) < self.level {
@@ -131,7 +148,13 @@ impl<'a> Follower<'a> {
     }
 
     // Makes the PDU of an entry.
-    fn make<S: SentList<'a>>(&mut self, own: &S, index: u32, clock: u64, why: Why) -> Result<(), Fault>
+    fn make<S: SentList<'a>>(
+        &mut self,
+        own: &S,
+        index: u32,
+        clock: u64,
+        why: Why,
+    ) -> Result<(), Fault>
         requires few { self.old.entry ≤ 4000000 }
         ensures ok { OnOk result
             ((make_entry self.old.params (S.content own.now) self.old.cursor index clock why ≡ Ok self.new.cursor) × (self.new ≡ moved_to self.old self.new.cursor)) }
@@ -149,4 +172,73 @@ impl<'a> Follower<'a> {
         self.entry += 1;
         Ok(())
     }
+
+    // Follows one entry.
+    #[tactic(auto, unfolding(crate::specs::Checking::next_cursor))]
+    fn next<S: SentList<'a>>(
+        &mut self,
+        packets: u32,
+        own: &S,
+        peer: &S,
+        entry: Entry,
+    ) -> Result<(), Fault>
+        requires few { self.old.entry ≤ 4000000 }
+        ensures ok { OnOk result
+            ((next_cursor self.old.params packets (S.content own.now) (S.content peer.now) self.old.cursor entry ≡ Ok self.new.cursor) × (self.new ≡ moved_to self.old self.new.cursor)) }
+        ensures err { IfErr result (IsRefused self.old (next_cursor self.old.params packets (S.content own.now) (S.content peer.now) self.old.cursor entry)) }
+    {
+        match entry {
+            Entry::Take { slot, number } => self.take(packets, peer, slot, number),
+            Entry::Make { index, clock, why } => self.make(own, index, clock, why),
+        }
+    }
+
+    // At the start of a script.
+    fn start(alloc: Global, params: &Params, side: Side) -> Follower<'a>
+        ensures { result ≡ record { params = params.now; side = side; entry = 1; cursor = at_start (start_of params.now side) } }
+    {
+        Follower {
+            side,
+            entry: 1,
+            level: 0,
+            made: 0,
+            taken: 0,
+            end: End::start(alloc, params, side),
+        }
+    }
+
+    // Behind the last entry: the whole sent list has to be made.
+    fn finish<S: SentList<'a>>(self, own: &S) -> Result<End<'a>, Fault>
+        ensures { MatchResult result
+            (λ e. (e ≡ record { params = self.entry.params; state = self.entry.cursor.state }) × (self.entry.cursor.made ≡ length (S.content own.now)))
+            (λ f. (f ≡ fault_of_end make_missing self.entry.entry self.entry.side) × ((self.entry.cursor.made == length (S.content own.now)) ≡ false)) }
+    {
+        if self.made == u64::from(own.len()) {
+            Ok(self.end)
+        } else {
+            Err(self.fault(Fault::MAKE_MISSING))
+        }
+    }
+}
+
+/// The end that a script leads to, or the first fault with the number of its entry and the side.
+pub(crate) fn follow<'a, S: SentList<'a>>(
+    alloc: Global,
+    params: &Params,
+    side: Side,
+    packets: u32,
+    own: &S,
+    peer: &S,
+    script: &[Entry],
+) -> Result<End<'a>, Fault>
+    requires few { length script.now ≤ 4000000 }
+    ensures { MatchResult result
+        (λ e. (e.params ≡ params.now) × (Checking.follow params.now side packets (S.content own.now) (S.content peer.now) script.now ≡ Ok e.state))
+        (λ f. (Checking.follow params.now side packets (S.content own.now) (S.content peer.now) script.now ≡ Err f) ⊎ (f ≡ no_memory)) }
+{
+    let mut follower = Follower::start(alloc, params, side);
+    for entry in script {
+        follower.next(packets, own, peer, *entry)?;
+    }
+    follower.finish(own)
 }
