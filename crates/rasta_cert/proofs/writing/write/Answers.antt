@@ -1,4 +1,4 @@
-use Rattle.std.proofs.Common.{◌≡◌, ◌∙◌, ◌++◌, List, ℕ, ap, sym, refl}
+use Rattle.std.proofs.Common.{◌≡◌, ◌++◌, List, ap, sym, refl}
 use Rattle.std.specs.Prelude.{codes}
 use Rattle.rasta_pcap.proofs.Sending.{Sent-start, Sent-begun, Sent-more, Sent-last, Sent-last_begun, where_failed, on_err_map, on_ok_map}
 use Rattle.rasta_cert.specs.declared.entry.Entry.{Entry}

@@ -1,4 +1,4 @@
-use Rattle.std.proofs.Common.{◌≡◌, ◌∙◌, ◌++◌, ◌+◌, ap, sym, refl, drop, arith}
+use Rattle.std.proofs.Common.{◌∙◌, ◌++◌, ◌+◌, ap, sym, drop}
 use Rattle.rasta_pcap.proofs.Sending.{Sent-all, Sent-begun, Sent-more, where_failed}
 use Rattle.rasta_cert.specs.Certificate.{entries_text}
 use Rattle.rasta_cert.proofs.Texts.{entries_text-next, entries_text-end}
