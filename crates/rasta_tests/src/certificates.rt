@@ -153,6 +153,22 @@ fn certificate_is_read(rt: HostRuntime) -> Result<(), Fail> {
     Ok(())
 }
 
+// Where memory was wanting the text can be read again; `scripts/fail_allocations.sh` makes it want.
+#[test]
+fn certificate_is_read_again(rt: HostRuntime) -> Result<(), Fail> {
+    let mut outcome = read(rt.alloc(), TEXT.as_bytes());
+    for _ in 0..2 {
+        if let Err(fault) = &outcome {
+            assert_eq!(rt; *fault, Fault::at(1, 0));
+            outcome = read(rt.alloc(), TEXT.as_bytes());
+        }
+    }
+    let certificate = outcome.ok().ok_or("a certificate")?;
+    assert_eq!(rt; certificate.client(), CLIENT);
+    assert_eq!(rt; certificate.server(), SERVER);
+    Ok(())
+}
+
 #[test]
 fn certificate_without_entries_is_read(rt: HostRuntime) -> Result<(), Fail> {
     let text = "rasta-certificate 1\nclient\nserver\nend\n";
