@@ -198,7 +198,7 @@ end
 ";
 
 // The line at fault, and one line that stands in place of that line of the text; `+` puts it behind the
-// last line. A `\\` is followed by the letter of a byte that no row can hold: `t` a tab, `r` a carriage
+// last line. A backslash is followed by the letter of what no row can hold: `t` a tab, `r` a carriage
 // return, `0` a zero byte, `x` a byte that begins no character, `n` the end of a line, and `z` a
 // thousand zeros.
 const ROWS: &str = "\
