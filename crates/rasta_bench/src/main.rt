@@ -1,10 +1,12 @@
-//! Timings of `rasta_md4` and `rasta_end`. Without the argument `measure` a usage line is all that is
+//! Timings of `rasta_md4`, `rasta_end` and `rasta_cert`. Without the argument `measure` a usage line is all that is
 //! printed.
 #![tactic(auto)]
 
+mod certificates;
 mod digests;
 mod ends;
 
+use certificates::measure_certificates;
 use digests::{measure_long, measure_short};
 use ends::measure_ends;
 use std::rt::Env;
@@ -25,7 +27,8 @@ fn main(rt: HostRuntime) -> io::Result<()> {
         measure_long(&rt)?;
         measure_short(&rt)?;
         measure_ends(&rt, 25)?;
-        measure_ends(&rt, 50)
+        measure_ends(&rt, 50)?;
+        measure_certificates(&rt)
     } else {
         println!(rt; "usage: rasta_bench measure")
     }

@@ -1,9 +1,9 @@
 -- The texts of entries, one by one.
-use Rattle.std.proofs.Common.{◌≡◌, ℕ, suc, ◌+◌, ◌-◌, ◌<◌, ◌≤◌, length-drop, List, [], ◌∷◌, ◌++◌, length, drop, get_or, ap, refl, ◌∙◌, arith}
+use Rattle.std.proofs.Common.{◌≡◌, ℕ, suc, ◌+◌, ◌-◌, ◌<◌, ◌≤◌, length-drop, List, [], ◌∷◌, ◌++◌, length, drop, get_or, ap, refl, sym, ◌∙◌, append_assoc, arith}
 use Rattle.std.proofs.Math.Seq.{drop-cons}
-use Rattle.std.proofs.lemmas.List.{nil_from_length}
+use Rattle.std.proofs.lemmas.List.{append-nil, nil_from_length}
 use Rattle.rasta_cert.specs.declared.entry.Entry.{Entry}
-use Rattle.rasta_cert.specs.Certificate.{Scripts, certificate_text, entries_text, entry_line, first_lines, line}
+use Rattle.rasta_cert.specs.Certificate.{AreEntries, IsEntry, Scripts, certificate_text, entries_text, entry_line, first_lines, line}
 use Rattle.std.specs.Prelude.{codes}
 
 pub entries_text-none : entries_text [] ≡ []
@@ -24,6 +24,20 @@ entries_text-end es i h = ap entries_text (nil_from_length (drop i es) (length-d
   where
     none : length es - i ≡ 0
     none = omega (arith, h)
+
+-- the text of one entry more
+pub entries_text_push : (es : List Entry) (e : Entry) (text rest behind : List ℕ) → text ≡ entries_text es ++ rest → rest ≡ entry_line e ++ behind
+    → text ≡ entries_text (es ++ e ∷ []) ++ behind
+unfolding entries_text
+entries_text_push [] e text rest behind h k = h ∙ k ∙ ap (λ (l : List ℕ). l ++ behind) (sym (append-nil (entry_line e)))
+entries_text_push (d ∷ es) e text rest behind h k =
+    h ∙ append_assoc (entry_line d) (entries_text es) rest
+    ∙ ap (λ (l : List ℕ). entry_line d ++ l) (entries_text_push es e (entries_text es ++ rest) rest behind refl k)
+    ∙ sym (append_assoc (entry_line d) (entries_text (es ++ e ∷ [])) behind)
+
+pub AreEntries_push : (es : List Entry) (e : Entry) → AreEntries es → IsEntry e → AreEntries (es ++ e ∷ [])
+AreEntries_push [] e h k = (k, tt)
+AreEntries_push (d ∷ es) e h k = (h.0, AreEntries_push es e h.1 k)
 
 -- a certificate's text is that of its lines
 pub certificate_text-parts : (c : Scripts) → certificate_text c

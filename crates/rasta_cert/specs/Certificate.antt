@@ -1,5 +1,6 @@
 -- Certificates, and their one text.
-use Rattle.std.specs.Prelude.{ℕ, ◌+◌, ◌≤◌, List, [], ◌∷◌, ◌++◌, length, codes}
+use Rattle.std.specs.Prelude.{ℕ, ◌+◌, ◌<◌, ◌≤◌, ◌^◌, List, [], ◌∷◌, ◌++◌, length, codes}
+use Rattle.std.specs.List.{AllByRecursion}
 use Rattle.std.specs.Fmt.{decimal}
 use Rattle.rasta_end.specs.declared.why.Why.{Why}
 use Rattle.rasta_end.specs.declared.why.Why.TheVariants.{Open, Reply, Beat, Fresh, Again, Ask, Bye, Expired}
@@ -11,12 +12,37 @@ pub record Scripts : Type 0 where
   pub client : List Entry
   pub server : List Entry
 
+-- a unit's number has 32 bits
+abbrev pub IsReason : Why → Type 0
+IsReason Open = Unit {0}
+IsReason Reply = Unit {0}
+IsReason Beat = Unit {0}
+IsReason Fresh = Unit {0}
+IsReason (Again unit) = unit < 2 ^ 32
+IsReason Ask = Unit {0}
+IsReason Bye = Unit {0}
+IsReason Expired = Unit {0}
+
+-- numbers of 32 bits, and clocks of 64
+abbrev pub IsEntry : Entry → Type 0
+IsEntry (Take slot number) = (slot < 2 ^ 32) × (number < 2 ^ 32)
+IsEntry (Make index clock why) = (index < 2 ^ 32) × (clock < 2 ^ 64) × IsReason why
+
+abbrev pub AreEntries : List Entry → Type 0
+AreEntries es = AllByRecursion IsEntry es
+
+abbrev pub AreScripts : Scripts → Type 0
+AreScripts c = AreEntries c.client × AreEntries c.server
+
 -- the most entries of both scripts together
 abbrev pub most_entries : ℕ
 most_entries = 4000000
 
 abbrev pub is_few : Scripts → Type 0
 is_few c = length c.client + length c.server ≤ most_entries
+
+abbrev pub IsCertificate : Scripts → Type 0
+IsCertificate c = AreScripts c × is_few c
 
 -- the end of a line behind these bytes
 abbrev pub line : List ℕ → List ℕ

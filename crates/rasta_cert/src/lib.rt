@@ -3,10 +3,14 @@
 
 mod certificate;
 mod entry;
+mod fields;
+pub mod laws;
 mod line;
+mod reading;
 mod writing;
 
 pub use certificate::Certificate;
 pub use entry::Entry;
 pub use rasta_pcap::{Fault, Side, Sink, Source};
+pub use reading::read;
 pub use writing::write;

@@ -1,6 +1,6 @@
 //! Lines of a certificate, made from their last word to their first.
 ghost use Rattle.std.specs.Prelude.{◌≡◌, ◌+◌, ◌≤◌, ◌<◌, ◌^◌, ◌++◌, ◌∷◌, [], length, drop, decimal};
-ghost use Rattle.rasta_cert.specs.Certificate.{entry_line, why_line};
+ghost use Rattle.rasta_cert.specs.Certificate.{IsEntry, entry_line, why_line};
 ghost use Rattle.rasta_end.specs.declared.why.Why.TheVariants.{Again};
 ghost use Rattle.rasta_cert.specs.declared.entry.Entry.TheVariants.{Take, Make};
 
@@ -158,7 +158,8 @@ impl Line {
 
     /// The line of an entry.
     pub fn of_entry(entry: Entry) -> Line
-        ensures { result ≡ entry_line entry }
+        ensures line { result ≡ entry_line entry }
+        ensures valid { IsEntry entry }
     {
         match entry {
             Entry::Take { slot, number } => Line::of_take(slot, number),

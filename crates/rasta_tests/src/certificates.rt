@@ -1,5 +1,5 @@
 //! Certificates as texts.
-use rasta_cert::{Certificate, Entry, write};
+use rasta_cert::{Certificate, Entry, read, write};
 use rasta_end::Why;
 use rasta_pcap::devices::FailAt;
 use rasta_pcap::{Counted, Fault, Sink};
@@ -141,4 +141,230 @@ fn entries_are_at_most_four_million(rt: HostRuntime) {
     assert_eq!(rt; refusal(rt.alloc(), 2_000_000, 2_000_000), Some(None));
     assert_eq!(rt; refusal(rt.alloc(), 4_000_001, 0), Some(too_many));
     assert_eq!(rt; refusal(rt.alloc(), 1, 4_000_000), Some(too_many));
+}
+
+#[test]
+fn certificate_is_read(rt: HostRuntime) -> Result<(), Fail> {
+    let certificate = read(rt.alloc(), TEXT.as_bytes())
+        .ok()
+        .ok_or("a certificate")?;
+    assert_eq!(rt; certificate.client(), CLIENT);
+    assert_eq!(rt; certificate.server(), SERVER);
+    Ok(())
+}
+
+// Where memory was wanting the text can be read again; `scripts/fail_allocations.sh` makes it want.
+#[test]
+fn certificate_is_read_again(rt: HostRuntime) -> Result<(), Fail> {
+    let mut outcome = read(rt.alloc(), TEXT.as_bytes());
+    for _ in 0..2 {
+        if let Err(fault) = &outcome {
+            assert_eq!(rt; *fault, Fault::at(1, 0));
+            outcome = read(rt.alloc(), TEXT.as_bytes());
+        }
+    }
+    let certificate = outcome.ok().ok_or("a certificate")?;
+    assert_eq!(rt; certificate.client(), CLIENT);
+    assert_eq!(rt; certificate.server(), SERVER);
+    Ok(())
+}
+
+#[test]
+fn certificate_without_entries_is_read(rt: HostRuntime) -> Result<(), Fail> {
+    let text = "rasta-certificate 1\nclient\nserver\nend\n";
+    let certificate = read(rt.alloc(), text.as_bytes())
+        .ok()
+        .ok_or("a certificate")?;
+    assert_eq!(rt; certificate.client(), [].as_slice());
+    assert_eq!(rt; certificate.server(), [].as_slice());
+    Ok(())
+}
+
+// An exchange of five packets; its text has thirteen lines.
+const HEARTBEAT: &str = "\
+rasta-certificate 1
+client
+make 0 1000 open
+take 2 40
+make 2 1010 reply
+make 3 1020 fresh
+server
+take 1 7
+make 1 9000 reply
+take 4 8
+take 4 9
+make 4 9050 beat
+end
+";
+
+// The line at fault, and one line that stands in place of that line of the text; `+` puts it behind the
+// last line. A backslash is followed by the letter of what no row can hold: `t` a tab, `r` a carriage
+// return, `0` a zero byte, `x` a byte that begins no character, `n` the end of a line, and `z` a
+// thousand zeros.
+const ROWS: &str = "\
+3 3 make 00 1000 open
+3 3 make 0 01000 open
+3 3 make 0 18446744073709551616 open
+3 3 make 4294967296 1000 open
+3 3 make 1\\z 1000 open
+3 3 make 0 1\\z open
+3 3 make \\z0 1000 open
+3 3 make 0 1000
+3 3 make 0 1000 Open
+3 3 make 0 1000 opens
+3 3 make 0 1000 open again
+3 3 make 0 1000 again
+3 3 make 0 1000 again\\t1
+3 3 make 0 1000 again 4294967296
+3 3 make 0 1000 again 01
+3 3 make 0 1000 again  1
+3 3 make 0 1000 again 1 1
+3 3 make +0 1000 open
+3 3 make -0 1000 open
+3 3 make 0x0 1000 open
+3 3 make\\t0 1000 open
+3 3 make  0 1000 open
+3 3  make 0 1000 open
+3 3 make 0 1000 open\\r
+3 3 make 0 1000 open\\0
+3 3 make 0 1000 open\\x
+3 3 Make 0 1000 open
+3 3 maker 0 1000 open
+3 3 make 0 1000 open # first
+3 3 \\n
+3 3 client
+3 3 end
+4 4 take 2
+4 4 take 2 40 1
+4 4 take 2 4294967296
+4 4 take 4294967296 40
+4 4 take 02 40
+4 4 take 2 040
+4 4 take 2 40\\r
+4 4 TAKE 2 40
+1 1 rasta-certificate 2
+1 1 rasta-certificate 01
+1 1 RASTA-certificate 1
+1 1 rasta-certificate 1\\r
+1 1 \\xrasta-certificate 1
+2 2 Client
+2 2 client\\t
+2 2 server
+7 7 server\\r
+7 7 end
+12 12 server
+13 13 END
+13 13 end\\r
+13 13 end 1
+14 + end
+14 + \\0
+14 + \\n
+";
+
+fn push_named(text: &mut Vec<u8>, name: u8) -> Option<()> {
+    match name {
+        b't' => text.push(b'\t').ok(),
+        b'r' => text.push(b'\r').ok(),
+        b'0' => text.push(0).ok(),
+        b'x' => text.push(0xff).ok(),
+        b'n' => text.push(b'\n').ok(),
+        b'z' => {
+            for _ in 0..1000 {
+                text.push(b'0').ok()?;
+            }
+            Some(())
+        }
+        _ => None,
+    }
+}
+
+// The line of a row, and its end.
+fn push_line(text: &mut Vec<u8>, line: &str) -> Option<()> {
+    let mut pieces = line.split('\\');
+    text.extend_from_slice(pieces.next()?.as_bytes()).ok()?;
+    for piece in pieces {
+        let (name, rest) = piece.as_bytes().split_first()?;
+        push_named(text, *name)?;
+        text.extend_from_slice(rest).ok()?;
+    }
+    text.push(b'\n').ok()
+}
+
+// The text with this line in place of the one of this number.
+fn text_with(alloc: Global, place: &str, line: &str) -> Option<Vec<u8>> {
+    let mut text = Vec::new(alloc);
+    let place = place.parse::<usize>().unwrap_or(usize::MAX);
+    for (i, other) in HEARTBEAT.lines().enumerate() {
+        push_line(
+            &mut text,
+            if i.wrapping_add(1) == place {
+                line
+            } else {
+                other
+            },
+        )?;
+    }
+    if place == usize::MAX {
+        push_line(&mut text, line)?;
+    }
+    Some(text)
+}
+
+// The fault of a row, and what is answered to its text.
+fn answer(alloc: Global, row: &str) -> Option<(u32, Option<Fault>)> {
+    let (fault, row) = row.split_once(' ')?;
+    let (place, line) = row.split_once(' ')?;
+    let text = text_with(alloc, place, line)?;
+    Some((fault.parse().ok()?, read(alloc, &text).err()))
+}
+
+#[test]
+fn wrong_lines_are_named(rt: HostRuntime) -> Result<(), Fail> {
+    for row in ROWS.lines() {
+        let (line, fault) = answer(rt.alloc(), row).ok_or("a row")?;
+        assert_eq!(rt; fault, Some(Fault::at(30, line)), "{row}");
+    }
+    Ok(())
+}
+
+// A text that stops anywhere is refused at its last line, or behind it where that one has its end.
+#[test]
+fn text_that_stops_is_refused_there(rt: HostRuntime) {
+    let text = HEARTBEAT.as_bytes();
+    for len in 0..text.len() {
+        let front = &text[..len];
+        let ends = front.iter().filter(|byte| **byte == b'\n').count();
+        let fault = read(rt.alloc(), front).err();
+        assert_eq!(rt; fault, Some(Fault::at(30, ends as u32 + 1)), "{len} bytes");
+    }
+    assert_eq!(rt; read(rt.alloc(), text).err(), None);
+}
+
+// The text of a certificate whose client takes so often, with this line behind its entries.
+fn text_of_takes(alloc: Global, takes: usize, line: &str) -> Option<Vec<u8>> {
+    let mut text = Vec::from_slice(alloc, b"rasta-certificate 1\nclient\n".as_slice()).ok()?;
+    for _ in 0..takes {
+        text.extend_from_slice(b"take 0 0\n").ok()?;
+    }
+    text.extend_from_slice(line.as_bytes()).ok()?;
+    text.extend_from_slice(b"server\nend\n").ok()?;
+    Some(text)
+}
+
+// Built by LLVM, as the gate and `rt test` do, this takes a second; `rt try --test` gives it up.
+#[test]
+fn entry_too_many_is_named(rt: HostRuntime) -> Result<(), Fail> {
+    let text = text_of_takes(rt.alloc(), 4_000_000, "").ok_or("a text")?;
+    assert_eq!(rt; read(rt.alloc(), &text).err(), None);
+    let text = text_of_takes(rt.alloc(), 4_000_000, "take 0 0\n").ok_or("a text")?;
+    assert_eq!(rt;
+        read(rt.alloc(), &text).err(),
+        Some(Fault::at(45, 4_000_003))
+    );
+    let text = text_of_takes(rt.alloc(), 4_000_000, "take 0 00\n").ok_or("a text")?;
+    assert_eq!(rt;
+        read(rt.alloc(), &text).err(),
+        Some(Fault::at(30, 4_000_003))
+    );
+    Ok(())
 }

@@ -1,8 +1,8 @@
-use Rattle.std.proofs.Common.{◌≡◌, ◌∙◌, ◌++◌, List, ℕ, ap, sym, refl}
+use Rattle.std.proofs.Common.{◌≡◌, ◌++◌, List, ap, sym, refl, subst}
 use Rattle.std.specs.Prelude.{codes}
 use Rattle.rasta_pcap.proofs.Sending.{Sent-start, Sent-begun, Sent-more, Sent-last, Sent-last_begun, where_failed, on_err_map, on_ok_map}
 use Rattle.rasta_cert.specs.declared.entry.Entry.{Entry}
-use Rattle.rasta_cert.specs.Certificate.{entries_text, first_lines, line}
+use Rattle.rasta_cert.specs.Certificate.{AreEntries, entries_text, first_lines, line}
 use Rattle.rasta_cert.proofs.Texts.{certificate_text-parts}
 use Rattle.rasta_cert.proofs.writing.write.Goals as goal
 
@@ -67,3 +67,9 @@ returns-clause-begun g c =
     let server : entries_text scripts.server ++ line (codes "end") ≡ entries_text c.server.result.now ++ line (codes "end") = ap (λ (es : List Entry). entries_text es ++ line (codes "end")) (sym c.server.ensures.script) in
     let s4 = Sent-more _ _ _ _ _ _ _ s3 server c.in_ok-write_entries-2.ensures.ok in
     on_err_map c.write_all-3.result (λ begun. Sent-last_begun _ _ _ _ _ s4 begun) c.write_all-3.ensures.begun
+
+pub returns-clause-valid : goal.returns-clause-valid
+returns-clause-valid g c =
+    let client = subst AreEntries c.client.ensures.script c.in_ok-write_entries.ensures.valid in
+    let server = subst AreEntries c.server.ensures.script c.in_ok-write_entries-2.ensures.valid in
+    on_ok_map c.write_all-3.result (λ out. ((client, server), c.client.ensures.few)) c.write_all-3.ensures.ok
