@@ -126,6 +126,28 @@ fn check_bytes_are_carried(rt: HostRuntime) -> Result<(), Fail> {
     Ok(())
 }
 
+// Data with two check bytes; parameters with four refuse the datagram by its safety length.
+#[test]
+fn two_check_bytes_are_carried(rt: HostRuntime) -> Result<(), Fail> {
+    let two = params_with(0, RFC_WORDS, 2).ok_or("parameters")?;
+    let four = params_with(0, RFC_WORDS, 4).ok_or("parameters")?;
+    let data = parts(Kind::Data, Body::Messages(&MESSAGES), b"\xaa\xbb");
+    let mut out = Vec::new(rt.alloc());
+    assert_eq!(rt; write(&rt, &two, &data, &mut out), None);
+    assert_eq!(rt;
+        (out.len(), out.first().copied(), out.get(8).copied()),
+        (44, Some(44), Some(34))
+    );
+    let pdu = decode(&two, Side::Client, &out).ok().ok_or("read")?;
+    assert_eq!(rt; pdu.check_bytes(), b"\xaa\xbb".as_slice());
+    assert!(rt; data.fits(&two) && !data.fits(&four));
+    assert_eq!(rt;
+        decode(&four, Side::Client, &out),
+        Err(Fault::at(Fault::SAFETY_LENGTH, 0))
+    );
+    Ok(())
+}
+
 // A datagram with a safety code is read back; with another last byte it isn't.
 #[test]
 fn code_is_written(rt: HostRuntime) -> Result<(), Fail> {
