@@ -36,3 +36,4 @@ pub mod History
 pub mod Known
 pub mod Positions
 pub mod Pushes
+pub mod Crossings

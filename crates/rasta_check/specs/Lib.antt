@@ -7,3 +7,5 @@ pub mod Scripts
 pub mod Laws
 pub mod Theorem
 pub mod Lists
+pub mod Reading
+pub mod Packets
