@@ -11,7 +11,7 @@ use Rattle.rasta_pcap.specs.Fault.{copy_differs, number_gap, fault_at, fault_of_
 use Rattle.rasta_pcap.specs.declared.fault.Side.{Side}
 use Rattle.rasta_pcap.specs.declared.fault.Side.TheVariants.{Client, Server}
 use Rattle.rasta_udp.specs.Frame.{Packet}
-use Rattle.rasta_pdu.specs.Params.{Parameters}
+use Rattle.rasta_pdu.specs.Params.{Parameters, AreParameters}
 use Rattle.rasta_pdu.specs.Messages.{AreBytes}
 use Rattle.rasta_pdu.specs.Pdu.{RedundancyPdu, redundancy_bytes, decode_of}
 use Rattle.rasta_pdu.proofs.Spellings.{decode_of-Ok}
@@ -45,15 +45,25 @@ module _ (p : Parameters) (packets : List Packet) (side : Side) (own : List Firs
       let same : redundancy_bytes p side c.pdu ≡ a.payload = (bytes_eq-Decides (redundancy_bytes p side c.pdu) a.payload).0 (passed (bytes_eq (redundancy_bytes p side c.pdu) a.payload) copy_differs n) in
       sent_copy p packets a side own c.place w.0 sent w.1 w.2 (w.3.same ∙ same)
 
-  by_read : (r : Result RedundancyPdu Fault) → decode_of p side a.payload ≡ r → AreBytes a.payload → read_fault p side own a.payload r ≡ None
-      → IsSent p (packets ++ a ∷ []) side (behind_read own (length packets) r)
-  by_read (Err fault) e are n = absurd (cc)
-  by_read (Ok d) e are n = (let is = decode_of-Ok p side a.payload d sent.valid are e in by_copy d (record { fits = is.is; same = is.spelled }) (copy_with own d.number) refl n)
+-- it is read as this PDU, which its bytes spell
+abbrev pub IsRead : Parameters → Packet → Type 0
+IsRead p a = (d : RedundancyPdu) × (decode_of p a.side a.payload ≡ Ok d) × Spells p a.side d a.payload
+
+read_by : (p : Parameters) (own : List FirstCopy) (a : Packet) (r : Result RedundancyPdu Fault) → decode_of p a.side a.payload ≡ r → AreParameters p → AreBytes a.payload
+    → read_fault p a.side own a.payload r ≡ None → IsRead p a
+read_by p own a (Err fault) e valid are n = absurd (cc)
+read_by p own a (Ok d) e valid are n = (let is = decode_of-Ok p a.side a.payload d valid are e in (d, e, record { fits = is.is; same = is.spelled }))
+
+-- a packet without a fault is read
+pub is_read : (p : Parameters) (own : List FirstCopy) (a : Packet) → AreParameters p → AreBytes a.payload → packet_fault p own a ≡ None → IsRead p a
+is_read p own a valid are n = read_by p own a (decode_of p a.side a.payload) refl valid are n
 
 -- the sent list of its sender goes on
-pub goes_on : (p : Parameters) (packets : List Packet) (own : List FirstCopy) (a : Packet) → IsSent p packets a.side own → AreBytes a.payload
+pub goes_on : (p : Parameters) (packets : List Packet) (own : List FirstCopy) (a : Packet) → IsSent p packets a.side own → IsRead p a
     → packet_fault p own a ≡ None → IsSent p (packets ++ a ∷ []) a.side (behind_read own (length packets) (decode_of p a.side a.payload))
-goes_on p packets own a sent are n = by_read p packets a.side own a sent refl (decode_of p a.side a.payload) refl are n
+goes_on p packets own a sent w n =
+    subst (λ (r : Result RedundancyPdu Fault). IsSent p (packets ++ a ∷ []) a.side (behind_read own (length packets) r)) (sym w.1)
+    (by_copy p packets a.side own a sent refl w.0 w.2 (copy_with own w.0.number) refl (sym (ap (read_fault p a.side own a.payload) w.1) ∙ n))
 
 -- ---- packets of known numbers
 
@@ -135,7 +145,7 @@ grown_at k a Server sent e h s within =
       few_server = w.2;
     }
 
-pub grown_crossing : (k : Crossing) (a : Packet) → IsCrossing k → AreBytes a.payload → packet_fault k.params (sent_by k a.side) a ≡ None → is_within (with_packet k a) ≡ true → IsCrossing (with_packet k a)
+pub grown_crossing : (k : Crossing) (a : Packet) → IsCrossing k → IsRead k.params a → packet_fault k.params (sent_by k a.side) a ≡ None → is_within (with_packet k a) ≡ true → IsCrossing (with_packet k a)
 grown_crossing k a h are n within = grown_at k a a.side (sent_behind k a) refl h (goes_on k.params k.packets (sent_by k a.side) a (list_of k h a.side) are n) within
 
 -- what the code knows of a packet without a fault
@@ -149,7 +159,7 @@ module _ (k : Crossing) (a : Packet) (new : Option Pdu) (h : IsCrossing k) (behi
       ∙ (ap (λ (b : Bool). nat_lt (length k.packets) most_packets && (not b || nat_lt (length (sent_by k a.side)) most_sent)) (sym e) ∙ sym f))
 
   pub may_push : (is_new room : Bool) → is_new ≡ is_some new → room ≡ (nat_lt (length k.packets) most_packets && (not is_new || nat_lt (length (sent_by k a.side)) most_sent)) → room ≡ true
-      → AreBytes a.payload → packet_fault k.params (sent_by k a.side) a ≡ None → IsCrossing (crossing_with k a a.side (with_new (sent_by k a.side) (length k.packets) new))
+      → IsRead k.params a → packet_fault k.params (sent_by k a.side) a ≡ None → IsCrossing (crossing_with k a a.side (with_new (sent_by k a.side) (length k.packets) new))
   may_push is_new room e f g are n = subst IsCrossing with_is (grown_crossing k a h are n (within_is is_new room e f ∙ g))
 
   pub pushed : (is_new room : Bool) (number : ℕ) → is_new ≡ is_some new → room ≡ (nat_lt (length k.packets) most_packets && (not is_new || nat_lt (length (sent_by k a.side)) most_sent))
@@ -160,7 +170,40 @@ module _ (k : Crossing) (a : Packet) (new : Option Pdu) (h : IsCrossing k) (behi
       ap (after_judged k number a) n
       ∙ (λ i. if within_is is_new room e f i then Ok (with_is i) else Err (fault_at too_many number))
 
+  pub pushed_all : (is_new room : Bool) (number : ℕ) → is_new ≡ is_some new → room ≡ (nat_lt (length k.packets) most_packets && (not is_new || nat_lt (length (sent_by k a.side)) most_sent))
+      → packet_fault k.params (sent_by k a.side) a ≡ None → room ≡ true
+      → after_packet k number a ≡ Ok (crossing_with k a a.side (with_new (sent_by k a.side) (length k.packets) new))
+  pushed_all is_new room number e f n g =
+      pushed is_new room number e f n ∙ ap (λ (b : Bool). if b then Ok (crossing_with k a a.side (with_new (sent_by k a.side) (length k.packets) new)) else Err (fault_at too_many number)) g
+
+  pub pushed_none : (is_new room : Bool) (number : ℕ) → is_new ≡ is_some new → room ≡ (nat_lt (length k.packets) most_packets && (not is_new || nat_lt (length (sent_by k a.side)) most_sent))
+      → packet_fault k.params (sent_by k a.side) a ≡ None → room ≡ false → after_packet k number a ≡ Err (fault_at too_many number)
+  pushed_none is_new room number e f n g =
+      pushed is_new room number e f n ∙ ap (λ (b : Bool). if b then Ok (crossing_with k a a.side (with_new (sent_by k a.side) (length k.packets) new)) else Err (fault_at too_many number)) g
+
 -- a packet's fault
 pub refused : (k : Crossing) (a : Packet) (number fault : ℕ) → packet_fault k.params (sent_by k a.side) a ≡ Some fault → after_packet k number a ≡ Err (fault_of_end fault number a.side)
 unfolding after_packet
 refused k a number fault e = ap (after_judged k number a) e
+
+-- ---- the parts of a crossing with one packet more
+
+module _ (k : Crossing) (a : Packet) (packets : List Packet) (grown : packets ≡ k.packets ++ a ∷ []) where
+  pub after_client : (place : ℕ) (pdu : Pdu) (client : List FirstCopy) → a.side ≡ Client → place ≡ length k.packets → client ≡ k.client ++ copy_of (place, pdu) ∷ []
+      → record { params = k.params; packets = packets; client = client; server = k.server } ≡ crossing_with k a a.side (with_new (sent_by k a.side) (length k.packets) (Some pdu))
+  after_client place pdu client s l f =
+      (λ i. record { params = k.params; packets = grown i; client = (f ∙ ap (λ n. k.client ++ copy_of (n, pdu) ∷ []) l) i; server = k.server })
+      ∙ sym (ap (λ (t : Side). crossing_with k a t (with_new (sent_by k t) (length k.packets) (Some pdu))) s)
+
+  pub after_server : (place : ℕ) (pdu : Pdu) (server : List FirstCopy) → a.side ≡ Server → place ≡ length k.packets → server ≡ k.server ++ copy_of (place, pdu) ∷ []
+      → record { params = k.params; packets = packets; client = k.client; server = server } ≡ crossing_with k a a.side (with_new (sent_by k a.side) (length k.packets) (Some pdu))
+  after_server place pdu server s l f =
+      (λ i. record { params = k.params; packets = grown i; client = k.client; server = (f ∙ ap (λ n. k.server ++ copy_of (n, pdu) ∷ []) l) i })
+      ∙ sym (ap (λ (t : Side). crossing_with k a t (with_new (sent_by k t) (length k.packets) (Some pdu))) s)
+
+  pub after_repeat : record { params = k.params; packets = packets; client = k.client; server = k.server } ≡ crossing_with k a a.side (with_new (sent_by k a.side) (length k.packets) None)
+  after_repeat = (λ i. record { params = k.params; packets = grown i; client = k.client; server = k.server }) ∙ by a.side
+    where
+      by : (t : Side) → record { params = k.params; packets = k.packets ++ a ∷ []; client = k.client; server = k.server } ≡ crossing_with k a t (with_new (sent_by k t) (length k.packets) None)
+      by Client = refl
+      by Server = refl

@@ -3,7 +3,8 @@ ghost use Rattle.std.specs.Prelude.{◌≡◌, [], ◌∷◌, ◌++◌, List, ma
 ghost use Rattle.rasta_pcap.specs.Fault.{no_memory};
 ghost use Rattle.rasta_udp.specs.Frame.{packet_in, packet_of};
 ghost use Rattle.rasta_pdu.specs.Params.{AreParameters};
-ghost use Rattle.rasta_check.specs.Crossing.{FirstCopy, packet_fault};
+ghost use Rattle.rasta_check.specs.Crossing.{FirstCopy, Spells, packet_fault};
+ghost use Rattle.rasta_pdu.specs.Pdu.{RedundancyPdu, decode_of};
 ghost use Rattle.rasta_check.specs.Lists.{copy_of};
 ghost use Rattle.rasta_check.specs.Reading.{Crossing, IsCrossing, crossing_with, sent_by, sent_behind, nothing_crossed, after_packet, after_frame, after_record};
 ghost use Rattle.std.specs.Prelude.{◌<◌, IfSome, bytes_eq, nat_lt, not, ◌&&◌, ◌||◌};
@@ -139,7 +140,9 @@ impl<'a> Sent<'a> {
 
     // The PDU of a packet, where its number is new, or the number of its fault.
     fn judge(&self, found: Datagram<'a>) -> Result<Option<Pdu<'a>>, u8>
-        ensures { MatchResult result
+        ensures spelled { OnOk result ((d : RedundancyPdu) × (decode_of self.now.params found.entry.side found.entry.payload.now ≡ Ok d)
+            × Spells self.now.params found.entry.side d found.entry.payload.now) }
+        ensures value { MatchResult result
             (λ new. (packet_fault self.now.params (sent_by self.now found.entry.side) (packet_of found.entry) ≡ None)
               × (sent_behind self.now (packet_of found.entry) ≡ with_new (sent_by self.now found.entry.side) (length self.now.packets) new))
             (λ f. packet_fault self.now.params (sent_by self.now found.entry.side) (packet_of found.entry) ≡ Some f) }

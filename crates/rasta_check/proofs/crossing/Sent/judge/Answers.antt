@@ -15,8 +15,8 @@ has_bytes-requires c =
     (λ i. option_map (λ (x : FirstCopy). x.place) (copy_with (sym c.list.ensures.value i) (sym c.number.ensures i))) ∙ (sym c.place_of.ensures ∙ c.in-Some.is) in
     place_within k side (value_of c.in-Ok.pdu).number c.in-Some.place c.list.ensures.crossing at
 
-pub returns-then-has_bytes : goal.returns-then-has_bytes
-returns-then-has_bytes c =
+pub returns-then-has_bytes-clause-value : goal.returns-then-has_bytes-clause-value
+returns-then-has_bytes-clause-value c =
     let k = c.args.self.now in
     let a = packet_of c.args.found in
     let d = value_of c.in-Ok.pdu in
@@ -26,8 +26,8 @@ returns-then-has_bytes c =
     let r = repeated k a d c.in-Some.place c.has_bytes.result c.list.ensures.crossing reads at c.has_bytes.ensures in
     (r.0 ∙ ap (λ b. if b then None else Some 27) c.if-has_bytes.true, r.1)
 
-pub returns-else-has_bytes : goal.returns-else-has_bytes
-returns-else-has_bytes c =
+pub returns-else-has_bytes-clause-value : goal.returns-else-has_bytes-clause-value
+returns-else-has_bytes-clause-value c =
     let k = c.args.self.now in
     let a = packet_of c.args.found in
     let d = value_of c.in-Ok.pdu in
