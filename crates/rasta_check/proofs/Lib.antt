@@ -37,3 +37,4 @@ pub mod Known
 pub mod Positions
 pub mod Pushes
 pub mod Crossings
+pub mod Readings
