@@ -47,7 +47,7 @@ found_by true x own number c h rest e = (let same : x ≡ c = cc in (0, e, ap (�
 found_by false x own number c h rest e = (let r = rest e in (suc r.0, r.1, r.2))
 
 -- it is a member of the list, and has the number
-copy_found : (own : List FirstCopy) (number : ℕ) (c : FirstCopy) → copy_with own number ≡ Some c → (i : ℕ) × (slice_get own i ≡ Some c) × (c.pdu.number ≡ number)
+pub copy_found : (own : List FirstCopy) (number : ℕ) (c : FirstCopy) → copy_with own number ≡ Some c → (i : ℕ) × (slice_get own i ≡ Some c) × (c.pdu.number ≡ number)
 copy_found [] number c e = absurd (cc)
 copy_found (x ∷ own) number c e = found_by (x.pdu.number == number) x own number c (λ h. grind (arith, nat_tests)) (copy_found own number c) e
 
@@ -59,7 +59,7 @@ none_by false x own number h rest e zero c g n = (let same : x ≡ c = cc in let
 none_by false x own number h rest e (suc i) c g n = rest e i c g n
 
 -- where there is none, no member has the number
-copy_none : (own : List FirstCopy) (number : ℕ) → copy_with own number ≡ None → (i : ℕ) (c : FirstCopy) → slice_get own i ≡ Some c → c.pdu.number ≡ number → ⊥
+pub copy_none : (own : List FirstCopy) (number : ℕ) → copy_with own number ≡ None → (i : ℕ) (c : FirstCopy) → slice_get own i ≡ Some c → c.pdu.number ≡ number → ⊥
 copy_none [] number e i c g n = cc
 copy_none (x ∷ own) number e i c g n = none_by (x.pdu.number == number) x own number (λ h. grind (arith, nat_tests)) (copy_none own number) e i c g n
 
@@ -70,7 +70,7 @@ passes : (b : Bool) (fault : ℕ) → b ≡ true → (if b then None else Some f
 passes true fault e = refl
 passes false fault e = absurd (cc)
 
-passed : (b : Bool) (fault : ℕ) → (if b then None else Some fault) ≡ None → b ≡ true
+pub passed : (b : Bool) (fault : ℕ) → (if b then None else Some fault) ≡ None → b ≡ true
 passed true fault e = refl
 passed false fault e = absurd (cc)
 

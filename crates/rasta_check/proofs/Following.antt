@@ -165,16 +165,16 @@ can_follow p xs rest s own a h l sd more g =
     let same : own ≡ z.own = sent_once p xs s own z.own h z.sent l in
     follow_by p xs s own a r.0 h sd r.1 (subst (λ (cs : List FirstCopy). (r.0 ≡ cs) ⊎ ((c : FirstCopy) × (r.0 ≡ cs ++ c ∷ []) × (c.place ≡ length xs))) (sym same) z.how)
 
-first_number : (own : List FirstCopy) (d : RedundancyPdu) → ℕ
+pub first_number : (own : List FirstCopy) (d : RedundancyPdu) → ℕ
 first_number [] d = d.number
 first_number (c ∷ cs) d = c.pdu.number
 
-numbers_from : (p : Parameters) (xs : List Packet) (s : Side) (own : List FirstCopy) (d : RedundancyPdu) → IsSent p xs s own → Counts_from (first_number own d) own
+pub numbers_from : (p : Parameters) (xs : List Packet) (s : Side) (own : List FirstCopy) (d : RedundancyPdu) → IsSent p xs s own → Counts_from (first_number own d) own
 unfolding first_number
 numbers_from p xs s [] d h i c g = absurd (cc)
 numbers_from p xs s (x ∷ own) d h i c g = h.numbers i x c refl g
 
-next_from : (own : List FirstCopy) (d : RedundancyPdu) → d.number < 2 ^ 32 → ((c : FirstCopy) → slice_get own 0 ≡ Some c → d.number ≡ wrapped (c.pdu.number + length own)) → d.number ≡ wrapped (first_number own d + length own)
+pub next_from : (own : List FirstCopy) (d : RedundancyPdu) → d.number < 2 ^ 32 → ((c : FirstCopy) → slice_get own 0 ≡ Some c → d.number ≡ wrapped (c.pdu.number + length own)) → d.number ≡ wrapped (first_number own d + length own)
 unfolding first_number
 next_from [] d l h = omega arith
 next_from (c ∷ own) d l h = h c refl

@@ -43,3 +43,5 @@ pub mod Pushes
 pub mod Checked
 pub mod Accepting
 pub mod Refusing
+pub mod Crossings
+pub mod Readings

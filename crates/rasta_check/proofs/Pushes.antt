@@ -1,15 +1,17 @@
 -- Lists of first copies as vectors and maps hold them, with one more.
-use Rattle.std.proofs.Common.{◌≡◌, ℕ, suc, ◌++◌, false, List, [], ◌∷◌, Some, length, map, nat_eq, refl, ap, sym, ◌∙◌, arith, subst, if◌then◌else◌, slice_get}
-use Rattle.std.specs.HashMap.{HashMap}
-use Rattle.std.specs.Map.{keys_of}
-use Rattle.std.proofs.lemmas.List.{map-append}
+use Rattle.std.proofs.Common.{◌≡◌, ℕ, suc, ◌+◌, ◌++◌, Bool, true, false, true≢false, cond, Option, List, [], ◌∷◌, Some, None, length, map, nat_eq, refl, ap, sym, ◌∙◌, arith, subst, if◌then◌else◌, slice_get}
+use Rattle.std.specs.HashMap.{HashMap, get}
+use Rattle.std.specs.Map.{keys_of, lookup}
+use Rattle.std.specs.Option.{option_map}
+use Rattle.std.specs.Prelude.{◌==◌}
+use Rattle.std.proofs.lemmas.List.{map-append, length-map}
 use Rattle.std.proofs.lemmas.Map.{NonePasses, lookup-none}
 use Rattle.std.proofs.lemmas.Bool.Decides.{nat_tests}
 use Rattle.indexmap.specs.IndexMap.{insert_entry}
 use Rattle.indexmap.proofs.CallerLemmas.{insert_entry-new}
 use Rattle.rasta_pdu.specs.declared.pdu.Pdu.{Pdu}
 use Rattle.rasta_pdu.specs.Pdu.{value_of}
-use Rattle.rasta_check.specs.Crossing.{FirstCopy}
+use Rattle.rasta_check.specs.Crossing.{FirstCopy, copy_with}
 use Rattle.rasta_check.specs.Lists.{IsOrdered, AreMarks, copy_of, copies_in, numbers_of, marked}
 use Rattle.rasta_check.proofs.Positions.{marks_pushed, number_new}
 
@@ -69,3 +71,23 @@ module _ {S : Type 0} (m : HashMap ℕ (ℕ × Pdu) S) (x : ℕ × Pdu) (h : IsO
   pub keys_grown : (number : ℕ) (all : Entries) → number ≡ x.1.number → all ≡ insert_entry nat_eq m.entries number x → keys_of all ≡ numbers_of (copies_in all)
   keys_grown number all e f =
       ap keys_of (f ∙ inserted number e) ∙ (keys_push m.entries number x ∙ ((λ i. keys i ++ e i ∷ []) ∙ (sym (numbers_push (copies_in m.entries) (copy_of x)) ∙ ap numbers_of (sym (map_grown number all e f)))))
+
+-- ---- the place of a number
+
+found_by : (b d : Bool) (v : ℕ × Pdu) (o : Option (ℕ × Pdu)) (q : Option FirstCopy) → b ≡ d → option_map (λ (w : ℕ × Pdu). w.0) o ≡ option_map (λ (x : FirstCopy). x.place) q
+    → option_map (λ (w : ℕ × Pdu). w.0) (cond b (Some v) o) ≡ option_map (λ (x : FirstCopy). x.place) (if d then Some (copy_of v) else q)
+found_by true true v o q e h = refl
+found_by true false v o q e h = absurd (true≢false e)
+found_by false true v o q e h = absurd (true≢false (sym e))
+found_by false false v o q e h = h
+
+same_test : (n m k : ℕ) → m ≡ k → nat_eq n m ≡ (k == n)
+same_test n m k e = grind (arith, nat_tests)
+
+pub place_found : (es : Entries) (n : ℕ) → keys_of es ≡ numbers_of (copies_in es)
+    → option_map (λ (w : ℕ × Pdu). w.0) (lookup (nat_eq n) es) ≡ option_map (λ (x : FirstCopy). x.place) (copy_with (copies_in es) n)
+place_found [] n same = refl
+place_found (e ∷ es) n same =
+    let head : e.0 ≡ (value_of e.1.1).number = cc in
+    let tail : keys_of es ≡ numbers_of (copies_in es) = cc in
+    found_by (nat_eq n e.0) ((value_of e.1.1).number == n) e.1 (lookup (nat_eq n) es) (copy_with (copies_in es) n) (same_test n e.0 (value_of e.1.1).number head) (place_found es n tail)

@@ -8,3 +8,5 @@ pub mod Laws
 pub mod Theorem
 pub mod Lists
 pub mod Checking
+pub mod Reading
+pub mod Packets

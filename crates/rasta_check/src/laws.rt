@@ -1,5 +1,9 @@
 //! Laws on every run of two ends: public functions without a body, whose contracts are the laws.
-ghost use Rattle.rasta_pdu.specs.Params.{Parameters};
+ghost use Rattle.std.specs.Prelude.{◌≡◌, ℕ, List, Ok};
+ghost use Rattle.rasta_pcap.specs.Capture.{IsCapture};
+ghost use Rattle.rasta_pdu.specs.Params.{Parameters, AreParameters};
+ghost use Rattle.rasta_check.specs.Crossing.{crossing_list};
+ghost use Rattle.rasta_check.specs.Reading.{Crossing, crossing_of};
 ghost use Rattle.rasta_check.specs.Laws;
 ghost use Rattle.rasta_check.specs.Theorem.{OfConnection, SentLists, Definite, Simulation, Necessity, Sharpness, Completeness, Stuck};
 
@@ -63,4 +67,16 @@ pub fn complete()
 /// A script leads to one end; where its next entry can't follow, no script that begins so fits.
 pub fn stuck()
     ensures { (p : Parameters) → OfConnection p → Stuck p }
+{}
+
+/// What is read of a capture are the packets of its records.
+pub fn crossing_is_read()
+    // The file is a capture, whose records hold these packets.
+    ensures records { (p : Parameters) (file : List ℕ) (k : Crossing) → AreParameters p → crossing_of p file ≡ Ok k
+        → (records : List (List ℕ)) × IsCapture p.last_record file records
+        × (k.packets ≡ crossing_list p records) × (k.params ≡ p) }
+    // No other list of records is that of the file.
+    ensures packets { (p : Parameters) (file : List ℕ) (k : Crossing) (records : List (List ℕ)) → AreParameters p
+        → crossing_of p file ≡ Ok k → IsCapture p.last_record file records
+        → k.packets ≡ crossing_list p records }
 {}

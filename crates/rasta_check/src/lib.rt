@@ -2,14 +2,18 @@
 //! what they may send, and its laws; and the lists of what each side of a capture sent.
 #![tactic(auto)]
 
+mod crossing;
 mod dense_list;
 mod follower;
 pub mod laws;
 mod map_list;
 mod place_table;
+mod reading;
 mod sent_list;
 
+pub use crossing::Sent;
 pub use dense_list::DenseList;
 pub use map_list::MapList;
 pub use rasta_pcap::{Fault, Side, Sink, Source};
+pub use reading::sent;
 pub use sent_list::SentList;

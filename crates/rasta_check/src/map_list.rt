@@ -1,7 +1,7 @@
 //! A sent list in a map.
-ghost use Rattle.std.specs.Prelude.{◌≡◌, [], ◌∷◌, ◌++◌, List, OnOk, OnErr};
+ghost use Rattle.std.specs.Prelude.{◌≡◌, [], ◌∷◌, ◌++◌, List, option_map, OnOk, OnErr};
 ghost use Rattle.std.specs.Map.{keys_of};
-ghost use Rattle.rasta_check.specs.Crossing.{FirstCopy};
+ghost use Rattle.rasta_check.specs.Crossing.{FirstCopy, copy_with};
 ghost use Rattle.rasta_check.specs.Lists.{AreMarks, IsOrdered, copies_in, copy_of, numbers_of};
 
 use crate::place_table::PlaceTable;
@@ -35,6 +35,16 @@ impl<'a> MapList<'a> {
         MapList {
             copies: IndexMap::new(alloc),
             places: PlaceTable::new(alloc),
+        }
+    }
+
+    // The place of the first copy with a redundancy number.
+    pub(crate) fn place_of(&self, number: u32) -> Option<u32>
+        ensures { result ≡ option_map (λ (c : FirstCopy). c.place) (copy_with self.now number) }
+    {
+        match self.copies.get(&number) {
+            Some(copy) => Some(copy.0),
+            None => None,
         }
     }
 

@@ -59,6 +59,10 @@ impl Fault {
 
     pub const IDS: u8 = 26;
 
+    pub const COPY_DIFFERS: u8 = 27;
+
+    pub const NUMBER_GAP: u8 = 28;
+
     pub const TOO_LONG: u8 = 29;
 
     pub const SYNTAX: u8 = 30;

@@ -1,0 +1,38 @@
+use Rattle.std.proofs.Common.{◌≡◌, ℕ, List, Ok, Some, None, ap, sym, ◌∙◌, if◌then◌else◌}
+use Rattle.std.specs.Option.{option_map}
+use Rattle.rasta_udp.specs.Frame.{packet_of}
+use Rattle.rasta_pdu.specs.Pdu.{decode_of, value_of}
+use Rattle.rasta_check.specs.Crossing.{FirstCopy, copy_with}
+use Rattle.rasta_check.specs.Reading.{Crossing, sent_by}
+use Rattle.rasta_check.proofs.Crossings.{place_within, repeated}
+use Rattle.rasta_check.proofs.crossing.Sent.judge.Goals as goal
+
+pub has_bytes-requires : goal.has_bytes-requires
+has_bytes-requires c =
+    let k = c.args.self.now in
+    let side = c.args.found.side in
+    let at : option_map (λ (x : FirstCopy). x.place) (copy_with (sent_by k side) (value_of c.in-Ok.pdu).number) ≡ Some c.in-Some.place =
+    (λ i. option_map (λ (x : FirstCopy). x.place) (copy_with (sym c.list.ensures.value i) (sym c.number.ensures i))) ∙ (sym c.place_of.ensures ∙ c.in-Some.is) in
+    place_within k side (value_of c.in-Ok.pdu).number c.in-Some.place c.list.ensures.crossing at
+
+pub returns-then-has_bytes-clause-value : goal.returns-then-has_bytes-clause-value
+returns-then-has_bytes-clause-value c =
+    let k = c.args.self.now in
+    let a = packet_of c.args.found in
+    let d = value_of c.in-Ok.pdu in
+    let at : option_map (λ (x : FirstCopy). x.place) (copy_with (sent_by k a.side) d.number) ≡ Some c.in-Some.place =
+    (λ i. option_map (λ (x : FirstCopy). x.place) (copy_with (sym c.list.ensures.value i) (sym c.number.ensures i))) ∙ (sym c.place_of.ensures ∙ c.in-Some.is) in
+    let reads : decode_of k.params a.side a.payload ≡ Ok d = ap (λ (x : Crossing). decode_of x.params a.side a.payload) (sym c.self.view_is) ∙ c.in-Ok.ensures.value in
+    let r = repeated k a d c.in-Some.place c.has_bytes.result c.list.ensures.crossing reads at c.has_bytes.ensures in
+    (r.0 ∙ ap (λ b. if b then None else Some 27) c.if-has_bytes.true, r.1)
+
+pub returns-else-has_bytes-clause-value : goal.returns-else-has_bytes-clause-value
+returns-else-has_bytes-clause-value c =
+    let k = c.args.self.now in
+    let a = packet_of c.args.found in
+    let d = value_of c.in-Ok.pdu in
+    let at : option_map (λ (x : FirstCopy). x.place) (copy_with (sent_by k a.side) d.number) ≡ Some c.in-Some.place =
+    (λ i. option_map (λ (x : FirstCopy). x.place) (copy_with (sym c.list.ensures.value i) (sym c.number.ensures i))) ∙ (sym c.place_of.ensures ∙ c.in-Some.is) in
+    let reads : decode_of k.params a.side a.payload ≡ Ok d = ap (λ (x : Crossing). decode_of x.params a.side a.payload) (sym c.self.view_is) ∙ c.in-Ok.ensures.value in
+    let r = repeated k a d c.in-Some.place c.has_bytes.result c.list.ensures.crossing reads at c.has_bytes.ensures in
+    r.0 ∙ ap (λ b. if b then None else Some 27) c.if-has_bytes.false

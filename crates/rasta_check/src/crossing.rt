@@ -1,0 +1,246 @@
+//! What each side sent, by a capture.
+ghost use Rattle.std.specs.Prelude.{◌≡◌, [], ◌∷◌, ◌++◌, List, map, length, option_map, slice_get, None, Some, Ok, Err, MatchResult, OnOk, OnErr, IfOk, ◌⊎◌};
+ghost use Rattle.rasta_pcap.specs.Fault.{no_memory};
+ghost use Rattle.rasta_udp.specs.Frame.{packet_in, packet_of};
+ghost use Rattle.rasta_pdu.specs.Params.{AreParameters};
+ghost use Rattle.rasta_check.specs.Crossing.{FirstCopy, Spells, packet_fault};
+ghost use Rattle.rasta_pdu.specs.Pdu.{RedundancyPdu, decode_of};
+ghost use Rattle.rasta_check.specs.Lists.{copy_of};
+ghost use Rattle.rasta_check.specs.Reading.{Crossing, IsCrossing, crossing_with, sent_by, sent_behind, nothing_crossed, after_packet, after_frame, after_record};
+ghost use Rattle.std.specs.Prelude.{◌<◌, IfSome, bytes_eq, nat_lt, not, ◌&&◌, ◌||◌};
+ghost use Rattle.rasta_check.specs.Crossing.{is_next_number};
+ghost use Rattle.rasta_check.specs.World.{most_sent};
+ghost use Rattle.rasta_check.specs.Theorem.{most_packets};
+ghost use Rattle.rasta_check.specs.Packets.{with_new};
+
+use crate::map_list::MapList;
+use crate::sent_list::SentList;
+use rasta_pcap::{Fault, Record, Side};
+use rasta_pdu::{Params, Pdu, decode};
+use rasta_udp::{Datagram, datagram};
+use std::alloc::{AllocError, Global};
+use std::marker::Model;
+
+/// The most packets of a connection.
+const MOST_PACKETS: usize = 16_000_000;
+
+/// The most PDUs that one side may have sent.
+const MOST_SENT: u32 = 1_000_000;
+
+/// The packets of a connection that crossed, in their order, and the sent list of each side.
+#[derive(Drop)]
+pub struct Sent<'a> {
+    params: Params,
+    packets: Vec<Datagram<'a>>,
+    client: MapList<'a>,
+    server: MapList<'a>,
+}
+
+impl<'a> Model for Sent<'a> {
+    ghost Value = { Crossing };
+
+    ghost view = { λ s. record {
+      params = s.params;
+      packets = map packet_of s.packets.items;
+      client = s.client;
+      server = s.server;
+    } };
+
+    ghost invariant = { λ s. IsCrossing (record {
+      params = s.params;
+      packets = map packet_of s.packets.items;
+      client = s.client;
+      server = s.server;
+    }) };
+}
+
+impl<'a> Sent<'a> {
+    // Nothing has crossed.
+    pub(crate) fn new(alloc: Global, params: Params) -> Sent<'a>
+        requires { AreParameters params }
+        ensures { result ≡ nothing_crossed params }
+    {
+        Sent {
+            params,
+            packets: Vec::new(alloc),
+            client: MapList::new(alloc),
+            server: MapList::new(alloc),
+        }
+    }
+
+    /// The parameters by which the capture was read.
+    pub fn params(&self) -> Params
+        ensures value { result ≡ self.now.params }
+        ensures crossing { IsCrossing self.now }
+    {
+        self.params
+    }
+
+    /// How many packets crossed.
+    pub fn len(&self) -> u32
+        ensures value { result ≡ length self.now.packets }
+        ensures crossing { IsCrossing self.now }
+    {
+        self.packets.len() as u32
+    }
+
+    /// The sent list of the client.
+    pub fn client(&self) -> &MapList<'a>
+        ensures value { result.now ≡ self.now.client }
+        ensures crossing { IsCrossing self.now }
+    {
+        &self.client
+    }
+
+    /// The sent list of the server.
+    pub fn server(&self) -> &MapList<'a>
+        ensures value { result.now ≡ self.now.server }
+        ensures crossing { IsCrossing self.now }
+    {
+        &self.server
+    }
+
+    // The sent list of a side.
+    fn list(&self, side: Side) -> &MapList<'a>
+        ensures value { result.now ≡ sent_by self.now side }
+        ensures crossing { IsCrossing self.now }
+    {
+        match side {
+            Side::Client => &self.client,
+            Side::Server => &self.server,
+        }
+    }
+
+    /// The place and the PDU at a position of a side's sent list.
+    pub fn first(&self, side: Side, position: u32) -> Option<(u32, Pdu<'a>)>
+        ensures value { option_map copy_of result ≡ slice_get (sent_by self.now side) position }
+        ensures crossing { IsCrossing self.now }
+    {
+        self.list(side).get(position)
+    }
+
+    // Whether these are the bytes of the packet at a place.
+    fn has_bytes(&self, place: u32, bytes: &[u8]) -> bool
+        requires { place < length self.now.packets }
+        ensures { IfSome (slice_get self.now.packets place) (λ k. result ≡ bytes_eq k.payload bytes.now) }
+    {
+        self.packets[place as usize].payload == bytes
+    }
+
+    // Whether a number is the next of a side; the first is free.
+    fn is_next(&self, side: Side, number: u32) -> bool
+        ensures { result ≡ is_next_number (sent_by self.now side) number }
+    {
+        let list = self.list(side);
+        match list.get(0) {
+            Some((_, first)) => number == first.number().wrapping_add(list.len()),
+            None => true,
+        }
+    }
+
+    // The PDU of a packet, where its number is new, or the number of its fault.
+    fn judge(&self, found: Datagram<'a>) -> Result<Option<Pdu<'a>>, u8>
+        ensures spelled { OnOk result ((d : RedundancyPdu) × (decode_of self.now.params found.entry.side found.entry.payload.now ≡ Ok d)
+            × Spells self.now.params found.entry.side d found.entry.payload.now) }
+        ensures value { MatchResult result
+            (λ new. (packet_fault self.now.params (sent_by self.now found.entry.side) (packet_of found.entry) ≡ None)
+              × (sent_behind self.now (packet_of found.entry) ≡ with_new (sent_by self.now found.entry.side) (length self.now.packets) new))
+            (λ f. packet_fault self.now.params (sent_by self.now found.entry.side) (packet_of found.entry) ≡ Some f) }
+    {
+        let pdu = match decode(&self.params, found.side, found.payload) {
+            Ok(pdu) => pdu,
+            Err(fault) => return Err(fault.number),
+        };
+        match self.list(found.side).place_of(pdu.number()) {
+            Some(place) => {
+                if self.has_bytes(place, found.payload) {
+                    Ok(None)
+                } else {
+                    Err(Fault::COPY_DIFFERS)
+                }
+            }
+            None => {
+                if self.is_next(found.side, pdu.number()) {
+                    Ok(Some(pdu))
+                } else {
+                    Err(Fault::NUMBER_GAP)
+                }
+            }
+        }
+    }
+
+    // Whether one more packet keeps the limits, and where its number is new one more PDU of its side.
+    fn has_room(&self, side: Side, is_new: bool) -> bool
+        ensures value { result ≡ (nat_lt (length self.now.packets) most_packets && (not is_new || nat_lt (length (sent_by self.now side)) most_sent)) }
+        ensures crossing { IsCrossing self.now }
+    {
+        self.packets.len() < MOST_PACKETS && (!is_new || self.list(side).len() < MOST_SENT)
+    }
+
+    // Adds a packet, and its PDU where its number is new. Without memory for it all stays as it was.
+    fn push(&mut self, found: Datagram<'a>, new: Option<Pdu<'a>>) -> Result<(), AllocError>
+        requires { IsCrossing (crossing_with self.old (packet_of found) found.side
+            (with_new (sent_by self.old found.side) (length self.old.packets) new)) }
+        ensures ok { OnOk result (self.new ≡ crossing_with self.old (packet_of found.entry) found.entry.side
+            (with_new (sent_by self.old found.entry.side) (length self.old.packets) new.entry)) }
+        ensures err { OnErr result (self.new ≡ self.old) }
+    {
+        self.packets.try_reserve(1)?;
+        if let Some(pdu) = new {
+            let place = self.packets.len() as u32;
+            match found.side {
+                Side::Client => self.client.push(place, pdu)?,
+                Side::Server => self.server.push(place, pdu)?,
+            }
+        }
+        self.packets.push_reserved(found);
+        Ok(())
+    }
+
+    // Adds the packet of a record.
+    #[tactic(auto, unfolding(crate::specs::Reading::after_packet))]
+    fn add_packet(&mut self, number: u32, found: Datagram<'a>) -> Result<(), Fault>
+        ensures { MatchResult result
+            (λ _. after_packet self.old number (packet_of found.entry) ≡ Ok self.new)
+            (λ f. (f ≡ no_memory) ⊎ (after_packet self.old number (packet_of found.entry) ≡ Err f)) }
+    {
+        let new = match self.judge(found) {
+            Ok(new) => new,
+            Err(fault) => return Err(Fault::of_end(fault, number, found.side)),
+        };
+        if !self.has_room(found.side, new.is_some()) {
+            return Err(Fault::at(Fault::TOO_MANY, number));
+        }
+        match self.push(found, new) {
+            Ok(()) => Ok(()),
+            Err(_) => Err(Fault::at(Fault::NO_MEMORY, 0)),
+        }
+    }
+
+    // Adds what a record of the window holds.
+    fn add_frame(&mut self, record: &Record<'a>) -> Result<(), Fault>
+        ensures { MatchResult result
+            (λ _. after_frame self.old «record».now.number (packet_in self.old.params.channels «record».now.bytes.now) ≡ Ok self.new)
+            (λ f. (f ≡ no_memory) ⊎ (after_frame self.old «record».now.number (packet_in self.old.params.channels «record».now.bytes.now) ≡ Err f)) }
+    {
+        match datagram(record, self.params.channel()) {
+            Ok(None) => Ok(()),
+            Ok(Some(found)) => self.add_packet(record.number, found),
+            Err(fault) => Err(Fault::at(fault.number, record.number)),
+        }
+    }
+
+    // Adds what a record holds, unless it stands in front of the window.
+    #[tactic(auto, unfolding(crate::specs::Reading::after_record))]
+    pub(crate) fn add_record(&mut self, record: &Record<'a>) -> Result<(), Fault>
+        ensures { MatchResult result
+            (λ _. after_record self.old («record».now.number, «record».now.bytes.now) ≡ Ok self.new)
+            (λ f. (f ≡ no_memory) ⊎ (after_record self.old («record».now.number, «record».now.bytes.now) ≡ Err f)) }
+    {
+        if record.number < self.params.first_record() {
+            Ok(())
+        } else {
+            self.add_frame(record)
+        }
+    }
+}
