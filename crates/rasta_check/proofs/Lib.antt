@@ -34,3 +34,4 @@ pub mod Shown
 pub mod Showing
 pub mod History
 pub mod Known
+pub mod Plainly

@@ -6,3 +6,4 @@ pub mod Taken
 pub mod Scripts
 pub mod Laws
 pub mod Theorem
+pub mod Plain

@@ -3,5 +3,6 @@
 #![tactic(auto)]
 
 pub mod laws;
+pub mod plain;
 
 pub use rasta_pcap::{Fault, Side, Sink, Source};
