@@ -11,14 +11,19 @@ use Rattle.rasta_pdu.specs.declared.kind.Kind.{Kind}
 use Rattle.rasta_pdu.specs.declared.kind.Kind.TheVariants.{RetransmissionResponse, Data, RetransmittedData}
 use Rattle.rasta_pdu.specs.declared.pdu.Pdu.{Pdu}
 use Rattle.rasta_pdu.specs.Pdu.{SafetyPdu, value_of, messages_in}
-use Rattle.rasta_end.specs.MakeRule.{is_data}
+use Rattle.rasta_pcap.specs.declared.fault.Side.{Side}
+use Rattle.rasta_pcap.specs.declared.fault.Side.TheVariants.{Client, Server}
+use Rattle.rasta_pdu.specs.Params.{Parameters}
+use Rattle.rasta_pdu.specs.declared.quiet_point.Quiet.{Quiet}
+use Rattle.rasta_end.specs.Starts.{start_of, start_by, quiet_pdu}
+use Rattle.rasta_end.specs.MakeRule.{is_data, is_connection_request}
 use Rattle.rasta_end.specs.TakeRule.{is_retransmission_request, is_retransmission_response}
 use Rattle.rasta_end.specs.Units.{Conveyed, convey, conveyed, units_behind, units_at, last_of, responses_after}
 use Rattle.rasta_check.specs.declared.plain.FirstCopy.{FirstCopy as PlainCopy}
 use Rattle.rasta_check.specs.declared.plain.MadePdu.{MadePdu}
 use Rattle.rasta_check.specs.declared.plain.TakenUnit.{TakenUnit as PlainUnit}
 use Rattle.rasta_check.specs.Crossing.{FirstCopy}
-use Rattle.rasta_check.specs.Taken.{position_with, asked_positions, units_along, units_shown, units_taken, pdus_of, proof_place, units_from, TakenUnit, data_copies}
+use Rattle.rasta_check.specs.Taken.{pdus_made, position_with, asked_positions, units_along, units_shown, units_taken, pdus_of, proof_place, units_from, TakenUnit, data_copies}
 use Rattle.rasta_check.specs.Plain.{copy_of, copies_of, safety_of, pdus, unit_of, units_of, AreAtMost}
 
 -- the next member in front of what is left
@@ -194,29 +199,24 @@ proof-here own peer unit copies i n d c below is shown test =
 pub proof-nowhere : (own peer : List SafetyPdu) (unit : ℕ) (copies : List PlainCopy) (i : ℕ) → length copies ≤ i → 0 ≡ proof_place own peer unit (copies_of (drop i copies))
 proof-nowhere own peer unit copies i past = ap (λ (cs : List PlainCopy). proof_place own peer unit (copies_of cs)) (sym (drop_all i copies past))
 
-pub data-next : (before : List FirstCopy) (c : FirstCopy) (cs : List FirstCopy) → is_data c.pdu.safety.kind ≡ true → before ++ data_copies (c ∷ cs) ≡ (before ++ c ∷ []) ++ data_copies cs
-data-next before c cs is =
-    ap (λ (b : Bool). before ++ cond b (c ∷ data_copies cs) (data_copies cs)) is ∙ sym (append_assoc before (c ∷ []) (data_copies cs))
-
-pub data-passed : (before : List FirstCopy) (c : FirstCopy) (cs : List FirstCopy) → is_data c.pdu.safety.kind ≡ false → before ++ data_copies (c ∷ cs) ≡ before ++ data_copies cs
-data-passed before c cs is = ap (λ (b : Bool). before ++ cond b (c ∷ data_copies cs) (data_copies cs)) is
-
 map-push : {A B : Type 0} (f : A → B) (xs : List A) (x : A) → map f (xs ++ x ∷ []) ≡ map f xs ++ f x ∷ []
 map-push f [] x = refl
 map-push f (y ∷ xs) x = ap (λ ys. f y ∷ ys) (map-push f xs x)
 
-pub copies-more : (sent before more : List PlainCopy) (i : ℕ) (d c : PlainCopy) → i < length sent → c ≡ get_or sent i d → is_data (value_of c.pdu).safety.kind ≡ true → more ≡ before ++ c ∷ []
-    → copies_of more ++ data_copies (copies_of (drop (i + 1) sent)) ≡ copies_of before ++ data_copies (copies_of (drop i sent))
-copies-more sent before more i d c below is kind pushed =
-    ap (λ (cs : List FirstCopy). cs ++ data_copies (copies_of (drop (i + 1) sent))) (ap copies_of pushed ∙ map-push copy_of before c)
-    ∙ sym (data-next (copies_of before) (copy_of c) (copies_of (drop (i + 1) sent)) kind)
-    ∙ ap (λ (cs : List PlainCopy). copies_of before ++ data_copies (copies_of cs)) (sym (next_of sent i d c below is))
+data-apart : (c : FirstCopy) (cs : List FirstCopy) → data_copies (c ∷ cs) ≡ data_copies (c ∷ []) ++ data_copies cs
+data-apart c cs = by (is_data c.pdu.safety.kind)
+  where
+    by : (b : Bool) → cond b (c ∷ data_copies cs) (data_copies cs) ≡ cond b (c ∷ []) [] ++ data_copies cs
+    by true = refl
+    by false = refl
 
-pub copies-passed : (sent before : List PlainCopy) (i : ℕ) (d c : PlainCopy) → i < length sent → c ≡ get_or sent i d → is_data (value_of c.pdu).safety.kind ≡ false
-    → copies_of before ++ data_copies (copies_of (drop (i + 1) sent)) ≡ copies_of before ++ data_copies (copies_of (drop i sent))
-copies-passed sent before i d c below is kind =
-    sym (data-passed (copies_of before) (copy_of c) (copies_of (drop (i + 1) sent)) kind)
-    ∙ ap (λ (cs : List PlainCopy). copies_of before ++ data_copies (copies_of cs)) (sym (next_of sent i d c below is))
+pub copies-more : (sent : List PlainCopy) (before more : List FirstCopy) (i : ℕ) (d c : PlainCopy) → i < length sent → c ≡ get_or sent i d → more ≡ before ++ data_copies (copy_of c ∷ [])
+    → more ++ data_copies (copies_of (drop (i + 1) sent)) ≡ before ++ data_copies (copies_of (drop i sent))
+copies-more sent before more i d c below is pushed =
+    ap (λ (cs : List FirstCopy). cs ++ data_copies (copies_of (drop (i + 1) sent))) pushed
+    ∙ append_assoc before (data_copies (copy_of c ∷ [])) (data_copies (copies_of (drop (i + 1) sent)))
+    ∙ ap (λ (cs : List FirstCopy). before ++ cs) (sym (data-apart (copy_of c) (copies_of (drop (i + 1) sent))))
+    ∙ ap (λ (cs : List PlainCopy). before ++ data_copies (copies_of cs)) (sym (next_of sent i d c below is))
 
 pub copies-all : (sent before : List PlainCopy) (i : ℕ) → length sent ≤ i → copies_of before ≡ copies_of before ++ data_copies (copies_of (drop i sent))
 copies-all sent before i past = sym (append-nil (copies_of before)) ∙ ap (λ (cs : List PlainCopy). copies_of before ++ data_copies (copies_of cs)) (sym (drop_all i sent past))
@@ -284,3 +284,24 @@ copies-first copies count least is = ap (λ n. copies_of (take n copies)) is ∙
 pub ok_more : {A E : Type 0} {P Q : A → Type 0} (r : Result A E) → ((x : A) → P x → Q x) → IfOk r P → IfOk r Q
 ok_more (Ok x) f h = f x h
 ok_more (Err e) f h = tt
+
+-- ---- what is shown
+
+pub shown-at : (own peer : List SafetyPdu) (units : List ℕ) (x : SafetyPdu) (n : ℕ) (o : Option ℕ) → units ≡ units_along own peer → n ≡ units_at units o
+    → o ≡ cond (is_connection_request x.kind) None (position_with own x.cs) → n ≡ units_shown own peer x
+shown-at own peer units x n o same at position =
+    at ∙ ap (λ us. units_at us o) same ∙ ap (units_at (units_along own peer)) position ∙ by (is_connection_request x.kind)
+  where
+    by : (b : Bool) → units_at (units_along own peer) (cond b None (position_with own x.cs)) ≡ (if b then 0 else units_at (units_along own peer) (position_with own x.cs))
+    by true = refl
+    by false = refl
+
+-- ---- the quiet PDU
+
+pub quiet-client : (p : Parameters) (side : Side) (q : Quiet) (x : SafetyPdu) → p.quiet ≡ Some q → side ≡ Client → x ≡ quiet_pdu q.client q.server → x ∷ [] ≡ pdus_made (start_of p side).made
+quiet-client p side q x e s is =
+    ap (λ (y : SafetyPdu). y ∷ []) is ∙ sym (ap (λ (o : Option Quiet). pdus_made (start_by o side).made) e ∙ ap (λ (t : Side). pdus_made (start_by (Some q) t).made) s)
+
+pub quiet-server : (p : Parameters) (side : Side) (q : Quiet) (x : SafetyPdu) → p.quiet ≡ Some q → side ≡ Server → x ≡ quiet_pdu q.server q.client → x ∷ [] ≡ pdus_made (start_of p side).made
+quiet-server p side q x e s is =
+    ap (λ (y : SafetyPdu). y ∷ []) is ∙ sym (ap (λ (o : Option Quiet). pdus_made (start_by o side).made) e ∙ ap (λ (t : Side). pdus_made (start_by (Some q) t).made) s)

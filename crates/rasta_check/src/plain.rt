@@ -1,5 +1,5 @@
 //! What two sent lists show, worked out as it is defined: plainly, and slowly.
-ghost use Rattle.std.specs.Prelude.{◌≡◌, ◌≤◌, ◌+◌, ◌++◌, List, length, map, cond, None, IfOk, OnOk, option_to_list, slice_get, take};
+ghost use Rattle.std.specs.Prelude.{◌≡◌, ◌≤◌, ◌+◌, ◌++◌, ◌∷◌, [], List, length, map, cond, None, IfOk, OnOk, option_to_list, slice_get, take};
 ghost use Rattle.rasta_pdu.specs.Pdu.{SafetyPdu, value_of};
 ghost use Rattle.rasta_end.specs.MakeRule;
 ghost use Rattle.rasta_end.specs.TakeRule;
@@ -249,15 +249,22 @@ fn units_along(alloc: Global, own: &[MadePdu], peer: &[FirstCopy]) -> Result<Vec
     Ok(units)
 }
 
-// The units conveyed through the position that a PDU of the peer confirms.
+// The position that a PDU of the peer confirms; a connection request confirms none.
+fn confirmed_position(own: &[MadePdu], pdu: &Pdu) -> Option<usize>
+    ensures { result ≡ cond (MakeRule.is_connection_request (value_of pdu.now).safety.kind) None (Taken.position_with (pdus own.now) (value_of pdu.now).safety.cs) }
+{
+    if is_connection_request(pdu.kind()) {
+        None
+    } else {
+        position_with(own, pdu.cs())
+    }
+}
+
+// The units conveyed through that position.
 fn units_shown(own: &[MadePdu], units: &[usize], pdu: &Pdu) -> usize
     ensures { (peer : List SafetyPdu) → units.now ≡ Taken.units_along (pdus own.now) peer → result ≡ Taken.units_shown (pdus own.now) peer (value_of pdu.now).safety }
 {
-    if is_connection_request(pdu.kind()) {
-        0
-    } else {
-        units_at(units, position_with(own, pdu.cs()))
-    }
+    units_at(units, confirmed_position(own, pdu))
 }
 
 // How many units the peer surely took.
@@ -285,14 +292,22 @@ fn proof_place(own: &[MadePdu], units: &[usize], peer: &[FirstCopy], unit: usize
     0
 }
 
+// Appends a data PDU, and nothing else.
+fn push_data<'a>(copies: &mut Vec<FirstCopy<'a>>, copy: &FirstCopy<'a>) -> Result<(), AllocError>
+    ensures { OnOk result (copies_of copies.new.items ≡ copies_of copies.old.items ++ Taken.data_copies (copy_of copy.now ∷ [])) }
+{
+    if is_data(copy.pdu.kind()) {
+        copies.push(*copy)?;
+    }
+    Ok(())
+}
+
 fn data_copies<'a>(alloc: Global, sent: &[FirstCopy<'a>]) -> Result<Vec<FirstCopy<'a>>, AllocError>
     ensures { IfOk result (λ copies. copies_of copies.items ≡ Taken.data_copies (copies_of sent.now)) }
 {
     let mut copies = Vec::new(alloc);
     for copy in sent {
-        if is_data(copy.pdu.kind()) {
-            copies.push(*copy)?;
-        }
+        push_data(&mut copies, copy)?;
     }
     Ok(copies)
 }
