@@ -1,94 +1,34 @@
 -- The plain program's loops: what is left to be done is done at one member more.
-use Rattle.std.proofs.Common.{◌≡◌, ℕ, zero, suc, ◌+◌, ◌-◌, ◌<◌, ◌≤◌, min, max, Bool, true, false, cond, List, [], ◌∷◌, ◌++◌, length, drop, take, get_or, map, Option, Some, None, refl, ap, sym, ◌∙◌, arith, add-one, append_assoc}
-use Rattle.std.specs.Prelude.{Result, Ok, Err, IfOk, fold, filter, filter_map, option_to_list, slice_get, nat_lt, ◌==◌, slice_index_or, if◌then◌else◌}
+use Rattle.std.proofs.Common.{◌≡◌, ℕ, zero, suc, ◌+◌, ◌<◌, ◌≤◌, min, max, Bool, true, false, cond, List, [], ◌∷◌, ◌++◌, length, drop, take, get_or, map, Option, Some, None, refl, ap, sym, ◌∙◌, arith, add-one, append_assoc}
+use Rattle.std.specs.Prelude.{Result, Ok, Err, IfOk, fold, slice_get, nat_lt, ◌==◌, slice_index_or, if◌then◌else◌}
 use Rattle.std.specs.Option.{option_map}
 use mir.Val.{bool_byte}
-use Rattle.std.specs.List.{cons_option}
 use Rattle.std.proofs.Math.Seq.{drop-cons}
-use Rattle.std.proofs.lemmas.Bool.{eq-eqb, ne_eqb}
-use Rattle.std.proofs.lemmas.List.{append-nil, drop_all, length_push, take_min}
+use Rattle.std.proofs.lemmas.List.{take_min}
 use Rattle.rasta_pdu.specs.declared.kind.Kind.{Kind}
 use Rattle.rasta_pdu.specs.declared.kind.Kind.TheVariants.{RetransmissionResponse, Data, RetransmittedData}
-use Rattle.rasta_pdu.specs.declared.pdu.Pdu.{Pdu}
-use Rattle.rasta_pdu.specs.Pdu.{SafetyPdu, value_of, messages_in}
+use Rattle.rasta_pdu.specs.Pdu.{SafetyPdu, value_of}
 use Rattle.rasta_pcap.specs.declared.fault.Side.{Side}
 use Rattle.rasta_pcap.specs.declared.fault.Side.TheVariants.{Client, Server}
 use Rattle.rasta_pdu.specs.Params.{Parameters}
 use Rattle.rasta_pdu.specs.declared.quiet_point.Quiet.{Quiet}
 use Rattle.rasta_end.specs.Starts.{start_of, start_by, quiet_pdu}
 use Rattle.rasta_end.specs.MakeRule.{is_data, is_connection_request}
-use Rattle.rasta_end.specs.TakeRule.{is_retransmission_request, is_retransmission_response}
-use Rattle.rasta_end.specs.Units.{Conveyed, convey, conveyed, units_behind, units_at, last_of, responses_after}
+use Rattle.rasta_end.specs.TakeRule.{is_retransmission_response}
+use Rattle.rasta_end.specs.Units.{Conveyed, convey, units_behind, units_at, last_of, responses_after}
 use Rattle.rasta_check.specs.declared.plain.FirstCopy.{FirstCopy as PlainCopy}
 use Rattle.rasta_check.specs.declared.plain.MadePdu.{MadePdu}
-use Rattle.rasta_check.specs.declared.plain.TakenUnit.{TakenUnit as PlainUnit}
 use Rattle.rasta_check.specs.Crossing.{FirstCopy}
-use Rattle.rasta_check.specs.Taken.{pdus_made, position_with, asked_positions, units_along, units_shown, units_taken, pdus_of, proof_place, units_from, TakenUnit, data_copies}
-use Rattle.rasta_check.specs.Plain.{copy_of, copies_of, safety_of, pdus, unit_of, units_of, AreAtMost}
+use Rattle.rasta_check.specs.Taken.{pdus_made, position_with, units_along, units_shown, units_taken, pdus_of, proof_place, units_from, TakenUnit, data_copies}
+use Rattle.rasta_check.specs.Plain.{copy_of, copies_of, pdus, AreAtMost}
 
 -- the next member in front of what is left
 pub next_of : {A : Type 0} (xs : List A) (i : ℕ) (d x : A) → i < length xs → x ≡ get_or xs i d → drop i xs ≡ x ∷ drop (i + 1) xs
 next_of xs i d x below is = drop-cons xs i d below ∙ ap (λ v. v ∷ drop (suc i) xs) (sym is) ∙ ap (λ n. x ∷ drop n xs) (sym (add-one i))
 
--- ---- positions
-
+-- a position among those that are left, counted from the front
 abbrev pub moved_by : ℕ → Option ℕ → Option ℕ
 moved_by i position = option_map (λ n. i + n) position
-
-pub moved_by-zero : (o : Option ℕ) → moved_by 0 o ≡ o
-moved_by-zero None = refl
-moved_by-zero (Some n) = ap Some (omega arith)
-
-pub moved_by-next : (i : ℕ) (o : Option ℕ) → moved_by i (option_map suc o) ≡ moved_by (i + 1) o
-moved_by-next i None = refl
-moved_by-next i (Some n) = ap Some (omega arith)
-
-pub position-passed : (xs : List SafetyPdu) (x : SafetyPdu) (i sn : ℕ) → (x.sn ≡ sn → ⊥) → moved_by i (position_with (x ∷ xs) sn) ≡ moved_by (i + 1) (position_with xs sn)
-position-passed xs x i sn other = ap (λ (b : Bool). moved_by i (if b then Some 0 else option_map suc (position_with xs sn))) (ne_eqb x.sn sn other) ∙ moved_by-next i (position_with xs sn)
-
-pub position-found : (xs : List SafetyPdu) (x : SafetyPdu) (i sn : ℕ) → x.sn ≡ sn → moved_by i (position_with (x ∷ xs) sn) ≡ Some i
-position-found xs x i sn same = ap (λ (b : Bool). moved_by i (if b then Some 0 else option_map suc (position_with xs sn))) (eq-eqb x.sn sn same) ∙ ap Some (omega arith)
-
-pub position-next : (own : List MadePdu) (i sn : ℕ) (d x : MadePdu) → i < length own → x ≡ get_or own i d → (x.sn ≡ sn → ⊥)
-    → moved_by i (position_with (pdus (drop i own)) sn) ≡ moved_by (i + 1) (position_with (pdus (drop (i + 1) own)) sn)
-position-next own i sn d x below is other =
-    ap (λ (ms : List MadePdu). moved_by i (position_with (pdus ms) sn)) (next_of own i d x below is) ∙ position-passed (pdus (drop (i + 1) own)) (safety_of x) i sn other
-
-pub position-here : (own : List MadePdu) (i sn : ℕ) (d x : MadePdu) → i < length own → x ≡ get_or own i d → x.sn ≡ sn → moved_by i (position_with (pdus (drop i own)) sn) ≡ Some i
-position-here own i sn d x below is same =
-    ap (λ (ms : List MadePdu). moved_by i (position_with (pdus ms) sn)) (next_of own i d x below is) ∙ position-found (pdus (drop (i + 1) own)) (safety_of x) i sn same
-
-pub position-nowhere : (own : List MadePdu) (i sn : ℕ) → length own ≤ i → moved_by i (position_with (pdus (drop i own)) sn) ≡ None
-position-nowhere own i sn past = ap (λ (ms : List MadePdu). moved_by i (position_with (pdus ms) sn)) (drop_all i own past)
-
--- ---- asks
-
-kept_or_not : (own : List SafetyPdu) (x : SafetyPdu) (ys : List SafetyPdu) (b : Bool)
-    → filter_map (λ (y : SafetyPdu). position_with own y.cs) (cond b (x ∷ ys) ys) ≡ option_to_list (cond b (position_with own x.cs) None) ++ filter_map (λ (y : SafetyPdu). position_with own y.cs) ys
-kept_or_not own x ys false = refl
-kept_or_not own x ys true = by (position_with own x.cs) (filter_map (λ (y : SafetyPdu). position_with own y.cs) ys)
-  where
-    by : (o : Option ℕ) (ns : List ℕ) → cons_option o ns ≡ option_to_list o ++ ns
-    by None ns = refl
-    by (Some n) ns = refl
-
-pub asked-next : (own : List SafetyPdu) (asks : List ℕ) (x : SafetyPdu) (xs : List SafetyPdu)
-    → asks ++ asked_positions own (x ∷ xs) ≡ (asks ++ option_to_list (cond (is_retransmission_request x.kind) (position_with own x.cs) None)) ++ asked_positions own xs
-asked-next own asks x xs =
-    ap (λ ns. asks ++ ns) (kept_or_not own x (filter (λ (y : SafetyPdu). is_retransmission_request y.kind) xs) (is_retransmission_request x.kind))
-    ∙ sym (append_assoc asks (option_to_list (cond (is_retransmission_request x.kind) (position_with own x.cs) None)) (asked_positions own xs))
-
--- the asks so far, and those of one PDU more
-pub asked-more : (own : List SafetyPdu) (peer : List PlainCopy) (asks more : List ℕ) (i : ℕ) (d c : PlainCopy) (o : Option ℕ) → i < length peer → c ≡ get_or peer i d
-    → o ≡ cond (is_retransmission_request (value_of c.pdu).safety.kind) (position_with own (value_of c.pdu).safety.cs) None → more ≡ asks ++ option_to_list o
-    → more ++ asked_positions own (pdus_of (copies_of (drop (i + 1) peer))) ≡ asks ++ asked_positions own (pdus_of (copies_of (drop i peer)))
-asked-more own peer asks more i d c o below is asked pushed =
-    ap (λ ns. ns ++ asked_positions own (pdus_of (copies_of (drop (i + 1) peer)))) (pushed ∙ ap (λ p. asks ++ option_to_list p) asked)
-    ∙ sym (asked-next own asks (value_of c.pdu).safety (pdus_of (copies_of (drop (i + 1) peer))))
-    ∙ ap (λ (cs : List PlainCopy). asks ++ asked_positions own (pdus_of (copies_of cs))) (sym (next_of peer i d c below is))
-
-pub asked-all : (own : List SafetyPdu) (peer : List PlainCopy) (asks : List ℕ) (i : ℕ) → length peer ≤ i → asks ≡ asks ++ asked_positions own (pdus_of (copies_of (drop i peer)))
-asked-all own peer asks i past = sym (append-nil asks) ∙ ap (λ (cs : List PlainCopy). asks ++ asked_positions own (pdus_of (copies_of cs))) (sym (drop_all i peer past))
 
 -- ---- units conveyed
 
@@ -165,11 +105,6 @@ conveyed-more asks units more own i n responses after d m below is behind pushed
     from : List ℕ → ℕ → Conveyed
     from ns k = fold (convey asks) (record { units = ns; responses = k }) (kinds_made (drop (i + 1) own))
 
-pub conveyed-all : (asks units : List ℕ) (own : List MadePdu) (i responses : ℕ) → length own ≤ i
-    → (fold (convey asks) (record { units = units; responses = responses }) (kinds_made (drop i own))).units ≡ units
-conveyed-all asks units own i responses past =
-    ap (λ (ms : List MadePdu). (fold (convey asks) (record { units = units; responses = responses }) (kinds_made ms)).units) (drop_all i own past)
-
 -- ---- units taken
 
 -- one PDU of the peer more
@@ -178,9 +113,6 @@ pub most-more : (shown : SafetyPdu → ℕ) (peer : List PlainCopy) (i most n : 
 most-more shown peer i most n d c below is same =
     ap (λ k. fold max (max most k) (map shown (pdus_of (copies_of (drop (i + 1) peer))))) same
     ∙ ap (λ (cs : List PlainCopy). fold max most (map shown (pdus_of (copies_of cs)))) (sym (next_of peer i d c below is))
-
-pub most-all : (shown : SafetyPdu → ℕ) (peer : List PlainCopy) (i most : ℕ) → length peer ≤ i → fold max most (map shown (pdus_of (copies_of (drop i peer)))) ≡ most
-most-all shown peer i most past = ap (λ (cs : List PlainCopy). fold max most (map shown (pdus_of (copies_of cs)))) (drop_all i peer past)
 
 -- the proof place among the PDUs that are left
 pub proof-passed : (own peer : List SafetyPdu) (unit : ℕ) (copies : List PlainCopy) (i n : ℕ) (d c : PlainCopy) → i < length copies → c ≡ get_or copies i d
@@ -196,13 +128,6 @@ proof-here own peer unit copies i n d c below is shown test =
     ap (λ (b : Bool). if b then c.place else proof_place own peer unit (copies_of (drop (i + 1) copies))) (sym (ap (nat_lt unit) (sym shown) ∙ test))
     ∙ ap (λ (cs : List PlainCopy). proof_place own peer unit (copies_of cs)) (sym (next_of copies i d c below is))
 
-pub proof-nowhere : (own peer : List SafetyPdu) (unit : ℕ) (copies : List PlainCopy) (i : ℕ) → length copies ≤ i → 0 ≡ proof_place own peer unit (copies_of (drop i copies))
-proof-nowhere own peer unit copies i past = ap (λ (cs : List PlainCopy). proof_place own peer unit (copies_of cs)) (sym (drop_all i copies past))
-
-map-push : {A B : Type 0} (f : A → B) (xs : List A) (x : A) → map f (xs ++ x ∷ []) ≡ map f xs ++ f x ∷ []
-map-push f [] x = refl
-map-push f (y ∷ xs) x = ap (λ ys. f y ∷ ys) (map-push f xs x)
-
 data-apart : (c : FirstCopy) (cs : List FirstCopy) → data_copies (c ∷ cs) ≡ data_copies (c ∷ []) ++ data_copies cs
 data-apart c cs = by (is_data c.pdu.safety.kind)
   where
@@ -217,48 +142,6 @@ copies-more sent before more i d c below is pushed =
     ∙ append_assoc before (data_copies (copy_of c ∷ [])) (data_copies (copies_of (drop (i + 1) sent)))
     ∙ ap (λ (cs : List FirstCopy). before ++ cs) (sym (data-apart (copy_of c) (copies_of (drop (i + 1) sent))))
     ∙ ap (λ (cs : List PlainCopy). before ++ data_copies (copies_of cs)) (sym (next_of sent i d c below is))
-
-pub copies-all : (sent before : List PlainCopy) (i : ℕ) → length sent ≤ i → copies_of before ≡ copies_of before ++ data_copies (copies_of (drop i sent))
-copies-all sent before i past = sym (append-nil (copies_of before)) ∙ ap (λ (cs : List PlainCopy). copies_of before ++ data_copies (copies_of cs)) (sym (drop_all i sent past))
-
-pub units-more : (own : List SafetyPdu) (peer : List FirstCopy) (copies : List PlainCopy) (before more : List PlainUnit) (i : ℕ) (d c : PlainCopy) (u : PlainUnit)
-    → i < length copies → c ≡ get_or copies i d → u.pdu ≡ c.pdu → u.data_place ≡ c.place → u.proof_place ≡ proof_place own (pdus_of peer) i peer → more ≡ before ++ u ∷ []
-    → units_of more ++ units_from own peer (i + 1) (copies_of (drop (i + 1) copies)) ≡ units_of before ++ units_from own peer i (copies_of (drop i copies))
-units-more own peer copies before more i d c u below is pdu data_place proof pushed =
-    ap (λ (us : List TakenUnit). us ++ units_from own peer (i + 1) (copies_of (drop (i + 1) copies))) (ap units_of pushed ∙ map-push unit_of before u ∙ ap (λ v. units_of before ++ v ∷ []) same)
-    ∙ append_assoc (units_of before) (listed ∷ []) (units_from own peer (i + 1) (copies_of (drop (i + 1) copies)))
-    ∙ ap (λ n. units_of before ++ listed ∷ units_from own peer n (copies_of (drop (i + 1) copies))) (add-one i)
-    ∙ ap (λ (cs : List PlainCopy). units_of before ++ units_from own peer i (copies_of cs)) (sym (next_of copies i d c below is))
-  where
-    listed : TakenUnit
-    listed = record { messages = messages_in (value_of c.pdu).safety.body; data_place = c.place; proof_place = proof_place own (pdus_of peer) i peer }
-
-    same : unit_of u ≡ listed
-    same =
-        ap (λ (d : Pdu). unit_with (messages_in (value_of d).safety.body) u.data_place u.proof_place) pdu
-        ∙ ap (λ n. unit_with (messages_in (value_of c.pdu).safety.body) n u.proof_place) data_place
-        ∙ ap (unit_with (messages_in (value_of c.pdu).safety.body) c.place) proof
-      where
-        unit_with : List (List ℕ) → ℕ → ℕ → TakenUnit
-        unit_with messages d p = record { messages = messages; data_place = d; proof_place = p }
-
-pub units-all : (own : List SafetyPdu) (peer : List FirstCopy) (copies : List PlainCopy) (before : List PlainUnit) (i : ℕ) → length copies ≤ i
-    → units_of before ≡ units_of before ++ units_from own peer i (copies_of (drop i copies))
-units-all own peer copies before i past =
-    sym (append-nil (units_of before)) ∙ ap (λ (cs : List PlainCopy). units_of before ++ units_from own peer i (copies_of cs)) (sym (drop_all i copies past))
-
--- ---- what a side made
-
-pub made-more : (sent : List PlainCopy) (before more : List MadePdu) (i : ℕ) (d c : PlainCopy) (m : MadePdu) → i < length sent → c ≡ get_or sent i d
-    → safety_of m ≡ (value_of c.pdu).safety → more ≡ before ++ m ∷ []
-    → pdus more ++ pdus_of (copies_of (drop (i + 1) sent)) ≡ pdus before ++ pdus_of (copies_of (drop i sent))
-made-more sent before more i d c m below is same pushed =
-    ap (λ (xs : List SafetyPdu). xs ++ pdus_of (copies_of (drop (i + 1) sent))) (ap pdus pushed ∙ map-push safety_of before m ∙ ap (λ x. pdus before ++ x ∷ []) same)
-    ∙ append_assoc (pdus before) ((value_of c.pdu).safety ∷ []) (pdus_of (copies_of (drop (i + 1) sent)))
-    ∙ ap (λ (cs : List PlainCopy). pdus before ++ pdus_of (copies_of cs)) (sym (next_of sent i d c below is))
-
-pub made-all : (sent : List PlainCopy) (before : List MadePdu) (i : ℕ) → length sent ≤ i → pdus before ≡ pdus before ++ pdus_of (copies_of (drop i sent))
-made-all sent before i past = sym (append-nil (pdus before)) ∙ ap (λ (cs : List PlainCopy). pdus before ++ pdus_of (copies_of cs)) (sym (drop_all i sent past))
 
 -- ---- the listed units
 

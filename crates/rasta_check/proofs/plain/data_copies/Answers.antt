@@ -1,4 +1,4 @@
-use Rattle.std.proofs.Common.{◌≡◌, ◌∙◌, refl}
+use Rattle.std.proofs.Common.{◌∙◌, refl}
 use Rattle.rasta_check.specs.Plain.{copies_of}
 use Rattle.rasta_check.proofs.Plainly.{copies-more}
 use Rattle.rasta_check.proofs.plain.data_copies.Goals as goal

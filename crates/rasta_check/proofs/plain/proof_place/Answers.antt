@@ -1,8 +1,8 @@
-use Rattle.std.proofs.Common.{◌≡◌, ◌∙◌, refl, sym, arith, length}
+use Rattle.std.proofs.Common.{◌∙◌, refl}
 use Rattle.std.proofs.lemmas.Bool.{lt-ltb, le-ltb}
 use Rattle.rasta_check.specs.Taken.{pdus_of}
 use Rattle.rasta_check.specs.Plain.{pdus, copies_of}
-use Rattle.rasta_check.proofs.Plainly.{proof-here, proof-passed, proof-nowhere}
+use Rattle.rasta_check.proofs.Plainly.{proof-here, proof-passed}
 use Rattle.rasta_check.proofs.plain.proof_place.Goals as goal
 
 pub returns-then-unit-units_shown : goal.returns-then-unit-units_shown

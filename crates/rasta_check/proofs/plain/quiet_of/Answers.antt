@@ -1,4 +1,4 @@
-use Rattle.std.proofs.Common.{◌≡◌, ◌∙◌, sym}
+use Rattle.std.proofs.Common.{◌∙◌, sym}
 use Rattle.rasta_check.proofs.Plainly.{quiet-client, quiet-server}
 use Rattle.rasta_check.proofs.plain.quiet_of.Goals as goal
 

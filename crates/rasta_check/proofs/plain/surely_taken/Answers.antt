@@ -1,4 +1,4 @@
-use Rattle.std.proofs.Common.{◌≡◌, ◌∙◌, List, ℕ, ap}
+use Rattle.std.proofs.Common.{◌≡◌, ◌∙◌, ap}
 use Rattle.rasta_check.specs.Taken.{all_made}
 use Rattle.rasta_check.specs.Plain.{copies_of, pdus}
 use Rattle.rasta_check.proofs.Plainly.{ok_more, listed_units}

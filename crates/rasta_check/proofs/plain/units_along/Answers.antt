@@ -1,6 +1,5 @@
-use Rattle.std.proofs.Common.{rules, ◌≡◌, ◌∙◌, ◌≤◌, ◌+◌, ◌++◌, ◌∷◌, [], suc, refl, sym, ap, arith, length, if◌then◌else◌, true, false, Bool}
+use Rattle.std.proofs.Common.{rules, ◌≡◌, ◌∙◌, ◌≤◌, ◌+◌, ◌++◌, ◌∷◌, [], refl, ap, arith, length}
 use Rattle.std.proofs.lemmas.List.{length_push}
-use Rattle.rasta_check.specs.Plain.{AreAtMost}
 use Rattle.rasta_check.proofs.Plainly.{conveyed-more, at_most-more, at_most-push, one_or_none, one_at_most}
 use Rattle.rasta_check.proofs.plain.units_along.Goals as goal
 

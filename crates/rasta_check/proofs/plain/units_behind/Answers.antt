@@ -1,4 +1,4 @@
-use Rattle.std.proofs.Common.{◌≡◌, ◌<◌, ◌+◌, ap, ◌∙◌, length, arith}
+use Rattle.std.proofs.Common.{◌+◌, ap, ◌∙◌, length, arith}
 use Rattle.rasta_end.specs.Units.{units_at}
 use Rattle.rasta_check.proofs.Plainly.{not_empty, last-at_most, at-at_most, behind-response, behind-data, behind-again, behind-other}
 use Rattle.rasta_check.proofs.plain.units_behind.Goals as goal

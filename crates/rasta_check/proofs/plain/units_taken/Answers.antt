@@ -1,4 +1,4 @@
-use Rattle.std.proofs.Common.{rules, ◌≡◌, ◌+◌, ◌∙◌, refl, sym, ap, arith, length, drop, map, max}
+use Rattle.std.proofs.Common.{rules, ◌≡◌, ◌+◌, ◌∙◌, refl, ap, drop, map, max}
 use Rattle.std.specs.Prelude.{fold}
 use Rattle.rasta_check.specs.Taken.{pdus_of, units_shown}
 use Rattle.rasta_check.specs.Plain.{pdus, copies_of}
