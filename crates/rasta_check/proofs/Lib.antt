@@ -45,3 +45,4 @@ pub mod Accepting
 pub mod Refusing
 pub mod Crossings
 pub mod Readings
+pub mod Plainly

@@ -10,3 +10,4 @@ pub mod Lists
 pub mod Checking
 pub mod Reading
 pub mod Packets
+pub mod Plain

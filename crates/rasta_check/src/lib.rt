@@ -8,6 +8,7 @@ mod follower;
 pub mod laws;
 mod map_list;
 mod place_table;
+pub mod plain;
 mod reading;
 mod sent_list;
 

@@ -161,7 +161,7 @@ another quiet SN | quiet other client | Up 1 0 0 0 0 | 47 | make 0 1020 fresh
 no second opening | quiet quiet client | Closed 1 0 0 0 0 | 44 | take 2, make 3 1020 open
 ";
 
-fn lines_of(word: &str) -> Option<&'static str> {
+pub fn lines_of(word: &str) -> Option<&'static str> {
     match word {
         "data" => Some(DATA),
         "lost" => Some(LOST),
@@ -190,7 +190,7 @@ fn quiet(next_sn: u32) -> Option<Quiet> {
     Some(Quiet { client, server })
 }
 
-fn params_of(word: &str) -> Option<Params> {
+pub fn params_of(word: &str) -> Option<Params> {
     match word {
         "plain" => params(20, 0, None),
         "slack" => params(20, 5, None),

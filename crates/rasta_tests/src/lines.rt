@@ -133,6 +133,11 @@ pub fn datagrams(alloc: Global, params: &Params, lines: &str) -> Option<Vec<Vec<
     Some(all)
 }
 
+/// The side of the line at a place.
+pub fn side_at(lines: &str, place: usize) -> Option<Side> {
+    lines.lines().nth(place).map(side_of)
+}
+
 /// The PDU of the line at a place.
 pub fn pdu_of<'a>(
     params: &Params,
