@@ -1,5 +1,5 @@
 -- A crossing goes on with a packet that has no fault.
-use Rattle.std.proofs.Common.{◌≡◌, ◌⊎◌, ℕ, suc, ◌+◌, ◌<◌, ◌≤◌, ◌++◌, Bool, true, false, List, [], ◌∷◌, Option, Some, None, Result, Ok, Err, length, slice_get, refl, ap, sym, ◌∙◌, arith, subst, not, nat_lt, is_some, if◌then◌else◌, IfSome}
+use Rattle.std.proofs.Common.{◌≡◌, ◌⊎◌, ℕ, suc, ◌+◌, ◌<◌, ◌≤◌, ◌^◌, ◌++◌, Bool, true, false, List, [], ◌∷◌, Option, Some, None, Result, Ok, Err, length, slice_get, refl, ap, sym, ◌∙◌, arith, subst, not, nat_lt, is_some, if◌then◌else◌, IfSome}
 use Rattle.std.specs.Prelude.{◌&&◌, ◌||◌}
 use Rattle.std.specs.Option.{option_map}
 use Rattle.std.proofs.lemmas.List.{length_push}
@@ -13,19 +13,21 @@ use Rattle.rasta_pcap.specs.declared.fault.Side.TheVariants.{Client, Server}
 use Rattle.rasta_udp.specs.Frame.{Packet}
 use Rattle.rasta_pdu.specs.Params.{Parameters, AreParameters}
 use Rattle.rasta_pdu.specs.Messages.{AreBytes}
-use Rattle.rasta_pdu.specs.Pdu.{RedundancyPdu, redundancy_bytes, decode_of}
+use Rattle.rasta_pdu.specs.Pdu.{RedundancyPdu, redundancy_bytes, safety_bytes, length_of, decode_of}
+use Rattle.std.specs.Int.{bytes_low_first}
+use Rattle.std.proofs.lemmas.Nat.{from_le_bytes-to_le_bytes_4}
 use Rattle.rasta_pdu.proofs.Spellings.{decode_of-Ok}
 use Rattle.rasta_end.specs.State.{wrapped}
 use Rattle.rasta_check.specs.Crossing.{FirstCopy, Sent, Spells, copy_with, is_next_number, repeat_fault, number_fault, read_fault, packet_fault}
 use Rattle.rasta_check.specs.Theorem.{most_packets}
 use Rattle.rasta_check.specs.World.{most_sent}
-use Rattle.rasta_check.specs.Packets.{with_new}
+use Rattle.rasta_check.specs.Packets.{with_new, number_in_bytes}
 use Rattle.rasta_check.specs.Lists.{copy_of}
 use Rattle.rasta_pdu.specs.declared.pdu.Pdu.{Pdu}
 use Rattle.rasta_check.specs.Reading.{Crossing, IsCrossing, sent_by, behind_pdu, behind_read, sent_behind, with_packet, crossing_with, is_within, after_packet, after_judged}
 use Rattle.rasta_check.proofs.Copies.{IsSent}
 use Rattle.rasta_check.proofs.Forms.{to_record, of_record}
-use Rattle.rasta_check.proofs.Sending.{sent_copy, sent_first, sent_other, sent_none}
+use Rattle.rasta_check.proofs.Sending.{sent_copy, sent_first, sent_other, earliest}
 use Rattle.rasta_check.proofs.Following.{first_number, numbers_from, next_from}
 use Rattle.std.proofs.lemmas.Bool.Decides.{nat_tests}
 use Rattle.rasta_check.proofs.Faults.{copy_found, passed}
@@ -207,3 +209,27 @@ module _ (k : Crossing) (a : Packet) (packets : List Packet) (grown : packets �
       by : (t : Side) → record { params = k.params; packets = k.packets ++ a ∷ []; client = k.client; server = k.server } ≡ crossing_with k a t (with_new (sent_by k t) (length k.packets) None)
       by Client = refl
       by Server = refl
+
+-- ---- the number of a packet
+
+-- each packet spells a PDU
+pub spelled_at : (k : Crossing) (place : ℕ) (a : Packet) → IsCrossing k → slice_get k.packets place ≡ Some a → (d : RedundancyPdu) × Spells k.params a.side d a.payload
+spelled_at k place a h g =
+    let r = earliest k.params k.packets a.side (sent_by k a.side) (list_of k h a.side) (suc place) place (omega arith) a g refl in
+    (r.1.pdu, subst (λ (bs : List ℕ). Spells k.params a.side r.1.pdu bs) r.6 r.7)
+
+number_bytes : (a b n : ℕ) (rest : List ℕ) → n < 2 ^ 32 → number_in_bytes (bytes_low_first 0 2 a ++ (bytes_low_first 0 2 b ++ (bytes_low_first 0 4 n ++ rest))) ≡ n
+number_bytes a b n rest h = from_le_bytes-to_le_bytes_4 n h
+
+long_enough : (a b n : ℕ) (rest : List ℕ) → 8 ≤ length (bytes_low_first 0 2 a ++ (bytes_low_first 0 2 b ++ (bytes_low_first 0 4 n ++ rest)))
+long_enough a b n rest = omega arith
+
+-- the redundancy number of what is spelled stands at its place
+pub number_spelled : (p : Parameters) (side : Side) (d : RedundancyPdu) (bytes : List ℕ) → Spells p side d bytes → number_in_bytes bytes ≡ d.number
+unfolding redundancy_bytes
+number_spelled p side d bytes s = ap number_in_bytes s.same ∙ number_bytes (length_of p d) d.reserve d.number (safety_bytes p side d.safety ++ d.check_bytes) s.fits.number
+
+pub length_spelled : (p : Parameters) (side : Side) (d : RedundancyPdu) (bytes : List ℕ) → Spells p side d bytes → 8 ≤ length bytes
+unfolding redundancy_bytes
+length_spelled p side d bytes s =
+    subst (λ (bs : List ℕ). 8 ≤ length bs) (sym s.same) (long_enough (length_of p d) d.reserve d.number (safety_bytes p side d.safety ++ d.check_bytes))

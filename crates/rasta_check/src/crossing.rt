@@ -1,17 +1,17 @@
 //! What each side sent, by a capture.
-ghost use Rattle.std.specs.Prelude.{◌≡◌, [], ◌∷◌, ◌++◌, List, map, length, option_map, slice_get, None, Some, Ok, Err, MatchResult, OnOk, OnErr, IfOk, ◌⊎◌};
+ghost use Rattle.std.specs.Prelude.{◌≡◌, [], ◌∷◌, ◌++◌, List, map, length, option_map, slice_get, None, Some, Ok, Err, MatchOption, MatchResult, OnOk, OnErr, IfOk, ◌⊎◌};
 ghost use Rattle.rasta_pcap.specs.Fault.{no_memory};
-ghost use Rattle.rasta_udp.specs.Frame.{packet_in, packet_of};
+ghost use Rattle.rasta_udp.specs.Frame.{Packet, packet_in, packet_of};
 ghost use Rattle.rasta_pdu.specs.Params.{AreParameters};
 ghost use Rattle.rasta_check.specs.Crossing.{FirstCopy, Spells, packet_fault};
 ghost use Rattle.rasta_pdu.specs.Pdu.{RedundancyPdu, decode_of};
 ghost use Rattle.rasta_check.specs.Lists.{copy_of};
 ghost use Rattle.rasta_check.specs.Reading.{Crossing, IsCrossing, crossing_with, sent_by, sent_behind, nothing_crossed, after_packet, after_frame, after_record};
-ghost use Rattle.std.specs.Prelude.{◌<◌, IfSome, bytes_eq, nat_lt, not, ◌&&◌, ◌||◌};
+ghost use Rattle.std.specs.Prelude.{◌<◌, ◌≤◌, IfSome, bytes_eq, nat_lt, not, ◌&&◌, ◌||◌};
 ghost use Rattle.rasta_check.specs.Crossing.{is_next_number};
 ghost use Rattle.rasta_check.specs.World.{most_sent};
 ghost use Rattle.rasta_check.specs.Theorem.{most_packets};
-ghost use Rattle.rasta_check.specs.Packets.{with_new};
+ghost use Rattle.rasta_check.specs.Packets.{number_in_bytes, with_new};
 
 use crate::map_list::MapList;
 use crate::sent_list::SentList;
@@ -26,6 +26,14 @@ const MOST_PACKETS: usize = 16_000_000;
 
 /// The most PDUs that one side may have sent.
 const MOST_SENT: u32 = 1_000_000;
+
+// The redundancy number in a datagram.
+fn number_in(bytes: &[u8]) -> u32
+    requires { 8 ≤ length bytes.now }
+    ensures { result ≡ number_in_bytes bytes.now }
+{
+    u32::from_le_bytes([bytes[4], bytes[5], bytes[6], bytes[7]])
+}
 
 /// The packets of a connection that crossed, in their order, and the sent list of each side.
 #[derive(Drop)]
@@ -82,6 +90,19 @@ impl<'a> Sent<'a> {
         ensures crossing { IsCrossing self.now }
     {
         self.packets.len() as u32
+    }
+
+    /// The sender and the redundancy number of the packet at a place.
+    pub fn packet(&self, place: u32) -> Option<(Side, u32)>
+        ensures value { MatchOption result (slice_get self.now.packets place ≡ None)
+            (λ r. (k : Packet) × (d : RedundancyPdu) × (slice_get self.now.packets place ≡ Some k)
+              × Spells self.now.params k.side d k.payload × (r ≡ (k.side, d.number))) }
+        ensures crossing { IsCrossing self.now }
+    {
+        match self.packets.get(place as usize) {
+            Some(packet) => Some((packet.side, number_in(packet.payload))),
+            None => None,
+        }
     }
 
     /// The sent list of the client.
