@@ -7,3 +7,5 @@ mod certificates;
 mod ends;
 #[cfg(test)]
 mod lines;
+#[cfg(test)]
+mod sent_lists;
