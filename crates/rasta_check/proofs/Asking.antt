@@ -163,6 +163,7 @@ module _ (e f : EndState) (t u : ℕ) (h : Held e t f.made) (peer : Held f u e.m
 
   pub in_order : AnswersInOrder e f
   in_order = record {
+    named = all_named;
     beginning = begins_with e.asks (asked_positions (pdus_made e.made) (pdus_made f.made)) (λ k c g. (ask_at k c g).3);
     answers = answer_at;
   }

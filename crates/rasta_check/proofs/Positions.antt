@@ -1,9 +1,9 @@
 -- Positions in ordered lists of first copies.
-use Rattle.std.proofs.Common.{◌≡◌, ℕ, zero, suc, ◌+◌, ◌-◌, ◌%◌, ◌^◌, ◌<◌, ◌≤◌, ◌++◌, Bool, true, false, cond, nat_lt, nat_eq, List, [], ◌∷◌, Option, Some, None, length, get_or, slice_get, position, refl, ap, sym, ◌∙◌, arith, subst, ⊎_elim, lt-ltb, le-ltb, true≢false, not, if◌then◌else◌, eqb}
+use Rattle.std.proofs.Common.{◌≡◌, ℕ, zero, suc, ◌+◌, ◌-◌, ◌%◌, ◌^◌, ◌<◌, ◌≤◌, ◌++◌, Bool, true, false, cond, nat_lt, nat_eq, List, [], ◌∷◌, Option, Some, None, length, get_or, map, slice_get, position, refl, ap, sym, ◌∙◌, arith, subst, inl, inr, ⊎_elim, lt-ltb, le-ltb, ◌⊎◌, true≢false, not, if◌then◌else◌, eqb, take, drop, length-append}
 use Rattle.std.specs.List.{position_or_len}
 use Rattle.std.specs.Option.{option_map}
 use Rattle.std.proofs.lemmas.Bool.Decides.{nat_tests}
-use Rattle.std.proofs.lemmas.List.{length_push}
+use Rattle.std.proofs.lemmas.List.{length_push, take-append-drop}
 use Rattle.std.proofs.lemmas.List.Sums.{position_or_len_is}
 use Rattle.std.proofs.lemmas.List.Folds.{position_or_len_push}
 use Rattle.std.proofs.lemmas.Option.{slice_get_within, slice_get-map, slice_get-get_or}
@@ -185,5 +185,24 @@ module _ (sent : List FirstCopy) (h : IsOrdered sent) (start : FirstCopy) (g0 : 
   far d e l =
       let few = h.few in
       position_none n (numbers_of sent) (λ j y g q. (let w = number_there sent j y g in
-      let m = slice_get_within sent j w.0 w.1 in
-      let same = same_place start.pdu.number n j start_small (omega arith) (sym (w.2 ∙ q) ∙ h.numbers j start w.0 g0 w.1) in omega arith))
+          let m = slice_get_within sent j w.0 w.1 in
+          let same = same_place start.pdu.number n j start_small (omega arith) (sym (w.2 ∙ q) ∙ h.numbers j start w.0 g0 w.1) in omega arith))
+
+-- ---- a beginning of a list
+
+ordered_part : (xs ys : List FirstCopy) → IsOrdered (xs ++ ys) → IsOrdered xs
+ordered_part xs ys h = record {
+  places = λ i a b x y. h.places i a b (get_front xs ys i a x) (get_front xs ys (suc i) b y);
+  numbers = λ i a b x y. h.numbers i a b (get_front xs ys 0 a x) (get_front xs ys i b y);
+  few = (let l = length-append xs ys in let z = h.few in omega arith);
+}
+
+pub ordered_take : (n : ℕ) (xs : List FirstCopy) → IsOrdered xs → IsOrdered (take n xs)
+ordered_take n xs h = ordered_part (take n xs) (drop n xs) (subst IsOrdered (sym (take-append-drop n xs)) h)
+
+-- one more of them
+pub take_one_more : (i : ℕ) (xs : List FirstCopy) (c : FirstCopy) → slice_get xs i ≡ Some c → take i xs ++ c ∷ [] ≡ take (i + 1) xs
+take_one_more zero [] c g = absurd (cc)
+take_one_more zero (x ∷ xs) c g = (let same : x ≡ c = cc in ap (λ (y : FirstCopy). y ∷ []) (sym same))
+take_one_more (suc i) [] c g = absurd (cc)
+take_one_more (suc i) (x ∷ xs) c g = ap (λ (ys : List FirstCopy). x ∷ ys) (take_one_more i xs c g) ∙ (let e : suc (i + 1) ≡ suc i + 1 = omega arith in ap (λ n. take n (x ∷ xs)) e)

@@ -11,11 +11,12 @@ use Rattle.rasta_end.specs.State.{wrapped}
 
 -- ---- the crossing list
 
+-- the packet that a frame holds; one with a fault holds none
 abbrev pub found_packet : Result (Option Packet) Fault → Option Packet
 found_packet (Ok found) = found
 found_packet (Err fault) = None
 
--- the crossing list of a capture's records: the packets that the records of the window hold, in order
+-- the crossing list of a capture's records, up to the last of the window: the packets that those from its first on hold, in order
 abbrev pub crossing_list : Parameters → List (List ℕ) → List Packet
 crossing_list p records = filter_map (λ (frame : List ℕ). found_packet (packet_in p.channels frame)) (drop (p.first_record - 1) records)
 
@@ -70,7 +71,7 @@ pub record IsRepeat (packets : List Packet) (side : Side) (place : ℕ) (bytes :
   pub of_side : packet.side ≡ side
   pub same : packet.payload ≡ bytes
 
--- no packet of this side has a fault: each is a first copy, or repeats an earlier packet byte for byte, and the numbers of the
+-- where this is the sent list, no packet of the side has a fault: each is a first copy, or repeats an earlier packet byte for byte, and the numbers of the
 -- first copies rise by one modulo 2^32
 pub record IsFaultless (packets : List Packet) (side : Side) (sent : List FirstCopy) : Type 0 where
   pub others : (place : ℕ) (packet : Packet) → slice_get packets place ≡ Some packet → packet.side ≡ side
@@ -98,10 +99,12 @@ is_next_number (copy ∷ copies) number = number == wrapped (copy.pdu.number + l
 abbrev pub repeat_fault : Parameters → Side → FirstCopy → List ℕ → Option ℕ
 repeat_fault p side copy bytes = if bytes_eq (redundancy_bytes p side copy.pdu) bytes then None else Some copy_differs
 
+-- the fault of a packet that spells this PDU, by the first copy of its number
 abbrev pub number_fault : Parameters → Side → List FirstCopy → List ℕ → RedundancyPdu → Option FirstCopy → Option ℕ
 number_fault p side sent bytes pdu (Some copy) = repeat_fault p side copy bytes
 number_fault p side sent bytes pdu None = if is_next_number sent pdu.number then None else Some number_gap
 
+-- the same by what its bytes spell
 abbrev pub read_fault : Parameters → Side → List FirstCopy → List ℕ → Result RedundancyPdu Fault → Option ℕ
 read_fault p side sent bytes (Err fault) = Some fault.number
 read_fault p side sent bytes (Ok pdu) = number_fault p side sent bytes pdu (copy_with sent pdu.number)

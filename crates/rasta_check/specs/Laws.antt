@@ -16,9 +16,11 @@ Always Holds p = (ws : List World) (w : World) → Reaches p ws w → IsWithin p
 
 -- ---- an SN names one position
 
+-- no two positions of an end have the same SN
 abbrev pub NamesOne : EndState → EndState → Type 0
 NamesOne e peer = (i j : ℕ) (m n : Made) → slice_get e.made i ≡ Some m → slice_get e.made j ≡ Some n → m.pdu.sn ≡ n.pdu.sn → i ≡ j
 
+-- so it is in every run
 abbrev pub SnOnce : Type 0
 SnOnce = (p : Parameters) → Always NamesOne p
 
@@ -28,16 +30,19 @@ SnOnce = (p : Parameters) → Always NamesOne p
 abbrev pub requests_of : List Made → List Made
 requests_of made = filter (λ (m : Made). is_retransmission_request m.pdu.kind) made
 
--- the asks of an end are a beginning of the list of positions that its peer's requests confirm, and its i-th retransmission response
+-- each request of the peer confirms a position; the asks of an end are a beginning of the list of these, and its i-th retransmission response
 -- answers its peer's i-th request: the position that this confirms is the i-th ask, and lies in front of the response
 pub record AnswersInOrder (e peer : EndState) : Type 0 where
   pub beginning : (rest : List ℕ) × (asked_positions (pdus_made e.made) (pdus_made peer.made) ≡ e.asks ++ rest)
+  pub named : (position : ℕ) (request : Made) → slice_get peer.made position ≡ Some request → is_retransmission_request request.pdu.kind ≡ true
+      → (c : ℕ) × (position_with (pdus_made e.made) request.pdu.cs ≡ Some c)
   pub answers : (before behind : List Made) (m : Made) → e.made ≡ before ++ m ∷ behind → is_retransmission_response m.pdu.kind ≡ true
       → (ask : ℕ) × (request : Made)
       × (slice_get e.asks (responses_in (kinds before)) ≡ Some ask) × (ask < length before)
       × (slice_get (requests_of peer.made) (responses_in (kinds before)) ≡ Some request)
       × (position_with (pdus_made e.made) request.pdu.cs ≡ Some ask)
 
+-- so it is in every run
 abbrev pub Asks : Type 0
 Asks = (p : Parameters) → Always AnswersInOrder p
 
@@ -47,6 +52,7 @@ Asks = (p : Parameters) → Always AnswersInOrder p
 abbrev pub ConveysAll : EndState → EndState → Type 0
 ConveysAll e peer = has_ended e ≡ false → e.owed ≡ [] → last_of (all_units_conveyed e.asks (kinds e.made)) ≡ e.offered
 
+-- so it is in every run
 abbrev pub Units : Type 0
 Units = (p : Parameters) → Always ConveysAll p
 
@@ -57,6 +63,7 @@ abbrev pub ConfirmsAccepted : Parameters → EndState → EndState → Type 0
 ConfirmsAccepted p e peer = (x : SafetyPdu) (clock : ℕ) (why : Why) (after : EndState) (i : ℕ) → Makes p e x clock why after → e.accepted ≡ suc i
     → ((m : Made) × (slice_get peer.made i ≡ Some m) × (m.pdu.sn ≡ x.cs)) × ((j : ℕ) (n : Made) → slice_get peer.made j ≡ Some n → n.pdu.sn ≡ x.cs → j ≡ i)
 
+-- so it is in every run
 abbrev pub Confirmed : Type 0
 Confirmed = (p : Parameters) → Always (ConfirmsAccepted p) p
 
@@ -75,5 +82,6 @@ pub record HandsUp (e peer : EndState) : Type 0 where
   pub units : (i position : ℕ) → slice_get e.handed i ≡ Some position
       → (m : Made) × (slice_get peer.made position ≡ Some m) × (m.unit ≡ Some i) × (slice_get e.handed_pdus i ≡ Some m.pdu)
 
+-- so it is in every run
 abbrev pub Handed : Type 0
 Handed = (p : Parameters) → Always HandsUp p

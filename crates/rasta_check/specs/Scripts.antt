@@ -40,6 +40,7 @@ abbrev pub Leads : Parameters → ℕ → List FirstCopy → List FirstCopy → 
 Leads p packets own peer u [] v = u ≡ v
 Leads p packets own peer u (x ∷ xs) v = (m : Cursor) × Advances p packets own peer u x m × Leads p packets own peer m xs v
 
+-- nothing is made or taken yet
 abbrev pub at_start : EndState → Cursor
 at_start e = record { level = 0; made = 0; taken = 0; state = e }
 

@@ -37,9 +37,11 @@ units_taken own peer = fold max 0 (map (units_shown own peer) peer)
 
 -- ---- over sent lists
 
+-- the PDUs of a sent list
 abbrev pub pdus_of : List FirstCopy → List SafetyPdu
 pdus_of copies = map (λ (c : FirstCopy). c.pdu.safety) copies
 
+-- the PDUs that an end made
 abbrev pub pdus_made : List Made → List SafetyPdu
 pdus_made made = map (λ (m : Made). m.pdu) made
 
@@ -53,7 +55,7 @@ pub record TakenUnit : Type 0 where
   pub data_place : ℕ
   pub proof_place : ℕ
 
--- the place of the first of these PDUs of the peer that shows more than so many units
+-- the place of the first of these PDUs of the peer that shows more than so many units, 0 where none does
 abbrev pub proof_place : List SafetyPdu → List SafetyPdu → ℕ → List FirstCopy → ℕ
 proof_place own peer unit [] = 0
 proof_place own peer unit (c ∷ copies) = if nat_lt unit (units_shown own peer c.pdu.safety) then c.place else proof_place own peer unit copies
@@ -64,6 +66,7 @@ units_from own peer unit [] = []
 units_from own peer unit (c ∷ data_pdus) =
     record { messages = messages_in c.pdu.safety.body; data_place = c.place; proof_place = proof_place own (pdus_of peer) unit peer } ∷ units_from own peer (suc unit) data_pdus
 
+-- the data PDUs of a sent list
 abbrev pub data_copies : List FirstCopy → List FirstCopy
 data_copies sent = filter (λ (c : FirstCopy). is_data c.pdu.safety.kind) sent
 
@@ -78,6 +81,7 @@ pub record TakenMessage : Type 0 where
   pub data_place : ℕ
   pub proof_place : ℕ
 
+-- the messages of a unit, each with its places
 abbrev pub messages_of_unit : TakenUnit → List TakenMessage
 messages_of_unit u = map (λ (m : List ℕ). record { message = m; data_place = u.data_place; proof_place = u.proof_place }) u.messages
 

@@ -25,10 +25,12 @@ pub record OfConnection (p : Parameters) : Type 0 where
   pub client_id : p.client_id < 2 ^ 32
   pub server_id : p.server_id < 2 ^ 32
 
+-- the peer's side
 abbrev pub other_side : Side → Side
 other_side Client = Server
 other_side Server = Client
 
+-- the station of a side, and its end
 abbrev pub station_of : World → Side → Station
 station_of w Client = w.client
 station_of w Server = w.server
@@ -53,12 +55,15 @@ pub record IsMade (p : Parameters) (ws : List World) (w : World) (side : Side) (
   pub there : (j : ℕ) (copy : FirstCopy) (v next : World) → slice_get sent j ≡ Some copy → Appends ws w copy.place v next
       → (length (end_of v side).made ≡ (start_of p side).base + j) × (length (end_of next side).made ≡ suc ((start_of p side).base + j))
 
--- in a run both sides have sent lists, which are what they made, at the places where it first crossed; each packet is appended to one
--- of the worlds; and packets have one such list
+-- in a run within the limits both sides have sent lists, which are what they made, at the places where it first crossed; each packet is
+-- appended to one of the worlds; a run with sent lists within the limits is within them; and packets have one sent list of fewer than
+-- 2^32 PDUs a side
 abbrev pub SentLists : Parameters → Type 0
 SentLists p =
     ((ws : List World) (w : World) (side : Side) → Reaches p ws w → IsWithin p w → (sent : List FirstCopy) × IsMade p ws w side sent)
     × ((ws : List World) (w : World) (place : ℕ) → Reaches p ws w → place < length w.crossed → (v next : World) × Appends ws w place v next)
+    × ((ws : List World) (w : World) (c s : List FirstCopy) → Reaches p ws w → Sent p w.crossed Client c → Sent p w.crossed Server s
+        → length c ≤ most_sent → length s ≤ most_sent → IsWithin p w)
     × ((packets : List Packet) (side : Side) (sent others : List FirstCopy) → Sent p packets side sent → Sent p packets side others → length sent < 2 ^ 32 → sent ≡ others)
 
 -- ---- 2. definite faults
@@ -95,6 +100,7 @@ pub record HandsUpUnits (e peer : EndState) : Type 0 where
 abbrev pub messages_handed : EndState → List (List (List ℕ))
 messages_handed e = map (λ (x : SafetyPdu). messages_in x.body) e.handed_pdus
 
+-- the messages of the units that are listed
 abbrev pub messages_listed : List TakenUnit → List (List (List ℕ))
 messages_listed units = map (λ (u : TakenUnit). u.messages) units
 
@@ -102,7 +108,7 @@ messages_listed units = map (λ (u : TakenUnit). u.messages) units
 abbrev pub HasHandedUp : EndState → ℕ → List (List ℕ) → Type 0
 HasHandedUp e unit messages = slice_get (messages_handed e) unit ≡ Some messages
 
--- in every run that sends these packets the other side handed up units in order; those that are listed come first; and each was handed
+-- in every run that sends these packets, within the limits, the other side handed up units in order; those that are listed come first; and each was handed
 -- up already in the world to which the packet at its proof place is appended
 abbrev pub Necessity : Parameters → Type 0
 Necessity p =
@@ -115,7 +121,7 @@ Necessity p =
 
 -- ---- 5. sharpness
 
--- where both scripts fit, some run that sends the packets has both ends handing up exactly what is listed
+-- where both scripts fit, and the lists are within the limits, some run that sends the packets has both ends handing up exactly what is listed
 abbrev pub Sharpness : Parameters → Type 0
 Sharpness p =
     (packets : List Packet) (c s : List FirstCopy) (cs ss : List Entry) (a b : EndState) → CrossRecorded p packets
@@ -131,6 +137,7 @@ Sharpness p =
 abbrev pub most_packets : ℕ
 most_packets = 16000000
 
+-- so does the unit of a reason
 abbrev pub IsWritableReason : Why → Type 0
 IsWritableReason (Again unit) = unit < 2 ^ 32
 IsWritableReason _ = Unit {0}
@@ -140,13 +147,14 @@ abbrev pub IsWritable : Entry → Type 0
 IsWritable (Take slot number) = (slot < 2 ^ 32) × (number < 2 ^ 32)
 IsWritable (Make index clock why) = (index < 2 ^ 32) × (clock < 2 ^ 64) × IsWritableReason why
 
+-- the numbers of each entry do
 abbrev pub AreWritable : List Entry → Type 0
 AreWritable entries = (i : ℕ) (x : Entry) → slice_get entries i ≡ Some x → IsWritable x
 
 -- a run within the limits is told by two scripts that fit, with at most 4,000,000 entries: it sends at most 16,000,000 packets and
 -- 1,000,000 PDUs an end, and each end makes its last PDU at a clock below 2^64
-abbrev pub Completeness : Parameters → Type 0
-Completeness p =
+abbrev pub Complete : Parameters → Type 0
+Complete p =
     (ws : List World) (w : World) (c s : List FirstCopy) → Reaches p ws w
     → Sent p w.crossed Client c → Sent p w.crossed Server s
     → length w.crossed ≤ most_packets → length c ≤ most_sent → length s ≤ most_sent

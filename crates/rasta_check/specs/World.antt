@@ -52,7 +52,7 @@ pub data Moves (p : Parameters) (peer : Station) (crossed : List Packet) : Stati
       → slice_get peer.state.made position ≡ Some m
       → Takes p a.state m.pdu a.clock after
       → Moves p peer crossed a (record a { state = after; taken = suc position }) crossed
-  -- its clock rises
+  -- its clock rises, or stands still
   waits : {a : Station} (clock : ℕ)
       → a.clock ≤ clock
       → Moves p peer crossed a (record a { clock = clock }) crossed

@@ -1,5 +1,5 @@
 //! A sent list in one vector.
-ghost use Rattle.std.specs.Prelude.{◌≡◌, [], ◌∷◌, ◌++◌, List, map, OnOk, OnErr};
+ghost use Rattle.std.specs.Prelude.{◌≡◌, [], ◌∷◌, ◌++◌, List, map, IfOk, OnOk, OnErr};
 ghost use Rattle.rasta_check.specs.Crossing.{FirstCopy};
 ghost use Rattle.rasta_check.specs.Lists.{AreMarks, IsOrdered, copy_of};
 
@@ -33,6 +33,19 @@ impl<'a> DenseList<'a> {
             copies: Vec::new(alloc),
             places: PlaceTable::new(alloc),
         }
+    }
+
+    /// The members of any sent list.
+    pub fn of<S: SentList<'a>>(alloc: Global, list: &S) -> Result<DenseList<'a>, AllocError>
+        ensures { IfOk result (λ l. l ≡ S.content list.now) }
+    {
+        let mut dense = DenseList::new(alloc);
+        for position in 0..list.len() {
+            if let Some((place, pdu)) = list.get(position) {
+                dense.push(place, pdu)?;
+            }
+        }
+        Ok(dense)
     }
 
     // Adds a first copy behind the others. Without memory for it the list stays as it was.

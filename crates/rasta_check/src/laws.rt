@@ -5,7 +5,7 @@ ghost use Rattle.rasta_pdu.specs.Params.{Parameters, AreParameters};
 ghost use Rattle.rasta_check.specs.Crossing.{crossing_list};
 ghost use Rattle.rasta_check.specs.Reading.{Crossing, crossing_of};
 ghost use Rattle.rasta_check.specs.Laws;
-ghost use Rattle.rasta_check.specs.Theorem.{OfConnection, SentLists, Definite, Simulation, Necessity, Sharpness, Completeness, Stuck};
+ghost use Rattle.rasta_check.specs.Theorem.{OfConnection, SentLists, Definite, Simulation, Necessity, Sharpness, Complete, Stuck};
 
 /// The SN of a PDU names one position of its end.
 pub fn sn_once()
@@ -38,7 +38,8 @@ pub fn sent_lists()
     ensures { (p : Parameters) → OfConnection p → SentLists p }
 {}
 
-/// No packet of a run has a fault: where a captured one has, no run sends the packets up to it.
+/// No packet of a run has a fault, behind a list of its sender within the limits: where a captured one has,
+/// no run sends the packets up to it.
 pub fn definite()
     ensures { (p : Parameters) → OfConnection p → Definite p }
 {}
@@ -48,20 +49,21 @@ pub fn simulation()
     ensures { (p : Parameters) → OfConnection p → Simulation p }
 {}
 
-/// In every run that sends the packets, the far end handed up what is listed as taken, once each and in
-/// order, and each message before its proof crossed.
+/// In every run that sends the packets, within the limits, the far end handed up what is listed as taken,
+/// once each and in order, and each message before its proof crossed.
 pub fn necessity()
     ensures { (p : Parameters) → OfConnection p → Necessity p }
 {}
 
-/// Where both scripts fit, some run that sends the packets hands up exactly what is listed.
+/// Where both scripts fit, within the limits, some run that sends the packets hands up exactly what is
+/// listed.
 pub fn sharpness()
     ensures { (p : Parameters) → OfConnection p → Sharpness p }
 {}
 
 /// Every run within the limits is told by two scripts that fit.
 pub fn complete()
-    ensures { (p : Parameters) → OfConnection p → Completeness p }
+    ensures { (p : Parameters) → OfConnection p → Complete p }
 {}
 
 /// A script leads to one end; where its next entry can't follow, no script that begins so fits.

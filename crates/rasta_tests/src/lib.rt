@@ -9,3 +9,4 @@ mod ends;
 mod lines;
 #[cfg(test)]
 mod model;
+mod sent_lists;

@@ -1,0 +1,31 @@
+use Rattle.std.proofs.Common.{◌≡◌, ℕ, ◌+◌, ◌<◌, List, [], ◌∷◌, ◌++◌, Some, None, take, length, slice_get, ap, sym, ◌∙◌, subst, arith}
+use Rattle.std.specs.Option.{option_map}
+use Rattle.rasta_check.specs.Crossing.{FirstCopy}
+use Rattle.rasta_check.specs.Lists.{IsOrdered, copy_of}
+use Rattle.rasta_check.proofs.Positions.{ordered_take, take_one_more}
+use Rattle.rasta_check.proofs.Scripted.{slice_get_some}
+use Rattle.rasta_check.proofs.dense_list.DenseList.of.Goals as goal
+use Rattle.rasta_check.proofs.dense_list.DenseList.of.Goals.{in-Some+in_ok-push, in_default}
+
+none_within : (xs : List FirstCopy) (i : ℕ) → i < length xs → None ≡ slice_get xs i → ⊥
+none_within xs i l e = (let g = slice_get_some xs i l in let h = g.1 in cc)
+
+pub push-requires : goal.push-requires
+push-requires g c =
+    let xs = g.S.SentList.content c.args.list.now in
+    let x = copy_of (c.in-Some.place, c.in-Some.pdu) in
+    let grown = ap (λ (s : List FirstCopy). s ++ x ∷ []) c.loop-position.invariant ∙ take_one_more c.loop-position.position xs x (sym c.in-Some.ensures.value) in
+    subst IsOrdered (sym grown) (ordered_take (c.loop-position.position + 1) xs c.get.ensures.ordered)
+
+pub loop-position-preserved : goal.loop-position-preserved
+loop-position-preserved g c =
+    let xs = g.S.SentList.content c.args.list.now in
+    elim c.match-get.branch [
+      | in-Some+in_ok-push w ↦
+          let x = copy_of (w.in-Some.place, w.in-Some.pdu) in
+          w.dense-is ∙ (w.in_ok-push.ensures.ok
+          ∙ (ap (λ (s : List FirstCopy). s ++ x ∷ []) c.loop-position.invariant ∙ take_one_more c.loop-position.position xs x (sym w.in-Some.ensures.value)))
+      | in_default w ↦ absurd (none_within xs c.loop-position.position
+          (let a = c.loop-position-test.true in let b = c.len-position-end.ensures.value in omega arith)
+          (ap (option_map copy_of) (sym w.in_default.is) ∙ c.get.ensures.value))
+    ]
