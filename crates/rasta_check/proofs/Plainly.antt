@@ -4,7 +4,7 @@ use Rattle.std.specs.Prelude.{Result, Ok, Err, IfOk, fold, slice_get, nat_lt, �
 use Rattle.std.specs.Option.{option_map}
 use mir.Val.{bool_byte}
 use Rattle.std.proofs.Math.Seq.{drop-cons}
-use Rattle.std.proofs.lemmas.List.{take_min}
+use Rattle.std.proofs.lemmas.List.{append-nil, take_min}
 use Rattle.rasta_pdu.specs.declared.kind.Kind.{Kind}
 use Rattle.rasta_pdu.specs.declared.kind.Kind.TheVariants.{RetransmissionResponse, Data, RetransmittedData}
 use Rattle.rasta_pdu.specs.Pdu.{SafetyPdu, value_of}
@@ -188,3 +188,7 @@ quiet-client p side q x e s is =
 pub quiet-server : (p : Parameters) (side : Side) (q : Quiet) (x : SafetyPdu) → p.quiet ≡ Some q → side ≡ Server → x ≡ quiet_pdu q.server q.client → x ∷ [] ≡ pdus_made (start_of p side).made
 quiet-server p side q x e s is =
     ap (λ (y : SafetyPdu). y ∷ []) is ∙ sym (ap (λ (o : Option Quiet). pdus_made (start_by o side).made) e ∙ ap (λ (t : Side). pdus_made (start_by (Some q) t).made) s)
+
+-- a PDU that is no data leaves the data PDUs as they are
+pub not_pushed : (before : List PlainCopy) (c : PlainCopy) → is_data (value_of c.pdu).safety.kind ≡ false → copies_of before ≡ copies_of before ++ data_copies (copy_of c ∷ [])
+not_pushed before c none = sym (append-nil (copies_of before)) ∙ ap (λ (b : Bool). copies_of before ++ cond b (copy_of c ∷ []) []) (sym none)
