@@ -1,5 +1,5 @@
 -- A crossing goes on with a packet that has no fault.
-use Rattle.std.proofs.Common.{◌≡◌, ◌⊎◌, ℕ, suc, ◌+◌, ◌<◌, ◌≤◌, ◌^◌, ◌++◌, Bool, true, false, List, [], ◌∷◌, Option, Some, None, Result, Ok, Err, length, slice_get, refl, ap, sym, ◌∙◌, arith, subst, not, nat_lt, is_some, if◌then◌else◌, IfSome}
+use Rattle.std.proofs.Common.{◌≡◌, ℕ, suc, ◌+◌, ◌<◌, ◌≤◌, ◌^◌, ◌++◌, Bool, true, false, List, [], ◌∷◌, Option, Some, None, Result, Ok, Err, length, slice_get, refl, ap, sym, ◌∙◌, arith, subst, not, nat_lt, is_some, if◌then◌else◌, IfSome}
 use Rattle.std.specs.Prelude.{◌&&◌, ◌||◌}
 use Rattle.std.specs.Option.{option_map}
 use Rattle.std.proofs.lemmas.List.{length_push}
@@ -18,7 +18,7 @@ use Rattle.std.specs.Int.{bytes_low_first}
 use Rattle.std.proofs.lemmas.Nat.{from_le_bytes-to_le_bytes_4}
 use Rattle.rasta_pdu.proofs.Spellings.{decode_of-Ok}
 use Rattle.rasta_end.specs.State.{wrapped}
-use Rattle.rasta_check.specs.Crossing.{FirstCopy, Sent, Spells, copy_with, is_next_number, repeat_fault, number_fault, read_fault, packet_fault}
+use Rattle.rasta_check.specs.Crossing.{FirstCopy, Spells, copy_with, is_next_number, number_fault, read_fault, packet_fault}
 use Rattle.rasta_check.specs.Theorem.{most_packets}
 use Rattle.rasta_check.specs.World.{most_sent}
 use Rattle.rasta_check.specs.Packets.{with_new, number_in_bytes}
@@ -103,9 +103,10 @@ repeated k a d place r h e f g =
     let w = first_packet k a.side d.number place h f in
     let own = sent_by k a.side in
     let test : r ≡ bytes_eq w.1.payload a.payload = subst (λ (o : Option Packet). IfSome o (λ (b : Packet). r ≡ bytes_eq b.payload a.payload)) w.3 g in
-    let same : r ≡ bytes_eq (redundancy_bytes k.params a.side w.0.pdu) a.payload = test ∙ ap (λ (bs : List ℕ). bytes_eq bs a.payload) w.4 in
-    (ap (read_fault k.params a.side own a.payload) e ∙ (ap (number_fault k.params a.side own a.payload d) w.2 ∙ ap (λ (b : Bool). if b then None else Some copy_differs) (sym same)),
-     ap (behind_read own (length k.packets)) e ∙ ap (behind_pdu own (length k.packets) d) w.2)
+    let same : r ≡ bytes_eq (redundancy_bytes k.params a.side w.0.pdu) a.payload = test ∙ ap (λ (bs : List ℕ). bytes_eq bs a.payload) w.4 in (
+      ap (read_fault k.params a.side own a.payload) e ∙ (ap (number_fault k.params a.side own a.payload d) w.2 ∙ ap (λ (b : Bool). if b then None else Some copy_differs) (sym same)),
+      ap (behind_read own (length k.packets)) e ∙ ap (behind_pdu own (length k.packets) d) w.2,
+    )
 
 -- ---- the limits
 

@@ -1,5 +1,5 @@
 -- Positions in ordered lists of first copies.
-use Rattle.std.proofs.Common.{◌≡◌, ℕ, zero, suc, ◌+◌, ◌-◌, ◌%◌, ◌^◌, ◌<◌, ◌≤◌, ◌++◌, Bool, true, false, cond, nat_lt, nat_eq, List, [], ◌∷◌, Option, Some, None, length, get_or, map, slice_get, position, refl, ap, sym, ◌∙◌, arith, subst, inl, inr, ⊎_elim, lt-ltb, le-ltb, ◌⊎◌, true≢false, not, if◌then◌else◌, eqb, take, drop, length-append}
+use Rattle.std.proofs.Common.{◌≡◌, ℕ, zero, suc, ◌+◌, ◌-◌, ◌%◌, ◌^◌, ◌<◌, ◌≤◌, ◌++◌, Bool, true, false, cond, nat_lt, nat_eq, List, [], ◌∷◌, Option, Some, None, length, get_or, slice_get, position, refl, ap, sym, ◌∙◌, arith, subst, ⊎_elim, lt-ltb, le-ltb, true≢false, not, if◌then◌else◌, eqb, take, drop, length-append}
 use Rattle.std.specs.List.{position_or_len}
 use Rattle.std.specs.Option.{option_map}
 use Rattle.std.proofs.lemmas.Bool.Decides.{nat_tests}
@@ -185,8 +185,8 @@ module _ (sent : List FirstCopy) (h : IsOrdered sent) (start : FirstCopy) (g0 : 
   far d e l =
       let few = h.few in
       position_none n (numbers_of sent) (λ j y g q. (let w = number_there sent j y g in
-          let m = slice_get_within sent j w.0 w.1 in
-          let same = same_place start.pdu.number n j start_small (omega arith) (sym (w.2 ∙ q) ∙ h.numbers j start w.0 g0 w.1) in omega arith))
+      let m = slice_get_within sent j w.0 w.1 in
+      let same = same_place start.pdu.number n j start_small (omega arith) (sym (w.2 ∙ q) ∙ h.numbers j start w.0 g0 w.1) in omega arith))
 
 -- ---- a beginning of a list
 

@@ -117,10 +117,13 @@ records_by k last [] fault e =
 records_by k last (r ∷ rs) fault e =
     let w = then_by (after_record k r) (λ (next : Crossing). after_records next rs fault) last e in
     let here = record_by k r w.0 w.1 in
-    let rest = records_by w.0 last rs fault w.2 in
-    (rest.0,
-     (rest.1.0 ∙ ((λ i. here.0 i ++ all_packets_in (here.1 i) rs) ∙ append_assoc k.packets (packets_in k.params r) (all_packets_in k.params rs)),
-      rest.1.1 ∙ here.1))
+    let rest = records_by w.0 last rs fault w.2 in (
+      rest.0,
+      (
+        rest.1.0 ∙ ((λ i. here.0 i ++ all_packets_in (here.1 i) rs) ∙ append_assoc k.packets (packets_in k.params r) (all_packets_in k.params rs)),
+        rest.1.1 ∙ here.1,
+      ),
+    )
 
 -- ---- the records of the window, by their numbers
 
@@ -150,18 +153,18 @@ pub window_by : (p : Parameters) (rs : List Numbered) (n : ℕ) → n ≤ p.firs
     → all_packets_in p rs ≡ filter_map (λ (frame : List ℕ). found_packet (packet_in p.channels frame)) (drop (p.first_record - n) (map (λ (r : Numbered). r.1) rs))
 window_by p [] n l e = ap (λ (xs : List (List ℕ)). filter_map (λ (frame : List ℕ). found_packet (packet_in p.channels frame)) xs) (sym (drop_nil (p.first_record - n)))
 window_by p (r ∷ rs) n l e = elim (dec_lt n p.first_record) [
-    | yes low ↦
-        let head : r.0 ≡ n = cc in
-        let tail : map (λ (r : Numbered). r.0) rs ≡ range_with_len (n + 1) (length rs) = cc in
-        let test : nat_lt r.0 p.first_record ≡ true = lt-ltb r.0 p.first_record (omega arith) in
-        let left : p.first_record - n ≡ suc (p.first_record - (n + 1)) = omega arith in
-        ap (λ (b : Bool). (if b then [] else of_option (found_packet (packet_in p.channels r.1))) ++ all_packets_in p rs) test
-        ∙ (window_by p rs (n + 1) (omega arith) tail
-        ∙ ap (λ (m : ℕ). filter_map (λ (frame : List ℕ). found_packet (packet_in p.channels frame)) (drop m (r.1 ∷ map (λ (r : Numbered). r.1) rs))) (sym left))
-    | no high ↦
-        window_all p (r ∷ rs) n (omega arith) e
-        ∙ ap (λ (m : ℕ). filter_map (λ (frame : List ℕ). found_packet (packet_in p.channels frame)) (drop m (r.1 ∷ map (λ (r : Numbered). r.1) rs))) (let z : 0 ≡ p.first_record - n = omega arith in z)
-  ]
+  | yes low ↦
+      let head : r.0 ≡ n = cc in
+      let tail : map (λ (r : Numbered). r.0) rs ≡ range_with_len (n + 1) (length rs) = cc in
+      let test : nat_lt r.0 p.first_record ≡ true = lt-ltb r.0 p.first_record (omega arith) in
+      let left : p.first_record - n ≡ suc (p.first_record - (n + 1)) = omega arith in
+      ap (λ (b : Bool). (if b then [] else of_option (found_packet (packet_in p.channels r.1))) ++ all_packets_in p rs) test
+      ∙ (window_by p rs (n + 1) (omega arith) tail
+      ∙ ap (λ (m : ℕ). filter_map (λ (frame : List ℕ). found_packet (packet_in p.channels frame)) (drop m (r.1 ∷ map (λ (r : Numbered). r.1) rs))) (sym left))
+  | no high ↦
+      window_all p (r ∷ rs) n (omega arith) e
+      ∙ ap (λ (m : ℕ). filter_map (λ (frame : List ℕ). found_packet (packet_in p.channels frame)) (drop m (r.1 ∷ map (λ (r : Numbered). r.1) rs))) (let z : 0 ≡ p.first_record - n = omega arith in z)
+]
 
 -- a file that is read: its records, and the packets that they hold
 pub file_by : (p : Parameters) (file : List ℕ) (k : Crossing) → AreParameters p → crossing_of p file ≡ Ok k

@@ -63,7 +63,7 @@ SentLists p =
     ((ws : List World) (w : World) (side : Side) → Reaches p ws w → IsWithin p w → (sent : List FirstCopy) × IsMade p ws w side sent)
     × ((ws : List World) (w : World) (place : ℕ) → Reaches p ws w → place < length w.crossed → (v next : World) × Appends ws w place v next)
     × ((ws : List World) (w : World) (c s : List FirstCopy) → Reaches p ws w → Sent p w.crossed Client c → Sent p w.crossed Server s
-        → length c ≤ most_sent → length s ≤ most_sent → IsWithin p w)
+    → length c ≤ most_sent → length s ≤ most_sent → IsWithin p w)
     × ((packets : List Packet) (side : Side) (sent others : List FirstCopy) → Sent p packets side sent → Sent p packets side others → length sent < 2 ^ 32 → sent ≡ others)
 
 -- ---- 2. definite faults

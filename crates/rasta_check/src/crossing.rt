@@ -96,7 +96,7 @@ impl<'a> Sent<'a> {
     pub fn packet(&self, place: u32) -> Option<(Side, u32)>
         ensures value { MatchOption result (slice_get self.now.packets place ≡ None)
             (λ r. (k : Packet) × (d : RedundancyPdu) × (slice_get self.now.packets place ≡ Some k)
-              × Spells self.now.params k.side d k.payload × (r ≡ (k.side, d.number))) }
+            × Spells self.now.params k.side d k.payload × (r ≡ (k.side, d.number))) }
         ensures crossing { IsCrossing self.now }
     {
         match self.packets.get(place as usize) {
@@ -165,7 +165,7 @@ impl<'a> Sent<'a> {
             × Spells self.now.params found.entry.side d found.entry.payload.now) }
         ensures value { MatchResult result
             (λ new. (packet_fault self.now.params (sent_by self.now found.entry.side) (packet_of found.entry) ≡ None)
-              × (sent_behind self.now (packet_of found.entry) ≡ with_new (sent_by self.now found.entry.side) (length self.now.packets) new))
+            × (sent_behind self.now (packet_of found.entry) ≡ with_new (sent_by self.now found.entry.side) (length self.now.packets) new))
             (λ f. packet_fault self.now.params (sent_by self.now found.entry.side) (packet_of found.entry) ≡ Some f) }
     {
         let pdu = match decode(&self.params, found.side, found.payload) {

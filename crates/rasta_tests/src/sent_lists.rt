@@ -79,7 +79,11 @@ fn handshake_is_read(rt: HostRuntime) -> Result<(), Fail> {
     assert_eq!(rt; read.packet(3), None);
     compare(&rt, read.client(), &[(0, 7), (2, 8)])?;
     compare(&rt, read.server(), &[(1, 40)])?;
-    compare(&rt, &DenseList::of(rt.alloc(), read.client())?, &[(0, 7), (2, 8)])?;
+    compare(
+        &rt,
+        &DenseList::of(rt.alloc(), read.client())?,
+        &[(0, 7), (2, 8)],
+    )?;
     compare(&rt, &DenseList::of(rt.alloc(), read.server())?, &[(1, 40)])?;
     Ok(())
 }

@@ -1,5 +1,5 @@
 use Rattle.std.proofs.Common.{◌≡◌, ◌∙◌, ap, sym, inl, inr, ⊎_elim}
-use Rattle.rasta_pcap.specs.Capture.{Cursor, Numbered, behind, moved, reading}
+use Rattle.rasta_pcap.specs.Capture.{Cursor, behind, moved, reading}
 use Rattle.rasta_check.specs.Reading.{Crossing, and_then, after_reading}
 use Rattle.rasta_check.proofs.Readings.{after-end, after-fault, after-record}
 use Rattle.rasta_check.proofs.reading.add_next.Goals as goal

@@ -1,4 +1,4 @@
-use Rattle.std.proofs.Common.{◌≡◌, ◌∙◌, ◌+◌, ◌-◌, ℕ, suc, Ok, ap, sym, inl, inr, ⊎_elim, arith}
+use Rattle.std.proofs.Common.{◌≡◌, ◌∙◌, ◌+◌, ◌-◌, ℕ, Ok, ap, sym, inl, inr, ⊎_elim, arith}
 use Rattle.rasta_pcap.specs.Capture.{reading}
 use Rattle.rasta_check.specs.Reading.{after_reading}
 use Rattle.rasta_check.specs.Packets.{after_next}
@@ -21,12 +21,12 @@ loop-preserved c =
 
 pub returns : goal.returns
 returns c = elim c.loop-test.branch [
-    | else-loop-test w ↦
-        let zero_left : c.args.last - c.loop.counter ≡ 0 = omega (arith, w.loop-test.false) in
-        c.loop.invariant ∙ (ap (λ n. after_reading c.loop.sent (reading n c.loop.pcap)) zero_left ∙ (after-none_left c.loop.sent c.loop.pcap ∙ ap Ok (sym w.sent-is)))
-    | then-loop-test+in-Ok-false w ↦
-        let more : ℕ = c.args.last - (c.loop.counter + 1) in
-        let left = c.loop.invariant ∙ ap (λ n. after_reading c.loop.sent (reading n c.loop.pcap)) (left-behind c.args.last c.loop.counter w.loop-test.true) in
-        left ∙ (w.in-Ok-false.ensures more
-        ∙ (ap (λ b. after_next b w.add_next.new.sent (reading more w.add_next.new.pcap)) w.in-Ok-false.field-0-test ∙ ap Ok (sym w.sent-is)))
-  ]
+  | else-loop-test w ↦
+      let zero_left : c.args.last - c.loop.counter ≡ 0 = omega (arith, w.loop-test.false) in
+      c.loop.invariant ∙ (ap (λ n. after_reading c.loop.sent (reading n c.loop.pcap)) zero_left ∙ (after-none_left c.loop.sent c.loop.pcap ∙ ap Ok (sym w.sent-is)))
+  | then-loop-test+in-Ok-false w ↦
+      let more : ℕ = c.args.last - (c.loop.counter + 1) in
+      let left = c.loop.invariant ∙ ap (λ n. after_reading c.loop.sent (reading n c.loop.pcap)) (left-behind c.args.last c.loop.counter w.loop-test.true) in
+      left ∙ (w.in-Ok-false.ensures more
+      ∙ (ap (λ b. after_next b w.add_next.new.sent (reading more w.add_next.new.pcap)) w.in-Ok-false.field-0-test ∙ ap Ok (sym w.sent-is)))
+]

@@ -1,4 +1,4 @@
-use Rattle.std.proofs.Common.{◌≡◌, ℕ, List, Ok, Some, None, ap, sym, ◌∙◌, if◌then◌else◌}
+use Rattle.std.proofs.Common.{◌≡◌, Ok, Some, None, ap, sym, ◌∙◌, if◌then◌else◌}
 use Rattle.std.specs.Option.{option_map}
 use Rattle.rasta_udp.specs.Frame.{packet_of}
 use Rattle.rasta_pdu.specs.Pdu.{decode_of, value_of}

@@ -1,11 +1,11 @@
-use Rattle.std.proofs.Common.{◌≡◌, ℕ, ◌≤◌, ◌<◌, List, map, length, Some, None, slice_get, ap, sym, ◌∙◌, subst, arith}
+use Rattle.std.proofs.Common.{◌≡◌, ℕ, ◌<◌, List, map, length, Some, None, slice_get, ap, sym, ◌∙◌, subst, arith}
 use Rattle.std.specs.Option.{option_map}
 use Rattle.std.proofs.lemmas.List.{length-map}
 use Rattle.std.proofs.lemmas.Option.{slice_get-map, slice_get-get_or, slice_get_past}
 use Rattle.rasta_udp.specs.declared.channel.Datagram.{Datagram}
-use Rattle.rasta_udp.specs.Frame.{Packet, packet_of}
+use Rattle.rasta_udp.specs.Frame.{packet_of}
 use Rattle.rasta_check.specs.Crossing.{Spells}
-use Rattle.rasta_check.specs.Reading.{Crossing, IsCrossing}
+use Rattle.rasta_check.specs.Reading.{Crossing}
 use Rattle.rasta_check.proofs.Crossings.{spelled_at, number_spelled, length_spelled}
 use Rattle.rasta_check.proofs.crossing.Sent.packet.Goals as goal
 
@@ -32,11 +32,13 @@ returns-in-Some-clause-value c =
     let k : Crossing = record { params = old.params; packets = map packet_of old.packets.items; client = old.client; server = old.server } in
     let there = seen old.packets.items lent c.args.place x x c.deref.ensures.value look.3.0 (slice_get-get_or lent c.args.place x look.3.0 ∙ ap Some (sym look.1)) in
     let w = spelled_at k c.args.place (packet_of x) c.self.invariant there in
-    let number = c.number_in.ensures ∙ number_spelled k.params x.side w.0 x.payload.now w.1 in
-    (packet_of x, w.0,
-     subst (λ (q : Crossing). slice_get q.packets c.args.place ≡ Some (packet_of x)) c.self.view_is there,
-     subst (λ (q : Crossing). Spells q.params x.side w.0 x.payload.now) c.self.view_is w.1,
-     (λ i. (x.side, number i)))
+    let number = c.number_in.ensures ∙ number_spelled k.params x.side w.0 x.payload.now w.1 in (
+      packet_of x,
+      w.0,
+      subst (λ (q : Crossing). slice_get q.packets c.args.place ≡ Some (packet_of x)) c.self.view_is there,
+      subst (λ (q : Crossing). Spells q.params x.side w.0 x.payload.now) c.self.view_is w.1,
+      (λ i. (x.side, number i)),
+    )
 
 pub returns-in-None-clause-value : goal.returns-in-None-clause-value
 returns-in-None-clause-value c =

@@ -1,7 +1,7 @@
-use Rattle.std.proofs.Common.{◌≡◌, ℕ, List, [], ◌∷◌, ◌++◌, Option, Some, None, length, map, ap, sym, ◌∙◌, subst, arith}
+use Rattle.std.proofs.Common.{◌≡◌, List, [], ◌∷◌, ◌++◌, Option, length, map, ap, sym, ◌∙◌, subst, arith}
 use Rattle.std.proofs.lemmas.List.{map-append, length-map}
 use Rattle.rasta_udp.specs.declared.channel.Datagram.{Datagram}
-use Rattle.rasta_udp.specs.Frame.{packet_of, Packet}
+use Rattle.rasta_udp.specs.Frame.{packet_of}
 use Rattle.rasta_pdu.specs.declared.pdu.Pdu.{Pdu}
 use Rattle.rasta_check.specs.declared.crossing.Sent.TheInside.{Inside}
 use Rattle.rasta_check.specs.Packets.{with_new}
