@@ -9,4 +9,3 @@ mod ends;
 mod lines;
 #[cfg(test)]
 mod model;
-mod sent_lists;
