@@ -10,6 +10,7 @@ mod map_list;
 mod place_table;
 pub mod plain;
 mod reading;
+mod report;
 mod sent_list;
 
 pub use crossing::Sent;
@@ -17,4 +18,5 @@ pub use dense_list::DenseList;
 pub use map_list::MapList;
 pub use rasta_pcap::{Fault, Side, Sink, Source};
 pub use reading::sent;
+pub use report::{Report, Taken, TakenList};
 pub use sent_list::SentList;
