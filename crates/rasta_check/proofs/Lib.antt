@@ -46,3 +46,4 @@ pub mod Refusing
 pub mod Crossings
 pub mod Readings
 pub mod Plainly
+pub mod Worked

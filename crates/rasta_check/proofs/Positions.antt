@@ -206,3 +206,7 @@ take_one_more zero [] c g = absurd (cc)
 take_one_more zero (x ∷ xs) c g = (let same : x ≡ c = cc in ap (λ (y : FirstCopy). y ∷ []) (sym same))
 take_one_more (suc i) [] c g = absurd (cc)
 take_one_more (suc i) (x ∷ xs) c g = ap (λ (ys : List FirstCopy). x ∷ ys) (take_one_more i xs c g) ∙ (let e : suc (i + 1) ≡ suc i + 1 = omega arith in ap (λ n. take n (x ∷ xs)) e)
+
+-- a position within a list has a member
+pub none_within : (xs : List FirstCopy) (i : ℕ) → i < length xs → None ≡ slice_get xs i → ⊥
+none_within xs i l e = (let g = slice_get_some xs i l in let h = g.1 in cc)

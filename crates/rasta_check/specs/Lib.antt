@@ -12,3 +12,4 @@ pub mod Reading
 pub mod Packets
 pub mod Plain
 pub mod Report
+pub mod Listing

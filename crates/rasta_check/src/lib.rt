@@ -12,6 +12,7 @@ pub mod plain;
 mod reading;
 mod report;
 mod sent_list;
+mod surely_taken;
 
 pub use crossing::Sent;
 pub use dense_list::DenseList;

@@ -33,6 +33,12 @@ impl<'a> Model for TakenList<'a> {
 }
 
 impl<'a> TakenList<'a> {
+    pub(crate) fn of(items: Vec<Taken<'a>>) -> TakenList<'a>
+        ensures { result ≡ map listed_of items.entry.items }
+    {
+        TakenList { items }
+    }
+
     /// The messages.
     pub fn as_slice(&self) -> &[Taken<'a>]
         ensures { map listed_of result.now ≡ self.now }

@@ -3,11 +3,14 @@ ghost use Rattle.std.specs.Prelude.{◌≡◌, ◌≤◌, ◌<◌, ◌+◌, ◌^
 ghost use Rattle.rasta_pcap.specs.declared.fault.Side.TheVariants.{Client, Server};
 ghost use Rattle.rasta_end.specs.declared.phase.Phase.TheVariants.{Closed, Down};
 ghost use Rattle.rasta_end.specs.State;
+ghost use Rattle.rasta_end.specs.State.{first_sn, kinds};
+ghost use Rattle.rasta_end.specs.Units.{units_conveyed};
 ghost use Rattle.rasta_end.specs.Starts;
 ghost use Rattle.rasta_end.specs.Starts.{fresh_end, quiet_end, start_of};
 ghost use Rattle.rasta_end.specs.Kept.{quiet_made};
 ghost use Rattle.rasta_end.specs.Judged.{safety_of, JudgedEnd};
 
+use crate::deadline::ahead_by;
 use crate::owed::Owes;
 use crate::own::{Own, QuietPdu};
 use crate::phase::Phase;
@@ -201,6 +204,13 @@ impl<'a> End<'a> {
         ensures bound { result ≤ self.now.state.offered + 2 }
     {
         self.owes.len()
+    }
+
+    /// How many units were conveyed through the own position that has this SN, 0 where none has it.
+    pub fn units_confirmed(&self, sn: u32) -> usize
+        ensures { result ≡ units_conveyed self.now.state.asks (kinds self.now.state.made) (State.ahead_by sn (first_sn self.now.state.made)) }
+    {
+        self.own.units_through(ahead_by(sn, self.own.first_sn()) as usize)
     }
 
     /// The data and retransmitted data whose units were handed up, in order.

@@ -103,7 +103,8 @@ impl<'a> Own<'a> {
         self.made.len()
     }
 
-    fn first_sn(&self) -> u32
+    /// The SN of the first PDU, 0 where there is none.
+    pub fn first_sn(&self) -> u32
         ensures { result ≡ State.first_sn self.now.made }
     {
         match (&self.quiet, self.made.first()) {

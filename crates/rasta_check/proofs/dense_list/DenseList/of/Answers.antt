@@ -2,13 +2,9 @@ use Rattle.std.proofs.Common.{◌≡◌, ℕ, ◌+◌, ◌<◌, List, [], ◌∷
 use Rattle.std.specs.Option.{option_map}
 use Rattle.rasta_check.specs.Crossing.{FirstCopy}
 use Rattle.rasta_check.specs.Lists.{IsOrdered, copy_of}
-use Rattle.rasta_check.proofs.Positions.{ordered_take, take_one_more}
-use Rattle.rasta_check.proofs.Scripted.{slice_get_some}
+use Rattle.rasta_check.proofs.Positions.{none_within, ordered_take, take_one_more}
 use Rattle.rasta_check.proofs.dense_list.DenseList.of.Goals as goal
 use Rattle.rasta_check.proofs.dense_list.DenseList.of.Goals.{in-Some+in_ok-push, in_default}
-
-none_within : (xs : List FirstCopy) (i : ℕ) → i < length xs → None ≡ slice_get xs i → ⊥
-none_within xs i l e = (let g = slice_get_some xs i l in let h = g.1 in cc)
 
 pub push-requires : goal.push-requires
 push-requires g c =

@@ -1,0 +1,25 @@
+use Rattle.std.proofs.Common.{◌≡◌, ◌+◌, ◌++◌, ◌∷◌, ◌∙◌, List, Some, None, ap, sym, length, map, true, false}
+use Rattle.rasta_end.specs.MakeRule.{is_data}
+use Rattle.rasta_check.specs.Crossing.{FirstCopy}
+use Rattle.rasta_check.specs.Lists.{copy_of}
+use Rattle.rasta_check.specs.Taken.{TakenUnit, messages_of_unit, messages_taken}
+use Rattle.rasta_check.specs.Report.{listed_of, numbered_from}
+use Rattle.rasta_check.specs.Listing.{proved_unit, proved_units}
+use Rattle.rasta_check.proofs.Worked.{other_copy, unproved_copy, proved_copy, added_more}
+use Rattle.rasta_check.proofs.surely_taken.add_unit.Goals as goal
+
+pub returns-then-not-is_data : goal.returns-then-not-is_data
+returns-then-not-is_data c copies =
+    ap (λ (us : List TakenUnit). map listed_of c.args.items.now.items ++ numbered_from (length c.args.items.now.items) (messages_taken us))
+    (sym (other_copy c.args.proofs.now c.args.unit (copy_of (c.args.place, c.args.pdu.now)) copies (ap is_data (sym c.kind.ensures) ∙ (sym c.is_data.ensures ∙ c.if-not-is_data.true))))
+
+pub returns-in_ok-add_messages-in-Some : goal.returns-in_ok-add_messages-in-Some
+returns-in_ok-add_messages-in-Some c copies =
+    added_more c.args.items.now.items c.add_messages.new.items.items (messages_of_unit (proved_unit (copy_of (c.args.place, c.args.pdu.now)) c.in-Some.proof)) (messages_taken (proved_units c.args.proofs.now (c.args.unit + 1) copies)) c.in_ok-add_messages-in-Some.ensures
+    ∙ ap (λ (us : List TakenUnit). map listed_of c.args.items.now.items ++ numbered_from (length c.args.items.now.items) (messages_taken us))
+    (sym (proved_copy c.args.proofs.now c.args.unit c.in-Some.proof (copy_of (c.args.place, c.args.pdu.now)) copies (ap is_data (sym c.kind.ensures) ∙ (sym c.is_data.ensures ∙ c.if-not-is_data.false)) (sym c.proof_at.ensures ∙ c.in-Some.is)))
+
+pub returns-in-None : goal.returns-in-None
+returns-in-None c copies =
+    ap (λ (us : List TakenUnit). map listed_of c.args.items.now.items ++ numbered_from (length c.args.items.now.items) (messages_taken us))
+    (sym (unproved_copy c.args.proofs.now c.args.unit (copy_of (c.args.place, c.args.pdu.now)) copies (sym c.proof_at.ensures ∙ c.in-None.is)))
