@@ -47,3 +47,4 @@ pub mod Crossings
 pub mod Readings
 pub mod Plainly
 pub mod Worked
+pub mod Reported
