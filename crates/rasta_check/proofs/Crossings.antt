@@ -20,7 +20,7 @@ use Rattle.rasta_pdu.proofs.Spellings.{decode_of-Ok}
 use Rattle.rasta_end.specs.State.{wrapped}
 use Rattle.rasta_check.specs.Crossing.{FirstCopy, Spells, copy_with, is_next_number, number_fault, read_fault, packet_fault}
 use Rattle.rasta_check.specs.Theorem.{most_packets}
-use Rattle.rasta_check.specs.World.{most_sent}
+use Rattle.rasta_check.specs.World.{IsRecorded, most_sent}
 use Rattle.rasta_check.specs.Packets.{with_new, number_in_bytes}
 use Rattle.rasta_check.specs.Lists.{copy_of}
 use Rattle.rasta_pdu.specs.declared.pdu.Pdu.{Pdu}
@@ -31,6 +31,7 @@ use Rattle.rasta_check.proofs.Sending.{sent_copy, sent_first, sent_other, earlie
 use Rattle.rasta_check.proofs.Following.{first_number, numbers_from, next_from}
 use Rattle.std.proofs.lemmas.Bool.Decides.{nat_tests}
 use Rattle.rasta_check.proofs.Faults.{copy_found, passed}
+use Rattle.rasta_check.proofs.Channels.{recorded_more}
 
 next_of : (os : List FirstCopy) (n : ℕ) → is_next_number os n ≡ true → (c : FirstCopy) → slice_get os 0 ≡ Some c → n ≡ wrapped (c.pdu.number + length os)
 next_of [] n e c g = absurd (cc)
@@ -70,8 +71,8 @@ goes_on p packets own a sent w n =
 -- ---- packets of known numbers
 
 list_of : (k : Crossing) → IsCrossing k → (side : Side) → IsSent k.params k.packets side (sent_by k side)
-list_of k h Client = to_record k.params k.packets Client k.client h.valid h.client
-list_of k h Server = to_record k.params k.packets Server k.server h.valid h.server
+list_of k h Client = to_record k.params k.packets Client k.client h.valid.valid h.client
+list_of k h Server = to_record k.params k.packets Server k.server h.valid.valid h.server
 
 few_of : (k : Crossing) → IsCrossing k → (side : Side) → length (sent_by k side) ≤ 1000000
 few_of k h Client = h.few_client
@@ -125,22 +126,24 @@ within_packets k e = (grind (arith, nat_tests), grind (arith, nat_tests), grind 
 client_not_server : Client ≡ Server → ⊥
 client_not_server e = cc
 
-grown_at : (k : Crossing) (a : Packet) (side : Side) (sent : List FirstCopy) → a.side ≡ side → IsCrossing k → IsSent k.params (k.packets ++ a ∷ []) side sent
+grown_at : (k : Crossing) (a : Packet) (side : Side) (sent : List FirstCopy) → a.side ≡ side → IsCrossing k → IsRecorded k.params a.channel → IsSent k.params (k.packets ++ a ∷ []) side sent
     → is_within (crossing_with k a side sent) ≡ true → IsCrossing (crossing_with k a side sent)
-grown_at k a Client sent e h s within =
+grown_at k a Client sent e h on s within =
     let w = within_packets (crossing_with k a Client sent) within in
     record {
       valid = h.valid;
+      recorded = recorded_more k.params k.packets a h.recorded on;
       client = of_record k.params (k.packets ++ a ∷ []) Client sent s (let z = w.1 in omega arith);
       server = of_record k.params (k.packets ++ a ∷ []) Server k.server (sent_other k.params k.packets a Server k.server (list_of k h Server) (λ f. client_not_server (sym e ∙ f))) (let z = w.2 in omega arith);
       few_packets = w.0;
       few_client = w.1;
       few_server = w.2;
     }
-grown_at k a Server sent e h s within =
+grown_at k a Server sent e h on s within =
     let w = within_packets (crossing_with k a Server sent) within in
     record {
       valid = h.valid;
+      recorded = recorded_more k.params k.packets a h.recorded on;
       client = of_record k.params (k.packets ++ a ∷ []) Client k.client (sent_other k.params k.packets a Client k.client (list_of k h Client) (λ f. client_not_server (sym f ∙ e))) (let z = w.1 in omega arith);
       server = of_record k.params (k.packets ++ a ∷ []) Server sent s (let z = w.2 in omega arith);
       few_packets = w.0;
@@ -148,8 +151,8 @@ grown_at k a Server sent e h s within =
       few_server = w.2;
     }
 
-pub grown_crossing : (k : Crossing) (a : Packet) → IsCrossing k → IsRead k.params a → packet_fault k.params (sent_by k a.side) a ≡ None → is_within (with_packet k a) ≡ true → IsCrossing (with_packet k a)
-grown_crossing k a h are n within = grown_at k a a.side (sent_behind k a) refl h (goes_on k.params k.packets (sent_by k a.side) a (list_of k h a.side) are n) within
+pub grown_crossing : (k : Crossing) (a : Packet) → IsCrossing k → IsRecorded k.params a.channel → IsRead k.params a → packet_fault k.params (sent_by k a.side) a ≡ None → is_within (with_packet k a) ≡ true → IsCrossing (with_packet k a)
+grown_crossing k a h on are n within = grown_at k a a.side (sent_behind k a) refl h on (goes_on k.params k.packets (sent_by k a.side) a (list_of k h a.side) are n) within
 
 -- what the code knows of a packet without a fault
 module _ (k : Crossing) (a : Packet) (new : Option Pdu) (h : IsCrossing k) (behind : sent_behind k a ≡ with_new (sent_by k a.side) (length k.packets) new) where
@@ -162,8 +165,8 @@ module _ (k : Crossing) (a : Packet) (new : Option Pdu) (h : IsCrossing k) (behi
       ∙ (ap (λ (b : Bool). nat_lt (length k.packets) most_packets && (not b || nat_lt (length (sent_by k a.side)) most_sent)) (sym e) ∙ sym f))
 
   pub may_push : (is_new room : Bool) → is_new ≡ is_some new → room ≡ (nat_lt (length k.packets) most_packets && (not is_new || nat_lt (length (sent_by k a.side)) most_sent)) → room ≡ true
-      → IsRead k.params a → packet_fault k.params (sent_by k a.side) a ≡ None → IsCrossing (crossing_with k a a.side (with_new (sent_by k a.side) (length k.packets) new))
-  may_push is_new room e f g are n = subst IsCrossing with_is (grown_crossing k a h are n (within_is is_new room e f ∙ g))
+      → IsRecorded k.params a.channel → IsRead k.params a → packet_fault k.params (sent_by k a.side) a ≡ None → IsCrossing (crossing_with k a a.side (with_new (sent_by k a.side) (length k.packets) new))
+  may_push is_new room e f g on are n = subst IsCrossing with_is (grown_crossing k a h on are n (within_is is_new room e f ∙ g))
 
   pub pushed : (is_new room : Bool) (number : ℕ) → is_new ≡ is_some new → room ≡ (nat_lt (length k.packets) most_packets && (not is_new || nat_lt (length (sent_by k a.side)) most_sent))
       → packet_fault k.params (sent_by k a.side) a ≡ None

@@ -43,6 +43,7 @@ pub mod Pushes
 pub mod Checked
 pub mod Accepting
 pub mod Refusing
+pub mod Channels
 pub mod Crossings
 pub mod Readings
 pub mod Plainly

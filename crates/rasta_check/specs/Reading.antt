@@ -6,11 +6,11 @@ use Rattle.rasta_pcap.specs.declared.fault.Side.TheVariants.{Client, Server}
 use Rattle.rasta_pcap.specs.Fault.{fault_at, fault_of_end, too_many}
 use Rattle.rasta_pcap.specs.Capture.{Numbered, Reading, reading_of}
 use Rattle.rasta_udp.specs.Frame.{Packet, packet_in}
-use Rattle.rasta_pdu.specs.Params.{Parameters, AreParameters}
+use Rattle.rasta_pdu.specs.Params.{Parameters}
 use Rattle.rasta_pdu.specs.Pdu.{RedundancyPdu, decode_of}
-use Rattle.rasta_check.specs.Crossing.{FirstCopy, Sent, copy_with, packet_fault}
+use Rattle.rasta_check.specs.Crossing.{CrossRecorded, FirstCopy, Sent, copy_with, packet_fault}
 use Rattle.rasta_check.specs.World.{most_sent}
-use Rattle.rasta_check.specs.Theorem.{most_packets}
+use Rattle.rasta_check.specs.Theorem.{OfConnection, most_packets}
 
 -- what crossed between ends of these parameters: the packets, and the sent list of each side
 pub record Crossing : Type 0 where
@@ -27,9 +27,10 @@ abbrev pub sent_by : Crossing → Side → List FirstCopy
 sent_by k Client = k.client
 sent_by k Server = k.server
 
--- each side sent its list, without a fault, and all are within the limits
+-- each side sent its list over the channels of a connection, without a fault, and all are within the limits
 pub record IsCrossing (k : Crossing) : Type 0 where
-  pub valid : AreParameters k.params
+  pub valid : OfConnection k.params
+  pub recorded : CrossRecorded k.params k.packets
   pub client : Sent k.params k.packets Client k.client
   pub server : Sent k.params k.packets Server k.server
   pub few_packets : length k.packets ≤ most_packets

@@ -2,14 +2,13 @@
 ghost use Rattle.std.specs.Prelude.{◌≡◌, [], ◌∷◌, ◌++◌, List, map, length, option_map, slice_get, None, Some, Ok, Err, MatchOption, MatchResult, OnOk, OnErr, IfOk, ◌⊎◌};
 ghost use Rattle.rasta_pcap.specs.Fault.{no_memory};
 ghost use Rattle.rasta_udp.specs.Frame.{Packet, packet_in, packet_of};
-ghost use Rattle.rasta_pdu.specs.Params.{AreParameters};
 ghost use Rattle.rasta_check.specs.Crossing.{FirstCopy, Spells, packet_fault};
 ghost use Rattle.rasta_pdu.specs.Pdu.{RedundancyPdu, decode_of};
 ghost use Rattle.rasta_check.specs.Lists.{copy_of};
 ghost use Rattle.rasta_check.specs.Reading.{Crossing, IsCrossing, crossing_with, sent_by, sent_behind, nothing_crossed, after_packet, after_frame, after_record};
 ghost use Rattle.std.specs.Prelude.{◌<◌, ◌≤◌, IfSome, bytes_eq, nat_lt, not, ◌&&◌, ◌||◌};
 ghost use Rattle.rasta_check.specs.Crossing.{is_next_number};
-ghost use Rattle.rasta_check.specs.World.{most_sent};
+ghost use Rattle.rasta_check.specs.World.{IsRecorded, most_sent};
 ghost use Rattle.rasta_check.specs.Theorem.{most_packets};
 ghost use Rattle.rasta_check.specs.Packets.{number_in_bytes, with_new};
 
@@ -65,9 +64,10 @@ impl<'a> Model for Sent<'a> {
 impl<'a> Sent<'a> {
     // Nothing has crossed.
     pub(crate) fn new(alloc: Global, params: Params) -> Sent<'a>
-        requires { AreParameters params }
         ensures { result ≡ nothing_crossed params }
     {
+        // The ids are read, so it is known that they have 32 bits.
+        prove!(params.client_id() != params.server_id());
         Sent {
             params,
             packets: Vec::new(alloc),
@@ -221,6 +221,7 @@ impl<'a> Sent<'a> {
     // Adds the packet of a record.
     #[tactic(auto, unfolding(crate::specs::Reading::after_packet))]
     fn add_packet(&mut self, number: u32, found: Datagram<'a>) -> Result<(), Fault>
+        requires { IsRecorded self.old.params found.channel }
         ensures { MatchResult result
             (λ _. after_packet self.old number (packet_of found.entry) ≡ Ok self.new)
             (λ f. (f ≡ no_memory) ⊎ (after_packet self.old number (packet_of found.entry) ≡ Err f)) }

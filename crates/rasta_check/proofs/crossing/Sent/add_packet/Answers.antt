@@ -15,7 +15,7 @@ returns-then-not-has_room c =
 pub push-requires : goal.push-requires
 push-requires c =
     may_push c.args.self.now (packet_of c.args.found) c.in-Ok.new c.has_room.ensures.crossing c.in-Ok.ensures.value.1
-    c.is_some.result c.has_room.result c.is_some.ensures c.has_room.ensures.value c.if-not-has_room.false c.in-Ok.ensures.spelled c.in-Ok.ensures.value.0
+    c.is_some.result c.has_room.result c.is_some.ensures c.has_room.ensures.value c.if-not-has_room.false c.requires c.in-Ok.ensures.spelled c.in-Ok.ensures.value.0
 
 pub returns-in-Ok-push : goal.returns-in-Ok-push
 returns-in-Ok-push c =
