@@ -49,3 +49,4 @@ pub mod Readings
 pub mod Plainly
 pub mod Worked
 pub mod Reported
+pub mod Joined

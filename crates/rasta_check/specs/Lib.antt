@@ -13,3 +13,4 @@ pub mod Packets
 pub mod Plain
 pub mod Report
 pub mod Listing
+pub mod Headline
