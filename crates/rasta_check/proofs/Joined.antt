@@ -5,7 +5,7 @@ use Rattle.rasta_pdu.specs.Pdu.{SafetyPdu, messages_in}
 use Rattle.rasta_end.specs.State.{EndState}
 use Rattle.rasta_check.specs.Taken.{TakenUnit, TakenMessage, messages_of_unit, messages_taken}
 use Rattle.rasta_check.specs.Theorem.{messages_handed, messages_listed}
-use Rattle.rasta_check.specs.Report.{ListedMessage, numbered_from}
+use Rattle.rasta_check.specs.Listed.{ListedMessage, numbered_from}
 use Rattle.rasta_check.specs.Headline.{messages_up, messages_in_list}
 use Rattle.rasta_check.proofs.Lists.{get_front}
 

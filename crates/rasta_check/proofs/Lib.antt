@@ -50,3 +50,4 @@ pub mod Plainly
 pub mod Worked
 pub mod Reported
 pub mod Joined
+pub mod Headlined

@@ -24,15 +24,20 @@ module _ (p : Parameters) (ws : List World) (w : World) (c s : List FirstCopy) (
   pub server_first : (rest : List (List (List ℕ))) × (messages_handed w.server.state ≡ messages_listed (surely_taken p Client c s) ++ rest)
   server_first = listed_first p Client w.server.state w.client.state c s kn.sends.same (of_units w.server.state w.client.state server_hands_up) kn.taken
 
-  pub server_in_time : (i : ℕ) (u : TakenUnit) (v next : World) → slice_get (surely_taken p Client c s) i ≡ Some u → Appends ws w u.proof_place v next → HasHandedUp v.server.state i u.messages
-  server_in_time i u v next g a =
+  -- with a unit those in front of it were handed up
+  pub server_in_time_through : (i j : ℕ) (u t : TakenUnit) (v next : World) → j ≤ i → slice_get (surely_taken p Client c s) i ≡ Some u → slice_get (surely_taken p Client c s) j ≡ Some t
+      → Appends ws w u.proof_place v next → HasHandedUp v.server.state j t.messages
+  server_in_time_through i j u t v next low g gt a =
       let below = listed_below p Client w.server.state w.client.state c s kn.sends.same (of_units w.server.state w.client.state server_hands_up) i u g in
       let shown = proof_of (all_made p Client c) s i below.0 in
-      let t = (timed p ws w c s r hc hs lc ls shown.j shown.d v next (subst (λ k. Appends ws w k v next) (below.1 ∙ shown.place) a)).0 shown.there in
+      let z = (timed p ws w c s r hc hs lc ls shown.j shown.d v next (subst (λ k. Appends ws w k v next) (below.1 ∙ shown.place) a)).0 shown.there in
       let more = shown.more in
       let before = earlier p ws w c s r hc hs lc ls a.i v a.here in
       let h : HandsUpData v.server.state w.client.state = data_grown v.server.state v.client.state w.client.state before.client.made (of_units v.server.state v.client.state (hands_up_units v.server.state v.client.state before.all.values before.all.their_up)) in
-      unit_handed p Client v.server.state w.client.state c s kn.sends.same h i u (omega arith) g
+      unit_handed p Client v.server.state w.client.state c s kn.sends.same h j t (omega (arith, z, more, low)) gt
+
+  pub server_in_time : (i : ℕ) (u : TakenUnit) (v next : World) → slice_get (surely_taken p Client c s) i ≡ Some u → Appends ws w u.proof_place v next → HasHandedUp v.server.state i u.messages
+  server_in_time i u v next g a = server_in_time_through i i u u v next (omega arith) g g a
 
   -- what the client took
   pub client_hands_up : HandsUpUnits w.client.state w.server.state
@@ -41,12 +46,16 @@ module _ (p : Parameters) (ws : List World) (w : World) (c s : List FirstCopy) (
   pub client_first : (rest : List (List (List ℕ))) × (messages_handed w.client.state ≡ messages_listed (surely_taken p Server s c) ++ rest)
   client_first = listed_first p Server w.client.state w.server.state s c kn.their_sends.same (of_units w.client.state w.server.state client_hands_up) kn.their_taken
 
-  pub client_in_time : (i : ℕ) (u : TakenUnit) (v next : World) → slice_get (surely_taken p Server s c) i ≡ Some u → Appends ws w u.proof_place v next → HasHandedUp v.client.state i u.messages
-  client_in_time i u v next g a =
+  pub client_in_time_through : (i j : ℕ) (u t : TakenUnit) (v next : World) → j ≤ i → slice_get (surely_taken p Server s c) i ≡ Some u → slice_get (surely_taken p Server s c) j ≡ Some t
+      → Appends ws w u.proof_place v next → HasHandedUp v.client.state j t.messages
+  client_in_time_through i j u t v next low g gt a =
       let below = listed_below p Server w.client.state w.server.state s c kn.their_sends.same (of_units w.client.state w.server.state client_hands_up) i u g in
       let shown = proof_of (all_made p Server s) c i below.0 in
-      let t = (timed p ws w c s r hc hs lc ls shown.j shown.d v next (subst (λ k. Appends ws w k v next) (below.1 ∙ shown.place) a)).1 shown.there in
+      let z = (timed p ws w c s r hc hs lc ls shown.j shown.d v next (subst (λ k. Appends ws w k v next) (below.1 ∙ shown.place) a)).1 shown.there in
       let more = shown.more in
       let before = earlier p ws w c s r hc hs lc ls a.i v a.here in
       let h : HandsUpData v.client.state w.server.state = data_grown v.client.state v.server.state w.server.state before.server.made (of_units v.client.state v.server.state (hands_up_units v.client.state v.server.state before.all.their_values before.all.up)) in
-      unit_handed p Server v.client.state w.server.state s c kn.their_sends.same h i u (omega arith) g
+      unit_handed p Server v.client.state w.server.state s c kn.their_sends.same h j t (omega (arith, z, more, low)) gt
+
+  pub client_in_time : (i : ℕ) (u : TakenUnit) (v next : World) → slice_get (surely_taken p Server s c) i ≡ Some u → Appends ws w u.proof_place v next → HasHandedUp v.client.state i u.messages
+  client_in_time i u v next g a = client_in_time_through i i u u v next (omega arith) g g a

@@ -90,7 +90,7 @@ at_distance (x ∷ ms) sn zero m h f l g d =
 at_distance (x ∷ ms) sn (suc i) m h f l g d = (let a : m.pdu.sn ≡ (x.pdu.sn + suc i) % 2 ^ 32 = h i m g in omega arith)
 
 -- the units at the position that a CS names are those at its distance
-units_named : (ms : List Made) (vs : List ℕ) (cs : ℕ) → Numbered ms → length ms ≤ 1000001 → length vs ≡ length ms → first_sn ms < 2 ^ 32 → cs < 2 ^ 32
+pub units_named : (ms : List Made) (vs : List ℕ) (cs : ℕ) → Numbered ms → length ms ≤ 1000001 → length vs ≡ length ms → first_sn ms < 2 ^ 32 → cs < 2 ^ 32
     → slice_index_or vs (ahead_by cs (first_sn ms)) 0 ≡ units_at vs (position_with (pdus_made ms) cs)
 units_named ms vs cs h b l f small = by (position_with (pdus_made ms) cs) refl
   where
@@ -106,7 +106,7 @@ units_named ms vs cs h b l f small = by (position_with (pdus_made ms) cs) refl
     by (Some i) e = ap (λ k. slice_index_or vs k 0) (distance ms cs i h b (has ms cs i e)) ∙ ap (units_at vs) (sym e)
 
 -- the first SN of what an end made has 32 bits
-first_small : (q : Option Quiet) (s : Side) (ms : List Made) (own : List FirstCopy) → pdus_made ms ≡ pdus_made (start_by q s).made ++ pdus_of own
+pub first_small : (q : Option Quiet) (s : Side) (ms : List Made) (own : List FirstCopy) → pdus_made ms ≡ pdus_made (start_by q s).made ++ pdus_of own
     → ((i : ℕ) (c : FirstCopy) → slice_get own i ≡ Some c → c.pdu.safety.sn < 2 ^ 32) → first_sn ms < 2 ^ 32
 first_small q s [] own e h = omega arith
 first_small q s (m ∷ ms) own e h = (let z = head q s own e h in omega arith)

@@ -9,7 +9,7 @@ use Rattle.rasta_end.specs.MakeRule.{is_data}
 use Rattle.rasta_check.specs.Crossing.{FirstCopy}
 use Rattle.rasta_check.specs.declared.report.Taken.{Taken}
 use Rattle.rasta_check.specs.Taken.{TakenMessage, TakenUnit, messages_of_unit, messages_taken}
-use Rattle.rasta_check.specs.Report.{ListedMessage, listed_of, numbered_from}
+use Rattle.rasta_check.specs.Listed.{ListedMessage, listed_of, numbered_from}
 use Rattle.rasta_check.specs.Listing.{shown_by, with_proofs, proofs_from, proved_unit, with_unit, proved_units}
 
 -- ---- what is left of a list

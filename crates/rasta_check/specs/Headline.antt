@@ -9,7 +9,8 @@ use Rattle.rasta_pdu.specs.Pdu.{SafetyPdu, messages_in}
 use Rattle.rasta_end.specs.State.{EndState}
 use Rattle.rasta_check.specs.World.{World, Reaches}
 use Rattle.rasta_check.specs.Theorem.{other_side, end_of, Appends, HandsUpUnits}
-use Rattle.rasta_check.specs.Report.{ListedMessage, Explained}
+use Rattle.rasta_check.specs.Listed.{ListedMessage}
+use Rattle.rasta_check.specs.Report.{Explained}
 
 -- the messages that an end handed up, in order
 abbrev pub messages_up : EndState → List (List ℕ)

@@ -11,6 +11,7 @@ pub mod Checking
 pub mod Reading
 pub mod Packets
 pub mod Plain
+pub mod Listed
 pub mod Report
 pub mod Listing
 pub mod Headline

@@ -6,7 +6,7 @@ use Rattle.rasta_end.specs.Units.{units_conveyed}
 use Rattle.rasta_end.specs.MakeRule.{is_data, is_connection_request}
 use Rattle.rasta_check.specs.Crossing.{FirstCopy}
 use Rattle.rasta_check.specs.Taken.{TakenUnit, messages_taken}
-use Rattle.rasta_check.specs.Report.{ListedMessage, numbered_from}
+use Rattle.rasta_check.specs.Listed.{ListedMessage, numbered_from}
 
 -- the units that a PDU of the peer shows, by what this end made
 abbrev pub shown_by : EndState → SafetyPdu → ℕ

@@ -1,31 +1,16 @@
 -- What the checker answers: the report on two sent lists, or the first fault of a script.
-use Rattle.std.specs.Prelude.{ℕ, suc, List, [], ◌∷◌, map, Result, Ok, Err}
+use Rattle.std.specs.Prelude.{ℕ, List, Result, Ok, Err}
 use Rattle.rasta_pcap.specs.declared.fault.Fault.{Fault}
 use Rattle.rasta_pcap.specs.declared.fault.Side.{Side}
 use Rattle.rasta_pcap.specs.declared.fault.Side.TheVariants.{Client, Server}
 use Rattle.rasta_pdu.specs.Params.{Parameters}
 use Rattle.rasta_cert.specs.Certificate.{Scripts}
 use Rattle.rasta_end.specs.State.{EndState}
-use Rattle.rasta_check.specs.declared.report.Taken.{Taken}
+use Rattle.rasta_check.specs.declared.report.Report.{Report}
 use Rattle.rasta_check.specs.Crossing.{FirstCopy}
-use Rattle.rasta_check.specs.Taken.{TakenMessage, surely_taken, messages_taken}
+use Rattle.rasta_check.specs.Listed.{ListedMessage, listed}
+use Rattle.rasta_check.specs.Scripts.{Fits}
 use Rattle.rasta_check.specs.Checking.{follow}
-
--- a message that a report lists as taken: its number in the list, the places of its data PDU and of its proof, and its bytes
-pub record ListedMessage : Type 0 where
-  pub number : ℕ
-  pub data_place : ℕ
-  pub proof_place : ℕ
-  pub message : List ℕ
-
--- these messages with their numbers, from this one on
-abbrev pub numbered_from : ℕ → List TakenMessage → List ListedMessage
-numbered_from n [] = []
-numbered_from n (m ∷ ms) = record { number = n; data_place = m.data_place; proof_place = m.proof_place; message = m.message } ∷ numbered_from (suc n) ms
-
--- the messages of this side that its peer surely took, as a report lists them: in order, numbered from 0
-abbrev pub listed : Parameters → Side → List FirstCopy → List FirstCopy → List ListedMessage
-listed p side own peer = numbered_from 0 (messages_taken (surely_taken p side own peer))
 
 -- how many packets crossed, and what each side took of its peer
 pub record Explained : Type 0 where
@@ -47,6 +32,11 @@ verdict_of p packets c s scripts =
     where_followed (follow p Client packets c s scripts.client)
     (where_followed (follow p Server packets s c scripts.server) (Ok (report_of p packets c s)))
 
--- what a member of a report's list says
-abbrev pub listed_of : Taken → ListedMessage
-listed_of t = record { number = t.message; data_place = t.data_index; proof_place = t.proof_index; message = t.bytes.now }
+-- both scripts fit
+abbrev pub BothFit : Parameters → ℕ → List FirstCopy → List FirstCopy → Scripts → Type 0
+BothFit p packets c s scripts =
+    ((a : EndState) × Fits p Client packets c s scripts.client a) × ((b : EndState) × Fits p Server packets s c scripts.server b)
+
+-- what a report says
+abbrev pub explained : Report → Explained
+explained r = record { packets = r.packets; client_taken = r.client_taken; server_taken = r.server_taken }

@@ -5,7 +5,7 @@ ghost use Rattle.rasta_end.specs.MakeRule;
 ghost use Rattle.rasta_check.specs.Crossing.{FirstCopy};
 ghost use Rattle.rasta_check.specs.Lists.{copy_of};
 ghost use Rattle.rasta_check.specs.Taken.{messages_of_unit, messages_taken};
-ghost use Rattle.rasta_check.specs.Report.{listed_of, numbered_from};
+ghost use Rattle.rasta_check.specs.Listed.{listed_of, numbered_from};
 ghost use Rattle.rasta_check.specs.Listing.{listed_by, proofs_from, proved_units, shown_by, with_proofs};
 
 use crate::report::{Taken, TakenList};

@@ -3,7 +3,7 @@ use Rattle.rasta_end.specs.MakeRule.{is_data}
 use Rattle.rasta_check.specs.Crossing.{FirstCopy}
 use Rattle.rasta_check.specs.Lists.{copy_of}
 use Rattle.rasta_check.specs.Taken.{TakenUnit, messages_of_unit, messages_taken}
-use Rattle.rasta_check.specs.Report.{listed_of, numbered_from}
+use Rattle.rasta_check.specs.Listed.{listed_of, numbered_from}
 use Rattle.rasta_check.specs.Listing.{proved_unit, proved_units}
 use Rattle.rasta_check.proofs.Worked.{other_copy, unproved_copy, proved_copy, added_more}
 use Rattle.rasta_check.proofs.surely_taken.add_unit.Goals as goal
