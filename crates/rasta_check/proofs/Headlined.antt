@@ -108,6 +108,17 @@ module _ (p : Parameters) (packets : List Packet) (c s : List FirstCopy) (h : Is
       (ap (λ (x : EndState). listed_by x s c) (sym r.5) ∙ list_by r.0 r.1 r.2 r.3 Server s c r.1.server.state (by_client r.0 r.1 r.2 r.3),
         ap (λ (x : EndState). listed_by x c s) (sym r.4) ∙ list_by r.0 r.1 r.2 r.3 Client c s r.1.client.state (by_server r.0 r.1 r.2 r.3))
 
+  -- the report that is worked out from both ends is the verdict
+  pub verdict_of_ends : (scripts : Scripts) (n : ℕ) (cs ss : List Entry) (a b : EndState) (report : Explained) → length packets ≡ n → cs ≡ scripts.client → ss ≡ scripts.server
+      → follow p Client n c s cs ≡ Ok a → follow p Server n s c ss ≡ Ok b
+      → report ≡ record { packets = n; client_taken = listed_by b s c; server_taken = listed_by a c s } → verdict_of p n c s scripts ≡ Ok report
+  verdict_of_ends scripts n cs ss a b report count same_c same_s e f says =
+      let l = lists_are cs ss a b (subst (λ m. follow p Client m c s cs ≡ Ok a) (sym count) e) (subst (λ m. follow p Server m s c ss ≡ Ok b) (sym count) f) in
+      let a_is = ap (follow p Client n c s) (sym same_c) ∙ e in
+      let b_is = ap (follow p Server n s c) (sym same_s) ∙ f in
+      (λ i. where_followed (a_is i) (where_followed (b_is i) (Ok (report_of p n c s))))
+      ∙ sym (ap Ok (says ∙ (λ i. record { packets = n; client_taken = l.0 i; server_taken = l.1 i })))
+
   module _ (scripts : Scripts) where
     pub verdict_fits : (report : Explained) → verdict_of p (length packets) c s scripts ≡ Ok report → BothFit p (length packets) c s scripts
     verdict_fits report e =

@@ -51,3 +51,4 @@ pub mod Worked
 pub mod Reported
 pub mod Joined
 pub mod Headlined
+pub mod Answering

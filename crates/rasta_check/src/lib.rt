@@ -2,6 +2,7 @@
 //! what they may send, and its laws; and the lists of what each side of a capture sent.
 #![tactic(auto)]
 
+mod checker;
 mod crossing;
 mod dense_list;
 mod follower;
@@ -14,6 +15,7 @@ mod report;
 mod sent_list;
 mod surely_taken;
 
+pub use checker::{check_lists, check_sent};
 pub use crossing::Sent;
 pub use dense_list::DenseList;
 pub use map_list::MapList;

@@ -1,0 +1,152 @@
+//! The checker: it follows a certificate, and never searches.
+ghost use Rattle.std.specs.Prelude.{◌≡◌, ◌⊎◌, length, Ok, Err, IfOk, OnOk, IfErr, MatchResult, List};
+ghost use Rattle.rasta_pcap.specs.Fault.{no_memory};
+ghost use Rattle.rasta_udp.specs.Frame.{Packet};
+ghost use Rattle.rasta_check.specs.Reading.{IsCrossing};
+ghost use Rattle.rasta_check.specs.Listing.{listed_by};
+ghost use Rattle.rasta_check.specs.Report.{BothFit, explained, verdict_of};
+ghost use Rattle.rasta_check.specs.Headline.{Headline, IsSharp};
+
+use crate::crossing::Sent;
+use crate::follower::follow;
+use crate::report::Report;
+use crate::sent_list::SentList;
+use crate::surely_taken::taken_list;
+use rasta_cert::Certificate;
+use rasta_end::End;
+use rasta_pcap::{Fault, Side};
+use rasta_pdu::Params;
+use std::alloc::{AllocError, Global};
+
+// The report on both sent lists, by the ends that their scripts lead to.
+fn report<'a, S: SentList<'a>>(
+    alloc: Global,
+    packets: u32,
+    client: (&S, &End<'a>),
+    server: (&S, &End<'a>),
+) -> Result<Report<'a>, AllocError>
+    ensures { IfOk result (λ r. explained r ≡ record {
+        packets = packets;
+        client_taken = listed_by server.entry.1.now.state (S.content server.entry.0.now) (S.content client.entry.0.now);
+        server_taken = listed_by client.entry.1.now.state (S.content client.entry.0.now) (S.content server.entry.0.now) }) }
+{
+    let client_taken = taken_list(alloc, server.1, server.0, client.0)?;
+    let server_taken = taken_list(alloc, client.1, client.0, server.0)?;
+    Ok(Report {
+        packets,
+        client_taken,
+        server_taken,
+    })
+}
+
+// The verdict over two sent lists.
+fn verdict<'a, S: SentList<'a>>(
+    alloc: Global,
+    p: &Params,
+    packets: u32,
+    client: &S,
+    server: &S,
+    certificate: &Certificate,
+) -> Result<Report<'a>, Fault>
+    requires crossed { (w : List Packet) × (length w ≡ packets)
+        × IsCrossing (record { params = p.now; packets = w; client = S.content client.now; server = S.content server.now }) }
+    ensures { MatchResult result
+        (λ r. verdict_of p.now packets (S.content client.now) (S.content server.now) certificate.now ≡ Ok (explained r))
+        (λ f. (verdict_of p.now packets (S.content client.now) (S.content server.now) certificate.now ≡ Err f) ⊎ (f ≡ no_memory)) }
+{
+    let client_end = follow(
+        alloc,
+        p,
+        Side::Client,
+        packets,
+        client,
+        server,
+        certificate.client(),
+    )?;
+    let server_end = follow(
+        alloc,
+        p,
+        Side::Server,
+        packets,
+        server,
+        client,
+        certificate.server(),
+    )?;
+    match report(alloc, packets, (client, &client_end), (server, &server_end)) {
+        Ok(report) => Ok(report),
+        Err(_) => Err(Fault::at(Fault::NO_MEMORY, 0)),
+    }
+}
+
+/// The report on two sent lists, where the certificate's scripts explain them; else the first fault: the
+/// client's script is followed whole, and then the server's.
+///
+/// A fault names the number of its entry, from 1, and its script's side. For a take it is
+/// [`Fault::SLOT_ORDER`], [`Fault::NOT_YET_CROSSED`], [`Fault::NOT_RISING`] and then one of [`End::take`];
+/// for a make [`Fault::SLOT_ORDER`], [`Fault::NOT_FIRST_COPY`], [`Fault::MAKE_MISSING`] and then one of
+/// [`End::make`]; [`Fault::MAKE_MISSING`] behind the last entry where a first copy is left unmade.
+/// [`Fault::NO_MEMORY`] may stand in place of any answer.
+///
+/// Where this answers a report, some run of two RaSTA ends over a network that loses, repeats, delays and
+/// reorders sends exactly the packets; and in every run that does, the far end handed up, once each and in
+/// order, every message that the report lists as taken.
+pub fn check_lists<'a, S: SentList<'a>>(
+    alloc: Global,
+    p: &Params,
+    packets: u32,
+    client: &S,
+    server: &S,
+    certificate: &Certificate,
+) -> Result<Report<'a>, Fault>
+    // Both are the sent lists of so many packets.
+    requires crossed { (w : List Packet) × (length w ≡ packets)
+        × IsCrossing (record { params = p.now; packets = w; client = S.content client.now; server = S.content server.now }) }
+    // The report, or the first fault.
+    ensures verdict { MatchResult result
+        (λ r. verdict_of p.now packets (S.content client.now) (S.content server.now) certificate.now ≡ Ok (explained r))
+        (λ f. (verdict_of p.now packets (S.content client.now) (S.content server.now) certificate.now ≡ Err f) ⊎ (f ≡ no_memory)) }
+    // A report stands exactly where both scripts fit.
+    ensures fits { OnOk result (BothFit p.now packets (S.content client.now) (S.content server.now) certificate.now) }
+    ensures refused { IfErr result (λ f. (BothFit p.now packets (S.content client.now) (S.content server.now) certificate.now → ⊥) ⊎ (f ≡ no_memory)) }
+    // The headline, for all packets of which these are the sent lists.
+    ensures headline { IfOk result (λ r. (w : List Packet) → length w ≡ packets
+        → IsCrossing (record { params = p.now; packets = w; client = S.content client.now; server = S.content server.now })
+        → Headline p.now w (explained r)) }
+    // No longer list is sure.
+    ensures sharp { IfOk result (λ r. (w : List Packet) → length w ≡ packets
+        → IsCrossing (record { params = p.now; packets = w; client = S.content client.now; server = S.content server.now })
+        → IsSharp p.now w (explained r)) }
+{
+    verdict(alloc, p, packets, client, server, certificate)
+}
+
+/// The report on what crossed, where the certificate's scripts explain it; else the first fault, as of
+/// [`check_lists`].
+///
+/// Where this answers a report, some run of two RaSTA ends over a network that loses, repeats, delays and
+/// reorders sends exactly the packets; and in every run that does, the far end handed up, once each and in
+/// order, every message that the report lists as taken.
+pub fn check_sent<'a>(
+    alloc: Global,
+    p: &Params,
+    sent: &Sent<'a>,
+    certificate: &Certificate,
+) -> Result<Report<'a>, Fault>
+    requires same { sent.now.params ≡ p.now }
+    ensures verdict { MatchResult result
+        (λ r. verdict_of p.now (length sent.now.packets) sent.now.client sent.now.server certificate.now ≡ Ok (explained r))
+        (λ f. (verdict_of p.now (length sent.now.packets) sent.now.client sent.now.server certificate.now ≡ Err f) ⊎ (f ≡ no_memory)) }
+    ensures fits { OnOk result (BothFit p.now (length sent.now.packets) sent.now.client sent.now.server certificate.now) }
+    ensures refused { IfErr result (λ f. (BothFit p.now (length sent.now.packets) sent.now.client sent.now.server certificate.now → ⊥) ⊎ (f ≡ no_memory)) }
+    ensures headline { IfOk result (λ r. Headline p.now sent.now.packets (explained r)) }
+    ensures sharp { IfOk result (λ r. IsSharp p.now sent.now.packets (explained r)) }
+{
+    check_lists(
+        alloc,
+        p,
+        sent.len(),
+        sent.client(),
+        sent.server(),
+        certificate,
+    )
+}
