@@ -45,5 +45,7 @@ pub mod Accepting
 pub mod Refusing
 pub mod Channels
 pub mod Crossings
+pub mod Kept
 pub mod Readings
+pub mod Verdicts
 pub mod Plainly

@@ -89,7 +89,7 @@ frame_by k number next (Err f) e = absurd (cc)
 abbrev pub packets_in : Parameters → Numbered → List Packet
 packets_in p r = if nat_lt r.0 p.first_record then [] else of_option (found_packet (packet_in p.channels r.1))
 
-record_by : (k : Crossing) (r : Numbered) (next : Crossing) → after_record k r ≡ Ok next → GoesOn k next (packets_in k.params r)
+pub record_by : (k : Crossing) (r : Numbered) (next : Crossing) → after_record k r ≡ Ok next → GoesOn k next (packets_in k.params r)
 unfolding after_record
 record_by k r next e = by (nat_lt r.0 k.params.first_record) e
   where

@@ -11,3 +11,4 @@ pub mod Checking
 pub mod Reading
 pub mod Packets
 pub mod Plain
+pub mod Verdicts
