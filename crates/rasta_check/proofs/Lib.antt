@@ -48,4 +48,5 @@ pub mod Crossings
 pub mod Kept
 pub mod Readings
 pub mod Verdicts
+pub mod Faultless
 pub mod Plainly

@@ -6,6 +6,7 @@ use Rattle.rasta_check.specs.Reading.{Crossing, after_reading, crossing_of}
 use Rattle.rasta_check.specs.Theorem.{OfConnection}
 use Rattle.rasta_check.proofs.Readings.{after-opened, after-refused}
 use Rattle.rasta_check.proofs.Verdicts.{answer_definite, opening_definite}
+use Rattle.rasta_check.proofs.Faultless.{answer_read, answer_only, opening_faulty}
 use Rattle.rasta_check.proofs.reading.sent.Goals as goal
 
 pub returns-in-Ok-clause-value : goal.returns-in-Ok-clause-value
@@ -19,8 +20,21 @@ returns-in-Ok-clause-definite c =
     let h : OfConnection c.args.p = subst (λ (k : Crossing). OfConnection k.params) c.new.ensures.value c.new.ensures.crossing.valid in
     answer_definite c.args.p c.args.file.now c.add_records.result h (record { fits = λ i. omega (arith, c.type_inv.file i) }) (returns-in-Ok-clause-value c)
 
+pub returns-in-Ok-clause-read : goal.returns-in-Ok-clause-read
+returns-in-Ok-clause-read c =
+    let h : OfConnection c.args.p = subst (λ (k : Crossing). OfConnection k.params) c.new.ensures.value c.new.ensures.crossing.valid in
+    answer_read c.args.p c.args.file.now c.add_records.result h (record { fits = λ i. omega (arith, c.type_inv.file i) }) (returns-in-Ok-clause-value c)
+
+pub returns-in-Ok-clause-only : goal.returns-in-Ok-clause-only
+returns-in-Ok-clause-only c =
+    let h : OfConnection c.args.p = subst (λ (k : Crossing). OfConnection k.params) c.new.ensures.value c.new.ensures.crossing.valid in
+    answer_only c.args.p c.args.file.now c.add_records.result h (record { fits = λ i. omega (arith, c.type_inv.file i) }) (returns-in-Ok-clause-value c)
+
 pub returns-in-Err-clause-value : goal.returns-in-Err-clause-value
 returns-in-Err-clause-value c = inr (after-refused c.args.p c.args.file.now c.in-Err.fault (sym c.in-Err.ensures))
 
 pub returns-in-Err-clause-definite : goal.returns-in-Err-clause-definite
 returns-in-Err-clause-definite c = opening_definite c.args.p c.args.file.now c.in-Err.fault (sym c.in-Err.ensures)
+
+pub returns-in-Err-clause-only : goal.returns-in-Err-clause-only
+returns-in-Err-clause-only c = inr (opening_faulty c.args.p c.args.file.now c.in-Err.fault c.last_record-last.ensures.valid (sym c.in-Err.ensures))
