@@ -1,6 +1,6 @@
 -- Packets are found on recorded channels.
 use Rattle.std.proofs.Common.{◌≡◌, ◌⊎◌, ℕ, suc, ◌+◌, ◌-◌, ◌<◌, ◌≤◌, List, [], ◌∷◌, ◌++◌, length, Bool, true, false, cond, if◌then◌else◌, Option, Some, None, is_none, Result, Ok, Err, slice_get, refl, ap, arith, inl, inr, ⊎_elim, subst}
-use Rattle.std.specs.Prelude.{not, ◌||◌, ◌==◌, nat_lt}
+use Rattle.std.specs.Prelude.{slice_range, not, ◌||◌, ◌==◌, nat_lt}
 use Rattle.std.specs.List.{find}
 use Rattle.std.specs.Option.{option_map}
 use Rattle.rasta_pcap.specs.declared.fault.Fault.{Fault}
@@ -89,10 +89,16 @@ datagram_among channels frame d h = by (is_tagged frame) h
     by true e = (let w = moved_by (untagged_of channels (without_tag frame)) 4 d e in subst (λ (n : ℕ). Among 1 (length channels) n) w.2 (found_among channels (fields_of (without_tag frame)) w.0 w.1))
     by false e = found_among channels (fields_of frame) d e
 
-packet_by : (frame : List ℕ) (r : Result (Option Found) Fault) (a : Packet) → map_found (packet_at frame) r ≡ Ok (Some a) → (d : Found) × (r ≡ Ok (Some d)) × (d.channel ≡ a.channel)
+packet_by : (frame : List ℕ) (r : Result (Option Found) Fault) (a : Packet) → map_found (packet_at frame) r ≡ Ok (Some a)
+    → (d : Found) × (r ≡ Ok (Some d)) × (d.channel ≡ a.channel) × (slice_range frame d.start d.end ≡ a.payload)
 packet_by frame (Ok None) a h = absurd (cc)
 packet_by frame (Err fault) a h = absurd (cc)
-packet_by frame (Ok (Some d)) a h = (d, refl, (let same : packet_at frame d ≡ a = cc in ap (λ (y : Packet). y.channel) same))
+packet_by frame (Ok (Some d)) a h = (let same : packet_at frame d ≡ a = cc in (d, refl, ap (λ (y : Packet). y.channel) same, ap (λ (y : Packet). y.payload) same))
+
+-- its payload is a range of the frame
+pub in_range : (channels : List Channel) (frame : List ℕ) (a : Packet) → packet_in channels frame ≡ Ok (Some a) → (start end : ℕ) × (slice_range frame start end ≡ a.payload)
+unfolding packet_in
+in_range channels frame a h = (let w = packet_by frame (datagram_of channels frame) a h in (w.0.start, w.0.end, w.3))
 
 -- the packet that a frame holds was sent on a recorded channel
 pub is_recorded : (p : Parameters) (frame : List ℕ) (a : Packet) → packet_in p.channels frame ≡ Ok (Some a) → IsRecorded p a.channel

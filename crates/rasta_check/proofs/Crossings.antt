@@ -70,11 +70,11 @@ goes_on p packets own a sent w n =
 
 -- ---- packets of known numbers
 
-list_of : (k : Crossing) → IsCrossing k → (side : Side) → IsSent k.params k.packets side (sent_by k side)
+pub list_of : (k : Crossing) → IsCrossing k → (side : Side) → IsSent k.params k.packets side (sent_by k side)
 list_of k h Client = to_record k.params k.packets Client k.client h.valid.valid h.client
 list_of k h Server = to_record k.params k.packets Server k.server h.valid.valid h.server
 
-few_of : (k : Crossing) → IsCrossing k → (side : Side) → length (sent_by k side) ≤ 1000000
+pub few_of : (k : Crossing) → IsCrossing k → (side : Side) → length (sent_by k side) ≤ 1000000
 few_of k h Client = h.few_client
 few_of k h Server = h.few_server
 

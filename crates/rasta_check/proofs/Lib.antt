@@ -45,7 +45,10 @@ pub mod Accepting
 pub mod Refusing
 pub mod Channels
 pub mod Crossings
+pub mod Kept
 pub mod Readings
+pub mod Verdicts
+pub mod Faultless
 pub mod Plainly
 pub mod Worked
 pub mod Reported

@@ -89,7 +89,7 @@ frame_by k number next (Err f) e = absurd (cc)
 abbrev pub packets_in : Parameters → Numbered → List Packet
 packets_in p r = if nat_lt r.0 p.first_record then [] else of_option (found_packet (packet_in p.channels r.1))
 
-record_by : (k : Crossing) (r : Numbered) (next : Crossing) → after_record k r ≡ Ok next → GoesOn k next (packets_in k.params r)
+pub record_by : (k : Crossing) (r : Numbered) (next : Crossing) → after_record k r ≡ Ok next → GoesOn k next (packets_in k.params r)
 unfolding after_record
 record_by k r next e = by (nat_lt r.0 k.params.first_record) e
   where
@@ -101,11 +101,11 @@ record_by k r next e = by (nat_lt r.0 k.params.first_record) e
 abbrev pub all_packets_in : Parameters → List Numbered → List Packet
 all_packets_in p rs = flat_map (packets_in p) rs
 
-then_by : (q : Result Crossing Fault) (f : Crossing → Result Crossing Fault) (last : Crossing) → and_then q f ≡ Ok last → (next : Crossing) × (q ≡ Ok next) × (f next ≡ Ok last)
+pub then_by : (q : Result Crossing Fault) (f : Crossing → Result Crossing Fault) (last : Crossing) → and_then q f ≡ Ok last → (next : Crossing) × (q ≡ Ok next) × (f next ≡ Ok last)
 then_by (Ok next) f last e = (next, refl, e)
 then_by (Err fault) f last e = absurd (cc)
 
-end_by : (k last : Crossing) (o : Option Fault) → at_end k o ≡ Ok last → (o ≡ None) × (k ≡ last)
+pub end_by : (k last : Crossing) (o : Option Fault) → at_end k o ≡ Ok last → (o ≡ None) × (k ≡ last)
 end_by k last None e = (refl, cc)
 end_by k last (Some f) e = absurd (cc)
 
@@ -130,7 +130,7 @@ records_by k last (r ∷ rs) fault e =
 abbrev no_records : List (List ℕ)
 no_records = []
 
-drop_nil : (n : ℕ) → drop n no_records ≡ no_records
+pub drop_nil : (n : ℕ) → drop n no_records ≡ no_records
 drop_nil zero = refl
 drop_nil (suc n) = refl
 

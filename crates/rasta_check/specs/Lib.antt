@@ -15,3 +15,4 @@ pub mod Listed
 pub mod Report
 pub mod Listing
 pub mod Headline
+pub mod Verdicts

@@ -64,7 +64,8 @@ impl<'a> Model for Sent<'a> {
 impl<'a> Sent<'a> {
     // Nothing has crossed.
     pub(crate) fn new(alloc: Global, params: Params) -> Sent<'a>
-        ensures { result ≡ nothing_crossed params }
+        ensures value { result ≡ nothing_crossed params }
+        ensures crossing { IsCrossing result }
     {
         // The ids are read, so it is known that they have 32 bits.
         prove!(params.client_id() != params.server_id());

@@ -1,9 +1,12 @@
 //! Laws on every run of two ends: public functions without a body, whose contracts are the laws.
-ghost use Rattle.std.specs.Prelude.{◌≡◌, ℕ, List, Ok};
+ghost use Rattle.std.specs.Prelude.{◌≡◌, ℕ, List, length, Ok, Err, IsSome};
+ghost use Rattle.rasta_pcap.specs.declared.fault.Fault.{Fault};
 ghost use Rattle.rasta_pcap.specs.Capture.{IsCapture};
 ghost use Rattle.rasta_pdu.specs.Params.{Parameters, AreParameters};
-ghost use Rattle.rasta_check.specs.Crossing.{crossing_list};
+ghost use Rattle.rasta_pdu.specs.Messages.{AreBytes};
+ghost use Rattle.rasta_check.specs.Crossing.{FirstCopy, crossing_list};
 ghost use Rattle.rasta_check.specs.Reading.{Crossing, crossing_of};
+ghost use Rattle.rasta_check.specs.Verdicts.{Impossible, packets_through, IsFaultlessCapture};
 ghost use Rattle.rasta_check.specs.Laws;
 ghost use Rattle.rasta_check.specs.Theorem.{OfConnection, SentLists, Definite, Simulation, Necessity, Sharpness, Complete, Stuck};
 
@@ -81,4 +84,27 @@ pub fn crossing_is_read()
     ensures packets { (p : Parameters) (file : List ℕ) (k : Crossing) (records : List (List ℕ)) → AreParameters p
         → crossing_of p file ≡ Ok k → IsCapture p.last_record file records
         → k.packets ≡ crossing_list p records }
+{}
+
+/// A fault that speaks of a side is definite: no run sends the packets up to its record, whatever follows.
+pub fn refused_packets_are_impossible()
+    // No run sends packets that begin with those of the records up to the one that the fault names.
+    ensures packets { (p : Parameters) (file : List ℕ) (f : Fault) → OfConnection p → AreBytes file
+        → crossing_of p file ≡ Err f → IsSome f.end → Impossible p (packets_through p file f.place) }
+    // Those records stand in the file, and hold these packets.
+    ensures records { (p : Parameters) (file : List ℕ) (f : Fault) → OfConnection p → AreBytes file
+        → crossing_of p file ≡ Err f → IsSome f.end
+        → (records : List (List ℕ)) × IsCapture f.place file records × (length records ≡ f.place)
+        × (packets_through p file f.place ≡ crossing_list p records) }
+{}
+
+/// Exactly a capture without a fault is read, with the lists that its sides sent.
+pub fn faultless_capture_is_read()
+    // What is read without a fault is such a capture.
+    ensures read { (p : Parameters) (file : List ℕ) (k : Crossing) → OfConnection p → AreBytes file
+        → crossing_of p file ≡ Ok k → IsFaultlessCapture p file k.client k.server }
+    // Such a capture is read, and its sides sent no other lists.
+    ensures only { (p : Parameters) (file : List ℕ) (client server : List FirstCopy) → OfConnection p → AreBytes file
+        → IsFaultlessCapture p file client server
+        → (k : Crossing) × (crossing_of p file ≡ Ok k) × (k.client ≡ client) × (k.server ≡ server) }
 {}

@@ -1,10 +1,12 @@
 //! Reading what each side sent from a capture.
-ghost use Rattle.std.specs.Prelude.{◌≡◌, ℕ, suc, Ok, Err, MatchResult, ◌⊎◌};
+ghost use Rattle.std.specs.Prelude.{◌≡◌, ℕ, suc, List, Ok, Err, MatchResult, IfOk, IfErr, IsSome, ◌⊎◌};
 ghost use Rattle.rasta_pcap.specs.Fault.{no_memory};
 ghost use Rattle.rasta_pcap.specs.Capture.{reading};
 ghost use Rattle.rasta_pdu.specs.Params.{AreParameters};
+ghost use Rattle.rasta_check.specs.Crossing.{FirstCopy};
 ghost use Rattle.rasta_check.specs.Reading.{after_reading, crossing_of};
 ghost use Rattle.rasta_check.specs.Packets.{after_next};
+ghost use Rattle.rasta_check.specs.Verdicts.{Impossible, packets_through, IsFaultlessCapture};
 
 use crate::crossing::Sent;
 use rasta_pcap::{Fault, Pcap};
@@ -52,9 +54,17 @@ fn add_records<'a>(mut sent: Sent<'a>, mut pcap: Pcap<'a>, last: u32) -> Result<
 /// [`Fault::NUMBER_GAP`], speak of its sender. Records in front of the window are read and not judged,
 /// and nothing behind its last record is read. [`Fault::NO_MEMORY`] may stand in place of any answer.
 pub fn sent<'a>(alloc: Global, p: Params, file: &'a [u8]) -> Result<Sent<'a>, Fault>
-    ensures { MatchResult result
+    ensures value { MatchResult result
         (λ s. crossing_of p file.now ≡ Ok s)
         (λ f. (f ≡ no_memory) ⊎ (crossing_of p file.now ≡ Err f)) }
+
+    // Exactly a capture without a fault is read, memory aside.
+    ensures read { IfOk result (λ s. IsFaultlessCapture p file.now s.client s.server) }
+    ensures only { IfErr result (λ f. (f ≡ no_memory)
+        ⊎ ((client server : List FirstCopy) → IsFaultlessCapture p file.now client server → ⊥)) }
+
+    // Where the fault speaks of a side, no run sends packets that begin with those up to its record.
+    ensures definite { IfErr result (λ f. IsSome f.end → Impossible p (packets_through p file.now f.place)) }
 {
     let last = p.last_record();
     match Pcap::open(file) {
