@@ -55,3 +55,4 @@ pub mod Reported
 pub mod Joined
 pub mod Headlined
 pub mod Answering
+pub mod Filed
