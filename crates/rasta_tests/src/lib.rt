@@ -2,7 +2,11 @@
 #![tactic(auto)]
 
 #[cfg(test)]
+mod captures;
+#[cfg(test)]
 mod certificates;
+#[cfg(test)]
+mod checks;
 #[cfg(test)]
 mod ends;
 #[cfg(test)]
