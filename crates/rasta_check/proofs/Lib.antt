@@ -49,4 +49,5 @@ pub mod Kept
 pub mod Readings
 pub mod Verdicts
 pub mod Faultless
+pub mod FaultNumbers
 pub mod Plainly

@@ -88,7 +88,7 @@ unfolding reading_of
 file_full n file l e = opened_full n (opening file) l e
 
 -- the fault that ends a reading speaks of no end
-no_end : (limit : ℕ) (file : List ℕ) (f : Fault) → (reading_of limit file).fault ≡ Some f → f.end ≡ None
+pub no_end : (limit : ℕ) (file : List ℕ) (f : Fault) → (reading_of limit file).fault ≡ Some f → f.end ≡ None
 no_end limit file f e = elim (dec_lt 0 f.place) [
   | yes l ↦ ap (λ (g : Fault). g.end) (IsRefused-place limit file (bytes_of (reading_of limit file)) f (IsRefused-reading_of limit file f e l))
   | no l ↦ ap (λ (g : Fault). g.end) (opening-fault_place file f (opening-by_reading_of limit file f e (omega arith)))
@@ -139,7 +139,7 @@ record_refused k r f h is e = by (nat_lt r.0 k.params.first_record) e
 
 -- ---- the records up to a fault of a side
 
-then_refused : (q : Result Crossing Fault) (step : Crossing → Result Crossing Fault) (f : Fault) → and_then q step ≡ Err f → (q ≡ Err f) ⊎ ((k : Crossing) × (q ≡ Ok k) × (step k ≡ Err f))
+pub then_refused : (q : Result Crossing Fault) (step : Crossing → Result Crossing Fault) (f : Fault) → and_then q step ≡ Err f → (q ≡ Err f) ⊎ ((k : Crossing) × (q ≡ Ok k) × (step k ≡ Err f))
 then_refused (Ok k) step f e = inr (k, refl, e)
 then_refused (Err g) step f e = inl e
 

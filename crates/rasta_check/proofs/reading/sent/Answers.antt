@@ -8,6 +8,7 @@ use Rattle.rasta_check.specs.Theorem.{OfConnection}
 use Rattle.rasta_check.proofs.Readings.{after-opened, after-refused}
 use Rattle.rasta_check.proofs.Verdicts.{answer_definite, opening_definite}
 use Rattle.rasta_check.proofs.Faultless.{answer_read, answer_only, opening_faulty}
+use Rattle.rasta_check.proofs.FaultNumbers.{answer_names_side, opening_names_side}
 use Rattle.rasta_check.proofs.reading.sent.Goals as goal
 
 connection : (c : goal.After-add_records) → OfConnection c.args.p
@@ -28,6 +29,9 @@ returns-in-Ok-clause-read c = answer_read c.args.p c.args.file.now c.add_records
 pub returns-in-Ok-clause-only : goal.returns-in-Ok-clause-only
 returns-in-Ok-clause-only c = answer_only c.args.p c.args.file.now c.add_records.result (connection c) (bytes c) (returns-in-Ok-clause-value c)
 
+pub returns-in-Ok-clause-side : goal.returns-in-Ok-clause-side
+returns-in-Ok-clause-side c = answer_names_side c.args.p c.args.file.now c.add_records.result (returns-in-Ok-clause-value c)
+
 pub returns-in-Ok-clause-definite : goal.returns-in-Ok-clause-definite
 returns-in-Ok-clause-definite c = answer_definite c.args.p c.args.file.now c.add_records.result (connection c) (bytes c) (returns-in-Ok-clause-value c)
 
@@ -36,6 +40,9 @@ returns-in-Err-clause-value c = inr (after-refused c.args.p c.args.file.now c.in
 
 pub returns-in-Err-clause-only : goal.returns-in-Err-clause-only
 returns-in-Err-clause-only c = inr (opening_faulty c.args.p c.args.file.now c.in-Err.fault c.last_record-last.ensures.valid (sym c.in-Err.ensures))
+
+pub returns-in-Err-clause-side : goal.returns-in-Err-clause-side
+returns-in-Err-clause-side c = opening_names_side c.args.file.now c.in-Err.fault (sym c.in-Err.ensures)
 
 pub returns-in-Err-clause-definite : goal.returns-in-Err-clause-definite
 returns-in-Err-clause-definite c = opening_definite c.args.p c.args.file.now c.in-Err.fault (sym c.in-Err.ensures)
