@@ -1,4 +1,5 @@
-//! Laws on every run of two ends, and on captures: public functions without a body, whose contracts are the laws.
+//! Laws on every run of two ends, and on captures: public functions without a body, whose contracts are
+//! the laws.
 ghost use Rattle.std.specs.Prelude.{◌≡◌, ◌≤◌, ◌↔◌, ℕ, List, length, Ok, Err, IsSome};
 ghost use Rattle.rasta_pcap.specs.declared.fault.Fault.{Fault};
 ghost use Rattle.rasta_pcap.specs.Fault.{redundancy_length, number_gap};
