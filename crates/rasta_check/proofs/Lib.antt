@@ -49,6 +49,7 @@ pub mod Kept
 pub mod Readings
 pub mod Verdicts
 pub mod Faultless
+pub mod FaultNumbers
 pub mod Plainly
 pub mod Worked
 pub mod Reported
