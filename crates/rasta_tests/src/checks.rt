@@ -12,7 +12,7 @@ use std::test::Fail;
 // A row: its name; its lines and parameters; the packets; the client's entries, and the server's; the
 // verdict: the number of packets, what the client took, and what the server did, each message as in a
 // report; or the number, the place and the side of a fault.
-const ROWS: &str = "\
+pub const ROWS: &str = "\
 handshake | data plain | 0 1 2 | make 0 1000 open, take 2 40, make 2 1010 reply | take 1 7, make 1 9000 reply | 3; -; -
 handed up once | data plain | 0 1 2 3 4 | make 0 1000 open, take 2 40, make 2 1010 reply, make 3 1020 fresh | take 1 7, make 1 9000 reply, take 4 8, take 4 9, make 4 9050 beat | 5; -; 0 3 4 ab01, 1 3 4 .
 no proof | data plain | 0 1 2 3 | make 0 1000 open, take 2 40, make 2 1010 reply, make 3 1020 fresh | take 1 7, make 1 9000 reply | 4; -; -
@@ -141,7 +141,7 @@ fn is_side(end: Option<Side>, want: &str) -> bool {
     }
 }
 
-fn is_fault(fault: Fault, want: &str) -> Option<bool> {
+pub fn is_fault(fault: Fault, want: &str) -> Option<bool> {
     let mut words = want.split(' ');
     Some(
         words.next()?.parse().ok() == Some(fault.number)
@@ -150,7 +150,7 @@ fn is_fault(fault: Fault, want: &str) -> Option<bool> {
     )
 }
 
-fn is_verdict(verdict: &Result<Report, Fault>, want: &str) -> Option<bool> {
+pub fn is_verdict(verdict: &Result<Report, Fault>, want: &str) -> Option<bool> {
     match verdict {
         Ok(report) => is_report(report, want),
         Err(fault) => is_fault(*fault, want),

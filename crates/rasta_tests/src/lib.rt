@@ -13,3 +13,5 @@ mod ends;
 mod lines;
 #[cfg(test)]
 mod model;
+#[cfg(test)]
+mod proposals;
