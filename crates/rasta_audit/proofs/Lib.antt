@@ -4,3 +4,7 @@ pub mod Documents
 pub mod EndpointLaws
 pub mod Sending
 pub mod Lines
+pub mod Ordered
+pub mod RunTexts
+pub mod Telling
+pub mod Verdicts

@@ -8,3 +8,8 @@ pub mod Endpoints
 pub mod Stored
 pub mod StartWords
 pub mod Keys
+pub mod RunText
+pub mod Told
+pub mod Verdict
+pub mod Passed
+pub mod Judged

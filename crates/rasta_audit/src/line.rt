@@ -47,6 +47,17 @@ fn put_number(room: &mut [u8], end: usize, n: u32) -> usize
     itoa::write_digits(u64::from(n), room, end)
 }
 
+// The same for a number of 64 bits.
+fn put_long_number(room: &mut [u8], end: usize, n: u64) -> usize
+    requires fits { 20 ≤ end }
+    requires within { end ≤ length room.old }
+    ensures start { result + length (decimal n) ≡ end }
+    ensures written { drop result room.new ≡ decimal n ++ drop end room.old }
+    ensures short { end ≤ result + 20 }
+{
+    itoa::write_digits(n, room, end)
+}
+
 // The same for bytes, in lower case digits.
 fn put_hex(room: &mut [u8], end: usize, bytes: &[u8]) -> usize
     requires fits { 2 * length bytes.now ≤ end }
@@ -178,5 +189,35 @@ impl Line {
         ensures { result.now ≡ self.now }
     {
         &self.room[self.start..]
+    }
+}
+
+impl Line {
+    /// Begins anew with this last word.
+    pub fn begin_with_word(&mut self, word: &[u8])
+        requires { length word.now ≤ 10 }
+        ensures line { self.new ≡ word.now ++ 10 ∷ [] }
+    {
+        let end = put(&mut self.room, ROOM, b"\n");
+        self.start = put(&mut self.room, end, word);
+    }
+
+    /// Begins anew with this last number.
+    pub fn begin_with_number(&mut self, n: u64)
+        ensures line { self.new ≡ decimal n ++ 10 ∷ [] }
+        ensures short { length self.new ≤ 21 }
+    {
+        let end = put(&mut self.room, ROOM, b"\n");
+        self.start = put_long_number(&mut self.room, end, n);
+    }
+
+    /// Puts a number of 64 bits in front, in decimal.
+    pub fn long_number(&mut self, n: u64)
+        requires { length self.old ≤ 179 }
+        ensures line { self.new ≡ decimal n ++ 32 ∷ self.old }
+        ensures short { length self.new ≤ length self.old + 21 }
+    {
+        let end = put(&mut self.room, self.start, b" ");
+        self.start = put_long_number(&mut self.room, end, n);
     }
 }

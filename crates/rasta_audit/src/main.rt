@@ -1,7 +1,9 @@
 //! Audits one RaSTA connection from a capture. `show CAPTURE PARAMS` writes a line for each PDU of
-//! the recorded channels; the other commands are not there yet.
+//! the recorded channels, and `check CAPTURE PARAMS CERT` what a certificate explains of them; the other
+//! commands are not there yet.
 #![tactic(auto)]
 
+mod check;
 mod command;
 mod endpoint;
 mod failure;
@@ -14,15 +16,21 @@ mod params;
 #[cfg(test)]
 mod params_tests;
 mod quiet_table;
+mod run_lines;
+mod run_text;
+mod script;
 mod show;
 #[cfg(test)]
 mod show_tests;
 mod shown_packet;
 mod start_words;
+mod taken_text;
 #[cfg(test)]
 mod tests;
 mod texts;
+mod verdict;
 
+use crate::check::run_check;
 use crate::command::form;
 use crate::failure::{Failure, status};
 use crate::form::Form;
@@ -41,10 +49,21 @@ fn open<R: Files>(rt: &R, path: &str) -> Result<R::File, Fault> {
     File::open(rt, path).map_err(|_| Fault::at(Fault::READ_FAILED, 0))
 }
 
-fn read_params<R: AllocGlobal + Files>(rt: &R, path: &str) -> Result<Params, Fault> {
+fn read_file<R: AllocGlobal + Files>(rt: &R, path: &str) -> Result<Vec<u8>, Fault> {
     let mut reader = Counted::new(open(rt, path)?);
-    let text = read_all(rt.alloc(), &mut reader)?;
-    params(rt.alloc(), &text)
+    read_all(rt.alloc(), &mut reader)
+}
+
+fn read_params<R: AllocGlobal + Files>(rt: &R, path: &str) -> Result<Params, Fault> {
+    params(rt.alloc(), &read_file(rt, path)?)
+}
+
+// The status of a text, once all of it is out.
+fn finish<W: Write + Drop>(writer: Counted<W>, status: u8) -> Result<u8, Fault> {
+    match writer.into_inner().flush() {
+        Ok(()) => Ok(status),
+        Err(_) => Err(Fault::at(Fault::WRITE_FAILED, 0)),
+    }
 }
 
 fn show_file<R: AllocGlobal + Files + Print>(
@@ -59,16 +78,35 @@ fn show_file<R: AllocGlobal + Files + Print>(
     };
     let mut writer = Counted::new(output);
     let status = run_show(rt.alloc(), &params, &mut reader, &mut writer)?;
-    match writer.into_inner().flush() {
-        Ok(()) => Ok(status),
-        Err(_) => Err(Fault::at(Fault::WRITE_FAILED, 0)),
-    }
+    finish(writer, status)
+}
+
+fn check_file<R: AllocGlobal + Files + Print>(
+    rt: &R,
+    capture: &str,
+    params_path: &str,
+    certificate_path: &str,
+) -> Result<u8, Fault> {
+    let params = read_params(rt, params_path)?;
+    let certificate = read_file(rt, certificate_path)?;
+    let mut reader = Counted::new(open(rt, capture)?);
+    let Ok(output) = BufWriter::new(rt.alloc(), io::writer(rt)) else {
+        return Err(Fault::at(Fault::NO_MEMORY, 0));
+    };
+    let mut writer = Counted::new(output);
+    let status = run_check(rt.alloc(), &params, &mut reader, &certificate, &mut writer)?;
+    finish(writer, status)
 }
 
 fn run<R: AllocGlobal + Files + Print>(rt: &R, words: &[String]) -> Result<u8, Failure> {
     match form(rt.alloc(), words)? {
         Form::Show { capture, params } => show_file(rt, capture, params).map_err(Failure::Refused),
-        Form::Build { .. } | Form::Check { .. } | Form::Audit { .. } => Err(Failure::Usage),
+        Form::Check {
+            capture,
+            params,
+            certificate,
+        } => check_file(rt, capture, params, certificate).map_err(Failure::Refused),
+        Form::Build { .. } | Form::Audit { .. } => Err(Failure::Usage),
     }
 }
 

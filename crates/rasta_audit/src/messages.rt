@@ -55,8 +55,8 @@ fn write_hex<W: Sink>(bytes: &[u8], writer: &mut W) -> Result<(), Fault>
     Ok(())
 }
 
-// Writes a message; an empty one is a dot.
-fn write_message<W: Sink>(message: &[u8], writer: &mut W) -> Result<(), Fault>
+/// Writes a message; an empty one is a dot.
+pub fn write_message<W: Sink>(message: &[u8], writer: &mut W) -> Result<(), Fault>
     ensures ok { OnOk result (Appends (W.contents writer.old) (W.contents writer.new) (message_text message.now)) }
     ensures steady { OnOk result (W.failure_count writer.new ≡ W.failure_count writer.old) }
     ensures err { IfErr result (λ f. (f ≡ write_failed)

@@ -1,0 +1,189 @@
+-- Verdicts: what they are, that a capture and a certificate have one, and their texts in parts.
+use Rattle.std.proofs.Common.{◌≡◌, ◌⊎◌, inl, inr, ℕ, suc, ◌+◌, ◌-◌, ◌<◌, ◌≤◌, true, false, List, [], ◌∷◌, ◌++◌, length, drop, get_or, map, Option, Result, Ok, Err, OnOk, OnErr, IfOk, refl, ap, subst, sym, ◌∙◌, ⊎_elim, arith, append-nil, length-drop}
+use Rattle.std.specs.Prelude.{◌≢◌, decimal}
+use Rattle.std.specs.List.{flat_map}
+use Rattle.std.specs.Io.KnownBytes.{Appends, Consumes, IsAtEnd}
+use Rattle.std.proofs.KnownBytes.{Appends-nil}
+use Rattle.std.proofs.Math.Seq.{drop-cons}
+use Rattle.std.proofs.lemmas.List.{nil_from_length, length-map}
+use Rattle.rasta_pcap.specs.declared.fault.Fault.{Fault}
+use Rattle.rasta_pcap.specs.declared.fault.Side.{Side}
+use Rattle.rasta_pcap.specs.declared.fault.Side.TheVariants.{Client, Server}
+use Rattle.rasta_pcap.specs.Fault.{no_memory}
+use Rattle.rasta_pcap.specs.Devices.{AppendsBeginning}
+use Rattle.rasta_pdu.specs.Params.{Parameters}
+use Rattle.rasta_cert.specs.Certificate.{IsCertificate, Scripts, certificate_text}
+use Rattle.rasta_cert.proofs.RefusalLemmas.{one_refusal}
+use Rattle.rasta_cert.proofs.ScriptLemmas.{certificate_text_injective}
+use Rattle.rasta_check.specs.declared.report.Taken.{Taken}
+use Rattle.rasta_check.specs.Listed.{ListedMessage, listed_of}
+use Rattle.rasta_check.specs.Reading.{Crossing, crossing_of}
+use Rattle.rasta_check.specs.Report.{Explained, verdict_of}
+use Rattle.rasta_audit.proofs.Sending.{in_front-append}
+use Rattle.rasta_audit.specs.declared.verdict.Verdict.{Verdict}
+use Rattle.rasta_audit.specs.declared.verdict.Verdict.TheVariants as verdicts
+use Rattle.rasta_audit.specs.Judged.{HasToldRun, status_of_verdict, text_of_verdict}
+use Rattle.rasta_audit.specs.Lines.{in_front, message_text, refused_line}
+use Rattle.rasta_audit.specs.Runs.{MayFollow}
+use Rattle.rasta_audit.specs.RunText.{run_text}
+use Rattle.rasta_audit.specs.Verdict.{BeginsVerdict, IsVerdict, WritesVerdict, capture_refused, certificate_refused, script_refused, explained, explained_line, explained_text, taken_count_line, taken_line, taken_lines, taken_text}
+
+-- ---- texts in parts
+
+pub taken_line-parts : (t : ListedMessage) (front : List ℕ) → front ≡ in_front (decimal t.number ∷ decimal t.data_place ∷ decimal t.proof_place ∷ []) []
+    → taken_line t ≡ front ++ (message_text t.message ++ 10 ∷ [])
+unfolding taken_line
+taken_line-parts t front e =
+    in_front-append (decimal t.number ∷ decimal t.data_place ∷ decimal t.proof_place ∷ []) [] (message_text t.message ++ 10 ∷ [])
+    ∙ ap (λ (l : List ℕ). l ++ (message_text t.message ++ 10 ∷ [])) (sym e)
+
+pub taken_lines-next : (ts : List Taken) (i : ℕ) (d : Taken) → i < length ts
+    → taken_lines (map listed_of (drop i ts)) ≡ taken_line (listed_of (get_or ts i d)) ++ taken_lines (map listed_of (drop (i + 1) ts))
+unfolding taken_lines
+taken_lines-next ts i d h =
+    let one : suc i ≡ i + 1 = omega arith in
+    ap (λ (l : List Taken). flat_map taken_line (map listed_of l)) (drop-cons ts i d h)
+    ∙ ap (λ (n : ℕ). taken_line (listed_of (get_or ts i d)) ++ flat_map taken_line (map listed_of (drop n ts))) one
+
+pub taken_lines-end : (ts : List Taken) (i : ℕ) → length ts ≤ i → taken_lines (map listed_of (drop i ts)) ≡ []
+unfolding taken_lines
+taken_lines-end ts i h =
+    let none : length ts - i ≡ 0 = omega (arith, h) in
+    ap (λ (l : List Taken). flat_map taken_line (map listed_of l)) (nil_from_length (drop i ts) (length-drop i ts ∙ none))
+
+pub taken_text-parts : (side : Side) (ts : List Taken) (line : List ℕ) → line ≡ taken_count_line side (length ts)
+    → taken_text side (map listed_of ts) ≡ line ++ taken_lines (map listed_of ts)
+unfolding taken_text
+taken_text-parts side ts line e =
+    ap (λ n. taken_count_line side n ++ taken_lines (map listed_of ts)) (length-map ts listed_of)
+    ∙ ap (λ (l : List ℕ). l ++ taken_lines (map listed_of ts)) (sym e)
+
+pub explained_text-parts : (k : Crossing) (scripts : Scripts) (report : Explained) (line : List ℕ) → line ≡ explained_line report.packets
+    → explained_text k scripts report ≡ line ++ (run_text k scripts ++ (taken_text Client report.client_taken ++ taken_text Server report.server_taken))
+unfolding explained_text
+explained_text-parts k scripts report line e =
+    ap (λ (l : List ℕ). l ++ (run_text k scripts ++ (taken_text Client report.client_taken ++ taken_text Server report.server_taken))) (sym e)
+
+-- the same by the lists that are written
+pub explained_text-listed : (k : Crossing) (scripts : Scripts) (report : Explained) (line : List ℕ) (client server : List ListedMessage) → line ≡ explained_line report.packets
+    → client ≡ report.client_taken → server ≡ report.server_taken
+    → explained_text k scripts report ≡ line ++ (run_text k scripts ++ (taken_text Client client ++ taken_text Server server))
+explained_text-listed k scripts report line client server e f g =
+    explained_text-parts k scripts report line e
+    ∙ ap (λ (l : List ListedMessage). line ++ (run_text k scripts ++ (taken_text Client l ++ taken_text Server report.server_taken))) (sym f)
+    ∙ ap (λ (l : List ListedMessage). line ++ (run_text k scripts ++ (taken_text Client client ++ taken_text Server l))) (sym g)
+
+-- ---- refusals
+
+if_ok_map : {A E : Type 0} {P Q : A → Type 0} (r : Result A E) → ((v : A) → P v → Q v) → IfOk r P → IfOk r Q
+if_ok_map (Ok v) f h = f v h
+if_ok_map (Err e) f h = tt
+
+abbrev pub IsRefusal : Fault → Verdict → Type 0
+IsRefusal fault v = (v ≡ verdicts.Refused fault) × (fault ≢ no_memory)
+
+pub refusal_told : (r : Result Verdict Fault) (fault : Fault) → IfOk r (IsRefusal fault) → IfOk r HasToldRun
+refusal_told r fault h = if_ok_map r (λ (v : Verdict) (w : IsRefusal fault v). subst HasToldRun (sym w.0) tt) h
+
+-- a fault that is no want of memory is the verdict
+pub refusal_stands : {F : Type 0} (P : List ℕ → ℕ → Type 0) (r : Result Verdict Fault) (fault : Fault) → IfOk r (IsRefusal fault)
+    → F ⊎ (fault ≡ no_memory) → (F → P (refused_line fault) 1) → IfOk r (λ v. P (text_of_verdict v) (status_of_verdict v))
+refusal_stands {F = F} P r fault h why stands = if_ok_map r
+    (λ (v : Verdict) (w : IsRefusal fault v). subst (λ (z : Verdict). P (text_of_verdict z) (status_of_verdict z)) (sym w.0)
+    (⊎_elim (λ (f : F). stands f) (λ (none : fault ≡ no_memory). absurd (w.1 none)) why)) h
+
+pub swapped : {A B : Type 0} → A ⊎ B → B ⊎ A
+swapped (inl a) = inr a
+swapped (inr b) = inl b
+
+-- ---- one verdict
+
+abbrev verdict_with : Crossing → Scripts → Result Explained Fault
+verdict_with k scripts = verdict_of k.params (length k.packets) k.client k.server scripts
+
+same_scripts : (certificate : List ℕ) (c d : Scripts) → certificate ≡ certificate_text c → IsCertificate c → certificate ≡ certificate_text d → IsCertificate d → c ≡ d
+same_scripts certificate c d e hc f hd = certificate_text_injective c d hc.0 hd.0 (sym e ∙ f)
+
+same_result : (k j : Crossing) (c d : Scripts) (x y : Result Explained Fault) → k ≡ j → c ≡ d → verdict_with k c ≡ x → verdict_with j d ≡ y → x ≡ y
+same_result k j c d x y e f g h = sym g ∙ (ap (λ (q : Crossing). verdict_with q c) e ∙ (ap (λ (s : Scripts). verdict_with j s) f ∙ h))
+
+same_crossing : (p : Parameters) (file : List ℕ) (k j : Crossing) → crossing_of p file ≡ Ok k → crossing_of p file ≡ Ok j → k ≡ j
+same_crossing p file k j e f = cc
+
+-- no capture and certificate have two verdicts
+pub one_verdict : (p : Parameters) (certificate file s t : List ℕ) (m n : ℕ) → IsVerdict p certificate file s m → IsVerdict p certificate file t n → s ≡ t
+one_verdict p certificate file s t m n (capture_refused f e) (capture_refused g h) = (let same : f ≡ g = cc in ap refused_line same)
+one_verdict p certificate file s t m n (capture_refused f e) (certificate_refused j g h q) = absurd (cc)
+one_verdict p certificate file s t m n (capture_refused f e) (script_refused j d g h a b v) = absurd (cc)
+one_verdict p certificate file s t m n (capture_refused f e) (explained j d r h a b v) = absurd (cc)
+one_verdict p certificate file s t m n (certificate_refused k f e q) (capture_refused g h) = absurd (cc)
+one_verdict p certificate file s t m n (certificate_refused k f e q) (certificate_refused j g h w) = ap refused_line (one_refusal certificate f g q w)
+one_verdict p certificate file s t m n (certificate_refused k f e q) (script_refused j d g h a b v) = absurd (q.no_certificate d b a)
+one_verdict p certificate file s t m n (certificate_refused k f e q) (explained j d r h a b v) = absurd (q.no_certificate d b a)
+one_verdict p certificate file s t m n (script_refused k c f e a b v) (capture_refused g h) = absurd (cc)
+one_verdict p certificate file s t m n (script_refused k c f e a b v) (certificate_refused j g h q) = absurd (q.no_certificate c b a)
+one_verdict p certificate file s t m n (script_refused k c f e a b v) (script_refused j d g h a' b' v') =
+    let same : ◌≡◌ {A = Result Explained Fault} (Err f) (Err g) = same_result k j c d (Err f) (Err g) (same_crossing p file k j e h) (same_scripts certificate c d a b a' b') v v' in
+    let fault : f ≡ g = cc in
+    ap refused_line fault
+one_verdict p certificate file s t m n (script_refused k c f e a b v) (explained j d r h a' b' v') =
+    let same : ◌≡◌ {A = Result Explained Fault} (Err f) (Ok r) = same_result k j c d (Err f) (Ok r) (same_crossing p file k j e h) (same_scripts certificate c d a b a' b') v v' in
+    absurd (cc)
+one_verdict p certificate file s t m n (explained k c q e a b v) (capture_refused g h) = absurd (cc)
+one_verdict p certificate file s t m n (explained k c q e a b v) (certificate_refused j g h w) = absurd (w.no_certificate c b a)
+one_verdict p certificate file s t m n (explained k c q e a b v) (script_refused j d g h a' b' v') =
+    let same : ◌≡◌ {A = Result Explained Fault} (Ok q) (Err g) = same_result k j c d (Ok q) (Err g) (same_crossing p file k j e h) (same_scripts certificate c d a b a' b') v v' in
+    absurd (cc)
+one_verdict p certificate file s t m n (explained k c q e a b v) (explained j d r h a' b' v') =
+    let crossing = same_crossing p file k j e h in
+    let scripts = same_scripts certificate c d a b a' b' in
+    let same : ◌≡◌ {A = Result Explained Fault} (Ok q) (Ok r) = same_result k j c d (Ok q) (Ok r) crossing scripts v v' in
+    let report : q ≡ r = cc in
+    ap (λ (z : Crossing). explained_text z c q) crossing ∙ (ap (λ (z : Scripts). explained_text j z q) scripts ∙ ap (λ (z : Explained). explained_text j d z) report)
+
+-- ---- what a run wrote
+
+abbrev Texts : Type 1
+Texts = List ℕ → List ℕ → ℕ → Type 0
+
+-- behind the end of the input nothing follows
+whole_input : (file more : List ℕ) → MayFollow true more → file ++ more ≡ file
+whole_input file more h = ap (λ (l : List ℕ). file ++ l) (h refl) ∙ append-nil file
+
+pub verdict_written : (IsText : Texts) (r : Result ℕ Fault) (file text : List ℕ) (status : ℕ) (oi ni oo on : Option (List ℕ)) → Consumes oi ni file → IsAtEnd ni
+    → IsText file text status → OnOk r (Appends oo on text) → IfOk r (λ s. status ≡ s) → IfOk r (λ s. WritesVerdict IsText s oi ni oo on)
+verdict_written IsText (Err f) file text status oi ni oo on consumed end is appended answered = tt
+verdict_written IsText (Ok s) file text status oi ni oo on consumed end is appended answered = record {
+  input = file;
+  met_end = true;
+  consumed = consumed;
+  at_end = λ h. end;
+  output = text;
+  appended = appended;
+  whole = λ more h. subst (λ (l : List ℕ). IsText l text s) (sym (whole_input file more h)) (subst (λ n. IsText file text n) answered is);
+}
+
+pub verdict_begun : (IsText : Texts) (r : Result ℕ Fault) (file text : List ℕ) (oi ni oo on : Option (List ℕ)) → Consumes oi ni file → IsAtEnd ni
+    → ((t : List ℕ) (s : ℕ) → IsText file t s → t ≡ text) → OnErr r (AppendsBeginning oo on text) → OnErr r (BeginsVerdict IsText oi ni oo on)
+verdict_begun IsText (Ok s) file text oi ni oo on consumed end one begun = tt
+verdict_begun IsText (Err f) file text oi ni oo on consumed end one begun = record {
+  input = file;
+  met_end = true;
+  consumed = consumed;
+  at_end = λ h. end;
+  output = begun.0;
+  appended = begun.2;
+  begins = λ more t s h is. (begun.1, one t s (subst (λ (l : List ℕ). IsText l t s) (whole_input file more h) is) ∙ begun.3);
+}
+
+-- nothing begins each text
+pub nothing_begun : (IsText : Texts) (input : List ℕ) (oi ni o : Option (List ℕ)) → Consumes oi ni input → BeginsVerdict IsText oi ni o o
+nothing_begun IsText input oi ni o consumed = record {
+  input = input;
+  met_end = false;
+  consumed = consumed;
+  at_end = λ h. absurd (cc);
+  output = [];
+  appended = Appends-nil o;
+  begins = λ more t s h is. (t, refl);
+}

@@ -1,0 +1,29 @@
+use Rattle.std.proofs.Common.{List, ℕ, subst}
+use Rattle.rasta_audit.specs.Judged.{status_of_verdict, text_of_verdict}
+use Rattle.rasta_audit.specs.Verdict.{IsVerdict}
+use Rattle.rasta_pcap.proofs.Sending.{where_failed}
+use Rattle.rasta_audit.proofs.Verdicts.{nothing_begun, one_verdict, verdict_begun, verdict_written}
+use Rattle.rasta_audit.proofs.check.run_check.Goals as goal
+
+pub returns-in_err-file-clause-begun : goal.returns-in_err-file-clause-begun
+returns-in_err-file-clause-begun g c = where_failed c.from_residual.result
+    (nothing_begun (IsVerdict c.args.params.now c.args.certificate.now) c.in_err-file.ensures.begun.0 _ _ _ c.in_err-file.ensures.begun.1)
+
+pub returns-clause-text : goal.returns-clause-text
+returns-clause-text g c =
+    let text = text_of_verdict c.in_ok-verdict.verdict in
+    let status = status_of_verdict c.in_ok-verdict.verdict in
+    verdict_written (IsVerdict c.args.params.now c.args.certificate.now) c.write_verdict.result c.in_ok-file.file.items text status _ _ _ _
+    c.in_ok-file.ensures.bytes c.in_ok-file.ensures.end
+    (subst (λ (l : List ℕ). IsVerdict c.args.params.now c.args.certificate.now l text status) c.deref.ensures.value c.in_ok-verdict.ensures.stands)
+    c.write_verdict.ensures.ok c.write_verdict.ensures.answered
+
+pub returns-clause-begun : goal.returns-clause-begun
+returns-clause-begun g c =
+    let text = text_of_verdict c.in_ok-verdict.verdict in
+    let status = status_of_verdict c.in_ok-verdict.verdict in
+    let file = c.in_ok-file.file.items in
+    let is = subst (λ (l : List ℕ). IsVerdict c.args.params.now c.args.certificate.now l text status) c.deref.ensures.value c.in_ok-verdict.ensures.stands in
+    verdict_begun (IsVerdict c.args.params.now c.args.certificate.now) c.write_verdict.result file text _ _ _ _
+    c.in_ok-file.ensures.bytes c.in_ok-file.ensures.end
+    (λ t s other. one_verdict c.args.params.now c.args.certificate.now file t text s status other is) c.write_verdict.ensures.begun

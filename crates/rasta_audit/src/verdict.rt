@@ -1,0 +1,155 @@
+//! The verdict on a capture and a certificate, and its text.
+ghost use Rattle.std.specs.Prelude.{◌≡◌, ◌≢◌, List, ℕ, Ok, IfErr, IfOk, OnErr, OnOk};
+ghost use Rattle.std.specs.Io.KnownBytes.{Appends};
+ghost use Rattle.rasta_pcap.specs.Fault.{no_memory, write_failed};
+ghost use Rattle.rasta_pcap.specs.Devices.{AppendsBeginning, HasFailed};
+ghost use Rattle.rasta_pdu.specs.Params.{Parameters};
+ghost use Rattle.rasta_cert.specs.Certificate.{IsCertificate, certificate_text};
+ghost use Rattle.rasta_check.specs.Reading.{crossing_of};
+ghost use Rattle.rasta_audit.specs.declared.verdict.Verdict.TheVariants as verdicts;
+ghost use Rattle.rasta_audit.specs.Told.{IsTold};
+ghost use Rattle.rasta_audit.specs.Verdict.{IsVerdict, explained_line, explained_text};
+ghost use Rattle.rasta_audit.specs.Judged.{HasToldRun, status_of_verdict, text_of_explanation, text_of_verdict};
+
+use crate::line::Line;
+use crate::run_text::write_run;
+use crate::taken_text::write_taken;
+use crate::texts::refusal_line;
+use rasta_cert::{Certificate, read};
+use rasta_check::{Report, Sent, check_sent, sent};
+use rasta_pcap::write_all;
+use rasta_pdu::{Fault, Params, Side, Sink};
+use std::alloc::Global;
+
+/// What crossed, the certificate that explains it, and the report on both.
+#[derive(Drop)]
+pub struct Explanation<'a> {
+    pub sent: Sent<'a>,
+    pub certificate: Certificate,
+    pub report: Report<'a>,
+}
+
+/// A capture that is refused, or whose certificate is, by its first fault; or one that is explained.
+#[derive(Drop)]
+pub enum Verdict<'a> {
+    Refused(Fault),
+    Explained(Explanation<'a>),
+}
+
+// A refusal is a verdict; want of memory is none.
+fn refused<'a>(fault: Fault) -> Result<Verdict<'a>, Fault>
+    ensures ok { IfOk result (λ v. (v ≡ verdicts.Refused fault) × (fault ≢ no_memory)) }
+    ensures err { IfErr result (λ f. f ≡ no_memory) }
+{
+    if fault.number == Fault::NO_MEMORY {
+        Err(Fault::at(Fault::NO_MEMORY, 0))
+    } else {
+        Ok(Verdict::Refused(fault))
+    }
+}
+
+// The verdict on what crossed and a certificate.
+fn judge_scripts<'a>(
+    alloc: Global,
+    sent: Sent<'a>,
+    certificate: Certificate,
+) -> Result<Verdict<'a>, Fault>
+    ensures stands { IfOk result (λ v. (p : Parameters) (file text : List ℕ) → crossing_of p file ≡ Ok sent.entry
+        → text ≡ certificate_text certificate → IsCertificate certificate → IsVerdict p text file (text_of_verdict v) (status_of_verdict v)) }
+    ensures told { IfOk result HasToldRun }
+    ensures err { IfErr result (λ f. f ≡ no_memory) }
+{
+    match check_sent(alloc, &sent.params(), &sent, &certificate) {
+        Ok(report) => Ok(Verdict::Explained(Explanation {
+            sent,
+            certificate,
+            report,
+        })),
+        Err(fault) => refused(fault),
+    }
+}
+
+/// The verdict on a file and a certificate's text: the capture is judged first, then the text, then the
+/// client's script, then the server's. Refused by [`Fault::NO_MEMORY`] alone.
+pub fn judge<'a>(
+    alloc: Global,
+    params: &Params,
+    file: &'a [u8],
+    certificate: &[u8],
+) -> Result<Verdict<'a>, Fault>
+    ensures stands { IfOk result (λ v. IsVerdict params.now certificate.now file.entry.now (text_of_verdict v) (status_of_verdict v)) }
+    ensures told { IfOk result HasToldRun }
+    ensures err { IfErr result (λ f. f ≡ no_memory) }
+{
+    let sent = match sent(alloc, *params, file) {
+        Ok(sent) => sent,
+        Err(fault) => return refused(fault),
+    };
+    match read(alloc, certificate) {
+        Ok(certificate) => judge_scripts(alloc, sent, certificate),
+        Err(fault) => refused(fault),
+    }
+}
+
+// Makes the first line of an explanation.
+#[tactic(auto, unfolding(crate::specs::Verdict::explained_line))]
+fn put_explained(line: &mut Line, packets: u32)
+    ensures { line.new ≡ explained_line packets }
+{
+    line.begin_with_number(u64::from(packets));
+    line.word(b"explained");
+}
+
+// Writes the text of an explanation.
+fn write_explanation<W: Sink>(explanation: &Explanation<'_>, writer: &mut W) -> Result<(), Fault>
+    requires { IsTold explanation.now.sent explanation.now.certificate }
+    ensures ok { OnOk result (Appends (W.contents writer.old) (W.contents writer.new) (text_of_explanation explanation.now)) }
+    ensures err { IfErr result (λ f. (f ≡ write_failed)
+        × HasFailed (W.failure_count writer.old) (W.failure_count writer.new)) }
+    ensures begun { OnErr result (AppendsBeginning (W.contents writer.old) (W.contents writer.new) (text_of_explanation explanation.now)) }
+{
+    let report = &explanation.report;
+    let mut line = Line::new();
+    put_explained(&mut line, report.packets);
+    write_all(writer, line.as_bytes())?;
+    write_run(
+        &explanation.sent,
+        &explanation.certificate,
+        &mut line,
+        writer,
+    )?;
+    write_taken(
+        Side::Client,
+        report.client_taken.as_slice(),
+        &mut line,
+        writer,
+    )?;
+    write_taken(
+        Side::Server,
+        report.server_taken.as_slice(),
+        &mut line,
+        writer,
+    )
+}
+
+/// Writes the text of a verdict, and answers the status of the program: 0 where the capture is explained,
+/// and else 1.
+pub fn write_verdict<W: Sink>(verdict: &Verdict<'_>, writer: &mut W) -> Result<u8, Fault>
+    requires { HasToldRun verdict.now }
+    ensures ok { OnOk result (Appends (W.contents writer.old) (W.contents writer.new) (text_of_verdict verdict.now)) }
+    ensures answered { IfOk result (λ status. status_of_verdict verdict.now ≡ status) }
+    ensures err { IfErr result (λ f. (f ≡ write_failed)
+        × HasFailed (W.failure_count writer.old) (W.failure_count writer.new)) }
+    ensures begun { OnErr result (AppendsBeginning (W.contents writer.old) (W.contents writer.new) (text_of_verdict verdict.now)) }
+{
+    match verdict {
+        Verdict::Explained(explanation) => {
+            write_explanation(explanation, writer)?;
+            Ok(0)
+        }
+        Verdict::Refused(fault) => {
+            write_all(writer, refusal_line(*fault).as_bytes())?;
+            Ok(1)
+        }
+    }
+}
