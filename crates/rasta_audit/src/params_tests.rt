@@ -3,7 +3,6 @@
 //! A row of a table is a line with bars between its parts; a slash stands for the end of a line. The
 //! first part is the number and the place of the fault, or `read`.
 use crate::params::params;
-use rasta_pdu::Params;
 use std::alloc::Global;
 use std::process::Abort;
 use std::test::Fail;
@@ -261,32 +260,19 @@ fn faults_come_in_the_order_of_the_keys(rt: HostRuntime) -> Result<(), Fail> {
     expect(&rt, "read", text.as_bytes())
 }
 
-// The values in front of the channels, in the order of their keys.
-fn front_of(alloc: Global, p: &Params) -> Result<String, Fail> {
-    let [a, b, c, d] = p.md4_start();
-    let words = format!(in alloc; "{a:08x}{b:08x}{c:08x}{d:08x}")?;
-    let front = format!(in alloc;
-        "({}, {}) ({}, {}) {words}",
-        p.client_id(),
-        p.server_id(),
-        p.code_length(),
-        p.check_length()
-    )?;
-    Ok(format!(in alloc;
-        "{front} ({}, {}, {}) ({}, {})",
-        p.n_sendmax(),
-        p.t_max(),
-        p.slack(),
-        p.first_record(),
-        p.last_record()
-    )?)
-}
-
 // All values, in the order of their keys.
 fn values_of(alloc: Global, text: &str) -> Result<String, Fail> {
     let p = params(alloc, text.as_bytes()).map_err(|_| "parameters")?;
-    let front = front_of(alloc, &p)?;
-    Ok(format!(in alloc; "{front} {:?} {:?}", p.channel(), p.quiet())?)
+    let [a, b, c, d] = p.md4_start();
+    let words = format!(in alloc; "{a:08x}{b:08x}{c:08x}{d:08x}")?;
+    let lengths = (p.code_length(), p.check_length());
+    let limits = (p.n_sendmax(), p.t_max(), p.slack());
+    let window = (p.first_record(), p.last_record());
+    let ids = (p.client_id(), p.server_id());
+    let front = format!(in alloc; "{ids:?} {lengths:?} {words} {limits:?} {window:?}")?;
+    let channels = p.channel();
+    let quiet = p.quiet();
+    Ok(format!(in alloc; "{front} {channels:?} {quiet:?}")?)
 }
 
 const WORKED_VALUES: &str =

@@ -4,6 +4,7 @@
 //! its parts; a slash stands for the end of a line.
 use crate::params::params;
 use crate::show::run_show;
+use crate::tests::number_in;
 use rasta_pcap::Counted;
 use rasta_pcap::devices::{FailAt, Pieces};
 use rasta_pdu::{Fault, Params, Sink, Source};
@@ -154,7 +155,7 @@ const FRAMES: &str = "\
 const SHOWN: &str = "0 1 1 client 8 0 6220 101 500 1010 9000 - - -/packets 1";
 
 fn place_in(word: Option<&str>) -> Option<usize> {
-    Some(usize::from(word?.parse::<u8>().ok()?))
+    Some(number_in(word)? as usize)
 }
 
 // The front of the heartbeat's frame, then other bytes in place of a range, and the rest; as many bytes

@@ -3,13 +3,16 @@ use crate::command::form;
 use crate::failure::{Failure, status};
 use rasta_pdu::{Fault, Side};
 use std::alloc::Global;
+use std::process::Abort;
 use std::test::Fail;
 
 // The words of a text.
 fn words_in(alloc: Global, text: &str) -> Result<Vec<String>, Fail> {
     let mut list = Vec::new(alloc);
-    for word in text.split_whitespace() {
-        list.push(String::from_str(alloc, word)?)?;
+    for word in text.split(' ') {
+        if !word.is_empty() {
+            list.push(String::from_str(alloc, word)?)?;
+        }
     }
     Ok(list)
 }
@@ -56,39 +59,50 @@ fn forms_of_the_command_line(rt: HostRuntime) -> Result<(), Fail> {
 
 // Number and place of a fault, the status of the program, and the text of the failure.
 const FAILURES: &str = "\
-1 0 3 refused 1 NoMemory 0 -
-2 0 3 refused 2 ReadFailed 0 -
-3 0 3 refused 3 WriteFailed 0 -
-10 0 1 refused 10 NotPcap 0 -
-20 7 1 refused 20 RedundancyLength 7 client
-49 0 1 refused 49  0 -
-50 0 2 refused 50 Toml 0 -
-52 12 2 refused 52 BadValue 12 -
-60 1 1 refused 60 NotFound 1 -
+1 0 3 | refused 1 NoMemory 0 -
+2 0 3 | refused 2 ReadFailed 0 -
+3 0 3 | refused 3 WriteFailed 0 -
+10 0 1 | refused 10 NotPcap 0 -
+20 7 1 | refused 20 RedundancyLength 7 client
+49 0 1 | refused 49  0 -
+50 0 2 | refused 50 Toml 0 -
+52 12 2 | refused 52 BadValue 12 -
+60 1 1 | refused 60 NotFound 1 -
 ";
 
-// The fault of a row, its status and its text.
-fn fault_in(row: &str) -> Option<(Fault, u8, &str)> {
-    let (number, row) = row.split_once(' ')?;
-    let (place, row) = row.split_once(' ')?;
-    let (code, text) = row.split_once(' ')?;
-    let fault = Fault {
-        number: number.parse().ok()?,
-        place: place.parse().ok()?,
-        end: text.ends_with("client").then_some(Side::Client),
-    };
-    Some((fault, code.parse().ok()?, text))
+/// The number of a word.
+pub fn number_in(word: Option<&str>) -> Option<u32> {
+    word?.parse::<u32>().ok()
+}
+
+// The failure of these words, with an end or none, and its status.
+fn failure_in(words: &str, end: Option<Side>) -> Option<(Failure, u32)> {
+    let mut words = words.split(' ');
+    let number = u8::try_from(number_in(words.next())?).ok()?;
+    let place = number_in(words.next())?;
+    let code = number_in(words.next())?;
+    let fault = Fault { number, place, end };
+    Some((Failure::Refused(fault), code))
+}
+
+fn expect_failure<R: Abort + AllocGlobal>(
+    rt: &R,
+    failure: &Failure,
+    text: &str,
+    code: u32,
+) -> Result<(), Fail> {
+    assert_eq!(rt; failure.to_string(rt.alloc())?.as_str(), text);
+    assert_eq!(rt; u32::from(status(failure)), code);
+    Ok(())
 }
 
 #[test]
 fn failures_as_texts_and_statuses(rt: HostRuntime) -> Result<(), Fail> {
     for row in FAILURES.lines() {
-        let (fault, code, text) = fault_in(row).ok_or("a row")?;
-        let failure = Failure::Refused(fault);
-        assert_eq!(rt; failure.to_string(rt.alloc())?.as_str(), text);
-        assert_eq!(rt; status(&failure), code);
+        let (words, text) = row.split_once(" | ").ok_or("a row")?;
+        let end = text.ends_with("client").then_some(Side::Client);
+        let (failure, code) = failure_in(words, end).ok_or("a row")?;
+        expect_failure(&rt, &failure, text, code)?;
     }
-    assert_eq!(rt; Failure::Usage.to_string(rt.alloc())?.as_str(), "usage");
-    assert_eq!(rt; status(&Failure::Usage), 2);
-    Ok(())
+    expect_failure(&rt, &Failure::Usage, "usage", 2)
 }
