@@ -12,7 +12,7 @@ use std::alloc::Global;
 use std::process::Abort;
 use std::test::Fail;
 
-const LITTLE: &str = "d4c3b2a1";
+pub const LITTLE: &str = "d4c3b2a1";
 
 // A heartbeat of the client on the first channel, followed by six bytes of padding.
 const HEARTBEAT: &str = "0200000000020200000000010800450000400000000040110000\
@@ -20,21 +20,21 @@ const HEARTBEAT: &str = "0200000000020200000000010800450000400000000040110000\
 24000000080000001c004c18610000006000000065000000f4010000f203000028230000\
 000000000000";
 
-const NO_CODES: &str = "code_length = 0/check_length = 0";
+pub const NO_CODES: &str = "code_length = 0/check_length = 0";
 
 const TWO_CHANNELS: &str = "client_id = 96/server_id = 97/n_sendmax = 20/t_max = 1800/slack = 0/\
 [[channel]]/client = '10.0.0.1:5000'/server = '10.0.0.2:5000'/\
 [[channel]]/client = '10.0.1.1:5001'/server = '10.0.1.2:5001'/";
 
 // Parameters of two channels, with these lines for the other keys.
-fn parameters(alloc: Global, lines: &str) -> Option<Params> {
+pub fn parameters(alloc: Global, lines: &str) -> Option<Params> {
     let text = format!(in alloc; "{lines}/{TWO_CHANNELS}").ok()?;
     let text = text.replace(alloc, "/", "\n").ok()?;
     params(alloc, text.as_bytes()).ok()
 }
 
 // The file header, whose first byte tells the byte order.
-fn header_of(alloc: Global, magic: &str) -> Option<Vec<u8>> {
+pub fn header_of(alloc: Global, magic: &str) -> Option<Vec<u8>> {
     let rest = if magic.starts_with("a1") {
         "0002000400000000000000000004000000000001"
     } else {
@@ -45,7 +45,7 @@ fn header_of(alloc: Global, magic: &str) -> Option<Vec<u8>> {
 }
 
 // Puts a record behind, in the byte order of the file.
-fn add_record(file: &mut Vec<u8>, frame: &[u8]) -> Option<()> {
+pub fn add_record(file: &mut Vec<u8>, frame: &[u8]) -> Option<()> {
     let captured = u32::try_from(frame.len()).ok()?;
     let length = if file.first() == Some(&0xa1) {
         captured.to_be_bytes()
@@ -77,7 +77,7 @@ fn addresses_of(side: &str) -> Option<&'static str> {
 }
 
 // The frame of a datagram with its sender in front, with this tag.
-fn frame_of(alloc: Global, tag: &str, sent: &str) -> Option<Vec<u8>> {
+pub fn frame_of(alloc: Global, tag: &str, sent: &str) -> Option<Vec<u8>> {
     let (side, datagram) = sent.split_once(':')?;
     let udp = u16::try_from(datagram.len() / 2).ok()?.checked_add(8)?;
     let whole = udp.checked_add(20)?;
