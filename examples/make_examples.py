@@ -1,18 +1,23 @@
 #!/usr/bin/env python3
-"""Writes the example captures, their parameter files and what `show` prints of them.
+"""Writes the example captures, their parameter files and certificates, and what `show` and `check` print.
 
 Plain Python 3, no other packages. Run it anywhere: the files go beside it,
 
-    one_heartbeat.pcap   one_heartbeat.toml   expected/one_heartbeat.txt
-    two_channels.pcap    two_channels.toml    expected/two_channels.txt
-    handshake.pcap       handshake.toml       expected/handshake.txt
-    retransmission.pcap  retransmission.toml  expected/retransmission.txt
+    one_heartbeat   a heartbeat
+    two_channels    heartbeats on two channels, with foreign frames in between
+    handshake       the opening of a connection
+    copies          the same on two channels
+    retransmission  a unit is lost and sent again
+    both_ask        both ends miss a unit, and ask at the same time
+    quiet_start     data behind a recorded quiet point
 
-and every run writes the same bytes. All addresses, clocks and numbers are made up.
+each as NAME.pcap, NAME.toml and expected/NAME.txt, the last five also as NAME.cert and
+expected/NAME.check.txt; and every run writes the same bytes. All addresses, clocks and numbers are made up.
 
-The expected texts come about in two ways, which are compared: from the list of PDUs that the
-captures were made of, and by a reader of this script's own, which takes the finished file apart.
-Neither uses rasta_audit.
+The expected texts of `show` come about in two ways, which are compared: from the list of PDUs that the
+captures were made of, and by a reader of this script's own, which takes the finished file apart. Those
+of `check` are put together from the packets, the certificate's entries and the messages that each story
+says were taken. None uses rasta_audit.
 """
 
 import pathlib
@@ -54,6 +59,7 @@ class Connection(typing.NamedTuple):
     code_length: int = 0
     check_length: int = 0
     md4_start: str = RFC_1320
+    quiet: str = ""
 
 
 PARAMETERS = """\
@@ -93,7 +99,7 @@ def parameters(comment, connection):
     """The text of a parameter file."""
     lengths = LENGTHS.format(connection) if connection.code_length else NO_LENGTHS
     tables = [CHANNEL.format(*client, *server) for client, server in connection.channels]
-    return comment + PARAMETERS.format(lengths=lengths) + "".join(tables)
+    return comment + PARAMETERS.format(lengths=lengths) + "".join(tables) + connection.quiet
 
 
 # ---- the digest of RFC 1320, with start words of one's own
@@ -289,6 +295,57 @@ def planned_text(connection, packets):
     return "".join(lines) + f"packets {len(lines)}\n"
 
 
+# ---- certificates, and what `check` prints
+
+
+class Story(typing.NamedTuple):
+    """Both scripts, and what each end took: message number, place of the data, place of the proof, bytes."""
+
+    client: list
+    server: list
+    client_took: list = []
+    server_took: list = []
+
+
+def certificate(story):
+    """The text of a certificate with these scripts."""
+    lines = ["rasta-certificate 1", "client", *story.client, "server", *story.server, "end"]
+    return "".join(line + "\n" for line in lines)
+
+
+def takes_at(level, side, script):
+    """What a side takes when so many packets have crossed."""
+    for entry in script:
+        words = entry.split(" ")
+        if words[0] == "take" and int(words[1]) == level:
+            yield f"{level} {side} take {words[2]}\n"
+
+
+def packet_line(place, pdu, story):
+    """What is said of a packet: the make of a first copy, or that it is a copy."""
+    for entry in story.client if pdu.side == "client" else story.server:
+        words = entry.split(" ")
+        if words[0] == "make" and int(words[1]) == place:
+            return f"{place} {pdu.side} make {pdu.number} {' '.join(words[2:])}\n"
+    return f"{place} {pdu.side} copy {pdu.number}\n"
+
+
+def taken_lines(side, messages):
+    lines = [f"{number} {data} {proof} {message.hex() or '.'}\n" for number, data, proof, message in messages]
+    return f"taken by {side} {len(lines)}\n" + "".join(lines)
+
+
+def verdict_text(pdus, story):
+    """The text of a verdict on packets that these scripts explain."""
+    out = f"explained {len(pdus)}\n"
+    for level in range(len(pdus) + 1):
+        out += "".join(takes_at(level, "client", story.client))
+        out += "".join(takes_at(level, "server", story.server))
+        if level < len(pdus):
+            out += packet_line(level, pdus[level], story)
+    return out + taken_lines("client", story.client_took) + taken_lines("server", story.server_took)
+
+
 # ---- what `show` prints, read back from the finished file
 
 
@@ -479,6 +536,159 @@ RETRANSMISSION = HANDSHAKE + [
     Pdu("server", 43, DISCONNECTION_REQUEST, 503, 107, 9050, 1050, (3, 0)),
 ]
 
+HANDSHAKE_STORY = Story(
+    ["make 0 1000 open", "take 2 40", "make 2 1010 reply"],
+    ["take 1 7", "make 1 9000 reply"],
+)
+
+RETRANSMISSION_STORY = Story(
+    [
+        "make 0 1000 open",
+        "take 2 40",
+        "make 2 1010 reply",
+        "make 3 1015 fresh",
+        "make 4 1020 fresh",
+        "take 6 41",
+        "make 6 1030 reply",
+        "make 7 1035 again 0",
+        "make 8 1040 again 1",
+        "take 10 42",
+        "make 10 1050 fresh",
+    ],
+    [
+        "take 1 7",
+        "make 1 9000 reply",
+        "take 5 8",
+        "take 5 10",
+        "make 5 9020 ask",
+        "take 9 11",
+        "take 9 12",
+        "take 9 13",
+        "make 9 9040 beat",
+        "take 11 14",
+        "make 11 9050 bye",
+    ],
+    server_took=[
+        (0, 3, 9, FIRST[0]),
+        (1, 3, 9, FIRST[1]),
+        (2, 4, 9, SECOND[0]),
+        (3, 10, 11, THIRD[0]),
+        (4, 10, 11, THIRD[1]),
+    ],
+)
+
+# The handshake with copies on the second channel: each packet a channel and its PDU.
+COPIES = [
+    (1, HANDSHAKE[0]),
+    (2, HANDSHAKE[0]),
+    (1, HANDSHAKE[1]),
+    (1, HANDSHAKE[2]),
+    (2, HANDSHAKE[0]),
+    (2, HANDSHAKE[2]),
+    (2, HANDSHAKE[1]),
+]
+
+COPIES_STORY = Story(
+    ["make 0 1000 open", "take 3 40", "make 3 1010 reply"],
+    ["take 2 7", "make 2 9000 reply"],
+)
+
+
+def on_channels(connection, packets):
+    """PDUs on these channels, one every 5 milliseconds."""
+    frames = [frame_of(pdu.side, channel, datagram(connection, pdu)) for channel, pdu in packets]
+    records = [(START + 5000 * i, frame) for i, frame in enumerate(frames)]
+    return capture(records), planned_text(connection, [(i, *packet) for i, packet in enumerate(packets, 1)])
+
+
+def byte(value):
+    """A message of one byte."""
+    return [bytes([value])]
+
+
+# Both ends miss the other's first unit, and ask for it at the same time.
+BOTH_ASK = HANDSHAKE + [
+    Pdu("client", 9, DATA, 102, 500, 1020, 9000, byte(0x01)),
+    Pdu("server", 41, DATA, 501, 101, 9020, 1010, byte(0x11)),
+    Pdu("client", 10, DATA, 103, 500, 1030, 9000, byte(0x02)),
+    Pdu("server", 42, DATA, 502, 101, 9030, 1010, byte(0x12)),
+    Pdu("client", 11, RETRANSMISSION_REQUEST, 104, 500, 1040, 9000),
+    Pdu("server", 43, RETRANSMISSION_REQUEST, 503, 101, 9040, 1010),
+    Pdu("client", 12, RETRANSMISSION_RESPONSE, 105, 500, 1050, 9000),
+    Pdu("client", 13, RETRANSMITTED_DATA, 106, 500, 1051, 9000, byte(0x01)),
+    Pdu("client", 14, RETRANSMITTED_DATA, 107, 500, 1052, 9000, byte(0x02)),
+    Pdu("server", 44, RETRANSMISSION_RESPONSE, 504, 101, 9050, 1010),
+    Pdu("server", 45, RETRANSMITTED_DATA, 505, 101, 9051, 1010, byte(0x11)),
+    Pdu("server", 46, RETRANSMITTED_DATA, 506, 101, 9052, 1010, byte(0x12)),
+    Pdu("client", 15, HEARTBEAT, 108, 506, 1060, 9052),
+    Pdu("server", 47, HEARTBEAT, 507, 108, 9060, 1060),
+]
+
+BOTH_ASK_STORY = Story(
+    [
+        "make 0 1000 open",
+        "take 2 40",
+        "make 2 1010 reply",
+        "make 3 1020 fresh",
+        "make 5 1030 fresh",
+        "take 7 42",
+        "make 7 1040 ask",
+        "take 9 43",
+        "make 9 1050 reply",
+        "make 10 1051 again 0",
+        "make 11 1052 again 1",
+        "take 15 44",
+        "take 15 45",
+        "take 15 46",
+        "make 15 1060 beat",
+    ],
+    [
+        "take 1 7",
+        "make 1 9000 reply",
+        "take 4 8",
+        "make 4 9020 fresh",
+        "make 6 9030 fresh",
+        "take 8 10",
+        "make 8 9040 ask",
+        "take 12 11",
+        "make 12 9050 reply",
+        "make 13 9051 again 0",
+        "make 14 9052 again 1",
+        "take 16 12",
+        "take 16 13",
+        "take 16 14",
+        "take 16 15",
+        "make 16 9060 beat",
+    ],
+    client_took=[(0, 4, 15, b"\x11"), (1, 6, 15, b"\x12")],
+    server_took=[(0, 3, 16, b"\x01"), (1, 5, 16, b"\x02")],
+)
+
+QUIET = """
+# The capture begins in mid-session, at a quiet point: both ends up, nothing owed, and everything made
+# was taken and confirmed.
+[quiet.client]
+next_sn = 102
+clock = 1010
+
+[quiet.server]
+next_sn = 501
+clock = 9000
+deadline = 10800
+"""
+
+# The first two PDUs behind the quiet point.
+QUIET_START = [
+    Pdu("client", 9, DATA, 102, 500, 1020, 9000, FIRST),
+    Pdu("server", 41, HEARTBEAT, 501, 102, 9050, 1020),
+]
+
+QUIET_STORY = Story(
+    ["make 0 1020 fresh"],
+    ["take 1 9", "make 1 9050 beat"],
+    server_took=[(0, 0, 1, FIRST[0]), (1, 0, 1, FIRST[1])],
+)
+
 ONE_COMMENT = """\
 # Parameters of one_heartbeat.pcap: a connection with one redundancy channel.
 # All keys that have to be there are here; the window is the whole file, since first_record and
@@ -501,6 +711,21 @@ RETRANSMISSION_COMMENT = """\
 
 """
 
+COPIES_COMMENT = """\
+# Parameters of copies.pcap: a connection with two redundancy channels.
+
+"""
+
+BOTH_ASK_COMMENT = """\
+# Parameters of both_ask.pcap: a connection with one redundancy channel.
+
+"""
+
+QUIET_COMMENT = """\
+# Parameters of quiet_start.pcap: a connection with one redundancy channel, recorded from a quiet point on.
+
+"""
+
 
 def write(name, connection, made, comment):
     data, text = made
@@ -511,10 +736,25 @@ def write(name, connection, made, comment):
     (HERE / "expected" / f"{name}.txt").write_bytes(text.encode())
 
 
+def write_verdict(name, pdus, story):
+    """A certificate, and what `check` prints of it."""
+    (HERE / f"{name}.cert").write_bytes(certificate(story).encode())
+    (HERE / "expected" / f"{name}.check.txt").write_bytes(verdict_text(pdus, story).encode())
+
+
 if __name__ == "__main__":
     one, two = Connection(CHANNELS[:1]), Connection(CHANNELS)
     coded = Connection(CHANNELS[:1], 16, 4, OWN_START)
+    quiet = Connection(CHANNELS[:1], quiet=QUIET)
     write("one_heartbeat", one, one_heartbeat(one), ONE_COMMENT)
     write("two_channels", two, two_channels(two), TWO_COMMENT)
     write("handshake", one, in_turn(one, HANDSHAKE), HANDSHAKE_COMMENT)
+    write("copies", two, on_channels(two, COPIES), COPIES_COMMENT)
     write("retransmission", coded, in_turn(coded, RETRANSMISSION), RETRANSMISSION_COMMENT)
+    write("both_ask", one, in_turn(one, BOTH_ASK), BOTH_ASK_COMMENT)
+    write("quiet_start", quiet, in_turn(quiet, QUIET_START), QUIET_COMMENT)
+    write_verdict("handshake", HANDSHAKE, HANDSHAKE_STORY)
+    write_verdict("copies", [pdu for _, pdu in COPIES], COPIES_STORY)
+    write_verdict("retransmission", RETRANSMISSION, RETRANSMISSION_STORY)
+    write_verdict("both_ask", BOTH_ASK, BOTH_ASK_STORY)
+    write_verdict("quiet_start", QUIET_START, QUIET_STORY)

@@ -1,6 +1,6 @@
 -- A capture is read without a fault exactly where it has none.
-use Rattle.std.proofs.Common.{◌≡◌, ◌⊎◌, ℕ, zero, suc, ◌+◌, ◌-◌, ◌<◌, ◌≤◌, List, [], ◌∷◌, ◌++◌, length, drop, map, append_assoc, length-append, Option, Some, None, Result, Ok, Err, Bool, true, false, refl, ap, sym, ◌∙◌, arith, subst, nat_lt, lt-ltb, le-ltb, if◌then◌else◌, inl, inr, ⊎_elim}
-use Rattle.std.specs.Prelude.{IsOk, IfOk, IfErr, MatchResult, ◌&&◌, nat_le}
+use Rattle.std.proofs.Common.{◌≡◌, ◌⊎◌, ℕ, suc, ◌+◌, ◌-◌, ◌≤◌, List, [], ◌∷◌, ◌++◌, length, drop, map, append_assoc, append-nil, length-append, Option, Some, None, Result, Ok, Err, Bool, true, false, refl, ap, sym, ◌∙◌, arith, subst, nat_lt, lt-ltb, le-ltb, if◌then◌else◌, inl, inr}
+use Rattle.std.specs.Prelude.{IsOk, IfOk, IfErr}
 use Rattle.std.specs.List.{AllByRecursion, range_with_len}
 use Rattle.std.proofs.lemmas.List.{length_push}
 use Rattle.std.proofs.lemmas.Bool.Decides.{nat_tests}
@@ -10,26 +10,25 @@ use Rattle.rasta_pcap.specs.declared.fault.Fault.{Fault}
 use Rattle.rasta_pcap.specs.declared.fault.Side.{Side}
 use Rattle.rasta_pcap.specs.declared.fault.Side.TheVariants.{Client, Server}
 use Rattle.rasta_pcap.specs.Fault.{no_memory, fault_at, too_many}
-use Rattle.rasta_pcap.specs.Capture.{Cursor, Numbered, Reading, IsCapture, opening, reading_of, bytes_of}
+use Rattle.rasta_pcap.specs.Capture.{Numbered, opening, reading_of, bytes_of}
 use Rattle.rasta_pcap.proofs.Captures.{numbers-reading_of, reading_of-IsCapture, reading_of-header_fault}
 use Rattle.rasta_udp.specs.Frame.{Packet, packet_in}
 use Rattle.rasta_pdu.specs.Params.{Parameters, AreParameters}
 use Rattle.rasta_pdu.specs.Messages.{AreBytes}
 use Rattle.rasta_check.specs.Crossing.{FirstCopy, Sent, crossing_list, found_packet, packet_fault}
 use Rattle.rasta_check.specs.Theorem.{OfConnection, most_packets}
-use Rattle.rasta_check.specs.World.{IsRecorded, most_sent}
+use Rattle.rasta_check.specs.World.{most_sent}
 use Rattle.rasta_check.specs.Reading.{Crossing, IsCrossing, and_then, after_frame, after_judged, after_packet, after_record, after_records, crossing_of, crossing_with, is_within, nothing_crossed, sent_behind, sent_by, with_packet}
 use Rattle.rasta_check.specs.Verdicts.{IsFaultlessCapture}
-use Rattle.rasta_check.proofs.Channels.{is_recorded}
 use Rattle.rasta_check.proofs.Copies.{IsSent}
-use Rattle.rasta_check.proofs.Crossings.{list_of, few_of, is_read, goes_on, grown_crossing}
+use Rattle.rasta_check.proofs.Crossings.{list_of, few_of, is_read, goes_on}
 use Rattle.rasta_check.proofs.Faults.{faultless}
 use Rattle.rasta_check.proofs.Following.{can_follow, shorter}
 use Rattle.rasta_check.proofs.Forms.{to_record}
 use Rattle.rasta_check.proofs.Kept.{AllBytes, file_bytes, payload_bytes, record_kept}
 use Rattle.rasta_check.proofs.Readings.{all_packets_in, drop_nil, file_by, of_option, packets_in, record_by, then_by, end_by, window_by}
 use Rattle.rasta_check.proofs.Sending.{sent_once}
-use Rattle.rasta_check.proofs.Verdicts.{nothing_is}
+use Rattle.rasta_check.proofs.Verdicts.{Answers, nothing_is}
 
 -- ---- what is read is a crossing
 
@@ -104,9 +103,10 @@ module _ (p : Parameters) where
         let head : r.0 ≡ n = cc in
         let tail : map (λ (r : Numbered). r.0) rs ≡ range_with_len (n + 1) (length rs) = cc in
         let left : p.first_record - n ≡ suc (p.first_record - (n + 1)) = omega arith in
-        let test : nat_lt r.0 p.first_record ≡ true = lt-ltb r.0 p.first_record (omega arith) in
-        ((λ inside. absurd (let z = sym test ∙ inside in cc)),
-        sound_window rs (n + 1) (omega arith) tail (subst (λ (m : ℕ). AreSound p (drop m (frames_of (r ∷ rs)))) left h))
+        let test : nat_lt r.0 p.first_record ≡ true = lt-ltb r.0 p.first_record (omega arith) in (
+          (λ inside. absurd (let z = sym test ∙ inside in cc)),
+          sound_window rs (n + 1) (omega arith) tail (subst (λ (m : ℕ). AreSound p (drop m (frames_of (r ∷ rs)))) left h),
+        )
     | no high ↦ sound_all (r ∷ rs) (subst (λ (m : ℕ). AreSound p (drop m (frames_of (r ∷ rs)))) (let z : p.first_record - n ≡ 0 = omega arith in z) h)
   ]
 
@@ -133,23 +133,15 @@ read_is_faultless p file k h are e =
 
 -- ---- a beginning of packets
 
-append_one : (xs : List Packet) (y : Packet) (ys : List Packet) → xs ++ y ∷ ys ≡ (xs ++ y ∷ []) ++ ys
-append_one [] y ys = refl
-append_one (x ∷ xs) y ys = ap (λ zs. x ∷ zs) (append_one xs y ys)
-
-append_none : (xs : List Packet) → xs ++ [] ≡ xs
-append_none [] = refl
-append_none (x ∷ xs) = ap (λ zs. x ∷ zs) (append_none xs)
-
 no_longer : (big own : List FirstCopy) (n : ℕ) → (big ≡ own) ⊎ ((c : FirstCopy) × (big ≡ own ++ c ∷ []) × (c.place ≡ n)) → length own ≤ length big
 no_longer big own n (inl e) = (let z = ap length e in omega arith)
 no_longer big own n (inr w) = (let z = ap length w.1 in let l = length_push own w.0 in omega arith)
 
 -- the sent list of a beginning is no longer than that of all
 sent_front_few : (p : Parameters) (ys xs : List Packet) (s : Side) (big : List FirstCopy) → IsSent p (xs ++ ys) s big → (own : List FirstCopy) × IsSent p xs s own × (length own ≤ length big)
-sent_front_few p [] xs s big h = (big, subst (λ zs. IsSent p zs s big) (append_none xs) h, omega arith)
+sent_front_few p [] xs s big h = (big, subst (λ zs. IsSent p zs s big) (append-nil xs) h, omega arith)
 sent_front_few p (y ∷ ys) xs s big h =
-    let r = sent_front_few p ys (xs ++ y ∷ []) s big (subst (λ zs. IsSent p zs s big) (append_one xs y ys) h) in
+    let r = sent_front_few p ys (xs ++ y ∷ []) s big (subst (λ zs. IsSent p zs s big) (sym (append_assoc xs (y ∷ []) ys)) h) in
     let z = shorter p xs y s r.0 r.1 in
     let a = r.2 in
     let b = no_longer r.0 z.own (length xs) z.how in
@@ -187,7 +179,7 @@ few_behind k a more c s h are g =
     let own = list_of k h a.side in
     let grown = goes_on k.params k.packets (sent_by k a.side) a own (is_read k.params (sent_by k a.side) a h.valid.valid are none) none in
     let whole = whole_of k (a ∷ more) c s h g a.side in
-    let front = sent_front_few k.params more (k.packets ++ a ∷ []) a.side _ (subst (λ (xs : List Packet). IsSent k.params xs a.side (list_behind a.side c s)) (append_one k.packets a more) whole.0) in
+    let front = sent_front_few k.params more (k.packets ++ a ∷ []) a.side _ (subst (λ (xs : List Packet). IsSent k.params xs a.side (list_behind a.side c s)) (sym (append_assoc k.packets (a ∷ []) more)) whole.0) in
     let few = whole.1 in
     let less = front.2 in
     let same = ap length (sent_once k.params (k.packets ++ a ∷ []) a.side front.0 (sent_behind k a) front.1 grown (omega arith)) in
@@ -277,17 +269,14 @@ faultless_is_read p file client server h are f =
       last.0,
       e,
       sent_once p (crossing_list p f.records) Client last.0.client client
-      (to_record p (crossing_list p f.records) Client last.0.client h.valid (subst (λ (xs : List Packet). Sent p xs Client last.0.client) same back.client_sent))
-      (to_record p (crossing_list p f.records) Client client h.valid f.client_sent) (omega arith),
+          (to_record p (crossing_list p f.records) Client last.0.client h.valid (subst (λ (xs : List Packet). Sent p xs Client last.0.client) same back.client_sent))
+          (to_record p (crossing_list p f.records) Client client h.valid f.client_sent) (omega arith),
       sent_once p (crossing_list p f.records) Server last.0.server server
-      (to_record p (crossing_list p f.records) Server last.0.server h.valid (subst (λ (xs : List Packet). Sent p xs Server last.0.server) same back.server_sent))
-      (to_record p (crossing_list p f.records) Server server h.valid f.server_sent) (omega arith),
+          (to_record p (crossing_list p f.records) Server last.0.server h.valid (subst (λ (xs : List Packet). Sent p xs Server last.0.server) same back.server_sent))
+          (to_record p (crossing_list p f.records) Server server h.valid f.server_sent) (omega arith),
     )
 
 -- ---- answers for a file
-
-abbrev pub Answers : Parameters → List ℕ → Result Crossing Fault → Type 0
-Answers p file r = MatchResult r (λ s. crossing_of p file ≡ Ok s) (λ f. (f ≡ no_memory) ⊎ (crossing_of p file ≡ Err f))
 
 pub answer_read : (p : Parameters) (file : List ℕ) (r : Result Crossing Fault) → OfConnection p → AreBytes file → Answers p file r → IfOk r (λ s. IsFaultlessCapture p file s.client s.server)
 answer_read p file (Ok s) h are a = read_is_faultless p file s h are a

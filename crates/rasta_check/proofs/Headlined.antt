@@ -204,3 +204,13 @@ module _ (p : Parameters) (packets : List Packet) (c s : List FirstCopy) (h : Is
             up_joined r.1.server.state.handed_pdus ∙ (ap joined r.4 ∙ (sym (listed_joined (surely_taken p Client c s)) ∙ ap messages_in_list (sym to_server))),
             up_joined r.1.client.state.handed_pdus ∙ (ap joined r.5 ∙ (sym (listed_joined (surely_taken p Server s c)) ∙ ap messages_in_list (sym to_client))),
           )
+
+-- what is lent of a crossing is a crossing
+pub lent : (k : Crossing) (p : Parameters) (c s : List FirstCopy) → k.params ≡ p → c ≡ k.client → s ≡ k.server → IsCrossing k
+    → IsCrossing (record { params = p; packets = k.packets; client = c; server = s })
+lent k p c s a b d h = subst IsCrossing (λ i. record { params = a i; packets = k.packets; client = sym b i; server = sym d i }) h
+
+-- scripts fit equal lists
+pub fits_by : (p : Parameters) (scripts : Scripts) (n m : ℕ) (c d s t : List FirstCopy) → n ≡ m → c ≡ d → s ≡ t → BothFit p n c s scripts → BothFit p m d t scripts
+fits_by p scripts n m c d s t a b e f =
+    subst (λ (y : List FirstCopy). BothFit p m d y scripts) e (subst (λ (x : List FirstCopy). BothFit p m x s scripts) b (subst (λ k. BothFit p k c s scripts) a f))

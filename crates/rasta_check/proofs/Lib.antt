@@ -49,9 +49,11 @@ pub mod Kept
 pub mod Readings
 pub mod Verdicts
 pub mod Faultless
+pub mod FaultNumbers
 pub mod Plainly
 pub mod Worked
 pub mod Reported
 pub mod Joined
 pub mod Headlined
 pub mod Answering
+pub mod Filed

@@ -1,5 +1,5 @@
 -- A fault of a side is definite, over the records of a file.
-use Rattle.std.proofs.Common.{◌≡◌, ◌⊎◌, ℕ, zero, suc, ◌+◌, ◌-◌, ◌<◌, ◌≤◌, List, [], ◌∷◌, ◌++◌, length, take, map, append_assoc, Option, Some, None, Result, Ok, Err, Bool, true, false, refl, ap, sym, ◌∙◌, arith, subst, nat_lt, if◌then◌else◌, inl, inr, ⊎_elim}
+use Rattle.std.proofs.Common.{◌≡◌, ◌⊎◌, ℕ, zero, suc, ◌+◌, ◌-◌, ◌<◌, ◌≤◌, List, [], ◌∷◌, ◌++◌, length, take, map, append_assoc, append-nil, Option, Some, None, Result, Ok, Err, Bool, true, false, refl, ap, sym, ◌∙◌, arith, subst, nat_lt, if◌then◌else◌, inl, inr, ⊎_elim}
 use Rattle.std.proofs.lemmas.List.{length-map, length-take-le}
 use Rattle.std.specs.Prelude.{IsSome, MatchResult, IfErr}
 use Rattle.std.specs.List.{range_with_len}
@@ -88,7 +88,7 @@ unfolding reading_of
 file_full n file l e = opened_full n (opening file) l e
 
 -- the fault that ends a reading speaks of no end
-no_end : (limit : ℕ) (file : List ℕ) (f : Fault) → (reading_of limit file).fault ≡ Some f → f.end ≡ None
+pub no_end : (limit : ℕ) (file : List ℕ) (f : Fault) → (reading_of limit file).fault ≡ Some f → f.end ≡ None
 no_end limit file f e = elim (dec_lt 0 f.place) [
   | yes l ↦ ap (λ (g : Fault). g.end) (IsRefused-place limit file (bytes_of (reading_of limit file)) f (IsRefused-reading_of limit file f e l))
   | no l ↦ ap (λ (g : Fault). g.end) (opening-fault_place file f (opening-by_reading_of limit file f e (omega arith)))
@@ -139,7 +139,7 @@ record_refused k r f h is e = by (nat_lt r.0 k.params.first_record) e
 
 -- ---- the records up to a fault of a side
 
-then_refused : (q : Result Crossing Fault) (step : Crossing → Result Crossing Fault) (f : Fault) → and_then q step ≡ Err f → (q ≡ Err f) ⊎ ((k : Crossing) × (q ≡ Ok k) × (step k ≡ Err f))
+pub then_refused : (q : Result Crossing Fault) (step : Crossing → Result Crossing Fault) (f : Fault) → and_then q step ≡ Err f → (q ≡ Err f) ⊎ ((k : Crossing) × (q ≡ Ok k) × (step k ≡ Err f))
 then_refused (Ok k) step f e = inr (k, refl, e)
 then_refused (Err g) step f e = inl e
 
@@ -147,16 +147,12 @@ then_refused (Err g) step f e = inl e
 abbrev RefusedIn : Crossing → ℕ → List Numbered → Fault → Type 0
 RefusedIn k n rs f = (n ≤ f.place) × (f.place < n + length rs) × Impossible k.params (k.packets ++ all_packets_in k.params (take (f.place + 1 - n) rs))
 
-append_none : (xs : List Packet) → xs ++ [] ≡ xs
-append_none [] = refl
-append_none (x ∷ xs) = ap (λ ys. x ∷ ys) (append_none xs)
-
 refused_here : (k : Crossing) (n : ℕ) (r : Numbered) (rs : List Numbered) (f : Fault) → r.0 ≡ n → RefusedAt k r.0 (packets_in k.params r) f → RefusedIn k n (r ∷ rs) f
 refused_here k n r rs f head w =
     let at : f.place ≡ n = w.0 ∙ head in
     let one : f.place + 1 - n ≡ 1 = omega arith in
     let same : all_packets_in k.params (take (f.place + 1 - n) (r ∷ rs)) ≡ packets_in k.params r =
-    ap (λ (m : ℕ). all_packets_in k.params (take m (r ∷ rs))) one ∙ append_none (packets_in k.params r) in
+    ap (λ (m : ℕ). all_packets_in k.params (take m (r ∷ rs))) one ∙ append-nil (packets_in k.params r) in
     (omega arith, omega arith, subst (λ (more : List Packet). Impossible k.params (k.packets ++ more)) (sym same) w.1)
 
 refused_behind : (k next : Crossing) (n : ℕ) (r : Numbered) (rs : List Numbered) (f : Fault) → (next.packets ≡ k.packets ++ packets_in k.params r) × (next.params ≡ k.params)
@@ -224,9 +220,14 @@ is_definite p file f h are fails is =
       count = length-map (reading_of f.place file).records (λ (r : Numbered). r.1) ∙ count;
     }
 
--- what an answer for a file says of its fault
-pub answer_definite : (p : Parameters) (file : List ℕ) (r : Result Crossing Fault) → OfConnection p → AreBytes file
-    → MatchResult r (λ s. crossing_of p file ≡ Ok s) (λ f. (f ≡ no_memory) ⊎ (crossing_of p file ≡ Err f)) → IfErr r (λ f. IsSome f.end → Impossible p (packets_through p file f.place))
+-- ---- answers for a file
+
+-- this is its answer, memory aside
+abbrev pub Answers : Parameters → List ℕ → Result Crossing Fault → Type 0
+Answers p file r = MatchResult r (λ s. crossing_of p file ≡ Ok s) (λ f. (f ≡ no_memory) ⊎ (crossing_of p file ≡ Err f))
+
+pub answer_definite : (p : Parameters) (file : List ℕ) (r : Result Crossing Fault) → OfConnection p → AreBytes file → Answers p file r
+    → IfErr r (λ f. IsSome f.end → Impossible p (packets_through p file f.place))
 answer_definite p file (Ok s) h are a = tt
 answer_definite p file (Err f) h are a = λ is. ⊎_elim
     (λ (e : f ≡ no_memory). absurd (let none = ap (λ (x : Fault). x.end) e in cc))

@@ -1,5 +1,5 @@
 -- What the checker answers: the report on two sent lists, or the first fault of a script.
-use Rattle.std.specs.Prelude.{ℕ, List, Result, Ok, Err}
+use Rattle.std.specs.Prelude.{ℕ, List, length, Result, Ok, Err}
 use Rattle.rasta_pcap.specs.declared.fault.Fault.{Fault}
 use Rattle.rasta_pcap.specs.declared.fault.Side.{Side}
 use Rattle.rasta_pcap.specs.declared.fault.Side.TheVariants.{Client, Server}
@@ -7,10 +7,12 @@ use Rattle.rasta_pdu.specs.Params.{Parameters}
 use Rattle.rasta_cert.specs.Certificate.{Scripts}
 use Rattle.rasta_end.specs.State.{EndState}
 use Rattle.rasta_check.specs.declared.report.Report.{Report}
-use Rattle.rasta_check.specs.Crossing.{FirstCopy}
+use Rattle.rasta_check.specs.Crossing.{FirstCopy, crossing_list}
 use Rattle.rasta_check.specs.Listed.{ListedMessage, listed}
 use Rattle.rasta_check.specs.Scripts.{Fits}
 use Rattle.rasta_check.specs.Checking.{follow}
+use Rattle.rasta_check.specs.Reading.{Crossing, crossing_of}
+use Rattle.rasta_check.specs.Verdicts.{IsFaultlessCapture}
 
 -- how many packets crossed, and what each side took of its peer
 pub record Explained : Type 0 where
@@ -40,3 +42,20 @@ BothFit p packets c s scripts =
 -- what a report says
 abbrev pub explained : Report → Explained
 explained r = record { packets = r.packets; client_taken = r.client_taken; server_taken = r.server_taken }
+
+-- ---- over a file
+
+abbrev pub verdict_on : Result Crossing Fault → Scripts → Result Explained Fault
+verdict_on (Ok k) scripts = verdict_of k.params (length k.packets) k.client k.server scripts
+verdict_on (Err fault) scripts = Err fault
+
+-- the verdict on a capture and a certificate: the first fault of the capture, else the verdict on what crossed
+abbrev pub verdict_of_file : Parameters → List ℕ → Scripts → Result Explained Fault
+verdict_of_file p file scripts = verdict_on (crossing_of p file) scripts
+
+-- a certificate explains a capture: the capture has no fault, and both scripts fit what its sides sent
+pub record Explains (p : Parameters) (file : List ℕ) (scripts : Scripts) : Type 0 where
+  pub client : List FirstCopy
+  pub server : List FirstCopy
+  pub capture : IsFaultlessCapture p file client server
+  pub fits : BothFit p (length (crossing_list p capture.records)) client server scripts

@@ -1,14 +1,17 @@
 //! The checker: it follows a certificate, and never searches.
-ghost use Rattle.std.specs.Prelude.{◌≡◌, ◌⊎◌, length, Ok, Err, IfOk, OnOk, IfErr, MatchResult, List};
+ghost use Rattle.std.specs.Prelude.{◌≡◌, ◌⊎◌, ℕ, length, Ok, Err, IfOk, OnOk, IfErr, MatchResult, List};
 ghost use Rattle.rasta_pcap.specs.Fault.{no_memory};
+ghost use Rattle.rasta_pcap.specs.Capture.{IsCapture};
 ghost use Rattle.rasta_udp.specs.Frame.{Packet};
+ghost use Rattle.rasta_check.specs.Crossing.{crossing_list};
 ghost use Rattle.rasta_check.specs.Reading.{IsCrossing};
 ghost use Rattle.rasta_check.specs.Listing.{listed_by};
-ghost use Rattle.rasta_check.specs.Report.{BothFit, explained, verdict_of};
+ghost use Rattle.rasta_check.specs.Report.{BothFit, Explains, explained, verdict_of, verdict_of_file};
 ghost use Rattle.rasta_check.specs.Headline.{Headline, IsSharp};
 
 use crate::crossing::Sent;
 use crate::follower::follow;
+use crate::reading::sent;
 use crate::report::Report;
 use crate::sent_list::SentList;
 use crate::surely_taken::taken_list;
@@ -149,4 +152,32 @@ pub fn check_sent<'a>(
         sent.server(),
         certificate,
     )
+}
+
+/// The report on a capture, where it has no fault and the certificate's scripts explain it; else the first
+/// fault, as of [`sent`](crate::sent) and then as of [`check_lists`].
+///
+/// Where `check` answers a report for a capture's bytes, parameters and a certificate, some run of two
+/// RaSTA ends over a network that loses, repeats, delays and reorders sends exactly the connection's
+/// captured packets past the tap; and in every run that does, the far end handed up, once each and in
+/// order, every message that the report lists as taken.
+pub fn check<'a>(
+    alloc: Global,
+    p: &Params,
+    file: &'a [u8],
+    certificate: &Certificate,
+) -> Result<Report<'a>, Fault>
+    // The report, or the first fault.
+    ensures verdict { MatchResult result
+        (λ r. verdict_of_file p.now file.now certificate.now ≡ Ok (explained r))
+        (λ f. (verdict_of_file p.now file.now certificate.now ≡ Err f) ⊎ (f ≡ no_memory)) }
+    // A report stands exactly where the capture has no fault and both scripts fit.
+    ensures explains { OnOk result (Explains p.now file.now certificate.now) }
+    ensures refused { IfErr result (λ f. (Explains p.now file.now certificate.now → ⊥) ⊎ (f ≡ no_memory)) }
+    // The headline, for the packets that the capture's records hold.
+    ensures headline { IfOk result (λ r. (records : List (List ℕ)) → IsCapture p.now.last_record file.now records
+        → Headline p.now (crossing_list p.now records) (explained r)) }
+{
+    let sent = sent(alloc, *p, file)?;
+    check_sent(alloc, p, &sent, certificate)
 }

@@ -1,6 +1,8 @@
-//! Laws on every run of two ends: public functions without a body, whose contracts are the laws.
-ghost use Rattle.std.specs.Prelude.{◌≡◌, ℕ, List, length, Ok, Err, IsSome};
+//! Laws on every run of two ends, and on captures: public functions without a body, whose contracts are
+//! the laws.
+ghost use Rattle.std.specs.Prelude.{◌≡◌, ◌≤◌, ◌↔◌, ℕ, List, length, Ok, Err, IsSome};
 ghost use Rattle.rasta_pcap.specs.declared.fault.Fault.{Fault};
+ghost use Rattle.rasta_pcap.specs.Fault.{redundancy_length, number_gap};
 ghost use Rattle.rasta_pcap.specs.Capture.{IsCapture};
 ghost use Rattle.rasta_pdu.specs.Params.{Parameters, AreParameters};
 ghost use Rattle.rasta_pdu.specs.Messages.{AreBytes};
@@ -107,4 +109,10 @@ pub fn faultless_capture_is_read()
     ensures only { (p : Parameters) (file : List ℕ) (client server : List FirstCopy) → OfConnection p → AreBytes file
         → IsFaultlessCapture p file client server
         → (k : Crossing) × (crossing_of p file ≡ Ok k) × (k.client ≡ client) × (k.server ≡ server) }
+{}
+
+/// The first fault of a capture speaks of a side exactly where it is one of 20 to 28.
+pub fn packet_faults_speak_of_sides()
+    ensures { (p : Parameters) (file : List ℕ) (f : Fault) → crossing_of p file ≡ Err f
+        → IsSome f.end ↔ (redundancy_length ≤ f.number) × (f.number ≤ number_gap) }
 {}

@@ -15,7 +15,7 @@ mod report;
 mod sent_list;
 mod surely_taken;
 
-pub use checker::{check_lists, check_sent};
+pub use checker::{check, check_lists, check_sent};
 pub use crossing::Sent;
 pub use dense_list::DenseList;
 pub use map_list::MapList;

@@ -1,8 +1,7 @@
 //! Reading what each side sent from a capture.
-ghost use Rattle.std.specs.Prelude.{◌≡◌, ℕ, suc, List, Ok, Err, MatchResult, IfOk, IfErr, IsSome, ◌⊎◌};
-ghost use Rattle.rasta_pcap.specs.Fault.{no_memory};
+ghost use Rattle.std.specs.Prelude.{◌≡◌, ◌≤◌, ◌↔◌, ℕ, suc, List, Ok, Err, MatchResult, IfOk, IfErr, IsSome, ◌⊎◌};
+ghost use Rattle.rasta_pcap.specs.Fault.{no_memory, redundancy_length, number_gap};
 ghost use Rattle.rasta_pcap.specs.Capture.{reading};
-ghost use Rattle.rasta_pdu.specs.Params.{AreParameters};
 ghost use Rattle.rasta_check.specs.Crossing.{FirstCopy};
 ghost use Rattle.rasta_check.specs.Reading.{after_reading, crossing_of};
 ghost use Rattle.rasta_check.specs.Packets.{after_next};
@@ -62,6 +61,9 @@ pub fn sent<'a>(alloc: Global, p: Params, file: &'a [u8]) -> Result<Sent<'a>, Fa
     ensures read { IfOk result (λ s. IsFaultlessCapture p file.now s.client s.server) }
     ensures only { IfErr result (λ f. (f ≡ no_memory)
         ⊎ ((client server : List FirstCopy) → IsFaultlessCapture p file.now client server → ⊥)) }
+
+    // A fault from 20 to 28, and no other, speaks of a side.
+    ensures side { IfErr result (λ f. IsSome f.end ↔ (redundancy_length ≤ f.number) × (f.number ≤ number_gap)) }
 
     // Where the fault speaks of a side, no run sends packets that begin with those up to its record.
     ensures definite { IfErr result (λ f. IsSome f.end → Impossible p (packets_through p file.now f.place)) }

@@ -106,6 +106,8 @@ impl Fault {
     pub const MISSING_KEY: u8 = 51;
 
     pub const BAD_VALUE: u8 = 52;
+    /// The builder found no scripts.
+    pub const NOT_FOUND: u8 = 60;
 
     /// A fault that speaks of no end.
     pub const fn at(number: u8, place: u32) -> Fault

@@ -2,10 +2,16 @@
 #![tactic(auto)]
 
 #[cfg(test)]
+mod captures;
+#[cfg(test)]
 mod certificates;
+#[cfg(test)]
+mod checks;
 #[cfg(test)]
 mod ends;
 #[cfg(test)]
 mod lines;
 #[cfg(test)]
 mod model;
+#[cfg(test)]
+mod proposals;

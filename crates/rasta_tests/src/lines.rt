@@ -4,7 +4,7 @@ use rasta_pdu::{
 };
 use std::alloc::Global;
 
-const CHANNELS: [Channel; 1] = [Channel {
+const FIRST: Channel = Channel {
     client: Endpoint {
         address: [10, 0, 0, 1],
         port: 5000,
@@ -13,7 +13,20 @@ const CHANNELS: [Channel; 1] = [Channel {
         address: [10, 0, 0, 2],
         port: 5000,
     },
-}];
+};
+
+const SECOND: Channel = Channel {
+    client: Endpoint {
+        address: [10, 0, 1, 1],
+        port: 5001,
+    },
+    server: Endpoint {
+        address: [10, 0, 1, 2],
+        port: 5001,
+    },
+};
+
+const CHANNELS: [Channel; 2] = [FIRST, SECOND];
 
 pub fn params(n_sendmax: u16, slack: u16, quiet: Option<Quiet>) -> Option<Params> {
     let words = [0x6745_2301, 0xefcd_ab89, 0x98ba_dcfe, 0x1032_5476];

@@ -1,0 +1,3 @@
+pub use Rattle.rasta_check.specs.Fault
+pub use Rattle.rasta_check.specs.Devices
+pub mod Clock

@@ -1,0 +1,54 @@
+//! The scripts of both ends.
+use crate::script_builder::ScriptBuilder;
+use rasta_cert::Certificate;
+use rasta_check::{Sent, SentList};
+use rasta_pdu::{Fault, Params, Pdu, Side};
+use std::alloc::Global;
+
+/// The first copy that crossed first, of the next ones of both sides.
+fn first_of<'a>(
+    client: Option<(u32, Pdu<'a>)>,
+    server: Option<(u32, Pdu<'a>)>,
+) -> Option<(Side, u32, Pdu<'a>)> {
+    match (client, server) {
+        (Some(own), Some(other)) if own.0 < other.0 => Some((Side::Client, own.0, own.1)),
+        (_, Some(other)) => Some((Side::Server, other.0, other.1)),
+        (Some(own), None) => Some((Side::Client, own.0, own.1)),
+        (None, None) => None,
+    }
+}
+
+/// Proposes scripts for two sent lists: each first copy is explained in the order of crossing, by what must
+/// have been taken in front of it.
+///
+/// [`Fault::NOT_FOUND`] has as its place one more than that of the first packet that couldn't be explained.
+pub fn propose_lists<'a, S: SentList<'a>>(
+    alloc: Global,
+    p: &Params,
+    client: &S,
+    server: &S,
+) -> Result<Certificate, Fault> {
+    let mut own = ScriptBuilder::new(alloc, p, Side::Client);
+    let mut other = ScriptBuilder::new(alloc, p, Side::Server);
+    let mut made = 0u32;
+    let mut answered = 0u32;
+    for _ in 0..u64::from(client.len()) + u64::from(server.len()) {
+        match first_of(client.get(made), server.get(answered)) {
+            Some((Side::Client, place, pdu)) => {
+                own.explain(p, server, place, &pdu).map_err(|stuck| stuck.at(place))?;
+                made = made.saturating_add(1);
+            }
+            Some((Side::Server, place, pdu)) => {
+                other.explain(p, client, place, &pdu).map_err(|stuck| stuck.at(place))?;
+                answered = answered.saturating_add(1);
+            }
+            None => break,
+        }
+    }
+    Certificate::new(own.into_script(), other.into_script())
+}
+
+/// Proposes scripts for what crossed, as [`propose_lists`].
+pub fn propose(alloc: Global, p: &Params, sent: &Sent<'_>) -> Result<Certificate, Fault> {
+    propose_lists(alloc, p, sent.client(), sent.server())
+}

@@ -1,0 +1,356 @@
+//! The script of one end, found packet by packet.
+ghost use Rattle.std.specs.Prelude.{◌≡◌};
+
+use crate::clock::clock_from;
+use crate::peer::Peer;
+use crate::stuck::Stuck;
+use rasta_cert::Entry;
+use rasta_check::SentList;
+use rasta_end::{End, Phase, Why};
+use rasta_pdu::{Body, Fault, Kind, Params, Pdu, Side};
+use std::alloc::Global;
+
+/// The reason of a disconnection request by which an end says that nothing came in time.
+const TIMEOUT: u16 = 4;
+
+/// More positions than any end can have accepted.
+const MOST_ACCEPTED: u64 = 1 << 62;
+
+/// An end, with the entries that led it so far.
+#[derive(Drop)]
+pub(crate) struct ScriptBuilder<'a> {
+    side: Side,
+    end: End<'a>,
+    peer: Peer,
+    script: Vec<Entry>,
+    // Of the last make.
+    clock: u64,
+    // The least position that may still be taken.
+    next_take: u64,
+    // How many requests are owed behind the burst that is owed: 0 or 1.
+    trail: usize,
+}
+
+// How far an end has come: a take that changes none of it has no effect.
+#[derive(Clone, Copy, Debug, PartialEq, Eq)]
+struct Progress {
+    accepted: u64,
+    owed: usize,
+    phase: Phase,
+}
+
+// Whether a PDU of the peer, ahead of what was accepted, can be what an end answers or asks for.
+fn is_trigger(made: Kind, taken: Kind) -> bool {
+    match made {
+        Kind::RetransmissionResponse => matches!(taken, Kind::RetransmissionRequest),
+        Kind::RetransmissionRequest => {
+            matches!(taken, Kind::Heartbeat | Kind::Data | Kind::RetransmittedData)
+        }
+        _ => false,
+    }
+}
+
+fn wants_trigger(made: Kind) -> bool {
+    matches!(
+        made,
+        Kind::RetransmissionResponse | Kind::RetransmissionRequest
+    )
+}
+
+impl<'a> ScriptBuilder<'a> {
+    pub(crate) fn new(alloc: Global, params: &Params, side: Side) -> ScriptBuilder<'a> {
+        let own = params.quiet().map(|quiet| match side {
+            Side::Client => quiet.client,
+            Side::Server => quiet.server,
+        });
+        ScriptBuilder {
+            side,
+            end: End::start(alloc, params, side),
+            peer: Peer::of(params, side),
+            script: Vec::new(alloc),
+            clock: own.map_or(0, |end| end.clock),
+            next_take: own.map_or(0, |_| 1),
+            trail: 0,
+        }
+    }
+
+    /// The script.
+    pub(crate) fn into_script(self) -> Vec<Entry> {
+        self.script
+    }
+
+    /// Goes on with what explains a first copy of this end, at this place.
+    pub(crate) fn explain<S: SentList<'a>>(
+        &mut self,
+        params: &Params,
+        peer: &S,
+        place: u32,
+        pdu: &Pdu<'a>,
+    ) -> Result<(), Stuck> {
+        if self.has_to_take(pdu) {
+            self.accept_through(peer, place, pdu.cs())?;
+            self.take_trigger(params, peer, place, pdu.kind())?;
+        }
+        self.make(params, place, pdu)
+    }
+
+    // Whether the PDU tells what was accepted in front of it. While something is owed nothing can be taken,
+    // and the CS of an opening says nothing.
+    fn has_to_take(&self, pdu: &Pdu<'a>) -> bool {
+        if self.end.owed() > 0 {
+            return false;
+        }
+        match pdu.kind() {
+            Kind::ConnectionRequest => false,
+            Kind::DisconnectionRequest => !self.is_opening(),
+            _ => true,
+        }
+    }
+
+    // Whether this is a client that has accepted nothing.
+    fn is_opening(&self) -> bool {
+        matches!(self.side, Side::Client)
+            && matches!(self.end.phase(), Phase::Start)
+            && self.end.accepted() == 0
+    }
+
+    // Accepts what the peer sent, through the position that a CS names.
+    fn accept_through<S: SentList<'a>>(
+        &mut self,
+        peer: &S,
+        place: u32,
+        cs: u32,
+    ) -> Result<(), Stuck> {
+        let last = match self.peer.position_named(peer, cs) {
+            Some(position) => u64::from(position),
+            None => return Err(Stuck::Unexplained),
+        };
+        let next = self.end.accepted();
+        if last + 1 == next {
+            return Ok(());
+        }
+        if last + 1 < next || !self.has_crossed(peer, last, place) {
+            return Err(Stuck::Unexplained);
+        }
+        let first = self.first_acceptable(peer, next, last)?;
+        for position in first..last + 1 {
+            self.accept_at(peer, place, position)?;
+        }
+        Ok(())
+    }
+
+    // Whether the peer's PDU at a position crossed in front of a place.
+    fn has_crossed<S: SentList<'a>>(&self, peer: &S, position: u64, place: u32) -> bool {
+        match self.peer.get(peer, position) {
+            Some((crossed_at, _)) => crossed_at < place,
+            None => false,
+        }
+    }
+
+    // The first position to be accepted, of these: an end that waits for a retransmission accepts the last
+    // response among them first.
+    fn first_acceptable<S: SentList<'a>>(
+        &self,
+        peer: &S,
+        next: u64,
+        last: u64,
+    ) -> Result<u64, Stuck> {
+        if !matches!(self.end.phase(), Phase::RetrReq) {
+            return Ok(next);
+        }
+        let mut found = Err(Stuck::Unexplained);
+        for position in next..last.saturating_add(1) {
+            if self.is_response(peer, position) {
+                found = Ok(position);
+            }
+        }
+        found
+    }
+
+    fn is_response<S: SentList<'a>>(&self, peer: &S, position: u64) -> bool {
+        match self.peer.get(peer, position) {
+            Some((_, pdu)) => matches!(pdu.kind(), Kind::RetransmissionResponse),
+            None => false,
+        }
+    }
+
+    // Takes the PDU at a position, which has to be accepted.
+    fn accept_at<S: SentList<'a>>(
+        &mut self,
+        peer: &S,
+        slot: u32,
+        position: u64,
+    ) -> Result<(), Stuck> {
+        let Some((_, pdu)) = self.peer.get(peer, position) else {
+            return Err(Stuck::Unexplained);
+        };
+        self.take(slot, position, &pdu)?;
+        if self.end.accepted() == position.saturating_add(1) {
+            Ok(())
+        } else {
+            Err(Stuck::Unexplained)
+        }
+    }
+
+    // Takes what makes an end answer or ask, if its next PDU says that it did: the first PDU ahead of what
+    // was accepted that does.
+    fn take_trigger<S: SentList<'a>>(
+        &mut self,
+        params: &Params,
+        peer: &S,
+        place: u32,
+        made: Kind,
+    ) -> Result<(), Stuck> {
+        if self.end.owed() > 0 || !wants_trigger(made) {
+            return Ok(());
+        }
+        let accepted = self.end.accepted();
+        let first = accepted.saturating_add(1).max(self.next_take);
+        let last = accepted.saturating_add(10 * u64::from(params.n_sendmax()));
+        for position in first..last.saturating_add(1) {
+            match self.peer.get(peer, position) {
+                Some((crossed_at, pdu)) if crossed_at < place => {
+                    self.try_trigger(place, position, made, &pdu)?;
+                }
+                _ => break,
+            }
+            if self.end.owed() > 0 {
+                return Ok(());
+            }
+        }
+        Err(Stuck::Unexplained)
+    }
+
+    fn try_trigger(
+        &mut self,
+        slot: u32,
+        position: u64,
+        made: Kind,
+        pdu: &Pdu<'a>,
+    ) -> Result<(), Stuck> {
+        if is_trigger(made, pdu.kind()) {
+            self.take(slot, position, pdu)?;
+        }
+        Ok(())
+    }
+
+    fn progress(&self) -> Progress
+        ensures { result.accepted ≡ self.now.end.state.accepted }
+    {
+        Progress {
+            accepted: self.end.accepted(),
+            owed: self.end.owed(),
+            phase: self.end.phase(),
+        }
+    }
+
+    // Takes a PDU. It is no entry of the script where it changes nothing.
+    fn take(&mut self, slot: u32, position: u64, pdu: &Pdu<'a>) -> Result<(), Stuck> {
+        let before = self.progress();
+        if before.accepted >= MOST_ACCEPTED {
+            return Err(Stuck::Unexplained);
+        }
+        self.end.take(pdu)?;
+        let after = self.progress();
+        if after == before {
+            return Ok(());
+        }
+        let answers = matches!(pdu.kind(), Kind::RetransmissionRequest)
+            && after.accepted == before.accepted
+            && matches!(before.phase, Phase::Up | Phase::RetrRun);
+        self.trail = usize::from(answers);
+        self.next_take = position.saturating_add(1);
+        self.note(Entry::Take {
+            slot,
+            number: pdu.number(),
+        })
+    }
+
+    fn note(&mut self, entry: Entry) -> Result<(), Stuck> {
+        match self.script.push(entry) {
+            Ok(()) => Ok(()),
+            Err(_) => Err(Stuck::NoMemory),
+        }
+    }
+
+    // Why the end makes this PDU.
+    fn why(&self, pdu: &Pdu<'a>) -> Result<Why, Stuck> {
+        match pdu.kind() {
+            Kind::ConnectionRequest => Ok(Why::Open),
+            Kind::ConnectionResponse => Ok(Why::Reply),
+            Kind::RetransmissionResponse => Ok(Why::Reply),
+            Kind::RetransmissionRequest => Ok(Why::Ask),
+            Kind::Data => Ok(Why::Fresh),
+            Kind::RetransmittedData => self.again(),
+            Kind::Heartbeat if self.end.owed() > 0 => Ok(Why::Reply),
+            Kind::Heartbeat => Ok(Why::Beat),
+            Kind::DisconnectionRequest => match pdu.body() {
+                Body::Bye {
+                    reason: TIMEOUT, ..
+                } => Ok(Why::Expired),
+                _ => Ok(Why::Bye),
+            },
+        }
+    }
+
+    // The unit that is to be sent again: of those that are owed, the first.
+    fn again(&self) -> Result<Why, Stuck> {
+        let unit = self
+            .end
+            .owed()
+            .checked_sub(self.trail)
+            .and_then(|units| self.end.offered().checked_sub(units))
+            .and_then(|unit| u32::try_from(unit).ok());
+        match unit {
+            Some(unit) => Ok(Why::Again(unit)),
+            None => Err(Stuck::Unexplained),
+        }
+    }
+
+    // Makes the PDU at a place, at the least clock that its time stamp allows.
+    fn make(&mut self, params: &Params, place: u32, pdu: &Pdu<'a>) -> Result<(), Stuck> {
+        let why = self.why(pdu)?;
+        let Some(clock) = clock_from(self.clock, pdu.ts()) else {
+            return Err(Stuck::Unexplained);
+        };
+        match self.end.make(pdu, clock, why) {
+            Ok(()) => self.note_make(place, clock, why),
+            Err(fault) if fault.number == Fault::TOO_EARLY_TIMEOUT => {
+                self.make_later(params, place, pdu, clock)
+            }
+            Err(fault) => Err(Stuck::from(fault)),
+        }
+    }
+
+    // Makes a disconnection request for want of news at a later clock, at which that is allowed.
+    fn make_later(
+        &mut self,
+        params: &Params,
+        place: u32,
+        pdu: &Pdu<'a>,
+        early: u64,
+    ) -> Result<(), Stuck> {
+        let least = early.saturating_add(1).max(self.earliest_timeout(params));
+        let Some(clock) = clock_from(least, pdu.ts()) else {
+            return Err(Stuck::Unexplained);
+        };
+        self.end.make(pdu, clock, Why::Expired)?;
+        self.note_make(place, clock, Why::Expired)
+    }
+
+    // The earliest timeout by a deadline that is recorded with a quiet point.
+    fn earliest_timeout(&self, params: &Params) -> u64 {
+        let deadline = params.quiet().and_then(|quiet| match self.side {
+            Side::Client => quiet.client.deadline,
+            Side::Server => quiet.server.deadline,
+        });
+        deadline.map_or(0, |deadline| {
+            deadline.saturating_sub(u64::from(params.slack()))
+        })
+    }
+
+    fn note_make(&mut self, index: u32, clock: u64, why: Why) -> Result<(), Stuck> {
+        self.clock = clock;
+        self.note(Entry::Make { index, clock, why })
+    }
+}

@@ -1,0 +1,42 @@
+use Rattle.std.proofs.Common.{◌≡◌, ◌∙◌, Err, ap, sym, inl, inr, ⊎_elim}
+use Rattle.rasta_check.specs.Report.{explained, verdict_on}
+use Rattle.rasta_check.proofs.Refusing.{handed_on}
+use Rattle.rasta_check.proofs.Answering.{both, if_ok, if_err, still_ok, err_is}
+use Rattle.rasta_check.proofs.Filed.{same_params, seen, verdict_is, explains, not_explained, headline_is}
+use Rattle.rasta_check.proofs.checker.check.Goals as goal
+
+pub returns-in_err-sent-clause-refused : goal.returns-in_err-sent-clause-refused
+returns-in_err-sent-clause-refused c =
+    err_is c.from_residual.result _ _ c.from_residual.ensures (⊎_elim (λ e. inr e) (λ none. inl (λ x. none x.client x.server x.capture)) c.in_err-sent.ensures.only)
+
+pub check_sent-requires : goal.check_sent-requires
+check_sent-requires c = record { same = same_params c.args.p.now c.args.file.now c.in_ok-sent.sent c.in_ok-sent.ensures.value }
+
+pub returns-clause-verdict : goal.returns-clause-verdict
+returns-clause-verdict c =
+    let k = c.in_ok-sent.sent in
+    let h = seen _ k c.sent-2.view_is c.sent-2.invariant in
+    both c.check_sent.result _ _ _ _ c.check_sent.ensures.verdict
+    (λ r e. verdict_is c.args.p.now c.args.file.now k c.in_ok-sent.ensures.value h c.args.certificate.now _ e)
+    (λ f why. ⊎_elim (λ e. inl (verdict_is c.args.p.now c.args.file.now k c.in_ok-sent.ensures.value h c.args.certificate.now _ e)) (λ e. inr e) why)
+
+pub returns-clause-explains : goal.returns-clause-explains
+returns-clause-explains c =
+    let k = c.in_ok-sent.sent in
+    let h = seen _ k c.sent-2.view_is c.sent-2.invariant in
+    still_ok c.check_sent.result _ _ c.check_sent.ensures.fits
+    (λ fits. explains c.args.p.now c.args.file.now k c.in_ok-sent.ensures.value h c.args.certificate.now c.in_ok-sent.ensures.read fits)
+
+pub returns-clause-refused : goal.returns-clause-refused
+returns-clause-refused c =
+    let k = c.in_ok-sent.sent in
+    let h = seen _ k c.sent-2.view_is c.sent-2.invariant in
+    if_err c.check_sent.result _ _ c.check_sent.ensures.refused
+    (λ f why. ⊎_elim (λ none. inl (not_explained c.args.p.now c.args.file.now k c.in_ok-sent.ensures.value h c.args.certificate.now none)) (λ e. inr e) why)
+
+pub returns-clause-headline : goal.returns-clause-headline
+returns-clause-headline c =
+    let k = c.in_ok-sent.sent in
+    let h = seen _ k c.sent-2.view_is c.sent-2.invariant in
+    if_ok c.check_sent.result _ _ c.check_sent.ensures.headline
+    (λ r g records is. headline_is c.args.p.now c.args.file.now k c.in_ok-sent.ensures.value h (explained r) records is g)

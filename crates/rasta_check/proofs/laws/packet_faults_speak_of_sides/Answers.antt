@@ -1,0 +1,5 @@
+use Rattle.rasta_check.proofs.FaultNumbers.{file_names_side}
+use Rattle.rasta_check.proofs.laws.packet_faults_speak_of_sides.Goals as goal
+
+pub returns : goal.returns
+returns c p file f e = file_names_side p file f e
