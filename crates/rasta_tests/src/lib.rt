@@ -9,3 +9,5 @@ mod ends;
 mod lines;
 #[cfg(test)]
 mod model;
+#[cfg(test)]
+mod sent_lists;
