@@ -1,21 +1,19 @@
 -- The headline of a verdict, from the theorem over runs.
 use Rattle.std.specs.Prelude.{if◌then◌else◌, take}
-use Rattle.std.proofs.Common.{◌≡◌, ◌⊎◌, ℕ, ◌+◌, ◌-◌, ◌≤◌, ◌<◌, ◌^◌, List, [], ◌++◌, length, Result, Ok, Err, Some, slice_get, MatchResult, IfOk, OnOk, IfErr, refl, ap, sym, ◌∙◌, arith, inl, inr, ⊎_elim, subst}
+use Rattle.std.proofs.Common.{◌≡◌, ℕ, ◌-◌, List, [], ◌++◌, length, Result, Ok, Err, Some, slice_get, refl, ap, sym, ◌∙◌, arith, subst}
 use Rattle.rasta_pcap.specs.declared.fault.Fault.{Fault}
 use Rattle.rasta_pcap.specs.declared.fault.Side.{Side}
 use Rattle.rasta_pcap.specs.declared.fault.Side.TheVariants.{Client, Server}
 use Rattle.rasta_udp.specs.Frame.{Packet}
 use Rattle.rasta_pdu.specs.Params.{Parameters}
-use Rattle.rasta_pdu.specs.Pdu.{SafetyPdu}
 use Rattle.rasta_cert.specs.Certificate.{Scripts}
 use Rattle.rasta_cert.specs.declared.entry.Entry.{Entry}
 use Rattle.rasta_end.specs.State.{EndState}
 use Rattle.rasta_end.specs.Units.{units_at}
 use Rattle.rasta_end.specs.MakeRule.{is_connection_request}
-use Rattle.rasta_end.specs.Starts.{start_of}
-use Rattle.rasta_check.specs.Crossing.{FirstCopy, Sent}
+use Rattle.rasta_check.specs.Crossing.{FirstCopy}
 use Rattle.rasta_check.specs.World.{World, Reaches}
-use Rattle.rasta_check.specs.Taken.{TakenUnit, surely_taken, messages_taken, position_with, pdus_of, all_made, units_shown, units_taken, units_from, data_copies}
+use Rattle.rasta_check.specs.Taken.{surely_taken, messages_taken, position_with, pdus_of, all_made, units_shown, units_taken, units_from, data_copies}
 use Rattle.rasta_check.specs.Lists.{IsOrdered}
 use Rattle.rasta_check.specs.Scripts.{Fits}
 use Rattle.rasta_check.specs.Checking.{follow}
@@ -24,7 +22,7 @@ use Rattle.rasta_check.specs.Reading.{Crossing, IsCrossing}
 use Rattle.rasta_check.specs.Listed.{ListedMessage, listed, numbered_from}
 use Rattle.rasta_check.specs.Report.{Explained, report_of, where_followed, verdict_of, BothFit}
 use Rattle.rasta_check.specs.Listing.{listed_by, shown_by, proofs_from}
-use Rattle.rasta_check.specs.Headline.{messages_up, messages_in_list, HandsUpListed, Headline, IsSharp}
+use Rattle.rasta_check.specs.Headline.{messages_in_list, HandsUpListed, Headline, IsSharp}
 use Rattle.rasta_check.proofs.Copies.{IsSent}
 use Rattle.rasta_check.proofs.Forms.{to_record}
 use Rattle.rasta_check.proofs.Checked.{follow_fits, fits_follow}
@@ -104,9 +102,10 @@ module _ (p : Parameters) (packets : List Packet) (c s : List FirstCopy) (h : Is
   pub lists_are : (cs ss : List Entry) (a b : EndState) → follow p Client (length packets) c s cs ≡ Ok a → follow p Server (length packets) s c ss ≡ Ok b
       → (listed_by b s c ≡ listed p Server s c) × (listed_by a c s ≡ listed p Client c s)
   lists_are cs ss a b e f =
-      let r = simulated p packets c s cs ss a b h.recorded sent_c sent_s (follow_fits p (length packets) c s Client cs a e) (follow_fits p (length packets) s c Server ss b f) in
-      (ap (λ (x : EndState). listed_by x s c) (sym r.5) ∙ list_by r.0 r.1 r.2 r.3 Server s c r.1.server.state (by_client r.0 r.1 r.2 r.3),
-        ap (λ (x : EndState). listed_by x c s) (sym r.4) ∙ list_by r.0 r.1 r.2 r.3 Client c s r.1.client.state (by_server r.0 r.1 r.2 r.3))
+      let r = simulated p packets c s cs ss a b h.recorded sent_c sent_s (follow_fits p (length packets) c s Client cs a e) (follow_fits p (length packets) s c Server ss b f) in (
+        ap (λ (x : EndState). listed_by x s c) (sym r.5) ∙ list_by r.0 r.1 r.2 r.3 Server s c r.1.server.state (by_client r.0 r.1 r.2 r.3),
+        ap (λ (x : EndState). listed_by x c s) (sym r.4) ∙ list_by r.0 r.1 r.2 r.3 Client c s r.1.client.state (by_server r.0 r.1 r.2 r.3),
+      )
 
   -- the report that is worked out from both ends is the verdict
   pub verdict_of_ends : (scripts : Scripts) (n : ℕ) (cs ss : List Entry) (a b : EndState) (report : Explained) → length packets ≡ n → cs ≡ scripts.client → ss ≡ scripts.server

@@ -1,12 +1,11 @@
 -- Messages of units, joined to one list.
-use Rattle.std.proofs.Common.{◌≡◌, ◌⊎◌, ℕ, zero, suc, ◌+◌, ◌<◌, ◌≤◌, List, [], ◌∷◌, ◌++◌, length, map, Some, slice_get, refl, ap, sym, ◌∙◌, arith, inl, inr, ⊎_elim, append_assoc, subst}
+use Rattle.std.proofs.Common.{◌≡◌, ◌⊎◌, ℕ, zero, suc, ◌+◌, ◌≤◌, List, [], ◌∷◌, ◌++◌, length, map, Some, slice_get, refl, ap, sym, ◌∙◌, arith, inl, inr, ⊎_elim, append_assoc, subst}
 use Rattle.std.specs.List.{flat_map}
 use Rattle.rasta_pdu.specs.Pdu.{SafetyPdu, messages_in}
-use Rattle.rasta_end.specs.State.{EndState}
 use Rattle.rasta_check.specs.Taken.{TakenUnit, TakenMessage, messages_of_unit, messages_taken}
-use Rattle.rasta_check.specs.Theorem.{messages_handed, messages_listed}
+use Rattle.rasta_check.specs.Theorem.{messages_listed}
 use Rattle.rasta_check.specs.Listed.{ListedMessage, numbered_from}
-use Rattle.rasta_check.specs.Headline.{messages_up, messages_in_list}
+use Rattle.rasta_check.specs.Headline.{messages_in_list}
 use Rattle.rasta_check.proofs.Lists.{get_front}
 
 -- the messages of each unit, unit by unit

@@ -1,6 +1,6 @@
 -- What is worked out from the two ends of scripts that fit is what is surely taken.
 use Rattle.std.proofs.Common.{◌≡◌, ℕ, zero, suc, ◌+◌, ◌-◌, ◌%◌, ◌^◌, ◌<◌, ◌≤◌, Bool, true, false, List, [], ◌∷◌, ◌++◌, length, map, replicate, take, Option, Some, None, slice_get, refl, ap, sym, ◌∙◌, arith, subst}
-use Rattle.std.specs.Prelude.{fold, filter, max, nat_lt, slice_index_or, if◌then◌else◌, ◌==◌}
+use Rattle.std.specs.Prelude.{fold, max, nat_lt, slice_index_or, if◌then◌else◌, ◌==◌}
 use Rattle.std.specs.Option.{option_map}
 use Rattle.std.proofs.lemmas.Bool.Decides.{nat_tests}
 use Rattle.std.proofs.lemmas.List.{length-append}
@@ -8,19 +8,19 @@ use Rattle.std.proofs.lemmas.Option.{slice_get_within}
 use Rattle.rasta_pcap.specs.declared.fault.Side.{Side}
 use Rattle.rasta_pcap.specs.declared.fault.Side.TheVariants.{Client, Server}
 use Rattle.rasta_pdu.specs.declared.quiet_point.Quiet.{Quiet}
-use Rattle.rasta_pdu.specs.Pdu.{SafetyPdu, messages_in}
-use Rattle.rasta_end.specs.State.{Made, EndState, ahead_by, first_sn, kinds}
-use Rattle.rasta_end.specs.Units.{units_at, units_conveyed}
+use Rattle.rasta_pdu.specs.Pdu.{SafetyPdu}
+use Rattle.rasta_end.specs.State.{Made, EndState, ahead_by, first_sn}
+use Rattle.rasta_end.specs.Units.{units_at}
 use Rattle.rasta_end.specs.Starts.{start_by}
-use Rattle.rasta_end.specs.MakeRule.{is_data, is_connection_request}
+use Rattle.rasta_end.specs.MakeRule.{is_data}
 use Rattle.rasta_check.specs.Crossing.{FirstCopy}
-use Rattle.rasta_check.specs.Taken.{position_with, pdus_of, pdus_made, units_along, units_shown, units_taken, TakenUnit, proof_place, units_from, data_copies}
+use Rattle.rasta_check.specs.Taken.{position_with, pdus_of, pdus_made, units_shown, units_taken, proof_place, units_from, data_copies}
 use Rattle.rasta_check.specs.Listing.{shown_by, with_proofs, proofs_from, proved_unit, with_unit, proved_units}
-use Rattle.rasta_check.proofs.Lists.{get_front, get_push}
+use Rattle.rasta_check.proofs.Lists.{get_front}
 use Rattle.rasta_check.proofs.Numbering.{Numbered}
 use Rattle.rasta_check.proofs.Naming.{SnIs}
 use Rattle.rasta_check.proofs.Scripted.{slice_get_some}
-use Rattle.rasta_check.proofs.Values.{values, length-values, get_or_none}
+use Rattle.rasta_check.proofs.Values.{get_or_none}
 
 -- ---- the position that a CS names
 

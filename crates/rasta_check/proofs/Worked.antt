@@ -1,14 +1,12 @@
 -- Working out a list: what is left to be done is done at one member more.
-use Rattle.std.proofs.Common.{◌≡◌, ℕ, zero, suc, ◌+◌, ◌-◌, ◌<◌, ◌≤◌, Bool, true, false, cond, List, [], ◌∷◌, ◌++◌, length, drop, take, map, replicate, Option, Some, None, refl, ap, sym, ◌∙◌, arith, append_assoc, slice_get}
+use Rattle.std.proofs.Common.{◌≡◌, ℕ, zero, suc, ◌+◌, ◌≤◌, Bool, true, false, List, [], ◌∷◌, ◌++◌, length, drop, map, Some, None, refl, ap, sym, ◌∙◌, arith, append_assoc, slice_get}
 use Rattle.std.specs.Prelude.{if◌then◌else◌}
-use Rattle.std.specs.Option.{option_map}
 use Rattle.std.proofs.lemmas.List.{append-nil, length-append, length-map}
-use Rattle.rasta_pdu.specs.Pdu.{messages_in}
 use Rattle.rasta_end.specs.State.{EndState}
 use Rattle.rasta_end.specs.MakeRule.{is_data}
 use Rattle.rasta_check.specs.Crossing.{FirstCopy}
 use Rattle.rasta_check.specs.declared.report.Taken.{Taken}
-use Rattle.rasta_check.specs.Taken.{TakenMessage, TakenUnit, messages_of_unit, messages_taken}
+use Rattle.rasta_check.specs.Taken.{TakenMessage, TakenUnit, messages_taken}
 use Rattle.rasta_check.specs.Listed.{ListedMessage, listed_of, numbered_from}
 use Rattle.rasta_check.specs.Listing.{shown_by, with_proofs, proofs_from, proved_unit, with_unit, proved_units}
 

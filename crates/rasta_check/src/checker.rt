@@ -29,9 +29,10 @@ fn report<'a, S: SentList<'a>>(
     server: (&S, &End<'a>),
 ) -> Result<Report<'a>, AllocError>
     ensures { IfOk result (λ r. explained r ≡ record {
-        packets = packets;
-        client_taken = listed_by server.entry.1.now.state (S.content server.entry.0.now) (S.content client.entry.0.now);
-        server_taken = listed_by client.entry.1.now.state (S.content client.entry.0.now) (S.content server.entry.0.now) }) }
+      packets = packets;
+      client_taken = listed_by server.entry.1.now.state (S.content server.entry.0.now) (S.content client.entry.0.now);
+      server_taken = listed_by client.entry.1.now.state (S.content client.entry.0.now) (S.content server.entry.0.now);
+    }) }
 {
     let client_taken = taken_list(alloc, server.1, server.0, client.0)?;
     let server_taken = taken_list(alloc, client.1, client.0, server.0)?;

@@ -1,6 +1,5 @@
-use Rattle.std.proofs.Common.{◌≡◌, ◌∙◌, Err, ap, sym, inl, inr, ⊎_elim}
-use Rattle.rasta_check.specs.Report.{explained, verdict_on}
-use Rattle.rasta_check.proofs.Refusing.{handed_on}
+use Rattle.std.proofs.Common.{inl, inr, ⊎_elim}
+use Rattle.rasta_check.specs.Report.{explained}
 use Rattle.rasta_check.proofs.Answering.{both, if_ok, if_err, still_ok, err_is}
 use Rattle.rasta_check.proofs.Filed.{same_params, seen, verdict_is, explains, not_explained, headline_is}
 use Rattle.rasta_check.proofs.checker.check.Goals as goal

@@ -1,6 +1,5 @@
-use Rattle.std.proofs.Common.{◌≡◌, ◌∙◌, length, Ok, Err, refl, sym, inl, inr, ⊎_elim}
-use Rattle.rasta_check.specs.Reading.{Crossing, IsCrossing}
-use Rattle.rasta_check.specs.Report.{BothFit, explained, verdict_of}
+use Rattle.std.proofs.Common.{◌∙◌, refl, sym, inl, inr, ⊎_elim}
+use Rattle.rasta_check.specs.Report.{verdict_of}
 use Rattle.rasta_check.proofs.Answering.{both, if_ok, if_err, still_ok}
 use Rattle.rasta_check.proofs.Headlined.{fits_by, lent}
 use Rattle.rasta_check.proofs.checker.check_sent.Goals as goal

@@ -1,6 +1,5 @@
-use Rattle.std.proofs.Common.{◌≡◌, ◌+◌, ◌++◌, ◌∷◌, ◌∙◌, List, Some, None, ap, sym, length, map, true, false}
+use Rattle.std.proofs.Common.{◌+◌, ◌++◌, ◌∙◌, List, ap, sym, length, map}
 use Rattle.rasta_end.specs.MakeRule.{is_data}
-use Rattle.rasta_check.specs.Crossing.{FirstCopy}
 use Rattle.rasta_check.specs.Lists.{copy_of}
 use Rattle.rasta_check.specs.Taken.{TakenUnit, messages_of_unit, messages_taken}
 use Rattle.rasta_check.specs.Listed.{listed_of, numbered_from}

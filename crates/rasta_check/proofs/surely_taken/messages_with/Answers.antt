@@ -1,7 +1,7 @@
-use Rattle.std.proofs.Common.{◌≡◌, ◌+◌, ◌++◌, ◌∙◌, ap, sym, arith, drop, length, map}
+use Rattle.std.proofs.Common.{◌+◌, ◌++◌, ◌∙◌, ap, sym, arith, drop, length, map}
 use Rattle.std.specs.Option.{option_map}
 use Rattle.rasta_check.specs.Lists.{copy_of}
-use Rattle.rasta_check.specs.Taken.{messages_taken, TakenUnit}
+use Rattle.rasta_check.specs.Taken.{messages_taken}
 use Rattle.rasta_check.specs.Listed.{listed_of, numbered_from}
 use Rattle.rasta_check.specs.Listing.{proved_units}
 use Rattle.rasta_check.proofs.Positions.{none_within}

@@ -1,4 +1,4 @@
-use Rattle.std.proofs.Common.{◌≡◌, ◌+◌, ◌∙◌, drop, ap, sym, arith}
+use Rattle.std.proofs.Common.{◌+◌, ◌∙◌, drop, ap, sym, arith}
 use Rattle.std.specs.Option.{option_map}
 use Rattle.rasta_check.specs.Lists.{copy_of}
 use Rattle.rasta_check.specs.Listing.{proofs_from, with_proofs}
