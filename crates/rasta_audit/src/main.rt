@@ -4,6 +4,8 @@
 #![tactic(auto)]
 
 mod check;
+#[cfg(test)]
+mod check_tests;
 mod command;
 mod endpoint;
 mod failure;

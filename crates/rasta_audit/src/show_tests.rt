@@ -7,7 +7,7 @@ use rasta_pdu::{Fault, Params, Side, Sink, Source};
 use std::alloc::Global;
 use std::test::Fail;
 
-const LITTLE: [u8; 4] = [0xd4, 0xc3, 0xb2, 0xa1];
+pub const LITTLE: [u8; 4] = [0xd4, 0xc3, 0xb2, 0xa1];
 
 // A heartbeat of the client on the first channel, followed by six bytes of padding.
 const HEARTBEAT: [u8; 84] = [
@@ -48,20 +48,20 @@ const FOUR_CHECK_BYTES: &str = "code_length = 0\ncheck_length = 4\n";
 const DATA_SHOWN: &str =
     "0 1 1 client 9 0 6240 102 500 1020 9000 data ab01,. - aabbccdd\npackets 1\n";
 
-const NO_CODES: &str = "code_length = 0\ncheck_length = 0\n";
+pub const NO_CODES: &str = "code_length = 0\ncheck_length = 0\n";
 
 const TWO_CHANNELS: &str =
     "client_id = 96\nserver_id = 97\nn_sendmax = 20\nt_max = 1800\nslack = 0\n[[channel]]\nclient = \"10.0.0.1:5000\"\nserver = \"10.0.0.2:5000\"\n[[channel]]\nclient = \"10.0.1.1:5001\"\nserver = \"10.0.1.2:5001\"\n";
 
 // Parameters of two channels, with these lines for the other keys.
-fn parameters(alloc: Global, lines: &str) -> Result<Params, Fail> {
+pub fn parameters(alloc: Global, lines: &str) -> Result<Params, Fail> {
     let mut text = String::from_str(alloc, lines)?;
     text.push_str(TWO_CHANNELS)?;
     Ok(params(alloc, text.as_bytes()).ok().ok_or("parameters")?)
 }
 
 // The file header, in the byte order of the magic.
-fn header_of(alloc: Global, magic: [u8; 4]) -> Result<Vec<u8>, Fail> {
+pub fn header_of(alloc: Global, magic: [u8; 4]) -> Result<Vec<u8>, Fail> {
     let rest: [u8; 20] = if magic[0] == 0xa1 {
         [0, 2, 0, 4, 0, 0, 0, 0, 0, 0, 0, 0, 0, 4, 0, 0, 0, 0, 0, 1]
     } else {
@@ -73,7 +73,7 @@ fn header_of(alloc: Global, magic: [u8; 4]) -> Result<Vec<u8>, Fail> {
 }
 
 // Puts a record behind, in the byte order of the magic.
-fn add_record(file: &mut Vec<u8>, magic: [u8; 4], frame: &[u8]) -> Result<(), Fail> {
+pub fn add_record(file: &mut Vec<u8>, magic: [u8; 4], frame: &[u8]) -> Result<(), Fail> {
     let captured = u32::try_from(frame.len()).ok().ok_or("length")?;
     let length = if magic[0] == 0xa1 {
         captured.to_be_bytes()
@@ -111,7 +111,7 @@ fn file_of(alloc: Global, frames: &[&[u8]]) -> Result<Vec<u8>, Fail> {
 }
 
 // The frame of a datagram of the first channel, with this tag.
-fn frame_of(alloc: Global, side: Side, datagram: &[u8], tag: &[u8]) -> Result<Vec<u8>, Fail> {
+pub fn frame_of(alloc: Global, side: Side, datagram: &[u8], tag: &[u8]) -> Result<Vec<u8>, Fail> {
     let udp = u16::try_from(datagram.len().saturating_add(8))
         .ok()
         .ok_or("length")?;

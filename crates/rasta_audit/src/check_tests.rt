@@ -1,0 +1,327 @@
+//! The verdict on captures and certificates in memory.
+use crate::check::run_check;
+use crate::show_tests::{LITTLE, NO_CODES, add_record, frame_of, header_of, parameters};
+use rasta_pcap::Counted;
+use rasta_pcap::devices::FailAt;
+use rasta_pdu::{Side, Sink};
+use std::alloc::Global;
+use std::test::Fail;
+
+// Rows are `SIDE NUMBER TYPE SN CS TS CTS PAYLOAD`, the payload in hexadecimal.
+const HANDSHAKE: &str = "\
+client 7 6200 100 0 1000 0 3033303314000000000000000000
+server 40 6201 500 100 9000 1000 3033303314000000000000000000
+client 8 6220 101 500 1010 9000
+";
+
+const HANDSHAKE_CERTIFICATE: &str = "\
+rasta-certificate 1
+client
+make 0 1000 open
+take 2 40
+make 2 1010 reply
+server
+take 1 7
+make 1 9000 reply
+end
+";
+
+const HANDSHAKE_EXPLAINED: &str = "\
+explained 3
+0 client make 7 1000 open
+1 server take 7
+1 server make 40 9000 reply
+2 client take 40
+2 client make 8 1010 reply
+taken by client 0
+taken by server 0
+";
+
+const NOTHING_CERTIFICATE: &str = "rasta-certificate 1\nclient\nserver\nend\n";
+
+const NOTHING_EXPLAINED: &str = "explained 0\ntaken by client 0\ntaken by server 0\n";
+
+const DATA: &str = "\
+client 7 6200 100 0 1000 0 3033303314000000000000000000
+server 40 6201 500 100 9000 1000 3033303314000000000000000000
+client 8 6220 101 500 1010 9000
+client 9 6240 102 500 1020 9000 0200ab010000
+server 41 6220 501 102 9050 1020
+";
+
+const DATA_CERTIFICATE: &str = "\
+rasta-certificate 1
+client
+make 0 1000 open
+take 2 40
+make 2 1010 reply
+make 3 1020 fresh
+server
+take 1 7
+make 1 9000 reply
+take 4 8
+take 4 9
+make 4 9050 beat
+end
+";
+
+const DATA_EXPLAINED: &str = "\
+explained 5
+0 client make 7 1000 open
+1 server take 7
+1 server make 40 9000 reply
+2 client take 40
+2 client make 8 1010 reply
+3 client make 9 1020 fresh
+4 server take 8
+4 server take 9
+4 server make 41 9050 beat
+taken by client 0
+taken by server 2
+0 3 4 ab01
+1 3 4 .
+";
+
+// The server takes a packet before it has crossed.
+const EARLY_CERTIFICATE: &str = "\
+rasta-certificate 1
+client
+make 0 1000 open
+take 2 40
+make 2 1010 reply
+make 3 1020 fresh
+server
+take 1 7
+make 1 9000 reply
+take 3 8
+take 3 9
+make 4 9050 beat
+end
+";
+
+const LOST_UNIT: &str = "\
+client 7 6200 100 0 1000 0 3033303314000000000000000000
+server 40 6201 500 100 9000 1000 3033303314000000000000000000
+client 8 6220 101 500 1010 9000
+client 9 6240 102 500 1020 9000 010001
+client 10 6240 103 500 1030 9000 010002
+server 41 6212 501 101 9060 1010
+client 11 6213 104 501 1070 9060
+client 12 6241 105 501 1071 9060 010001
+client 13 6241 106 501 1072 9060 010002
+client 14 6220 107 501 1080 9060
+server 42 6220 502 107 9090 1080
+";
+
+const LOST_UNIT_CERTIFICATE: &str = "\
+rasta-certificate 1
+client
+make 0 1000 open
+take 2 40
+make 2 1010 reply
+make 3 1020 fresh
+make 4 1030 fresh
+take 6 41
+make 6 1070 reply
+make 7 1071 again 0
+make 8 1072 again 1
+make 9 1080 beat
+server
+take 1 7
+make 1 9000 reply
+take 5 8
+take 5 10
+make 5 9060 ask
+take 10 11
+take 10 12
+take 10 13
+take 10 14
+make 10 9090 beat
+end
+";
+
+const LOST_UNIT_EXPLAINED: &str = "\
+explained 11
+0 client make 7 1000 open
+1 server take 7
+1 server make 40 9000 reply
+2 client take 40
+2 client make 8 1010 reply
+3 client make 9 1020 fresh
+4 client make 10 1030 fresh
+5 server take 8
+5 server take 10
+5 server make 41 9060 ask
+6 client take 41
+6 client make 11 1070 reply
+7 client make 12 1071 again 0
+8 client make 13 1072 again 1
+9 client make 14 1080 beat
+10 server take 11
+10 server take 12
+10 server take 13
+10 server take 14
+10 server make 42 9090 beat
+taken by client 0
+taken by server 2
+0 3 10 01
+1 4 10 02
+";
+
+const COPIES: &str = "\
+client 7 6200 100 0 1000 0 3033303314000000000000000000
+client 7 6200 100 0 1000 0 3033303314000000000000000000
+server 40 6201 500 100 9000 1000 3033303314000000000000000000
+client 8 6220 101 500 1010 9000
+server 40 6201 500 100 9000 1000 3033303314000000000000000000
+";
+
+const COPIES_CERTIFICATE: &str = "\
+rasta-certificate 1
+client
+make 0 1000 open
+take 3 40
+make 3 1010 reply
+server
+take 2 7
+make 2 9000 reply
+end
+";
+
+const COPIES_EXPLAINED: &str = "\
+explained 5
+0 client make 7 1000 open
+1 client copy 7
+2 server take 7
+2 server make 40 9000 reply
+3 client take 40
+3 client make 8 1010 reply
+4 server copy 40
+taken by client 0
+taken by server 0
+";
+
+const GAP: &str = "\
+client 7 6200 100 0 1000 0 3033303314000000000000000000
+server 40 6201 500 100 9000 1000 3033303314000000000000000000
+client 9 6220 101 500 1010 9000
+";
+
+const MISSPELLED: &str = "rasta-certificate 1\nclient\nmake 00 1000 open\nserver\nend\n";
+
+// Packets, a certificate, and the text and the status.
+const CASES: [(&str, &str, &str, u8); 9] = [
+    ("", NOTHING_CERTIFICATE, NOTHING_EXPLAINED, 0),
+    (HANDSHAKE, HANDSHAKE_CERTIFICATE, HANDSHAKE_EXPLAINED, 0),
+    (DATA, DATA_CERTIFICATE, DATA_EXPLAINED, 0),
+    (LOST_UNIT, LOST_UNIT_CERTIFICATE, LOST_UNIT_EXPLAINED, 0),
+    (COPIES, COPIES_CERTIFICATE, COPIES_EXPLAINED, 0),
+    (GAP, MISSPELLED, "refused 28 NumberGap 3 client\n", 1),
+    (DATA, MISSPELLED, "refused 30 Syntax 3 -\n", 1),
+    (DATA, "", "refused 30 Syntax 1 -\n", 1),
+    (
+        DATA,
+        EARLY_CERTIFICATE,
+        "refused 34 NotYetCrossed 4 server\n",
+        1,
+    ),
+];
+
+fn number_in(word: Option<&str>) -> Result<u32, Fail> {
+    Ok(word.ok_or("a word")?.parse().ok().ok_or("a number")?)
+}
+
+// The sender of a row, and its datagram.
+fn datagram_of(alloc: Global, row: &str) -> Result<(Side, Vec<u8>), Fail> {
+    let (side, ids) = if row.starts_with("client") {
+        (Side::Client, [97, 0, 0, 0, 96, 0, 0, 0])
+    } else {
+        (Side::Server, [96, 0, 0, 0, 97, 0, 0, 0])
+    };
+    let mut words = row.split(' ').skip(1);
+    let number = number_in(words.next())?;
+    let kind = u16::try_from(number_in(words.next())?)
+        .ok()
+        .ok_or("a type")?;
+    let mut fields = Vec::new(alloc);
+    for _ in 0..4 {
+        fields.extend_from_slice(&number_in(words.next())?.to_le_bytes())?;
+    }
+    let digits = words.next().unwrap_or("");
+    let payload = hex::decode(alloc, digits).ok().ok_or("digits")?;
+    let length = u16::try_from(payload.len()).ok().ok_or("length")?;
+    let mut bytes = Vec::from_slice(alloc, &length.saturating_add(36).to_le_bytes())?;
+    bytes.extend_from_slice(&[0, 0])?;
+    bytes.extend_from_slice(&number.to_le_bytes())?;
+    bytes.extend_from_slice(&length.saturating_add(28).to_le_bytes())?;
+    bytes.extend_from_slice(&kind.to_le_bytes())?;
+    bytes.extend_from_slice(&ids)?;
+    bytes.extend_from_slice(&fields)?;
+    bytes.extend_from_slice(&payload)?;
+    Ok((side, bytes))
+}
+
+fn capture_of(alloc: Global, rows: &str) -> Result<Vec<u8>, Fail> {
+    let mut file = header_of(alloc, LITTLE)?;
+    for row in rows.lines() {
+        let (side, datagram) = datagram_of(alloc, row)?;
+        let frame = frame_of(alloc, side, &datagram, &[])?;
+        add_record(&mut file, LITTLE, &frame)?;
+    }
+    Ok(file)
+}
+
+// The text and the status.
+fn checked(alloc: Global, file: &[u8], certificate: &str) -> Result<(Vec<u8>, u8), Fail> {
+    let params = parameters(alloc, NO_CODES)?;
+    let mut reader = Counted::new(file);
+    let mut writer = Counted::new(Vec::new(alloc));
+    let status = run_check(
+        alloc,
+        &params,
+        &mut reader,
+        certificate.as_bytes(),
+        &mut writer,
+    )
+    .ok()
+    .ok_or("a device")?;
+    Ok((writer.into_inner(), status))
+}
+
+#[test]
+fn certificates_are_checked(rt: HostRuntime) -> Result<(), Fail> {
+    for (rows, certificate, want, want_status) in CASES {
+        let file = capture_of(rt.alloc(), rows)?;
+        let (text, status) = checked(rt.alloc(), &file, certificate)?;
+        assert_eq!(rt; text.as_slice(), want.as_bytes());
+        assert_eq!(rt; status, want_status);
+    }
+    Ok(())
+}
+
+#[test]
+fn empty_file_is_refused(rt: HostRuntime) -> Result<(), Fail> {
+    let (text, status) = checked(rt.alloc(), &[], "")?;
+    assert_eq!(rt; text.as_slice(), "refused 13 CutHeader 0 -\n".as_bytes());
+    assert_eq!(rt; status, 1);
+    Ok(())
+}
+
+// What a writer that fails holds is a beginning of the text.
+#[test]
+fn each_write_of_a_verdict_fails_in_turn(rt: HostRuntime) -> Result<(), Fail> {
+    let params = parameters(rt.alloc(), NO_CODES)?;
+    let file = capture_of(rt.alloc(), DATA)?;
+    for call in 1..25 {
+        let mut reader = Counted::new(file.as_slice());
+        let mut writer = Counted::new(FailAt::new(Vec::new(rt.alloc()), call));
+        let certificate = DATA_CERTIFICATE.as_bytes();
+        let outcome = run_check(rt.alloc(), &params, &mut reader, certificate, &mut writer);
+        let failures = Sink::failures(&writer);
+        let text = writer.into_inner().into_inner();
+        assert!(rt; DATA_EXPLAINED.as_bytes().starts_with(&text));
+        assert_eq!(rt; failures == 0, text.len() == DATA_EXPLAINED.len());
+        assert_eq!(rt; outcome.is_ok(), failures == 0);
+    }
+    Ok(())
+}
