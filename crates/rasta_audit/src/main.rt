@@ -4,6 +4,8 @@
 #![tactic(auto)]
 
 mod audit;
+#[cfg(test)]
+mod audit_tests;
 mod check;
 #[cfg(test)]
 mod check_tests;
