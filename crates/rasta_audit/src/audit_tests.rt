@@ -120,7 +120,7 @@ const AUDITS: [(&str, &str, &str, u8); 9] = [
 
 // The text and the status.
 fn audited(alloc: Global, file: &[u8]) -> Result<(Vec<u8>, u8), Fail> {
-    let params = parameters(alloc, NO_CODES)?;
+    let params = parameters(alloc, NO_CODES).ok_or("parameters")?;
     let mut reader = Counted::new(file);
     let mut writer = Counted::new(Vec::new(alloc));
     let status = run_audit(alloc, &params, &mut reader, &mut writer)
@@ -131,7 +131,7 @@ fn audited(alloc: Global, file: &[u8]) -> Result<(Vec<u8>, u8), Fail> {
 
 // The text and the status.
 fn built(alloc: Global, file: &[u8]) -> Result<(Vec<u8>, u8), Fail> {
-    let params = parameters(alloc, NO_CODES)?;
+    let params = parameters(alloc, NO_CODES).ok_or("parameters")?;
     let mut reader = Counted::new(file);
     let mut writer = Counted::new(Vec::new(alloc));
     let status = run_build(alloc, &params, &mut reader, &mut writer)
@@ -143,7 +143,7 @@ fn built(alloc: Global, file: &[u8]) -> Result<(Vec<u8>, u8), Fail> {
 #[test]
 fn captures_are_audited(rt: HostRuntime) -> Result<(), Fail> {
     for (rows, first, last, want_status) in AUDITS {
-        let file = capture_of(rt.alloc(), rows)?;
+        let file = capture_of(rt.alloc(), rows).ok_or("a capture")?;
         let (text, status) = audited(rt.alloc(), &file)?;
         assert!(rt; text.starts_with(first.as_bytes()));
         assert!(rt; text.ends_with(last.as_bytes()));
@@ -155,7 +155,7 @@ fn captures_are_audited(rt: HostRuntime) -> Result<(), Fail> {
 // What is built is a certificate that explains the capture.
 #[test]
 fn certificates_are_built(rt: HostRuntime) -> Result<(), Fail> {
-    let file = capture_of(rt.alloc(), DATA)?;
+    let file = capture_of(rt.alloc(), DATA).ok_or("a capture")?;
     let (certificate, built_status) = built(rt.alloc(), &file)?;
     assert_eq!(rt; built_status, 0);
     let certificate = str::from_utf8(&certificate).ok().ok_or("a text")?;
@@ -169,7 +169,7 @@ fn certificates_are_built(rt: HostRuntime) -> Result<(), Fail> {
 #[test]
 fn builds_are_refused(rt: HostRuntime) -> Result<(), Fail> {
     for (rows, want) in REFUSED {
-        let file = capture_of(rt.alloc(), rows)?;
+        let file = capture_of(rt.alloc(), rows).ok_or("a capture")?;
         let (text, status) = built(rt.alloc(), &file)?;
         assert_eq!(rt; text.as_slice(), want.as_bytes());
         assert_eq!(rt; status, 1);

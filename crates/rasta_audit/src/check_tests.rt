@@ -3,7 +3,7 @@ use crate::check::run_check;
 use crate::show_tests::{LITTLE, NO_CODES, add_record, frame_of, header_of, parameters};
 use rasta_pcap::Counted;
 use rasta_pcap::devices::FailAt;
-use rasta_pdu::{Side, Sink};
+use rasta_pdu::Sink;
 use std::alloc::Global;
 use std::test::Fail;
 
@@ -227,53 +227,54 @@ const CASES: [(&str, &str, &str, u8); 9] = [
     ),
 ];
 
-fn number_in(word: Option<&str>) -> Result<u32, Fail> {
-    Ok(word.ok_or("a word")?.parse().ok().ok_or("a number")?)
+// The digits of a number, lowest byte first.
+fn digits_of(alloc: Global, word: Option<&str>) -> Option<String> {
+    let number: u32 = word?.parse().ok()?;
+    let swapped = u32::from_be_bytes(number.to_le_bytes());
+    format!(in alloc; "{swapped:08x}").ok()
 }
 
-// The sender of a row, and its datagram.
-fn datagram_of(alloc: Global, row: &str) -> Result<(Side, Vec<u8>), Fail> {
+// The same of a number of two bytes.
+fn short_digits(alloc: Global, number: u16) -> Option<String> {
+    let swapped = u16::from_be_bytes(number.to_le_bytes());
+    format!(in alloc; "{swapped:04x}").ok()
+}
+
+// The sender of a row, and its datagram in digits.
+fn sent_of(alloc: Global, row: &str) -> Option<String> {
     let (side, ids) = if row.starts_with("client") {
-        (Side::Client, [97, 0, 0, 0, 96, 0, 0, 0])
+        ("client", "6100000060000000")
     } else {
-        (Side::Server, [96, 0, 0, 0, 97, 0, 0, 0])
+        ("server", "6000000061000000")
     };
     let mut words = row.split(' ').skip(1);
-    let number = number_in(words.next())?;
-    let kind = u16::try_from(number_in(words.next())?)
-        .ok()
-        .ok_or("a type")?;
-    let mut fields = Vec::new(alloc);
-    for _ in 0..4 {
-        fields.extend_from_slice(&number_in(words.next())?.to_le_bytes())?;
-    }
-    let digits = words.next().unwrap_or("");
-    let payload = hex::decode(alloc, digits).ok().ok_or("digits")?;
-    let length = u16::try_from(payload.len()).ok().ok_or("length")?;
-    let mut bytes = Vec::from_slice(alloc, &length.saturating_add(36).to_le_bytes())?;
-    bytes.extend_from_slice(&[0, 0])?;
-    bytes.extend_from_slice(&number.to_le_bytes())?;
-    bytes.extend_from_slice(&length.saturating_add(28).to_le_bytes())?;
-    bytes.extend_from_slice(&kind.to_le_bytes())?;
-    bytes.extend_from_slice(&ids)?;
-    bytes.extend_from_slice(&fields)?;
-    bytes.extend_from_slice(&payload)?;
-    Ok((side, bytes))
+    let number = digits_of(alloc, words.next())?;
+    let kind = short_digits(alloc, words.next()?.parse().ok()?)?;
+    let sn = digits_of(alloc, words.next())?;
+    let cs = digits_of(alloc, words.next())?;
+    let ts = digits_of(alloc, words.next())?;
+    let cts = digits_of(alloc, words.next())?;
+    let payload = words.next().unwrap_or("");
+    let length = u16::try_from(payload.len() / 2).ok()?;
+    let whole = short_digits(alloc, length.checked_add(36)?)?;
+    let safety = short_digits(alloc, length.checked_add(28)?)?;
+    format!(in alloc;
+        "{side}:{whole}0000{number}{safety}{kind}{ids}{sn}{cs}{ts}{cts}{payload}"
+    ).ok()
 }
 
-pub fn capture_of(alloc: Global, rows: &str) -> Result<Vec<u8>, Fail> {
+pub fn capture_of(alloc: Global, rows: &str) -> Option<Vec<u8>> {
     let mut file = header_of(alloc, LITTLE)?;
     for row in rows.lines() {
-        let (side, datagram) = datagram_of(alloc, row)?;
-        let frame = frame_of(alloc, side, &datagram, &[])?;
-        add_record(&mut file, LITTLE, &frame)?;
+        let sent = sent_of(alloc, row)?;
+        add_record(&mut file, &frame_of(alloc, "", sent.as_str())?)?;
     }
-    Ok(file)
+    Some(file)
 }
 
 // The text and the status.
 pub fn checked(alloc: Global, file: &[u8], certificate: &str) -> Result<(Vec<u8>, u8), Fail> {
-    let params = parameters(alloc, NO_CODES)?;
+    let params = parameters(alloc, NO_CODES).ok_or("parameters")?;
     let mut reader = Counted::new(file);
     let mut writer = Counted::new(Vec::new(alloc));
     let status = run_check(
@@ -291,7 +292,7 @@ pub fn checked(alloc: Global, file: &[u8], certificate: &str) -> Result<(Vec<u8>
 #[test]
 fn certificates_are_checked(rt: HostRuntime) -> Result<(), Fail> {
     for (rows, certificate, want, want_status) in CASES {
-        let file = capture_of(rt.alloc(), rows)?;
+        let file = capture_of(rt.alloc(), rows).ok_or("a capture")?;
         let (text, status) = checked(rt.alloc(), &file, certificate)?;
         assert_eq!(rt; text.as_slice(), want.as_bytes());
         assert_eq!(rt; status, want_status);
@@ -310,8 +311,8 @@ fn empty_file_is_refused(rt: HostRuntime) -> Result<(), Fail> {
 // What a writer that fails holds is a beginning of the text.
 #[test]
 fn each_write_of_a_verdict_fails_in_turn(rt: HostRuntime) -> Result<(), Fail> {
-    let params = parameters(rt.alloc(), NO_CODES)?;
-    let file = capture_of(rt.alloc(), DATA)?;
+    let params = parameters(rt.alloc(), NO_CODES).ok_or("parameters")?;
+    let file = capture_of(rt.alloc(), DATA).ok_or("a capture")?;
     for call in 1..25 {
         let mut reader = Counted::new(file.as_slice());
         let mut writer = Counted::new(FailAt::new(Vec::new(rt.alloc()), call));

@@ -2,7 +2,7 @@
 use crate::failure::Failure;
 use crate::form::Form;
 use clap::error::ErrorKind;
-use clap::{Arg, ArgMatches, Command};
+use clap::{Arg, ArgMatches, Command, Error};
 use rasta_pdu::Fault;
 use std::alloc::{AllocError, Global};
 
@@ -15,34 +15,61 @@ fn subcommand<'a>(alloc: Global, name: &'a str) -> Result<Command<'a>, AllocErro
         .arg(Arg::new(alloc, "params").required(true))
 }
 
-fn command<'a>(alloc: Global) -> Result<Command<'a>, AllocError> {
-    let check = subcommand(alloc, "check")?.arg(Arg::new(alloc, "certificate").required(true))?;
+// The subcommand that takes a certificate too.
+fn check<'a>(alloc: Global) -> Result<Command<'a>, AllocError> {
+    subcommand(alloc, "check")?.arg(Arg::new(alloc, "certificate").required(true))
+}
+
+// The program, without the words for help that `clap` would add.
+fn root<'a>(alloc: Global) -> Command<'a> {
     Command::new(alloc, "rasta_audit")
         .no_binary_name(true)
         .disable_help_flag(true)
         .disable_version_flag(true)
         .disable_help_subcommand(true)
         .subcommand_required(true)
-        .subcommand(subcommand(alloc, "show")?)?
-        .subcommand(subcommand(alloc, "build")?)?
-        .subcommand(check)?
-        .subcommand(subcommand(alloc, "audit")?)
+}
+
+// With a subcommand more.
+fn with<'a>(alloc: Global, program: Command<'a>, name: &'a str) -> Result<Command<'a>, AllocError> {
+    program.subcommand(subcommand(alloc, name)?)
+}
+
+fn command<'a>(alloc: Global) -> Result<Command<'a>, AllocError> {
+    let program = with(alloc, root(alloc), "show")?;
+    let program = with(alloc, program, "build")?;
+    let program = with(alloc, program, "audit")?;
+    program.subcommand(check(alloc)?)
+}
+
+// The form of this name, where it takes no certificate.
+fn form_named<'a>(name: &str, capture: &'a str, params: &'a str) -> Option<Form<'a>> {
+    match name {
+        "show" => Some(Form::Show { capture, params }),
+        "build" => Some(Form::Build { capture, params }),
+        "audit" => Some(Form::Audit { capture, params }),
+        _ => None,
+    }
 }
 
 fn form_of<'a>(matches: &ArgMatches<'a>) -> Option<Form<'a>> {
     let (name, inner) = matches.subcommand()?;
     let capture = inner.get_str("capture")?;
     let params = inner.get_str("params")?;
-    match name {
-        "show" => Some(Form::Show { capture, params }),
-        "build" => Some(Form::Build { capture, params }),
-        "check" => Some(Form::Check {
+    match inner.get_str("certificate") {
+        Some(certificate) => Some(Form::Check {
             capture,
             params,
-            certificate: inner.get_str("certificate")?,
+            certificate,
         }),
-        "audit" => Some(Form::Audit { capture, params }),
-        _ => None,
+        None => form_named(name, capture, params),
+    }
+}
+
+fn failure_of(error: &Error) -> Failure {
+    match error.kind() {
+        ErrorKind::OutOfMemory => Failure::Refused(Fault::at(Fault::NO_MEMORY, 0)),
+        _ => Failure::Usage,
     }
 }
 
@@ -55,9 +82,6 @@ pub fn form<'a>(alloc: Global, words: &'a [String]) -> Result<Form<'a>, Failure>
     };
     match command.try_get_matches_from(words) {
         Ok(matches) => form_of(&matches).ok_or(Failure::Usage),
-        Err(error) if error.kind() == ErrorKind::OutOfMemory => {
-            Err(Failure::Refused(Fault::at(Fault::NO_MEMORY, 0)))
-        }
-        Err(_) => Err(Failure::Usage),
+        Err(error) => Err(failure_of(&error)),
     }
 }

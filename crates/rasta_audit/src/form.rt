@@ -1,7 +1,7 @@
 //! What the program is asked for.
 
 /// What the program is asked for, with the paths of its files.
-#[derive(Clone, Copy, Debug, PartialEq, Eq)]
+#[derive(Clone, Copy, Debug)]
 pub enum Form<'a> {
     Show {
         capture: &'a str,

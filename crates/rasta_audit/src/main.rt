@@ -44,7 +44,7 @@ use crate::form::Form;
 use crate::params::params;
 use crate::show::run_show;
 use rasta_pcap::{Counted, read_all};
-use rasta_pdu::{Fault, Params};
+use rasta_pdu::{Fault, Params, Source};
 use std::fs::File;
 use std::io;
 use std::io::{BufWriter, Printer, Write};
@@ -88,8 +88,17 @@ fn show_file<R: AllocGlobal + Files + Print>(
 ) -> Result<u8, Fault> {
     let params = read_params(rt, params_path)?;
     let mut reader = Counted::new(open(rt, capture)?);
+    write_shown(rt, &params, &mut reader)
+}
+
+// Writes what a capture shows to standard output.
+fn write_shown<R: AllocGlobal + Print, S: Source>(
+    rt: &R,
+    params: &Params,
+    reader: &mut S,
+) -> Result<u8, Fault> {
     let mut writer = output(rt)?;
-    let status = run_show(rt.alloc(), &params, &mut reader, &mut writer)?;
+    let status = run_show(rt.alloc(), params, reader, &mut writer)?;
     finish(writer, status)
 }
 
@@ -102,8 +111,18 @@ fn check_file<R: AllocGlobal + Files + Print>(
     let params = read_params(rt, params_path)?;
     let certificate = read_file(rt, certificate_path)?;
     let mut reader = Counted::new(open(rt, capture)?);
+    write_checked(rt, &params, &mut reader, &certificate)
+}
+
+// Writes the verdict on a capture and a certificate to standard output.
+fn write_checked<R: AllocGlobal + Print, S: Source>(
+    rt: &R,
+    params: &Params,
+    reader: &mut S,
+    certificate: &[u8],
+) -> Result<u8, Fault> {
     let mut writer = output(rt)?;
-    let status = run_check(rt.alloc(), &params, &mut reader, &certificate, &mut writer)?;
+    let status = run_check(rt.alloc(), params, reader, certificate, &mut writer)?;
     finish(writer, status)
 }
 
@@ -114,8 +133,17 @@ fn build_file<R: AllocGlobal + Files + Print>(
 ) -> Result<u8, Fault> {
     let params = read_params(rt, params_path)?;
     let mut reader = Counted::new(open(rt, capture)?);
+    write_built(rt, &params, &mut reader)
+}
+
+// Writes a certificate for a capture, or why there is none, to standard output.
+fn write_built<R: AllocGlobal + Print, S: Source>(
+    rt: &R,
+    params: &Params,
+    reader: &mut S,
+) -> Result<u8, Fault> {
     let mut writer = output(rt)?;
-    let status = run_build(rt.alloc(), &params, &mut reader, &mut writer)?;
+    let status = run_build(rt.alloc(), params, reader, &mut writer)?;
     finish(writer, status)
 }
 
@@ -126,8 +154,17 @@ fn audit_file<R: AllocGlobal + Files + Print>(
 ) -> Result<u8, Fault> {
     let params = read_params(rt, params_path)?;
     let mut reader = Counted::new(open(rt, capture)?);
+    write_audited(rt, &params, &mut reader)
+}
+
+// Writes the verdict on a capture to standard output.
+fn write_audited<R: AllocGlobal + Print, S: Source>(
+    rt: &R,
+    params: &Params,
+    reader: &mut S,
+) -> Result<u8, Fault> {
     let mut writer = output(rt)?;
-    let status = run_audit(rt.alloc(), &params, &mut reader, &mut writer)?;
+    let status = run_audit(rt.alloc(), params, reader, &mut writer)?;
     finish(writer, status)
 }
 
@@ -158,8 +195,13 @@ fn words<R: AllocGlobal + Env>(rt: &R) -> Result<Vec<String>, Failure> {
     }
 }
 
+fn answer<R: AllocGlobal + Env + Files + Print>(rt: &R) -> Result<u8, Failure> {
+    let words = words(rt)?;
+    run(rt, &words)
+}
+
 fn main(rt: HostRuntime) -> ExitCode {
-    match words(&rt).and_then(|words| run(&rt, &words)) {
+    match answer(&rt) {
         Ok(code) => ExitCode::from(code),
         Err(failure) => {
             // Where standard error fails too, the status alone tells.

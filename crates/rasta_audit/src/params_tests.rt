@@ -10,12 +10,17 @@ use std::test::Fail;
 const WORKED: &str =
     "client_id = 96\nserver_id = 97\ncode_length = 0\ncheck_length = 0\nn_sendmax = 20\nt_max = 1800\nslack = 0\n[[channel]]\nclient = '10.0.0.1:5000'\nserver = '10.0.0.2:5000'\n";
 
-// Whether the verdict on the text is the wanted one, which is told where it isn't.
+// The number and the place of the fault, or `read`.
+fn verdict(alloc: Global, text: &[u8]) -> Result<String, Fail> {
+    match params(alloc, text) {
+        Ok(_) => Ok(String::from_str(alloc, "read")?),
+        Err(fault) => Ok(format!(in alloc; "{} {}", fault.number, fault.place)?),
+    }
+}
+
+// Whether the verdict on the text is the wanted one.
 fn expect<R: Abort + AllocGlobal>(rt: &R, want: &str, text: &[u8]) -> Result<(), Fail> {
-    let verdict = match params(rt.alloc(), text) {
-        Ok(_) => String::from_str(rt.alloc(), "read")?,
-        Err(fault) => format!(in rt.alloc(); "{} {}", fault.number, fault.place)?,
-    };
+    let verdict = verdict(rt.alloc(), text)?;
     assert_eq!(rt; verdict.as_str(), want, "{text:?}");
     Ok(())
 }
@@ -197,28 +202,29 @@ const QUIETS: &str = "\
 52 13 | {extra = 0, client = {next_sn = 0, clock = 0}, server = {next_sn = 0, clock = 0}}
 ";
 
+// Whether the verdict on the worked text with this quiet point is the wanted one.
+fn expect_quiet<R: Abort + AllocGlobal>(rt: &R, want: &str, quiet: &str) -> Result<(), Fail> {
+    let text = format!(in rt.alloc(); "quiet = {quiet}\n{WORKED}")?;
+    expect(rt, want, text.as_bytes())
+}
+
+// The same where one end is this one, at either side.
+fn expect_end<R: Abort + AllocGlobal>(rt: &R, want: &str, end: &str) -> Result<(), Fail> {
+    let client = format!(in rt.alloc(); "{{client = {end}, server = {OTHER}}}")?;
+    expect_quiet(rt, want, client.as_str())?;
+    let server = format!(in rt.alloc(); "{{client = {OTHER}, server = {end}}}")?;
+    expect_quiet(rt, want, server.as_str())
+}
+
 #[test]
 fn quiet_points_are_judged(rt: HostRuntime) -> Result<(), Fail> {
     for row in ENDS.lines() {
         let (want, end) = row.split_once(" | ").ok_or("a verdict")?;
-        let client = format!(in rt.alloc();
-            "quiet = {{client = {end}, server = {OTHER}}}\n{WORKED}"
-        )?;
-        expect(&rt, want, client.as_bytes())?;
-        let server = format!(in rt.alloc();
-            "quiet = {{client = {OTHER}, server = {end}}}\n{WORKED}"
-        )?;
-        expect(&rt, want, server.as_bytes())?;
+        expect_end(&rt, want, end)?;
     }
-    Ok(())
-}
-
-#[test]
-fn whole_quiet_points_are_judged(rt: HostRuntime) -> Result<(), Fail> {
     for row in QUIETS.lines() {
         let (want, quiet) = row.split_once(" | ").ok_or("a verdict")?;
-        let text = format!(in rt.alloc(); "quiet = {quiet}\n{WORKED}")?;
-        expect(&rt, want, text.as_bytes())?;
+        expect_quiet(&rt, want, quiet)?;
     }
     Ok(())
 }
@@ -269,41 +275,54 @@ fn values_of(alloc: Global, text: &str) -> Result<String, Fail> {
     Ok(format!(in alloc; "{front} {channels:?} {quiet:?}")?)
 }
 
+const WORKED_VALUES: &str =
+    "(96, 97) (0, 0) 67452301efcdab8998badcfe10325476 (20, 1800, 0) (1, 4000000000) [Channel { client: Endpoint { address: [10, 0, 0, 1], port: 5000 }, server: Endpoint { address: [10, 0, 0, 2], port: 5000 } }] None";
+
+const OTHER_TEXT: &str =
+    "client_id = 1\nserver_id = 2\ncode_length = 16\nmd4_start = '0123456789abcdefABCDEF0000000010'\ncheck_length = 4\nn_sendmax = 3\nt_max = 4\nslack = 5\nfirst_record = 6\nlast_record = 7\nquiet.client = {next_sn = 8, clock = 9}\nquiet.server = {next_sn = 10, clock = 11, deadline = 12, handed_ts = 13}\n[[channel]]\nclient = '10.0.0.1:1'\nserver = '10.0.0.2:2'\n[[channel]]\nserver = '255.0.1.2:65535'\nclient = '0.0.0.0:3'\n";
+
+const OTHER_VALUES: &str =
+    "(1, 2) (16, 4) 0123456789abcdefabcdef0000000010 (3, 4, 5) (6, 7) [Channel { client: Endpoint { address: [10, 0, 0, 1], port: 1 }, server: Endpoint { address: [10, 0, 0, 2], port: 2 } }, Channel { client: Endpoint { address: [0, 0, 0, 0], port: 3 }, server: Endpoint { address: [255, 0, 1, 2], port: 65535 } }] Some(Quiet { client: QuietEnd { next_sn: 8, clock: 9, deadline: None, handed_ts: None }, server: QuietEnd { next_sn: 10, clock: 11, deadline: Some(12), handed_ts: Some(13) } })";
+
 #[test]
 fn values_are_those_of_the_text(rt: HostRuntime) -> Result<(), Fail> {
-    assert_eq!(rt;
-        values_of(rt.alloc(), WORKED)?.as_str(),
-        "(96, 97) (0, 0) 67452301efcdab8998badcfe10325476 (20, 1800, 0) (1, 4000000000) [Channel { client: Endpoint { address: [10, 0, 0, 1], port: 5000 }, server: Endpoint { address: [10, 0, 0, 2], port: 5000 } }] None"
-    );
-    assert_eq!(rt;
-        values_of(
-            rt.alloc(),
-            "client_id = 1\nserver_id = 2\ncode_length = 16\nmd4_start = '0123456789abcdefABCDEF0000000010'\ncheck_length = 4\nn_sendmax = 3\nt_max = 4\nslack = 5\nfirst_record = 6\nlast_record = 7\nquiet.client = {next_sn = 8, clock = 9}\nquiet.server = {next_sn = 10, clock = 11, deadline = 12, handed_ts = 13}\n[[channel]]\nclient = '10.0.0.1:1'\nserver = '10.0.0.2:2'\n[[channel]]\nserver = '255.0.1.2:65535'\nclient = '0.0.0.0:3'\n",
-        )?
-        .as_str(),
-        "(1, 2) (16, 4) 0123456789abcdefabcdef0000000010 (3, 4, 5) (6, 7) [Channel { client: Endpoint { address: [10, 0, 0, 1], port: 1 }, server: Endpoint { address: [10, 0, 0, 2], port: 2 } }, Channel { client: Endpoint { address: [0, 0, 0, 0], port: 3 }, server: Endpoint { address: [255, 0, 1, 2], port: 65535 } }] Some(Quiet { client: QuietEnd { next_sn: 8, clock: 9, deadline: None, handed_ts: None }, server: QuietEnd { next_sn: 10, clock: 11, deadline: Some(12), handed_ts: Some(13) } })"
-    );
+    for (text, want) in [(WORKED, WORKED_VALUES), (OTHER_TEXT, OTHER_VALUES)] {
+        assert_eq!(rt; values_of(rt.alloc(), text)?.as_str(), want);
+    }
     Ok(())
 }
 
-// Texts that are no documents, and some that are, without any key.
+// Verdict, and the bytes of a text: of no bytes, a comment, a byte that begins no character, a text
+// with one that ends none, a zero byte, and a key alone.
+const BYTES: &str = "\
+51 1 |
+51 1 | 23206e6f7468696e670d0a
+50 0 | ff
+50 0 | 636c69656e745f6964203d2022c32822
+50 0 | 636c69656e745f6964203d20393600
+50 0 | 636c69656e745f6964
+";
+
+// Verdict, the front of a text, and what follows 2,000 times.
+const LONG: &str = "\
+50 0 | a = | [
+50 0 | a = | 9
+50 0 | a = | {a=
+50 0 |  | a.
+";
+
 #[test]
 fn bad_texts_have_faults(rt: HostRuntime) -> Result<(), Fail> {
-    let texts: [(&[u8], &str); 6] = [
-        (b"", "51 1"),
-        (b"# nothing\r\n", "51 1"),
-        (b"\xff", "50 0"),
-        (b"client_id = \"\xc3\x28\"", "50 0"),
-        (b"client_id = 96\0", "50 0"),
-        (b"client_id", "50 0"),
-    ];
-    for (text, want) in texts {
-        expect(&rt, want, text)?;
+    for row in BYTES.lines() {
+        let (want, digits) = row.split_once(" |").ok_or("a verdict")?;
+        let text = hex::decode(rt.alloc(), digits.trim())?;
+        expect(&rt, want, &text)?;
     }
-    for (front, piece) in [("a = ", "["), ("a = ", "9"), ("a = ", "{a="), ("", "a.")] {
+    for row in LONG.lines() {
+        let (want, front, piece) = three(row)?;
         let text = piece.repeat(rt.alloc(), 2000)?;
-        let text = format!(in rt.alloc(); "{front}{text}")?;
-        expect(&rt, "50 0", text.as_bytes())?;
+        let text = format!(in rt.alloc(); "{front} {text}")?;
+        expect(&rt, want, text.as_bytes())?;
     }
     Ok(())
 }

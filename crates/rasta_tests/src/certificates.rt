@@ -4,6 +4,7 @@ use rasta_end::Why;
 use rasta_pcap::devices::FailAt;
 use rasta_pcap::{Counted, Fault, Sink};
 use std::alloc::Global;
+use std::process::Abort;
 use std::test::Fail;
 
 const TEXT: &str = "\
@@ -91,37 +92,42 @@ fn certificate(alloc: Global) -> Option<Certificate> {
     Certificate::new(client, server).ok()
 }
 
+// Whether the scripts are those of the text.
+fn expect_scripts<R: Abort>(rt: &R, certificate: &Certificate) {
+    assert_eq!(rt; certificate.client(), CLIENT);
+    assert_eq!(rt; certificate.server(), SERVER);
+}
+
 #[test]
 fn certificate_is_written(rt: HostRuntime) -> Result<(), Fail> {
     let certificate = certificate(rt.alloc()).ok_or("a certificate")?;
-    assert_eq!(rt; certificate.client(), CLIENT);
-    assert_eq!(rt; certificate.server(), SERVER);
+    expect_scripts(&rt, &certificate);
     let mut writer = Counted::new(Vec::new(rt.alloc()));
     assert_eq!(rt; write(&certificate, &mut writer), Ok(()));
     assert_eq!(rt; writer.into_inner().as_slice(), TEXT.as_bytes());
     Ok(())
 }
 
-// What a writer that fails or takes no byte holds is a beginning of the text.
+// Whether what a writer that goes wrong holds is a beginning of the text.
+fn expect_writes<R: Abort>(rt: &R, certificate: &Certificate, device: FailAt<Vec<u8>>) {
+    let mut writer = Counted::new(device);
+    let outcome = write(certificate, &mut writer);
+    let failures = Sink::failures(&writer);
+    let text = writer.into_inner().into_inner();
+    assert!(rt; TEXT.as_bytes().starts_with(&text));
+    assert_eq!(rt; failures == 0, text.len() == TEXT.len());
+    assert_eq!(rt; outcome.is_ok(), failures == 0);
+}
+
+// Each call of a writer fails or takes no byte.
 #[test]
 fn each_write_goes_wrong_in_turn(rt: HostRuntime) -> Result<(), Fail> {
     let certificate = certificate(rt.alloc()).ok_or("a certificate")?;
     for call in 1..20 {
-        for idles in [false, true] {
-            let text = Vec::new(rt.alloc());
-            let device = if idles {
-                FailAt::idle_at(text, call)
-            } else {
-                FailAt::new(text, call)
-            };
-            let mut writer = Counted::new(device);
-            let outcome = write(&certificate, &mut writer);
-            let failures = Sink::failures(&writer);
-            let text = writer.into_inner().into_inner();
-            assert!(rt; TEXT.as_bytes().starts_with(&text));
-            assert_eq!(rt; failures == 0, text.len() == TEXT.len());
-            assert_eq!(rt; outcome.is_ok(), failures == 0);
-        }
+        let failing = FailAt::new(Vec::new(rt.alloc()), call);
+        expect_writes(&rt, &certificate, failing);
+        let idle = FailAt::idle_at(Vec::new(rt.alloc()), call);
+        expect_writes(&rt, &certificate, idle);
     }
     Ok(())
 }
@@ -137,10 +143,14 @@ fn refusal(alloc: Global, client: usize, server: usize) -> Option<Option<Fault>>
 #[test]
 fn entries_are_at_most_four_million(rt: HostRuntime) {
     let too_many = Some(Fault::at(45, 0));
-    assert_eq!(rt; refusal(rt.alloc(), 4_000_000, 0), Some(None));
-    assert_eq!(rt; refusal(rt.alloc(), 2_000_000, 2_000_000), Some(None));
-    assert_eq!(rt; refusal(rt.alloc(), 4_000_001, 0), Some(too_many));
-    assert_eq!(rt; refusal(rt.alloc(), 1, 4_000_000), Some(too_many));
+    for (client, server, want) in [
+        (4_000_000, 0, None),
+        (2_000_000, 2_000_000, None),
+        (4_000_001, 0, too_many),
+        (1, 4_000_000, too_many),
+    ] {
+        assert_eq!(rt; refusal(rt.alloc(), client, server), Some(want));
+    }
 }
 
 #[test]
@@ -148,8 +158,7 @@ fn certificate_is_read(rt: HostRuntime) -> Result<(), Fail> {
     let certificate = read(rt.alloc(), TEXT.as_bytes())
         .ok()
         .ok_or("a certificate")?;
-    assert_eq!(rt; certificate.client(), CLIENT);
-    assert_eq!(rt; certificate.server(), SERVER);
+    expect_scripts(&rt, &certificate);
     Ok(())
 }
 
@@ -164,8 +173,7 @@ fn certificate_is_read_again(rt: HostRuntime) -> Result<(), Fail> {
         }
     }
     let certificate = outcome.ok().ok_or("a certificate")?;
-    assert_eq!(rt; certificate.client(), CLIENT);
-    assert_eq!(rt; certificate.server(), SERVER);
+    expect_scripts(&rt, &certificate);
     Ok(())
 }
 
@@ -351,20 +359,20 @@ fn text_of_takes(alloc: Global, takes: usize, line: &str) -> Option<Vec<u8>> {
     Some(text)
 }
 
+// What is answered to that text.
+fn answer_to_takes(alloc: Global, takes: usize, line: &str) -> Option<Option<Fault>> {
+    let text = text_of_takes(alloc, takes, line)?;
+    Some(read(alloc, &text).err())
+}
+
 // Built by LLVM, as the gate and `rt test` do, this takes a second; `rt try --test` gives it up.
 #[test]
-fn entry_too_many_is_named(rt: HostRuntime) -> Result<(), Fail> {
-    let text = text_of_takes(rt.alloc(), 4_000_000, "").ok_or("a text")?;
-    assert_eq!(rt; read(rt.alloc(), &text).err(), None);
-    let text = text_of_takes(rt.alloc(), 4_000_000, "take 0 0\n").ok_or("a text")?;
-    assert_eq!(rt;
-        read(rt.alloc(), &text).err(),
-        Some(Fault::at(45, 4_000_003))
-    );
-    let text = text_of_takes(rt.alloc(), 4_000_000, "take 0 00\n").ok_or("a text")?;
-    assert_eq!(rt;
-        read(rt.alloc(), &text).err(),
-        Some(Fault::at(30, 4_000_003))
-    );
-    Ok(())
+fn entry_too_many_is_named(rt: HostRuntime) {
+    for (line, want) in [
+        ("", None),
+        ("take 0 0\n", Some(Fault::at(45, 4_000_003))),
+        ("take 0 00\n", Some(Fault::at(30, 4_000_003))),
+    ] {
+        assert_eq!(rt; answer_to_takes(rt.alloc(), 4_000_000, line), Some(want));
+    }
 }

@@ -15,3 +15,5 @@ mod lines;
 mod model;
 #[cfg(test)]
 mod proposals;
+#[cfg(test)]
+mod sent_lists;
