@@ -8,3 +8,4 @@ pub mod Ordered
 pub mod RunTexts
 pub mod Telling
 pub mod Verdicts
+pub mod Proposals

@@ -75,7 +75,7 @@ explained_text-listed k scripts report line client server e f g =
 
 -- ---- refusals
 
-if_ok_map : {A E : Type 0} {P Q : A → Type 0} (r : Result A E) → ((v : A) → P v → Q v) → IfOk r P → IfOk r Q
+pub if_ok_map : {A E : Type 0} {P Q : A → Type 0} (r : Result A E) → ((v : A) → P v → Q v) → IfOk r P → IfOk r Q
 if_ok_map (Ok v) f h = f v h
 if_ok_map (Err e) f h = tt
 
@@ -143,11 +143,11 @@ one_verdict p certificate file s t m n (explained k c q e a b v) (explained j d 
 
 -- ---- what a run wrote
 
-abbrev Texts : Type 1
+abbrev pub Texts : Type 1
 Texts = List ℕ → List ℕ → ℕ → Type 0
 
 -- behind the end of the input nothing follows
-whole_input : (file more : List ℕ) → MayFollow true more → file ++ more ≡ file
+pub whole_input : (file more : List ℕ) → MayFollow true more → file ++ more ≡ file
 whole_input file more h = ap (λ (l : List ℕ). file ++ l) (h refl) ∙ append-nil file
 
 pub verdict_written : (IsText : Texts) (r : Result ℕ Fault) (file text : List ℕ) (status : ℕ) (oi ni oo on : Option (List ℕ)) → Consumes oi ni file → IsAtEnd ni

@@ -1,7 +1,10 @@
 -- A verdict as the code holds it.
-use Rattle.std.specs.Prelude.{ℕ, List}
-use Rattle.rasta_check.specs.Report.{explained}
+use Rattle.std.specs.Prelude.{◌≡◌, ℕ, List, length, Ok, Err}
+use Rattle.rasta_cert.specs.Certificate.{Scripts}
+use Rattle.rasta_check.specs.Reading.{Crossing}
+use Rattle.rasta_check.specs.Report.{explained, verdict_of}
 use Rattle.rasta_audit.specs.Lines.{refused_line}
+use Rattle.rasta_audit.specs.Proposed.{Telling}
 use Rattle.rasta_audit.specs.Told.{IsTold}
 use Rattle.rasta_audit.specs.Verdict.{explained_text}
 use Rattle.rasta_audit.specs.declared.verdict.Explanation.{Explanation}
@@ -23,3 +26,14 @@ status_of_verdict (Explained e) = 0
 abbrev pub HasToldRun : Verdict → Type 0
 HasToldRun (Refused fault) = Unit {0}
 HasToldRun (Explained e) = IsTold e.sent e.certificate
+
+-- the verdict on what crossed and these scripts
+abbrev pub IsJudged : Crossing → Scripts → Verdict → Type 0
+IsJudged k scripts (Refused fault) = verdict_of k.params (length k.packets) k.client k.server scripts ≡ Err fault
+IsJudged k scripts (Explained e) = (e.sent ≡ k) × (e.certificate ≡ scripts)
+    × (verdict_of k.params (length k.packets) k.client k.server scripts ≡ Ok (explained e.report))
+
+-- the text of a verdict whose explanation is told so
+abbrev pub told_verdict : Telling → Verdict → List ℕ
+told_verdict tell (Refused fault) = refused_line fault
+told_verdict tell (Explained e) = tell e.sent e.certificate (explained e.report)

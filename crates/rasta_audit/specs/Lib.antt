@@ -13,3 +13,4 @@ pub mod Told
 pub mod Verdict
 pub mod Passed
 pub mod Judged
+pub mod Proposed

@@ -8,7 +8,7 @@ use std::alloc::Global;
 use std::test::Fail;
 
 // Rows are `SIDE NUMBER TYPE SN CS TS CTS PAYLOAD`, the payload in hexadecimal.
-const HANDSHAKE: &str = "\
+pub const HANDSHAKE: &str = "\
 client 7 6200 100 0 1000 0 3033303314000000000000000000
 server 40 6201 500 100 9000 1000 3033303314000000000000000000
 client 8 6220 101 500 1010 9000
@@ -41,7 +41,7 @@ const NOTHING_CERTIFICATE: &str = "rasta-certificate 1\nclient\nserver\nend\n";
 
 const NOTHING_EXPLAINED: &str = "explained 0\ntaken by client 0\ntaken by server 0\n";
 
-const DATA: &str = "\
+pub const DATA: &str = "\
 client 7 6200 100 0 1000 0 3033303314000000000000000000
 server 40 6201 500 100 9000 1000 3033303314000000000000000000
 client 8 6220 101 500 1010 9000
@@ -99,7 +99,7 @@ make 4 9050 beat
 end
 ";
 
-const LOST_UNIT: &str = "\
+pub const LOST_UNIT: &str = "\
 client 7 6200 100 0 1000 0 3033303314000000000000000000
 server 40 6201 500 100 9000 1000 3033303314000000000000000000
 client 8 6220 101 500 1010 9000
@@ -168,7 +168,7 @@ taken by server 2
 1 4 10 02
 ";
 
-const COPIES: &str = "\
+pub const COPIES: &str = "\
 client 7 6200 100 0 1000 0 3033303314000000000000000000
 client 7 6200 100 0 1000 0 3033303314000000000000000000
 server 40 6201 500 100 9000 1000 3033303314000000000000000000
@@ -201,7 +201,7 @@ taken by client 0
 taken by server 0
 ";
 
-const GAP: &str = "\
+pub const GAP: &str = "\
 client 7 6200 100 0 1000 0 3033303314000000000000000000
 server 40 6201 500 100 9000 1000 3033303314000000000000000000
 client 9 6220 101 500 1010 9000
@@ -258,10 +258,12 @@ fn sent_of(alloc: Global, row: &str) -> Option<String> {
     let length = u16::try_from(payload.len() / 2).ok()?;
     let whole = short_digits(alloc, length.checked_add(36)?)?;
     let safety = short_digits(alloc, length.checked_add(28)?)?;
-    format!(in alloc; "{side}:{whole}0000{number}{safety}{kind}{ids}{sn}{cs}{ts}{cts}{payload}").ok()
+    format!(in alloc;
+        "{side}:{whole}0000{number}{safety}{kind}{ids}{sn}{cs}{ts}{cts}{payload}"
+    ).ok()
 }
 
-fn capture_of(alloc: Global, rows: &str) -> Option<Vec<u8>> {
+pub fn capture_of(alloc: Global, rows: &str) -> Option<Vec<u8>> {
     let mut file = header_of(alloc, LITTLE)?;
     for row in rows.lines() {
         let sent = sent_of(alloc, row)?;
@@ -271,7 +273,7 @@ fn capture_of(alloc: Global, rows: &str) -> Option<Vec<u8>> {
 }
 
 // The text and the status.
-fn checked(alloc: Global, file: &[u8], certificate: &str) -> Result<(Vec<u8>, u8), Fail> {
+pub fn checked(alloc: Global, file: &[u8], certificate: &str) -> Result<(Vec<u8>, u8), Fail> {
     let params = parameters(alloc, NO_CODES).ok_or("parameters")?;
     let mut reader = Counted::new(file);
     let mut writer = Counted::new(Vec::new(alloc));

@@ -1,8 +1,11 @@
 //! Audits one RaSTA connection from a capture. `show CAPTURE PARAMS` writes a line for each PDU of
-//! the recorded channels, and `check CAPTURE PARAMS CERT` what a certificate explains of them; the other
-//! commands are not there yet.
+//! the recorded channels, `build CAPTURE PARAMS` a certificate that explains them, `check CAPTURE PARAMS
+//! CERT` what a certificate explains of them, and `audit CAPTURE PARAMS` builds and checks.
 #![tactic(auto)]
 
+mod audit;
+#[cfg(test)]
+mod audit_tests;
 mod check;
 #[cfg(test)]
 mod check_tests;
@@ -17,6 +20,7 @@ mod packet;
 mod params;
 #[cfg(test)]
 mod params_tests;
+mod proposed;
 mod quiet_table;
 mod run_lines;
 mod run_text;
@@ -32,6 +36,7 @@ mod tests;
 mod texts;
 mod verdict;
 
+use crate::audit::{run_audit, run_build};
 use crate::check::run_check;
 use crate::command::form;
 use crate::failure::{Failure, status};
@@ -42,7 +47,7 @@ use rasta_pcap::{Counted, read_all};
 use rasta_pdu::{Fault, Params, Source};
 use std::fs::File;
 use std::io;
-use std::io::{BufWriter, Write};
+use std::io::{BufWriter, Printer, Write};
 use std::process::ExitCode;
 use std::rt::{Env, Files};
 
@@ -58,6 +63,14 @@ fn read_file<R: AllocGlobal + Files>(rt: &R, path: &str) -> Result<Vec<u8>, Faul
 
 fn read_params<R: AllocGlobal + Files>(rt: &R, path: &str) -> Result<Params, Fault> {
     params(rt.alloc(), &read_file(rt, path)?)
+}
+
+// Standard output, through a buffer.
+fn output<R: AllocGlobal + Print>(rt: &R) -> Result<Counted<BufWriter<Printer<'_, R>>>, Fault> {
+    match BufWriter::new(rt.alloc(), io::writer(rt)) {
+        Ok(output) => Ok(Counted::new(output)),
+        Err(_) => Err(Fault::at(Fault::NO_MEMORY, 0)),
+    }
 }
 
 // The status of a text, once all of it is out.
@@ -84,10 +97,7 @@ fn write_shown<R: AllocGlobal + Print, S: Source>(
     params: &Params,
     reader: &mut S,
 ) -> Result<u8, Fault> {
-    let Ok(output) = BufWriter::new(rt.alloc(), io::writer(rt)) else {
-        return Err(Fault::at(Fault::NO_MEMORY, 0));
-    };
-    let mut writer = Counted::new(output);
+    let mut writer = output(rt)?;
     let status = run_show(rt.alloc(), params, reader, &mut writer)?;
     finish(writer, status)
 }
@@ -111,11 +121,50 @@ fn write_checked<R: AllocGlobal + Print, S: Source>(
     reader: &mut S,
     certificate: &[u8],
 ) -> Result<u8, Fault> {
-    let Ok(output) = BufWriter::new(rt.alloc(), io::writer(rt)) else {
-        return Err(Fault::at(Fault::NO_MEMORY, 0));
-    };
-    let mut writer = Counted::new(output);
+    let mut writer = output(rt)?;
     let status = run_check(rt.alloc(), params, reader, certificate, &mut writer)?;
+    finish(writer, status)
+}
+
+fn build_file<R: AllocGlobal + Files + Print>(
+    rt: &R,
+    capture: &str,
+    params_path: &str,
+) -> Result<u8, Fault> {
+    let params = read_params(rt, params_path)?;
+    let mut reader = Counted::new(open(rt, capture)?);
+    write_built(rt, &params, &mut reader)
+}
+
+// Writes a certificate for a capture, or why there is none, to standard output.
+fn write_built<R: AllocGlobal + Print, S: Source>(
+    rt: &R,
+    params: &Params,
+    reader: &mut S,
+) -> Result<u8, Fault> {
+    let mut writer = output(rt)?;
+    let status = run_build(rt.alloc(), params, reader, &mut writer)?;
+    finish(writer, status)
+}
+
+fn audit_file<R: AllocGlobal + Files + Print>(
+    rt: &R,
+    capture: &str,
+    params_path: &str,
+) -> Result<u8, Fault> {
+    let params = read_params(rt, params_path)?;
+    let mut reader = Counted::new(open(rt, capture)?);
+    write_audited(rt, &params, &mut reader)
+}
+
+// Writes the verdict on a capture to standard output.
+fn write_audited<R: AllocGlobal + Print, S: Source>(
+    rt: &R,
+    params: &Params,
+    reader: &mut S,
+) -> Result<u8, Fault> {
+    let mut writer = output(rt)?;
+    let status = run_audit(rt.alloc(), params, reader, &mut writer)?;
     finish(writer, status)
 }
 
@@ -127,7 +176,12 @@ fn run<R: AllocGlobal + Files + Print>(rt: &R, words: &[String]) -> Result<u8, F
             params,
             certificate,
         } => check_file(rt, capture, params, certificate).map_err(Failure::Refused),
-        Form::Build { .. } | Form::Audit { .. } => Err(Failure::Usage),
+        Form::Build { capture, params } => {
+            build_file(rt, capture, params).map_err(Failure::Refused)
+        }
+        Form::Audit { capture, params } => {
+            audit_file(rt, capture, params).map_err(Failure::Refused)
+        }
     }
 }
 

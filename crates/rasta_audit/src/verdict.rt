@@ -9,7 +9,7 @@ ghost use Rattle.rasta_check.specs.Reading.{crossing_of};
 ghost use Rattle.rasta_audit.specs.declared.verdict.Verdict.TheVariants as verdicts;
 ghost use Rattle.rasta_audit.specs.Told.{IsTold};
 ghost use Rattle.rasta_audit.specs.Verdict.{IsVerdict, explained_line, explained_text};
-ghost use Rattle.rasta_audit.specs.Judged.{HasToldRun, status_of_verdict, text_of_explanation, text_of_verdict};
+ghost use Rattle.rasta_audit.specs.Judged.{HasToldRun, IsJudged, status_of_verdict, text_of_explanation, text_of_verdict};
 
 use crate::line::Line;
 use crate::run_text::write_run;
@@ -36,8 +36,8 @@ pub enum Verdict<'a> {
     Explained(Explanation<'a>),
 }
 
-// A refusal is a verdict; want of memory is none.
-fn refused<'a>(fault: Fault) -> Result<Verdict<'a>, Fault>
+/// A refusal is a verdict; want of memory is none.
+pub fn refused<'a>(fault: Fault) -> Result<Verdict<'a>, Fault>
     ensures ok { IfOk result (λ v. (v ≡ verdicts.Refused fault) × (fault ≢ no_memory)) }
     ensures err { IfErr result (λ f. f ≡ no_memory) }
 {
@@ -48,14 +48,16 @@ fn refused<'a>(fault: Fault) -> Result<Verdict<'a>, Fault>
     }
 }
 
-// The verdict on what crossed and a certificate.
-fn judge_scripts<'a>(
+/// The verdict on what crossed and a certificate: the client's script is judged first, then the server's.
+/// Refused by [`Fault::NO_MEMORY`] alone.
+pub fn judge_scripts<'a>(
     alloc: Global,
     sent: Sent<'a>,
     certificate: Certificate,
 ) -> Result<Verdict<'a>, Fault>
     ensures stands { IfOk result (λ v. (p : Parameters) (file text : List ℕ) → crossing_of p file ≡ Ok sent.entry
         → text ≡ certificate_text certificate → IsCertificate certificate → IsVerdict p text file (text_of_verdict v) (status_of_verdict v)) }
+    ensures judged { IfOk result (IsJudged sent.entry certificate) }
     ensures told { IfOk result HasToldRun }
     ensures err { IfErr result (λ f. f ≡ no_memory) }
 {

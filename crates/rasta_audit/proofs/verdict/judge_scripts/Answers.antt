@@ -1,4 +1,4 @@
-use Rattle.std.proofs.Common.{◌≡◌, ◌∙◌, ℕ, List, Ok, ap, length, sym}
+use Rattle.std.proofs.Common.{◌≡◌, ◌∙◌, ℕ, List, Ok, ap, length, refl, sym}
 use Rattle.rasta_pdu.specs.Params.{Parameters}
 use Rattle.rasta_cert.specs.Certificate.{IsCertificate, certificate_text}
 use Rattle.rasta_check.specs.Reading.{crossing_of}
@@ -30,3 +30,8 @@ returns-clause-stands c =
     c.refused.result c.in-Err.fault c.refused.ensures.ok c.in-Err.ensures.verdict
     (λ refused p file text crossed is valid. verdict.script_refused k scripts c.in-Err.fault crossed is valid
     (ap (λ (q : Parameters). verdict_of q (length k.packets) k.client k.server scripts) (sym c.params.ensures.value) ∙ refused))
+
+pub returns-in-Ok-clause-judged : goal.returns-in-Ok-clause-judged
+returns-in-Ok-clause-judged c =
+    let k = c.args.sent in
+    (refl, refl, ap (λ (q : Parameters). verdict_of q (length k.packets) k.client k.server c.args.certificate) (sym c.params.ensures.value) ∙ c.in-Ok.ensures.verdict)

@@ -1,0 +1,112 @@
+-- What becomes of a capture for which a certificate is proposed, and what a run wrote of it.
+use Rattle.std.proofs.Common.{◌≡◌, ◌⊎◌, ℕ, true, false, List, [], ◌++◌, length, Option, Result, Ok, Err, OnErr, IfOk, refl, subst, sym, ⊎_elim}
+use Rattle.std.specs.Io.KnownBytes.{Consumes, IsAtEnd}
+use Rattle.std.proofs.KnownBytes.{Appends-nil}
+use Rattle.rasta_pcap.specs.declared.fault.Fault.{Fault}
+use Rattle.rasta_pcap.specs.Fault.{fault_at, no_memory}
+use Rattle.rasta_pcap.specs.Devices.{AppendsBeginning}
+use Rattle.rasta_pdu.specs.Params.{Parameters}
+use Rattle.rasta_cert.specs.Certificate.{IsCertificate, Scripts}
+use Rattle.rasta_check.specs.Reading.{Crossing, crossing_of}
+use Rattle.rasta_check.specs.Report as report
+use Rattle.rasta_audit.specs.declared.verdict.Verdict.{Verdict}
+use Rattle.rasta_audit.specs.declared.verdict.Verdict.TheVariants as verdicts
+use Rattle.rasta_audit.specs.Judged.{HasToldRun, IsJudged, status_of_verdict, text_of_verdict, told_verdict}
+use Rattle.rasta_audit.specs.Lines.{refused_line}
+use Rattle.rasta_audit.specs.Proposed as proposed
+use Rattle.rasta_audit.specs.Proposed.{BeginsOutcome, IsOutcome, Telling, not_found}
+use Rattle.rasta_audit.specs.Verdict.{explained_text}
+use Rattle.rasta_audit.proofs.Verdicts.{IsRefusal, Texts, if_ok_map, whole_input}
+
+-- ---- verdicts
+
+-- how a verdict tells
+abbrev pub Outcome : Parameters → List ℕ → Telling → Verdict → Type 0
+Outcome p file tell v = IsOutcome tell p file (told_verdict tell v) (status_of_verdict v)
+
+judged_outcome : (tell : Telling) (p : Parameters) (file : List ℕ) (k : Crossing) (scripts : Scripts) (v : Verdict) → crossing_of p file ≡ Ok k
+    → IsCertificate scripts → IsJudged k scripts v → Outcome p file tell v
+judged_outcome tell p file k scripts (verdicts.Refused fault) crossed valid judged = proposed.scripts_refused k scripts fault crossed valid judged
+judged_outcome tell p file k scripts (verdicts.Explained e) crossed valid judged =
+    subst (λ (j : Crossing). IsOutcome tell p file (tell j e.certificate (report.explained e.report)) 0) (sym judged.0)
+    (subst (λ (s : Scripts). IsOutcome tell p file (tell k s (report.explained e.report)) 0) (sym judged.1)
+    (proposed.explained k scripts (report.explained e.report) crossed valid judged.2))
+
+abbrev pub Crossed : Crossing → Verdict → Type 0
+Crossed k v = (tell : Telling) (p : Parameters) (file : List ℕ) → crossing_of p file ≡ Ok k → Outcome p file tell v
+
+-- what the checker said of some scripts
+pub judged_stands : (r : Result Verdict Fault) (k : Crossing) (scripts : Scripts) → IsCertificate scripts → IfOk r (IsJudged k scripts) → IfOk r (Crossed k)
+judged_stands r k scripts valid h = if_ok_map r
+    (λ (v : Verdict) (judged : IsJudged k scripts v) (tell : Telling) (p : Parameters) (file : List ℕ) (crossed : crossing_of p file ≡ Ok k).
+    judged_outcome tell p file k scripts v crossed valid judged) h
+
+abbrev pub IsNoneFound : ℕ → Verdict → Type 0
+IsNoneFound place v = v ≡ verdicts.Refused (fault_at not_found place)
+
+-- nothing was proposed
+pub none_stands : (r : Result Verdict Fault) (k : Crossing) (place : ℕ) → IfOk r (IsNoneFound place) → IfOk r (Crossed k)
+none_stands r k place h = if_ok_map r
+    (λ (v : Verdict) (none : IsNoneFound place v). subst (Crossed k) (sym none)
+    (λ (tell : Telling) (p : Parameters) (file : List ℕ) (crossed : crossing_of p file ≡ Ok k). proposed.none_found k place crossed)) h
+
+pub none_told : (r : Result Verdict Fault) (place : ℕ) → IfOk r (IsNoneFound place) → IfOk r HasToldRun
+none_told r place h = if_ok_map r (λ (v : Verdict) (none : IsNoneFound place v). subst HasToldRun (sym none) tt) h
+
+abbrev pub Stands : Parameters → List ℕ → Verdict → Type 0
+Stands p file v = (tell : Telling) → Outcome p file tell v
+
+-- of the file whose packets crossed
+pub crossed_stands : (r : Result Verdict Fault) (k : Crossing) (p : Parameters) (file : List ℕ) → crossing_of p file ≡ Ok k → IfOk r (Crossed k) → IfOk r (Stands p file)
+crossed_stands r k p file crossed h = if_ok_map r (λ (v : Verdict) (c : Crossed k v) (tell : Telling). c tell p file crossed) h
+
+-- the capture is refused
+pub capture_stands : (r : Result Verdict Fault) (fault : Fault) (p : Parameters) (file : List ℕ) → IfOk r (IsRefusal fault)
+    → (fault ≡ no_memory) ⊎ (crossing_of p file ≡ Err fault) → IfOk r (Stands p file)
+capture_stands r fault p file h why = if_ok_map r
+    (λ (v : Verdict) (w : IsRefusal fault v). subst (Stands p file) (sym w.0)
+    (⊎_elim (λ (none : fault ≡ no_memory). absurd (w.1 none))
+    (λ (refused : crossing_of p file ≡ Err fault) (tell : Telling). proposed.capture_refused fault refused) why)) h
+
+-- an audit tells a verdict by its text
+pub audit_text : (v : Verdict) → told_verdict explained_text v ≡ text_of_verdict v
+audit_text (verdicts.Refused fault) = refl
+audit_text (verdicts.Explained e) = refl
+
+-- ---- each file has a text
+
+abbrev SomeText : Parameters → List ℕ → Telling → Type 0
+SomeText p file tell = (text : List ℕ) × (status : ℕ) × IsOutcome tell p file text status
+
+by_crossing : (p : Parameters) (file : List ℕ) (tell : Telling) (r : Result Crossing Fault) → crossing_of p file ≡ r → SomeText p file tell
+by_crossing p file tell (Err fault) h = (refused_line fault, 1, proposed.capture_refused fault h)
+by_crossing p file tell (Ok k) h = (refused_line (fault_at not_found 0), 1, proposed.none_found k 0 h)
+
+-- ---- what a run wrote
+
+-- nothing begins some text
+pub nothing_of_outcome : (tell : Telling) (p : Parameters) (input : List ℕ) (oi ni o : Option (List ℕ)) → Consumes oi ni input
+    → BeginsOutcome (λ file text status. IsOutcome tell p file text status) oi ni o o
+nothing_of_outcome tell p input oi ni o consumed = record {
+  input = input;
+  met_end = false;
+  consumed = consumed;
+  at_end = λ h. absurd (cc);
+  output = [];
+  appended = Appends-nil o;
+  begins = λ more h. let some = by_crossing p (input ++ more) tell (crossing_of p (input ++ more)) refl in (some.0, some.0, some.1, some.2, refl);
+}
+
+-- a beginning of the text that stands
+pub outcome_begun : (IsText : Texts) (r : Result ℕ Fault) (file text : List ℕ) (status : ℕ) (oi ni oo on : Option (List ℕ)) → Consumes oi ni file → IsAtEnd ni
+    → IsText file text status → OnErr r (AppendsBeginning oo on text) → OnErr r (BeginsOutcome IsText oi ni oo on)
+outcome_begun IsText (Ok s) file text status oi ni oo on consumed end is begun = tt
+outcome_begun IsText (Err f) file text status oi ni oo on consumed end is begun = record {
+  input = file;
+  met_end = true;
+  consumed = consumed;
+  at_end = λ h. end;
+  output = begun.0;
+  appended = begun.2;
+  begins = λ more h. (text, begun.1, status, subst (λ (l : List ℕ). IsText l text status) (sym (whole_input file more h)) is, begun.3);
+}

@@ -1,0 +1,112 @@
+//! What becomes of a capture for which a certificate is proposed.
+ghost use Rattle.std.specs.Prelude.{◌≡◌, List, ℕ, Ok, IfErr, IfOk, OnErr, OnOk};
+ghost use Rattle.std.specs.Io.KnownBytes.{Appends};
+ghost use Rattle.rasta_pcap.specs.Fault.{fault_at, no_memory, write_failed};
+ghost use Rattle.rasta_pcap.specs.Devices.{AppendsBeginning, HasFailed};
+ghost use Rattle.rasta_pdu.specs.Params.{Parameters};
+ghost use Rattle.rasta_cert.specs.Certificate.{AreEntries, IsCertificate, IsEntry};
+ghost use Rattle.rasta_check.specs.Reading.{crossing_of};
+ghost use Rattle.rasta_audit.specs.declared.verdict.Verdict.TheVariants as verdicts;
+ghost use Rattle.rasta_audit.specs.Judged.{HasToldRun, status_of_verdict, told_verdict};
+ghost use Rattle.rasta_audit.specs.Proposed.{IsOutcome, Telling, built_text, not_found};
+
+use crate::texts::refusal_line;
+use crate::verdict::{Verdict, judge_scripts, refused};
+use rasta_build::propose;
+use rasta_cert::{Certificate, Entry, write};
+use rasta_check::{Sent, sent};
+use rasta_pcap::write_all;
+use rasta_pdu::{Fault, Params, Sink};
+use std::alloc::Global;
+
+// The numbers of an entry are in the ranges of their types.
+fn holds_entry(entry: Entry)
+    ensures { IsEntry entry }
+{
+    let _entry = entry;
+}
+
+// So are those of a script.
+fn holds_entries(entries: &[Entry])
+    ensures { AreEntries entries.now }
+{
+    for entry in entries {
+        holds_entry(*entry);
+    }
+}
+
+// Any certificate is one that has a text.
+fn holds_scripts(certificate: &Certificate)
+    ensures { IsCertificate certificate.now }
+{
+    holds_entries(certificate.client());
+    holds_entries(certificate.server());
+}
+
+// What the builder answers in place of a certificate, which is not trusted: want of memory, or that none
+// was found.
+fn none_proposed<'a>(fault: Fault) -> Result<Verdict<'a>, Fault>
+    ensures ok { IfOk result (λ v. v ≡ verdicts.Refused (fault_at not_found fault.place)) }
+    ensures err { IfErr result (λ f. f ≡ no_memory) }
+{
+    if fault.number == Fault::NO_MEMORY {
+        Err(Fault::at(Fault::NO_MEMORY, 0))
+    } else {
+        Ok(Verdict::Refused(Fault::at(Fault::NOT_FOUND, fault.place)))
+    }
+}
+
+// The verdict on what crossed and what is proposed for it.
+fn judge_proposed<'a>(alloc: Global, sent: Sent<'a>) -> Result<Verdict<'a>, Fault>
+    ensures stands { IfOk result (λ v. (tell : Telling) (p : Parameters) (file : List ℕ) → crossing_of p file ≡ Ok sent.entry
+        → IsOutcome tell p file (told_verdict tell v) (status_of_verdict v)) }
+    ensures told { IfOk result HasToldRun }
+    ensures err { IfErr result (λ f. f ≡ no_memory) }
+{
+    match propose(alloc, &sent.params(), &sent) {
+        Ok(certificate) => {
+            holds_scripts(&certificate);
+            judge_scripts(alloc, sent, certificate)
+        }
+        Err(fault) => none_proposed(fault),
+    }
+}
+
+/// The verdict on a file and a certificate that is proposed for it: the capture's refusal, or
+/// [`Fault::NOT_FOUND`] where none is proposed, or else what the checker says of the one that is. Refused by
+/// [`Fault::NO_MEMORY`] alone.
+pub fn judge_capture<'a>(
+    alloc: Global,
+    params: &Params,
+    file: &'a [u8],
+) -> Result<Verdict<'a>, Fault>
+    ensures stands { IfOk result (λ v. (tell : Telling) → IsOutcome tell params.now file.entry.now (told_verdict tell v) (status_of_verdict v)) }
+    ensures told { IfOk result HasToldRun }
+    ensures err { IfErr result (λ f. f ≡ no_memory) }
+{
+    match sent(alloc, *params, file) {
+        Ok(sent) => judge_proposed(alloc, sent),
+        Err(fault) => refused(fault),
+    }
+}
+
+/// Writes the certificate of a verdict, or its refusal, and answers the status of the program: 0 where the
+/// capture is explained, and else 1.
+pub fn write_found<W: Sink>(verdict: &Verdict<'_>, writer: &mut W) -> Result<u8, Fault>
+    ensures ok { OnOk result (Appends (W.contents writer.old) (W.contents writer.new) (told_verdict built_text verdict.now)) }
+    ensures answered { IfOk result (λ status. status_of_verdict verdict.now ≡ status) }
+    ensures err { IfErr result (λ f. (f ≡ write_failed)
+        × HasFailed (W.failure_count writer.old) (W.failure_count writer.new)) }
+    ensures begun { OnErr result (AppendsBeginning (W.contents writer.old) (W.contents writer.new) (told_verdict built_text verdict.now)) }
+{
+    match verdict {
+        Verdict::Explained(explanation) => {
+            write(&explanation.certificate, writer)?;
+            Ok(0)
+        }
+        Verdict::Refused(fault) => {
+            write_all(writer, refusal_line(*fault).as_bytes())?;
+            Ok(1)
+        }
+    }
+}
