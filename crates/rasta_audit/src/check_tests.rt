@@ -1,10 +1,12 @@
 //! The verdict on captures and certificates in memory.
 use crate::check::run_check;
 use crate::show_tests::{LITTLE, NO_CODES, add_record, frame_of, header_of, parameters};
+use crate::verdict_rows::ROWS;
 use rasta_pcap::Counted;
 use rasta_pcap::devices::FailAt;
 use rasta_pdu::Sink;
 use std::alloc::Global;
+use std::process::Abort;
 use std::test::Fail;
 
 // Rows are `SIDE NUMBER TYPE SN CS TS CTS PAYLOAD`, the payload in hexadecimal.
@@ -13,33 +15,6 @@ client 7 6200 100 0 1000 0 3033303314000000000000000000
 server 40 6201 500 100 9000 1000 3033303314000000000000000000
 client 8 6220 101 500 1010 9000
 ";
-
-const HANDSHAKE_CERTIFICATE: &str = "\
-rasta-certificate 1
-client
-make 0 1000 open
-take 2 40
-make 2 1010 reply
-server
-take 1 7
-make 1 9000 reply
-end
-";
-
-const HANDSHAKE_EXPLAINED: &str = "\
-explained 3
-0 client make 7 1000 open
-1 server take 7
-1 server make 40 9000 reply
-2 client take 40
-2 client make 8 1010 reply
-taken by client 0
-taken by server 0
-";
-
-const NOTHING_CERTIFICATE: &str = "rasta-certificate 1\nclient\nserver\nend\n";
-
-const NOTHING_EXPLAINED: &str = "explained 0\ntaken by client 0\ntaken by server 0\n";
 
 pub const DATA: &str = "\
 client 7 6200 100 0 1000 0 3033303314000000000000000000
@@ -82,23 +57,6 @@ taken by server 2
 1 3 4 .
 ";
 
-// The server takes a packet before it has crossed.
-const EARLY_CERTIFICATE: &str = "\
-rasta-certificate 1
-client
-make 0 1000 open
-take 2 40
-make 2 1010 reply
-make 3 1020 fresh
-server
-take 1 7
-make 1 9000 reply
-take 3 8
-take 3 9
-make 4 9050 beat
-end
-";
-
 pub const LOST_UNIT: &str = "\
 client 7 6200 100 0 1000 0 3033303314000000000000000000
 server 40 6201 500 100 9000 1000 3033303314000000000000000000
@@ -113,61 +71,6 @@ client 14 6220 107 501 1080 9060
 server 42 6220 502 107 9090 1080
 ";
 
-const LOST_UNIT_CERTIFICATE: &str = "\
-rasta-certificate 1
-client
-make 0 1000 open
-take 2 40
-make 2 1010 reply
-make 3 1020 fresh
-make 4 1030 fresh
-take 6 41
-make 6 1070 reply
-make 7 1071 again 0
-make 8 1072 again 1
-make 9 1080 beat
-server
-take 1 7
-make 1 9000 reply
-take 5 8
-take 5 10
-make 5 9060 ask
-take 10 11
-take 10 12
-take 10 13
-take 10 14
-make 10 9090 beat
-end
-";
-
-const LOST_UNIT_EXPLAINED: &str = "\
-explained 11
-0 client make 7 1000 open
-1 server take 7
-1 server make 40 9000 reply
-2 client take 40
-2 client make 8 1010 reply
-3 client make 9 1020 fresh
-4 client make 10 1030 fresh
-5 server take 8
-5 server take 10
-5 server make 41 9060 ask
-6 client take 41
-6 client make 11 1070 reply
-7 client make 12 1071 again 0
-8 client make 13 1072 again 1
-9 client make 14 1080 beat
-10 server take 11
-10 server take 12
-10 server take 13
-10 server take 14
-10 server make 42 9090 beat
-taken by client 0
-taken by server 2
-0 3 10 01
-1 4 10 02
-";
-
 pub const COPIES: &str = "\
 client 7 6200 100 0 1000 0 3033303314000000000000000000
 client 7 6200 100 0 1000 0 3033303314000000000000000000
@@ -176,56 +79,11 @@ client 8 6220 101 500 1010 9000
 server 40 6201 500 100 9000 1000 3033303314000000000000000000
 ";
 
-const COPIES_CERTIFICATE: &str = "\
-rasta-certificate 1
-client
-make 0 1000 open
-take 3 40
-make 3 1010 reply
-server
-take 2 7
-make 2 9000 reply
-end
-";
-
-const COPIES_EXPLAINED: &str = "\
-explained 5
-0 client make 7 1000 open
-1 client copy 7
-2 server take 7
-2 server make 40 9000 reply
-3 client take 40
-3 client make 8 1010 reply
-4 server copy 40
-taken by client 0
-taken by server 0
-";
-
 pub const GAP: &str = "\
 client 7 6200 100 0 1000 0 3033303314000000000000000000
 server 40 6201 500 100 9000 1000 3033303314000000000000000000
 client 9 6220 101 500 1010 9000
 ";
-
-const MISSPELLED: &str = "rasta-certificate 1\nclient\nmake 00 1000 open\nserver\nend\n";
-
-// Packets, a certificate, and the text and the status.
-const CASES: [(&str, &str, &str, u8); 9] = [
-    ("", NOTHING_CERTIFICATE, NOTHING_EXPLAINED, 0),
-    (HANDSHAKE, HANDSHAKE_CERTIFICATE, HANDSHAKE_EXPLAINED, 0),
-    (DATA, DATA_CERTIFICATE, DATA_EXPLAINED, 0),
-    (LOST_UNIT, LOST_UNIT_CERTIFICATE, LOST_UNIT_EXPLAINED, 0),
-    (COPIES, COPIES_CERTIFICATE, COPIES_EXPLAINED, 0),
-    (GAP, MISSPELLED, "refused 28 NumberGap 3 client\n", 1),
-    (DATA, MISSPELLED, "refused 30 Syntax 3 -\n", 1),
-    (DATA, "", "refused 30 Syntax 1 -\n", 1),
-    (
-        DATA,
-        EARLY_CERTIFICATE,
-        "refused 34 NotYetCrossed 4 server\n",
-        1,
-    ),
-];
 
 // The digits of a number, lowest byte first.
 fn digits_of(alloc: Global, word: Option<&str>) -> Option<String> {
@@ -272,30 +130,75 @@ pub fn capture_of(alloc: Global, rows: &str) -> Option<Vec<u8>> {
     Some(file)
 }
 
-// The text and the status.
-pub fn checked(alloc: Global, file: &[u8], certificate: &str) -> Result<(Vec<u8>, u8), Fail> {
-    let params = parameters(alloc, NO_CODES).ok_or("parameters")?;
+// The text and the status, by parameters with these further keys.
+fn checked_with(
+    alloc: Global,
+    keys: &str,
+    file: &[u8],
+    certificate: &[u8],
+) -> Result<(Vec<u8>, u8), Fail> {
+    let params = parameters(alloc, keys).ok_or("parameters")?;
     let mut reader = Counted::new(file);
     let mut writer = Counted::new(Vec::new(alloc));
-    let status = run_check(
-        alloc,
-        &params,
-        &mut reader,
-        certificate.as_bytes(),
-        &mut writer,
-    )
-    .ok()
-    .ok_or("a device")?;
+    let status = run_check(alloc, &params, &mut reader, certificate, &mut writer)
+        .ok()
+        .ok_or("a device")?;
     Ok((writer.into_inner(), status))
+}
+
+// The text and the status.
+pub fn checked(alloc: Global, file: &[u8], certificate: &str) -> Result<(Vec<u8>, u8), Fail> {
+    checked_with(alloc, NO_CODES, file, certificate.as_bytes())
+}
+
+// The lines that a part of a row stands for.
+fn lines_of(alloc: Global, part: &str) -> Option<String> {
+    if part == "-" {
+        return String::from_str(alloc, "").ok();
+    }
+    let text = format!(in alloc; "{part}/").ok()?;
+    text.replace(alloc, "/", "\n").ok()
+}
+
+fn keys_of(alloc: Global, part: &str) -> Option<String> {
+    if part == "-" {
+        String::from_str(alloc, NO_CODES).ok()
+    } else {
+        format!(in alloc; "{NO_CODES}/{part}").ok()
+    }
+}
+
+fn compare<R: Abort + AllocGlobal>(rt: &R, row: &str) -> Result<(), Fail> {
+    let alloc = rt.alloc();
+    let mut parts = row.split(" | ");
+    let name = parts.next().ok_or("a name")?;
+    let keys = parts
+        .next()
+        .and_then(|part| keys_of(alloc, part))
+        .ok_or("keys")?;
+    let packets = parts
+        .next()
+        .and_then(|part| lines_of(alloc, part))
+        .ok_or("packets")?;
+    let certificate = parts
+        .next()
+        .and_then(|part| lines_of(alloc, part))
+        .ok_or("a text")?;
+    let want = parts
+        .next()
+        .and_then(|part| lines_of(alloc, part))
+        .ok_or("a verdict")?;
+    let file = capture_of(alloc, packets.as_str()).ok_or("a capture")?;
+    let (text, status) = checked_with(alloc, keys.as_str(), &file, certificate.as_bytes())?;
+    assert_eq!(rt; text.as_slice(), want.as_bytes(), "{name}");
+    assert_eq!(rt; status, u8::from(want.starts_with("refused")), "{name}");
+    Ok(())
 }
 
 #[test]
 fn certificates_are_checked(rt: HostRuntime) -> Result<(), Fail> {
-    for (rows, certificate, want, want_status) in CASES {
-        let file = capture_of(rt.alloc(), rows).ok_or("a capture")?;
-        let (text, status) = checked(rt.alloc(), &file, certificate)?;
-        assert_eq!(rt; text.as_slice(), want.as_bytes());
-        assert_eq!(rt; status, want_status);
+    for row in ROWS.lines() {
+        compare(&rt, row)?;
     }
     Ok(())
 }

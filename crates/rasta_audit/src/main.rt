@@ -35,6 +35,8 @@ mod taken_text;
 mod tests;
 mod texts;
 mod verdict;
+#[cfg(test)]
+mod verdict_rows;
 
 use crate::audit::{run_audit, run_build};
 use crate::check::run_check;

@@ -1,0 +1,300 @@
+//! Rows of verdicts: a name; further keys of the parameters; the packets; the certificate; the text. A
+//! slash stands for the end of a line, and a hyphen for nothing.
+
+pub const ROWS: &str = "\
+nothing | - | \
+- | \
+rasta-certificate 1/client/server/end | \
+explained 0/taken by client 0/taken by server 0\n\
+handshake | - | \
+client 7 6200 100 0 1000 0 3033303314000000000000000000/\
+server 40 6201 500 100 9000 1000 3033303314000000000000000000/client 8 6220 101 500 1010 9000 | \
+rasta-certificate 1/client/make 0 1000 open/take 2 40/make 2 1010 reply/server/take 1 7/make 1 9000 reply/end | \
+explained 3/0 client make 7 1000 open/1 server take 7/1 server make 40 9000 reply/2 client take 40/\
+2 client make 8 1010 reply/taken by client 0/taken by server 0\n\
+handed up once | - | \
+client 7 6200 100 0 1000 0 3033303314000000000000000000/\
+server 40 6201 500 100 9000 1000 3033303314000000000000000000/client 8 6220 101 500 1010 9000/\
+client 9 6240 102 500 1020 9000 0200ab010000/server 41 6220 501 102 9050 1020 | \
+rasta-certificate 1/client/make 0 1000 open/take 2 40/make 2 1010 reply/make 3 1020 fresh/server/take 1 7/\
+make 1 9000 reply/take 4 8/take 4 9/make 4 9050 beat/end | \
+explained 5/0 client make 7 1000 open/1 server take 7/1 server make 40 9000 reply/2 client take 40/\
+2 client make 8 1010 reply/3 client make 9 1020 fresh/4 server take 8/4 server take 9/\
+4 server make 41 9050 beat/taken by client 0/taken by server 2/0 3 4 ab01/1 3 4 .\n\
+no proof | - | \
+client 7 6200 100 0 1000 0 3033303314000000000000000000/\
+server 40 6201 500 100 9000 1000 3033303314000000000000000000/client 8 6220 101 500 1010 9000/\
+client 9 6240 102 500 1020 9000 0200ab010000 | \
+rasta-certificate 1/client/make 0 1000 open/take 2 40/make 2 1010 reply/make 3 1020 fresh/server/take 1 7/\
+make 1 9000 reply/end | \
+explained 4/0 client make 7 1000 open/1 server take 7/1 server make 40 9000 reply/2 client take 40/\
+2 client make 8 1010 reply/3 client make 9 1020 fresh/taken by client 0/taken by server 0\n\
+numbers wrap | - | \
+client 4294967295 6200 4294967295 0 4294967280 0 3033303314000000000000000000/\
+server 40 6201 500 4294967295 9000 4294967280 3033303314000000000000000000/client 0 6220 0 500 4 9000/\
+client 1 6240 1 500 14 9000 010001/server 41 6220 501 1 9050 14 | \
+rasta-certificate 1/client/make 0 4294967280 open/take 2 40/make 2 4294967300 reply/make 3 4294967310 fresh/\
+take 5 41/server/take 1 4294967295/make 1 9000 reply/take 4 0/take 4 1/make 4 9050 beat/end | \
+explained 5/0 client make 4294967295 4294967280 open/1 server take 4294967295/1 server make 40 9000 reply/\
+2 client take 40/2 client make 0 4294967300 reply/3 client make 1 4294967310 fresh/4 server take 0/\
+4 server take 1/4 server make 41 9050 beat/5 client take 41/taken by client 0/taken by server 1/0 3 4 01\n\
+clock falls | - | \
+client 4294967295 6200 4294967295 0 4294967280 0 3033303314000000000000000000/\
+server 40 6201 500 4294967295 9000 4294967280 3033303314000000000000000000/client 0 6220 0 500 4 9000/\
+client 1 6240 1 500 14 9000 010001/server 41 6220 501 1 9050 14 | \
+rasta-certificate 1/client/make 0 4294967280 open/take 2 40/make 2 4 reply/make 3 4294967310 fresh/take 5 41/\
+server/take 1 4294967295/make 1 9000 reply/take 4 0/take 4 1/make 4 9050 beat/end | \
+refused 37 ClockFalls 3 client\n\
+lost unit is resent | - | \
+client 7 6200 100 0 1000 0 3033303314000000000000000000/\
+server 40 6201 500 100 9000 1000 3033303314000000000000000000/client 8 6220 101 500 1010 9000/\
+client 9 6240 102 500 1020 9000 010001/client 10 6240 103 500 1030 9000 010002/\
+server 41 6212 501 101 9060 1010/client 11 6213 104 501 1070 9060/client 12 6241 105 501 1071 9060 010001/\
+client 13 6241 106 501 1072 9060 010002/client 14 6220 107 501 1080 9060/server 42 6220 502 107 9090 1080 | \
+rasta-certificate 1/client/make 0 1000 open/take 2 40/make 2 1010 reply/make 3 1020 fresh/make 4 1030 fresh/\
+take 6 41/make 6 1070 reply/make 7 1071 again 0/make 8 1072 again 1/make 9 1080 beat/server/take 1 7/\
+make 1 9000 reply/take 5 8/take 5 10/make 5 9060 ask/take 10 11/take 10 12/take 10 13/take 10 14/\
+make 10 9090 beat/end | \
+explained 11/0 client make 7 1000 open/1 server take 7/1 server make 40 9000 reply/2 client take 40/\
+2 client make 8 1010 reply/3 client make 9 1020 fresh/4 client make 10 1030 fresh/5 server take 8/\
+5 server take 10/5 server make 41 9060 ask/6 client take 41/6 client make 11 1070 reply/\
+7 client make 12 1071 again 0/8 client make 13 1072 again 1/9 client make 14 1080 beat/10 server take 11/\
+10 server take 12/10 server take 13/10 server take 14/10 server make 42 9090 beat/taken by client 0/\
+taken by server 2/0 3 10 01/1 4 10 02\n\
+both ask | - | \
+client 7 6200 100 0 1000 0 3033303314000000000000000000/\
+server 40 6201 500 100 9000 1000 3033303314000000000000000000/client 8 6220 101 500 1010 9000/\
+client 9 6240 102 500 1020 9000 010001/server 41 6240 501 101 9020 1010 010011/\
+client 10 6240 103 500 1030 9000 010002/server 42 6240 502 101 9030 1010 010012/\
+client 11 6212 104 500 1040 9000/server 43 6212 503 101 9040 1010/client 12 6213 105 500 1050 9000/\
+client 13 6241 106 500 1051 9000 010001/client 14 6241 107 500 1052 9000 010002/\
+server 44 6213 504 101 9050 1010/server 45 6241 505 101 9051 1010 010011/\
+server 46 6241 506 101 9052 1010 010012/client 15 6220 108 506 1060 9052/server 47 6220 507 108 9060 1060 | \
+rasta-certificate 1/client/make 0 1000 open/take 2 40/make 2 1010 reply/make 3 1020 fresh/make 5 1030 fresh/\
+take 7 42/make 7 1040 ask/take 9 43/make 9 1050 reply/make 10 1051 again 0/make 11 1052 again 1/take 15 44/\
+take 15 45/take 15 46/make 15 1060 beat/server/take 1 7/make 1 9000 reply/take 4 8/make 4 9020 fresh/\
+make 6 9030 fresh/take 8 10/make 8 9040 ask/take 12 11/make 12 9050 reply/make 13 9051 again 0/\
+make 14 9052 again 1/take 16 12/take 16 13/take 16 14/take 16 15/make 16 9060 beat/end | \
+explained 17/0 client make 7 1000 open/1 server take 7/1 server make 40 9000 reply/2 client take 40/\
+2 client make 8 1010 reply/3 client make 9 1020 fresh/4 server take 8/4 server make 41 9020 fresh/\
+5 client make 10 1030 fresh/6 server make 42 9030 fresh/7 client take 42/7 client make 11 1040 ask/\
+8 server take 10/8 server make 43 9040 ask/9 client take 43/9 client make 12 1050 reply/\
+10 client make 13 1051 again 0/11 client make 14 1052 again 1/12 server take 11/12 server make 44 9050 reply/\
+13 server make 45 9051 again 0/14 server make 46 9052 again 1/15 client take 44/15 client take 45/\
+15 client take 46/15 client make 15 1060 beat/16 server take 12/16 server take 13/16 server take 14/\
+16 server take 15/16 server make 47 9060 beat/taken by client 2/0 4 15 11/1 6 15 12/taken by server 2/\
+0 3 16 01/1 5 16 02\n\
+second request in one entry | - | \
+client 7 6200 100 0 1000 0 3033303314000000000000000000/\
+server 40 6201 500 100 9000 1000 3033303314000000000000000000/client 8 6220 101 500 1010 9000/\
+client 9 6240 102 500 1020 9000 010001/client 10 6240 103 500 1030 9000 010002/\
+server 41 6212 501 101 9060 1010/server 42 6212 502 101 9070 1010 | \
+rasta-certificate 1/client/make 0 1000 open/take 2 40/make 2 1010 reply/make 3 1020 fresh/make 4 1030 fresh/\
+server/take 1 7/make 1 9000 reply/take 5 8/take 5 10/make 5 9060 ask/make 6 9070 ask/end | \
+refused 41 NotAllowed 6 server\n\
+copies on two channels | - | \
+client 7 6200 100 0 1000 0 3033303314000000000000000000/\
+client 7 6200 100 0 1000 0 3033303314000000000000000000/\
+server 40 6201 500 100 9000 1000 3033303314000000000000000000/client 8 6220 101 500 1010 9000/\
+client 7 6200 100 0 1000 0 3033303314000000000000000000/client 8 6220 101 500 1010 9000/\
+server 40 6201 500 100 9000 1000 3033303314000000000000000000 | \
+rasta-certificate 1/client/make 0 1000 open/take 3 40/make 3 1010 reply/server/take 2 7/make 2 9000 reply/end | \
+explained 7/0 client make 7 1000 open/1 client copy 7/2 server take 7/2 server make 40 9000 reply/\
+3 client take 40/3 client make 8 1010 reply/4 client copy 7/5 client copy 8/6 server copy 40/\
+taken by client 0/taken by server 0\n\
+copy differs | - | \
+client 7 6200 100 0 1000 0 3033303314000000000000000000/\
+server 40 6201 500 100 9000 1000 3033303314000000000000000000/client 8 6220 101 500 1010 9000/\
+client 8 6220 102 500 1010 9000 | \
+rasta-certificate 1/client/server/end | \
+refused 27 CopyDiffers 4 client\n\
+make at the deadline | - | \
+client 7 6200 100 0 1000 0 3033303314000000000000000000/\
+server 40 6201 500 100 9000 1000 3033303314000000000000000000/client 8 6220 101 500 1010 9000/\
+client 9 6240 102 500 1020 9000 0200ab010000/server 41 6220 501 102 10800 1020 | \
+rasta-certificate 1/client/make 0 1000 open/take 2 40/make 2 1010 reply/make 3 1020 fresh/server/take 1 7/\
+make 1 9000 reply/take 4 8/take 4 9/make 4 10800 beat/end | \
+explained 5/0 client make 7 1000 open/1 server take 7/1 server make 40 9000 reply/2 client take 40/\
+2 client make 8 1010 reply/3 client make 9 1020 fresh/4 server take 8/4 server take 9/\
+4 server make 41 10800 beat/taken by client 0/taken by server 2/0 3 4 ab01/1 3 4 .\n\
+make past the deadline | - | \
+client 7 6200 100 0 1000 0 3033303314000000000000000000/\
+server 40 6201 500 100 9000 1000 3033303314000000000000000000/client 8 6220 101 500 1010 9000/\
+client 9 6240 102 500 1020 9000 0200ab010000/server 41 6220 501 102 10801 1020 | \
+rasta-certificate 1/client/make 0 1000 open/take 2 40/make 2 1010 reply/make 3 1020 fresh/server/take 1 7/\
+make 1 9000 reply/take 4 8/take 4 9/make 4 10801 beat/end | \
+refused 38 PastDeadline 5 server\n\
+take at its own place | - | \
+client 7 6200 100 0 1000 0 3033303314000000000000000000/\
+server 40 6201 500 100 9000 1000 3033303314000000000000000000/client 8 6220 101 500 1010 9000/\
+client 9 6240 102 500 1020 9000 0200ab010000/server 41 6220 501 102 9050 1020 | \
+rasta-certificate 1/client/make 0 1000 open/take 2 40/make 2 1010 reply/make 3 1020 fresh/server/take 1 7/\
+make 1 9000 reply/take 3 8/take 3 9/make 4 9050 beat/end | \
+refused 34 NotYetCrossed 4 server\n\
+take right behind | - | \
+client 7 6200 100 0 1000 0 3033303314000000000000000000/\
+server 40 6201 500 100 9000 1000 3033303314000000000000000000/client 8 6220 101 500 1010 9000/\
+client 9 6240 102 500 1020 9000 0200ab010000/server 41 6220 501 102 9050 1020 | \
+rasta-certificate 1/client/make 0 1000 open/take 2 40/make 2 1010 reply/make 3 1020 fresh/server/take 1 7/\
+make 1 9000 reply/take 3 8/take 4 9/make 4 9050 beat/end | \
+explained 5/0 client make 7 1000 open/1 server take 7/1 server make 40 9000 reply/2 client take 40/\
+2 client make 8 1010 reply/3 server take 8/3 client make 9 1020 fresh/4 server take 9/\
+4 server make 41 9050 beat/taken by client 0/taken by server 2/0 3 4 ab01/1 3 4 .\n\
+capture ends in a burst | - | \
+client 7 6200 100 0 1000 0 3033303314000000000000000000/\
+server 40 6201 500 100 9000 1000 3033303314000000000000000000/client 8 6220 101 500 1010 9000/\
+client 9 6240 102 500 1020 9000 010001/client 10 6240 103 500 1030 9000 010002/\
+server 41 6212 501 101 9060 1010/client 11 6213 104 501 1070 9060/client 12 6241 105 501 1071 9060 010001/\
+server 42 6220 502 105 9080 1071 | \
+rasta-certificate 1/client/make 0 1000 open/take 2 40/make 2 1010 reply/make 3 1020 fresh/make 4 1030 fresh/\
+take 6 41/make 6 1070 reply/make 7 1071 again 0/server/take 1 7/make 1 9000 reply/take 5 8/take 5 10/\
+make 5 9060 ask/take 8 11/take 8 12/make 8 9080 beat/end | \
+explained 9/0 client make 7 1000 open/1 server take 7/1 server make 40 9000 reply/2 client take 40/\
+2 client make 8 1010 reply/3 client make 9 1020 fresh/4 client make 10 1030 fresh/5 server take 8/\
+5 server take 10/5 server make 41 9060 ask/6 client take 41/6 client make 11 1070 reply/\
+7 client make 12 1071 again 0/8 server take 11/8 server take 12/8 server make 42 9080 beat/taken by client 0/\
+taken by server 1/0 3 8 01\n\
+number gap | - | \
+client 7 6200 100 0 1000 0 3033303314000000000000000000/\
+server 40 6201 500 100 9000 1000 3033303314000000000000000000/client 9 6240 102 500 1020 9000 0200ab010000/\
+server 41 6220 501 102 9050 1020 | \
+rasta-certificate 1/client/server/end | \
+refused 28 NumberGap 3 client\n\
+data while a reply is owed | - | \
+client 7 6200 100 0 1000 0 3033303314000000000000000000/\
+server 40 6201 500 100 9000 1000 3033303314000000000000000000/client 8 6220 101 500 1010 9000/\
+client 9 6240 102 500 1020 9000 010001/client 10 6240 103 500 1030 9000 010002/\
+server 41 6212 501 101 9060 1010/client 11 6240 104 501 1070 9060 010003 | \
+rasta-certificate 1/client/make 0 1000 open/take 2 40/make 2 1010 reply/make 3 1020 fresh/make 4 1030 fresh/\
+take 6 41/make 6 1070 fresh/server/end | \
+refused 42 ReplyOwed 7 client\n\
+resend differs | - | \
+client 7 6200 100 0 1000 0 3033303314000000000000000000/\
+server 40 6201 500 100 9000 1000 3033303314000000000000000000/client 8 6220 101 500 1010 9000/\
+client 9 6240 102 500 1020 9000 010001/client 10 6240 103 500 1030 9000 010002/\
+server 41 6212 501 101 9060 1010/client 11 6213 104 501 1070 9060/client 12 6241 105 501 1071 9060 010001/\
+client 13 6241 106 501 1072 9060 010003/client 14 6220 107 501 1080 9060/server 42 6220 502 107 9090 1080 | \
+rasta-certificate 1/client/make 0 1000 open/take 2 40/make 2 1010 reply/make 3 1020 fresh/make 4 1030 fresh/\
+take 6 41/make 6 1070 reply/make 7 1071 again 0/make 8 1072 again 1/server/end | \
+refused 43 ResendDiffers 9 client\n\
+lost resend and second request | - | \
+client 7 6200 100 0 1000 0 3033303314000000000000000000/\
+server 40 6201 500 100 9000 1000 3033303314000000000000000000/client 8 6220 101 500 1010 9000/\
+client 9 6240 102 500 1020 9000 010001/client 10 6240 103 500 1030 9000 010002/\
+server 41 6212 501 101 9060 1010/client 11 6213 104 501 1070 9060/client 12 6241 105 501 1071 9060 010001/\
+client 13 6241 106 501 1072 9060 010002/server 42 6212 502 104 9080 1070/client 14 6213 107 502 1090 9080/\
+client 15 6241 108 502 1091 9080 010001/client 16 6241 109 502 1092 9080 010002/\
+server 43 6220 503 109 9100 1092 | \
+rasta-certificate 1/client/make 0 1000 open/take 2 40/make 2 1010 reply/make 3 1020 fresh/make 4 1030 fresh/\
+take 6 41/make 6 1070 reply/make 7 1071 again 0/make 8 1072 again 1/take 10 42/make 10 1090 reply/\
+make 11 1091 again 0/make 12 1092 again 1/server/take 1 7/make 1 9000 reply/take 5 8/take 5 10/\
+make 5 9060 ask/take 9 11/take 9 13/make 9 9080 ask/take 13 14/take 13 15/take 13 16/make 13 9100 beat/end | \
+explained 14/0 client make 7 1000 open/1 server take 7/1 server make 40 9000 reply/2 client take 40/\
+2 client make 8 1010 reply/3 client make 9 1020 fresh/4 client make 10 1030 fresh/5 server take 8/\
+5 server take 10/5 server make 41 9060 ask/6 client take 41/6 client make 11 1070 reply/\
+7 client make 12 1071 again 0/8 client make 13 1072 again 1/9 server take 11/9 server take 13/\
+9 server make 42 9080 ask/10 client take 42/10 client make 14 1090 reply/11 client make 15 1091 again 0/\
+12 client make 16 1092 again 1/13 server take 14/13 server take 15/13 server take 16/\
+13 server make 43 9100 beat/taken by client 0/taken by server 2/0 3 13 01/1 4 13 02\n\
+quiet start | quiet.client = { next_sn = 102, clock = 1010 }/quiet.server = { next_sn = 501, clock = 9000, deadline = 10800 } | \
+client 9 6240 102 500 1020 9000 0200ab010000/server 41 6220 501 102 9050 1020 | \
+rasta-certificate 1/client/make 0 1020 fresh/server/take 1 9/make 1 9050 beat/end | \
+explained 2/0 client make 9 1020 fresh/1 server take 9/1 server make 41 9050 beat/taken by client 0/\
+taken by server 2/0 0 1 ab01/1 0 1 .\n\
+no quiet start | - | \
+client 9 6240 102 500 1020 9000 0200ab010000/server 41 6220 501 102 9050 1020 | \
+rasta-certificate 1/client/make 0 1020 fresh/server/take 1 9/make 1 9050 beat/end | \
+refused 41 NotAllowed 1 client\n\
+another quiet SN | quiet.client = { next_sn = 103, clock = 1010 }/quiet.server = { next_sn = 501, clock = 9000, deadline = 10800 } | \
+client 9 6240 102 500 1020 9000 0200ab010000/server 41 6220 501 102 9050 1020 | \
+rasta-certificate 1/client/make 0 1020 fresh/server/take 1 9/make 1 9050 beat/end | \
+refused 47 SequenceNumber 1 client\n\
+take is left out | - | \
+client 7 6200 100 0 1000 0 3033303314000000000000000000/\
+server 40 6201 500 100 9000 1000 3033303314000000000000000000/client 8 6220 101 500 1010 9000/\
+client 9 6240 102 500 1020 9000 0200ab010000/server 41 6220 501 102 9050 1020 | \
+rasta-certificate 1/client/make 0 1000 open/take 2 40/make 2 1010 reply/make 3 1020 fresh/server/take 1 7/\
+make 1 9000 reply/take 4 8/make 4 9050 beat/end | \
+refused 39 ConfirmedNumber 4 server\n\
+take twice | - | \
+client 7 6200 100 0 1000 0 3033303314000000000000000000/\
+server 40 6201 500 100 9000 1000 3033303314000000000000000000/client 8 6220 101 500 1010 9000/\
+client 9 6240 102 500 1020 9000 0200ab010000/server 41 6220 501 102 9050 1020 | \
+rasta-certificate 1/client/make 0 1000 open/take 2 40/make 2 1010 reply/make 3 1020 fresh/server/take 1 7/\
+make 1 9000 reply/take 4 8/take 4 9/take 4 9/make 4 9050 beat/end | \
+refused 35 NotRising 5 server\n\
+entries exchanged | - | \
+client 7 6200 100 0 1000 0 3033303314000000000000000000/\
+server 40 6201 500 100 9000 1000 3033303314000000000000000000/client 8 6220 101 500 1010 9000/\
+client 9 6240 102 500 1020 9000 0200ab010000/server 41 6220 501 102 9050 1020 | \
+rasta-certificate 1/client/take 2 40/make 0 1000 open/make 2 1010 reply/make 3 1020 fresh/server/take 1 7/\
+make 1 9000 reply/take 4 8/take 4 9/make 4 9050 beat/end | \
+refused 31 SlotOrder 2 client\n\
+first copy left unmade | - | \
+client 7 6200 100 0 1000 0 3033303314000000000000000000/\
+server 40 6201 500 100 9000 1000 3033303314000000000000000000/client 8 6220 101 500 1010 9000/\
+client 9 6240 102 500 1020 9000 0200ab010000/server 41 6220 501 102 9050 1020 | \
+rasta-certificate 1/client/make 0 1000 open/take 2 40/make 2 1010 reply/server/take 1 7/make 1 9000 reply/\
+take 4 8/take 4 9/make 4 9050 beat/end | \
+refused 33 MakeMissing 4 client\n\
+beat in place of a reply | - | \
+client 7 6200 100 0 1000 0 3033303314000000000000000000/\
+server 40 6201 500 100 9000 1000 3033303314000000000000000000/client 8 6220 101 500 1010 9000/\
+client 9 6240 102 500 1020 9000 0200ab010000/server 41 6220 501 102 9050 1020 | \
+rasta-certificate 1/client/make 0 1000 open/take 2 40/make 2 1010 beat/make 3 1020 fresh/server/take 1 7/\
+make 1 9000 reply/take 4 8/take 4 9/make 4 9050 beat/end | \
+refused 42 ReplyOwed 3 client\n\
+another clock | - | \
+client 7 6200 100 0 1000 0 3033303314000000000000000000/\
+server 40 6201 500 100 9000 1000 3033303314000000000000000000/client 8 6220 101 500 1010 9000/\
+client 9 6240 102 500 1020 9000 0200ab010000/server 41 6220 501 102 9050 1020 | \
+rasta-certificate 1/client/make 0 1000 open/take 2 40/make 2 1010 reply/make 3 1021 fresh/server/take 1 7/\
+make 1 9000 reply/take 4 8/take 4 9/make 4 9050 beat/end | \
+refused 36 ClockDiffers 4 client\n\
+another reason | - | \
+client 7 6200 100 0 1000 0 3033303314000000000000000000/\
+server 40 6201 500 100 9000 1000 3033303314000000000000000000/client 8 6220 101 500 1010 9000/\
+client 9 6240 102 500 1020 9000 0200ab010000/server 41 6220 501 102 9050 1020 | \
+rasta-certificate 1/client/make 0 1000 open/take 2 40/make 2 1010 reply/make 3 1020 again 0/server/take 1 7/\
+make 1 9000 reply/take 4 8/take 4 9/make 4 9050 beat/end | \
+refused 41 NotAllowed 4 client\n\
+slot above the packets | - | \
+client 7 6200 100 0 1000 0 3033303314000000000000000000/\
+server 40 6201 500 100 9000 1000 3033303314000000000000000000/client 8 6220 101 500 1010 9000 | \
+rasta-certificate 1/client/make 0 1000 open/take 4 40/make 2 1010 reply/server/take 1 7/make 1 9000 reply/end | \
+refused 31 SlotOrder 2 client\n\
+number that never crossed | - | \
+client 7 6200 100 0 1000 0 3033303314000000000000000000/\
+server 40 6201 500 100 9000 1000 3033303314000000000000000000/client 8 6220 101 500 1010 9000 | \
+rasta-certificate 1/client/make 0 1000 open/take 2 41/make 2 1010 reply/server/take 1 7/make 1 9000 reply/end | \
+refused 34 NotYetCrossed 2 client\n\
+make of the other side | - | \
+client 7 6200 100 0 1000 0 3033303314000000000000000000/\
+server 40 6201 500 100 9000 1000 3033303314000000000000000000/client 8 6220 101 500 1010 9000 | \
+rasta-certificate 1/client/make 0 1000 open/make 1 9000 reply/server/end | \
+refused 32 NotFirstCopy 2 client\n\
+gap before the certificate | - | \
+client 7 6200 100 0 1000 0 3033303314000000000000000000/\
+server 40 6201 500 100 9000 1000 3033303314000000000000000000/client 9 6240 102 500 1020 9000 0200ab010000 | \
+rasta-certificate 1/client/make 00 1000 open/server/end | \
+refused 28 NumberGap 3 client\n\
+leading zero | - | \
+client 7 6200 100 0 1000 0 3033303314000000000000000000/\
+server 40 6201 500 100 9000 1000 3033303314000000000000000000/client 8 6220 101 500 1010 9000/\
+client 9 6240 102 500 1020 9000 0200ab010000/server 41 6220 501 102 9050 1020 | \
+rasta-certificate 1/client/make 00 1000 open/server/end | \
+refused 30 Syntax 3 -\n\
+byte behind the end | - | \
+client 7 6200 100 0 1000 0 3033303314000000000000000000/\
+server 40 6201 500 100 9000 1000 3033303314000000000000000000/client 8 6220 101 500 1010 9000/\
+client 9 6240 102 500 1020 9000 0200ab010000/server 41 6220 501 102 9050 1020 | \
+rasta-certificate 1/client/make 0 1000 open/take 2 40/make 2 1010 reply/make 3 1020 fresh/server/take 1 7/\
+make 1 9000 reply/take 4 8/take 4 9/make 4 9050 beat/end/x | \
+refused 30 Syntax 14 -\n\
+no text | - | \
+client 7 6200 100 0 1000 0 3033303314000000000000000000/\
+server 40 6201 500 100 9000 1000 3033303314000000000000000000/client 8 6220 101 500 1010 9000/\
+client 9 6240 102 500 1020 9000 0200ab010000/server 41 6220 501 102 9050 1020 | \
+- | \
+refused 30 Syntax 1 -\n\
+";
