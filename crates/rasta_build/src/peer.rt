@@ -22,7 +22,11 @@ impl Peer {
     }
 
     /// The place and the PDU at a position, if it crossed.
-    pub(crate) fn get<'a, S: SentList<'a>>(self, list: &S, position: u64) -> Option<(u32, Pdu<'a>)> {
+    pub(crate) fn get<'a, S: SentList<'a>>(
+        self,
+        list: &S,
+        position: u64,
+    ) -> Option<(u32, Pdu<'a>)> {
         let member = match self.quiet_sn {
             Some(_) => position.checked_sub(1)?,
             None => position,

@@ -35,11 +35,14 @@ pub fn propose_lists<'a, S: SentList<'a>>(
     for _ in 0..u64::from(client.len()) + u64::from(server.len()) {
         match first_of(client.get(made), server.get(answered)) {
             Some((Side::Client, place, pdu)) => {
-                own.explain(p, server, place, &pdu).map_err(|stuck| stuck.at(place))?;
+                own.explain(p, server, place, &pdu)
+                    .map_err(|stuck| stuck.at(place))?;
                 made = made.saturating_add(1);
             }
             Some((Side::Server, place, pdu)) => {
-                other.explain(p, client, place, &pdu).map_err(|stuck| stuck.at(place))?;
+                other
+                    .explain(p, client, place, &pdu)
+                    .map_err(|stuck| stuck.at(place))?;
                 answered = answered.saturating_add(1);
             }
             None => break,

@@ -44,7 +44,10 @@ fn is_trigger(made: Kind, taken: Kind) -> bool {
     match made {
         Kind::RetransmissionResponse => matches!(taken, Kind::RetransmissionRequest),
         Kind::RetransmissionRequest => {
-            matches!(taken, Kind::Heartbeat | Kind::Data | Kind::RetransmittedData)
+            matches!(
+                taken,
+                Kind::Heartbeat | Kind::Data | Kind::RetransmittedData
+            )
         }
         _ => false,
     }
@@ -286,7 +289,8 @@ impl<'a> ScriptBuilder<'a> {
             Kind::Heartbeat => Ok(Why::Beat),
             Kind::DisconnectionRequest => match pdu.body() {
                 Body::Bye {
-                    reason: TIMEOUT, ..
+                    reason: TIMEOUT,
+                    ..
                 } => Ok(Why::Expired),
                 _ => Ok(Why::Bye),
             },

@@ -210,7 +210,8 @@ impl<'a> End<'a> {
     pub fn units_confirmed(&self, sn: u32) -> usize
         ensures { result ≡ units_conveyed self.now.state.asks (kinds self.now.state.made) (State.ahead_by sn (first_sn self.now.state.made)) }
     {
-        self.own.units_through(ahead_by(sn, self.own.first_sn()) as usize)
+        self.own
+            .units_through(ahead_by(sn, self.own.first_sn()) as usize)
     }
 
     /// The data and retransmitted data whose units were handed up, in order.
