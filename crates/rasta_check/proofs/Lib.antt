@@ -57,3 +57,4 @@ pub mod Joined
 pub mod Headlined
 pub mod Answering
 pub mod Filed
+pub mod Moving
