@@ -58,3 +58,4 @@ pub mod Headlined
 pub mod Answering
 pub mod Filed
 pub mod Moving
+pub mod Tried
