@@ -230,20 +230,20 @@ not_both o x some none = absurd (let e : Some x ≡ None = sym some ∙ none in 
 memory_has_no_end : (fault : Fault) → is_some fault.end ≡ true → fault ≡ no_memory → ⊥
 memory_has_no_end fault some is = absurd (let e : false ≡ true = sym (ap (λ (f : Fault). is_some f.end) is) ∙ some in cc)
 
-module _ (s : Inside) (v : JudgedStation) (b : Station) (e : JudgedEnd) (channel : ℕ) (payload : Bor (List ℕ)) (why : Why) (d : RedundancyPdu) (view : judged_station s ≡ v) (kept : IsPlainStation s) where
-  pub kept_make : e ≡ record { params = s.end.params; state = after_make s.end.state d.safety s.clock why } → IsPlainStation (record s { end = e })
-  kept_make is =
-      let same = same_behind (row_of s.end.state d.safety why) s.end.state d.safety s.clock in
-      let few = ap (λ (f : JudgedEnd). f.state.accepted) is ∙ same.2 in
-      record {
-        params = ap (λ (f : JudgedEnd). f.params) is ∙ kept.params;
-        side = kept.side ∙ sym (ap (λ (f : JudgedEnd). f.state.side) is ∙ same.0);
-        base = kept.base ∙ sym (ap (λ (f : JudgedEnd). f.state.base) is ∙ same.1);
-        small = kept.small;
-        arrived = kept.arrived;
-        accepted = omega (arith, few, kept.accepted);
-      }
+pub kept_make : (s : Inside) (e : JudgedEnd) (why : Why) (d : RedundancyPdu) → IsPlainStation s → e ≡ record { params = s.end.params; state = after_make s.end.state d.safety s.clock why } → IsPlainStation (record s { end = e })
+kept_make s e why d kept is =
+    let same = same_behind (row_of s.end.state d.safety why) s.end.state d.safety s.clock in
+    let few = ap (λ (f : JudgedEnd). f.state.accepted) is ∙ same.2 in
+    record {
+      params = ap (λ (f : JudgedEnd). f.params) is ∙ kept.params;
+      side = kept.side ∙ sym (ap (λ (f : JudgedEnd). f.state.side) is ∙ same.0);
+      base = kept.base ∙ sym (ap (λ (f : JudgedEnd). f.state.base) is ∙ same.1);
+      small = kept.small;
+      arrived = kept.arrived;
+      accepted = omega (arith, few, kept.accepted);
+    }
 
+module _ (s : Inside) (v : JudgedStation) (b : Station) (e : JudgedEnd) (channel : ℕ) (payload : Bor (List ℕ)) (why : Why) (d : RedundancyPdu) (view : judged_station s ≡ v) (kept : IsPlainStation s) where
   -- the end refuses to make it
   pub not_made : (items all : List Datagram) (fault : Fault) → all ≡ items → e ≡ s.end → IsMakeRefusal s.end.params s.end.state d.safety s.clock why fault → is_some fault.end ≡ true
       → ((r : RedundancyPdu) → Spells v.params v.station.state.side r payload.now → d ≡ r)

@@ -6,7 +6,7 @@ ghost use Rattle.rasta_end.specs.State.{Made, wrapped};
 ghost use Rattle.rasta_end.specs.TakeRule.{take_fault};
 ghost use Rattle.rasta_end.specs.Starts.{start_of};
 ghost use Rattle.rasta_check.specs.Crossing.{Spells};
-ghost use Rattle.rasta_check.specs.World.{IsRecorded, Step, first_station, first_world};
+ghost use Rattle.rasta_check.specs.World.{Station, IsRecorded, Step, first_station, first_world};
 ghost use Rattle.rasta_check.specs.Theorem.{other_side, station_of};
 ghost use Rattle.rasta_check.specs.Moving.{Answers, IsBelow};
 
@@ -18,7 +18,7 @@ use std::alloc::{AllocError, Global};
 use std::marker::Model;
 
 /// What a station may do, or what may happen to it.
-#[derive(Clone, Copy)]
+#[derive(Clone, Copy, Debug)]
 pub enum Move<'a> {
     /// It makes the PDU that the payload spells, which crosses on this channel, from 1.
     Make {
@@ -189,13 +189,12 @@ impl<'a> PlainStation<'a> {
 
     fn makes(
         &mut self,
-        peer: &PlainStation<'a>,
         crossed: &mut Vec<Datagram<'a>>,
         channel: u8,
         payload: &'a [u8],
         why: Why,
     ) -> Result<bool, AllocError>
-        ensures answer { IfOk result (λ moved. Answers self.old.params peer.now.station (map packet_of crossed.old.items) self.old.station (Move.Make channel payload.entry why)
+        ensures answer { IfOk result (λ moved. (peer : Station) → Answers self.old.params peer (map packet_of crossed.old.items) self.old.station (Move.Make channel payload.entry why)
             moved self.new.station (map packet_of crossed.new.items)) }
         ensures params { self.new.params ≡ self.old.params }
         ensures station { OnErr result (self.new ≡ self.old) }
@@ -224,12 +223,11 @@ impl<'a> PlainStation<'a> {
 
     fn repeats(
         &self,
-        peer: &PlainStation<'a>,
         crossed: &mut Vec<Datagram<'a>>,
         place: u32,
         channel: u8,
     ) -> Result<bool, AllocError>
-        ensures answer { IfOk result (λ moved. Answers self.now.params peer.now.station (map packet_of crossed.old.items) self.now.station (Move.Repeat place channel)
+        ensures answer { IfOk result (λ moved. (peer : Station) → Answers self.now.params peer (map packet_of crossed.old.items) self.now.station (Move.Repeat place channel)
             moved self.now.station (map packet_of crossed.new.items)) }
         ensures packets { OnErr result (crossed.new.items ≡ crossed.old.items) }
     {
@@ -282,8 +280,8 @@ impl<'a> PlainStation<'a> {
         Ok(true)
     }
 
-    fn waits(&mut self, peer: &PlainStation<'a>, clock: u64) -> bool
-        ensures answer { (crossed : List Packet) → Answers self.old.params peer.now.station crossed self.old.station (Move.Wait clock) result self.new.station crossed }
+    fn waits(&mut self, clock: u64) -> bool
+        ensures answer { (peer : Station) (crossed : List Packet) → Answers self.old.params peer crossed self.old.station (Move.Wait clock) result self.new.station crossed }
         ensures params { self.new.params ≡ self.old.params }
     {
         if clock < self.clock {
@@ -312,11 +310,11 @@ impl<'a> PlainStation<'a> {
                 channel,
                 payload,
                 why,
-            } => self.makes(peer, crossed, channel, payload, why),
-            Move::Repeat { place, channel } => self.repeats(peer, crossed, place, channel),
+            } => self.makes(crossed, channel, payload, why),
+            Move::Repeat { place, channel } => self.repeats(crossed, place, channel),
             Move::Arrive { position } => self.arrives(peer, position),
             Move::Take { position } => self.takes(peer, position),
-            Move::Wait { clock } => Ok(self.waits(peer, clock)),
+            Move::Wait { clock } => Ok(self.waits(clock)),
         }
     }
 }
