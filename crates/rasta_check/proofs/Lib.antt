@@ -57,3 +57,5 @@ pub mod Joined
 pub mod Headlined
 pub mod Answering
 pub mod Filed
+pub mod Moving
+pub mod Tried

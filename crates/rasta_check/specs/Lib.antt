@@ -16,3 +16,4 @@ pub mod Report
 pub mod Listing
 pub mod Headline
 pub mod Verdicts
+pub mod Moving

@@ -1,5 +1,5 @@
 -- What some definitions mean.
-use Rattle.std.proofs.Common.{◌≡◌, ℕ, zero, suc, ◌+◌, ◌-◌, ◌%◌, ◌^◌, ◌<◌, ◌≤◌, Bool, true, false, List, [], ◌∷◌, ◌++◌, length, Option, Some, None, slice_get, refl, ap, sym, ◌∙◌, arith, subst}
+use Rattle.std.proofs.Common.{◌≡◌, ℕ, suc, ◌+◌, ◌-◌, ◌%◌, ◌^◌, ◌<◌, ◌≤◌, Bool, true, false, List, [], ◌∷◌, ◌++◌, length, Option, Some, None, slice_get, refl, ap, sym, ◌∙◌, arith, subst}
 use Rattle.std.specs.Prelude.{slice_index_or, nat_lt, if◌then◌else◌}
 use Rattle.std.proofs.lemmas.Bool.Decides.{nat_tests}
 use Rattle.std.proofs.lemmas.Option.{slice_get-get_or, get_or_from_slice_get}
@@ -9,7 +9,7 @@ use Rattle.rasta_pdu.specs.declared.kind.Kind.TheVariants.{ConnectionRequest, Co
 use Rattle.rasta_pdu.specs.Params.{Parameters}
 use Rattle.rasta_end.specs.State.{ahead_by}
 use Rattle.rasta_end.specs.TakeRule.{deadline_from}
-use Rattle.rasta_end.specs.Units.{conveyed, all_units_conveyed, units_conveyed, units_behind, units_at, last_of, responses_in}
+use Rattle.rasta_end.specs.Units.{conveyed, all_units_conveyed, units_conveyed, units_behind, units_at, last_of}
 use Rattle.rasta_end.specs.Meanings.{units_of_ask, units_by_type}
 use Rattle.rasta_end.proofs.Lists.{get_front, get_push}
 use Rattle.rasta_end.proofs.Conveying.{all_units-push, length-all_units, conveyed-responses, last-at}

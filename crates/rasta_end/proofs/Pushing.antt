@@ -1,7 +1,9 @@
 -- An end makes one more PDU: what it keeps stays in step.
 use Rattle.std.proofs.lemmas.List.{length_push}
-use Rattle.std.proofs.Common.{◌≡◌, ℕ, suc, ◌+◌, ◌≤◌, Bool, true, false, List, [], ◌∷◌, ◌++◌, length, Option, refl, ap, sym, ◌∙◌, arith, subst}
-use Rattle.std.specs.Prelude.{map}
+use Rattle.std.proofs.Common.{◌≡◌, ℕ, suc, ◌+◌, ◌≤◌, Bool, true, false, List, [], ◌∷◌, ◌++◌, length, ◌<◌, Option, Some, None, slice_get, get_or, refl, ap, sym, ◌∙◌, arith, subst, zero-add}
+use Rattle.std.proofs.lemmas.Option.{slice_get-map, slice_get-get_or, slice_get_past}
+use Rattle.std.specs.Prelude.{map, option_map}
+use Rattle.rasta_pdu.specs.Pdu.{value_of}
 use Rattle.std.specs.Borrow.{Bor}
 use Rattle.rasta_pdu.specs.declared.kind.Kind.{Kind}
 use Rattle.rasta_pdu.specs.declared.kind.Kind.TheVariants.{ConnectionRequest, ConnectionResponse, RetransmissionRequest, RetransmissionResponse, DisconnectionRequest, Heartbeat, Data, RetransmittedData}
@@ -11,7 +13,7 @@ use Rattle.rasta_end.specs.declared.own.QuietPdu.{QuietPdu}
 use Rattle.rasta_end.specs.State.{Made, kinds, content_of}
 use Rattle.rasta_end.specs.MakeRule.{contents, is_data}
 use Rattle.rasta_end.specs.Units.{all_units_conveyed, conveyed, units_behind, responses_in, responses_after}
-use Rattle.rasta_end.specs.Kept.{made_of, conveyed_of, quiet_made, quiet_units, OwnPdus}
+use Rattle.rasta_end.specs.Kept.{made_of, conveyed_of, quiet_made, quiet_count, quiet_units, OwnPdus}
 use Rattle.rasta_end.proofs.Conveying.{all_units-push, responses_in-push, more_asks}
 
 append-assoc : {A : Type 0} (xs ys zs : List A) → (xs ++ ys) ++ zs ≡ xs ++ (ys ++ zs)
@@ -181,3 +183,22 @@ responses-made ms m asks owed paid left h pays pay =
 
 pub length-made : (ms : List Made) (m : Made) → length (ms ++ m ∷ []) ≡ length ms + 1
 length-made ms m = length_push ms m
+
+-- ---- a PDU behind the quiet one
+
+behind_quiet : (q : Option QuietPdu) (ms : List MadePdu) (i : ℕ) → slice_get (quiet_made q ++ map made_of ms) (quiet_count q + i) ≡ option_map made_of (slice_get ms i)
+behind_quiet None ms i = ap (slice_get (map made_of ms)) (zero-add i) ∙ slice_get-map made_of ms i
+behind_quiet (Some q) ms i = ap (slice_get (quiet_made (Some q) ++ map made_of ms)) (let e : 1 + i ≡ suc i = omega arith in e) ∙ slice_get-map made_of ms i
+
+module _ (q : Option QuietPdu) (ms : List MadePdu) (asks : List ℕ) (o : OwnPdus) (i : ℕ) (same : record { quiet = q; made = quiet_made q ++ map made_of ms; asks = asks } ≡ o) where
+  there : option_map (λ (m : Made). m.pdu) (slice_get o.made (quiet_count o.quiet + i)) ≡ option_map (λ (m : Made). m.pdu) (option_map made_of (slice_get ms i))
+  there =
+      ap (λ (p : OwnPdus). option_map (λ (m : Made). m.pdu) (slice_get p.made (quiet_count p.quiet + i))) (sym same)
+      ∙ ap (option_map (λ (m : Made). m.pdu)) (behind_quiet q ms i)
+
+  pub made_there : (m : MadePdu) → i < length ms → m ≡ get_or ms i m → Some (value_of m.pdu).safety ≡ option_map (λ (n : Made). n.pdu) (slice_get o.made (quiet_count o.quiet + i))
+  made_there m within e =
+      sym (there ∙ ap (λ (f : Option MadePdu). option_map (λ (n : Made). n.pdu) (option_map made_of f)) (slice_get-get_or ms i m within ∙ ap Some (sym e)))
+
+  pub none_made : length ms ≤ i → None ≡ option_map (λ (n : Made). n.pdu) (slice_get o.made (quiet_count o.quiet + i))
+  none_made past = sym (there ∙ ap (λ (f : Option MadePdu). option_map (λ (n : Made). n.pdu) (option_map made_of f)) (slice_get_past ms i past))

@@ -1,5 +1,5 @@
 //! One end of a connection.
-ghost use Rattle.std.specs.Prelude.{◌≡◌, ◌≤◌, ◌<◌, ◌+◌, ◌^◌, [], ◌∷◌, length, map, Some, None, IfSome};
+ghost use Rattle.std.specs.Prelude.{◌≡◌, ◌≤◌, ◌<◌, ◌+◌, ◌^◌, [], ◌∷◌, length, map, option_map, slice_get, Some, None, IfSome};
 ghost use Rattle.rasta_pcap.specs.declared.fault.Side.TheVariants.{Client, Server};
 ghost use Rattle.rasta_end.specs.declared.phase.Phase.TheVariants.{Closed, Down};
 ghost use Rattle.rasta_end.specs.State;
@@ -196,6 +196,13 @@ impl<'a> End<'a> {
         ensures { self.now.state.base + result ≡ length self.now.state.made }
     {
         self.own.made()
+    }
+
+    /// The PDU of this number, from 0, among those that were made since the start.
+    pub fn made_at(&self, index: usize) -> Option<Pdu<'a>>
+        ensures { option_map safety_of result ≡ option_map (λ (m : State.Made). m.pdu) (slice_get self.now.state.made (self.now.state.base + index)) }
+    {
+        self.own.get(index)
     }
 
     /// How many PDUs are owed.

@@ -103,6 +103,16 @@ impl<'a> Own<'a> {
         self.made.len()
     }
 
+    /// The PDU of this number behind the quiet one, from 0.
+    pub fn get(&self, index: usize) -> Option<Pdu<'a>>
+        ensures { option_map (λ (p : Pdu). (value_of p).safety) result ≡ option_map (λ (m : State.Made). m.pdu) (slice_get self.now.made (quiet_count self.now.quiet + index)) }
+    {
+        match self.made.get(index) {
+            Some(made) => Some(made.pdu),
+            None => None,
+        }
+    }
+
     /// The SN of the first PDU, 0 where there is none.
     pub fn first_sn(&self) -> u32
         ensures { result ≡ State.first_sn self.now.made }

@@ -189,8 +189,10 @@ impl<'a> End<'a> {
         Ok(())
     }
 
-    fn take_fault(&self) -> Option<u8>
-        ensures { result ≡ TakeRule.take_fault self.now.params self.now.state self.now.state.clock }
+    /// The fault for which nothing may be taken at this moment (whole milliseconds), the first in the
+    /// order of [`End::take`]; none where the end is closed.
+    pub fn take_fault(&self, moment: u64) -> Option<u8>
+        ensures { result ≡ TakeRule.take_fault self.now.params self.now.state moment }
     {
         if self.phase.is_closed() {
             return None;
@@ -198,7 +200,7 @@ impl<'a> End<'a> {
         if self.owes.is_some() {
             return Some(Fault::REPLY_OWED);
         }
-        if is_past(&self.params, self.deadline, self.clock) {
+        if is_past(&self.params, self.deadline, moment) {
             return Some(Fault::PAST_DEADLINE);
         }
         None
@@ -209,7 +211,7 @@ impl<'a> End<'a> {
         ensures ok { OnOk result ((TakeRule.take_fault self.old.params self.old.state self.old.state.clock ≡ None) × (self.new ≡ record self.old { state = TakeRule.after_take self.old.params self.old.state (value_of pdu.now).safety })) }
         ensures err { IfErr result (λ fault. (self.new ≡ self.old) × IsTakeRefusal self.old.params self.old.state (value_of pdu.now).safety fault) }
     {
-        if let Some(number) = self.take_fault() {
+        if let Some(number) = self.take_fault(self.clock) {
             return Err(Fault::of_end(number, 0, self.side));
         }
         let Some(row) = self.take_row(pdu) else {

@@ -72,7 +72,8 @@ fn push_entries(text: &mut Vec<u8>, entries: &str) -> Option<()> {
     Some(())
 }
 
-fn certificate(alloc: Global, client: &str, server: &str) -> Option<Certificate> {
+/// The certificate of these entries.
+pub fn certificate(alloc: Global, client: &str, server: &str) -> Option<Certificate> {
     let mut text = Vec::new(alloc);
     text.extend_from_slice(b"rasta-certificate 1\nclient\n")
         .ok()?;

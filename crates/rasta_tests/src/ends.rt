@@ -224,7 +224,7 @@ fn phase_of(phase: Phase) -> &'static str {
     }
 }
 
-fn why_of(word: &str, unit: Option<&str>) -> Option<Why> {
+pub fn why_of(word: &str, unit: Option<&str>) -> Option<Why> {
     match word {
         "open" => Some(Why::Open),
         "reply" => Some(Why::Reply),

@@ -16,4 +16,6 @@ mod model;
 #[cfg(test)]
 mod proposals;
 #[cfg(test)]
+mod runs;
+#[cfg(test)]
 mod sent_lists;
