@@ -1,3 +1,4 @@
 pub use Rattle.rasta_check.specs.Fault
 pub use Rattle.rasta_check.specs.Devices
 pub mod Clock
+pub mod Choices

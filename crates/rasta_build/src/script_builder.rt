@@ -1,5 +1,12 @@
 //! The script of one end, found packet by packet.
-ghost use Rattle.std.specs.Prelude.{◌≡◌};
+ghost use Rattle.std.specs.Prelude.{◌≡◌, ℕ, true, false, nat_lt, length, [], Some, MatchOption};
+ghost use Rattle.rasta_pdu.specs.Pdu.{value_of};
+ghost use Rattle.rasta_end.specs.State;
+ghost use Rattle.rasta_end.specs.State.{is_retr_req};
+ghost use Rattle.rasta_end.specs.MakeRule.{is_early};
+ghost use Rattle.rasta_end.specs.Starts.{start_of};
+ghost use Rattle.rasta_build.specs.Choices;
+ghost use Rattle.rasta_build.specs.Choices.{HaveNoResponse, IsLastResponse, is_unanswered, next_unit, why_of};
 
 use crate::clock::clock_from;
 use crate::peer::Peer;
@@ -40,7 +47,9 @@ struct Progress {
 }
 
 // Whether a PDU of the peer, ahead of what was accepted, can be what an end answers or asks for.
-fn is_trigger(made: Kind, taken: Kind) -> bool {
+fn is_trigger(made: Kind, taken: Kind) -> bool
+    ensures { result ≡ Choices.is_trigger made taken }
+{
     match made {
         Kind::RetransmissionResponse => matches!(taken, Kind::RetransmissionRequest),
         Kind::RetransmissionRequest => {
@@ -53,11 +62,27 @@ fn is_trigger(made: Kind, taken: Kind) -> bool {
     }
 }
 
-fn wants_trigger(made: Kind) -> bool {
+// Whether a PDU of this type is made only where it is owed.
+fn wants_trigger(made: Kind) -> bool
+    ensures { result ≡ Choices.wants_trigger made }
+{
     matches!(
         made,
         Kind::RetransmissionResponse | Kind::RetransmissionRequest
     )
+}
+
+// Why an end makes this disconnection request.
+fn why_ended<'a>(pdu: &Pdu<'a>) -> Why
+    ensures { result ≡ Choices.why_ended (State.reason_of (value_of pdu.now).safety.body) }
+{
+    match pdu.body() {
+        Body::Bye {
+            reason: TIMEOUT,
+            ..
+        } => Why::Expired,
+        _ => Why::Bye,
+    }
 }
 
 impl<'a> ScriptBuilder<'a> {
@@ -99,7 +124,9 @@ impl<'a> ScriptBuilder<'a> {
 
     // Whether the PDU tells what was accepted in front of it. While something is owed nothing can be taken,
     // and the CS of an opening says nothing.
-    fn has_to_take(&self, pdu: &Pdu<'a>) -> bool {
+    fn has_to_take(&self, pdu: &Pdu<'a>) -> bool
+        ensures { result ≡ Choices.has_to_take self.now.side self.now.end.state (value_of pdu.now).safety.kind }
+    {
         if self.end.owed() > 0 {
             return false;
         }
@@ -111,7 +138,9 @@ impl<'a> ScriptBuilder<'a> {
     }
 
     // Whether this is a client that has accepted nothing.
-    fn is_opening(&self) -> bool {
+    fn is_opening(&self) -> bool
+        ensures { result ≡ is_unanswered self.now.side self.now.end.state }
+    {
         matches!(self.side, Side::Client)
             && matches!(self.end.phase(), Phase::Start)
             && self.end.accepted() == 0
@@ -124,56 +153,37 @@ impl<'a> ScriptBuilder<'a> {
         place: u32,
         cs: u32,
     ) -> Result<(), Stuck> {
-        let last = match self.peer.position_named(peer, cs) {
-            Some(position) => u64::from(position),
-            None => return Err(Stuck::Unexplained),
+        let Some(last) = self.peer.position_named(peer, cs) else {
+            return Err(Stuck::Unexplained);
         };
         let next = self.end.accepted();
-        if last + 1 == next {
+        let behind = u64::from(last) + 1;
+        if behind == next {
             return Ok(());
         }
-        if last + 1 < next || !self.has_crossed(peer, last, place) {
+        if behind < next || !self.peer.has_crossed(peer, u64::from(last), place) {
             return Err(Stuck::Unexplained);
         }
-        let first = self.first_acceptable(peer, next, last)?;
-        for position in first..last + 1 {
+        let Some(first) = self.first_acceptable(peer, next, behind) else {
+            return Err(Stuck::Unexplained);
+        };
+        for position in first..behind {
             self.accept_at(peer, place, position)?;
         }
         Ok(())
     }
 
-    // Whether the peer's PDU at a position crossed in front of a place.
-    fn has_crossed<S: SentList<'a>>(&self, peer: &S, position: u64, place: u32) -> bool {
-        match self.peer.get(peer, position) {
-            Some((crossed_at, _)) => crossed_at < place,
-            None => false,
-        }
-    }
-
-    // The first position to be accepted, of these: an end that waits for a retransmission accepts the last
-    // response among them first.
-    fn first_acceptable<S: SentList<'a>>(
-        &self,
-        peer: &S,
-        next: u64,
-        last: u64,
-    ) -> Result<u64, Stuck> {
-        if !matches!(self.end.phase(), Phase::RetrReq) {
-            return Ok(next);
-        }
-        let mut found = Err(Stuck::Unexplained);
-        for position in next..last.saturating_add(1) {
-            if self.is_response(peer, position) {
-                found = Ok(position);
-            }
-        }
-        found
-    }
-
-    fn is_response<S: SentList<'a>>(&self, peer: &S, position: u64) -> bool {
-        match self.peer.get(peer, position) {
-            Some((_, pdu)) => matches!(pdu.kind(), Kind::RetransmissionResponse),
-            None => false,
+    // The first position to be accepted, from one on and in front of another: an end that waits for a
+    // retransmission accepts the last response among them first.
+    fn first_acceptable<S: SentList<'a>>(&self, peer: &S, next: u64, behind: u64) -> Option<u64>
+        ensures waiting { is_retr_req self.now.end.state.phase ≡ true →
+            MatchOption result (HaveNoResponse self.now.peer.quiet_sn (S.content peer.now) next behind) (IsLastResponse self.now.peer.quiet_sn (S.content peer.now) next behind) }
+        ensures others { is_retr_req self.now.end.state.phase ≡ false → result ≡ Some next }
+    {
+        if matches!(self.end.phase(), Phase::RetrReq) {
+            self.peer.last_response(peer, next, behind)
+        } else {
+            Some(next)
         }
     }
 
@@ -276,44 +286,37 @@ impl<'a> ScriptBuilder<'a> {
         }
     }
 
-    // Why the end makes this PDU.
-    fn why(&self, pdu: &Pdu<'a>) -> Result<Why, Stuck> {
+    // Why the end makes this PDU; none where no unit can be sent again.
+    fn why(&self, pdu: &Pdu<'a>) -> Option<Why>
+        ensures { result ≡ why_of self.now.end.state self.now.trail (value_of pdu.now).safety }
+    {
         match pdu.kind() {
-            Kind::ConnectionRequest => Ok(Why::Open),
-            Kind::ConnectionResponse => Ok(Why::Reply),
-            Kind::RetransmissionResponse => Ok(Why::Reply),
-            Kind::RetransmissionRequest => Ok(Why::Ask),
-            Kind::Data => Ok(Why::Fresh),
-            Kind::RetransmittedData => self.again(),
-            Kind::Heartbeat if self.end.owed() > 0 => Ok(Why::Reply),
-            Kind::Heartbeat => Ok(Why::Beat),
-            Kind::DisconnectionRequest => match pdu.body() {
-                Body::Bye {
-                    reason: TIMEOUT,
-                    ..
-                } => Ok(Why::Expired),
-                _ => Ok(Why::Bye),
-            },
+            Kind::ConnectionRequest => Some(Why::Open),
+            Kind::ConnectionResponse => Some(Why::Reply),
+            Kind::RetransmissionResponse => Some(Why::Reply),
+            Kind::RetransmissionRequest => Some(Why::Ask),
+            Kind::Data => Some(Why::Fresh),
+            Kind::RetransmittedData => Some(Why::Again(self.next_unit()?)),
+            Kind::Heartbeat if self.end.owed() > 0 => Some(Why::Reply),
+            Kind::Heartbeat => Some(Why::Beat),
+            Kind::DisconnectionRequest => Some(why_ended(pdu)),
         }
     }
 
     // The unit that is to be sent again: of those that are owed, the first.
-    fn again(&self) -> Result<Why, Stuck> {
-        let unit = self
-            .end
-            .owed()
-            .checked_sub(self.trail)
-            .and_then(|units| self.end.offered().checked_sub(units))
-            .and_then(|unit| u32::try_from(unit).ok());
-        match unit {
-            Some(unit) => Ok(Why::Again(unit)),
-            None => Err(Stuck::Unexplained),
-        }
+    fn next_unit(&self) -> Option<u32>
+        ensures { result ≡ next_unit self.now.end.state.offered (length self.now.end.state.owed) self.now.trail }
+    {
+        let units = self.end.owed().checked_sub(self.trail)?;
+        let unit = self.end.offered().checked_sub(units)?;
+        u32::try_from(unit).ok()
     }
 
     // Makes the PDU at a place, at the least clock that its time stamp allows.
     fn make(&mut self, params: &Params, place: u32, pdu: &Pdu<'a>) -> Result<(), Stuck> {
-        let why = self.why(pdu)?;
+        let Some(why) = self.why(pdu) else {
+            return Err(Stuck::Unexplained);
+        };
         let Some(clock) = clock_from(self.clock, pdu.ts()) else {
             return Err(Stuck::Unexplained);
         };
@@ -343,14 +346,18 @@ impl<'a> ScriptBuilder<'a> {
     }
 
     // The earliest timeout by a deadline that is recorded with a quiet point.
-    fn earliest_timeout(&self, params: &Params) -> u64 {
-        let deadline = params.quiet().and_then(|quiet| match self.side {
-            Side::Client => quiet.client.deadline,
-            Side::Server => quiet.server.deadline,
-        });
-        deadline.map_or(0, |deadline| {
-            deadline.saturating_sub(u64::from(params.slack()))
-        })
+    fn earliest_timeout(&self, params: &Params) -> u64
+        ensures { (clock : ℕ) → is_early params.now (start_of params.now self.now.side).deadline clock ≡ nat_lt clock result }
+    {
+        let deadline = match (params.quiet(), self.side) {
+            (Some(quiet), Side::Client) => quiet.client.deadline,
+            (Some(quiet), Side::Server) => quiet.server.deadline,
+            (None, _) => None,
+        };
+        match deadline {
+            Some(deadline) => deadline.saturating_sub(u64::from(params.slack())),
+            None => 0,
+        }
     }
 
     fn note_make(&mut self, index: u32, clock: u64, why: Why) -> Result<(), Stuck> {
