@@ -6,6 +6,7 @@ use Rattle.rasta_pcap.specs.declared.fault.Fault.{Fault}
 use Rattle.rasta_pcap.specs.declared.fault.Side.{Side}
 use Rattle.rasta_pcap.specs.declared.fault.Side.TheVariants.{Client, Server}
 use Rattle.rasta_pdu.specs.Pdu.{SafetyPdu}
+use Rattle.rasta_pdu.specs.declared.pdu.Pdu.{Pdu}
 use Rattle.rasta_pdu.specs.declared.kind.Kind.{Kind}
 use Rattle.rasta_pdu.specs.declared.kind.Kind.TheVariants.{ConnectionRequest, ConnectionResponse, RetransmissionRequest, RetransmissionResponse, DisconnectionRequest, Heartbeat, Data, RetransmittedData}
 use Rattle.rasta_pdu.specs.declared.quiet_point.Quiet.{Quiet}
@@ -16,6 +17,7 @@ use Rattle.rasta_end.specs.TakeRule.{is_retransmission_request, is_retransmissio
 use Rattle.rasta_end.specs.declared.why.Why.{Why}
 use Rattle.rasta_end.specs.declared.why.Why.TheVariants.{Open, Reply, Beat, Fresh, Again, Ask, Bye, Expired}
 use Rattle.rasta_check.specs.Crossing.{FirstCopy}
+use Rattle.rasta_check.specs.Lists.{copy_of}
 use Rattle.rasta_build.specs.declared.stuck.Stuck.{Stuck}
 use Rattle.rasta_build.specs.declared.stuck.Stuck.TheVariants.{Unexplained, NoMemory}
 
@@ -132,6 +134,10 @@ why_of e behind x = why_by x.kind e behind x
 pub record SidedCopy : Type 0 where
   pub side : Side
   pub copy : FirstCopy
+
+-- a first copy as it is handed out with its side
+abbrev pub sided_copy : Side × (ℕ × Pdu) → SidedCopy
+sided_copy x = record { side = x.0; copy = copy_of x.1 }
 
 -- the one that crossed first, of the next copies of both sides
 abbrev pub first_of : Option FirstCopy → Option FirstCopy → Option SidedCopy

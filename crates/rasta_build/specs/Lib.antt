@@ -2,3 +2,4 @@ pub use Rattle.rasta_check.specs.Fault
 pub use Rattle.rasta_check.specs.Devices
 pub mod Clock
 pub mod Choices
+pub mod Completeness
