@@ -117,7 +117,11 @@ fn packets_are_explained_so(rt: HostRuntime) -> Result<(), Fail> {
         let entries = parts.next().ok_or("entries")?;
         let (params, file) = file_of(alloc, settings, packets).ok_or("a capture")?;
         let sent = sent(alloc, params, &file).ok().ok_or("sent lists")?;
-        assert_eq!(rt; is_explained(alloc, &sent, want, entries), Some(true), "{name}");
+        assert_eq!(rt;
+            is_explained(alloc, &sent, want, entries),
+            Some(true),
+            "{name}"
+        );
     }
     Ok(())
 }
