@@ -1,10 +1,12 @@
 //! The script of one end, found packet by packet.
-ghost use Rattle.std.specs.Prelude.{◌≡◌, ℕ, true, false, nat_lt, length, [], Some, MatchOption};
+ghost use Rattle.std.specs.Prelude.{◌≡◌, ℕ, true, false, nat_lt, length, [], Some, MatchOption, OnOk, IfErr};
 ghost use Rattle.rasta_pdu.specs.Pdu.{value_of};
 ghost use Rattle.rasta_end.specs.State;
 ghost use Rattle.rasta_end.specs.State.{is_retr_req};
 ghost use Rattle.rasta_end.specs.MakeRule.{is_early};
 ghost use Rattle.rasta_end.specs.Starts.{start_of};
+ghost use Rattle.rasta_build.specs.Built;
+ghost use Rattle.rasta_build.specs.Built.{built_at_start, progress_of, IsMade};
 ghost use Rattle.rasta_build.specs.Choices;
 ghost use Rattle.rasta_build.specs.Choices.{HaveNoResponse, IsLastResponse, is_unanswered, next_unit, why_of};
 
@@ -16,6 +18,7 @@ use rasta_check::SentList;
 use rasta_end::{End, Phase, Why};
 use rasta_pdu::{Body, Fault, Kind, Params, Pdu, Side};
 use std::alloc::Global;
+use std::marker::Model;
 
 /// The reason of a disconnection request by which an end says that nothing came in time.
 const TIMEOUT: u16 = 4;
@@ -36,6 +39,22 @@ pub(crate) struct ScriptBuilder<'a> {
     next_take: u64,
     // How many requests are owed behind the burst that is owed: 0 or 1.
     trail: usize,
+}
+
+impl<'a> Model for ScriptBuilder<'a> {
+    ghost use Rattle.rasta_build.specs.Built.{Built};
+
+    ghost Value = { Built };
+
+    ghost view = { λ b. record {
+      side = b.side;
+      end = b.end;
+      peer = b.peer;
+      script = b.script.items;
+      clock = b.clock;
+      next_take = b.next_take;
+      trail = b.trail;
+    } };
 }
 
 // How far an end has come: a take that changes none of it has no effect.
@@ -86,24 +105,29 @@ fn why_ended<'a>(pdu: &Pdu<'a>) -> Why
 }
 
 impl<'a> ScriptBuilder<'a> {
-    pub(crate) fn new(alloc: Global, params: &Params, side: Side) -> ScriptBuilder<'a> {
-        let own = params.quiet().map(|quiet| match side {
-            Side::Client => quiet.client,
-            Side::Server => quiet.server,
-        });
+    pub(crate) fn new(alloc: Global, params: &Params, side: Side) -> ScriptBuilder<'a>
+        ensures { result ≡ built_at_start params.now side }
+    {
+        let (clock, next_take) = match (params.quiet(), side) {
+            (Some(quiet), Side::Client) => (quiet.client.clock, 1),
+            (Some(quiet), Side::Server) => (quiet.server.clock, 1),
+            (None, _) => (0, 0),
+        };
         ScriptBuilder {
             side,
             end: End::start(alloc, params, side),
             peer: Peer::of(params, side),
             script: Vec::new(alloc),
-            clock: own.map_or(0, |end| end.clock),
-            next_take: own.map_or(0, |_| 1),
+            clock,
+            next_take,
             trail: 0,
         }
     }
 
     /// The script.
-    pub(crate) fn into_script(self) -> Vec<Entry> {
+    pub(crate) fn into_script(self) -> Vec<Entry>
+        ensures { result.items ≡ self.entry.script }
+    {
         self.script
     }
 
@@ -248,7 +272,7 @@ impl<'a> ScriptBuilder<'a> {
     }
 
     fn progress(&self) -> Progress
-        ensures { result.accepted ≡ self.now.end.state.accepted }
+        ensures { result ≡ progress_of self.now.end.state }
     {
         Progress {
             accepted: self.end.accepted(),
@@ -279,7 +303,10 @@ impl<'a> ScriptBuilder<'a> {
         })
     }
 
-    fn note(&mut self, entry: Entry) -> Result<(), Stuck> {
+    fn note(&mut self, entry: Entry) -> Result<(), Stuck>
+        ensures ok { OnOk result (self.new ≡ Built.note entry self.old) }
+        ensures err { IfErr result (λ stuck. stuck ≡ Stuck.NoMemory) }
+    {
         match self.script.push(entry) {
             Ok(()) => Ok(()),
             Err(_) => Err(Stuck::NoMemory),
@@ -313,7 +340,9 @@ impl<'a> ScriptBuilder<'a> {
     }
 
     // Makes the PDU at a place, at the least clock that its time stamp allows.
-    fn make(&mut self, params: &Params, place: u32, pdu: &Pdu<'a>) -> Result<(), Stuck> {
+    fn make(&mut self, params: &Params, place: u32, pdu: &Pdu<'a>) -> Result<(), Stuck>
+        ensures { OnOk result (IsMade self.old place (value_of pdu.now).safety self.new) }
+    {
         let Some(why) = self.why(pdu) else {
             return Err(Stuck::Unexplained);
         };
@@ -323,26 +352,30 @@ impl<'a> ScriptBuilder<'a> {
         match self.end.make(pdu, clock, why) {
             Ok(()) => self.note_make(place, clock, why),
             Err(fault) if fault.number == Fault::TOO_EARLY_TIMEOUT => {
-                self.make_later(params, place, pdu, clock)
+                self.make_later(params, place, pdu, clock, why)
             }
             Err(fault) => Err(Stuck::from(fault)),
         }
     }
 
-    // Makes a disconnection request for want of news at a later clock, at which that is allowed.
+    // Makes a PDU that came too early, a disconnection request for want of news, at a later clock.
     fn make_later(
         &mut self,
         params: &Params,
         place: u32,
         pdu: &Pdu<'a>,
         early: u64,
-    ) -> Result<(), Stuck> {
+        why: Why,
+    ) -> Result<(), Stuck>
+        requires { why_of self.old.end.state self.old.trail (value_of pdu.now).safety ≡ Some why }
+        ensures { OnOk result (IsMade self.old place (value_of pdu.now).safety self.new) }
+    {
         let least = early.saturating_add(1).max(self.earliest_timeout(params));
         let Some(clock) = clock_from(least, pdu.ts()) else {
             return Err(Stuck::Unexplained);
         };
-        self.end.make(pdu, clock, Why::Expired)?;
-        self.note_make(place, clock, Why::Expired)
+        self.end.make(pdu, clock, why)?;
+        self.note_make(place, clock, why)
     }
 
     // The earliest timeout by a deadline that is recorded with a quiet point.
@@ -360,7 +393,10 @@ impl<'a> ScriptBuilder<'a> {
         }
     }
 
-    fn note_make(&mut self, index: u32, clock: u64, why: Why) -> Result<(), Stuck> {
+    fn note_make(&mut self, index: u32, clock: u64, why: Why) -> Result<(), Stuck>
+        ensures ok { OnOk result (self.new ≡ Built.note (Entry.Make index clock why) (record self.old { clock = clock })) }
+        ensures err { IfErr result (λ stuck. stuck ≡ Stuck.NoMemory) }
+    {
         self.clock = clock;
         self.note(Entry::Make { index, clock, why })
     }
