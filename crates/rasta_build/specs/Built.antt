@@ -1,15 +1,16 @@
 -- A script while it is built: the end that it led to, and what a take or a make adds to it.
-use Rattle.std.specs.Prelude.{◌≡◌, ℕ, List, [], ◌∷◌, ◌++◌, length, Some}
+use Rattle.std.specs.Prelude.{◌≡◌, ℕ, ◌+◌, List, [], ◌∷◌, ◌++◌, length, ◌&&◌, ◌==◌, if◌then◌else◌, min, Some}
 use Rattle.rasta_pcap.specs.declared.fault.Side.{Side}
 use Rattle.rasta_pdu.specs.Params.{Parameters}
-use Rattle.rasta_pdu.specs.Pdu.{SafetyPdu}
+use Rattle.rasta_pdu.specs.Pdu.{SafetyPdu, RedundancyPdu}
 use Rattle.rasta_end.specs.declared.why.Why.{Why}
-use Rattle.rasta_end.specs.State.{EndState}
+use Rattle.rasta_end.specs.State.{EndState, is_flowing}
 use Rattle.rasta_end.specs.Starts.{start_of}
 use Rattle.rasta_end.specs.MakeRule.{Makes}
+use Rattle.rasta_end.specs.TakeRule.{Takes, is_retransmission_request}
 use Rattle.rasta_end.specs.Judged.{JudgedEnd}
 use Rattle.rasta_cert.specs.declared.entry.Entry.{Entry}
-use Rattle.rasta_cert.specs.declared.entry.Entry.TheVariants.{Make}
+use Rattle.rasta_cert.specs.declared.entry.Entry.TheVariants.{Take, Make}
 use Rattle.rasta_build.specs.Choices.{peer_quiet_sn, why_of}
 use Rattle.rasta_build.specs.declared.peer.Peer.{Peer}
 use Rattle.rasta_build.specs.declared.script_builder.Progress.{Progress}
@@ -57,3 +58,18 @@ pub record IsMade (b : Built) (place : ℕ) (x : SafetyPdu) (new : Built) : Type
   pub reason : why_of b.end.state b.trail x ≡ Some why
   pub makes : Makes b.end.params b.end.state x clock why after
   pub noted : new ≡ note (Make place clock why) (lead after (record b { clock = clock }))
+
+-- how many requests are owed behind the burst that the take of this PDU started, which led from here to there
+abbrev pub trail_behind : Progress → Progress → SafetyPdu → ℕ
+trail_behind before after x = if is_retransmission_request x.kind && (after.accepted == before.accepted && is_flowing before.phase) then 1 else 0
+
+-- the take of this PDU at this position stands in the script
+abbrev pub note_take : Progress → ℕ → ℕ → RedundancyPdu → Built → Built
+note_take before slot position x b = note (Take slot x.number) (record b { next_take = min (position + 1) 18446744073709551615; trail = trail_behind before (progress_of b.end.state) x.safety })
+
+-- the take of this PDU at this position leads to the end behind it; it stands in the script where it had an effect
+pub record IsTaken (b : Built) (slot position : ℕ) (x : RedundancyPdu) (new : Built) : Type 0 where
+  pub takes : Takes b.end.params b.end.state x.safety b.end.state.clock new.end.state
+  pub without_effect : progress_of new.end.state ≡ progress_of b.end.state → new ≡ lead new.end.state b
+  pub with_effect : (progress_of new.end.state ≡ progress_of b.end.state → ⊥)
+      → new ≡ note_take (progress_of b.end.state) slot position x (lead new.end.state b)

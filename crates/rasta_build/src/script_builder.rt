@@ -4,9 +4,10 @@ ghost use Rattle.rasta_pdu.specs.Pdu.{value_of};
 ghost use Rattle.rasta_end.specs.State;
 ghost use Rattle.rasta_end.specs.State.{is_retr_req};
 ghost use Rattle.rasta_end.specs.MakeRule.{is_early};
+ghost use Rattle.rasta_end.specs.TakeRule.{Takes};
 ghost use Rattle.rasta_end.specs.Starts.{start_of};
 ghost use Rattle.rasta_build.specs.Built;
-ghost use Rattle.rasta_build.specs.Built.{built_at_start, progress_of, IsMade};
+ghost use Rattle.rasta_build.specs.Built.{built_at_start, progress_of, IsMade, IsTaken};
 ghost use Rattle.rasta_build.specs.Choices;
 ghost use Rattle.rasta_build.specs.Choices.{HaveNoResponse, IsLastResponse, is_unanswered, next_unit, why_of};
 
@@ -281,19 +282,30 @@ impl<'a> ScriptBuilder<'a> {
         }
     }
 
-    // Takes a PDU. It is no entry of the script where it changes nothing.
-    fn take(&mut self, slot: u32, position: u64, pdu: &Pdu<'a>) -> Result<(), Stuck> {
-        let before = self.progress();
-        if before.accepted >= MOST_ACCEPTED {
+    // Leads the end by the take of a PDU.
+    fn lead(&mut self, pdu: &Pdu<'a>) -> Result<(), Stuck>
+        ensures takes { OnOk result (Takes self.old.end.params self.old.end.state (value_of pdu.now).safety self.old.end.state.clock self.new.end.state) }
+        ensures others { OnOk result (self.new ≡ Built.lead self.new.end.state self.old) }
+    {
+        if self.end.accepted() >= MOST_ACCEPTED {
             return Err(Stuck::Unexplained);
         }
         self.end.take(pdu)?;
-        let after = self.progress();
-        if after == before {
-            return Ok(());
-        }
+        Ok(())
+    }
+
+    // Notes a take that had an effect.
+    fn note_take(
+        &mut self,
+        before: Progress,
+        slot: u32,
+        position: u64,
+        pdu: &Pdu<'a>,
+    ) -> Result<(), Stuck>
+        ensures { OnOk result (self.new ≡ Built.note_take before slot position (value_of pdu.now) self.old) }
+    {
         let answers = matches!(pdu.kind(), Kind::RetransmissionRequest)
-            && after.accepted == before.accepted
+            && self.end.accepted() == before.accepted
             && matches!(before.phase, Phase::Up | Phase::RetrRun);
         self.trail = usize::from(answers);
         self.next_take = position.saturating_add(1);
@@ -301,6 +313,18 @@ impl<'a> ScriptBuilder<'a> {
             slot,
             number: pdu.number(),
         })
+    }
+
+    // Takes a PDU. It is no entry of the script where it changes nothing.
+    fn take(&mut self, slot: u32, position: u64, pdu: &Pdu<'a>) -> Result<(), Stuck>
+        ensures { OnOk result (IsTaken self.old slot position (value_of pdu.now) self.new) }
+    {
+        let before = self.progress();
+        self.lead(pdu)?;
+        if self.progress() == before {
+            return Ok(());
+        }
+        self.note_take(before, slot, position, pdu)
     }
 
     fn note(&mut self, entry: Entry) -> Result<(), Stuck>
