@@ -1,17 +1,18 @@
 -- A script while it is built: the end that it led to, and what a take or a make adds to it.
-use Rattle.std.specs.Prelude.{◌≡◌, ℕ, ◌+◌, List, [], ◌∷◌, ◌++◌, length, ◌&&◌, ◌==◌, if◌then◌else◌, min, Some}
+use Rattle.std.specs.Prelude.{◌≡◌, ℕ, ◌+◌, List, [], ◌∷◌, ◌++◌, length, true, false, ◌&&◌, ◌==◌, if◌then◌else◌, min, Some}
 use Rattle.rasta_pcap.specs.declared.fault.Side.{Side}
 use Rattle.rasta_pdu.specs.Params.{Parameters}
 use Rattle.rasta_pdu.specs.Pdu.{SafetyPdu, RedundancyPdu}
 use Rattle.rasta_end.specs.declared.why.Why.{Why}
-use Rattle.rasta_end.specs.State.{EndState, is_flowing}
+use Rattle.rasta_end.specs.State.{EndState, is_owing, is_flowing}
 use Rattle.rasta_end.specs.Starts.{start_of}
 use Rattle.rasta_end.specs.MakeRule.{Makes}
 use Rattle.rasta_end.specs.TakeRule.{Takes, is_retransmission_request}
 use Rattle.rasta_end.specs.Judged.{JudgedEnd}
 use Rattle.rasta_cert.specs.declared.entry.Entry.{Entry}
 use Rattle.rasta_cert.specs.declared.entry.Entry.TheVariants.{Take, Make}
-use Rattle.rasta_build.specs.Choices.{peer_quiet_sn, why_of}
+use Rattle.rasta_check.specs.Crossing.{FirstCopy}
+use Rattle.rasta_build.specs.Choices.{peer_quiet_sn, copy_at, has_to_take, wants_trigger, why_of}
 use Rattle.rasta_build.specs.declared.peer.Peer.{Peer}
 use Rattle.rasta_build.specs.declared.script_builder.Progress.{Progress}
 
@@ -73,3 +74,17 @@ pub record IsTaken (b : Built) (slot position : ℕ) (x : RedundancyPdu) (new : 
   pub without_effect : progress_of new.end.state ≡ progress_of b.end.state → new ≡ lead new.end.state b
   pub with_effect : (progress_of new.end.state ≡ progress_of b.end.state → ⊥)
       → new ≡ note_take (progress_of b.end.state) slot position x (lead new.end.state b)
+
+-- the PDU that crossed at this position of the peer is taken, and is now the one that was accepted last
+pub record IsAccepted (b : Built) (sent : List FirstCopy) (slot position : ℕ) (new : Built) : Type 0 where
+  pub copy : FirstCopy
+  pub there : copy_at b.peer.quiet_sn sent position ≡ Some copy
+  pub taken : IsTaken b slot position copy.pdu new
+  pub accepted : new.end.state.accepted ≡ position + 1
+
+-- a first copy is explained: it is made by an end that has taken what its type wants, and nothing was taken where its CS tells of nothing
+pub record IsExplained (b : Built) (place : ℕ) (x : SafetyPdu) (new : Built) : Type 0 where
+  pub before : Built
+  pub made : IsMade before place x new
+  pub triggered : has_to_take b.side b.end.state x.kind ≡ true → wants_trigger x.kind ≡ true → is_owing before.end.state.owed ≡ true
+  pub untaken : has_to_take b.side b.end.state x.kind ≡ false → before ≡ b

@@ -1,13 +1,13 @@
 //! The script of one end, found packet by packet.
-ghost use Rattle.std.specs.Prelude.{◌≡◌, ℕ, true, false, nat_lt, length, [], Some, MatchOption, OnOk, IfErr};
+ghost use Rattle.std.specs.Prelude.{◌≡◌, ℕ, true, false, nat_lt, length, [], ◌+◌, ◌<◌, Some, option_map, IfSome, MatchOption, OnOk, IfErr};
 ghost use Rattle.rasta_pdu.specs.Pdu.{value_of};
 ghost use Rattle.rasta_end.specs.State;
-ghost use Rattle.rasta_end.specs.State.{is_retr_req};
+ghost use Rattle.rasta_end.specs.State.{is_owing, is_retr_req};
 ghost use Rattle.rasta_end.specs.MakeRule.{is_early};
 ghost use Rattle.rasta_end.specs.TakeRule.{Takes};
 ghost use Rattle.rasta_end.specs.Starts.{start_of};
 ghost use Rattle.rasta_build.specs.Built;
-ghost use Rattle.rasta_build.specs.Built.{built_at_start, progress_of, IsMade, IsTaken};
+ghost use Rattle.rasta_build.specs.Built.{built_at_start, progress_of, IsMade, IsTaken, IsAccepted, IsExplained};
 ghost use Rattle.rasta_build.specs.Choices;
 ghost use Rattle.rasta_build.specs.Choices.{HaveNoResponse, IsLastResponse, is_unanswered, next_unit, why_of};
 
@@ -139,7 +139,9 @@ impl<'a> ScriptBuilder<'a> {
         peer: &S,
         place: u32,
         pdu: &Pdu<'a>,
-    ) -> Result<(), Stuck> {
+    ) -> Result<(), Stuck>
+        ensures { OnOk result (IsExplained self.old place (value_of pdu.now).safety self.new) }
+    {
         if self.has_to_take(pdu) {
             self.accept_through(peer, place, pdu.cs())?;
             self.take_trigger(params, peer, place, pdu.kind())?;
@@ -177,7 +179,9 @@ impl<'a> ScriptBuilder<'a> {
         peer: &S,
         place: u32,
         cs: u32,
-    ) -> Result<(), Stuck> {
+    ) -> Result<(), Stuck>
+        ensures { OnOk result (option_map (λ last. last + 1) (Choices.position_named self.old.peer.quiet_sn (S.content peer.now) cs) ≡ Some self.new.end.state.accepted) }
+    {
         let Some(last) = self.peer.position_named(peer, cs) else {
             return Err(Stuck::Unexplained);
         };
@@ -204,6 +208,7 @@ impl<'a> ScriptBuilder<'a> {
         ensures waiting { is_retr_req self.now.end.state.phase ≡ true →
             MatchOption result (HaveNoResponse self.now.peer.quiet_sn (S.content peer.now) next behind) (IsLastResponse self.now.peer.quiet_sn (S.content peer.now) next behind) }
         ensures others { is_retr_req self.now.end.state.phase ≡ false → result ≡ Some next }
+        ensures in_front { next < behind → IfSome result (λ first. first < behind) }
     {
         if matches!(self.end.phase(), Phase::RetrReq) {
             self.peer.last_response(peer, next, behind)
@@ -218,15 +223,16 @@ impl<'a> ScriptBuilder<'a> {
         peer: &S,
         slot: u32,
         position: u64,
-    ) -> Result<(), Stuck> {
+    ) -> Result<(), Stuck>
+        ensures { OnOk result (IsAccepted self.old (S.content peer.now) slot position self.new) }
+    {
         let Some((_, pdu)) = self.peer.get(peer, position) else {
             return Err(Stuck::Unexplained);
         };
         self.take(slot, position, &pdu)?;
-        if self.end.accepted() == position.saturating_add(1) {
-            Ok(())
-        } else {
-            Err(Stuck::Unexplained)
+        match self.end.accepted().checked_sub(1) {
+            Some(last) if last == position => Ok(()),
+            _ => Err(Stuck::Unexplained),
         }
     }
 
@@ -238,7 +244,9 @@ impl<'a> ScriptBuilder<'a> {
         peer: &S,
         place: u32,
         made: Kind,
-    ) -> Result<(), Stuck> {
+    ) -> Result<(), Stuck>
+        ensures { OnOk result (Choices.wants_trigger made ≡ true → is_owing self.new.end.state.owed ≡ true) }
+    {
         if self.end.owed() > 0 || !wants_trigger(made) {
             return Ok(());
         }
