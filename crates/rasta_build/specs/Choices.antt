@@ -1,7 +1,7 @@
 -- What is chosen for a script: which member of the peer's sent list a position is, what an end must have taken in front of a make, why it
 -- makes a PDU and at which clock.
-use Rattle.std.specs.Prelude.{◌≡◌, ℕ, suc, ◌+◌, ◌-◌, ◌≤◌, ◌<◌, ◌^◌, Bool, true, false, ◌&&◌, not, nat_lt, nat_le, ◌==◌, if◌then◌else◌, min, List, [], ◌∷◌, length, Option, Some, None, option_map, slice_get}
-use Rattle.rasta_pcap.specs.Fault.{fault_at, no_memory}
+use Rattle.std.specs.Prelude.{◌≡◌, ◌⊎◌, ℕ, suc, ◌+◌, ◌-◌, ◌≤◌, ◌<◌, ◌^◌, Bool, true, false, ◌&&◌, not, nat_lt, nat_le, ◌==◌, if◌then◌else◌, min, List, [], ◌∷◌, length, Option, Some, None, option_map, slice_get}
+use Rattle.rasta_pcap.specs.Fault.{fault_at, no_memory, too_many_entries}
 use Rattle.rasta_pcap.specs.declared.fault.Fault.{Fault}
 use Rattle.rasta_pcap.specs.declared.fault.Side.{Side}
 use Rattle.rasta_pcap.specs.declared.fault.Side.TheVariants.{Client, Server}
@@ -160,3 +160,11 @@ fault_of_stuck NoMemory place = no_memory
 -- what a fault of an end says of its script
 abbrev pub stuck_by : Fault → Stuck
 stuck_by fault = if fault.number == 1 then NoMemory else Unexplained
+
+-- nothing explains a member of this sent list
+abbrev pub IsUnexplained : List FirstCopy → Fault → Type 0
+IsUnexplained sent fault = (i : ℕ) × (copy : FirstCopy) × (slice_get sent i ≡ Some copy) × (fault ≡ fault_of_stuck Unexplained copy.place)
+
+-- a builder's fault: want of memory, scripts with too many entries, or a first copy of the client's or of the server's that nothing explains
+abbrev pub IsProposalFault : List FirstCopy → List FirstCopy → Fault → Type 0
+IsProposalFault client server fault = (fault ≡ no_memory) ⊎ ((fault ≡ fault_at too_many_entries 0) ⊎ (IsUnexplained client fault ⊎ IsUnexplained server fault))

@@ -1,8 +1,8 @@
 //! The scripts of both ends.
-ghost use Rattle.std.specs.Prelude.{◌≡◌, option_map};
+ghost use Rattle.std.specs.Prelude.{◌≡◌, option_map, IfErr};
 ghost use Rattle.rasta_check.specs.Lists.{copy_of};
 ghost use Rattle.rasta_build.specs.Choices;
-ghost use Rattle.rasta_build.specs.Choices.{sided_copy};
+ghost use Rattle.rasta_build.specs.Choices.{sided_copy, IsProposalFault};
 
 use crate::script_builder::ScriptBuilder;
 use rasta_cert::Certificate;
@@ -34,7 +34,9 @@ pub fn propose_lists<'a, S: SentList<'a>>(
     p: &Params,
     client: &S,
     server: &S,
-) -> Result<Certificate, Fault> {
+) -> Result<Certificate, Fault>
+    ensures { IfErr result (IsProposalFault (S.content client.now) (S.content server.now)) }
+{
     let mut own = ScriptBuilder::new(alloc, p, Side::Client);
     let mut other = ScriptBuilder::new(alloc, p, Side::Server);
     let mut made = 0u32;
@@ -42,14 +44,15 @@ pub fn propose_lists<'a, S: SentList<'a>>(
     for _ in 0..u64::from(client.len()) + u64::from(server.len()) {
         match first_of(client.get(made), server.get(answered)) {
             Some((Side::Client, (place, pdu))) => {
-                own.explain(p, server, place, &pdu)
-                    .map_err(|stuck| stuck.at(place))?;
+                if let Err(stuck) = own.explain(p, server, place, &pdu) {
+                    return Err(stuck.at(place));
+                }
                 made = made.saturating_add(1);
             }
             Some((Side::Server, (place, pdu))) => {
-                other
-                    .explain(p, client, place, &pdu)
-                    .map_err(|stuck| stuck.at(place))?;
+                if let Err(stuck) = other.explain(p, client, place, &pdu) {
+                    return Err(stuck.at(place));
+                }
                 answered = answered.saturating_add(1);
             }
             None => break,
@@ -59,6 +62,8 @@ pub fn propose_lists<'a, S: SentList<'a>>(
 }
 
 /// Proposes scripts for what crossed, as [`propose_lists`].
-pub fn propose(alloc: Global, p: &Params, sent: &Sent<'_>) -> Result<Certificate, Fault> {
+pub fn propose(alloc: Global, p: &Params, sent: &Sent<'_>) -> Result<Certificate, Fault>
+    ensures { IfErr result (IsProposalFault sent.now.client sent.now.server) }
+{
     propose_lists(alloc, p, sent.client(), sent.server())
 }
