@@ -1,3 +1,6 @@
 pub use Rattle.rasta_check.specs.Fault
 pub use Rattle.rasta_check.specs.Devices
 pub mod Clock
+pub mod Choices
+pub mod Built
+pub mod Completeness

@@ -1,6 +1,11 @@
 //! The peer's PDUs, by the positions of an end.
+ghost use Rattle.std.specs.Prelude.{◌≡◌, MatchOption, option_map};
+ghost use Rattle.rasta_check.specs.Lists.{copy_of};
+ghost use Rattle.rasta_build.specs.Choices;
+ghost use Rattle.rasta_build.specs.Choices.{peer_quiet_sn, member_at, copy_at, is_in_front, HaveNoResponse, IsLastResponse};
+
 use rasta_check::SentList;
-use rasta_pdu::{Params, Pdu, Side};
+use rasta_pdu::{Kind, Params, Pdu, Side};
 
 /// Where the positions of a peer begin: behind a quiet point its quiet PDU is position 0, and its sent list
 /// begins at 1.
@@ -11,35 +16,89 @@ pub(crate) struct Peer {
 
 impl Peer {
     /// The peer of this side.
-    pub(crate) fn of(params: &Params, side: Side) -> Peer {
-        let next_sn = params.quiet().map(|quiet| match side {
-            Side::Client => quiet.server.next_sn,
-            Side::Server => quiet.client.next_sn,
-        });
-        Peer {
-            quiet_sn: next_sn.map(|sn| sn.wrapping_sub(1)),
+    pub(crate) fn of(params: &Params, side: Side) -> Peer
+        ensures { result.quiet_sn ≡ peer_quiet_sn params.now.quiet side }
+    {
+        let quiet_sn = match (params.quiet(), side) {
+            (None, _) => None,
+            (Some(quiet), Side::Client) => Some(quiet.server.next_sn.wrapping_sub(1)),
+            (Some(quiet), Side::Server) => Some(quiet.client.next_sn.wrapping_sub(1)),
+        };
+        Peer { quiet_sn }
+    }
+
+    // The member of the peer's sent list that stands at a position.
+    fn member(self, position: u64) -> Option<u64>
+        ensures { result ≡ member_at self.quiet_sn position }
+    {
+        match self.quiet_sn {
+            Some(_) => position.checked_sub(1),
+            None => Some(position),
         }
     }
 
     /// The place and the PDU at a position, if it crossed.
-    pub(crate) fn get<'a, S: SentList<'a>>(
-        self,
-        list: &S,
-        position: u64,
-    ) -> Option<(u32, Pdu<'a>)> {
-        let member = match self.quiet_sn {
-            Some(_) => position.checked_sub(1)?,
-            None => position,
-        };
-        list.get(u32::try_from(member).ok()?)
+    pub(crate) fn get<'a, S: SentList<'a>>(self, list: &S, position: u64) -> Option<(u32, Pdu<'a>)>
+        ensures { option_map copy_of result ≡ copy_at self.quiet_sn (S.content list.now) position }
+    {
+        let member = self.member(position)?;
+        if member >= u64::from(list.len()) {
+            return None;
+        }
+        list.get(member as u32)
     }
 
     /// The position that a CS names; none where nothing tells the peer's first SN.
-    pub(crate) fn position_named<'a, S: SentList<'a>>(self, list: &S, cs: u32) -> Option<u32> {
+    pub(crate) fn position_named<'a, S: SentList<'a>>(self, list: &S, cs: u32) -> Option<u32>
+        ensures { result ≡ Choices.position_named self.quiet_sn (S.content list.now) cs }
+    {
         let first = match self.quiet_sn {
             Some(sn) => sn,
             None => list.get(0)?.1.sn(),
         };
         Some(cs.wrapping_sub(first))
+    }
+
+    /// Whether the PDU at a position crossed in front of a place.
+    pub(crate) fn has_crossed<'a, S: SentList<'a>>(
+        self,
+        list: &S,
+        position: u64,
+        place: u32,
+    ) -> bool
+        ensures { result ≡ is_in_front (copy_at self.quiet_sn (S.content list.now) position) place }
+    {
+        match self.get(list, position) {
+            Some((crossed_at, _)) => crossed_at < place,
+            None => false,
+        }
+    }
+
+    // Whether the PDU at a position is a retransmission response.
+    fn is_response<'a, S: SentList<'a>>(self, list: &S, position: u64) -> bool
+        ensures { result ≡ Choices.is_response (copy_at self.quiet_sn (S.content list.now) position) }
+    {
+        match self.get(list, position) {
+            Some((_, pdu)) => matches!(pdu.kind(), Kind::RetransmissionResponse),
+            None => false,
+        }
+    }
+
+    /// The last position from one on, in front of another, at which a retransmission response stands.
+    pub(crate) fn last_response<'a, S: SentList<'a>>(
+        self,
+        list: &S,
+        next: u64,
+        behind: u64,
+    ) -> Option<u64>
+        ensures { MatchOption result (HaveNoResponse self.quiet_sn (S.content list.now) next behind) (IsLastResponse self.quiet_sn (S.content list.now) next behind) }
+    {
+        let mut found = None;
+        for position in next..behind {
+            if self.is_response(list, position) {
+                found = Some(position);
+            }
+        }
+        found
     }
 }

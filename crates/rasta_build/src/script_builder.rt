@@ -1,5 +1,15 @@
 //! The script of one end, found packet by packet.
-ghost use Rattle.std.specs.Prelude.{◌≡◌};
+ghost use Rattle.std.specs.Prelude.{◌≡◌, ℕ, true, false, nat_lt, length, [], ◌+◌, ◌<◌, Some, option_map, IfSome, MatchOption, OnOk, IfErr};
+ghost use Rattle.rasta_pdu.specs.Pdu.{value_of};
+ghost use Rattle.rasta_end.specs.State;
+ghost use Rattle.rasta_end.specs.State.{is_owing, is_retr_req};
+ghost use Rattle.rasta_end.specs.MakeRule.{is_early};
+ghost use Rattle.rasta_end.specs.TakeRule.{Takes};
+ghost use Rattle.rasta_end.specs.Starts.{start_of};
+ghost use Rattle.rasta_build.specs.Built;
+ghost use Rattle.rasta_build.specs.Built.{built_at_start, progress_of, IsMade, IsTaken, IsAccepted, IsExplained};
+ghost use Rattle.rasta_build.specs.Choices;
+ghost use Rattle.rasta_build.specs.Choices.{HaveNoResponse, IsLastResponse, is_unanswered, next_unit, why_of};
 
 use crate::clock::clock_from;
 use crate::peer::Peer;
@@ -9,6 +19,7 @@ use rasta_check::SentList;
 use rasta_end::{End, Phase, Why};
 use rasta_pdu::{Body, Fault, Kind, Params, Pdu, Side};
 use std::alloc::Global;
+use std::marker::Model;
 
 /// The reason of a disconnection request by which an end says that nothing came in time.
 const TIMEOUT: u16 = 4;
@@ -31,6 +42,22 @@ pub(crate) struct ScriptBuilder<'a> {
     trail: usize,
 }
 
+impl<'a> Model for ScriptBuilder<'a> {
+    ghost use Rattle.rasta_build.specs.Built.{Built};
+
+    ghost Value = { Built };
+
+    ghost view = { λ b. record {
+      side = b.side;
+      end = b.end;
+      peer = b.peer;
+      script = b.script.items;
+      clock = b.clock;
+      next_take = b.next_take;
+      trail = b.trail;
+    } };
+}
+
 // How far an end has come: a take that changes none of it has no effect.
 #[derive(Clone, Copy, Debug, PartialEq, Eq)]
 struct Progress {
@@ -40,7 +67,9 @@ struct Progress {
 }
 
 // Whether a PDU of the peer, ahead of what was accepted, can be what an end answers or asks for.
-fn is_trigger(made: Kind, taken: Kind) -> bool {
+fn is_trigger(made: Kind, taken: Kind) -> bool
+    ensures { result ≡ Choices.is_trigger made taken }
+{
     match made {
         Kind::RetransmissionResponse => matches!(taken, Kind::RetransmissionRequest),
         Kind::RetransmissionRequest => {
@@ -53,32 +82,53 @@ fn is_trigger(made: Kind, taken: Kind) -> bool {
     }
 }
 
-fn wants_trigger(made: Kind) -> bool {
+// Whether a PDU of this type is made only where it is owed.
+fn wants_trigger(made: Kind) -> bool
+    ensures { result ≡ Choices.wants_trigger made }
+{
     matches!(
         made,
         Kind::RetransmissionResponse | Kind::RetransmissionRequest
     )
 }
 
+// Why an end makes this disconnection request.
+fn why_ended<'a>(pdu: &Pdu<'a>) -> Why
+    ensures { result ≡ Choices.why_ended (State.reason_of (value_of pdu.now).safety.body) }
+{
+    match pdu.body() {
+        Body::Bye {
+            reason: TIMEOUT,
+            ..
+        } => Why::Expired,
+        _ => Why::Bye,
+    }
+}
+
 impl<'a> ScriptBuilder<'a> {
-    pub(crate) fn new(alloc: Global, params: &Params, side: Side) -> ScriptBuilder<'a> {
-        let own = params.quiet().map(|quiet| match side {
-            Side::Client => quiet.client,
-            Side::Server => quiet.server,
-        });
+    pub(crate) fn new(alloc: Global, params: &Params, side: Side) -> ScriptBuilder<'a>
+        ensures { result ≡ built_at_start params.now side }
+    {
+        let (clock, next_take) = match (params.quiet(), side) {
+            (Some(quiet), Side::Client) => (quiet.client.clock, 1),
+            (Some(quiet), Side::Server) => (quiet.server.clock, 1),
+            (None, _) => (0, 0),
+        };
         ScriptBuilder {
             side,
             end: End::start(alloc, params, side),
             peer: Peer::of(params, side),
             script: Vec::new(alloc),
-            clock: own.map_or(0, |end| end.clock),
-            next_take: own.map_or(0, |_| 1),
+            clock,
+            next_take,
             trail: 0,
         }
     }
 
     /// The script.
-    pub(crate) fn into_script(self) -> Vec<Entry> {
+    pub(crate) fn into_script(self) -> Vec<Entry>
+        ensures { result.items ≡ self.entry.script }
+    {
         self.script
     }
 
@@ -89,7 +139,9 @@ impl<'a> ScriptBuilder<'a> {
         peer: &S,
         place: u32,
         pdu: &Pdu<'a>,
-    ) -> Result<(), Stuck> {
+    ) -> Result<(), Stuck>
+        ensures { OnOk result (IsExplained self.old place (value_of pdu.now).safety self.new) }
+    {
         if self.has_to_take(pdu) {
             self.accept_through(peer, place, pdu.cs())?;
             self.take_trigger(params, peer, place, pdu.kind())?;
@@ -99,7 +151,9 @@ impl<'a> ScriptBuilder<'a> {
 
     // Whether the PDU tells what was accepted in front of it. While something is owed nothing can be taken,
     // and the CS of an opening says nothing.
-    fn has_to_take(&self, pdu: &Pdu<'a>) -> bool {
+    fn has_to_take(&self, pdu: &Pdu<'a>) -> bool
+        ensures { result ≡ Choices.has_to_take self.now.side self.now.end.state (value_of pdu.now).safety.kind }
+    {
         if self.end.owed() > 0 {
             return false;
         }
@@ -111,7 +165,9 @@ impl<'a> ScriptBuilder<'a> {
     }
 
     // Whether this is a client that has accepted nothing.
-    fn is_opening(&self) -> bool {
+    fn is_opening(&self) -> bool
+        ensures { result ≡ is_unanswered self.now.side self.now.end.state }
+    {
         matches!(self.side, Side::Client)
             && matches!(self.end.phase(), Phase::Start)
             && self.end.accepted() == 0
@@ -123,57 +179,41 @@ impl<'a> ScriptBuilder<'a> {
         peer: &S,
         place: u32,
         cs: u32,
-    ) -> Result<(), Stuck> {
-        let last = match self.peer.position_named(peer, cs) {
-            Some(position) => u64::from(position),
-            None => return Err(Stuck::Unexplained),
+    ) -> Result<(), Stuck>
+        ensures { OnOk result (option_map (λ last. last + 1) (Choices.position_named self.old.peer.quiet_sn (S.content peer.now) cs) ≡ Some self.new.end.state.accepted) }
+    {
+        let Some(last) = self.peer.position_named(peer, cs) else {
+            return Err(Stuck::Unexplained);
         };
         let next = self.end.accepted();
-        if last + 1 == next {
+        let behind = u64::from(last) + 1;
+        if behind == next {
             return Ok(());
         }
-        if last + 1 < next || !self.has_crossed(peer, last, place) {
+        if behind < next || !self.peer.has_crossed(peer, u64::from(last), place) {
             return Err(Stuck::Unexplained);
         }
-        let first = self.first_acceptable(peer, next, last)?;
-        for position in first..last + 1 {
+        let Some(first) = self.first_acceptable(peer, next, behind) else {
+            return Err(Stuck::Unexplained);
+        };
+        for position in first..behind {
             self.accept_at(peer, place, position)?;
         }
         Ok(())
     }
 
-    // Whether the peer's PDU at a position crossed in front of a place.
-    fn has_crossed<S: SentList<'a>>(&self, peer: &S, position: u64, place: u32) -> bool {
-        match self.peer.get(peer, position) {
-            Some((crossed_at, _)) => crossed_at < place,
-            None => false,
-        }
-    }
-
-    // The first position to be accepted, of these: an end that waits for a retransmission accepts the last
-    // response among them first.
-    fn first_acceptable<S: SentList<'a>>(
-        &self,
-        peer: &S,
-        next: u64,
-        last: u64,
-    ) -> Result<u64, Stuck> {
-        if !matches!(self.end.phase(), Phase::RetrReq) {
-            return Ok(next);
-        }
-        let mut found = Err(Stuck::Unexplained);
-        for position in next..last.saturating_add(1) {
-            if self.is_response(peer, position) {
-                found = Ok(position);
-            }
-        }
-        found
-    }
-
-    fn is_response<S: SentList<'a>>(&self, peer: &S, position: u64) -> bool {
-        match self.peer.get(peer, position) {
-            Some((_, pdu)) => matches!(pdu.kind(), Kind::RetransmissionResponse),
-            None => false,
+    // The first position to be accepted, from one on and in front of another: an end that waits for a
+    // retransmission accepts the last response among them first.
+    fn first_acceptable<S: SentList<'a>>(&self, peer: &S, next: u64, behind: u64) -> Option<u64>
+        ensures waiting { is_retr_req self.now.end.state.phase ≡ true →
+            MatchOption result (HaveNoResponse self.now.peer.quiet_sn (S.content peer.now) next behind) (IsLastResponse self.now.peer.quiet_sn (S.content peer.now) next behind) }
+        ensures others { is_retr_req self.now.end.state.phase ≡ false → result ≡ Some next }
+        ensures in_front { next < behind → IfSome result (λ first. first < behind) }
+    {
+        if matches!(self.end.phase(), Phase::RetrReq) {
+            self.peer.last_response(peer, next, behind)
+        } else {
+            Some(next)
         }
     }
 
@@ -183,15 +223,16 @@ impl<'a> ScriptBuilder<'a> {
         peer: &S,
         slot: u32,
         position: u64,
-    ) -> Result<(), Stuck> {
+    ) -> Result<(), Stuck>
+        ensures { OnOk result (IsAccepted self.old (S.content peer.now) slot position self.new) }
+    {
         let Some((_, pdu)) = self.peer.get(peer, position) else {
             return Err(Stuck::Unexplained);
         };
         self.take(slot, position, &pdu)?;
-        if self.end.accepted() == position.saturating_add(1) {
-            Ok(())
-        } else {
-            Err(Stuck::Unexplained)
+        match self.end.accepted().checked_sub(1) {
+            Some(last) if last == position => Ok(()),
+            _ => Err(Stuck::Unexplained),
         }
     }
 
@@ -203,7 +244,9 @@ impl<'a> ScriptBuilder<'a> {
         peer: &S,
         place: u32,
         made: Kind,
-    ) -> Result<(), Stuck> {
+    ) -> Result<(), Stuck>
+        ensures { OnOk result (Choices.wants_trigger made ≡ true → is_owing self.new.end.state.owed ≡ true) }
+    {
         if self.end.owed() > 0 || !wants_trigger(made) {
             return Ok(());
         }
@@ -238,7 +281,7 @@ impl<'a> ScriptBuilder<'a> {
     }
 
     fn progress(&self) -> Progress
-        ensures { result.accepted ≡ self.now.end.state.accepted }
+        ensures { result ≡ progress_of self.now.end.state }
     {
         Progress {
             accepted: self.end.accepted(),
@@ -247,19 +290,30 @@ impl<'a> ScriptBuilder<'a> {
         }
     }
 
-    // Takes a PDU. It is no entry of the script where it changes nothing.
-    fn take(&mut self, slot: u32, position: u64, pdu: &Pdu<'a>) -> Result<(), Stuck> {
-        let before = self.progress();
-        if before.accepted >= MOST_ACCEPTED {
+    // Leads the end by the take of a PDU.
+    fn lead(&mut self, pdu: &Pdu<'a>) -> Result<(), Stuck>
+        ensures takes { OnOk result (Takes self.old.end.params self.old.end.state (value_of pdu.now).safety self.old.end.state.clock self.new.end.state) }
+        ensures others { OnOk result (self.new ≡ Built.lead self.new.end.state self.old) }
+    {
+        if self.end.accepted() >= MOST_ACCEPTED {
             return Err(Stuck::Unexplained);
         }
         self.end.take(pdu)?;
-        let after = self.progress();
-        if after == before {
-            return Ok(());
-        }
+        Ok(())
+    }
+
+    // Notes a take that had an effect.
+    fn note_take(
+        &mut self,
+        before: Progress,
+        slot: u32,
+        position: u64,
+        pdu: &Pdu<'a>,
+    ) -> Result<(), Stuck>
+        ensures { OnOk result (self.new ≡ Built.note_take before slot position (value_of pdu.now) self.old) }
+    {
         let answers = matches!(pdu.kind(), Kind::RetransmissionRequest)
-            && after.accepted == before.accepted
+            && self.end.accepted() == before.accepted
             && matches!(before.phase, Phase::Up | Phase::RetrRun);
         self.trail = usize::from(answers);
         self.next_take = position.saturating_add(1);
@@ -269,91 +323,112 @@ impl<'a> ScriptBuilder<'a> {
         })
     }
 
-    fn note(&mut self, entry: Entry) -> Result<(), Stuck> {
+    // Takes a PDU. It is no entry of the script where it changes nothing.
+    fn take(&mut self, slot: u32, position: u64, pdu: &Pdu<'a>) -> Result<(), Stuck>
+        ensures { OnOk result (IsTaken self.old slot position (value_of pdu.now) self.new) }
+    {
+        let before = self.progress();
+        self.lead(pdu)?;
+        if self.progress() == before {
+            return Ok(());
+        }
+        self.note_take(before, slot, position, pdu)
+    }
+
+    fn note(&mut self, entry: Entry) -> Result<(), Stuck>
+        ensures ok { OnOk result (self.new ≡ Built.note entry self.old) }
+        ensures err { IfErr result (λ stuck. stuck ≡ Stuck.NoMemory) }
+    {
         match self.script.push(entry) {
             Ok(()) => Ok(()),
             Err(_) => Err(Stuck::NoMemory),
         }
     }
 
-    // Why the end makes this PDU.
-    fn why(&self, pdu: &Pdu<'a>) -> Result<Why, Stuck> {
+    // Why the end makes this PDU; none where no unit can be sent again.
+    fn why(&self, pdu: &Pdu<'a>) -> Option<Why>
+        ensures { result ≡ why_of self.now.end.state self.now.trail (value_of pdu.now).safety }
+    {
         match pdu.kind() {
-            Kind::ConnectionRequest => Ok(Why::Open),
-            Kind::ConnectionResponse => Ok(Why::Reply),
-            Kind::RetransmissionResponse => Ok(Why::Reply),
-            Kind::RetransmissionRequest => Ok(Why::Ask),
-            Kind::Data => Ok(Why::Fresh),
-            Kind::RetransmittedData => self.again(),
-            Kind::Heartbeat if self.end.owed() > 0 => Ok(Why::Reply),
-            Kind::Heartbeat => Ok(Why::Beat),
-            Kind::DisconnectionRequest => match pdu.body() {
-                Body::Bye {
-                    reason: TIMEOUT,
-                    ..
-                } => Ok(Why::Expired),
-                _ => Ok(Why::Bye),
-            },
+            Kind::ConnectionRequest => Some(Why::Open),
+            Kind::ConnectionResponse => Some(Why::Reply),
+            Kind::RetransmissionResponse => Some(Why::Reply),
+            Kind::RetransmissionRequest => Some(Why::Ask),
+            Kind::Data => Some(Why::Fresh),
+            Kind::RetransmittedData => Some(Why::Again(self.next_unit()?)),
+            Kind::Heartbeat if self.end.owed() > 0 => Some(Why::Reply),
+            Kind::Heartbeat => Some(Why::Beat),
+            Kind::DisconnectionRequest => Some(why_ended(pdu)),
         }
     }
 
     // The unit that is to be sent again: of those that are owed, the first.
-    fn again(&self) -> Result<Why, Stuck> {
-        let unit = self
-            .end
-            .owed()
-            .checked_sub(self.trail)
-            .and_then(|units| self.end.offered().checked_sub(units))
-            .and_then(|unit| u32::try_from(unit).ok());
-        match unit {
-            Some(unit) => Ok(Why::Again(unit)),
-            None => Err(Stuck::Unexplained),
-        }
+    fn next_unit(&self) -> Option<u32>
+        ensures { result ≡ next_unit self.now.end.state.offered (length self.now.end.state.owed) self.now.trail }
+    {
+        let units = self.end.owed().checked_sub(self.trail)?;
+        let unit = self.end.offered().checked_sub(units)?;
+        u32::try_from(unit).ok()
     }
 
     // Makes the PDU at a place, at the least clock that its time stamp allows.
-    fn make(&mut self, params: &Params, place: u32, pdu: &Pdu<'a>) -> Result<(), Stuck> {
-        let why = self.why(pdu)?;
+    fn make(&mut self, params: &Params, place: u32, pdu: &Pdu<'a>) -> Result<(), Stuck>
+        ensures { OnOk result (IsMade self.old place (value_of pdu.now).safety self.new) }
+    {
+        let Some(why) = self.why(pdu) else {
+            return Err(Stuck::Unexplained);
+        };
         let Some(clock) = clock_from(self.clock, pdu.ts()) else {
             return Err(Stuck::Unexplained);
         };
         match self.end.make(pdu, clock, why) {
             Ok(()) => self.note_make(place, clock, why),
             Err(fault) if fault.number == Fault::TOO_EARLY_TIMEOUT => {
-                self.make_later(params, place, pdu, clock)
+                self.make_later(params, place, pdu, clock, why)
             }
             Err(fault) => Err(Stuck::from(fault)),
         }
     }
 
-    // Makes a disconnection request for want of news at a later clock, at which that is allowed.
+    // Makes a PDU that came too early, a disconnection request for want of news, at a later clock.
     fn make_later(
         &mut self,
         params: &Params,
         place: u32,
         pdu: &Pdu<'a>,
         early: u64,
-    ) -> Result<(), Stuck> {
+        why: Why,
+    ) -> Result<(), Stuck>
+        requires { why_of self.old.end.state self.old.trail (value_of pdu.now).safety ≡ Some why }
+        ensures { OnOk result (IsMade self.old place (value_of pdu.now).safety self.new) }
+    {
         let least = early.saturating_add(1).max(self.earliest_timeout(params));
         let Some(clock) = clock_from(least, pdu.ts()) else {
             return Err(Stuck::Unexplained);
         };
-        self.end.make(pdu, clock, Why::Expired)?;
-        self.note_make(place, clock, Why::Expired)
+        self.end.make(pdu, clock, why)?;
+        self.note_make(place, clock, why)
     }
 
     // The earliest timeout by a deadline that is recorded with a quiet point.
-    fn earliest_timeout(&self, params: &Params) -> u64 {
-        let deadline = params.quiet().and_then(|quiet| match self.side {
-            Side::Client => quiet.client.deadline,
-            Side::Server => quiet.server.deadline,
-        });
-        deadline.map_or(0, |deadline| {
-            deadline.saturating_sub(u64::from(params.slack()))
-        })
+    fn earliest_timeout(&self, params: &Params) -> u64
+        ensures { (clock : ℕ) → is_early params.now (start_of params.now self.now.side).deadline clock ≡ nat_lt clock result }
+    {
+        let deadline = match (params.quiet(), self.side) {
+            (Some(quiet), Side::Client) => quiet.client.deadline,
+            (Some(quiet), Side::Server) => quiet.server.deadline,
+            (None, _) => None,
+        };
+        match deadline {
+            Some(deadline) => deadline.saturating_sub(u64::from(params.slack())),
+            None => 0,
+        }
     }
 
-    fn note_make(&mut self, index: u32, clock: u64, why: Why) -> Result<(), Stuck> {
+    fn note_make(&mut self, index: u32, clock: u64, why: Why) -> Result<(), Stuck>
+        ensures ok { OnOk result (self.new ≡ Built.note (Entry.Make index clock why) (record self.old { clock = clock })) }
+        ensures err { IfErr result (λ stuck. stuck ≡ Stuck.NoMemory) }
+    {
         self.clock = clock;
         self.note(Entry::Make { index, clock, why })
     }
