@@ -1,0 +1,56 @@
+-- What the checker says of some scripts, and the verdict that follows.
+use Rattle.std.proofs.Common.{◌≡◌, ◌⊎◌, ◌∙◌, inl, inr, ℕ, List, length, Result, Ok, Err, MatchResult, OnOk, IfOk, ap, subst, sym, ⊎_elim}
+use Rattle.rasta_pcap.specs.declared.fault.Fault.{Fault}
+use Rattle.rasta_pcap.specs.Fault.{no_memory}
+use Rattle.rasta_pdu.specs.Params.{Parameters}
+use Rattle.rasta_cert.specs.Certificate.{IsCertificate, Scripts, certificate_text}
+use Rattle.rasta_check.specs.declared.report.Report.{Report}
+use Rattle.rasta_check.specs.Reading.{Crossing, crossing_of}
+use Rattle.rasta_check.specs.Report as report
+use Rattle.rasta_check.specs.Report.{BothFit, verdict_of}
+use Rattle.rasta_audit.specs.declared.verdict.Verdict.{Verdict}
+use Rattle.rasta_audit.specs.declared.verdict.Verdict.TheVariants as verdicts
+use Rattle.rasta_audit.specs.Judged.{IsChecked, IsJudged, status_of_verdict, text_of_verdict}
+use Rattle.rasta_audit.specs.Verdict as verdict
+use Rattle.rasta_audit.specs.Verdict.{IsVerdict}
+use Rattle.rasta_audit.proofs.Telling.{fits-told}
+use Rattle.rasta_audit.proofs.Verdicts.{IsRefusal, if_ok_map}
+
+-- what the checker is asked, by these parameters
+abbrev said_of : Parameters → Crossing → Scripts → Result report.Explained Fault
+said_of p k scripts = verdict_of p (length k.packets) k.client k.server scripts
+
+-- the checker's answer, by the parameters of what crossed
+pub is_checked : (p : Parameters) (k : Crossing) (scripts : Scripts) (r : Result Report Fault) → k.params ≡ p
+    → MatchResult r (λ x. said_of p k scripts ≡ Ok (report.explained x)) (λ f. (said_of p k scripts ≡ Err f) ⊎ (f ≡ no_memory))
+    → OnOk r (BothFit p (length k.packets) k.client k.server scripts) → IsChecked k scripts r
+is_checked p k scripts (Ok x) same said fits = (
+  fits-told p k scripts fits.0.0 fits.1.0 fits.0.1 fits.1.1,
+  ap (λ (q : Parameters). said_of q k scripts) same ∙ said,
+)
+is_checked p k scripts (Err f) same said fits = ⊎_elim
+    (λ (refused : said_of p k scripts ≡ Err f). inl (ap (λ (q : Parameters). said_of q k scripts) same ∙ refused))
+    (λ (none : f ≡ no_memory). inr none) said
+
+-- the checker's refusal is the verdict
+pub refusal_judged : (r : Result Verdict Fault) (k : Crossing) (scripts : Scripts) (fault : Fault) → IfOk r (IsRefusal fault)
+    → IsChecked k scripts (Err fault) → IfOk r (IsJudged k scripts)
+refusal_judged r k scripts fault h said = if_ok_map r
+    (λ (v : Verdict) (w : IsRefusal fault v). subst (IsJudged k scripts) (sym w.0)
+    (⊎_elim (λ (refused : said_of k.params k scripts ≡ Err fault). refused)
+    (λ (none : fault ≡ no_memory). absurd (w.1 none)) said)) h
+
+abbrev pub Told : Crossing → Scripts → Verdict → Type 0
+Told k scripts v = (p : Parameters) (file text : List ℕ) → crossing_of p file ≡ Ok k → text ≡ certificate_text scripts → IsCertificate scripts
+    → IsVerdict p text file (text_of_verdict v) (status_of_verdict v)
+
+one : (k : Crossing) (scripts : Scripts) (v : Verdict) → IsJudged k scripts v → Told k scripts v
+one k scripts (verdicts.Refused fault) judged p file text crossed is valid = verdict.script_refused k scripts fault crossed is valid judged
+one k scripts (verdicts.Explained e) judged p file text crossed is valid =
+    subst (λ (j : Crossing). IsVerdict p text file (verdict.explained_text j e.certificate (report.explained e.report)) 0) (sym judged.0)
+    (subst (λ (s : Scripts). IsVerdict p text file (verdict.explained_text k s (report.explained e.report)) 0) (sym judged.1)
+    (verdict.explained k scripts (report.explained e.report) crossed is valid judged.2))
+
+-- the verdict on these scripts, of every capture of which this crossed
+pub verdict_stands : (r : Result Verdict Fault) (k : Crossing) (scripts : Scripts) → IfOk r (IsJudged k scripts) → IfOk r (Told k scripts)
+verdict_stands r k scripts h = if_ok_map r (λ (v : Verdict) (judged : IsJudged k scripts v). one k scripts v judged) h
