@@ -9,6 +9,7 @@ ghost use Rattle.rasta_check.specs.Reading.{crossing_of};
 ghost use Rattle.rasta_audit.specs.declared.verdict.Verdict.TheVariants as verdicts;
 ghost use Rattle.rasta_audit.specs.Told.{IsTold};
 ghost use Rattle.rasta_audit.specs.Verdict.{IsVerdict, explained_line, explained_text};
+ghost use Rattle.rasta_audit.specs.Claims.{ClaimsHeadline};
 ghost use Rattle.rasta_audit.specs.Judged.{HasToldRun, IsChecked, IsJudged, status_of_verdict, text_of_explanation, text_of_verdict};
 
 use crate::line::Line;
@@ -95,6 +96,7 @@ pub fn judge<'a>(
     certificate: &[u8],
 ) -> Result<Verdict<'a>, Fault>
     ensures stands { IfOk result (λ v. IsVerdict params.now certificate.now file.entry.now (text_of_verdict v) (status_of_verdict v)) }
+    ensures headline { IfOk result (λ v. ClaimsHeadline params.now file.entry.now (text_of_verdict v) (status_of_verdict v)) }
     ensures told { IfOk result HasToldRun }
     ensures err { IfErr result (λ f. f ≡ no_memory) }
 {

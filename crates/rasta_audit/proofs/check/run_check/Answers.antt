@@ -1,4 +1,5 @@
 use Rattle.std.proofs.Common.{List, ℕ, subst}
+use Rattle.rasta_audit.specs.Claims.{ClaimsHeadline}
 use Rattle.rasta_audit.specs.Judged.{status_of_verdict, text_of_verdict}
 use Rattle.rasta_audit.specs.Verdict.{IsVerdict}
 use Rattle.rasta_pcap.proofs.Sending.{where_failed}
@@ -37,3 +38,12 @@ returns-in_err-verdict-clause-silent g c = still_silent c.from_residual-in_err-v
 
 pub returns-clause-err : goal.returns-clause-err
 returns-clause-err g c = write_fault c.write_verdict.result _ _ _ _ c.write_verdict.ensures.err
+
+pub returns-clause-headline : goal.returns-clause-headline
+returns-clause-headline g c =
+    let text = text_of_verdict c.in_ok-verdict.verdict in
+    let status = status_of_verdict c.in_ok-verdict.verdict in
+    verdict_written (ClaimsHeadline c.args.params.now) c.write_verdict.result c.in_ok-file.file.items text status _ _ _ _
+    c.in_ok-file.ensures.bytes c.in_ok-file.ensures.end
+    (subst (λ (l : List ℕ). ClaimsHeadline c.args.params.now l text status) c.deref.ensures.value c.in_ok-verdict.ensures.headline)
+    c.write_verdict.ensures.ok c.write_verdict.ensures.answered
