@@ -9,3 +9,4 @@ pub mod RunTexts
 pub mod Telling
 pub mod Verdicts
 pub mod Proposals
+pub mod Judging

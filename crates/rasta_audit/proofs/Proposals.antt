@@ -1,5 +1,5 @@
 -- What becomes of a capture for which a certificate is proposed, and what a run wrote of it.
-use Rattle.std.proofs.Common.{◌≡◌, ◌⊎◌, ℕ, true, false, List, [], ◌++◌, length, Option, Result, Ok, Err, OnErr, IfOk, refl, subst, sym, ⊎_elim}
+use Rattle.std.proofs.Common.{◌≡◌, ◌⊎◌, ℕ, true, false, List, [], ◌++◌, Option, Result, Ok, Err, OnErr, IfOk, ap, refl, subst, sym, ⊎_elim}
 use Rattle.std.specs.Io.KnownBytes.{Consumes, IsAtEnd}
 use Rattle.std.proofs.KnownBytes.{Appends-nil}
 use Rattle.rasta_pcap.specs.declared.fault.Fault.{Fault}
@@ -72,6 +72,10 @@ capture_stands r fault p file h why = if_ok_map r
 pub audit_text : (v : Verdict) → told_verdict explained_text v ≡ text_of_verdict v
 audit_text (verdicts.Refused fault) = refl
 audit_text (verdicts.Explained e) = refl
+
+-- a verdict that refuses is told by the line of its fault
+pub refusal_is_told : (tell : Telling) (v : Verdict) (fault : Fault) → v ≡ verdicts.Refused fault → refused_line fault ≡ told_verdict tell v
+refusal_is_told tell v fault e = ap (told_verdict tell) (sym e)
 
 -- ---- each file has a text
 

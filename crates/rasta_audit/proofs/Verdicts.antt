@@ -1,5 +1,5 @@
 -- Verdicts: what they are, that a capture and a certificate have one, and their texts in parts.
-use Rattle.std.proofs.Common.{◌≡◌, ◌⊎◌, inl, inr, ℕ, suc, ◌+◌, ◌-◌, ◌<◌, ◌≤◌, true, false, List, [], ◌∷◌, ◌++◌, length, drop, get_or, map, Option, Result, Ok, Err, OnOk, OnErr, IfOk, refl, ap, subst, sym, ◌∙◌, ⊎_elim, arith, append-nil, length-drop}
+use Rattle.std.proofs.Common.{◌≡◌, ◌⊎◌, inl, inr, ℕ, suc, ◌+◌, ◌-◌, ◌<◌, ◌≤◌, true, false, List, [], ◌∷◌, ◌++◌, length, drop, get_or, map, Option, Result, Ok, Err, OnOk, OnErr, IfErr, IfOk, refl, ap, subst, sym, ◌∙◌, ⊎_elim, arith, append-nil, length-drop}
 use Rattle.std.specs.Prelude.{◌≢◌, decimal}
 use Rattle.std.specs.List.{flat_map}
 use Rattle.std.specs.Io.KnownBytes.{Appends, Consumes, IsAtEnd}
@@ -9,8 +9,8 @@ use Rattle.std.proofs.lemmas.List.{nil_from_length, length-map}
 use Rattle.rasta_pcap.specs.declared.fault.Fault.{Fault}
 use Rattle.rasta_pcap.specs.declared.fault.Side.{Side}
 use Rattle.rasta_pcap.specs.declared.fault.Side.TheVariants.{Client, Server}
-use Rattle.rasta_pcap.specs.Fault.{no_memory}
-use Rattle.rasta_pcap.specs.Devices.{AppendsBeginning}
+use Rattle.rasta_pcap.specs.Fault.{no_memory, write_failed}
+use Rattle.rasta_pcap.specs.Devices.{AppendsBeginning, HasFailed}
 use Rattle.rasta_pdu.specs.Params.{Parameters}
 use Rattle.rasta_cert.specs.Certificate.{IsCertificate, Scripts, certificate_text}
 use Rattle.rasta_cert.proofs.RefusalLemmas.{one_refusal}
@@ -24,7 +24,7 @@ use Rattle.rasta_audit.specs.declared.verdict.Verdict.{Verdict}
 use Rattle.rasta_audit.specs.declared.verdict.Verdict.TheVariants as verdicts
 use Rattle.rasta_audit.specs.Judged.{HasToldRun, status_of_verdict, text_of_verdict}
 use Rattle.rasta_audit.specs.Lines.{in_front, message_text, refused_line}
-use Rattle.rasta_audit.specs.Runs.{MayFollow}
+use Rattle.rasta_audit.specs.Runs.{IsRunFault, MayFollow}
 use Rattle.rasta_audit.specs.RunText.{run_text}
 use Rattle.rasta_audit.specs.Verdict.{BeginsVerdict, IsVerdict, WritesVerdict, capture_refused, certificate_refused, script_refused, explained, explained_line, explained_text, taken_count_line, taken_line, taken_lines, taken_text}
 
@@ -187,3 +187,15 @@ nothing_begun IsText input oi ni o consumed = record {
   appended = Appends-nil o;
   begins = λ more t s h is. (t, refl);
 }
+
+-- where nothing was written
+pub still_silent : {T : Type 0} (r : Result ℕ Fault) (out : T) → IfErr r (λ f. (f ≡ write_failed) ⊎ (out ≡ out))
+still_silent (Ok s) out = tt
+still_silent (Err f) out = inr refl
+
+-- a write that failed is a run's fault
+pub write_fault : (r : Result ℕ Fault) (old_reads new_reads old_writes new_writes : ℕ)
+    → IfErr r (λ f. (f ≡ write_failed) × HasFailed old_writes new_writes)
+    → IfErr r (λ f. IsRunFault f old_reads new_reads old_writes new_writes)
+write_fault (Ok s) old_reads new_reads old_writes new_writes h = tt
+write_fault (Err f) old_reads new_reads old_writes new_writes h = inr (inr h)

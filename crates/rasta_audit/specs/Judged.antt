@@ -1,6 +1,10 @@
 -- A verdict as the code holds it.
-use Rattle.std.specs.Prelude.{◌≡◌, ℕ, List, length, Ok, Err}
+use Rattle.std.specs.Prelude.{◌≡◌, ◌⊎◌, ℕ, List, length, Result, Ok, Err}
+use Rattle.rasta_pcap.specs.declared.fault.Fault.{Fault}
+use Rattle.rasta_pcap.specs.Fault.{no_memory}
 use Rattle.rasta_cert.specs.Certificate.{Scripts}
+use Rattle.rasta_check.specs.declared.report.Report.{Report}
+use Rattle.rasta_check.specs.Headline.{Headline}
 use Rattle.rasta_check.specs.Reading.{Crossing}
 use Rattle.rasta_check.specs.Report.{explained, verdict_of}
 use Rattle.rasta_audit.specs.Lines.{refused_line}
@@ -27,11 +31,19 @@ abbrev pub HasToldRun : Verdict → Type 0
 HasToldRun (Refused fault) = Unit {0}
 HasToldRun (Explained e) = IsTold e.sent e.certificate
 
+-- what the checker says of what crossed and these scripts
+abbrev pub IsChecked : Crossing → Scripts → Result Report Fault → Type 0
+IsChecked k scripts (Ok report) = IsTold k scripts
+    × (verdict_of k.params (length k.packets) k.client k.server scripts ≡ Ok (explained report))
+    × Headline k.params k.packets (explained report)
+IsChecked k scripts (Err fault) = (verdict_of k.params (length k.packets) k.client k.server scripts ≡ Err fault) ⊎ (fault ≡ no_memory)
+
 -- the verdict on what crossed and these scripts
 abbrev pub IsJudged : Crossing → Scripts → Verdict → Type 0
 IsJudged k scripts (Refused fault) = verdict_of k.params (length k.packets) k.client k.server scripts ≡ Err fault
 IsJudged k scripts (Explained e) = (e.sent ≡ k) × (e.certificate ≡ scripts)
     × (verdict_of k.params (length k.packets) k.client k.server scripts ≡ Ok (explained e.report))
+    × Headline k.params k.packets (explained e.report)
 
 -- the text of a verdict whose explanation is told so
 abbrev pub told_verdict : Telling → Verdict → List ℕ

@@ -14,3 +14,4 @@ pub mod Verdict
 pub mod Passed
 pub mod Judged
 pub mod Proposed
+pub mod Claims

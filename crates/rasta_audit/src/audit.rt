@@ -1,6 +1,7 @@
 //! Auditing a capture: a certificate is proposed for it, and checked.
 ghost use Rattle.std.specs.Prelude.{◌≡◌, ◌⊎◌, IfErr, IfOk, OnErr};
 ghost use Rattle.rasta_pcap.specs.Fault.{write_failed};
+ghost use Rattle.rasta_audit.specs.Claims.{ClaimsHeadline};
 ghost use Rattle.rasta_audit.specs.Runs.{IsRunFault};
 ghost use Rattle.rasta_audit.specs.Verdict.{WritesVerdict};
 ghost use Rattle.rasta_audit.specs.Proposed.{BeginsOutcome, IsAudit, IsBuild};
@@ -26,6 +27,9 @@ pub fn run_audit<R: Source, W: Sink>(
     ensures text { IfOk result (λ status. WritesVerdict (IsAudit params.now) status
         (R.remaining reader.old) (R.remaining reader.new) (W.contents writer.old) (W.contents writer.new)) }
     ensures begun { OnErr result (BeginsOutcome (IsAudit params.now)
+        (R.remaining reader.old) (R.remaining reader.new) (W.contents writer.old) (W.contents writer.new)) }
+    // Where the status is 0 the headline holds.
+    ensures headline { IfOk result (λ status. WritesVerdict (ClaimsHeadline params.now) status
         (R.remaining reader.old) (R.remaining reader.new) (W.contents writer.old) (W.contents writer.new)) }
     ensures silent { IfErr result (λ f. (f ≡ write_failed) ⊎ (W.contents writer.new ≡ W.contents writer.old)) }
     ensures err { IfErr result (λ f. IsRunFault f (R.failure_count reader.old) (R.failure_count reader.new)

@@ -1,6 +1,7 @@
 //! Checking a certificate against a capture.
 ghost use Rattle.std.specs.Prelude.{◌≡◌, ◌⊎◌, IfErr, IfOk, OnErr};
 ghost use Rattle.rasta_pcap.specs.Fault.{write_failed};
+ghost use Rattle.rasta_audit.specs.Claims.{ClaimsHeadline};
 ghost use Rattle.rasta_audit.specs.Runs.{IsRunFault};
 ghost use Rattle.rasta_audit.specs.Verdict.{BeginsVerdict, IsVerdict, WritesVerdict};
 
@@ -25,6 +26,9 @@ pub fn run_check<R: Source, W: Sink>(
     ensures text { IfOk result (λ status. WritesVerdict (IsVerdict params.now certificate.now) status
         (R.remaining reader.old) (R.remaining reader.new) (W.contents writer.old) (W.contents writer.new)) }
     ensures begun { OnErr result (BeginsVerdict (IsVerdict params.now certificate.now)
+        (R.remaining reader.old) (R.remaining reader.new) (W.contents writer.old) (W.contents writer.new)) }
+    // Where the status is 0 the headline holds.
+    ensures headline { IfOk result (λ status. WritesVerdict (ClaimsHeadline params.now) status
         (R.remaining reader.old) (R.remaining reader.new) (W.contents writer.old) (W.contents writer.new)) }
     ensures silent { IfErr result (λ f. (f ≡ write_failed) ⊎ (W.contents writer.new ≡ W.contents writer.old)) }
     ensures err { IfErr result (λ f. IsRunFault f (R.failure_count reader.old) (R.failure_count reader.new)

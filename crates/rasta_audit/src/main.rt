@@ -6,10 +6,14 @@
 mod audit;
 #[cfg(test)]
 mod audit_tests;
+#[cfg(test)]
+mod cases;
 mod check;
 #[cfg(test)]
 mod check_tests;
 mod command;
+#[cfg(test)]
+mod device_tests;
 mod endpoint;
 mod failure;
 mod form;

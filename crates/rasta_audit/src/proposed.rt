@@ -7,7 +7,8 @@ ghost use Rattle.rasta_pdu.specs.Params.{Parameters};
 ghost use Rattle.rasta_cert.specs.Certificate.{AreEntries, IsCertificate, IsEntry};
 ghost use Rattle.rasta_check.specs.Reading.{crossing_of};
 ghost use Rattle.rasta_audit.specs.declared.verdict.Verdict.TheVariants as verdicts;
-ghost use Rattle.rasta_audit.specs.Judged.{HasToldRun, status_of_verdict, told_verdict};
+ghost use Rattle.rasta_audit.specs.Claims.{ClaimsHeadline};
+ghost use Rattle.rasta_audit.specs.Judged.{HasToldRun, status_of_verdict, text_of_verdict, told_verdict};
 ghost use Rattle.rasta_audit.specs.Proposed.{IsOutcome, Telling, built_text, not_found};
 
 use crate::texts::refusal_line;
@@ -60,6 +61,8 @@ fn none_proposed<'a>(fault: Fault) -> Result<Verdict<'a>, Fault>
 fn judge_proposed<'a>(alloc: Global, sent: Sent<'a>) -> Result<Verdict<'a>, Fault>
     ensures stands { IfOk result (λ v. (tell : Telling) (p : Parameters) (file : List ℕ) → crossing_of p file ≡ Ok sent.entry
         → IsOutcome tell p file (told_verdict tell v) (status_of_verdict v)) }
+    ensures headline { IfOk result (λ v. (p : Parameters) (file : List ℕ) → crossing_of p file ≡ Ok sent.entry
+        → ClaimsHeadline p file (text_of_verdict v) (status_of_verdict v)) }
     ensures told { IfOk result HasToldRun }
     ensures err { IfErr result (λ f. f ≡ no_memory) }
 {
@@ -81,6 +84,7 @@ pub fn judge_capture<'a>(
     file: &'a [u8],
 ) -> Result<Verdict<'a>, Fault>
     ensures stands { IfOk result (λ v. (tell : Telling) → IsOutcome tell params.now file.entry.now (told_verdict tell v) (status_of_verdict v)) }
+    ensures headline { IfOk result (λ v. ClaimsHeadline params.now file.entry.now (text_of_verdict v) (status_of_verdict v)) }
     ensures told { IfOk result HasToldRun }
     ensures err { IfErr result (λ f. f ≡ no_memory) }
 {

@@ -6,8 +6,7 @@ use crate::params::params;
 use crate::show::run_show;
 use crate::tests::number_in;
 use rasta_pcap::Counted;
-use rasta_pcap::devices::{FailAt, Pieces};
-use rasta_pdu::{Fault, Params, Sink, Source};
+use rasta_pdu::Params;
 use std::alloc::Global;
 use std::process::Abort;
 use std::test::Fail;
@@ -22,13 +21,18 @@ const HEARTBEAT: &str = "0200000000020200000000010800450000400000000040110000\
 
 pub const NO_CODES: &str = "code_length = 0/check_length = 0";
 
-const TWO_CHANNELS: &str = "client_id = 96/server_id = 97/n_sendmax = 20/t_max = 1800/slack = 0/\
+const TWO_CHANNELS: &str = "client_id = 96/server_id = 97/n_sendmax = 20/t_max = 1800/\
 [[channel]]/client = '10.0.0.1:5000'/server = '10.0.0.2:5000'/\
 [[channel]]/client = '10.0.1.1:5001'/server = '10.0.1.2:5001'/";
 
-// Parameters of two channels, with these lines for the other keys.
+// Parameters of two channels, with these lines for the other keys; the slack is 0 if none is among them.
 pub fn parameters(alloc: Global, lines: &str) -> Option<Params> {
-    let text = format!(in alloc; "{lines}/{TWO_CHANNELS}").ok()?;
+    let slack = if lines.contains("slack") {
+        ""
+    } else {
+        "slack = 0/"
+    };
+    let text = format!(in alloc; "{lines}/{slack}{TWO_CHANNELS}").ok()?;
     let text = text.replace(alloc, "/", "\n").ok()?;
     params(alloc, text.as_bytes()).ok()
 }
@@ -67,11 +71,13 @@ fn file_of(alloc: Global, frames: &[&[u8]]) -> Option<Vec<u8>> {
     Some(file)
 }
 
-// The addresses of a frame of the first channel.
-fn addresses_of(side: &str) -> Option<&'static str> {
+// The addresses and ports of a frame.
+fn route_of(side: &str) -> Option<&'static str> {
     match side {
-        "client" => Some("0a0000010a000002"),
-        "server" => Some("0a0000020a000001"),
+        "client" => Some("0a0000010a00000213881388"),
+        "server" => Some("0a0000020a00000113881388"),
+        "client@2" => Some("0a0001010a00010213891389"),
+        "server@2" => Some("0a0001020a00010113891389"),
         _ => None,
     }
 }
@@ -81,9 +87,9 @@ pub fn frame_of(alloc: Global, tag: &str, sent: &str) -> Option<Vec<u8>> {
     let (side, datagram) = sent.split_once(':')?;
     let udp = u16::try_from(datagram.len() / 2).ok()?.checked_add(8)?;
     let whole = udp.checked_add(20)?;
-    let addresses = addresses_of(side)?;
+    let route = route_of(side)?;
     let digits = format!(in alloc;
-        "020000000202000000000001{tag}08004500{whole:04x}0000000040110000{addresses}13881388{udp:04x}0000{datagram}"
+        "020000000202000000000001{tag}08004500{whole:04x}0000000040110000{route}{udp:04x}0000{datagram}"
     );
     hex::decode(alloc, digits.ok()?.as_str()).ok()
 }
@@ -310,72 +316,6 @@ fn windows(rt: HostRuntime) -> Result<(), Fail> {
     for row in WINDOWS.lines() {
         let (lines, want) = row.split_once(" | ").ok_or("a row")?;
         expect(&rt, lines, &file, want)?;
-    }
-    Ok(())
-}
-
-const DATA: &str =
-    "client:2e0000000900000022006018610000006000000066000000f4010000fc030000282300000200ab010000aabbccdd";
-
-const DATA_SHOWN: &str =
-    "0 1 1 client 9 0 6240 102 500 1020 9000 data ab01,. - aabbccdd\npackets 1\n";
-
-// Parameters and a file of data.
-fn data(alloc: Global) -> Option<(Params, Vec<u8>)> {
-    let params = parameters(alloc, "code_length = 0/check_length = 4")?;
-    Some((params, capture_of(alloc, LITTLE, "", DATA)?))
-}
-
-// Whether a reader in pieces, of which this call fails, gives the same text or is answered so.
-fn expect_reads<R: Abort + AllocGlobal>(rt: &R, params: &Params, file: &[u8], call: u64) {
-    let mut reader = Counted::new(FailAt::new(Pieces::new(file, 9), call));
-    let mut writer = Counted::new(Vec::new(rt.alloc()));
-    let outcome = run_show(rt.alloc(), params, &mut reader, &mut writer);
-    let text = writer.into_inner();
-    if Source::failures(&reader) == 0 {
-        assert_eq!(rt; outcome, Ok(0));
-        assert_eq!(rt; text.as_slice(), DATA_SHOWN.as_bytes());
-    } else {
-        assert_eq!(rt; outcome, Err(Fault::at(Fault::READ_FAILED, 0)));
-        assert_eq!(rt; text.len(), 0);
-    }
-}
-
-#[test]
-fn each_read_fails_in_turn(rt: HostRuntime) -> Result<(), Fail> {
-    let (params, file) = data(rt.alloc()).ok_or("a file")?;
-    for call in 1..20 {
-        expect_reads(&rt, &params, &file, call);
-    }
-    Ok(())
-}
-
-// Whether what a writer that goes wrong holds is a beginning of the text.
-fn expect_writes<R: Abort + AllocGlobal>(
-    rt: &R,
-    params: &Params,
-    file: &[u8],
-    device: FailAt<Vec<u8>>,
-) {
-    let mut reader = Counted::new(file);
-    let mut writer = Counted::new(device);
-    let outcome = run_show(rt.alloc(), params, &mut reader, &mut writer);
-    let failures = Sink::failures(&writer);
-    let text = writer.into_inner().into_inner();
-    assert!(rt; DATA_SHOWN.as_bytes().starts_with(&text));
-    assert_eq!(rt; failures == 0, text.len() == DATA_SHOWN.len());
-    assert_eq!(rt; outcome.is_ok(), failures == 0);
-}
-
-// Each call of a writer fails or takes no byte.
-#[test]
-fn each_write_goes_wrong_in_turn(rt: HostRuntime) -> Result<(), Fail> {
-    let (params, file) = data(rt.alloc()).ok_or("a file")?;
-    for call in 1..9 {
-        let failing = FailAt::new(Vec::new(rt.alloc()), call);
-        expect_writes(&rt, &params, &file, failing);
-        let idle = FailAt::idle_at(Vec::new(rt.alloc()), call);
-        expect_writes(&rt, &params, &file, idle);
     }
     Ok(())
 }

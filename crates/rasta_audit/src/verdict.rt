@@ -9,7 +9,8 @@ ghost use Rattle.rasta_check.specs.Reading.{crossing_of};
 ghost use Rattle.rasta_audit.specs.declared.verdict.Verdict.TheVariants as verdicts;
 ghost use Rattle.rasta_audit.specs.Told.{IsTold};
 ghost use Rattle.rasta_audit.specs.Verdict.{IsVerdict, explained_line, explained_text};
-ghost use Rattle.rasta_audit.specs.Judged.{HasToldRun, IsJudged, status_of_verdict, text_of_explanation, text_of_verdict};
+ghost use Rattle.rasta_audit.specs.Claims.{ClaimsHeadline};
+ghost use Rattle.rasta_audit.specs.Judged.{HasToldRun, IsChecked, IsJudged, status_of_verdict, text_of_explanation, text_of_verdict};
 
 use crate::line::Line;
 use crate::run_text::write_run;
@@ -48,6 +49,27 @@ pub fn refused<'a>(fault: Fault) -> Result<Verdict<'a>, Fault>
     }
 }
 
+// The verdict on what crossed and a certificate, by what the checker says of both.
+fn verdict_by<'a>(
+    sent: Sent<'a>,
+    certificate: Certificate,
+    checked: Result<Report<'a>, Fault>,
+) -> Result<Verdict<'a>, Fault>
+    requires { IsChecked sent certificate checked }
+    ensures judged { IfOk result (IsJudged sent.entry certificate) }
+    ensures told { IfOk result HasToldRun }
+    ensures err { IfErr result (λ f. f ≡ no_memory) }
+{
+    match checked {
+        Ok(report) => Ok(Verdict::Explained(Explanation {
+            sent,
+            certificate,
+            report,
+        })),
+        Err(fault) => refused(fault),
+    }
+}
+
 /// The verdict on what crossed and a certificate: the client's script is judged first, then the server's.
 /// Refused by [`Fault::NO_MEMORY`] alone.
 pub fn judge_scripts<'a>(
@@ -61,14 +83,8 @@ pub fn judge_scripts<'a>(
     ensures told { IfOk result HasToldRun }
     ensures err { IfErr result (λ f. f ≡ no_memory) }
 {
-    match check_sent(alloc, &sent.params(), &sent, &certificate) {
-        Ok(report) => Ok(Verdict::Explained(Explanation {
-            sent,
-            certificate,
-            report,
-        })),
-        Err(fault) => refused(fault),
-    }
+    let checked = check_sent(alloc, &sent.params(), &sent, &certificate);
+    verdict_by(sent, certificate, checked)
 }
 
 /// The verdict on a file and a certificate's text: the capture is judged first, then the text, then the
@@ -80,6 +96,7 @@ pub fn judge<'a>(
     certificate: &[u8],
 ) -> Result<Verdict<'a>, Fault>
     ensures stands { IfOk result (λ v. IsVerdict params.now certificate.now file.entry.now (text_of_verdict v) (status_of_verdict v)) }
+    ensures headline { IfOk result (λ v. ClaimsHeadline params.now file.entry.now (text_of_verdict v) (status_of_verdict v)) }
     ensures told { IfOk result HasToldRun }
     ensures err { IfErr result (λ f. f ≡ no_memory) }
 {

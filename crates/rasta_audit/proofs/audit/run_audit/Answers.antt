@@ -1,4 +1,5 @@
 use Rattle.std.proofs.Common.{List, ℕ, subst}
+use Rattle.rasta_audit.specs.Claims.{ClaimsHeadline}
 use Rattle.rasta_audit.specs.Judged.{status_of_verdict, text_of_verdict}
 use Rattle.rasta_audit.specs.Proposed.{IsAudit}
 use Rattle.rasta_audit.specs.Verdict.{explained_text}
@@ -36,3 +37,12 @@ returns-clause-begun g c =
     let is = subst (λ (l : List ℕ). IsAudit c.args.params.now l text status) c.deref.ensures.value told in
     outcome_begun (IsAudit c.args.params.now) c.write_verdict.result file text status _ _ _ _
     c.in_ok-file.ensures.bytes c.in_ok-file.ensures.end is c.write_verdict.ensures.begun
+
+pub returns-clause-headline : goal.returns-clause-headline
+returns-clause-headline g c =
+    let text = text_of_verdict c.in_ok-verdict.verdict in
+    let status = status_of_verdict c.in_ok-verdict.verdict in
+    verdict_written (ClaimsHeadline c.args.params.now) c.write_verdict.result c.in_ok-file.file.items text status _ _ _ _
+    c.in_ok-file.ensures.bytes c.in_ok-file.ensures.end
+    (subst (λ (l : List ℕ). ClaimsHeadline c.args.params.now l text status) c.deref.ensures.value c.in_ok-verdict.ensures.headline)
+    c.write_verdict.ensures.ok c.write_verdict.ensures.answered
