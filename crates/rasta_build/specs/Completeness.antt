@@ -1,6 +1,5 @@
--- When a builder of scripts is complete. No contract says this of any code: it is measured, against a search through all scripts of many
--- small captures, and not proved. The tests `rows_are_explained`, `packets_are_explained_so` and `unexplained_packets_are_named` of
--- rasta_tests try it.
+-- When a builder of scripts is complete. No contract says this of any code: it is measured, by scripts/random_runs.py, and not proved. The
+-- tests `rows_are_explained`, `packets_are_explained_so` and `unexplained_packets_are_named` of rasta_tests try it.
 use Rattle.std.specs.Prelude.{◌≡◌, ℕ, ◌<◌, ◌≤◌, ◌^◌, List, ◌++◌, length, take, Result, Ok, Err}
 use Rattle.rasta_pcap.specs.Fault.{fault_at, no_memory}
 use Rattle.rasta_pcap.specs.declared.fault.Fault.{Fault}
