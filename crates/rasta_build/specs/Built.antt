@@ -1,5 +1,5 @@
 -- A script while it is built: the end that it led to, and what a take or a make adds to it.
-use Rattle.std.specs.Prelude.{◌≡◌, ℕ, ◌+◌, List, [], ◌∷◌, ◌++◌, length, true, false, ◌&&◌, ◌==◌, if◌then◌else◌, min, Some}
+use Rattle.std.specs.Prelude.{◌≡◌, ◌⊎◌, ℕ, ◌+◌, ◌≤◌, List, [], ◌∷◌, ◌++◌, length, true, false, ◌&&◌, ◌==◌, if◌then◌else◌, min, Some}
 use Rattle.rasta_pcap.specs.declared.fault.Side.{Side}
 use Rattle.rasta_pdu.specs.Params.{Parameters}
 use Rattle.rasta_pdu.specs.Pdu.{SafetyPdu, RedundancyPdu}
@@ -12,6 +12,7 @@ use Rattle.rasta_end.specs.Judged.{JudgedEnd}
 use Rattle.rasta_cert.specs.declared.entry.Entry.{Entry}
 use Rattle.rasta_cert.specs.declared.entry.Entry.TheVariants.{Take, Make}
 use Rattle.rasta_check.specs.Crossing.{FirstCopy}
+use Rattle.rasta_build.specs.Clock.{clock_of}
 use Rattle.rasta_build.specs.Choices.{peer_quiet_sn, copy_at, has_to_take, wants_trigger, why_of}
 use Rattle.rasta_build.specs.declared.peer.Peer.{Peer}
 use Rattle.rasta_build.specs.declared.script_builder.Progress.{Progress}
@@ -51,12 +52,19 @@ lead e b = record b { end = record b.end { state = e } }
 abbrev pub progress_of : EndState → Progress
 progress_of e = record { accepted = e.accepted; owed = length e.owed; phase = e.phase }
 
--- the make of this PDU, for the reason of its type, at some clock, stands in the script, and leads to the end behind it
+-- a clock that this time stamp tells behind the last make: the least one, or one told from there on
+abbrev pub IsTold : ℕ → ℕ → ℕ → Type 0
+IsTold last time_stamp clock =
+    (clock_of last time_stamp ≡ Some clock)
+    ⊎ ((early : ℕ) × (least : ℕ) × (clock_of last time_stamp ≡ Some early) × (early ≤ least) × (clock_of least time_stamp ≡ Some clock))
+
+-- the make of this PDU, for the reason of its type, at a clock that its time stamp tells, stands in the script, and leads to the end behind it
 pub record IsMade (b : Built) (place : ℕ) (x : SafetyPdu) (new : Built) : Type 0 where
   pub why : Why
   pub clock : ℕ
   pub after : EndState
   pub reason : why_of b.end.state b.trail x ≡ Some why
+  pub told : IsTold b.clock x.ts clock
   pub makes : Makes b.end.params b.end.state x clock why after
   pub noted : new ≡ note (Make place clock why) (lead after (record b { clock = clock }))
 

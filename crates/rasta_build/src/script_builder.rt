@@ -9,6 +9,7 @@ ghost use Rattle.rasta_end.specs.Starts.{start_of};
 ghost use Rattle.rasta_build.specs.Built;
 ghost use Rattle.rasta_build.specs.Built.{built_at_start, progress_of, IsMade, IsTaken, IsAccepted, IsExplained};
 ghost use Rattle.rasta_build.specs.Choices;
+ghost use Rattle.rasta_build.specs.Clock.{clock_of};
 ghost use Rattle.rasta_build.specs.Choices.{HaveNoResponse, IsLastResponse, is_unanswered, next_unit, why_of};
 
 use crate::clock::clock_from;
@@ -399,7 +400,8 @@ impl<'a> ScriptBuilder<'a> {
         early: u64,
         why: Why,
     ) -> Result<(), Stuck>
-        requires { why_of self.old.end.state self.old.trail (value_of pdu.now).safety ≡ Some why }
+        requires reason { why_of self.old.end.state self.old.trail (value_of pdu.now).safety ≡ Some why }
+        requires early { clock_of self.old.clock (value_of pdu.now).safety.ts ≡ Some early }
         ensures { OnOk result (IsMade self.old place (value_of pdu.now).safety self.new) }
     {
         let least = early.saturating_add(1).max(self.earliest_timeout(params));
