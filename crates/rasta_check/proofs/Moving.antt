@@ -167,6 +167,14 @@ kept_arrived s items position kept is low at there = ⊎_elim
 pub behind_base : (s : Inside) (v : JudgedStation) (base position : ℕ) → judged_station s ≡ v → IsPlainStation s → base ≡ v.station.state.base → base ≤ position → s.base ≤ position
 behind_base s v base position view kept same low = (let e = ap (λ (w : JudgedStation). w.station.state.base) view in omega (arith, e, kept.base, same, low))
 
+-- ---- faults
+
+not_both : {A : Type 0} (o : Option A) (x : A) → o ≡ Some x → o ≡ None → ⊥
+not_both o x some none = absurd (let e : Some x ≡ None = sym some ∙ none in cc)
+
+memory_has_no_end : (fault : Fault) → is_some fault.end ≡ true → fault ≡ no_memory → ⊥
+memory_has_no_end fault some is = absurd (let e : false ≡ true = sym (ap (λ (f : Fault). is_some f.end) is) ∙ some in cc)
+
 -- ---- behind a take
 
 module _ (s : Inside) (e : JudgedEnd) (x : SafetyPdu) (position n : ℕ) (kept : IsPlainStation s)
@@ -181,6 +189,7 @@ module _ (s : Inside) (e : JudgedEnd) (x : SafetyPdu) (position n : ℕ) (kept :
         side = kept.side ∙ sym (ap (λ (f : JudgedEnd). f.state.side) is ∙ alone.side);
         base = kept.base ∙ sym (ap (λ (f : JudgedEnd). f.state.base) is ∙ alone.base);
         small = kept.small;
+        clock = (let now = ap (λ (f : JudgedEnd). f.state.clock) is ∙ alone.clock in omega (arith, now, kept.clock));
         arrived = kept.arrived;
         accepted = omega (arith, few, most, kept.accepted, above, next_is);
       }
@@ -224,11 +233,9 @@ same_behind : (row : Option MakeRow) (e : EndState) (x : SafetyPdu) (clock : ℕ
 same_behind None e x clock = (refl, refl, refl)
 same_behind (Some row) e x clock = (refl, refl, refl)
 
-not_both : {A : Type 0} (o : Option A) (x : A) → o ≡ Some x → o ≡ None → ⊥
-not_both o x some none = absurd (let e : Some x ≡ None = sym some ∙ none in cc)
-
-memory_has_no_end : (fault : Fault) → is_some fault.end ≡ true → fault ≡ no_memory → ⊥
-memory_has_no_end fault some is = absurd (let e : false ≡ true = sym (ap (λ (f : Fault). is_some f.end) is) ∙ some in cc)
+clock_behind : (row : Option MakeRow) (e : EndState) (x : SafetyPdu) (clock : ℕ) → e.clock ≤ clock → (after_make_by row e x clock).clock ≤ clock
+clock_behind None e x clock l = l
+clock_behind (Some row) e x clock l = omega arith
 
 pub kept_make : (s : Inside) (e : JudgedEnd) (why : Why) (d : RedundancyPdu) → IsPlainStation s → e ≡ record { params = s.end.params; state = after_make s.end.state d.safety s.clock why } → IsPlainStation (record s { end = e })
 kept_make s e why d kept is =
@@ -239,6 +246,7 @@ kept_make s e why d kept is =
       side = kept.side ∙ sym (ap (λ (f : JudgedEnd). f.state.side) is ∙ same.0);
       base = kept.base ∙ sym (ap (λ (f : JudgedEnd). f.state.base) is ∙ same.1);
       small = kept.small;
+      clock = (let now = ap (λ (f : JudgedEnd). f.state.clock) is in let past = clock_behind (row_of s.end.state d.safety why) s.end.state d.safety s.clock kept.clock in omega (arith, now, past));
       arrived = kept.arrived;
       accepted = omega (arith, few, kept.accepted);
     }

@@ -45,12 +45,13 @@ judged_station s = record {
   station = record { state = s.end.state; clock = s.clock; arrived = s.arrived.items; taken = s.taken; first_number = s.first_number };
 }
 
--- the end is judged by the same parameters; what arrived was made since the start; and each take raises the position that was
--- accepted last by at most 2^32
+-- the end is judged by the same parameters, and its last make doesn't lie ahead; what arrived was made since the start; and each take
+-- raises the position that was accepted last by at most 2^32
 pub record IsPlainStation (s : Inside) : Type 0 where
   pub params : s.end.params ≡ s.params
   pub side : s.side ≡ s.end.state.side
   pub base : s.base ≡ s.end.state.base
   pub small : s.base ≤ 1
+  pub clock : s.end.state.clock ≤ s.clock
   pub arrived : (position : ℕ) → Contains s.arrived.items position → s.base ≤ position
   pub accepted : s.end.state.accepted ≤ s.taken * 2 ^ 32

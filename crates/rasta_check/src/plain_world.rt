@@ -273,7 +273,9 @@ impl<'a> PlainStation<'a> {
         let Some(pdu) = self.takeable(peer, position) else {
             return Ok(false);
         };
-        if let Err(_) = self.end.take(&pdu) {
+        if let Err(fault) = self.end.take(&pdu) {
+            // Nothing but want of memory is left.
+            prove!(fault.end.is_none());
             return Err(AllocError);
         }
         self.taken = u64::from(position) + 1;

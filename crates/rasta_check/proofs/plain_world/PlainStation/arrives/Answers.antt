@@ -9,14 +9,14 @@ pub invariant_of-self : goal.invariant_of-self
 invariant_of-self c =
     let k = c.self.invariant in
     let same : c.insert.new.self.items ≡ c.self.inside.arrived.items = search rules in
-    record { params = k.params; side = k.side; base = k.base; small = k.small; arrived = (λ at there. k.arrived at (subst (λ xs. Contains xs at) same there)); accepted = k.accepted }
+    record { params = k.params; side = k.side; base = k.base; small = k.small; clock = k.clock; arrived = (λ at there. k.arrived at (subst (λ xs. Contains xs at) same there)); accepted = k.accepted }
 
 pub invariant_of-self-2 : goal.invariant_of-self-2
 invariant_of-self-2 c =
     let k = c.self.invariant in
     let more : c.insert.new.self.items ≡ c.args.position ∷ c.self.inside.arrived.items = search rules in
     let low = behind_base c.self.inside c.args.self.now c.args.peer.now.station.state.base c.args.position c.self.view_is k c.requires.base c.in-Some.ensures.0 in
-    record { params = k.params; side = k.side; base = k.base; small = k.small; arrived = kept_arrived c.self.inside c.insert.new.self.items c.args.position k more low; accepted = k.accepted }
+    record { params = k.params; side = k.side; base = k.base; small = k.small; clock = k.clock; arrived = kept_arrived c.self.inside c.insert.new.self.items c.args.position k more low; accepted = k.accepted }
 
 pub returns-clause-answer : goal.returns-clause-answer
 returns-clause-answer c = λ xs.
