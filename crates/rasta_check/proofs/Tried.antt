@@ -1,4 +1,4 @@
--- Each statement of the theorem, tried on the row of the quiet start: data with two messages, and the heartbeat that shows them.
+-- Each statement of the theorem, tried on the example of the quiet start: data with two messages, and the heartbeat that shows them.
 use Rattle.std.proofs.Common.{Bool, true, false, ◌≡◌, ℕ, zero, suc, ◌+◌, ◌<◌, ◌≤◌, ◌^◌, List, [], ◌∷◌, ◌++◌, length, Some, None, slice_get, refl, sym, ap, subst, ◌∙◌, inl, arith}
 use Rattle.std.specs.Prelude.{◌&&◌, nat_lt, slice_index}
 use Rattle.std.specs.List.{list_all}
@@ -25,13 +25,13 @@ use Rattle.rasta_check.specs.Scripts.{Cursor, Advances, takes_next, makes_next, 
 use Rattle.rasta_check.specs.Theorem.{OfConnection, SentLists, Definite, Simulation, Necessity, Sharpness, Complete, Stuck, Appends, HasHandedUp, messages_handed, messages_listed, AreWritable}
 use Rattle.rasta_check.proofs.Forms.{of_record}
 
--- ---- the row
+-- ---- the example
 
 abbrev endpoint : ℕ → ℕ → ℕ → Endpoint
 endpoint net host port = record { address = 10 ∷ 0 ∷ net ∷ host ∷ []; port = port }
 
-abbrev row : Parameters
-row = record {
+abbrev connection : Parameters
+connection = record {
   client_id = 96;
   server_id = 97;
   code_length = 0;
@@ -88,7 +88,7 @@ from_server = beaten ∷ []
 
 -- ---- its premises
 
-pub of_connection : OfConnection row
+pub of_connection : OfConnection connection
 of_connection = record {
   valid = record {
     distinct_ids = λ e. absurd (omega (arith, e));
@@ -105,21 +105,21 @@ of_connection = record {
   server_id = omega arith;
 }
 
-pub offer_spelled : Spells row Client offer offer_bytes
+pub offer_spelled : Spells connection Client offer offer_bytes
 unfolding redundancy_bytes are_messages messages_of
 offer_spelled = record {
   fits = record { reserve = omega arith; number = omega arith; sn = omega arith; cs = omega arith; ts = omega arith; cts = omega arith; body = refl; size = omega arith; check_bytes = refl };
   same = refl;
 }
 
-pub beat_spelled : Spells row Server beat beat_bytes
+pub beat_spelled : Spells connection Server beat beat_bytes
 unfolding redundancy_bytes
 beat_spelled = record {
   fits = record { reserve = omega arith; number = omega arith; sn = omega arith; cs = omega arith; ts = omega arith; cts = omega arith; body = tt; size = omega arith; check_bytes = refl };
   same = refl;
 }
 
-pub recorded : CrossRecorded row packets
+pub recorded : CrossRecorded connection packets
 recorded zero packet g = let P : Packet → Type 0 = λ (k : Packet). (1 ≤ k.channel) × (k.channel ≤ 2) in subst P (let e : first ≡ packet = cc in e) (omega arith, omega arith)
 recorded (suc zero) packet g = let P : Packet → Type 0 = λ (k : Packet). (1 ≤ k.channel) × (k.channel ≤ 2) in subst P (let e : second ≡ packet = cc in e) (omega arith, omega arith)
 recorded (suc (suc place)) packet g = absurd (cc)
@@ -159,19 +159,19 @@ only_server zero a g s = absurd (let e : first ≡ a = cc in let f : Client ≡ 
 only_server (suc zero) a g s = refl
 only_server (suc (suc i)) a g s = absurd (cc)
 
-pub client_sent : Sent row packets Client from_client
-client_sent = one_sent row of_connection.valid packets Client offered first refl refl offer_spelled (omega arith) only_client
+pub client_sent : Sent connection packets Client from_client
+client_sent = one_sent connection of_connection.valid packets Client offered first refl refl offer_spelled (omega arith) only_client
 
-pub server_sent : Sent row packets Server from_server
-server_sent = one_sent row of_connection.valid packets Server beaten second refl refl beat_spelled (omega arith) only_server
+pub server_sent : Sent connection packets Server from_server
+server_sent = one_sent connection of_connection.valid packets Server beaten second refl refl beat_spelled (omega arith) only_server
 
 no_server : (i : ℕ) (a : Packet) → slice_get (first ∷ []) i ≡ Some a → a.side ≡ Server → ⊥
 no_server zero a g s = (let e : first ≡ a = cc in let f : Client ≡ Server = ap (λ (k : Packet). k.side) e ∙ s in cc)
 no_server (suc i) a g s = absurd (cc)
 
 -- before the heartbeat the server had sent nothing
-pub nothing_sent : Sent row (first ∷ []) Server []
-nothing_sent = of_record row (first ∷ []) Server [] (record {
+pub nothing_sent : Sent connection (first ∷ []) Server []
+nothing_sent = of_record connection (first ∷ []) Server [] (record {
   valid = of_connection.valid;
   firsts = λ i c g. absurd (cc);
   rising = λ i c d g h. absurd (cc);
@@ -188,15 +188,15 @@ abbrev server_script : List Entry
 server_script = Take 1 9 ∷ Make 1 9050 Beat ∷ []
 
 abbrev client_end : EndState
-client_end = after_make (start_of row Client) offer.safety 1020 Fresh
+client_end = after_make (start_of connection Client) offer.safety 1020 Fresh
 
 abbrev server_taken : EndState
-server_taken = after_take row (start_of row Server) offer.safety
+server_taken = after_take connection (start_of connection Server) offer.safety
 
 abbrev server_end : EndState
 server_end = after_make server_taken beat.safety 9050 Beat
 
-pub client_fits : Fits row Client 2 from_client from_server client_script client_end
+pub client_fits : Fits connection Client 2 from_client from_server client_script client_end
 client_fits =
     let v : Cursor = record { level = 1; made = 1; taken = 0; state = client_end } in (
       v,
@@ -205,7 +205,7 @@ client_fits =
       refl,
     )
 
-pub server_fits : Fits row Server 2 from_server from_client server_script server_end
+pub server_fits : Fits connection Server 2 from_server from_client server_script server_end
 server_fits =
     let u : Cursor = record { level = 1; made = 0; taken = 1; state = server_taken } in
     let v : Cursor = record { level = 2; made = 1; taken = 1; state = server_end } in (
@@ -224,31 +224,31 @@ server_fits =
 abbrev content : List (List ℕ)
 content = (171 ∷ 1 ∷ []) ∷ [] ∷ []
 
-pub listed : surely_taken row Client from_client from_server ≡ record { messages = content; data_place = 0; proof_place = 1 } ∷ []
+pub listed : surely_taken connection Client from_client from_server ≡ record { messages = content; data_place = 0; proof_place = 1 } ∷ []
 unfolding messages_of
 listed = refl
 
-pub none_listed : surely_taken row Server from_server from_client ≡ []
+pub none_listed : surely_taken connection Server from_server from_client ≡ []
 none_listed = refl
 
 -- ---- each statement, tried: of every run that sends the packets, and of the scripts
 
-client_crossed : (w : World) → w.crossed ≡ packets → Sent row w.crossed Client from_client
-client_crossed w e = subst (λ (ks : List Packet). Sent row ks Client from_client) (sym e) client_sent
+client_crossed : (w : World) → w.crossed ≡ packets → Sent connection w.crossed Client from_client
+client_crossed w e = subst (λ (ks : List Packet). Sent connection ks Client from_client) (sym e) client_sent
 
-server_crossed : (w : World) → w.crossed ≡ packets → Sent row w.crossed Server from_server
-server_crossed w e = subst (λ (ks : List Packet). Sent row ks Server from_server) (sym e) server_sent
+server_crossed : (w : World) → w.crossed ≡ packets → Sent connection w.crossed Server from_server
+server_crossed w e = subst (λ (ks : List Packet). Sent connection ks Server from_server) (sym e) server_sent
 
 -- each end made its quiet PDU and its packet's
-pub tried_sent_lists : SentLists row → (ws : List World) (w : World) → Reaches row ws w → w.crossed ≡ packets
-    → (pdus_made w.client.state.made ≡ all_made row Client from_client) × (pdus_made w.server.state.made ≡ all_made row Server from_server)
+pub tried_sent_lists : SentLists connection → (ws : List World) (w : World) → Reaches connection ws w → w.crossed ≡ packets
+    → (pdus_made w.client.state.made ≡ all_made connection Client from_client) × (pdus_made w.server.state.made ≡ all_made connection Server from_server)
 tried_sent_lists law ws w r e =
     let within = law.2 ws w from_client from_server r (client_crossed w e) (server_crossed w e) (omega arith) (omega arith) in
     let c = law.0 ws w Client r within in
     let s = law.0 ws w Server r within in
     let same_c = law.3 w.crossed Client from_client c.0 (client_crossed w e) c.1.list (omega arith) in
     let same_s = law.3 w.crossed Server from_server s.0 (server_crossed w e) s.1.list (omega arith) in
-    (c.1.made ∙ sym (ap (all_made row Client) same_c), s.1.made ∙ sym (ap (all_made row Server) same_s))
+    (c.1.made ∙ sym (ap (all_made connection Client) same_c), s.1.made ∙ sym (ap (all_made connection Server) same_s))
 
 both_true : (a b : Bool) → a && b ≡ true → (a ≡ true) × (b ≡ true)
 both_true true b h = (refl, h)
@@ -260,19 +260,19 @@ all_bytes (x ∷ xs) h zero = (let t = (both_true (nat_lt x 256) (list_all (λ n
 all_bytes (x ∷ xs) h (suc i) = all_bytes xs (both_true (nat_lt x 256) (list_all (λ n. nat_lt n 256) xs) h).1 i
 
 -- the heartbeat has no fault
-pub tried_definite : Definite row → (ws : List World) (w : World) → Reaches row ws w → w.crossed ≡ packets → packet_fault row [] second ≡ None
+pub tried_definite : Definite connection → (ws : List World) (w : World) → Reaches connection ws w → w.crossed ≡ packets → packet_fault connection [] second ≡ None
 tried_definite law ws w r e = law.0 ws w (first ∷ []) [] second [] r e nothing_sent (omega arith)
 
 -- so behind the data the server's sent list goes on
-pub tried_goes_on : Definite row → packet_fault row [] second ≡ None → (more : List FirstCopy) × Sent row packets Server more
+pub tried_goes_on : Definite connection → packet_fault connection [] second ≡ None → (more : List FirstCopy) × Sent connection packets Server more
 tried_goes_on law none = (law.1 (first ∷ []) second [] (record { fits = all_bytes beat_bytes refl }) nothing_sent (omega arith)).0 none
 
 -- the scripts give a run that sends the packets
-pub tried_simulation : Simulation row → (ws : List World) × (w : World) × Reaches row ws w × (w.crossed ≡ packets) × (w.client.state ≡ client_end) × (w.server.state ≡ server_end)
+pub tried_simulation : Simulation connection → (ws : List World) × (w : World) × Reaches connection ws w × (w.crossed ≡ packets) × (w.client.state ≡ client_end) × (w.server.state ≡ server_end)
 tried_simulation law = law packets from_client from_server client_script server_script client_end server_end recorded client_sent server_sent client_fits server_fits
 
 -- the server handed up both messages, before the heartbeat crossed
-pub tried_necessity : Necessity row → (ws : List World) (w : World) → Reaches row ws w → w.crossed ≡ packets
+pub tried_necessity : Necessity connection → (ws : List World) (w : World) → Reaches connection ws w → w.crossed ≡ packets
     → ((rest : List (List (List ℕ))) × (messages_handed w.server.state ≡ content ∷ rest)) × ((v next : World) → Appends ws w 1 v next → HasHandedUp v.server.state 0 content)
 tried_necessity law ws w r e =
     let n = law ws w Client from_client from_server r (client_crossed w e) (server_crossed w e) (omega arith) (omega arith) in
@@ -282,14 +282,14 @@ tried_necessity law ws w r e =
     )
 
 -- in some run that sends the packets, nothing else was handed up
-pub tried_sharpness : Sharpness row → (ws : List World) × (w : World) × Reaches row ws w × (w.crossed ≡ packets) × (messages_handed w.server.state ≡ content ∷ []) × (messages_handed w.client.state ≡ [])
+pub tried_sharpness : Sharpness connection → (ws : List World) × (w : World) × Reaches connection ws w × (w.crossed ≡ packets) × (messages_handed w.server.state ≡ content ∷ []) × (messages_handed w.client.state ≡ [])
 tried_sharpness law =
     let s = law packets from_client from_server client_script server_script client_end server_end recorded client_sent server_sent (omega arith) (omega arith) client_fits server_fits in
     (s.0, s.1, s.2, s.3, s.4 ∙ ap messages_listed listed, s.5 ∙ ap messages_listed none_listed)
 
 -- the run is told by scripts
-pub tried_complete : Complete row → (ws : List World) (w : World) → Reaches row ws w → w.crossed ≡ packets → w.client.state ≡ client_end → w.server.state ≡ server_end
-    → (cs ss : List Entry) × Fits row Client (length w.crossed) from_client from_server cs w.client.state × Fits row Server (length w.crossed) from_server from_client ss w.server.state
+pub tried_complete : Complete connection → (ws : List World) (w : World) → Reaches connection ws w → w.crossed ≡ packets → w.client.state ≡ client_end → w.server.state ≡ server_end
+    → (cs ss : List Entry) × Fits connection Client (length w.crossed) from_client from_server cs w.client.state × Fits connection Server (length w.crossed) from_server from_client ss w.server.state
     × (length cs + length ss ≤ 4000000) × AreWritable cs × AreWritable ss
 tried_complete law ws w r e a b =
     let few = ap (λ (ks : List Packet). length ks) e in
@@ -298,23 +298,23 @@ tried_complete law ws w r e a b =
     law ws w from_client from_server r (client_crossed w e) (server_crossed w e) (omega (arith, few)) (omega arith) (omega arith) (omega (arith, c)) (omega (arith, s))
 
 -- the client's script leads to one end
-pub tried_once : Stuck row → (v : Cursor) → Leads row 2 from_client from_server (at_start (start_of row Client)) client_script v → v.state ≡ client_end
+pub tried_once : Stuck connection → (v : Cursor) → Leads connection 2 from_client from_server (at_start (start_of connection Client)) client_script v → v.state ≡ client_end
 unfolding client_fits
-tried_once law v leads = ap (λ (u : Cursor). u.state) ((law packets Client from_client from_server server_sent (omega arith)).0 (at_start (start_of row Client)) v client_fits.0 client_script leads client_fits.1)
+tried_once law v leads = ap (λ (u : Cursor). u.state) ((law packets Client from_client from_server server_sent (omega arith)).0 (at_start (start_of connection Client)) v client_fits.0 client_script leads client_fits.1)
 
 some_none : (n : ℕ) → Some n ≡ None → ⊥
 some_none n e = (cc)
 
-not_late : (u w : Cursor) (x : Entry) → Advances row 2 from_client from_server u x w → u.made ≡ 0 → u.state ≡ start_of row Client → x ≡ Make 0 1021 Fresh → ⊥
+not_late : (u w : Cursor) (x : Entry) → Advances connection 2 from_client from_server u x w → u.made ≡ 0 → u.state ≡ start_of connection Client → x ≡ Make 0 1021 Fresh → ⊥
 not_late u w x (takes_next slot position c after level within get above new tk) none start is = (cc)
 not_late u w x (makes_next c clock why after level get mk) none start is =
     let at : clock ≡ 1021 = cc in
     let fresh : why ≡ Fresh = cc in
     let here : offered ≡ c = (let g = ap (slice_get from_client) (sym none) ∙ get in cc) in
-    some_none 36 ((λ i. make_fault row (sym start i) (here i).pdu.safety (sym at i) (sym fresh i)) ∙ mk.0)
+    some_none 36 ((λ i. make_fault connection (sym start i) (here i).pdu.safety (sym at i) (sym fresh i)) ∙ mk.0)
 
 -- at another clock than the data's nothing can be made, and no script begins so
-pub tried_stuck : Stuck row → (rest : List Entry) (e : EndState) → Fits row Client 2 from_client from_server (Make 0 1021 Fresh ∷ rest) e → ⊥
+pub tried_stuck : Stuck connection → (rest : List Entry) (e : EndState) → Fits connection Client 2 from_client from_server (Make 0 1021 Fresh ∷ rest) e → ⊥
 tried_stuck law rest e =
-    (law packets Client from_client from_server server_sent (omega arith)).1 [] rest (Make 0 1021 Fresh) (at_start (start_of row Client)) e refl
-    (λ w step. not_late (at_start (start_of row Client)) w (Make 0 1021 Fresh) step refl refl refl)
+    (law packets Client from_client from_server server_sent (omega arith)).1 [] rest (Make 0 1021 Fresh) (at_start (start_of connection Client)) e refl
+    (λ w step. not_late (at_start (start_of connection Client)) w (Make 0 1021 Fresh) step refl refl refl)
