@@ -30,10 +30,14 @@ pub fn parts(text: &[u8], byte: u8) -> Option<(&[u8], &[u8])>
 fn with_digit(value: u64, byte: u8) -> Option<u64>
     ensures { SomeIff result ((digit_value byte < 10) × (value * 10 + digit_value byte < 2 ^ 64)) (value * 10 + digit_value byte) }
 {
-    if byte.is_ascii_digit() {
-        value.checked_mul(10)?.checked_add(u64::from(byte - b'0'))
+    if !byte.is_ascii_digit() {
+        return None;
+    }
+    let digit = u64::from(byte - b'0');
+    if value < 1_000_000_000_000_000_000 {
+        Some(value * 10 + digit)
     } else {
-        None
+        value.checked_mul(10)?.checked_add(digit)
     }
 }
 

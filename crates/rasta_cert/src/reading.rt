@@ -40,16 +40,6 @@ fn next_entry(text: &[u8]) -> Option<(Entry, &[u8])>
     Some((entry, rest))
 }
 
-// How many lines stand in front of the closing line, or the most.
-fn count_entries(text: &[u8], close: &[u8], most: usize) -> usize
-    ensures { result ≤ most }
-{
-    text.split(|byte| *byte == b'\n')
-        .take(most)
-        .take_while(|line| *line != close)
-        .count()
-}
-
 // The entries of a script, and what is behind its closing line.
 #[derive(Drop)]
 struct Script<'a> {
@@ -69,9 +59,7 @@ fn read_script<'a>(
     ensures ok { IfOk result (λ s. IsScript close.now most text.entry.now s.entries.items s.rest.now) }
     ensures err { IfErr result (λ f. (f ≡ no_memory) ⊎ IsBroken close.now first most text.entry.now f) }
 {
-    let Ok(mut entries) = Vec::with_capacity(alloc, count_entries(text, close, most)) else {
-        return Err(Fault::at(Fault::NO_MEMORY, 0));
-    };
+    let mut entries = Vec::new(alloc);
     let mut rest = text;
     while let Some((entry, behind)) = next_entry(rest) {
         if entries.len() == most {

@@ -6,7 +6,7 @@ use Rattle.rasta_cert.proofs.reading.read_script.Goals as goal
 
 pub loop-entry-init : goal.loop-entry-init
 loop-entry-init c =
-    let none = c.in-Ok.ensures.items in
+    let none = c.new-entries.ensures.items in
     let text = c.args.text.now in
     record {
       text_is = sym (ap (λ (es : List Entry). entries_text es ++ text) none ∙ ap (λ l. l ++ text) entries_text-none);
