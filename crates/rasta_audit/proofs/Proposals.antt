@@ -3,7 +3,7 @@ use Rattle.std.proofs.Common.{◌≡◌, ◌⊎◌, ℕ, true, false, List, [], 
 use Rattle.std.specs.Io.KnownBytes.{Consumes, IsAtEnd}
 use Rattle.std.proofs.KnownBytes.{Appends-nil}
 use Rattle.rasta_pcap.specs.declared.fault.Fault.{Fault}
-use Rattle.rasta_pcap.specs.Fault.{fault_at, no_memory}
+use Rattle.rasta_pcap.specs.Fault.{fault_at, no_memory, not_found}
 use Rattle.rasta_pcap.specs.Devices.{AppendsBeginning}
 use Rattle.rasta_pdu.specs.Params.{Parameters}
 use Rattle.rasta_cert.specs.Certificate.{IsCertificate, Scripts}
@@ -14,7 +14,7 @@ use Rattle.rasta_audit.specs.declared.verdict.Verdict.TheVariants as verdicts
 use Rattle.rasta_audit.specs.Judged.{HasToldRun, IsJudged, status_of_verdict, text_of_verdict, told_verdict}
 use Rattle.rasta_audit.specs.Lines.{refused_line}
 use Rattle.rasta_audit.specs.Proposed as proposed
-use Rattle.rasta_audit.specs.Proposed.{BeginsOutcome, IsOutcome, Telling, not_found}
+use Rattle.rasta_audit.specs.Proposed.{BeginsOutcome, IsOutcome, Telling}
 use Rattle.rasta_audit.specs.Verdict.{explained_text}
 use Rattle.rasta_audit.proofs.Verdicts.{IsRefusal, Texts, if_ok_map, whole_input}
 

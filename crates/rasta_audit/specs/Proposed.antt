@@ -2,7 +2,7 @@
 use Rattle.std.specs.Prelude.{◌≡◌, ℕ, Bool, true, List, ◌++◌, length, Option, Ok, Err}
 use Rattle.std.specs.Io.KnownBytes.{Appends, Consumes, IsAtEnd}
 use Rattle.rasta_pcap.specs.declared.fault.Fault.{Fault}
-use Rattle.rasta_pcap.specs.Fault.{fault_at}
+use Rattle.rasta_pcap.specs.Fault.{fault_at, not_found}
 use Rattle.rasta_pdu.specs.Params.{Parameters}
 use Rattle.rasta_cert.specs.Certificate.{IsCertificate, Scripts, certificate_text}
 use Rattle.rasta_check.specs.Reading.{Crossing, crossing_of}
@@ -10,10 +10,6 @@ use Rattle.rasta_check.specs.Report.{Explained, verdict_of}
 use Rattle.rasta_audit.specs.Lines.{refused_line}
 use Rattle.rasta_audit.specs.Runs.{MayFollow}
 use Rattle.rasta_audit.specs.Verdict.{explained_text}
-
--- no certificate was found
-abbrev pub not_found : ℕ
-not_found = 60
 
 -- how an explanation is written: what crossed, the scripts that explain it, and the report on both
 abbrev pub Telling : Type 0

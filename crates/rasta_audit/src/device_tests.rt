@@ -81,7 +81,7 @@ fn each_call_of_a_device_goes_wrong_in_turn(rt: HostRuntime) -> Result<(), Fail>
     Ok(())
 }
 
-// `scripts/fail_allocations.sh` makes memory want; a row that wanted it is read again.
+// `scripts/fail_allocations.py` makes memory want; a row that wanted it is read again.
 #[test]
 fn memory_is_wanting(rt: HostRuntime) -> Result<(), Fail> {
     let row = ROWS.lines().nth(2).ok_or("data")?;

@@ -1,7 +1,7 @@
 //! What becomes of a capture for which a certificate is proposed.
 ghost use Rattle.std.specs.Prelude.{◌≡◌, List, ℕ, Ok, IfErr, IfOk, OnErr, OnOk};
 ghost use Rattle.std.specs.Io.KnownBytes.{Appends};
-ghost use Rattle.rasta_pcap.specs.Fault.{fault_at, no_memory, write_failed};
+ghost use Rattle.rasta_pcap.specs.Fault.{fault_at, no_memory, not_found, write_failed};
 ghost use Rattle.rasta_pcap.specs.Devices.{AppendsBeginning, HasFailed};
 ghost use Rattle.rasta_pdu.specs.Params.{Parameters};
 ghost use Rattle.rasta_cert.specs.Certificate.{AreEntries, IsCertificate, IsEntry};
@@ -9,7 +9,7 @@ ghost use Rattle.rasta_check.specs.Reading.{crossing_of};
 ghost use Rattle.rasta_audit.specs.declared.verdict.Verdict.TheVariants as verdicts;
 ghost use Rattle.rasta_audit.specs.Claims.{ClaimsHeadline};
 ghost use Rattle.rasta_audit.specs.Judged.{HasToldRun, status_of_verdict, text_of_verdict, told_verdict};
-ghost use Rattle.rasta_audit.specs.Proposed.{IsOutcome, Telling, built_text, not_found};
+ghost use Rattle.rasta_audit.specs.Proposed.{IsOutcome, Telling, built_text};
 
 use crate::texts::refusal_line;
 use crate::verdict::{Verdict, judge_scripts, refused};

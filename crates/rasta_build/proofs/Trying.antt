@@ -1,13 +1,12 @@
 -- What completeness asks of a builder, tried on builders that give up.
 use Rattle.std.proofs.Common.{◌≡◌, List, [], Err, None, ap, arith}
-use Rattle.rasta_pcap.specs.Fault.{fault_at, no_memory}
+use Rattle.rasta_pcap.specs.Fault.{fault_at, no_memory, not_found}
 use Rattle.rasta_pcap.specs.declared.fault.Fault.{Fault}
 use Rattle.rasta_pcap.specs.declared.fault.Side.{Side}
 use Rattle.rasta_pcap.specs.declared.fault.Side.TheVariants.{Client, Server}
 use Rattle.rasta_pdu.specs.Params.{Parameters}
 use Rattle.rasta_check.specs.Crossing.{FirstCopy, Sent}
 use Rattle.rasta_check.specs.World.{first_world, begins}
-use Rattle.rasta_build.specs.Choices.{not_found}
 use Rattle.rasta_build.specs.Completeness.{Builder, IsBounded, IsComplete}
 
 -- where nothing crossed, nothing was sent

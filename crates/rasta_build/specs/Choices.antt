@@ -1,7 +1,7 @@
 -- What is chosen for a script: which member of the peer's sent list a position is, what an end must have taken in front of a make, why it
 -- makes a PDU and at which clock.
 use Rattle.std.specs.Prelude.{◌≡◌, ◌⊎◌, ℕ, suc, ◌+◌, ◌-◌, ◌≤◌, ◌<◌, ◌^◌, Bool, true, false, ◌&&◌, not, nat_lt, nat_le, ◌==◌, if◌then◌else◌, min, List, [], ◌∷◌, length, Option, Some, None, option_map, slice_get}
-use Rattle.rasta_pcap.specs.Fault.{fault_at, no_memory, too_many_entries}
+use Rattle.rasta_pcap.specs.Fault.{fault_at, no_memory, not_found, too_many_entries}
 use Rattle.rasta_pcap.specs.declared.fault.Fault.{Fault}
 use Rattle.rasta_pcap.specs.declared.fault.Side.{Side}
 use Rattle.rasta_pcap.specs.declared.fault.Side.TheVariants.{Client, Server}
@@ -147,10 +147,6 @@ first_of None (Some s) = Some (record { side = Server; copy = s })
 first_of (Some c) (Some s) = Some (if nat_lt c.place s.place then record { side = Client; copy = c } else record { side = Server; copy = s })
 
 -- ---- why a script can't go on
-
--- the fault of the builder
-abbrev pub not_found : ℕ
-not_found = 60
 
 -- the fault at the packet of this place: its number from 1, as 32 bits hold it
 abbrev pub fault_of_stuck : Stuck → ℕ → Fault

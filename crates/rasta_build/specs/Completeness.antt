@@ -1,17 +1,15 @@
 -- When a builder of scripts is complete. No contract says this of any code: it is measured, by scripts/random_runs.py, and not proved. The
 -- tests `rows_are_explained`, `packets_are_explained_so` and `unexplained_packets_are_named` of rasta_tests try it.
 use Rattle.std.specs.Prelude.{◌≡◌, ℕ, ◌<◌, ◌≤◌, ◌^◌, List, ◌++◌, length, take, Result, Ok, Err}
-use Rattle.rasta_pcap.specs.Fault.{fault_at, no_memory}
+use Rattle.rasta_pcap.specs.Fault.{fault_at, no_memory, not_found}
 use Rattle.rasta_pcap.specs.declared.fault.Fault.{Fault}
 use Rattle.rasta_pcap.specs.declared.fault.Side.TheVariants.{Client, Server}
 use Rattle.rasta_pdu.specs.Params.{Parameters}
 use Rattle.rasta_cert.specs.Certificate.{Scripts, IsCertificate}
-use Rattle.rasta_end.specs.State.{EndState}
 use Rattle.rasta_check.specs.Crossing.{FirstCopy, Sent}
 use Rattle.rasta_check.specs.World.{World, Reaches, IsWithin}
-use Rattle.rasta_check.specs.Scripts.{Fits}
+use Rattle.rasta_check.specs.Report.{BothFit}
 use Rattle.rasta_check.specs.Theorem.{OfConnection, most_packets}
-use Rattle.rasta_build.specs.Choices.{not_found}
 
 -- from parameters, the client's sent list and the server's, to a certificate's scripts or a fault
 abbrev pub Builder : Type 0
@@ -24,15 +22,9 @@ pub record IsBounded (p : Parameters) (w : World) : Type 0 where
   pub client_clock : w.client.state.clock < 2 ^ 64
   pub server_clock : w.server.state.clock < 2 ^ 64
 
--- these scripts are a certificate's, and both fit what crossed
-pub record Explains (p : Parameters) (packets : ℕ) (c s : List FirstCopy) (scripts : Scripts) : Type 0 where
-  pub certificate : IsCertificate scripts
-  pub client : (e : EndState) × Fits p Client packets c s scripts.client e
-  pub server : (e : EndState) × Fits p Server packets s c scripts.server e
-
--- memory aside, the answer is a certificate that explains the packets
+-- memory aside, the answer is a certificate, and both of its scripts fit what crossed
 abbrev pub IsExplained : Parameters → ℕ → List FirstCopy → List FirstCopy → Result Scripts Fault → Type 0
-IsExplained p packets c s (Ok scripts) = Explains p packets c s scripts
+IsExplained p packets c s (Ok scripts) = IsCertificate scripts × BothFit p packets c s scripts
 IsExplained p packets c s (Err fault) = fault ≡ no_memory
 
 -- a complete builder

@@ -21,6 +21,7 @@ use Rattle.rasta_udp.specs.Frame.{Packet}
 use Rattle.rasta_check.specs.World.{Station, World, Moves, makes, repeats, arrives, takes, waits, Step, client_moves, server_moves, Reaches, begins, goes_on, first_station}
 use Rattle.rasta_cert.specs.declared.entry.Entry.{Entry}
 use Rattle.rasta_cert.specs.declared.entry.Entry.TheVariants.{Take, Make}
+use Rattle.rasta_cert.specs.Certificate.{most_entries}
 use Rattle.rasta_check.proofs.Copies.{IsSent}
 use Rattle.rasta_check.specs.Scripts.{Cursor, Advances, takes_next, makes_next, Leads, Fits, at_start}
 use Rattle.rasta_check.specs.Taken.{pdus_of, pdus_made}
@@ -435,7 +436,7 @@ pub complete : (p : Parameters) (ws : List World) (w : World) (c s : List FirstC
     → (n : ℕ) → w.client.state.clock ≤ n → w.server.state.clock ≤ n
     → (cs ss : List Entry)
     × Fits p Client (length w.crossed) c s cs w.client.state × Fits p Server (length w.crossed) s c ss w.server.state
-    × (length cs + length ss ≤ 4000000) × ClocksWithin n cs × ClocksWithin n ss
+    × (length cs + length ss ≤ most_entries) × ClocksWithin n cs × ClocksWithin n ss
 complete p ws w c s r hc hs lc ls n bc bs =
     let g = told_of p ws w c s r hc hs lc ls in
     let h = g.0 in

@@ -13,6 +13,7 @@ use Rattle.rasta_pdu.specs.Pdu.{RedundancyPdu, redundancy_bytes, Messages, Empty
 use Rattle.rasta_pdu.specs.declared.kind.Kind.TheVariants.{Heartbeat, Data}
 use Rattle.rasta_cert.specs.declared.entry.Entry.{Entry}
 use Rattle.rasta_cert.specs.declared.entry.Entry.TheVariants.{Take, Make}
+use Rattle.rasta_cert.specs.Certificate.{most_entries}
 use Rattle.rasta_end.specs.declared.why.Why.TheVariants.{Fresh, Beat}
 use Rattle.rasta_end.specs.State.{EndState, wrapped}
 use Rattle.rasta_end.specs.MakeRule.{make_fault, after_make}
@@ -290,7 +291,7 @@ tried_sharpness law =
 -- the run is told by scripts
 pub tried_complete : Complete connection → (ws : List World) (w : World) → Reaches connection ws w → w.crossed ≡ packets → w.client.state ≡ client_end → w.server.state ≡ server_end
     → (cs ss : List Entry) × Fits connection Client (length w.crossed) from_client from_server cs w.client.state × Fits connection Server (length w.crossed) from_server from_client ss w.server.state
-    × (length cs + length ss ≤ 4000000) × AreWritable cs × AreWritable ss
+    × (length cs + length ss ≤ most_entries) × AreWritable cs × AreWritable ss
 tried_complete law ws w r e a b =
     let few = ap (λ (ks : List Packet). length ks) e in
     let c = ap (λ (f : EndState). f.clock) a in

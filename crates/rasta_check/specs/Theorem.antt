@@ -8,6 +8,7 @@ use Rattle.rasta_pdu.specs.Messages.{AreBytes}
 use Rattle.rasta_pdu.specs.Pdu.{SafetyPdu, messages_in}
 use Rattle.rasta_cert.specs.declared.entry.Entry.{Entry}
 use Rattle.rasta_cert.specs.declared.entry.Entry.TheVariants.{Take, Make}
+use Rattle.rasta_cert.specs.Certificate.{most_entries}
 use Rattle.rasta_end.specs.declared.why.Why.{Why}
 use Rattle.rasta_end.specs.declared.why.Why.TheVariants.{Again}
 use Rattle.rasta_end.specs.State.{Made, EndState}
@@ -160,7 +161,7 @@ Complete p =
     → length w.crossed ≤ most_packets → length c ≤ most_sent → length s ≤ most_sent
     → w.client.state.clock < 2 ^ 64 → w.server.state.clock < 2 ^ 64
     → (cs ss : List Entry) × Fits p Client (length w.crossed) c s cs w.client.state × Fits p Server (length w.crossed) s c ss w.server.state
-    × (length cs + length ss ≤ 4000000) × AreWritable cs × AreWritable ss
+    × (length cs + length ss ≤ most_entries) × AreWritable cs × AreWritable ss
 
 -- ---- 7. scripts that are stuck
 

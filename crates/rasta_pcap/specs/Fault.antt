@@ -143,6 +143,9 @@ missing_key = 51
 abbrev pub bad_value : ℕ
 bad_value = 52
 
+abbrev pub not_found : ℕ
+not_found = 60
+
 -- the printed name of each number
 abbrev pub names : List (ℕ × List ℕ)
 names = (1, codes "NoMemory") ∷ (2, codes "ReadFailed") ∷ (3, codes "WriteFailed")

@@ -162,7 +162,7 @@ fn certificate_is_read(rt: HostRuntime) -> Result<(), Fail> {
     Ok(())
 }
 
-// Where memory was wanting the text can be read again; `scripts/fail_allocations.sh` makes it want.
+// Where memory was wanting the text can be read again; `scripts/fail_allocations.py` makes it want.
 #[test]
 fn certificate_is_read_again(rt: HostRuntime) -> Result<(), Fail> {
     let mut outcome = read(rt.alloc(), TEXT.as_bytes());

@@ -1,5 +1,4 @@
-use Rattle.rasta_pcap.specs.Fault.{fault_at}
-use Rattle.rasta_audit.specs.Proposed.{not_found}
+use Rattle.rasta_pcap.specs.Fault.{fault_at, not_found}
 use Rattle.rasta_audit.proofs.Judging.{judged_claims_each, refusal_claims_each}
 use Rattle.rasta_audit.proofs.Proposals.{judged_stands, none_stands, none_told}
 use Rattle.rasta_audit.proofs.proposed.judge_proposed.Goals as goal

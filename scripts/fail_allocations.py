@@ -1,0 +1,116 @@
+#!/usr/bin/env python3
+"""Lets each allocation fail in turn, and compares what is answered.
+
+The program, by each of its commands on each sample: one allocation fails, or it and all behind it. It has to
+answer as it does with ample memory, or to refuse for want of it with status 3; a verdict or a certificate is
+then not begun. `rt run` in crates/rasta_audit leaves the program.
+
+With the word `tests`, tests that make a call again where memory was wanting: an end that follows a lost unit,
+from the opening to its handing up; reading a certificate; and a check, a build and an audit of data. `rt test`
+in crates/rasta_tests and crates/rasta_audit leaves them.
+"""
+
+import os
+import subprocess
+import sys
+import tempfile
+from pathlib import Path
+
+TOP = Path(__file__).resolve().parent.parent
+CRATES = TOP / "crates"
+PROGRAM = CRATES / "rasta_audit/out/rasta_audit"
+REFUSAL = b"refused 1 NoMemory 0 -\n"
+# Crate, test, and its allocations that may fail; those in front belong to the test itself.
+TESTS = [
+    ("rasta_tests", "ends::ends_by_rows", 1, 60),
+    ("rasta_tests", "certificates::certificate_is_read_again", 1, 4),
+    ("rasta_audit", "device_tests::memory_is_wanting", 121, 260),
+]
+
+
+def calls():
+    for capture in sorted((TOP / "examples").glob("*.pcap")):
+        parameters = capture.with_suffix(".toml")
+        certificate = capture.with_suffix(".cert")
+        for command in ("show", "audit", "build"):
+            yield [command, capture, parameters]
+        if certificate.exists():
+            yield ["check", capture, parameters, certificate]
+
+
+class Failing:
+    """Runs programs with the library of failing.c in front of the C library."""
+
+    def __init__(self, folder):
+        self.library = f"{folder}/failing.so"
+        source = TOP / "scripts/fail_allocations/failing.c"
+        subprocess.run(["gcc", "-shared", "-fPIC", "-O2", "-o", self.library, source], check=True)
+
+    def run(self, words, fails_at, and_on=False):
+        environment = {"LD_PRELOAD": self.library, "FAILS_AT": str(fails_at)}
+        if and_on:
+            environment["FAILS_ON"] = "1"
+        return subprocess.run(words, env=environment, capture_output=True)
+
+    def count(self, words):
+        """How many allocations there are where none fails."""
+        counted, writer = os.pipe()
+        os.dup2(writer, 9)
+        os.close(writer)
+        environment = {"LD_PRELOAD": self.library, "FAILS_AT": "0"}
+        subprocess.run(words, env=environment, pass_fds=[9], stdout=subprocess.DEVNULL)
+        os.close(9)
+        with os.fdopen(counted) as count:
+            return int(count.read())
+
+
+def is_refusal(answer, whole, command):
+    begun = whole.stdout.startswith(answer.stdout) if command == "show" else not answer.stdout
+    return answer.returncode == 3 and answer.stderr == REFUSAL and begun
+
+
+def is_same(answer, whole):
+    told = [(it.returncode, it.stdout, it.stderr) for it in (answer, whole)]
+    return told[0] == told[1]
+
+
+def try_call(failing, call):
+    """How many wrong answers a call of the program gives."""
+    words = [PROGRAM, *call]
+    whole = failing.run(words, 0)
+    tried, refused, wrong = 0, 0, 0
+    for number in range(1, failing.count(words) + 1):
+        for and_on in (False, True):
+            answer = failing.run(words, number, and_on)
+            tried += 1
+            if is_refusal(answer, whole, call[0]):
+                refused += 1
+            elif not is_same(answer, whole):
+                wrong += 1
+                print(f"  allocation {number}{' and on' if and_on else ''}: {answer}")
+    print(call[0], call[1].name, f"tried {tried} refused {refused} wrong {wrong}")
+    return wrong
+
+
+def try_test(failing, crate, test, first, last):
+    """How many allocations make a test fail."""
+    words = [CRATES / crate / f"out/{crate}_tests", test]
+    count = failing.count(words)
+    failed = [it for it in range(first, last + 1) if failing.run(words, it).returncode != 0]
+    print(f"{test}: {first} to {last} of {count} allocations", f"failed {failed}")
+    return len(failed)
+
+
+def main(words):
+    with tempfile.TemporaryDirectory() as folder:
+        failing = Failing(folder)
+        if words == ["tests"]:
+            failed = sum(try_test(failing, *it) for it in TESTS)
+        else:
+            failed = sum(try_call(failing, it) for it in calls())
+    print(failed, "failed")
+    return failed != 0
+
+
+if __name__ == "__main__":
+    sys.exit(main(sys.argv[1:]))
