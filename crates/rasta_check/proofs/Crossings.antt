@@ -13,7 +13,7 @@ use Rattle.rasta_pcap.specs.declared.fault.Side.TheVariants.{Client, Server}
 use Rattle.rasta_udp.specs.Frame.{Packet}
 use Rattle.rasta_pdu.specs.Params.{Parameters, AreParameters}
 use Rattle.rasta_pdu.specs.Messages.{AreBytes}
-use Rattle.rasta_pdu.specs.Pdu.{RedundancyPdu, redundancy_bytes, safety_bytes, length_of, decode_of}
+use Rattle.rasta_pdu.specs.Pdu.{RedundancyPdu, redundancy_bytes, safety_bytes, length_of, decode_of, value_of}
 use Rattle.std.specs.Int.{bytes_low_first}
 use Rattle.std.proofs.lemmas.Nat.{from_le_bytes-to_le_bytes_4}
 use Rattle.rasta_pdu.proofs.Spellings.{decode_of-Ok}
@@ -27,7 +27,8 @@ use Rattle.rasta_pdu.specs.declared.pdu.Pdu.{Pdu}
 use Rattle.rasta_check.specs.Reading.{Crossing, IsCrossing, sent_by, behind_pdu, behind_read, sent_behind, with_packet, crossing_with, is_within, after_packet, after_judged}
 use Rattle.rasta_check.proofs.Copies.{IsSent}
 use Rattle.rasta_check.proofs.Forms.{to_record, of_record}
-use Rattle.rasta_check.proofs.Sending.{sent_copy, sent_first, sent_other, earliest}
+use Rattle.rasta_check.proofs.Scripted.{slice_get_some}
+use Rattle.rasta_check.proofs.Sending.{not_again, sent_copy, sent_first, sent_other, earliest}
 use Rattle.rasta_check.proofs.Following.{first_number, numbers_from, next_from}
 use Rattle.std.proofs.lemmas.Bool.Decides.{nat_tests}
 use Rattle.rasta_check.proofs.Faults.{copy_found, passed}
@@ -107,6 +108,29 @@ repeated k a d place r h e f g =
     let same : r ≡ bytes_eq (redundancy_bytes k.params a.side w.0.pdu) a.payload = test ∙ ap (λ (bs : List ℕ). bytes_eq bs a.payload) w.4 in (
       ap (read_fault k.params a.side own a.payload) e ∙ (ap (number_fault k.params a.side own a.payload d) w.2 ∙ ap (λ (b : Bool). if b then None else Some copy_differs) (sym same)),
       ap (behind_read own (length k.packets)) e ∙ ap (behind_pdu own (length k.packets) d) w.2,
+    )
+
+-- the next number is no known one
+next_unknown : (k : Crossing) (side : Side) (n : ℕ) → IsCrossing k → is_next_number (sent_by k side) n ≡ true → (o : Option FirstCopy) → copy_with (sent_by k side) n ≡ o → o ≡ None
+next_unknown k side n h e None f = refl
+next_unknown k side n h e (Some c) f =
+    let own = sent_by k side in
+    let w = copy_found own n c f in
+    let l = slice_get_within own w.0 c w.1 in
+    let few = few_of k h side in
+    let head = slice_get_some own 0 (omega arith) in
+    absurd (not_again head.0.pdu.number w.0 (length own) c.pdu.number n ((list_of k h side).numbers w.0 head.0 c head.1 w.1) (next_of own n e head.0 head.1) l (omega arith) w.2)
+
+-- a packet with the next number has no fault, and its PDU joins the list
+pub is_next_pdu : (k : Crossing) (a : Packet) (pdu : Pdu) → IsCrossing k → decode_of k.params a.side a.payload ≡ Ok (value_of pdu)
+    → is_next_number (sent_by k a.side) (value_of pdu).number ≡ true
+    → (packet_fault k.params (sent_by k a.side) a ≡ None) × (sent_behind k a ≡ with_new (sent_by k a.side) (length k.packets) (Some pdu))
+is_next_pdu k a pdu h reads e =
+    let own = sent_by k a.side in
+    let d = value_of pdu in
+    let new = next_unknown k a.side d.number h e (copy_with own d.number) refl in (
+      ap (read_fault k.params a.side own a.payload) reads ∙ (ap (number_fault k.params a.side own a.payload d) new ∙ ap (λ (b : Bool). if b then None else Some number_gap) e),
+      ap (behind_read own (length k.packets)) reads ∙ ap (behind_pdu own (length k.packets) d) new,
     )
 
 -- ---- the limits

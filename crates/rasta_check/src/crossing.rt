@@ -173,7 +173,12 @@ impl<'a> Sent<'a> {
             Ok(pdu) => pdu,
             Err(fault) => return Err(fault.number),
         };
-        match self.list(found.side).place_of(pdu.number()) {
+        let number = pdu.number();
+        // The next number is no known one, so the map isn't asked.
+        if self.is_next(found.side, number) {
+            return Ok(Some(pdu));
+        }
+        match self.list(found.side).place_of(number) {
             Some(place) => {
                 if self.has_bytes(place, found.payload) {
                     Ok(None)
@@ -181,13 +186,7 @@ impl<'a> Sent<'a> {
                     Err(Fault::COPY_DIFFERS)
                 }
             }
-            None => {
-                if self.is_next(found.side, pdu.number()) {
-                    Ok(Some(pdu))
-                } else {
-                    Err(Fault::NUMBER_GAP)
-                }
-            }
+            None => Err(Fault::NUMBER_GAP),
         }
     }
 

@@ -77,8 +77,15 @@ impl<'a> SentList<'a> for MapList<'a> {
     }
 
     fn position_of(&self, number: u32) -> Option<u32> {
-        let position = self.copies.get_index_of(&number)?;
-        Some(position as u32)
+        // Numbers rise by one, so that the distance from the first tells the position, and the map isn't
+        // asked.
+        let (_, (_, first)) = self.copies.get_index(0)?;
+        let position = number.wrapping_sub(first.number());
+        if (position as usize) < self.copies.len() {
+            Some(position)
+        } else {
+            None
+        }
     }
 
     fn at_place(&self, place: u32) -> Option<u32> {
