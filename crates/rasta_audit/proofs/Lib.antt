@@ -1,9 +1,3 @@
-pub mod Showing
-pub mod EndpointTexts
-pub mod Documents
-pub mod EndpointLaws
-pub mod Sending
-pub mod Lines
 pub mod Ordered
 pub mod RunTexts
 pub mod Telling

@@ -12,7 +12,7 @@ use Rattle.rasta_check.specs.Report as report
 use Rattle.rasta_audit.specs.declared.verdict.Verdict.{Verdict}
 use Rattle.rasta_audit.specs.declared.verdict.Verdict.TheVariants as verdicts
 use Rattle.rasta_audit.specs.Judged.{HasToldRun, IsJudged, status_of_verdict, text_of_verdict, told_verdict}
-use Rattle.rasta_audit.specs.Lines.{refused_line}
+use Rattle.rasta_show.specs.Lines.{refused_line}
 use Rattle.rasta_audit.specs.Proposed as proposed
 use Rattle.rasta_audit.specs.Proposed.{BeginsOutcome, IsOutcome, Telling}
 use Rattle.rasta_audit.specs.Verdict.{explained_text}

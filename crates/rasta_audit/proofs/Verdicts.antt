@@ -19,12 +19,12 @@ use Rattle.rasta_check.specs.declared.report.Taken.{Taken}
 use Rattle.rasta_check.specs.Listed.{ListedMessage, listed_of}
 use Rattle.rasta_check.specs.Reading.{Crossing, crossing_of}
 use Rattle.rasta_check.specs.Report.{Explained, verdict_of}
-use Rattle.rasta_audit.proofs.Sending.{in_front-append}
+use Rattle.rasta_show.proofs.Sending.{in_front-append}
 use Rattle.rasta_audit.specs.declared.verdict.Verdict.{Verdict}
 use Rattle.rasta_audit.specs.declared.verdict.Verdict.TheVariants as verdicts
 use Rattle.rasta_audit.specs.Judged.{HasToldRun, status_of_verdict, text_of_verdict}
-use Rattle.rasta_audit.specs.Lines.{in_front, message_text, refused_line}
-use Rattle.rasta_audit.specs.Runs.{IsRunFault, MayFollow}
+use Rattle.rasta_show.specs.Lines.{in_front, message_text, refused_line}
+use Rattle.rasta_show.specs.Runs.{IsRunFault, MayFollow}
 use Rattle.rasta_audit.specs.RunText.{run_text}
 use Rattle.rasta_audit.specs.Verdict.{BeginsVerdict, IsVerdict, WritesVerdict, capture_refused, certificate_refused, script_refused, explained, explained_line, explained_text, taken_count_line, taken_line, taken_lines, taken_text}
 

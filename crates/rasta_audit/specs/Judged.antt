@@ -7,7 +7,7 @@ use Rattle.rasta_check.specs.declared.report.Report.{Report}
 use Rattle.rasta_check.specs.Headline.{Headline}
 use Rattle.rasta_check.specs.Reading.{Crossing}
 use Rattle.rasta_check.specs.Report.{explained, verdict_of}
-use Rattle.rasta_audit.specs.Lines.{refused_line}
+use Rattle.rasta_show.specs.Lines.{refused_line}
 use Rattle.rasta_audit.specs.Proposed.{Telling}
 use Rattle.rasta_audit.specs.Told.{IsTold}
 use Rattle.rasta_audit.specs.Verdict.{explained_text}

@@ -1,13 +1,4 @@
-pub mod Lines
-pub mod Codes
-pub mod Show
-pub mod Runs
-pub mod Shown
 pub mod Failing
-pub mod Endpoints
-pub mod Stored
-pub mod StartWords
-pub mod Keys
 pub mod RunText
 pub mod Told
 pub mod Verdict

@@ -7,8 +7,8 @@ use Rattle.rasta_pdu.specs.Params.{Parameters}
 use Rattle.rasta_cert.specs.Certificate.{IsCertificate, Scripts, certificate_text}
 use Rattle.rasta_check.specs.Reading.{Crossing, crossing_of}
 use Rattle.rasta_check.specs.Report.{Explained, verdict_of}
-use Rattle.rasta_audit.specs.Lines.{refused_line}
-use Rattle.rasta_audit.specs.Runs.{MayFollow}
+use Rattle.rasta_show.specs.Lines.{refused_line}
+use Rattle.rasta_show.specs.Runs.{MayFollow}
 use Rattle.rasta_audit.specs.Verdict.{explained_text}
 
 -- how an explanation is written: what crossed, the scripts that explain it, and the report on both

@@ -12,7 +12,7 @@ use Rattle.rasta_cert.specs.declared.entry.Entry.TheVariants.{Take, Make}
 use Rattle.rasta_cert.specs.Certificate.{Scripts, why_line}
 use Rattle.rasta_check.specs.Lists.{position_of_place}
 use Rattle.rasta_check.specs.Reading.{Crossing, sent_by}
-use Rattle.rasta_audit.specs.Lines.{in_front, line_of, side_text}
+use Rattle.rasta_show.specs.Lines.{in_front, line_of, side_text}
 
 -- ---- lines
 

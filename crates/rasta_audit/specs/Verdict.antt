@@ -12,9 +12,9 @@ use Rattle.rasta_cert.specs.Refusals.{IsRefused}
 use Rattle.rasta_check.specs.Reading.{Crossing, crossing_of}
 use Rattle.rasta_check.specs.Listed.{ListedMessage}
 use Rattle.rasta_check.specs.Report.{Explained, verdict_of}
-use Rattle.rasta_audit.specs.Lines.{line_of, message_text, refused_line, side_text}
+use Rattle.rasta_show.specs.Lines.{line_of, message_text, refused_line, side_text}
 use Rattle.rasta_audit.specs.RunText.{run_text}
-use Rattle.rasta_audit.specs.Runs.{MayFollow}
+use Rattle.rasta_show.specs.Runs.{MayFollow}
 
 -- ---- texts
 

@@ -2,7 +2,7 @@
 ghost use Rattle.std.specs.Prelude.{◌≡◌, ◌⊎◌, IfErr, IfOk, OnErr};
 ghost use Rattle.rasta_pcap.specs.Fault.{write_failed};
 ghost use Rattle.rasta_audit.specs.Claims.{ClaimsHeadline};
-ghost use Rattle.rasta_audit.specs.Runs.{IsRunFault};
+ghost use Rattle.rasta_show.specs.Runs.{IsRunFault};
 ghost use Rattle.rasta_audit.specs.Verdict.{WritesVerdict};
 ghost use Rattle.rasta_audit.specs.Proposed.{BeginsOutcome, IsAudit, IsBuild};
 

@@ -1,7 +1,7 @@
 //! Rows of captures, read, and the four commands over them.
 use crate::audit::{run_audit, run_build};
 use crate::check::run_check;
-use crate::show::run_show;
+use rasta_show::run_show;
 use crate::show_tests::{LITTLE, NO_CODES, add_record, frame_of, header_of, parameters};
 use rasta_pcap::Counted;
 use rasta_pdu::{Fault, Params, Sink, Source};

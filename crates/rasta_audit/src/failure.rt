@@ -2,7 +2,7 @@
 ghost use Rattle.std.specs.Prelude.{◌≡◌};
 ghost use Rattle.rasta_audit.specs.Failing.{status_of};
 
-use crate::texts::end_name;
+use rasta_show::end_name;
 use rasta_pdu::Fault;
 use thiserror::Error;
 

@@ -2,7 +2,7 @@
 //!
 //! A row of a table is a line with bars between its parts; a slash stands for the end of a line. The
 //! first part is the number and the place of the fault, or `read`.
-use crate::params::params;
+use rasta_params::params;
 use std::alloc::Global;
 use std::process::Abort;
 use std::test::Fail;

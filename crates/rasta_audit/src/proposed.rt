@@ -11,7 +11,7 @@ ghost use Rattle.rasta_audit.specs.Claims.{ClaimsHeadline};
 ghost use Rattle.rasta_audit.specs.Judged.{HasToldRun, status_of_verdict, text_of_verdict, told_verdict};
 ghost use Rattle.rasta_audit.specs.Proposed.{IsOutcome, Telling, built_text};
 
-use crate::texts::refusal_line;
+use rasta_show::refusal_line;
 use crate::verdict::{Verdict, judge_scripts, refused};
 use rasta_build::propose;
 use rasta_cert::{Certificate, Entry, write};

@@ -3,8 +3,8 @@ ghost use Rattle.std.specs.Prelude.{◌≡◌, ◌≤◌, length};
 ghost use Rattle.rasta_cert.specs.Certificate.{why_line};
 ghost use Rattle.rasta_audit.specs.RunText.{copy_line, make_line, take_line};
 
-use crate::line::Line;
-use crate::texts::end_name;
+use rasta_show::Line;
+use rasta_show::end_name;
 use rasta_end::Why;
 use rasta_pdu::Side;
 

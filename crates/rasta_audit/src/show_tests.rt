@@ -2,8 +2,8 @@
 //!
 //! Frames and datagrams are written in hexadecimal digits. A row of a table is a line with bars between
 //! its parts; a slash stands for the end of a line.
-use crate::params::params;
-use crate::show::run_show;
+use rasta_params::params;
+use rasta_show::run_show;
 use crate::tests::number_in;
 use rasta_pcap::Counted;
 use rasta_pdu::Params;

@@ -4,12 +4,12 @@ ghost use Rattle.std.specs.Io.KnownBytes.{Appends};
 ghost use Rattle.rasta_pcap.specs.Fault.{write_failed};
 ghost use Rattle.rasta_pcap.specs.Devices.{AppendsBeginning, HasFailed};
 ghost use Rattle.rasta_check.specs.Listed.{listed_of};
-ghost use Rattle.rasta_audit.specs.Lines.{in_front};
+ghost use Rattle.rasta_show.specs.Lines.{in_front};
 ghost use Rattle.rasta_audit.specs.Verdict.{taken_count_line, taken_line, taken_lines, taken_text};
 
-use crate::line::Line;
-use crate::messages::write_message;
-use crate::texts::end_name;
+use rasta_show::Line;
+use rasta_show::write_message;
+use rasta_show::end_name;
 use rasta_check::Taken;
 use rasta_pcap::write_all;
 use rasta_pdu::{Fault, Side, Sink};

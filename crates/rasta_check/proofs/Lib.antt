@@ -50,12 +50,9 @@ pub mod Readings
 pub mod Verdicts
 pub mod Faultless
 pub mod FaultNumbers
-pub mod Plainly
 pub mod Worked
 pub mod Reported
 pub mod Joined
 pub mod Headlined
 pub mod Answering
 pub mod Filed
-pub mod Moving
-pub mod Tried

@@ -10,10 +10,8 @@ pub mod Lists
 pub mod Checking
 pub mod Reading
 pub mod Packets
-pub mod Plain
 pub mod Listed
 pub mod Report
 pub mod Listing
 pub mod Headline
 pub mod Verdicts
-pub mod Moving

@@ -9,8 +9,6 @@ mod follower;
 pub mod laws;
 mod map_list;
 mod place_table;
-pub mod plain;
-pub mod plain_world;
 mod reading;
 mod report;
 mod sent_list;

@@ -1,6 +1,6 @@
 -- The recorded parameters of a connection.
-use Rattle.std.specs.Prelude.{◌≡◌, ◌≢◌, ◌⊎◌, ℕ, ◌+◌, ◌≤◌, List, [], ◌∷◌, length, Bool, true, not, ◌&&◌, ◌==◌, IsTrue, Option, IfSome}
-use Rattle.std.specs.List.{list_any}
+use Rattle.std.specs.Prelude.{◌≡◌, ◌≢◌, ◌⊎◌, ℕ, ◌+◌, ◌≤◌, List, [], ◌∷◌, length, Bool, true, not, ◌&&◌, ◌==◌, nat_le, IsTrue, Option, IfSome}
+use Rattle.std.specs.List.{list_all, list_any}
 use Rattle.std.specs.Str.{bytes_eq}
 use Rattle.rasta_udp.specs.declared.channel.Channel.{Channel}
 use Rattle.rasta_udp.specs.declared.channel.Endpoint.{Endpoint}
@@ -57,10 +57,15 @@ pub record IsWindow (first_record last_record : ℕ) : Type 0 where
   pub in_order : first_record ≤ last_record
   pub last_most : last_record ≤ 4000000000
 
+-- a port is a number from 1
+abbrev pub has_ports : Channel → Bool
+has_ports c = nat_le 1 c.client.port && nat_le 1 c.server.port
+
 -- one to four channels, over which no route stands twice
 pub record AreChannels (channels : List Channel) : Type 0 where
   pub some : 1 ≤ length channels
   pub few : length channels ≤ 4
+  pub ports : IsTrue (list_all has_ports channels)
   pub distinct_routes : IsTrue (are_distinct (routes channels))
 
 -- the greatest clock of a quiet point

@@ -1,6 +1,7 @@
 //! The recorded parameters of a connection.
 ghost use Rattle.std.specs.Prelude.{◌≡◌, ◌↔◌, length, IsSome, IsTrue, IfSome};
-ghost use Rattle.rasta_pdu.specs.Params.{Parameters, AreChannels, AreLengths, AreLimits, AreParameters, IsQuiet, IsWindow};
+ghost use Rattle.std.specs.List.{list_all};
+ghost use Rattle.rasta_pdu.specs.Params.{Parameters, AreChannels, AreLengths, AreLimits, AreParameters, IsQuiet, IsWindow, has_ports};
 
 use crate::quiet_point::Quiet;
 use crate::route::are_distinct_routes;
@@ -70,10 +71,23 @@ fn is_window(first_record: u32, last_record: u32) -> bool
     1 <= first_record && first_record <= last_record && last_record <= 4_000_000_000
 }
 
+fn has_ports(channel: &Channel) -> bool
+    ensures { result ≡ has_ports channel.now }
+{
+    channel.client.port >= 1 && channel.server.port >= 1
+}
+
+fn have_ports(channels: &[Channel]) -> bool
+    ensures { result ≡ list_all has_ports channels.now }
+{
+    channels.iter().all(has_ports)
+}
+
 fn are_channels(channels: &[Channel]) -> bool
     ensures { IsTrue result ↔ AreChannels channels.now }
 {
-    (1..=4).contains(&channels.len()) && are_distinct_routes(channels)
+    let has_ports = have_ports(channels);
+    (1..=4).contains(&channels.len()) && has_ports && are_distinct_routes(channels)
 }
 
 fn is_quiet(slack: u16, quiet: Option<Quiet>) -> bool
@@ -93,7 +107,8 @@ impl Params {
     ///
     /// `code_length` (0, 8 or 16) and `check_length` (0, 2 or 4) are bytes; `t_max` (1 to 60,000) and
     /// `slack` (0 to 1,000) are milliseconds; the records are numbered from 1 to 4,000,000,000; there are
-    /// 1 to 4 channels. Without a quiet point both ends are followed from their opening.
+    /// 1 to 4 channels, with UDP ports from 1. Without a quiet point both ends are followed from their
+    /// opening.
     pub fn new(
         client_id: u32,
         server_id: u32,

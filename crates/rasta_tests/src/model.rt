@@ -1,7 +1,7 @@
 //! What two sent lists show, by rows: which units the ends surely took.
 use super::ends::{lines_of, params_of};
 use super::lines::{datagrams, pdu_of, side_at};
-use rasta_check::plain::{FirstCopy, TakenUnit, surely_taken};
+use rasta_plain::taken::{FirstCopy, TakenUnit, surely_taken};
 use rasta_pdu::{Params, Side};
 use std::alloc::Global;
 use std::process::Abort;

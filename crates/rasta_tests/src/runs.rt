@@ -5,7 +5,7 @@ use super::checks::{ROWS, certificate};
 use super::ends::{lines_of, params_of, why_of};
 use super::lines::{datagrams, pdu_of, side_at};
 use rasta_cert::{Certificate, Entry};
-use rasta_check::plain_world::{Move, PlainWorld};
+use rasta_plain::world::{Move, PlainWorld};
 use rasta_pdu::{Params, Side};
 use std::process::Abort;
 use std::test::Fail;

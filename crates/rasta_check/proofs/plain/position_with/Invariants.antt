@@ -1,9 +1,0 @@
-use Rattle.std.proofs.Common.{◌≡◌, drop}
-use Rattle.rasta_check.specs.Taken.{position_with}
-use Rattle.rasta_check.specs.Plain.{pdus}
-use Rattle.rasta_check.proofs.Plainly.{moved_by}
-use Rattle.rasta_check.proofs.plain.position_with.Given as goal
-
--- the position is that among the PDUs that are left
-abbrev pub invariant-loop-position : goal.invariant-loop-position
-invariant-loop-position l = moved_by l.position (position_with (pdus (drop l.position l.own)) l.sn) ≡ position_with (pdus l.own) l.sn

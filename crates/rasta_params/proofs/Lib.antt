@@ -1,0 +1,3 @@
+pub mod EndpointTexts
+pub mod Documents
+pub mod EndpointLaws

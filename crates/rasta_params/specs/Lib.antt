@@ -1,0 +1,4 @@
+pub mod Endpoints
+pub mod Stored
+pub mod StartWords
+pub mod Keys

@@ -1,0 +1,10 @@
+//! Parameter files: the TOML text that records a connection, its window, and how its ends are judged.
+#![tactic(auto)]
+
+mod document;
+mod endpoint;
+mod key;
+mod quiet_table;
+mod start_words;
+
+pub use document::params;

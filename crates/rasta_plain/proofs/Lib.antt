@@ -1,0 +1,3 @@
+pub mod Plainly
+pub mod Moving
+pub mod Tried

@@ -1,0 +1,3 @@
+pub mod Showing
+pub mod Sending
+pub mod Lines

@@ -1,0 +1,14 @@
+-- The line of a packet with messages, in the parts that are written.
+use Rattle.std.proofs.Common.{◌≡◌, ℕ, ◌++◌, List, [], ◌∷◌, codes}
+use Rattle.rasta_show.specs.Lines.{Packet, codes_line, front_words, in_front, messages_text}
+use Rattle.rasta_show.specs.Shown.{data_front, data_line}
+use Rattle.rasta_show.proofs.Sending.{in_front-append}
+use Rattle.rasta_pdu.specs.Pdu.{messages_in}
+
+-- the messages, and what stands behind them
+abbrev pub data_rest : Packet → List ℕ
+data_rest q = messages_text (messages_in q.pdu.safety.body) ++ (32 ∷ codes_line q.code q.pdu.check_bytes)
+
+pub data_line-parts : (place : ℕ) (q : Packet) (front : List ℕ) → front ≡ data_front place q
+    → data_line place q ≡ front ++ data_rest q
+data_line-parts place q front e = rw e (in_front-append (front_words place q) (in_front (codes "data" ∷ []) []) (data_rest q))

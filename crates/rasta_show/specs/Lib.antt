@@ -1,0 +1,5 @@
+pub mod Lines
+pub mod Codes
+pub mod Show
+pub mod Runs
+pub mod Shown

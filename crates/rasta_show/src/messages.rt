@@ -1,0 +1,103 @@
+//! Writing messages in hexadecimal.
+ghost use Rattle.std.specs.Prelude.{◌≡◌, ◌≤◌, length, IfErr, OnErr, OnOk};
+ghost use Rattle.std.specs.Io.KnownBytes.{Appends};
+ghost use Rattle.hex.specs.Hex.{encode_lower};
+ghost use Rattle.rasta_pcap.specs.Fault.{write_failed};
+ghost use Rattle.rasta_pcap.specs.Devices.{AppendsBeginning, HasFailed};
+ghost use Rattle.rasta_pdu.specs.Pdu.{messages_left};
+ghost use Rattle.rasta_show.specs.Lines.{further_text, message_text, messages_text};
+
+use rasta_pcap::write_all;
+use rasta_pdu::{Fault, Messages, Sink};
+
+// How many bytes are written at once.
+const PIECE: usize = 64;
+
+// The digits of a piece, at the front of the room.
+fn digits<'a>(piece: &[u8], room: &'a mut [u8; 128]) -> &'a [u8]
+    requires { length piece.now ≤ 64 }
+    ensures { result.now ≡ encode_lower piece.now }
+{
+    let digits = &mut room[..2 * piece.len()];
+    if hex::encode_to_slice(piece, digits).is_err() {
+        unreachable!();
+    }
+    digits
+}
+
+// Writes at most 64 bytes.
+fn write_piece<W: Sink>(piece: &[u8], writer: &mut W) -> Result<(), Fault>
+    requires { length piece.now ≤ 64 }
+    ensures ok { OnOk result (Appends (W.contents writer.old) (W.contents writer.new) (encode_lower piece.now)) }
+    ensures steady { OnOk result (W.failure_count writer.new ≡ W.failure_count writer.old) }
+    ensures err { IfErr result (λ f. (f ≡ write_failed)
+        × HasFailed (W.failure_count writer.old) (W.failure_count writer.new)) }
+    ensures begun { OnErr result (AppendsBeginning (W.contents writer.old) (W.contents writer.new) (encode_lower piece.now)) }
+{
+    let mut room = [0u8; 128];
+    write_all(writer, digits(piece, &mut room))
+}
+
+// Writes bytes in lower case digits, a piece at a time.
+fn write_hex<W: Sink>(bytes: &[u8], writer: &mut W) -> Result<(), Fault>
+    ensures ok { OnOk result (Appends (W.contents writer.old) (W.contents writer.new) (encode_lower bytes.now)) }
+    ensures steady { OnOk result (W.failure_count writer.new ≡ W.failure_count writer.old) }
+    ensures err { IfErr result (λ f. (f ≡ write_failed)
+        × HasFailed (W.failure_count writer.old) (W.failure_count writer.new)) }
+    ensures begun { OnErr result (AppendsBeginning (W.contents writer.old) (W.contents writer.new) (encode_lower bytes.now)) }
+{
+    let mut rest = bytes;
+    while !rest.is_empty() {
+        let (piece, behind) = rest.split_at(rest.len().min(PIECE));
+        write_piece(piece, writer)?;
+        rest = behind;
+    }
+    Ok(())
+}
+
+/// Writes a message; an empty one is a dot.
+pub fn write_message<W: Sink>(message: &[u8], writer: &mut W) -> Result<(), Fault>
+    ensures ok { OnOk result (Appends (W.contents writer.old) (W.contents writer.new) (message_text message.now)) }
+    ensures steady { OnOk result (W.failure_count writer.new ≡ W.failure_count writer.old) }
+    ensures err { IfErr result (λ f. (f ≡ write_failed)
+        × HasFailed (W.failure_count writer.old) (W.failure_count writer.new)) }
+    ensures begun { OnErr result (AppendsBeginning (W.contents writer.old) (W.contents writer.new) (message_text message.now)) }
+{
+    if message.is_empty() {
+        write_all(writer, b".")
+    } else {
+        write_hex(message, writer)
+    }
+}
+
+// Writes messages, each with a comma in front.
+fn write_further<W: Sink>(messages: Messages<'_>, writer: &mut W) -> Result<(), Fault>
+    ensures ok { OnOk result (Appends (W.contents writer.old) (W.contents writer.new) (further_text (messages_left messages.entry))) }
+    ensures steady { OnOk result (W.failure_count writer.new ≡ W.failure_count writer.old) }
+    ensures err { IfErr result (λ f. (f ≡ write_failed)
+        × HasFailed (W.failure_count writer.old) (W.failure_count writer.new)) }
+    ensures begun { OnErr result (AppendsBeginning (W.contents writer.old) (W.contents writer.new) (further_text (messages_left messages.entry))) }
+{
+    for message in messages {
+        write_all(writer, b",")?;
+        write_message(message, writer)?;
+    }
+    Ok(())
+}
+
+/// Writes messages with one comma between them.
+pub fn write_messages<W: Sink>(mut messages: Messages<'_>, writer: &mut W) -> Result<(), Fault>
+    ensures ok { OnOk result (Appends (W.contents writer.old) (W.contents writer.new) (messages_text (messages_left messages.entry))) }
+    ensures steady { OnOk result (W.failure_count writer.new ≡ W.failure_count writer.old) }
+    ensures err { IfErr result (λ f. (f ≡ write_failed)
+        × HasFailed (W.failure_count writer.old) (W.failure_count writer.new)) }
+    ensures begun { OnErr result (AppendsBeginning (W.contents writer.old) (W.contents writer.new) (messages_text (messages_left messages.entry))) }
+{
+    match messages.next() {
+        Some(first) => {
+            write_message(first, writer)?;
+            write_further(messages, writer)
+        }
+        None => Ok(()),
+    }
+}

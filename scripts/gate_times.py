@@ -1,0 +1,74 @@
+#!/usr/bin/env python3
+"""Runs the gate and writes how long each of its steps took.
+
+    scripts/gate_times.py OUT [must-fail NAME..]
+
+Run it at the top of a fresh clone, with nothing beside it. It is `rt ci` (or `rt must-fail NAME..`) with a clock
+round each proof, each crate's tests and each must-fail edit: OUT gets a line for each step as it ends (minute of its
+start and of its end, seconds, jobs, what it was), and standard output is that of the gate, whose last line is its
+verdict.
+"""
+import importlib.machinery
+import importlib.util
+import os
+import shutil
+import sys
+import threading
+import time
+
+sys.dont_write_bytecode = True
+
+
+def load_gate():
+    path = os.path.realpath(shutil.which("rt"))
+    loader = importlib.machinery.SourceFileLoader("gate", path)
+    module = importlib.util.module_from_spec(importlib.util.spec_from_loader("gate", loader))
+    loader.exec_module(module)
+    return module
+
+
+def main():
+    gate, started, lock = load_gate(), time.time(), threading.Lock()
+    out = open(sys.argv[1], "w", encoding="utf-8")
+
+    def told(begun, jobs, what):
+        now = time.time()
+        with lock:
+            line = f"{(begun - started) / 60:6.1f} {(now - started) / 60:6.1f} {now - begun:7.1f} {jobs} {what}"
+            print(line, file=out, flush=True)
+
+    def timed(call, name):
+        def run(given, jobs):
+            begun = time.time()
+            try:
+                return call(given, jobs)
+            finally:
+                told(begun, jobs, f"{name[1]} {name[0]}")
+
+        return run
+
+    in_lanes, must_fail, run_program = gate.in_lanes, gate.must_fail, gate.run
+
+    def lanes(tasks):
+        return in_lanes({key: (*it[:3], timed(it[3], key)) for key, it in tasks.items()})
+
+    def edit(crate, file, *others):
+        begun = time.time()
+        try:
+            return must_fail(crate, file, *others)
+        finally:
+            told(begun, 1, f"edit {crate.name}/{os.path.basename(file)}")
+
+    def program(crate, tests, ending=""):
+        begun = time.time()
+        try:
+            return run_program(crate, tests, ending)
+        finally:
+            told(begun, 1, f"run {crate.name}{' tests' if tests else ''}{ending}")
+
+    gate.in_lanes, gate.must_fail, gate.run = lanes, edit, program
+    return gate.main(sys.argv[2:] or ["ci"])
+
+
+if __name__ == "__main__":
+    sys.exit(main())
