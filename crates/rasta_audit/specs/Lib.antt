@@ -6,3 +6,4 @@ pub mod Passed
 pub mod Judged
 pub mod Proposed
 pub mod Claims
+pub mod Forms

@@ -1,10 +1,12 @@
 //! Rows of captures, read, and the four commands over them.
 use crate::audit::{run_audit, run_build};
 use crate::check::run_check;
-use rasta_show::run_show;
-use crate::show_tests::{LITTLE, NO_CODES, add_record, frame_of, header_of, parameters};
+use crate::show_tests::{
+    LITTLE, NO_CODES, add_cut_record, add_record, frame_of, header_of, parameters,
+};
 use rasta_pcap::Counted;
 use rasta_pdu::{Fault, Params, Sink, Source};
+use rasta_show::run_show;
 use std::alloc::Global;
 use std::process::Abort;
 use std::test::Fail;
@@ -77,15 +79,31 @@ fn frame_in(alloc: Global, packet: &str) -> Option<Vec<u8>> {
     }
 }
 
+// Puts the record of a packet behind, whose original length may be told.
+fn add_packet(alloc: Global, file: &mut Vec<u8>, packet: &str) -> Option<()> {
+    match packet.strip_prefix("of ") {
+        Some(rest) => {
+            let (original, packet) = rest.split_once(' ')?;
+            add_cut_record(file, &frame_in(alloc, packet)?, original.parse().ok()?)
+        }
+        None => add_record(file, &frame_in(alloc, packet)?),
+    }
+}
+
+// A file of these packets, with the magic number that they name first.
 fn capture_of(alloc: Global, packets: &str) -> Option<Vec<u8>> {
-    let mut file = header_of(alloc, LITTLE)?;
+    let (magic, packets) = match packets.strip_prefix("magic:") {
+        Some(rest) => rest.split_once('/')?,
+        None => (LITTLE, packets),
+    };
+    let mut file = header_of(alloc, magic)?;
     for packet in packets.split('/') {
         match packet {
             "-" => {}
             "cut" => {
                 let _ = file.pop()?;
             }
-            _ => add_record(&mut file, &frame_in(alloc, packet)?)?,
+            _ => add_packet(alloc, &mut file, packet)?,
         }
     }
     Some(file)

@@ -14,61 +14,69 @@ mod check_tests;
 mod command;
 #[cfg(test)]
 mod device_tests;
-mod endpoint;
 mod failure;
 mod form;
-mod key;
-mod line;
-mod messages;
-mod packet;
-mod params;
 #[cfg(test)]
 mod params_tests;
 mod proposed;
-mod quiet_table;
 mod run_lines;
 mod run_text;
+mod running;
 mod script;
-mod show;
 #[cfg(test)]
 mod show_tests;
-mod shown_packet;
-mod start_words;
 mod taken_text;
 #[cfg(test)]
 mod tests;
-mod texts;
 mod verdict;
 #[cfg(test)]
 mod verdict_rows;
 
-use crate::audit::{run_audit, run_build};
-use crate::check::run_check;
+pub use crate::audit::{run_audit, run_build};
+pub use crate::check::run_check;
 use crate::command::form;
 use crate::failure::{Failure, status};
 use crate::form::Form;
-use rasta_params::params;
-use rasta_show::run_show;
-use rasta_pcap::{Counted, read_all};
-use rasta_pdu::{Fault, Params, Source};
+pub use crate::running::run_form;
+pub use rasta_params::params;
+use rasta_pcap::Counted;
+use rasta_pdu::Fault;
+pub use rasta_show::run_show;
 use std::fs::File;
 use std::io;
-use std::io::{BufWriter, Printer, Write};
+use std::io::{BufWriter, Printer, Read, Write};
 use std::process::ExitCode;
 use std::rt::{Env, Files};
 
-// A file that can't be opened counts as one that can't be read.
-fn open<R: Files>(rt: &R, path: &str) -> Result<R::File, Fault> {
-    File::open(rt, path).map_err(|_| Fault::at(Fault::READ_FAILED, 0))
+// A file that is opened when it is first read: one that can't be opened is one that can't be read.
+struct Unopened<'a, R: Files> {
+    rt: &'a R,
+    path: &'a str,
+    file: Option<R::File>,
 }
 
-fn read_file<R: AllocGlobal + Files>(rt: &R, path: &str) -> Result<Vec<u8>, Fault> {
-    let mut reader = Counted::new(open(rt, path)?);
-    read_all(rt.alloc(), &mut reader)
+impl<'a, R: Files> Read for Unopened<'a, R> {
+    ghost remaining = { λ f. None };
+
+    fn read(&mut self, buf: &mut [u8]) -> io::Result<usize> {
+        match &mut self.file {
+            Some(file) => file.read(buf),
+            None => {
+                let mut file = File::open(self.rt, self.path)?;
+                let count = file.read(buf);
+                self.file = Some(file);
+                count
+            }
+        }
+    }
 }
 
-fn read_params<R: AllocGlobal + Files>(rt: &R, path: &str) -> Result<Params, Fault> {
-    params(rt.alloc(), &read_file(rt, path)?)
+fn unopened<'a, R: Files>(rt: &'a R, path: &'a str) -> Counted<Unopened<'a, R>> {
+    Counted::new(Unopened {
+        rt,
+        path,
+        file: None,
+    })
 }
 
 // Standard output, through a buffer.
@@ -80,115 +88,26 @@ fn output<R: AllocGlobal + Print>(rt: &R) -> Result<Counted<BufWriter<Printer<'_
 }
 
 // The status of a text, once all of it is out.
-fn finish<W: Write + Drop>(writer: Counted<W>, status: u8) -> Result<u8, Fault> {
+fn finish<W: Write + Drop>(writer: Counted<W>, status: u8) -> Result<u8, Fault>
+    ensures { IfOk result (λ answer. answer ≡ status) }
+{
     match writer.into_inner().flush() {
         Ok(()) => Ok(status),
         Err(_) => Err(Fault::at(Fault::WRITE_FAILED, 0)),
     }
 }
 
-fn show_file<R: AllocGlobal + Files + Print>(
-    rt: &R,
-    capture: &str,
-    params_path: &str,
-) -> Result<u8, Fault> {
-    let params = read_params(rt, params_path)?;
-    let mut reader = Counted::new(open(rt, capture)?);
-    write_shown(rt, &params, &mut reader)
-}
-
-// Writes what a capture shows to standard output.
-fn write_shown<R: AllocGlobal + Print, S: Source>(
-    rt: &R,
-    params: &Params,
-    reader: &mut S,
-) -> Result<u8, Fault> {
+fn write_form<R: AllocGlobal + Files + Print>(rt: &R, form: &Form<'_>) -> Result<u8, Fault> {
     let mut writer = output(rt)?;
-    let status = run_show(rt.alloc(), params, reader, &mut writer)?;
+    let status = run_form(
+        rt.alloc(),
+        form,
+        &mut unopened(rt, form.params()),
+        &mut unopened(rt, form.certificate()),
+        &mut unopened(rt, form.capture()),
+        &mut writer,
+    )?;
     finish(writer, status)
-}
-
-fn check_file<R: AllocGlobal + Files + Print>(
-    rt: &R,
-    capture: &str,
-    params_path: &str,
-    certificate_path: &str,
-) -> Result<u8, Fault> {
-    let params = read_params(rt, params_path)?;
-    let certificate = read_file(rt, certificate_path)?;
-    let mut reader = Counted::new(open(rt, capture)?);
-    write_checked(rt, &params, &mut reader, &certificate)
-}
-
-// Writes the verdict on a capture and a certificate to standard output.
-fn write_checked<R: AllocGlobal + Print, S: Source>(
-    rt: &R,
-    params: &Params,
-    reader: &mut S,
-    certificate: &[u8],
-) -> Result<u8, Fault> {
-    let mut writer = output(rt)?;
-    let status = run_check(rt.alloc(), params, reader, certificate, &mut writer)?;
-    finish(writer, status)
-}
-
-fn build_file<R: AllocGlobal + Files + Print>(
-    rt: &R,
-    capture: &str,
-    params_path: &str,
-) -> Result<u8, Fault> {
-    let params = read_params(rt, params_path)?;
-    let mut reader = Counted::new(open(rt, capture)?);
-    write_built(rt, &params, &mut reader)
-}
-
-// Writes a certificate for a capture, or why there is none, to standard output.
-fn write_built<R: AllocGlobal + Print, S: Source>(
-    rt: &R,
-    params: &Params,
-    reader: &mut S,
-) -> Result<u8, Fault> {
-    let mut writer = output(rt)?;
-    let status = run_build(rt.alloc(), params, reader, &mut writer)?;
-    finish(writer, status)
-}
-
-fn audit_file<R: AllocGlobal + Files + Print>(
-    rt: &R,
-    capture: &str,
-    params_path: &str,
-) -> Result<u8, Fault> {
-    let params = read_params(rt, params_path)?;
-    let mut reader = Counted::new(open(rt, capture)?);
-    write_audited(rt, &params, &mut reader)
-}
-
-// Writes the verdict on a capture to standard output.
-fn write_audited<R: AllocGlobal + Print, S: Source>(
-    rt: &R,
-    params: &Params,
-    reader: &mut S,
-) -> Result<u8, Fault> {
-    let mut writer = output(rt)?;
-    let status = run_audit(rt.alloc(), params, reader, &mut writer)?;
-    finish(writer, status)
-}
-
-fn run<R: AllocGlobal + Files + Print>(rt: &R, words: &[String]) -> Result<u8, Failure> {
-    match form(rt.alloc(), words)? {
-        Form::Show { capture, params } => show_file(rt, capture, params).map_err(Failure::Refused),
-        Form::Check {
-            capture,
-            params,
-            certificate,
-        } => check_file(rt, capture, params, certificate).map_err(Failure::Refused),
-        Form::Build { capture, params } => {
-            build_file(rt, capture, params).map_err(Failure::Refused)
-        }
-        Form::Audit { capture, params } => {
-            audit_file(rt, capture, params).map_err(Failure::Refused)
-        }
-    }
 }
 
 // The words behind the program's name; words that are no text are none of its forms.
@@ -203,7 +122,8 @@ fn words<R: AllocGlobal + Env>(rt: &R) -> Result<Vec<String>, Failure> {
 
 fn answer<R: AllocGlobal + Env + Files + Print>(rt: &R) -> Result<u8, Failure> {
     let words = words(rt)?;
-    run(rt, &words)
+    let form = form(rt.alloc(), &words)?;
+    write_form(rt, &form).map_err(Failure::Refused)
 }
 
 fn main(rt: HostRuntime) -> ExitCode {

@@ -11,13 +11,13 @@ ghost use Rattle.rasta_audit.specs.Claims.{ClaimsHeadline};
 ghost use Rattle.rasta_audit.specs.Judged.{HasToldRun, status_of_verdict, text_of_verdict, told_verdict};
 ghost use Rattle.rasta_audit.specs.Proposed.{IsOutcome, Telling, built_text};
 
-use rasta_show::refusal_line;
 use crate::verdict::{Verdict, judge_scripts, refused};
 use rasta_build::propose;
 use rasta_cert::{Certificate, Entry, write};
 use rasta_check::{Sent, sent};
 use rasta_pcap::write_all;
 use rasta_pdu::{Fault, Params, Sink};
+use rasta_show::refusal_line;
 use std::alloc::Global;
 
 // The numbers of an entry are in the ranges of their types.

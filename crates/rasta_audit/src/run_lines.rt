@@ -3,10 +3,9 @@ ghost use Rattle.std.specs.Prelude.{◌≡◌, ◌≤◌, length};
 ghost use Rattle.rasta_cert.specs.Certificate.{why_line};
 ghost use Rattle.rasta_audit.specs.RunText.{copy_line, make_line, take_line};
 
-use rasta_show::Line;
-use rasta_show::end_name;
 use rasta_end::Why;
 use rasta_pdu::Side;
+use rasta_show::{Line, end_name};
 
 /// When and why an end made a packet.
 #[derive(Clone, Copy, Debug)]

@@ -7,13 +7,13 @@ ghost use Rattle.rasta_audit.specs.RunText.{run_text, takes_text};
 ghost use Rattle.rasta_audit.specs.Told.{IsBehind, IsBehindTakes, IsOrderedFrom, IsTold, of_side, told_crossing, told_level, told_packet};
 ghost use Rattle.rasta_audit.specs.Passed.{makes_of, scripts_of};
 
-use rasta_show::Line;
 use crate::run_lines::{Made, put_copy, put_make, put_take};
 use crate::script::{next_take, pass_make};
 use rasta_cert::{Certificate, Entry};
 use rasta_check::Sent;
 use rasta_pcap::write_all;
 use rasta_pdu::{Fault, Side, Sink};
+use rasta_show::Line;
 
 /// What is left of both scripts.
 #[derive(Clone, Copy, Debug)]

@@ -2,11 +2,11 @@
 //!
 //! Frames and datagrams are written in hexadecimal digits. A row of a table is a line with bars between
 //! its parts; a slash stands for the end of a line.
-use rasta_params::params;
-use rasta_show::run_show;
 use crate::tests::number_in;
+use rasta_params::params;
 use rasta_pcap::Counted;
 use rasta_pdu::Params;
+use rasta_show::run_show;
 use std::alloc::Global;
 use std::process::Abort;
 use std::test::Fail;
@@ -48,18 +48,29 @@ pub fn header_of(alloc: Global, magic: &str) -> Option<Vec<u8>> {
     hex::decode(alloc, digits.as_str()).ok()
 }
 
-// Puts a record behind, in the byte order of the file.
-pub fn add_record(file: &mut Vec<u8>, frame: &[u8]) -> Option<()> {
-    let captured = u32::try_from(frame.len()).ok()?;
-    let length = if file.first() == Some(&0xa1) {
-        captured.to_be_bytes()
+// The bytes of a length, in the byte order of the file.
+fn length_in(file: &[u8], length: u32) -> [u8; 4] {
+    if file.first() == Some(&0xa1) {
+        length.to_be_bytes()
     } else {
-        captured.to_le_bytes()
-    };
+        length.to_le_bytes()
+    }
+}
+
+// Puts a record behind, of a frame that had so many bytes.
+pub fn add_cut_record(file: &mut Vec<u8>, frame: &[u8], original: u32) -> Option<()> {
+    let captured = length_in(file, u32::try_from(frame.len()).ok()?);
+    let whole = length_in(file, original);
     file.extend_from_slice(&[0; 8]).ok()?;
-    file.extend_from_slice(&length).ok()?;
-    file.extend_from_slice(&length).ok()?;
+    file.extend_from_slice(&captured).ok()?;
+    file.extend_from_slice(&whole).ok()?;
     file.extend_from_slice(frame).ok()
+}
+
+// The same of a whole frame.
+pub fn add_record(file: &mut Vec<u8>, frame: &[u8]) -> Option<()> {
+    let whole = u32::try_from(frame.len()).ok()?;
+    add_cut_record(file, frame, whole)
 }
 
 // A file of these frames.

@@ -7,12 +7,10 @@ ghost use Rattle.rasta_check.specs.Listed.{listed_of};
 ghost use Rattle.rasta_show.specs.Lines.{in_front};
 ghost use Rattle.rasta_audit.specs.Verdict.{taken_count_line, taken_line, taken_lines, taken_text};
 
-use rasta_show::Line;
-use rasta_show::write_message;
-use rasta_show::end_name;
 use rasta_check::Taken;
 use rasta_pcap::write_all;
 use rasta_pdu::{Fault, Side, Sink};
+use rasta_show::{Line, end_name, write_message};
 
 // Makes the line that says how many messages a side took.
 #[tactic(auto, unfolding(crate::specs::Verdict::taken_count_line))]

@@ -34,6 +34,8 @@ check c p z | Check { capture: 'c', params: 'p', certificate: 'z' }
 audit c p | Audit { capture: 'c', params: 'p' }
 show -- c p | Show { capture: 'c', params: 'p' }
 show -- -c --help | Show { capture: '-c', params: '--help' }
+show c -- p | Show { capture: 'c', params: 'p' }
+show -- c -- | Show { capture: 'c', params: '--' }
  | usage
 show | usage
 show c | usage

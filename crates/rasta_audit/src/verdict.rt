@@ -12,14 +12,13 @@ ghost use Rattle.rasta_audit.specs.Verdict.{IsVerdict, explained_line, explained
 ghost use Rattle.rasta_audit.specs.Claims.{ClaimsHeadline};
 ghost use Rattle.rasta_audit.specs.Judged.{HasToldRun, IsChecked, IsJudged, status_of_verdict, text_of_explanation, text_of_verdict};
 
-use rasta_show::Line;
 use crate::run_text::write_run;
 use crate::taken_text::write_taken;
-use rasta_show::refusal_line;
 use rasta_cert::{Certificate, read};
 use rasta_check::{Report, Sent, check_sent, sent};
 use rasta_pcap::write_all;
 use rasta_pdu::{Fault, Params, Side, Sink};
+use rasta_show::{Line, refusal_line};
 use std::alloc::Global;
 
 /// What crossed, the certificate that explains it, and the report on both.

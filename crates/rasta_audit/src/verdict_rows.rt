@@ -1,7 +1,8 @@
 //! Rows of verdicts: a name; further keys of the parameters; the packets; the certificate; the text. A
 //! slash stands for the end of a line, and a hyphen for nothing. A packet is `SIDE NUMBER TYPE SN CS TS CTS
 //! PAYLOAD`, `SIDE:DATAGRAM` or `frame:FRAME` in hexadecimal, with `@2` behind a side on the second
-//! channel; `cut` takes the last byte of the file away.
+//! channel; `of N` before it is its original length, where it was cut; `magic:MAGIC` before the packets is
+//! that of the file; `cut` takes the last byte of the file away.
 
 pub const ROWS: &str = "\
 nothing | - | \
@@ -336,9 +337,32 @@ client 7 6200 100 0 1000 0 3033303314000000000000000000/\
 server 40 6201 500 100 9000 1000 3033303314000000000000000000/client 8 6220 101 500 1010 9000/cut | \
 rasta-certificate 1/client/server/end | \
 refused 14 CutRecord 3 -\n\
+big-endian | - | \
+magic:a1b2c3d4/client 7 6200 100 0 1000 0 3033303314000000000000000000/\
+server 40 6201 500 100 9000 1000 3033303314000000000000000000/client 8 6220 101 500 1010 9000 | \
+rasta-certificate 1/client/make 0 1000 open/take 2 40/make 2 1010 reply/server/take 1 7/make 1 9000 reply/end | \
+explained 3/0 client make 7 1000 open/1 server take 7/1 server make 40 9000 reply/2 client take 40/\
+2 client make 8 1010 reply/taken by client 0/taken by server 0\n\
+nanoseconds | - | \
+magic:4d3cb2a1/client 7 6200 100 0 1000 0 3033303314000000000000000000/\
+server 40 6201 500 100 9000 1000 3033303314000000000000000000/client 8 6220 101 500 1010 9000 | \
+rasta-certificate 1/client/make 0 1000 open/take 2 40/make 2 1010 reply/server/take 1 7/make 1 9000 reply/end | \
+explained 3/0 client make 7 1000 open/1 server take 7/1 server make 40 9000 reply/2 client take 40/\
+2 client make 8 1010 reply/taken by client 0/taken by server 0\n\
+big-endian and nanoseconds | - | \
+magic:a1b23c4d/client 7 6200 100 0 1000 0 3033303314000000000000000000/\
+server 40 6201 500 100 9000 1000 3033303314000000000000000000/client 8 6220 101 500 1010 9000 | \
+rasta-certificate 1/client/make 0 1000 open/take 2 40/make 2 1010 reply/server/take 1 7/make 1 9000 reply/end | \
+explained 3/0 client make 7 1000 open/1 server take 7/1 server make 40 9000 reply/2 client take 40/\
+2 client make 8 1010 reply/taken by client 0/taken by server 0\n\
+byte is missing before the certificate | - | \
+client 7 6200 100 0 1000 0 3033303314000000000000000000/\
+server 40 6201 500 100 9000 1000 3033303314000000000000000000/client 8 6220 101 500 1010 9000/cut | \
+rasta-certificate 1/client/make 00 1000 open/server/end | \
+refused 14 CutRecord 3 -\n\
 cut frame of other hosts | - | \
 client 7 6200 100 0 1000 0 3033303314000000000000000000/\
-frame:02000000020202000000000108004500004000000000401100000a0909090a09090813881388002c00002400000008000000/\
+of 78 frame:02000000020202000000000108004500004000000000401100000a0909090a09090813881388002c00002400000008000000/\
 server 40 6201 500 100 9000 1000 3033303314000000000000000000/client 8 6220 101 500 1010 9000 | \
 rasta-certificate 1/client/make 0 1000 open/take 2 40/make 2 1010 reply/server/take 1 7/make 1 9000 reply/\
 end | \
@@ -346,12 +370,12 @@ explained 3/0 client make 7 1000 open/1 server take 7/1 server make 40 9000 repl
 2 client make 8 1010 reply/taken by client 0/taken by server 0\n\
 cut frame of the connection | - | \
 client 7 6200 100 0 1000 0 3033303314000000000000000000/\
-frame:02000000020202000000000108004500004000000000401100000a0000010a00000213881388002c00002400000008000000/\
+of 78 frame:02000000020202000000000108004500004000000000401100000a0000010a00000213881388002c00002400000008000000/\
 server 40 6201 500 100 9000 1000 3033303314000000000000000000/client 8 6220 101 500 1010 9000 | \
 rasta-certificate 1/client/server/end | \
 refused 15 CutPacket 2 -\n\
 another safety code | code_length = 16/check_length = 0 | \
-client:34000000080000002c004c18610000006000000065000000f4010000f2030000282300007a9bef200a8e93ad6ea9b769f0c39b06 | \
+client:380000000900000030006018610000006000000066000000f4010000fc030000282300000200ab011eca305dc02911892dcdc5612e3c198b | \
 rasta-certificate 1/client/server/end | \
 refused 25 Code 1 client\n\
 fresh data in a burst | - | \

@@ -99,7 +99,7 @@ impl Line {
     }
 
     /// A line of this last word.
-    pub fn of_last(word: &[u8]) -> Line
+    pub(crate) fn of_last(word: &[u8]) -> Line
         requires { length word.now ≤ 10 }
         ensures line { result ≡ word.now ++ 10 ∷ [] }
     {
@@ -110,7 +110,7 @@ impl Line {
     }
 
     /// A line of this number alone.
-    pub fn of_last_number(n: u32) -> Line
+    pub(crate) fn of_last_number(n: u32) -> Line
         ensures line { result ≡ decimal n ++ 10 ∷ [] }
         ensures short { length result ≤ 11 }
     {
@@ -128,17 +128,17 @@ impl Line {
     }
 
     /// Begins anew with this last code.
-    pub fn begin_with_code(&mut self, code: &[u8])
+    pub(crate) fn begin_with_code(&mut self, code: &[u8])
         requires { length code.now ≤ 16 }
         ensures line { self.new ≡ code_text code.now ++ 10 ∷ [] }
         ensures short { length self.new ≤ 2 + 2 * length code.now }
     {
-        let end = put(&mut self.room, ROOM, b"\n");
-        self.start = put_code(&mut self.room, end, code);
+        let line_end = put(&mut self.room, ROOM, b"\n");
+        self.start = put_code(&mut self.room, line_end, code);
     }
 
     /// Puts a space in front.
-    pub fn space(&mut self)
+    pub(crate) fn space(&mut self)
         requires { length self.old ≤ 199 }
         ensures { self.new ≡ 32 ∷ self.old }
     {
@@ -150,8 +150,8 @@ impl Line {
         requires { length word.now + length self.old ≤ 199 }
         ensures line { self.new ≡ word.now ++ 32 ∷ self.old }
     {
-        let end = put(&mut self.room, self.start, b" ");
-        self.start = put(&mut self.room, end, word);
+        let space = put(&mut self.room, self.start, b" ");
+        self.start = put(&mut self.room, space, word);
     }
 
     /// Puts a number in front, in decimal.
@@ -160,29 +160,29 @@ impl Line {
         ensures line { self.new ≡ decimal n ++ 32 ∷ self.old }
         ensures short { length self.new ≤ length self.old + 11 }
     {
-        let end = put(&mut self.room, self.start, b" ");
-        self.start = put_number(&mut self.room, end, n);
+        let space = put(&mut self.room, self.start, b" ");
+        self.start = put_number(&mut self.room, space, n);
     }
 
     /// Puts bytes in front, in lower case digits.
-    pub fn hex(&mut self, bytes: &[u8])
+    pub(crate) fn hex(&mut self, bytes: &[u8])
         requires { 2 * length bytes.now + length self.old ≤ 199 }
         ensures line { self.new ≡ encode_lower bytes.now ++ 32 ∷ self.old }
         ensures short { length self.new ≤ length self.old + (1 + 2 * length bytes.now) }
     {
-        let end = put(&mut self.room, self.start, b" ");
-        self.start = put_hex(&mut self.room, end, bytes);
+        let space = put(&mut self.room, self.start, b" ");
+        self.start = put_hex(&mut self.room, space, bytes);
     }
 
     /// Puts a code in front.
-    pub fn code(&mut self, code: &[u8])
+    pub(crate) fn code(&mut self, code: &[u8])
         requires short { length code.now ≤ 16 }
         requires fits { length self.old ≤ 160 }
         ensures line { self.new ≡ code_text code.now ++ 32 ∷ self.old }
         ensures short { length self.new ≤ length self.old + (2 + 2 * length code.now) }
     {
-        let end = put(&mut self.room, self.start, b" ");
-        self.start = put_code(&mut self.room, end, code);
+        let space = put(&mut self.room, self.start, b" ");
+        self.start = put_code(&mut self.room, space, code);
     }
 
     pub fn as_bytes(&self) -> &[u8]
@@ -198,8 +198,8 @@ impl Line {
         requires { length word.now ≤ 10 }
         ensures line { self.new ≡ word.now ++ 10 ∷ [] }
     {
-        let end = put(&mut self.room, ROOM, b"\n");
-        self.start = put(&mut self.room, end, word);
+        let line_end = put(&mut self.room, ROOM, b"\n");
+        self.start = put(&mut self.room, line_end, word);
     }
 
     /// Begins anew with this last number.
@@ -207,8 +207,8 @@ impl Line {
         ensures line { self.new ≡ decimal n ++ 10 ∷ [] }
         ensures short { length self.new ≤ 21 }
     {
-        let end = put(&mut self.room, ROOM, b"\n");
-        self.start = put_long_number(&mut self.room, end, n);
+        let line_end = put(&mut self.room, ROOM, b"\n");
+        self.start = put_long_number(&mut self.room, line_end, n);
     }
 
     /// Puts a number of 64 bits in front, in decimal.
@@ -217,7 +217,7 @@ impl Line {
         ensures line { self.new ≡ decimal n ++ 32 ∷ self.old }
         ensures short { length self.new ≤ length self.old + 21 }
     {
-        let end = put(&mut self.room, self.start, b" ");
-        self.start = put_long_number(&mut self.room, end, n);
+        let space = put(&mut self.room, self.start, b" ");
+        self.start = put_long_number(&mut self.room, space, n);
     }
 }
