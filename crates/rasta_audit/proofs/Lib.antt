@@ -4,3 +4,4 @@ pub mod Telling
 pub mod Verdicts
 pub mod Proposals
 pub mod Judging
+pub mod GivingUp

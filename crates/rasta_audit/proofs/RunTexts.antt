@@ -1,12 +1,11 @@
 -- The text of a run, as it is written in one pass.
 use Rattle.std.proofs.Common.{◌≡◌, ℕ, zero, suc, ◌+◌, ◌-◌, ◌<◌, ◌≤◌, List, [], ◌∷◌, ◌++◌, Option, Some, None, slice_get, refl, ap, subst, sym, ◌∙◌, arith}
 use Rattle.std.specs.List.{flat_map}
-use Rattle.byteorder.specs.Numbers.{little_number-reads_back}
 use Rattle.rasta_pcap.specs.declared.fault.Side.{Side}
 use Rattle.rasta_pcap.specs.declared.fault.Side.TheVariants.{Client, Server}
 use Rattle.rasta_udp.specs.Frame as udp
 use Rattle.rasta_pdu.specs.Params.{Parameters}
-use Rattle.rasta_pdu.specs.Pdu.{RedundancyPdu, number_at, redundancy_bytes}
+use Rattle.rasta_pdu.specs.Pdu.{RedundancyPdu}
 use Rattle.rasta_end.specs.declared.why.Why.{Why}
 use Rattle.rasta_cert.specs.declared.entry.Entry.{Entry}
 use Rattle.rasta_cert.specs.declared.entry.Entry.TheVariants.{Take}
@@ -14,6 +13,7 @@ use Rattle.rasta_cert.specs.Certificate.{Scripts}
 use Rattle.rasta_check.specs.Crossing.{Spells}
 use Rattle.rasta_audit.specs.RunText.{makes_at, take_line, takes_at, takes_text, number_of}
 use Rattle.rasta_audit.specs.Told.{IsBehind, IsBehindTakes, IsOrderedFrom, of_side, told_crossing, told_level, told_levels, told_packet}
+use Rattle.rasta_check.proofs.Crossings.{number_spelled}
 use Rattle.rasta_audit.proofs.Ordered.{below, makes_past, takes_here, takes_other}
 
 -- ---- the takes of a level
@@ -53,11 +53,6 @@ takes_text-end level side rest none = ap (λ (l : List ℕ). flat_map (take_line
 pub no_packet : (place : ℕ) (client server : List (ℕ × Why)) (packet : Option udp.Packet) → packet ≡ None → told_packet place client server packet ≡ []
 unfolding told_packet
 no_packet place client server packet e = ap (told_packet place client server) e
-
--- the redundancy number stands in the bytes that spell it
-number_spelled : (p : Parameters) (side : Side) (d : RedundancyPdu) (bytes : List ℕ) → Spells p side d bytes → number_at 4 4 bytes ≡ d.number
-unfolding redundancy_bytes
-number_spelled p side d bytes s = ap (number_at 4 4) s.same ∙ little_number-reads_back 4 d.number [] s.fits.number
 
 pub the_packet : (p : Parameters) (place : ℕ) (client server makes : List (ℕ × Why)) (packet : Option udp.Packet) (side : Side) (number : ℕ) (line : List ℕ)
     → ((k : udp.Packet) × (d : RedundancyPdu) × (packet ≡ Some k) × Spells p k.side d k.payload × (◌≡◌ {A = Side × ℕ} (side, number) (k.side, d.number)))

@@ -7,7 +7,7 @@ use Rattle.rasta_pcap.specs.Devices.{HasFailed}
 use Rattle.rasta_pdu.specs.Params.{Parameters}
 use Rattle.rasta_params.specs.Keys.{ReadsParameters}
 use Rattle.rasta_show.specs.Show.{show_status, show_text}
-use Rattle.rasta_show.specs.Runs.{IsRunFault}
+use Rattle.rasta_show.specs.Runs.{IsRunFault, WritesBeginning}
 use Rattle.rasta_audit.specs.declared.form.Form.{Form}
 use Rattle.rasta_audit.specs.declared.form.Form.TheVariants.{Show, Build, Check, Audit}
 use Rattle.rasta_audit.specs.Verdict.{BeginsVerdict, IsVerdict, WritesVerdict}
@@ -59,7 +59,7 @@ Tells (Audit a b) p certificate = IsAudit p
 
 -- what was written begins what a form tells: `show` and `check` have one text, and the others may have several
 abbrev pub BeginsTelling : Form → Parameters → List ℕ → Option (List ℕ) → Option (List ℕ) → Option (List ℕ) → Option (List ℕ) → Type 0
-BeginsTelling (Show a b) p certificate = BeginsVerdict (IsShown p)
+BeginsTelling (Show a b) p certificate = WritesBeginning (show_text p)
 BeginsTelling (Build a b) p certificate = BeginsOutcome (IsBuild p)
 BeginsTelling (Check a b c) p certificate = BeginsVerdict (IsVerdict p certificate)
 BeginsTelling (Audit a b) p certificate = BeginsOutcome (IsAudit p)

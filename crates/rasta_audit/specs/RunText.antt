@@ -5,12 +5,12 @@ use Rattle.std.specs.Fmt.{decimal}
 use Rattle.rasta_pcap.specs.declared.fault.Side.{Side}
 use Rattle.rasta_pcap.specs.declared.fault.Side.TheVariants.{Client, Server}
 use Rattle.rasta_udp.specs.Frame as udp
-use Rattle.rasta_pdu.specs.Pdu.{number_at}
 use Rattle.rasta_end.specs.declared.why.Why.{Why}
 use Rattle.rasta_cert.specs.declared.entry.Entry.{Entry}
 use Rattle.rasta_cert.specs.declared.entry.Entry.TheVariants.{Take, Make}
 use Rattle.rasta_cert.specs.Certificate.{Scripts, why_line}
 use Rattle.rasta_check.specs.Lists.{position_of_place}
+use Rattle.rasta_check.specs.Packets.{number_in_bytes}
 use Rattle.rasta_check.specs.Reading.{Crossing, sent_by}
 use Rattle.rasta_show.specs.Lines.{in_front, line_of, side_text}
 
@@ -61,7 +61,7 @@ takes_text level side script = flat_map (take_line level side) (takes_at level s
 
 -- the redundancy number in a packet's bytes
 abbrev pub number_of : udp.Packet → ℕ
-number_of packet = number_at 4 4 packet.payload
+number_of packet = number_in_bytes packet.payload
 
 -- a packet at its place: a first copy, which has a position in the sent list of its side, is made, and any other is a copy
 abbrev pub crossed_text : ℕ → Side → ℕ → Option ℕ → List (ℕ × Why) → List ℕ

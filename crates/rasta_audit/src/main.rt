@@ -3,6 +3,8 @@
 //! CERT` what a certificate explains of them, and `audit CAPTURE PARAMS` builds and checks.
 #![tactic(auto)]
 
+ghost use Rattle.std.specs.Prelude.{◌≡◌, None, IfOk};
+
 mod audit;
 #[cfg(test)]
 mod audit_tests;
@@ -49,6 +51,7 @@ use std::process::ExitCode;
 use std::rt::{Env, Files};
 
 // A file that is opened when it is first read: one that can't be opened is one that can't be read.
+#[derive(Drop)]
 struct Unopened<'a, R: Files> {
     rt: &'a R,
     path: &'a str,
@@ -71,7 +74,7 @@ impl<'a, R: Files> Read for Unopened<'a, R> {
     }
 }
 
-fn unopened<'a, R: Files>(rt: &'a R, path: &'a str) -> Counted<Unopened<'a, R>> {
+fn file_at<'a, R: Files>(rt: &'a R, path: &'a str) -> Counted<Unopened<'a, R>> {
     Counted::new(Unopened {
         rt,
         path,
@@ -102,9 +105,9 @@ fn write_form<R: AllocGlobal + Files + Print>(rt: &R, form: &Form<'_>) -> Result
     let status = run_form(
         rt.alloc(),
         form,
-        &mut unopened(rt, form.params()),
-        &mut unopened(rt, form.certificate()),
-        &mut unopened(rt, form.capture()),
+        &mut file_at(rt, form.params()),
+        &mut file_at(rt, form.certificate()),
+        &mut file_at(rt, form.capture()),
         &mut writer,
     )?;
     finish(writer, status)

@@ -119,7 +119,13 @@ pub fn run_form<P: Source, C: Source, R: Source, W: Sink>(
       output_failures = W.failure_count writer.new;
     })) }
 {
-    let params = read_params(alloc, parameters)?;
-    let certificate_text = read_certificate(alloc, form, certificate)?;
-    run_command(alloc, form, &params, &certificate_text, capture, writer)
+    let params = match read_params(alloc, parameters) {
+        Ok(params) => params,
+        Err(fault) => return Err(fault),
+    };
+    let text = match read_certificate(alloc, form, certificate) {
+        Ok(text) => text,
+        Err(fault) => return Err(fault),
+    };
+    run_command(alloc, form, &params, &text, capture, writer)
 }
