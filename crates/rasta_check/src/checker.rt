@@ -4,7 +4,7 @@ ghost use Rattle.rasta_pcap.specs.Fault.{no_memory};
 ghost use Rattle.rasta_pcap.specs.Capture.{IsCapture};
 ghost use Rattle.rasta_udp.specs.Frame.{Packet};
 ghost use Rattle.rasta_check.specs.Crossing.{crossing_list};
-ghost use Rattle.rasta_check.specs.Reading.{IsCrossing};
+ghost use Rattle.rasta_check.specs.Reading.{AreSentLists, IsCrossing};
 ghost use Rattle.rasta_check.specs.Listing.{listed_by};
 ghost use Rattle.rasta_check.specs.Report.{BothFit, Explains, explained, report_of, verdict_of, verdict_of_file};
 ghost use Rattle.rasta_check.specs.Headline.{Headline, IsSharp};
@@ -52,8 +52,7 @@ fn verdict<'a, S: SentList<'a>>(
     server: &S,
     certificate: &Certificate,
 ) -> Result<Report<'a>, Fault>
-    requires crossed { (w : List Packet) × (length w ≡ packets)
-        × IsCrossing (record { params = p.now; packets = w; client = S.content client.now; server = S.content server.now }) }
+    requires crossed { AreSentLists p.now packets (S.content client.now) (S.content server.now) }
     ensures { MatchResult result
         (λ r. verdict_of p.now packets (S.content client.now) (S.content server.now) certificate.now ≡ Ok (explained r))
         (λ f. (verdict_of p.now packets (S.content client.now) (S.content server.now) certificate.now ≡ Err f) ⊎ (f ≡ no_memory)) }
@@ -103,8 +102,7 @@ pub fn check_lists<'a, S: SentList<'a>>(
     certificate: &Certificate,
 ) -> Result<Report<'a>, Fault>
     // Both are the sent lists of so many packets.
-    requires crossed { (w : List Packet) × (length w ≡ packets)
-        × IsCrossing (record { params = p.now; packets = w; client = S.content client.now; server = S.content server.now }) }
+    requires crossed { AreSentLists p.now packets (S.content client.now) (S.content server.now) }
     // The report, or the first fault.
     ensures verdict { MatchResult result
         (λ r. verdict_of p.now packets (S.content client.now) (S.content server.now) certificate.now ≡ Ok (explained r))

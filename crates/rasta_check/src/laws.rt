@@ -4,11 +4,10 @@ ghost use Rattle.std.specs.Prelude.{◌≡◌, ◌≤◌, ◌↔◌, ℕ, List, 
 ghost use Rattle.rasta_pcap.specs.declared.fault.Fault.{Fault};
 ghost use Rattle.rasta_pcap.specs.Fault.{redundancy_length, number_gap};
 ghost use Rattle.rasta_pcap.specs.Capture.{IsCapture};
-ghost use Rattle.rasta_udp.specs.Frame.{Packet};
 ghost use Rattle.rasta_pdu.specs.Params.{Parameters, AreParameters};
 ghost use Rattle.rasta_pdu.specs.Messages.{AreBytes};
 ghost use Rattle.rasta_check.specs.Crossing.{FirstCopy, crossing_list};
-ghost use Rattle.rasta_check.specs.Reading.{Crossing, IsCrossing, crossing_of};
+ghost use Rattle.rasta_check.specs.Reading.{AreSentLists, Crossing, crossing_of};
 ghost use Rattle.rasta_check.specs.Verdicts.{Impossible, packets_through, IsFaultlessCapture};
 ghost use Rattle.rasta_check.specs.Laws;
 ghost use Rattle.rasta_check.specs.Theorem.{OfConnection, SentLists, Definite, Simulation, Necessity, Sharpness, Complete, Stuck};
@@ -79,8 +78,7 @@ pub fn stuck()
 
 /// Two empty lists and no packets meet the condition of [`check_lists`](crate::check_lists).
 pub fn empty_lists_are_sent()
-    ensures { (p : Parameters) → OfConnection p
-        → (w : List Packet) × (length w ≡ 0) × IsCrossing (record { params = p; packets = w; client = []; server = [] }) }
+    ensures { (p : Parameters) → OfConnection p → AreSentLists p 0 [] [] }
 {}
 
 /// What is read of a capture are the packets of its records.
