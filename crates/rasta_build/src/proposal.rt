@@ -1,8 +1,7 @@
 //! The scripts of both ends.
-ghost use Rattle.std.specs.Prelude.{◌≡◌, List, length, option_map, IfErr};
-ghost use Rattle.rasta_udp.specs.Frame.{Packet};
+ghost use Rattle.std.specs.Prelude.{◌≡◌, option_map, IfErr};
 ghost use Rattle.rasta_check.specs.Lists.{copy_of};
-ghost use Rattle.rasta_check.specs.Reading.{IsCrossing};
+ghost use Rattle.rasta_check.specs.Reading.{AreSentLists};
 ghost use Rattle.rasta_build.specs.Choices;
 ghost use Rattle.rasta_build.specs.Choices.{sided_copy, IsProposalFault};
 
@@ -39,8 +38,7 @@ pub fn propose_lists<'a, S: SentList<'a>>(
     server: &S,
 ) -> Result<Certificate, Fault>
     // Both are the sent lists of so many packets.
-    requires crossed { (w : List Packet) × (length w ≡ packets)
-        × IsCrossing (record { params = p.now; packets = w; client = S.content client.now; server = S.content server.now }) }
+    requires crossed { AreSentLists p.now packets (S.content client.now) (S.content server.now) }
     ensures { IfErr result (IsProposalFault (S.content client.now) (S.content server.now)) }
 {
     let mut own = ScriptBuilder::new(alloc, p, Side::Client);
