@@ -96,7 +96,7 @@ of_connection = record {
     lengths = record { code = inl refl; check = inl refl };
     limits = record { sends_some = omega arith; waits_some = omega arith; waits_most = omega arith; slack_most = omega arith };
     window = record { from_one = omega arith; in_order = omega arith; last_most = omega arith };
-    channels = record { some = omega arith; few = omega arith; distinct_routes = refl };
+    channels = record { some = omega arith; few = omega arith; ports = refl; distinct_routes = refl };
     quiet = record {
       client = record { clock_most = omega arith; deadline_most = tt; in_time = tt };
       server = record { clock_most = omega arith; deadline_most = omega arith; in_time = omega arith };
