@@ -1,6 +1,7 @@
 //! The scripts of both ends.
 ghost use Rattle.std.specs.Prelude.{◌≡◌, option_map, IfErr};
 ghost use Rattle.rasta_check.specs.Lists.{copy_of};
+ghost use Rattle.rasta_check.specs.Reading.{AreSentLists};
 ghost use Rattle.rasta_build.specs.Choices;
 ghost use Rattle.rasta_build.specs.Choices.{sided_copy, IsProposalFault};
 
@@ -25,16 +26,19 @@ fn first_of<'a>(
     }
 }
 
-/// Proposes scripts for two sent lists: each first copy is explained in the order of crossing, by what must
-/// have been taken in front of it.
+/// Proposes scripts for the two sent lists of so many packets: each first copy is explained in the order of
+/// crossing, by what must have been taken in front of it.
 ///
 /// [`Fault::NOT_FOUND`] has as its place one more than that of the first packet that couldn't be explained.
 pub fn propose_lists<'a, S: SentList<'a>>(
     alloc: Global,
     p: &Params,
+    packets: u32,
     client: &S,
     server: &S,
 ) -> Result<Certificate, Fault>
+    // Both are the sent lists of so many packets.
+    requires crossed { AreSentLists p.now packets (S.content client.now) (S.content server.now) }
     ensures { IfErr result (IsProposalFault (S.content client.now) (S.content server.now)) }
 {
     let mut own = ScriptBuilder::new(alloc, p, Side::Client);
@@ -63,7 +67,8 @@ pub fn propose_lists<'a, S: SentList<'a>>(
 
 /// Proposes scripts for what crossed, as [`propose_lists`].
 pub fn propose(alloc: Global, p: &Params, sent: &Sent<'_>) -> Result<Certificate, Fault>
+    requires same { sent.now.params ≡ p.now }
     ensures { IfErr result (IsProposalFault sent.now.client sent.now.server) }
 {
-    propose_lists(alloc, p, sent.client(), sent.server())
+    propose_lists(alloc, p, sent.len(), sent.client(), sent.server())
 }

@@ -268,13 +268,17 @@ impl<'a> ScriptBuilder<'a> {
         Err(Stuck::Unexplained)
     }
 
+    // Takes a PDU of the peer where it can be what the end answers or asks for.
     fn try_trigger(
         &mut self,
         slot: u32,
         position: u64,
         made: Kind,
         pdu: &Pdu<'a>,
-    ) -> Result<(), Stuck> {
+    ) -> Result<(), Stuck>
+        ensures trigger { OnOk result (Choices.is_trigger made (value_of pdu.now).safety.kind ≡ true → IsTaken self.old slot position (value_of pdu.now) self.new) }
+        ensures others { OnOk result (Choices.is_trigger made (value_of pdu.now).safety.kind ≡ false → self.new ≡ self.old) }
+    {
         if is_trigger(made, pdu.kind()) {
             self.take(slot, position, pdu)?;
         }

@@ -150,14 +150,13 @@ module _ (p : Parameters) (packets : ℕ) (own peer : List FirstCopy) where
 -- ---- a script that fits is followed
 
 -- the number of a member of an ordered list names its position
-number_at : (cs : List FirstCopy) → IsOrdered cs → (i : ℕ) (c : FirstCopy) → slice_get cs i ≡ Some c → position_of_number cs c.pdu.number ≡ Some i
-number_at cs h i c g = position_at c.pdu.number (numbers_of cs) i (slice_get-map (λ (x : FirstCopy). x.pdu.number) cs i ∙ ap (option_map (λ (x : FirstCopy). x.pdu.number)) g) (λ j y l k e. earlier j y l k e)
+number_at : (cs : List FirstCopy) → IsOrdered cs → length cs < 4294967296 → (i : ℕ) (c : FirstCopy) → slice_get cs i ≡ Some c → position_of_number cs c.pdu.number ≡ Some i
+number_at cs h few i c g = position_at c.pdu.number (numbers_of cs) i (slice_get-map (λ (x : FirstCopy). x.pdu.number) cs i ∙ ap (option_map (λ (x : FirstCopy). x.pdu.number)) g) (λ j y l k e. earlier j y l k e)
   where
     earlier : (j y : ℕ) → j < i → slice_get (numbers_of cs) j ≡ Some y → y ≡ c.pdu.number → ⊥
     earlier j y l k e =
         let d = get_number cs j y k in
         let w = slice_get_within cs i c g in
-        let few = h.few in
         let head = slice_get_some cs 0 (omega arith) in
         not_again head.0.pdu.number j i d.0.pdu.number c.pdu.number (h.numbers j head.0 d.0 head.1 d.1) (h.numbers i head.0 c head.1 g) l (omega arith) (d.2 ∙ e)
 
@@ -194,12 +193,12 @@ held false f r e = absurd (cc)
 same_equal : (a b : ℕ) → a ≡ b → (a == b) ≡ true
 same_equal a b e = grind (arith, nat_tests)
 
-module _ (p : Parameters) (packets : ℕ) (own peer : List FirstCopy) (mine : IsOrdered own) (theirs : IsOrdered peer) where
+module _ (p : Parameters) (packets : ℕ) (own peer : List FirstCopy) (mine : IsOrdered own) (theirs : IsOrdered peer) (few : length peer < 4294967296) where
   -- where an entry leads, the checker goes
   pub goes_on : (u v : Cursor) (x : Entry) → Advances p packets own peer u x v → next_cursor p packets own peer u x ≡ Ok v
   unfolding next_cursor
   goes_on u v x (takes_next slot position c after low high g front up t) =
-      let at : position_of_number peer c.pdu.number ≡ Some position = number_at peer theirs position c g in
+      let at : position_of_number peer c.pdu.number ≡ Some position = number_at peer theirs few position c g in
       passed (nat_lt slot u.level || nat_lt packets slot) slot_order _ (both _ _ (above slot u.level low) (above packets slot high))
       ∙ (ap (take_found p peer u slot) at ∙ (ap (take_at p u slot position) g
       ∙ (passed (not (nat_lt c.place slot)) not_yet_crossed _ (below c.place slot front) ∙ (passed (nat_lt position u.taken) not_rising _ (above position u.taken up)

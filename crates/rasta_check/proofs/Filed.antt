@@ -10,7 +10,7 @@ use Rattle.rasta_cert.specs.Certificate.{Scripts}
 use Rattle.rasta_check.specs.Crossing.{FirstCopy, Sent, crossing_list}
 use Rattle.rasta_check.specs.Reading.{Crossing, IsCrossing, crossing_of, nothing_crossed}
 use Rattle.rasta_check.specs.Verdicts.{IsFaultlessCapture}
-use Rattle.rasta_check.specs.Report.{Explained, BothFit, Explains, verdict_of, verdict_on, verdict_of_file}
+use Rattle.rasta_check.specs.Report.{Explained, BothFit, Explains, report_of, verdict_of, verdict_on, verdict_of_file}
 use Rattle.rasta_check.specs.Headline.{Headline}
 use Rattle.rasta_check.proofs.Forms.{to_record}
 use Rattle.rasta_check.proofs.Sending.{sent_once}
@@ -41,6 +41,14 @@ module _ (p : Parameters) (file : List ℕ) (k : Crossing) (e : crossing_of p fi
         capture = c;
         fits = subst (λ (xs : List Packet). BothFit p (length xs) k.client k.server scripts) (file_records p file k c.records valid e c.capture) fits;
       }
+
+  -- a report on what crossed is that on the lists of a capture that is explained
+  pub exactly : (scripts : Scripts) → IsFaultlessCapture p file k.client k.server → (report : Explained) → BothFit p (length k.packets) k.client k.server scripts
+      → report ≡ report_of p (length k.packets) k.client k.server
+      → (x : Explains p file scripts) × (report ≡ report_of p (length (crossing_list p x.capture.records)) x.client x.server)
+  unfolding explains
+  exactly scripts c report fits says =
+      (explains scripts c fits, says ∙ ap (λ (xs : List Packet). report_of p (length xs) k.client k.server) (file_records p file k c.records valid e c.capture))
 
   -- no other lists are sent
   same_list : (side : Side) (records : List (List ℕ)) (sent own : List FirstCopy) → IsCapture p.last_record file records → Sent p (crossing_list p records) side sent

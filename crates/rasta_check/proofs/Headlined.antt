@@ -1,6 +1,6 @@
 -- The headline of a verdict, from the theorem over runs.
 use Rattle.std.specs.Prelude.{if◌then◌else◌, take}
-use Rattle.std.proofs.Common.{◌≡◌, ℕ, ◌-◌, List, [], ◌++◌, length, Result, Ok, Err, Some, slice_get, refl, ap, sym, ◌∙◌, arith, subst}
+use Rattle.std.proofs.Common.{◌≡◌, ℕ, ◌-◌, List, [], ◌++◌, length, Result, Ok, Err, Some, slice_get, refl, ap, sym, ◌∙◌, arith, subst, ◌<◌}
 use Rattle.rasta_pcap.specs.declared.fault.Fault.{Fault}
 use Rattle.rasta_pcap.specs.declared.fault.Side.{Side}
 use Rattle.rasta_pcap.specs.declared.fault.Side.TheVariants.{Client, Server}
@@ -30,7 +30,7 @@ use Rattle.rasta_check.proofs.Scripted.{simulated}
 use Rattle.rasta_check.proofs.Values.{values, length-values}
 use Rattle.rasta_check.proofs.Known.{Known, known}
 use Rattle.rasta_check.proofs.Cutting.{sharp}
-use Rattle.rasta_check.proofs.Necessity.{server_hands_up, server_first, server_in_time_through, client_hands_up, client_first, client_in_time_through}
+use Rattle.rasta_check.proofs.Necessity.{server_hands_up, server_first, server_appended, server_in_time_through, client_hands_up, client_first, client_appended, client_in_time_through}
 use Rattle.rasta_check.proofs.Joined.{joined, joined-append, up_joined, listed_joined, of_listed, of_message}
 use Rattle.rasta_check.proofs.Reported.{units_named, first_small, are_proofs, units_are}
 
@@ -62,10 +62,10 @@ module _ (p : Parameters) (packets : List Packet) (c s : List FirstCopy) (h : Is
   sent_s = to_record p packets Server s h.valid.valid h.server
 
   ordered_c : IsOrdered c
-  ordered_c = record { places = sent_c.rising; numbers = sent_c.numbers; few = h.few_client }
+  ordered_c = record { places = sent_c.rising; numbers = sent_c.numbers }
 
   ordered_s : IsOrdered s
-  ordered_s = record { places = sent_s.rising; numbers = sent_s.numbers; few = h.few_server }
+  ordered_s = record { places = sent_s.rising; numbers = sent_s.numbers }
 
   -- ---- the lists of the report
 
@@ -126,8 +126,10 @@ module _ (p : Parameters) (packets : List Packet) (c s : List FirstCopy) (h : Is
 
     pub verdict_refuses : (fault : Fault) → verdict_of p (length packets) c s scripts ≡ Err fault → BothFit p (length packets) c s scripts → ⊥
     verdict_refuses fault e f =
-        let a = fits_follow p (length packets) c s ordered_c ordered_s Client scripts.client f.0.0 f.0.1 in
-        let b = fits_follow p (length packets) s c ordered_s ordered_c Server scripts.server f.1.0 f.1.1 in
+        let few_c : length c < 4294967296 = (let z = h.few_client in omega arith) in
+        let few_s : length s < 4294967296 = (let z = h.few_server in omega arith) in
+        let a = fits_follow p (length packets) c s ordered_c ordered_s few_s Client scripts.client f.0.0 f.0.1 in
+        let b = fits_follow p (length packets) s c ordered_s ordered_c few_c Server scripts.server f.1.0 f.1.1 in
         absurd (let z : Ok (report_of p (length packets) c s) ≡ Err fault = sym (λ i. where_followed (a i) (where_followed (b i) (Ok (report_of p (length packets) c s)))) ∙ e in cc)
 
     -- ---- the headline
@@ -162,6 +164,10 @@ module _ (p : Parameters) (packets : List Packet) (c s : List FirstCopy) (h : Is
               rest = joined first.0;
               first = up_joined w.server.state.handed_pdus ∙ (ap joined first.1 ∙ (joined-append (messages_listed us) first.0
                   ∙ ap (λ ms. ms ++ joined first.0) (sym (listed_joined us) ∙ ap messages_in_list (sym list))));
+              appended = λ i m g.
+                  (let l = of_listed 0 (messages_taken us) i m (subst (λ (xs : List ListedMessage). slice_get xs i ≡ Some m) list g) in
+                  let o = of_message us i l.0 l.1 in
+                  subst (λ k. (v next : World) × Appends ws w k v next) (sym (l.3 ∙ o.place)) (server_appended p ws w c s r run_c run_s h.few_client h.few_server o.i o.u o.there));
               in_time = λ i m v next g a.
                   (let l = of_listed 0 (messages_taken us) i m (subst (λ (xs : List ListedMessage). slice_get xs i ≡ Some m) list g) in
                   let o = of_message us i l.0 l.1 in
@@ -180,6 +186,10 @@ module _ (p : Parameters) (packets : List Packet) (c s : List FirstCopy) (h : Is
               rest = joined first.0;
               first = up_joined w.client.state.handed_pdus ∙ (ap joined first.1 ∙ (joined-append (messages_listed us) first.0
                   ∙ ap (λ ms. ms ++ joined first.0) (sym (listed_joined us) ∙ ap messages_in_list (sym list))));
+              appended = λ i m g.
+                  (let l = of_listed 0 (messages_taken us) i m (subst (λ (xs : List ListedMessage). slice_get xs i ≡ Some m) list g) in
+                  let o = of_message us i l.0 l.1 in
+                  subst (λ k. (v next : World) × Appends ws w k v next) (sym (l.3 ∙ o.place)) (client_appended p ws w c s r run_c run_s h.few_client h.few_server o.i o.u o.there));
               in_time = λ i m v next g a.
                   (let l = of_listed 0 (messages_taken us) i m (subst (λ (xs : List ListedMessage). slice_get xs i ≡ Some m) list g) in
                   let o = of_message us i l.0 l.1 in

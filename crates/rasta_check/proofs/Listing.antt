@@ -229,7 +229,8 @@ module _ (p : Parameters) (s : Side) (e f : EndState) (own peer : List FirstCopy
       let m = member (all_made p s own) peer 0 _ i u g in
       let t = get_take (data_copies own) _ i m.c m.there in
       let z : 0 + i ≡ i = omega arith in
-      (t.0, m.place ∙ ap (λ j. proof_place (all_made p s own) (pdus_of peer) j peer) z)
+      let low = t.0 in
+      (omega (arith, low), m.place ∙ ap (λ j. proof_place (all_made p s own) (pdus_of peer) j peer) z)
 
   -- where as many were handed up as are listed, those that are listed come first
   pub listed_first : units_taken (all_made p s own) (pdus_of peer) ≤ length e.handed → (rest : List (List (List ℕ))) × (messages_handed e ≡ messages_listed (surely_taken p s own peer) ++ rest)

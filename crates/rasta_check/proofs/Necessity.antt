@@ -1,5 +1,6 @@
 -- In every run that sends two lists, what they show to be taken was handed up, and in time.
 use Rattle.std.proofs.Common.{◌≡◌, ℕ, ◌≤◌, List, ◌++◌, Some, length, slice_get, ◌∙◌, arith, subst}
+use Rattle.std.proofs.lemmas.Option.{slice_get_within}
 use Rattle.rasta_pcap.specs.declared.fault.Side.TheVariants.{Client, Server}
 use Rattle.rasta_pdu.specs.Params.{Parameters}
 use Rattle.rasta_check.specs.Crossing.{FirstCopy}
@@ -8,6 +9,7 @@ use Rattle.rasta_check.specs.Taken.{all_made, TakenUnit, surely_taken}
 use Rattle.rasta_check.specs.Theorem.{Appends, HandsUpUnits, HasHandedUp, messages_handed, messages_listed}
 use Rattle.rasta_check.proofs.Copies.{IsSent}
 use Rattle.rasta_check.proofs.Handed.{hands_up_units}
+use Rattle.rasta_check.proofs.History.{appended}
 use Rattle.rasta_check.proofs.Known.{Known, known}
 use Rattle.rasta_check.proofs.InTime.{earlier, timed}
 use Rattle.rasta_check.proofs.Listing.{proof_of, HandsUpData, of_units, data_grown, unit_handed, listed_below, listed_first}
@@ -23,6 +25,16 @@ module _ (p : Parameters) (ws : List World) (w : World) (c s : List FirstCopy) (
 
   pub server_first : (rest : List (List (List ℕ))) × (messages_handed w.server.state ≡ messages_listed (surely_taken p Client c s) ++ rest)
   server_first = listed_first p Client w.server.state w.client.state c s kn.sends.same (of_units w.server.state w.client.state server_hands_up) kn.taken
+
+  -- the packet at the proof place of a unit is appended to a world of the run
+  pub server_appended : (i : ℕ) (u : TakenUnit) → slice_get (surely_taken p Client c s) i ≡ Some u → (v next : World) × Appends ws w u.proof_place v next
+  server_appended i u g =
+      let below = listed_below p Client w.server.state w.client.state c s kn.sends.same (of_units w.server.state w.client.state server_hands_up) i u g in
+      let shown = proof_of (all_made p Client c) s i below.0 in
+      let q = hs.firsts shown.j shown.d shown.there in
+      let z = slice_get_within w.crossed shown.d.place q.0 q.1 in
+      let e = below.1 ∙ shown.place in
+      appended p ws w r u.proof_place (omega (arith, z, e))
 
   -- with a unit those in front of it were handed up
   pub server_in_time_through : (i j : ℕ) (u t : TakenUnit) (v next : World) → j ≤ i → slice_get (surely_taken p Client c s) i ≡ Some u → slice_get (surely_taken p Client c s) j ≡ Some t
@@ -45,6 +57,15 @@ module _ (p : Parameters) (ws : List World) (w : World) (c s : List FirstCopy) (
 
   pub client_first : (rest : List (List (List ℕ))) × (messages_handed w.client.state ≡ messages_listed (surely_taken p Server s c) ++ rest)
   client_first = listed_first p Server w.client.state w.server.state s c kn.their_sends.same (of_units w.client.state w.server.state client_hands_up) kn.their_taken
+
+  pub client_appended : (i : ℕ) (u : TakenUnit) → slice_get (surely_taken p Server s c) i ≡ Some u → (v next : World) × Appends ws w u.proof_place v next
+  client_appended i u g =
+      let below = listed_below p Server w.client.state w.server.state s c kn.their_sends.same (of_units w.client.state w.server.state client_hands_up) i u g in
+      let shown = proof_of (all_made p Server s) c i below.0 in
+      let q = hc.firsts shown.j shown.d shown.there in
+      let z = slice_get_within w.crossed shown.d.place q.0 q.1 in
+      let e = below.1 ∙ shown.place in
+      appended p ws w r u.proof_place (omega (arith, z, e))
 
   pub client_in_time_through : (i j : ℕ) (u t : TakenUnit) (v next : World) → j ≤ i → slice_get (surely_taken p Server s c) i ≡ Some u → slice_get (surely_taken p Server s c) j ≡ Some t
       → Appends ws w u.proof_place v next → HasHandedUp v.client.state j t.messages

@@ -1,5 +1,5 @@
 -- Positions in ordered lists of first copies.
-use Rattle.std.proofs.Common.{◌≡◌, ℕ, zero, suc, ◌+◌, ◌-◌, ◌%◌, ◌^◌, ◌<◌, ◌≤◌, ◌++◌, Bool, true, false, cond, nat_lt, nat_eq, List, [], ◌∷◌, Option, Some, None, length, get_or, slice_get, position, refl, ap, sym, ◌∙◌, arith, subst, ⊎_elim, lt-ltb, le-ltb, true≢false, not, if◌then◌else◌, eqb, take, drop, length-append}
+use Rattle.std.proofs.Common.{◌≡◌, ℕ, zero, suc, ◌+◌, ◌-◌, ◌%◌, ◌^◌, ◌<◌, ◌≤◌, ◌++◌, Bool, true, false, cond, nat_lt, nat_eq, List, [], ◌∷◌, Option, Some, None, length, get_or, slice_get, position, refl, ap, sym, ◌∙◌, arith, subst, ⊎_elim, lt-ltb, le-ltb, true≢false, not, if◌then◌else◌, eqb, take, drop}
 use Rattle.std.specs.List.{position_or_len}
 use Rattle.std.specs.Option.{option_map}
 use Rattle.std.proofs.lemmas.Bool.Decides.{nat_tests}
@@ -84,20 +84,16 @@ module _ (sent : List FirstCopy) (c : FirstCopy) (h : IsOrdered (sent ++ c ∷ [
   ordered_front = record {
     places = λ i a b x y. h.places i a b (get_front sent (c ∷ []) i a x) (get_front sent (c ∷ []) (suc i) b y);
     numbers = λ i a b x y. h.numbers i a b (get_front sent (c ∷ []) 0 a x) (get_front sent (c ∷ []) i b y);
-    few = (let l = length_push sent c in let z = h.few in omega arith);
   }
 
-  few_front : length sent < 4294967296
-  few_front = (let l = length_push sent c in let z = h.few in omega arith)
-
   -- its number is new
-  pub number_new : (i : ℕ) (d : FirstCopy) → slice_get sent i ≡ Some d → d.pdu.number ≡ c.pdu.number → ⊥
-  number_new i d g e =
+  pub number_new : length sent < 4294967296 → (i : ℕ) (d : FirstCopy) → slice_get sent i ≡ Some d → d.pdu.number ≡ c.pdu.number → ⊥
+  number_new few i d g e =
       let l = slice_get_within sent i d g in
       let head = slice_get_some sent 0 (omega arith) in
       let start = get_front sent (c ∷ []) 0 head.0 head.1 in
       not_again head.0.pdu.number i (length sent) d.pdu.number c.pdu.number
-      (h.numbers i head.0 d start (get_front sent (c ∷ []) i d g)) (h.numbers (length sent) head.0 c start (get_push sent c)) l few_front e
+      (h.numbers i head.0 d start (get_front sent (c ∷ []) i d g)) (h.numbers (length sent) head.0 c start (get_push sent c)) l few e
 
 -- places rise
 pub places_below : (sent : List FirstCopy) → IsOrdered sent → (d i : ℕ) (a b : FirstCopy) → slice_get sent i ≡ Some a → slice_get sent (suc d + i) ≡ Some b → a.place < b.place
@@ -165,7 +161,7 @@ same_place f n i a b e = omega arith
 there_again : (f n : ℕ) → f < 4294967296 → n < 4294967296 → n ≡ (f + (n + (4294967296 - f)) % 2 ^ 32) % 2 ^ 32
 there_again f n a b = omega arith
 
-module _ (sent : List FirstCopy) (h : IsOrdered sent) (start : FirstCopy) (g0 : slice_get sent 0 ≡ Some start) (n : ℕ) (small : n < 4294967296) where
+module _ (sent : List FirstCopy) (h : IsOrdered sent) (few : length sent < 4294967296) (start : FirstCopy) (g0 : slice_get sent 0 ≡ Some start) (n : ℕ) (small : n < 4294967296) where
   start_small : start.pdu.number < 4294967296
   start_small = (let e = h.numbers 0 start start g0 g0 in small_wrapped start.pdu.number e)
     where
@@ -175,7 +171,6 @@ module _ (sent : List FirstCopy) (h : IsOrdered sent) (start : FirstCopy) (g0 : 
   pub near : (d : ℕ) → d ≡ (n + (4294967296 - start.pdu.number)) % 2 ^ 32 → d < length sent → position_of_number sent n ≡ Some d
   near d e l =
       let c = slice_get_some sent d l in
-      let few = h.few in
       let at : c.0.pdu.number ≡ n = h.numbers d start c.0 g0 c.1 ∙ (ap (λ k. wrapped (start.pdu.number + k)) e ∙ sym (there_again start.pdu.number n start_small small)) in
       position_at n (numbers_of sent) d (slice_get-map (λ (x : FirstCopy). x.pdu.number) sent d ∙ (ap (option_map (λ (x : FirstCopy). x.pdu.number)) c.1 ∙ ap Some at))
       (λ j y b g q. (let w = number_there sent j y g in
@@ -183,7 +178,6 @@ module _ (sent : List FirstCopy) (h : IsOrdered sent) (start : FirstCopy) (g0 : 
 
   pub far : (d : ℕ) → d ≡ (n + (4294967296 - start.pdu.number)) % 2 ^ 32 → length sent ≤ d → position_of_number sent n ≡ None
   far d e l =
-      let few = h.few in
       position_none n (numbers_of sent) (λ j y g q. (let w = number_there sent j y g in
       let m = slice_get_within sent j w.0 w.1 in
       let same = same_place start.pdu.number n j start_small (omega arith) (sym (w.2 ∙ q) ∙ h.numbers j start w.0 g0 w.1) in omega arith))
@@ -194,7 +188,6 @@ ordered_part : (xs ys : List FirstCopy) → IsOrdered (xs ++ ys) → IsOrdered x
 ordered_part xs ys h = record {
   places = λ i a b x y. h.places i a b (get_front xs ys i a x) (get_front xs ys (suc i) b y);
   numbers = λ i a b x y. h.numbers i a b (get_front xs ys 0 a x) (get_front xs ys i b y);
-  few = (let l = length-append xs ys in let z = h.few in omega arith);
 }
 
 pub ordered_take : (n : ℕ) (xs : List FirstCopy) → IsOrdered xs → IsOrdered (take n xs)

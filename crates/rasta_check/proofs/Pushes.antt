@@ -1,10 +1,10 @@
 -- Lists of first copies as vectors and maps hold them, with one more.
-use Rattle.std.proofs.Common.{◌≡◌, ℕ, suc, ◌++◌, Bool, true, false, true≢false, cond, Option, List, [], ◌∷◌, Some, length, map, nat_eq, refl, ap, sym, ◌∙◌, arith, subst, if◌then◌else◌, slice_get}
+use Rattle.std.proofs.Common.{◌≡◌, ℕ, suc, ◌+◌, ◌<◌, ◌++◌, Bool, true, false, true≢false, cond, Option, List, [], ◌∷◌, Some, length, map, nat_eq, refl, ap, sym, ◌∙◌, arith, subst, if◌then◌else◌, slice_get}
 use Rattle.std.specs.HashMap.{HashMap}
 use Rattle.std.specs.Map.{keys_of, lookup}
 use Rattle.std.specs.Option.{option_map}
 use Rattle.std.specs.Prelude.{◌==◌}
-use Rattle.std.proofs.lemmas.List.{map-append}
+use Rattle.std.proofs.lemmas.List.{map-append, length-map, length_push}
 use Rattle.std.proofs.lemmas.Map.{NonePasses, lookup-none}
 use Rattle.std.proofs.lemmas.Bool.Decides.{nat_tests}
 use Rattle.indexmap.specs.IndexMap.{insert_entry}
@@ -30,6 +30,9 @@ marks_grown sent all c place position old mid new e h m at count same set =
 
 pub vector_grown : (items all : List (ℕ × Pdu)) (x : ℕ × Pdu) → all ≡ items ++ x ∷ [] → map copy_of all ≡ map copy_of items ++ copy_of x ∷ []
 vector_grown items all x e = ap (map copy_of) e ∙ map-append copy_of items (x ∷ [])
+
+pub vector_few : (items all : List (ℕ × Pdu)) (x : ℕ × Pdu) → all ≡ items ++ x ∷ [] → length (map copy_of items) + 1 < 4294967296 → length all < 4294967296
+vector_few items all x e few = (let a = ap length e in let b = length_push items x in let d = length-map items copy_of in omega (arith, a, b, d, few))
 
 -- ---- a map
 
@@ -59,11 +62,11 @@ none_has (e ∷ es) n same new =
     let tail : keys_of es ≡ numbers_of (copies_in es) = cc in
     (differ n e.0 (λ z. new 0 (copy_of e.1) refl (sym head ∙ z)), none_has es n tail (λ i d g. new (suc i) d g))
 
-module _ {S : Type 0} (m : HashMap ℕ (ℕ × Pdu) S) (x : ℕ × Pdu) (h : IsOrdered (copies_in m.entries ++ copy_of x ∷ [])) (keys : keys_of m.entries ≡ numbers_of (copies_in m.entries)) where
+module _ {S : Type 0} (m : HashMap ℕ (ℕ × Pdu) S) (x : ℕ × Pdu) (h : IsOrdered (copies_in m.entries ++ copy_of x ∷ [])) (keys : keys_of m.entries ≡ numbers_of (copies_in m.entries)) (few : length (copies_in m.entries) < 4294967296) where
   inserted : (number : ℕ) → number ≡ x.1.number → insert_entry nat_eq m.entries number x ≡ m.entries ++ (number, x) ∷ []
   inserted number e =
       insert_entry-new nat_eq m number x (lookup-none (nat_eq number) m.entries (none_has m.entries number keys
-      (λ i d g z. number_new (copies_in m.entries) (copy_of x) h i d g (z ∙ e))))
+      (λ i d g z. number_new (copies_in m.entries) (copy_of x) h few i d g (z ∙ e))))
 
   pub map_grown : (number : ℕ) (all : Entries) → number ≡ x.1.number → all ≡ insert_entry nat_eq m.entries number x → copies_in all ≡ copies_in m.entries ++ copy_of x ∷ []
   map_grown number all e f = ap copies_in (f ∙ inserted number e) ∙ copies_push m.entries number x
@@ -71,6 +74,9 @@ module _ {S : Type 0} (m : HashMap ℕ (ℕ × Pdu) S) (x : ℕ × Pdu) (h : IsO
   pub keys_grown : (number : ℕ) (all : Entries) → number ≡ x.1.number → all ≡ insert_entry nat_eq m.entries number x → keys_of all ≡ numbers_of (copies_in all)
   keys_grown number all e f =
       ap keys_of (f ∙ inserted number e) ∙ (keys_push m.entries number x ∙ ((λ i. keys i ++ e i ∷ []) ∙ (sym (numbers_push (copies_in m.entries) (copy_of x)) ∙ ap numbers_of (sym (map_grown number all e f)))))
+
+pub map_few : (es all : Entries) (c : FirstCopy) → copies_in all ≡ copies_in es ++ c ∷ [] → length (copies_in es) + 1 < 4294967296 → length all < 4294967296
+map_few es all c e few = (let a = ap length e in let b = length_push (copies_in es) c in let d = length-map all (λ (x : ℕ × (ℕ × Pdu)). copy_of x.1) in omega (arith, a, b, d, few))
 
 -- ---- the place of a number
 

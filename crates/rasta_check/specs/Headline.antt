@@ -21,11 +21,13 @@ abbrev pub messages_in_list : List ListedMessage → List (List ℕ)
 messages_in_list listed = map (λ (m : ListedMessage). m.message) listed
 
 -- in this run this side handed up the units of its peer from the first on, once each and in order, and their messages begin with those
--- of the list; and it had handed up each message of the list in the world to which the packet at its proof place is appended
+-- of the list; and the packet at the proof place of each message of the list is appended to a world of the run, and to each such world
+-- the message had been handed up
 pub record HandsUpListed (ws : List World) (w : World) (side : Side) (listed : List ListedMessage) : Type 0 where
   pub units : HandsUpUnits (end_of w side) (end_of w (other_side side))
   pub rest : List (List ℕ)
   pub first : messages_up (end_of w side) ≡ messages_in_list listed ++ rest
+  pub appended : (i : ℕ) (m : ListedMessage) → slice_get listed i ≡ Some m → (v next : World) × Appends ws w m.proof_place v next
   pub in_time : (i : ℕ) (m : ListedMessage) (v next : World) → slice_get listed i ≡ Some m → Appends ws w m.proof_place v next
       → slice_get (messages_up (end_of v side)) i ≡ Some m.message
 

@@ -1,10 +1,9 @@
 -- Sent lists as they are looked up: by position, by redundancy number and by place.
-use Rattle.std.specs.Prelude.{◌≡◌, ℕ, zero, suc, ◌+◌, ◌<◌, ◌≤◌, List, map, length, Option, Some, None, slice_get, position, nat_eq}
+use Rattle.std.specs.Prelude.{◌≡◌, ℕ, zero, suc, ◌+◌, ◌<◌, List, map, Option, Some, None, slice_get, position, nat_eq}
 use Rattle.rasta_pdu.specs.declared.pdu.Pdu.{Pdu}
 use Rattle.rasta_pdu.specs.Pdu.{value_of}
 use Rattle.rasta_end.specs.State.{wrapped}
 use Rattle.rasta_check.specs.Crossing.{FirstCopy}
-use Rattle.rasta_check.specs.World.{most_sent}
 
 -- a place and the PDU that was read there, as they are handed out
 abbrev pub copy_of : ℕ × Pdu → FirstCopy
@@ -24,11 +23,10 @@ position_of_number sent number = position (nat_eq number) (numbers_of sent)
 abbrev pub position_of_place : List FirstCopy → ℕ → Option ℕ
 position_of_place sent place = position (nat_eq place) (places_of sent)
 
--- places rise, numbers rise by one modulo 2^32, and there are no more members than an end may have sent
+-- places rise, and numbers rise by one modulo 2^32
 pub record IsOrdered (sent : List FirstCopy) : Type 0 where
   pub places : (i : ℕ) (copy next : FirstCopy) → slice_get sent i ≡ Some copy → slice_get sent (suc i) ≡ Some next → copy.place < next.place
   pub numbers : (i : ℕ) (start copy : FirstCopy) → slice_get sent 0 ≡ Some start → slice_get sent i ≡ Some copy → copy.pdu.number ≡ wrapped (start.pdu.number + i)
-  pub few : length sent ≤ most_sent
 
 -- ---- a table of places: at each place one more than the position that stands there, or 0
 

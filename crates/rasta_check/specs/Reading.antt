@@ -1,5 +1,5 @@
 -- What is read of a capture: the packets that crossed with what each side sent, or the first fault.
-use Rattle.std.specs.Prelude.{ℕ, ◌≤◌, List, [], ◌∷◌, ◌++◌, length, Option, Some, None, Result, Ok, Err, Bool, ◌&&◌, nat_lt, nat_le, if◌then◌else◌}
+use Rattle.std.specs.Prelude.{◌≡◌, ℕ, ◌≤◌, List, [], ◌∷◌, ◌++◌, length, Option, Some, None, Result, Ok, Err, Bool, ◌&&◌, nat_lt, nat_le, if◌then◌else◌}
 use Rattle.rasta_pcap.specs.declared.fault.Fault.{Fault}
 use Rattle.rasta_pcap.specs.declared.fault.Side.{Side}
 use Rattle.rasta_pcap.specs.declared.fault.Side.TheVariants.{Client, Server}
@@ -36,6 +36,11 @@ pub record IsCrossing (k : Crossing) : Type 0 where
   pub few_packets : length k.packets ≤ most_packets
   pub few_client : length k.client ≤ most_sent
   pub few_server : length k.server ≤ most_sent
+
+-- these are the sent lists of so many packets
+abbrev pub AreSentLists : Parameters → ℕ → List FirstCopy → List FirstCopy → Type 0
+AreSentLists p packets client server =
+    (w : List Packet) × (length w ≡ packets) × IsCrossing (record { params = p; packets = w; client = client; server = server })
 
 -- ---- the next packet
 

@@ -4,9 +4,9 @@ ghost use Rattle.rasta_pcap.specs.Fault.{no_memory};
 ghost use Rattle.rasta_pcap.specs.Capture.{IsCapture};
 ghost use Rattle.rasta_udp.specs.Frame.{Packet};
 ghost use Rattle.rasta_check.specs.Crossing.{crossing_list};
-ghost use Rattle.rasta_check.specs.Reading.{IsCrossing};
+ghost use Rattle.rasta_check.specs.Reading.{AreSentLists, IsCrossing};
 ghost use Rattle.rasta_check.specs.Listing.{listed_by};
-ghost use Rattle.rasta_check.specs.Report.{BothFit, Explains, explained, verdict_of, verdict_of_file};
+ghost use Rattle.rasta_check.specs.Report.{BothFit, Explains, explained, report_of, verdict_of, verdict_of_file};
 ghost use Rattle.rasta_check.specs.Headline.{Headline, IsSharp};
 
 use crate::crossing::Sent;
@@ -52,8 +52,7 @@ fn verdict<'a, S: SentList<'a>>(
     server: &S,
     certificate: &Certificate,
 ) -> Result<Report<'a>, Fault>
-    requires crossed { (w : List Packet) × (length w ≡ packets)
-        × IsCrossing (record { params = p.now; packets = w; client = S.content client.now; server = S.content server.now }) }
+    requires crossed { AreSentLists p.now packets (S.content client.now) (S.content server.now) }
     ensures { MatchResult result
         (λ r. verdict_of p.now packets (S.content client.now) (S.content server.now) certificate.now ≡ Ok (explained r))
         (λ f. (verdict_of p.now packets (S.content client.now) (S.content server.now) certificate.now ≡ Err f) ⊎ (f ≡ no_memory)) }
@@ -103,8 +102,7 @@ pub fn check_lists<'a, S: SentList<'a>>(
     certificate: &Certificate,
 ) -> Result<Report<'a>, Fault>
     // Both are the sent lists of so many packets.
-    requires crossed { (w : List Packet) × (length w ≡ packets)
-        × IsCrossing (record { params = p.now; packets = w; client = S.content client.now; server = S.content server.now }) }
+    requires crossed { AreSentLists p.now packets (S.content client.now) (S.content server.now) }
     // The report, or the first fault.
     ensures verdict { MatchResult result
         (λ r. verdict_of p.now packets (S.content client.now) (S.content server.now) certificate.now ≡ Ok (explained r))
@@ -112,6 +110,9 @@ pub fn check_lists<'a, S: SentList<'a>>(
     // A report stands exactly where both scripts fit.
     ensures fits { OnOk result (BothFit p.now packets (S.content client.now) (S.content server.now) certificate.now) }
     ensures refused { IfErr result (λ f. (BothFit p.now packets (S.content client.now) (S.content server.now) certificate.now → ⊥) ⊎ (f ≡ no_memory)) }
+    // Both scripts fit, and the report is that on these lists.
+    ensures exact { IfOk result (λ r. BothFit p.now packets (S.content client.now) (S.content server.now) certificate.now
+        × (explained r ≡ report_of p.now packets (S.content client.now) (S.content server.now))) }
     // The headline, for all packets of which these are the sent lists.
     ensures headline { IfOk result (λ r. (w : List Packet) → length w ≡ packets
         → IsCrossing (record { params = p.now; packets = w; client = S.content client.now; server = S.content server.now })
@@ -142,6 +143,8 @@ pub fn check_sent<'a>(
         (λ f. (verdict_of p.now (length sent.now.packets) sent.now.client sent.now.server certificate.now ≡ Err f) ⊎ (f ≡ no_memory)) }
     ensures fits { OnOk result (BothFit p.now (length sent.now.packets) sent.now.client sent.now.server certificate.now) }
     ensures refused { IfErr result (λ f. (BothFit p.now (length sent.now.packets) sent.now.client sent.now.server certificate.now → ⊥) ⊎ (f ≡ no_memory)) }
+    ensures exact { IfOk result (λ r. BothFit p.now (length sent.now.packets) sent.now.client sent.now.server certificate.now
+        × (explained r ≡ report_of p.now (length sent.now.packets) sent.now.client sent.now.server)) }
     ensures headline { IfOk result (λ r. Headline p.now sent.now.packets (explained r)) }
     ensures sharp { IfOk result (λ r. IsSharp p.now sent.now.packets (explained r)) }
 {
@@ -175,6 +178,10 @@ pub fn check<'a>(
     // A report stands exactly where the capture has no fault and both scripts fit.
     ensures explains { OnOk result (Explains p.now file.now certificate.now) }
     ensures refused { IfErr result (λ f. (Explains p.now file.now certificate.now → ⊥) ⊎ (f ≡ no_memory)) }
+    // The capture's records hold packets of which its sides sent these lists, both scripts fit them, and the report is that on just
+    // these lists.
+    ensures exact { IfOk result (λ r. (e : Explains p.now file.now certificate.now)
+        × (explained r ≡ report_of p.now (length (crossing_list p.now e.capture.records)) e.client e.server)) }
     // The headline, for the packets that the capture's records hold.
     ensures headline { IfOk result (λ r. (records : List (List ℕ)) → IsCapture p.now.last_record file.now records
         → Headline p.now (crossing_list p.now records) (explained r)) }

@@ -1,5 +1,5 @@
 //! A sent list in one vector.
-ghost use Rattle.std.specs.Prelude.{◌≡◌, [], ◌∷◌, ◌++◌, List, map, IfOk, OnOk, OnErr};
+ghost use Rattle.std.specs.Prelude.{◌≡◌, ◌+◌, ◌<◌, ◌^◌, [], ◌∷◌, ◌++◌, List, length, map, IfOk, OnOk, OnErr};
 ghost use Rattle.rasta_check.specs.Crossing.{FirstCopy};
 ghost use Rattle.rasta_check.specs.Lists.{AreMarks, IsOrdered, copy_of};
 
@@ -21,7 +21,8 @@ impl<'a> Model for DenseList<'a> {
 
     ghost view = { λ l. map copy_of l.copies.items };
 
-    ghost invariant = { λ l. IsOrdered (map copy_of l.copies.items) × AreMarks (map copy_of l.copies.items) l.places.marks.items };
+    ghost invariant = { λ l. IsOrdered (map copy_of l.copies.items) × AreMarks (map copy_of l.copies.items) l.places.marks.items
+        × (length l.copies.items < 2 ^ 32) };
 }
 
 impl<'a> DenseList<'a> {
@@ -50,7 +51,8 @@ impl<'a> DenseList<'a> {
 
     // Adds a first copy behind the others. Without memory for it the list stays as it was.
     pub(crate) fn push(&mut self, place: u32, pdu: Pdu<'a>) -> Result<(), AllocError>
-        requires { IsOrdered (self.old ++ copy_of (place, pdu) ∷ []) }
+        requires ordered { IsOrdered (self.old ++ copy_of (place, pdu) ∷ []) }
+        requires few { length self.old + 1 < 2 ^ 32 }
         ensures ok { OnOk result (self.new ≡ self.old ++ copy_of (place, pdu.entry) ∷ []) }
         ensures err { OnErr result (self.new ≡ self.old) }
     {

@@ -1,13 +1,13 @@
 //! Laws on every run of two ends, and on captures: public functions without a body, whose contracts are
 //! the laws.
-ghost use Rattle.std.specs.Prelude.{◌≡◌, ◌≤◌, ◌↔◌, ℕ, List, length, Ok, Err, IsSome};
+ghost use Rattle.std.specs.Prelude.{◌≡◌, ◌≤◌, ◌↔◌, ℕ, List, [], length, Ok, Err, IsSome};
 ghost use Rattle.rasta_pcap.specs.declared.fault.Fault.{Fault};
 ghost use Rattle.rasta_pcap.specs.Fault.{redundancy_length, number_gap};
 ghost use Rattle.rasta_pcap.specs.Capture.{IsCapture};
 ghost use Rattle.rasta_pdu.specs.Params.{Parameters, AreParameters};
 ghost use Rattle.rasta_pdu.specs.Messages.{AreBytes};
 ghost use Rattle.rasta_check.specs.Crossing.{FirstCopy, crossing_list};
-ghost use Rattle.rasta_check.specs.Reading.{Crossing, crossing_of};
+ghost use Rattle.rasta_check.specs.Reading.{AreSentLists, Crossing, crossing_of};
 ghost use Rattle.rasta_check.specs.Verdicts.{Impossible, packets_through, IsFaultlessCapture};
 ghost use Rattle.rasta_check.specs.Laws;
 ghost use Rattle.rasta_check.specs.Theorem.{OfConnection, SentLists, Definite, Simulation, Necessity, Sharpness, Complete, Stuck};
@@ -74,6 +74,11 @@ pub fn complete()
 /// A script leads to one end; where its next entry can't follow, no script that begins so fits.
 pub fn stuck()
     ensures { (p : Parameters) → OfConnection p → Stuck p }
+{}
+
+/// Two empty lists and no packets meet the condition of [`check_lists`](crate::check_lists).
+pub fn empty_lists_are_sent()
+    ensures { (p : Parameters) → OfConnection p → AreSentLists p 0 [] [] }
 {}
 
 /// What is read of a capture are the packets of its records.

@@ -1,5 +1,5 @@
 //! A sent list in a map.
-ghost use Rattle.std.specs.Prelude.{◌≡◌, [], ◌∷◌, ◌++◌, List, option_map, OnOk, OnErr};
+ghost use Rattle.std.specs.Prelude.{◌≡◌, ◌+◌, ◌<◌, ◌^◌, [], ◌∷◌, ◌++◌, List, length, option_map, OnOk, OnErr};
 ghost use Rattle.std.specs.Map.{keys_of};
 ghost use Rattle.rasta_check.specs.Crossing.{FirstCopy, copy_with};
 ghost use Rattle.rasta_check.specs.Lists.{AreMarks, IsOrdered, copies_in, copy_of, numbers_of};
@@ -24,7 +24,8 @@ impl<'a> Model for MapList<'a> {
     ghost view = { λ l. copies_in l.copies.entries };
 
     ghost invariant = { λ l. (keys_of l.copies.entries ≡ numbers_of (copies_in l.copies.entries))
-        × IsOrdered (copies_in l.copies.entries) × AreMarks (copies_in l.copies.entries) l.places.marks.items };
+        × IsOrdered (copies_in l.copies.entries) × AreMarks (copies_in l.copies.entries) l.places.marks.items
+        × (length l.copies.entries < 2 ^ 32) };
 }
 
 impl<'a> MapList<'a> {
@@ -50,7 +51,8 @@ impl<'a> MapList<'a> {
 
     // Adds a first copy behind the others. Without memory for it the list stays as it was.
     pub(crate) fn push(&mut self, place: u32, pdu: Pdu<'a>) -> Result<(), AllocError>
-        requires { IsOrdered (self.old ++ copy_of (place, pdu) ∷ []) }
+        requires ordered { IsOrdered (self.old ++ copy_of (place, pdu) ∷ []) }
+        requires few { length self.old + 1 < 2 ^ 32 }
         ensures ok { OnOk result (self.new ≡ self.old ++ copy_of (place, pdu.entry) ∷ []) }
         ensures err { OnErr result (self.new ≡ self.old) }
     {
@@ -77,15 +79,8 @@ impl<'a> SentList<'a> for MapList<'a> {
     }
 
     fn position_of(&self, number: u32) -> Option<u32> {
-        // Numbers rise by one, so that the distance from the first tells the position, and the map isn't
-        // asked.
-        let (_, (_, first)) = self.copies.get_index(0)?;
-        let position = number.wrapping_sub(first.number());
-        if (position as usize) < self.copies.len() {
-            Some(position)
-        } else {
-            None
-        }
+        let position = self.copies.get_index_of(&number)?;
+        Some(position as u32)
     }
 
     fn at_place(&self, place: u32) -> Option<u32> {

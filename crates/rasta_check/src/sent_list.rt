@@ -8,8 +8,8 @@ use rasta_pdu::Pdu;
 /// The first copies of the packets that one side sent, in the order in which they crossed: each has a
 /// place among the packets, counted from 0, and a PDU, whose slices are slices of the capture.
 ///
-/// Positions count from 0. Places rise, redundancy numbers rise by 1 modulo 2^32, and there are at most
-/// 1,000,000. No call takes memory.
+/// Positions count from 0. Three laws hold: places rise, redundancy numbers rise by 1 modulo 2^32, and each
+/// call is exact. No call takes memory.
 pub trait SentList<'a> {
     /// The first copies.
     ghost content: { Self → List FirstCopy };

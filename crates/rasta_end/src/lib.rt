@@ -18,4 +18,5 @@ mod why;
 
 pub use end::End;
 pub use phase::Phase;
+pub use rasta_pcap::{Fault, Side, Sink, Source};
 pub use why::Why;

@@ -1,7 +1,7 @@
 use Rattle.std.proofs.Common.{inl, inr, ⊎_elim}
 use Rattle.rasta_check.specs.Report.{explained}
 use Rattle.rasta_check.proofs.Answering.{both, if_ok, if_err, still_ok, err_is}
-use Rattle.rasta_check.proofs.Filed.{same_params, seen, verdict_is, explains, not_explained, headline_is}
+use Rattle.rasta_check.proofs.Filed.{same_params, seen, verdict_is, explains, exactly, not_explained, headline_is}
 use Rattle.rasta_check.proofs.checker.check.Goals as goal
 
 pub returns-in_err-sent-clause-refused : goal.returns-in_err-sent-clause-refused
@@ -25,6 +25,13 @@ returns-clause-explains c =
     let h = seen _ k c.sent-2.view_is c.sent-2.invariant in
     still_ok c.check_sent.result _ _ c.check_sent.ensures.fits
     (λ fits. explains c.args.p.now c.args.file.now k c.in_ok-sent.ensures.value h c.args.certificate.now c.in_ok-sent.ensures.read fits)
+
+pub returns-clause-exact : goal.returns-clause-exact
+returns-clause-exact c =
+    let k = c.in_ok-sent.sent in
+    let h = seen _ k c.sent-2.view_is c.sent-2.invariant in
+    if_ok c.check_sent.result _ _ c.check_sent.ensures.exact
+    (λ r x. exactly c.args.p.now c.args.file.now k c.in_ok-sent.ensures.value h c.args.certificate.now c.in_ok-sent.ensures.read (explained r) x.0 x.1)
 
 pub returns-clause-refused : goal.returns-clause-refused
 returns-clause-refused c =

@@ -1,7 +1,7 @@
 use Rattle.std.proofs.Common.{◌≡◌, Ok, Err, sym, subst, inl, inr, ⊎_elim}
 use Rattle.rasta_check.specs.Report.{BothFit, explained, verdict_of}
 use Rattle.rasta_check.proofs.Answering.{where_ok, on_ok, where_err}
-use Rattle.rasta_check.proofs.Headlined.{verdict_fits, verdict_refuses, headline, is_sharp}
+use Rattle.rasta_check.proofs.Headlined.{ends, verdict_fits, verdict_refuses, headline, is_sharp}
 use Rattle.rasta_check.proofs.checker.check_lists.Goals as goal
 
 pub returns-clause-fits : goal.returns-clause-fits
@@ -12,6 +12,17 @@ returns-clause-fits g c =
     on_ok c.verdict.result _ _ _ c.verdict.ensures (λ x e.
     subst (λ n. BothFit c.args.p.now n cs ss c.args.certificate.now) w.1
     (verdict_fits c.args.p.now w.0 cs ss w.2 c.args.certificate.now (explained x) (subst (λ n. verdict_of c.args.p.now n cs ss c.args.certificate.now ≡ Ok (explained x)) (sym w.1) e)))
+
+pub returns-clause-exact : goal.returns-clause-exact
+returns-clause-exact g c =
+    let w = c.requires.crossed in
+    let cs = g.S.SentList.content c.args.client.now in
+    let ss = g.S.SentList.content c.args.server.now in
+    where_ok c.verdict.result _ _ _ c.verdict.ensures (λ x e. (
+      subst (λ n. BothFit c.args.p.now n cs ss c.args.certificate.now) w.1
+          (verdict_fits c.args.p.now w.0 cs ss w.2 c.args.certificate.now (explained x) (subst (λ n. verdict_of c.args.p.now n cs ss c.args.certificate.now ≡ Ok (explained x)) (sym w.1) e)),
+      (ends c.args.p.now c.args.packets cs ss c.args.certificate.now (explained x) e).says,
+    ))
 
 pub returns-clause-refused : goal.returns-clause-refused
 returns-clause-refused g c =

@@ -1,5 +1,5 @@
 use Rattle.std.proofs.Common.{◌∙◌, refl, sym, inl, inr, ⊎_elim}
-use Rattle.rasta_check.specs.Report.{verdict_of}
+use Rattle.rasta_check.specs.Report.{report_of, verdict_of}
 use Rattle.rasta_check.proofs.Answering.{both, if_ok, if_err, still_ok}
 use Rattle.rasta_check.proofs.Headlined.{fits_by, lent}
 use Rattle.rasta_check.proofs.checker.check_sent.Goals as goal
@@ -19,6 +19,14 @@ pub returns-clause-fits : goal.returns-clause-fits
 returns-clause-fits c =
     still_ok c.check_lists.result _ _ c.check_lists.ensures.fits
     (fits_by c.args.p.now c.args.certificate.now _ _ _ _ _ _ c.len.ensures.value c.client.ensures.value c.server.ensures.value)
+
+pub returns-clause-exact : goal.returns-clause-exact
+returns-clause-exact c =
+    if_ok c.check_lists.result _ _ c.check_lists.ensures.exact
+    (λ r x. (
+      fits_by c.args.p.now c.args.certificate.now _ _ _ _ _ _ c.len.ensures.value c.client.ensures.value c.server.ensures.value x.0,
+      x.1 ∙ (λ i. report_of c.args.p.now (c.len.ensures.value i) (c.client.ensures.value i) (c.server.ensures.value i)),
+    ))
 
 pub returns-clause-refused : goal.returns-clause-refused
 returns-clause-refused c =

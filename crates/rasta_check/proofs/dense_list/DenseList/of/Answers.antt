@@ -1,17 +1,27 @@
-use Rattle.std.proofs.Common.{◌+◌, List, [], ◌∷◌, ◌++◌, ap, sym, ◌∙◌, subst, arith}
+use Rattle.std.proofs.Common.{◌+◌, List, [], ◌∷◌, ◌++◌, ap, sym, ◌∙◌, length, subst, arith}
 use Rattle.std.specs.Option.{option_map}
+use Rattle.std.proofs.lemmas.List.{length-take-le}
 use Rattle.rasta_check.specs.Crossing.{FirstCopy}
 use Rattle.rasta_check.specs.Lists.{IsOrdered, copy_of}
 use Rattle.rasta_check.proofs.Positions.{none_within, ordered_take, take_one_more}
 use Rattle.rasta_check.proofs.dense_list.DenseList.of.Goals as goal
 use Rattle.rasta_check.proofs.dense_list.DenseList.of.Goals.{in-Some+in_ok-push, in_default}
 
-pub push-requires : goal.push-requires
-push-requires g c =
+pub push-requires-clause-ordered : goal.push-requires-clause-ordered
+push-requires-clause-ordered g c =
     let xs = g.S.SentList.content c.args.list.now in
     let x = copy_of (c.in-Some.place, c.in-Some.pdu) in
     let grown = ap (λ (s : List FirstCopy). s ++ x ∷ []) c.loop-position.invariant ∙ take_one_more c.loop-position.position xs x (sym c.in-Some.ensures.value) in
     subst IsOrdered (sym grown) (ordered_take (c.loop-position.position + 1) xs c.get.ensures.ordered)
+
+pub push-requires-clause-few : goal.push-requires-clause-few
+push-requires-clause-few g c =
+    let xs = g.S.SentList.content c.args.list.now in
+    let a = ap length c.loop-position.invariant in
+    let b = c.loop-position-test.true in
+    let d = c.len-position-end.ensures.value in
+    let e = length-take-le c.loop-position.position xs (omega arith) in
+    omega arith
 
 pub loop-position-preserved : goal.loop-position-preserved
 loop-position-preserved g c =

@@ -18,8 +18,9 @@ returns-then-position-len-clause-value c =
     let g0 = first_of items x (ap (λ (xs : List (ℕ × Pdu)). slice_get xs 0) (sym c.deref.ensures.value) ∙ sym c.in_ok-first.ensures.value) in
     let d = (c.args.number + (4294967296 - c.number.result)) % 4294967296 in
     let e = ap (λ k. (c.args.number + (4294967296 - k)) % 4294967296) c.number.ensures in
+    let few : length (map copy_of items) < 4294967296 = (let z = c.self.invariant.2 in let w = length-map items copy_of in omega arith) in
     let l : d < length (map copy_of items) = (let z = c.if-position-len.true in let y = c.len.ensures in let w = length-map items copy_of in omega arith) in
-    sym (near (map copy_of items) c.self.invariant.0 (copy_of x) g0 c.args.number c.ranges.number.fits d e l)
+    sym (near (map copy_of items) c.self.invariant.0 few (copy_of x) g0 c.args.number c.ranges.number.fits d e l)
     ∙ ap (λ (s : List FirstCopy). position_of_number s c.args.number) c.self.view_is
 
 pub returns-else-position-len-clause-value : goal.returns-else-position-len-clause-value
@@ -29,6 +30,7 @@ returns-else-position-len-clause-value c =
     let g0 = first_of items x (ap (λ (xs : List (ℕ × Pdu)). slice_get xs 0) (sym c.deref.ensures.value) ∙ sym c.in_ok-first.ensures.value) in
     let d = (c.args.number + (4294967296 - c.number.result)) % 4294967296 in
     let e = ap (λ k. (c.args.number + (4294967296 - k)) % 4294967296) c.number.ensures in
+    let few : length (map copy_of items) < 4294967296 = (let z = c.self.invariant.2 in let w = length-map items copy_of in omega arith) in
     let l : length (map copy_of items) ≤ d = (let z = c.if-position-len.false in let y = c.len.ensures in let w = length-map items copy_of in omega arith) in
-    sym (far (map copy_of items) c.self.invariant.0 (copy_of x) g0 c.args.number c.ranges.number.fits d e l)
+    sym (far (map copy_of items) c.self.invariant.0 few (copy_of x) g0 c.args.number c.ranges.number.fits d e l)
     ∙ ap (λ (s : List FirstCopy). position_of_number s c.args.number) c.self.view_is
