@@ -1,5 +1,5 @@
 -- A reader or writer of which one call goes wrong.
-use Rattle.std.specs.Prelude.{◌≡◌, ℕ, List, Option, None, Result, Ok, Err}
+use Rattle.std.specs.Prelude.{◌≡◌, ℕ, List, ◌++◌, length, Option, None, Result, Ok, Err}
 use Rattle.rasta_pcap.specs.declared.devices.FailAt.{FailAt}
 use Rattle.rasta_pcap.specs.declared.devices.Mishap.{Mishap}
 use Rattle.rasta_pcap.specs.declared.devices.Mishap.TheVariants.{Fails, Idles}
@@ -27,3 +27,8 @@ GoesWrong Fails (Ok n) = ⊥
 GoesWrong Fails (Err e) = Unit {0}
 GoesWrong Idles (Ok n) = n ≡ 0
 GoesWrong Idles (Err e) = ⊥
+
+-- a list in memory takes all of the bytes, or fails and stays as it was
+abbrev pub GrowsOrKeeps : {E : Type 0} → List ℕ → List ℕ → Result ℕ E → List ℕ → Type 0
+GrowsOrKeeps old bytes (Ok n) new = (n ≡ length bytes) × (new ≡ old ++ bytes)
+GrowsOrKeeps old bytes (Err e) new = new ≡ old

@@ -1,5 +1,5 @@
 //! Readers and writers that count their failures.
-ghost use Rattle.std.specs.Prelude.{◌≡◌, ℕ, List, Option, IfOk, IfErr, OnOk, OnErr, ◌⊎◌};
+ghost use Rattle.std.specs.Prelude.{◌≡◌, ℕ, List, [], Option, Ok, IfOk, IfErr, OnOk, OnErr, ◌⊎◌};
 ghost use Rattle.std.specs.Io.{ReadsAtMost, WritesAtMost};
 ghost use Rattle.std.specs.Io.KnownBytes.{ReadConsumes, WriteAppends, IsAtEnd, Consumes, Appends};
 ghost use Rattle.rasta_pcap.specs.Fault.{no_memory, read_failed, write_failed};
@@ -162,6 +162,9 @@ pub fn write_all<W: Sink>(writer: &mut W, bytes: &[u8]) -> Result<(), Fault>
     ensures err { IfErr result (λ f. (f ≡ write_failed)
         × HasFailed (W.failure_count writer.old) (W.failure_count writer.new)) }
     ensures begun { OnErr result (AppendsBeginning (W.contents writer.old) (W.contents writer.new) bytes.now) }
+
+    // No byte is written by no call.
+    ensures none { bytes.now ≡ [] → (result ≡ Ok tt) × (writer.new ≡ writer.old) }
 {
     let mut rest = bytes;
     while !rest.is_empty() {

@@ -1,11 +1,37 @@
 //! Readers and writers for trials: over memory, in small pieces, and with a call that goes wrong.
-ghost use Rattle.std.specs.Prelude.{◌≡◌, ◌≢◌, ℕ, ◌-◌, ◌<◌, min, Some, length};
+ghost use Rattle.std.specs.Prelude.{◌≡◌, ◌≢◌, ℕ, ◌-◌, ◌<◌, min, List, Some, Result, length};
 ghost use Rattle.std.specs.Io.{ReadsAtMost, WritesAtMost};
 ghost use Rattle.std.specs.Io.KnownBytes.{ReadConsumes, WriteAppends};
-ghost use Rattle.rasta_pcap.specs.FailAt.{GoesWrong};
+ghost use Rattle.std.specs.declared.io.Error.{Error};
+ghost use Rattle.rasta_pcap.specs.FailAt.{GoesWrong, GrowsOrKeeps};
 
 use std::io;
 use std::io::{ErrorKind, Read, Write};
+
+/// A reader of which contracts know what a read may give.
+pub trait ReadDevice: Read {
+    /// What a read may give: from the reader and the buffer, the answer, and the buffer and the
+    /// reader then.
+    ghost read_gives: { Self → List ℕ → Result ℕ Error → List ℕ → Self → Type 0 };
+
+    /// One read of it.
+    fn read_once(&mut self, buf: &mut [u8]) -> io::Result<usize>
+        ensures bound { ReadsAtMost result buf.new }
+        ensures bytes { ReadConsumes (Self.remaining self.old) (Self.remaining self.new) result buf.new }
+        ensures gives { read_gives self.old buf.old result buf.new self.new };
+}
+
+/// A writer of which contracts know what a write may give.
+pub trait WriteDevice: Write {
+    /// What a write may give: from the writer and the bytes, the answer, and the writer then.
+    ghost write_gives: { Self → List ℕ → Result ℕ Error → Self → Type 0 };
+
+    /// One write of it.
+    fn write_once(&mut self, buf: &[u8]) -> io::Result<usize>
+        ensures bound { WritesAtMost result buf.now }
+        ensures bytes { WriteAppends (Self.contents self.old) (Self.contents self.new) result buf.now }
+        ensures gives { write_gives self.old buf.now result self.new };
+}
 
 /// A reader over memory that gives at most so many bytes a call.
 #[derive(Debug, Drop)]
@@ -43,6 +69,24 @@ impl<'a> Read for Pieces<'a> {
     {
         let n = self.most.min(buf.len());
         self.rest.read(&mut buf[..n])
+    }
+}
+
+impl<'a> ReadDevice for Pieces<'a> {
+    ghost use Rattle.rasta_pcap.specs.Pieces.{GivesPiece};
+
+    ghost read_gives = { λ old before outcome after new. GivesPiece old before outcome new };
+
+    fn read_once(&mut self, buf: &mut [u8]) -> io::Result<usize> {
+        self.read(buf)
+    }
+}
+
+impl WriteDevice for Vec<u8> {
+    ghost write_gives = { λ old bytes outcome new. GrowsOrKeeps old.items bytes outcome new.items };
+
+    fn write_once(&mut self, buf: &[u8]) -> io::Result<usize> {
+        self.write(buf)
     }
 }
 
@@ -120,7 +164,7 @@ impl<D> FailAt<D> {
     }
 }
 
-impl<D: Read> Read for FailAt<D> {
+impl<D: ReadDevice> Read for FailAt<D> {
     ghost use Rattle.rasta_pcap.specs.FailAt.{device_within, mishap_of, calls_to_mishap, known_unless_idle};
 
     ghost remaining = { λ f. known_unless_idle (mishap_of f) (D.remaining (device_within f)) };
@@ -137,15 +181,21 @@ impl<D: Read> Read for FailAt<D> {
         // At the call that goes wrong.
         ensures mishap { calls_to_mishap self.old ≡ 1 → GoesWrong (mishap_of self.old) result }
         ensures kept { calls_to_mishap self.old ≡ 1 → device_within self.new ≡ device_within self.old }
+
+        // At every other call: what the other one gives.
+        ensures gives { calls_to_mishap self.old ≢ 1 → D.read_gives (device_within self.old) buf.old
+            result buf.new (device_within self.new) }
+        ensures consumes { calls_to_mishap self.old ≢ 1 → ReadConsumes (D.remaining (device_within self.old))
+            (D.remaining (device_within self.new)) result buf.new }
     {
         match self.count_call() {
             Some(mishap) => outcome_of(mishap),
-            None => self.device.read(buf),
+            None => self.device.read_once(buf),
         }
     }
 }
 
-impl<D: Write> Write for FailAt<D> {
+impl<D: WriteDevice> Write for FailAt<D> {
     ghost use Rattle.rasta_pcap.specs.FailAt.{device_within, mishap_of, calls_to_mishap};
 
     ghost contents = { λ f. D.contents (device_within f) };
@@ -160,10 +210,14 @@ impl<D: Write> Write for FailAt<D> {
         // At the call that goes wrong.
         ensures mishap { calls_to_mishap self.old ≡ 1 → GoesWrong (mishap_of self.old) result }
         ensures kept { calls_to_mishap self.old ≡ 1 → device_within self.new ≡ device_within self.old }
+
+        // At every other call: what the other one gives.
+        ensures gives { calls_to_mishap self.old ≢ 1 → D.write_gives (device_within self.old) buf.now
+            result (device_within self.new) }
     {
         match self.count_call() {
             Some(mishap) => outcome_of(mishap),
-            None => self.device.write(buf),
+            None => self.device.write_once(buf),
         }
     }
 

@@ -1,7 +1,7 @@
 //! Files, devices and faults by example.
 ghost use Rattle.std.specs.Prelude.{Some, None};
 
-use crate::devices::{FailAt, Pieces};
+use crate::devices::{FailAt, Pieces, WriteDevice};
 use crate::{Counted, Fault, Pcap, Sink, Source, read_all, write_all};
 use std::alloc::{AllocError, Global};
 use std::io;
@@ -39,6 +39,14 @@ impl Write for Sips {
 
     fn flush(&mut self) -> io::Result<()> {
         Ok(())
+    }
+}
+
+impl WriteDevice for Sips {
+    ghost write_gives = { λ _ _ _ _. Unit {0} };
+
+    fn write_once(&mut self, buf: &[u8]) -> io::Result<usize> {
+        self.write(buf)
     }
 }
 
@@ -399,6 +407,14 @@ impl Write for Clogged {
 
     fn flush(&mut self) -> io::Result<()> {
         Err(io::Error::from(ErrorKind::Other))
+    }
+}
+
+impl WriteDevice for Clogged {
+    ghost write_gives = { λ _ _ _ _. Unit {0} };
+
+    fn write_once(&mut self, buf: &[u8]) -> io::Result<usize> {
+        self.write(buf)
     }
 }
 
