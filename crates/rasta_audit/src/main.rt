@@ -22,8 +22,6 @@ mod line;
 mod messages;
 mod packet;
 mod params;
-#[cfg(test)]
-mod params_tests;
 mod proposed;
 mod quiet_table;
 mod run_lines;
