@@ -1,50 +1,6 @@
 //! PDUs as rows write them, and their datagrams.
-use rasta_pdu::{
-    Body, Channel, Endpoint, Kind, Params, Pdu, PduParts, Quiet, Side, decode, encode,
-};
+use rasta_pdu::{Body, Kind, Params, Pdu, PduParts, Side, decode, encode};
 use std::alloc::Global;
-
-const FIRST: Channel = Channel {
-    client: Endpoint {
-        address: [10, 0, 0, 1],
-        port: 5000,
-    },
-    server: Endpoint {
-        address: [10, 0, 0, 2],
-        port: 5000,
-    },
-};
-
-const SECOND: Channel = Channel {
-    client: Endpoint {
-        address: [10, 0, 1, 1],
-        port: 5001,
-    },
-    server: Endpoint {
-        address: [10, 0, 1, 2],
-        port: 5001,
-    },
-};
-
-const CHANNELS: [Channel; 2] = [FIRST, SECOND];
-
-pub fn params(n_sendmax: u16, slack: u16, quiet: Option<Quiet>) -> Option<Params> {
-    let words = [0x6745_2301, 0xefcd_ab89, 0x98ba_dcfe, 0x1032_5476];
-    Params::new(
-        96,
-        97,
-        0,
-        words,
-        0,
-        n_sendmax,
-        1800,
-        slack,
-        1,
-        4_000_000_000,
-        &CHANNELS,
-        quiet,
-    )
-}
 
 const OPENING: Body<&[&[u8]]> = Body::Opening {
     version: *b"0303",
@@ -52,8 +8,8 @@ const OPENING: Body<&[&[u8]]> = Body::Opening {
     reserved: [0; 8],
 };
 
-fn bye(reason: u16) -> Body<&'static [&'static [u8]]> {
-    Body::Bye { detail: 0, reason }
+fn bye(detail: u16, reason: u16) -> Body<&'static [&'static [u8]]> {
+    Body::Bye { detail, reason }
 }
 
 const AB01: [&[u8]; 1] = [b"\xab\x01"];
@@ -74,9 +30,10 @@ fn body_of(word: &str) -> Option<Body<&'static [&'static [u8]]>> {
     match word {
         "open" => Some(OPENING),
         "-" => Some(Body::Empty),
-        "bye0" => Some(bye(0)),
-        "bye1" => Some(bye(1)),
-        "bye4" => Some(bye(4)),
+        "bye0" => Some(bye(0, 0)),
+        "bye1" => Some(bye(0, 1)),
+        "bye4" => Some(bye(0, 4)),
+        "bye1,4" => Some(bye(1, 4)),
         "dataab01" => Some(Body::Messages(AB01.as_slice())),
         "dataab01,." => Some(Body::Messages(AB01_AND_NONE.as_slice())),
         "data01" => Some(Body::Messages(X01.as_slice())),
@@ -102,7 +59,18 @@ fn kind_of(word: &str) -> Option<Kind> {
     }
 }
 
-fn side_of(line: &str) -> Side {
+fn check_bytes_of(word: &str) -> Option<&'static [u8]> {
+    match word {
+        "aabb" => Some(b"\xaa\xbb"),
+        "aabbcc" => Some(b"\xaa\xbb\xcc"),
+        "aabbccdd" => Some(b"\xaa\xbb\xcc\xdd"),
+        "" => Some(b""),
+        _ => None,
+    }
+}
+
+/// The side that a line or a word begins with: the client's, or else the server's.
+pub fn side_of(line: &str) -> Side {
     if line.starts_with("client") {
         Side::Client
     } else {
@@ -110,8 +78,9 @@ fn side_of(line: &str) -> Side {
     }
 }
 
-/// What a line says: `SIDE NUMBER TYPE SN CS TS CTS BODY`.
-fn parts_of(line: &str) -> Option<PduParts<'static>> {
+/// What a line says: `SIDE NUMBER TYPE SN CS TS CTS BODY CHECK`, where a line without check bytes ends
+/// behind the body.
+pub fn parts_of(line: &str) -> Option<PduParts<'static>> {
     let mut words = line.split(' ');
     Some(PduParts {
         number: words.nth(1)?.parse().ok()?,
@@ -122,12 +91,12 @@ fn parts_of(line: &str) -> Option<PduParts<'static>> {
         ts: words.next()?.parse().ok()?,
         cts: words.next()?.parse().ok()?,
         body: body_of(words.next()?)?,
-        check_bytes: &[],
+        check_bytes: check_bytes_of(words.next().unwrap_or(""))?,
     })
 }
 
-/// The datagram of a line; none where it is no line or memory is wanting.
-fn datagram(alloc: Global, params: &Params, line: &str) -> Option<Vec<u8>> {
+/// The datagram of a line; none where it is no line, doesn't fit or memory is wanting.
+pub fn datagram(alloc: Global, params: &Params, line: &str) -> Option<Vec<u8>> {
     let mut bytes = Vec::new(alloc);
     let parts = parts_of(line)?;
     if !parts.fits(params) {
@@ -137,7 +106,7 @@ fn datagram(alloc: Global, params: &Params, line: &str) -> Option<Vec<u8>> {
     Some(bytes)
 }
 
-/// The datagrams of some lines.
+/// The datagrams of some lines; none where one has none or memory is wanting.
 pub fn datagrams(alloc: Global, params: &Params, lines: &str) -> Option<Vec<Vec<u8>>> {
     let mut all = Vec::new(alloc);
     for line in lines.lines() {
