@@ -6,7 +6,7 @@ answer as it does with ample memory, or to refuse for want of it with status 3; 
 then not begun. `rt run` in crates/rasta_audit leaves the program.
 
 With the word `tests`, tests that make a call again where memory was wanting: ends; reading a certificate; and a
-check, a build and an audit of data. `rt test` in crates/rasta_tests and crates/rasta_audit leaves them.
+check, a build and an audit of data. `rt test` in crates/rasta_layer_tests and crates/rasta_audit leaves them.
 """
 
 import os
@@ -21,8 +21,8 @@ PROGRAM = CRATES / "rasta_audit/out/rasta_audit"
 REFUSAL = b"refused 1 NoMemory 0 -\n"
 # Crate, test, and the first of its allocations that may fail; those in front belong to the test itself.
 TESTS = [
-    ("rasta_tests", "ends::ends_by_rows", 1),
-    ("rasta_tests", "certificates::certificate_is_read_again", 1),
+    ("rasta_layer_tests", "ends::ends_by_rows", 1),
+    ("rasta_layer_tests", "certificates::certificate_is_read_again", 1),
     ("rasta_audit", "device_tests::memory_is_wanting", 121),
 ]
 

@@ -18,8 +18,6 @@ mod command;
 mod device_tests;
 mod failure;
 mod form;
-#[cfg(test)]
-mod params_tests;
 mod proposed;
 mod run_lines;
 mod run_text;

@@ -15,8 +15,6 @@ use byteorder::{ByteOrder, LittleEndian};
 use std::marker::Model;
 
 mod rounds;
-#[cfg(test)]
-mod tests;
 
 /// The length of a digest in bytes.
 pub const DIGEST_LEN: usize = 16;

@@ -10,6 +10,3 @@ mod pcap;
 pub use counted::{Counted, Sink, Source, read_all, write_all};
 pub use fault::{Fault, Side};
 pub use pcap::{Pcap, Record};
-
-#[cfg(test)]
-mod tests;

@@ -11,18 +11,12 @@ pub mod laws;
 mod layout;
 mod messages;
 mod params;
-#[cfg(test)]
-mod params_tests;
 mod parts;
 mod pdu;
 mod quiet_point;
 mod read;
 mod route;
-#[cfg(test)]
-mod tests;
 mod write;
-#[cfg(test)]
-mod write_tests;
 
 pub use body::Body;
 pub use kind::Kind;

@@ -1,6 +1,8 @@
 //! Captures of the packets that rows name.
-use crate::lines::side_at;
-use rasta_pdu::Side;
+use crate::connections::lines_of;
+use crate::lines::{datagrams, side_at};
+use crate::parameters::params_of;
+use rasta_pdu::{Params, Side};
 use std::alloc::Global;
 
 const FILE_HEADER: &[u8] =
@@ -14,11 +16,12 @@ const SERVER_FRONT: &[u8] = b"\x02\x00\x00\x00\x00\x01\x02\x00\x00\x00\x00\x02\x
 // IPv4 behind the length, up to the addresses.
 const MIDDLE: &[u8] = b"\x00\x00\x00\x00\x40\x11\x00\x00";
 
-// The addresses and ports of a channel.
+// The addresses and ports of a channel, or of hosts that aren't recorded.
 fn route(side: Side, channel: &str) -> &'static [u8] {
     match (side, channel) {
         (Side::Client, "2") => b"\x0a\x00\x01\x01\x0a\x00\x01\x02\x13\x89\x13\x89",
         (Side::Server, "2") => b"\x0a\x00\x01\x02\x0a\x00\x01\x01\x13\x89\x13\x89",
+        (Side::Client, "9") => b"\x0a\x09\x09\x09\x0a\x09\x09\x08\x13\x88\x13\x88",
         (Side::Client, _) => b"\x0a\x00\x00\x01\x0a\x00\x00\x02\x13\x88\x13\x88",
         (Side::Server, _) => b"\x0a\x00\x00\x02\x0a\x00\x00\x01\x13\x88\x13\x88",
     }
@@ -39,38 +42,80 @@ fn length(datagram: &[u8], more: u16) -> [u8; 2] {
         .to_be_bytes()
 }
 
-// Appends a record: its header, and the frame that carries a datagram.
-fn push_record(file: &mut Vec<u8>, side: Side, channel: &str, datagram: &[u8]) -> Option<()> {
-    let captured = u32::try_from(datagram.len())
-        .ok()?
-        .wrapping_add(42)
-        .to_le_bytes();
-    file.extend_from_slice(&[0; 8]).ok()?;
-    file.extend_from_slice(&captured).ok()?;
-    file.extend_from_slice(&captured).ok()?;
-    file.extend_from_slice(front(side)).ok()?;
-    file.extend_from_slice(&length(datagram, 28)).ok()?;
-    file.extend_from_slice(MIDDLE).ok()?;
-    file.extend_from_slice(route(side, channel)).ok()?;
-    file.extend_from_slice(&length(datagram, 8)).ok()?;
-    file.extend_from_slice(&[0; 2]).ok()?;
-    file.extend_from_slice(datagram).ok()
+// Appends the frame that carries a datagram.
+fn push_frame(frame: &mut Vec<u8>, side: Side, channel: &str, datagram: &[u8]) -> Option<()> {
+    frame.extend_from_slice(front(side)).ok()?;
+    frame.extend_from_slice(&length(datagram, 28)).ok()?;
+    frame.extend_from_slice(MIDDLE).ok()?;
+    frame.extend_from_slice(route(side, channel)).ok()?;
+    frame.extend_from_slice(&length(datagram, 8)).ok()?;
+    frame.extend_from_slice(&[0; 2]).ok()?;
+    frame.extend_from_slice(datagram).ok()
 }
 
-/// A file of the packets that a row names, each by its line, and `@2` behind it on the second channel.
-pub fn capture(alloc: Global, lines: &str, all: &[Vec<u8>], packets: &str) -> Option<Vec<u8>> {
+// Appends a record, of which only so many bytes of the frame were captured.
+fn push_record(file: &mut Vec<u8>, frame: &[u8], captured: usize) -> Option<()> {
+    let front = frame.get(..captured.min(frame.len()))?;
+    let captured = u32::try_from(front.len()).ok()?.to_le_bytes();
+    let original = u32::try_from(frame.len()).ok()?.to_le_bytes();
+    file.extend_from_slice(&[0; 8]).ok()?;
+    file.extend_from_slice(&captured).ok()?;
+    file.extend_from_slice(&original).ok()?;
+    file.extend_from_slice(front).ok()
+}
+
+// Appends the record of a packet.
+fn push_packet(
+    alloc: Global,
+    file: &mut Vec<u8>,
+    lines: &str,
+    all: &[Vec<u8>],
+    packet: &str,
+) -> Option<()> {
+    let (sent, captured) = packet.split_once('%').unwrap_or((packet, "65535"));
+    let (line, channel) = sent.split_once('@').unwrap_or((sent, "1"));
+    let line = line.parse().ok()?;
+    let mut frame = Vec::new(alloc);
+    push_frame(
+        &mut frame,
+        side_at(lines, line)?,
+        channel,
+        all.get(line)?.as_slice(),
+    )?;
+    push_record(file, &frame, captured.parse().ok()?)
+}
+
+// A file of these packets.
+fn capture(alloc: Global, lines: &str, all: &[Vec<u8>], packets: &str) -> Option<Vec<u8>> {
     let mut file = Vec::new(alloc);
     file.extend_from_slice(FILE_HEADER).ok()?;
     for packet in packets.split(' ') {
-        let mut parts = packet.split('@');
-        let line = parts.next()?.parse().ok()?;
-        let channel = parts.next().unwrap_or("1");
-        push_record(
-            &mut file,
-            side_at(lines, line)?,
-            channel,
-            all.get(line)?.as_slice(),
-        )?;
+        match packet {
+            "-" => {}
+            "cut" => {
+                let _ = file.pop()?;
+            }
+            "flip" => *file.last_mut()? ^= 1,
+            _ => push_packet(alloc, &mut file, lines, all, packet)?,
+        }
     }
     Some(file)
+}
+
+/// The lines and the parameters of a row's settings, `CONNECTION PARAMETERS`.
+pub fn settings_of(settings: &str) -> Option<(&'static str, Params)> {
+    let (connection, word) = settings.split_once(' ')?;
+    Some((lines_of(connection)?, params_of(word)?))
+}
+
+/// The parameters of a row's settings, and the file of its packets, each of which is named by its line.
+///
+/// Behind a line may stand `@2`, the second channel, or `@9`, hosts that aren't recorded; and `%50`, where only
+/// 50 bytes of its frame were captured. `-` is no packet; `cut` takes the last byte of the file away, and `flip`
+/// changes it.
+pub fn file_of(alloc: Global, settings: &str, packets: &str) -> Option<(Params, Vec<u8>)> {
+    let (lines, params) = settings_of(settings)?;
+    let all = datagrams(alloc, &params, lines)?;
+    let file = capture(alloc, lines, all.as_slice(), packets)?;
+    Some((params, file))
 }

@@ -1,13 +1,10 @@
 //! Verdicts, by rows: what a certificate explains of a capture, over the lists of a map and of a vector.
-use super::captures::capture;
-use super::ends::{lines_of, params_of};
-use super::lines::datagrams;
 use rasta_cert::{Certificate, read};
 use rasta_check::{DenseList, Report, Sent, Taken, check, check_lists, check_sent, sent};
-use rasta_pdu::{Fault, Side};
+use rasta_pdu::{Fault, Params, Side};
+use rasta_rows::file_of;
 use std::alloc::Global;
 use std::process::Abort;
-use std::test::Fail;
 
 // A row: its name; its lines and parameters; the packets; the client's entries, and the server's; the
 // verdict: the number of packets, what the client took, and what the server did, each message as in a
@@ -32,6 +29,8 @@ take right behind | data plain | 0 1 2 3 4 | make 0 1000 open, take 2 40, make 2
 capture ends in a burst | lost plain | 0 1 2 3 4 5 6 7 15 | make 0 1000 open, take 2 40, make 2 1010 reply, make 3 1020 fresh, make 4 1030 fresh, take 6 41, make 6 1070 reply, make 7 1071 again 0 | take 1 7, make 1 9000 reply, take 5 8, take 5 10, make 5 9060 ask, take 8 11, take 8 12, make 8 9080 beat | 9; -; 0 3 8 01
 number gap | data plain | 0 1 3 4 | - | - | 28 3 client
 data while a reply is owed | lost plain | 0 1 2 3 4 5 12 | make 0 1000 open, take 2 40, make 2 1010 reply, make 3 1020 fresh, make 4 1030 fresh, take 6 41, make 6 1070 fresh | - | 42 7 client
+fresh data in place of a resend | lost plain | 0 1 2 3 4 5 6 7 13 9 10 | make 0 1000 open, take 2 40, make 2 1010 reply, make 3 1020 fresh, make 4 1030 fresh, take 6 41, make 6 1070 reply, make 7 1071 again 0, make 8 1072 fresh, make 9 1080 beat | take 1 7, make 1 9000 reply, take 5 8, take 5 10, make 5 9060 ask, take 10 11, take 10 12, take 10 13, take 10 14, make 10 9090 beat | 42 9 client
+response is not taken | lost plain | 0 1 2 3 4 5 6 7 8 9 10 | make 0 1000 open, take 2 40, make 2 1010 reply, make 3 1020 fresh, make 4 1030 fresh, take 6 41, make 6 1070 reply, make 7 1071 again 0, make 8 1072 again 1, make 9 1080 beat | take 1 7, make 1 9000 reply, take 5 8, take 5 10, make 5 9060 ask, take 10 12, take 10 13, take 10 14, make 10 9090 beat | 39 9 server
 resend differs | lost plain | 0 1 2 3 4 5 6 7 14 9 10 | make 0 1000 open, take 2 40, make 2 1010 reply, make 3 1020 fresh, make 4 1030 fresh, take 6 41, make 6 1070 reply, make 7 1071 again 0, make 8 1072 again 1 | - | 43 9 client
 lost resend and second request | lost plain | 0 1 2 3 4 5 6 7 8 16 17 18 19 20 | make 0 1000 open, take 2 40, make 2 1010 reply, make 3 1020 fresh, make 4 1030 fresh, take 6 41, make 6 1070 reply, make 7 1071 again 0, make 8 1072 again 1, take 10 42, make 10 1090 reply, make 11 1091 again 0, make 12 1092 again 1 | take 1 7, make 1 9000 reply, take 5 8, take 5 10, make 5 9060 ask, take 9 11, take 9 13, make 9 9080 ask, take 13 14, take 13 15, take 13 16, make 13 9100 beat | 14; -; 0 3 13 01, 1 4 13 02
 quiet start | quiet quiet | 0 1 | make 0 1020 fresh | take 1 9, make 1 9050 beat | 2; -; 0 0 1 ab01, 1 0 1 .
@@ -47,6 +46,16 @@ another reason | data plain | 0 1 2 3 4 | make 0 1000 open, take 2 40, make 2 10
 slot above the packets | data plain | 0 1 2 | make 0 1000 open, take 4 40, make 2 1010 reply | take 1 7, make 1 9000 reply | 31 2 client
 number that never crossed | data plain | 0 1 2 | make 0 1000 open, take 2 41, make 2 1010 reply | take 1 7, make 1 9000 reply | 34 2 client
 make of the other side | data plain | 0 1 2 | make 0 1000 open, make 1 9000 reply | - | 32 2 client
+";
+
+// Rows of the same form: files without packets, with a window, or with frames and records that are cut.
+pub const FILES: &str = "\
+nothing crosses | data plain | - | - | - | 0; -; -
+last byte is missing | data plain | 0 1 2 cut | make 0 1000 open, take 2 40, make 2 1010 reply | take 1 7, make 1 9000 reply | 14 3 -
+window of two records | data first2 | 0 1 2 | make 0 1000 open | take 1 7, make 1 9000 reply | 2; -; -
+foreign frame is cut | data plain | 0 2@9%50 1 2 | make 0 1000 open, take 2 40, make 2 1010 reply | take 1 7, make 1 9000 reply | 3; -; -
+frame is cut | data plain | 0 2%50 1 2 | make 0 1000 open, take 2 40, make 2 1010 reply | take 1 7, make 1 9000 reply | 15 2 -
+code differs | quiet code16 | 4 flip | - | - | 25 1 client
 ";
 
 // The handshake's file, cut to a number of bytes: from this one, to that one, and the verdict.
@@ -164,82 +173,90 @@ fn over_vectors<'a>(
     sent: &Sent<'a>,
     certificate: &Certificate,
 ) -> Option<Result<Report<'a>, Fault>> {
-    let Ok(client) = DenseList::of(alloc, sent.client()) else {
-        return None;
-    };
-    let Ok(server) = DenseList::of(alloc, sent.server()) else {
-        return None;
-    };
+    let client = DenseList::of(alloc, sent.client()).ok()?;
+    let server = DenseList::of(alloc, sent.server()).ok()?;
     let p = sent.params();
     Some(check_lists(alloc, &p, sent.len(), &client, &server, certificate))
 }
 
-fn compare<R: Abort + AllocGlobal>(rt: &R, row: &str) -> Result<(), Fail> {
-    let mut parts = row.split(" | ");
-    let name = parts.next().ok_or("a name")?;
-    let mut settings = parts.next().ok_or("settings")?.split(' ');
-    let lines = settings.next().and_then(lines_of).ok_or("lines")?;
-    let params = settings.next().and_then(params_of).ok_or("parameters")?;
-    let packets = parts.next().ok_or("packets")?;
-    let client = parts.next().ok_or("the client's entries")?;
-    let server = parts.next().ok_or("the server's entries")?;
-    let want = parts.next().ok_or("a verdict")?;
-    let alloc = rt.alloc();
-    let all = datagrams(alloc, &params, lines).ok_or("datagrams")?;
-    let file = capture(alloc, lines, all.as_slice(), packets).ok_or("a capture")?;
-    let certificate = certificate(alloc, client, server).ok_or("a certificate")?;
-    let verdict = check(alloc, &params, &file, &certificate);
-    assert_eq!(rt; is_verdict(&verdict, want), Some(true), "{name}");
-    if let Ok(sent) = sent(alloc, params, &file) {
-        let verdict = check_sent(alloc, &sent.params(), &sent, &certificate);
-        assert_eq!(rt; is_verdict(&verdict, want), Some(true), "{name}");
-        let verdict = over_vectors(alloc, &sent, &certificate).ok_or("vectors")?;
-        assert_eq!(rt; is_verdict(&verdict, want), Some(true), "{name}");
+// Whether the verdict over what crossed is the wanted one, by maps and by vectors.
+fn is_judged_by_lists(
+    alloc: Global,
+    sent: &Sent<'_>,
+    certificate: &Certificate,
+    want: &str,
+) -> Option<bool> {
+    let by_maps = check_sent(alloc, &sent.params(), sent, certificate);
+    let by_vectors = over_vectors(alloc, sent, certificate)?;
+    Some(is_verdict(&by_maps, want)? && is_verdict(&by_vectors, want)?)
+}
+
+// Whether the verdict on a file is the wanted one, over both lists where it can be read.
+fn is_judged(
+    alloc: Global,
+    params: &Params,
+    file: &[u8],
+    certificate: &Certificate,
+    want: &str,
+) -> Option<bool> {
+    if !is_verdict(&check(alloc, params, file, certificate), want)? {
+        return Some(false);
     }
-    Ok(())
+    match sent(alloc, *params, file) {
+        Ok(sent) => is_judged_by_lists(alloc, &sent, certificate, want),
+        Err(_) => Some(true),
+    }
+}
+
+// Whether the verdict of a row is as it says.
+fn answer(alloc: Global, row: &str) -> Option<bool> {
+    let mut parts = row.split(" | ").skip(1);
+    let (settings, packets) = (parts.next()?, parts.next()?);
+    let (client, server, want) = (parts.next()?, parts.next()?, parts.next()?);
+    let (params, file) = file_of(alloc, settings, packets)?;
+    let certificate = certificate(alloc, client, server)?;
+    is_judged(alloc, &params, &file, &certificate, want)
 }
 
 #[test]
-fn rows_are_judged_so(rt: HostRuntime) -> Result<(), Fail> {
-    for row in ROWS.lines() {
-        compare(&rt, row)?;
+fn rows_are_judged_so(rt: HostRuntime) {
+    for row in ROWS.lines().chain(FILES.lines()) {
+        assert_eq!(rt; answer(rt.alloc(), row), Some(true), "{row}");
     }
-    Ok(())
 }
 
-// The verdict on a file that is cut to so many bytes.
-fn cut_verdict(len: usize) -> Option<&'static str> {
-    for row in CUTS.lines() {
-        let mut parts = row.split(" | ");
-        let mut bounds = parts.next()?.split(' ');
-        let first: usize = bounds.next()?.parse().ok()?;
-        let last: usize = bounds.next()?.parse().ok()?;
-        if first <= len && len <= last {
-            return parts.next();
+// Whether the handshake's file, cut to each length of a row, has its verdict.
+fn are_cuts_judged(
+    alloc: Global,
+    params: &Params,
+    file: &[u8],
+    certificate: &Certificate,
+    row: &str,
+) -> Option<bool> {
+    let (bounds, want) = row.split_once(" | ")?;
+    let (first, last) = bounds.split_once(' ')?;
+    let (first, last): (usize, usize) = (first.parse().ok()?, last.parse().ok()?);
+    for len in first..=last {
+        if !is_judged(alloc, params, file.get(..len)?, certificate, want)? {
+            return Some(false);
         }
     }
-    None
+    Some(true)
+}
+
+fn are_all_cuts_judged(alloc: Global) -> Option<bool> {
+    let (params, file) = file_of(alloc, "data plain", "0 1 2")?;
+    let client = "make 0 1000 open, take 2 40, make 2 1010 reply";
+    let certificate = certificate(alloc, client, "take 1 7, make 1 9000 reply")?;
+    for row in CUTS.lines() {
+        if !are_cuts_judged(alloc, &params, &file, &certificate, row)? {
+            return Some(false);
+        }
+    }
+    Some(file.len() == 334)
 }
 
 #[test]
-fn cut_files_are_judged_so(rt: HostRuntime) -> Result<(), Fail> {
-    let alloc = rt.alloc();
-    let lines = lines_of("data").ok_or("lines")?;
-    let params = params_of("plain").ok_or("parameters")?;
-    let all = datagrams(alloc, &params, lines).ok_or("datagrams")?;
-    let file = capture(alloc, lines, all.as_slice(), "0 1 2").ok_or("a capture")?;
-    let certificate = certificate(
-        alloc,
-        "make 0 1000 open, take 2 40, make 2 1010 reply",
-        "take 1 7, make 1 9000 reply",
-    )
-    .ok_or("a certificate")?;
-    assert_eq!(rt; file.len(), 334);
-    for len in 0..=file.len() {
-        let front = file.get(..len).ok_or("a beginning")?;
-        let verdict = check(alloc, &params, front, &certificate);
-        let want = cut_verdict(len).ok_or("a verdict")?;
-        assert_eq!(rt; is_verdict(&verdict, want), Some(true), "{len}");
-    }
-    Ok(())
+fn cut_files_are_judged_so(rt: HostRuntime) {
+    assert_eq!(rt; are_all_cuts_judged(rt.alloc()), Some(true));
 }

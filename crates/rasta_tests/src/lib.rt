@@ -2,17 +2,7 @@
 #![tactic(auto)]
 
 #[cfg(test)]
-mod captures;
-#[cfg(test)]
-mod cases;
-#[cfg(test)]
-mod certificates;
-#[cfg(test)]
 mod checks;
-#[cfg(test)]
-mod ends;
-#[cfg(test)]
-mod lines;
 #[cfg(test)]
 mod model;
 #[cfg(test)]

@@ -1,11 +1,9 @@
 //! What two sent lists show, by rows: which units the ends surely took.
-use super::ends::{lines_of, params_of};
-use super::lines::{datagrams, pdu_of, side_at};
-use rasta_plain::taken::{FirstCopy, TakenUnit, surely_taken};
 use rasta_pdu::{Params, Side};
+use rasta_plain::taken::{FirstCopy, TakenUnit, surely_taken, units_conveyed};
+use rasta_rows::{datagrams, pdu_of, settings_of, side_at};
 use std::alloc::Global;
 use std::process::Abort;
-use std::test::Fail;
 
 // A row: its name; its lines and parameters; the packets that crossed, each by its line; the units that
 // the client surely took, and those that the server did. A unit is the number of its messages, the place
@@ -75,59 +73,100 @@ fn are_units(units: &[TakenUnit], want: &str) -> Option<bool> {
     Some(wanted.next().is_none())
 }
 
-fn compare<R: Abort + AllocGlobal>(rt: &R, row: &str) -> Result<(), Fail> {
-    let mut parts = row.split(" | ");
-    let name = parts.next().ok_or("a name")?;
-    let mut settings = parts.next().ok_or("settings")?.split(' ');
-    let lines = settings.next().and_then(lines_of).ok_or("lines")?;
-    let params = settings.next().and_then(params_of).ok_or("parameters")?;
-    let packets = parts.next().ok_or("packets")?;
-    let by_client = parts.next().ok_or("what the client took")?;
-    let by_server = parts.next().ok_or("what the server took")?;
-    let alloc = rt.alloc();
-    let all = datagrams(alloc, &params, lines)
-        .or_else(|| datagrams(alloc, &params, lines))
-        .ok_or("datagrams")?;
-    let all = all.as_slice();
-    let client = sent(alloc, &params, lines, all, packets, Side::Client)
-        .or_else(|| sent(alloc, &params, lines, all, packets, Side::Client))
-        .ok_or("the client's list")?;
-    let server = sent(alloc, &params, lines, all, packets, Side::Server)
-        .or_else(|| sent(alloc, &params, lines, all, packets, Side::Server))
-        .ok_or("the server's list")?;
-    let client = client.as_slice();
-    let server = server.as_slice();
-    let taken = surely_taken(alloc, &params, Side::Server, server, client).or_else(|_| surely_taken(
-        alloc,
-        &params,
-        Side::Server,
-        server,
-        client,
-    ))?;
-    assert_eq!(rt;
-        are_units(taken.as_slice(), by_client),
-        Some(true),
-        "{name}"
-    );
-    let taken = surely_taken(alloc, &params, Side::Client, client, server).or_else(|_| surely_taken(
-        alloc,
-        &params,
-        Side::Client,
-        client,
-        server,
-    ))?;
-    assert_eq!(rt;
-        are_units(taken.as_slice(), by_server),
-        Some(true),
-        "{name}"
-    );
-    Ok(())
+// Both lists of what crossed: the client's and the server's.
+#[derive(Drop)]
+struct Lists<'a> {
+    client: Vec<FirstCopy<'a>>,
+    server: Vec<FirstCopy<'a>>,
+}
+
+fn both_lists<'a>(
+    alloc: Global,
+    params: &Params,
+    lines: &str,
+    all: &'a [Vec<u8>],
+    packets: &str,
+) -> Option<Lists<'a>> {
+    Some(Lists {
+        client: sent(alloc, params, lines, all, packets, Side::Client)?,
+        server: sent(alloc, params, lines, all, packets, Side::Server)?,
+    })
+}
+
+// Whether the units of a side that its peer took are these.
+fn are_taken(
+    alloc: Global,
+    params: &Params,
+    side: Side,
+    own: &[FirstCopy],
+    peer: &[FirstCopy],
+    want: &str,
+) -> Option<bool> {
+    let taken = surely_taken(alloc, params, side, own, peer).ok()?;
+    are_units(taken.as_slice(), want)
+}
+
+// Whether the units that the ends of a row took are as it says.
+fn is_taken(alloc: Global, row: &str) -> Option<bool> {
+    let mut parts = row.split(" | ").skip(1);
+    let (lines, params) = settings_of(parts.next()?)?;
+    let packets = parts.next()?;
+    let (by_client, by_server) = (parts.next()?, parts.next()?);
+    let all = datagrams(alloc, &params, lines)?;
+    let lists = both_lists(alloc, &params, lines, all.as_slice(), packets)?;
+    let (client, server) = (lists.client.as_slice(), lists.server.as_slice());
+    Some(
+        are_taken(alloc, &params, Side::Server, server, client, by_client)?
+            && are_taken(alloc, &params, Side::Client, client, server, by_server)?,
+    )
 }
 
 #[test]
-fn taken_by_rows(rt: HostRuntime) -> Result<(), Fail> {
+fn taken_by_rows(rt: HostRuntime) {
     for row in ROWS.lines() {
-        compare(&rt, row)?;
+        assert_eq!(rt; is_taken(rt.alloc(), row), Some(true), "{row}");
     }
-    Ok(())
+}
+
+// A row: its lines and parameters; the packets; and the units conveyed through each position of what the
+// client made, and of what the server did. A retransmission response takes them back to what was asked for.
+const CONVEYED: &str = "\
+lost plain | 0 1 2 3 4 5 6 7 8 9 10 | [0, 0, 1, 2, 0, 1, 2, 2] | [0, 0, 0]
+quiet quiet | 0 1 | [0, 1] | [0, 0]
+";
+
+// Whether the units conveyed through each position are these.
+fn are_conveyed(
+    alloc: Global,
+    params: &Params,
+    side: Side,
+    own: &[FirstCopy],
+    peer: &[FirstCopy],
+    want: &str,
+) -> Option<bool> {
+    let units = units_conveyed(alloc, params, side, own, peer).ok()?;
+    let text = format!(in alloc; "{:?}", units.as_slice()).ok()?;
+    Some(text.as_str() == want)
+}
+
+// Whether the units of a row are conveyed as it says.
+fn is_conveyed(alloc: Global, row: &str) -> Option<bool> {
+    let mut parts = row.split(" | ");
+    let (lines, params) = settings_of(parts.next()?)?;
+    let packets = parts.next()?;
+    let (by_client, by_server) = (parts.next()?, parts.next()?);
+    let all = datagrams(alloc, &params, lines)?;
+    let lists = both_lists(alloc, &params, lines, all.as_slice(), packets)?;
+    let (client, server) = (lists.client.as_slice(), lists.server.as_slice());
+    Some(
+        are_conveyed(alloc, &params, Side::Client, client, server, by_client)?
+            && are_conveyed(alloc, &params, Side::Server, server, client, by_server)?,
+    )
+}
+
+#[test]
+fn units_are_conveyed_so(rt: HostRuntime) {
+    for row in CONVEYED.lines() {
+        assert_eq!(rt; is_conveyed(rt.alloc(), row), Some(true), "{row}");
+    }
 }

@@ -1,16 +1,12 @@
 //! Scripts that are proposed: they explain the captures of the rows, or name the first packet that nothing
 //! explains.
-use super::captures::capture;
-use super::cases::{case_lines, case_params};
-use super::checks::{ROWS, is_fault, is_verdict};
-use super::lines::datagrams;
-use rasta_build::propose;
-use rasta_cert::Entry;
-use rasta_check::{Sent, check_sent, sent};
-use rasta_pdu::Params;
+use super::checks::{FILES, ROWS, is_fault, is_verdict};
+use rasta_build::{propose, propose_lists};
+use rasta_cert::{Certificate, Entry};
+use rasta_check::{DenseList, Sent, check_sent, sent};
+use rasta_rows::file_of;
 use std::alloc::Global;
 use std::process::Abort;
-use std::test::Fail;
 
 // A row: its name; its lines and parameters; the packets; the fault of the proposal.
 const UNEXPLAINED: &str = "\
@@ -42,15 +38,6 @@ bye while a reply is owed | byes plain | 0 4 | 2; -; - | make 0 1000
 numbers wrap | wrapped plain | 0 1 2 3 4 | 5; -; 0 3 4 01 | make 0 4294967280, take 2 40, make 2 4294967300, make 3 4294967310
 ";
 
-// The file of a row, by its settings and its packets.
-fn file_of(alloc: Global, settings: &str, packets: &str) -> Option<(Params, Vec<u8>)> {
-    let mut words = settings.split(' ');
-    let lines = case_lines(words.next()?)?;
-    let params = case_params(words.next()?)?;
-    let all = datagrams(alloc, &params, lines)?;
-    Some((params, capture(alloc, lines, all.as_slice(), packets)?))
-}
-
 // Whether an entry is `take SLOT NUMBER` or `make PLACE CLOCK`.
 fn is_entry(entry: Entry, want: &str) -> Option<bool> {
     let mut words = want.split(' ');
@@ -77,70 +64,87 @@ fn are_entries(entries: &[Entry], want: &str) -> Option<bool> {
     Some(wanted.next().is_none())
 }
 
-// Whether what is proposed for these packets has this verdict and these entries of the client.
+// What is proposed for vectors of what crossed.
+fn over_vectors(alloc: Global, sent: &Sent) -> Option<Certificate> {
+    let client = DenseList::of(alloc, sent.client()).ok()?;
+    let server = DenseList::of(alloc, sent.server()).ok()?;
+    propose_lists(alloc, &sent.params(), &client, &server).ok()
+}
+
+fn are_same(one: &Certificate, other: &Certificate) -> bool {
+    one.client() == other.client() && one.server() == other.server()
+}
+
+// Whether what is proposed for these packets has this verdict and these entries of the client, and is the
+// same over vectors.
 fn is_explained(alloc: Global, sent: &Sent, want: &str, entries: &str) -> Option<bool> {
     let certificate = propose(alloc, &sent.params(), sent).ok()?;
     let verdict = check_sent(alloc, &sent.params(), sent, &certificate);
+    let other = over_vectors(alloc, sent)?;
     Some(
         is_verdict(&verdict, want)?
+            && are_same(&certificate, &other)
             && (entries == "." || are_entries(certificate.client(), entries)?),
     )
 }
 
-#[test]
-fn rows_are_explained(rt: HostRuntime) -> Result<(), Fail> {
-    let alloc = rt.alloc();
-    for row in ROWS.lines() {
-        let mut parts = row.split(" | ");
-        let name = parts.next().ok_or("a name")?;
-        let settings = parts.next().ok_or("settings")?;
-        let packets = parts.next().ok_or("packets")?;
-        let want = parts.nth(2).ok_or("a verdict")?;
-        if want.contains(';') {
-            let (params, file) = file_of(alloc, settings, packets).ok_or("a capture")?;
-            let sent = sent(alloc, params, &file).ok().ok_or("sent lists")?;
-            assert_eq!(rt; is_explained(alloc, &sent, want, "."), Some(true), "{name}");
-        }
+// The same for the packets of a row.
+fn is_row_explained(
+    alloc: Global,
+    settings: &str,
+    packets: &str,
+    want: &str,
+    entries: &str,
+) -> Option<bool> {
+    let (params, file) = file_of(alloc, settings, packets)?;
+    let sent = sent(alloc, params, &file).ok()?;
+    is_explained(alloc, &sent, want, entries)
+}
+
+// Whether something is proposed that explains the packets of a row, if its certificate does.
+fn is_verdict_met(alloc: Global, row: &str) -> Option<bool> {
+    let mut parts = row.split(" | ").skip(1);
+    let (settings, packets) = (parts.next()?, parts.next()?);
+    let want = parts.nth(2)?;
+    if want.contains(';') {
+        is_row_explained(alloc, settings, packets, want, ".")
+    } else {
+        Some(true)
     }
-    Ok(())
 }
 
 #[test]
-fn packets_are_explained_so(rt: HostRuntime) -> Result<(), Fail> {
-    let alloc = rt.alloc();
+fn rows_are_explained(rt: HostRuntime) {
+    for row in ROWS.lines().chain(FILES.lines()) {
+        assert_eq!(rt; is_verdict_met(rt.alloc(), row), Some(true), "{row}");
+    }
+}
+
+fn is_explained_so(alloc: Global, row: &str) -> Option<bool> {
+    let mut parts = row.split(" | ").skip(1);
+    let (settings, packets) = (parts.next()?, parts.next()?);
+    is_row_explained(alloc, settings, packets, parts.next()?, parts.next()?)
+}
+
+#[test]
+fn packets_are_explained_so(rt: HostRuntime) {
     for row in EXPLAINED.lines() {
-        let mut parts = row.split(" | ");
-        let name = parts.next().ok_or("a name")?;
-        let settings = parts.next().ok_or("settings")?;
-        let packets = parts.next().ok_or("packets")?;
-        let want = parts.next().ok_or("a verdict")?;
-        let entries = parts.next().ok_or("entries")?;
-        let (params, file) = file_of(alloc, settings, packets).ok_or("a capture")?;
-        let sent = sent(alloc, params, &file).ok().ok_or("sent lists")?;
-        assert_eq!(rt;
-            is_explained(alloc, &sent, want, entries),
-            Some(true),
-            "{name}"
-        );
+        assert_eq!(rt; is_explained_so(rt.alloc(), row), Some(true), "{row}");
     }
-    Ok(())
+}
+
+// Whether the fault of a row is answered.
+fn is_unexplained(alloc: Global, row: &str) -> Option<bool> {
+    let mut parts = row.split(" | ").skip(1);
+    let (settings, packets, want) = (parts.next()?, parts.next()?, parts.next()?);
+    let (params, file) = file_of(alloc, settings, packets)?;
+    let sent = sent(alloc, params, &file).ok()?;
+    is_fault(propose(alloc, &params, &sent).err()?, want)
 }
 
 #[test]
-fn unexplained_packets_are_named(rt: HostRuntime) -> Result<(), Fail> {
-    let alloc = rt.alloc();
+fn unexplained_packets_are_named(rt: HostRuntime) {
     for row in UNEXPLAINED.lines() {
-        let mut parts = row.split(" | ");
-        let name = parts.next().ok_or("a name")?;
-        let settings = parts.next().ok_or("settings")?;
-        let packets = parts.next().ok_or("packets")?;
-        let want = parts.next().ok_or("a fault")?;
-        let (params, file) = file_of(alloc, settings, packets).ok_or("a capture")?;
-        let sent = sent(alloc, params, &file).ok().ok_or("sent lists")?;
-        let fault = propose(alloc, &sent.params(), &sent)
-            .err()
-            .ok_or("a fault")?;
-        assert_eq!(rt; is_fault(fault, want), Some(true), "{name}");
+        assert_eq!(rt; is_unexplained(rt.alloc(), row), Some(true), "{row}");
     }
-    Ok(())
 }

@@ -1,14 +1,14 @@
 //! Runs of two ends and a network, by rows: step by step, and steps that are not allowed.
-ghost use Rattle.rasta_check.specs.Moving.{IsBelow};
+ghost use Rattle.rasta_plain.specs.Moving.{IsBelow};
 
 use super::checks::{ROWS, certificate};
-use super::ends::{lines_of, params_of, why_of};
-use super::lines::{datagrams, pdu_of, side_at};
 use rasta_cert::{Certificate, Entry};
-use rasta_plain::world::{Move, PlainWorld};
+use rasta_end::Why;
 use rasta_pdu::{Params, Side};
+use rasta_plain::world::{Move, PlainWorld};
+use rasta_rows::{datagrams, pdu_of, settings_of, side_at};
+use std::alloc::Global;
 use std::process::Abort;
-use std::test::Fail;
 
 // A row: its name; the steps that lead up to a move, and the move, which is not allowed. A step is that
 // of a station: it waits up to a clock; it makes the PDU of a line on a channel, for a reason; its packet
@@ -30,13 +30,10 @@ copy of what never crossed | client wait 1000, client make 0 1 open | client rep
 copy on a channel that is not recorded | client wait 1000, client make 0 1 open | client repeat 0 0
 ";
 
-// Whether a move is allowed; it is tried again where memory was wanting.
+// Whether a move is allowed; none where memory is wanting.
 fn may<'a>(world: &mut PlainWorld<'a>, side: Side, what: Move<'a>) -> Option<bool>
     requires { IsBelow what }
 {
-    if let Ok(moved) = world.moves(side, what) {
-        return Some(moved);
-    }
     world.moves(side, what).ok()
 }
 
@@ -186,18 +183,25 @@ impl<'a> Row<'a> {
     }
 }
 
-fn run<R: Abort + AllocGlobal>(rt: &R, row: &str) -> Result<(), Fail> {
-    let alloc = rt.alloc();
-    let mut parts = row.split(" | ");
-    let name = parts.next().ok_or("a name")?;
-    let mut settings = parts.next().ok_or("settings")?.split(' ');
-    let lines = settings.next().and_then(lines_of).ok_or("lines")?;
-    let params = settings.next().and_then(params_of).ok_or("parameters")?;
-    let packets = parts.next().ok_or("packets")?;
-    let client = parts.next().ok_or("the client's entries")?;
-    let server = parts.next().ok_or("the server's entries")?;
-    let all = datagrams(alloc, &params, lines).ok_or("datagrams")?;
-    let certificate = certificate(alloc, client, server).ok_or("a certificate")?;
+// Whether the packets of a row cross in a run that both scripts tell.
+fn is_run(alloc: Global, row: &Row<'_>) -> Option<bool> {
+    let client_number = row.first_number(Side::Client)?;
+    let server_number = row.first_number(Side::Server)?;
+    let mut world = PlainWorld::start(alloc, &row.params, client_number, server_number);
+    Some(row.runs(&mut world)? && row.are_crossed(&world)?)
+}
+
+// The same for a row that is explained.
+fn is_row_run(alloc: Global, row: &str) -> Option<bool> {
+    let mut parts = row.split(" | ").skip(1);
+    let (lines, params) = settings_of(parts.next()?)?;
+    let packets = parts.next()?;
+    let (client, server) = (parts.next()?, parts.next()?);
+    if !parts.next()?.contains(';') {
+        return Some(true);
+    }
+    let all = datagrams(alloc, &params, lines)?;
+    let certificate = certificate(alloc, client, server)?;
     let row = Row {
         params,
         lines,
@@ -205,26 +209,32 @@ fn run<R: Abort + AllocGlobal>(rt: &R, row: &str) -> Result<(), Fail> {
         packets,
         certificate: &certificate,
     };
-    let client_number = row.first_number(Side::Client).ok_or("a number")?;
-    let server_number = row.first_number(Side::Server).ok_or("a number")?;
-    let mut world = PlainWorld::start(alloc, &params, client_number, server_number);
-    assert_eq!(rt; row.runs(&mut world), Some(true), "{name}");
-    assert_eq!(rt; row.are_crossed(&world), Some(true), "{name}");
-    Ok(())
+    is_run(alloc, &row)
 }
 
 #[test]
-fn worked_rows_are_runs(rt: HostRuntime) -> Result<(), Fail> {
+fn worked_rows_are_runs(rt: HostRuntime) {
     for row in ROWS.lines() {
-        if row.split(" | ").nth(5).ok_or("a verdict")?.contains(';') {
-            run(&rt, row)?;
-        }
+        assert_eq!(rt; is_row_run(rt.alloc(), row), Some(true), "{row}");
     }
-    Ok(())
+}
+
+// The reason that a word of a certificate gives.
+fn why_of(alloc: Global, word: &str) -> Option<Why> {
+    let entry = format!(in alloc; "make 0 0 {word}").ok()?;
+    match *certificate(alloc, entry.as_str(), "-")?.client().first()? {
+        Entry::Make { why, .. } => Some(why),
+        Entry::Take { .. } => None,
+    }
 }
 
 // Whether the step is allowed; none where it is no step.
-fn step<'a>(world: &mut PlainWorld<'a>, all: &'a [Vec<u8>], text: &str) -> Option<bool> {
+fn step<'a>(
+    alloc: Global,
+    world: &mut PlainWorld<'a>,
+    all: &'a [Vec<u8>],
+    text: &str,
+) -> Option<bool> {
     let mut words = text.split(' ');
     let side = match words.next()? {
         "client" => Side::Client,
@@ -256,7 +266,7 @@ fn step<'a>(world: &mut PlainWorld<'a>, all: &'a [Vec<u8>], text: &str) -> Optio
         _ => {
             let payload = all.get(number as usize)?.as_slice();
             let channel = words.next()?.parse().ok()?;
-            let why = why_of(words.next()?, None)?;
+            let why = why_of(alloc, words.next()?)?;
             may(
                 world,
                 side,
@@ -270,30 +280,33 @@ fn step<'a>(world: &mut PlainWorld<'a>, all: &'a [Vec<u8>], text: &str) -> Optio
     }
 }
 
-#[test]
-fn some_moves_are_not_allowed(rt: HostRuntime) -> Result<(), Fail> {
-    let alloc = rt.alloc();
-    let lines = lines_of("data").ok_or("lines")?;
-    let params = params_of("plain").ok_or("parameters")?;
-    let all = datagrams(alloc, &params, lines).ok_or("datagrams")?;
-    for row in NOT_ALLOWED.lines() {
-        let mut parts = row.split(" | ");
-        let name = parts.next().ok_or("a name")?;
-        let steps = parts.next().ok_or("steps")?;
-        let last = parts.next().ok_or("a move")?;
-        let mut world = PlainWorld::start(alloc, &params, 7, 40);
-        for text in steps.split(", ") {
-            assert_eq!(rt;
-                step(&mut world, all.as_slice(), text),
-                Some(true),
-                "{name}: {text}"
-            );
+// Whether the steps of a row are allowed, and its move isn't.
+fn is_not_allowed<'a>(
+    alloc: Global,
+    world: &mut PlainWorld<'a>,
+    all: &'a [Vec<u8>],
+    row: &str,
+) -> Option<bool> {
+    let mut parts = row.split(" | ").skip(1);
+    let (steps, last) = (parts.next()?, parts.next()?);
+    for text in steps.split(", ") {
+        if !step(alloc, world, all, text)? {
+            return Some(false);
         }
-        assert_eq!(rt;
-            step(&mut world, all.as_slice(), last),
-            Some(false),
-            "{name}"
-        );
     }
-    Ok(())
+    Some(!step(alloc, world, all, last)?)
+}
+
+fn is_row_not_allowed(alloc: Global, row: &str) -> Option<bool> {
+    let (lines, params) = settings_of("data plain")?;
+    let all = datagrams(alloc, &params, lines)?;
+    let mut world = PlainWorld::start(alloc, &params, 7, 40);
+    is_not_allowed(alloc, &mut world, all.as_slice(), row)
+}
+
+#[test]
+fn some_moves_are_not_allowed(rt: HostRuntime) {
+    for row in NOT_ALLOWED.lines() {
+        assert_eq!(rt; is_row_not_allowed(rt.alloc(), row), Some(true), "{row}");
+    }
 }

@@ -1,9 +1,8 @@
 //! What a capture says each side sent.
-use crate::lines::params;
-use rasta_check::{DenseList, Sent, SentList, sent};
+use rasta_check::{DenseList, MapList, Sent, SentList, Side, sent};
+use rasta_rows::{bytes_of, params_of};
 use std::alloc::Global;
 use std::process::Abort;
-use std::test::Fail;
 
 // The handshake of the examples: a line for the file's header, and for each record its header and frame.
 const HANDSHAKE: &str = "\
@@ -19,33 +18,6 @@ d4c3b2a10200040000000000000000000000040001000000
 00001c004c18610000006000000065000000f4010000f203000028230000
 ";
 
-// The value of a digit.
-fn digit(byte: u8) -> Option<u8> {
-    match byte {
-        b'0'..=b'9' => Some(byte - b'0'),
-        b'a'..=b'f' => Some(byte - b'a' + 10),
-        _ => None,
-    }
-}
-
-// The bytes of a text in hexadecimal digits.
-fn bytes_of(alloc: Global, text: &str) -> Result<Vec<u8>, Fail> {
-    let mut bytes = Vec::new(alloc);
-    let mut high = None;
-    for byte in text.as_bytes() {
-        if let Some(low) = digit(*byte) {
-            high = match high {
-                None => Some(low),
-                Some(first) => {
-                    bytes.push(first.wrapping_mul(16).wrapping_add(low))?;
-                    None
-                }
-            };
-        }
-    }
-    Ok(bytes)
-}
-
 // The places and numbers of a list, where each is found by both, and no other is.
 fn members<'a, S: SentList<'a>>(alloc: Global, list: &S) -> Option<String> {
     let mut text = String::new(alloc);
@@ -60,17 +32,15 @@ fn members<'a, S: SentList<'a>>(alloc: Global, list: &S) -> Option<String> {
 }
 
 // Whether a list and the same list, dense, have the wanted members.
-fn expect<'a, R: Abort + AllocGlobal, S: SentList<'a>>(
-    rt: &R,
-    list: &S,
-    want: &str,
-) -> Result<(), Fail> {
-    let text = members(rt.alloc(), list).ok_or("members")?;
-    assert_eq!(rt; text.as_str(), want);
-    let dense = DenseList::of(rt.alloc(), list)?;
-    let text = members(rt.alloc(), &dense).ok_or("members")?;
-    assert_eq!(rt; text.as_str(), want);
-    Ok(())
+fn are_members<'a, S: SentList<'a>>(alloc: Global, list: &S, want: &str) -> Option<bool> {
+    let dense = DenseList::of(alloc, list).ok()?;
+    Some(members(alloc, list)?.as_str() == want && members(alloc, &dense)?.as_str() == want)
+}
+
+// The place and the number of the PDU of a side at a position.
+fn first(read: &Sent, side: Side, position: u32) -> Option<(u32, u32)> {
+    let (place, pdu) = read.first(side, position)?;
+    Some((place, pdu.number()))
 }
 
 // The senders and numbers of the packets.
@@ -83,16 +53,37 @@ fn packets(alloc: Global, read: &Sent) -> Option<String> {
     Some(text)
 }
 
+// Whether what was sent is that of the handshake.
+fn is_handshake(alloc: Global, read: &Sent) -> Option<bool> {
+    Some(
+        packets(alloc, read)?.as_str()
+            == "3: Some((Client, 7)) Some((Server, 40)) Some((Client, 8)) None"
+            && are_members(alloc, read.client(), "0 7 (0, 0), 2 8 (1, 1), (None, None)")?
+            && are_members(alloc, read.server(), "1 40 (0, 0), (None, None)")?,
+    )
+}
+
+fn are_first_copies(read: &Sent) -> bool {
+    first(read, Side::Client, 1) == Some((2, 8))
+        && first(read, Side::Server, 0) == Some((1, 40))
+        && first(read, Side::Server, 1) == None
+}
+
+fn is_read(alloc: Global) -> Option<bool> {
+    let file = bytes_of(alloc, HANDSHAKE)?;
+    let params = params_of("plain")?;
+    let read = sent(alloc, params, &file).ok()?;
+    let ids = (read.params().client_id(), read.params().server_id());
+    Some(ids == (96, 97) && is_handshake(alloc, &read)? && are_first_copies(&read))
+}
+
 #[test]
-fn handshake_is_read(rt: HostRuntime) -> Result<(), Fail> {
-    let file = bytes_of(rt.alloc(), HANDSHAKE)?;
-    let params = params(20, 0, None).ok_or("parameters")?;
-    let read = sent(rt.alloc(), params, &file).ok().ok_or("sent lists")?;
-    let text = packets(rt.alloc(), &read).ok_or("packets")?;
-    assert_eq!(rt;
-        text.as_str(),
-        "3: Some((Client, 7)) Some((Server, 40)) Some((Client, 8)) None"
-    );
-    expect(&rt, read.client(), "0 7 (0, 0), 2 8 (1, 1), (None, None)")?;
-    expect(&rt, read.server(), "1 40 (0, 0), (None, None)")
+fn handshake_is_read(rt: HostRuntime) {
+    assert_eq!(rt; is_read(rt.alloc()), Some(true));
+}
+
+#[test]
+fn new_lists_are_empty(rt: HostRuntime) {
+    assert_eq!(rt; DenseList::new(rt.alloc()).len(), 0);
+    assert_eq!(rt; MapList::new(rt.alloc()).len(), 0);
 }

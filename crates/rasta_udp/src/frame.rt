@@ -203,6 +203,3 @@ pub fn datagram<'a>(
         untagged(frame, channels)
     }
 }
-
-#[cfg(test)]
-mod tests;

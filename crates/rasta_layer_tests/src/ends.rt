@@ -1,117 +1,9 @@
 //! One end alone, by rows: what it takes and makes, what it answers last, and what it then is.
-use super::lines::{datagrams, params, pdu_of};
 use rasta_end::{End, Phase, Why};
-use rasta_pdu::{Fault, Params, Pdu, Quiet, QuietEnd, Side};
+use rasta_pdu::{Fault, Params, Pdu, Side};
+use rasta_rows::{datagrams, lines_of, params_of, pdu_of, side_of};
 use std::alloc::Global;
 use std::process::Abort;
-use std::test::Fail;
-
-const DATA: &str = "\
-client 7 6200 100 0 1000 0 open
-server 40 6201 500 100 9000 1000 open
-client 8 6220 101 500 1010 9000 -
-client 9 6240 102 500 1020 9000 dataab01,.
-server 41 6220 501 102 9050 1020 -
-client 10 6216 103 501 2814 9050 bye4
-client 10 6216 103 501 2815 9050 bye4
-server 41 6220 501 102 10800 1020 -
-server 41 6220 501 102 10801 1020 -
-";
-
-const LOST: &str = "\
-client 7 6200 100 0 1000 0 open
-server 40 6201 500 100 9000 1000 open
-client 8 6220 101 500 1010 9000 -
-client 9 6240 102 500 1020 9000 data01
-client 10 6240 103 500 1030 9000 data02
-server 41 6212 501 101 9060 1010 -
-client 11 6213 104 501 1070 9060 -
-client 12 6241 105 501 1071 9060 data01
-client 13 6241 106 501 1072 9060 data02
-client 14 6220 107 501 1080 9060 -
-server 42 6220 502 107 9090 1080 -
-server 42 6212 502 101 9070 1010 -
-client 11 6240 104 501 1070 9060 data03
-client 13 6240 106 501 1072 9060 data03
-client 13 6241 106 501 1072 9060 data03
-server 42 6220 502 105 9080 1071 -
-server 42 6212 502 104 9080 1070 -
-client 14 6213 107 502 1090 9080 -
-client 15 6241 108 502 1091 9080 data01
-client 16 6241 109 502 1092 9080 data02
-server 43 6220 503 109 9100 1092 -
-";
-
-const CROSSED: &str = "\
-client 7 6200 100 0 1000 0 open
-server 40 6201 500 100 9000 1000 open
-client 8 6220 101 500 1010 9000 -
-client 9 6240 102 500 1020 9000 data01
-server 41 6240 501 101 9020 1010 data11
-client 10 6240 103 500 1030 9000 data02
-server 42 6240 502 101 9030 1010 data12
-client 11 6212 104 500 1040 9000 -
-server 43 6212 503 101 9040 1010 -
-client 12 6213 105 500 1050 9000 -
-client 13 6241 106 500 1051 9000 data01
-client 14 6241 107 500 1052 9000 data02
-server 44 6213 504 101 9050 1010 -
-server 45 6241 505 101 9051 1010 data11
-server 46 6241 506 101 9052 1010 data12
-client 15 6220 108 506 1060 9052 -
-server 47 6220 507 108 9060 1060 -
-";
-
-const WRAPPED: &str = "\
-client 4294967295 6200 4294967295 0 4294967280 0 open
-server 40 6201 500 4294967295 9000 4294967280 open
-client 0 6220 0 500 4 9000 -
-client 1 6240 1 500 14 9000 data01
-server 41 6220 501 1 9050 14 -
-";
-
-const OPENED: &str = "\
-client 7 6200 100 0 1000 0 open
-server 40 6201 500 100 9000 1000 open
-client 8 6220 101 500 1010 9000 -
-server 40 6201 500 101 9000 1000 open
-client 8 6220 102 500 1010 9000 -
-client 8 6220 101 500 999 9000 -
-client 8 6220 101 499 1010 9000 -
-client 8 6220 101 500 1010 8999 -
-client 7 6240 100 0 1000 0 data01
-client 8 6216 101 500 1010 9000 bye1
-client 9 6220 102 500 1020 9000 -
-client 8 6220 101 500 1009 9000 -
-";
-
-const TIMED: &str = "\
-client 7 6200 100 0 1000 0 open
-server 40 6201 500 100 9000 1000 open
-client 8 6220 101 500 1010 9000 -
-client 8 6220 101 500 1010 9001 -
-server 41 6220 501 101 10800 1010 -
-server 41 6220 501 101 10801 1010 -
-server 41 6220 501 101 10805 1010 -
-server 41 6220 501 101 10806 1010 -
-server 41 6216 501 101 10799 1010 bye4
-server 41 6216 501 101 10800 1010 bye4
-server 41 6216 501 101 10794 1010 bye4
-server 41 6216 501 101 10795 1010 bye4
-server 41 6220 501 101 9000 1010 -
-server 41 6216 501 101 9000 1010 bye4
-client 9 6220 112 500 1020 9000 -
-client 9 6220 113 500 1020 9000 -
-client 9 6220 102 500 1020 9000 -
-";
-
-const QUIET: &str = "\
-client 9 6240 102 500 1020 9000 dataab01,.
-server 41 6220 501 102 9050 1020 -
-server 41 6216 501 101 9050 1010 bye0
-client 9 6200 102 0 1020 0 open
-client 9 6240 102 500 1020 9000 dataab01
-";
 
 // A row: its name, its lines, its settings, its side; phase, accepted, made, offered, owed and handed up
 // at its end; the fault that its last step answers, 0 where none; its steps, each that of a script with
@@ -123,6 +15,10 @@ handed up once | data plain client | Up 1 3 1 0 0 | 0 | make 0 1000 open, take 1
 handed up once | data plain server | Up 3 2 0 0 1 | 0 | take 0, make 1 9000 reply, take 2, take 3, make 4 9050 beat
 numbers wrap | wrapped plain client | Up 2 3 1 0 0 | 0 | make 0 4294967280 open, take 1, make 2 4294967300 reply, make 3 4294967310 fresh, take 4
 numbers wrap | wrapped plain server | Up 3 2 0 0 1 | 0 | take 0, make 1 9000 reply, take 2, take 3, make 4 9050 beat
+deadline behind the wrap | wrapped plain client | Up 2 4 1 0 0 | 0 | make 0 4294967280 open, take 1, make 2 4294967300 reply, make 3 4294967310 fresh, take 4, make 5 4294969110 beat
+deadline behind the wrap | wrapped plain client | Up 2 3 1 0 0 | 38 | make 0 4294967280 open, take 1, make 2 4294967300 reply, make 3 4294967310 fresh, take 4, make 6 4294969111 beat
+deadline behind the wrap | wrapped plain client | Up 2 3 1 0 0 | 46 | make 0 4294967280 open, take 1, make 2 4294967300 reply, make 3 4294967310 fresh, take 4, make 7 4294969109 expired
+deadline behind the wrap | wrapped plain client | Closed 2 4 1 0 0 | 0 | make 0 4294967280 open, take 1, make 2 4294967300 reply, make 3 4294967310 fresh, take 4, make 8 4294969110 expired
 clock falls at the wrap | wrapped plain client | Up 1 1 0 1 0 | 37 | make 0 4294967280 open, take 1, make 2 4 reply
 the capture ends in a burst | lost plain client | Up 2 6 2 1 0 | 0 | make 0 1000 open, take 1, make 2 1010 reply, make 3 1020 fresh, make 4 1030 fresh, take 5, make 6 1070 reply, make 7 1071 again 0
 the capture ends in a burst | lost plain server | RetrRun 6 3 0 0 1 | 0 | take 0, make 1 9000 reply, take 2, take 4, make 5 9060 ask, take 6, take 7, make 15 9080 beat
@@ -165,54 +61,6 @@ another quiet SN | quiet other client | Up 1 0 0 0 0 | 47 | make 0 1020 fresh
 no second opening | quiet quiet client | Closed 1 0 0 0 0 | 44 | take 2, make 3 1020 open
 ";
 
-pub fn lines_of(word: &str) -> Option<&'static str> {
-    match word {
-        "data" => Some(DATA),
-        "lost" => Some(LOST),
-        "crossed" => Some(CROSSED),
-        "wrapped" => Some(WRAPPED),
-        "opened" => Some(OPENED),
-        "timed" => Some(TIMED),
-        "quiet" => Some(QUIET),
-        _ => None,
-    }
-}
-
-fn quiet(next_sn: u32) -> Option<Quiet> {
-    let client = QuietEnd {
-        next_sn,
-        clock: 1010,
-        deadline: None,
-        handed_ts: None,
-    };
-    let server = QuietEnd {
-        next_sn: 501,
-        clock: 9000,
-        deadline: Some(10_800),
-        handed_ts: None,
-    };
-    Some(Quiet { client, server })
-}
-
-pub fn params_of(word: &str) -> Option<Params> {
-    match word {
-        "plain" => params(20, 0, None),
-        "slack" => params(20, 5, None),
-        "narrow" => params(1, 0, None),
-        "quiet" => params(20, 0, quiet(102)),
-        "other" => params(20, 0, quiet(103)),
-        _ => None,
-    }
-}
-
-fn side_of(word: &str) -> Side {
-    if word == "client" {
-        Side::Client
-    } else {
-        Side::Server
-    }
-}
-
 fn phase_of(phase: Phase) -> &'static str {
     match phase {
         Phase::Closed => "Closed",
@@ -224,7 +72,7 @@ fn phase_of(phase: Phase) -> &'static str {
     }
 }
 
-pub fn why_of(word: &str, unit: Option<&str>) -> Option<Why> {
+fn why_of(word: &str, unit: Option<&str>) -> Option<Why> {
     match word {
         "open" => Some(Why::Open),
         "reply" => Some(Why::Reply),
@@ -279,49 +127,123 @@ fn is_end(end: &End, want: &str) -> Option<bool> {
     )
 }
 
-// Runs the steps, and answers the fault of the last one.
+// Runs the steps, and answers the fault of the last one; none where one before it has a fault.
 fn run<'a>(
     params: &Params,
     lines: &str,
     all: &'a [Vec<u8>],
     end: &mut End<'a>,
     steps: &str,
-) -> Result<u8, Fail> {
+) -> Option<u8> {
     let mut fault = 0;
     for step in steps.split(", ") {
         if fault != 0 {
-            return Err("a fault before the last step".into());
+            return None;
         }
-        fault = answer(params, lines, all, end, step).ok_or("a step")?;
+        fault = answer(params, lines, all, end, step)?;
     }
-    Ok(fault)
+    Some(fault)
 }
 
-fn compare<R: Abort + AllocGlobal>(rt: &R, row: &str) -> Result<(), Fail> {
-    let mut parts = row.split(" | ");
-    let name = parts.next().ok_or("a name")?;
-    let mut settings = parts.next().ok_or("settings")?.split(' ');
-    let lines = settings.next().and_then(lines_of).ok_or("lines")?;
-    let params = settings.next().and_then(params_of).ok_or("parameters")?;
-    let side = settings.next().map(side_of).ok_or("a side")?;
-    let want_end = parts.next().ok_or("an end")?;
-    let want_fault = parts.next().ok_or("a fault")?;
-    let steps = parts.next().ok_or("steps")?;
-    let first = datagrams(rt.alloc(), &params, lines);
-    let all = first
-        .or_else(|| datagrams(rt.alloc(), &params, lines))
-        .ok_or("datagrams")?;
-    let mut end = End::start(rt.alloc(), &params, side);
-    let fault = run(&params, lines, all.as_slice(), &mut end, steps)?;
-    assert_eq!(rt; Ok(fault), want_fault.parse(), "{name}");
-    assert_eq!(rt; is_end(&end, want_end), Some(true), "{name}");
-    Ok(())
+// The datagrams of some lines; made again where memory was wanting.
+fn datagrams_of(alloc: Global, params: &Params, lines: &str) -> Option<Vec<Vec<u8>>> {
+    datagrams(alloc, params, lines).or_else(|| datagrams(alloc, params, lines))
+}
+
+// Whether an end that goes these steps has the fault and is then the end that are wanted.
+fn ends_so(
+    alloc: Global,
+    params: &Params,
+    lines: &str,
+    side: Side,
+    want: (&str, u8),
+    steps: &str,
+) -> Option<bool> {
+    let all = datagrams_of(alloc, params, lines)?;
+    let mut end = End::start(alloc, params, side);
+    let fault = run(params, lines, all.as_slice(), &mut end, steps)?;
+    Some(fault == want.1 && is_end(&end, want.0)?)
+}
+
+// Whether the end of a row is as it says.
+fn is_as_told(alloc: Global, row: &str) -> Option<bool> {
+    let mut parts = row.split(" | ").skip(1);
+    let mut settings = parts.next()?.split(' ');
+    let lines = lines_of(settings.next()?)?;
+    let params = params_of(settings.next()?)?;
+    let side = side_of(settings.next()?);
+    let want = (parts.next()?, parts.next()?.parse().ok()?);
+    ends_so(alloc, &params, lines, side, want, parts.next()?)
 }
 
 #[test]
-fn ends_by_rows(rt: HostRuntime) -> Result<(), Fail> {
+fn ends_by_rows(rt: HostRuntime) {
     for row in ROWS.lines() {
-        compare(&rt, row)?;
+        assert_eq!(rt; is_as_told(rt.alloc(), row), Some(true), "{row}");
     }
-    Ok(())
+}
+
+// Whether both ends are as they are before the opening.
+fn are_unopened(alloc: Global) -> Option<bool> {
+    let params = params_of("plain")?;
+    let client = End::client(alloc, &params);
+    let server = End::server(alloc, &params);
+    Some(is_end(&client, "Closed 0 0 0 0 0")? && is_end(&server, "Down 0 0 0 0 0")?)
+}
+
+#[test]
+fn ends_before_the_opening(rt: HostRuntime) {
+    assert_eq!(rt; are_unopened(rt.alloc()), Some(true));
+}
+
+// A row: lines and side; steps; what is asked of the end then, and the answer, a dash where there is none:
+// the redundancy number of what it made as the one of this number; the units conveyed through its position
+// with this SN; the fault for which nothing may be taken at this moment.
+const ASKED: &str = "\
+lost client | make 0 1000 open, take 1, make 2 1010 reply, make 3 1020 fresh, make 4 1030 fresh, take 5, make 6 1070 reply, make 7 1071 again 0 | made 0 7, made 1 8, made 5 12, made 6 -, units 100 0, units 102 1, units 103 2, units 104 0, units 105 1, units 106 0, moment 1071 42
+data server | take 0, make 1 9000 reply, take 2 | made 0 40, made 1 -, units 500 0, moment 10800 -, moment 10801 38
+";
+
+// Whether an end answers a question so.
+fn answers(end: &End, question: &str) -> Option<bool> {
+    let mut words = question.split(' ');
+    let word = words.next()?;
+    let number: u32 = words.next()?.parse().ok()?;
+    let want = words.next()?.parse::<u32>().ok();
+    let told = match word {
+        "made" => end.made_at(number as usize).map(|pdu| pdu.number()),
+        "units" => u32::try_from(end.units_confirmed(number)).ok(),
+        "moment" => end.take_fault(u64::from(number)).map(u32::from),
+        _ => None,
+    };
+    Some(told == want)
+}
+
+fn answers_all(end: &End, questions: &str) -> Option<bool> {
+    for question in questions.split(", ") {
+        if !answers(end, question)? {
+            return Some(false);
+        }
+    }
+    Some(true)
+}
+
+// Whether the end of a row answers as it says.
+fn tells(alloc: Global, row: &str) -> Option<bool> {
+    let mut parts = row.split(" | ");
+    let (word, side) = parts.next()?.split_once(' ')?;
+    let (steps, questions) = (parts.next()?, parts.next()?);
+    let lines = lines_of(word)?;
+    let params = params_of("plain")?;
+    let all = datagrams(alloc, &params, lines)?;
+    let mut end = End::start(alloc, &params, side_of(side));
+    let fault = run(&params, lines, all.as_slice(), &mut end, steps)?;
+    Some(fault == 0 && answers_all(&end, questions)?)
+}
+
+#[test]
+fn ends_tell_what_they_are(rt: HostRuntime) {
+    for row in ASKED.lines() {
+        assert_eq!(rt; tells(rt.alloc(), row), Some(true), "{row}");
+    }
 }

@@ -1,35 +1,33 @@
-//! The edges of the parameter file's keys, and the order in which they are judged.
+//! Parameter files: the edges of their keys, and the order in which they are judged.
 //!
 //! A row of a table is a line with bars between its parts; a slash stands for the end of a line. The
 //! first part is the number and the place of the fault, or `read`.
+use crate::parameters::values_of;
 use rasta_params::params;
+use rasta_pdu::Fault;
+use rasta_rows::bytes_of;
 use std::alloc::Global;
 use std::process::Abort;
-use std::test::Fail;
 
 const WORKED: &str =
     "client_id = 96\nserver_id = 97\ncode_length = 0\ncheck_length = 0\nn_sendmax = 20\nt_max = 1800\nslack = 0\n[[channel]]\nclient = '10.0.0.1:5000'\nserver = '10.0.0.2:5000'\n";
 
-// The number and the place of the fault, or `read`.
-fn verdict(alloc: Global, text: &[u8]) -> Result<String, Fail> {
-    match params(alloc, text) {
-        Ok(_) => Ok(String::from_str(alloc, "read")?),
-        Err(fault) => Ok(format!(in alloc; "{} {}", fault.number, fault.place)?),
-    }
-}
-
-// Whether the verdict on the text is the wanted one.
-fn expect<R: Abort + AllocGlobal>(rt: &R, want: &str, text: &[u8]) -> Result<(), Fail> {
-    let verdict = verdict(rt.alloc(), text)?;
-    assert_eq!(rt; verdict.as_str(), want, "{text:?}");
-    Ok(())
+// Whether the text is judged so: by the number and the place of its fault, or `read`.
+fn is_judged(alloc: Global, want: &str, text: &[u8]) -> Option<bool> {
+    let fault = params(alloc, text).err();
+    let Some((number, place)) = want.split_once(' ') else {
+        return Some(fault.is_none());
+    };
+    let number = number.parse().ok()?;
+    let place = place.parse().ok()?;
+    Some(fault == Some(Fault::at(number, place)))
 }
 
 // The parts of a row of three.
-fn three(row: &str) -> Result<(&str, &str, &str), Fail> {
-    let (want, change) = row.split_once(" | ").ok_or("a verdict")?;
-    let (old, new) = change.split_once(" |").ok_or("a change")?;
-    Ok((want, old, new.trim()))
+fn three(row: &str) -> Option<(&str, &str, &str)> {
+    let (want, change) = row.split_once(" | ")?;
+    let (old, new) = change.split_once(" |")?;
+    Some((want, old, new.trim()))
 }
 
 // Verdict, a piece of the worked text, and what stands in its place.
@@ -146,15 +144,19 @@ read | [[channel]] | [[channel]]/client = '10.0.0.1:1'/server = '10.0.0.2:1'/[[c
 51 11 | [[channel]] | [[channel]]/client = '10.0.0.2:5000'/[[channel]]
 ";
 
+// Whether the worked text with a change is judged so.
+fn is_changed_so(alloc: Global, row: &str) -> Option<bool> {
+    let (want, old, new) = three(row)?;
+    let new = new.replace(alloc, "/", "\n").ok()?;
+    let text = WORKED.replacen(alloc, old, new.as_str(), 1).ok()?;
+    is_judged(alloc, want, text.as_bytes())
+}
+
 #[test]
-fn each_key_has_its_edges(rt: HostRuntime) -> Result<(), Fail> {
+fn each_key_has_its_edges(rt: HostRuntime) {
     for row in NUMBERS.lines().chain(TEXTS.lines()) {
-        let (want, old, new) = three(row)?;
-        let new = new.replace(rt.alloc(), "/", "\n")?;
-        let text = WORKED.replacen(rt.alloc(), old, new.as_str(), 1)?;
-        expect(&rt, want, text.as_bytes())?;
+        assert_eq!(rt; is_changed_so(rt.alloc(), row), Some(true), "{row}");
     }
-    Ok(())
 }
 
 const OTHER: &str = "{next_sn = 501, clock = 9000, deadline = 10800}";
@@ -202,31 +204,39 @@ const QUIETS: &str = "\
 52 13 | {extra = 0, client = {next_sn = 0, clock = 0}, server = {next_sn = 0, clock = 0}}
 ";
 
-// Whether the verdict on the worked text with this quiet point is the wanted one.
-fn expect_quiet<R: Abort + AllocGlobal>(rt: &R, want: &str, quiet: &str) -> Result<(), Fail> {
-    let text = format!(in rt.alloc(); "quiet = {quiet}\n{WORKED}")?;
-    expect(rt, want, text.as_bytes())
+// Whether the worked text with this quiet point is judged so.
+fn is_quiet(alloc: Global, want: &str, quiet: &str) -> Option<bool> {
+    let text = format!(in alloc; "quiet = {quiet}\n{WORKED}").ok()?;
+    is_judged(alloc, want, text.as_bytes())
 }
 
-// The same where one end is this one, at either side.
-fn expect_end<R: Abort + AllocGlobal>(rt: &R, want: &str, end: &str) -> Result<(), Fail> {
-    let client = format!(in rt.alloc(); "{{client = {end}, server = {OTHER}}}")?;
-    expect_quiet(rt, want, client.as_str())?;
-    let server = format!(in rt.alloc(); "{{client = {OTHER}, server = {end}}}")?;
-    expect_quiet(rt, want, server.as_str())
+// The same where the client is the end of a row, and where the server is.
+fn is_client(alloc: Global, row: &str) -> Option<bool> {
+    let (want, end) = row.split_once(" | ")?;
+    let quiet = format!(in alloc; "{{client = {end}, server = {OTHER}}}").ok()?;
+    is_quiet(alloc, want, quiet.as_str())
+}
+
+fn is_server(alloc: Global, row: &str) -> Option<bool> {
+    let (want, end) = row.split_once(" | ")?;
+    let quiet = format!(in alloc; "{{client = {OTHER}, server = {end}}}").ok()?;
+    is_quiet(alloc, want, quiet.as_str())
+}
+
+fn is_whole(alloc: Global, row: &str) -> Option<bool> {
+    let (want, quiet) = row.split_once(" | ")?;
+    is_quiet(alloc, want, quiet)
 }
 
 #[test]
-fn quiet_points_are_judged(rt: HostRuntime) -> Result<(), Fail> {
+fn quiet_points_are_judged(rt: HostRuntime) {
     for row in ENDS.lines() {
-        let (want, end) = row.split_once(" | ").ok_or("a verdict")?;
-        expect_end(&rt, want, end)?;
+        assert_eq!(rt; is_client(rt.alloc(), row), Some(true), "{row}");
+        assert_eq!(rt; is_server(rt.alloc(), row), Some(true), "{row}");
     }
     for row in QUIETS.lines() {
-        let (want, quiet) = row.split_once(" | ").ok_or("a verdict")?;
-        expect_quiet(&rt, want, quiet)?;
+        assert_eq!(rt; is_whole(rt.alloc(), row), Some(true), "{row}");
     }
-    Ok(())
 }
 
 const ALL_WRONG: &str =
@@ -249,30 +259,22 @@ const STEPS: &str = "\
 52 12 | extra = 1 | #
 ";
 
-#[test]
-fn faults_come_in_the_order_of_the_keys(rt: HostRuntime) -> Result<(), Fail> {
-    let mut text = String::from_str(rt.alloc(), ALL_WRONG)?;
+// Whether each fault is told that is left when those in front of it are put right.
+fn are_told_in_order(alloc: Global) -> Option<bool> {
+    let mut text = String::from_str(alloc, ALL_WRONG).ok()?;
     for row in STEPS.lines() {
         let (want, wrong, right) = three(row)?;
-        expect(&rt, want, text.as_bytes())?;
-        text = text.replacen(rt.alloc(), wrong, right, 1)?;
+        if !is_judged(alloc, want, text.as_bytes())? {
+            return Some(false);
+        }
+        text = text.replacen(alloc, wrong, right, 1).ok()?;
     }
-    expect(&rt, "read", text.as_bytes())
+    is_judged(alloc, "read", text.as_bytes())
 }
 
-// All values, in the order of their keys.
-fn values_of(alloc: Global, text: &str) -> Result<String, Fail> {
-    let p = params(alloc, text.as_bytes()).map_err(|_| "parameters")?;
-    let [a, b, c, d] = p.md4_start();
-    let words = format!(in alloc; "{a:08x}{b:08x}{c:08x}{d:08x}")?;
-    let lengths = (p.code_length(), p.check_length());
-    let limits = (p.n_sendmax(), p.t_max(), p.slack());
-    let window = (p.first_record(), p.last_record());
-    let ids = (p.client_id(), p.server_id());
-    let front = format!(in alloc; "{ids:?} {lengths:?} {words} {limits:?} {window:?}")?;
-    let channels = p.channel();
-    let quiet = p.quiet();
-    Ok(format!(in alloc; "{front} {channels:?} {quiet:?}")?)
+#[test]
+fn faults_come_in_the_order_of_the_keys(rt: HostRuntime) {
+    assert_eq!(rt; are_told_in_order(rt.alloc()), Some(true));
 }
 
 const WORKED_VALUES: &str =
@@ -284,12 +286,19 @@ const OTHER_TEXT: &str =
 const OTHER_VALUES: &str =
     "(1, 2) (16, 4) 0123456789abcdefabcdef0000000010 (3, 4, 5) (6, 7) [Channel { client: Endpoint { address: [10, 0, 0, 1], port: 1 }, server: Endpoint { address: [10, 0, 0, 2], port: 2 } }, Channel { client: Endpoint { address: [0, 0, 0, 0], port: 3 }, server: Endpoint { address: [255, 0, 1, 2], port: 65535 } }] Some(Quiet { client: QuietEnd { next_sn: 8, clock: 9, deadline: None, handed_ts: None }, server: QuietEnd { next_sn: 10, clock: 11, deadline: Some(12), handed_ts: Some(13) } })";
 
+// Whether a text has these values.
+fn has_values(alloc: Global, text: &str, want: &str) -> Option<bool> {
+    let read = params(alloc, text.as_bytes()).ok()?;
+    Some(values_of(alloc, &read)?.as_str() == want)
+}
+
 #[test]
-fn values_are_those_of_the_text(rt: HostRuntime) -> Result<(), Fail> {
-    for (text, want) in [(WORKED, WORKED_VALUES), (OTHER_TEXT, OTHER_VALUES)] {
-        assert_eq!(rt; values_of(rt.alloc(), text)?.as_str(), want);
-    }
-    Ok(())
+fn values_are_those_of_the_text(rt: HostRuntime) {
+    assert_eq!(rt; has_values(rt.alloc(), WORKED, WORKED_VALUES), Some(true));
+    assert_eq!(rt;
+        has_values(rt.alloc(), OTHER_TEXT, OTHER_VALUES),
+        Some(true)
+    );
 }
 
 // Verdict, and the bytes of a text: of no bytes, a comment, a byte that begins no character, a text
@@ -311,18 +320,27 @@ const LONG: &str = "\
 50 0 |  | a.
 ";
 
+// Whether the bytes of a row are judged so.
+fn are_bytes_judged(alloc: Global, row: &str) -> Option<bool> {
+    let (want, digits) = row.split_once(" |")?;
+    let text = bytes_of(alloc, digits)?;
+    is_judged(alloc, want, &text)
+}
+
+// Whether a text that goes on as a row says is judged so.
+fn is_long_judged(alloc: Global, row: &str) -> Option<bool> {
+    let (want, front, piece) = three(row)?;
+    let rest = piece.repeat(alloc, 2000).ok()?;
+    let text = format!(in alloc; "{front} {rest}").ok()?;
+    is_judged(alloc, want, text.as_bytes())
+}
+
 #[test]
-fn bad_texts_have_faults(rt: HostRuntime) -> Result<(), Fail> {
+fn bad_texts_have_faults(rt: HostRuntime) {
     for row in BYTES.lines() {
-        let (want, digits) = row.split_once(" |").ok_or("a verdict")?;
-        let text = hex::decode(rt.alloc(), digits.trim())?;
-        expect(&rt, want, &text)?;
+        assert_eq!(rt; are_bytes_judged(rt.alloc(), row), Some(true), "{row}");
     }
     for row in LONG.lines() {
-        let (want, front, piece) = three(row)?;
-        let text = piece.repeat(rt.alloc(), 2000)?;
-        let text = format!(in rt.alloc(); "{front} {text}")?;
-        expect(&rt, want, text.as_bytes())?;
+        assert_eq!(rt; is_long_judged(rt.alloc(), row), Some(true), "{row}");
     }
-    Ok(())
 }

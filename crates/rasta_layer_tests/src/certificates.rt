@@ -5,7 +5,6 @@ use rasta_pcap::devices::FailAt;
 use rasta_pcap::{Counted, Fault, Sink};
 use std::alloc::Global;
 use std::process::Abort;
-use std::test::Fail;
 
 const TEXT: &str = "\
 rasta-certificate 1
@@ -93,43 +92,46 @@ fn certificate(alloc: Global) -> Option<Certificate> {
 }
 
 // Whether the scripts are those of the text.
-fn expect_scripts<R: Abort>(rt: &R, certificate: &Certificate) {
-    assert_eq!(rt; certificate.client(), CLIENT);
-    assert_eq!(rt; certificate.server(), SERVER);
+fn are_scripts(certificate: &Certificate) -> bool {
+    certificate.client() == CLIENT && certificate.server() == SERVER
+}
+
+// Whether the certificate is written as the text.
+fn is_written(alloc: Global) -> Option<bool> {
+    let certificate = certificate(alloc)?;
+    let mut writer = Counted::new(Vec::new(alloc));
+    write(&certificate, &mut writer).ok()?;
+    Some(are_scripts(&certificate) && writer.into_inner().as_slice() == TEXT.as_bytes())
 }
 
 #[test]
-fn certificate_is_written(rt: HostRuntime) -> Result<(), Fail> {
-    let certificate = certificate(rt.alloc()).ok_or("a certificate")?;
-    expect_scripts(&rt, &certificate);
-    let mut writer = Counted::new(Vec::new(rt.alloc()));
-    assert_eq!(rt; write(&certificate, &mut writer), Ok(()));
-    assert_eq!(rt; writer.into_inner().as_slice(), TEXT.as_bytes());
-    Ok(())
+fn certificate_is_written(rt: HostRuntime) {
+    assert_eq!(rt; is_written(rt.alloc()), Some(true));
 }
 
 // Whether what a writer that goes wrong holds is a beginning of the text.
-fn expect_writes<R: Abort>(rt: &R, certificate: &Certificate, device: FailAt<Vec<u8>>) {
+fn is_begun(certificate: &Certificate, device: FailAt<Vec<u8>>) -> bool {
     let mut writer = Counted::new(device);
     let outcome = write(certificate, &mut writer);
     let failures = Sink::failures(&writer);
     let text = writer.into_inner().into_inner();
-    assert!(rt; TEXT.as_bytes().starts_with(&text));
-    assert_eq!(rt; failures == 0, text.len() == TEXT.len());
-    assert_eq!(rt; outcome.is_ok(), failures == 0);
+    let is_whole = text.len() == TEXT.len();
+    TEXT.as_bytes().starts_with(&text) && is_whole == (failures == 0) && is_whole == outcome.is_ok()
 }
 
-// Each call of a writer fails or takes no byte.
+// The same where the call of this number fails or takes no byte.
+fn are_begun(alloc: Global, call: u64) -> Option<bool> {
+    let certificate = certificate(alloc)?;
+    let failing = FailAt::new(Vec::new(alloc), call);
+    let idle = FailAt::idle_at(Vec::new(alloc), call);
+    Some(is_begun(&certificate, failing) && is_begun(&certificate, idle))
+}
+
 #[test]
-fn each_write_goes_wrong_in_turn(rt: HostRuntime) -> Result<(), Fail> {
-    let certificate = certificate(rt.alloc()).ok_or("a certificate")?;
+fn each_write_goes_wrong_in_turn(rt: HostRuntime) {
     for call in 1..20 {
-        let failing = FailAt::new(Vec::new(rt.alloc()), call);
-        expect_writes(&rt, &certificate, failing);
-        let idle = FailAt::idle_at(Vec::new(rt.alloc()), call);
-        expect_writes(&rt, &certificate, idle);
+        assert_eq!(rt; are_begun(rt.alloc(), call), Some(true), "{call}");
     }
-    Ok(())
 }
 
 // The refusal of so many entries, or none.
@@ -153,39 +155,35 @@ fn entries_are_at_most_four_million(rt: HostRuntime) {
     }
 }
 
-#[test]
-fn certificate_is_read(rt: HostRuntime) -> Result<(), Fail> {
-    let certificate = read(rt.alloc(), TEXT.as_bytes())
-        .ok()
-        .ok_or("a certificate")?;
-    expect_scripts(&rt, &certificate);
-    Ok(())
-}
-
-// Where memory was wanting the text can be read again; `scripts/fail_allocations.py` makes it want.
-#[test]
-fn certificate_is_read_again(rt: HostRuntime) -> Result<(), Fail> {
-    let mut outcome = read(rt.alloc(), TEXT.as_bytes());
-    for _ in 0..2 {
-        if let Err(fault) = &outcome {
-            assert_eq!(rt; *fault, Fault::at(1, 0));
-            outcome = read(rt.alloc(), TEXT.as_bytes());
+// What is answered to the text; it is read again where memory was wanting.
+fn read_text(alloc: Global) -> Result<Certificate, Fault> {
+    read(alloc, TEXT.as_bytes()).or_else(|fault| {
+        if fault == Fault::at(1, 0) {
+            read(alloc, TEXT.as_bytes())
+        } else {
+            Err(fault)
         }
-    }
-    let certificate = outcome.ok().ok_or("a certificate")?;
-    expect_scripts(&rt, &certificate);
-    Ok(())
+    })
+}
+
+// `scripts/fail_allocations.py` makes memory want.
+#[test]
+fn certificate_is_read_again(rt: HostRuntime) {
+    let read = read_text(rt.alloc());
+    assert_eq!(rt; read.map(|certificate| are_scripts(&certificate)), Ok(true));
+}
+
+// How many entries the client's script and the server's have.
+fn lengths(alloc: Global, text: &str) -> Option<(usize, usize)> {
+    let certificate = read(alloc, text.as_bytes()).ok()?;
+    Some((certificate.client().len(), certificate.server().len()))
 }
 
 #[test]
-fn certificate_without_entries_is_read(rt: HostRuntime) -> Result<(), Fail> {
+fn certificate_without_entries_is_read(rt: HostRuntime) {
     let text = "rasta-certificate 1\nclient\nserver\nend\n";
-    let certificate = read(rt.alloc(), text.as_bytes())
-        .ok()
-        .ok_or("a certificate")?;
-    assert_eq!(rt; certificate.client(), [].as_slice());
-    assert_eq!(rt; certificate.server(), [].as_slice());
-    Ok(())
+    assert_eq!(rt; lengths(rt.alloc(), text), Some((0, 0)));
+    assert_eq!(rt; lengths(rt.alloc(), TEXT), Some((7, 5)));
 }
 
 // An exchange of five packets; its text has thirteen lines.
@@ -318,21 +316,20 @@ fn text_with(alloc: Global, place: &str, line: &str) -> Option<Vec<u8>> {
     Some(text)
 }
 
-// The fault of a row, and what is answered to its text.
-fn answer(alloc: Global, row: &str) -> Option<(u32, Option<Fault>)> {
+// Whether the text of a row is refused at its line.
+fn is_refused(alloc: Global, row: &str) -> Option<bool> {
     let (fault, row) = row.split_once(' ')?;
     let (place, line) = row.split_once(' ')?;
+    let fault = fault.parse().ok()?;
     let text = text_with(alloc, place, line)?;
-    Some((fault.parse().ok()?, read(alloc, &text).err()))
+    Some(read(alloc, &text).err() == Some(Fault::at(30, fault)))
 }
 
 #[test]
-fn wrong_lines_are_named(rt: HostRuntime) -> Result<(), Fail> {
+fn wrong_lines_are_named(rt: HostRuntime) {
     for row in ROWS.lines() {
-        let (line, fault) = answer(rt.alloc(), row).ok_or("a row")?;
-        assert_eq!(rt; fault, Some(Fault::at(30, line)), "{row}");
+        assert_eq!(rt; is_refused(rt.alloc(), row), Some(true), "{row}");
     }
-    Ok(())
 }
 
 // A text that stops anywhere is refused at its last line, or behind it where that one has its end.

@@ -1,0 +1,81 @@
+//! Files: their records, or what refuses them.
+use rasta_pcap::{Fault, Pcap, Record};
+use rasta_rows::bytes_of;
+use std::alloc::Global;
+use std::process::Abort;
+
+// The bytes of a file, and what is read from it: its records, each with its number and its bytes, and then
+// its end; or the number and the place of a fault. Zone, significant figures and snapshot length may be
+// anything.
+const ROWS: &str = "\
+d4c3b2a1 02000400 ffffffff ffffffff ffffffff 01000000 | end
+4d3cb2a1 02000400 ffffffff ffffffff ffffffff 01000000 | end
+a1b2c3d4 00020004 ffffffff ffffffff ffffffff 00000001 | end
+a1b23c4d 00020004 ffffffff ffffffff ffffffff 00000001 | end
+d4c3b2a1 02000400 00000000 00000000 00000400 01000000 eeeeeeee eeeeeeee 03000000 eeeeeeee 010203 eeeeeeee eeeeeeee 00000000 eeeeeeee | 1 [1, 2, 3], 2 [], end
+a1b2c3d4 00020004 00000000 00000000 00040000 00000001 eeeeeeee eeeeeeee 00000003 eeeeeeee 010203 eeeeeeee eeeeeeee 00000000 eeeeeeee | 1 [1, 2, 3], 2 [], end
+ | 13 0
+d4c3b2a1 02000400 00000000 00000000 00000400 010000 | 13 0
+00000000 00000000 00000000 00000000 00000000 00000000 | 10 0
+d5c3b2a1 03000400 00000000 00000000 00000400 02000000 | 10 0
+d4c3b2a1 03000400 00000000 00000000 00000400 02000000 | 11 0
+d4c3b2a1 02000300 00000000 00000000 00000400 02000000 | 11 0
+a1b2c3d4 02000400 00000000 00000000 00000400 00000001 | 11 0
+d4c3b2a1 02000400 00000000 00000000 00000400 02000000 | 12 0
+d4c3b2a1 02000400 00000000 00000000 00000400 01000000 eeeeeeee eeeeeeee ffffffff eeeeee | 14 1
+d4c3b2a1 02000400 00000000 00000000 00000400 01000000 eeeeeeee eeeeeeee 00000400 eeeeeeee | 14 1
+d4c3b2a1 02000400 00000000 00000000 00000400 01000000 eeeeeeee eeeeeeee 01000400 eeeeeeee | 18 1
+a1b2c3d4 00020004 00000000 00000000 00040000 00000001 eeeeeeee eeeeeeee 00040001 eeeeeeee | 18 1
+d4c3b2a1 02000400 00000000 00000000 00000400 01000000 eeeeeeee eeeeeeee 02000000 eeeeeeee 07 | 14 1
+d4c3b2a1 02000400 00000000 00000000 00000400 01000000 eeeeeeee eeeeeeee 02000000 eeeeeeee 0707 00 | 1 [7, 7], 14 2
+";
+
+fn fault_text(alloc: Global, fault: Fault) -> Option<String> {
+    format!(in alloc; "{} {}", fault.number, fault.place).ok()
+}
+
+fn record_text(alloc: Global, record: &Record) -> Option<String> {
+    format!(in alloc; "{} {:?}, ", record.number, record.bytes).ok()
+}
+
+// What the next record is, and whether it is the last.
+fn next_text(alloc: Global, pcap: &mut Pcap) -> Option<(String, bool)> {
+    match pcap.next_record() {
+        Ok(Some(record)) => Some((record_text(alloc, &record)?, false)),
+        Ok(None) => Some((String::from_str(alloc, "end").ok()?, true)),
+        Err(fault) => Some((fault_text(alloc, fault)?, true)),
+    }
+}
+
+// What the first nine records of a file are.
+fn file_text(alloc: Global, file: &[u8]) -> Option<String> {
+    let mut pcap = match Pcap::open(file) {
+        Ok(pcap) => pcap,
+        Err(fault) => return fault_text(alloc, fault),
+    };
+    let mut text = String::new(alloc);
+    for _ in 0..9 {
+        let (next, is_last) = next_text(alloc, &mut pcap)?;
+        text.push_str(next.as_str()).ok()?;
+        if is_last {
+            // Later calls answer the same.
+            return (next_text(alloc, &mut pcap)?.0 == next).then_some(text);
+        }
+    }
+    None
+}
+
+// Whether the file of a row is what it says.
+fn answer(alloc: Global, row: &str) -> Option<bool> {
+    let (digits, want) = row.split_once(" | ")?;
+    let file = bytes_of(alloc, digits)?;
+    let text = file_text(alloc, &file)?;
+    Some(text.as_str() == want)
+}
+
+#[test]
+fn files_are_read_so(rt: HostRuntime) {
+    for row in ROWS.lines() {
+        assert_eq!(rt; answer(rt.alloc(), row), Some(true), "{row}");
+    }
+}
