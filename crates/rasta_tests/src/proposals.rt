@@ -68,7 +68,7 @@ fn are_entries(entries: &[Entry], want: &str) -> Option<bool> {
 fn over_vectors(alloc: Global, sent: &Sent) -> Option<Certificate> {
     let client = DenseList::of(alloc, sent.client()).ok()?;
     let server = DenseList::of(alloc, sent.server()).ok()?;
-    propose_lists(alloc, &sent.params(), &client, &server).ok()
+    propose_lists(alloc, &sent.params(), sent.len(), &client, &server).ok()
 }
 
 fn are_same(one: &Certificate, other: &Certificate) -> bool {
