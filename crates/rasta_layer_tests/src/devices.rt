@@ -168,6 +168,25 @@ fn reader_answers_what_its_device_answers(rt: HostRuntime) {
     assert_eq!(rt; buf.as_slice(), b"bytes o\0\0".as_slice());
 }
 
+fn write_once<W: Sink>(writer: &mut W, buf: &[u8]) -> Result<usize, ErrorKind> {
+    writer.write(buf).map_err(|error| error.kind())
+}
+
+// The second call takes no byte, and is counted.
+#[test]
+fn writer_answers_what_its_device_answers(rt: HostRuntime) {
+    let sips = Sips {
+        taken: Vec::new(rt.alloc()),
+    };
+    let mut writer = Counted::new(FailAt::idle_at(sips, 2));
+    assert_eq!(rt; write_once(&mut writer, b"xy"), Ok(1));
+    assert_eq!(rt; write_once(&mut writer, b"xy"), Ok(0));
+    assert_eq!(rt; write_once(&mut writer, b"xy"), Ok(1));
+    assert_eq!(rt; Sink::failures(&writer), 1);
+    let taken = writer.into_inner().into_inner().taken;
+    assert_eq!(rt; taken.as_slice(), b"xx".as_slice());
+}
+
 // A writer whose flush fails.
 #[derive(Drop)]
 struct Clogged;

@@ -95,26 +95,26 @@ fn capture(alloc: Global, lines: &str, all: &[Vec<u8>], packets: &str) -> Option
             "cut" => {
                 let _ = file.pop()?;
             }
-            "flip" => *file.last_mut()? ^= 1,
+            "flip" => {
+                let last = file.pop()?;
+                file.push(last ^ 1).ok()?;
+            }
             _ => push_packet(alloc, &mut file, lines, all, packet)?,
         }
     }
     Some(file)
 }
 
-/// The lines and the parameters of a row's settings, `CONNECTION PARAMETERS`.
-pub fn settings_of(settings: &str) -> Option<(&'static str, Params)> {
-    let (connection, word) = settings.split_once(' ')?;
-    Some((lines_of(connection)?, params_of(word)?))
-}
-
-/// The parameters of a row's settings, and the file of its packets, each of which is named by its line.
+/// The parameters of a row's settings, `CONNECTION PARAMETERS`, and the file of its packets, each of which is
+/// named by its line.
 ///
 /// Behind a line may stand `@2`, the second channel, or `@9`, hosts that aren't recorded; and `%50`, where only
 /// 50 bytes of its frame were captured. `-` is no packet; `cut` takes the last byte of the file away, and `flip`
 /// changes it.
 pub fn file_of(alloc: Global, settings: &str, packets: &str) -> Option<(Params, Vec<u8>)> {
-    let (lines, params) = settings_of(settings)?;
+    let (connection, word) = settings.split_once(' ')?;
+    let lines = lines_of(connection)?;
+    let params = params_of(word)?;
     let all = datagrams(alloc, &params, lines)?;
     let file = capture(alloc, lines, all.as_slice(), packets)?;
     Some((params, file))

@@ -1,7 +1,7 @@
 //! What two sent lists show, by rows: which units the ends surely took.
 use rasta_pdu::{Params, Side};
 use rasta_plain::taken::{FirstCopy, TakenUnit, surely_taken, units_conveyed};
-use rasta_rows::{datagrams, pdu_of, settings_of, side_at};
+use rasta_rows::{datagrams, lines_of, params_of, pdu_of, side_at};
 use std::alloc::Global;
 use std::process::Abort;
 
@@ -109,7 +109,9 @@ fn are_taken(
 // Whether the units that the ends of a row took are as it says.
 fn is_taken(alloc: Global, row: &str) -> Option<bool> {
     let mut parts = row.split(" | ").skip(1);
-    let (lines, params) = settings_of(parts.next()?)?;
+    let (connection, word) = parts.next()?.split_once(' ')?;
+    let lines = lines_of(connection)?;
+    let params = params_of(word)?;
     let packets = parts.next()?;
     let (by_client, by_server) = (parts.next()?, parts.next()?);
     let all = datagrams(alloc, &params, lines)?;
@@ -152,7 +154,9 @@ fn are_conveyed(
 // Whether the units of a row are conveyed as it says.
 fn is_conveyed(alloc: Global, row: &str) -> Option<bool> {
     let mut parts = row.split(" | ");
-    let (lines, params) = settings_of(parts.next()?)?;
+    let (connection, word) = parts.next()?.split_once(' ')?;
+    let lines = lines_of(connection)?;
+    let params = params_of(word)?;
     let packets = parts.next()?;
     let (by_client, by_server) = (parts.next()?, parts.next()?);
     let all = datagrams(alloc, &params, lines)?;

@@ -6,7 +6,7 @@ use rasta_cert::{Certificate, Entry};
 use rasta_end::Why;
 use rasta_pdu::{Params, Side};
 use rasta_plain::world::{Move, PlainWorld};
-use rasta_rows::{datagrams, pdu_of, settings_of, side_at};
+use rasta_rows::{datagrams, lines_of, params_of, pdu_of, side_at};
 use std::alloc::Global;
 use std::process::Abort;
 
@@ -194,7 +194,9 @@ fn is_run(alloc: Global, row: &Row<'_>) -> Option<bool> {
 // The same for a row that is explained.
 fn is_row_run(alloc: Global, row: &str) -> Option<bool> {
     let mut parts = row.split(" | ").skip(1);
-    let (lines, params) = settings_of(parts.next()?)?;
+    let (connection, word) = parts.next()?.split_once(' ')?;
+    let lines = lines_of(connection)?;
+    let params = params_of(word)?;
     let packets = parts.next()?;
     let (client, server) = (parts.next()?, parts.next()?);
     if !parts.next()?.contains(';') {
@@ -298,7 +300,8 @@ fn is_not_allowed<'a>(
 }
 
 fn is_row_not_allowed(alloc: Global, row: &str) -> Option<bool> {
-    let (lines, params) = settings_of("data plain")?;
+    let lines = lines_of("data")?;
+    let params = params_of("plain")?;
     let all = datagrams(alloc, &params, lines)?;
     let mut world = PlainWorld::start(alloc, &params, 7, 40);
     is_not_allowed(alloc, &mut world, all.as_slice(), row)
