@@ -68,7 +68,7 @@ fn are_entries(entries: &[Entry], want: &str) -> Option<bool> {
 fn over_vectors(alloc: Global, sent: &Sent) -> Option<Certificate> {
     let client = DenseList::of(alloc, sent.client()).ok()?;
     let server = DenseList::of(alloc, sent.server()).ok()?;
-    propose_lists(alloc, &sent.params(), &client, &server).ok()
+    propose_lists(alloc, &sent.params(), sent.len(), &client, &server).ok()
 }
 
 fn are_same(one: &Certificate, other: &Certificate) -> bool {
@@ -139,7 +139,7 @@ fn is_unexplained(alloc: Global, row: &str) -> Option<bool> {
     let (settings, packets, want) = (parts.next()?, parts.next()?, parts.next()?);
     let (params, file) = file_of(alloc, settings, packets)?;
     let sent = sent(alloc, params, &file).ok()?;
-    is_fault(propose(alloc, &params, &sent).err()?, want)
+    is_fault(propose(alloc, &sent.params(), &sent).err()?, want)
 }
 
 #[test]
