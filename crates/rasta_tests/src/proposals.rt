@@ -139,7 +139,7 @@ fn is_unexplained(alloc: Global, row: &str) -> Option<bool> {
     let (settings, packets, want) = (parts.next()?, parts.next()?, parts.next()?);
     let (params, file) = file_of(alloc, settings, packets)?;
     let sent = sent(alloc, params, &file).ok()?;
-    is_fault(propose(alloc, &params, &sent).err()?, want)
+    is_fault(propose(alloc, &sent.params(), &sent).err()?, want)
 }
 
 #[test]
