@@ -13,7 +13,7 @@ if_err (Err f) h p b = h f p b
 -- the parameters weren't read, or are refused, and nothing else was touched
 pub of_parameters : (form : Form) (old new : Devices) (f : Fault) → new.certificate ≡ old.certificate → new.capture ≡ old.capture → new.output ≡ old.output
     → IsReadFault f old.parameter_failures new.parameter_failures
-        ⊎ ((text : List ℕ) × ReadsWhole old.parameters new.parameters text × ReadsParameters text (Err f))
+    ⊎ ((text : List ℕ) × ReadsWhole old.parameters new.parameters text × ReadsParameters text (Err f))
     → GivesUp form old new f
 of_parameters form old new f a b c (inl h) = parameters_unread h a b c
 of_parameters form old new f a b c (inr z) = parameters_refused z.0 z.1 z.2 a b c

@@ -16,7 +16,7 @@ pub returns-clause-err : goal.returns-clause-err
 returns-clause-err g c =
     let read = c.in-Ok.ensures.ok in
     let certificate = subst (λ (l : List ℕ). ReadsCertificate c.args.form.now (g.C.Source.remaining c.args.certificate.now) (g.C.Source.remaining c.read_certificate.new.reader) l)
-        (sym c.deref.ensures.value) c.in-Ok-read_certificate.ensures.ok in
+    (sym c.deref.ensures.value) c.in-Ok-read_certificate.ensures.ok in
     if_err c.run_command.result
     (λ f fault begun. run_failed c.in-Ok.params (record { text = read.0; whole = read.1; parameters = read.2 }) c.deref.result.now certificate fault begun)
     c.run_command.ensures.err c.run_command.ensures.begun
