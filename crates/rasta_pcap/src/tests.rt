@@ -2,7 +2,7 @@
 ghost use Rattle.std.specs.Prelude.{Some, None};
 
 use crate::devices::{FailAt, Pieces, WriteDevice};
-use crate::{Counted, Fault, Pcap, Sink, Source, read_all, write_all};
+use crate::{Counted, Fault, Pcap, Sink, Source, Stream, read_all, write_all};
 use std::alloc::{AllocError, Global};
 use std::io;
 use std::io::{ErrorKind, Read, Write};
@@ -391,6 +391,68 @@ fn counted_answers_what_its_device_answers(rt: HostRuntime) -> Result<(), Fail> 
     let mut device = writer.into_inner();
     device.flush()?;
     assert_eq!(rt; device.into_inner().taken.as_slice(), b"xx".as_slice());
+    Ok(())
+}
+
+#[test]
+fn records_come_in_any_pieces(rt: HostRuntime) -> Result<(), Fail> {
+    let alloc = rt.alloc();
+    let longest = vec![in alloc; 5u8; 262_144]?;
+    let file = file_of(
+        alloc,
+        &[
+            &BIG,
+            &big_record(3),
+            &[1, 2, 3],
+            &big_record(0),
+            &big_record(262_144),
+            &longest,
+            &big_record(1),
+            &[4],
+        ],
+    )?;
+    for most in [1, 7, 4096, usize::MAX] {
+        let reader = Counted::new(Pieces::new(&file, most));
+        let mut stream = Stream::open(alloc, reader).ok().ok_or("open")?;
+        for (number, bytes) in [
+            (1, [1, 2, 3].as_slice()),
+            (2, &[]),
+            (3, longest.as_slice()),
+            (4, &[4]),
+        ] {
+            let record = stream.next_record().ok().flatten().ok_or("record")?;
+            assert_eq!(rt; record.number, number);
+            assert_eq!(rt; record.bytes, bytes);
+            assert_eq!(rt; stream.buffer(), bytes);
+        }
+        assert_eq!(rt; stream.advance(), Ok(None));
+        assert_eq!(rt; stream.into_inner().failures(), 0);
+    }
+    Ok(())
+}
+
+// Pieces of 7 bytes: four of the header, and three of the record's.
+#[test]
+fn each_read_of_a_stream_fails_in_turn(rt: HostRuntime) -> Result<(), Fail> {
+    let alloc = rt.alloc();
+    let file = file_of(alloc, &[&LITTLE, &little_record(0)])?;
+    for call in 1..=4 {
+        let reader = Counted::new(FailAt::new(Pieces::new(&file, 7), call));
+        let refused = Stream::open(alloc, reader).err();
+        assert_eq!(rt; refused, Some(Fault::at(2, 0)), "call {call}");
+    }
+    for call in 5..=8 {
+        let reader = Counted::new(FailAt::new(Pieces::new(&file, 7), call));
+        let mut stream = Stream::open(alloc, reader).ok().ok_or("open")?;
+        let mut refused = stream.advance();
+        if call == 8 {
+            assert_eq!(rt; refused, Ok(Some(1)));
+            refused = stream.advance();
+        }
+        assert_eq!(rt; refused, Err(Fault::at(2, 0)), "call {call}");
+        assert_eq!(rt; stream.advance(), Err(Fault::at(2, 0)), "call {call}");
+        assert_eq!(rt; stream.into_inner().failures(), 1);
+    }
     Ok(())
 }
 
