@@ -1,5 +1,6 @@
-//! Files: their records, or what refuses them.
-use rasta_pcap::{Fault, Pcap, Record};
+//! Files: their records, or what refuses them, in memory and from readers.
+use rasta_pcap::devices::{FailAt, Pieces};
+use rasta_pcap::{Counted, Fault, Pcap, Record, Source, Stream};
 use rasta_rows::bytes_of;
 use std::alloc::Global;
 use std::process::Abort;
@@ -65,17 +66,85 @@ fn file_text(alloc: Global, file: &[u8]) -> Option<String> {
     None
 }
 
+// What the next record of a stream is, and whether it is the last.
+fn next_of_stream<R: Source + Drop>(
+    alloc: Global,
+    stream: &mut Stream<R>,
+) -> Option<(String, bool)> {
+    match stream.next_record() {
+        Ok(Some(record)) => Some((record_text(alloc, &record)?, false)),
+        Ok(None) => Some((String::from_str(alloc, "end").ok()?, true)),
+        Err(fault) => Some((fault_text(alloc, fault)?, true)),
+    }
+}
+
+// What the first nine records from a reader are.
+fn stream_text<R: Source + Drop>(alloc: Global, reader: R) -> Option<String> {
+    let mut stream = match Stream::open(alloc, reader) {
+        Ok(stream) => stream,
+        Err(fault) => return fault_text(alloc, fault),
+    };
+    let mut text = String::new(alloc);
+    for _ in 0..9 {
+        let (next, is_last) = next_of_stream(alloc, &mut stream)?;
+        text.push_str(next.as_str()).ok()?;
+        if is_last {
+            // Later calls answer the same.
+            return (next_of_stream(alloc, &mut stream)?.0 == next).then_some(text);
+        }
+    }
+    None
+}
+
+// Whether a file comes so from readers in pieces.
+fn is_streamed_so(alloc: Global, file: &[u8], want: &str) -> Option<bool> {
+    let bytes = stream_text(alloc, Counted::new(Pieces::new(file, 1)))?;
+    let pieces = stream_text(alloc, Counted::new(Pieces::new(file, 7)))?;
+    let whole = stream_text(alloc, Counted::new(Pieces::new(file, 4096)))?;
+    Some(bytes.as_str() == want && pieces.as_str() == want && whole.as_str() == want)
+}
+
 // Whether the file of a row is what it says.
 fn answer(alloc: Global, row: &str) -> Option<bool> {
     let (digits, want) = row.split_once(" | ")?;
     let file = bytes_of(alloc, digits)?;
     let text = file_text(alloc, &file)?;
-    Some(text.as_str() == want)
+    Some(text.as_str() == want && is_streamed_so(alloc, &file, want)?)
 }
 
 #[test]
 fn files_are_read_so(rt: HostRuntime) {
     for row in ROWS.lines() {
         assert_eq!(rt; answer(rt.alloc(), row), Some(true), "{row}");
+    }
+}
+
+const TWO_RECORDS: &str = "d4c3b2a1 02000400 00000000 00000000 00000400 01000000
+eeeeeeee eeeeeeee 03000000 eeeeeeee 010203 eeeeeeee eeeeeeee 00000000 eeeeeeee";
+
+// A reader gives at most seven bytes a call; the call that fails; and what is read from it.
+const FAILING: &str = "\
+1 | 2 0
+4 | 2 0
+5 | 2 0
+8 | 2 0
+9 | 1 [1, 2, 3], 2 0
+11 | 1 [1, 2, 3], 2 0
+12 | 1 [1, 2, 3], 2 [], 2 0
+13 | 1 [1, 2, 3], 2 [], end
+";
+
+// Whether from the failing reader of a row comes what it says.
+fn fails_so(alloc: Global, row: &str) -> Option<bool> {
+    let (call, want) = row.split_once(" | ")?;
+    let file = bytes_of(alloc, TWO_RECORDS)?;
+    let reader = FailAt::new(Pieces::new(&file, 7), call.parse().ok()?);
+    Some(stream_text(alloc, Counted::new(reader))?.as_str() == want)
+}
+
+#[test]
+fn reads_of_a_stream_fail_in_turn(rt: HostRuntime) {
+    for row in FAILING.lines() {
+        assert_eq!(rt; fails_so(rt.alloc(), row), Some(true), "{row}");
     }
 }

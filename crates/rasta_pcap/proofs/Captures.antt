@@ -6,12 +6,9 @@ use Rattle.std.specs.List.{flat_map, AllByRecursion, range_with_len}
 use Rattle.rasta_pcap.specs.declared.fault.Fault.{Fault}
 use Rattle.rasta_pcap.specs.declared.pcap.Endianness.{Endianness}
 use Rattle.rasta_pcap.specs.Fault.{fault_at}
-use Rattle.rasta_pcap.specs.Capture.{Cursor, Entry, IsEntry, IsHeader, entry_bytes, captured_length, max_records, max_captured, Numbered, Reading, opening, next, behind, bytes_in_front, length_in_front, reading, reading_opened, reading_of, with_record, read_step, bytes_of, IsCapture, IsRefused}
+use Rattle.rasta_pcap.specs.Capture.{Cursor, cursor_at, Entry, IsEntry, IsHeader, entry_bytes, captured_length, max_records, max_captured, Numbered, Reading, opening, next, behind, bytes_in_front, length_in_front, reading, reading_opened, reading_of, with_record, read_step, bytes_of, IsCapture, IsRefused}
 use Rattle.rasta_pcap.proofs.Steps.{reading-record, reading-end, reading-fault, reading-none_left, reading_of-opened, reading_of-refused, IsInFront, next-is_in_front, next-found, next-end, next-nil, next-fault_place}
 use Rattle.rasta_pcap.proofs.Headers.{at_start, opening-header, opening-is_header, opening-fault_place}
-
-abbrev pub cursor_at : Endianness → List ℕ → ℕ → Cursor
-cursor_at order rest count = record { order = order; rest = rest; count = count }
 
 -- From the bytes to the relation.
 
@@ -119,12 +116,12 @@ in_front_of records more = record { records = records ++ more.records; fault = m
 abbrev in_front : Numbered → Result (Option Numbered) Fault
 in_front r = Ok (Some r)
 
-record IsNext (c : Cursor) (bytes : List ℕ) (after : Cursor) : Type 0 where
-  found : next c ≡ Ok (Some (c.count + 1, bytes))
-  after_is : behind c ≡ after
+pub record IsNext (c : Cursor) (bytes : List ℕ) (after : Cursor) : Type 0 where
+  pub found : next c ≡ Ok (Some (c.count + 1, bytes))
+  pub after_is : behind c ≡ after
 
 -- a record in front of more bytes is found there
-next-entry : (order : Endianness) (e : Entry) (more : List ℕ) (count : ℕ) → IsEntry order e → count < max_records
+pub next-entry : (order : Endianness) (e : Entry) (more : List ℕ) (count : ℕ) → IsEntry order e → count < max_records
     → IsNext (cursor_at order (entry_bytes e ++ more) count) e.bytes (cursor_at order more (count + 1))
 next-entry order e more count h room =
     let all = (e.header ++ e.bytes) ++ more in
@@ -180,7 +177,7 @@ opened c = Ok c
 abbrev refused_by : Fault → Result Cursor Fault
 refused_by f = Err f
 
-open_header : (order : Endianness) (header body : List ℕ) → IsHeader order header → opening (header ++ body) ≡ Ok (cursor_at order body 0)
+pub open_header : (order : Endianness) (header body : List ℕ) → IsHeader order header → opening (header ++ body) ≡ Ok (cursor_at order body 0)
 open_header order header body h =
     let size : length header ≡ 24 = h.size in
     let front : take 24 (header ++ body) ≡ header = ap (λ n. take n (header ++ body)) (sym size) ∙ take-append_seam header body in

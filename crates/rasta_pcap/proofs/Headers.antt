@@ -1,5 +1,5 @@
 -- The header of a file, and the cursor behind it.
-use Rattle.std.proofs.Common.{◌≡◌, ℕ, ◌+◌, ◌*◌, ◌≤◌, ◌⊎◌, ◌∙◌, inl, inr, List, ◌++◌, length, take, drop, slice_index, Option, Some, None, Result, Ok, Err, Bool, true, false, nat_lt, nat_eq, cond, refl, ap, sym, arith, subst, length-take, length-drop, min}
+use Rattle.std.proofs.Common.{◌≡◌, ℕ, ◌+◌, ◌*◌, ◌≤◌, ◌⊎◌, ◌∙◌, inl, inr, List, ◌++◌, length, take, drop, slice_index, Option, Some, None, Result, Ok, Err, Bool, true, false, nat_lt, nat_eq, cond, refl, ap, sym, arith, subst, length-take, length-drop, length-append, min}
 use Rattle.std.specs.Prelude.{◌&&◌}
 use Rattle.std.proofs.lemmas.List.{take-append-drop, drop-append-le}
 use Rattle.std.proofs.lemmas.Bool.{ltb-false, eqb-true}
@@ -185,3 +185,48 @@ refused false (Some order) file f h =
 -- a header's fault is at no record, and speaks of no end
 pub opening-fault_place : (file : List ℕ) (f : Fault) → opening file ≡ Err f → f ≡ fault_at f.number 0
 opening-fault_place file f h = refused (nat_lt (length file) 24) (order_of file) file f h
+
+-- The header of a file that goes on.
+
+-- the cursor of a file that goes on
+abbrev pub with_more : List ℕ → Result Cursor Fault → Result Cursor Fault
+with_more more (Ok c) = Ok (record { order = c.order; rest = c.rest ++ more; count = c.count })
+with_more more (Err f) = Err f
+
+judged-with_more : (major minor link_type : Bool) (c : Cursor) (more : List ℕ)
+    → judged major minor link_type (record { order = c.order; rest = c.rest ++ more; count = c.count })
+    ≡ with_more more (judged major minor link_type c)
+judged-with_more false minor link_type c more = refl
+judged-with_more true false link_type c more = refl
+judged-with_more true true false c more = refl
+judged-with_more true true true c more = refl
+
+opening_in-with_more : (o : Option Endianness) (file more : List ℕ) → 24 ≤ length file
+    → opening_in o (file ++ more) ≡ with_more more (opening_in o file)
+opening_in-with_more None file more long = refl
+opening_in-with_more (Some order) file more long =
+    let whole = file ++ more in
+    let major = nat_eq (number_in order 2 (drop 4 file)) 2 in
+    let minor = nat_eq (number_in order 2 (drop 6 file)) 4 in
+    let link = nat_eq (number_in order 4 (drop 20 file)) 1 in
+    let minor_of = nat_eq (number_in order 2 (drop 6 whole)) 4 in
+    let link_of = nat_eq (number_in order 4 (drop 20 whole)) 1 in
+    ap (λ n. judged (nat_eq n 2) minor_of link_of (at_start order whole)) (number_at-append order 4 2 file more (omega arith))
+    ∙ ap (λ n. judged major (nat_eq n 4) link_of (at_start order whole)) (number_at-append order 6 2 file more (omega arith))
+    ∙ ap (λ n. judged major minor (nat_eq n 1) (at_start order whole)) (number_at-append order 20 4 file more (omega arith))
+    ∙ ap (λ (l : List ℕ). judged major minor link (record { order = order; rest = l; count = 0 })) (drop-append-le 24 file more long)
+    ∙ judged-with_more major minor link (at_start order file) more
+
+order_of-append : (file more : List ℕ) → 4 ≤ length file → order_of (file ++ more) ≡ order_of file
+order_of-append file more long =
+    ap (λ n. order_by (is_magic n) (is_magic (big_number 4 (file ++ more)))) (little_from-append 4 file more long)
+    ∙ ap (λ n. order_by (is_magic (little_number 4 file)) (is_magic n)) (big_from-append 4 file more long)
+
+-- what follows a whole header changes nothing but what is left
+pub opening-with_more : (file more : List ℕ) → 24 ≤ length file → opening (file ++ more) ≡ with_more more (opening file)
+opening-with_more file more long =
+    let longer : 24 ≤ length (file ++ more) = simp length-append (omega arith) in
+    ap (λ b. cond b (Err (fault_at cut_header 0)) (opening_in (order_of (file ++ more)) (file ++ more))) (long-enough (length (file ++ more)) longer)
+    ∙ ap (λ o. opening_in o (file ++ more)) (order_of-append file more (omega arith))
+    ∙ opening_in-with_more (order_of file) file more long
+    ∙ ap (λ b. with_more more (cond b (Err (fault_at cut_header 0)) (opening_in (order_of file) file))) (sym (long-enough (length file) long))

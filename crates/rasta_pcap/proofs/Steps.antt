@@ -40,11 +40,11 @@ pub reading_of-refused : (limit : ℕ) (file : List ℕ) (f : Fault) → opening
 unfolding reading_of
 reading_of-refused limit file f h = ap (reading_opened limit) h
 
-abbrev Outcome : Type 0
+abbrev pub Outcome : Type 0
 Outcome = Result (Option Numbered) Fault
 
 -- the outcome of the five tests, in their order
-abbrev tested : Bool → Bool → Bool → Bool → Bool → ℕ → Numbered → Outcome
+abbrev pub tested : Bool → Bool → Bool → Bool → Bool → ℕ → Numbered → Outcome
 tested ended full short long cut place r =
     cond ended (Ok None)
     (cond full (Err (fault_at too_many place))

@@ -73,6 +73,9 @@ pub record Cursor : Type 0 where
   pub rest : List ℕ
   pub count : ℕ
 
+abbrev pub cursor_at : Endianness → List ℕ → ℕ → Cursor
+cursor_at order rest count = record { order = order; rest = rest; count = count }
+
 abbrev pub is_magic : ℕ → Bool
 is_magic n = n == microseconds || n == nanoseconds
 

@@ -3,3 +3,7 @@ pub mod Devices
 pub mod Pieces
 pub mod FailAt
 pub mod Capture
+pub mod Filling
+pub mod Fronts
+pub mod Stream
+pub mod Reader

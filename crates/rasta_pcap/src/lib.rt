@@ -4,9 +4,12 @@
 mod counted;
 pub mod devices;
 mod fault;
+mod filling;
 pub mod laws;
 mod pcap;
+pub mod stream;
 
 pub use counted::{Counted, Sink, Source, read_all, write_all};
 pub use fault::{Fault, Side};
 pub use pcap::{Pcap, Record};
+pub use stream::Stream;

@@ -20,13 +20,13 @@ pub enum Endianness {
     Big,
 }
 
-const FILE_HEADER: usize = 24;
+pub(crate) const FILE_HEADER: usize = 24;
 
-const RECORD_HEADER: usize = 16;
+pub(crate) const RECORD_HEADER: usize = 16;
 
-const MAX_CAPTURED: usize = 262_144;
+pub(crate) const MAX_CAPTURED: usize = 262_144;
 
-const MAX_RECORDS: u32 = 4_000_000_000;
+pub(crate) const MAX_RECORDS: u32 = 4_000_000_000;
 
 const MICROSECONDS: u32 = 0xa1b2_c3d4;
 
@@ -59,7 +59,7 @@ impl Endianness {
         }
     }
 
-    fn u32_at(self, bytes: &[u8], at: usize) -> u32
+    pub(crate) fn u32_at(self, bytes: &[u8], at: usize) -> u32
         requires { at + 4 ≤ length bytes.now }
         ensures { result ≡ number_in self 4 (drop at bytes.now) }
     {
@@ -113,6 +113,12 @@ impl<'a> Pcap<'a> {
             rest: &file[FILE_HEADER..],
             count: 0,
         })
+    }
+
+    pub(crate) fn order(&self) -> Endianness
+        ensures { result ≡ self.now.order }
+    {
+        self.order
     }
 
     /// The next record, or `None` at the exact end. Times and original length are not judged.
