@@ -173,8 +173,12 @@ fn over_vectors<'a>(
     sent: &Sent<'a>,
     certificate: &Certificate,
 ) -> Option<Result<Report<'a>, Fault>> {
-    let client = DenseList::of(alloc, sent.client()).ok()?;
-    let server = DenseList::of(alloc, sent.server()).ok()?;
+    let Ok(client) = DenseList::of(alloc, sent.client()) else {
+        return None;
+    };
+    let Ok(server) = DenseList::of(alloc, sent.server()) else {
+        return None;
+    };
     let p = sent.params();
     Some(check_lists(alloc, &p, sent.len(), &client, &server, certificate))
 }

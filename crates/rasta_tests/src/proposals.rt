@@ -66,8 +66,12 @@ fn are_entries(entries: &[Entry], want: &str) -> Option<bool> {
 
 // What is proposed for vectors of what crossed.
 fn over_vectors(alloc: Global, sent: &Sent) -> Option<Certificate> {
-    let client = DenseList::of(alloc, sent.client()).ok()?;
-    let server = DenseList::of(alloc, sent.server()).ok()?;
+    let Ok(client) = DenseList::of(alloc, sent.client()) else {
+        return None;
+    };
+    let Ok(server) = DenseList::of(alloc, sent.server()) else {
+        return None;
+    };
     propose_lists(alloc, &sent.params(), sent.len(), &client, &server).ok()
 }
 
