@@ -598,6 +598,8 @@ def bent_texts(stage):
         "count": answer.replace("taken by server 5", "taken by server 6"),
         "behind": answer + "packets 12\n",
         "fault": "refused 25 Type 3 client\n",
+        "end": "refused 25 Code 3 -\n",
+        "no place": "refused 60 NotFound 0 -\n",
         "huge": "explained 99999999999999999999\n",
         "twice": "\n".join(lines[:3] + lines[1:]) + "\n",
     }
