@@ -7,7 +7,7 @@
 It needs a Chromium (on Debian: apt-get install chromium), and the program, which `rt run` in crates/rasta_audit
 leaves at its default path; and plain Python 3, no other packages. It installs nothing. Stories:
 
-- a report of each sample, printed too, and one of 200,000 packets, which are made up here;
+- a report of each sample, printed too, of random runs, and of 200,000 packets, which are made up here;
 - a refusal of each number, and refusals of samples that were changed, with the packets around them;
 - texts that are dropped, pasted, chosen, cut, joined with those of another capture, or hostile;
 - filters, keys, both colour schemes, and the picture saved as SVG.
@@ -21,6 +21,7 @@ import base64
 import hashlib
 import json
 import pathlib
+import random
 import re
 import shutil
 import struct
@@ -30,6 +31,7 @@ import tempfile
 import time
 import xml.etree.ElementTree
 
+import random_runs
 from headless import Browser
 
 TOP = pathlib.Path(__file__).resolve().parent.parent
@@ -287,6 +289,28 @@ def expect_svg(sight):
     shapes = [node for node in root.iter() if "data-kind" in node.attrib]
     expect(shapes, "the SVG has no arrow")
     return text
+
+
+RANDOM_RUNS = 12
+
+
+def random_runs_are_drawn(stage):
+    """Runs of two ends over a bad network, which scripts/random_runs.py makes up."""
+    for number in range(RANDOM_RUNS):
+        chance = random.Random(f"viewer {number}")
+        run = random_runs.Run(chance)
+        for _ in range(chance.choice((40, 150, 400))):
+            run.step()
+        random_runs.write(run, stage.scratch)
+        capture, parameters = stage.scratch / "run.pcap", stage.scratch / "run.toml"
+        answer, shown = stage.call("audit", capture, parameters), stage.call("show", capture, parameters)
+        with stage.report(capture, parameters) as sight:
+            expect_report(sight, answer, shown)
+            if run.crossed:
+                sight.page.resize(1280, 1900)
+                sight.act(f"goToPlace({len(run.crossed) // 2})")
+                expect_svg(sight)
+            sight.shot(f"random_{number:02}")
 
 
 # ---- stories: refusals
@@ -767,7 +791,7 @@ def not_taken(stage):
 
 
 STORIES = [policy_is_closed, ways_in, other_capture, unknown_texts, cut_texts, bent_texts, hostile, hostile_parameters,
-           long_lines, keys, filters, colours, not_taken]  # fmt: skip
+           long_lines, keys, filters, colours, not_taken, random_runs_are_drawn]  # fmt: skip
 
 
 def all_stories(stage):
