@@ -30,7 +30,7 @@ except ImportError:  # before Python 3.11
 TOP = pathlib.Path(__file__).resolve().parent.parent
 PAGE = TOP / "viewer/index.html"
 PROGRAM = TOP / "crates/rasta_audit/out/rasta_audit"
-NOTHING = '<script type="application/json" id="report-data">null</script>'
+NOTHING = '<div id="report-data" hidden><!--null--></div>'
 
 
 def words_of_command_line():
@@ -134,8 +134,9 @@ def report_of(asked, folder):
 
 
 def embedded(report):
-    """JSON in which no `<` stands, so that nothing in it can end the element that holds it."""
-    return json.dumps(report).replace("<", "\\u003c")
+    """JSON without `<` and `>`, so that nothing in it can end the comment that holds it. A comment is what browsers
+    read fastest, and they run nothing in it."""
+    return json.dumps(report).replace("<", "\\u003c").replace(">", "\\u003e")
 
 
 def main():

@@ -32,7 +32,7 @@ import time
 import xml.etree.ElementTree
 
 import random_runs
-from headless import Browser
+from headless import Browser, Refused
 
 TOP = pathlib.Path(__file__).resolve().parent.parent
 PAGE = TOP / "viewer/index.html"
@@ -814,7 +814,7 @@ def run(stage, only):
         try:
             story()
             print(f"ok    {name}", flush=True)
-        except (Wrong, TimeoutError) as wrong:
+        except (Wrong, Refused, TimeoutError, subprocess.CalledProcessError) as wrong:
             failed += 1
             print(f"WRONG {name}: {wrong}", flush=True)
     print(f"{count - failed} passed, {failed} failed; screenshots in {stage.folder}")
