@@ -1,0 +1,847 @@
+#!/usr/bin/env python3
+"""Tests viewer/index.html and scripts/report.py in a real browser, and leaves a screenshot of each story.
+
+    test_viewer.py [--program PATH] [--browser PATH] [--only WORD] FOLDER
+    test_viewer.py --renew
+
+It needs a Chromium (on Debian: apt-get install chromium), and the program, which `rt run` in crates/rasta_audit
+leaves at its default path; and plain Python 3, no other packages. It installs nothing. Stories:
+
+- a report of each sample, printed too, of random runs, and of 200,000 packets, which are made up here;
+- a refusal of each number, and refusals of samples that were changed, with the packets around them;
+- texts that are dropped, pasted, chosen, cut, joined with those of another capture, or hostile;
+- filters, keys, both colour schemes, and the picture saved as SVG.
+
+In each the page's counts are those of the texts, its console says nothing, and it asks for nothing. With --renew
+the page's security policy gets the hashes of its style and its script, as each edit of either wants.
+"""
+
+import argparse
+import base64
+import hashlib
+import json
+import pathlib
+import random
+import re
+import shutil
+import struct
+import subprocess
+import sys
+import tempfile
+import time
+import xml.etree.ElementTree
+
+import random_runs
+from headless import Browser, Refused
+
+TOP = pathlib.Path(__file__).resolve().parent.parent
+PAGE = TOP / "viewer/index.html"
+EXAMPLES = TOP / "examples"
+PROGRAM = TOP / "crates/rasta_audit/out/rasta_audit"
+
+FAULTS = {
+    1: "NoMemory", 2: "ReadFailed", 3: "WriteFailed", 10: "NotPcap", 11: "Version", 12: "LinkType", 13: "CutHeader",
+    14: "CutRecord", 15: "CutPacket", 16: "Fragment", 17: "TooMany", 18: "RecordTooLong", 19: "BadUdp",
+    20: "RedundancyLength", 21: "TooShort", 22: "SafetyLength", 23: "Type", 24: "Payload", 25: "Code", 26: "Ids",
+    27: "CopyDiffers", 28: "NumberGap", 29: "TooLong", 30: "Syntax", 31: "SlotOrder", 32: "NotFirstCopy",
+    33: "MakeMissing", 34: "NotYetCrossed", 35: "NotRising", 36: "ClockDiffers", 37: "ClockFalls", 38: "PastDeadline",
+    39: "ConfirmedNumber", 40: "ConfirmedTime", 41: "NotAllowed", 42: "ReplyOwed", 43: "ResendDiffers", 44: "Closed",
+    45: "TooMany", 46: "TooEarlyTimeout", 47: "SequenceNumber", 50: "Toml", 51: "MissingKey", 52: "BadValue",
+    60: "NotFound",
+}  # fmt: skip
+
+# What the page has to say of the ends, by the fault's number.
+SPEAKS_OF_ENDS = "No two ends that keep the rules send these packets"
+TITLES = [
+    (range(1, 4), "No answer"),
+    (range(10, 20), "The capture can't be read"),
+    (range(20, 29), SPEAKS_OF_ENDS),
+    (range(29, 30), "No answer"),
+    ((30, 45), "The certificate's text is wrong"),
+    ((*range(31, 45), 46, 47), "Not explained by this certificate"),
+    (range(50, 53), "The parameter file is wrong"),
+    ((60,), "No explanation was found"),
+]
+
+
+class Wrong(Exception):
+    """What a story finds wrong."""
+
+
+def expect(is_so, words):
+    if not is_so:
+        raise Wrong(words)
+
+
+def expect_equal(found, wanted, what):
+    expect(found == wanted, f"{what}: {found!r}, and not {wanted!r}")
+
+
+# ---- the security policy
+
+
+def hash_of(text):
+    return "sha256-" + base64.b64encode(hashlib.sha256(text.encode()).digest()).decode()
+
+
+def with_hashes(page):
+    """The page with the hashes of its style and its script in its policy."""
+    for directive, tag in (("style-src", "style"), ("script-src", "script")):
+        content = re.search(f"<{tag}>(.*?)</{tag}>", page, re.DOTALL).group(1)
+        page = re.sub(f"{directive} 'sha256-[^']*'", f"{directive} '{hash_of(content)}'", page, count=1)
+    return page
+
+
+def policy_is_closed(_):
+    page = PAGE.read_text(encoding="utf-8")
+    expect(page == with_hashes(page), "the hashes of the policy are old; run test_viewer.py --renew")
+    policy = re.search(r'Content-Security-Policy" content="([^"]*)"', page).group(1)
+    expect("default-src 'none'" in policy and "unsafe" not in policy, "the policy is open")
+    sources = re.findall(r"(\w+)-src", policy)
+    expect_equal(sorted(sources), ["default", "script", "style"], "directives of sources")
+
+
+# ---- what the texts say, read apart from the page
+
+
+def counts_of_answer(text):
+    lines = text.splitlines()
+    words = [line.split(" ") for line in lines]
+    taken = {line[2]: int(line[3]) for line in words if line[:2] == ["taken", "by"]}
+    counts = {kind: sum(len(line) > 2 and line[2] == kind for line in words) for kind in ("make", "copy", "take")}
+    return {
+        "packets": int(words[0][1]),
+        "makes": counts["make"],
+        "copies": counts["copy"],
+        "takes": counts["take"],
+        "arrows": sum(counts.values()),
+        "takenByClient": taken["client"],
+        "takenByServer": taken["server"],
+        "listed": sum(taken.values()),
+    }
+
+
+def packets_in(shown):
+    return [line.split(" ") for line in shown.splitlines() if not line.startswith(("packets ", "refused "))]
+
+
+def messages_in(shown):
+    """How many messages the data PDUs of a text of `show` have, each counted where it crosses first."""
+    seen, count = set(), 0
+    for words in packets_in(shown):
+        key = (words[3], words[4])
+        if key not in seen and words[6] == "6240":
+            count += words[12].count(",") + 1
+        seen.add(key)
+    return count
+
+
+# ---- driving the page
+
+
+class Stage:
+    """The browser, the program, and where things go."""
+
+    def __init__(self, browser, program, folder, scratch):
+        self.browser, self.program, self.folder, self.scratch = browser, program, folder, scratch
+
+    def call(self, *words):
+        call = subprocess.run([self.program, *words], capture_output=True)
+        return (call.stdout if call.returncode in (0, 1) else call.stderr).decode()
+
+    def file(self, name, content):
+        path = self.scratch / name
+        path.write_bytes(content if isinstance(content, bytes) else content.encode())
+        return path
+
+    def report(self, capture, parameters, *options):
+        """The page that report.py writes, opened."""
+        path = self.scratch / f"{capture.stem}.html"
+        script = TOP / "scripts/report.py"
+        words = [sys.executable, script, "--program", self.program, *options, capture, parameters, path]
+        subprocess.run(words, check=True)
+        return Sight(self, path)
+
+    def viewer(self, *paths):
+        """The empty page, with these files chosen."""
+        sight = Sight(self, PAGE)
+        if paths:
+            sight.choose(*paths)
+        return sight
+
+    def texts(self, **texts):
+        return self.viewer(*(self.file(f"{name}.txt", text) for name, text in texts.items()))
+
+
+class Sight:
+    """A page in the browser, which has to be free of troubles when it is left."""
+
+    def __init__(self, stage, path):
+        self.stage = stage
+        self.page = stage.browser.open(path.as_uri(), 1280, 1000)
+
+    def __enter__(self):
+        return self
+
+    def __exit__(self, kind, *_):
+        troubles = self.page.troubles
+        self.page.close()
+        if kind is None:
+            expect(not troubles, f"troubles: {troubles[:3]}")
+
+    def choose(self, *paths):
+        before = self.page.evaluate("document.documentElement.dataset.brought ?? ''")
+        self.page.give_files("#files", paths)
+        changed = "(document.documentElement.dataset.brought ?? '') !== " + json.dumps(before)
+        self.page.wait_until(lambda: self.page.evaluate(changed), "the files to be read")
+        self.settle()
+
+    def settle(self):
+        """Waits until what is due is drawn."""
+        self.page.wait_until(lambda: self.page.evaluate("document.documentElement.dataset.state !== 'drawing'"), "the picture")
+        self.page.evaluate("new Promise((done) => requestAnimationFrame(() => requestAnimationFrame(done)))")
+
+    def act(self, script):
+        value = self.page.evaluate(script)
+        self.settle()
+        return value
+
+    def text(self, selector):
+        return self.page.evaluate(f"document.querySelector({json.dumps(selector)}).innerText")
+
+    def counts(self):
+        found = self.page.evaluate("({...document.documentElement.dataset})")
+        return {key: int(value) if value.isdigit() else value for key, value in found.items()}
+
+    def expect_counts(self, **wanted):
+        found = self.counts()
+        for key, value in wanted.items():
+            expect_equal(found.get(key), value, key)
+
+    def fill(self, field, value):
+        """Types into a field of the filter, and waits for what follows."""
+        self.act(f"byId({json.dumps(field)}).value = {json.dumps(value)}; applyFilter()")
+
+    def shot(self, name, whole=False):
+        self.page.screenshot(self.stage.folder / f"{name}.png", whole)
+
+    def expect_drawn(self, **wanted):
+        """Arrows that are truly drawn, of a chart that is short enough to be printed whole."""
+        kinds = self.act(
+            "fillPrinted(); const kinds = Array.from(document.querySelectorAll('#printed g[data-kind]'), (g) => g.dataset.kind);"
+            "const rows = document.querySelectorAll('#printed tbody tr').length; emptyPrinted(); ({kinds, rows})"
+        )
+        drawn = {"takes": kinds["kinds"].count("0"), "copies": kinds["kinds"].count("2")}
+        drawn["makes"] = len(kinds["kinds"]) - drawn["takes"] - drawn["copies"] - kinds["kinds"].count("4")
+        drawn["messages"] = kinds["rows"]
+        for key, value in wanted.items():
+            expect_equal(drawn[key], value, f"{key} drawn")
+
+
+def title_of(sight):
+    return sight.text("#verdict h2")
+
+
+# ---- stories: samples
+
+
+def samples(stage):
+    for capture in sorted(EXAMPLES.glob("*.pcap")):
+        yield f"sample_{capture.stem}", lambda capture=capture: sample(stage, capture)
+
+
+def sample(stage, capture):
+    """A report of a sample: its counts, its picture, its print, and what it says of the files."""
+    parameters = capture.with_suffix(".toml")
+    answer, shown = stage.call("audit", capture, parameters), stage.call("show", capture, parameters)
+    with stage.report(capture, parameters) as sight:
+        expect_report(sight, answer, shown)
+        sight.page.resize(1280, 1900)
+        sight.settle()
+        sight.shot(f"sample_{capture.stem}")
+        for path in (capture, parameters, stage.program):
+            expect(hashlib.sha256(path.read_bytes()).hexdigest() in sight.text("#report"), f"no sum of {path.name}")
+        sight.page.pdf(stage.folder / f"sample_{capture.stem}.pdf")
+        expect_svg(sight)
+
+
+def expect_report(sight, answer, shown):
+    messages = messages_in(shown)
+    if answer.startswith("explained "):
+        wanted = counts_of_answer(answer)
+        sight.expect_counts(verdict="explained", messages=messages, notices=0, **wanted)
+        expect_equal(title_of(sight), "Explained", "title")
+    else:
+        number = int(answer.split(" ")[1])
+        packets = packets_in(shown)
+        copies = len(packets) - len({(words[3], words[4]) for words in packets})
+        wanted = {"takes": 0, "copies": copies, "makes": len(packets) - copies}
+        sight.expect_counts(verdict="refused", refused=number, packets=len(packets), messages=messages, **wanted)
+        expect_equal(title_of(sight), title_for(number), "title")
+    sight.expect_drawn(messages=messages, **{key: wanted[key] for key in ("takes", "copies", "makes")})
+
+
+def expect_svg(sight):
+    """The picture that would be saved is a whole document, and stands alone."""
+    text = sight.act("pictureText()")
+    root = xml.etree.ElementTree.fromstring(text)
+    expect(root.tag.endswith("svg") and "var(" not in text and "class=" not in text, "the SVG doesn't stand alone")
+    shapes = [node for node in root.iter() if "data-kind" in node.attrib]
+    expect(shapes, "the SVG has no arrow")
+    return text
+
+
+RANDOM_RUNS = 12
+
+
+def random_runs_are_drawn(stage):
+    """Runs of two ends over a bad network, which scripts/random_runs.py makes up."""
+    for number in range(RANDOM_RUNS):
+        chance = random.Random(f"viewer {number}")
+        run = random_runs.Run(chance)
+        for _ in range(chance.choice((40, 150, 400))):
+            run.step()
+        random_runs.write(run, stage.scratch)
+        capture, parameters = stage.scratch / "run.pcap", stage.scratch / "run.toml"
+        answer, shown = stage.call("audit", capture, parameters), stage.call("show", capture, parameters)
+        with stage.report(capture, parameters) as sight:
+            expect_report(sight, answer, shown)
+            if run.crossed:
+                sight.page.resize(1280, 1900)
+                sight.act(f"goToPlace({len(run.crossed) // 2})")
+                expect_svg(sight)
+            sight.shot(f"random_{number:02}")
+
+
+# ---- stories: refusals
+
+
+def title_for(number):
+    return next(title for numbers, title in TITLES if number in numbers)
+
+
+def refusals(stage):
+    for number in FAULTS:
+        yield f"refused_{number:02}_{FAULTS[number]}", lambda number=number: refusal(stage, number)
+    for name, story in CHANGED.items():
+        yield f"changed_{name}", lambda name=name, story=story: changed(stage, name, story)
+
+
+def refusal(stage, number):
+    """The one line of a refusal, alone."""
+    has_end = 20 <= number <= 28 or 31 <= number <= 44 or number in (46, 47)
+    line = f"refused {number} {FAULTS[number]} 3 {'server' if has_end else '-'}\n"
+    with stage.texts(answer=line) as sight:
+        sight.expect_counts(verdict="refused", refused=number, packets=0, notices=0)
+        expect_equal(title_of(sight), title_for(number), "title")
+        says = sight.text("#verdict")
+        speaks = "breaks the rules" in says
+        expect_equal(speaks, 20 <= number <= 28, "says that an end breaks the rules")
+        expect(speaks or "othing is said about" in says, "doesn't say that nothing is said about the ends")
+        sight.shot(f"refused_{number:02}_{FAULTS[number]}")
+
+
+def with_entry(certificate, old, new):
+    expect(old in certificate, f"no entry {old}")
+    return certificate.replace(old, new, 1)
+
+
+def records_of(data):
+    """The header of a capture and its records, each with its own header."""
+    records, at = [], 24
+    while at < len(data):
+        size = 16 + struct.unpack_from("<I", data, at + 8)[0]
+        records.append(data[at : at + size])
+        at += size
+    return data[:24], records
+
+
+def without_record(data, index):
+    head, records = records_of(data)
+    return head + b"".join(records[:index] + records[index + 1 :])
+
+
+def with_byte(data, index, at, change=1):
+    """A capture with one byte of a record changed, counted from the record's end."""
+    head, records = records_of(data)
+    record = bytearray(records[index])
+    record[at] ^= change
+    return head + b"".join([*records[:index], bytes(record), *records[index + 1 :]])
+
+
+# Samples that were changed: sample, what changes the capture or the certificate, and the line that is refused.
+CHANGED = {
+    "cut_record": ("retransmission", "pcap", lambda data: data[:-1], "refused 14 CutRecord 12 -\n"),
+    "wrong_code": ("retransmission", "pcap", lambda data: with_byte(data, 4, -5), "refused 25 Code 5 client\n"),
+    "copy_differs": ("copies", "pcap", lambda data: with_byte(data, 4, 16 + 44), "refused 27 CopyDiffers 5 client\n"),
+    "missed_packet": ("both_ask", "pcap", lambda data: without_record(data, 3), "refused 28 NumberGap 5 client\n"),
+    "no_certificate": ("both_ask", "cert", lambda text: text[:60], "refused 30 Syntax 5 -\n"),
+    "taken_too_early": (
+        "retransmission", "cert", lambda text: with_entry(text, "take 5 10", "take 4 10"), "refused 31 SlotOrder 4 server\n",
+    ),
+    "make_left_out": (
+        "retransmission", "cert", lambda text: with_entry(text, "make 11 9050 bye\n", ""), "refused 33 MakeMissing 11 server\n",
+    ),
+    "wrong_reason": (
+        "both_ask", "cert", lambda text: with_entry(text, "make 10 1051 again 0", "make 10 1051 fresh"),
+        "refused 41 NotAllowed 10 client\n",
+    ),
+    "key_missing": ("handshake", "toml", lambda text: text.replace("t_max", "# t_max"), "refused 51 MissingKey 7 -\n"),
+}  # fmt: skip
+
+
+def changed(stage, name, story):
+    """A sample in which something was changed: the refusal stands at its place in the chart."""
+    example, suffix, change, line = story
+    files = {}
+    for kind in ("pcap", "toml", "cert"):
+        data = (EXAMPLES / f"{example}.{kind}").read_bytes()
+        if kind == suffix:
+            data = change(data if kind == "pcap" else data.decode())
+        files[kind] = stage.file(f"{name}.{kind}", data)
+    options = ["--certificate", files["cert"]] if suffix == "cert" else []
+    with stage.report(files["pcap"], files["toml"], *options) as sight:
+        answer = stage.call("check", files["pcap"], files["toml"], files["cert"])
+        expect_equal(answer, line, "the program's answer")
+        sight.expect_counts(verdict="refused", refused=int(line.split(" ")[1]))
+        expect(line.strip() in sight.text("#verdict"), "the line isn't shown")
+        if suffix != "toml":
+            sight.page.resize(1280, 1500)
+            sight.settle()
+            marks = sight.act("state.chart.story.mark ? 1 : 0")
+            expect_equal(marks, 0 if name == "no_certificate" else 1, "marks in the chart")
+        sight.shot(f"changed_{name}")
+
+
+# ---- stories: 200,000 packets
+
+BIG = 200_000
+
+
+class Traffic:
+    """Packets of two ends in turn, with losses, resends and copies, as records of a capture."""
+
+    def __init__(self):
+        self.out = bytearray(struct.pack("<IHHiIII", 0xA1B2C3D4, 2, 4, 0, 0, 0x40000, 1))
+        self.number, self.sn = [4294960000, 40], [4294950000, 500]  # both wrap on the way
+        self.clock = [4294000000, 9000]
+        self.accepted = [(0, 0), (0, 0)]  # SN and TS of the peer's PDU
+        self.packets = 0
+
+    def send(self, side, kind, body=b"", taken=True, copied=False):
+        self.clock[side] += 10
+        (cs, cts), sn, ts = self.accepted[side], self.sn[side], self.clock[side] % 2**32
+        receiver, sender = ((97, 96), (96, 97))[side]
+        safety = struct.pack("<HHIIIIII", 28 + len(body), kind, receiver, sender, sn, cs, ts, cts) + body
+        datagram = struct.pack("<HHI", 8 + len(safety), 0, self.number[side]) + safety
+        for channel in (0, 1) if copied else (0,):
+            self.record(side, channel, datagram)
+        if taken:
+            self.accepted[1 - side] = (sn, ts)
+        self.sn[side] = (sn + 1) % 2**32
+        self.number[side] = (self.number[side] + 1) % 2**32
+
+    def record(self, side, channel, datagram):
+        client, server = bytes((10, 0, channel, 1)), bytes((10, 0, channel, 2))
+        addresses = client + server if side == 0 else server + client
+        ip = struct.pack(">BBHHHBBH", 0x45, 0, 28 + len(datagram), 0, 0, 64, 17, 0) + addresses
+        frame = bytes(12) + b"\x08\x00" + ip + struct.pack(">HHHH", 5000 + channel, 5000 + channel, 8 + len(datagram), 0) + datagram
+        self.out += struct.pack("<IIII", self.packets // 100, 0, len(frame), len(frame)) + frame
+        self.packets += 1
+
+    def open(self):
+        opening = b"0303" + struct.pack("<H", 20) + bytes(8)
+        self.send(0, 6200, opening)
+        self.send(1, 6201, opening)
+        self.send(0, 6220)
+
+    def turn(self, count):
+        """A few packets of both: every 40th time two units are lost and sent again."""
+        messages = [f"signal {count % 97} {('stop', 'proceed')[count % 2]}".encode(), struct.pack("<I", count)]
+        body = b"".join(struct.pack("<H", len(message)) + message for message in messages)
+        if count % 40 == 39:
+            self.send(0, 6240, body, taken=False)
+            self.send(0, 6240, body, taken=False)
+            for side, kind in ((1, 6212), (0, 6213)):
+                self.send(side, kind)
+            for _ in range(2):
+                self.send(0, 6241, body)
+        else:
+            self.send(0, 6240, body, copied=count % 7 == 0)
+        self.send(1, 6240 if count % 5 == 0 else 6220, body if count % 5 == 0 else b"")
+
+
+def big_capture(stage, packets):
+    traffic = Traffic()
+    traffic.open()
+    count = 0
+    while traffic.packets < packets - 8:
+        traffic.turn(count)
+        count += 1
+    while traffic.packets < packets:
+        traffic.send(traffic.packets % 2, 6220)
+    toml = "client_id = 96\nserver_id = 97\ncode_length = 0\ncheck_length = 0\nn_sendmax = 20\nt_max = 60000\nslack = 0\n"
+    toml += "".join(f'[[channel]]\nclient = "10.0.{i}.1:500{i}"\nserver = "10.0.{i}.2:500{i}"\n' for i in (0, 1))
+    return stage.file("big.pcap", bytes(traffic.out)), stage.file("big.toml", toml)
+
+
+def big(stage):
+    """200,000 packets: counts, the first picture within 3 seconds, and every part of the page within reach."""
+    capture, parameters = big_capture(stage, BIG)
+    answer, shown = stage.call("audit", capture, parameters), stage.call("show", capture, parameters)
+    wanted = counts_of_answer(answer)
+    expect_equal(wanted["packets"], BIG, "packets")
+    with stage.report(capture, parameters) as sight:
+        sight.settle()
+        found = sight.counts()
+        print(f"      first picture after {found['pictureMs']} ms, the model of it {found['modelMs']} ms")
+        sight.expect_counts(verdict="explained", messages=messages_in(shown), notices=0, **wanted)
+        sight.shot("big_first")
+        expect(found["pictureMs"] <= 3000, f"the first picture took {found['pictureMs']} ms")
+        big_moves(sight, wanted)
+        sight.page.pdf(stage.folder / "big.pdf")
+
+
+def timed(sight, what, script):
+    start = time.monotonic()
+    sight.act(script)
+    took = time.monotonic() - start
+    print(f"      {what}: {1000 * took:.0f} ms")
+    expect(took < 2, f"{what} took {took:.1f} s")
+
+
+def big_moves(sight, wanted):
+    sight.page.resize(1280, 1700)
+    timed(sight, "going to the last place", f"goToPlace({BIG - 1})")
+    drawn = sight.act("Array.from(document.querySelectorAll('#chart g[data-row]'), (g) => Number(g.dataset.row))")
+    last = wanted["arrows"] - 1
+    expect(last in drawn or last - 1 in drawn, "the last lines aren't drawn")
+    expect(len(drawn) < 200, f"{len(drawn)} lines are drawn")
+    timed(sight, "the middle, by the scroll bar", "byId('chart').scrollTop = byId('chart').scrollHeight / 2")
+    timed(sight, "the last message", "pickMessage(state.chart.messages.length - 1)")
+    sight.shot("big_last")
+    timed(sight, "searching for bytes", "byId('bytes').value = '\"signal 42 stop\"'; applyFilter()")
+    expect(0 < sight.counts()["shownMessages"] < wanted["listed"], "the search finds all or nothing")
+    timed(sight, "only what was sent again", "clearFilter(); byId('type').value = '6241'; applyFilter()")
+    sight.shot("big_resent")
+    timed(sight, "all of it again", "clearFilter()")
+
+
+# ---- stories: ways in, and texts that are wrong
+
+
+def sample_texts(stage, name):
+    capture, parameters = EXAMPLES / f"{name}.pcap", EXAMPLES / f"{name}.toml"
+    return stage.call("audit", capture, parameters), stage.call("show", capture, parameters)
+
+
+def ways_in(stage):
+    """Texts are dropped, pasted and chosen; the page says the same each time."""
+    answer, shown = sample_texts(stage, "retransmission")
+    wanted = counts_of_answer(answer)
+    drop = (
+        "(texts) => { const data = new DataTransfer(); texts.forEach((text, i) => data.items.add(new File([text], `${i}.txt`)));"
+        "document.body.dispatchEvent(new DragEvent('drop', {dataTransfer: data, bubbles: true, cancelable: true})); }"
+    )
+    paste = (
+        "(text) => { const data = new DataTransfer(); data.setData('text/plain', text);"
+        "document.body.dispatchEvent(new ClipboardEvent('paste', {clipboardData: data, bubbles: true, cancelable: true})); }"
+    )
+    with stage.viewer() as sight:
+        sight.shot("empty")
+        sight.act(f"({drop})({json.dumps([answer, shown])})")
+        sight.page.wait_until(lambda: sight.counts().get("verdict") == "explained", "the dropped files")
+        sight.expect_counts(messages=messages_in(shown), notices=0, **wanted)
+    with stage.viewer() as sight:
+        sight.act(f"({paste})({json.dumps(answer.replace(chr(10), chr(13) + chr(10)).strip())})")
+        sight.expect_counts(notices=0, **wanted)
+        sight.expect_drawn(messages=wanted["listed"], takes=wanted["takes"])
+        sight.page.resize(1280, 1500)
+        sight.settle()
+        sight.shot("answer_alone")
+    with stage.texts(shown=shown) as sight:
+        sight.expect_counts(verdict="", packets=wanted["packets"], takes=0, messages=messages_in(shown))
+        expect_equal(title_of(sight), "Nothing is judged here", "title")
+        sight.shot("show_alone")
+
+
+def other_capture(stage):
+    """The text of show of another capture is told and left aside."""
+    answer, _ = sample_texts(stage, "retransmission")
+    _, shown = sample_texts(stage, "both_ask")
+    with stage.texts(answer=answer, shown=shown) as sight:
+        sight.expect_counts(verdict="explained", notices=1, **counts_of_answer(answer))
+        expect("not of the same capture" in sight.text("#notices"), "the difference isn't told")
+        sight.shot("other_capture")
+
+
+def unknown_texts(stage):
+    """What is no text of these programs is told so."""
+    for name, content, words in (
+        ("explain", '{"seatmelon": 1}\n', "is JSON"),
+        ("capture", (EXAMPLES / "copies.pcap").read_bytes(), "is a capture"),
+        ("words", "Dear Sir or Madam\n", "is none of the texts"),
+        ("empty", "", "is empty"),
+        ("usage", "usage\n", "other words than its four forms"),
+    ):
+        with stage.texts(**{name: content}) as sight:
+            expect(words in sight.text("#notices"), f"{name}: {sight.text('#notices')}")
+            sight.expect_counts(state="empty", notices=1)
+            sight.shot(f"unknown_{name}")
+
+
+def cut_texts(stage):
+    """A text that is cut anywhere is never taken for a whole one, and breaks nothing."""
+    answer, shown = sample_texts(stage, "both_ask")
+    with stage.viewer() as sight:
+        for at in range(1, len(answer), 7):
+            sight.act(f"startOver(); bring([{{name: 'cut', text: {json.dumps(answer[:at])}}}])")
+            found = sight.counts()
+            expect(found.get("verdict") == "broken" or found["notices"] == 1, f"cut at {at} it passes for a whole text")
+        for at in range(1, len(shown), 31):
+            sight.act(f"startOver(); bring([{{name: 'cut', text: {json.dumps(shown[:at])}}}])")
+            expect(sight.counts()["notices"] > 0, f"show, cut at {at}, passes for a whole text")
+        sight.act(f"startOver(); bring([{{name: 'cut', text: {json.dumps(answer[: len(answer) // 2])}}}])")
+        expect_equal(title_of(sight), "This text is not whole", "title")
+        sight.shot("cut_text")
+
+
+def bent_texts(stage):
+    """Lines that can't stand where they stand."""
+    answer, _ = sample_texts(stage, "retransmission")
+    lines = answer.splitlines()
+    bent = {
+        "number": answer.replace("explained 12", "explained 13"),
+        "order": answer.replace("5 server take 8", "6 server take 8"),
+        "unknown": answer.replace("5 server take 10", "5 server take 77"),
+        "unit": answer.replace("again 1", "again 7"),
+        "place": answer.replace("0 3 9 ab01", "0 2 9 ab01"),
+        "proof": answer.replace("0 3 9 ab01", "0 3 4 ab01"),
+        "digit": answer.replace("0 3 9 ab01", "0 3 9 ab0"),
+        "zero": answer.replace("0 3 9 ab01", "0 3 09 ab01"),
+        "count": answer.replace("taken by server 5", "taken by server 6"),
+        "behind": answer + "packets 12\n",
+        "fault": "refused 25 Type 3 client\n",
+        "end": "refused 25 Code 3 -\n",
+        "no place": "refused 60 NotFound 0 -\n",
+        "huge": "explained 99999999999999999999\n",
+        "twice": "\n".join(lines[:3] + lines[1:]) + "\n",
+    }
+    with stage.viewer() as sight:
+        for name, text in bent.items():
+            sight.act(f"startOver(); bring([{{name: 'bent', text: {json.dumps(text)}}}])")
+            expect_equal(sight.counts().get("verdict"), "broken", name)
+
+
+SCRIPT = "<script>document.title = 'broken'</script><img src=x onerror=alert(1)>"
+
+
+def hostile(stage):
+    """Bytes and names that would be markup stand as text."""
+    answer, shown = sample_texts(stage, "handshake")
+    data = SCRIPT.encode().hex()
+    answer = answer.replace("explained 3", "explained 5").replace("taken by client 0", "3 client make 9 1020 fresh\n4 server take 9\n4 server make 41 9020 beat\ntaken by client 0")
+    answer = answer.replace("taken by server 0", f"taken by server 1\n0 3 4 {data}")
+    shown = shown.replace("packets 3", f"3 4 1 client 9 0 6240 102 500 1020 9000 data {data} - -\n4 5 1 server 41 0 6220 501 102 9020 1020 - - -\npackets 5")
+    with stage.texts(answer=answer, shown=shown) as sight:
+        sight.expect_counts(verdict="explained", packets=5, messages=1, listed=1, notices=0)
+        sight.act("pickMessage(0); byId('spelling').value = 'text'; byId('spelling').dispatchEvent(new Event('change'))")
+        expect("<script>document" in sight.page.evaluate("document.querySelector('#list').textContent"), "the message isn't shown as text")
+        expect_svg(sight)
+        sight.fill("bytes", "<script>")
+        sight.expect_counts(shownMessages=1)
+        sight.page.resize(1280, 1500)
+        sight.settle()
+        sight.shot("hostile_message")
+        sight.expect_drawn(messages=1)
+        expect_tame(sight)
+
+
+def hostile_parameters(stage):
+    """A comment of the parameter file, and file names, that would end the element in which they are kept."""
+    text = (EXAMPLES / "handshake.toml").read_text() + f"# </script>{SCRIPT}<!-- \u202e\u2028 -->\n"
+    parameters = stage.file("<title>&amp;.toml", text)
+    capture = stage.file("hand <b>shake.pcap", (EXAMPLES / "handshake.pcap").read_bytes())
+    with stage.report(capture, parameters) as sight:
+        sight.expect_counts(verdict="explained", packets=3, notices=0)
+        kept = sight.act("state.texts.parameters.text")
+        expect_equal(kept, text, "the parameter file in the report")
+        sight.act("document.querySelectorAll('#sources details').forEach((entry) => { entry.open = true; })")
+        time.sleep(0.2)
+        expect("</script><script>" in sight.text("#sources"), "the comment isn't shown as text")
+        expect("\\u{202e}" in sight.text("#sources"), "a turn of the direction of writing isn't spelled out")
+        expect("<b>" in sight.text("#report"), "the file's name isn't shown as text")
+        sight.page.resize(1280, 2600)
+        sight.settle()
+        sight.shot("hostile_parameters")
+        expect_tame(sight)
+
+
+def long_lines(stage):
+    """Lines of 10,000 characters and more."""
+    answer, shown = sample_texts(stage, "quiet_start")
+    data = "5a" * 5000
+    long_answer = answer.replace(" ab01\n", f" {data}\n")
+    with stage.texts(answer=long_answer, shown=shown.replace("data ab01", f"data {data}")) as sight:
+        sight.expect_counts(verdict="explained", messages=2, listed=2, notices=0)
+        sight.act("pickMessage(0)")
+        wide = sight.act("document.documentElement.scrollWidth - document.documentElement.clientWidth")
+        expect(wide <= 0, f"the page is {wide} pixels too wide")
+        sight.page.resize(1280, 1400)
+        sight.settle()
+        sight.shot("long_message")
+        sight.page.pdf(stage.folder / "long_message.pdf")
+    for name, text in (
+        ("line", "explained 2\n" + "x" * 10000 + "\n"),
+        ("digits", "explained " + "9" * 10000 + "\n"),
+        ("word", "refused 25 " + "Code" * 2500 + " 3 client\n"),
+        ("bytes", bytes(range(256)) * 40),
+    ):
+        with stage.texts(**{name: text if isinstance(text, bytes) else text}) as sight:
+            found = sight.counts()
+            expect(found.get("verdict") == "broken" or found["notices"] == 1, f"{name} passes")
+            wide = sight.act("document.documentElement.scrollWidth - document.documentElement.clientWidth")
+            expect(wide <= 0, f"{name}: the page is {wide} pixels too wide")
+            sight.shot(f"long_{name}")
+
+
+def expect_tame(sight):
+    """Nothing that came with a text is an element of the page."""
+    strange = sight.act("document.querySelectorAll('img, b, script:not([type]):not(:last-of-type), iframe, object').length")
+    expect_equal(strange, 0, "elements out of texts")
+    expect("broken" not in sight.page.evaluate("document.title"), "a script of a text ran")
+
+
+# ---- stories: using it
+
+
+def keys(stage):
+    """Keys move through the chart and the list, and along the way of a packet."""
+    answer, shown = sample_texts(stage, "retransmission")
+    with stage.texts(answer=answer, shown=shown) as sight:
+        def picked():
+            return sight.act("state.picked ? state.picked.row : null")
+
+        sight.act("byId('chart').focus()")
+        for key, row in (("End", 21), ("Home", 0), ("ArrowDown", 1), ("ArrowUp", 0), ("ArrowRight", 1), ("ArrowLeft", 0)):
+            sight.page.press(key)
+            expect_equal(picked(), row, key)
+        sight.page.press("Escape")
+        expect_equal(picked(), None, "Escape")
+        sight.act("byId('list').focus()")
+        for key in ("ArrowDown", "ArrowDown", "ArrowDown", "p"):
+            sight.page.press(key)
+        expect_equal(sight.act("state.chart.story.level.at(state.picked.row)"), 9, "the proof of message 2")
+        sight.page.press("Enter")
+        expect_equal(sight.act("state.chart.story.level.at(state.picked.row)"), 4, "the data of message 2")
+        sight.page.press("g")
+        expect_equal(sight.act("document.activeElement.id"), "goto", "G")
+
+
+def filters(stage):
+    """Each filter shows what the texts say."""
+    answer, shown = sample_texts(stage, "both_ask")
+    packets = packets_in(shown)
+    with stage.texts(answer=answer, shown=shown) as sight:
+        sight.act("byId('takes').checked = false")
+        for field, value, rows in (
+            ("type", "6241", sum(words[6] == "6241" for words in packets)),
+            ("end", "1", sum(words[3] == "server" for words in packets)),
+            ("from", "10", len(packets) - 10),
+            ("to", "4", 5),
+            ("bytes", "11", sum(words[12:13] == ["11"] for words in packets)),
+        ):
+            sight.fill(field, value)
+            sight.expect_counts(shown=rows)
+            sight.act("clearFilter(); byId('takes').checked = false")
+        sight.fill("type", "6241")
+        sight.shot("filter_type")
+        sight.act("goToPlace(0)")
+        expect_equal(sight.counts()["shown"], 31, "lines after going to a place that was hidden")
+
+
+def colours(stage):
+    """Dark and light, by the system and by choice; the saved picture has the colours that are seen."""
+    answer, shown = sample_texts(stage, "retransmission")
+    pages = {}
+    with stage.texts(answer=answer, shown=shown) as sight:
+        sight.page.resize(1280, 1500)
+        for name, dark, theme in (("light", False, ""), ("dark", True, ""), ("dark_chosen", False, "dark"), ("light_chosen", True, "light")):
+            sight.page.is_dark(dark)
+            sight.act(f"byId('theme').value = '{theme}'; byId('theme').dispatchEvent(new Event('change')); goToPlace(3)")
+            pages[name] = sight.act("getComputedStyle(document.documentElement).backgroundColor")
+            sight.shot(f"colours_{name}")
+            (stage.folder / f"picture_{name}.svg").write_text(expect_svg(sight), encoding="utf-8")
+    expect(pages["light"] == pages["light_chosen"] != pages["dark"] == pages["dark_chosen"], f"colours: {pages}")
+
+
+def not_taken(stage):
+    """Data whose messages are not shown to be taken look different."""
+    answer, shown = sample_texts(stage, "both_ask")
+    lines = answer.splitlines(keepends=True)
+    cut = "".join(lines[: lines.index("taken by server 2\n")]) + "taken by server 1\n0 3 16 01\n"
+    with stage.texts(answer=cut, shown=shown) as sight:
+        sight.expect_counts(verdict="explained", messages=4, listed=3, takenByServer=1)
+        hollow = sight.act("document.querySelectorAll('#chart .head.hollow').length")
+        expect_equal(hollow, 1, "hollow heads")
+        expect("those of 1 data PDU" in sight.text("#verdict"), "the verdict doesn't count it")
+        sight.page.resize(1280, 1900)
+        sight.act("goToPlace(5)")
+        sight.shot("not_shown_to_be_taken")
+
+
+STORIES = [policy_is_closed, ways_in, other_capture, unknown_texts, cut_texts, bent_texts, hostile, hostile_parameters,
+           long_lines, keys, filters, colours, not_taken, random_runs_are_drawn]  # fmt: skip
+
+
+def all_stories(stage):
+    for story in STORIES:
+        yield story.__name__, lambda story=story: story(stage)
+    yield from samples(stage)
+    yield from refusals(stage)
+    yield "big", lambda: big(stage)
+
+
+# ---- running
+
+
+def run(stage, only):
+    failed = count = 0
+    for name, story in all_stories(stage):
+        if only and only not in name:
+            continue
+        count += 1
+        try:
+            story()
+            print(f"ok    {name}", flush=True)
+        except (Wrong, Refused, TimeoutError, subprocess.CalledProcessError) as wrong:
+            failed += 1
+            print(f"WRONG {name}: {wrong}", flush=True)
+    print(f"{count - failed} passed, {failed} failed; screenshots in {stage.folder}")
+    return 1 if failed else 0
+
+
+def main():
+    asked = argparse.ArgumentParser(description="Tests the viewer in a browser.")
+    asked.add_argument("--program", type=pathlib.Path, default=PROGRAM)
+    asked.add_argument("--browser", help="the browser's program")
+    asked.add_argument("--only", help="only stories whose name has this word")
+    asked.add_argument("--renew", action="store_true", help="write the hashes of the page's policy anew")
+    asked.add_argument("folder", type=pathlib.Path, nargs="?")
+    words = asked.parse_args()
+    if words.renew:
+        PAGE.write_text(with_hashes(PAGE.read_text(encoding="utf-8")), encoding="utf-8")
+        return 0
+    if not words.folder or not words.program.is_file():
+        asked.error("a folder is wanted, and the program: rt run in crates/rasta_audit leaves it")
+    words.folder.mkdir(parents=True, exist_ok=True)
+    scratch = pathlib.Path(tempfile.mkdtemp(prefix="viewer-"))
+    try:
+        with Browser(words.browser) as browser:
+            return run(Stage(browser, words.program.resolve(), words.folder, scratch), words.only)
+    finally:
+        shutil.rmtree(scratch)
+
+
+if __name__ == "__main__":
+    sys.exit(main())
