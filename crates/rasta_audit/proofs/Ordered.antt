@@ -1,4 +1,4 @@
--- What a script in order says of a level, by what stands in front.
+-- What a script in order says of a level, by its first entry.
 use Rattle.std.proofs.Common.{◌≡◌, ℕ, suc, ◌<◌, ◌≤◌, Bool, true, false, List, [], ◌∷◌, Option, Some, None, length, refl, ap, subst, sym, ◌∙◌, arith}
 use Rattle.std.specs.Prelude.{◌==◌, if◌then◌else◌, IfNone}
 use Rattle.std.specs.List.{cons_option}
@@ -18,7 +18,7 @@ left_out : {A : Type 0} (b : Bool) (x : A) (xs : List A) → b ≡ false → con
 left_out true x xs e = absurd (cc)
 left_out false x xs e = refl
 
--- ---- the entry in front
+-- ---- the first entry
 
 pub takes_here : (level number : ℕ) (es : List Entry) → takes_at level (Take level number ∷ es) ≡ number ∷ takes_at level es
 unfolding takes_at
@@ -75,7 +75,7 @@ makes_below at level (Take slot number ∷ es) l o =
 makes_below at level (Make index clock why ∷ es) l o =
     makes_other at index clock why es (above at index (let z = o.0 in omega arith)) ∙ makes_below at (suc index) es (let z = o.0 in omega arith) o.1
 
--- ---- the entry in front says nothing of this level
+-- ---- the first entry says nothing of this level
 
 differs : (low high : ℕ) → low ≤ high → (high == low) ≡ false → low < high
 differs low high l e = grind (arith, nat_tests)
@@ -110,7 +110,7 @@ pub no_makes : (level : ℕ) (entry : Entry) (es : List Entry) → IsOrderedFrom
     → made_in level entry ≡ None → makes_at level (entry ∷ es) ≡ []
 no_makes level entry es o none e = makes_below level (suc level) (entry ∷ es) (omega arith) (goes_up level entry es o none e)
 
--- ---- the entry in front is of this level
+-- ---- the first entry is of this level
 
 an_item : {A : Type 0} (b : Bool) (x y : A) → (if b then Some x else None) ≡ Some y → (b ≡ true) × (x ≡ y)
 an_item true x y e = (refl, cc)

@@ -135,7 +135,7 @@ behind-same level c d h k = record {
   server_makes = λ later l. sym (k.makes later l);
 }
 
--- a level is written, and the levels behind it are told by what is left of the scripts
+-- a level is written, and the levels after it are told by what is left of the scripts
 pub told_levels-next : (packets : List udp.Packet) (c d : Scripts) (level end : ℕ) → level < end
     → IsBehind level c.client d.client → IsBehind level c.server d.server
     → told_levels packets c level (end - level) ≡ told_level packets c level ++ told_levels packets d (level + 1) (end - (level + 1))

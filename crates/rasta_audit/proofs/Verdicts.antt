@@ -85,7 +85,7 @@ IsRefusal fault v = (v ≡ verdicts.Refused fault) × (fault ≢ no_memory)
 pub refusal_told : (r : Result Verdict Fault) (fault : Fault) → IfOk r (IsRefusal fault) → IfOk r HasToldRun
 refusal_told r fault h = if_ok_map r (λ (v : Verdict) (w : IsRefusal fault v). subst HasToldRun (sym w.0) tt) h
 
--- a fault that is no want of memory is the verdict
+-- a fault other than out of memory is the verdict
 pub refusal_stands : {F : Type 0} (P : List ℕ → ℕ → Type 0) (r : Result Verdict Fault) (fault : Fault) → IfOk r (IsRefusal fault)
     → F ⊎ (fault ≡ no_memory) → (F → P (refused_line fault) 1) → IfOk r (λ v. P (text_of_verdict v) (status_of_verdict v))
 refusal_stands {F = F} P r fault h why stands = if_ok_map r
@@ -146,7 +146,7 @@ one_verdict p certificate file s t m n (explained k c q e a b v) (explained j d 
 abbrev pub Texts : Type 1
 Texts = List ℕ → List ℕ → ℕ → Type 0
 
--- behind the end of the input nothing follows
+-- after the end of the input nothing follows
 pub whole_input : (file more : List ℕ) → MayFollow true more → file ++ more ≡ file
 whole_input file more h = ap (λ (l : List ℕ). file ++ l) (h refl) ∙ append-nil file
 

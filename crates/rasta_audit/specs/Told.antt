@@ -14,7 +14,7 @@ use Rattle.rasta_audit.specs.RunText.{copy_line, make_line, makes_at, number_of,
 
 -- ---- the order of a script
 
--- from this level on neither slots nor indexes fall, and what follows a make stands behind its packet
+-- from this level on neither slots nor indexes fall, and what follows a make stands after its packet
 abbrev pub IsOrderedFrom : ℕ → List Entry → Type 0
 IsOrderedFrom level [] = Unit {0}
 IsOrderedFrom level (Take slot number ∷ entries) = (level ≤ slot) × IsOrderedFrom slot entries
@@ -35,14 +35,14 @@ pub record IsTold (k : Crossing) (scripts : Scripts) : Type 0 where
 
 -- ---- what is left of a script
 
--- the rest of a script behind its takes of this slot
+-- the rest of a script after its takes of this slot
 pub record IsBehindTakes (level : ℕ) (script rest : List Entry) : Type 0 where
   pub order : IsOrderedFrom level rest
   pub none_left : takes_at level rest ≡ []
   pub takes : (later : ℕ) → level < later → takes_at later rest ≡ takes_at later script
   pub makes : (place : ℕ) → makes_at place rest ≡ makes_at place script
 
--- the rest of a script behind all of this level
+-- the rest of a script after all of this level
 pub record IsBehind (level : ℕ) (script rest : List Entry) : Type 0 where
   pub order : IsOrderedFrom (suc level) rest
   pub takes : (later : ℕ) → level < later → takes_at later rest ≡ takes_at later script

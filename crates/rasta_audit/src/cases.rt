@@ -79,7 +79,7 @@ fn frame_in(alloc: Global, packet: &str) -> Option<Vec<u8>> {
     }
 }
 
-// Puts the record of a packet behind, whose original length may be told.
+// Appends the record of a packet, whose original length may be told.
 fn add_packet(alloc: Global, file: &mut Vec<u8>, packet: &str) -> Option<()> {
     match packet.strip_prefix("of ") {
         Some(rest) => {

@@ -73,7 +73,7 @@ fn failure_of(error: &Error) -> Failure {
     }
 }
 
-/// Reads the words behind the program's name.
+/// Reads the words after the program's name.
 ///
 /// Refused by [`Failure::Usage`] where they are none of the four forms, and by [`Fault::NO_MEMORY`].
 pub fn form<'a>(alloc: Global, words: &'a [String]) -> Result<Form<'a>, Failure> {

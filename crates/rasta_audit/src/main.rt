@@ -111,7 +111,7 @@ fn write_form<R: AllocGlobal + Files + Print>(rt: &R, form: &Form<'_>) -> Result
     finish(writer, status)
 }
 
-// The words behind the program's name; words that are no text are none of its forms.
+// The words after the program's name; words that are no text are none of its forms.
 fn words<R: AllocGlobal + Env>(rt: &R) -> Result<Vec<String>, Failure> {
     let no_memory = Failure::Refused(Fault::at(Fault::NO_MEMORY, 0));
     match std::env::args(rt) {

@@ -44,7 +44,7 @@ fn holds_scripts(certificate: &Certificate)
     holds_entries(certificate.server());
 }
 
-// What the builder answers in place of a certificate, which is not trusted: want of memory, or that none
+// What the builder answers in place of a certificate, which is not trusted: out of memory, or that none
 // was found.
 fn none_proposed<'a>(fault: Fault) -> Result<Verdict<'a>, Fault>
     ensures ok { IfOk result (λ v. v ≡ verdicts.Refused (fault_at not_found fault.place)) }

@@ -1,4 +1,4 @@
-//! What stands in front of a script.
+//! What a script begins with.
 ghost use Rattle.std.specs.Prelude.{◌≡◌, ◌<◌, ℕ, suc, [], ◌∷◌, IfNone, IfSome, option_map};
 ghost use Rattle.rasta_cert.specs.declared.entry.Entry.TheVariants.{Take};
 ghost use Rattle.rasta_audit.specs.RunText.{made_in, makes_at, taken_in, takes_at};
@@ -45,7 +45,7 @@ pub fn next_take(level: u32, script: &[Entry]) -> Option<(u32, &[Entry])>
     Some((number, rest))
 }
 
-/// The make of the packet at this place, where it stands in front, and what is left of the script.
+/// The make of the packet at this place, where the script begins with it, and what is left of the script.
 pub fn pass_make(place: u32, script: &[Entry]) -> (Option<Made>, &[Entry])
     requires order { IsOrderedFrom place script.now }
     requires no_takes { takes_at place script.now ≡ [] }

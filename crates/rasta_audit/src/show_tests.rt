@@ -57,7 +57,7 @@ fn length_in(file: &[u8], length: u32) -> [u8; 4] {
     }
 }
 
-// Puts a record behind, of a frame that had so many bytes.
+// Appends a record of a frame that had so many bytes.
 pub fn add_cut_record(file: &mut Vec<u8>, frame: &[u8], original: u32) -> Option<()> {
     let captured = length_in(file, u32::try_from(frame.len()).ok()?);
     let whole = length_in(file, original);
@@ -93,7 +93,7 @@ fn route_of(side: &str) -> Option<&'static str> {
     }
 }
 
-// The frame of a datagram with its sender in front, with this tag.
+// The frame of a datagram with its sender before it, with this tag.
 pub fn frame_of(alloc: Global, tag: &str, sent: &str) -> Option<Vec<u8>> {
     let (side, datagram) = sent.split_once(':')?;
     let udp = u16::try_from(datagram.len() / 2).ok()?.checked_add(8)?;

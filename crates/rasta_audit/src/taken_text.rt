@@ -23,7 +23,7 @@ fn put_count(line: &mut Line, side: Side, count: u64)
     line.word(b"taken");
 }
 
-// Makes what stands in front of a message's bytes.
+// Makes what comes before a message's bytes.
 fn put_places(line: &mut Line, taken: &Taken<'_>)
     ensures { line.new ≡ in_front (decimal taken.now.message ∷ decimal taken.now.data_index ∷ decimal taken.now.proof_index ∷ []) [] }
 {

@@ -36,7 +36,7 @@ pub enum Verdict<'a> {
     Explained(Explanation<'a>),
 }
 
-/// A refusal is a verdict; want of memory is none.
+/// A refusal is a verdict; a lack of memory is none.
 pub fn refused<'a>(fault: Fault) -> Result<Verdict<'a>, Fault>
     ensures ok { IfOk result (λ v. (v ≡ verdicts.Refused fault) × (fault ≢ no_memory)) }
     ensures err { IfErr result (λ f. f ≡ no_memory) }

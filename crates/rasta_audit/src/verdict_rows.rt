@@ -1,6 +1,6 @@
 //! Rows of verdicts: a name; further keys of the parameters; the packets; the certificate; the text. A
 //! slash stands for the end of a line, and a hyphen for nothing. A packet is `SIDE NUMBER TYPE SN CS TS CTS
-//! PAYLOAD`, `SIDE:DATAGRAM` or `frame:FRAME` in hexadecimal, with `@2` behind a side on the second
+//! PAYLOAD`, `SIDE:DATAGRAM` or `frame:FRAME` in hexadecimal, with `@2` after a side on the second
 //! channel; `of N` before it is its original length, where it was cut; `magic:MAGIC` before the packets is
 //! that of the file; `cut` takes the last byte of the file away.
 

@@ -41,7 +41,7 @@ struct Step {
     made: Option<Why>,
 }
 
-// The client's steps, the datagrams one behind the other, and the next SN and the CS of the client.
+// The client's steps, the datagrams one after the other, and the next SN and the CS of the client.
 #[derive(Drop)]
 struct Plan {
     params: Params,

@@ -44,7 +44,7 @@ server_first (Some c) None x h =
     (let e : Server ≡ Client = same_side (of_server x) (of_client c) h in absurd (cc))
 server_first (Some c) (Some s) x h = ap (λ (y : FirstCopy). Some y) (server_picked (nat_lt c.place s.place) c s x h)
 
--- a member of the client's list that nothing explains, or want of memory
+-- a member of the client's list that nothing explains, or out of memory
 pub client_fault : (client server : List FirstCopy) (i : ℕ) (copy : FirstCopy) (stuck : Stuck) (fault : Fault)
     → slice_get client i ≡ Some copy → fault ≡ fault_of_stuck stuck copy.place → IsProposalFault client server fault
 client_fault client server i copy Unexplained fault there h = inr (inr (inl (i, copy, there, h)))

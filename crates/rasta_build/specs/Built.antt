@@ -18,7 +18,7 @@ use Rattle.rasta_build.specs.declared.peer.Peer.{Peer}
 use Rattle.rasta_build.specs.declared.script_builder.Progress.{Progress}
 
 -- an end with the entries that led it so far, the clock of its last make, the least position that may still be taken, and how many requests
--- are owed behind the burst that is owed
+-- are owed after the burst that is owed
 pub record Built : Type 0 where
   pub side : Side
   pub end : JudgedEnd
@@ -52,13 +52,13 @@ lead e b = record b { end = record b.end { state = e } }
 abbrev pub progress_of : EndState → Progress
 progress_of e = record { accepted = e.accepted; owed = length e.owed; phase = e.phase }
 
--- a clock that this time stamp tells behind the last make: the least one, or one told from there on
+-- a clock that this time stamp tells after the last make: the least one, or one told from there on
 abbrev pub IsTold : ℕ → ℕ → ℕ → Type 0
 IsTold last time_stamp clock =
     (clock_of last time_stamp ≡ Some clock)
     ⊎ ((early : ℕ) × (least : ℕ) × (clock_of last time_stamp ≡ Some early) × (early ≤ least) × (clock_of least time_stamp ≡ Some clock))
 
--- the make of this PDU, for the reason of its type, at a clock that its time stamp tells, stands in the script, and leads to the end behind it
+-- the make of this PDU, for the reason of its type, at a clock that its time stamp tells, stands in the script, and leads to the end after it
 pub record IsMade (b : Built) (place : ℕ) (x : SafetyPdu) (new : Built) : Type 0 where
   pub why : Why
   pub clock : ℕ
@@ -68,7 +68,7 @@ pub record IsMade (b : Built) (place : ℕ) (x : SafetyPdu) (new : Built) : Type
   pub makes : Makes b.end.params b.end.state x clock why after
   pub noted : new ≡ note (Make place clock why) (lead after (record b { clock = clock }))
 
--- how many requests are owed behind the burst that the take of this PDU started, which led from here to there
+-- how many requests are owed after the burst that the take of this PDU started, which led from here to there
 abbrev pub trail_behind : Progress → Progress → SafetyPdu → ℕ
 trail_behind before after x = if is_retransmission_request x.kind && (after.accepted == before.accepted && is_flowing before.phase) then 1 else 0
 
@@ -76,7 +76,7 @@ trail_behind before after x = if is_retransmission_request x.kind && (after.acce
 abbrev pub note_take : Progress → ℕ → ℕ → RedundancyPdu → Built → Built
 note_take before slot position x b = note (Take slot x.number) (record b { next_take = min (position + 1) 18446744073709551615; trail = trail_behind before (progress_of b.end.state) x.safety })
 
--- the take of this PDU at this position leads to the end behind it; it stands in the script where it had an effect
+-- the take of this PDU at this position leads to the end after it; it stands in the script where it had an effect
 pub record IsTaken (b : Built) (slot position : ℕ) (x : RedundancyPdu) (new : Built) : Type 0 where
   pub takes : Takes b.end.params b.end.state x.safety b.end.state.clock new.end.state
   pub without_effect : progress_of new.end.state ≡ progress_of b.end.state → new ≡ lead new.end.state b

@@ -1,4 +1,4 @@
--- What is chosen for a script: which member of the peer's sent list a position is, what an end must have taken in front of a make, why it
+-- What is chosen for a script: which member of the peer's sent list a position is, what an end must have taken before a make, why it
 -- makes a PDU and at which clock.
 use Rattle.std.specs.Prelude.{◌≡◌, ◌⊎◌, ℕ, suc, ◌+◌, ◌-◌, ◌≤◌, ◌<◌, ◌^◌, Bool, true, false, ◌&&◌, not, nat_lt, nat_le, ◌==◌, if◌then◌else◌, min, List, [], ◌∷◌, length, Option, Some, None, option_map, slice_get}
 use Rattle.rasta_pcap.specs.Fault.{fault_at, no_memory, not_found, too_many_entries}
@@ -29,7 +29,7 @@ peer_quiet_sn None side = None
 peer_quiet_sn (Some quiet) Client = Some (sn_before quiet.server.next_sn)
 peer_quiet_sn (Some quiet) Server = Some (sn_before quiet.client.next_sn)
 
--- the member of the peer's sent list at a position: behind a quiet point, position 0 is the quiet PDU, and the list begins at 1
+-- the member of the peer's sent list at a position: after a quiet point, position 0 is the quiet PDU, and the list begins at 1
 abbrev pub member_at : Option ℕ → ℕ → Option ℕ
 member_at None position = Some position
 member_at (Some quiet_sn) position = if position == 0 then None else Some (position - 1)
@@ -52,7 +52,7 @@ first_sn_of None (copy ∷ copies) = Some copy.pdu.safety.sn
 abbrev pub position_named : Option ℕ → List FirstCopy → ℕ → Option ℕ
 position_named quiet_sn sent sn = option_map (ahead_by sn) (first_sn_of quiet_sn sent)
 
--- the PDU crossed in front of this place
+-- the PDU crossed before this place
 abbrev pub is_in_front : Option FirstCopy → ℕ → Bool
 is_in_front None place = false
 is_in_front (Some copy) place = nat_lt copy.place place
@@ -62,11 +62,11 @@ abbrev pub is_response : Option FirstCopy → Bool
 is_response None = false
 is_response (Some copy) = is_retransmission_response copy.pdu.safety.kind
 
--- no retransmission response stands at a position from one on and in front of another
+-- no retransmission response stands at a position from one on and before another
 abbrev pub HaveNoResponse : Option ℕ → List FirstCopy → ℕ → ℕ → Type 0
 HaveNoResponse quiet_sn sent next behind = (position : ℕ) → next ≤ position → position < behind → is_response (copy_at quiet_sn sent position) ≡ false
 
--- of the positions from one on and in front of another, this is the last at which a retransmission response stands
+-- of the positions from one on and before another, this is the last at which a retransmission response stands
 pub record IsLastResponse (quiet_sn : Option ℕ) (sent : List FirstCopy) (next behind position : ℕ) : Type 0 where
   pub from_next : next ≤ position
   pub in_front : position < behind
@@ -91,7 +91,7 @@ wants_trigger _ = false
 abbrev pub is_unanswered : Side → EndState → Bool
 is_unanswered side e = is_client side && (is_start e.phase && e.accepted == 0)
 
--- the next PDU of this side's end tells by its CS what was accepted in front of it: nothing is owed, it opens no connection, and it isn't the
+-- the next PDU of this side's end tells by its CS what was accepted before it: nothing is owed, it opens no connection, and it isn't the
 -- disconnection request of a client that was never answered
 abbrev pub has_to_take : Side → EndState → Kind → Bool
 has_to_take side e kind = not (is_owing e.owed) && (not (is_connection_request kind) && not (is_disconnection_request kind && is_unanswered side e))
@@ -102,7 +102,7 @@ has_to_take side e kind = not (is_owing e.owed) && (not (is_connection_request k
 abbrev pub in_32_bits : ℕ → Option ℕ
 in_32_bits n = if nat_lt n (2 ^ 32) then Some n else None
 
--- the unit that is sent again next: all that is owed but what stands behind the units are units, and they are those offered last
+-- the unit that is sent again next: all that is owed but what follows the units are units, and they are those offered last
 abbrev pub next_unit : ℕ → ℕ → ℕ → Option ℕ
 next_unit offered owed behind = if nat_le behind owed && nat_le (owed - behind) offered then in_32_bits (offered - (owed - behind)) else None
 
@@ -124,7 +124,7 @@ why_by RetransmittedData e behind x = option_map Again (next_unit e.offered (len
 why_by Heartbeat e behind x = Some (why_beating (is_owing e.owed))
 why_by DisconnectionRequest e behind x = Some (why_ended (reason_of x.body))
 
--- why this end makes this PDU, where so many things are owed behind the units: by its type, its reason, and whether something is owed
+-- why this end makes this PDU, where so many things are owed after the units: by its type, its reason, and whether something is owed
 abbrev pub why_of : EndState → ℕ → SafetyPdu → Option Why
 why_of e behind x = why_by x.kind e behind x
 
@@ -161,6 +161,6 @@ stuck_by fault = if fault.number == 1 then NoMemory else Unexplained
 abbrev pub IsUnexplained : List FirstCopy → Fault → Type 0
 IsUnexplained sent fault = (i : ℕ) × (copy : FirstCopy) × (slice_get sent i ≡ Some copy) × (fault ≡ fault_of_stuck Unexplained copy.place)
 
--- a builder's fault: want of memory, scripts with too many entries, or a first copy of the client's or of the server's that nothing explains
+-- a builder's fault: out of memory, scripts with too many entries, or a first copy of the client's or of the server's that nothing explains
 abbrev pub IsProposalFault : List FirstCopy → List FirstCopy → Fault → Type 0
 IsProposalFault client server fault = (fault ≡ no_memory) ⊎ ((fault ≡ fault_at too_many_entries 0) ⊎ (IsUnexplained client fault ⊎ IsUnexplained server fault))

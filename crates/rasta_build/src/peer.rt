@@ -7,7 +7,7 @@ ghost use Rattle.rasta_build.specs.Choices.{peer_quiet_sn, member_at, copy_at, i
 use rasta_check::SentList;
 use rasta_pdu::{Kind, Params, Pdu, Side};
 
-/// Where the positions of a peer begin: behind a quiet point its quiet PDU is position 0, and its sent list
+/// Where the positions of a peer begin: after a quiet point its quiet PDU is position 0, and its sent list
 /// begins at 1.
 #[derive(Clone, Copy, Debug)]
 pub(crate) struct Peer {
@@ -59,7 +59,7 @@ impl Peer {
         Some(cs.wrapping_sub(first))
     }
 
-    /// Whether the PDU at a position crossed in front of a place.
+    /// Whether the PDU at a position crossed before a place.
     pub(crate) fn has_crossed<'a, S: SentList<'a>>(
         self,
         list: &S,
@@ -84,7 +84,7 @@ impl Peer {
         }
     }
 
-    /// The last position from one on, in front of another, at which a retransmission response stands.
+    /// The last position from one on, before another, at which a retransmission response stands.
     pub(crate) fn last_response<'a, S: SentList<'a>>(
         self,
         list: &S,

@@ -27,7 +27,7 @@ fn first_of<'a>(
 }
 
 /// Proposes scripts for the two sent lists of so many packets: each first copy is explained in the order of
-/// crossing, by what must have been taken in front of it.
+/// crossing, by what must have been taken before it.
 ///
 /// [`Fault::NOT_FOUND`] has as its place one more than that of the first packet that couldn't be explained.
 pub fn propose_lists<'a, S: SentList<'a>>(

@@ -39,7 +39,7 @@ pub(crate) struct ScriptBuilder<'a> {
     clock: u64,
     // The least position that may still be taken.
     next_take: u64,
-    // How many requests are owed behind the burst that is owed: 0 or 1.
+    // How many requests are owed after the burst that is owed: 0 or 1.
     trail: usize,
 }
 
@@ -150,7 +150,7 @@ impl<'a> ScriptBuilder<'a> {
         self.make(params, place, pdu)
     }
 
-    // Whether the PDU tells what was accepted in front of it. While something is owed nothing can be taken,
+    // Whether the PDU tells what was accepted before it. While something is owed nothing can be taken,
     // and the CS of an opening says nothing.
     fn has_to_take(&self, pdu: &Pdu<'a>) -> bool
         ensures { result ≡ Choices.has_to_take self.now.side self.now.end.state (value_of pdu.now).safety.kind }
@@ -203,7 +203,7 @@ impl<'a> ScriptBuilder<'a> {
         Ok(())
     }
 
-    // The first position to be accepted, from one on and in front of another: an end that waits for a
+    // The first position to be accepted, from one on and before another: an end that waits for a
     // retransmission accepts the last response among them first.
     fn first_acceptable<S: SentList<'a>>(&self, peer: &S, next: u64, behind: u64) -> Option<u64>
         ensures waiting { is_retr_req self.now.end.state.phase ≡ true →

@@ -95,7 +95,7 @@ pub chosen : {A : Type 0} (b : Bool) (x y : A) → cond b (Some x) None ≡ Some
 chosen true x y h = (refl, cc)
 chosen false x y h = absurd (cc)
 
--- no separator stands in front of the first
+-- no separator stands before the first
 Lacks-before_first : (byte : ℕ) (text : List ℕ) → Lacks byte (before_first (λ b. nat_eq b byte) text)
 Lacks-before_first byte text = record {
   at = λ k below.

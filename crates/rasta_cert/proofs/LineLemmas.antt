@@ -118,12 +118,12 @@ pub AreLines-behind : (xs ys : List (List ℕ)) → AreLines (xs ++ ys) → AreL
 AreLines-behind [] ys h = h
 AreLines-behind (a ∷ xs) ys h = AreLines-behind xs ys h.1
 
--- a list of lines goes on with the first line of what is behind another's
+-- a list of lines goes on with the first line of what follows another's
 pub record GoesOn (xs : List (List ℕ)) (rest : List ℕ) (ys : List (List ℕ)) : Type 0 where
   pub more : List (List ℕ)
   pub is : ys ≡ xs ++ (first_line rest ∷ more)
 
--- where one text is two lists of lines and what is behind them, they are the same, or one goes on
+-- where one text is two lists of lines and what follows them, they are the same, or one goes on
 pub splits : (xs ys : List (List ℕ)) (r s : List ℕ) → AreLines xs → AreLines ys → concat xs ++ r ≡ concat ys ++ s
     → ((xs ≡ ys) × (r ≡ s)) ⊎ GoesOn xs r ys ⊎ GoesOn ys s xs
 splits [] [] r s ha hb e = inl (refl, e)

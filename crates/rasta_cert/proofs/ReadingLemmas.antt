@@ -63,7 +63,7 @@ record Continues (front : Lines) (most : ℕ) (entries : List Entry) : Type 0 wh
   is : lines_of scripts ≡ (front ++ map entry_line entries) ++ more
   few : length entries ≤ most → is_few scripts
 
--- behind these lines entries stand, at most so many, and then this line
+-- after these lines entries stand, at most so many, and then this line
 record Stage (front : Lines) (close : List ℕ) (most : ℕ) : Type 0 where
   closes : Closes close
   continues : (es : List Entry) → AreEntries es → Continues front most es
@@ -174,7 +174,7 @@ refused_in_script front close most text behind first fault stage split place bro
         let r = stage.remains c (map entry_line es) h (sym e) in
         not_closed (line close) stage.closes es r.entries r.tail r.is
 
-    -- behind the line the scripts go on with entries, or close
+    -- after the line the scripts go on with entries, or close
     remaining : (b : BeginsScripts (lines ++ first_line rest ∷ [])) → Remains (line close) most b.scripts (map entry_line es ++ (first_line rest ∷ b.more))
     remaining b =
         stage.remains b.scripts (map entry_line es ++ (first_line rest ∷ b.more)) b.entries
@@ -236,7 +236,7 @@ refused_in_server text one two three cs first most fault place full a b script b
         ∙ ap (λ (l : List ℕ). head ++ (client ++ ((l ++ server) ++ three))) (sym (concat-map cs))
         ∙ ap (λ (l : List ℕ). head ++ (client ++ (l ++ three))) (sym (concat-append (map entry_line cs) (server ∷ [])))
 
--- the text of both scripts, and what is behind it
+-- the text of both scripts, and what follows it
 pub whole_text : (text one two three rest : List ℕ) (cs ss : List Entry) (most : ℕ) → text ≡ head ++ one → one ≡ client ++ two
     → IsScript (codes "server") most_entries two cs three → IsScript (codes "end") most three ss rest
     → text ≡ certificate_text (record { client = cs; server = ss }) ++ rest
@@ -253,7 +253,7 @@ whole_text text one two three rest cs ss most a b s t =
         ∙ ap (λ (l : List ℕ). entries_text cs ++ l) (sym (append_assoc server (entries_text ss ++ ending) rest))
         ∙ sym (append_assoc (entries_text cs) (server ++ (entries_text ss ++ ending)) rest)
 
--- bytes behind the last line
+-- bytes after the last line
 pub refused_behind : (text one two three rest : List ℕ) (cs ss : List Entry) (most : ℕ) (fault : Fault) → most ≡ most_entries - length cs
     → text ≡ head ++ one → one ≡ client ++ two → IsScript (codes "server") most_entries two cs three → IsScript (codes "end") most three ss rest
     → rest ≢ [] → fault ≡ fault_at wrong_syntax (4 + length cs + length ss + 1) → IsRefused text fault

@@ -39,7 +39,7 @@ first_is x y xs ys h = cc
 pub rest_is : (x y : List ℕ) (xs ys : Lines) → x ∷ xs ≡ y ∷ ys → xs ≡ ys
 rest_is x y xs ys h = cc
 
--- behind some entries stands the closing line or an entry
+-- after some entries stands the closing line or an entry
 pub follows : (close : List ℕ) → Closes close → (es cs : List Entry) (x : List ℕ) (more tail : Lines) → AreEntries cs
     → map entry_line es ++ (x ∷ more) ≡ map entry_line cs ++ (close ∷ tail)
     → (x ≡ close) ⊎ ((e : Entry) × IsEntry e × (x ≡ entry_line e))
@@ -49,7 +49,7 @@ follows close apart (d ∷ es) [] x more tail h e = absurd (apart.apart d (first
 follows close apart (d ∷ es) (c ∷ cs) x more tail h e =
     follows close apart es cs x more tail h.1 (rest_is (entry_line d) (entry_line c) _ _ e)
 
--- entries with the closing line behind them are told from the lines
+-- entries with the closing line after them are told from the lines
 pub closed : (close : List ℕ) → Closes close → (es cs : List Entry) (xs ys : Lines) → AreEntries es → AreEntries cs
     → map entry_line es ++ (close ∷ xs) ≡ map entry_line cs ++ (close ∷ ys) → (es ≡ cs) × (xs ≡ ys)
 closed close apart [] [] xs ys he hc e = (refl, rest_is close close xs ys e)

@@ -10,7 +10,7 @@ pub entries_text-none : entries_text [] ≡ []
 unfolding entries_text
 entries_text-none = refl
 
--- the line of the next entry, and the lines behind it
+-- the line of the next entry, and the lines after it
 pub entries_text-next : (es : List Entry) (i : ℕ) (d : Entry) → i < length es
     → entries_text (drop i es) ≡ entry_line (get_or es i d) ++ entries_text (drop (i + 1) es)
 unfolding entries_text
@@ -18,7 +18,7 @@ entries_text-next es i d h =
     let one : suc i ≡ i + 1 = omega arith in
     ap entries_text (drop-cons es i d h) ∙ ap (λ (n : ℕ). entry_line (get_or es i d) ++ entries_text (drop n es)) one
 
--- nothing is left behind the last
+-- nothing is left after the last
 pub entries_text-end : (es : List Entry) (i : ℕ) → length es ≤ i → entries_text (drop i es) ≡ []
 entries_text-end es i h = ap entries_text (nil_from_length (drop i es) (length-drop i es ∙ none)) ∙ entries_text-none
   where

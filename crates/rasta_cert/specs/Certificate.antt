@@ -44,7 +44,7 @@ is_few c = length c.client + length c.server ≤ most_entries
 abbrev pub IsCertificate : Scripts → Type 0
 IsCertificate c = AreScripts c × is_few c
 
--- the end of a line behind these bytes
+-- the end of a line after these bytes
 abbrev pub line : List ℕ → List ℕ
 line bytes = bytes ++ 10 ∷ []
 
@@ -72,7 +72,7 @@ entries_text (e ∷ es) = entry_line e ++ entries_text es
 abbrev pub first_lines : List ℕ
 first_lines = line (codes "rasta-certificate 1") ++ line (codes "client")
 
--- the whole text: nothing stands behind the line `end`
+-- the whole text: nothing stands after the line `end`
 unfoldable pub certificate_text : Scripts → List ℕ
 certificate_text c =
     first_lines ++ (entries_text c.client ++ (line (codes "server") ++ (entries_text c.server ++ line (codes "end"))))

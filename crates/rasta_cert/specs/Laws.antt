@@ -9,7 +9,7 @@ use Rattle.rasta_cert.specs.Refusals.{IsRefused, lines_of}
 abbrev pub TextsDiffer : Type 0
 TextsDiffer = (c d : Scripts) → AreScripts c → AreScripts d → certificate_text c ≡ certificate_text d → c ≡ d
 
--- the text of scripts is their lines, one behind the other
+-- the text of scripts is their lines, one after the other
 abbrev pub TextIsItsLines : Type 0
 TextIsItsLines = (c : Scripts) → certificate_text c ≡ concat (lines_of c)
 

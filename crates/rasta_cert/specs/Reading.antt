@@ -1,4 +1,4 @@
--- How a script is read from the text behind its first line. Private to the crate.
+-- How a script is read from the text after its first line. Private to the crate.
 use Rattle.std.specs.Prelude.{◌≡◌, ◌≢◌, ◌⊎◌, ℕ, ◌+◌, ◌≤◌, List, ◌++◌, length}
 use Rattle.rasta_pcap.specs.declared.fault.Fault.{Fault}
 use Rattle.rasta_pcap.specs.Fault.{fault_at, too_many_entries, wrong_syntax}
@@ -16,24 +16,24 @@ pub record BeginsWith (text : List ℕ) (entry : Entry) (rest : List ℕ) : Type
 abbrev pub BeginsWithNone : List ℕ → Type 0
 BeginsWithNone text = (e : Entry) → IsEntry e → first_line text ≢ entry_line e
 
--- a script of at most so many entries, with its closing line behind it
+-- a script of at most so many entries, with its closing line after it
 pub record IsScript (close : List ℕ) (most : ℕ) (text : List ℕ) (entries : List Entry) (rest : List ℕ) : Type 0 where
   pub text_is : text ≡ entries_text entries ++ (line close ++ rest)
   pub valid : AreEntries entries
   pub few : length entries ≤ most
 
--- one entry too many stands in front
+-- the text begins with one entry too many
 pub record IsTooLong (most : ℕ) (entries : List Entry) (text : List ℕ) : Type 0 where
   pub full : length entries ≡ most
   pub entry : Entry
   pub valid : IsEntry entry
   pub first : first_line text ≡ entry_line entry
 
--- neither an entry nor the closing line stands in front
+-- the text begins with neither an entry nor the closing line
 abbrev pub IsNoLine : List ℕ → List ℕ → Type 0
 IsNoLine close text = (first_line text ≢ line close) × BeginsWithNone text
 
--- behind some entries the script is at fault; the first of them stands in this line
+-- after some entries the script is at fault; the first of them stands in this line
 pub record IsBroken (close : List ℕ) (first most : ℕ) (text : List ℕ) (fault : Fault) : Type 0 where
   pub entries : List Entry
   pub rest : List ℕ

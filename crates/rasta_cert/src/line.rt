@@ -10,7 +10,7 @@ use std::marker::Model;
 
 const ROOM: usize = 80;
 
-/// The end of a line, in front of which words are put.
+/// The end of a line, before which words are put.
 #[derive(Drop)]
 pub struct Line {
     room: [u8; 80],
@@ -27,7 +27,7 @@ impl Model for Line {
     ghost invariant = { λ l. (length l.room ≡ 80) × (l.start ≤ 80) };
 }
 
-// Puts the bytes in front of what stands from `end` on, and answers where they begin.
+// Puts the bytes before what stands from `end` on, and answers where they begin.
 fn put(room: &mut [u8], end: usize, bytes: &[u8]) -> usize
     requires fits { length bytes.now ≤ end }
     requires within { end ≤ length room.old }
@@ -51,7 +51,7 @@ fn put_number(room: &mut [u8], end: usize, n: u64) -> usize
 }
 
 impl Line {
-    // The end of a line, with nothing in front.
+    // The end of a line, with nothing before it.
     fn new() -> Line
         ensures { result ≡ 10 ∷ [] }
     {

@@ -11,7 +11,7 @@ use crate::fields::{entry_in, parts};
 use rasta_pcap::Fault;
 use std::alloc::Global;
 
-// The line in front, without its end, and what is behind it; none where no line has an end.
+// The first line, without its end, and what follows it; none where no line has an end.
 fn next_line(text: &[u8]) -> Option<(&[u8], &[u8])>
     ensures found { IfSome result (λ p. text.entry.now ≡ line p.0.now ++ p.1.now) }
     ensures first { IfSome result (λ p. first_line text.entry.now ≡ line p.0.now) }
@@ -20,7 +20,7 @@ fn next_line(text: &[u8]) -> Option<(&[u8], &[u8])>
     parts(text, b'\n')
 }
 
-// What is behind this line, if it stands in front.
+// What follows this line, where the text begins with it.
 fn behind_line<'a>(text: &'a [u8], words: &[u8]) -> Option<&'a [u8]>
     ensures found { IfSome result (λ rest. text.entry.now ≡ line words.now ++ rest.now) }
     ensures none { IfNone result (first_line text.entry.now ≢ line words.now) }
@@ -29,7 +29,7 @@ fn behind_line<'a>(text: &'a [u8], words: &[u8]) -> Option<&'a [u8]>
     if line == words { Some(rest) } else { None }
 }
 
-// The entry of the line in front, and what is behind that line.
+// The entry of the first line, and what follows that line.
 fn next_entry(text: &[u8]) -> Option<(Entry, &[u8])>
     ensures found { IfSome result (λ p. BeginsWith text.entry.now p.0 p.1.now) }
     ensures shorter { IfSome result (λ p. length p.1.now < length text.entry.now) }
@@ -40,7 +40,7 @@ fn next_entry(text: &[u8]) -> Option<(Entry, &[u8])>
     Some((entry, rest))
 }
 
-// The entries of a script, and what is behind its closing line.
+// The entries of a script, and what follows its closing line.
 #[derive(Drop)]
 struct Script<'a> {
     entries: Vec<Entry>,
@@ -78,7 +78,7 @@ fn read_script<'a>(
     }
 }
 
-// Reads both scripts, and that nothing is behind them.
+// Reads both scripts, and that nothing follows them.
 fn read_scripts(alloc: Global, text: &[u8]) -> Result<Certificate, Fault>
     ensures ok { IfOk result (λ c. (text.now ≡ certificate_text c) × IsCertificate c) }
     ensures err { IfErr result (λ f. (f ≡ no_memory) ⊎ IsRefused text.now f) }

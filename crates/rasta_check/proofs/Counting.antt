@@ -62,7 +62,7 @@ number_take_all f ms zero = omega arith
 number_take_all f [] (suc i) = omega arith
 number_take_all f (m ∷ ms) (suc i) = tally_most (f m.pdu.kind) _ _ (number_take_all f ms i)
 
--- behind a PDU of the type there is one more than in front of it
+-- after a PDU of the type there is one more than before it
 pub number_take_at : (f : Kind → Bool) (ms : List Made) (p : ℕ) (m : Made) → slice_get ms p ≡ Some m → f m.pdu.kind ≡ true → number f (take (suc p) ms) ≡ suc (number f (take p ms))
 number_take_at f [] p m e h = absurd (cc)
 number_take_at f (x ∷ ms) zero m e h =

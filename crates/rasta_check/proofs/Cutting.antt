@@ -1,4 +1,4 @@
--- Scripts cut behind their last make: a run in which no more is handed up than the two lists show.
+-- Scripts cut after their last make: a run in which no more is handed up than the two lists show.
 use Rattle.std.proofs.Common.{◌≡◌, ◌⊎◌, ℕ, zero, suc, ◌<◌, ◌≤◌, Bool, true, false, List, [], ◌∷◌, length, Option, Some, None, slice_get, refl, ap, sym, ◌∙◌, arith, inl, inr, ⊎_elim, subst}
 use Rattle.std.specs.Prelude.{if◌then◌else◌}
 use Rattle.rasta_pcap.specs.declared.fault.Side.{Side}
@@ -50,7 +50,7 @@ keep_if : Bool → Entry → List Entry → List Entry
 keep_if true x es = x ∷ es
 keep_if false x es = []
 
--- without the takes behind the last make
+-- without the takes after the last make
 cut : List Entry → List Entry
 cut [] = []
 cut (Take slot number ∷ es) = keep_if (has_make es) (Take slot number) (cut es)

@@ -45,7 +45,7 @@ file_kept p file k h are e =
 
 -- ---- frames without a fault
 
--- a record in front of the window, or whose frame holds a packet or none
+-- a record before the window, or whose frame holds a packet or none
 abbrev IsSound : Parameters → Numbered → Type 0
 IsSound p r = nat_lt r.0 p.first_record ≡ false → IsOk (packet_in p.channels r.1)
 
@@ -149,7 +149,7 @@ sent_front_few p (y ∷ ys) xs s big h =
 
 -- ---- one packet more
 
--- behind a crossing come these packets: of all of them each side sent a list, within the limits
+-- after a crossing come these packets: of all of them each side sent a list, within the limits
 record GoesThrough (k : Crossing) (more : List Packet) (c s : List FirstCopy) : Type 0 where
   client : Sent k.params (k.packets ++ more) Client c
   server : Sent k.params (k.packets ++ more) Server s
@@ -216,7 +216,7 @@ record_goes k r more c s h are sound g = by (nat_lt r.0 k.params.first_record) r
     by true e w = (k, refl)
     by false e w = frame_goes k r.0 r.1 (packet_in k.params.channels r.1) more c s refl h are (sound e) w
 
--- with some of the packets behind it, the rest come
+-- with some of the packets after it, the rest come
 goes_behind : (k next : Crossing) (front more : List Packet) (c s : List FirstCopy) → next.packets ≡ k.packets ++ front → next.params ≡ k.params → GoesThrough k (front ++ more) c s → GoesThrough next more c s
 goes_behind k next front more c s e f g =
     let all : k.packets ++ (front ++ more) ≡ next.packets ++ more = sym (append_assoc k.packets front more) ∙ ap (λ (xs : List Packet). xs ++ more) (sym e) in

@@ -130,7 +130,7 @@ module _ (p : Parameters) (packets : List Packet) (side : Side) (own : List Firs
   pub faultless : CanFollow p packets side own a → read_fault p side own a.payload (decode_of p side a.payload) ≡ None
   faultless f = none_fault f
 
--- the sent list goes on behind a packet that may come next
+-- the sent list goes on after a packet that may come next
 pub grown : (p : Parameters) (packets : List Packet) (a : Packet) (own : List FirstCopy) → IsSent p packets a.side own → length own ≤ 1000000 → CanFollow p packets a.side own a
     → (more : List FirstCopy) × Sent p (packets ++ a ∷ []) a.side more
 grown p packets a own sent few f =

@@ -319,7 +319,7 @@ module _ (q : Parameters) (e f : EndState) (t u : ℕ) (m : Made) (p : ℕ) (k :
         open_requests = (let b = before free in let r = more_answers in omega (arith, b, r, bit));
       }
 
-  -- a burst is owed, with a request behind it or without
+  -- a burst is owed, with a request after it or without
   burst_settled : (ph : Phase) (os : List Owed) → m.pdu.kind ≡ RetransmissionRequest → is_valid e m.pdu ≡ true
       → owes is_answer_owed os ≡ 1 → owes is_response_owed os ≡ 0 → open_bit e.phase + owes is_request_owed os ≤ open_bit ph → e.owed ≡ [] → is_closed e.phase ≡ false
       → Settled e f p ph os (e.asks ++ position_confirmed e m.pdu ∷ [])

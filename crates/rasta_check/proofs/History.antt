@@ -162,7 +162,7 @@ history p valid ws w (goes_on {ws = us} {w = u} r st) b = step (history p valid 
               (get_push_cases (us ++ u ∷ []) w i v x),
         )
 
--- two worlds one behind the other in a run are joined by a step
+-- two worlds one after the other in a run are joined by a step
 pub joined : (p : Parameters) (ws : List World) (w : World) → Reaches p ws w → (i : ℕ) (u v : World) → slice_get (ws ++ w ∷ []) i ≡ Some u → slice_get (ws ++ w ∷ []) (suc i) ≡ Some v → Step p u v
 joined p ws w (begins m n) i u v g h = absurd (cc)
 joined p ws w (goes_on {ws = us} {w = z} r st) i u v g h = ⊎_elim

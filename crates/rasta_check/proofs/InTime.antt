@@ -33,7 +33,7 @@ made_over Client Closed (x ∷ ms) i m g h = refl
 made_over Server Closed (x ∷ ms) i m g h = refl
 made_over s _ ms i m g h = absurd (cc)
 
--- e0 and f0 in the world behind the make, e and f at the end
+-- e0 and f0 in the world after the make, e and f at the end
 module _ (e0 f0 e f : EndState) (t : ℕ) (w0 : Shown e0 f0) (w : Shown e f) (g : Held f t e.made) (vf : Valued f) (few : length f.made ≤ 1000001) (ge : Grown e0 e) (gf : Grown f0 f)
     (q : ℕ) (m : Made) (there : slice_get e0.made q ≡ Some m) where
   unheard : is_connection_request m.pdu.kind ≡ false → e0.accepted ≡ 0 → (b : Bool) → is_closed e0.phase ≡ b → f.offered ≡ 0

@@ -74,7 +74,7 @@ of_unit data_place proof (x ∷ ms) (suc m) t g = of_unit data_place proof ms m 
 abbrev pub HaveThrough : List TakenUnit → ℕ → List (List (List ℕ)) → Type 0
 HaveThrough us i handed = (j : ℕ) (u : TakenUnit) → j ≤ i → slice_get us j ≡ Some u → slice_get handed j ≡ Some u.messages
 
--- the unit of the m-th message: where it and those in front of it were handed up, so was the message
+-- the unit of the m-th message: where it and those before it were handed up, so was the message
 pub record OfUnit (us : List TakenUnit) (m : ℕ) (t : TakenMessage) : Type 0 where
   pub i : ℕ
   pub u : TakenUnit

@@ -28,13 +28,13 @@ sn_mod (m ∷ ms) (suc i) sn h s =
     let b = s.same in
     omega arith
 
--- an SN behind that of position i names the position that is so far behind it
+-- an SN after that of position i names the position that is so far after it
 pub position_is : (ms : List Made) (i p u v : ℕ) → Numbered ms → length ms ≤ 1000001 → SnIs ms p u → SnIs ms i v → i < p → i + suc (ahead_by u (v + 1)) ≡ p
 position_is ms i p u v h b x y l =
     let w : p < length ms = slice_get_within ms p x.m x.there in
     apart u v (first_sn ms) i p (sn_mod ms p u h x) (sn_mod ms i v h y) l (omega arith)
 
--- a valid SN of a position lies as far behind the confirmed one as the position does
+-- a valid SN of a position lies as far after the confirmed one as the position does
 valid_at : (ms : List Made) (c j u : ℕ) → Numbered ms → length ms ≤ 1000001 → c ≤ length ms → SnIs ms j u
     → nat_lt (ahead_by u (sn_at ms c)) (ahead_by (sn_at ms (length ms)) (sn_at ms c)) ≡ true → c + ahead_by u (sn_at ms c) ≡ j
 valid_at [] c j u h b l s v = absurd (let e = s.there in cc)

@@ -36,7 +36,7 @@ module _ (p : Parameters) (ws : List World) (w : World) (c s : List FirstCopy) (
       let e = below.1 ∙ shown.place in
       appended p ws w r u.proof_place (omega (arith, z, e))
 
-  -- with a unit those in front of it were handed up
+  -- with a unit those before it were handed up
   pub server_in_time_through : (i j : ℕ) (u t : TakenUnit) (v next : World) → j ≤ i → slice_get (surely_taken p Client c s) i ≡ Some u → slice_get (surely_taken p Client c s) j ≡ Some t
       → Appends ws w u.proof_place v next → HasHandedUp v.server.state j t.messages
   server_in_time_through i j u t v next low g gt a =

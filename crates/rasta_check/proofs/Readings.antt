@@ -71,7 +71,7 @@ packet_by : (k : Crossing) (number : ℕ) (a : Packet) (next : Crossing) → aft
 unfolding after_packet
 packet_by k number a next e = judged_by k number a next (packet_fault k.params (sent_by k a.side) a) e
 
--- none or one packet in front
+-- none or one packet at first
 abbrev pub of_option : Option Packet → List Packet
 of_option None = []
 of_option (Some a) = a ∷ []

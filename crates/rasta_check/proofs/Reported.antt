@@ -66,7 +66,7 @@ has (x ∷ ms) sn i n = by (λ i n. has ms sn i n) (x.pdu.sn == sn) refl i n
         let r = rest z.0 z.1 in
         subst (λ k. SnIs (x ∷ ms) k sn) (sym z.2) (record { m = r.m; there = r.there; same = r.same })
 
--- a named position lies as far behind the first SN as the SN does
+-- a named position lies as far after the first SN as the SN does
 distance : (ms : List Made) (sn i : ℕ) → Numbered ms → length ms ≤ 1000001 → SnIs ms i sn → ahead_by sn (first_sn ms) ≡ i
 distance [] sn i h b s = absurd (let e = s.there in cc)
 distance (m ∷ ms) sn zero h b s =
@@ -80,7 +80,7 @@ distance (m ∷ ms) sn (suc i) h b s =
     let l = slice_get_within ms i s.m s.there in
     omega arith
 
--- a position as far behind the first SN as an SN has that SN
+-- a position as far after the first SN as an SN has that SN
 at_distance : (ms : List Made) (sn i : ℕ) (m : Made) → Numbered ms → first_sn ms < 2 ^ 32 → sn < 2 ^ 32 → slice_get ms i ≡ Some m → ahead_by sn (first_sn ms) ≡ i → m.pdu.sn ≡ sn
 at_distance [] sn i m h f l g d = absurd (cc)
 at_distance (x ∷ ms) sn zero m h f l g d =

@@ -108,7 +108,7 @@ sent_first p xs k s own d f h cf side sp num =
 pub sent_none : (p : Parameters) (s : Side) → AreParameters p → IsSent p [] s []
 sent_none p s valid = record { valid = valid; firsts = λ i c g. absurd (cc); rising = λ i a b x y. absurd (cc); numbers = λ i a b x y. absurd (cc); others = λ k a g e. absurd (cc) }
 
--- each packet of a side has a first copy not behind it
+-- each packet of a side has a first copy not after it
 pub earliest : (p : Parameters) (xs : List Packet) (s : Side) (own : List FirstCopy) → IsSent p xs s own → (n k : ℕ) → k < n → (a : Packet) → slice_get xs k ≡ Some a → a.side ≡ s
     → (i : ℕ) × (c : FirstCopy) × (b : Packet) × (slice_get own i ≡ Some c) × (c.place ≤ k) × (slice_get xs c.place ≡ Some b) × (b.payload ≡ a.payload) × Spells p s c.pdu b.payload
 earliest p xs s own h zero k l a g e = absurd (omega arith)

@@ -29,7 +29,7 @@ pub record Valued (e : EndState) : Type 0 where
   -- what is owed leads from the units conveyed to those offered
   pub due : has_ended e ≡ false → Due (jump e) (last_of (values e)) e.offered e.owed
   pub bounded : (p v : ℕ) → slice_get (values e) p ≡ Some v → v ≤ e.offered
-  -- a position that carries unit k conveys k + 1, and the one in front of it k; a plain one conveys no more than that; a response goes back to its ask
+  -- a position that carries unit k conveys k + 1, and the one before it k; a plain one conveys no more than that; a response goes back to its ask
   pub units : (p : ℕ) (n : Made) → slice_get e.made p ≡ Some n → carries_unit n.pdu.kind ≡ true
       → (q : ℕ) × (k : ℕ) × (p ≡ suc q) × (n.unit ≡ Some k) × (slice_get (values e) q ≡ Some k) × (slice_get (values e) p ≡ Some (suc k))
   pub others : (q : ℕ) (n : Made) → slice_get e.made (suc q) ≡ Some n → is_plain n.pdu.kind ≡ true → slice_get (values e) (suc q) ≡ slice_get (values e) q

@@ -59,7 +59,7 @@ data_carries Data h = refl
 data_carries _ h = absurd (cc)
 
 -- What a row does: u are the units at the ask that is answered next, v the units conveyed so far, n those offered; v' are
--- conveyed behind it.
+-- conveyed after it.
 
 pub data Stepped (u v n : ℕ) (v' : ℕ) (k : Kind) (row : MakeRow) (os : List Owed) : Type 0 where
   over : is_plain k ≡ true → ((ph : Phase) → phase_after row ph ≡ Closed) → v' ≡ v → Stepped u v n v' k row os
@@ -67,7 +67,7 @@ pub data Stepped (u v n : ℕ) (v' : ℕ) (k : Kind) (row : MakeRow) (os : List 
   back : k ≡ RetransmissionResponse → v' ≡ u → DueRest v' (offered_after row n) (owed_after row os) → Stepped u v n v' k row os
   onward : carries_unit k ≡ true → v' ≡ suc v → unit_of row n ≡ Some v → DueRest v' (offered_after row n) (owed_after row os) → Stepped u v n v' k row os
 
--- the units conveyed behind it, by its type
+-- the units conveyed after it, by its type
 abbrev pub Next : ℕ → ℕ → Kind → ℕ → Type 0
 Next u v Data v' = v' ≡ suc v
 Next u v RetransmittedData v' = v' ≡ suc v

@@ -96,7 +96,7 @@ no_end limit file f e = elim (dec_lt 0 f.place) [
 
 -- ---- a packet at fault
 
--- behind a crossing, no run goes on with a packet that has a fault
+-- after a crossing, no run goes on with a packet that has a fault
 pub impossible_with : (k : Crossing) (a : Packet) (fault : ℕ) → IsCrossing k → packet_fault k.params (sent_by k a.side) a ≡ Some fault → Impossible k.params (k.packets ++ a ∷ [])
 impossible_with k a fault h f ws w rest r e =
     let own = list_of k h a.side in

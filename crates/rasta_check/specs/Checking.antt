@@ -59,7 +59,7 @@ then_follow rest entry side (Err fault) = Err (fault_of_end fault entry side)
 then_follow rest entry side (Ok v) = rest v
 
 -- these entries from the one of this number on: the end that they lead to, or the first fault with the number of its entry; an own PDU that
--- is left over is missed behind the last
+-- is left over is missed after the last
 unfoldable pub follow_from : Parameters → Side → ℕ → List FirstCopy → List FirstCopy → ℕ → Cursor → List Entry → Result EndState Fault
 follow_from p side packets own peer entry u [] = if u.made == length own then Ok u.state else Err (fault_of_end make_missing entry side)
 follow_from p side packets own peer entry u (x ∷ xs) = then_follow (λ v. follow_from p side packets own peer (suc entry) v xs) entry side (next_cursor p packets own peer u x)
@@ -75,11 +75,11 @@ pub record Followed : Type 0 where
   pub entry : ℕ
   pub cursor : Cursor
 
--- the same end behind the entry that leads to this cursor
+-- the same end after the entry that leads to this cursor
 abbrev pub moved_to : Followed → Cursor → Followed
 moved_to f v = record { params = f.params; side = f.side; entry = suc f.entry; cursor = v }
 
--- what a refused entry answers: its fault, or want of memory
+-- what a refused entry answers: its fault, or out of memory
 abbrev pub IsRefused : Followed → Result Cursor ℕ → Fault → Type 0
 IsRefused f answer fault = ((number : ℕ) × (answer ≡ Err number) × (fault ≡ fault_of_end number f.entry f.side)) ⊎ (fault ≡ no_memory)
 

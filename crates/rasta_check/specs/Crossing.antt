@@ -36,7 +36,7 @@ pub record FirstCopy : Type 0 where
   pub place : ℕ
   pub pdu : RedundancyPdu
 
--- a packet in front of this place, of this side, has this redundancy number
+-- a packet before this place, of this side, has this redundancy number
 pub record IsKnown (p : Parameters) (packets : List Packet) (side : Side) (place number : ℕ) : Type 0 where
   pub earlier : ℕ
   pub packet : Packet
@@ -62,7 +62,7 @@ pub record IsSentList (p : Parameters) (packets : List Packet) (side : Side) (se
   pub all : (place : ℕ) (packet : Packet) (pdu : RedundancyPdu) → slice_get packets place ≡ Some packet → packet.side ≡ side → Spells p side pdu packet.payload
       → (IsKnown p packets side place pdu.number → ⊥) → (i : ℕ) × (copy : FirstCopy) × (slice_get sent i ≡ Some copy) × (copy.place ≡ place)
 
--- a packet of this side in front of this place has the same bytes
+-- a packet of this side before this place has the same bytes
 pub record IsRepeat (packets : List Packet) (side : Side) (place : ℕ) (bytes : List ℕ) : Type 0 where
   pub earlier : ℕ
   pub packet : Packet
@@ -109,7 +109,7 @@ abbrev pub read_fault : Parameters → Side → List FirstCopy → List ℕ → 
 read_fault p side sent bytes (Err fault) = Some fault.number
 read_fault p side sent bytes (Ok pdu) = number_fault p side sent bytes pdu (copy_with sent pdu.number)
 
--- the fault of a packet behind those of which this side sent this list: its bytes spell no PDU, or it differs from the first copy of
+-- the fault of a packet after those of which this side sent this list: its bytes spell no PDU, or it differs from the first copy of
 -- its number, or its number skips some
 abbrev pub packet_fault : Parameters → List FirstCopy → Packet → Option ℕ
 packet_fault p sent packet = read_fault p packet.side sent packet.payload (decode_of p packet.side packet.payload)

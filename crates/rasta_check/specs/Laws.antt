@@ -31,7 +31,7 @@ abbrev pub requests_of : List Made → List Made
 requests_of made = filter (λ (m : Made). is_retransmission_request m.pdu.kind) made
 
 -- each request of the peer confirms a position; the asks of an end are a beginning of the list of these, and its i-th retransmission response
--- answers its peer's i-th request: the position that this confirms is the i-th ask, and lies in front of the response
+-- answers its peer's i-th request: the position that this confirms is the i-th ask, and lies before the response
 pub record AnswersInOrder (e peer : EndState) : Type 0 where
   pub beginning : (rest : List ℕ) × (asked_positions (pdus_made e.made) (pdus_made peer.made) ≡ e.asks ++ rest)
   pub named : (position : ℕ) (request : Made) → slice_get peer.made position ≡ Some request → is_retransmission_request request.pdu.kind ≡ true
@@ -69,7 +69,7 @@ Confirmed = (p : Parameters) → Always (ConfirmsAccepted p) p
 
 -- ---- handed up once each and in order
 
--- the units conveyed through the position in front of this one
+-- the units conveyed through the position before this one
 abbrev pub conveyed_before : EndState → ℕ → ℕ
 conveyed_before peer zero = 0
 conveyed_before peer (suc position) = units_conveyed peer.asks (kinds peer.made) position

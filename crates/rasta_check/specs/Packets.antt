@@ -13,7 +13,7 @@ abbrev pub with_new : List FirstCopy → ℕ → Option Pdu → List FirstCopy
 with_new sent place None = sent
 with_new sent place (Some pdu) = sent ++ copy_of (place, pdu) ∷ []
 
--- what crosses behind a record: the rest, or nothing where there was no record
+-- what crosses after a record: the rest, or nothing where there was no record
 abbrev pub after_next : Bool → Crossing → Reading → Result Crossing Fault
 after_next true k rest = after_reading k rest
 after_next false k rest = Ok k

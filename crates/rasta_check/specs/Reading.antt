@@ -53,11 +53,11 @@ abbrev pub behind_read : List FirstCopy → ℕ → Result RedundancyPdu Fault �
 behind_read sent place (Ok pdu) = behind_pdu sent place pdu (copy_with sent pdu.number)
 behind_read sent place (Err fault) = sent
 
--- what the sender of a packet has sent behind it
+-- what the sender of a packet has sent after it
 abbrev pub sent_behind : Crossing → Packet → List FirstCopy
 sent_behind k packet = behind_read (sent_by k packet.side) (length k.packets) (decode_of k.params packet.side packet.payload)
 
--- one more packet, whose sender has sent this list behind it
+-- one more packet, whose sender has sent this list after it
 abbrev pub crossing_with : Crossing → Packet → Side → List FirstCopy → Crossing
 crossing_with k packet Client sent = record { params = k.params; packets = k.packets ++ packet ∷ []; client = sent; server = k.server }
 crossing_with k packet Server sent = record { params = k.params; packets = k.packets ++ packet ∷ []; client = k.client; server = sent }
@@ -89,7 +89,7 @@ after_frame k number (Ok None) = Ok k
 after_frame k number (Ok (Some packet)) = after_packet k number packet
 after_frame k number (Err fault) = Err (fault_at fault.number number)
 
--- records in front of the window are not judged
+-- records before the window are not judged
 unfoldable pub after_record : Crossing → Numbered → Result Crossing Fault
 after_record k r = if nat_lt r.0 k.params.first_record then Ok k else after_frame k r.0 (packet_in k.params.channels r.1)
 

@@ -21,7 +21,7 @@ pub record Cursor : Type 0 where
 
 -- one entry leads from here to there, where so many packets crossed
 pub data Advances (p : Parameters) (packets : ℕ) (own peer : List FirstCopy) : Cursor → Entry → Cursor → Type 0 where
-  -- a take, after `slot` packets: of a PDU of the peer that crossed in front of the slot, above the position that was taken last, at
+  -- a take, after `slot` packets: of a PDU of the peer that crossed before the slot, above the position that was taken last, at
   -- the clock of the last make
   takes_next : {u : Cursor} (slot position : ℕ) (c : FirstCopy) (after : EndState)
       → u.level ≤ slot → slot ≤ packets

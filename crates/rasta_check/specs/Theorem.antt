@@ -69,7 +69,7 @@ SentLists p =
 
 -- ---- 2. definite faults
 
--- behind packets of which its side sent a list within the limits, no packet of a run has a fault; and a sent list goes on behind a packet
+-- after packets of which its side sent a list within the limits, no packet of a run has a fault; and a sent list goes on after a packet
 -- exactly where it has none
 abbrev pub Definite : Parameters → Type 0
 Definite p =

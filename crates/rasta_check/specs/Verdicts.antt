@@ -1,4 +1,4 @@
--- What a file says of every run: the packets in front of a fault, and captures without one.
+-- What a file says of every run: the packets before a fault, and captures without one.
 use Rattle.std.specs.Prelude.{◌≡◌, ◌≤◌, ◌-◌, ℕ, ◌++◌, List, length, drop, IsOk}
 use Rattle.std.specs.List.{AllByRecursion}
 use Rattle.rasta_pcap.specs.Capture.{IsCapture, reading_of, bytes_of}

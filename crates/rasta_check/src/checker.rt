@@ -87,7 +87,7 @@ fn verdict<'a, S: SentList<'a>>(
 /// A fault names the number of its entry, from 1, and its script's side. For a take it is
 /// [`Fault::SLOT_ORDER`], [`Fault::NOT_YET_CROSSED`], [`Fault::NOT_RISING`] and then one of [`End::take`];
 /// for a make [`Fault::SLOT_ORDER`], [`Fault::NOT_FIRST_COPY`], [`Fault::MAKE_MISSING`] and then one of
-/// [`End::make`]; [`Fault::MAKE_MISSING`] behind the last entry where a first copy is left unmade.
+/// [`End::make`]; [`Fault::MAKE_MISSING`] after the last entry where a first copy is left unmade.
 /// [`Fault::NO_MEMORY`] may stand in place of any answer.
 ///
 /// Where this answers a report, some run of two RaSTA ends over a network that loses, repeats, delays and

@@ -252,7 +252,7 @@ impl<'a> Sent<'a> {
         }
     }
 
-    // Adds what a record holds, unless it stands in front of the window.
+    // Adds what a record holds, unless it stands before the window.
     #[tactic(auto, unfolding(crate::specs::Reading::after_record))]
     pub(crate) fn add_record(&mut self, record: &Record<'a>) -> Result<(), Fault>
         ensures { MatchResult result

@@ -53,7 +53,7 @@ impl<'a> Follower<'a> {
         Fault::of_end(number, self.entry, self.side)
     }
 
-    // A fault of the end, at the next entry; want of memory has no place.
+    // A fault of the end, at the next entry; out of memory names none.
     fn placed(&self, fault: Fault) -> Fault
         ensures of_end { (number : ℕ) (side : _) → fault ≡ fault_of_end number 0 side → result ≡ fault_of_end number self.now.entry self.now.side }
         ensures memory { fault ≡ no_memory → result ≡ no_memory }
@@ -207,7 +207,7 @@ impl<'a> Follower<'a> {
         }
     }
 
-    // Behind the last entry: the whole sent list has to be made.
+    // After the last entry: the whole sent list has to be made.
     fn finish<S: SentList<'a>>(self, own: &S) -> Result<End<'a>, Fault>
         ensures { MatchResult result
             (λ e. (e ≡ record { params = self.entry.params; state = self.entry.cursor.state }) × (self.entry.cursor.made ≡ length (S.content own.now)))

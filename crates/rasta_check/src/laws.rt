@@ -43,7 +43,7 @@ pub fn sent_lists()
     ensures { (p : Parameters) → OfConnection p → SentLists p }
 {}
 
-/// No packet of a run has a fault, behind a list of its sender within the limits: where a captured one has,
+/// No packet of a run has a fault, after a list of its sender within the limits: where a captured one has,
 /// no run sends the packets up to it.
 pub fn definite()
     ensures { (p : Parameters) → OfConnection p → Definite p }

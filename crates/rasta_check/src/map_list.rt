@@ -49,7 +49,7 @@ impl<'a> MapList<'a> {
         }
     }
 
-    // Adds a first copy behind the others. Without memory for it the list stays as it was.
+    // Adds a first copy after the others. Without memory for it the list stays as it was.
     pub(crate) fn push(&mut self, place: u32, pdu: Pdu<'a>) -> Result<(), AllocError>
         requires ordered { IsOrdered (self.old ++ copy_of (place, pdu) ∷ []) }
         requires few { length self.old + 1 < 2 ^ 32 }

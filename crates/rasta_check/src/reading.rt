@@ -50,8 +50,8 @@ fn add_records<'a>(mut sent: Sent<'a>, mut pcap: Pcap<'a>, last: u32) -> Result<
 /// 1,000,001.
 ///
 /// A fault names the record. The faults of a packet, from [`Fault::REDUNDANCY_LENGTH`] to
-/// [`Fault::NUMBER_GAP`], speak of its sender. Records in front of the window are read and not judged,
-/// and nothing behind its last record is read. [`Fault::NO_MEMORY`] may stand in place of any answer.
+/// [`Fault::NUMBER_GAP`], speak of its sender. Records before the window are read and not judged,
+/// and nothing after its last record is read. [`Fault::NO_MEMORY`] may stand in place of any answer.
 pub fn sent<'a>(alloc: Global, p: Params, file: &'a [u8]) -> Result<Sent<'a>, Fault>
     ensures value { MatchResult result
         (λ s. crossing_of p file.now ≡ Ok s)

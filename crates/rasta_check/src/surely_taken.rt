@@ -128,7 +128,7 @@ fn messages_with<'a, S: SentList<'a>>(
     Ok(items)
 }
 
-/// The messages of an end that its peer surely took. The only error is want of memory.
+/// The messages of an end that its peer surely took. The only error is out of memory.
 pub(crate) fn taken_list<'a, S: SentList<'a>>(
     alloc: Global,
     end: &End,

@@ -74,7 +74,7 @@ same_from asks more c (k ∷ ks) h =
 pub more_asks : (asks more : List ℕ) (ks : List Kind) → responses_in ks ≤ length asks → all_units_conveyed (asks ++ more) ks ≡ all_units_conveyed asks ks
 more_asks asks more ks h = ap (λ (c : Conveyed). c.units) (same_from asks more (record { units = []; responses = 0 }) ks (omega (arith, h)))
 
--- no position conveys more units than there are positions in front of it
+-- no position conveys more units than there are positions before it
 abbrev AreFew : List ℕ → Type 0
 AreFew units = (n : ℕ) → length units ≡ suc n → (i : ℕ) → slice_index_or units i 0 ≤ n
 

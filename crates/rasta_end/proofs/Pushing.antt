@@ -184,7 +184,7 @@ responses-made ms m asks owed paid left h pays pay =
 pub length-made : (ms : List Made) (m : Made) → length (ms ++ m ∷ []) ≡ length ms + 1
 length-made ms m = length_push ms m
 
--- ---- a PDU behind the quiet one
+-- ---- a PDU after the quiet one
 
 behind_quiet : (q : Option QuietPdu) (ms : List MadePdu) (i : ℕ) → slice_get (quiet_made q ++ map made_of ms) (quiet_count q + i) ≡ option_map made_of (slice_get ms i)
 behind_quiet None ms i = ap (slice_get (map made_of ms)) (zero-add i) ∙ slice_get-map made_of ms i

@@ -46,7 +46,7 @@ abbrev pub quiet_made : Option QuietPdu → List Made
 quiet_made None = []
 quiet_made (Some q) = record { pdu = record { kind = Heartbeat; sn = q.sn; cs = q.cs; ts = q.ts; cts = q.cts; body = Empty }; unit = None } ∷ []
 
--- how many PDUs stand in front of those that were made since the start
+-- how many PDUs stand before those that were made since the start
 abbrev pub quiet_count : Option QuietPdu → ℕ
 quiet_count None = 0
 quiet_count (Some q) = 1

@@ -87,12 +87,12 @@ abbrev pub is_next_sn : List Made → ℕ → Bool
 is_next_sn [] sn = true
 is_next_sn (m ∷ ms) sn = sn == sn_at (m ∷ ms) (length (m ∷ ms))
 
--- the moment lies more than the slack behind the deadline
+-- the moment lies more than the slack after the deadline
 abbrev pub is_past : Parameters → Option ℕ → ℕ → Bool
 is_past p None moment = false
 is_past p (Some deadline) moment = nat_lt (deadline + p.slack) (moment + 2 ^ 32)
 
--- the moment lies more than the slack in front of the deadline
+-- the moment lies more than the slack before the deadline
 abbrev pub is_early : Parameters → Option ℕ → ℕ → Bool
 is_early p None moment = false
 is_early p (Some deadline) moment = nat_lt (moment + 2 ^ 32 + p.slack) deadline
@@ -222,7 +222,7 @@ after_make e x clock why = after_make_by (row_of e x why) e x clock
 abbrev pub Makes : Parameters → EndState → SafetyPdu → ℕ → Why → EndState → Type 0
 Makes p e x clock why e' = (make_fault p e x clock why ≡ None) × (e' ≡ after_make e x clock why)
 
--- what a refused make answers: the first fault, else want of memory
+-- what a refused make answers: the first fault, else out of memory
 abbrev pub IsMakeRefusal : Parameters → EndState → SafetyPdu → ℕ → Why → Fault → Type 0
 IsMakeRefusal p e x clock why fault =
     ((number : ℕ) × (make_fault p e x clock why ≡ Some number) × (fault ≡ fault_of_end number 0 e.side))

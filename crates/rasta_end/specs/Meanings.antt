@@ -6,12 +6,12 @@ use Rattle.rasta_pdu.specs.Params.{Parameters}
 use Rattle.rasta_end.specs.Units.{units_conveyed, responses_in}
 use Rattle.rasta_end.specs.TakeRule.{deadline_from}
 
--- the units conveyed through the position that an ask names, where that stands in front of this one, else 0
+-- the units conveyed through the position that an ask names, where that stands before this one, else 0
 abbrev pub units_of_ask : List ℕ → List Kind → ℕ → Option ℕ → ℕ
 units_of_ask asks kinds position None = 0
 units_of_ask asks kinds position (Some ask) = if nat_lt ask position then units_conveyed asks kinds ask else 0
 
--- the units conveyed through a position, by its type and the types in front of it: through the first, none; a
+-- the units conveyed through a position, by its type and the types before it: through the first, none; a
 -- retransmission response answers the ask of its number; data and retransmitted data convey one unit more than the
 -- position before; all others as many
 abbrev pub units_by_type : List ℕ → List Kind → List Kind → Kind → ℕ
@@ -26,7 +26,7 @@ UnitsByPosition = (asks : List ℕ) (before behind : List Kind) (kind : Kind)
     → units_conveyed asks (before ++ kind ∷ behind) (length before) ≡ units_by_type asks (before ++ kind ∷ behind) before kind
 
 -- 2^32 taken off, time is the greatest number that is not above the clock and congruent to the confirmed time modulo
--- 2^32, and the deadline lies T_max behind it
+-- 2^32, and the deadline lies T_max after it
 abbrev pub DeadlineIsBehindTheConfirmedTime : Type 0
 DeadlineIsBehindTheConfirmedTime = (p : Parameters) (clock cts : ℕ)
     → (time : ℕ) × (deadline_from p clock cts ≡ time + p.t_max) × (time ≤ clock + 2 ^ 32) × (clock < time) × (time % 2 ^ 32 ≡ cts % 2 ^ 32)

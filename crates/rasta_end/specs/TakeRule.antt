@@ -17,7 +17,7 @@ use Rattle.rasta_end.specs.Units.{units_conveyed}
 use Rattle.rasta_end.specs.State.{EndState, ahead_by, sn_at, kinds, is_owing, is_client, is_closed, is_down, is_start, is_up, is_retr_req, is_retr_run, is_flowing, is_active, is_timed, carries_unit}
 use Rattle.rasta_end.specs.MakeRule.{first_fault, is_past, is_connection_request, is_disconnection_request}
 
--- how many steps behind the next position of the peer the PDU stands, modulo 2^32
+-- how many steps after the next position of the peer the PDU stands, modulo 2^32
 abbrev pub steps_past_next : EndState → SafetyPdu → ℕ
 steps_past_next e x = ahead_by x.sn (e.last_sn + 1)
 
@@ -27,7 +27,7 @@ is_in e x = steps_past_next e x == 0
 abbrev pub is_ahead : Parameters → EndState → SafetyPdu → Bool
 is_ahead p e x = nat_lt 0 (steps_past_next e x) && nat_le (steps_past_next e x) (10 * p.n_sendmax)
 
--- how many steps behind the confirmed position the PDU confirms, modulo 2^32
+-- how many steps after the confirmed position the PDU confirms, modulo 2^32
 abbrev pub steps_past_confirmed : EndState → SafetyPdu → ℕ
 steps_past_confirmed e x = ahead_by x.cs (sn_at e.made e.confirmed)
 
@@ -81,7 +81,7 @@ abbrev pub first_row : List (Bool × TakeRow) → Option TakeRow
 first_row [] = None
 first_row (t ∷ ts) = if t.0 then Some t.1 else first_row ts
 
--- the deadline that a confirmed time sets: T_max behind the greatest number that is not above the clock and congruent
+-- the deadline that a confirmed time sets: T_max after the greatest number that is not above the clock and congruent
 -- to it modulo 2^32; moved by 2^32
 abbrev pub deadline_from : Parameters → ℕ → ℕ → ℕ
 deadline_from p clock cts = clock + 2 ^ 32 - ahead_by clock cts + p.t_max
@@ -180,7 +180,7 @@ adds_to_a_list (Some RequestedAhead) kind = true
 adds_to_a_list (Some RequestedAgain) kind = true
 adds_to_a_list _ kind = false
 
--- what a refused take answers: the first fault, else want of memory, which only a PDU that adds to a list can meet
+-- what a refused take answers: the first fault, else out of memory, which only a PDU that adds to a list can meet
 abbrev pub IsTakeRefusal : Parameters → EndState → SafetyPdu → Fault → Type 0
 IsTakeRefusal p e x fault =
     ((number : ℕ) × (take_fault p e e.clock ≡ Some number) × (fault ≡ fault_of_end number 0 e.side))

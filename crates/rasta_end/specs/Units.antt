@@ -18,7 +18,7 @@ abbrev pub units_at : List ℕ → Option ℕ → ℕ
 units_at units None = 0
 units_at units (Some position) = slice_index_or units position 0
 
--- the units conveyed through the position behind these: 0 through the first; a retransmission response goes
+-- the units conveyed through the position after these: 0 through the first; a retransmission response goes
 -- back to the ask that it answers; data and retransmitted data convey one more than before; others none more
 abbrev pub units_behind : List ℕ → List ℕ → ℕ → Kind → ℕ
 units_behind asks [] responses kind = 0

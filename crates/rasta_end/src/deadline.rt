@@ -13,7 +13,7 @@ pub fn ahead_by(a: u32, b: u32) -> u32
     a.wrapping_sub(b)
 }
 
-/// Whether the moment lies more than the slack behind the deadline.
+/// Whether the moment lies more than the slack after the deadline.
 pub fn is_past(params: &Params, deadline: Option<u128>, moment: u64) -> bool
     requires { IfSome deadline (λ d. d < 2 ^ 66) }
     ensures { result ≡ MakeRule.is_past params.now deadline moment }
@@ -24,7 +24,7 @@ pub fn is_past(params: &Params, deadline: Option<u128>, moment: u64) -> bool
     }
 }
 
-/// Whether the moment lies more than the slack in front of the deadline.
+/// Whether the moment lies more than the slack before the deadline.
 pub fn is_early(params: &Params, deadline: Option<u128>, moment: u64) -> bool
     ensures { result ≡ MakeRule.is_early params.now deadline moment }
 {

@@ -131,21 +131,21 @@ impl<'a> End<'a> {
         }
     }
 
-    /// A client in front of the opening: it has made nothing.
+    /// A client before the opening: it has made nothing.
     pub fn client(alloc: Global, params: &Params) -> End<'a>
         ensures { result ≡ record { params = params.now; state = fresh_end Client Closed } }
     {
         End::fresh(alloc, params, Side::Client, Phase::Closed)
     }
 
-    /// A server in front of the opening: it waits for a connection request.
+    /// A server before the opening: it waits for a connection request.
     pub fn server(alloc: Global, params: &Params) -> End<'a>
         ensures { result ≡ record { params = params.now; state = fresh_end Server Down } }
     {
         End::fresh(alloc, params, Side::Server, Phase::Down)
     }
 
-    /// The end of this side at the recorded quiet point, or in front of the opening where none is
+    /// The end of this side at the recorded quiet point, or before the opening where none is
     /// recorded.
     pub fn start(alloc: Global, params: &Params, side: Side) -> End<'a>
         ensures { result ≡ record { params = params.now; state = start_of params.now side } }

@@ -6,7 +6,7 @@ pub fn units_by_position()
     ensures { UnitsByPosition }
 {}
 
-/// A deadline lies T_max behind the time that a PDU confirms: the greatest that is not above the clock
+/// A deadline lies T_max after the time that a PDU confirms: the greatest that is not above the clock
 /// of the end's last make and has the bits of the confirmed time stamp.
 pub fn deadline_is_behind_the_confirmed_time()
     ensures { DeadlineIsBehindTheConfirmedTime }

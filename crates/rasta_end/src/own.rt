@@ -15,7 +15,7 @@ use rasta_pdu::{Body, Kind, Pdu};
 use std::alloc::{AllocError, Global};
 use std::marker::Model;
 
-/// What an end made last in front of a quiet point, as far as it is recorded.
+/// What an end made last before a quiet point, as far as it is recorded.
 #[derive(Clone, Copy, Debug)]
 pub struct QuietPdu {
     pub sn: u32,
@@ -32,7 +32,7 @@ pub struct MadePdu<'a> {
     conveyed: usize,
 }
 
-/// The PDUs that an end made, from a quiet point on behind the quiet PDU; the contents of the units
+/// The PDUs that an end made, from a quiet point on after the quiet PDU; the contents of the units
 /// among them; and the own positions that the peer's retransmission requests confirm.
 #[derive(Drop)]
 pub struct Own<'a> {
@@ -96,14 +96,14 @@ impl<'a> Own<'a> {
         usize::from(self.quiet.is_some()) + self.made.len()
     }
 
-    /// How many PDUs there are behind the quiet one.
+    /// How many PDUs there are after the quiet one.
     pub fn made(&self) -> usize
         ensures { quiet_count self.now.quiet + result ≡ length self.now.made }
     {
         self.made.len()
     }
 
-    /// The PDU of this number behind the quiet one, from 0.
+    /// The PDU of this number after the quiet one, from 0.
     pub fn get(&self, index: usize) -> Option<Pdu<'a>>
         ensures { option_map (λ (p : Pdu). (value_of p).safety) result ≡ option_map (λ (m : State.Made). m.pdu) (slice_get self.now.made (quiet_count self.now.quiet + index)) }
     {

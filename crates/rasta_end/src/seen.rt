@@ -10,7 +10,7 @@ use crate::end::End;
 use rasta_pdu::Pdu;
 
 impl<'a> End<'a> {
-    /// How many steps behind the next position of the peer the PDU stands.
+    /// How many steps after the next position of the peer the PDU stands.
     pub(crate) fn steps_past_next(&self, pdu: &Pdu<'a>) -> u32
         ensures { result ≡ TakeRule.steps_past_next self.now.state (value_of pdu.now).safety }
     {
@@ -36,7 +36,7 @@ impl<'a> End<'a> {
         self.own.sn_at(self.confirmed)
     }
 
-    /// How many steps behind the confirmed position the PDU confirms.
+    /// How many steps after the confirmed position the PDU confirms.
     fn steps_past_confirmed(&self, pdu: &Pdu<'a>) -> u32
         ensures { result ≡ TakeRule.steps_past_confirmed self.now.state (value_of pdu.now).safety }
     {

@@ -203,7 +203,7 @@ make 4 9050 beat
 end
 ";
 
-// The line at fault, and one line that stands in place of that line of the text; `+` puts it behind the
+// The line at fault, and one line that stands in place of that line of the text; `+` puts it after the
 // last line. A backslash is followed by the letter of what no row can hold: `t` a tab, `r` a carriage
 // return, `0` a zero byte, `x` a byte that begins no character, `n` the end of a line, and `z` a
 // thousand zeros.
@@ -332,7 +332,7 @@ fn wrong_lines_are_named(rt: HostRuntime) {
     }
 }
 
-// A text that stops anywhere is refused at its last line, or behind it where that one has its end.
+// A text that stops anywhere is refused at its last line, or after it where that one has its end.
 #[test]
 fn text_that_stops_is_refused_there(rt: HostRuntime) {
     let text = HEARTBEAT.as_bytes();
@@ -345,7 +345,7 @@ fn text_that_stops_is_refused_there(rt: HostRuntime) {
     assert_eq!(rt; read(rt.alloc(), text).err(), None);
 }
 
-// The text of a certificate whose client takes so often, with this line behind its entries.
+// The text of a certificate whose client takes so often, with this line after its entries.
 fn text_of_takes(alloc: Global, takes: usize, line: &str) -> Option<Vec<u8>> {
     let mut text = Vec::from_slice(alloc, b"rasta-certificate 1\nclient\n".as_slice()).ok()?;
     for _ in 0..takes {

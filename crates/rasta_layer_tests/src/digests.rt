@@ -5,7 +5,7 @@ use std::alloc::Global;
 use std::process::Abort;
 
 // The start words, how often a piece is repeated, the piece, and the digest. The first seven rows are the
-// test suite of RFC 1320, section A.5. A block has 64 bytes; padding fits it behind 55 bytes and not behind
+// test suite of RFC 1320, section A.5. A block has 64 bytes; padding fits it after 55 bytes and not after
 // 56. The digests of the last four rows were computed by a Python program written from the text of RFC 1320
 // alone, which also gives the first seven.
 const ROWS: &str = "\

@@ -259,7 +259,7 @@ const STEPS: &str = "\
 52 12 | extra = 1 | #
 ";
 
-// Whether each fault is told that is left when those in front of it are put right.
+// Whether each fault is told that is left when those before it are put right.
 fn are_told_in_order(alloc: Global) -> Option<bool> {
     let mut text = String::from_str(alloc, ALL_WRONG).ok()?;
     for row in STEPS.lines() {

@@ -97,7 +97,7 @@ fn call<'a>(end: &mut End<'a>, pdu: &Pdu<'a>, step: &str) -> Option<Result<(), F
     Some(end.make(pdu, clock, why))
 }
 
-// What a step answers: after want of memory, what a second call does.
+// What a step answers: where memory ran out, what a second call does.
 fn answer<'a>(
     params: &Params,
     lines: &str,

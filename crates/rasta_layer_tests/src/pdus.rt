@@ -5,7 +5,7 @@ use std::alloc::Global;
 use std::process::Abort;
 
 // Parameters, a line, its datagram, and what that is read as: number, reserve, kind, SN, CS, TS and CTS, and
-// behind the body's name its messages, the safety code and the check bytes.
+// after the body's name its messages, the safety code and the check bytes.
 const ROWS: &str = "\
 plain | client 7 6200 100 0 1000 0 open | 32000000070000002a00381861000000600000006400000000000000e8030000000000003033303314000000000000000000 | 7 0 ConnectionRequest 100 0 1000 0 Opening { version: [48, 51, 48, 51], sendmax: 20, reserved: [0, 0, 0, 0, 0, 0, 0, 0] } [] []
 plain | server 40 6201 500 100 9000 1000 open | 32000000280000002a0039186000000061000000f40100006400000028230000e80300003033303314000000000000000000 | 40 0 ConnectionResponse 500 100 9000 1000 Opening { version: [48, 51, 48, 51], sendmax: 20, reserved: [0, 0, 0, 0, 0, 0, 0, 0] } [] []
@@ -56,7 +56,7 @@ const CHANGED: &str = "\
 const WITH_CODE: &str =
     "34000000 08000000 2c00 4c18 61000000 60000000 65000000 f4010000 f2030000 28230000 7a9bef200a8e93ad6ea9b769f0c39b07";
 
-// What a PDU says in front of its body.
+// What a PDU says before its body.
 fn front_text(alloc: Global, pdu: &Pdu) -> Option<String> {
     let (number, reserve, kind) = (pdu.number(), pdu.reserve(), pdu.kind());
     let (sn, cs, ts, cts) = (pdu.sn(), pdu.cs(), pdu.ts(), pdu.cts());

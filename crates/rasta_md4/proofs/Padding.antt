@@ -27,7 +27,7 @@ padding-mod n =
 regrouped : (a b c d : List ℕ) → a ++ ((b ++ c) ++ d) ≡ (a ++ b) ++ (c ++ d)
 regrouped a b c d = ap (λ (z : List ℕ). a ++ z) (append_assoc b c d) ∙ sym (append_assoc a b (c ++ d))
 
--- the byte 80 laid behind the bytes that wait, in 128 zeros
+-- the byte 80 laid after the bytes that wait, in 128 zeros
 padded_marked : (waiting front : List ℕ) (zeros more : ℕ) → front ≡ waiting → 128 - length waiting ≡ suc (zeros + more)
     → set (front ++ drop (length waiting) (replicate {A = ℕ} 128 0)) (length waiting) 0x80 ≡ (waiting ++ 0x80 ∷ replicate zeros 0) ++ replicate more 0
 padded_marked waiting front zeros more begun left =

@@ -10,7 +10,7 @@ use Rattle.rasta_md4.proofs.Padding.{padding-mod}
 use borrow.Rule.Slice.PartMut.{put_mid, post_of}
 use Rattle.rasta_md4.proofs.Blocks.{blocks_none, fold-blocks-append}
 
--- whole blocks in front leave the bytes behind the blocks as they are
+-- whole blocks before them leave the bytes after the blocks as they are
 pub behind_blocks-append : (p y : List ℕ) (a : ℕ) → length p ≡ 64 * a → behind_blocks (p ++ y) ≡ behind_blocks y
 behind_blocks-append p y a len =
     let both : length (p ++ y) ≡ length p + length y = length-append p y in
@@ -19,7 +19,7 @@ behind_blocks-append p y a len =
     ∙ sym (drop-drop (length y / 64 * 64) (64 * a) (p ++ y))
     ∙ ap (drop (length y / 64 * 64)) (drop_at p y (64 * a) len)
 
--- a message short of a block is behind the blocks as a whole
+-- a message short of a block is after the blocks as a whole
 pub behind_blocks_short : (m : List ℕ) → length m < 64 → behind_blocks m ≡ m
 behind_blocks_short m h = let none : length m / 64 * 64 ≡ 0 = omega arith in rw none refl
 
@@ -38,7 +38,7 @@ fold-behind r m d =
     ap (λ (z : List ℕ). fold compress r (blocks z)) parts ∙ fold-blocks-append r p (t ++ d) a len
     ∙ ap (λ (z : List ℕ). fold compress z (blocks (t ++ d))) (sym before)
 
--- the bytes behind the blocks of a message and a piece more
+-- the bytes after the blocks of a message and a piece more
 behind_blocks-behind : (m d : List ℕ) → behind_blocks (m ++ d) ≡ behind_blocks (behind_blocks m ++ d)
 behind_blocks-behind m d =
     let a : ℕ = length m / 64 in
@@ -54,7 +54,7 @@ put_mid-end xs ys k n len =
     let none : post_of k n xs ≡ [] = drop_all n (drop k xs) (omega (arith, length-drop k xs)) in
     ap (λ (z : List ℕ). take k xs ++ (ys ++ z)) none ∙ ap (λ (z : List ℕ). take k xs ++ z) (append-nil ys)
 
--- the filled block and what is behind it are all the bytes
+-- the filled block and what follows it are all the bytes
 filled : (t d b : List ℕ) (n : ℕ) → b ≡ t ++ take n d → t ++ d ≡ b ++ drop n d
 filled t d b n e =
     ap (λ (z : List ℕ). t ++ z) (sym (take-append-drop n d)) ∙ sym (append_assoc t (take n d) (drop n d)) ∙ ap (λ (z : List ℕ). z ++ drop n d) (sym e)
@@ -74,14 +74,14 @@ holding_more w m d s held =
     let count : (length m % 2 ^ 64 + length d) % 2 ^ 64 ≡ length (m ++ d) % 2 ^ 64 = omega (arith, length-append m d) in
     rw (held, registers, waiting, ← count) refl
 
--- bytes that fill up a block, and more behind them: the block is worked off first
+-- bytes that fill up a block, and more after them: the block is worked off first
 pub fold_filled : (r t d b : List ℕ) (n : ℕ) → b ≡ t ++ take n d → length t + n ≡ 64 → n ≤ length d
     → fold compress (fold compress r (blocks b)) (blocks (drop n d)) ≡ fold compress r (blocks (t ++ d))
 fold_filled r t d b n e sum fits =
     let len = length_filled t d b n e sum fits in
     sym (ap (λ (z : List ℕ). fold compress r (blocks z)) (filled t d b n e) ∙ fold-blocks-append r b (drop n d) 1 len)
 
--- the bytes behind the blocks are those of what is behind the filled block
+-- the bytes after the blocks are those of what follows the filled block
 pub behind_blocks_filled : (t d b : List ℕ) (n : ℕ) → b ≡ t ++ take n d → length t + n ≡ 64 → n ≤ length d → behind_blocks (drop n d) ≡ behind_blocks (t ++ d)
 behind_blocks_filled t d b n e sum fits =
     let len = length_filled t d b n e sum fits in

@@ -2,13 +2,13 @@
 use Rattle.std.specs.Prelude.{ℕ, ◌*◌, ◌/◌, ◌%◌, ◌^◌, List, length, drop, fold}
 use Rattle.rasta_md4.specs.Md4.{blocks, compress}
 
--- the registers after the whole blocks so far, the bytes behind them, and the length of the message
+-- the registers after the whole blocks so far, the bytes after them, and the length of the message
 pub record Progress : Type 0 where
   pub registers : List ℕ
   pub waiting : List ℕ
   pub count : ℕ
 
--- the bytes behind the last whole block
+-- the bytes after the last whole block
 abbrev pub behind_blocks : List ℕ → List ℕ
 behind_blocks message = drop (length message / 64 * 64) message
 

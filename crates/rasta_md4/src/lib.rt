@@ -30,7 +30,7 @@ const FIELD_LEN: usize = 8;
 #[derive(Drop)]
 pub struct Md4 {
     registers: [u32; 4],
-    // Begins with the bytes behind the last whole block, `count % 64` of them.
+    // Begins with the bytes after the last whole block, `count % 64` of them.
     buffer: [u8; BLOCK_LEN],
     // The length of the message in bytes, modulo 2^64.
     count: u64,
@@ -86,7 +86,7 @@ impl Md4 {
 }
 
 // Works off the blocks of the first `used` bytes of `buffer` followed by `bytes`, and leaves the
-// bytes behind them at the beginning of `buffer`.
+// bytes after them at the beginning of `buffer`.
 #[inline]
 fn absorb(registers: [u32; 4], buffer: &mut [u8; BLOCK_LEN], used: usize, bytes: &[u8]) -> [u32; 4]
     requires { used < 64 }
@@ -108,7 +108,7 @@ fn absorb(registers: [u32; 4], buffer: &mut [u8; BLOCK_LEN], used: usize, bytes:
     absorb_aligned(registers, buffer, &bytes[room..])
 }
 
-// Works off the blocks of `bytes`, and leaves the bytes behind them at the beginning of `buffer`.
+// Works off the blocks of `bytes`, and leaves the bytes after them at the beginning of `buffer`.
 #[inline]
 fn absorb_aligned(registers: [u32; 4], buffer: &mut [u8; BLOCK_LEN], bytes: &[u8]) -> [u32; 4]
     ensures registers { result ≡ fold compress registers (blocks bytes.now) }

@@ -6,10 +6,10 @@ ghost use Rattle.rasta_md4.specs.Md4.{block_at, blocks, compress, conditional, f
 use crate::BLOCK_LEN;
 use byteorder::{ByteOrder, LittleEndian};
 
-// The constant of round 2: the square root of 2, in 30 bits behind the point.
+// The constant of round 2: the square root of 2, in 30 bits after the binary point.
 const ROOT_OF_2: u32 = 0x5a82_7999;
 
-// The constant of round 3: the square root of 3, in 30 bits behind the point.
+// The constant of round 3: the square root of 3, in 30 bits after the binary point.
 const ROOT_OF_3: u32 = 0x6ed9_eba1;
 
 // F, of round 1: in each bit, if x then y else z.
@@ -167,7 +167,7 @@ fn compress(registers: &mut [u32; 4], bytes: &[u8])
     ];
 }
 
-/// The registers after the blocks of `bytes`, in order. Bytes behind the last whole block are left
+/// The registers after the blocks of `bytes`, in order. Bytes after the last whole block are left
 /// out.
 pub fn after_blocks(registers: [u32; 4], bytes: &[u8]) -> [u32; 4]
     ensures { result ≡ fold compress registers (blocks bytes.now) }

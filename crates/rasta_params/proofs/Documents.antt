@@ -31,7 +31,7 @@ pub are_tables-items_view : (vs : List Value) → list_all (λ v. is_some (as_ta
 are_tables-items_view [] = refl
 are_tables-items_view (v ∷ vs) = ap (λ (b : Bool). is_some (as_table (view v)) && b) (are_tables-items_view vs)
 
--- channels that were read, in front of what the rest gives
+-- channels that were read come before what the rest gives
 abbrev pub onto : List Channel → Result (List Channel) Fault → Result (List Channel) Fault
 onto front (Ok cs) = Ok (front ++ cs)
 onto front (Err e) = Err e
@@ -44,7 +44,7 @@ pub onto-with_channel : (front : List Channel) (c : Channel) (r : Result (List C
 onto-with_channel front c (Ok cs) = ap Ok (append_assoc front (c ∷ []) cs)
 onto-with_channel front c (Err e) = refl
 
--- a channel with ports behind such channels
+-- a channel with ports, after such channels
 pub list_all-has_ports : (front : List Channel) (c : Channel) → list_all has_ports front ≡ true → has_ports c ≡ true
     → list_all has_ports (front ++ c ∷ []) ≡ true
 list_all-has_ports front c h k = rw (list_all-append has_ports front (c ∷ []), h, k) refl
@@ -56,7 +56,7 @@ are_few_tables-items_view vs tables e =
     ap (λ (b : Bool). nat_le 1 (length vs) && nat_le (length vs) 4 && b) (e ∙ are_tables-items_view vs)
     ∙ ap (λ (n : ℕ). nat_le 1 n && nat_le n 4 && are_tables (items_view vs)) (sym (count_of-items_view vs))
 
--- one value in front
+-- one value comes first
 pub channels_in-drop : (vs : List Value) (i : ℕ) (d : Value) → i < length vs
     → channels_in (items_view (drop i vs)) ≡ with_channel (channel_of (view (get_or vs i d))) (channels_in (items_view (drop (i + 1) vs)))
 unfolding channels_in

@@ -311,6 +311,6 @@ abbrev pub parameters_in : Option Members → Result Parameters Fault
 parameters_in None = Err (fault_at not_toml 0)
 parameters_in (Some ms) = parameters_of ms
 
--- the parameters of a text, or their first fault, or want of memory
+-- the parameters of a text, or their first fault, or out of memory
 abbrev pub ReadsParameters : List ℕ → Result Parameters Fault → Type 0
 ReadsParameters text r = (r ≡ Err no_memory) ⊎ (r ≡ parameters_in (document_of text))

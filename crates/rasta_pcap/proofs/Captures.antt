@@ -12,7 +12,7 @@ use Rattle.rasta_pcap.proofs.Headers.{at_start, opening-header, opening-is_heade
 
 -- From the bytes to the relation.
 
--- the record in front as it stands in the file
+-- the next record as it stands in the file
 record EntryInFront (c : Cursor) (bytes : List ℕ) : Type 0 where
   entry : Entry
   is_entry : IsEntry c.order entry
@@ -32,7 +32,7 @@ entry_in_front c r h =
       bytes_are = ap (λ (n : Numbered). n.1) h.is;
     }
 
--- bytes that are these records, each as it stands in the file, and what is left behind them
+-- bytes that are these records, each as it stands in the file, and what is left after them
 pub record IsCut (order : Endianness) (bytes : List ℕ) (records : List (List ℕ)) (count : ℕ) (left : List ℕ) : Type 0 where
   pub entries : List Entry
   pub each : AllByRecursion (IsEntry order) entries
@@ -101,7 +101,7 @@ read-is (suc limit) c = read-by_outcome limit c (next c) refl (read-is limit (be
 
 -- From the relation to the bytes.
 
--- records with their numbers, behind so many
+-- records with their numbers, after so many
 abbrev numbered : ℕ → List Entry → List Numbered
 numbered count [] = []
 numbered count (e ∷ es) = (count + 1, e.bytes) ∷ numbered (count + 1) es
@@ -120,7 +120,7 @@ pub record IsNext (c : Cursor) (bytes : List ℕ) (after : Cursor) : Type 0 wher
   pub found : next c ≡ Ok (Some (c.count + 1, bytes))
   pub after_is : behind c ≡ after
 
--- a record in front of more bytes is found there
+-- a record before more bytes is found there
 pub next-entry : (order : Endianness) (e : Entry) (more : List ℕ) (count : ℕ) → IsEntry order e → count < max_records
     → IsNext (cursor_at order (entry_bytes e ++ more) count) e.bytes (cursor_at order more (count + 1))
 next-entry order e more count h room =
@@ -139,7 +139,7 @@ next-entry order e more count h room =
       after_is = ap (λ (l : List ℕ). cursor_at order l (count + 1)) left;
     }
 
--- records in front are read, and then what is behind them
+-- the first records are read, and then what follows them
 reading-entries : (limit left : ℕ) (order : Endianness) (entries : List Entry) (rest : List ℕ) (count : ℕ) → AllByRecursion (IsEntry order) entries
     → limit ≡ length entries + left → count + length entries ≤ max_records
     → reading limit (cursor_at order (flat_map entry_bytes entries ++ rest) count)
@@ -196,7 +196,7 @@ whole_file limit left order header entries rest file is_header each whole bound 
     ∙ reading-entries limit left order entries rest 0 each bound (omega arith)
     ∙ ap (λ n. in_front_of (numbered 0 entries) (reading left (cursor_at order rest n))) none_before
 
--- what was read in front of an end
+-- what was read before an end
 reads_just : (r : Reading) (entries : List Entry) (records : List (List ℕ)) (fault : Option Fault)
     → r ≡ in_front_of (numbered 0 entries) (record { records = []; fault = fault }) → records ≡ map (λ (e : Entry). e.bytes) entries
     → (bytes_of r ≡ records) × (r.fault ≡ fault)
@@ -217,7 +217,7 @@ reading_of-IsCapture limit file records bound h =
     ∙ ap (in_front_of (numbered 0 h.entries)) (reading-stops left h.order h.rest (length h.entries) stops))
     h.bytes_are
 
--- the records in front of a fault are read, and then the fault
+-- the records before a fault are read, and then the fault
 pub reading_of-IsRefused : (limit : ℕ) (file : List ℕ) (records : List (List ℕ)) (fault : Fault) → limit ≤ max_records + 1
     → IsRefused limit file records fault → (bytes_of (reading_of limit file) ≡ records) × ((reading_of limit file).fault ≡ Some fault)
 reading_of-IsRefused limit file records fault bound h =
@@ -300,7 +300,7 @@ IsRefused-place limit file records f h =
     let count : length h.entries ≡ length records = sym (length-map h.entries (λ (e : Entry). e.bytes)) ∙ ap length (sym h.bytes_are) in
     next-fault_place (cursor_at h.order h.rest (length h.entries)) f h.refused ∙ ap (λ n. fault_at f.number (n + 1)) count
 
--- the records in front of a fault are those of the file up to there
+-- the records before a fault are those of the file up to there
 pub IsCapture-IsRefused : (limit : ℕ) (file : List ℕ) (records : List (List ℕ)) (f : Fault) → IsRefused limit file records f
     → IsCapture (f.place - 1) file records
 IsCapture-IsRefused limit file records f h =
@@ -348,7 +348,7 @@ pub numbers-reading_of : (limit : ℕ) (file : List ℕ)
 unfolding reading_of
 numbers-reading_of limit file = numbers_by_opening limit file (opening file) refl
 
--- bytes behind the last record that may be read change nothing
+-- bytes after the last record that may be read change nothing
 pub IsCapture-append : (limit : ℕ) (file more : List ℕ) (records : List (List ℕ)) → IsCapture limit file records → length records ≡ limit
     → IsCapture limit (file ++ more) records
 IsCapture-append limit file more records h full =

@@ -1,9 +1,9 @@
--- A read into the part of a buffer behind what stands there.
+-- A read into the part of a buffer after what stands there.
 use Rattle.std.proofs.Common.{◌≡◌, ℕ, ◌+◌, ◌-◌, ◌≤◌, List, ◌++◌, arith, length, take, slice_range, sym, ap, ◌∙◌, drop_at, length-take-le}
 use borrow.Rule.Slice.PartMut.{put_mid, post_of}
 use lib.Seq.{take-add, take-append-le}
 
--- what stands in front, and then the part behind it, is what stands in front then
+-- what stands there first, and then the part after it, is what stands there then
 pub take_split : (a b : ℕ) (old new : List ℕ) → a ≤ b → take a new ≡ take a old → take a old ++ slice_range new a b ≡ take b new
 take_split a b old new h front =
     let same : a + (b - a) ≡ b = omega arith in

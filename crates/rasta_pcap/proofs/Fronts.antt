@@ -130,7 +130,7 @@ front_of-some order count front captured within h =
       bounded = omega arith;
     }
 
--- nothing is in front at the exact end
+-- nothing comes next at the exact end
 pub meets_end : (order : Endianness) (count : ℕ) (front : List ℕ) (old new : Option (List ℕ)) → IsFilled 16 old new front
     → front_of order count front ≡ Ok None → MeetsEnd old new
 meets_end order count front old new filled h =
@@ -249,7 +249,7 @@ lacks_memory order count captured memory front old new filled h lacking =
           omega arith;
     }
 
--- the bytes of a header, and some behind it
+-- the bytes of a header, and some after it
 pub reads_up_to : (most captured : ℕ) (front : List ℕ) (old mid new : Option (List ℕ)) → IsFilled 16 old mid front → captured ≤ most
     → ReadsUpTo captured mid new → ReadsUpTo (16 + most) old new
 reads_up_to most captured front old mid new filled fits (bytes, consumed, within) =

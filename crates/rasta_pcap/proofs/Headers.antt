@@ -1,4 +1,4 @@
--- The header of a file, and the cursor behind it.
+-- The header of a file, and the cursor after it.
 use Rattle.std.proofs.Common.{◌≡◌, ℕ, ◌+◌, ◌*◌, ◌≤◌, ◌⊎◌, ◌∙◌, inl, inr, List, ◌++◌, length, take, drop, slice_index, Option, Some, None, Result, Ok, Err, Bool, true, false, nat_lt, nat_eq, cond, refl, ap, sym, arith, subst, length-take, length-drop, length-append, min}
 use Rattle.std.specs.Prelude.{◌&&◌}
 use Rattle.std.proofs.lemmas.List.{take-append-drop, drop-append-le}
@@ -12,12 +12,12 @@ use Rattle.rasta_pcap.specs.declared.pcap.Endianness.TheVariants.{Little, Big}
 use Rattle.rasta_pcap.specs.Fault.{fault_at, not_pcap, wrong_version, wrong_link_type, cut_header}
 use Rattle.rasta_pcap.specs.Capture.{Cursor, IsHeader, number_in, microseconds, nanoseconds, is_magic, order_of, opening, opening_in}
 
--- a number does not depend on what stands behind its bytes
+-- a number does not depend on what follows its bytes
 pub number_in-append : (order : Endianness) (n : ℕ) (xs ys : List ℕ) → n ≤ length xs → number_in order n (xs ++ ys) ≡ number_in order n xs
 number_in-append Little n xs ys h = little_from-append n xs ys h
 number_in-append Big n xs ys h = big_from-append n xs ys h
 
--- a number at a place does not depend on what stands behind its bytes
+-- a number at a place does not depend on what follows its bytes
 pub number_at-append : (order : Endianness) (place n : ℕ) (xs ys : List ℕ) → place + n ≤ length xs
     → number_in order n (drop place (xs ++ ys)) ≡ number_in order n (drop place xs)
 number_at-append order place n xs ys h =
@@ -74,7 +74,7 @@ order_of-magic file Big h =
     ap (λ b. order_by b (is_magic (big_number 4 file))) (is_magic-false (little_number 4 file) (λ x. magic-one_order file x h))
     ∙ ap (order_by false) (is_magic-from (big_number 4 file) h)
 
--- the cursor behind the header of a file
+-- the cursor after the header of a file
 abbrev pub at_start : Endianness → List ℕ → Cursor
 at_start order file = record { order = order; rest = drop 24 file; count = 0 }
 
@@ -146,7 +146,7 @@ opened false (Some order) file c h =
           (nat_eq (number_in x 4 (drop 20 file)) 1) (at_start x file) c) (sym e) j,
     )
 
--- a file that is opened has such a header, and the cursor stands behind it
+-- a file that is opened has such a header, and the cursor stands after it
 pub opening-is_header : (file : List ℕ) (c : Cursor) → opening file ≡ Ok c → IsHeader c.order (take 24 file) × (c ≡ at_start c.order file)
 opening-is_header file c h =
     let o = opened (nat_lt (length file) 24) (order_of file) file c h in

@@ -7,7 +7,7 @@ use Rattle.rasta_pcap.specs.declared.fault.Fault.{Fault}
 use Rattle.rasta_pcap.specs.Fault.{fault_at, cut_record, too_many, record_too_long}
 use Rattle.rasta_pcap.specs.Capture.{Cursor, Numbered, opening, next, behind, bytes_in_front, length_in_front, max_records, max_captured, read_step, reading, reading_opened, reading_of, with_record}
 
--- a record in front, and then the reading behind it
+-- a first record, and then the reading after it
 pub reading-record : (left : ℕ) (c : Cursor) (r : Numbered) → next c ≡ Ok (Some r)
     → reading (suc left) c ≡ with_record r (reading left (behind c))
 unfolding reading
@@ -52,7 +52,7 @@ tested ended full short long cut place r =
     (cond long (Err (fault_at record_too_long place))
     (cond cut (Err (fault_at cut_record place)) (Ok (Some r))))))
 
--- no test was met, and the record is that in front
+-- no test was met, and the record is the next
 record IsPassed (ended full short long cut : Bool) (r s : Numbered) : Type 0 where
   is : s ≡ r
   some : ended ≡ false
@@ -95,7 +95,7 @@ tested-fault false false false true cut place r f h = same_fault f (fault_at rec
 tested-fault false false false false true place r f h = same_fault f (fault_at cut_record place) place refl h
 tested-fault false false false false false place r f h = absurd (cc)
 
--- what a record in front says of the cursor
+-- what a next record says of the cursor
 pub record IsInFront (c : Cursor) (r : Numbered) : Type 0 where
   pub is : r ≡ (c.count + 1, bytes_in_front c)
   pub room : c.count < max_records
@@ -121,7 +121,7 @@ tested-found : (size count captured place : ℕ) (r : Numbered) → count < max_
     ≡ Ok (Some r)
 tested-found size count captured place r room bounded whole = grind (arith, nat_tests)
 
--- a whole record in front is the next
+-- a whole record that comes first is the next
 pub next-found : (c : Cursor) → c.count < max_records → length_in_front c ≤ max_captured → 16 + length_in_front c ≤ length c.rest
     → next c ≡ Ok (Some (c.count + 1, bytes_in_front c))
 next-found c room bounded whole =

@@ -8,7 +8,7 @@ use Rattle.rasta_pcap.specs.Capture.{Numbered, cursor_at, reading, reading_of, w
 use Rattle.rasta_pcap.specs.Stream.{MayFollow, ReadsSo, ReadsJust, Opens, RefusesHeader, ReadsRecord, RefusesRecord}
 use Rattle.rasta_pcap.proofs.Steps.{next-nil, reading-end, reading-fault, reading-record, reading_of-opened, reading_of-refused}
 
--- behind a header, the file's reading goes on from its cursor
+-- after a header, the file's reading goes on from its cursor
 pub reading_of-Opens : (limit : ℕ) (order : Endianness) (old new : Option (List ℕ)) (h : Opens order old new) (more : List ℕ)
     → reading_of limit (h.bytes ++ more) ≡ reading limit (cursor_at order more 0)
 reading_of-Opens limit order old new h more = reading_of-opened limit (h.bytes ++ more) (cursor_at order more 0) (h.each more)

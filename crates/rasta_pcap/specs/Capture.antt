@@ -94,19 +94,19 @@ opening_in (Some order) file =
     else Err (fault_at wrong_link_type 0))
     else Err (fault_at wrong_version 0)
 
--- the cursor behind the header of a file, or the header's first fault
+-- the cursor after the header of a file, or the header's first fault
 abbrev pub opening : List ℕ → Result Cursor Fault
 opening file = if nat_lt (length file) 24 then Err (fault_at cut_header 0) else opening_in (order_of file) file
 
--- the captured length in the header in front
+-- the captured length in the next header
 abbrev pub length_in_front : Cursor → ℕ
 length_in_front c = captured_length c.order (take 16 c.rest)
 
--- the captured bytes of the record in front
+-- the captured bytes of the next record
 abbrev pub bytes_in_front : Cursor → List ℕ
 bytes_in_front c = take (length_in_front c) (drop 16 c.rest)
 
--- the cursor behind the record in front
+-- the cursor after the next record
 abbrev pub behind : Cursor → Cursor
 behind c = record { order = c.order; rest = drop (length_in_front c) (drop 16 c.rest); count = c.count + 1 }
 
@@ -114,7 +114,7 @@ behind c = record { order = c.order; rest = drop (length_in_front c) (drop 16 c.
 abbrev pub Numbered : Type 0
 Numbered = ℕ × List ℕ
 
--- the record in front, none at the exact end, or the first fault
+-- the next record, none at the exact end, or the first fault
 abbrev pub next : Cursor → Result (Option Numbered) Fault
 next c =
     if length c.rest == 0 then Ok None
@@ -124,7 +124,7 @@ next c =
     else if nat_lt (length c.rest) (16 + length_in_front c) then Err (fault_at cut_record (c.count + 1))
     else Ok (Some (c.count + 1, bytes_in_front c))
 
--- where the cursor stands then: behind a record that was there, else where it stood
+-- where the cursor stands then: after a record that was there, else where it stood
 abbrev pub moved : Result (Option Numbered) Fault → Cursor → Cursor
 moved (Ok (Some r)) c = behind c
 moved (Ok None) c = c
@@ -143,7 +143,7 @@ read_step (Err f) more = record { records = []; fault = Some f }
 read_step (Ok None) more = record { records = []; fault = None }
 read_step (Ok (Some r)) more = with_record r more
 
--- at most so many records from the cursor on; bytes behind them are not looked at
+-- at most so many records from the cursor on; bytes after them are not looked at
 unfoldable pub reading : ℕ → Cursor → Reading
 reading zero c = record { records = []; fault = None }
 reading (suc left) c = read_step (next c) (reading left (behind c))
@@ -159,7 +159,7 @@ reading_of limit file = reading_opened limit (opening file)
 abbrev pub bytes_of : Reading → List (List ℕ)
 bytes_of r = map (λ (n : Numbered). n.1) r.records
 
--- a file that is refused behind these records, fewer than the bound: the file is its header, these
+-- a file that is refused after these records, fewer than the bound: the file is its header, these
 -- records, and then bytes that begin with no record, for this fault
 pub record IsRefused (limit : ℕ) (file : List ℕ) (records : List (List ℕ)) (fault : Fault) : Type 0 where
   pub order : Endianness

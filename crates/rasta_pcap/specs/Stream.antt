@@ -24,7 +24,7 @@ pub record ReadsSo (P : List ℕ → Type 0) (old new : Option (List ℕ)) : Typ
   pub at_end : met_end ≡ true → IsAtEnd new
   pub each : (more : List ℕ) → MayFollow met_end more → P (bytes ++ more)
 
--- bytes were read, and this holds of every input that begins so and of what stands behind them
+-- bytes were read, and this holds of every input that begins so and of what follows them
 pub record ReadsJust (P : List ℕ → List ℕ → Type 0) (old new : Option (List ℕ)) : Type 0 where
   pub bytes : List ℕ
   pub consumed : Consumes old new bytes
@@ -42,7 +42,7 @@ bytes_in b = take b.len b.memory.items
 abbrev pub memory_of : RecordBuffer → ℕ
 memory_of b = vec_len b.memory
 
--- how a reading stands: in what byte order, behind how many records, and whether it goes on
+-- how a reading stands: in what byte order, after how many records, and whether it goes on
 abbrev pub order_in : RecordReader → Endianness
 order_in r = r.order
 
@@ -60,7 +60,7 @@ room_in r = memory_of r.buffer
 abbrev pub lent_by : RecordReader → List ℕ
 lent_by r = bytes_in r.buffer
 
--- a header was read, and the cursor of every file that begins so stands behind it
+-- a header was read, and the cursor of every file that begins so stands after it
 abbrev pub Opens : Endianness → Option (List ℕ) → Option (List ℕ) → Type 0
 Opens order old new = ReadsJust (λ file rest. opening file ≡ Ok (cursor_at order rest 0)) old new
 
@@ -68,7 +68,7 @@ Opens order old new = ReadsJust (λ file rest. opening file ≡ Ok (cursor_at or
 abbrev pub RefusesHeader : Fault → Option (List ℕ) → Option (List ℕ) → Type 0
 RefusesHeader f old new = ReadsSo (λ file. opening file ≡ Err f) old new
 
--- one record was read: for every file that begins so, the cursor moves behind it
+-- one record was read: for every file that begins so, the cursor moves after it
 abbrev pub ReadsRecord : Endianness → ℕ → Numbered → Option (List ℕ) → Option (List ℕ) → Type 0
 ReadsRecord order count r old new = ReadsJust
     (λ rest after. (next (cursor_at order rest count) ≡ Ok (Some r)) × (behind (cursor_at order rest count) ≡ cursor_at order after r.0))
@@ -99,7 +99,7 @@ after_answer (Ok (Some n)) = Reading
 after_answer (Ok None) = Ended
 after_answer (Err f) = Refused f
 
--- behind how many records a reading stands then
+-- after how many records a reading stands then
 abbrev pub count_after : ℕ → Result (Option ℕ) Fault → ℕ
 count_after count (Ok (Some n)) = n
 count_after count (Ok None) = count

@@ -9,7 +9,7 @@ ghost use Rattle.rasta_pcap.specs.Capture.{Cursor, IsHeader, IsCapture, IsRefuse
 /// A file is opened exactly where its first 24 bytes are a header that is read, and a header is
 /// read in one byte order alone.
 pub fn header_is_read()
-    // Where the first 24 bytes are such a header, the cursor stands behind them.
+    // Where the first 24 bytes are such a header, the cursor stands after them.
     ensures opened { (file : List ℕ) (order : Endianness) → IsHeader order (take 24 file)
         → opening file ≡ Ok (record { order = order; rest = drop 24 file; count = 0 }) }
     // A file is opened only there, and in the order of its header.
@@ -31,19 +31,19 @@ pub fn capture_is_read()
     ensures only { (limit : ℕ) (file : List ℕ) (records : List (List ℕ)) → limit ≤ max_records
         → IsCapture limit file records
         → (bytes_of (reading_of limit file) ≡ records) × ((reading_of limit file).fault ≡ None) }
-    // Where as many records stand as may be read, bytes behind them change nothing.
+    // Where as many records stand as may be read, bytes after them change nothing.
     ensures behind { (limit : ℕ) (file more : List ℕ) (records : List (List ℕ))
         → IsCapture limit file records → length records ≡ limit
         → IsCapture limit (file ++ more) records }
 {}
 
-/// A file that is refused at a record has exactly the records in front of it.
+/// A file that is refused at a record has exactly the records before it.
 pub fn refusal_is_read()
-    // What is read in front of a record's fault are the records of the file there.
+    // What is read before a record's fault are the records of the file there.
     ensures read { (limit : ℕ) (file : List ℕ) (fault : Fault)
         → (reading_of limit file).fault ≡ Some fault → 0 < fault.place
         → IsRefused limit file (bytes_of (reading_of limit file)) fault }
-    // The records in front of a refusal are read, and then its fault.
+    // The records before a refusal are read, and then its fault.
     ensures only { (limit : ℕ) (file : List ℕ) (records : List (List ℕ)) (fault : Fault)
         → limit ≤ max_records + 1 → IsRefused limit file records fault
         → (bytes_of (reading_of limit file) ≡ records)
@@ -52,7 +52,7 @@ pub fn refusal_is_read()
     ensures place { (limit : ℕ) (file : List ℕ) (records : List (List ℕ)) (fault : Fault)
         → IsRefused limit file records fault
         → fault ≡ fault_at fault.number (length records + 1) }
-    // The records in front of a refusal are those of the same file, as far as there.
+    // The records before a refusal are those of the same file, as far as there.
     ensures in_front { (limit : ℕ) (file : List ℕ) (records : List (List ℕ)) (fault : Fault)
         → IsRefused limit file records fault → IsCapture (fault.place - 1) file records }
 {}

@@ -138,7 +138,7 @@ impl RecordReader {
     ghost use Rattle.rasta_pcap.specs.Reader.{Advances};
     ghost use Rattle.rasta_pcap.specs.declared.stream.Progress.TheVariants.{Reading};
 
-    /// Reads the header of a capture, its first 24 bytes, and nothing behind it.
+    /// Reads the header of a capture, its first 24 bytes, and nothing after it.
     ///
     /// Refused by [`Fault::READ_FAILED`] and as [`Pcap::open`] refuses it.
     pub fn open<S: Source>(alloc: Global, reader: &mut S) -> Result<RecordReader, Fault>
@@ -168,7 +168,7 @@ impl RecordReader {
         self.buffer.lend()
     }
 
-    /// Reads the next record, and nothing behind it, into the buffer, and answers its number; `None`
+    /// Reads the next record, and nothing after it, into the buffer, and answers its number; `None`
     /// at the exact end. Times and original length are not judged.
     ///
     /// Refused by [`Fault::NO_MEMORY`], [`Fault::READ_FAILED`] and as [`Pcap::next_record`] refuses it.
@@ -236,7 +236,7 @@ impl<R: Source + Drop> Stream<R> {
     ghost use Rattle.rasta_pcap.specs.Reader.{reader_of, records_of, Advances, answer_of, LendsRecord};
     ghost use Rattle.rasta_pcap.specs.declared.stream.Progress.TheVariants.{Reading};
 
-    /// Reads the header of a capture, its first 24 bytes, and nothing behind it.
+    /// Reads the header of a capture, its first 24 bytes, and nothing after it.
     ///
     /// Refused by [`Fault::READ_FAILED`] and as [`Pcap::open`] refuses it.
     pub fn open(alloc: Global, mut reader: R) -> Result<Stream<R>, Fault>
@@ -252,7 +252,7 @@ impl<R: Source + Drop> Stream<R> {
         Ok(Stream { reader, records })
     }
 
-    /// The next record, or `None` at the exact end; nothing behind it is read.
+    /// The next record, or `None` at the exact end; nothing after it is read.
     ///
     /// Refused by [`Fault::NO_MEMORY`], [`Fault::READ_FAILED`] and as [`Pcap::next_record`] refuses it.
     /// After the end and after a refusal nothing is read, and every later call answers the same.

@@ -29,7 +29,7 @@ same_front n xs long =
     let front : length (take n xs) ≡ n = rw length-take (omega arith) in
     sym (little_from-append n (take n xs) (drop n xs) (omega arith)) ∙ ap (little_from 0 n) (take-append-drop n xs)
 
--- four bytes in front are those of their number
+-- the first four bytes are those of their number
 four : (xs : List ℕ) → AreBytes xs → 4 ≤ length xs → xs ≡ little_bytes 4 (little_number 4 xs) ++ drop 4 xs
 four xs are long =
     let front : length (take 4 xs) ≡ 4 = rw length-take (omega arith) in
@@ -38,7 +38,7 @@ four xs are long =
     sym (take-append-drop 4 xs)
     ∙ ap (λ l. l ++ drop 4 xs) (sym (le_bytes_4 (take 4 xs) (little_number 4 xs) front (take_fits 4 xs are long) read))
 
--- two bytes in front are those of their number
+-- the first two bytes are those of their number
 two : (xs : List ℕ) → AreBytes xs → 2 ≤ length xs → xs ≡ little_bytes 2 (little_number 2 xs) ++ drop 2 xs
 two xs are long =
     let front : length (take 2 xs) ≡ 2 = rw length-take (omega arith) in

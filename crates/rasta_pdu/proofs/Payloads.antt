@@ -13,7 +13,7 @@ use Rattle.std.specs.Borrow.{Bor}
 use Rattle.rasta_pdu.specs.Parts.{lists_of}
 use Rattle.rasta_pdu.specs.Messages.{payload_of_messages, has_message, first_message, behind_message, messages_up_to, messages_of, are_messages, AreBytes, AreShort}
 
--- the bytes behind a message are fewer
+-- the bytes after a message are fewer
 length-behind : (xs : List ℕ) → length (behind_message xs) ≡ length xs - (2 + little_number 2 xs)
 length-behind xs = length-drop (2 + little_number 2 xs) xs
 
@@ -29,7 +29,7 @@ up_to_enough (suc n) (suc m) xs h k =
     ap (λ (ms : List (List ℕ)). cond (has_message xs) (first_message xs ∷ ms) [])
     (up_to_enough n m (behind_message xs) (omega arith) (omega arith))
 
--- the messages are the first and those behind it
+-- the messages are the first and those after it
 pub messages_of-is : (xs : List ℕ) → messages_of xs ≡ cond (has_message xs) (first_message xs ∷ messages_of (behind_message xs)) []
 unfolding messages_of
 messages_of-is xs =
@@ -72,7 +72,7 @@ filled_none xs h = ap (λ (ms : List (List ℕ)). length (payload_of_messages ms
 full : (f r l : ℕ) → f + r ≡ l → (nat_lt 0 l && nat_eq f l) ≡ (not (nat_eq l 0) && nat_eq r 0)
 full f r l e = grind (arith, nat_tests)
 
--- the messages fill the payload where nothing is left behind the last
+-- the messages fill the payload where nothing is left after the last
 pub are_messages-is : (payload rest : List ℕ) → has_message rest ≡ false → filled payload + length rest ≡ filled rest + length payload
     → are_messages payload ≡ (not (nat_eq (length payload) 0) && nat_eq (length rest) 0)
 unfolding are_messages
@@ -144,7 +144,7 @@ are_messages-payload (m ∷ ms) are some =
 
 -- ---- a payload and its messages
 
--- where a message begins, the bytes are its length, itself and what stands behind it
+-- where a message begins, the bytes are its length, itself and what follows it
 front_is : (xs : List ℕ) → AreBytes xs → has_message xs ≡ true
     → xs ≡ little_bytes 2 (length (first_message xs)) ++ (first_message xs ++ behind_message xs)
 front_is xs are h =

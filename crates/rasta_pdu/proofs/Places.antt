@@ -8,7 +8,7 @@ pub first_part : (n : ℕ) (u c k : List ℕ) → n ≡ length u → take n ((u 
 first_part n u c k e =
     ap (λ (l : List ℕ). take n l) (append_assoc u c k) ∙ ap (λ (m : ℕ). take m (u ++ (c ++ k))) e ∙ take-append_seam u (c ++ k)
 
--- what stands behind it
+-- what follows it
 pub behind_first : (n : ℕ) (u c k : List ℕ) → n ≡ length u → drop n ((u ++ c) ++ k) ≡ c ++ k
 behind_first n u c k e =
     ap (λ (l : List ℕ). drop n l) (append_assoc u c k) ∙ ap (λ (m : ℕ). drop m (u ++ (c ++ k))) e ∙ drop-append_seam u (c ++ k)
@@ -28,7 +28,7 @@ third_part n u c k e =
 pub length-three : (u c k : List ℕ) → length ((u ++ c) ++ k) ≡ length u + length c + length k
 length-three u c k = let outer = length-append (u ++ c) k in let inner = length-append u c in omega arith
 
--- a list from a place on is what stands between that place and two more, and what stands behind
+-- a list from a place on is what stands between that place and two more, and what follows
 pub three_parts : (xs : List ℕ) (at code check : ℕ) → at ≤ code → code ≤ check
     → drop at xs ≡ (slice_range xs at code ++ slice_range xs code check) ++ drop check xs
 three_parts xs at code check h k =

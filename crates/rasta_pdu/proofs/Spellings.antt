@@ -41,7 +41,7 @@ uncoded d e f g h i j k b = little_bytes 2 d ++ (little_bytes 2 e ++ (little_byt
 abbrev datagram : (a b c : ℕ) (safety check : List ℕ) → List ℕ
 datagram a b c safety check = little_bytes 2 a ++ (little_bytes 2 b ++ (little_bytes 4 c ++ (safety ++ check)))
 
--- the eight bytes in front and the safety PDU up to its payload's end
+-- the first eight bytes and the safety PDU up to its payload's end
 abbrev front : (a b c : ℕ) (u : List ℕ) → List ℕ
 front a b c u = little_bytes 2 a ++ (little_bytes 2 b ++ (little_bytes 4 c ++ u))
 
@@ -292,7 +292,7 @@ pub record IsRead (p : Parameters) (side : Side) (xs : List ℕ) (r : Redundancy
   pub spelled : xs ≡ redundancy_bytes p side r
   pub code : slice_range xs (code_at p xs) (check_at p xs) ≡ code_of p side r.safety
 
--- thirty-six bytes are eleven numbers, one behind the other
+-- thirty-six bytes are eleven numbers, one after the other
 numbers : (xs b c k : List ℕ) → AreBytes xs → 36 ≤ length xs → drop 36 xs ≡ (b ++ c) ++ k
     → xs ≡ datagram (number_at 2 0 xs) (number_at 2 2 xs) (number_at 4 4 xs) (uncoded (number_at 2 8 xs) (number_at 2 10 xs) (number_at 4 12 xs)
     (number_at 4 16 xs) (number_at 4 20 xs) (number_at 4 24 xs) (number_at 4 28 xs) (number_at 4 32 xs) b ++ c) k

@@ -11,7 +11,7 @@ use Rattle.rasta_pdu.specs.Parts.{lists_of, parts_body, value_of_parts, body_fit
 use Rattle.rasta_pdu.proofs.Payloads.{AreShort-few, are_messages-payload}
 use Rattle.std.proofs.Math.Seq.{drop-append_seam}
 
--- bytes in front, a safety PDU's bytes, the code over them, and a check code, one behind the other
+-- leading bytes, a safety PDU's bytes, the code over them, and a check code, one after the other
 pub appended : (old f u k : List ℕ) (n : ℕ) (code : List ℕ → List ℕ) → n ≡ length old + length f
     → (((old ++ f) ++ u) ++ code (drop n ((old ++ f) ++ u))) ++ k ≡ old ++ (f ++ ((u ++ code u) ++ k))
 appended old f u k n code e =
@@ -20,7 +20,7 @@ appended old f u k n code e =
     ap (λ (l : List ℕ). (((old ++ f) ++ u) ++ code l) ++ k) behind
     ∙ simp append_assoc
 
--- three lists behind a list
+-- three lists after a list
 pub behind_old : (old a b c : List ℕ) → ((old ++ a) ++ b) ++ c ≡ old ++ (a ++ (b ++ c))
 behind_old old a b c = simp append_assoc
 

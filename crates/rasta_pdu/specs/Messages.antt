@@ -23,11 +23,11 @@ has_message bytes = nat_le (2 + little_number 2 bytes) (length bytes)
 abbrev pub first_message : List ℕ → List ℕ
 first_message bytes = slice_range bytes 2 (2 + little_number 2 bytes)
 
--- the bytes behind it
+-- the bytes after it
 abbrev pub behind_message : List ℕ → List ℕ
 behind_message bytes = drop (2 + little_number 2 bytes) bytes
 
--- at most so many messages, one behind the other
+-- at most so many messages, one after the other
 abbrev pub messages_up_to : ℕ → List ℕ → List (List ℕ)
 messages_up_to zero bytes = []
 messages_up_to (suc n) bytes =
@@ -37,7 +37,7 @@ messages_up_to (suc n) bytes =
 unfoldable pub messages_of : List ℕ → List (List ℕ)
 messages_of payload = messages_up_to (length payload) payload
 
--- there is a message, and nothing is left behind the last
+-- there is a message, and nothing is left after the last
 unfoldable pub are_messages : List ℕ → Bool
 are_messages payload =
     nat_lt 0 (length payload) && length (payload_of_messages (messages_of payload)) == length payload

@@ -20,7 +20,7 @@ pub use Rattle.rasta_pdu.specs.Messages.{messages_of, payload_of_messages}
 
 -- ---- values
 
--- what a safety PDU has behind its time stamps
+-- what a safety PDU has after its time stamps
 pub data SafetyBody : Type 0 where
   Opening : (version : List ℕ) (sendmax : ℕ) (reserved : List ℕ) → SafetyBody
   Bye : (detail reason : ℕ) → SafetyBody

@@ -1,4 +1,4 @@
--- How parameters are stored: the channels stand in front of a list of four places.
+-- How parameters are stored: the channels stand before a list of four places.
 use Rattle.std.specs.Prelude.{◌≡◌, ℕ, ◌-◌, List, [], ◌∷◌, ◌++◌, length, take, replicate}
 use Rattle.std.proofs.Common.{◌∙◌, ap}
 use Rattle.rasta_udp.specs.declared.channel.Channel.{Channel}

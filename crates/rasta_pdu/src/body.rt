@@ -8,7 +8,7 @@ use crate::kind::Kind;
 use crate::layout::{BYE_LEN, OPENING_LEN, REASON_AT, RESERVED_AT, SENDMAX_AT, VERSION_LEN};
 use crate::messages::are_messages;
 
-/// What a safety PDU has behind its time stamps. `M` is what holds the messages.
+/// What a safety PDU has after its time stamps. `M` is what holds the messages.
 #[derive(Clone, Copy, Debug, PartialEq, Eq)]
 pub enum Body<M> {
     /// Of a connection request or response. The version is four ASCII digits.

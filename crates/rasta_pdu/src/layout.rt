@@ -14,8 +14,8 @@
 //! | 28 | 4 | time stamp |
 //! | 32 | 4 | confirmed time stamp |
 //! | 36 | any | payload |
-//! | behind it | 0, 8 or 16 | safety code |
-//! | behind it | 0, 2 or 4 | check code |
+//! | after it | 0, 8 or 16 | safety code |
+//! | after it | 0, 2 or 4 | check code |
 //!
 //! Numbers are little-endian.
 

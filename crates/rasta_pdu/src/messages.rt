@@ -26,7 +26,7 @@ impl<'a> Iterator for Messages<'a> {
     }
 }
 
-// The message that begins there, and the bytes behind it; none where the bytes end too soon.
+// The message that begins there, and the bytes after it; none where the bytes end too soon.
 fn split_message<'a>(bytes: &'a [u8]) -> Option<(&'a [u8], &'a [u8])>
     ensures { MatchOption result (has_message bytes.now ≡ false)
         (λ parts. IsTrue (has_message bytes.now) × (parts.0.now ≡ first_message bytes.now) × (parts.1.now ≡ behind_message bytes.now)) }
@@ -41,7 +41,7 @@ fn split_message<'a>(bytes: &'a [u8]) -> Option<(&'a [u8], &'a [u8])>
     Some((&bytes[LENGTH_LEN..end], &bytes[end..]))
 }
 
-// Whether a payload is one or more messages, one behind the other, and nothing else.
+// Whether a payload is one or more messages, one after the other, and nothing else.
 pub fn are_messages(payload: &[u8]) -> bool
     ensures { result ≡ are_messages payload.now }
 {

@@ -145,7 +145,7 @@ fn put_body(out: &mut Vec<u8>, body: Body<&[&[u8]]>)
     }
 }
 
-// Appends the eight bytes in front of the safety PDU.
+// Appends the eight bytes before the safety PDU.
 fn put_redundancy_fields(out: &mut Vec<u8>, len: u16, reserve: u16, number: u32)
     requires { vec_len out.old + 8 ≤ vec_capacity out.old }
     ensures items { out.new.items ≡ out.old.items ++ (little_bytes 2 len ++ (little_bytes 2 reserve ++ little_bytes 4 number)) }

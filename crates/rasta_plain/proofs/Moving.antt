@@ -175,7 +175,7 @@ not_both o x some none = absurd (let e : Some x ≡ None = sym some ∙ none in 
 memory_has_no_end : (fault : Fault) → is_some fault.end ≡ true → fault ≡ no_memory → ⊥
 memory_has_no_end fault some is = absurd (let e : false ≡ true = sym (ap (λ (f : Fault). is_some f.end) is) ∙ some in cc)
 
--- ---- behind a take
+-- ---- after a take
 
 module _ (s : Inside) (e : JudgedEnd) (x : SafetyPdu) (position n : ℕ) (kept : IsPlainStation s)
     (is : e ≡ record { params = s.end.params; state = after_take s.end.params s.end.state x }) (next_is : n ≡ suc position) where
@@ -226,7 +226,7 @@ repeated p b a items all place channel d get side rec pushed =
     subst (λ (ys : List Packet). Answers p b (map packet_of items) a (Repeat place channel) true a ys) (sym (mapped items all again pushed))
     (repeat_made p b a (map packet_of items) place channel (packet_of d) get side rec)
 
--- ---- behind a make
+-- ---- after a make
 
 same_behind : (row : Option MakeRow) (e : EndState) (x : SafetyPdu) (clock : ℕ)
     → ((after_make_by row e x clock).side ≡ e.side) × ((after_make_by row e x clock).base ≡ e.base) × ((after_make_by row e x clock).accepted ≡ e.accepted)

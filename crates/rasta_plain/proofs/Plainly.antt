@@ -22,7 +22,7 @@ use Rattle.rasta_check.specs.Crossing.{FirstCopy}
 use Rattle.rasta_check.specs.Taken.{pdus_made, position_with, units_along, units_shown, units_taken, pdus_of, proof_place, units_from, TakenUnit, data_copies}
 use Rattle.rasta_plain.specs.Plain.{copy_of, copies_of, pdus, AreAtMost}
 
--- the next member in front of what is left
+-- the next member, before what is left
 pub next_of : {A : Type 0} (xs : List A) (i : ℕ) (d x : A) → i < length xs → x ≡ get_or xs i d → drop i xs ≡ x ∷ drop (i + 1) xs
 next_of xs i d x below is = drop-cons xs i d below ∙ ap (λ v. v ∷ drop (suc i) xs) (sym is) ∙ ap (λ n. x ∷ drop n xs) (sym (add-one i))
 

@@ -264,7 +264,7 @@ all_bytes (x ∷ xs) h (suc i) = all_bytes xs (both_true (nat_lt x 256) (list_al
 pub tried_definite : Definite connection → (ws : List World) (w : World) → Reaches connection ws w → w.crossed ≡ packets → packet_fault connection [] second ≡ None
 tried_definite law ws w r e = law.0 ws w (first ∷ []) [] second [] r e nothing_sent (omega arith)
 
--- so behind the data the server's sent list goes on
+-- so after the data the server's sent list goes on
 pub tried_goes_on : Definite connection → packet_fault connection [] second ≡ None → (more : List FirstCopy) × Sent connection packets Server more
 tried_goes_on law none = (law.1 (first ∷ []) second [] (record { fits = all_bytes beat_bytes refl }) nothing_sent (omega arith)).0 none
 

@@ -218,7 +218,7 @@ fn ask_at(asks: &[usize], responses: usize) -> Option<usize>
     asks.get(responses).copied()
 }
 
-// The units conveyed through the position behind these.
+// The units conveyed through the position after these.
 fn units_behind(asks: &[usize], units: &[usize], responses: usize, kind: Kind) -> usize
     requires { AreAtMost (length units.now) units.now }
     ensures value { result ≡ Units.units_behind asks.now units.now responses kind }
@@ -343,7 +343,7 @@ fn units_from<'a>(
 }
 
 /// The units conveyed through each position of what a side made, the quiet PDU too, by what the
-/// retransmission requests of its peer confirm. The only error is want of memory.
+/// retransmission requests of its peer confirm. The only error is out of memory.
 pub fn units_conveyed(
     alloc: Global,
     params: &Params,
@@ -357,7 +357,7 @@ pub fn units_conveyed(
     units_along(alloc, made.as_slice(), peer)
 }
 
-/// The units of a side that its peer surely took, by both sent lists. The only error is want of memory.
+/// The units of a side that its peer surely took, by both sent lists. The only error is out of memory.
 pub fn surely_taken<'a>(
     alloc: Global,
     params: &Params,

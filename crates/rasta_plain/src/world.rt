@@ -274,7 +274,7 @@ impl<'a> PlainStation<'a> {
             return Ok(false);
         };
         if let Err(fault) = self.end.take(&pdu) {
-            // Nothing but want of memory is left.
+            // Only a lack of memory is left.
             prove!(fault.end.is_none());
             return Err(AllocError);
         }
@@ -363,7 +363,7 @@ impl<'a> PlainWorld<'a> {
     }
 
     /// Moves the station of this side while its peer stands still: true where the move is allowed, else
-    /// false, and nothing changes. The only error is want of memory; the world is then as before.
+    /// false, and nothing changes. The only error is out of memory; the world is then as before.
     pub fn moves(&mut self, side: Side, what: Move<'a>) -> Result<bool, AllocError>
         requires few { IsBelow what }
         // The move was made, or it isn't allowed and nothing happened.

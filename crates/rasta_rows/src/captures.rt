@@ -13,7 +13,7 @@ const CLIENT_FRONT: &[u8] = b"\x02\x00\x00\x00\x00\x02\x02\x00\x00\x00\x00\x01\x
 
 const SERVER_FRONT: &[u8] = b"\x02\x00\x00\x00\x00\x01\x02\x00\x00\x00\x00\x02\x08\x00\x45\x00";
 
-// IPv4 behind the length, up to the addresses.
+// IPv4 after the length, up to the addresses.
 const MIDDLE: &[u8] = b"\x00\x00\x00\x00\x40\x11\x00\x00";
 
 // The addresses and ports of a channel, or of hosts that aren't recorded.
@@ -108,7 +108,7 @@ fn capture(alloc: Global, lines: &str, all: &[Vec<u8>], packets: &str) -> Option
 /// The parameters of a row's settings, `CONNECTION PARAMETERS`, and the file of its packets, each of which is
 /// named by its line.
 ///
-/// Behind a line may stand `@2`, the second channel, or `@9`, hosts that aren't recorded; and `%50`, where only
+/// After a line may stand `@2`, the second channel, or `@9`, hosts that aren't recorded; and `%50`, where only
 /// 50 bytes of its frame were captured. `-` is no packet; `cut` takes the last byte of the file away, and `flip`
 /// changes it.
 pub fn file_of(alloc: Global, settings: &str, packets: &str) -> Option<(Params, Vec<u8>)> {

@@ -136,7 +136,7 @@ client 12 6241 105 501 1071 9060 data01
 client 13 6216 106 501 1072 9060 bye0
 ";
 
-// From a quiet point whose deadline lies far behind its clock.
+// From a quiet point whose deadline lies far after its clock.
 const FAR: &str = "\
 client 9 6240 102 500 5 9000 data01
 client 10 6216 103 500 7 9000 bye4
@@ -170,7 +170,7 @@ client 14 6212 107 500 1070 9000 -
 client 14 6220 107 500 1070 9000 -
 ";
 
-// Both ends ask, and the client makes a heartbeat behind its request.
+// Both ends ask, and the client makes a heartbeat after its request.
 const BEATEN: &str = "\
 client 7 6200 100 0 1000 0 open
 server 40 6201 500 100 9000 1000 open
@@ -192,7 +192,7 @@ client 16 6220 109 506 1060 9052 -
 server 47 6220 507 109 9060 1060 -
 ";
 
-// The client's request stands directly behind what the server accepted, which waits and answers it.
+// The client's request comes directly after what the server accepted, which waits and answers it.
 const BEHIND: &str = "\
 client 7 6200 100 0 1000 0 open
 server 40 6201 500 100 9000 1000 open

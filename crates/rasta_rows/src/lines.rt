@@ -79,7 +79,7 @@ pub fn side_of(line: &str) -> Side {
 }
 
 /// What a line says: `SIDE NUMBER TYPE SN CS TS CTS BODY CHECK`, where a line without check bytes ends
-/// behind the body.
+/// after the body.
 pub fn parts_of(line: &str) -> Option<PduParts<'static>> {
     let mut words = line.split(' ');
     Some(PduParts {

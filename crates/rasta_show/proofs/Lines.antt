@@ -5,7 +5,7 @@ use Rattle.rasta_show.specs.Shown.{data_front, data_line}
 use Rattle.rasta_show.proofs.Sending.{in_front-append}
 use Rattle.rasta_pdu.specs.Pdu.{messages_in}
 
--- the messages, and what stands behind them
+-- the messages, and what follows them
 abbrev pub data_rest : Packet → List ℕ
 data_rest q = messages_text (messages_in q.pdu.safety.body) ++ (32 ∷ codes_line q.code q.pdu.check_bytes)
 

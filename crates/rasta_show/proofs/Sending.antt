@@ -9,7 +9,7 @@ unfolding encode_with
 encode_with-append t [] ys = refl
 encode_with-append t (x ∷ xs) ys = ap (λ (l : List ℕ). slice_index t (x / 16) ∷ slice_index t (x % 16) ∷ l) (encode_with-append t xs ys)
 
--- words in front of two parts of the rest
+-- words that come before two parts of the rest
 pub in_front-append : (words : List (List ℕ)) (xs ys : List ℕ) → in_front words (xs ++ ys) ≡ in_front words xs ++ ys
 in_front-append [] xs ys = refl
 in_front-append (w ∷ words) xs ys =

@@ -32,7 +32,7 @@ pub shown-none_left : (p : Parameters) (c : Cursor) → shown_of p (reading zero
 unfolding shown_in
 shown-none_left p c = ap (shown_of p) (reading-none_left c)
 
--- a packet's line stands in front of the text of what follows
+-- a packet's line stands before the text of what follows
 pub text_from-packet : (place : ℕ) (q : Packet) (s : Shown)
     → text_from place (with_sight (packet q) s) ≡ packet_line place q ++ text_from (place + 1) s
 unfolding text_from lines_from
@@ -96,11 +96,11 @@ Continues-begun whole rest place line more old mid new h e begun =
     ∙ sym (append_assoc h.front part (missing ++ more)) in
     (h.front ++ part, missing ++ more, Appends-trans old mid new h.front part h.appended begun.2, text)
 
--- one record more is left than behind it
+-- one record more is left than after it
 pub left-behind : (end counter : ℕ) → counter < end → end - counter ≡ suc (end - (counter + 1))
 left-behind end counter below = omega arith
 
--- a packet is in front of the rest: its line begun
+-- a packet comes before the rest: its line begun
 pub Continues-packet_begun : (whole rest more : Shown) (place : ℕ) (q : Packet) (line : List ℕ) (old mid new : Option (List ℕ))
     → Continues whole rest place old mid → rest ≡ with_sight (packet q) more → line ≡ packet_line place q → AppendsBeginning mid new line
     → AppendsBeginning old new (text_from 0 whole)

@@ -34,7 +34,7 @@ pub record WritesBeginning (text : List ℕ → List ℕ)
   pub appended : Appends old_output new_output output
   pub begins : (more : List ℕ) → MayFollow met_end more → (rest : List ℕ) × (text (input ++ more) ≡ output ++ rest)
 
--- want of memory, a reader that failed, or a writer that failed or took no byte
+-- out of memory, a reader that failed, or a writer that failed or took no byte
 abbrev pub IsRunFault : Fault → ℕ → ℕ → ℕ → ℕ → Type 0
 IsRunFault f old_reads new_reads old_writes new_writes = (f ≡ no_memory)
     ⊎ (((f ≡ read_failed) × HasFailed old_reads new_reads)

@@ -8,7 +8,7 @@ use Rattle.rasta_pdu.specs.Params.{Parameters}
 use Rattle.rasta_pdu.specs.Pdu.{RedundancyPdu, code_of, decode_of}
 use Rattle.rasta_show.specs.Lines.{Packet, packet_line, packets_line, refused_line}
 
--- what a record is: in front of the window or of no channel, a packet of the connection, or refused
+-- what a record is: before the window or of no channel, a packet of the connection, or refused
 pub data Sight : Type 0 where
   passed_over : Sight
   packet : Packet → Sight
@@ -31,7 +31,7 @@ sight_of_frame p number (Ok None) = passed_over
 sight_of_frame p number (Ok (Some d)) = sight_of_pdu p number d (decode_of p d.side d.payload)
 sight_of_frame p number (Err f) = refused (fault_at f.number number)
 
--- records in front of the window are not judged
+-- records before the window are not judged
 unfoldable pub sight_of : Parameters → Numbered → Sight
 sight_of p r = if nat_lt r.0 p.first_record then passed_over
     else sight_of_frame p r.0 (udp.packet_in p.channels r.1)
@@ -46,7 +46,7 @@ with_sight passed_over more = more
 with_sight (packet q) more = record { packets = q ∷ more.packets; fault = more.fault }
 with_sight (refused f) more = record { packets = []; fault = Some f }
 
--- what records show, and the fault behind them
+-- what records show, and the fault after them
 unfoldable pub shown_in : Parameters → List Numbered → Option Fault → Shown
 shown_in p [] fault = record { packets = []; fault = fault }
 shown_in p (r ∷ rs) fault = with_sight (sight_of p r) (shown_in p rs fault)

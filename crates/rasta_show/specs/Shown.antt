@@ -16,7 +16,7 @@ packet_of q = record {
   code = read_code q.pdu;
 }
 
--- what stands in front of the messages of a packet at its place
+-- what comes before the messages of a packet at its place
 abbrev pub data_front : ℕ → Packet → List ℕ
 data_front place q = in_front (front_words place q) (in_front (codes "data" ∷ []) [])
 
@@ -32,7 +32,7 @@ sight_in next.PassedOver = Some passed_over
 sight_in (next.Packet q) = Some (packet (packet_of q))
 sight_in (next.Refused f) = Some (refused f)
 
--- a record, if there is one, in front of what the others show
+-- a record, if there is one, before what the others show
 abbrev pub with_some : Option Sight → Shown → Shown
 with_some None more = record { packets = []; fault = None }
 with_some (Some s) more = with_sight s more

@@ -7,7 +7,7 @@ use std::marker::Model;
 
 const ROOM: usize = 200;
 
-/// The end of a line, in front of which words are put.
+/// The end of a line, before which words are put.
 #[derive(Drop)]
 pub struct Line {
     room: [u8; 200],
@@ -24,7 +24,7 @@ impl Model for Line {
     ghost invariant = { λ l. (length l.room ≡ 200) × (l.start ≤ 200) };
 }
 
-// Puts the bytes in front of what stands from `end` on, and answers where they begin.
+// Puts the bytes before what stands from `end` on, and answers where they begin.
 fn put(room: &mut [u8], end: usize, bytes: &[u8]) -> usize
     requires fits { length bytes.now ≤ end }
     requires within { end ≤ length room.old }
@@ -137,7 +137,7 @@ impl Line {
         self.start = put_code(&mut self.room, line_end, code);
     }
 
-    /// Puts a space in front.
+    /// Prepends a space.
     pub(crate) fn space(&mut self)
         requires { length self.old ≤ 199 }
         ensures { self.new ≡ 32 ∷ self.old }
@@ -145,7 +145,7 @@ impl Line {
         self.start = put(&mut self.room, self.start, b" ");
     }
 
-    /// Puts a word in front.
+    /// Prepends a word.
     pub fn word(&mut self, word: &[u8])
         requires { length word.now + length self.old ≤ 199 }
         ensures line { self.new ≡ word.now ++ 32 ∷ self.old }
@@ -154,7 +154,7 @@ impl Line {
         self.start = put(&mut self.room, space, word);
     }
 
-    /// Puts a number in front, in decimal.
+    /// Prepends a number, in decimal.
     pub fn number(&mut self, n: u32)
         requires { length self.old ≤ 189 }
         ensures line { self.new ≡ decimal n ++ 32 ∷ self.old }
@@ -164,7 +164,7 @@ impl Line {
         self.start = put_number(&mut self.room, space, n);
     }
 
-    /// Puts bytes in front, in lower case digits.
+    /// Prepends bytes, in lower case digits.
     pub(crate) fn hex(&mut self, bytes: &[u8])
         requires { 2 * length bytes.now + length self.old ≤ 199 }
         ensures line { self.new ≡ encode_lower bytes.now ++ 32 ∷ self.old }
@@ -174,7 +174,7 @@ impl Line {
         self.start = put_hex(&mut self.room, space, bytes);
     }
 
-    /// Puts a code in front.
+    /// Prepends a code.
     pub(crate) fn code(&mut self, code: &[u8])
         requires short { length code.now ≤ 16 }
         requires fits { length self.old ≤ 160 }
@@ -211,7 +211,7 @@ impl Line {
         self.start = put_long_number(&mut self.room, line_end, n);
     }
 
-    /// Puts a number of 64 bits in front, in decimal.
+    /// Prepends a number of 64 bits, in decimal.
     pub fn long_number(&mut self, n: u64)
         requires { length self.old ≤ 179 }
         ensures line { self.new ≡ decimal n ++ 32 ∷ self.old }

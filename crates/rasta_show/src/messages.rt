@@ -70,7 +70,7 @@ pub fn write_message<W: Sink>(message: &[u8], writer: &mut W) -> Result<(), Faul
     }
 }
 
-// Writes messages, each with a comma in front.
+// Writes messages, each after a comma.
 fn write_further<W: Sink>(messages: Messages<'_>, writer: &mut W) -> Result<(), Fault>
     ensures ok { OnOk result (Appends (W.contents writer.old) (W.contents writer.new) (further_text (messages_left messages.entry))) }
     ensures steady { OnOk result (W.failure_count writer.new ≡ W.failure_count writer.old) }

@@ -25,7 +25,7 @@ fn put_codes(line: &mut Line, pdu: &Pdu<'_>)
     line.code(pdu.code());
 }
 
-// Puts the body of a connection request or response in front.
+// Prepends the body of a connection request or response.
 fn put_opening(line: &mut Line, version: [u8; 4], sendmax: u16, reserved: [u8; 8])
     requires { length line.old ≤ 44 }
     ensures line { line.new ≡ in_front (body_words (Opening version sendmax reserved)) line.old }
@@ -49,7 +49,7 @@ fn put_bye(line: &mut Line, detail: u16, reason: u16)
 }
 
 impl ShownPacket<'_> {
-    // Puts what stands in front of the body.
+    // Prepends what comes before the body.
     fn put_front(&self, place: u32, line: &mut Line)
         requires { length line.old ≤ 82 }
         ensures { line.new ≡ in_front (front_words place (packet_of self.now)) line.old }
@@ -83,7 +83,7 @@ impl ShownPacket<'_> {
         write_all(writer, end.as_bytes())
     }
 
-    // Puts what stands in front of messages.
+    // Prepends what comes before messages.
     fn put_data_front(&self, place: u32, line: &mut Line)
         ensures { line.new ≡ data_front place (packet_of self.now) }
     {
@@ -92,7 +92,7 @@ impl ShownPacket<'_> {
         self.put_front(place, line);
     }
 
-    // Puts what stands behind messages.
+    // Prepends what follows messages.
     fn put_data_end(&self, line: &mut Line)
         ensures { line.new ≡ 32 ∷ codes_line (packet_of self.now).code (packet_of self.now).pdu.check_bytes }
     {

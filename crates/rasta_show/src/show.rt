@@ -29,7 +29,7 @@ pub enum Next<'a> {
     Refused(Fault),
 }
 
-// Records in front of the window are not judged.
+// Records before the window are not judged.
 fn is_in_front(params: &Params, number: u32) -> bool
     ensures { result ≡ nat_lt number params.now.first_record }
 {
@@ -80,7 +80,7 @@ fn sight<'a>(params: &Params, record: &Record<'a>) -> Next<'a>
     }
 }
 
-// Takes the next record, which shows itself in front of those behind it.
+// Takes the next record, which is shown before those that follow it.
 fn take_next<'a>(params: &Params, pcap: &mut Pcap<'a>) -> Next<'a>
     ensures { (left : ℕ) → shown_of params.now (reading (suc left) pcap.old)
         ≡ with_next result (shown_of params.now (reading left pcap.new)) }

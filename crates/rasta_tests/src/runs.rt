@@ -107,7 +107,7 @@ impl<'a> Row<'a> {
         Some(number.wrapping_sub(self.first_number(side)?))
     }
 
-    // Takes what the script of a side takes behind so many packets.
+    // Takes what the script of a side takes after so many packets.
     fn takes(&self, world: &mut PlainWorld<'a>, side: Side, packets: u32) -> Option<bool> {
         for entry in self.script(side) {
             if let Entry::Take { slot, number } = *entry

@@ -41,7 +41,7 @@ pub record Fields : Type 0 where
 abbrev pub header_length_of : List ℕ → ℕ
 header_length_of frame = 4 * (slice_index frame 14 % 16)
 
--- where each field stands: the header of IPv4 at 14, and that of UDP behind it
+-- where each field stands: the header of IPv4 at 14, and that of UDP after it
 abbrev pub fields_of : List ℕ → Fields
 fields_of frame = record {
   captured = length frame;

@@ -184,7 +184,7 @@ fn untagged<'a>(frame: &'a [u8], channels: &[Channel]) -> Result<Option<Datagram
 /// The datagram of a channel that a record's frame holds, or `None` where it is of no channel.
 /// Channels are numbered from 1, in their order.
 ///
-/// One tag of IEEE 802.1Q and options of IPv4 are passed over, and what stands behind the datagram
+/// One tag of IEEE 802.1Q and options of IPv4 are passed over, and what follows the datagram
 /// is no data. Refused, at place 0, by [`Fault::FRAGMENT`], [`Fault::BAD_UDP`] (a total length or a
 /// UDP length that can't be) and [`Fault::CUT_PACKET`] (not all of it was captured).
 #[tactic(auto, using(crate::proofs::Tags::packet_in_tagged, crate::proofs::Tags::packet_in_untagged))]

@@ -2,7 +2,7 @@ use Rattle.std.proofs.Common.{◌≡◌, ◌≤◌, ◌-◌, length, take}
 use Rattle.std.specs.Io.KnownBytes.{Consumes}
 use Rattle.rasta_pcap.proofs.filling.fill.Given as goal
 
--- what stands in front in the buffer is what the reader lost, with no failure
+-- what the buffer begins with is what the reader lost, with no failure
 abbrev pub invariant-loop-filled : goal.invariant-loop-filled
 invariant-loop-filled g l = (l.filled ≤ l.len)
     × Consumes (g.S.Source.remaining l.fn.reader) (g.S.Source.remaining l.reader) (take l.filled l.buf)

@@ -6,7 +6,7 @@ use Rattle.rasta_build.proofs.peer.Peer.last_response.Goals as goal
 in_front_of : (next last position behind : ℕ) → next ≤ last → last < position → (behind < next → position ≡ next) → (next ≤ behind → position ≤ behind) → last < behind
 in_front_of next last position behind from below still most = grind arith
 
--- what holds of the positions in front of the last one that was looked at holds of all
+-- what holds of the positions before the last one that was looked at holds of all
 all_positions : (quiet_sn : Option ℕ) (sent : List FirstCopy) (next position behind : ℕ) (found : Option ℕ)
     → MatchOption found (HaveNoResponse quiet_sn sent next position) (IsLastResponse quiet_sn sent next position)
     → (behind < next → position ≡ next) → (next ≤ behind → position ≤ behind) → behind ≤ position
