@@ -7,7 +7,7 @@ use rasta_pdu::{Fault, Sink, Source};
 use std::process::Abort;
 use std::test::Fail;
 
-// Whether a reader in pieces, of which this call fails, gives the same text or is answered so.
+// Whether a reader in pieces, of which this call fails, gives the same text, or a beginning of it and that answer.
 fn expect_reads<R: Abort + AllocGlobal>(
     rt: &R,
     command: Command<'_>,
@@ -24,7 +24,7 @@ fn expect_reads<R: Abort + AllocGlobal>(
         assert_eq!(rt; text.as_slice(), honest, "{}", case.name);
     } else {
         assert_eq!(rt; outcome, Err(Fault::at(Fault::READ_FAILED, 0)));
-        assert_eq!(rt; text.len(), 0);
+        assert!(rt; honest.starts_with(&text), "{}", case.name);
     }
 }
 

@@ -1,13 +1,10 @@
 -- What a run read and wrote.
-use Rattle.std.specs.Prelude.{◌≡◌, ◌⊎◌, Bool, true, ℕ, List, [], ◌++◌, Option}
+use Rattle.std.specs.Prelude.{◌≡◌, ◌⊎◌, Bool, true, ℕ, List, ◌++◌, Option}
 use Rattle.std.specs.Io.KnownBytes.{Appends, Consumes, IsAtEnd}
 use Rattle.rasta_pcap.specs.declared.fault.Fault.{Fault}
 use Rattle.rasta_pcap.specs.Fault.{no_memory, read_failed, write_failed}
 use Rattle.rasta_pcap.specs.Devices.{HasFailed}
-
--- nothing follows where the end of input was met
-abbrev pub MayFollow : Bool → List ℕ → Type 0
-MayFollow met_end more = met_end ≡ true → more ≡ []
+pub use Rattle.rasta_pcap.specs.Stream.{MayFollow}
 
 -- some input was read, perhaps to its end, and what was written is the text of every input that
 -- begins so; the answer is the status of each of them

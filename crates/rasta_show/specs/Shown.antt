@@ -1,11 +1,15 @@
 -- Packets and records as the code holds them.
-use Rattle.std.specs.Prelude.{ℕ, List, [], ◌∷◌, codes, Option, Some, None}
+use Rattle.std.specs.Prelude.{ℕ, List, [], ◌∷◌, codes}
+use Rattle.rasta_pcap.specs.declared.stream.RecordReader.{RecordReader}
+use Rattle.rasta_pcap.specs.Capture.{cursor_at, reading}
+use Rattle.rasta_pcap.specs.Stream.{count_in, order_in}
+use Rattle.rasta_pdu.specs.Params.{Parameters}
 use Rattle.rasta_pdu.specs.Pdu.{messages_in, read_code, value_of}
 use Rattle.rasta_show.specs.Lines.{Packet, codes_line, front_words, in_front, messages_text}
-use Rattle.rasta_show.specs.Show.{packet, passed_over, refused, Shown, Sight, with_sight}
+use Rattle.rasta_show.specs.Show.{packet, passed_over, refused, Shown, Sight, shown_of, status_after, text_from}
 use Rattle.rasta_show.specs.declared.shown_packet.ShownPacket.{ShownPacket}
-use Rattle.rasta_show.specs.declared.show.Next.{Next}
-use Rattle.rasta_show.specs.declared.show.Next.TheVariants as next
+use Rattle.rasta_show.specs.declared.show.Seen.{Seen}
+use Rattle.rasta_show.specs.declared.show.Seen.TheVariants as seen
 
 abbrev pub packet_of : ShownPacket → Packet
 packet_of q = record {
@@ -25,17 +29,18 @@ abbrev pub data_line : ℕ → Packet → List ℕ
 data_line place q = in_front (front_words place q)
     (in_front (codes "data" ∷ messages_text (messages_in q.pdu.safety.body) ∷ []) (codes_line q.code q.pdu.check_bytes))
 
--- what the next record is, if there is one
-abbrev pub sight_in : Next → Option Sight
-sight_in next.End = None
-sight_in next.PassedOver = Some passed_over
-sight_in (next.Packet q) = Some (packet (packet_of q))
-sight_in (next.Refused f) = Some (refused f)
+-- what a record is
+abbrev pub sight_in : Seen → Sight
+sight_in seen.PassedOver = passed_over
+sight_in (seen.Packet q) = packet (packet_of q)
+sight_in (seen.Refused f) = refused f
 
--- a record, if there is one, before what the others show
-abbrev pub with_some : Option Sight → Shown → Shown
-with_some None more = record { packets = []; fault = None }
-with_some (Some s) more = with_sight s more
+-- what the bytes show that are left to a reading, its records up to the last one of the window
+abbrev pub shown_left : Parameters → RecordReader → List ℕ → Shown
+shown_left p r rest = shown_of p (reading p.last_record (cursor_at (order_in r) rest (count_in r)))
 
-abbrev pub with_next : Next → Shown → Shown
-with_next n more = with_some (sight_in n) more
+abbrev pub text_left : Parameters → RecordReader → List ℕ → List ℕ
+text_left p r rest = text_from 0 (shown_left p r rest)
+
+abbrev pub status_left : Parameters → RecordReader → List ℕ → ℕ
+status_left p r rest = status_after (shown_left p r rest).fault
