@@ -20,3 +20,9 @@ loop-filled-preserved g c =
       search rules,
       search rules,
     )
+
+pub returns-in-Err-clause-filled : goal.returns-in-Err-clause-filled
+returns-in-Err-clause-filled g c = tt
+
+pub returns-in-Err-clause-steady : goal.returns-in-Err-clause-steady
+returns-in-Err-clause-steady g c = tt
