@@ -1,6 +1,7 @@
 //! Files: their records, or what refuses them, in memory and from readers.
 use rasta_pcap::devices::{FailAt, Pieces};
-use rasta_pcap::{Counted, Fault, Pcap, Record, Source, Stream};
+use rasta_pcap::stream::RecordReader;
+use rasta_pcap::{Counted, Fault, Pcap, Record, Source, Stream, read_all};
 use rasta_rows::bytes_of;
 use std::alloc::Global;
 use std::process::Abort;
@@ -146,5 +147,67 @@ fn fails_so(alloc: Global, row: &str) -> Option<bool> {
 fn reads_of_a_stream_fail_in_turn(rt: HostRuntime) {
     for row in FAILING.lines() {
         assert_eq!(rt; fails_so(rt.alloc(), row), Some(true), "{row}");
+    }
+}
+
+// How many records of that file are asked for one after the other, what each call answers and lends, and how
+// many bytes the reader then has left.
+const ADVANCES: &str = "\
+0 | 35 left
+1 | 1 [1, 2, 3], 16 left
+2 | 1 [1, 2, 3], 2 [], 0 left
+3 | 1 [1, 2, 3], 2 [], end, 0 left
+";
+
+// What a call answers, with the bytes that are lent after it.
+fn advance_text(alloc: Global, answer: Result<Option<u32>, Fault>, bytes: &[u8]) -> Option<String> {
+    match answer {
+        Ok(Some(number)) => record_text(alloc, &Record { number, bytes }),
+        Ok(None) => String::from_str(alloc, "end, ").ok(),
+        Err(fault) => fault_text(alloc, fault),
+    }
+}
+
+// What so many calls of a stream answer and lend, and what is left of the reader that it gives back.
+fn advances_of_stream(alloc: Global, file: &[u8], calls: u32) -> Option<String> {
+    let mut stream = Stream::open(alloc, Counted::new(Pieces::new(file, 7))).ok()?;
+    let mut text = String::new(alloc);
+    for _ in 0..calls {
+        let answer = stream.advance();
+        let next = advance_text(alloc, answer, stream.buffer())?;
+        text.push_str(next.as_str()).ok()?;
+    }
+    let left = read_all(alloc, &mut stream.into_inner()).ok()?;
+    format!(in alloc; "{text}{} left", left.len()).ok()
+}
+
+// The same over a reader that each call is passed.
+fn advances_of_reader(alloc: Global, file: &[u8], calls: u32) -> Option<String> {
+    let mut reader = Counted::new(Pieces::new(file, 7));
+    let mut records = RecordReader::open(alloc, &mut reader).ok()?;
+    let mut text = String::new(alloc);
+    for _ in 0..calls {
+        let answer = records.advance(&mut reader);
+        let next = advance_text(alloc, answer, records.buffer())?;
+        text.push_str(next.as_str()).ok()?;
+    }
+    let left = read_all(alloc, &mut reader).ok()?;
+    format!(in alloc; "{text}{} left", left.len()).ok()
+}
+
+// Whether both answer the calls of a row as it says.
+fn advances_so(alloc: Global, row: &str) -> Option<bool> {
+    let (calls, want) = row.split_once(" | ")?;
+    let calls = calls.parse().ok()?;
+    let file = bytes_of(alloc, TWO_RECORDS)?;
+    let of_stream = advances_of_stream(alloc, &file, calls)?;
+    let of_reader = advances_of_reader(alloc, &file, calls)?;
+    Some(of_stream.as_str() == want && of_reader.as_str() == want)
+}
+
+#[test]
+fn records_are_read_in_turn(rt: HostRuntime) {
+    for row in ADVANCES.lines() {
+        assert_eq!(rt; advances_so(rt.alloc(), row), Some(true), "{row}");
     }
 }
