@@ -164,6 +164,43 @@ found p side xs r h =
       value = inside g7.1;
     }
 
+-- what is known of a datagram that decodes
+pub record IsDecoded (p : Parameters) (side : Side) (xs : List ℕ) : Type 0 where
+  pub long : 36 + p.code_length + p.check_length ≤ length xs
+  pub kind : kind_of (number_at 2 10 xs) ≡ None → ⊥
+  pub body : (known : Kind) → kind_of (number_at 2 10 xs) ≡ Some known
+      → body_in (layout_of known) (slice_range xs 36 (code_at p xs)) ≡ None → ⊥
+  pub value : (known : Kind) (body : SafetyBody) → kind_of (number_at 2 10 xs) ≡ Some known
+      → body_in (layout_of known) (slice_range xs 36 (code_at p xs)) ≡ Some body
+      → decode_of p side xs ≡ Ok (fields_of known body (check_at p xs) xs)
+
+pub is_decoded : (p : Parameters) (side : Side) (xs : List ℕ) (r : RedundancyPdu) → decode_of p side xs ≡ Ok r → IsDecoded p side xs
+is_decoded p side xs r h =
+    let f = found p side xs r h in
+    record {
+      long = leb-true (36 + p.code_length + p.check_length) (length xs) f.tests.fields;
+      kind = λ none. clash_kind (sym none ∙ f.tests.type);
+      body = λ known some none. clash_body (sym none ∙ ap (λ (k : Kind). body_in (layout_of k) (slice_range xs 36 (code_at p xs))) (same_kind (sym some ∙ f.tests.type)) ∙ f.tests.payload);
+      value = λ known body some is. passed p side xs known body (record {
+        length = f.tests.length;
+        fields = f.tests.fields;
+        safety = f.tests.safety;
+        type = some;
+        payload = is;
+        code = f.tests.code;
+        ids = f.tests.ids;
+      });
+    }
+  where
+    clash_kind : {k : Kind} → ◌≡◌ {A = Option Kind} None (Some k) → ⊥
+    clash_kind {k} h = cc
+
+    clash_body : {b : SafetyBody} → ◌≡◌ {A = Option SafetyBody} None (Some b) → ⊥
+    clash_body {b} h = cc
+
+    same_kind : {x y : Kind} → ◌≡◌ {A = Option Kind} (Some x) (Some y) → x ≡ y
+    same_kind {x} {y} h = cc
+
 -- ---- from the value to its bytes and back
 
 same_bytes : (xs ys : List ℕ) → xs ≡ ys → bytes_eq xs ys ≡ true

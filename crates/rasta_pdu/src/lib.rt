@@ -26,6 +26,6 @@ pub use parts::PduParts;
 pub use pdu::Pdu;
 pub use quiet_point::{Quiet, QuietEnd};
 pub use rasta_udp::{Channel, Endpoint, Fault, Side, Sink, Source};
-pub use read::decode;
+pub use read::{decode, read_decoded};
 pub use route::are_distinct_routes;
 pub use write::encode;

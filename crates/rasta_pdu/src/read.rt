@@ -42,6 +42,7 @@ fn codes_at(params: &Params, bytes: &[u8]) -> (usize, usize)
     requires { 36 + params.now.code_length + params.now.check_length ≤ length bytes.now }
     ensures code { result.0 ≡ code_at params.now bytes.now }
     ensures check { result.1 ≡ check_at params.now bytes.now }
+    ensures valid { AreParameters params.now }
 {
     let check_at = bytes.len() - usize::from(params.check_length());
     (check_at - usize::from(params.code_length()), check_at)
@@ -167,4 +168,29 @@ pub fn decode<'a>(params: &Params, side: Side, bytes: &'a [u8]) -> Result<Pdu<'a
         ≡ slice_range bytes.now (code_at params.now bytes.now) (check_at params.now bytes.now)) }
 {
     read(params, side, bytes)
+}
+
+/// Reads a datagram of this side that [`decode`] answers, without computing its safety code again. No
+/// memory is taken.
+pub fn read_decoded<'a>(params: &Params, side: Side, bytes: &'a [u8]) -> Pdu<'a>
+    requires decodes { (d : RedundancyPdu) × (decode_of params.now side bytes.now ≡ Ok d) }
+    ensures value { decode_of params.now side bytes.now ≡ Ok (value_of result) }
+
+    // What is read is spelled so.
+    ensures spelled { IsRedundancyPdu params.now (value_of result)
+        × (bytes.now ≡ redundancy_bytes params.now side (value_of result)) }
+
+    // The code that is lent is that of the value, and stands between the payload and the check code.
+    ensures code { read_code result ≡ code_of params.now side (value_of result).safety }
+    ensures code_place { read_code result
+        ≡ slice_range bytes.now (code_at params.now bytes.now) (check_at params.now bytes.now) }
+{
+    let (code_at, check_at) = codes_at(params, bytes);
+    let Some(kind) = Kind::of(u16_at(bytes, TYPE_AT)) else {
+        unreachable!()
+    };
+    let Some(body) = body_in(kind, &bytes[PAYLOAD_AT..code_at]) else {
+        unreachable!()
+    };
+    fields(kind, body, bytes, code_at, check_at)
 }
