@@ -117,6 +117,8 @@ def joined(header, records):
 
 
 def change_file_header(chance, it):
+    if chance.random() < 0.1:
+        return dataclasses.replace(it, capture=it.capture[: chance.randrange(24)])
     return dataclasses.replace(it, capture=with_byte_changed(chance, it.capture, 0, 24))
 
 
@@ -208,7 +210,8 @@ def some_payload(chance, kind):
 
 
 def with_pdu_changed(chance, datagram, code_length, check_length, start):
-    """A datagram with fields changed, its lengths and its safety code made right again, but now and then a length."""
+    """A datagram with fields changed, its lengths and its safety code made right again; now and then a length is
+    wrong, or the datagram too short."""
     size, reserve, number = struct.unpack_from("<HHI", datagram)
     fields = list(struct.unpack_from("<HH6I", datagram, 8))
     end = len(datagram) - check_length - code_length
@@ -235,6 +238,9 @@ def with_pdu_changed(chance, datagram, code_length, check_length, start):
         size = chance.choice((size - 1, size + 1, 0, 65535)) % 65536
     elif chance.random() < 0.1:
         fields[0] = chance.choice((fields[0] - 1, fields[0] + 1, 0, 65535)) % 65536
+    elif chance.random() < 0.05:
+        size = chance.randrange(36 + code_length + check_length)
+        return struct.pack("<H", size) + datagram[2:size]
     safety = struct.pack("<HH6I", *fields) + payload
     return struct.pack("<HHI", size, reserve, number) + safety + md4(start, safety)[:code_length] + check
 
