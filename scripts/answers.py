@@ -4,6 +4,9 @@
     call(words)               runs a command, and measures its time and memory
     wrong(command, answer)    says what an answer has that no answer may have, or nothing
     taken_lists(text)         the lists of messages of an explanation
+    misfit(text, shown, certificate)
+                              says what of an explanation doesn't fit what `show` writes of the packets and the
+                              certificate, or nothing
 
 Plain Python 3, no other packages.
 """
@@ -198,3 +201,54 @@ def wrong(command, answer, statuses=(0, 1, 2)):
 def taken_lists(text):
     """The lines from the list of the client on."""
     return text[text.index(b"taken by client ") :]
+
+
+# ---- an explanation against its packets and its certificate
+
+
+def run_of(packets, certificate):
+    """The run that the entries of a certificate tell of packets, each a line of `show` in words."""
+    lines = lines_of(certificate)
+    middle = lines.index("server")
+    takes, makes = {}, {}
+    for side, script in (("client", lines[2:middle]), ("server", lines[middle + 1 : -1])):
+        for entry in script:
+            first, at, rest = entry.split(" ", 2)
+            if first == "take":
+                takes.setdefault(int(at), []).append(f"{at} {side} take {rest}")
+            else:
+                makes[side, int(at)] = rest
+    run = []
+    for place, (_, _, _, side, number, *_) in enumerate(packets):
+        made = makes.get((side, place))
+        run += takes.get(place, [])
+        run.append(f"{place} {side} make {number} {made}" if made else f"{place} {side} copy {number}")
+    return run + takes.get(len(packets), [])
+
+
+def are_messages(lines, packets, side):
+    """Whether a list has all messages of data PDUs of the peer, each PDU once, before a packet of the side proves it."""
+    data, proofs = {}, []
+    for line in lines[1:]:
+        _, place, proof, message = line.split(" ")
+        data.setdefault(int(place), []).append(message)
+        proofs.append((int(place), int(proof)))
+    if not all(place < proof < len(packets) for place, proof in proofs):
+        return False
+    of_data = [packets[place][3] != side and packets[place][6:7] == ["6240"] for place in data]
+    whole = [packets[place][12].split(",") == messages for place, messages in data.items()]
+    proved = [packets[proof][3] == side for _, proof in proofs]
+    last = [proof for _, proof in proofs]
+    return all(of_data + whole + proved) and proofs == sorted(proofs) and last == sorted(last)
+
+
+def misfit(text, shown, certificate):
+    lines, packets = lines_of(text), [line.split(" ") for line in lines_of(shown)[:-1]]
+    client, server = (place for place, line in enumerate(lines) if line.startswith("taken by "))
+    if lines[0] != f"explained {len(packets)}":
+        return "another count of packets"
+    if lines[1:client] != run_of(packets, certificate):
+        return "another run than the certificate's"
+    if not are_messages(lines[client:server], packets, "client") or not are_messages(lines[server:], packets, "server"):
+        return "messages that are not those of the packets"
+    return None

@@ -9,8 +9,9 @@ is behind them is met), parameters, or the certificate. Of each command it is te
 
 - it ends within 10 seconds, and within 64 MiB and 50 times the size of its files;
 - its status, standard output and standard error are of the forms of docs/FORMATS.md, with known refusals;
-- the commands agree: a refusal of the capture is the same by all of them, and where `build` writes a certificate,
-  `audit` explains;
+- the commands agree: a refusal of the capture is the same by all of them; `audit` explains where `build` writes a
+  certificate; and the run of an explanation is that of its certificate, its messages are those of the packets that
+  `show` writes, and the same by `check` and `audit`;
 - for one input in twenty it answers the same where the capture comes through a FIFO in small pieces.
 
 Input NUMBER of a seed is always the same, whatever the count is. One that is answered wrongly is left in a folder that
@@ -452,6 +453,19 @@ def test_agreement(told):
         raise Wrong(f"build and audit differ: {refusals}")
 
 
+def test_explanations(it, told):
+    """Whether explanations fit the packets and their certificates."""
+    shown = told["show"].out
+    for command, certificate in (("check", it.certificate), ("audit", told["build"].out)):
+        if told[command].status == 0:
+            found = answers.misfit(told[command].out, shown, certificate)
+            if found:
+                raise Wrong(f"{command} tells {found}")
+    if told["check"].status == told["audit"].status == 0:
+        if answers.taken_lists(told["check"].out) != answers.taken_lists(told["audit"].out):
+            raise Wrong("check and audit list other messages")
+
+
 def test_input(chance, it, program, folder, commands):
     """The answers of the commands to an input; Wrong where one isn't as it has to be."""
     for name, data in (("capture.pcap", it.capture), ("parameters.toml", it.parameters), ("certificate.cert", it.certificate)):
@@ -459,6 +473,7 @@ def test_input(chance, it, program, folder, commands):
     told = {command: judged(it, program, command, folder) for command in commands}
     if len(told) == len(COMMANDS):
         test_agreement(told)
+        test_explanations(it, told)
     return told
 
 
