@@ -1,5 +1,5 @@
 #!/usr/bin/env python3
-"""What the program may answer: a module of other scripts, by docs/FORMATS.md alone.
+"""What the program may answer, according to docs/FORMATS.md: a module for other scripts.
 
     call(words)               runs a command, and measures its time and memory
     wrong(command, answer)    says what an answer has that no answer may have, or nothing
@@ -227,7 +227,7 @@ def run_of(packets, certificate):
 
 
 def are_messages(lines, packets, side):
-    """Whether a list has all messages of data PDUs of the peer, each PDU once, before a packet of the side proves it."""
+    """Whether a list has all messages of data PDUs of the peer, each PDU once, and before the packet that proves it."""
     data, proofs = {}, []
     for line in lines[1:]:
         _, place, proof, message = line.split(" ")

@@ -1,12 +1,13 @@
 #!/usr/bin/env python3
-"""Changes the certificates of some rows in every small way, and has `check` judge them.
+"""Changes the certificates of seven rows in every small way, and runs `check` on them.
 
     change_certificates.py [--program PATH]
 
 Each entry is dropped, doubled, and exchanged with the next one, and each of its numbers is raised and lowered by
-one where its range allows that. A changed certificate is refused, by a number of scripts with its name, or it explains
-as many packets with the same lists of messages taken, since these don't depend on the certificate. Prints counts by
-row and by refusal. `rt run` in crates/rasta_audit leaves the program. Plain Python 3, no other packages.
+one if its range allows that. A changed certificate must be refused, with a known number and name of a script's faults,
+or explain the capture with the same lists of messages taken, since these don't depend on the certificate. Prints
+counts by row and by refusal. `rt run` in crates/rasta_audit leaves the program at its default path.
+Plain Python 3, no other packages.
 """
 
 import argparse

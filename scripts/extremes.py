@@ -1,24 +1,24 @@
 #!/usr/bin/env python3
-"""Has the program judge inputs at the limits, and compares each answer with the one that docs/FORMATS.md calls for.
+"""Runs the program on inputs at the limits, and compares each answer with the one that docs/FORMATS.md requires.
 
     extremes.py [--program PATH] [--unlimited] [PART..]
 
-The parts, all of them if none is named:
+The parts (all of them, if none is named):
 
     pdus           1,000,000 PDUs of the client, explained in full, and one more
     records        a foreign record of 262,144 bytes, and of one more
     options        headers of IPv4 with options of 0 to 40 bytes
     tags           frames with 0, 1, 2 and 255 tags of IEEE 802.1Q
-    outputs        a full device, a closed pipe and no output at all, as standard output
+    outputs        a full device, a closed pipe and a closed descriptor as standard output
     files          directories and missing files in place of each file
-    toml           texts of a megabyte, tables and arrays in 10,000 others, keys that stand twice
+    toml           texts of a megabyte, 10,000 nested tables and arrays, doubled keys
     certificates   4,000,000 entries, and one more
     payload        a data PDU of the greatest payload, with one message and with as many as it holds
     burst          65535 as N_sendmax, and a burst of 60,000 units
 
-Each call has a minute, and as address space 64 MiB and 50 times the size of its files (not with `--unlimited`, for
-builds with a sanitizer). The expected texts are put together here, from packets and scripts; the program has no part
-in them. Prints a line for each part. `rt run` in crates/rasta_audit leaves the program.
+Each call has a minute, and an address space of 64 MiB and 50 times the size of its files (unbounded with `--unlimited`,
+for builds with a sanitizer). The expected texts are made here, from packets and scripts, without the program. Prints a
+line for each part. `rt run` in crates/rasta_audit leaves the program.
 Plain Python 3, no other packages.
 """
 
@@ -180,8 +180,9 @@ def pdus(part):
     part.expect("1,000,000 PDUs", "check", explained(packets, client, SERVER))
     part.expect("1,000,000 PDUs", "show", shown(packets))
     answer = part.call("audit")
-    right = answer.out.startswith(b"explained 1000001\n") and answer.out.endswith(b"\ntaken by client 0\ntaken by server 0\n")
-    part.judge("audit, 1,000,000 PDUs", right and answer.status == 0, answer)
+    right = answer.status == 0 and answer.out.startswith(b"explained 1000001\n")
+    right = right and answers.taken_lists(answer.out) == b"taken by client 0\ntaken by server 0\n"
+    part.judge("audit, 1,000,000 PDUs", right, answer)
     part.write(capture + records, None, certificate_of(client, SERVER))
     for command in ("check", "build", "audit"):
         part.expect("one PDU more", command, refused(17, 1_000_002))
@@ -256,7 +257,8 @@ def files(part):
                 part.expect_error(f"{other} as {FILES[i]}", command, 3, refused(2, 0), paths=paths)
     part.expect("the null device as capture", "check", refused(13, 0), paths=("/dev/null", *FILES[1:]))
     part.expect("the null device as certificate", "check", refused(30, 1), paths=(*FILES[:2], "/dev/null"))
-    part.expect_error("the null device as parameters", "check", 2, refused(51, 1), paths=(FILES[0], "/dev/null", FILES[2]))
+    paths = (FILES[0], "/dev/null", FILES[2])
+    part.expect_error("the null device as parameters", "check", 2, refused(51, 1), paths=paths)
 
 
 DEEP = 10_000
@@ -283,7 +285,7 @@ TEXTS = {
     "a number and a table": ("a = 1\na.b = 2\n", set()),
     "an inline table that goes on": ("quiet = {}\nquiet.client = {}\n", set()),
 }
-# The same behind the keys.
+# The same after the keys.
 TABLES = {
     "a table of many parts": ("[" + "a." * DEEP + "a]\n", {12}),
     "a table that stands twice": ("[a]\n[a]\n", set()),
@@ -389,9 +391,9 @@ def try_part(run, program, is_limited):
 
 
 def main():
-    asked = argparse.ArgumentParser(description="Has the program judge inputs at the limits.")
+    asked = argparse.ArgumentParser(description="Runs the program on inputs at the limits.")
     asked.add_argument("--program", type=pathlib.Path, default=rows.PROGRAM, help="rasta_audit")
-    asked.add_argument("--unlimited", action="store_true", help="with no bound on memory")
+    asked.add_argument("--unlimited", action="store_true", help="without a bound on memory")
     asked.add_argument("parts", nargs="*", metavar="PART", help=" ".join(run.__name__ for run in PARTS))
     words = asked.parse_args()
     named = [run for run in PARTS if run.__name__ in words.parts] if words.parts else PARTS

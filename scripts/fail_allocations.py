@@ -3,13 +3,13 @@
 
     fail_allocations.py [--program PATH] [samples|rows|tests]
 
-The program, by each of its commands on each sample and on six rows of verdicts, or only on one of both: one
-allocation fails, or it and all after it. It has to answer as it does with ample memory, or to refuse for lack of it
-with status 3; a verdict or a certificate is then not begun. `rt run` in crates/rasta_audit leaves the program.
+The program, with each of its commands on each sample and on six rows of verdicts, or on one of the two: one
+allocation fails, or it and all after it. The program must answer as it does with ample memory, or refuse for lack of
+it with status 3; then no part of a verdict or a certificate is written. `rt run` in crates/rasta_audit leaves it.
 
-With the word `tests`, tests that make a call again where memory was wanting: ends; reading a certificate; and a
-check, a build and an audit of data. `rt test` in crates/rasta_layer_tests and crates/rasta_audit leaves them.
-Wants gcc; plain Python 3, no other packages.
+With `tests`: tests that repeat a call that ran out of memory, of ends, of reading a certificate, and of a check, a
+build and an audit of data. `rt test` in crates/rasta_layer_tests and crates/rasta_audit leaves them.
+Needs gcc; plain Python 3, no other packages.
 """
 
 import argparse
@@ -60,7 +60,7 @@ def calls_of_rows(folder):
 
 
 class Failing:
-    """Runs programs with the library of failing.c in front of the C library."""
+    """Runs programs with the library of failing.c before the C library."""
 
     def __init__(self, folder):
         self.library = f"{folder}/failing.so"

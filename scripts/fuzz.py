@@ -1,21 +1,21 @@
 #!/usr/bin/env python3
-"""Changes samples at random, and has every command judge them.
+"""Changes samples at random, and runs every command on them.
 
     fuzz.py [--program PATH] [--first NUMBER] COUNT SEED
 
-The samples are those of examples/ and the rows that are explained. Of an input one file is changed: headers of the
-file and of records, whole records, frames by bytes, PDUs (with lengths and safety code made right again, so that what
-is behind them is met), parameters, or the certificate. Of each command it is tested that
+The samples are those of examples/ and the rows that are explained. In each input one file is changed: headers of the
+file and of records, whole records, bytes of frames, PDUs (with correct lengths and safety code, so that what is judged
+after them is reached), the parameters, or the certificate. For each command it tests that
 
 - it ends within 10 seconds, and within 64 MiB and 50 times the size of its files;
 - its status, standard output and standard error are of the forms of docs/FORMATS.md, with known refusals;
-- the commands agree: a refusal of the capture is the same by all of them; `audit` explains where `build` writes a
-  certificate; and the run of an explanation is that of its certificate, its messages are those of the packets that
-  `show` writes, and the same by `check` and `audit`;
-- for one input in twenty it answers the same where the capture comes through a FIFO in small pieces.
+- the commands agree: all of them refuse a capture in the same way; `audit` explains it if `build` writes a
+  certificate; the run of an explanation is that of its certificate, and its messages are those of the packets that
+  `show` writes, the same for `check` and `audit`;
+- for one input in twenty, the answer is the same when the capture comes through a FIFO in small pieces.
 
-Input NUMBER of a seed is always the same, whatever the count is. One that is answered wrongly is left in a folder that
-is named. Prints counts by kind of change and by answer. `rt run` in crates/rasta_audit leaves the program.
+Input NUMBER of a seed is always the same, whatever the count. An input with a wrong answer is left in a folder, which
+is printed. Prints counts by kind of change and by answer. `rt run` in crates/rasta_audit leaves the program.
 Plain Python 3, no other packages.
 """
 
@@ -314,7 +314,7 @@ a.b.c.d.e.f = '''
 \0
 \ufeff
 """.splitlines()
-WORDS = ["take", "make", "open", "reply", "beat", "fresh", "again", "again 0", "ask", "bye", "expired", "client", "server", "end"]
+WORDS = "take make open reply beat fresh again ask bye expired client server end".split() + ["again 0"]
 
 
 def with_number_changed(chance, line):
@@ -324,7 +324,8 @@ def with_number_changed(chance, line):
         return line
     it = chance.choice(found)
     number = int(it[0])
-    others = EXTREMES + (number - 1, number + 1, 2**32, 2**63 - 1, 2**63, 2**64 - 1, 2**64, 10**40, f"0{number}", f"+{number}")
+    near = (number - 1, number + 1, f"0{number}", f"+{number}")
+    others = EXTREMES + near + (2**32, 2**63 - 1, 2**63, 2**64 - 1, 2**64, 10**40)
     return line[: it.start()] + str(chance.choice(others)) + line[it.end() :]
 
 
@@ -466,10 +467,11 @@ def test_explanations(it, told):
             raise Wrong("check and audit list other messages")
 
 
-def test_input(chance, it, program, folder, commands):
+def test_input(it, program, folder, commands):
     """The answers of the commands to an input; Wrong where one isn't as it has to be."""
-    for name, data in (("capture.pcap", it.capture), ("parameters.toml", it.parameters), ("certificate.cert", it.certificate)):
-        (folder / name).write_bytes(data)
+    (folder / "capture.pcap").write_bytes(it.capture)
+    (folder / "parameters.toml").write_bytes(it.parameters)
+    (folder / "certificate.cert").write_bytes(it.certificate)
     told = {command: judged(it, program, command, folder) for command in commands}
     if len(told) == len(COMMANDS):
         test_agreement(told)
@@ -521,7 +523,7 @@ class Counts:
 
 
 def main():
-    asked = argparse.ArgumentParser(description="Changes samples at random, and judges the answers.")
+    asked = argparse.ArgumentParser(description="Changes samples at random, and tests the answers.")
     asked.add_argument("--program", type=pathlib.Path, default=rows.PROGRAM, help="rasta_audit")
     asked.add_argument("--first", type=int, default=0, metavar="NUMBER", help="the input to begin with")
     asked.add_argument("count", type=int)
@@ -534,7 +536,7 @@ def main():
         commands = ["check"] if kind == "certificate" else COMMANDS
         told = {}
         try:
-            told = test_input(chance, it, program, folder, commands)
+            told = test_input(it, program, folder, commands)
             if number % 20 == 0:
                 test_fifo(chance, it, program, folder, told)
                 counts.fifos += len(told)

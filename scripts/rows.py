@@ -5,9 +5,9 @@
     rows.py NAME FOLDER                 writes capture.pcap, parameters.toml, certificate.cert and text.txt of a row
     rows.py --check [--program PATH]    compares what `check` writes on the files of every row with the row's text
 
-The rows are read out of the text of the constant, whose doc comment says its form; nothing else of the repository
-is used. Other scripts use this one as a module: `rows` reads them all, `datagram_of`, `frame_of` and `capture_of`
-make further captures, `parameters_of` their parameters. `rt run` in crates/rasta_audit leaves the program.
+The rows are read from the text of the constant, whose doc comment says its form; nothing else of the repository is
+used. Other scripts import this one: `rows` reads all rows; `datagram_of`, `frame_of` and `capture_of` make further
+captures, and `parameters_of` parameters. `rt run` in crates/rasta_audit leaves the program at its default path.
 
 Plain Python 3, no other packages.
 """
@@ -199,7 +199,7 @@ def main():
         print("\n".join(rows()))
         return 0
     if words.folder is None or words.name not in rows():
-        asked.error("a name of a row and a folder are wanted")
+        asked.error("give the name of a row and a folder")
     row = rows()[words.name]
     words.folder.mkdir(exist_ok=True)
     row.write(words.folder)
