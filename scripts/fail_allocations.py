@@ -1,25 +1,38 @@
 #!/usr/bin/env python3
 """Lets each allocation fail in turn, and compares what is answered.
 
-The program, by each of its commands on each sample: one allocation fails, or it and all behind it. It has to
-answer as it does with ample memory, or to refuse for want of it with status 3; a verdict or a certificate is
-then not begun. `rt run` in crates/rasta_audit leaves the program.
+    fail_allocations.py [--program PATH] [samples|rows|tests]
 
-With the word `tests`, tests that make a call again where memory was wanting: ends; reading a certificate; and a
-check, a build and an audit of data. `rt test` in crates/rasta_layer_tests and crates/rasta_audit leaves them.
+The program, with each of its commands on each sample and on six rows of verdicts, or on one of the two: one
+allocation fails, or it and all after it. The program must answer as it does with ample memory, or refuse for lack of
+it with status 3; then no part of a verdict or a certificate is written. `rt run` in crates/rasta_audit leaves it.
+
+With `tests`: tests that repeat a call that ran out of memory, of ends, of reading a certificate, and of a check, a
+build and an audit of data. `rt test` in crates/rasta_layer_tests and crates/rasta_audit leaves them.
+Needs gcc; plain Python 3, no other packages.
 """
 
+import argparse
 import os
 import subprocess
 import sys
 import tempfile
 from pathlib import Path
 
+import rows
+
 TOP = Path(__file__).resolve().parent.parent
 CRATES = TOP / "crates"
-PROGRAM = CRATES / "rasta_audit/out/rasta_audit"
 REFUSAL = b"refused 1 NoMemory 0 -\n"
-# Crate, test, and the first of its allocations that may fail; those in front belong to the test itself.
+ROWS = [
+    "handshake",
+    "handed up once",
+    "lost unit is resent",
+    "both ask",
+    "copies on two channels",
+    "lost resend and second request",
+]
+# Crate, test, and the first of its allocations that may fail; those before it belong to the test itself.
 TESTS = [
     ("rasta_layer_tests", "ends::ends_by_rows", 1),
     ("rasta_layer_tests", "certificates::certificate_is_read_again", 1),
@@ -27,18 +40,27 @@ TESTS = [
 ]
 
 
-def calls():
+def calls_of_samples():
     for capture in sorted((TOP / "examples").glob("*.pcap")):
         parameters = capture.with_suffix(".toml")
         certificate = capture.with_suffix(".cert")
         for command in ("show", "audit", "build"):
-            yield [command, capture, parameters]
+            yield capture.name, [command, capture, parameters]
         if certificate.exists():
-            yield ["check", capture, parameters, certificate]
+            yield capture.name, ["check", capture, parameters, certificate]
+
+
+def calls_of_rows(folder):
+    all_rows = rows.rows()
+    for name in ROWS:
+        capture, parameters, certificate = all_rows[name].write(folder)
+        for command in ("show", "audit", "build"):
+            yield name, [command, capture, parameters]
+        yield name, ["check", capture, parameters, certificate]
 
 
 class Failing:
-    """Runs programs with the library of failing.c in front of the C library."""
+    """Runs programs with the library of failing.c before the C library."""
 
     def __init__(self, folder):
         self.library = f"{folder}/failing.so"
@@ -73,9 +95,9 @@ def is_same(answer, whole):
     return told[0] == told[1]
 
 
-def try_call(failing, call):
-    """How many wrong answers a call of the program gives."""
-    words = [PROGRAM, *call]
+def try_call(failing, program, name, call):
+    """How many runs of a call were tried, how many were refused, and how many answers were wrong."""
+    words = [program, *call]
     whole = failing.run(words, 0)
     tried, refused, wrong = 0, 0, 0
     for number in range(1, failing.count(words) + 1):
@@ -87,7 +109,15 @@ def try_call(failing, call):
             elif not is_same(answer, whole):
                 wrong += 1
                 print(f"  allocation {number}{' and on' if and_on else ''}: {answer}")
-    print(call[0], call[1].name, f"tried {tried} refused {refused} wrong {wrong}")
+    print(f"{call[0]} {name}: tried {tried} refused {refused} wrong {wrong}")
+    return tried, refused, wrong
+
+
+def try_calls(failing, program, calls):
+    """How many wrong answers calls of the program give."""
+    counts = [try_call(failing, program, *it) for it in calls]
+    tried, refused, wrong = (sum(count) for count in zip(*counts))
+    print(f"{len(counts)} calls: tried {tried} refused {refused} wrong {wrong}")
     return wrong
 
 
@@ -100,16 +130,23 @@ def try_test(failing, crate, test, first):
     return len(failed)
 
 
-def main(words):
+def main():
+    asked = argparse.ArgumentParser(description="Lets each allocation fail in turn.")
+    asked.add_argument("--program", type=Path, default=rows.PROGRAM, help="rasta_audit")
+    asked.add_argument("what", nargs="?", choices=("samples", "rows", "tests"))
+    words = asked.parse_args()
+    program, failed = words.program.resolve(), 0
     with tempfile.TemporaryDirectory() as folder:
         failing = Failing(folder)
-        if words == ["tests"]:
+        if words.what == "tests":
             failed = sum(try_test(failing, *it) for it in TESTS)
-        else:
-            failed = sum(try_call(failing, it) for it in calls())
+        if words.what in (None, "samples"):
+            failed += try_calls(failing, program, calls_of_samples())
+        if words.what in (None, "rows"):
+            failed += try_calls(failing, program, calls_of_rows(folder))
     print(failed, "failed")
     return failed != 0
 
 
 if __name__ == "__main__":
-    sys.exit(main(sys.argv[1:]))
+    sys.exit(main())
