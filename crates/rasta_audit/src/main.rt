@@ -44,9 +44,12 @@ use rasta_pdu::Fault;
 pub use rasta_show::run_show;
 use std::fs::File;
 use std::io;
-use std::io::{BufWriter, Printer, Read, Write};
+use std::io::{BufReader, BufWriter, Printer, Read, Write};
 use std::process::ExitCode;
 use std::rt::{Env, Files};
+
+// How many bytes of a capture are read at once.
+const CAPTURE_BUFFER: usize = 65_536;
 
 // A file that is opened when it is first read: one that can't be opened is one that can't be read.
 #[derive(Drop)]
@@ -72,12 +75,23 @@ impl<'a, R: Files> Read for Unopened<'a, R> {
     }
 }
 
-fn file_at<'a, R: Files>(rt: &'a R, path: &'a str) -> Counted<Unopened<'a, R>> {
-    Counted::new(Unopened {
+fn file_at<'a, R: Files>(rt: &'a R, path: &'a str) -> Unopened<'a, R> {
+    Unopened {
         rt,
         path,
         file: None,
-    })
+    }
+}
+
+// The capture, through a buffer: its records are read one by one.
+fn capture_at<'a, R: AllocGlobal + Files>(
+    rt: &'a R,
+    path: &'a str,
+) -> Result<Counted<BufReader<Unopened<'a, R>>>, Fault> {
+    match BufReader::with_capacity(rt.alloc(), CAPTURE_BUFFER, file_at(rt, path)) {
+        Ok(file) => Ok(Counted::new(file)),
+        Err(_) => Err(Fault::at(Fault::NO_MEMORY, 0)),
+    }
 }
 
 // Standard output, through a buffer.
@@ -99,13 +113,14 @@ fn finish<W: Write + Drop>(writer: Counted<W>, status: u8) -> Result<u8, Fault>
 }
 
 fn write_form<R: AllocGlobal + Files + Print>(rt: &R, form: &Form<'_>) -> Result<u8, Fault> {
+    let mut capture = capture_at(rt, form.capture())?;
     let mut writer = output(rt)?;
     let status = run_form(
         rt.alloc(),
         form,
-        &mut file_at(rt, form.params()),
-        &mut file_at(rt, form.certificate()),
-        &mut file_at(rt, form.capture()),
+        &mut Counted::new(file_at(rt, form.params())),
+        &mut Counted::new(file_at(rt, form.certificate())),
+        &mut capture,
         &mut writer,
     )?;
     finish(writer, status)
