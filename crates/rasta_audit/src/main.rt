@@ -3,7 +3,8 @@
 //! CERT` what a certificate explains of them, and `audit CAPTURE PARAMS` builds and checks.
 #![tactic(auto)]
 
-ghost use Rattle.std.specs.Prelude.{◌≡◌, None, IfOk};
+ghost use Rattle.std.specs.Prelude.{◌≡◌, None, IfErr, IfOk};
+ghost use Rattle.rasta_pcap.specs.Fault.{no_memory, write_failed};
 
 mod audit;
 #[cfg(test)]
@@ -81,7 +82,9 @@ fn file_at<'a, R: Files>(rt: &'a R, path: &'a str) -> Counted<Unopened<'a, R>> {
 }
 
 // Standard output, through a buffer.
-fn output<R: AllocGlobal + Print>(rt: &R) -> Result<Counted<BufWriter<Printer<'_, R>>>, Fault> {
+fn output<R: AllocGlobal + Print>(rt: &R) -> Result<Counted<BufWriter<Printer<'_, R>>>, Fault>
+    ensures { IfErr result (λ f. f ≡ no_memory) }
+{
     match BufWriter::new(rt.alloc(), io::writer(rt)) {
         Ok(output) => Ok(Counted::new(output)),
         Err(_) => Err(Fault::at(Fault::NO_MEMORY, 0)),
@@ -90,7 +93,8 @@ fn output<R: AllocGlobal + Print>(rt: &R) -> Result<Counted<BufWriter<Printer<'_
 
 // The status of a text, once all of it is out.
 fn finish<W: Write + Drop>(writer: Counted<W>, status: u8) -> Result<u8, Fault>
-    ensures { IfOk result (λ answer. answer ≡ status) }
+    ensures ok { IfOk result (λ answer. answer ≡ status) }
+    ensures err { IfErr result (λ f. f ≡ write_failed) }
 {
     match writer.into_inner().flush() {
         Ok(()) => Ok(status),
