@@ -1,8 +1,8 @@
 -- What the program does with a form, over its files and its output.
-use Rattle.std.specs.Prelude.{◌≡◌, ◌⊎◌, ℕ, List, [], Option, Result, Ok, Err}
+use Rattle.std.specs.Prelude.{◌≡◌, ◌⊎◌, ℕ, List, [], Option, Ok, Err}
 use Rattle.std.specs.Io.KnownBytes.{Consumes, IsAtEnd}
 use Rattle.rasta_pcap.specs.declared.fault.Fault.{Fault}
-use Rattle.rasta_pcap.specs.Fault.{no_memory, read_failed}
+use Rattle.rasta_pcap.specs.Fault.{no_memory, read_failed, write_failed}
 use Rattle.rasta_pcap.specs.Devices.{HasFailed}
 use Rattle.rasta_pdu.specs.Params.{Parameters}
 use Rattle.rasta_params.specs.Keys.{ReadsParameters}
@@ -12,6 +12,7 @@ use Rattle.rasta_audit.specs.declared.form.Form.{Form}
 use Rattle.rasta_audit.specs.declared.form.Form.TheVariants.{Show, Build, Check, Audit}
 use Rattle.rasta_audit.specs.Verdict.{BeginsVerdict, IsVerdict, WritesVerdict}
 use Rattle.rasta_audit.specs.Proposed.{BeginsOutcome, IsAudit, IsBuild}
+use Rattle.rasta_audit.specs.Claims.{ClaimsHeadline}
 
 -- the bytes that are left of the parameter file, of the certificate and of the capture, what the output holds, and how
 -- often each of the four devices has failed
@@ -64,6 +65,18 @@ BeginsTelling (Build a b) p certificate = BeginsOutcome (IsBuild p)
 BeginsTelling (Check a b c) p certificate = BeginsVerdict (IsVerdict p certificate)
 BeginsTelling (Audit a b) p certificate = BeginsOutcome (IsAudit p)
 
+-- where the status is 0 the headline holds of what `check` and `audit` wrote; the others make no claim
+abbrev pub HoldsHeadline : Form → Parameters → ℕ → Option (List ℕ) → Option (List ℕ) → Option (List ℕ) → Option (List ℕ) → Type 0
+HoldsHeadline (Check a b c) p = WritesVerdict (ClaimsHeadline p)
+HoldsHeadline (Audit a b) p = WritesVerdict (ClaimsHeadline p)
+HoldsHeadline _ p = λ status old_input new_input old_output new_output. Unit {0}
+
+-- `build`, `check` and `audit` wrote nothing where they give up for another cause than a failed write; `show` may have
+-- written a beginning of its text
+abbrev pub StaysSilent : Form → Fault → Option (List ℕ) → Option (List ℕ) → Type 0
+StaysSilent (Show a b) fault old new = Unit {0}
+StaysSilent _ fault old new = (fault ≡ write_failed) ⊎ (new ≡ old)
+
 -- ---- what is read
 
 -- the whole input was read, and had these bytes
@@ -80,9 +93,9 @@ abbrev pub IsReadFault : Fault → ℕ → ℕ → Type 0
 IsReadFault f old new = (f ≡ no_memory) ⊎ ((f ≡ read_failed) × HasFailed old new)
 
 -- the whole parameter file was read, and its text is that of these parameters
-pub record ReadsParameterFile (old new : Devices) (p : Parameters) : Type 0 where
+pub record ReadsParameterFile (old new : Option (List ℕ)) (p : Parameters) : Type 0 where
   pub text : List ℕ
-  pub whole : ReadsWhole old.parameters new.parameters text
+  pub whole : ReadsWhole old new text
   pub parameters : ReadsParameters text (Ok p)
 
 -- ---- what is done
@@ -90,7 +103,7 @@ pub record ReadsParameterFile (old new : Devices) (p : Parameters) : Type 0 wher
 -- the parameters were read, and the certificate where there is one, and what the form tells by them was written
 pub record CarriesOut (form : Form) (old new : Devices) (status : ℕ) : Type 0 where
   pub params : Parameters
-  pub read : ReadsParameterFile old new params
+  pub read : ReadsParameterFile old.parameters new.parameters params
   pub certificate : List ℕ
   pub read_certificate : ReadsCertificate form old.certificate new.certificate certificate
   pub written : WritesVerdict (Tells form params certificate) status old.capture new.capture old.output new.output
@@ -102,10 +115,10 @@ pub data GivesUp (form : Form) (old new : Devices) (fault : Fault) : Type 0 wher
       → new.certificate ≡ old.certificate → new.capture ≡ old.capture → new.output ≡ old.output → GivesUp form old new fault
   parameters_refused : (text : List ℕ) → ReadsWhole old.parameters new.parameters text → ReadsParameters text (Err fault)
       → new.certificate ≡ old.certificate → new.capture ≡ old.capture → new.output ≡ old.output → GivesUp form old new fault
-  certificate_unread : (p : Parameters) → ReadsParameterFile old new p
+  certificate_unread : (p : Parameters) → ReadsParameterFile old.parameters new.parameters p
       → IsReadFault fault old.certificate_failures new.certificate_failures
       → new.capture ≡ old.capture → new.output ≡ old.output → GivesUp form old new fault
-  run_failed : (p : Parameters) → ReadsParameterFile old new p
+  run_failed : (p : Parameters) → ReadsParameterFile old.parameters new.parameters p
       → (certificate : List ℕ) → ReadsCertificate form old.certificate new.certificate certificate
       → IsRunFault fault old.capture_failures new.capture_failures old.output_failures new.output_failures
       → BeginsTelling form p certificate old.capture new.capture old.output new.output → GivesUp form old new fault

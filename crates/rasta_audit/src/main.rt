@@ -3,7 +3,8 @@
 //! CERT` what a certificate explains of them, and `audit CAPTURE PARAMS` builds and checks.
 #![tactic(auto)]
 
-ghost use Rattle.std.specs.Prelude.{◌≡◌, None, IfOk};
+ghost use Rattle.std.specs.Prelude.{◌≡◌, None, IfErr, IfOk};
+ghost use Rattle.rasta_pcap.specs.Fault.{no_memory, write_failed};
 
 mod audit;
 #[cfg(test)]
@@ -87,7 +88,9 @@ fn file_at<'a, R: Files>(rt: &'a R, path: &'a str) -> Unopened<'a, R> {
 fn capture_at<'a, R: AllocGlobal + Files>(
     rt: &'a R,
     path: &'a str,
-) -> Result<Counted<BufReader<Unopened<'a, R>>>, Fault> {
+) -> Result<Counted<BufReader<Unopened<'a, R>>>, Fault>
+    ensures { IfErr result (λ f. f ≡ no_memory) }
+{
     match BufReader::with_capacity(rt.alloc(), CAPTURE_BUFFER, file_at(rt, path)) {
         Ok(file) => Ok(Counted::new(file)),
         Err(_) => Err(Fault::at(Fault::NO_MEMORY, 0)),
@@ -95,7 +98,9 @@ fn capture_at<'a, R: AllocGlobal + Files>(
 }
 
 // Standard output, through a buffer.
-fn output<R: AllocGlobal + Print>(rt: &R) -> Result<Counted<BufWriter<Printer<'_, R>>>, Fault> {
+fn output<R: AllocGlobal + Print>(rt: &R) -> Result<Counted<BufWriter<Printer<'_, R>>>, Fault>
+    ensures { IfErr result (λ f. f ≡ no_memory) }
+{
     match BufWriter::new(rt.alloc(), io::writer(rt)) {
         Ok(output) => Ok(Counted::new(output)),
         Err(_) => Err(Fault::at(Fault::NO_MEMORY, 0)),
@@ -104,7 +109,8 @@ fn output<R: AllocGlobal + Print>(rt: &R) -> Result<Counted<BufWriter<Printer<'_
 
 // The status of a text, once all of it is out.
 fn finish<W: Write + Drop>(writer: Counted<W>, status: u8) -> Result<u8, Fault>
-    ensures { IfOk result (λ answer. answer ≡ status) }
+    ensures ok { IfOk result (λ answer. answer ≡ status) }
+    ensures err { IfErr result (λ f. f ≡ write_failed) }
 {
     match writer.into_inner().flush() {
         Ok(()) => Ok(status),

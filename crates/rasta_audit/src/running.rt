@@ -1,9 +1,10 @@
 //! What the program does with a form, over its files as sources and its output as a sink.
 ghost use Rattle.std.specs.Prelude.{◌≡◌, ◌⊎◌, List, ℕ, Ok, Err, IfErr, IfOk, OnErr};
+ghost use Rattle.rasta_pdu.specs.Params.{Parameters};
 ghost use Rattle.rasta_params.specs.Keys.{ReadsParameters};
 ghost use Rattle.rasta_show.specs.Runs.{IsRunFault};
 ghost use Rattle.rasta_audit.specs.Verdict.{WritesVerdict};
-ghost use Rattle.rasta_audit.specs.Forms.{BeginsTelling, CarriesOut, GivesUp, IsReadFault, ReadsCertificate, ReadsWhole, Tells};
+ghost use Rattle.rasta_audit.specs.Forms.{BeginsTelling, CarriesOut, GivesUp, HoldsHeadline, IsReadFault, ReadsCertificate, ReadsParameterFile, ReadsWhole, StaysSilent, Tells};
 
 use crate::audit::{run_audit, run_build};
 use crate::check::run_check;
@@ -16,8 +17,7 @@ use std::alloc::Global;
 
 // Reads a parameter file to its end, and judges it.
 fn read_params<P: Source>(alloc: Global, reader: &mut P) -> Result<Params, Fault>
-    ensures ok { IfOk result (λ p. (text : List ℕ) × ReadsWhole (P.remaining reader.old) (P.remaining reader.new) text
-        × ReadsParameters text (Ok p)) }
+    ensures ok { IfOk result (ReadsParameterFile (P.remaining reader.old) (P.remaining reader.new)) }
     ensures err { IfErr result (λ f. IsReadFault f (P.failure_count reader.old) (P.failure_count reader.new)
         ⊎ ((text : List ℕ) × ReadsWhole (P.remaining reader.old) (P.remaining reader.new) text
         × ReadsParameters text (Err f))) }
@@ -54,6 +54,9 @@ fn run_command<R: Source, W: Sink>(
         (R.remaining capture.old) (R.remaining capture.new) (W.contents writer.old) (W.contents writer.new)) }
     ensures begun { OnErr result (BeginsTelling form.now params.now certificate.now
         (R.remaining capture.old) (R.remaining capture.new) (W.contents writer.old) (W.contents writer.new)) }
+    ensures headline { IfOk result (λ status. HoldsHeadline form.now params.now status
+        (R.remaining capture.old) (R.remaining capture.new) (W.contents writer.old) (W.contents writer.new)) }
+    ensures silent { IfErr result (λ f. StaysSilent form.now f (W.contents writer.old) (W.contents writer.new)) }
     ensures err { IfErr result (λ f. IsRunFault f (R.failure_count capture.old) (R.failure_count capture.new)
         (W.failure_count writer.old) (W.failure_count writer.new)) }
 {
@@ -118,6 +121,12 @@ pub fn run_form<P: Source, C: Source, R: Source, W: Sink>(
       capture_failures = R.failure_count capture.new;
       output_failures = W.failure_count writer.new;
     })) }
+    // By the parameters that were read.
+    ensures headline { IfOk result (λ status. (p : Parameters)
+        × ReadsParameterFile (P.remaining parameters.old) (P.remaining parameters.new) p
+        × HoldsHeadline form.now p status (R.remaining capture.old) (R.remaining capture.new)
+        (W.contents writer.old) (W.contents writer.new)) }
+    ensures silent { IfErr result (λ f. StaysSilent form.now f (W.contents writer.old) (W.contents writer.new)) }
 {
     let params = match read_params(alloc, parameters) {
         Ok(params) => params,
