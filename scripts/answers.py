@@ -60,7 +60,7 @@ class Answer:
     out: bytes
     error: bytes
     seconds: float
-    peak: int  # bytes
+    peak: int  # most memory, in bytes; at least what the calling script has
 
     def told(self):
         return self.status, self.out, self.error

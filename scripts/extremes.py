@@ -132,7 +132,7 @@ class Part:
         if not is_right:
             self.wrong += 1
             told = [text[:200] for text in (answer.out, answer.error)]
-            print(f"  {what}: status {answer.status}, {told}, files in {self.folder}")
+            print(f"  {what}: status {answer.status}, {told}")
 
     def expect(self, what, command, out, **options):
         """A command that writes this text, with its status."""
