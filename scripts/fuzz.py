@@ -542,7 +542,7 @@ def main():
                 counts.fifos += len(told)
         except Wrong as wrong:
             counts.wrong += 1
-            print(f"input {number} of seed {words.seed} ({it.name}, {kind}): {wrong}; see {folder}")
+            print(f"input {number} of seed {words.seed} ({it.name}, {kind}): {wrong}; see {folder}", flush=True)
             folder = pathlib.Path(tempfile.mkdtemp(prefix="fuzz-"))
         counts.add(kind, told)
     shutil.rmtree(folder)
