@@ -56,3 +56,7 @@ pub mod Joined
 pub mod Headlined
 pub mod Answering
 pub mod Filed
+pub mod Keeping
+pub mod Sides
+pub mod Stored
+pub mod Storing

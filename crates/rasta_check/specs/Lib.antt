@@ -15,3 +15,5 @@ pub mod Report
 pub mod Listing
 pub mod Headline
 pub mod Verdicts
+pub mod Datagrams
+pub mod Stored

@@ -4,12 +4,13 @@ ghost use Rattle.rasta_pcap.specs.Fault.{no_memory};
 ghost use Rattle.rasta_pcap.specs.Capture.{IsCapture};
 ghost use Rattle.rasta_udp.specs.Frame.{Packet};
 ghost use Rattle.rasta_check.specs.Crossing.{crossing_list};
-ghost use Rattle.rasta_check.specs.Reading.{AreSentLists, IsCrossing};
+ghost use Rattle.rasta_check.specs.Reading.{AreSentLists, IsCrossing, crossing_of};
 ghost use Rattle.rasta_check.specs.Listing.{listed_by};
 ghost use Rattle.rasta_check.specs.Report.{BothFit, Explains, explained, report_of, verdict_of, verdict_of_file};
 ghost use Rattle.rasta_check.specs.Headline.{Headline, IsSharp};
 
 use crate::crossing::Sent;
+use crate::crossing_store::Store;
 use crate::follower::follow;
 use crate::reading::sent;
 use crate::report::Report;
@@ -154,6 +155,42 @@ pub fn check_sent<'a>(
         sent.len(),
         sent.client(),
         sent.server(),
+        certificate,
+    )
+}
+
+/// The report on what crossed, as of [`check_sent`], from a [`Store`].
+///
+/// Where this answers a report, some run of two RaSTA ends over a network that loses, repeats, delays and
+/// reorders sends exactly the packets; and in every run that does, the far end handed up, once each and in
+/// order, every message that the report lists as taken.
+pub fn check_store<'a>(
+    alloc: Global,
+    p: &Params,
+    store: &'a Store,
+    certificate: &Certificate,
+) -> Result<Report<'a>, Fault>
+    requires same { store.now.params ≡ p.now }
+    ensures verdict { MatchResult result
+        (λ r. verdict_of p.now (length store.now.packets) store.now.client store.now.server certificate.now ≡ Ok (explained r))
+        (λ f. (verdict_of p.now (length store.now.packets) store.now.client store.now.server certificate.now ≡ Err f) ⊎ (f ≡ no_memory)) }
+    ensures fits { OnOk result (BothFit p.now (length store.now.packets) store.now.client store.now.server certificate.now) }
+    ensures refused { IfErr result (λ f. (BothFit p.now (length store.now.packets) store.now.client store.now.server certificate.now → ⊥) ⊎ (f ≡ no_memory)) }
+    ensures exact { IfOk result (λ r. BothFit p.now (length store.now.packets) store.now.client store.now.server certificate.now
+        × (explained r ≡ report_of p.now (length store.now.packets) store.now.client store.now.server)) }
+    ensures headline { IfOk result (λ r. Headline p.now store.now.packets (explained r)) }
+    ensures sharp { IfOk result (λ r. IsSharp p.now store.now.packets (explained r)) }
+    // What `check` answers for a capture of which this is the store.
+    ensures of_file { (file : List ℕ) → crossing_of p.now file ≡ Ok store.now → MatchResult result
+        (λ r. verdict_of_file p.now file certificate.now ≡ Ok (explained r))
+        (λ f. (verdict_of_file p.now file certificate.now ≡ Err f) ⊎ (f ≡ no_memory)) }
+{
+    check_lists(
+        alloc,
+        p,
+        store.len(),
+        &store.client(),
+        &store.server(),
         certificate,
     )
 }

@@ -21,13 +21,13 @@ use std::alloc::{AllocError, Global};
 use std::marker::Model;
 
 /// The most packets of a connection.
-const MOST_PACKETS: usize = 16_000_000;
+pub(crate) const MOST_PACKETS: usize = 16_000_000;
 
 /// The most PDUs that one side may have sent.
-const MOST_SENT: u32 = 1_000_000;
+pub(crate) const MOST_SENT: u32 = 1_000_000;
 
 // The redundancy number in a datagram.
-fn number_in(bytes: &[u8]) -> u32
+pub(crate) fn number_in(bytes: &[u8]) -> u32
     requires { 8 ≤ length bytes.now }
     ensures { result ≡ number_in_bytes bytes.now }
 {

@@ -4,6 +4,8 @@
 
 mod checker;
 mod crossing;
+mod crossing_store;
+mod datagrams;
 mod dense_list;
 mod follower;
 pub mod laws;
@@ -12,13 +14,16 @@ mod place_table;
 mod reading;
 mod report;
 mod sent_list;
+mod span_list;
 mod surely_taken;
 
-pub use checker::{check, check_lists, check_sent};
+pub use checker::{check, check_lists, check_sent, check_store};
 pub use crossing::Sent;
+pub use crossing_store::Store;
 pub use dense_list::DenseList;
 pub use map_list::MapList;
 pub use rasta_pcap::{Fault, Side, Sink, Source};
 pub use reading::sent;
 pub use report::{Report, Taken, TakenList};
 pub use sent_list::SentList;
+pub use span_list::SpanList;

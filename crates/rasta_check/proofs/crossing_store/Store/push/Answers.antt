@@ -1,0 +1,52 @@
+use Rattle.std.proofs.Common.{◌≡◌, ℕ, List, [], ◌∷◌, ◌++◌, Option, None, Some, length, ap, sym, ◌∙◌, subst, arith}
+use Rattle.rasta_udp.specs.Frame.{packet_of}
+use Rattle.rasta_check.specs.declared.crossing_store.Store.TheInside.{Inside}
+use Rattle.rasta_check.specs.declared.crossing_store.StoredPacket.{StoredPacket}
+use Rattle.rasta_check.specs.Reading.{Crossing, IsCrossing, with_packet}
+use Rattle.rasta_check.specs.Stored.{IsJudged, IsStore, crossing_by}
+use Rattle.rasta_check.proofs.Storing.{datagram_fits, grown_copy, grown_new}
+use Rattle.rasta_check.proofs.crossing_store.Store.push.Goals as goal
+use Rattle.rasta_check.proofs.crossing_store.Store.push.Goals.{in-Some, in-None+in_ok-push-in-None}
+
+pub push-requires : goal.push-requires
+push-requires c =
+    let k = c.args.self.now in
+    let new = subst (λ (o : Option ℕ). IsJudged k (packet_of c.args.found.now) o) c.in-None.is c.requires.judged in
+    datagram_fits k.params c.args.found.now.side new.0 c.args.found.now.payload.now (subst IsCrossing c.self.view_is c.self.invariant.crossing).valid.valid new.2
+
+both : (c : goal.After-push_reserved) → (y : Inside) × (c.match-known.self-inside ≡ y)
+    × IsStore y.params y.datagrams c.push_reserved.new.self.items
+    × (crossing_by y.params y.datagrams c.push_reserved.new.self.items ≡ with_packet c.args.self.now (packet_of c.args.found.now))
+both c =
+    let old = c.self.inside in
+    let a = packet_of c.args.found.now in
+    let crossing = subst (λ (k : Crossing). IsCrossing (with_packet k a)) (sym c.self.view_is) c.requires.crossing in
+    let kept : c.try_reserve.new.self.items ≡ old.packets.items = c.in_ok-try_reserve.ensures.items in
+    let stored : ℕ → StoredPacket = λ (n : ℕ). record { position = n; channel = a.channel; side = a.side } in
+    let after = ap (λ (k : Crossing). with_packet k a) c.self.view_is in
+    elim c.match-known.branch [
+      | in-Some w ↦
+          let judged = subst (λ (o : Option ℕ). IsJudged c.args.self.now a o) w.in-Some.is c.requires.judged in
+          let j = subst (λ (k : Crossing). IsJudged k a (Some w.in-Some.position)) (sym c.self.view_is) judged in
+          let all = c.push_reserved.ensures.items ∙ ap (λ (y : Inside). y.packets.items ++ stored c.match-known.position ∷ []) w.self-inside-is
+          ∙ ap (λ (xs : List StoredPacket). xs ++ stored c.match-known.position ∷ []) kept ∙ ap (λ (n : ℕ). old.packets.items ++ stored n ∷ []) w.position-is in
+          let r = grown_copy old.params old.datagrams old.packets.items c.self.invariant a crossing _ w.in-Some.position j all in
+          (_, w.self-inside-is, r.0, r.1 ∙ after)
+      | in-None+in_ok-push-in-None w ↦
+          let judged = subst (λ (o : Option ℕ). IsJudged c.args.self.now a o) w.in-None.is c.requires.judged in
+          let j = subst (λ (k : Crossing). IsJudged k a None) (sym c.self.view_is) judged in
+          let all = c.push_reserved.ensures.items ∙ ap (λ (y : Inside). y.packets.items ++ stored c.match-known.position ∷ []) w.self-inside-is
+          ∙ ap (λ (xs : List StoredPacket). xs ++ stored c.match-known.position ∷ []) kept ∙ ap (λ (n : ℕ). old.packets.items ++ stored n ∷ []) w.position-is in
+          let place : w.len-place.result ≡ length old.packets.items = (let q = w.len-place.ensures in let l = ap length kept in omega arith) in
+          let r = grown_new old.params old.datagrams old.packets.items c.self.invariant a crossing _ w.len-position.result w.len-place.result _ place w.len-position.ensures j
+          w.in_ok-push-in-None.ensures.ok all in
+          (_, w.self-inside-is, r.0, r.1 ∙ after)
+    ]
+
+pub invariant_of-self-2 : goal.invariant_of-self-2
+invariant_of-self-2 c =
+    let w = both c in subst (λ (y : Inside). IsStore y.params y.datagrams c.push_reserved.new.self.items) (sym w.1) w.2
+
+pub returns-clause-ok : goal.returns-clause-ok
+returns-clause-ok c =
+    let w = both c in ap (λ (y : Inside). crossing_by y.params y.datagrams c.push_reserved.new.self.items) w.1 ∙ w.3

@@ -1,0 +1,33 @@
+use Rattle.std.proofs.Common.{ap, sym, ◌∙◌, [], ◌∷◌, ◌++◌}
+use Rattle.rasta_pcap.specs.declared.fault.Side.{Side}
+use Rattle.rasta_check.specs.Datagrams.{Kept, KeptDatagrams, keeping}
+use Rattle.rasta_check.proofs.Keeping.{both_ok, kept_grown, same_kept}
+use Rattle.rasta_check.proofs.datagrams.Datagrams.push.Goals as goal
+
+pub returns-in-Client-clause-ok : goal.returns-in-Client-clause-ok
+returns-in-Client-clause-ok c =
+    let old = c.self.inside in
+    let x : Kept = record { place = c.args.place; bytes = c.args.datagram.now } in
+    both_ok c.keep.result _ _ _ (λ all new.
+    (λ i. record {
+      bytes = all i;
+      client = kept_grown old.bytes.items c.keep.new.bytes.items c.args.datagram.now old.client.items c.keep.new.spans.items c.args.place c.self.invariant.0 all new i;
+      server = same_kept old.bytes.items c.keep.new.bytes.items c.args.datagram.now old.server.items c.self.invariant.1 all i;
+    })
+    ∙ ap (λ (d : KeptDatagrams). record { bytes = d.bytes ++ x.bytes; client = d.client ++ x ∷ []; server = d.server }) c.self.view_is
+    ∙ ap (λ (side : Side). keeping c.args.self.now side x) (sym c.in-Client.is))
+    c.keep.ensures.bytes c.keep.ensures.spans
+
+pub returns-in-Server-clause-ok : goal.returns-in-Server-clause-ok
+returns-in-Server-clause-ok c =
+    let old = c.self.inside in
+    let x : Kept = record { place = c.args.place; bytes = c.args.datagram.now } in
+    both_ok c.keep-in-Server.result _ _ _ (λ all new.
+    (λ i. record {
+      bytes = all i;
+      client = same_kept old.bytes.items c.keep-in-Server.new.bytes.items c.args.datagram.now old.client.items c.self.invariant.0 all i;
+      server = kept_grown old.bytes.items c.keep-in-Server.new.bytes.items c.args.datagram.now old.server.items c.keep-in-Server.new.spans.items c.args.place c.self.invariant.1 all new i;
+    })
+    ∙ ap (λ (d : KeptDatagrams). record { bytes = d.bytes ++ x.bytes; client = d.client; server = d.server ++ x ∷ [] }) c.self.view_is
+    ∙ ap (λ (side : Side). keeping c.args.self.now side x) (sym c.in-Server.is))
+    c.keep-in-Server.ensures.bytes c.keep-in-Server.ensures.spans
