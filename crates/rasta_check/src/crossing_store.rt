@@ -299,7 +299,7 @@ impl Store {
         }
     }
 
-    // Adds what a record holds, unless it stands in front of the window.
+    // Adds what a record holds, unless it stands before the window.
     #[tactic(auto, unfolding(crate::specs::Reading::after_record))]
     pub(crate) fn add_record(&mut self, record: &Record<'_>) -> Result<(), Fault>
         ensures { MatchResult result

@@ -24,7 +24,7 @@ fn datagram_at<'a>(bytes: &'a [u8], spans: &[Span], position: u32) -> Option<(u3
     Some((span.place, &bytes[span.start..end]))
 }
 
-// Adds a datagram behind the others. Without memory for it all stays as it was.
+// Adds a datagram after the others. Without memory for it all stays as it was.
 fn keep(
     bytes: &mut Vec<u8>,
     spans: &mut Vec<Span>,
