@@ -19,6 +19,8 @@ mod command;
 mod device_tests;
 mod failure;
 mod form;
+#[cfg(test)]
+mod piece_tests;
 mod proposed;
 mod run_lines;
 mod run_text;

@@ -1,5 +1,5 @@
 //! PDUs that are read and written, by rows, and their refusals.
-use rasta_pdu::{Body, Fault, Params, Pdu, PduParts, Side, decode, encode};
+use rasta_pdu::{Body, Fault, Params, Pdu, PduParts, Side, decode, encode, read_decoded};
 use rasta_rows::{bytes_of, datagram, params_of, parts_of, side_of};
 use std::alloc::Global;
 use std::process::Abort;
@@ -80,8 +80,13 @@ fn is_written(alloc: Global, params: &Params, line: &str, bytes: &[u8]) -> Optio
 // Whether the datagram of a line is read as this text, and has the type of the line.
 fn is_read(alloc: Global, params: &Params, line: &str, bytes: &[u8], text: &str) -> Option<bool> {
     let pdu = decode(params, side_of(line), bytes).ok()?;
+    let again = read_decoded(params, side_of(line), bytes);
     let number: u16 = line.split(' ').nth(2)?.parse().ok()?;
-    Some(pdu.kind().number() == number && pdu_text(alloc, &pdu)?.as_str() == text)
+    Some(
+        pdu.kind().number() == number
+            && pdu_text(alloc, &pdu)?.as_str() == text
+            && pdu_text(alloc, &again)?.as_str() == text,
+    )
 }
 
 // Whether the PDU of a row is written and read so.

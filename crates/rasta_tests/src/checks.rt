@@ -1,6 +1,11 @@
-//! Verdicts, by rows: what a certificate explains of a capture, over the lists of a map and of a vector.
+//! Verdicts, by rows: what a certificate explains of a capture, over the lists of a map, of a vector and of a
+//! store.
 use rasta_cert::{Certificate, read};
-use rasta_check::{DenseList, Report, Sent, Taken, check, check_lists, check_sent, sent};
+use rasta_check::{
+    DenseList, Report, Sent, Taken, check, check_lists, check_sent, check_store, sent, store,
+};
+use rasta_pcap::Counted;
+use rasta_pcap::devices::Pieces;
 use rasta_pdu::{Fault, Params, Side};
 use rasta_rows::file_of;
 use std::alloc::Global;
@@ -195,7 +200,24 @@ fn is_judged_by_lists(
     Some(is_verdict(&by_maps, want)? && is_verdict(&by_vectors, want)?)
 }
 
-// Whether the verdict on a file is the wanted one, over both lists where it can be read.
+// Whether the verdict on a file that comes in pieces is the wanted one.
+fn is_judged_in_pieces(
+    alloc: Global,
+    params: &Params,
+    pieces: Pieces<'_>,
+    certificate: &Certificate,
+    want: &str,
+) -> Option<bool> {
+    match store(alloc, *params, &mut Counted::new(pieces)) {
+        Ok(store) => is_verdict(
+            &check_store(alloc, &store.params(), &store, certificate),
+            want,
+        ),
+        Err(fault) => is_fault(fault, want),
+    }
+}
+
+// Whether the verdict on a file is the wanted one, over each list where it can be read.
 fn is_judged(
     alloc: Global,
     params: &Params,
@@ -203,7 +225,14 @@ fn is_judged(
     certificate: &Certificate,
     want: &str,
 ) -> Option<bool> {
-    if !is_verdict(&check(alloc, params, file, certificate), want)? {
+    let bytes = Pieces::new(file, 1);
+    let pieces = Pieces::new(file, 7);
+    let whole = Pieces::new(file, 4096);
+    if !is_judged_in_pieces(alloc, params, bytes, certificate, want)?
+        || !is_judged_in_pieces(alloc, params, pieces, certificate, want)?
+        || !is_judged_in_pieces(alloc, params, whole, certificate, want)?
+        || !is_verdict(&check(alloc, params, file, certificate), want)?
+    {
         return Some(false);
     }
     match sent(alloc, *params, file) {

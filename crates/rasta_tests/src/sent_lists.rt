@@ -1,6 +1,7 @@
 //! What a capture says each side sent.
-use rasta_check::{DenseList, MapList, Sent, SentList, Side, sent};
-use rasta_rows::{bytes_of, params_of};
+use rasta_check::{DenseList, MapList, Sent, SentList, Side, Store, sent, store};
+use rasta_pcap::Counted;
+use rasta_rows::{bytes_of, datagrams, file_of, lines_of, params_of};
 use std::alloc::Global;
 use std::process::Abort;
 
@@ -80,6 +81,50 @@ fn is_read(alloc: Global) -> Option<bool> {
 #[test]
 fn handshake_is_read(rt: HostRuntime) {
     assert_eq!(rt; is_read(rt.alloc()), Some(true));
+}
+
+// Whether what is stored of these packets is so many of them, with the datagrams of these lines and no other
+// bytes, and such lists.
+fn is_stored(alloc: Global, packets: &str, want: &str) -> Option<bool> {
+    let (params, file) = file_of(alloc, "data plain", packets)?;
+    let stored = store(alloc, params, &mut Counted::new(file.as_slice())).ok()?;
+    let found = stored_text(alloc, &stored)?;
+    Some(found.as_str() == want && has_first_copies(alloc, &stored)?)
+}
+
+// The ids, the count of packets, one of them, and how many bytes are kept.
+fn stored_text(alloc: Global, stored: &Store) -> Option<String> {
+    let ids = (stored.params().client_id(), stored.params().server_id());
+    let (len, bytes) = (stored.len(), stored.bytes().len());
+    let packet = (stored.packet(3), stored.packet(len));
+    format!(in alloc; "{ids:?} {len} {packet:?} {bytes}").ok()
+}
+
+// Whether a store keeps the first three datagrams of the connection, and lists their PDUs.
+fn has_first_copies(alloc: Global, stored: &Store) -> Option<bool> {
+    let all = datagrams(alloc, &stored.params(), lines_of("data")?)?;
+    let mut bytes = Vec::new(alloc);
+    for datagram in all.as_slice().get(..3)? {
+        bytes.extend_from_slice(datagram).ok()?;
+    }
+    Some(
+        stored.bytes() == bytes.as_slice()
+            && are_members(
+                alloc,
+                &stored.client(),
+                "0 7 (0, 0), 3 8 (1, 1), (None, None)",
+            )?
+            && are_members(alloc, &stored.server(), "2 40 (0, 0), (None, None)")?,
+    )
+}
+
+#[test]
+fn first_copies_alone_are_stored(rt: HostRuntime) {
+    let want = "(96, 97) 7 (Some((Client, 8)), None) 136";
+    assert_eq!(rt;
+        is_stored(rt.alloc(), "0 0@2 1 2 0@2 2@2 1@2", want),
+        Some(true)
+    );
 }
 
 #[test]
