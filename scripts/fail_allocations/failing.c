@@ -1,5 +1,5 @@
-/* Loaded in front of the C library (LD_PRELOAD), makes allocations of a program fail: the one of the
-   number FAILS_AT, from 1, and with FAILS_ON those behind it too. With FAILS_AT=0 none fails, and their
+/* Loaded before the C library (LD_PRELOAD), makes allocations of a program fail: the one of the
+   number FAILS_AT, from 1, and with FAILS_ON those after it too. With FAILS_AT=0 none fails, and their
    count is written to descriptor 9 when the program ends. */
 #include <stdio.h>
 #include <stdlib.h>
