@@ -1,0 +1,14 @@
+use Rattle.std.proofs.Common.{◌≡◌, ◌-◌}
+use Rattle.rasta_pcap.specs.declared.stream.Progress.TheVariants.{Reading}
+use Rattle.rasta_pcap.specs.Stream.{progress_of}
+use Rattle.rasta_check.specs.Storing.{crossing_left}
+use Rattle.rasta_check.proofs.Underway.{IsUnderway}
+use Rattle.rasta_check.proofs.storing.add_records.Given as goal
+
+-- what crosses by the records that are left crosses by all, no read failed, and the reading goes on
+abbrev pub invariant-loop : goal.invariant-loop
+invariant-loop g l =
+    IsUnderway (crossing_left l.fn.store l.fn.records l.last) (crossing_left l.store l.records (l.last - l.counter))
+    (g.R.Source.remaining l.fn.reader) (g.R.Source.remaining l.reader)
+    × (g.R.Source.failure_count l.reader ≡ g.R.Source.failure_count l.fn.reader)
+    × (progress_of l.records ≡ Reading)
