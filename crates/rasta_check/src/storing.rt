@@ -1,8 +1,9 @@
 //! Reading what each side sent from a reader.
-ghost use Rattle.std.specs.Prelude.{◌≡◌, ◌≤◌, ◌↔◌, ◌⊎◌, ℕ, suc, List, Ok, Err, IfOk, IfErr, OnOk, OnErr, IsSome};
+ghost use Rattle.std.specs.Prelude.{◌≡◌, ◌≤◌, ◌↔◌, ◌⊎◌, ℕ, suc, List, Option, Ok, Err, IfOk, IfErr, OnOk, OnErr, IsSome};
 ghost use Rattle.std.specs.Io.KnownBytes.{Consumes};
 ghost use Rattle.rasta_pcap.specs.Fault.{redundancy_length, number_gap};
-ghost use Rattle.rasta_pcap.specs.Stream.{ReadsSo, progress_of};
+ghost use Rattle.rasta_pcap.specs.Extent.{HasRead, ReadsUpToRecord, ReadsWithinRecord};
+ghost use Rattle.rasta_pcap.specs.Stream.{ReadsSo, order_in, progress_of};
 ghost use Rattle.rasta_pcap.specs.declared.stream.Progress.TheVariants.{Reading};
 ghost use Rattle.rasta_check.specs.Storing.{AddsNext, IsFailure, IsRefusedSo, IsStored, crossing_left};
 
@@ -25,6 +26,7 @@ fn add_next<R: Source>(
         ⊎ ReadsSo (λ rest. (left : ℕ) → crossing_left store.old records.old (suc left) rest ≡ Err f)
         (R.remaining reader.old) (R.remaining reader.new)) }
     ensures begun { OnErr result ((bs : List ℕ) × Consumes (R.remaining reader.old) (R.remaining reader.new) bs) }
+    ensures within { ReadsWithinRecord (order_in records.old) (R.remaining reader.old) (R.remaining reader.new) }
     ensures steady { OnOk result (R.failure_count reader.new ≡ R.failure_count reader.old) }
 {
     match records.advance(reader) {
@@ -54,6 +56,10 @@ fn add_records<R: Source>(
         ⊎ ReadsSo (λ rest. crossing_left store records last rest ≡ Err f)
         (R.remaining reader.old) (R.remaining reader.new)) }
     ensures begun { OnErr result ((bs : List ℕ) × Consumes (R.remaining reader.old) (R.remaining reader.new) bs) }
+
+    // With the header that was read before, nothing was read after this record.
+    ensures bounded { (first : Option (List ℕ)) → HasRead (order_in records) 0 first (R.remaining reader.old)
+        → ReadsUpToRecord last first (R.remaining reader.new) }
     ensures steady { OnOk result (R.failure_count reader.new ≡ R.failure_count reader.old) }
 {
     for _ in 0..last {
@@ -80,6 +86,7 @@ pub fn store<R: Source>(alloc: Global, p: Params, reader: &mut R) -> Result<Stor
     // A fault from 20 to 28, and no other, speaks of a side.
     ensures side { IfErr result (λ f. IsSome f.end ↔ (redundancy_length ≤ f.number) × (f.number ≤ number_gap)) }
     ensures begun { OnErr result ((bs : List ℕ) × Consumes (R.remaining reader.old) (R.remaining reader.new) bs) }
+    ensures bounded { ReadsUpToRecord p.last_record (R.remaining reader.old) (R.remaining reader.new) }
     ensures steady { OnOk result (R.failure_count reader.new ≡ R.failure_count reader.old) }
 {
     let last = p.last_record();

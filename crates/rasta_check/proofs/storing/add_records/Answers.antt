@@ -1,5 +1,6 @@
 use Rattle.std.proofs.Common.{◌≡◌, ◌∙◌, ◌+◌, ◌-◌, ℕ, Ok, subst, sym, inl, inr, ⊎_elim, arith}
 use Rattle.rasta_pcap.specs.Stream.{ReadsSo}
+use Rattle.rasta_pcap.proofs.Extents.{HasRead-more, ReadsUpToRecord-part, ReadsUpToRecord-whole}
 use Rattle.rasta_check.specs.Storing.{IsFailure, crossing_left}
 use Rattle.rasta_check.proofs.Underway.{Underway-begun, Underway-ends, Underway-left, Underway-record, all_at_end, all_with_window, every_left}
 use Rattle.rasta_check.proofs.storing.add_records.Goals as goal
@@ -19,6 +20,10 @@ returns-in-Err-clause-err g c =
 pub returns-in-Err-clause-begun : goal.returns-in-Err-clause-begun
 returns-in-Err-clause-begun g c = Underway-begun _ _ _ _ _ c.loop.invariant.0 c.in-Err.ensures.begun
 
+pub returns-in-Err-clause-bounded : goal.returns-in-Err-clause-bounded
+returns-in-Err-clause-bounded g c first start =
+    ReadsUpToRecord-part c.args.last _ c.loop.counter first _ _ (c.loop.invariant.4 first start) c.loop-test.true c.in-Err.ensures.within
+
 pub loop-preserved : goal.loop-preserved
 loop-preserved g c =
     let more : ℕ = c.args.last - (c.loop.counter + 1) in
@@ -27,6 +32,8 @@ loop-preserved g c =
       Underway-record _ _ _ _ _ more _ _ _ before added,
       c.in-Ok-true.ensures.steady ∙ c.loop.invariant.1,
       added.goes_on,
+      omega (arith, c.loop-test.true),
+      λ first start. rw added.order (HasRead-more _ c.loop.counter _ _ first _ _ (c.loop.invariant.4 first start) added.read),
     )
 
 pub returns-clause-value : goal.returns-clause-value
@@ -44,4 +51,13 @@ returns-clause-value g c =
           let before = Underway-left _ k records c.args.last c.loop.counter _ _ w.loop-test.true c.loop.invariant.0 in
           let end = rw w.in-Ok-false.field-0-test at w.in-Ok-false.ensures.next in
           rw (w.reader-is, w.store-is, end.0) (Underway-ends _ _ _ _ _ _ before (all_at_end k records more _ _ end.1))
+    ]
+
+pub returns-clause-bounded : goal.returns-clause-bounded
+returns-clause-bounded g c first start =
+    let h = c.loop.invariant.4 first start in
+    elim c.loop-test.branch [
+      | else-loop-test w ↦ rw w.reader-is (ReadsUpToRecord-whole c.args.last _ c.loop.counter first _ h c.loop.invariant.3)
+      | then-loop-test+in-Ok-false w ↦
+          rw w.reader-is (ReadsUpToRecord-part c.args.last _ c.loop.counter first _ _ h w.loop-test.true w.in-Ok-false.ensures.within)
     ]

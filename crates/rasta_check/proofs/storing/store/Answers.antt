@@ -1,4 +1,5 @@
 use Rattle.std.proofs.Common.{subst}
+use Rattle.rasta_pcap.proofs.Extents.{HasRead-opened, ReadsUpToRecord-header}
 use Rattle.rasta_pcap.proofs.Sending.{on_err_map}
 use Rattle.rasta_check.specs.Reading.{Crossing, crossing_of}
 use Rattle.rasta_check.specs.Storing.{crossing_left}
@@ -29,6 +30,9 @@ returns-in-Ok-clause-side g c = answer_sided c.args.p _ _ _ _ c.add_records.resu
 pub returns-in-Ok-clause-begun : goal.returns-in-Ok-clause-begun
 returns-in-Ok-clause-begun g c = on_err_map c.add_records.result (Underway-begun _ _ _ _ _ (opened g c)) c.add_records.ensures.begun
 
+pub returns-in-Ok-clause-bounded : goal.returns-in-Ok-clause-bounded
+returns-in-Ok-clause-bounded g c = rw (← c.last_record-last.ensures.value) (c.add_records.ensures.bounded _ (HasRead-opened _ _ _ c.in-Ok.ensures.opened))
+
 pub returns-in-Err-clause-err : goal.returns-in-Err-clause-err
 returns-in-Err-clause-err g c = header_answer c.args.p _ c.in-Err.fault _ _ _ _ c.last_record-last.ensures.valid c.in-Err.ensures.err
 
@@ -37,3 +41,6 @@ returns-in-Err-clause-side g c = refused_names_side c.args.p c.in-Err.fault _ _ 
 
 pub returns-in-Err-clause-begun : goal.returns-in-Err-clause-begun
 returns-in-Err-clause-begun g c = header_begun _ c.in-Err.fault _ _ _ _ c.in-Err.ensures.err
+
+pub returns-in-Err-clause-bounded : goal.returns-in-Err-clause-bounded
+returns-in-Err-clause-bounded g c = ReadsUpToRecord-header c.args.p.last_record _ _ c.in-Err.ensures.bounded
