@@ -59,4 +59,5 @@ pub mod Filed
 pub mod Keeping
 pub mod Sides
 pub mod Stored
-pub mod Storing
+pub mod Growing
+pub mod Underway

@@ -17,3 +17,4 @@ pub mod Headline
 pub mod Verdicts
 pub mod Datagrams
 pub mod Stored
+pub mod Storing

@@ -15,6 +15,7 @@ mod reading;
 mod report;
 mod sent_list;
 mod span_list;
+mod storing;
 mod surely_taken;
 
 pub use checker::{check, check_lists, check_sent, check_store};
@@ -27,3 +28,4 @@ pub use reading::sent;
 pub use report::{Report, Taken, TakenList};
 pub use sent_list::SentList;
 pub use span_list::SpanList;
+pub use storing::store;

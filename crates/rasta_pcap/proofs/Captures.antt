@@ -13,13 +13,13 @@ use Rattle.rasta_pcap.proofs.Headers.{at_start, opening-header, opening-is_heade
 -- From the bytes to the relation.
 
 -- the next record as it stands in the file
-record EntryInFront (c : Cursor) (bytes : List ℕ) : Type 0 where
-  entry : Entry
-  is_entry : IsEntry c.order entry
-  front : c.rest ≡ entry_bytes entry ++ (behind c).rest
-  bytes_are : bytes ≡ entry.bytes
+pub record EntryInFront (c : Cursor) (bytes : List ℕ) : Type 0 where
+  pub entry : Entry
+  pub is_entry : IsEntry c.order entry
+  pub front : c.rest ≡ entry_bytes entry ++ (behind c).rest
+  pub bytes_are : bytes ≡ entry.bytes
 
-entry_in_front : (c : Cursor) (r : Numbered) → IsInFront c r → EntryInFront c r.1
+pub entry_in_front : (c : Cursor) (r : Numbered) → IsInFront c r → EntryInFront c r.1
 entry_in_front c r h =
     let captured = length_in_front c in
     let after = drop 16 c.rest in

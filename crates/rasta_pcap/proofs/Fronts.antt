@@ -141,7 +141,7 @@ meets_end order count front old new filled h =
     (subst (Consumes old new) (nil_from_length front none) filled.consumed, filled.at_end (omega arith))
 
 -- the header of a record that goes on
-taken_front : (front more : List ℕ) → length front ≡ 16 → take 16 (front ++ more) ≡ front
+pub taken_front : (front more : List ℕ) → length front ≡ 16 → take 16 (front ++ more) ≡ front
 taken_front front more size = ap (λ n. take n (front ++ more)) (sym size) ∙ take-append_seam front more
 
 next-whole_front : (order : Endianness) (count : ℕ) (front more : List ℕ) (f : Fault) → length front ≡ 16

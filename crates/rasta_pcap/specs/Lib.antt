@@ -5,5 +5,6 @@ pub mod FailAt
 pub mod Capture
 pub mod Filling
 pub mod Fronts
+pub mod Extent
 pub mod Stream
 pub mod Reader

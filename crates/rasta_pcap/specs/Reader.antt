@@ -6,6 +6,7 @@ use Rattle.rasta_pcap.specs.declared.stream.Progress.TheVariants.{Reading}
 use Rattle.rasta_pcap.specs.declared.stream.RecordReader.{RecordReader}
 use Rattle.rasta_pcap.specs.declared.stream.Stream.{Stream}
 use Rattle.rasta_pcap.specs.Capture.{max_captured}
+use Rattle.rasta_pcap.specs.Extent.{ReadsWithinRecord}
 use Rattle.rasta_pcap.specs.Stream.{order_in, count_in, progress_of, lent_by, room_in, FailsWithin, LacksMemory, ReadsRecord, MeetsEnd, RefusesRecord, again, after_answer, count_after}
 
 abbrev pub reader_of : {R : Type 0} → Stream R → R
@@ -23,6 +24,7 @@ pub record Advances (old new : RecordReader) (old_input new_input : Option (List
       FailsWithin (16 + max_captured) f old_count new_count old_input new_input
       ⊎ (LacksMemory (order_in old) (room_in old) f old_input new_input
       ⊎ RefusesRecord (order_in old) (count_in old) f old_input new_input))
+  pub within : progress_of old ≡ Reading → ReadsWithinRecord (order_in old) old_input new_input
   pub same : progress_of old ≢ Reading → answer ≡ again (progress_of old)
   pub idle : progress_of old ≢ Reading → (new ≡ old) × (new_input ≡ old_input) × (new_count ≡ old_count)
   pub order : order_in new ≡ order_in old

@@ -4,6 +4,7 @@ ghost use Rattle.std.specs.Io.KnownBytes.{Consumes};
 ghost use Rattle.rasta_pcap.specs.Fault.{no_memory, read_failed};
 ghost use Rattle.rasta_pcap.specs.Devices.{HasFailed};
 ghost use Rattle.rasta_pcap.specs.Capture.{max_captured, max_records};
+ghost use Rattle.rasta_pcap.specs.Extent.{ReadsWithinRecord};
 ghost use Rattle.rasta_pcap.specs.Filling.{IsFilled, ReadsUpTo};
 ghost use Rattle.rasta_pcap.specs.Fronts.{front_of};
 
@@ -147,6 +148,7 @@ impl RecordReader {
         ensures err { IfErr result (λ f.
             FailsWithin 24 f (S.failure_count reader.old) (S.failure_count reader.new) (S.remaining reader.old) (S.remaining reader.new)
             ⊎ RefusesHeader f (S.remaining reader.old) (S.remaining reader.new)) }
+        ensures bounded { ReadsUpTo 24 (S.remaining reader.old) (S.remaining reader.new) }
         ensures steady { OnOk result (S.failure_count reader.new ≡ S.failure_count reader.old) }
     {
         let mut header = [0; FILE_HEADER];
@@ -202,6 +204,7 @@ impl RecordReader {
             (S.remaining reader.old) (S.remaining reader.new)
             ⊎ (LacksMemory (order_in self.old) (room_in self.old) f (S.remaining reader.old) (S.remaining reader.new)
             ⊎ RefusesRecord (order_in self.old) (count_in self.old) f (S.remaining reader.old) (S.remaining reader.new))) }
+        ensures within { ReadsWithinRecord (order_in self.old) (S.remaining reader.old) (S.remaining reader.new) }
         ensures steady { OnOk result (S.failure_count reader.new ≡ S.failure_count reader.old) }
         ensures order { order_in self.new ≡ order_in self.old }
         ensures count { count_in self.new ≡ count_after (count_in self.old) result }
@@ -243,9 +246,10 @@ impl<R: Source + Drop> Stream<R> {
         ensures opened { IfOk result (λ s. Opens (order_in (records_of s)) (R.remaining reader) (R.remaining (reader_of s))) }
         ensures start { IfOk result (λ s. (count_in (records_of s) ≡ 0) × (progress_of (records_of s) ≡ Reading)
             × (lent_by (records_of s) ≡ [])) }
-        ensures err { IfErr result (λ f. (left : R) × (
+        ensures err { IfErr result (λ f. (left : R) × ReadsUpTo 24 (R.remaining reader) (R.remaining left) × (
             FailsWithin 24 f (R.failure_count reader) (R.failure_count left) (R.remaining reader) (R.remaining left)
             ⊎ RefusesHeader f (R.remaining reader) (R.remaining left))) }
+        ensures bounded { IfOk result (λ s. ReadsUpTo 24 (R.remaining reader) (R.remaining (reader_of s))) }
         ensures steady { IfOk result (λ s. R.failure_count (reader_of s) ≡ R.failure_count reader) }
     {
         let records = RecordReader::open(alloc, &mut reader)?;

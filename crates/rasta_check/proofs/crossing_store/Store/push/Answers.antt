@@ -4,7 +4,7 @@ use Rattle.rasta_check.specs.declared.crossing_store.Store.TheInside.{Inside}
 use Rattle.rasta_check.specs.declared.crossing_store.StoredPacket.{StoredPacket}
 use Rattle.rasta_check.specs.Reading.{Crossing, IsCrossing, with_packet}
 use Rattle.rasta_check.specs.Stored.{IsJudged, IsStore, crossing_by}
-use Rattle.rasta_check.proofs.Storing.{datagram_fits, grown_copy, grown_new}
+use Rattle.rasta_check.proofs.Growing.{datagram_fits, grown_copy, grown_new}
 use Rattle.rasta_check.proofs.crossing_store.Store.push.Goals as goal
 use Rattle.rasta_check.proofs.crossing_store.Store.push.Goals.{in-Some, in-None+in_ok-push-in-None}
 

@@ -2,9 +2,11 @@ use Rattle.std.proofs.Common.{◌≡◌, ◌<◌, ◌⊎◌, ◌+◌, ℕ, Optio
 use Rattle.rasta_pcap.specs.declared.fault.Fault.{Fault}
 use Rattle.rasta_pcap.specs.Devices.{HasFailed}
 use Rattle.rasta_pcap.specs.Capture.{captured_length, max_captured}
+use Rattle.rasta_pcap.specs.Extent.{ReadsWithinRecord}
 use Rattle.rasta_pcap.specs.Filling.{IsFilled}
 use Rattle.rasta_pcap.specs.Fronts.{front_of}
 use Rattle.rasta_pcap.specs.Stream.{ReadsJust, bytes_in, order_in, count_in, room_in, FailsWithin, LacksMemory, RefusesRecord}
+use Rattle.rasta_pcap.proofs.Extents.{filled-ReadsUpTo, ReadsWithinRecord-bytes, ReadsWithinRecord-header}
 use Rattle.rasta_pcap.proofs.Fronts.{front_of-some, lacks_memory, reads_record, reads_up_to, refuses_body, refuses_front}
 use Rattle.rasta_pcap.proofs.stream.RecordReader.read_record.Goals as goal
 
@@ -75,3 +77,39 @@ returns-clause-found g c =
     let body = bytes_in c.read.new.self in
     let same = ap length c.lend.ensures.bytes in
     reads_record order count c.in-Some.captured front body old mid new c.in_ok-filled.ensures.filled said c.in_ok-read.ensures.filled (omega arith)
+
+pub returns-in_err-read-clause-within : goal.returns-in_err-read-clause-within
+returns-in_err-read-clause-within g c =
+    let old = g.S.Source.remaining c.args.reader.now in
+    let mid = g.S.Source.remaining c.fill.new.reader in
+    let new = g.S.Source.remaining c.read.new.reader in
+    let order = order_in c.args.self.now in
+    let count = count_in c.args.self.now in
+    let front = take c.in_ok-filled.filled c.fill.new.buf in
+    let filled : IsFilled 16 old mid front = c.in_ok-filled.ensures.filled in
+    let said : front_of order count front ≡ Ok (Some c.in-Some.captured) = sym c.in_ok-captured.ensures ∙ ap found c.in-Some.is in
+    elim c.in_err-read.ensures.err [
+      | inl m ↦ subst (λ (s : g.row.S.Denot). ReadsWithinRecord order old (g.S.Source.remaining s)) (sym m.2)
+          (ReadsWithinRecord-header order old mid (filled-ReadsUpTo 16 front old mid filled))
+      | inr r ↦ ReadsWithinRecord-bytes order count c.in-Some.captured front old mid new filled said r.2
+    ]
+
+pub returns-then-lend-captured-clause-within : goal.returns-then-lend-captured-clause-within
+returns-then-lend-captured-clause-within g c =
+    let mid = g.S.Source.remaining c.fill.new.reader in
+    let new = g.S.Source.remaining c.read.new.reader in
+    let front = take c.in_ok-filled.filled c.fill.new.buf in
+    let captured = c.in-Some.captured in
+    let said : front_of (order_in c.args.self.now) (count_in c.args.self.now) front ≡ Ok (Some captured) = sym c.in_ok-captured.ensures ∙ ap found c.in-Some.is in
+    ReadsWithinRecord-bytes (order_in c.args.self.now) (count_in c.args.self.now) captured front (g.S.Source.remaining c.args.reader.now) mid new
+    c.in_ok-filled.ensures.filled said (filled-ReadsUpTo captured (bytes_in c.read.new.self) mid new c.in_ok-read.ensures.filled)
+
+pub returns-clause-within : goal.returns-clause-within
+returns-clause-within g c =
+    let mid = g.S.Source.remaining c.fill.new.reader in
+    let new = g.S.Source.remaining c.read.new.reader in
+    let front = take c.in_ok-filled.filled c.fill.new.buf in
+    let captured = c.in-Some.captured in
+    let said : front_of (order_in c.args.self.now) (count_in c.args.self.now) front ≡ Ok (Some captured) = sym c.in_ok-captured.ensures ∙ ap found c.in-Some.is in
+    ReadsWithinRecord-bytes (order_in c.args.self.now) (count_in c.args.self.now) captured front (g.S.Source.remaining c.args.reader.now) mid new
+    c.in_ok-filled.ensures.filled said (filled-ReadsUpTo captured (bytes_in c.read.new.self) mid new c.in_ok-read.ensures.filled)

@@ -1,0 +1,19 @@
+use Rattle.std.proofs.Common.{◌∙◌, ap, inl, inr, sym, ⊎_elim}
+use Rattle.rasta_check.specs.Reading.{after_record}
+use Rattle.rasta_check.proofs.Underway.{next_faulty, why_begun, why_faulty}
+use Rattle.rasta_check.proofs.storing.add_next.Goals as goal
+
+pub returns-in-Err-add_record-clause-err : goal.returns-in-Err-add_record-clause-err
+returns-in-Err-add_record-clause-err g c =
+    let k = c.args.store.now in
+    let found = rw c.in-Ok-Some.field-0-is at (c.in-Ok-Some.ensures.step.found c.requires) in
+    ⊎_elim
+    (λ e. inl (inl e))
+    (λ e. inr (next_faulty k c.args.records.now c.in-Ok-Some.number _ c.in-Err-add_record.fault _ _ found (ap (λ b. after_record k (c.in-Ok-Some.number, b)) (sym c.buffer-bytes.ensures.bytes) ∙ e)))
+    c.in-Err-add_record.ensures
+
+pub returns-in-Err-clause-err : goal.returns-in-Err-clause-err
+returns-in-Err-clause-err g c = why_faulty c.args.store.now _ c.args.records.now _ c.in-Err.fault _ _ _ _ (c.in-Err.ensures.step.err c.requires)
+
+pub returns-in-Err-clause-begun : goal.returns-in-Err-clause-begun
+returns-in-Err-clause-begun g c = why_begun _ c.args.records.now _ c.in-Err.fault _ _ _ _ (c.in-Err.ensures.step.err c.requires)
