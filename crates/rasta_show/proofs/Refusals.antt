@@ -1,5 +1,5 @@
 -- Refusals of a capture are told from faults of memory and of its reader by their numbers.
-use Rattle.std.proofs.Common.{◌≡◌, ◌⊎◌, inl, inr, ◌+◌, ◌≤◌, ◌++◌, ℕ, List, [], Option, Some, None, Result, Ok, Err, Bool, true, false, cond, length, take, drop, nat_eq, nat_le, nat_lt, refl, ap, subst, arith}
+use Rattle.std.proofs.Common.{◌≡◌, ◌⊎◌, inl, inr, ◌+◌, ◌≤◌, ◌++◌, ℕ, List, [], Option, Some, None, Result, Ok, Err, Bool, true, false, cond, length, nat_eq, nat_le, nat_lt, refl, ap, subst, arith}
 use Rattle.std.proofs.lemmas.Bool.{leb-true, leb-false}
 use Rattle.std.specs.Io.KnownBytes.{Consumes}
 use Rattle.rasta_pcap.specs.declared.fault.Fault.{Fault}

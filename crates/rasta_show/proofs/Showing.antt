@@ -2,7 +2,7 @@
 use Rattle.std.proofs.Common.{◌≡◌, ℕ, suc, zero, ◌+◌, ◌-◌, ◌<◌, ◌++◌, append_assoc, List, [], ◌∷◌, length, Some, None, refl, ap, ◌∙◌, arith}
 use Rattle.rasta_pcap.specs.declared.fault.Fault.{Fault}
 use Rattle.rasta_pcap.specs.declared.pcap.Endianness.{Endianness}
-use Rattle.rasta_pcap.specs.Capture.{Numbered, Reading, cursor_at, reading, reading_of, with_record}
+use Rattle.rasta_pcap.specs.Capture.{Numbered, Reading, cursor_at, reading, with_record}
 use Rattle.rasta_pcap.proofs.Steps.{reading-none_left}
 use Rattle.rasta_pdu.specs.Params.{Parameters}
 use Rattle.rasta_show.specs.Lines.{Packet, packet_line, packets_line, refused_line}

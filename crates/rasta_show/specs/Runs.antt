@@ -2,8 +2,10 @@
 use Rattle.std.specs.Prelude.{◌≡◌, ◌⊎◌, Bool, true, ℕ, List, ◌++◌, Option}
 use Rattle.std.specs.Io.KnownBytes.{Appends, Consumes, IsAtEnd}
 use Rattle.rasta_pcap.specs.declared.fault.Fault.{Fault}
+use Rattle.rasta_pcap.specs.declared.pcap.Endianness.{Endianness}
 use Rattle.rasta_pcap.specs.Fault.{no_memory, read_failed, write_failed}
 use Rattle.rasta_pcap.specs.Devices.{HasFailed}
+use Rattle.rasta_pcap.specs.Extent.{HasRead, ReadsUpToRecord}
 pub use Rattle.rasta_pcap.specs.Stream.{MayFollow}
 
 -- some input was read, perhaps to its end, and what was written is the text of every input that
@@ -30,6 +32,10 @@ pub record WritesBeginning (text : List ℕ → List ℕ)
   pub output : List ℕ
   pub appended : Appends old_output new_output output
   pub begins : (more : List ℕ) → MayFollow met_end more → (rest : List ℕ) × (text (input ++ more) ≡ output ++ rest)
+
+-- where the header of a capture was read before and no record, nothing was read after the record with this number
+abbrev pub GoesUpToRecord : Endianness → ℕ → Option (List ℕ) → Option (List ℕ) → Type 0
+GoesUpToRecord order limit old new = (first : Option (List ℕ)) → HasRead order 0 first old → ReadsUpToRecord limit first new
 
 -- out of memory, a reader that failed, or a writer that failed or took no byte
 abbrev pub IsRunFault : Fault → ℕ → ℕ → ℕ → ℕ → Type 0

@@ -3,7 +3,8 @@ ghost use Rattle.std.specs.Prelude.{◌≡◌, IfOk, IfErr, OnOk, OnErr, nat_le,
 ghost use Rattle.std.specs.Io.KnownBytes.{Appends};
 ghost use Rattle.rasta_pcap.specs.Fault.{not_pcap, write_failed};
 ghost use Rattle.rasta_pcap.specs.Devices.{AppendsBeginning, HasFailed};
-ghost use Rattle.rasta_pcap.specs.Stream.{progress_of};
+ghost use Rattle.rasta_pcap.specs.Extent.{ReadsUpToRecord};
+ghost use Rattle.rasta_pcap.specs.Stream.{order_in, progress_of};
 ghost use Rattle.rasta_pcap.specs.declared.stream.Progress.TheVariants.{Reading};
 ghost use Rattle.rasta_pdu.specs.Params.{AreParameters};
 ghost use Rattle.rasta_pdu.specs.Pdu.{decode_of};
@@ -11,7 +12,7 @@ ghost use Rattle.rasta_show.specs.Show.{show_status, show_text, sight_of, sight_
 ghost use Rattle.rasta_show.specs.Lines.{refused_line};
 ghost use Rattle.rasta_show.specs.Shown.{sight_in, status_left, text_left};
 ghost use Rattle.rasta_udp.specs.Frame.{packet_in, packet_of};
-ghost use Rattle.rasta_show.specs.Runs.{IsRunFault, WritesBeginning, WritesText};
+ghost use Rattle.rasta_show.specs.Runs.{GoesUpToRecord, IsRunFault, WritesBeginning, WritesText};
 
 use crate::line::Line;
 use crate::packet::write_packet;
@@ -113,6 +114,7 @@ fn write_records<R: Source, W: Sink>(
         (R.remaining reader.old) (R.remaining reader.new) (W.contents writer.old) (W.contents writer.new)) }
     ensures begun { OnErr result (WritesBeginning (text_left params.now records)
         (R.remaining reader.old) (R.remaining reader.new) (W.contents writer.old) (W.contents writer.new)) }
+    ensures bounded { GoesUpToRecord (order_in records) params.now.last_record (R.remaining reader.old) (R.remaining reader.new) }
     ensures err { IfErr result (λ f. IsRunFault f (R.failure_count reader.old) (R.failure_count reader.new)
         (W.failure_count writer.old) (W.failure_count writer.new)) }
 {
@@ -155,6 +157,7 @@ pub fn run_show<R: Source, W: Sink>(
         (R.remaining reader.old) (R.remaining reader.new) (W.contents writer.old) (W.contents writer.new)) }
     ensures begun { OnErr result (WritesBeginning (show_text params.now)
         (R.remaining reader.old) (R.remaining reader.new) (W.contents writer.old) (W.contents writer.new)) }
+    ensures bounded { ReadsUpToRecord params.now.last_record (R.remaining reader.old) (R.remaining reader.new) }
     ensures err { IfErr result (λ f. IsRunFault f (R.failure_count reader.old) (R.failure_count reader.new)
         (W.failure_count writer.old) (W.failure_count writer.new)) }
 {

@@ -1,4 +1,5 @@
 use Rattle.std.proofs.Common.{ap, refl, sym}
+use Rattle.rasta_pcap.proofs.Extents.{HasRead-opened}
 use Rattle.rasta_pcap.proofs.Sending.{on_err_map}
 use Rattle.rasta_show.specs.Show.{Shown, show_status, show_text, shown, status_after, text_from}
 use Rattle.rasta_show.specs.Runs.{WritesText}
@@ -60,3 +61,6 @@ pub returns-in-Err-2-clause-err : goal.returns-in-Err-2-clause-err
 returns-in-Err-2-clause-err g c =
     let why = header_broken _ c.in-Err.fault _ _ _ _ (sym c.if-is_refusal.ensures) c.in-Err.ensures.err in
     broken_run c.in-Err.fault _ _ _ _ _ refl why.2
+
+pub returns-in-Ok-clause-bounded : goal.returns-in-Ok-clause-bounded
+returns-in-Ok-clause-bounded g c = c.write_records.ensures.bounded _ (HasRead-opened _ _ _ c.in-Ok.ensures.opened)

@@ -1,9 +1,10 @@
 use Rattle.std.proofs.Common.{◌≡◌, ◌∙◌, ◌+◌, ◌-◌, ℕ, List, ap, subst, sym, arith}
-use Rattle.rasta_pcap.specs.Stream.{ReadsSo, count_in, lent_by, order_in}
+use Rattle.rasta_pcap.specs.Stream.{ReadsSo, count_in, order_in}
 use Rattle.rasta_pcap.proofs.Sending.{on_err_map, where_failed}
 use Rattle.rasta_show.specs.Show.{packet, passed_over, refused, sight_of}
 use Rattle.rasta_show.specs.Runs.{WritesText}
-use Rattle.rasta_show.specs.Shown.{packet_of, shown_left, status_left, text_left}
+use Rattle.rasta_show.specs.Shown.{packet_of, status_left, text_left}
+use Rattle.rasta_show.proofs.Bounds.{GoesUpToRecord-part, GoesUpToRecord-whole, HasReadMore-more}
 use Rattle.rasta_show.proofs.Refusals.{broken_run, where_broken, where_refused}
 use Rattle.rasta_show.proofs.Showing.{left-after, nothing, refusal, text_from-fault, text_from-nothing}
 use Rattle.rasta_show.proofs.Streaming.{Streams-broken, Streams-ends, Streams-ends_begun, Streams-left, Streams-packet, Streams-packet_begun, Streams-passed, ends_at_end, ends_at_fault, ends_refused, ends_with_window, left_shown, refused_answer, sees_record}
@@ -103,6 +104,7 @@ loop-preserved g c =
     let progress = rw c.in-Ok-Some.field-0-is at step.progress in
     let sight = ap (λ (b : List ℕ). sight_of p (c.in-Ok-Some.number, b)) c.buffer-bytes.ensures.bytes in
     let before = Streams-left _ _ _ _ _ end c.loop.counter _ _ _ _ c.loop-test.true c.loop.invariant.0 in
+    let one_more = HasReadMore-more _ (order_in old) c.loop.counter (count_in old) _ _ _ _ c.loop.invariant.7 found in
     elim c.match-sight.branch [
       | in-PassedOver w ↦ (
         rw (w.writer-is, w.place-is, step.order, count) (Streams-passed _ _ _ c.loop.place _ _ _ _ _ before
@@ -112,6 +114,8 @@ loop-preserved g c =
         progress,
         omega arith,
         c.loop.invariant.5,
+        omega arith,
+        rw step.order one_more,
       )
       | in-Packet+in_ok-write_packet-in-Packet w ↦
           let q = packet_of w.in-Packet.packet in (
@@ -123,6 +127,8 @@ loop-preserved g c =
             progress,
             omega arith,
             c.loop.invariant.5,
+            omega arith,
+            rw step.order one_more,
           )
     ]
 
@@ -173,3 +179,43 @@ returns-clause-text g c =
     Streams-ends _ _ c.loop.place nothing c.as_bytes.result.now _ _ _ _ _ _
     c.loop.invariant.0 ended (text_from-nothing c.loop.place ∙ sym (c.as_bytes.ensures ∙ c.count_line.ensures))
     c.in_ok-write_all.ensures.ok
+
+-- ---- nothing is read after the window's last record
+
+pub returns-in-Err-clause-bounded : goal.returns-in-Err-clause-bounded
+returns-in-Err-clause-bounded g c = GoesUpToRecord-part _ c.last_record-end.result _ (order_in c.loop.records) c.loop.counter _ _ _
+    c.loop.invariant.7 c.loop-test.true c.loop.invariant.5 (c.in-Err.ensures.step.within c.loop.invariant.3)
+
+pub returns-in-Err-2-clause-bounded : goal.returns-in-Err-2-clause-bounded
+returns-in-Err-2-clause-bounded g c = GoesUpToRecord-part _ c.last_record-end.result _ (order_in c.loop.records) c.loop.counter _ _ _
+    c.loop.invariant.7 c.loop-test.true c.loop.invariant.5 (c.in-Err.ensures.step.within c.loop.invariant.3)
+
+pub returns-in_err-write_packet-in-Packet-clause-bounded : goal.returns-in_err-write_packet-in-Packet-clause-bounded
+returns-in_err-write_packet-in-Packet-clause-bounded g c = GoesUpToRecord-part _ c.last_record-end.result _ (order_in c.loop.records) c.loop.counter _ _ _
+    c.loop.invariant.7 c.loop-test.true c.loop.invariant.5 (c.in-Ok-Some.ensures.step.within c.loop.invariant.3)
+
+pub returns-in-Refused-clause-bounded : goal.returns-in-Refused-clause-bounded
+returns-in-Refused-clause-bounded g c = GoesUpToRecord-part _ c.last_record-end.result _ (order_in c.loop.records) c.loop.counter _ _ _
+    c.loop.invariant.7 c.loop-test.true c.loop.invariant.5 (c.in-Ok-Some.ensures.step.within c.loop.invariant.3)
+
+pub returns-in_err-write_all-clause-bounded : goal.returns-in_err-write_all-clause-bounded
+returns-in_err-write_all-clause-bounded g c =
+    let limit = c.args.params.now.last_record in
+    let end : ℕ = c.last_record-end.result in
+    let order = order_in c.loop.records in
+    elim c.loop-test.branch [
+      | else-loop-test w ↦ rw w.reader-is (GoesUpToRecord-whole limit end _ order c.loop.counter _ _ c.loop.invariant.7 c.loop.invariant.6 c.loop.invariant.5)
+      | then-loop-test+in-Ok-None w ↦ rw w.reader-is (GoesUpToRecord-part limit end _ order c.loop.counter _ _ _
+          c.loop.invariant.7 w.loop-test.true c.loop.invariant.5 (w.in-Ok-None.ensures.step.within c.loop.invariant.3))
+    ]
+
+pub returns-clause-bounded : goal.returns-clause-bounded
+returns-clause-bounded g c =
+    let limit = c.args.params.now.last_record in
+    let end : ℕ = c.last_record-end.result in
+    let order = order_in c.loop.records in
+    elim c.loop-test.branch [
+      | else-loop-test w ↦ rw w.reader-is (GoesUpToRecord-whole limit end _ order c.loop.counter _ _ c.loop.invariant.7 c.loop.invariant.6 c.loop.invariant.5)
+      | then-loop-test+in-Ok-None w ↦ rw w.reader-is (GoesUpToRecord-part limit end _ order c.loop.counter _ _ _
+          c.loop.invariant.7 w.loop-test.true c.loop.invariant.5 (w.in-Ok-None.ensures.step.within c.loop.invariant.3))
+    ]

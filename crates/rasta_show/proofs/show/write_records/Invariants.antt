@@ -2,10 +2,12 @@ use Rattle.std.proofs.Common.{◌≡◌, ◌-◌, ◌≤◌}
 use Rattle.rasta_pcap.specs.declared.stream.Progress.TheVariants.{Reading}
 use Rattle.rasta_pcap.specs.Stream.{count_in, order_in, progress_of}
 use Rattle.rasta_show.specs.Shown.{shown_left}
+use Rattle.rasta_show.proofs.Bounds.{HasReadMore}
 use Rattle.rasta_show.proofs.Streaming.{Streams, left_shown}
 use Rattle.rasta_show.proofs.show.write_records.Given as goal
 
--- what was written, and then what the rest shows, is the whole text, no call of a device failed, and the reading goes on
+-- what was written, and then what the rest shows, is the whole text, no call of a device failed, the reading goes on, and as
+-- many records were read as were counted
 abbrev pub invariant-loop : goal.invariant-loop
 invariant-loop g l =
     Streams (shown_left l.params l.fn.records)
@@ -16,3 +18,5 @@ invariant-loop g l =
     × (progress_of l.records ≡ Reading)
     × (l.place ≤ l.counter)
     × (l.end ≡ l.params.last_record)
+    × (l.counter ≤ l.end)
+    × HasReadMore (order_in l.fn.records) (order_in l.records) l.counter (g.R.Source.remaining l.fn.reader) (g.R.Source.remaining l.reader)
