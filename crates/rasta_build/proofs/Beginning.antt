@@ -14,7 +14,7 @@ use Rattle.rasta_check.proofs.Steps.{base, base_by}
 use Rattle.rasta_build.specs.Built.{built_at_start}
 use Rattle.rasta_build.specs.Choices.{peer_quiet_sn}
 use Rattle.rasta_build.proofs.Times.{NearDeadlines}
-use Rattle.rasta_build.proofs.Ready.{IsReady, IsTrail}
+use Rattle.rasta_build.proofs.Readiness.{IsReady, IsTrail}
 use Rattle.rasta_build.proofs.Stations.{Follows}
 
 pub record FirstEnd (q : Option Quiet) (s : Side) (e : EndState) : Type 0 where

@@ -31,9 +31,9 @@ use Rattle.rasta_check.proofs.HeldMake.{over_after}
 use Rattle.rasta_build.specs.Built.{Built}
 use Rattle.rasta_build.specs.Choices.{copy_at, is_in_front, wants_trigger}
 use Rattle.rasta_build.specs.Explaining.{catch_up, accept_through}
-use Rattle.rasta_build.proofs.Scanning.{is_gap, is_request_ahead}
-use Rattle.rasta_build.proofs.Lagging.{caught_itself}
-use Rattle.rasta_build.proofs.Making.{tests, none_of, reason_is, ReasonIs}
+use Rattle.rasta_build.proofs.Scans.{is_gap, is_request_ahead}
+use Rattle.rasta_build.proofs.Lags.{caught_itself}
+use Rattle.rasta_build.proofs.Makes.{tests, none_of, reason_is, ReasonIs}
 
 -- ---- the end of a connection
 

@@ -24,9 +24,9 @@ use Rattle.rasta_check.proofs.Held.{is_opener, has_peer}
 use Rattle.rasta_check.proofs.HeldTake.{Taken, place, index, flowing_peer, own_take}
 use Rattle.rasta_build.specs.Built.{Built}
 use Rattle.rasta_build.specs.Explaining.{catch_up}
-use Rattle.rasta_build.proofs.Ready.{IsReady, ConveysNoMore}
-use Rattle.rasta_build.proofs.Scanning.{AreCopies, Names, is_gap, is_request_ahead}
-use Rattle.rasta_build.proofs.Lagging.{IsLag, Accepting, lag_accepts}
+use Rattle.rasta_build.proofs.Readiness.{IsReady, ConveysNoMore}
+use Rattle.rasta_build.proofs.Scans.{AreCopies, Names, is_gap, is_request_ahead}
+use Rattle.rasta_build.proofs.Lags.{IsLag, Accepting, lag_accepts}
 
 -- ---- what holds of the run's end
 

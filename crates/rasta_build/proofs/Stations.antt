@@ -31,11 +31,11 @@ use Rattle.rasta_check.proofs.Valued.{Valued}
 use Rattle.rasta_build.specs.Built.{Built}
 use Rattle.rasta_build.specs.Choices.{first_sn_of}
 use Rattle.rasta_build.specs.Explaining.{catch_up, explain, earliest_by}
-use Rattle.rasta_build.proofs.Ready.{IsReady}
-use Rattle.rasta_build.proofs.Scanning.{AreCopies, is_gap}
-use Rattle.rasta_build.proofs.Lagging.{Pending, IsLag}
+use Rattle.rasta_build.proofs.Readiness.{IsReady}
+use Rattle.rasta_build.proofs.Scans.{AreCopies, is_gap}
+use Rattle.rasta_build.proofs.Lags.{Pending, IsLag}
 use Rattle.rasta_build.proofs.LagTakes.{lag_row}
-use Rattle.rasta_build.proofs.Explained.{IsOrigin, base_accepted, explains, gap_owes, ahead_owes}
+use Rattle.rasta_build.proofs.Explanations.{IsOrigin, base_accepted, explains, gap_owes, ahead_owes}
 
 pub record Live (p : Parameters) (start : Option ℕ) (side : Side) (quiet_sn : Option ℕ) (base0 : ℕ) (e : EndState) (taken : ℕ) (ms : List Made) (sent : List FirstCopy) (b : Built) : Type 0 where
   pub lag : IsLag p start side quiet_sn e taken ms sent b

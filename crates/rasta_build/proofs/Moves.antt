@@ -26,9 +26,9 @@ use Rattle.rasta_check.proofs.Telling.{Sends, sends_count}
 use Rattle.rasta_build.specs.Built.{Built}
 use Rattle.rasta_build.specs.Choices.{peer_quiet_sn}
 use Rattle.rasta_build.specs.Explaining.{explain, earliest_by}
-use Rattle.rasta_build.proofs.Growing.{lag_grows, origin_grows}
+use Rattle.rasta_build.proofs.Growth.{lag_grows, origin_grows}
 use Rattle.rasta_build.proofs.Stations.{Live, Follows, offered_few, follows_take, follows_make}
-use Rattle.rasta_build.proofs.Copied.{Begins, found_there, first_there}
+use Rattle.rasta_build.proofs.SentLists.{Begins, found_there, first_there}
 
 -- ---- the start's deadline
 

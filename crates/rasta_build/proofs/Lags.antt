@@ -15,8 +15,8 @@ use Rattle.rasta_check.proofs.Counting.{number}
 use Rattle.rasta_build.specs.Built.{Built}
 use Rattle.rasta_build.specs.Choices.{copy_at, is_response}
 use Rattle.rasta_build.specs.Explaining.{taken_by, take_step, accept_there, accept_step, accept_from, last_response, first_acceptable, accept_range, catch_up}
-use Rattle.rasta_build.proofs.Ready.{IsReady, ConveysNoMore, ready_step, ready_effect}
-use Rattle.rasta_build.proofs.Scanning.{AreCopies, Names, is_gap, is_request_ahead}
+use Rattle.rasta_build.proofs.Readiness.{IsReady, ConveysNoMore, ready_step, ready_effect}
+use Rattle.rasta_build.proofs.Scans.{AreCopies, Names, is_gap, is_request_ahead}
 
 -- ---- catching up by one position more
 

@@ -11,10 +11,10 @@ use Rattle.rasta_check.specs.Crossing.{FirstCopy}
 use Rattle.rasta_check.proofs.Lists.{get_front, get_front_within}
 use Rattle.rasta_check.proofs.Counting.{number, tally}
 use Rattle.rasta_build.specs.Built.{Built}
-use Rattle.rasta_build.proofs.Ready.{IsReady}
-use Rattle.rasta_build.proofs.Scanning.{is_gap, is_request_ahead}
-use Rattle.rasta_build.proofs.Lagging.{Pending, IsLag}
-use Rattle.rasta_build.proofs.Explained.{IsOrigin}
+use Rattle.rasta_build.proofs.Readiness.{IsReady}
+use Rattle.rasta_build.proofs.Scans.{is_gap, is_request_ahead}
+use Rattle.rasta_build.proofs.Lags.{Pending, IsLag}
+use Rattle.rasta_build.proofs.Explanations.{IsOrigin}
 
 tally_most : (b : Bool) (m n : ℕ) → m ≤ n → tally b m ≤ tally b n
 tally_most true m n h = omega arith

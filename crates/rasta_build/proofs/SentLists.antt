@@ -1,9 +1,11 @@
 -- The lists that a builder is given, and what has crossed of them so far.
-use Rattle.std.proofs.Common.{◌≡◌, ℕ, ◌+◌, ◌-◌, ◌<◌, ◌≤◌, false, List, [], ◌∷◌, ◌++◌, length, Option, Some, None, slice_get, refl, ap, sym, ◌∙◌, arith, subst, ⊎_elim}
+use Rattle.std.proofs.Common.{◌≡◌, ℕ, suc, ◌+◌, ◌-◌, ◌^◌, ◌<◌, ◌≤◌, false, List, [], ◌∷◌, ◌++◌, length, Option, Some, None, slice_get, refl, ap, sym, ◌∙◌, arith, subst, ⊎_elim}
 use Rattle.std.specs.Prelude.{◌==◌}
 use Rattle.std.proofs.lemmas.Bool.Decides.{nat_tests}
 use Rattle.std.proofs.lemmas.List.{length_push}
 use Rattle.std.proofs.lemmas.Option.{slice_get_within}
+use native.Mathlib.Decide.{dec_lt}
+use Prim.{yes, no}
 use Rattle.rasta_pcap.specs.declared.fault.Side.{Side}
 use Rattle.rasta_pcap.specs.declared.fault.Side.TheVariants.{Client, Server}
 use Rattle.rasta_udp.specs.Frame.{Packet}
@@ -17,11 +19,12 @@ use Rattle.rasta_check.specs.Theorem.{other_side}
 use Rattle.rasta_check.specs.Taken.{pdus_made, pdus_of}
 use Rattle.rasta_check.proofs.Lists.{get_front}
 use Rattle.rasta_check.proofs.Copies.{IsSent}
+use Rattle.rasta_check.proofs.Scripted.{slice_get_some, places_rise}
 use Rattle.rasta_check.proofs.Steps.{base, base_by}
 use Rattle.rasta_check.proofs.Following.{shorter}
 use Rattle.rasta_check.proofs.Telling.{Sends, copy_at as sent_at}
 use Rattle.rasta_build.specs.Choices.{peer_quiet_sn, member_at, copy_there, first_sn_of}
-use Rattle.rasta_build.proofs.Scanning.{AreCopies}
+use Rattle.rasta_build.proofs.Scans.{AreCopies}
 
 -- a list begins with what has crossed, and goes on with what crosses later
 pub record Begins (big own : List FirstCopy) (n : ℕ) : Type 0 where
@@ -117,3 +120,30 @@ first_by (Some q) Server Server own big later ms e h b l = absurd (cc)
 pub first_there : (p : Parameters) (s r : Side) (xs : List Packet) (peer big : List FirstCopy) (f : EndState) (first : ℕ) → r ≡ other_side s → Sends p r xs peer f first → Begins big peer (length xs)
     → 0 < length f.made → first_sn_of (peer_quiet_sn p.quiet s) big ≡ Some (first_sn f.made)
 first_there p s r xs peer big f first e h b l = first_by p.quiet s r peer big b.later f.made e h.same b.whole l
+
+-- ---- members
+
+-- a later member crosses later
+pub sent_rises : (p : Parameters) (packets : List Packet) (side : Side) (own : List FirstCopy) → IsSent p packets side own → (i j : ℕ) (a b : FirstCopy) → slice_get own i ≡ Some a → slice_get own j ≡ Some b → i ≤ j → a.place ≤ b.place
+sent_rises p packets side own h i j a b x y l =
+    elim (dec_lt i j) [
+      | yes z ↦ (let w : suc (j - suc i) + i ≡ j = omega arith in let r = places_rise p packets side own h (j - suc i) i a b x (subst (λ k. slice_get own k ≡ Some b) (sym w) y) in omega (arith, r))
+      | no z ↦ (let w : j ≡ i = omega arith in let e : a ≡ b = (let y' : slice_get own i ≡ Some b = subst (λ k. slice_get own k ≡ Some b) w y in cc) in let q = ap (λ (k : FirstCopy). k.place) e in omega (arith, q))
+    ]
+
+-- numbers have 32 bits
+pub sent_numbers : (p : Parameters) (packets : List Packet) (side : Side) (own : List FirstCopy) → IsSent p packets side own → (i : ℕ) (a : FirstCopy) → slice_get own i ≡ Some a → a.pdu.number < 2 ^ 32
+sent_numbers p packets side own h i a g = (let l = slice_get_within own i a g in let first = slice_get_some own 0 (omega (arith, l)) in let n = h.numbers i first.0 a first.1 g in omega (arith, n))
+
+-- each member is the copy of a packet
+pub sent_within : (p : Parameters) (packets : List Packet) (side : Side) (own : List FirstCopy) → IsSent p packets side own → (i : ℕ) (a : FirstCopy) → slice_get own i ≡ Some a → a.place < length packets
+sent_within p packets side own h i a g = (let f = h.firsts i a g in slice_get_within packets a.place f.0 f.1)
+
+-- members behind those that crossed cross later
+pub later_place : (p : Parameters) (packets : List Packet) (side : Side) (big own : List FirstCopy) (n j : ℕ) (d : FirstCopy) → IsSent p packets side big → Begins big own n → length own ≤ j → slice_get big j ≡ Some d → n ≤ d.place
+later_place p packets side big own n j d h b l g =
+    let w = slice_get_within big j d g in
+    let first = slice_get_some big (length own) (omega (arith, l, w)) in
+    let low = begun_next big own n first.0 b first.1 in
+    let r = sent_rises p packets side big h (length own) j first.0 d first.1 g l in
+    omega (arith, r, low)

@@ -21,7 +21,7 @@ use Rattle.rasta_check.proofs.Scripted.{slice_get_some}
 use Rattle.rasta_build.specs.Built.{Built}
 use Rattle.rasta_build.specs.Choices.{copy_at, is_trigger}
 use Rattle.rasta_build.specs.Explaining.{taken_by, try_at, scan, first_tried, take_trigger}
-use Rattle.rasta_build.proofs.Ready.{IsReady, ConveysNoMore, ready_step, ready_effect}
+use Rattle.rasta_build.proofs.Readiness.{IsReady, ConveysNoMore, ready_step, ready_effect}
 
 -- the peer's PDUs crossed in front of a place, and are found where they stand
 abbrev pub AreCopies : Option ℕ → List FirstCopy → List Made → ℕ → ℕ → Type 0

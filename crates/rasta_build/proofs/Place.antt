@@ -1,6 +1,6 @@
--- Where nothing is found at a place, a run within the limits sends the packets in front of it.
+-- The place at which nothing is found is exact: some run within the limits sends the packets before it.
 use Rattle.std.proofs.Common.{◌≡◌, ℕ, zero, suc, ◌+◌, ◌-◌, ◌^◌, ◌<◌, ◌≤◌, Bool, true, false, List, [], ◌∷◌, ◌++◌, length, Option, Some, None, Result, Ok, Err, slice_get, take, drop, refl, ap, sym, ◌∙◌, arith, subst}
-use Rattle.std.specs.Prelude.{nat_lt, if◌then◌else◌, min, IfSome}
+use Rattle.std.specs.Prelude.{◌↔◌, nat_lt, if◌then◌else◌, min, IfSome}
 use Rattle.std.proofs.lemmas.Bool.Decides.{nat_tests}
 use Rattle.std.proofs.lemmas.Option.{slice_get_within}
 use native.Mathlib.Decide.{dec_lt}
@@ -16,7 +16,7 @@ use Rattle.rasta_cert.specs.declared.entry.Entry.{Entry}
 use Rattle.rasta_end.specs.State.{EndState}
 use Rattle.rasta_end.specs.Starts.{start_of, start_by}
 use Rattle.rasta_check.specs.Crossing.{FirstCopy, Sent, CrossRecorded}
-use Rattle.rasta_check.specs.World.{World, Reaches, most_sent}
+use Rattle.rasta_check.specs.World.{most_sent}
 use Rattle.rasta_check.specs.Theorem.{OfConnection, most_packets}
 use Rattle.rasta_check.specs.Scripts.{Cursor, Advances, takes_next, makes_next, Leads, at_start, Fits}
 use Rattle.rasta_check.proofs.Lists.{get_front}
@@ -29,11 +29,10 @@ use Rattle.rasta_check.proofs.Known.{known}
 use Rattle.rasta_build.specs.Built.{Built}
 use Rattle.rasta_build.specs.Choices.{first_of}
 use Rattle.rasta_build.specs.Proposing.{Pass, first_pass, one_more, pass_on, passes, copy_goes, client_goes, server_goes, proposal}
-use Rattle.rasta_build.specs.Completeness.{IsBounded}
-use Rattle.rasta_build.proofs.Copied.{Begins, cut, begun_get, begun_next}
-use Rattle.rasta_build.proofs.Complete.{Fails, fails, proposed_fails, fails_within, length_take, take_drop, early, finds_none}
-use Rattle.rasta_build.proofs.Sound.{passes_read}
-use Rattle.rasta_build.proofs.Proved.{sent_rises, sent_numbers, sent_within}
+use Rattle.rasta_build.specs.Completeness.{CanCross}
+use Rattle.rasta_build.proofs.SentLists.{Begins, cut, begun_get, begun_next, sent_rises, sent_numbers, sent_within, later_place}
+use Rattle.rasta_build.proofs.Passes.{Fails, fails, proposed_fails, fails_within, length_take, take_drop, early, finds_none}
+use Rattle.rasta_build.proofs.Soundness.{passes_read}
 
 -- ---- a script over the beginnings of the lists
 
@@ -231,15 +230,6 @@ module _ (p : Parameters) (packets : List Packet) (c s : List FirstCopy) (hc : I
 
 -- ---- the beginning of a list
 
--- members behind those in front cross later
-behind : (p : Parameters) (packets : List Packet) (side : Side) (big own : List FirstCopy) (n j : ℕ) (d : FirstCopy) → IsSent p packets side big → Begins big own n → length own ≤ j → slice_get big j ≡ Some d → n ≤ d.place
-behind p packets side big own n j d h b l g =
-    let w = slice_get_within big j d g in
-    let first = slice_get_some big (length own) (omega (arith, l, w)) in
-    let low = begun_next big own n first.0 b first.1 in
-    let r = sent_rises p packets side big h (length own) j first.0 d first.1 g l in
-    omega (arith, r, low)
-
 -- what is passed is the beginning
 as_many : (p : Parameters) (xs : List Packet) (side : Side) (big own : List FirstCopy) (k : ℕ) → IsSent p xs side own → Begins big own (length xs) → k ≤ length big
     → ((i : ℕ) (d : FirstCopy) → i < k → slice_get big i ≡ Some d → d.place < length xs) → ((d : FirstCopy) → slice_get big k ≡ Some d → length xs ≤ d.place) → k ≡ length own
@@ -258,17 +248,9 @@ recorded_front p xs ys packets e h place packet g = h place packet (subst (λ (l
 
 -- ---- the theorem
 
--- a run within the limits sends exactly these packets
-pub record Crosses (p : Parameters) (packets : List Packet) : Type 0 where
-  pub worlds : List World
-  pub last : World
-  pub reached : Reaches p worlds last
-  pub crossed : last.crossed ≡ packets
-  pub bounded : IsBounded p last
-
 module _ (p : Parameters) (valid : AreParameters p) (packets : List Packet) (c s : List FirstCopy) (hc : IsSent p packets Client c) (hs : IsSent p packets Server s) (recorded : CrossRecorded p packets)
     (most : length packets ≤ 16000000) (lc : length c ≤ 1000000) (ls : length s ≤ 1000000) where
-  crosses_before : (n q : ℕ) → Fails p c s q n → q < length packets → Crosses p (take q packets)
+  crosses_before : (n q : ℕ) → Fails p c s q n → q < length packets → CanCross p (take q packets)
   crosses_before n q f low =
       let t : Pass = f.pass in
       let front : List Packet = take q packets in
@@ -290,9 +272,9 @@ module _ (p : Parameters) (valid : AreParameters p) (packets : List Packet) (c s
       let below_s = a.their_below q pt.their_passed in
       let made_c = rc.made in
       let made_s = rs.made in
-      let lead_c = leads_cut p (length packets) (length front) c s kc.0 ks.0 kc.2 ks.2 (λ j d l g. behind p packets Server s ks.0 (length front) j d hs ks.2 l g) (at_start (start_of p Client)) rc.at t.own.script rc.leads
+      let lead_c = leads_cut p (length packets) (length front) c s kc.0 ks.0 kc.2 ks.2 (λ j d l g. later_place p packets Server s ks.0 (length front) j d hs ks.2 l g) (at_start (start_of p Client)) rc.at t.own.script rc.leads
       (omega (arith, low_c, below_c, lp)) (omega (arith, made_c, mc)) in
-      let lead_s = leads_cut p (length packets) (length front) s c ks.0 kc.0 ks.2 kc.2 (λ j d l g. behind p packets Client c kc.0 (length front) j d hc kc.2 l g) (at_start (start_of p Server)) rs.at t.other.script rs.leads
+      let lead_s = leads_cut p (length packets) (length front) s c ks.0 kc.0 ks.2 kc.2 (λ j d l g. later_place p packets Client c kc.0 (length front) j d hc kc.2 l g) (at_start (start_of p Server)) rs.at t.other.script rs.leads
       (omega (arith, low_s, below_s, lp)) (omega (arith, made_s, ms)) in
       let fits_c : Fits p Client (length front) kc.0 ks.0 t.own.script rc.at.state = (rc.at, lead_c, rc.made ∙ mc, refl) in
       let fits_s : Fits p Server (length front) ks.0 kc.0 t.other.script rs.at.state = (rs.at, lead_s, rs.made ∙ ms, refl) in
@@ -317,21 +299,6 @@ module _ (p : Parameters) (valid : AreParameters p) (packets : List Packet) (c s
 place_of : (q place n : ℕ) → min (q + 1) 4294967295 ≡ place → q < n → n ≤ 16000000 → q ≡ place - 1
 place_of q place n h l m = omega arith
 
--- where 60 is proposed at a place, counted from 1, a run within the limits sends exactly the packets in front of it
-pub explained_before : (p : Parameters) → OfConnection p → (packets : List Packet) (c s : List FirstCopy) (place : ℕ) → CrossRecorded p packets → Sent p packets Client c → Sent p packets Server s
-    → length packets ≤ most_packets → length c ≤ most_sent → length s ≤ most_sent → proposal p c s ≡ Err (fault_at not_found place)
-    → (ws : List World) × (w : World) × Reaches p ws w × (w.crossed ≡ take (place - 1) packets) × IsBounded p w
-explained_before p conn packets c s place recorded hc0 hs0 most lc ls h =
-    let valid = conn.valid in
-    let hc = to_record p packets Client c valid hc0 in
-    let hs = to_record p packets Server s valid hs0 in
-    let q = proposed_fails (passes p c s (length c + length s)) place h in
-    let f = fails p c s q.0 (length c + length s) q.1 in
-    let low = fails_within p valid packets c s hc hs (length c + length s) q.0 f in
-    let at : q.0 ≡ place - 1 = place_of q.0 place (length packets) q.2 low most in
-    let r = crosses_before p valid packets c s hc hs recorded most lc ls (length c + length s) q.0 f low in
-    (r.worlds, r.last, r.reached, r.crossed ∙ ap (λ n. take n packets) at, r.bounded)
-
 -- ---- the place is exact
 
 take_take : {A : Type 0} (m n : ℕ) (xs : List A) → m ≤ n → take m (take n xs) ≡ take m xs
@@ -341,7 +308,7 @@ take_take (suc m) (suc n) [] l = refl
 take_take (suc m) (suc n) (x ∷ xs) l = ap (λ ys. x ∷ ys) (take_take m n xs (omega (arith, l)))
 
 -- a run within the limits that sends these packets passes through each beginning
-crosses_less : (p : Parameters) (packets : List Packet) (m n : ℕ) → m ≤ n → n ≤ length packets → Crosses p (take n packets) → Crosses p (take m packets)
+crosses_less : (p : Parameters) (packets : List Packet) (m n : ℕ) → m ≤ n → n ≤ length packets → CanCross p (take n packets) → CanCross p (take m packets)
 crosses_less p packets m n l k r =
     let lw = ap (λ (x : List Packet). length x) r.crossed in
     let lt = length_take n packets k in
@@ -352,11 +319,11 @@ crosses_less p packets m n l k r =
     let most = r.bounded.packets in
     record { worlds = u.0; last = u.1; reached = u.2; crossed = is; bounded = record { packets = omega (arith, lu, lm, lw, lt, l, most); pdus = u.4; client_clock = u.5.0; server_clock = u.5.1 } }
 
--- runs within the limits send exactly the beginnings of fewer packets than the place says
-pub exact : (p : Parameters) → OfConnection p → (packets : List Packet) (c s : List FirstCopy) (place : ℕ) → CrossRecorded p packets → Sent p packets Client c → Sent p packets Server s
+-- a run within the limits sends exactly the first packets where they are fewer than the place says, and none does otherwise
+pub exact : (p : Parameters) → OfConnection p → (packets : List Packet) (c s : List FirstCopy) (place n : ℕ) → CrossRecorded p packets → Sent p packets Client c → Sent p packets Server s
     → length packets ≤ most_packets → length c ≤ most_sent → length s ≤ most_sent → proposal p c s ≡ Err (fault_at not_found place)
-    → (n : ℕ) → (n < place → Crosses p (take n packets)) × (place ≤ n → Crosses p (take n packets) → ⊥)
-exact p conn packets c s place recorded hc0 hs0 most lc ls h n =
+    → CanCross p (take n packets) ↔ n < place
+exact p conn packets c s place n recorded hc0 hs0 most lc ls h =
     let valid = conn.valid in
     let hc = to_record p packets Client c valid hc0 in
     let hs = to_record p packets Server s valid hs0 in
@@ -365,7 +332,10 @@ exact p conn packets c s place recorded hc0 hs0 most lc ls h n =
     let low = fails_within p valid packets c s hc hs (length c + length s) q.0 f in
     let at : q.0 ≡ place - 1 = place_of q.0 place (length packets) q.2 low most in
     let r = crosses_before p valid packets c s hc hs recorded most lc ls (length c + length s) q.0 f low in (
+      λ w. elim (dec_lt n place) [
+        | yes y ↦ y
+        | no y ↦ absurd (finds_none p conn packets (drop place (take n packets)) c s place hc0 hs0 h
+            (subst (λ (k : List Packet). CanCross p k) (take_drop place (take n packets) ∙ ap (λ (x : List Packet). x ++ drop place (take n packets)) (take_take place n packets (omega (arith, y)))) w))
+      ],
       λ l. crosses_less p packets n q.0 (omega (arith, at, l)) (omega (arith, low)) r,
-      λ l w. finds_none p conn packets c s place hc0 hs0 h w.worlds w.last (drop place (take n packets)) w.reached w.bounded
-          (w.crossed ∙ (take_drop place (take n packets) ∙ ap (λ (x : List Packet). x ++ drop place (take n packets)) (take_take place n packets l))),
     )

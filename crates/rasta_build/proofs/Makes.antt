@@ -24,7 +24,7 @@ use Rattle.rasta_build.specs.Choices.{why_by, why_of, next_unit}
 use Rattle.rasta_build.specs.Clock.{clock_of}
 use Rattle.rasta_build.specs.Explaining.{made_at, make_step, earliest_timeout, earliest_by}
 use Rattle.rasta_build.proofs.Times.{timed, NearDeadlines, not_past}
-use Rattle.rasta_build.proofs.Ready.{IsReady, IsTrail}
+use Rattle.rasta_build.proofs.Readiness.{IsReady, IsTrail}
 
 -- ---- the reason
 

@@ -18,8 +18,8 @@ use Rattle.rasta_build.specs.Built.{Built}
 use Rattle.rasta_build.specs.Choices.{SidedCopy, first_of}
 use Rattle.rasta_build.specs.Explaining.{explain}
 use Rattle.rasta_build.specs.Proposing.{Pass, one_more, pass_on, passes, copy_goes, client_goes, server_goes}
-use Rattle.rasta_build.proofs.Copied.{Begins, begun_get, begun_next}
-use Rattle.rasta_build.proofs.Moved.{FollowsAt, Stays, Made_one, Stands, moved}
+use Rattle.rasta_build.proofs.SentLists.{Begins, begun_get, begun_next}
+use Rattle.rasta_build.proofs.Moves.{FollowsAt, Stays, Made_one, Stands, moved}
 
 -- the pass has come as far as the run
 pub record Keeps (p : Parameters) (c s own peer : List FirstCopy) (w : World) : Type 0 where

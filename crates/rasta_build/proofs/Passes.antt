@@ -17,7 +17,6 @@ use Rattle.rasta_check.specs.Theorem.{OfConnection}
 use Rattle.rasta_check.specs.World.{Station, World, Moves, makes, repeats, arrives, takes, waits, Step, client_moves, server_moves, Reaches, begins, goes_on, first_world, IsWithin}
 use Rattle.rasta_check.proofs.Copies.{IsSent}
 use Rattle.rasta_check.proofs.Forms.{to_record}
-use Rattle.rasta_check.proofs.Scripted.{slice_get_some, places_rise}
 use Rattle.rasta_check.proofs.Sending.{sent_once, sent_none}
 use Rattle.rasta_check.proofs.Steps.{start_base, made_more}
 use Rattle.rasta_end.specs.Starts.{start_of}
@@ -29,10 +28,10 @@ use Rattle.rasta_build.specs.Built.{Built}
 use Rattle.rasta_build.specs.Choices.{SidedCopy, first_of, fault_of_stuck}
 use Rattle.rasta_build.specs.declared.stuck.Stuck.TheVariants.{Unexplained}
 use Rattle.rasta_build.specs.Proposing.{Pass, first_pass, one_more, pass_on, passes, copy_goes, side_goes, client_goes, server_goes, scripts_of, proposed_by, proposal}
-use Rattle.rasta_build.specs.Completeness.{IsBounded}
-use Rattle.rasta_build.proofs.Copied.{Begins, cut, begun_next}
+use Rattle.rasta_build.specs.Completeness.{CanCross}
+use Rattle.rasta_build.proofs.SentLists.{Begins, cut, later_place}
 use Rattle.rasta_build.proofs.Beginning.{follows_first}
-use Rattle.rasta_build.proofs.Simulated.{Keeps, few_list, step_keeps}
+use Rattle.rasta_build.proofs.Simulation.{Keeps, few_list, step_keeps}
 
 -- ---- along a run
 
@@ -231,18 +230,6 @@ more_grows p c s n (suc d) t t' h g =
     by (Ok u) k l rest = (let x = rest u k in let y = one_grows c s u t' (first_of (slice_get c u.made) (slice_get s u.answered)) l in let x0 = x.0 in let x1 = x.1 in let y0 = y.0 in let y1 = y.1 in (omega (arith, x0, y0), omega (arith, x1, y1)))
     by (Err q) k l rest = absurd (cc)
 
--- members behind those that crossed cross later
-later_place : (p : Parameters) (packets : List Packet) (side : Side) (big own : List FirstCopy) (n j : ℕ) (d : FirstCopy) → IsSent p packets side big → Begins big own n → length own ≤ j → slice_get big j ≡ Some d → n ≤ d.place
-later_place p packets side big own n j d h b l g =
-    let w = slice_get_within big j d g in
-    let first = slice_get_some big (length own) (omega (arith, l, w)) in
-    let low = begun_next big own n first.0 b first.1 in
-    elim (dec_lt (length own) j) [
-      | yes y ↦ (let z : suc (j - suc (length own)) + length own ≡ j = omega arith in
-          let r = places_rise p packets side big h (j - suc (length own)) (length own) first.0 d first.1 (subst (λ k. slice_get big k ≡ Some d) (sym z) g) in omega (arith, r, low))
-      | no y ↦ (let z : j ≡ length own = omega arith in let e : first.0 ≡ d = (let q = first.1 in let g' : slice_get big (length own) ≡ Some d = subst (λ k. slice_get big k ≡ Some d) z g in cc) in let x = ap (λ (k : FirstCopy). k.place) e in omega (arith, x, low))
-    ]
-
 -- ---- the theorem
 
 abbrev chosen : Bool → Pass → Result Scripts Fault
@@ -315,10 +302,13 @@ module _ (p : Parameters) (valid : AreParameters p) (packets : List Packet) (c s
       a.where_is
 
 -- where 60 is proposed at a place, no run within the limits sends packets that begin with those up to it
-pub finds_none : (p : Parameters) → OfConnection p → (packets : List Packet) (c s : List FirstCopy) (place : ℕ) → Sent p packets Client c → Sent p packets Server s
+pub finds_none : (p : Parameters) → OfConnection p → (packets rest : List Packet) (c s : List FirstCopy) (place : ℕ) → Sent p packets Client c → Sent p packets Server s
     → proposal p c s ≡ Err (fault_at not_found place)
-    → (ws : List World) (w : World) (rest : List Packet) → Reaches p ws w → IsBounded p w → w.crossed ≡ take place packets ++ rest → ⊥
-finds_none p conn packets c s place hc0 hs0 h ws w rest r b e =
+    → CanCross p (take place packets ++ rest) → ⊥
+finds_none p conn packets rest c s place hc0 hs0 h x =
+    let w = x.last in
+    let b = x.bounded in
+    let e = x.crossed in
     let valid = conn.valid in
     let hc = to_record p packets Client c valid hc0 in
     let hs = to_record p packets Server s valid hs0 in
@@ -332,7 +322,7 @@ finds_none p conn packets c s place hc0 hs0 h ws w rest r b e =
     let la = length-append (take place packets) rest in
     let most = b.packets in
     let exact : place ≡ suc q.0 = exact_place q.0 place at (omega (arith, lt, le, la, most)) in
-    let u = early p ws w r b.pdus (b.client_clock, b.server_clock) place (omega (arith, lt, le, la)) in
+    let u = early p x.worlds w x.reached b.pdus (b.client_clock, b.server_clock) place (omega (arith, lt, le, la)) in
     let crossed : u.1.crossed ≡ take place packets = u.3 ∙ take_of_front place w.crossed packets rest e small in
     let whole : packets ≡ u.1.crossed ++ drop place packets = take_drop place packets ∙ ap (λ (x : List Packet). x ++ drop place packets) (sym crossed) in
     let lc = ap length crossed in

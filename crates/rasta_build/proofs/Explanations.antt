@@ -32,10 +32,10 @@ use Rattle.rasta_check.proofs.HeldMake.{nothing_made}
 use Rattle.rasta_build.specs.Built.{Built}
 use Rattle.rasta_build.specs.Choices.{copy_at, is_in_front, first_sn_of, position_named, has_to_take, is_unanswered, wants_trigger}
 use Rattle.rasta_build.specs.Explaining.{and_then, catch_up, accept_through, take_trigger, take_step_by, made_at, make_step, explain, earliest_by}
-use Rattle.rasta_build.proofs.Ready.{IsReady}
-use Rattle.rasta_build.proofs.Scanning.{AreCopies, is_gap, is_request_ahead, gap_found, request_found}
-use Rattle.rasta_build.proofs.Lagging.{Pending, IsLag, caught_itself}
-use Rattle.rasta_build.proofs.Making.{Tests, tests, makes_by, ready_make}
+use Rattle.rasta_build.proofs.Readiness.{IsReady}
+use Rattle.rasta_build.proofs.Scans.{AreCopies, is_gap, is_request_ahead, gap_found, request_found}
+use Rattle.rasta_build.proofs.Lags.{Pending, IsLag, caught_itself}
+use Rattle.rasta_build.proofs.Makes.{Tests, tests, makes_by, ready_make}
 use Rattle.rasta_build.proofs.LagMakes.{ended_by, owes_wanted, or_true, asks_first, answers_first, sn_near, lt_is, was_same, through, disc_plain, leave_fault, LeftBy, left_by}
 
 -- the builder's end at the last make of the run's end
