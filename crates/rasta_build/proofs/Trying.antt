@@ -1,13 +1,13 @@
--- What completeness asks of a builder, tried on builders that give up.
-use Rattle.std.proofs.Common.{◌≡◌, List, [], Err, None, ap, arith}
+-- What completeness asks of an answer, tried on one that gives up.
+use Rattle.std.proofs.Common.{◌≡◌, [], Err, None, refl, ap, arith}
 use Rattle.rasta_pcap.specs.Fault.{fault_at, no_memory, not_found}
 use Rattle.rasta_pcap.specs.declared.fault.Fault.{Fault}
 use Rattle.rasta_pcap.specs.declared.fault.Side.{Side}
 use Rattle.rasta_pcap.specs.declared.fault.Side.TheVariants.{Client, Server}
 use Rattle.rasta_pdu.specs.Params.{Parameters}
-use Rattle.rasta_check.specs.Crossing.{FirstCopy, Sent}
+use Rattle.rasta_check.specs.Crossing.{Sent}
 use Rattle.rasta_check.specs.World.{first_world, begins}
-use Rattle.rasta_build.specs.Completeness.{Builder, IsBounded, IsComplete}
+use Rattle.rasta_build.specs.Completeness.{IsBounded, CanCross, IsComplete}
 
 -- where nothing crossed, nothing was sent
 nothing_sent : (p : Parameters) (side : Side) → Sent p [] side []
@@ -33,11 +33,13 @@ starts_within p none = record {
   server_clock = rw none (omega arith);
 }
 
--- a builder that always gives up at the first packet doesn't explain it
-pub gives_up_always : (build : Builder) (p : Parameters) → p.quiet ≡ None
-    → ((c s : List FirstCopy) → build p c s ≡ Err (fault_at not_found 1)) → IsComplete build p → ⊥
-gives_up_always build p none always complete =
-    let e = complete.explains [] (first_world p 0 0) [] [] (begins 0 0) (starts_within p none) (nothing_sent p Client) (nothing_sent p Server) in
-    let f : fault_at not_found 1 ≡ no_memory = rw (always [] []) at e in
-    let n : not_found ≡ 1 = ap (λ (x : Fault). x.number) f in
+-- so nothing can cross
+nothing_crosses : (p : Parameters) → p.quiet ≡ None → CanCross p []
+nothing_crosses p none = record { worlds = []; last = first_world p 0 0; reached = begins 0 0; crossed = refl; bounded = starts_within p none }
+
+-- an answer that gives up at the first packet, where nothing crossed, isn't complete
+pub gives_up_always : (p : Parameters) → p.quiet ≡ None → IsComplete p [] [] (Err (fault_at not_found 1)) → ⊥
+gives_up_always p none complete =
+    let e : fault_at not_found 1 ≡ no_memory = complete.explains [] (nothing_sent p Client) (nothing_sent p Server) (nothing_crosses p none) in
+    let n : not_found ≡ 1 = ap (λ (x : Fault). x.number) e in
     omega arith

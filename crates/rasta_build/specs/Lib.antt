@@ -3,4 +3,6 @@ pub use Rattle.rasta_check.specs.Devices
 pub mod Clock
 pub mod Choices
 pub mod Built
+pub mod Explaining
+pub mod Proposing
 pub mod Completeness

@@ -3,6 +3,7 @@
 #![tactic(auto)]
 
 mod clock;
+pub mod laws;
 mod peer;
 mod proposal;
 mod script_builder;

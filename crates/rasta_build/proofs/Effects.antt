@@ -1,0 +1,94 @@
+-- A take has an effect exactly where it is by a row.
+use Rattle.std.proofs.Common.{◌≡◌, ℕ, ◌<◌, ◌≤◌, Bool, true, false, List, [], length, Option, Some, None, Result, Ok, Err, refl, ap, sym, ◌∙◌, arith}
+use Rattle.std.specs.Prelude.{nat_lt, if◌then◌else◌, OnOk}
+use Rattle.std.proofs.lemmas.Bool.Decides.{nat_tests}
+use Rattle.rasta_pdu.specs.Params.{Parameters}
+use Rattle.rasta_pdu.specs.Pdu.{SafetyPdu, RedundancyPdu}
+use Rattle.rasta_end.specs.declared.owed.Owed.{Owed}
+use Rattle.rasta_end.specs.declared.phase.Phase.{Phase}
+use Rattle.rasta_end.specs.declared.phase.Phase.TheVariants.{Closed, Start, Up, RetrReq, RetrRun}
+use Rattle.rasta_end.specs.declared.take_row.TakeRow.{TakeRow}
+use Rattle.rasta_end.specs.declared.take_row.TakeRow.TheVariants.{Opened, Answered, FirstHeartbeat, InSequence, ResentInSequence, Gap, GapInRetransmission, Resumed, Requested, RequestedAhead, RequestedAgain, Disconnected}
+use Rattle.rasta_end.specs.State.{EndState, is_active, carries_unit}
+use Rattle.rasta_end.specs.TakeRule.{effect, effect_by, take_row, take_fault, after_take, accept, enter, hand_up}
+use Rattle.rasta_check.proofs.TakeRows.{row_known, not_closed}
+use Rattle.rasta_check.proofs.HeldRuns.{free}
+use Rattle.rasta_build.specs.declared.script_builder.Progress.{Progress}
+use Rattle.rasta_build.specs.Built.{Built, lead, progress_of, note_take}
+use Rattle.rasta_build.specs.Explaining.{unless, taken_by, take_step}
+
+unit_accepted : (c : Bool) (i : ℕ) (e : EndState) (x : SafetyPdu) → (if c then hand_up i e x else e).accepted ≡ e.accepted
+unit_accepted true i e x = refl
+unit_accepted false i e x = refl
+
+longer : (os ps : List Owed) → 0 < length ps → os ≡ [] → length ps ≡ length os → ⊥
+longer os ps l h k = (let z = ap (λ (l : List Owed). length l) h in omega (arith, z, k, l))
+
+closing : (ph : Phase) → is_active ph ≡ true → Closed ≡ ph → ⊥
+closing Closed a e = cc
+closing Start a e = cc
+closing Up a e = cc
+closing RetrReq a e = cc
+closing RetrRun a e = cc
+closing _ a e = cc
+
+moves : (p : Parameters) (e : EndState) (x : SafetyPdu) (row : TakeRow) → take_row p e x ≡ Some row → e.owed ≡ [] → progress_of (effect p row e x) ≡ progress_of e → ⊥
+moves p e x Opened is none h = longer e.owed (effect p Opened e x).owed (omega arith) none (ap (λ (g : Progress). g.owed) h)
+moves p e x Answered is none h = longer e.owed (effect p Answered e x).owed (omega arith) none (ap (λ (g : Progress). g.owed) h)
+moves p e x FirstHeartbeat is none h = (let w = row_known p e x FirstHeartbeat is in let z : Up ≡ e.phase = ap (λ (g : Progress). g.phase) h in let y : Up ≡ Start = z ∙ w.1 in cc)
+moves p e x InSequence is none h = (let a = unit_accepted (carries_unit x.kind) e.accepted (enter Up (accept p e x)) x in let z = ap (λ (g : Progress). g.accepted) h in omega (arith, a, z))
+moves p e x ResentInSequence is none h = (let a = unit_accepted (carries_unit x.kind) e.accepted (accept p e x) x in let z = ap (λ (g : Progress). g.accepted) h in omega (arith, a, z))
+moves p e x Gap is none h = longer e.owed (effect p Gap e x).owed (omega arith) none (ap (λ (g : Progress). g.owed) h)
+moves p e x GapInRetransmission is none h = longer e.owed (effect p GapInRetransmission e x).owed (omega arith) none (ap (λ (g : Progress). g.owed) h)
+moves p e x Resumed is none h = (let w = row_known p e x Resumed is in let z : RetrRun ≡ e.phase = ap (λ (g : Progress). g.phase) h in let y : RetrRun ≡ RetrReq = z ∙ w.0 in cc)
+moves p e x Requested is none h = longer e.owed (effect p Requested e x).owed (omega arith) none (ap (λ (g : Progress). g.owed) h)
+moves p e x RequestedAhead is none h = longer e.owed (effect p RequestedAhead e x).owed (omega arith) none (ap (λ (g : Progress). g.owed) h)
+moves p e x RequestedAgain is none h = longer e.owed (effect p RequestedAgain e x).owed (omega arith) none (ap (λ (g : Progress). g.owed) h)
+moves p e x Disconnected is none h = (let w = row_known p e x Disconnected is in closing e.phase w.0 (ap (λ (g : Progress). g.phase) h))
+
+not_lt : (m n : ℕ) → n ≤ m → nat_lt m n ≡ false
+not_lt m n h = grind (arith, nat_tests)
+
+-- a take that changes nothing that is looked at is the whole step
+pub take_unmoved : (slot q : ℕ) (x : RedundancyPdu) (b : Built) → b.next_take ≤ q → take_fault b.end.params b.end.state b.end.state.clock ≡ None
+    → progress_of (after_take b.end.params b.end.state x.safety) ≡ progress_of b.end.state → take_step slot q x b ≡ Some (lead (after_take b.end.params b.end.state x.safety) b)
+take_unmoved slot q x b l f h = by (take_row b.end.params b.end.state x.safety) refl
+  where
+    by : (o : Option TakeRow) → take_row b.end.params b.end.state x.safety ≡ o → take_step slot q x b ≡ Some (lead (after_take b.end.params b.end.state x.safety) b)
+    by None w = (let z = not_lt q b.next_take l in let s : after_take b.end.params b.end.state x.safety ≡ b.end.state = ap (λ (o : Option TakeRow). effect_by b.end.params o b.end.state x.safety) w in
+        let left : take_step slot q x b ≡ Some b = rw z (rw f (rw w refl)) in left ∙ ap (λ (g : EndState). Some (lead g b)) (sym s))
+    by (Some row) w = absurd (let s : after_take b.end.params b.end.state x.safety ≡ effect b.end.params row b.end.state x.safety = ap (λ (o : Option TakeRow). effect_by b.end.params o b.end.state x.safety) w in
+        moves b.end.params b.end.state x.safety row w (free b.end.params b.end.state b.end.state.clock f (not_closed b.end.params b.end.state x.safety row w)) (ap progress_of (sym s) ∙ h))
+
+-- one that changes some of it is noted
+pub take_moved : (slot q : ℕ) (x : RedundancyPdu) (b : Built) → b.next_take ≤ q → take_fault b.end.params b.end.state b.end.state.clock ≡ None
+    → (progress_of (after_take b.end.params b.end.state x.safety) ≡ progress_of b.end.state → ⊥)
+    → take_step slot q x b ≡ Some (note_take (progress_of b.end.state) slot q x (lead (after_take b.end.params b.end.state x.safety) b))
+take_moved slot q x b l f h = by (take_row b.end.params b.end.state x.safety) refl
+  where
+    by : (o : Option TakeRow) → take_row b.end.params b.end.state x.safety ≡ o → take_step slot q x b ≡ Some (note_take (progress_of b.end.state) slot q x (lead (after_take b.end.params b.end.state x.safety) b))
+    by None w = absurd (h (ap progress_of (ap (λ (o : Option TakeRow). effect_by b.end.params o b.end.state x.safety) w)))
+    by (Some row) w = (let z = not_lt q b.next_take l in let s : after_take b.end.params b.end.state x.safety ≡ effect b.end.params row b.end.state x.safety = ap (λ (o : Option TakeRow). effect_by b.end.params o b.end.state x.safety) w in
+        let left : take_step slot q x b ≡ Some (taken_by (Some row) slot q x b) = rw z (rw f (rw w refl)) in
+        left ∙ ap (λ (g : EndState). Some (note_take (progress_of b.end.state) slot q x (lead g b))) (sym s))
+
+-- one that is refused is none
+pub take_refused : (slot q : ℕ) (x : RedundancyPdu) (b : Built) (fault : ℕ) → take_fault b.end.params b.end.state b.end.state.clock ≡ Some fault → take_step slot q x b ≡ None
+take_refused slot q x b fault f = by (nat_lt q b.next_take) (take_fault b.end.params b.end.state b.end.state.clock) f
+  where
+    by : (t : Bool) (o : Option ℕ) → o ≡ Some fault → (if t then None else unless o (taken_by (take_row b.end.params b.end.state x.safety) slot q x b)) ≡ None
+    by true o h = refl
+    by false None h = absurd (cc)
+    by false (Some g) h = refl
+
+pub take_below : (slot q : ℕ) (x : RedundancyPdu) (b : Built) → q < b.next_take → take_step slot q x b ≡ None
+take_below slot q x b l = (let z : nat_lt q b.next_take ≡ true = grind (arith, nat_tests) in rw z refl)
+
+-- where what was led is noted, or memory wants
+pub take_noted : {A B : Type 0} (r : Result A B) (slot q : ℕ) (x : RedundancyPdu) (b mid new : Built) (before : Progress) → OnOk r (new ≡ note_take before slot q x mid) → before ≡ progress_of b.end.state → b.next_take ≤ q
+    → take_fault b.end.params b.end.state b.end.state.clock ≡ None → mid ≡ lead (after_take b.end.params b.end.state x.safety) b → (progress_of mid.end.state ≡ before → ⊥) → OnOk r (take_step slot q x b ≡ Some new)
+take_noted (Ok a) slot q x b mid new before n e l f m other =
+    let moved : progress_of (after_take b.end.params b.end.state x.safety) ≡ progress_of b.end.state → ⊥ = λ h. other (ap (λ (z : Built). progress_of z.end.state) m ∙ (h ∙ sym e)) in
+    let t = take_moved slot q x b l f moved in
+    t ∙ ap (λ (z : Built). Some z) (sym (n ∙ (ap (λ (g : Progress). note_take g slot q x mid) e ∙ ap (λ (z : Built). note_take (progress_of b.end.state) slot q x z) m)))
+take_noted (Err g) slot q x b mid new before n e l f m other = tt

@@ -1,0 +1,229 @@
+-- Where an end of a run makes a PDU, the builder explains it, and both ends are again the same but for their times.
+use Rattle.std.proofs.Common.{◌≡◌, ℕ, zero, suc, ◌+◌, ◌%◌, ◌^◌, ◌<◌, ◌≤◌, ◌⊎◌, Bool, true, false, List, [], ◌∷◌, length, Option, Some, None, refl, ap, ◌∙◌, arith, inl, inr, subst, ⊎_elim}
+use Rattle.std.specs.Prelude.{nat_lt, not, ◌&&◌, ◌||◌, ◌==◌}
+use Rattle.std.proofs.lemmas.Bool.Decides.{nat_tests}
+use Rattle.std.proofs.lemmas.Option.{slice_get_within}
+use Rattle.rasta_pcap.specs.declared.fault.Side.{Side}
+use Rattle.rasta_pdu.specs.Params.{Parameters}
+use Rattle.rasta_pdu.specs.Pdu.{SafetyPdu}
+use Rattle.rasta_pdu.specs.declared.kind.Kind.{Kind}
+use Rattle.rasta_pdu.specs.declared.kind.Kind.TheVariants.{RetransmissionRequest, RetransmissionResponse, DisconnectionRequest}
+use Rattle.rasta_end.specs.declared.owed.Owed.{Owed}
+use Rattle.rasta_end.specs.declared.owed.Owed.TheVariants.{RetransmissionRequest as OweRetransmissionRequest, RetransmissionResponse as OweRetransmissionResponse}
+use Rattle.rasta_end.specs.declared.phase.Phase.{Phase}
+use Rattle.rasta_end.specs.declared.phase.Phase.TheVariants.{Closed, Up, RetrReq, RetrRun}
+use Rattle.rasta_end.specs.declared.take_row.TakeRow.{TakeRow}
+use Rattle.rasta_end.specs.declared.take_row.TakeRow.TheVariants.{Gap, GapInRetransmission, RequestedAhead, RequestedAgain}
+use Rattle.rasta_end.specs.declared.why.Why.{Why}
+use Rattle.rasta_end.specs.declared.why.Why.TheVariants.{Bye, Expired}
+use Rattle.rasta_end.specs.declared.make_row.MakeRow.{MakeRow}
+use Rattle.rasta_end.specs.declared.make_row.MakeRow.TheVariants.{Leaves, TimesOut}
+use Rattle.rasta_end.specs.State.{Made, EndState, ahead_by, first_sn, is_owing, is_closed, is_active, is_connected, is_flowing, wrapped, reason_of, content_of}
+use Rattle.rasta_end.specs.MakeRule.{make_fault, has_ended, row_of, make_row, is_refused_row, is_owing_else, is_next_sn, differs, is_judged, confirms_last, confirms_a_time, is_past, is_early, is_expired, is_disconnection_request, after_make, phase_after}
+use Rattle.rasta_end.specs.TakeRule.{effect, take_row}
+use Rattle.rasta_check.specs.Crossing.{FirstCopy}
+use Rattle.rasta_check.proofs.Passing.{passed}
+use Rattle.rasta_check.proofs.MakeRows.{Making, opening, response, first_beat, answer, again, ask, beat, fresh, bye, expired, made_by, after_row, new_made}
+use Rattle.rasta_check.proofs.TakeRows.{row_known}
+use Rattle.rasta_check.proofs.Numbering.{Numbered}
+use Rattle.rasta_check.proofs.Naming.{SnIs}
+use Rattle.rasta_check.proofs.HeldMake.{over_after}
+use Rattle.rasta_build.specs.Built.{Built}
+use Rattle.rasta_build.specs.Choices.{copy_at, is_in_front, wants_trigger}
+use Rattle.rasta_build.specs.Explaining.{catch_up, accept_through}
+use Rattle.rasta_build.proofs.Scans.{is_gap, is_request_ahead}
+use Rattle.rasta_build.proofs.Lags.{caught_itself}
+use Rattle.rasta_build.proofs.Makes.{tests, none_of, reason_is, ReasonIs}
+
+-- ---- the end of a connection
+
+ending : (s : Side) (ph : Phase) (why : Why) (k : Kind) (os : List Owed) (row : MakeRow) → Making s ph why k os row → (is_expired why ≡ true) ⊎ (is_disconnection_request k ≡ true) → phase_after row ph ≡ Closed
+ending s ph why k os row opening h = ⊎_elim (λ (a : false ≡ true). absurd (cc)) (λ (a : false ≡ true). absurd (cc)) h
+ending s ph why k os row response h = ⊎_elim (λ (a : false ≡ true). absurd (cc)) (λ (a : false ≡ true). absurd (cc)) h
+ending s ph why k os row first_beat h = ⊎_elim (λ (a : false ≡ true). absurd (cc)) (λ (a : false ≡ true). absurd (cc)) h
+ending s ph why k os row (answer c) h = ⊎_elim (λ (a : false ≡ true). absurd (cc)) (λ (a : false ≡ true). absurd (cc)) h
+ending s ph why k os row (again c) h = ⊎_elim (λ (a : false ≡ true). absurd (cc)) (λ (a : false ≡ true). absurd (cc)) h
+ending s ph why k os row (ask c) h = ⊎_elim (λ (a : false ≡ true). absurd (cc)) (λ (a : false ≡ true). absurd (cc)) h
+ending s ph why k os row (beat c) h = ⊎_elim (λ (a : false ≡ true). absurd (cc)) (λ (a : false ≡ true). absurd (cc)) h
+ending s ph why k os row (fresh c) h = ⊎_elim (λ (a : false ≡ true). absurd (cc)) (λ (a : false ≡ true). absurd (cc)) h
+ending s ph why k os row (bye c) h = refl
+ending s ph why k os row (expired c) h = refl
+
+pub ended_by : (p : Parameters) (e : EndState) (x : SafetyPdu) (k : ℕ) (why : Why) → make_fault p e x k why ≡ None → (is_expired why ≡ true) ⊎ (is_disconnection_request x.kind ≡ true) → has_ended (after_make e x k why) ≡ true
+ended_by p e x k why ok h =
+    let m = made_by p e x k why (passed p e x k why ok) in
+    let closes = ending e.side e.phase why x.kind e.owed m.row m.how h in
+    subst (λ (z : EndState). has_ended z ≡ true) (after_row e x k why m) (over_after e.side (phase_after m.row e.phase) e.made (new_made m.row e x) closes)
+
+-- ---- what a make wants to be owed
+
+pub or_true : (b : Bool) → (b || true) ≡ true
+or_true true = refl
+or_true false = refl
+
+pub owes_wanted : (s : Side) (ph : Phase) (why : Why) (k : Kind) (os : List Owed) (row : MakeRow) → Making s ph why k os row → (is_owing os || not (wants_trigger k)) ≡ true
+owes_wanted s ph why k os row opening = or_true (is_owing os)
+owes_wanted s ph why k os row response = refl
+owes_wanted s ph why k os row first_beat = refl
+owes_wanted s ph why k os row (answer c) = refl
+owes_wanted s ph why k os row (again c) = refl
+owes_wanted s ph why k os row (ask c) = refl
+owes_wanted s ph why k os row (beat c) = refl
+owes_wanted s ph why k os row (fresh c) = refl
+owes_wanted s ph why k os row (bye c) = or_true (is_owing os)
+owes_wanted s ph why k os row (expired c) = or_true (is_owing os)
+
+-- where a request is owed first, an end that is connected makes it, or ends
+pub asks_first : (s : Side) (ph : Phase) (why : Why) (k : Kind) (os rest : List Owed) (row : MakeRow) → Making s ph why k os row → os ≡ OweRetransmissionRequest ∷ rest → is_closed ph ≡ false → (k ≡ RetransmissionRequest) ⊎ (is_disconnection_request k ≡ true)
+asks_first s ph why k os rest row opening h c = absurd (cc)
+asks_first s ph why k os rest row response h c = absurd (cc)
+asks_first s ph why k os rest row first_beat h c = absurd (cc)
+asks_first s ph why k os rest row (answer d) h c = absurd (cc)
+asks_first s ph why k os rest row (again d) h c = absurd (cc)
+asks_first s ph why k os rest row (ask d) h c = inl refl
+asks_first s ph why k os rest row (beat d) h c = absurd (cc)
+asks_first s ph why k os rest row (fresh d) h c = absurd (cc)
+asks_first s ph why k os rest row (bye d) h c = inr refl
+asks_first s ph why k os rest row (expired d) h c = inr refl
+
+pub answers_first : (s : Side) (ph : Phase) (why : Why) (k : Kind) (os rest : List Owed) (row : MakeRow) → Making s ph why k os row → os ≡ OweRetransmissionResponse ∷ rest → is_closed ph ≡ false → (k ≡ RetransmissionResponse) ⊎ (is_disconnection_request k ≡ true)
+answers_first s ph why k os rest row opening h c = absurd (cc)
+answers_first s ph why k os rest row response h c = absurd (cc)
+answers_first s ph why k os rest row first_beat h c = absurd (cc)
+answers_first s ph why k os rest row (answer d) h c = inl refl
+answers_first s ph why k os rest row (again d) h c = absurd (cc)
+answers_first s ph why k os rest row (ask d) h c = absurd (cc)
+answers_first s ph why k os rest row (beat d) h c = absurd (cc)
+answers_first s ph why k os rest row (fresh d) h c = absurd (cc)
+answers_first s ph why k os rest row (bye d) h c = inr refl
+answers_first s ph why k os rest row (expired d) h c = inr refl
+
+-- ---- what CS names
+
+pub sn_near : (ms : List Made) (i sn : ℕ) → Numbered ms → length ms ≤ 1000001 → SnIs ms i sn → ahead_by sn (first_sn ms) ≡ i
+sn_near [] i sn h b s = absurd (let e = s.there in cc)
+sn_near (m ∷ ms) zero sn h b s =
+    let e = s.there in
+    let a : m ≡ s.m = cc in
+    let c : m.pdu.sn ≡ sn = ap (λ (k : Made). k.pdu.sn) a ∙ s.same in
+    omega (arith, c)
+sn_near (m ∷ ms) (suc i) sn h b s =
+    let w = slice_get_within (m ∷ ms) (suc i) s.m s.there in
+    let a : s.m.pdu.sn ≡ (m.pdu.sn + suc i) % 2 ^ 32 = h i s.m s.there in
+    let c = s.same in
+    omega (arith, a, c, w, b)
+
+pub lt_is : (m n : ℕ) → m < n → nat_lt m n ≡ true
+lt_is m n h = grind (arith, nat_tests)
+
+not_lt : (m n : ℕ) → n ≤ m → nat_lt m n ≡ false
+not_lt m n h = grind (arith, nat_tests)
+
+pub was_same : (m n : ℕ) → (m == n) ≡ true → m ≡ n
+was_same m n h = grind (arith, nat_tests)
+
+was_other : (m n : ℕ) → (m == n) ≡ false → m ≡ n → ⊥
+was_other m n h k = grind (arith, nat_tests)
+
+-- accepting through a position is catching up with it
+pub through : (sent : List FirstCopy) (place i : ℕ) (b b1 : Built) → catch_up sent place (suc i) b ≡ Some b1 → b.end.state.accepted ≤ suc i
+    → (b.end.state.accepted ≤ i → is_in_front (copy_at b.peer.quiet_sn sent i) place ≡ true) → accept_through sent place b (Some i) ≡ Some b1
+through sent place i b b1 h l front = by (suc i == b.end.state.accepted) refl
+  where
+    by : (d : Bool) → (suc i == b.end.state.accepted) ≡ d → accept_through sent place b (Some i) ≡ Some b1
+    by true d = (let e = was_same (suc i) b.end.state.accepted d in let s = caught_itself sent place (suc i) b b1 e h in rw d (ap (λ (z : Built). Some z) s))
+    by false d =
+        let o = was_other (suc i) b.end.state.accepted d in
+        let low : b.end.state.accepted ≤ i = omega (arith, o, l) in
+        let n = not_lt (suc i) b.end.state.accepted l in
+        let f = front low in
+        let h' = rw d at h in
+        rw d (rw n (rw f h'))
+
+-- ---- a disconnection request
+
+pub disc_plain : (k : Kind) → is_disconnection_request k ≡ true → wants_trigger k ≡ false
+disc_plain DisconnectionRequest h = refl
+disc_plain _ h = absurd (cc)
+
+pub disc_is : (k : Kind) → is_disconnection_request k ≡ true → k ≡ DisconnectionRequest
+disc_is DisconnectionRequest h = refl
+disc_is _ h = absurd (cc)
+
+leaving_why : (s : Side) (ph : Phase) (why : Why) (k : Kind) (os : List Owed) (row : MakeRow) → Making s ph why k os row → is_disconnection_request k ≡ true → (why ≡ Bye) ⊎ (why ≡ Expired)
+leaving_why s ph why k os row opening h = absurd (cc)
+leaving_why s ph why k os row response h = absurd (cc)
+leaving_why s ph why k os row first_beat h = absurd (cc)
+leaving_why s ph why k os row (answer c) h = absurd (cc)
+leaving_why s ph why k os row (again c) h = absurd (cc)
+leaving_why s ph why k os row (ask c) h = absurd (cc)
+leaving_why s ph why k os row (beat c) h = absurd (cc)
+leaving_why s ph why k os row (fresh c) h = absurd (cc)
+leaving_why s ph why k os row (bye c) h = inl refl
+leaving_why s ph why k os row (expired c) h = inr refl
+
+-- the row of one
+abbrev pub IsLeaving : Side → Phase → ℕ → Why → Kind → Type 0
+IsLeaving s ph reason why k = (row : MakeRow) × (make_row s ph reason why k ≡ Some row) × ((row ≡ Leaves) ⊎ (row ≡ TimesOut))
+
+leaving_row : (s : Side) (ph : Phase) (reason : ℕ) (why : Why) (k : Kind) → k ≡ DisconnectionRequest → is_active ph ≡ true → ReasonIs why reason → (why ≡ Bye) ⊎ (why ≡ Expired) → IsLeaving s ph reason why k
+leaving_row s ph reason why k h a r w = ⊎_elim
+    (λ (b : why ≡ Bye). (let r' : (reason == 4) ≡ false = subst (λ (y : Why). ReasonIs y reason) b r in (Leaves, rw h (rw b (rw a (rw r' refl))), inl refl)))
+    (λ (b : why ≡ Expired). (let r' : (reason == 4) ≡ true = subst (λ (y : Why). ReasonIs y reason) b r in (TimesOut, rw h (rw b (rw a (rw r' refl))), inr refl)))
+    w
+
+leaving_tests : (row : MakeRow) (o : Option MakeRow) (os : List Owed) (ms : List Made) (content : List ℕ) → o ≡ Some row → (row ≡ Leaves) ⊎ (row ≡ TimesOut)
+    → (is_refused_row o os ≡ false) × (is_owing_else o os ≡ false) × (differs ms o content ≡ false)
+leaving_tests row o os ms content h w = ⊎_elim
+    (λ (r : row ≡ Leaves). (let z : o ≡ Some Leaves = h ∙ ap (λ (y : MakeRow). Some y) r in (rw z refl, rw z refl, rw z refl)))
+    (λ (r : row ≡ TimesOut). (let z : o ≡ Some TimesOut = h ∙ ap (λ (y : MakeRow). Some y) r in (rw z refl, rw z refl, rw z refl)))
+    w
+
+-- an end may make it which has made the same as one that makes it, and whose times and confirmed numbers allow it
+pub leave_fault : (p : Parameters) (e g : EndState) (x : SafetyPdu) (k : ℕ) (why : Why) → make_fault p e x k why ≡ None → is_disconnection_request x.kind ≡ true → has_ended g ≡ false → is_active g.phase ≡ true
+    → g.made ≡ e.made → g.clock ≡ e.clock → (not (is_expired why) && is_past p g.deadline k) ≡ false → (is_expired why && is_early p g.deadline k) ≡ false
+    → (is_judged g x.kind && not (confirms_last g x.cs)) ≡ false → (is_judged g x.kind && not (confirms_a_time g x.cts)) ≡ false → make_fault p g x k why ≡ None
+leave_fault p e g x k why ok disc over active made clock past early cs cts =
+    let t = tests p e x k why ok in
+    let m = made_by p e x k why (passed p e x k why ok) in
+    let w = leaving_why e.side e.phase why x.kind e.owed m.row m.how disc in
+    let r = reason_is e.side e.phase (reason_of x.body) why x.kind e.owed t.row in
+    let l = leaving_row g.side g.phase (reason_of x.body) why x.kind (disc_is x.kind disc) active r w in
+    let q = leaving_tests l.0 (row_of g x why) g.owed g.made (content_of x.body) l.1 l.2 in
+    let sn : not (is_next_sn g.made x.sn) ≡ false = ap (λ (ms : List Made). not (is_next_sn ms x.sn)) made ∙ t.sn in
+    let rises : nat_lt k g.clock ≡ false = ap (λ c. nat_lt k c) clock ∙ t.rises in
+    none_of (has_ended g) (is_refused_row (row_of g x why) g.owed) (is_owing_else (row_of g x why) g.owed) (not (is_next_sn g.made x.sn)) (not (x.ts == wrapped k)) (nat_lt k g.clock)
+    (not (is_expired why) && is_past p g.deadline k) (is_expired why && is_early p g.deadline k) (is_judged g x.kind && not (confirms_last g x.cs)) (is_judged g x.kind && not (confirms_a_time g x.cts)) (differs g.made (row_of g x why) (content_of x.body))
+    over q.0 q.1 sn t.stamp rises past early cs cts q.2
+
+-- ---- what something ahead leaves alone
+
+pub record LeftBy (base e : EndState) : Type 0 where
+  pub accepted : e.accepted ≡ base.accepted
+  pub last_sn : e.last_sn ≡ base.last_sn
+  pub made : base.made ≡ e.made
+  pub clock : base.clock ≡ e.clock
+  pub offered : e.offered ≡ base.offered
+  pub deadline : base.deadline ≡ e.deadline
+  pub times : (cts : ℕ) → confirms_a_time base cts ≡ confirms_a_time e cts
+  pub phase : e.phase ≡ RetrReq
+  pub active : is_active base.phase ≡ true
+  pub owes : ((rest : List Owed) × (e.owed ≡ OweRetransmissionRequest ∷ rest)) ⊎ ((rest : List Owed) × (e.owed ≡ OweRetransmissionResponse ∷ rest))
+
+up_active : (ph : Phase) → (is_connected ph ≡ true) → is_active ph ≡ true
+up_active Up h = refl
+up_active RetrReq h = refl
+up_active RetrRun h = refl
+up_active _ h = absurd (cc)
+
+flowing_active : (ph : Phase) → is_flowing ph ≡ true → is_active ph ≡ true
+flowing_active Up h = refl
+flowing_active RetrRun h = refl
+flowing_active _ h = absurd (cc)
+
+pub left_by : (p : Parameters) (base : EndState) (x : SafetyPdu) (row : TakeRow) → take_row p base x ≡ Some row → (is_gap row ≡ true) ⊎ (is_request_ahead row ≡ true) → LeftBy base (effect p row base x)
+left_by p base x Gap is h = (let w = row_known p base x Gap is in record { accepted = refl; last_sn = refl; made = refl; clock = refl; offered = refl; deadline = refl; times = λ c. refl; phase = refl; active = ap is_active w.0; owes = inl ([], refl) })
+left_by p base x GapInRetransmission is h = (let w = row_known p base x GapInRetransmission is in record { accepted = refl; last_sn = refl; made = refl; clock = refl; offered = refl; deadline = refl; times = λ c. refl; phase = refl; active = ap is_active w.0; owes = inl ([], refl) })
+left_by p base x RequestedAhead is h = (let w = row_known p base x RequestedAhead is in record { accepted = refl; last_sn = refl; made = refl; clock = refl; offered = refl; deadline = refl; times = λ c. refl; phase = refl; active = flowing_active base.phase w.0; owes = inr (_, refl) })
+left_by p base x RequestedAgain is h = (let w = row_known p base x RequestedAgain is in record { accepted = refl; last_sn = refl; made = refl; clock = refl; offered = refl; deadline = refl; times = λ c. refl; phase = w.0; active = ap is_active w.0; owes = inr (_, refl) })
+left_by p base x _ is h = ⊎_elim (λ (a : false ≡ true). absurd (cc)) (λ (a : false ≡ true). absurd (cc)) h

@@ -1,0 +1,334 @@
+-- A make of a run's end is one of the builder's end, at a clock that isn't later.
+use Rattle.std.proofs.Common.{◌≡◌, ℕ, zero, suc, ◌+◌, ◌-◌, ◌*◌, ◌%◌, ◌/◌, ◌^◌, ◌<◌, ◌≤◌, ◌⊎◌, Bool, true, false, List, [], ◌∷◌, length, Option, Some, None, refl, ap, sym, ◌∙◌, arith, inl, inr, subst, ⊎_elim}
+use Rattle.std.specs.Prelude.{nat_lt, nat_le, not, ◌&&◌, ◌==◌, max}
+use Rattle.std.proofs.lemmas.Bool.Decides.{nat_tests}
+use Rattle.rasta_pcap.specs.declared.fault.Side.{Side}
+use Rattle.rasta_pcap.specs.Fault.{closed, not_allowed, reply_owed, sequence_number, clock_differs, clock_falls, past_deadline, too_early_timeout, confirmed_number, confirmed_time, resend_differs}
+use Rattle.rasta_pdu.specs.Params.{Parameters}
+use Rattle.rasta_pdu.specs.Pdu.{SafetyPdu}
+use Rattle.rasta_pdu.specs.declared.kind.Kind.{Kind}
+use Rattle.rasta_pdu.specs.declared.kind.Kind.TheVariants.{DisconnectionRequest}
+use Rattle.rasta_end.specs.declared.owed.Owed.{Owed}
+use Rattle.rasta_end.specs.declared.phase.Phase.{Phase}
+use Rattle.rasta_end.specs.declared.why.Why.{Why}
+use Rattle.rasta_end.specs.declared.why.Why.TheVariants.{Bye, Expired}
+use Rattle.rasta_end.specs.declared.make_row.MakeRow.{MakeRow}
+use Rattle.rasta_end.specs.declared.make_row.MakeRow.TheVariants.{Leaves, TimesOut}
+use Rattle.rasta_end.specs.State.{Made, EndState, wrapped, ahead_by, is_active, reason_of, content_of}
+use Rattle.rasta_end.specs.Starts.{start_of}
+use Rattle.rasta_end.specs.MakeRule.{first_fault, make_faults, make_fault, has_ended, row_of, row_where, make_row, is_refused_row, is_owing_else, is_next_sn, is_judged, confirms_last, confirms_a_time, differs, is_past, is_early, is_expired, after_make, after_make_by, offered_after, owed_after}
+use Rattle.rasta_check.proofs.Passing.{Passed, passed, fails}
+use Rattle.rasta_check.proofs.MakeRows.{Making, opening, response, first_beat, answer, again, ask, beat, fresh, bye, expired, MadeBy, made_by, after_row}
+use Rattle.rasta_build.specs.Built.{Built}
+use Rattle.rasta_build.specs.Choices.{why_by, why_of, next_unit}
+use Rattle.rasta_build.specs.Clock.{clock_of}
+use Rattle.rasta_build.specs.Explaining.{made_at, make_step, earliest_timeout, earliest_by}
+use Rattle.rasta_build.proofs.Times.{timed, NearDeadlines, not_past}
+use Rattle.rasta_build.proofs.Readiness.{IsReady, IsTrail}
+
+-- ---- the reason
+
+-- what the reason of a disconnection request says of why it is made
+abbrev pub ReasonIs : Why → ℕ → Type 0
+ReasonIs Bye reason = (reason == 4) ≡ false
+ReasonIs Expired reason = (reason == 4) ≡ true
+ReasonIs _ reason = Unit {0}
+
+next_unit_is : (offered trail k n : ℕ) → k + n ≡ offered + trail → k ≤ offered → offered ≤ 1000001 → next_unit offered n trail ≡ Some k
+next_unit_is offered trail k n h l b =
+    let a : nat_le trail n ≡ true = (let z : trail ≤ n = omega (arith, h, l) in le_is trail n z) in
+    let c : nat_le (n - trail) offered ≡ true = (let z : n - trail ≤ offered = omega (arith, h, l) in le_is (n - trail) offered z) in
+    let d : offered - (n - trail) ≡ k = omega (arith, h, l) in
+    let f : nat_lt k (2 ^ 32) ≡ true = (let z : k < 2 ^ 32 = omega (arith, l, b) in lt_is k (2 ^ 32) z) in
+    rw a (rw c (rw d (rw f refl)))
+  where
+    le_is : (m n : ℕ) → m ≤ n → nat_le m n ≡ true
+    le_is m n h = grind (arith, nat_tests)
+
+    lt_is : (m n : ℕ) → m < n → nat_lt m n ≡ true
+    lt_is m n h = grind (arith, nat_tests)
+
+why_is : (x : SafetyPdu) (e : EndState) (trail : ℕ) (s : Side) (ph : Phase) (why : Why) (k : Kind) (os : List Owed) (row : MakeRow) → Making s ph why k os row → e.owed ≡ os → IsTrail e.offered trail os → e.offered ≤ 1000001
+    → ReasonIs why (reason_of x.body) → why_by k e trail x ≡ Some why
+why_is x e trail s ph why k os row opening h t b r = refl
+why_is x e trail s ph why k os row response h t b r = refl
+why_is x e trail s ph why k os row first_beat h t b r = rw h refl
+why_is x e trail s ph why k os row (answer c) h t b r = refl
+why_is x e trail s ph why k os row (again {k = j} {os = rest} c) h t b r = (let n : next_unit e.offered (suc (length rest)) trail ≡ Some j = next_unit_is e.offered trail j (suc (length rest)) t.0 t.1 b in rw h (rw n refl))
+why_is x e trail s ph why k os row (ask c) h t b r = refl
+why_is x e trail s ph why k os row (beat c) h t b r = rw h refl
+why_is x e trail s ph why k os row (fresh c) h t b r = refl
+why_is x e trail s ph why k os row (bye c) h t b r = rw r refl
+why_is x e trail s ph why k os row (expired c) h t b r = rw r refl
+
+second : (a b : Bool) (row : MakeRow) (os : List Owed) → is_refused_row (row_where (a && b) row) os ≡ false → b ≡ true
+second true true row os h = refl
+second true false row os h = absurd (cc)
+second false b row os h = absurd (cc)
+
+was_not : (b : Bool) → not b ≡ true → b ≡ false
+was_not true h = absurd (cc)
+was_not false h = refl
+
+pub reason_is : (s : Side) (ph : Phase) (reason : ℕ) (why : Why) (k : Kind) (os : List Owed) → is_refused_row (make_row s ph reason why k) os ≡ false → ReasonIs why reason
+reason_is s ph reason Bye DisconnectionRequest os h = was_not (reason == 4) (second (is_active ph) (not (reason == 4)) Leaves os h)
+reason_is s ph reason Expired DisconnectionRequest os h = second (is_active ph) (reason == 4) TimesOut os h
+reason_is s ph reason Bye _ os h = absurd (cc)
+reason_is s ph reason Expired _ os h = absurd (cc)
+reason_is s ph reason _ k os h = tt
+
+-- ---- the tests of a make
+
+pub none_of : (a b c d f g h i j k l : Bool) → a ≡ false → b ≡ false → c ≡ false → d ≡ false → f ≡ false → g ≡ false → h ≡ false → i ≡ false → j ≡ false → k ≡ false → l ≡ false
+    → first_fault ((a, closed) ∷ (b, not_allowed) ∷ (c, reply_owed) ∷ (d, sequence_number) ∷ (f, clock_differs) ∷ (g, clock_falls) ∷ (h, past_deadline) ∷ (i, too_early_timeout) ∷ (j, confirmed_number) ∷ (k, confirmed_time) ∷ (l, resend_differs) ∷ []) ≡ None
+none_of a b c d f g h i j k l a' b' c' d' f' g' h' i' j' k' l' = rw a' (rw b' (rw c' (rw d' (rw f' (rw g' (rw h' (rw i' (rw j' (rw k' (rw l' refl))))))))))
+
+early_of : (a b c d f g h i j k l : Bool) → a ≡ false → b ≡ false → c ≡ false → d ≡ false → f ≡ false → g ≡ false → h ≡ false → i ≡ true
+    → first_fault ((a, closed) ∷ (b, not_allowed) ∷ (c, reply_owed) ∷ (d, sequence_number) ∷ (f, clock_differs) ∷ (g, clock_falls) ∷ (h, past_deadline) ∷ (i, too_early_timeout) ∷ (j, confirmed_number) ∷ (k, confirmed_time) ∷ (l, resend_differs) ∷ []) ≡ Some too_early_timeout
+early_of a b c d f g h i j k l a' b' c' d' f' g' h' i' = rw a' (rw b' (rw c' (rw d' (rw f' (rw g' (rw h' (rw i' refl)))))))
+
+-- all tests of an allowed make
+pub record Tests (p : Parameters) (e : EndState) (x : SafetyPdu) (clock : ℕ) (why : Why) : Type 0 where
+  pub open_yet : has_ended e ≡ false
+  pub row : is_refused_row (row_of e x why) e.owed ≡ false
+  pub owed : is_owing_else (row_of e x why) e.owed ≡ false
+  pub sn : not (is_next_sn e.made x.sn) ≡ false
+  pub stamp : not (x.ts == wrapped clock) ≡ false
+  pub rises : nat_lt clock e.clock ≡ false
+  pub in_time : (not (is_expired why) && is_past p e.deadline clock) ≡ false
+  pub late : (is_expired why && is_early p e.deadline clock) ≡ false
+  pub cs : (is_judged e x.kind && not (confirms_last e x.cs)) ≡ false
+  pub cts : (is_judged e x.kind && not (confirms_a_time e x.cts)) ≡ false
+  pub same : differs e.made (row_of e x why) (content_of x.body) ≡ false
+
+pub tests : (p : Parameters) (e : EndState) (x : SafetyPdu) (clock : ℕ) (why : Why) → make_fault p e x clock why ≡ None → Tests p e x clock why
+tests p e x clock why h =
+    let f = fails (make_faults p e x clock why) h in
+    record {
+      open_yet = f 0 (has_ended e, closed) refl;
+      row = f 1 (is_refused_row (row_of e x why) e.owed, not_allowed) refl;
+      owed = f 2 (is_owing_else (row_of e x why) e.owed, reply_owed) refl;
+      sn = f 3 (not (is_next_sn e.made x.sn), sequence_number) refl;
+      stamp = f 4 (not (x.ts == wrapped clock), clock_differs) refl;
+      rises = f 5 (nat_lt clock e.clock, clock_falls) refl;
+      in_time = f 6 (not (is_expired why) && is_past p e.deadline clock, past_deadline) refl;
+      late = f 7 (is_expired why && is_early p e.deadline clock, too_early_timeout) refl;
+      cs = f 8 (is_judged e x.kind && not (confirms_last e x.cs), confirmed_number) refl;
+      cts = f 9 (is_judged e x.kind && not (confirms_a_time e x.cts), confirmed_time) refl;
+      same = f 10 (differs e.made (row_of e x why) (content_of x.body), resend_differs) refl;
+    }
+
+-- ---- clocks
+
+-- the builder's clock: not later, by a multiple of 2^32
+pub record IsClock (c lag k ts c1 : ℕ) : Type 0 where
+  pub more : ℕ
+  pub clocks : k ≡ c1 + more * 4294967296
+  pub least : lag ≤ more
+  pub rises : c ≤ c1
+  pub stamp : ts ≡ c1 % 4294967296
+
+clock_at : (c lag k ts : ℕ) → c + lag * 4294967296 ≤ k → ts ≡ k % 4294967296 → IsClock c lag k ts (c + ahead_by ts c)
+clock_at c lag k ts l h = record {
+  more = (k - (c + ahead_by ts c)) / 4294967296;
+  clocks = omega (arith, l, h);
+  least = omega (arith, l, h);
+  rises = omega arith;
+  stamp = omega (arith, l, h);
+}
+
+told_clock : (n ts : ℕ) → n + ahead_by ts n < 2 ^ 64 → clock_of n ts ≡ Some (n + ahead_by ts n)
+told_clock n ts h = (let z : nat_lt (n + ahead_by ts n) (2 ^ 64) ≡ true = grind (arith, nat_tests) in rw z refl)
+
+ts_is : (ts k : ℕ) → not (ts == wrapped k) ≡ false → ts ≡ k % 4294967296
+ts_is ts k h = grind (arith, nat_tests)
+
+pub ts_not : (ts k : ℕ) → ts ≡ k % 4294967296 → not (ts == wrapped k) ≡ false
+ts_not ts k h = grind (arith, nat_tests)
+
+pub rise_is : (k c : ℕ) → nat_lt k c ≡ false → c ≤ k
+rise_is k c h = grind (arith, nat_tests)
+
+pub rise_not : (k c : ℕ) → c ≤ k → nat_lt k c ≡ false
+rise_not k c h = grind (arith, nat_tests)
+
+past_either : (a b c : Bool) → (b ≡ false → c ≡ false) → (a && b) ≡ false → (a && c) ≡ false
+past_either true b c i h = i h
+past_either false b c i h = refl
+
+near_more : (p : Parameters) (start : Option ℕ) (c c1 lag more : ℕ) (d b : Option ℕ) → c ≤ c1 → lag ≤ more → NearDeadlines p start c lag d b → NearDeadlines p start c1 more d b
+near_more p start c c1 lag more None None l m n = n
+near_more p start c c1 lag more (Some d) (Some b) l m n = (n.0, (let z = n.1 in omega (arith, z, m)), ⊎_elim (λ (w : b ≤ c + 4294967296 + p.t_max). inl (omega (arith, w, l))) (λ (w : (start ≡ Some b) × (d ≡ b)). inr w) n.2)
+near_more p start c c1 lag more (Some d) None l m n = absurd n
+near_more p start c c1 lag more None (Some b) l m n = absurd n
+
+-- where a timeout is too early for the builder's end but not for the run's end, the clocks differ
+early_apart : (p : Parameters) (start : Option ℕ) (c lag k c1 : ℕ) (d b : Option ℕ) → NearDeadlines p start c lag d b → is_early p d k ≡ false → is_early p b c1 ≡ true → c1 < k
+early_apart p start c lag k c1 None None n h g = absurd (cc)
+early_apart p start c lag k c1 (Some d) (Some b) n h g = (let y = n.0 in grind (arith, nat_tests))
+early_apart p start c lag k c1 (Some d) None n h g = absurd n
+early_apart p start c lag k c1 None (Some b) n h g = absurd n
+
+-- a clock that is later than the least one, and not below the earliest timeout of the start, isn't too early
+late_enough : (p : Parameters) (start : Option ℕ) (c lag c2 : ℕ) (d b : Option ℕ) → p.t_max ≤ 60000 → NearDeadlines p start c lag d b → c + 4294967296 ≤ c2 → earliest_by p start ≤ c2 → is_early p b c2 ≡ false
+late_enough p start c lag c2 None None t n l m = refl
+late_enough p start c lag c2 (Some d) (Some b) t n l m = ⊎_elim
+    (λ (w : b ≤ c + 4294967296 + p.t_max). not_early b p.slack c2 (omega (arith, w, l, t)))
+    (λ (w : (start ≡ Some b) × (d ≡ b)). (let z : earliest_by p (Some b) ≤ c2 = subst (λ (o : Option ℕ). earliest_by p o ≤ c2) w.0 m in not_early b p.slack c2 (omega (arith, z))))
+    n.2
+  where
+    not_early : (b s c2 : ℕ) → b ≤ c2 + 4294967296 + s → nat_lt (c2 + 2 ^ 32 + s) b ≡ false
+    not_early b s c2 h = grind (arith, nat_tests)
+late_enough p start c lag c2 (Some d) None t n l m = absurd n
+late_enough p start c lag c2 None (Some b) t n l m = absurd n
+
+-- ---- the make
+
+make_plain : (place : ℕ) (x : SafetyPdu) (b : Built) (why : Why) (c1 : ℕ) → why_of b.end.state b.trail x ≡ Some why → clock_of b.clock x.ts ≡ Some c1 → make_fault b.end.params b.end.state x c1 why ≡ None
+    → make_step place x b ≡ Some (made_at place x why c1 b)
+make_plain place x b why c1 w k f = rw w (rw k (rw f refl))
+
+make_late : (place : ℕ) (x : SafetyPdu) (b : Built) (why : Why) (c1 c2 : ℕ) → why_of b.end.state b.trail x ≡ Some why → clock_of b.clock x.ts ≡ Some c1 → make_fault b.end.params b.end.state x c1 why ≡ Some too_early_timeout
+    → clock_of (max (suc c1) (earliest_timeout b)) x.ts ≡ Some c2 → make_fault b.end.params b.end.state x c2 why ≡ None → make_step place x b ≡ Some (made_at place x why c2 b)
+make_late place x b why c1 c2 w k f l g = rw w (rw k (rw f (rw l (rw g refl))))
+
+trail_make : (s : Side) (ph : Phase) (why : Why) (k : Kind) (os : List Owed) (row : MakeRow) (offered trail : ℕ) → Making s ph why k os row → IsTrail offered trail os → IsTrail (offered_after row offered) trail (owed_after row os)
+trail_make s ph why k os row offered trail opening t = t
+trail_make s ph why k os row offered trail response t = t
+trail_make s ph why k os row offered trail first_beat t = t
+trail_make s ph why k os row offered trail (answer c) t = t
+trail_make s ph why k os row offered trail (again c) t = t.2
+trail_make s ph why k os row offered trail (ask c) t = t
+trail_make s ph why k os row offered trail (beat c) t = tt
+trail_make s ph why k os row offered trail (fresh c) t = tt
+trail_make s ph why k os row offered trail (bye c) t = tt
+trail_make s ph why k os row offered trail (expired c) t = tt
+
+module _ (p : Parameters) (start : Option ℕ) (side : Side) (quiet_sn : Option ℕ) (e : EndState) (taken : ℕ) (ms : List Made) (b : Built) (r : IsReady p start side quiet_sn e taken ms b)
+    (place k : ℕ) (x : SafetyPdu) (why : Why) (ok : make_fault p e x k why ≡ None) (bounded : k < 2 ^ 64) (waits : p.t_max ≤ 60000) (from : start ≡ (start_of p side).deadline) (low_start : earliest_by p start ≤ 2 ^ 63)
+    (few : e.offered ≤ 1000001) where
+  all : Tests p e x k why
+  all = tests p e x k why ok
+
+  pass : Passed p e x k why
+  pass = passed p e x k why ok
+
+  by : MadeBy e x why
+  by = made_by p e x k why pass
+
+  c1 : ℕ
+  c1 = r.clock + ahead_by x.ts r.clock
+
+  stamped : x.ts ≡ k % 4294967296
+  stamped = (let t = all in ts_is x.ts k t.stamp)
+
+  rose : r.clock + r.near.lag * 4294967296 ≤ k
+  rose = (let t = all in let z = rise_is k e.clock t.rises in let n = r.near in let y = n.clocks in omega (arith, z, y))
+
+  clk : IsClock r.clock r.near.lag k x.ts (r.clock + ahead_by x.ts r.clock)
+  clk = clock_at r.clock r.near.lag k x.ts rose stamped
+
+  told : (n c : ℕ) → c ≡ n + ahead_by x.ts n → c < 2 ^ 64 → clock_of n x.ts ≡ Some c
+  told n c h l = told_clock n x.ts (omega (arith, h, l)) ∙ ap Some (sym h)
+
+  -- the tests of the builder's end at a clock
+  none_at : (c : ℕ) → r.clock ≤ c → x.ts ≡ c % 4294967296 → (not (is_expired why) && is_past p r.deadline c) ≡ false → (is_expired why && is_early p r.deadline c) ≡ false
+      → make_fault b.end.params b.end.state x c why ≡ None
+  none_at c l h past early =
+      let t = all in
+      let z : make_fault p (timed r.clock r.deadline e) x c why ≡ None =
+      none_of (has_ended e) (is_refused_row (row_of e x why) e.owed) (is_owing_else (row_of e x why) e.owed) (not (is_next_sn e.made x.sn)) (not (x.ts == wrapped c)) (nat_lt c r.clock)
+      (not (is_expired why) && is_past p r.deadline c) (is_expired why && is_early p r.deadline c) (is_judged e x.kind && not (confirms_last e x.cs)) (is_judged e x.kind && not (confirms_a_time e x.cts)) (differs e.made (row_of e x why) (content_of x.body))
+      t.open_yet t.row t.owed t.sn (ts_not x.ts c h) (rise_not c r.clock l) past early t.cs t.cts t.same in
+      let y : make_fault p b.end.state x c why ≡ None = subst (λ (s : EndState). make_fault p s x c why ≡ None) (sym r.state) z in
+      subst (λ (q : Parameters). make_fault q b.end.state x c why ≡ None) (sym r.params) y
+
+  early_at : (c : ℕ) → r.clock ≤ c → x.ts ≡ c % 4294967296 → (not (is_expired why) && is_past p r.deadline c) ≡ false → (is_expired why && is_early p r.deadline c) ≡ true
+      → make_fault b.end.params b.end.state x c why ≡ Some too_early_timeout
+  early_at c l h past early =
+      let t = all in
+      let z : make_fault p (timed r.clock r.deadline e) x c why ≡ Some too_early_timeout =
+      early_of (has_ended e) (is_refused_row (row_of e x why) e.owed) (is_owing_else (row_of e x why) e.owed) (not (is_next_sn e.made x.sn)) (not (x.ts == wrapped c)) (nat_lt c r.clock)
+      (not (is_expired why) && is_past p r.deadline c) (is_expired why && is_early p r.deadline c) (is_judged e x.kind && not (confirms_last e x.cs)) (is_judged e x.kind && not (confirms_a_time e x.cts)) (differs e.made (row_of e x why) (content_of x.body))
+      t.open_yet t.row t.owed t.sn (ts_not x.ts c h) (rise_not c r.clock l) past early in
+      let y : make_fault p b.end.state x c why ≡ Some too_early_timeout = subst (λ (s : EndState). make_fault p s x c why ≡ Some too_early_timeout) (sym r.state) z in
+      subst (λ (q : Parameters). make_fault q b.end.state x c why ≡ Some too_early_timeout) (sym r.params) y
+
+  said : why_of b.end.state b.trail x ≡ Some why
+  said = (let t = all in let m = by in
+      ap (λ (z : EndState). why_by x.kind z b.trail x) r.state
+      ∙ why_is x (timed r.clock r.deadline e) b.trail e.side e.phase why x.kind e.owed m.row m.how refl r.trail few (reason_is e.side e.phase (reason_of x.body) why x.kind e.owed t.row))
+
+  least_told : clock_of b.clock x.ts ≡ Some (r.clock + ahead_by x.ts r.clock)
+  least_told = (let w = clk in ap (λ n. clock_of n x.ts) r.now ∙ told r.clock (r.clock + ahead_by x.ts r.clock) refl (let z = w.clocks in omega (arith, z, bounded)))
+
+  not_past_then : (not (is_expired why) && is_past p r.deadline (r.clock + ahead_by x.ts r.clock)) ≡ false
+  not_past_then = (let t = all in let w = clk in let n = r.near in
+      past_either (not (is_expired why)) (is_past p e.deadline k) (is_past p r.deadline (r.clock + ahead_by x.ts r.clock))
+      (λ h. not_past p start r.clock n.lag k (r.clock + ahead_by x.ts r.clock) e.deadline r.deadline n.deadlines (let z = w.clocks in let y = w.least in omega (arith, z, y)) h) t.in_time)
+
+  earliest : earliest_timeout b ≡ earliest_by p start
+  earliest = ap (λ (q : Parameters). earliest_by q (start_of q b.side).deadline) r.params ∙ (ap (λ (s : Side). earliest_by p (start_of p s).deadline) r.of_side ∙ ap (λ (o : Option ℕ). earliest_by p o) (sym from))
+
+  -- the builder's end makes it: at the least clock, or where it says that it timed out at a later one
+  pub makes_by : (c : ℕ) × (make_step place x b ≡ Some (made_at place x why c b)) × ((c ≡ r.clock + ahead_by x.ts r.clock) ⊎ (is_expired why ≡ true))
+  makes_by = cases (is_expired why && is_early p r.deadline (r.clock + ahead_by x.ts r.clock)) refl
+    where
+      both : (u v : Bool) → (u && v) ≡ true → (u ≡ true) × (v ≡ true)
+      both true v h = (refl, h)
+      both false v h = absurd (cc)
+
+      early_false : (u v : Bool) → u ≡ true → (u && v) ≡ false → v ≡ false
+      early_false true v h g = g
+      early_false false v h g = absurd (cc)
+
+      congruent : (c1 k n : ℕ) → k ≡ c1 + n * 4294967296 → c1 < k → c1 + 4294967296 ≤ k
+      congruent c1 k zero h l = absurd (omega arith)
+      congruent c1 k (suc n) h l = omega arith
+
+      cases : (u : Bool) → (is_expired why && is_early p r.deadline (r.clock + ahead_by x.ts r.clock)) ≡ u → (c : ℕ) × (make_step place x b ≡ Some (made_at place x why c b)) × ((c ≡ r.clock + ahead_by x.ts r.clock) ⊎ (is_expired why ≡ true))
+      cases false h = (let w = clk in (r.clock + ahead_by x.ts r.clock, make_plain place x b why (r.clock + ahead_by x.ts r.clock) said least_told (none_at (r.clock + ahead_by x.ts r.clock) w.rises w.stamp not_past_then h), inl refl))
+      cases true h =
+          let w = clk in
+          let t = all in
+          let n = r.near in
+          let first : ℕ = r.clock + ahead_by x.ts r.clock in
+          let v = both (is_expired why) (is_early p r.deadline first) h in
+          let apart = early_apart p start r.clock n.lag k first e.deadline r.deadline n.deadlines (early_false (is_expired why) (is_early p e.deadline k) v.0 t.late) v.1 in
+          let room = congruent first k w.more w.clocks apart in
+          let least : ℕ = max (suc first) (earliest_by p start) in
+          let c2 : ℕ = least + ahead_by x.ts least in
+          let st = w.stamp in
+          let ri = w.rises in
+          let stamp2 : x.ts ≡ c2 % 4294967296 = omega (arith, st) in
+          let later : first + 4294967296 ≤ c2 = omega (arith, st) in
+          let small : c2 < 2 ^ 64 = omega (arith, st, room, bounded, low_start) in
+          let k2 : clock_of (max (suc first) (earliest_timeout b)) x.ts ≡ Some c2 = ap (λ z. clock_of (max (suc first) z) x.ts) earliest ∙ told least c2 refl small in
+          let fine : is_early p r.deadline c2 ≡ false = late_enough p start r.clock n.lag c2 e.deadline r.deadline waits n.deadlines (omega (arith, later, ri)) (omega arith) in
+          let past2 : (not (is_expired why) && is_past p r.deadline c2) ≡ false = (let z = v.0 in rw z refl) in
+          let early2 : (is_expired why && is_early p r.deadline c2) ≡ false = (let z = v.0 in rw z fine) in
+          (c2, make_late place x b why first c2 said least_told (early_at first w.rises w.stamp not_past_then h) k2 (none_at c2 (omega (arith, later, ri)) stamp2 past2 early2), inr v.0)
+
+  -- and is ready again, at the least clock
+  pub ready_make : IsReady p start side quiet_sn (after_make e x k why) taken ms (made_at place x why (r.clock + ahead_by x.ts r.clock) b)
+  ready_make =
+      let m = by in
+      let w = clk in
+      let n = r.near in
+      let c : ℕ = r.clock + ahead_by x.ts r.clock in
+      let after : after_make_by (Some m.row) e x k ≡ after_make e x k why = after_row e x k why m in
+      let s : after_make b.end.state x c why ≡ timed c r.deadline (after_make_by (Some m.row) e x k) =
+      ap (λ (z : EndState). after_make z x c why) r.state ∙ ap (λ (o : Option MakeRow). after_make_by o (timed r.clock r.deadline e) x c) m.is in
+      subst (λ (z : EndState). IsReady p start side quiet_sn z taken ms (made_at place x why c b)) after (record {
+        clock = c;
+        deadline = r.deadline;
+        near = record { lag = w.more; clocks = w.clocks; deadlines = near_more p start r.clock c n.lag w.more e.deadline r.deadline w.rises w.least n.deadlines };
+        state = s;
+        params = r.params;
+        now = refl;
+        of_side = r.of_side;
+        quiet = r.quiet;
+        next = r.next;
+        trail = trail_make e.side e.phase why x.kind e.owed m.row e.offered b.trail m.how r.trail;
+        asked = r.asked;
+      })

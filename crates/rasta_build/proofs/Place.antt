@@ -1,0 +1,341 @@
+-- The place at which nothing is found is exact: some run within the limits sends the packets before it.
+use Rattle.std.proofs.Common.{◌≡◌, ℕ, zero, suc, ◌+◌, ◌-◌, ◌^◌, ◌<◌, ◌≤◌, Bool, true, false, List, [], ◌∷◌, ◌++◌, length, Option, Some, None, Result, Ok, Err, slice_get, take, drop, refl, ap, sym, ◌∙◌, arith, subst}
+use Rattle.std.specs.Prelude.{◌↔◌, nat_lt, if◌then◌else◌, min, IfSome}
+use Rattle.std.proofs.lemmas.Bool.Decides.{nat_tests}
+use Rattle.std.proofs.lemmas.Option.{slice_get_within}
+use native.Mathlib.Decide.{dec_lt}
+use Prim.{yes, no}
+use Rattle.rasta_pcap.specs.Fault.{fault_at, not_found}
+use Rattle.rasta_pcap.specs.declared.fault.Side.{Side}
+use Rattle.rasta_pcap.specs.declared.fault.Side.TheVariants.{Client, Server}
+use Rattle.rasta_udp.specs.Frame.{Packet}
+use Rattle.rasta_pdu.specs.Params.{Parameters, AreParameters, IsQuiet}
+use Rattle.rasta_pdu.specs.declared.quiet_point.Quiet.{Quiet}
+use Rattle.rasta_cert.specs.Certificate.{AreEntries, IsEntry}
+use Rattle.rasta_cert.specs.declared.entry.Entry.{Entry}
+use Rattle.rasta_end.specs.State.{EndState}
+use Rattle.rasta_end.specs.Starts.{start_of, start_by}
+use Rattle.rasta_check.specs.Crossing.{FirstCopy, Sent, CrossRecorded}
+use Rattle.rasta_check.specs.World.{most_sent}
+use Rattle.rasta_check.specs.Theorem.{OfConnection, most_packets}
+use Rattle.rasta_check.specs.Scripts.{Cursor, Advances, takes_next, makes_next, Leads, at_start, Fits}
+use Rattle.rasta_check.proofs.Lists.{get_front}
+use Rattle.rasta_check.proofs.Copies.{IsSent}
+use Rattle.rasta_check.proofs.Forms.{to_record}
+use Rattle.rasta_check.proofs.Steps.{made_more}
+use Rattle.rasta_check.proofs.TakeRows.{take_leaves}
+use Rattle.rasta_check.proofs.Scripted.{slice_get_some, simulated}
+use Rattle.rasta_check.proofs.Known.{known}
+use Rattle.rasta_build.specs.Built.{Built}
+use Rattle.rasta_build.specs.Choices.{first_of}
+use Rattle.rasta_build.specs.Proposing.{Pass, first_pass, one_more, pass_on, passes, copy_goes, client_goes, server_goes, proposal}
+use Rattle.rasta_build.specs.Completeness.{CanCross}
+use Rattle.rasta_build.proofs.SentLists.{Begins, cut, begun_get, begun_next, sent_rises, sent_numbers, sent_within, later_place}
+use Rattle.rasta_build.proofs.Passes.{Fails, fails, proposed_fails, fails_within, length_take, take_drop, early, finds_none}
+use Rattle.rasta_build.proofs.Soundness.{passes_read}
+
+-- ---- a script over the beginnings of the lists
+
+-- levels rise, and so does what was made
+leads_rise : (p : Parameters) (n : ℕ) (own peer : List FirstCopy) (u v : Cursor) (es : List Entry) → Leads p n own peer u es v → (u.level ≤ v.level) × (u.made ≤ v.made)
+leads_rise p n own peer u v [] f = (let a = ap (λ (z : Cursor). z.level) f in let b = ap (λ (z : Cursor). z.made) f in (omega (arith, a), omega (arith, b)))
+leads_rise p n own peer u v (x ∷ es) f = by x f.0 f.1 (leads_rise p n own peer f.0 v es f.2)
+  where
+    by : (x : Entry) (m : Cursor) → Advances p n own peer u x m → (m.level ≤ v.level) × (m.made ≤ v.made) → (u.level ≤ v.level) × (u.made ≤ v.made)
+    by x m (takes_next slot position c e' a b g d f t) l = (let y = l.0 in let z = l.1 in (omega (arith, y, a), omega (arith, z)))
+    by x m (makes_next c clock why e' a g k) l = (let y = l.0 in let z = l.1 in (omega (arith, y, a), omega (arith, z)))
+
+-- a member of a place in front is one of the beginning
+in_beginning : (big own : List FirstCopy) (n i : ℕ) (c : FirstCopy) → Begins big own n → ((j : ℕ) (d : FirstCopy) → length own ≤ j → slice_get big j ≡ Some d → n ≤ d.place) → slice_get big i ≡ Some c → c.place < n → slice_get own i ≡ Some c
+in_beginning big own n i c b later g l =
+    elim (dec_lt i (length own)) [
+      | yes y ↦ (let f = slice_get_some own i y in let h = begun_get big own n i f.0 b f.1 in let e : f.0 ≡ c = cc in f.1 ∙ ap (λ (k : FirstCopy). Some k) e)
+      | no y ↦ absurd (let z = later i c (omega (arith, y)) g in omega (arith, z, l))
+    ]
+
+-- what leads to a level leads there over the beginnings that crossed in front of it
+module _ (p : Parameters) (n q : ℕ) (own peer mine theirs : List FirstCopy) (bm : Begins own mine q) (bt : Begins peer theirs q)
+    (later : (j : ℕ) (d : FirstCopy) → length theirs ≤ j → slice_get peer j ≡ Some d → q ≤ d.place) where
+  leads_cut : (u v : Cursor) (es : List Entry) → Leads p n own peer u es v → v.level ≤ q → v.made ≤ length mine → Leads p q mine theirs u es v
+  leads_cut u v [] f l m = f
+  leads_cut u v (x ∷ es) f l m = (let r = leads_rise p n own peer f.0 v es f.2 in (f.0, by x f.0 f.1 r, leads_cut f.0 v es f.2 l m))
+    where
+      by : (x : Entry) (w : Cursor) → Advances p n own peer u x w → (w.level ≤ v.level) × (w.made ≤ v.made) → Advances p q mine theirs u x w
+      by x w (takes_next slot position c e' a b g d f t) r =
+          (let r0 = r.0 in takes_next slot position c e' a (omega (arith, r0, l)) (in_beginning peer theirs q position c bt later g (omega (arith, r0, l, d))) d f t)
+      by x w (makes_next c clock why e' a g k) r =
+          let r1 = r.1 in
+          let f = slice_get_some mine u.made (omega (arith, r1, m)) in
+          let h = begun_get own mine q u.made f.0 bm f.1 in
+          let e : f.0 ≡ c = cc in
+          makes_next c clock why e' a (f.1 ∙ ap (λ (z : FirstCopy). Some z) e) k
+
+-- the clock stays below 2^64
+leads_clock : (p : Parameters) (n : ℕ) (own peer : List FirstCopy) (u v : Cursor) (es : List Entry) → Leads p n own peer u es v → AreEntries es → u.state.clock < 2 ^ 64 → v.state.clock < 2 ^ 64
+leads_clock p n own peer u v [] f h l = (let a = ap (λ (z : Cursor). z.state.clock) f in omega (arith, a, l))
+leads_clock p n own peer u v (x ∷ es) f h l = leads_clock p n own peer f.0 v es f.2 h.1 (by x f.0 f.1 h.0)
+  where
+    by : (x : Entry) (m : Cursor) → Advances p n own peer u x m → IsEntry x → m.state.clock < 2 ^ 64
+    by x m (takes_next slot position c e' a b g d f t) h = (let k = take_leaves p u.state c.pdu.safety in let z : e'.clock ≡ u.state.clock = ap (λ (e : EndState). e.clock) t.1 ∙ k.clock in omega (arith, z, l))
+    by x m (makes_next c clock why e' a g k) h = (let z = made_more p u.state c.pdu.safety clock why e' k in let w = z.now in let b = h.1 in omega (arith, w, b))
+
+start_clock : (slack : ℕ) (q : Option Quiet) → IfSome q (IsQuiet slack) → (s : Side) → (start_by q s).clock < 2 ^ 64
+start_clock slack None h Client = omega arith
+start_clock slack None h Server = omega arith
+start_clock slack (Some q) h Client = (let z = h.client.clock_most in omega (arith, z))
+start_clock slack (Some q) h Server = (let z = h.server.clock_most in omega (arith, z))
+
+-- ---- what a pass has explained crossed in front of what it hasn't
+
+-- a place between them
+record IsFront (c s : List FirstCopy) (t : Pass) : Type 0 where
+  pub low : ℕ
+  pub passed : (i : ℕ) (d : FirstCopy) → i < t.made → slice_get c i ≡ Some d → d.place < low
+  pub their_passed : (i : ℕ) (d : FirstCopy) → i < t.answered → slice_get s i ≡ Some d → d.place < low
+  pub next : (d : FirstCopy) → slice_get c t.made ≡ Some d → low ≤ d.place
+  pub their_next : (d : FirstCopy) → slice_get s t.answered ≡ Some d → low ≤ d.place
+  pub most : t.made ≤ length c
+  pub their_most : t.answered ≤ length s
+
+-- this place is one
+record IsParted (c s : List FirstCopy) (t : Pass) (q : ℕ) : Type 0 where
+  pub passed : (i : ℕ) (d : FirstCopy) → i < t.made → slice_get c i ≡ Some d → d.place < q
+  pub their_passed : (i : ℕ) (d : FirstCopy) → i < t.answered → slice_get s i ≡ Some d → d.place < q
+  pub next : (d : FirstCopy) → slice_get c t.made ≡ Some d → q ≤ d.place
+  pub their_next : (d : FirstCopy) → slice_get s t.answered ≡ Some d → q ≤ d.place
+
+not_less : (m n : ℕ) → nat_lt m n ≡ false → n ≤ m
+not_less m n h = grind (arith, nat_tests)
+
+less_is : (m n : ℕ) → nat_lt m n ≡ true → m < n
+less_is m n h = grind (arith, nat_tests)
+
+same_member : (xs : List FirstCopy) (i : ℕ) (a b : FirstCopy) → slice_get xs i ≡ Some a → slice_get xs i ≡ Some b → a.place ≡ b.place
+same_member xs i a b g h = (let e : a ≡ b = cc in ap (λ (z : FirstCopy). z.place) e)
+
+not_there : (xs : List FirstCopy) (i : ℕ) (a : FirstCopy) → slice_get xs i ≡ None → slice_get xs i ≡ Some a → ⊥
+not_there xs i a g h = cc
+
+module _ (p : Parameters) (packets : List Packet) (c s : List FirstCopy) (hc : IsSent p packets Client c) (hs : IsSent p packets Server s) where
+  -- no packet is of both sides
+  apart : (i j : ℕ) (d f : FirstCopy) → slice_get c i ≡ Some d → slice_get s j ≡ Some f → d.place ≡ f.place → ⊥
+  apart i j d f x y e =
+      let v = hc.firsts i d x in
+      let w = hs.firsts j f y in
+      let g : slice_get packets f.place ≡ Some v.0 = ap (λ k. slice_get packets k) (sym e) ∙ v.1 in
+      let g' = w.1 in
+      let z : v.0 ≡ w.0 = cc in
+      let o : Client ≡ Server = sym v.2 ∙ (ap (λ (k : Packet). k.side) z ∙ w.2) in
+      absurd (cc)
+
+  client_front : (t t' : Pass) (d : FirstCopy) → slice_get c t.made ≡ Some d → ((f : FirstCopy) → slice_get s t.answered ≡ Some f → d.place < f.place) → IsFront c s t → (o : Option Built) → client_goes t d.place o ≡ Ok t' → IsFront c s t'
+  client_front t t' d g before r None h = absurd (cc)
+  client_front t t' d g before r (Some b) h =
+      let z : record t { made = suc t.made; own = b } ≡ t' = cc in
+      let low = r.next d g in
+      subst (λ (y : Pass). IsFront c s y) z (record {
+        low = suc d.place;
+        passed = λ i f l k. elim (dec_lt i t.made) [
+          | yes y ↦ (let v = r.passed i f y k in omega (arith, v, low))
+          | no y ↦ (let w : i ≡ t.made = omega (arith, y, l) in let v = same_member c t.made d f g (subst (λ n. slice_get c n ≡ Some f) w k) in omega (arith, v))
+        ];
+        their_passed = λ i f l k. (let v = r.their_passed i f l k in omega (arith, v, low));
+        next = λ f k. (let v = hc.rising t.made d f g k in omega (arith, v));
+        their_next = λ f k. (let v = before f k in omega (arith, v));
+        most = (let v = slice_get_within c t.made d g in omega (arith, v));
+        their_most = r.their_most;
+      })
+
+  server_front : (t t' : Pass) (d : FirstCopy) → slice_get s t.answered ≡ Some d → ((f : FirstCopy) → slice_get c t.made ≡ Some f → d.place < f.place) → IsFront c s t → (o : Option Built) → server_goes t d.place o ≡ Ok t' → IsFront c s t'
+  server_front t t' d g before r None h = absurd (cc)
+  server_front t t' d g before r (Some b) h =
+      let z : record t { answered = suc t.answered; other = b } ≡ t' = cc in
+      let low = r.their_next d g in
+      subst (λ (y : Pass). IsFront c s y) z (record {
+        low = suc d.place;
+        passed = λ i f l k. (let v = r.passed i f l k in omega (arith, v, low));
+        their_passed = λ i f l k. elim (dec_lt i t.answered) [
+          | yes y ↦ (let v = r.their_passed i f y k in omega (arith, v, low))
+          | no y ↦ (let w : i ≡ t.answered = omega (arith, y, l) in let v = same_member s t.answered d f g (subst (λ n. slice_get s n ≡ Some f) w k) in omega (arith, v))
+        ];
+        next = λ f k. (let v = before f k in omega (arith, v));
+        their_next = λ f k. (let v = hs.rising t.answered d f g k in omega (arith, v));
+        most = r.most;
+        their_most = (let v = slice_get_within s t.answered d g in omega (arith, v));
+      })
+
+  -- the server's next copy crossed in front of the client's, where it isn't the other way
+  server_first : (t : Pass) (d f : FirstCopy) → slice_get c t.made ≡ Some d → slice_get s t.answered ≡ Some f → nat_lt d.place f.place ≡ false → f.place < d.place
+  server_first t d f x y e =
+      let l = not_less d.place f.place e in
+      elim (dec_lt f.place d.place) [
+        | yes z ↦ z
+        | no z ↦ absurd (apart t.made t.answered d f x y (omega (arith, l, z)))
+      ]
+
+  one_front : (t t' : Pass) → IsFront c s t → (a b : Option FirstCopy) → slice_get c t.made ≡ a → slice_get s t.answered ≡ b → copy_goes c s t (first_of a b) ≡ Ok t' → IsFront c s t'
+  one_front t t' r None None x y h = (let z : t ≡ t' = cc in subst (λ (k : Pass). IsFront c s k) z r)
+  one_front t t' r (Some d) None x y h = client_front t t' d x (λ f k. absurd (not_there s t.answered f y k)) r _ h
+  one_front t t' r None (Some d) x y h = server_front t t' d y (λ f k. absurd (not_there c t.made f x k)) r _ h
+  one_front t t' r (Some d) (Some f) x y h = by (nat_lt d.place f.place) refl h
+    where
+      by : (l : Bool) → nat_lt d.place f.place ≡ l → copy_goes c s t (Some (if l then record { side = Client; copy = d } else record { side = Server; copy = f })) ≡ Ok t' → IsFront c s t'
+      by true e h = (let l = less_is d.place f.place e in client_front t t' d x (λ g k. (let v = same_member s t.answered f g y k in omega (arith, v, l))) r _ h)
+      by false e h = (let l = server_first t d f x y e in server_front t t' f y (λ g k. (let v = same_member c t.made d g x k in omega (arith, v, l))) r _ h)
+
+  passes_front : (k : ℕ) (t : Pass) → passes p c s k ≡ Ok t → IsFront c s t
+  passes_front zero t h =
+      let z : first_pass p ≡ t = cc in
+      subst (λ (y : Pass). IsFront c s y) z (record { low = 0; passed = λ i d l g. absurd (omega (arith, l)); their_passed = λ i d l g. absurd (omega (arith, l)); next = λ d g. omega arith; their_next = λ d g. omega arith; most = omega arith; their_most = omega arith })
+  passes_front (suc k) t h = then_by k t (passes p c s k) refl h (λ u e. passes_front k u e)
+    where
+      then_by : (k : ℕ) (t : Pass) (r : Result Pass ℕ) → passes p c s k ≡ r → pass_on r (one_more c s) ≡ Ok t → ((u : Pass) → passes p c s k ≡ Ok u → IsFront c s u) → IsFront c s t
+      then_by k t (Err q) e h rest = absurd (cc)
+      then_by k t (Ok u) e h rest = one_front u t (rest u e) (slice_get c u.made) (slice_get s u.answered) refl refl h
+
+  -- where the pass fails
+  client_parted : (t : Pass) (d : FirstCopy) (q : ℕ) → slice_get c t.made ≡ Some d → ((f : FirstCopy) → slice_get s t.answered ≡ Some f → d.place ≤ f.place) → IsFront c s t → (o : Option Built) → client_goes t d.place o ≡ Err q → IsParted c s t q
+  client_parted t d q g before r (Some b) h = absurd (cc)
+  client_parted t d q g before r None h =
+      let z : d.place ≡ q = cc in
+      let low = r.next d g in
+      record {
+        passed = λ i f l k. (let v = r.passed i f l k in omega (arith, v, low, z));
+        their_passed = λ i f l k. (let v = r.their_passed i f l k in omega (arith, v, low, z));
+        next = λ f k. (let v = same_member c t.made d f g k in omega (arith, v, z));
+        their_next = λ f k. (let v = before f k in omega (arith, v, z));
+      }
+
+  server_parted : (t : Pass) (d : FirstCopy) (q : ℕ) → slice_get s t.answered ≡ Some d → ((f : FirstCopy) → slice_get c t.made ≡ Some f → d.place ≤ f.place) → IsFront c s t → (o : Option Built) → server_goes t d.place o ≡ Err q → IsParted c s t q
+  server_parted t d q g before r (Some b) h = absurd (cc)
+  server_parted t d q g before r None h =
+      let z : d.place ≡ q = cc in
+      let low = r.their_next d g in
+      record {
+        passed = λ i f l k. (let v = r.passed i f l k in omega (arith, v, low, z));
+        their_passed = λ i f l k. (let v = r.their_passed i f l k in omega (arith, v, low, z));
+        next = λ f k. (let v = before f k in omega (arith, v, z));
+        their_next = λ f k. (let v = same_member s t.answered d f g k in omega (arith, v, z));
+      }
+
+  parted_by : (t : Pass) (q : ℕ) → IsFront c s t → (a b : Option FirstCopy) → slice_get c t.made ≡ a → slice_get s t.answered ≡ b → copy_goes c s t (first_of a b) ≡ Err q → IsParted c s t q
+  parted_by t q r None None x y h = absurd (cc)
+  parted_by t q r (Some d) None x y h = client_parted t d q x (λ f k. absurd (not_there s t.answered f y k)) r _ h
+  parted_by t q r None (Some d) x y h = server_parted t d q y (λ f k. absurd (not_there c t.made f x k)) r _ h
+  parted_by t q r (Some d) (Some f) x y h = by (nat_lt d.place f.place) refl h
+    where
+      by : (l : Bool) → nat_lt d.place f.place ≡ l → copy_goes c s t (Some (if l then record { side = Client; copy = d } else record { side = Server; copy = f })) ≡ Err q → IsParted c s t q
+      by true e h = (let l = less_is d.place f.place e in client_parted t d q x (λ g k. (let v = same_member s t.answered f g y k in omega (arith, v, l))) r _ h)
+      by false e h = (let l = not_less d.place f.place e in server_parted t f q y (λ g k. (let v = same_member c t.made d g x k in omega (arith, v, l))) r _ h)
+
+-- ---- the beginning of a list
+
+-- what is passed is the beginning
+as_many : (p : Parameters) (xs : List Packet) (side : Side) (big own : List FirstCopy) (k : ℕ) → IsSent p xs side own → Begins big own (length xs) → k ≤ length big
+    → ((i : ℕ) (d : FirstCopy) → i < k → slice_get big i ≡ Some d → d.place < length xs) → ((d : FirstCopy) → slice_get big k ≡ Some d → length xs ≤ d.place) → k ≡ length own
+as_many p xs side big own k h b most front next =
+    elim (dec_lt k (length own)) [
+      | yes y ↦ absurd (let f = slice_get_some own k y in let l = sent_within p xs side own h k f.0 f.1 in let m = next f.0 (begun_get big own (length xs) k f.0 b f.1) in omega (arith, l, m))
+      | no y ↦ elim (dec_lt (length own) k) [
+        | yes z ↦ absurd (let f = slice_get_some big (length own) (omega (arith, z, most)) in let l = front (length own) f.0 z f.1 in let m = begun_next big own (length xs) f.0 b f.1 in omega (arith, l, m))
+        | no z ↦ omega (arith, y, z)
+      ]
+    ]
+
+-- the packets in front
+recorded_front : (p : Parameters) (xs ys packets : List Packet) → packets ≡ xs ++ ys → CrossRecorded p packets → CrossRecorded p xs
+recorded_front p xs ys packets e h place packet g = h place packet (subst (λ (l : List Packet). slice_get l place ≡ Some packet) (sym e) (get_front xs ys place packet g))
+
+-- ---- the theorem
+
+module _ (p : Parameters) (valid : AreParameters p) (packets : List Packet) (c s : List FirstCopy) (hc : IsSent p packets Client c) (hs : IsSent p packets Server s) (recorded : CrossRecorded p packets)
+    (most : length packets ≤ 16000000) (lc : length c ≤ 1000000) (ls : length s ≤ 1000000) where
+  crosses_before : (n q : ℕ) → Fails p c s q n → q < length packets → CanCross p (take q packets)
+  crosses_before n q f low =
+      let t : Pass = f.pass in
+      let front : List Packet = take q packets in
+      let lp : length front ≡ q = length_take q packets (omega (arith, low)) in
+      let whole : packets ≡ front ++ drop q packets = take_drop q packets in
+      let kc = cut p (drop q packets) front Client c (subst (λ (k : List Packet). IsSent p k Client c) whole hc) in
+      let ks = cut p (drop q packets) front Server s (subst (λ (k : List Packet). IsSent p k Server s) whole hs) in
+      let fr = passes_front p packets c s hc hs f.k t f.before in
+      let pt = parted_by p packets c s hc hs t q fr (slice_get c t.made) (slice_get s t.answered) refl refl f.here in
+      let a = passes_read p (length packets) c s lc ls (sent_rises p packets Client c hc) (sent_rises p packets Server s hs) hc.rising hs.rising (sent_within p packets Client c hc) (sent_within p packets Server s hs)
+      (omega (arith, most)) (sent_numbers p packets Client c hc) (sent_numbers p packets Server s hs) f.k t f.before in
+      let rc = a.client in
+      let rs = a.server in
+      let mc : t.made ≡ length kc.0 = as_many p front Client c kc.0 t.made kc.1 kc.2 fr.most (λ i d l g. (let v = pt.passed i d l g in omega (arith, v, lp))) (λ d g. (let v = pt.next d g in omega (arith, v, lp))) in
+      let ms : t.answered ≡ length ks.0 = as_many p front Server s ks.0 t.answered ks.1 ks.2 fr.their_most (λ i d l g. (let v = pt.their_passed i d l g in omega (arith, v, lp))) (λ d g. (let v = pt.their_next d g in omega (arith, v, lp))) in
+      let low_c = rc.low in
+      let low_s = rs.low in
+      let below_c = a.below q pt.passed in
+      let below_s = a.their_below q pt.their_passed in
+      let made_c = rc.made in
+      let made_s = rs.made in
+      let lead_c = leads_cut p (length packets) (length front) c s kc.0 ks.0 kc.2 ks.2 (λ j d l g. later_place p packets Server s ks.0 (length front) j d hs ks.2 l g) (at_start (start_of p Client)) rc.at t.own.script rc.leads
+      (omega (arith, low_c, below_c, lp)) (omega (arith, made_c, mc)) in
+      let lead_s = leads_cut p (length packets) (length front) s c ks.0 kc.0 ks.2 kc.2 (λ j d l g. later_place p packets Client c kc.0 (length front) j d hc kc.2 l g) (at_start (start_of p Server)) rs.at t.other.script rs.leads
+      (omega (arith, low_s, below_s, lp)) (omega (arith, made_s, ms)) in
+      let fits_c : Fits p Client (length front) kc.0 ks.0 t.own.script rc.at.state = (rc.at, lead_c, rc.made ∙ mc, refl) in
+      let fits_s : Fits p Server (length front) ks.0 kc.0 t.other.script rs.at.state = (rs.at, lead_s, rs.made ∙ ms, refl) in
+      let r = simulated p front kc.0 ks.0 t.own.script t.other.script rc.at.state rs.at.state (recorded_front p front (drop q packets) packets whole recorded) kc.1 ks.1 fits_c fits_s in
+      let few_c = fr.most in
+      let few_s = fr.their_most in
+      let kn = known p r.0 r.1 kc.0 ks.0 r.2 (subst (λ (k : List Packet). IsSent p k Client kc.0) (sym r.3) kc.1) (subst (λ (k : List Packet). IsSent p k Server ks.0) (sym r.3) ks.1)
+      (omega (arith, mc, few_c, lc)) (omega (arith, ms, few_s, ls)) in
+      let length_all = ap (λ (k : List Packet). length k) r.3 in
+      let clock_c = leads_clock p (length packets) c s (at_start (start_of p Client)) rc.at t.own.script rc.leads rc.entries (start_clock p.slack p.quiet valid.quiet Client) in
+      let clock_s = leads_clock p (length packets) s c (at_start (start_of p Server)) rs.at t.other.script rs.leads rs.entries (start_clock p.slack p.quiet valid.quiet Server) in
+      let at_c = ap (λ (e : EndState). e.clock) r.4 in
+      let at_s = ap (λ (e : EndState). e.clock) r.5 in
+      record {
+        worlds = r.0;
+        last = r.1;
+        reached = r.2;
+        crossed = r.3;
+        bounded = record { packets = omega (arith, length_all, lp, low, most); pdus = kn.within; client_clock = omega (arith, at_c, clock_c); server_clock = omega (arith, at_s, clock_s) };
+      }
+
+place_of : (q place n : ℕ) → min (q + 1) 4294967295 ≡ place → q < n → n ≤ 16000000 → q ≡ place - 1
+place_of q place n h l m = omega arith
+
+-- ---- the place is exact
+
+take_take : {A : Type 0} (m n : ℕ) (xs : List A) → m ≤ n → take m (take n xs) ≡ take m xs
+take_take zero n xs l = refl
+take_take (suc m) zero xs l = absurd (omega (arith, l))
+take_take (suc m) (suc n) [] l = refl
+take_take (suc m) (suc n) (x ∷ xs) l = ap (λ ys. x ∷ ys) (take_take m n xs (omega (arith, l)))
+
+-- a run within the limits that sends these packets passes through each beginning
+crosses_less : (p : Parameters) (packets : List Packet) (m n : ℕ) → m ≤ n → n ≤ length packets → CanCross p (take n packets) → CanCross p (take m packets)
+crosses_less p packets m n l k r =
+    let lw = ap (λ (x : List Packet). length x) r.crossed in
+    let lt = length_take n packets k in
+    let u = early p r.worlds r.last r.reached r.bounded.pdus (r.bounded.client_clock, r.bounded.server_clock) m (omega (arith, lw, lt, l)) in
+    let is : u.1.crossed ≡ take m packets = u.3 ∙ (ap (λ (x : List Packet). take m x) r.crossed ∙ take_take m n packets l) in
+    let lu = ap (λ (x : List Packet). length x) is in
+    let lm = length_take m packets (omega (arith, l, k)) in
+    let most = r.bounded.packets in
+    record { worlds = u.0; last = u.1; reached = u.2; crossed = is; bounded = record { packets = omega (arith, lu, lm, lw, lt, l, most); pdus = u.4; client_clock = u.5.0; server_clock = u.5.1 } }
+
+-- a run within the limits sends exactly the first packets where they are fewer than the place says, and none does otherwise
+pub exact : (p : Parameters) → OfConnection p → (packets : List Packet) (c s : List FirstCopy) (place n : ℕ) → CrossRecorded p packets → Sent p packets Client c → Sent p packets Server s
+    → length packets ≤ most_packets → length c ≤ most_sent → length s ≤ most_sent → proposal p c s ≡ Err (fault_at not_found place)
+    → CanCross p (take n packets) ↔ n < place
+exact p conn packets c s place n recorded hc0 hs0 most lc ls h =
+    let valid = conn.valid in
+    let hc = to_record p packets Client c valid hc0 in
+    let hs = to_record p packets Server s valid hs0 in
+    let q = proposed_fails (passes p c s (length c + length s)) place h in
+    let f = fails p c s q.0 (length c + length s) q.1 in
+    let low = fails_within p valid packets c s hc hs (length c + length s) q.0 f in
+    let at : q.0 ≡ place - 1 = place_of q.0 place (length packets) q.2 low most in
+    let r = crosses_before p valid packets c s hc hs recorded most lc ls (length c + length s) q.0 f low in (
+      λ w. elim (dec_lt n place) [
+        | yes y ↦ y
+        | no y ↦ absurd (finds_none p conn packets (drop place (take n packets)) c s place hc0 hs0 h
+            (subst (λ (k : List Packet). CanCross p k) (take_drop place (take n packets) ∙ ap (λ (x : List Packet). x ++ drop place (take n packets)) (take_take place n packets (omega (arith, y)))) w))
+      ],
+      λ l. crosses_less p packets n q.0 (omega (arith, at, l)) (omega (arith, low)) r,
+    )
