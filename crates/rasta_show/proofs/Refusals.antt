@@ -27,7 +27,7 @@ tested-number false false false true cut place r f h = number_of f record_too_lo
 tested-number false false false false true place r f h = number_of f cut_record place h (omega arith)
 tested-number false false false false false place r f h = absurd (cc)
 
-next-number : (c : Cursor) (f : Fault) → next c ≡ Err f → 10 ≤ f.number
+pub next-number : (c : Cursor) (f : Fault) → next c ≡ Err f → 10 ≤ f.number
 next-number c f h =
     let size = length c.rest in
     let captured = length_in_front c in
@@ -52,7 +52,7 @@ opened-number true order file f h = header_number_of f cut_header h (omega arith
 opened-number false None file f h = header_number_of f not_pcap h (omega arith)
 opened-number false (Some order) file f h = judged-number _ _ _ f h
 
-opening-number : (file : List ℕ) (f : Fault) → opening file ≡ Err f → 10 ≤ f.number
+pub opening-number : (file : List ℕ) (f : Fault) → opening file ≡ Err f → 10 ≤ f.number
 opening-number file f h = opened-number (nat_lt (length file) 24) (order_of file) file f h
 
 -- some bytes were read when memory ran out, or the reader failed

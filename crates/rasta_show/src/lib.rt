@@ -10,5 +10,5 @@ mod texts;
 
 pub use line::Line;
 pub use messages::write_message;
-pub use show::run_show;
+pub use show::{is_refusal, run_show, write_refusal};
 pub use texts::{end_name, refusal_line};

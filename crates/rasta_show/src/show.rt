@@ -32,8 +32,8 @@ pub enum Seen<'a> {
     Refused(Fault),
 }
 
-// Faults of memory and of a reader are answers of a run; any other is shown.
-fn is_refusal(fault: Fault) -> bool
+/// Whether a capture's fault is told as its refusal; a lack of memory and a failed read are errors of the run.
+pub fn is_refusal(fault: Fault) -> bool
     ensures { result ≡ nat_le not_pcap fault.number }
 {
     fault.number >= Fault::NOT_PCAP
@@ -90,8 +90,8 @@ fn sight<'a>(params: &Params, record: &Record<'a>) -> Seen<'a>
     }
 }
 
-// Writes the refusal that ends a text.
-fn write_refusal<W: Sink>(fault: Fault, writer: &mut W) -> Result<u8, Fault>
+/// Writes the refusal that ends a text, and answers the status of the program, 1.
+pub fn write_refusal<W: Sink>(fault: Fault, writer: &mut W) -> Result<u8, Fault>
     ensures whole { OnOk result (Appends (W.contents writer.old) (W.contents writer.new) (refused_line fault)) }
     ensures answered { IfOk result (λ status. status ≡ 1) }
     ensures begun { OnErr result (AppendsBeginning (W.contents writer.old) (W.contents writer.new) (refused_line fault)) }
