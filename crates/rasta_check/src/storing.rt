@@ -78,7 +78,7 @@ fn add_records<R: Source>(
 /// Records before the window are read and not judged, and nothing after its last record is read.
 /// [`Fault::NO_MEMORY`] may stand in place of any answer.
 pub fn store<R: Source>(alloc: Global, p: Params, reader: &mut R) -> Result<Store, Fault>
-    // Every input is stored so that begins with what was read.
+    // Every input that begins with what was read is stored so, or has this fault.
     ensures value { IfOk result (λ k. ReadsSo (IsStored p k) (R.remaining reader.old) (R.remaining reader.new)) }
     ensures err { IfErr result (λ f. IsFailure f (R.failure_count reader.old) (R.failure_count reader.new)
         ⊎ ReadsSo (IsRefusedSo p f) (R.remaining reader.old) (R.remaining reader.new)) }
