@@ -1,7 +1,6 @@
 -- The builder's ends at the start.
 use Rattle.std.proofs.Common.{◌≡◌, ℕ, true, List, [], length, Option, Some, None, refl, ap, sym, arith, inl, inr, subst}
 use Rattle.std.specs.Prelude.{◌==◌}
-use Rattle.std.proofs.lemmas.Bool.Decides.{nat_tests}
 use Rattle.rasta_pcap.specs.declared.fault.Side.{Side}
 use Rattle.rasta_pcap.specs.declared.fault.Side.TheVariants.{Client, Server}
 use Rattle.rasta_pdu.specs.Params.{Parameters}
@@ -16,6 +15,7 @@ use Rattle.rasta_build.specs.Choices.{peer_quiet_sn}
 use Rattle.rasta_build.proofs.Times.{NearDeadlines}
 use Rattle.rasta_build.proofs.Readiness.{IsReady, IsTrail}
 use Rattle.rasta_build.proofs.Stations.{Follows}
+use Rattle.rasta_build.proofs.Comparisons.{is_same}
 
 pub record FirstEnd (q : Option Quiet) (s : Side) (e : EndState) : Type 0 where
   pub owed : e.owed ≡ []
@@ -53,9 +53,6 @@ ready_first p s ms =
       trail = subst (λ (os : List Owed). IsTrail (start_of p s).offered 0 os) (sym f.owed) tt;
       asked = (let z : length (start_of p s).asks ≡ 0 = ap length f.asks in omega (arith, z));
     }
-
-is_same : (m n : ℕ) → m ≡ n → (m == n) ≡ true
-is_same m n h = grind (arith, nat_tests)
 
 pub follows_first : (p : Parameters) (s : Side) (ms : List Made) (sent : List FirstCopy)
     → Follows p (start_of p s).deadline s (peer_quiet_sn p.quiet s) (base p) (start_of p s) (start_of p s).base ms sent (built_at_start p s)

@@ -16,6 +16,7 @@ use Rattle.rasta_check.proofs.HeldRuns.{free}
 use Rattle.rasta_build.specs.declared.script_builder.Progress.{Progress}
 use Rattle.rasta_build.specs.Built.{Built, lead, progress_of, note_take}
 use Rattle.rasta_build.specs.Explaining.{unless, taken_by, take_step}
+use Rattle.rasta_build.proofs.Comparisons.{not_lt}
 
 unit_accepted : (c : Bool) (i : ℕ) (e : EndState) (x : SafetyPdu) → (if c then hand_up i e x else e).accepted ≡ e.accepted
 unit_accepted true i e x = refl
@@ -45,9 +46,6 @@ moves p e x Requested is none h = longer e.owed (effect p Requested e x).owed (o
 moves p e x RequestedAhead is none h = longer e.owed (effect p RequestedAhead e x).owed (omega arith) none (ap (λ (g : Progress). g.owed) h)
 moves p e x RequestedAgain is none h = longer e.owed (effect p RequestedAgain e x).owed (omega arith) none (ap (λ (g : Progress). g.owed) h)
 moves p e x Disconnected is none h = (let w = row_known p e x Disconnected is in closing e.phase w.0 (ap (λ (g : Progress). g.phase) h))
-
-not_lt : (m n : ℕ) → n ≤ m → nat_lt m n ≡ false
-not_lt m n h = grind (arith, nat_tests)
 
 -- a take that changes nothing that is looked at is the whole step
 pub take_unmoved : (slot q : ℕ) (x : RedundancyPdu) (b : Built) → b.next_take ≤ q → take_fault b.end.params b.end.state b.end.state.clock ≡ None

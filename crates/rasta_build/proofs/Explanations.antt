@@ -36,7 +36,8 @@ use Rattle.rasta_build.proofs.Readiness.{IsReady}
 use Rattle.rasta_build.proofs.Scans.{AreCopies, is_gap, is_request_ahead, gap_found, request_found}
 use Rattle.rasta_build.proofs.Lags.{Pending, IsLag, caught_itself}
 use Rattle.rasta_build.proofs.Makes.{Tests, tests, makes_by, ready_make}
-use Rattle.rasta_build.proofs.LagMakes.{ended_by, owes_wanted, or_true, asks_first, answers_first, sn_near, lt_is, was_same, through, disc_plain, leave_fault, LeftBy, left_by}
+use Rattle.rasta_build.proofs.LagMakes.{ended_by, owes_wanted, or_true, asks_first, answers_first, sn_near, through, disc_plain, leave_fault, LeftBy, left_by}
+use Rattle.rasta_build.proofs.Comparisons.{lt_is, was_same}
 
 -- the builder's end at the last make of the run's end
 pub record IsOrigin (p : Parameters) (start : Option ℕ) (side : Side) (quiet_sn : Option ℕ) (e : EndState) (taken : ℕ) (ms : List Made) (b : Built) : Type 0 where

@@ -1,7 +1,6 @@
--- Where an end of a run makes a PDU, the builder explains it, and both ends are again the same but for their times.
-use Rattle.std.proofs.Common.{◌≡◌, ℕ, zero, suc, ◌+◌, ◌%◌, ◌^◌, ◌<◌, ◌≤◌, ◌⊎◌, Bool, true, false, List, [], ◌∷◌, length, Option, Some, None, refl, ap, ◌∙◌, arith, inl, inr, subst, ⊎_elim}
+-- Facts about a make of an end that lags: what its type wants to be owed, the position that its CS names, and disconnection requests.
+use Rattle.std.proofs.Common.{◌≡◌, ℕ, zero, suc, ◌+◌, ◌%◌, ◌^◌, ◌≤◌, ◌⊎◌, Bool, true, false, List, [], ◌∷◌, length, Option, Some, None, refl, ap, ◌∙◌, arith, inl, inr, subst, ⊎_elim}
 use Rattle.std.specs.Prelude.{nat_lt, not, ◌&&◌, ◌||◌, ◌==◌}
-use Rattle.std.proofs.lemmas.Bool.Decides.{nat_tests}
 use Rattle.std.proofs.lemmas.Option.{slice_get_within}
 use Rattle.rasta_pcap.specs.declared.fault.Side.{Side}
 use Rattle.rasta_pdu.specs.Params.{Parameters}
@@ -34,6 +33,7 @@ use Rattle.rasta_build.specs.Explaining.{catch_up, accept_through}
 use Rattle.rasta_build.proofs.Scans.{is_gap, is_request_ahead}
 use Rattle.rasta_build.proofs.Lags.{caught_itself}
 use Rattle.rasta_build.proofs.Makes.{tests, none_of, reason_is, ReasonIs}
+use Rattle.rasta_build.proofs.Comparisons.{was_same, was_other, not_lt}
 
 -- ---- the end of a connection
 
@@ -112,18 +112,6 @@ sn_near (m ∷ ms) (suc i) sn h b s =
     let a : s.m.pdu.sn ≡ (m.pdu.sn + suc i) % 2 ^ 32 = h i s.m s.there in
     let c = s.same in
     omega (arith, a, c, w, b)
-
-pub lt_is : (m n : ℕ) → m < n → nat_lt m n ≡ true
-lt_is m n h = grind (arith, nat_tests)
-
-not_lt : (m n : ℕ) → n ≤ m → nat_lt m n ≡ false
-not_lt m n h = grind (arith, nat_tests)
-
-pub was_same : (m n : ℕ) → (m == n) ≡ true → m ≡ n
-was_same m n h = grind (arith, nat_tests)
-
-was_other : (m n : ℕ) → (m == n) ≡ false → m ≡ n → ⊥
-was_other m n h k = grind (arith, nat_tests)
 
 -- accepting through a position is catching up with it
 pub through : (sent : List FirstCopy) (place i : ℕ) (b b1 : Built) → catch_up sent place (suc i) b ≡ Some b1 → b.end.state.accepted ≤ suc i

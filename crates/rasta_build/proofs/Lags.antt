@@ -1,7 +1,6 @@
 -- What an end of a run has taken since its last make, and that the builder's end can catch up with it.
 use Rattle.std.proofs.Common.{◌≡◌, ℕ, zero, suc, ◌+◌, ◌-◌, ◌<◌, ◌≤◌, ◌⊎◌, Bool, true, false, List, [], length, Option, Some, None, slice_get, take, refl, ap, sym, ◌∙◌, arith, inl, subst, ⊎_elim}
 use Rattle.std.specs.Prelude.{if◌then◌else◌, ◌==◌}
-use Rattle.std.proofs.lemmas.Bool.Decides.{nat_tests}
 use Rattle.std.proofs.lemmas.Option.{slice_get_within}
 use Rattle.rasta_pcap.specs.declared.fault.Side.{Side}
 use Rattle.rasta_pdu.specs.Params.{Parameters}
@@ -17,6 +16,7 @@ use Rattle.rasta_build.specs.Choices.{copy_at, is_response}
 use Rattle.rasta_build.specs.Explaining.{taken_by, take_step, accept_there, accept_step, accept_from, last_response, first_acceptable, accept_range, catch_up}
 use Rattle.rasta_build.proofs.Readiness.{IsReady, ConveysNoMore, ready_step, ready_effect}
 use Rattle.rasta_build.proofs.Scans.{AreCopies, Names, is_gap, is_request_ahead}
+use Rattle.rasta_build.proofs.Comparisons.{is_same, is_other, was_same}
 
 -- ---- catching up by one position more
 
@@ -24,18 +24,9 @@ abbrev pub catch_by : Bool → Bool → List FirstCopy → ℕ → ℕ → Built
 catch_by d rr sent slot behind b =
     if d then Some b else accept_range sent slot behind b (first_acceptable rr b.peer.quiet_sn sent b.end.state.accepted (behind - b.end.state.accepted))
 
-is_same : (m n : ℕ) → m ≡ n → (m == n) ≡ true
-is_same m n h = grind (arith, nat_tests)
-
-is_other : (m n : ℕ) → (m ≡ n → ⊥) → (m == n) ≡ false
-is_other m n h = grind (arith, nat_tests)
-
-was_same : (m n : ℕ) (d : Bool) → (m == n) ≡ d → d ≡ true → m ≡ n
-was_same m n d h k = grind (arith, nat_tests)
-
 flowing_from : (d : Bool) (sent : List FirstCopy) (slot t : ℕ) (b b1 : Built) → (t == b.end.state.accepted) ≡ d → catch_by d false sent slot t b ≡ Some b1
     → accept_from sent slot b.end.state.accepted (t - b.end.state.accepted) b ≡ Some b1
-flowing_from true sent slot t b b1 h k = (let e : t ≡ b.end.state.accepted = was_same t b.end.state.accepted true h refl in let z : t - b.end.state.accepted ≡ 0 = omega arith in rw z k)
+flowing_from true sent slot t b b1 h k = (let e : t ≡ b.end.state.accepted = was_same t b.end.state.accepted h in let z : t - b.end.state.accepted ≡ 0 = omega arith in rw z k)
 flowing_from false sent slot t b b1 h k = k
 
 -- an end that doesn't wait for a response

@@ -1,6 +1,6 @@
 -- A make of a run's end is one of the builder's end, at a clock that isn't later.
 use Rattle.std.proofs.Common.{◌≡◌, ℕ, zero, suc, ◌+◌, ◌-◌, ◌*◌, ◌%◌, ◌/◌, ◌^◌, ◌<◌, ◌≤◌, ◌⊎◌, Bool, true, false, List, [], ◌∷◌, length, Option, Some, None, refl, ap, sym, ◌∙◌, arith, inl, inr, subst, ⊎_elim}
-use Rattle.std.specs.Prelude.{nat_lt, nat_le, not, ◌&&◌, ◌==◌, max}
+use Rattle.std.specs.Prelude.{nat_lt, nat_le, not, ◌&&◌, ◌==◌}
 use Rattle.std.proofs.lemmas.Bool.Decides.{nat_tests}
 use Rattle.rasta_pcap.specs.declared.fault.Side.{Side}
 use Rattle.rasta_pcap.specs.Fault.{closed, not_allowed, reply_owed, sequence_number, clock_differs, clock_falls, past_deadline, too_early_timeout, confirmed_number, confirmed_time, resend_differs}
@@ -22,7 +22,7 @@ use Rattle.rasta_check.proofs.MakeRows.{Making, opening, response, first_beat, a
 use Rattle.rasta_build.specs.Built.{Built}
 use Rattle.rasta_build.specs.Choices.{why_by, why_of, next_unit}
 use Rattle.rasta_build.specs.Clock.{clock_of}
-use Rattle.rasta_build.specs.Explaining.{made_at, make_step, earliest_timeout, earliest_by}
+use Rattle.rasta_build.specs.Explaining.{made_at, make_step, earliest_timeout, earliest_by, least_later}
 use Rattle.rasta_build.proofs.Times.{timed, NearDeadlines, not_past}
 use Rattle.rasta_build.proofs.Readiness.{IsReady, IsTrail}
 
@@ -189,7 +189,7 @@ make_plain : (place : ℕ) (x : SafetyPdu) (b : Built) (why : Why) (c1 : ℕ) �
 make_plain place x b why c1 w k f = rw w (rw k (rw f refl))
 
 make_late : (place : ℕ) (x : SafetyPdu) (b : Built) (why : Why) (c1 c2 : ℕ) → why_of b.end.state b.trail x ≡ Some why → clock_of b.clock x.ts ≡ Some c1 → make_fault b.end.params b.end.state x c1 why ≡ Some too_early_timeout
-    → clock_of (max (suc c1) (earliest_timeout b)) x.ts ≡ Some c2 → make_fault b.end.params b.end.state x c2 why ≡ None → make_step place x b ≡ Some (made_at place x why c2 b)
+    → clock_of (least_later c1 b) x.ts ≡ Some c2 → make_fault b.end.params b.end.state x c2 why ≡ None → make_step place x b ≡ Some (made_at place x why c2 b)
 make_late place x b why c1 c2 w k f l g = rw w (rw k (rw f (rw l (rw g refl))))
 
 trail_make : (s : Side) (ph : Phase) (why : Why) (k : Kind) (os : List Owed) (row : MakeRow) (offered trail : ℕ) → Making s ph why k os row → IsTrail offered trail os → IsTrail (offered_after row offered) trail (owed_after row os)
@@ -296,15 +296,16 @@ module _ (p : Parameters) (start : Option ℕ) (side : Side) (quiet_sn : Option 
           let v = both (is_expired why) (is_early p r.deadline first) h in
           let apart = early_apart p start r.clock n.lag k first e.deadline r.deadline n.deadlines (early_false (is_expired why) (is_early p e.deadline k) v.0 t.late) v.1 in
           let room = congruent first k w.more w.clocks apart in
-          let least : ℕ = max (suc first) (earliest_by p start) in
+          let least : ℕ = least_later first b in
+          let es = earliest in
           let c2 : ℕ = least + ahead_by x.ts least in
           let st = w.stamp in
           let ri = w.rises in
           let stamp2 : x.ts ≡ c2 % 4294967296 = omega (arith, st) in
           let later : first + 4294967296 ≤ c2 = omega (arith, st) in
-          let small : c2 < 2 ^ 64 = omega (arith, st, room, bounded, low_start) in
-          let k2 : clock_of (max (suc first) (earliest_timeout b)) x.ts ≡ Some c2 = ap (λ z. clock_of (max (suc first) z) x.ts) earliest ∙ told least c2 refl small in
-          let fine : is_early p r.deadline c2 ≡ false = late_enough p start r.clock n.lag c2 e.deadline r.deadline waits n.deadlines (omega (arith, later, ri)) (omega arith) in
+          let small : c2 < 2 ^ 64 = omega (arith, st, room, bounded, low_start, es) in
+          let k2 : clock_of (least_later first b) x.ts ≡ Some c2 = told least c2 refl small in
+          let fine : is_early p r.deadline c2 ≡ false = late_enough p start r.clock n.lag c2 e.deadline r.deadline waits n.deadlines (omega (arith, later, ri)) (omega (arith, es)) in
           let past2 : (not (is_expired why) && is_past p r.deadline c2) ≡ false = (let z = v.0 in rw z refl) in
           let early2 : (is_expired why && is_early p r.deadline c2) ≡ false = (let z = v.0 in rw z fine) in
           (c2, make_late place x b why first c2 said least_told (early_at first w.rises w.stamp not_past_then h) k2 (none_at c2 (omega (arith, later, ri)) stamp2 past2 early2), inr v.0)

@@ -1,7 +1,7 @@
 -- The pass explains what a run sent; where it fails, no run sends packets that begin so.
 use Rattle.std.proofs.Common.{◌≡◌, ℕ, zero, suc, ◌+◌, ◌-◌, ◌^◌, ◌<◌, ◌≤◌, ◌⊎◌, Bool, true, false, List, [], ◌∷◌, ◌++◌, length, Option, Some, None, Result, Ok, Err, slice_get, take, drop, refl, ap, sym, ◌∙◌, arith, inl, inr, subst, ⊎_elim, length-append}
 use Rattle.std.specs.Prelude.{nat_lt, if◌then◌else◌, min}
-use Rattle.std.proofs.lemmas.List.{take-append-le}
+use Rattle.std.proofs.lemmas.List.{take-append-le, append_assoc, append-nil}
 use Rattle.std.proofs.lemmas.Option.{slice_get_within}
 use native.Mathlib.Decide.{dec_lt, dec_le}
 use Prim.{yes, no}
@@ -35,14 +35,6 @@ use Rattle.rasta_build.proofs.Simulation.{Keeps, few_list, step_keeps}
 
 -- ---- along a run
 
-assoc : {A : Type 0} (xs ys zs : List A) → (xs ++ ys) ++ zs ≡ xs ++ (ys ++ zs)
-assoc [] ys zs = refl
-assoc (x ∷ xs) ys zs = ap (λ ps. x ∷ ps) (assoc xs ys zs)
-
-append_none : {A : Type 0} (xs : List A) → xs ++ [] ≡ xs
-append_none [] = refl
-append_none (x ∷ xs) = ap (λ zs. x ∷ zs) (append_none xs)
-
 -- what a step adds to the packets, and that clocks don't fall
 record Onward (v w : World) : Type 0 where
   pub tail : List Packet
@@ -53,9 +45,9 @@ record Onward (v w : World) : Type 0 where
 move_on : (p : Parameters) (b a a' : Station) (xs ys : List Packet) → Moves p b xs a a' ys → (tail : List Packet) × (ys ≡ xs ++ tail) × (a.state.clock ≤ a'.state.clock)
 move_on p b a a' xs ys (makes x why e' ch res chk bs mk sp rec) = (let m = made_more p a.state x a.clock why e' mk in let n = m.now in let r = m.rises in (_, refl, omega (arith, n, r)))
 move_on p b a a' xs ys (repeats old ch c s rec) = (_, refl, omega arith)
-move_on p b a a' xs ys (arrives q low i) = ([], sym (append_none xs), omega arith)
-move_on p b a a' xs ys (takes q m e' c i s t) = (let l = take_leaves p a.state m.pdu in let z : e'.clock ≡ a.state.clock = ap (λ (e : _). e.clock) t.1 ∙ l.clock in ([], sym (append_none xs), omega (arith, z)))
-move_on p b a a' xs ys (waits c i) = ([], sym (append_none xs), omega arith)
+move_on p b a a' xs ys (arrives q low i) = ([], sym (append-nil xs), omega arith)
+move_on p b a a' xs ys (takes q m e' c i s t) = (let l = take_leaves p a.state m.pdu in let z : e'.clock ≡ a.state.clock = ap (λ (e : _). e.clock) t.1 ∙ l.clock in ([], sym (append-nil xs), omega (arith, z)))
+move_on p b a a' xs ys (waits c i) = ([], sym (append-nil xs), omega arith)
 
 onward : (p : Parameters) (v w : World) → Step p v w → Onward v w
 onward p v w (client_moves {a = a} {after = ys} m) = (let h = move_on p v.server v.client a v.crossed ys m in record { tail = h.0; crossed = h.1; client = h.2; server = omega arith })
@@ -98,7 +90,7 @@ module _ (p : Parameters) (valid : AreParameters p) (packets : List Packet) (c s
       let bv = within_before p v w st b in
       let kv = clocks_before p v w st k in
       let o = onward p v w st in
-      let ev : packets ≡ v.crossed ++ (o.tail ++ rest) = e ∙ (ap (λ (l : List Packet). l ++ rest) o.crossed ∙ assoc v.crossed o.tail rest) in
+      let ev : packets ≡ v.crossed ++ (o.tail ++ rest) = e ∙ (ap (λ (l : List Packet). l ++ rest) o.crossed ∙ append_assoc v.crossed o.tail rest) in
       let gv = told p valid us v r in
       let gw = told p valid (us ++ v ∷ []) w (goes_on r st) in
       let fv = few_made p v bv in
@@ -117,7 +109,7 @@ module _ (p : Parameters) (valid : AreParameters p) (packets : List Packet) (c s
   explained ws w r e b k =
       let g = told p valid ws w r in
       let few = few_made p w b in
-      let h = simulated ws w r [] (sym e ∙ sym (append_none w.crossed)) b k in
+      let h = simulated ws w r [] (sym e ∙ sym (append-nil w.crossed)) b k in
       let same_c : g.own ≡ c = sent_once p w.crossed Client g.own c g.sends.sent (subst (λ (x : List Packet). IsSent p x Client c) (sym e) hc) (few_list p Client w.crossed g.own w.client g.sends few.0) in
       let same_s : g.peer ≡ s = sent_once p w.crossed Server g.peer s g.their_sends.sent (subst (λ (x : List Packet). IsSent p x Server s) (sym e) hs) (few_list p Server w.crossed g.peer w.server g.their_sends few.1) in (
         h.pass,

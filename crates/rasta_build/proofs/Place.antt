@@ -1,7 +1,6 @@
 -- The place at which nothing is found is exact: some run within the limits sends the packets before it.
 use Rattle.std.proofs.Common.{◌≡◌, ℕ, zero, suc, ◌+◌, ◌-◌, ◌^◌, ◌<◌, ◌≤◌, Bool, true, false, List, [], ◌∷◌, ◌++◌, length, Option, Some, None, Result, Ok, Err, slice_get, take, drop, refl, ap, sym, ◌∙◌, arith, subst}
 use Rattle.std.specs.Prelude.{◌↔◌, nat_lt, if◌then◌else◌, min, IfSome}
-use Rattle.std.proofs.lemmas.Bool.Decides.{nat_tests}
 use Rattle.std.proofs.lemmas.Option.{slice_get_within}
 use native.Mathlib.Decide.{dec_lt}
 use Prim.{yes, no}
@@ -33,6 +32,7 @@ use Rattle.rasta_build.specs.Completeness.{CanCross}
 use Rattle.rasta_build.proofs.SentLists.{Begins, cut, begun_get, begun_next, sent_rises, sent_numbers, sent_within, later_place}
 use Rattle.rasta_build.proofs.Passes.{Fails, fails, proposed_fails, fails_within, length_take, take_drop, early, finds_none}
 use Rattle.rasta_build.proofs.Soundness.{passes_read}
+use Rattle.rasta_build.proofs.Comparisons.{less_is, not_less}
 
 -- ---- a script over the beginnings of the lists
 
@@ -103,12 +103,6 @@ record IsParted (c s : List FirstCopy) (t : Pass) (q : ℕ) : Type 0 where
   pub their_passed : (i : ℕ) (d : FirstCopy) → i < t.answered → slice_get s i ≡ Some d → d.place < q
   pub next : (d : FirstCopy) → slice_get c t.made ≡ Some d → q ≤ d.place
   pub their_next : (d : FirstCopy) → slice_get s t.answered ≡ Some d → q ≤ d.place
-
-not_less : (m n : ℕ) → nat_lt m n ≡ false → n ≤ m
-not_less m n h = grind (arith, nat_tests)
-
-less_is : (m n : ℕ) → nat_lt m n ≡ true → m < n
-less_is m n h = grind (arith, nat_tests)
 
 same_member : (xs : List FirstCopy) (i : ℕ) (a b : FirstCopy) → slice_get xs i ≡ Some a → slice_get xs i ≡ Some b → a.place ≡ b.place
 same_member xs i a b g h = (let e : a ≡ b = cc in ap (λ (z : FirstCopy). z.place) e)

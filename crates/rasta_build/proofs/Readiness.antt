@@ -22,6 +22,8 @@ use Rattle.rasta_build.specs.Built.{Built, progress_of, trail_behind}
 use Rattle.rasta_build.specs.declared.script_builder.Progress.{Progress}
 use Rattle.rasta_build.specs.Explaining.{taken_by, unless, take_step}
 use Rattle.rasta_build.proofs.Times.{timed, deadline_by, effect_timed, IsNear, near_effect, not_past}
+use Rattle.std.proofs.lemmas.List.{append-nil}
+use Rattle.rasta_build.proofs.Comparisons.{not_lt}
 
 -- ---- what is owed behind the units
 
@@ -42,14 +44,10 @@ trail_resends offered trail u (suc d) tail e l h = (let n = resends_long (suc u)
     resends_long u zero tail = omega arith
     resends_long u (suc d) tail = let h = resends_long (suc u) d tail in omega (arith, h)
 
-append_nil : (os : List Owed) → os ++ [] ≡ os
-append_nil [] = refl
-append_nil (o ∷ os) = ap (λ z. o ∷ z) (append_nil os)
-
 trail_burst : (e : EndState) (c : ℕ) → units_conveyed e.asks (kinds e.made) c ≤ e.offered → IsTrail e.offered 0 (burst e c)
 trail_burst e c l =
     let u = units_conveyed e.asks (kinds e.made) c in
-    subst (λ (os : List Owed). IsTrail e.offered 0 os) (append_nil (resends u (e.offered - u))) (trail_resends e.offered 0 u (e.offered - u) [] (omega arith) refl tt)
+    subst (λ (os : List Owed). IsTrail e.offered 0 os) (append-nil (resends u (e.offered - u))) (trail_resends e.offered 0 u (e.offered - u) [] (omega arith) refl tt)
 
 trail_more : (e : EndState) (c : ℕ) → units_conveyed e.asks (kinds e.made) c ≤ e.offered → IsTrail e.offered 1 (burst e c ++ OweRetransmissionRequest ∷ [])
 trail_more e c l =
@@ -96,9 +94,6 @@ fault_near p start e clock deadline n h =
 step_is : (f : Bool) (t : Option ℕ) (r : Option TakeRow) (row : Option TakeRow) (slot q : ℕ) (x : RedundancyPdu) (b : Built) → f ≡ false → t ≡ None → r ≡ row
     → (if f then None else unless t (taken_by r slot q x b)) ≡ Some (taken_by row slot q x b)
 step_is f t r row slot q x b h k l = rw h (rw k (rw l refl))
-
-not_lt : (m n : ℕ) → n ≤ m → nat_lt m n ≡ false
-not_lt m n h = grind (arith, nat_tests)
 
 -- the builder takes what the run's end takes, by the same row
 pub ready_step : (p : Parameters) (start : Option ℕ) (side : Side) (quiet_sn : Option ℕ) (e : EndState) (taken : ℕ) (ms : List Made) (b : Built) → IsReady p start side quiet_sn e taken ms b

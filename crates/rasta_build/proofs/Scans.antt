@@ -20,8 +20,9 @@ use Rattle.rasta_check.proofs.Counting.{number, number_take_more, number_take_at
 use Rattle.rasta_check.proofs.Scripted.{slice_get_some}
 use Rattle.rasta_build.specs.Built.{Built}
 use Rattle.rasta_build.specs.Choices.{copy_at, is_trigger}
-use Rattle.rasta_build.specs.Explaining.{taken_by, try_at, scan, first_tried, take_trigger}
+use Rattle.rasta_build.specs.Explaining.{taken_by, try_at, scan, first_tried, take_trigger, positions_tried}
 use Rattle.rasta_build.proofs.Readiness.{IsReady, ConveysNoMore, ready_step, ready_effect}
+use Rattle.rasta_build.proofs.Comparisons.{lt_is}
 
 -- the peer's PDUs crossed in front of a place, and are found where they stand
 abbrev pub AreCopies : Option ℕ → List FirstCopy → List Made → ℕ → ℕ → Type 0
@@ -119,9 +120,6 @@ owing_ahead p e x _ g = off g
 
 steps_in : (s : ℕ) → 0 < s → (s == 0) ≡ false
 steps_in s h = grind (arith, nat_tests)
-
-lt_is : (m n : ℕ) → m < n → nat_lt m n ≡ true
-lt_is m n h = grind (arith, nat_tests)
 
 -- ---- a builder's end tries the peer's PDUs
 module _ (p : Parameters) (start : Option ℕ) (side : Side) (quiet_sn : Option ℕ) (e : EndState) (taken : ℕ) (ms : List Made) (b : Built) (r : IsReady p start side quiet_sn e taken ms b)
@@ -230,7 +228,7 @@ module _ (p : Parameters) (start : Option ℕ) (side : Side) (quiet_sn : Option 
           let f = found j h.0 h.1 (omega (arith, l, one)) in
           (f.0, f.1, f.3, request_by g asks j l k h.0 h.1 f.0 f.2 (is_retransmission_request f.0.pdu.safety.kind) refl)
 
-    within : is_ahead p e m.pdu ≡ true → q < first_tried b + (suc (b.end.state.accepted + 10 * b.end.params.n_sendmax) - first_tried b)
+    within : is_ahead p e m.pdu ≡ true → q < first_tried b + positions_tried b
     within h =
         let s : steps_past_next e m.pdu ≤ 10 * p.n_sendmax = ahead_most (steps_past_next e m.pdu) (10 * p.n_sendmax) h in
         let nm = names q m there (omega (arith, ahead)) (omega arith) in
@@ -247,12 +245,12 @@ module _ (p : Parameters) (start : Option ℕ) (side : Side) (quiet_sn : Option 
     -- the builder takes what makes a request owed
     pub gap_found : is_gap row ≡ true → is_ahead p e m.pdu ≡ true → (b2 : Built) × (take_trigger sent slot RetransmissionRequest b ≡ Some b2) × Found b2
     gap_found g h =
-        let s = scan_finds Found sent slot RetransmissionRequest q b unowing (suc (b.end.state.accepted + 10 * b.end.params.n_sendmax) - first_tried b) (first_tried b) first_low (within h) (gap_tried g) in
+        let s = scan_finds Found sent slot RetransmissionRequest q b unowing (positions_tried b) (first_tried b) first_low (within h) (gap_tried g) in
         (s.0, rw unowing s.1, s.2)
 
     -- the builder takes the request that is answered
     pub request_found : number is_retransmission_request (take q ms) ≡ length e.asks → is_request_ahead row ≡ true → length (effect p row e m.pdu).asks ≤ number is_retransmission_request (take (suc q) ms) → is_ahead p e m.pdu ≡ true
         → (b2 : Built) × (take_trigger sent slot RetransmissionResponse b ≡ Some b2) × Found b2
     request_found answered g asks h =
-        let s = scan_finds Found sent slot RetransmissionResponse q b unowing (suc (b.end.state.accepted + 10 * b.end.params.n_sendmax) - first_tried b) (first_tried b) first_low (within h) (request_tried answered g asks) in
+        let s = scan_finds Found sent slot RetransmissionResponse q b unowing (positions_tried b) (first_tried b) first_low (within h) (request_tried answered g asks) in
         (s.0, rw unowing s.1, s.2)

@@ -2,7 +2,7 @@
 use Rattle.std.proofs.Common.{◌≡◌, ℕ, suc, ◌+◌, ◌-◌, ◌^◌, ◌<◌, ◌≤◌, false, List, [], ◌∷◌, ◌++◌, length, Option, Some, None, slice_get, refl, ap, sym, ◌∙◌, arith, subst, ⊎_elim}
 use Rattle.std.specs.Prelude.{◌==◌}
 use Rattle.std.proofs.lemmas.Bool.Decides.{nat_tests}
-use Rattle.std.proofs.lemmas.List.{length_push}
+use Rattle.std.proofs.lemmas.List.{length_push, append-nil}
 use Rattle.std.proofs.lemmas.Option.{slice_get_within}
 use native.Mathlib.Decide.{dec_lt}
 use Prim.{yes, no}
@@ -36,13 +36,9 @@ append_one : {A : Type 0} (xs : List A) (y : A) (ys : List A) → xs ++ y ∷ ys
 append_one [] y ys = refl
 append_one (x ∷ xs) y ys = ap (λ zs. x ∷ zs) (append_one xs y ys)
 
-append_none : {A : Type 0} (xs : List A) → xs ++ [] ≡ xs
-append_none [] = refl
-append_none (x ∷ xs) = ap (λ zs. x ∷ zs) (append_none xs)
-
 -- the sent list of more packets begins with that of these
 pub cut : (p : Parameters) (ys xs : List Packet) (s : Side) (big : List FirstCopy) → IsSent p (xs ++ ys) s big → (own : List FirstCopy) × IsSent p xs s own × Begins big own (length xs)
-cut p [] xs s big h = (big, subst (λ zs. IsSent p zs s big) (append_none xs) h, record { later = []; whole = sym (append_none big); place = λ c g. absurd (cc) })
+cut p [] xs s big h = (big, subst (λ zs. IsSent p zs s big) (append-nil xs) h, record { later = []; whole = sym (append-nil big); place = λ c g. absurd (cc) })
 cut p (y ∷ ys) xs s big h =
     let r = cut p ys (xs ++ y ∷ []) s big (subst (λ zs. IsSent p zs s big) (append_one xs y ys) h) in
     let z = shorter p xs y s r.0 r.1 in

@@ -1,7 +1,5 @@
 -- Along a run, the pass explains each first copy that crosses.
-use Rattle.std.proofs.Common.{◌≡◌, ℕ, suc, ◌+◌, ◌^◌, ◌<◌, ◌≤◌, true, false, List, [], ◌∷◌, ◌++◌, length, Option, Some, None, Result, Ok, slice_get, refl, ap, sym, ◌∙◌, arith, subst, ⊎_elim}
-use Rattle.std.specs.Prelude.{nat_lt}
-use Rattle.std.proofs.lemmas.Bool.Decides.{nat_tests}
+use Rattle.std.proofs.Common.{◌≡◌, ℕ, suc, ◌+◌, ◌^◌, ◌<◌, ◌≤◌, List, [], ◌∷◌, ◌++◌, length, Option, Some, None, Result, Ok, slice_get, refl, ap, sym, ◌∙◌, arith, subst, ⊎_elim}
 use Rattle.std.proofs.lemmas.List.{length_push}
 use Rattle.rasta_pcap.specs.declared.fault.Side.{Side}
 use Rattle.rasta_pcap.specs.declared.fault.Side.TheVariants.{Client, Server}
@@ -20,6 +18,7 @@ use Rattle.rasta_build.specs.Explaining.{explain}
 use Rattle.rasta_build.specs.Proposing.{Pass, one_more, pass_on, passes, copy_goes, client_goes, server_goes}
 use Rattle.rasta_build.proofs.SentLists.{Begins, begun_get, begun_next}
 use Rattle.rasta_build.proofs.Moves.{FollowsAt, Stays, Made_one, Stands, moved}
+use Rattle.rasta_build.proofs.Comparisons.{lt_is, not_lt}
 
 -- the pass has come as far as the run
 pub record Keeps (p : Parameters) (c s own peer : List FirstCopy) (w : World) : Type 0 where
@@ -29,12 +28,6 @@ pub record Keeps (p : Parameters) (c s own peer : List FirstCopy) (w : World) : 
   pub answered : pass.answered ≡ length peer
   pub client : FollowsAt p Client w.client.state w.client.taken w.server.state.made s pass.own
   pub server : FollowsAt p Server w.server.state w.server.taken w.client.state.made c pass.other
-
-lt_is : (m n : ℕ) → m < n → nat_lt m n ≡ true
-lt_is m n h = grind (arith, nat_tests)
-
-not_lt : (m n : ℕ) → n ≤ m → nat_lt m n ≡ false
-not_lt m n h = grind (arith, nat_tests)
 
 -- the client's copy is the next
 client_next : (a b : Option FirstCopy) (copy : FirstCopy) → a ≡ Some copy → ((d : FirstCopy) → b ≡ Some d → copy.place < d.place) → first_of a b ≡ Some (record { side = Client; copy = copy })

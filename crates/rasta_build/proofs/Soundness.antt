@@ -1,5 +1,5 @@
 -- What is proposed fits.
-use Rattle.std.proofs.Common.{◌≡◌, ℕ, zero, suc, ◌+◌, ◌-◌, ◌*◌, ◌^◌, ◌<◌, ◌≤◌, Bool, true, false, List, [], ◌∷◌, ◌++◌, length, Option, Some, None, Result, Ok, Err, slice_get, refl, ap, sym, ◌∙◌, arith, subst}
+use Rattle.std.proofs.Common.{◌≡◌, ℕ, zero, suc, ◌+◌, ◌-◌, ◌^◌, ◌<◌, ◌≤◌, Bool, true, false, List, [], ◌∷◌, ◌++◌, length, Option, Some, None, Result, Ok, Err, slice_get, refl, ap, sym, ◌∙◌, arith, subst}
 use Rattle.std.specs.Prelude.{nat_lt, nat_le, if◌then◌else◌, ◌&&◌, ◌||◌, not, ◌==◌, option_map}
 use Rattle.std.proofs.lemmas.Bool.Decides.{nat_tests}
 use Rattle.std.proofs.lemmas.Option.{slice_get_within}
@@ -30,6 +30,7 @@ use Rattle.rasta_build.specs.Built.{Built}
 use Rattle.rasta_build.specs.Choices.{peer_quiet_sn, copy_there, copy_at, is_in_front, is_trigger, wants_trigger, has_to_take, why_by, why_beating, next_unit, in_32_bits, position_named, first_of}
 use Rattle.rasta_build.specs.Clock.{clock_of}
 use Rattle.rasta_build.specs.Explaining
+use Rattle.rasta_build.proofs.Comparisons.{less_is, not_less}
 
 -- the script leads from the start to the builder's end, which has made so many PDUs; the next entry may stand behind this many packets
 pub record IsRead (p : Parameters) (side : Side) (n : ℕ) (own peer : List FirstCopy) (k level : ℕ) (b : Built) : Type 0 where
@@ -60,12 +61,6 @@ member_there (Some q) Server i big c h = by (i == 0) refl h
     by : (z : Bool) → (i == 0) ≡ z → copy_there big (if z then None else Some (i - 1)) ≡ Some c → (1 ≤ i) × (slice_get big (i - 1) ≡ Some c)
     by true e h = absurd (cc)
     by false e h = (not_zero i e, h)
-
-not_less : (m n : ℕ) → nat_lt m n ≡ false → n ≤ m
-not_less m n h = grind (arith, nat_tests)
-
-less_is : (m n : ℕ) → nat_lt m n ≡ true → m < n
-less_is m n h = grind (arith, nat_tests)
 
 -- ---- entries
 
@@ -216,7 +211,7 @@ module _ (p : Parameters) (side : Side) (n : ℕ) (own peer : List FirstCopy) (f
   trigger_read : (made : Kind) (b b' : Built) → Read b → Explaining.take_trigger peer slot made b ≡ Some b' → Read b'
   trigger_read made b b' r h = by (is_owing b.end.state.owed || not (wants_trigger made)) h
     where
-      by : (t : Bool) → (if t then Some b else Explaining.scan peer slot made (Explaining.first_tried b) (suc (b.end.state.accepted + 10 * b.end.params.n_sendmax) - Explaining.first_tried b) b) ≡ Some b' → Read b'
+      by : (t : Bool) → (if t then Some b else Explaining.scan peer slot made (Explaining.first_tried b) (Explaining.positions_tried b) b) ≡ Some b' → Read b'
       by true h = (let z : b ≡ b' = cc in subst (λ (y : Built). Read y) z r)
       by false h = scan_read made _ _ b b' r h
 

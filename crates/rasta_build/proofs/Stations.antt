@@ -36,6 +36,7 @@ use Rattle.rasta_build.proofs.Scans.{AreCopies, is_gap}
 use Rattle.rasta_build.proofs.Lags.{Pending, IsLag}
 use Rattle.rasta_build.proofs.LagTakes.{lag_row}
 use Rattle.rasta_build.proofs.Explanations.{IsOrigin, base_accepted, explains, gap_owes, ahead_owes}
+use Rattle.rasta_build.proofs.Comparisons.{is_same}
 
 pub record Live (p : Parameters) (start : Option ℕ) (side : Side) (quiet_sn : Option ℕ) (base0 : ℕ) (e : EndState) (taken : ℕ) (ms : List Made) (sent : List FirstCopy) (b : Built) : Type 0 where
   pub lag : IsLag p start side quiet_sn e taken ms sent b
@@ -204,9 +205,6 @@ module _ (p : Parameters) (start : Option ℕ) (side : Side) (quiet_sn : Option 
       }
 
 -- ---- a make
-
-is_same : (m n : ℕ) → m ≡ n → (m == n) ≡ true
-is_same m n h = grind (arith, nat_tests)
 
 module _ (p : Parameters) (start : Option ℕ) (side : Side) (quiet_sn : Option ℕ) (base0 : ℕ) (e : EndState) (t : ℕ) (ms : List Made) (k : ℕ) (x : SafetyPdu) (why : Why)
     (ok : make_fault p e x k why ≡ None) (bounded : k < 2 ^ 64) (waits : p.t_max ≤ 60000) (from : start ≡ (start_of p side).deadline) (low_start : earliest_by p start ≤ 2 ^ 63)

@@ -1,7 +1,6 @@
 -- The proposal is complete.
 use Rattle.std.proofs.Common.{◌≡◌, ℕ, suc, ◌+◌, ◌≤◌, ◌⊎◌, false, List, [], ◌∷◌, length, Result, Ok, Err, refl, ap, sym, ◌∙◌, arith, subst, ⊎_elim}
 use Rattle.std.specs.Prelude.{nat_lt}
-use Rattle.std.proofs.lemmas.Bool.Decides.{nat_tests}
 use Rattle.std.proofs.lemmas.Option.{slice_get_within}
 use Rattle.rasta_pcap.specs.Fault.{fault_at, no_memory, not_found}
 use Rattle.rasta_pcap.specs.declared.fault.Fault.{Fault}
@@ -21,6 +20,7 @@ use Rattle.rasta_build.proofs.Soundness.{passes_read}
 use Rattle.rasta_build.proofs.SentLists.{sent_rises, sent_numbers, sent_within}
 use Rattle.rasta_build.proofs.Passes.{explained, finds_none}
 use Rattle.rasta_build.proofs.Place.{exact}
+use Rattle.rasta_build.proofs.Comparisons.{not_lt}
 
 -- ---- entries are few
 
@@ -39,9 +39,6 @@ taken_within p n own peer u v (x ∷ es) f l = taken_within p n own peer f.0 v e
     by : (x : Entry) (m : Cursor) → Advances p n own peer u x m → m.taken ≤ length peer
     by x m (takes_next slot position c e' a b g d f t) = (let z = slice_get_within peer position c g in omega arith)
     by x m (makes_next c clock why e' a g k) = l
-
-not_lt : (m n : ℕ) → n ≤ m → nat_lt m n ≡ false
-not_lt m n h = grind (arith, nat_tests)
 
 -- ---- what a run sent is explained
 
