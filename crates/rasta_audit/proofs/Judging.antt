@@ -61,14 +61,14 @@ verdict_stands r k scripts h = if_ok_map r (λ (v : Verdict) (judged : IsJudged 
 
 -- ---- the headline
 
--- so is the verdict's text, of a capture of which this crossed
+-- the verdict's text tells it, of a capture of which this crossed
 abbrev pub Claimed : Parameters → List ℕ → Verdict → Type 0
 Claimed p file v = ClaimsHeadline p file (text_of_verdict v) (status_of_verdict v)
 
 claim : (p : Parameters) (file : List ℕ) (k : Crossing) (scripts : Scripts) (v : Verdict) → crossing_of p file ≡ Ok k → IsJudged k scripts v → Claimed p file v
 claim p file k scripts (verdicts.Refused fault) crossed judged status = absurd (cc)
 claim p file k scripts (verdicts.Explained e) crossed judged status = record {
-  crossing = e.sent;
+  crossing = e.store.now;
   scripts = e.certificate;
   report = report.explained e.report;
   crossed = crossed ∙ ap (λ (j : Crossing). Ok j) (sym judged.0);
@@ -77,34 +77,23 @@ claim p file k scripts (verdicts.Explained e) crossed judged status = record {
       (subst (λ (q : Parameters). Headline q k.packets (report.explained e.report)) (same_params p file k crossed) judged.3);
 }
 
--- what the checker explains has the headline
-pub judged_claims : (r : Result Verdict Fault) (p : Parameters) (file : List ℕ) (k : Crossing) (scripts : Scripts) → crossing_of p file ≡ Ok k
-    → IfOk r (IsJudged k scripts) → IfOk r (Claimed p file)
-judged_claims r p file k scripts crossed h = if_ok_map r (λ (v : Verdict) (judged : IsJudged k scripts v). claim p file k scripts v crossed judged) h
-
 refused_claims : (p : Parameters) (file : List ℕ) (fault : Fault) → Claimed p file (verdicts.Refused fault)
 refused_claims p file fault status = absurd (cc)
-
--- a refusal claims nothing
-pub refusal_claims : (r : Result Verdict Fault) (p : Parameters) (file : List ℕ) (fault : Fault) → IfOk r (λ v. v ≡ verdicts.Refused fault) → IfOk r (Claimed p file)
-refusal_claims r p file fault h = if_ok_map r (λ (v : Verdict) (w : v ≡ verdicts.Refused fault). subst (Claimed p file) (sym w) (refused_claims p file fault)) h
 
 pub refusal_of : (r : Result Verdict Fault) (fault : Fault) → IfOk r (IsRefusal fault) → IfOk r (λ v. v ≡ verdicts.Refused fault)
 refusal_of r fault h = if_ok_map r (λ (v : Verdict) (w : IsRefusal fault v). w.0) h
 
--- the same of every capture of which this crossed
+-- of every capture of which this crossed
 abbrev pub ClaimedOf : Crossing → Verdict → Type 0
 ClaimedOf k v = (p : Parameters) (file : List ℕ) → crossing_of p file ≡ Ok k → Claimed p file v
 
-pub judged_claims_each : (r : Result Verdict Fault) (k : Crossing) (scripts : Scripts) → IfOk r (IsJudged k scripts) → IfOk r (ClaimedOf k)
-judged_claims_each r k scripts h = if_ok_map r
+-- what the checker explains has the headline
+pub judged_claims : (r : Result Verdict Fault) (k : Crossing) (scripts : Scripts) → IfOk r (IsJudged k scripts) → IfOk r (ClaimedOf k)
+judged_claims r k scripts h = if_ok_map r
     (λ (v : Verdict) (judged : IsJudged k scripts v) (p : Parameters) (file : List ℕ) (crossed : crossing_of p file ≡ Ok k). claim p file k scripts v crossed judged) h
 
-pub refusal_claims_each : (r : Result Verdict Fault) (k : Crossing) (fault : Fault) → IfOk r (λ v. v ≡ verdicts.Refused fault) → IfOk r (ClaimedOf k)
-refusal_claims_each r k fault h = if_ok_map r
+-- a refusal claims nothing
+pub refusal_claims : (r : Result Verdict Fault) (k : Crossing) (fault : Fault) → IfOk r (λ v. v ≡ verdicts.Refused fault) → IfOk r (ClaimedOf k)
+refusal_claims r k fault h = if_ok_map r
     (λ (v : Verdict) (w : v ≡ verdicts.Refused fault) (p : Parameters) (file : List ℕ) (crossed : crossing_of p file ≡ Ok k).
     subst (Claimed p file) (sym w) (refused_claims p file fault)) h
-
--- of the file of which it did
-pub claims_of_file : (r : Result Verdict Fault) (k : Crossing) (p : Parameters) (file : List ℕ) → crossing_of p file ≡ Ok k → IfOk r (ClaimedOf k) → IfOk r (Claimed p file)
-claims_of_file r k p file crossed h = if_ok_map r (λ (v : Verdict) (c : ClaimedOf k v). c p file crossed) h

@@ -5,3 +5,4 @@ pub mod Verdicts
 pub mod Proposals
 pub mod Judging
 pub mod GivingUp
+pub mod Refusing

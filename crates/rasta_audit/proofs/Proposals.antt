@@ -1,10 +1,11 @@
 -- What becomes of a capture for which a certificate is proposed, and what a run wrote of it.
-use Rattle.std.proofs.Common.{◌≡◌, ◌⊎◌, ℕ, true, false, List, [], ◌++◌, Option, Result, Ok, Err, OnErr, IfOk, ap, refl, subst, sym, ⊎_elim}
-use Rattle.std.specs.Io.KnownBytes.{Consumes, IsAtEnd}
+use Rattle.std.proofs.Common.{◌≡◌, ℕ, false, List, [], ◌++◌, Option, Result, Ok, Err, OnErr, IfOk, ap, refl, subst, sym}
+use Rattle.std.specs.Io.KnownBytes.{Consumes}
 use Rattle.std.proofs.KnownBytes.{Appends-nil}
 use Rattle.rasta_pcap.specs.declared.fault.Fault.{Fault}
-use Rattle.rasta_pcap.specs.Fault.{fault_at, no_memory, not_found}
+use Rattle.rasta_pcap.specs.Fault.{fault_at, not_found}
 use Rattle.rasta_pcap.specs.Devices.{AppendsBeginning}
+use Rattle.rasta_pcap.specs.Stream.{ReadsSo}
 use Rattle.rasta_pdu.specs.Params.{Parameters}
 use Rattle.rasta_cert.specs.Certificate.{IsCertificate, Scripts}
 use Rattle.rasta_check.specs.Reading.{Crossing, crossing_of}
@@ -16,7 +17,7 @@ use Rattle.rasta_show.specs.Lines.{refused_line}
 use Rattle.rasta_audit.specs.Proposed as proposed
 use Rattle.rasta_audit.specs.Proposed.{BeginsOutcome, IsOutcome, Telling}
 use Rattle.rasta_audit.specs.Verdict.{explained_text}
-use Rattle.rasta_audit.proofs.Verdicts.{IsRefusal, Texts, if_ok_map, whole_input}
+use Rattle.rasta_audit.proofs.Verdicts.{Texts, if_ok_map}
 
 -- ---- verdicts
 
@@ -53,21 +54,6 @@ none_stands r k place h = if_ok_map r
 pub none_told : (r : Result Verdict Fault) (place : ℕ) → IfOk r (IsNoneFound place) → IfOk r HasToldRun
 none_told r place h = if_ok_map r (λ (v : Verdict) (none : IsNoneFound place v). subst HasToldRun (sym none) tt) h
 
-abbrev pub Stands : Parameters → List ℕ → Verdict → Type 0
-Stands p file v = (tell : Telling) → Outcome p file tell v
-
--- of the file whose packets crossed
-pub crossed_stands : (r : Result Verdict Fault) (k : Crossing) (p : Parameters) (file : List ℕ) → crossing_of p file ≡ Ok k → IfOk r (Crossed k) → IfOk r (Stands p file)
-crossed_stands r k p file crossed h = if_ok_map r (λ (v : Verdict) (c : Crossed k v) (tell : Telling). c tell p file crossed) h
-
--- the capture is refused
-pub capture_stands : (r : Result Verdict Fault) (fault : Fault) (p : Parameters) (file : List ℕ) → IfOk r (IsRefusal fault)
-    → (fault ≡ no_memory) ⊎ (crossing_of p file ≡ Err fault) → IfOk r (Stands p file)
-capture_stands r fault p file h why = if_ok_map r
-    (λ (v : Verdict) (w : IsRefusal fault v). subst (Stands p file) (sym w.0)
-    (⊎_elim (λ (none : fault ≡ no_memory). absurd (w.1 none))
-    (λ (refused : crossing_of p file ≡ Err fault) (tell : Telling). proposed.capture_refused fault refused) why)) h
-
 -- an audit tells a verdict by its text
 pub audit_text : (v : Verdict) → told_verdict explained_text v ≡ text_of_verdict v
 audit_text (verdicts.Refused fault) = refl
@@ -102,15 +88,15 @@ nothing_of_outcome tell p input oi ni o consumed = record {
 }
 
 -- a beginning of the text that stands
-pub outcome_begun : (IsText : Texts) (r : Result ℕ Fault) (file text : List ℕ) (status : ℕ) (oi ni oo on : Option (List ℕ)) → Consumes oi ni file → IsAtEnd ni
-    → IsText file text status → OnErr r (AppendsBeginning oo on text) → OnErr r (BeginsOutcome IsText oi ni oo on)
-outcome_begun IsText (Ok s) file text status oi ni oo on consumed end is begun = tt
-outcome_begun IsText (Err f) file text status oi ni oo on consumed end is begun = record {
-  input = file;
-  met_end = true;
-  consumed = consumed;
-  at_end = λ h. end;
+pub outcome_begun : (IsText : Texts) (P : List ℕ → Type 0) (r : Result ℕ Fault) (text : List ℕ) (status : ℕ) (oi ni oo on : Option (List ℕ)) → ReadsSo P oi ni
+    → ((file : List ℕ) → P file → IsText file text status) → OnErr r (AppendsBeginning oo on text) → OnErr r (BeginsOutcome IsText oi ni oo on)
+outcome_begun IsText P (Ok s) text status oi ni oo on read is begun = tt
+outcome_begun IsText P (Err f) text status oi ni oo on read is begun = record {
+  input = read.bytes;
+  met_end = read.met_end;
+  consumed = read.consumed;
+  at_end = read.at_end;
   output = begun.0;
   appended = begun.2;
-  begins = λ more h. (text, begun.1, status, subst (λ (l : List ℕ). IsText l text status) (sym (whole_input file more h)) is, begun.3);
+  begins = λ more h. (text, begun.1, status, is (read.bytes ++ more) (read.each more h), begun.3);
 }

@@ -1,8 +1,8 @@
 -- Verdicts: what they are, that a capture and a certificate have one, and their texts in parts.
-use Rattle.std.proofs.Common.{◌≡◌, ◌⊎◌, inl, inr, ℕ, suc, ◌+◌, ◌-◌, ◌<◌, ◌≤◌, true, false, List, [], ◌∷◌, ◌++◌, length, drop, get_or, map, Option, Result, Ok, Err, OnOk, OnErr, IfErr, IfOk, refl, ap, subst, sym, ◌∙◌, ⊎_elim, arith, append-nil, length-drop}
+use Rattle.std.proofs.Common.{◌≡◌, ◌⊎◌, inl, inr, ℕ, suc, ◌+◌, ◌-◌, ◌<◌, ◌≤◌, false, List, [], ◌∷◌, ◌++◌, length, drop, get_or, map, Option, Result, Ok, Err, OnOk, OnErr, IfErr, IfOk, refl, ap, subst, sym, ◌∙◌, ⊎_elim, arith, length-drop}
 use Rattle.std.specs.Prelude.{◌≢◌, decimal}
 use Rattle.std.specs.List.{flat_map}
-use Rattle.std.specs.Io.KnownBytes.{Appends, Consumes, IsAtEnd}
+use Rattle.std.specs.Io.KnownBytes.{Appends, Consumes}
 use Rattle.std.proofs.KnownBytes.{Appends-nil}
 use Rattle.std.proofs.Math.Seq.{drop-cons}
 use Rattle.std.proofs.lemmas.List.{nil_from_length, length-map}
@@ -11,6 +11,7 @@ use Rattle.rasta_pcap.specs.declared.fault.Side.{Side}
 use Rattle.rasta_pcap.specs.declared.fault.Side.TheVariants.{Client, Server}
 use Rattle.rasta_pcap.specs.Fault.{no_memory, write_failed}
 use Rattle.rasta_pcap.specs.Devices.{AppendsBeginning, HasFailed}
+use Rattle.rasta_pcap.specs.Stream.{ReadsSo}
 use Rattle.rasta_pdu.specs.Params.{Parameters}
 use Rattle.rasta_cert.specs.Certificate.{IsCertificate, Scripts, certificate_text}
 use Rattle.rasta_cert.proofs.RefusalLemmas.{one_refusal}
@@ -24,7 +25,7 @@ use Rattle.rasta_audit.specs.declared.verdict.Verdict.{Verdict}
 use Rattle.rasta_audit.specs.declared.verdict.Verdict.TheVariants as verdicts
 use Rattle.rasta_audit.specs.Judged.{HasToldRun, status_of_verdict, text_of_verdict}
 use Rattle.rasta_show.specs.Lines.{in_front, message_text, refused_line}
-use Rattle.rasta_show.specs.Runs.{IsRunFault, MayFollow}
+use Rattle.rasta_show.specs.Runs.{IsRunFault}
 use Rattle.rasta_audit.specs.RunText.{run_text}
 use Rattle.rasta_audit.specs.Verdict.{BeginsVerdict, IsVerdict, WritesVerdict, capture_refused, certificate_refused, script_refused, explained, explained_line, explained_text, taken_count_line, taken_line, taken_lines, taken_text}
 
@@ -146,35 +147,36 @@ one_verdict p certificate file s t m n (explained k c q e a b v) (explained j d 
 abbrev pub Texts : Type 1
 Texts = List ℕ → List ℕ → ℕ → Type 0
 
--- after the end of the input nothing follows
-pub whole_input : (file more : List ℕ) → MayFollow true more → file ++ more ≡ file
-whole_input file more h = ap (λ (l : List ℕ). file ++ l) (h refl) ∙ append-nil file
-
-pub verdict_written : (IsText : Texts) (r : Result ℕ Fault) (file text : List ℕ) (status : ℕ) (oi ni oo on : Option (List ℕ)) → Consumes oi ni file → IsAtEnd ni
-    → IsText file text status → OnOk r (Appends oo on text) → IfOk r (λ s. status ≡ s) → IfOk r (λ s. WritesVerdict IsText s oi ni oo on)
-verdict_written IsText (Err f) file text status oi ni oo on consumed end is appended answered = tt
-verdict_written IsText (Ok s) file text status oi ni oo on consumed end is appended answered = record {
-  input = file;
-  met_end = true;
-  consumed = consumed;
-  at_end = λ h. end;
+pub verdict_written : (IsText : Texts) (P : List ℕ → Type 0) (r : Result ℕ Fault) (text : List ℕ) (status : ℕ) (oi ni oo on : Option (List ℕ)) → ReadsSo P oi ni
+    → ((file : List ℕ) → P file → IsText file text status) → OnOk r (Appends oo on text) → IfOk r (λ s. status ≡ s) → IfOk r (λ s. WritesVerdict IsText s oi ni oo on)
+verdict_written IsText P (Err f) text status oi ni oo on read is appended answered = tt
+verdict_written IsText P (Ok s) text status oi ni oo on read is appended answered = record {
+  input = read.bytes;
+  met_end = read.met_end;
+  consumed = read.consumed;
+  at_end = read.at_end;
   output = text;
   appended = appended;
-  whole = λ more h. subst (λ (l : List ℕ). IsText l text s) (sym (whole_input file more h)) (subst (λ n. IsText file text n) answered is);
+  whole = λ more h. subst (λ n. IsText (read.bytes ++ more) text n) answered (is (read.bytes ++ more) (read.each more h));
 }
 
-pub verdict_begun : (IsText : Texts) (r : Result ℕ Fault) (file text : List ℕ) (oi ni oo on : Option (List ℕ)) → Consumes oi ni file → IsAtEnd ni
-    → ((t : List ℕ) (s : ℕ) → IsText file t s → t ≡ text) → OnErr r (AppendsBeginning oo on text) → OnErr r (BeginsVerdict IsText oi ni oo on)
-verdict_begun IsText (Ok s) file text oi ni oo on consumed end one begun = tt
-verdict_begun IsText (Err f) file text oi ni oo on consumed end one begun = record {
-  input = file;
-  met_end = true;
-  consumed = consumed;
-  at_end = λ h. end;
+pub verdict_begun : (IsText : Texts) (P : List ℕ → Type 0) (r : Result ℕ Fault) (text : List ℕ) (oi ni oo on : Option (List ℕ)) → ReadsSo P oi ni
+    → ((file t : List ℕ) (s : ℕ) → P file → IsText file t s → t ≡ text) → OnErr r (AppendsBeginning oo on text) → OnErr r (BeginsVerdict IsText oi ni oo on)
+verdict_begun IsText P (Ok s) text oi ni oo on read one begun = tt
+verdict_begun IsText P (Err f) text oi ni oo on read one begun = record {
+  input = read.bytes;
+  met_end = read.met_end;
+  consumed = read.consumed;
+  at_end = read.at_end;
   output = begun.0;
   appended = begun.2;
-  begins = λ more t s h is. (begun.1, one t s (subst (λ (l : List ℕ). IsText l t s) (whole_input file more h) is) ∙ begun.3);
+  begins = λ more t s h is. (begun.1, one (read.bytes ++ more) t s (read.each more h) is ∙ begun.3);
 }
+
+-- the status 1 of a refusal
+pub is_one : (r : Result ℕ Fault) → IfOk r (λ s. s ≡ 1) → IfOk r (λ s. 1 ≡ s)
+is_one (Ok s) e = sym e
+is_one (Err f) e = tt
 
 -- nothing begins each text
 pub nothing_begun : (IsText : Texts) (input : List ℕ) (oi ni o : Option (List ℕ)) → Consumes oi ni input → BeginsVerdict IsText oi ni o o

@@ -16,7 +16,7 @@ use Rattle.rasta_audit.specs.declared.verdict.Verdict.{Verdict}
 use Rattle.rasta_audit.specs.declared.verdict.Verdict.TheVariants.{Refused, Explained}
 
 abbrev pub text_of_explanation : Explanation → List ℕ
-text_of_explanation e = explained_text e.sent e.certificate (explained e.report)
+text_of_explanation e = explained_text e.store.now e.certificate (explained e.report)
 
 abbrev pub text_of_verdict : Verdict → List ℕ
 text_of_verdict (Refused fault) = refused_line fault
@@ -29,7 +29,7 @@ status_of_verdict (Explained e) = 0
 -- the run of an explanation can be written in one pass
 abbrev pub HasToldRun : Verdict → Type 0
 HasToldRun (Refused fault) = Unit {0}
-HasToldRun (Explained e) = IsTold e.sent e.certificate
+HasToldRun (Explained e) = IsTold e.store.now e.certificate
 
 -- what the checker says of what crossed and these scripts
 abbrev pub IsChecked : Crossing → Scripts → Result Report Fault → Type 0
@@ -41,11 +41,11 @@ IsChecked k scripts (Err fault) = (verdict_of k.params (length k.packets) k.clie
 -- the verdict on what crossed and these scripts
 abbrev pub IsJudged : Crossing → Scripts → Verdict → Type 0
 IsJudged k scripts (Refused fault) = verdict_of k.params (length k.packets) k.client k.server scripts ≡ Err fault
-IsJudged k scripts (Explained e) = (e.sent ≡ k) × (e.certificate ≡ scripts)
+IsJudged k scripts (Explained e) = (e.store.now ≡ k) × (e.certificate ≡ scripts)
     × (verdict_of k.params (length k.packets) k.client k.server scripts ≡ Ok (explained e.report))
     × Headline k.params k.packets (explained e.report)
 
 -- the text of a verdict whose explanation is told so
 abbrev pub told_verdict : Telling → Verdict → List ℕ
 told_verdict tell (Refused fault) = refused_line fault
-told_verdict tell (Explained e) = tell e.sent e.certificate (explained e.report)
+told_verdict tell (Explained e) = tell e.store.now e.certificate (explained e.report)

@@ -1,4 +1,4 @@
-//! What becomes of a capture for which a certificate is proposed.
+//! What becomes of what crossed, for which a certificate is proposed.
 ghost use Rattle.std.specs.Prelude.{◌≡◌, List, ℕ, Ok, IfErr, IfOk, OnErr, OnOk};
 ghost use Rattle.std.specs.Io.KnownBytes.{Appends};
 ghost use Rattle.rasta_pcap.specs.Fault.{fault_at, no_memory, not_found, write_failed};
@@ -11,12 +11,12 @@ ghost use Rattle.rasta_audit.specs.Claims.{ClaimsHeadline};
 ghost use Rattle.rasta_audit.specs.Judged.{HasToldRun, status_of_verdict, text_of_verdict, told_verdict};
 ghost use Rattle.rasta_audit.specs.Proposed.{IsOutcome, Telling, built_text};
 
-use crate::verdict::{Verdict, judge_scripts, refused};
-use rasta_build::propose;
+use crate::verdict::{Verdict, judge_scripts};
+use rasta_build::propose_lists;
 use rasta_cert::{Certificate, Entry, write};
-use rasta_check::{Sent, sent};
+use rasta_check::Store;
 use rasta_pcap::write_all;
-use rasta_pdu::{Fault, Params, Sink};
+use rasta_pdu::{Fault, Sink};
 use rasta_show::refusal_line;
 use std::alloc::Global;
 
@@ -57,40 +57,28 @@ fn none_proposed<'a>(fault: Fault) -> Result<Verdict<'a>, Fault>
     }
 }
 
-// The verdict on what crossed and what is proposed for it.
-fn judge_proposed<'a>(alloc: Global, sent: Sent<'a>) -> Result<Verdict<'a>, Fault>
-    ensures stands { IfOk result (λ v. (tell : Telling) (p : Parameters) (file : List ℕ) → crossing_of p file ≡ Ok sent.entry
+/// The verdict on what crossed and a certificate that is proposed for it: [`Fault::NOT_FOUND`] where none is
+/// proposed, or else what the checker says of the one that is. Refused by [`Fault::NO_MEMORY`] alone.
+pub fn judge_proposed<'a>(alloc: Global, store: &'a Store) -> Result<Verdict<'a>, Fault>
+    ensures stands { IfOk result (λ v. (tell : Telling) (p : Parameters) (file : List ℕ) → crossing_of p file ≡ Ok store.now
         → IsOutcome tell p file (told_verdict tell v) (status_of_verdict v)) }
-    ensures headline { IfOk result (λ v. (p : Parameters) (file : List ℕ) → crossing_of p file ≡ Ok sent.entry
+    ensures headline { IfOk result (λ v. (p : Parameters) (file : List ℕ) → crossing_of p file ≡ Ok store.now
         → ClaimsHeadline p file (text_of_verdict v) (status_of_verdict v)) }
     ensures told { IfOk result HasToldRun }
     ensures err { IfErr result (λ f. f ≡ no_memory) }
 {
-    match propose(alloc, &sent.params(), &sent) {
+    match propose_lists(
+        alloc,
+        &store.params(),
+        store.len(),
+        &store.client(),
+        &store.server(),
+    ) {
         Ok(certificate) => {
             holds_scripts(&certificate);
-            judge_scripts(alloc, sent, certificate)
+            judge_scripts(alloc, store, certificate)
         }
         Err(fault) => none_proposed(fault),
-    }
-}
-
-/// The verdict on a file and a certificate that is proposed for it: the capture's refusal, or
-/// [`Fault::NOT_FOUND`] where none is proposed, or else what the checker says of the one that is. Refused by
-/// [`Fault::NO_MEMORY`] alone.
-pub fn judge_capture<'a>(
-    alloc: Global,
-    params: &Params,
-    file: &'a [u8],
-) -> Result<Verdict<'a>, Fault>
-    ensures stands { IfOk result (λ v. (tell : Telling) → IsOutcome tell params.now file.entry.now (told_verdict tell v) (status_of_verdict v)) }
-    ensures headline { IfOk result (λ v. ClaimsHeadline params.now file.entry.now (text_of_verdict v) (status_of_verdict v)) }
-    ensures told { IfOk result HasToldRun }
-    ensures err { IfErr result (λ f. f ≡ no_memory) }
-{
-    match sent(alloc, *params, file) {
-        Ok(sent) => judge_proposed(alloc, sent),
-        Err(fault) => refused(fault),
     }
 }
 

@@ -10,7 +10,7 @@ ghost use Rattle.rasta_audit.specs.Passed.{makes_of, scripts_of};
 use crate::run_lines::{Made, put_copy, put_make, put_take};
 use crate::script::{next_take, pass_make};
 use rasta_cert::{Certificate, Entry};
-use rasta_check::Sent;
+use rasta_check::Store;
 use rasta_pcap::write_all;
 use rasta_pdu::{Fault, Side, Sink};
 use rasta_show::Line;
@@ -70,7 +70,7 @@ fn made_by(side: Side, client: Option<Made>, server: Option<Made>) -> Option<Mad
 
 // Writes the packet at a place, if there is one, by what each script makes there.
 fn write_crossed<W: Sink>(
-    sent: &Sent<'_>,
+    store: &Store,
     place: u32,
     client: Option<Made>,
     server: Option<Made>,
@@ -78,14 +78,14 @@ fn write_crossed<W: Sink>(
     writer: &mut W,
 ) -> Result<(), Fault>
     ensures ok { OnOk result (Appends (W.contents writer.old) (W.contents writer.new)
-        (told_packet place (makes_of client) (makes_of server) (slice_get sent.now.packets place))) }
+        (told_packet place (makes_of client) (makes_of server) (slice_get store.now.packets place))) }
     ensures steady { OnOk result (W.failure_count writer.new ≡ W.failure_count writer.old) }
     ensures err { IfErr result (λ f. (f ≡ write_failed)
         × HasFailed (W.failure_count writer.old) (W.failure_count writer.new)) }
     ensures begun { OnErr result (AppendsBeginning (W.contents writer.old) (W.contents writer.new)
-        (told_packet place (makes_of client) (makes_of server) (slice_get sent.now.packets place))) }
+        (told_packet place (makes_of client) (makes_of server) (slice_get store.now.packets place))) }
 {
-    let Some((side, number)) = sent.packet(place) else {
+    let Some((side, number)) = store.packet(place) else {
         return Ok(());
     };
     put_crossed(line, place, side, number, made_by(side, client, server));
@@ -94,7 +94,7 @@ fn write_crossed<W: Sink>(
 
 // Writes a level, and answers what is left of the scripts.
 fn write_level<'s, W: Sink>(
-    sent: &Sent<'_>,
+    store: &Store,
     level: u32,
     scripts: Rests<'s>,
     line: &mut Line,
@@ -103,43 +103,43 @@ fn write_level<'s, W: Sink>(
     requires client { IsOrderedFrom level scripts.client.now }
     requires server { IsOrderedFrom level scripts.server.now }
     ensures ok { OnOk result (Appends (W.contents writer.old) (W.contents writer.new)
-        (told_level sent.now.packets (scripts_of scripts.entry) level)) }
+        (told_level store.now.packets (scripts_of scripts.entry) level)) }
     ensures rests { IfOk result (λ r. IsBehind level scripts.entry.client.now r.client.now × IsBehind level scripts.entry.server.now r.server.now) }
     ensures steady { OnOk result (W.failure_count writer.new ≡ W.failure_count writer.old) }
     ensures err { IfErr result (λ f. (f ≡ write_failed)
         × HasFailed (W.failure_count writer.old) (W.failure_count writer.new)) }
     ensures begun { OnErr result (AppendsBeginning (W.contents writer.old) (W.contents writer.new)
-        (told_level sent.now.packets (scripts_of scripts.entry) level)) }
+        (told_level store.now.packets (scripts_of scripts.entry) level)) }
 {
     let client = write_takes(level, Side::Client, scripts.client, line, writer)?;
     let server = write_takes(level, Side::Server, scripts.server, line, writer)?;
     let (client_made, client) = pass_make(level, client);
     let (server_made, server) = pass_make(level, server);
-    write_crossed(sent, level, client_made, server_made, line, writer)?;
+    write_crossed(store, level, client_made, server_made, line, writer)?;
     Ok(Rests { client, server })
 }
 
 /// Writes the run that two scripts tell of the packets: a line for each take and each packet, level by
 /// level. The scripts are passed once.
 pub fn write_run<W: Sink>(
-    sent: &Sent<'_>,
+    store: &Store,
     certificate: &Certificate,
     line: &mut Line,
     writer: &mut W,
 ) -> Result<(), Fault>
-    requires { IsTold sent.now certificate.now }
-    ensures ok { OnOk result (Appends (W.contents writer.old) (W.contents writer.new) (run_text sent.now certificate.now)) }
+    requires { IsTold store.now certificate.now }
+    ensures ok { OnOk result (Appends (W.contents writer.old) (W.contents writer.new) (run_text store.now certificate.now)) }
     ensures steady { OnOk result (W.failure_count writer.new ≡ W.failure_count writer.old) }
     ensures err { IfErr result (λ f. (f ≡ write_failed)
         × HasFailed (W.failure_count writer.old) (W.failure_count writer.new)) }
-    ensures begun { OnErr result (AppendsBeginning (W.contents writer.old) (W.contents writer.new) (run_text sent.now certificate.now)) }
+    ensures begun { OnErr result (AppendsBeginning (W.contents writer.old) (W.contents writer.new) (run_text store.now certificate.now)) }
 {
     let mut rests = Rests {
         client: certificate.client(),
         server: certificate.server(),
     };
-    for level in 0..sent.len() + 1 {
-        rests = write_level(sent, level, rests, line, writer)?;
+    for level in 0..store.len() + 1 {
+        rests = write_level(store, level, rests, line, writer)?;
     }
     Ok(())
 }

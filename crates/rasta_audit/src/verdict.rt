@@ -1,4 +1,4 @@
-//! The verdict on a capture and a certificate, and its text.
+//! The verdict on what crossed and a certificate, and its text.
 ghost use Rattle.std.specs.Prelude.{◌≡◌, ◌≢◌, List, ℕ, Ok, IfErr, IfOk, OnErr, OnOk};
 ghost use Rattle.std.specs.Io.KnownBytes.{Appends};
 ghost use Rattle.rasta_pcap.specs.Fault.{no_memory, write_failed};
@@ -15,21 +15,21 @@ ghost use Rattle.rasta_audit.specs.Judged.{HasToldRun, IsChecked, IsJudged, stat
 use crate::run_text::write_run;
 use crate::taken_text::write_taken;
 use rasta_cert::{Certificate, read};
-use rasta_check::{Report, Sent, check_sent, sent};
+use rasta_check::{Report, Store, check_store};
 use rasta_pcap::write_all;
-use rasta_pdu::{Fault, Params, Side, Sink};
+use rasta_pdu::{Fault, Side, Sink};
 use rasta_show::{Line, refusal_line};
 use std::alloc::Global;
 
 /// What crossed, the certificate that explains it, and the report on both.
 #[derive(Drop)]
 pub struct Explanation<'a> {
-    pub sent: Sent<'a>,
+    pub store: &'a Store,
     pub certificate: Certificate,
     pub report: Report<'a>,
 }
 
-/// A capture that is refused, or whose certificate is, by its first fault; or one that is explained.
+/// A refusal, by its fault; or what explains a capture.
 #[derive(Drop)]
 pub enum Verdict<'a> {
     Refused(Fault),
@@ -50,18 +50,18 @@ pub fn refused<'a>(fault: Fault) -> Result<Verdict<'a>, Fault>
 
 // The verdict on what crossed and a certificate, by what the checker says of both.
 fn verdict_by<'a>(
-    sent: Sent<'a>,
+    store: &'a Store,
     certificate: Certificate,
     checked: Result<Report<'a>, Fault>,
 ) -> Result<Verdict<'a>, Fault>
-    requires { IsChecked sent certificate checked }
-    ensures judged { IfOk result (IsJudged sent.entry certificate) }
+    requires { IsChecked store.now certificate checked }
+    ensures judged { IfOk result (IsJudged store.now certificate) }
     ensures told { IfOk result HasToldRun }
     ensures err { IfErr result (λ f. f ≡ no_memory) }
 {
     match checked {
         Ok(report) => Ok(Verdict::Explained(Explanation {
-            sent,
+            store,
             certificate,
             report,
         })),
@@ -73,38 +73,31 @@ fn verdict_by<'a>(
 /// Refused by [`Fault::NO_MEMORY`] alone.
 pub fn judge_scripts<'a>(
     alloc: Global,
-    sent: Sent<'a>,
+    store: &'a Store,
     certificate: Certificate,
 ) -> Result<Verdict<'a>, Fault>
-    ensures stands { IfOk result (λ v. (p : Parameters) (file text : List ℕ) → crossing_of p file ≡ Ok sent.entry
+    ensures stands { IfOk result (λ v. (p : Parameters) (file text : List ℕ) → crossing_of p file ≡ Ok store.now
         → text ≡ certificate_text certificate → IsCertificate certificate → IsVerdict p text file (text_of_verdict v) (status_of_verdict v)) }
-    ensures judged { IfOk result (IsJudged sent.entry certificate) }
+    ensures judged { IfOk result (IsJudged store.now certificate) }
     ensures told { IfOk result HasToldRun }
     ensures err { IfErr result (λ f. f ≡ no_memory) }
 {
-    let checked = check_sent(alloc, &sent.params(), &sent, &certificate);
-    verdict_by(sent, certificate, checked)
+    let checked = check_store(alloc, &store.params(), store, &certificate);
+    verdict_by(store, certificate, checked)
 }
 
-/// The verdict on a file and a certificate's text: the capture is judged first, then the text, then the
-/// client's script, then the server's. Refused by [`Fault::NO_MEMORY`] alone.
-pub fn judge<'a>(
-    alloc: Global,
-    params: &Params,
-    file: &'a [u8],
-    certificate: &[u8],
-) -> Result<Verdict<'a>, Fault>
-    ensures stands { IfOk result (λ v. IsVerdict params.now certificate.now file.entry.now (text_of_verdict v) (status_of_verdict v)) }
-    ensures headline { IfOk result (λ v. ClaimsHeadline params.now file.entry.now (text_of_verdict v) (status_of_verdict v)) }
+/// The verdict on what crossed and a certificate's text: the text is judged first, then the client's script,
+/// then the server's. Refused by [`Fault::NO_MEMORY`] alone.
+pub fn judge<'a>(alloc: Global, store: &'a Store, certificate: &[u8]) -> Result<Verdict<'a>, Fault>
+    ensures stands { IfOk result (λ v. (p : Parameters) (file : List ℕ) → crossing_of p file ≡ Ok store.now
+        → IsVerdict p certificate.now file (text_of_verdict v) (status_of_verdict v)) }
+    ensures headline { IfOk result (λ v. (p : Parameters) (file : List ℕ) → crossing_of p file ≡ Ok store.now
+        → ClaimsHeadline p file (text_of_verdict v) (status_of_verdict v)) }
     ensures told { IfOk result HasToldRun }
     ensures err { IfErr result (λ f. f ≡ no_memory) }
 {
-    let sent = match sent(alloc, *params, file) {
-        Ok(sent) => sent,
-        Err(fault) => return refused(fault),
-    };
     match read(alloc, certificate) {
-        Ok(certificate) => judge_scripts(alloc, sent, certificate),
+        Ok(certificate) => judge_scripts(alloc, store, certificate),
         Err(fault) => refused(fault),
     }
 }
@@ -120,7 +113,7 @@ fn put_explained(line: &mut Line, packets: u32)
 
 // Writes the text of an explanation.
 fn write_explanation<W: Sink>(explanation: &Explanation<'_>, writer: &mut W) -> Result<(), Fault>
-    requires { IsTold explanation.now.sent explanation.now.certificate }
+    requires { IsTold explanation.now.store.now explanation.now.certificate }
     ensures ok { OnOk result (Appends (W.contents writer.old) (W.contents writer.new) (text_of_explanation explanation.now)) }
     ensures err { IfErr result (λ f. (f ≡ write_failed)
         × HasFailed (W.failure_count writer.old) (W.failure_count writer.new)) }
@@ -131,7 +124,7 @@ fn write_explanation<W: Sink>(explanation: &Explanation<'_>, writer: &mut W) -> 
     put_explained(&mut line, report.packets);
     write_all(writer, line.as_bytes())?;
     write_run(
-        &explanation.sent,
+        explanation.store,
         &explanation.certificate,
         &mut line,
         writer,

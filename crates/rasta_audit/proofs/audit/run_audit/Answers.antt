@@ -1,48 +1,83 @@
-use Rattle.std.proofs.Common.{List, ℕ, subst}
+use Rattle.std.proofs.Common.{List, ℕ, subst, sym}
+use Rattle.rasta_check.specs.Storing.{IsRefusedSo, IsStored}
+use Rattle.rasta_show.specs.Lines.{refused_line}
 use Rattle.rasta_audit.specs.Claims.{ClaimsHeadline}
 use Rattle.rasta_audit.specs.Judged.{status_of_verdict, text_of_verdict}
-use Rattle.rasta_audit.specs.Proposed.{IsAudit}
+use Rattle.rasta_audit.specs.Proposed.{IsAudit, capture_refused}
 use Rattle.rasta_audit.specs.Verdict.{explained_text}
 use Rattle.rasta_pcap.proofs.Sending.{where_failed}
 use Rattle.rasta_audit.proofs.Proposals.{audit_text, nothing_of_outcome, outcome_begun}
-use Rattle.rasta_audit.proofs.Verdicts.{verdict_written}
+use Rattle.rasta_audit.proofs.Refusing.{where_broken, where_refused}
+use Rattle.rasta_audit.proofs.Verdicts.{is_one, verdict_written}
 use Rattle.rasta_audit.proofs.audit.run_audit.Goals as goal
 
-pub returns-in_err-file-clause-begun : goal.returns-in_err-file-clause-begun
-returns-in_err-file-clause-begun g c = where_failed c.from_residual.result
-    (nothing_of_outcome explained_text c.args.params.now c.in_err-file.ensures.begun.0 _ _ _ c.in_err-file.ensures.begun.1)
+-- ---- the capture is refused, or can't be read
+
+pub returns-in-Err-clause-text : goal.returns-in-Err-clause-text
+returns-in-Err-clause-text g c =
+    let p = c.args.params.now in
+    let f = c.in-Err.fault in
+    verdict_written (IsAudit p) (IsRefusedSo p f) c.write_refusal.result (refused_line f) 1 _ _ _ _
+    (where_refused p f _ _ _ _ (sym c.if-is_refusal.ensures) c.in-Err.ensures.err)
+    (λ file refused. capture_refused f refused.value)
+    c.write_refusal.ensures.whole (is_one c.write_refusal.result c.write_refusal.ensures.answered)
+
+pub returns-in-Err-clause-begun : goal.returns-in-Err-clause-begun
+returns-in-Err-clause-begun g c =
+    let p = c.args.params.now in
+    let f = c.in-Err.fault in
+    outcome_begun (IsAudit p) (IsRefusedSo p f) c.write_refusal.result (refused_line f) 1 _ _ _ _
+    (where_refused p f _ _ _ _ (sym c.if-is_refusal.ensures) c.in-Err.ensures.err)
+    (λ file refused. capture_refused f refused.value)
+    c.write_refusal.ensures.begun
+
+pub returns-in-Err-clause-headline : goal.returns-in-Err-clause-headline
+returns-in-Err-clause-headline g c =
+    let p = c.args.params.now in
+    let f = c.in-Err.fault in
+    verdict_written (ClaimsHeadline p) (IsRefusedSo p f) c.write_refusal.result (refused_line f) 1 _ _ _ _
+    (where_refused p f _ _ _ _ (sym c.if-is_refusal.ensures) c.in-Err.ensures.err)
+    (λ file refused status. absurd (cc))
+    c.write_refusal.ensures.whole (is_one c.write_refusal.result c.write_refusal.ensures.answered)
+
+pub returns-in-Err-2-clause-begun : goal.returns-in-Err-2-clause-begun
+returns-in-Err-2-clause-begun g c =
+    nothing_of_outcome explained_text c.args.params.now c.in-Err.ensures.begun.0 _ _ _ c.in-Err.ensures.begun.1
+
+pub returns-in-Err-2-clause-err : goal.returns-in-Err-2-clause-err
+returns-in-Err-2-clause-err g c =
+    where_broken c.args.params.now c.in-Err.fault _ _ _ _ _ _ (sym c.if-is_refusal.ensures) c.in-Err.ensures.err
+
+-- ---- the verdict
 
 pub returns-in_err-verdict-clause-begun : goal.returns-in_err-verdict-clause-begun
-returns-in_err-verdict-clause-begun g c = where_failed c.from_residual-in_err-verdict.result
-    (nothing_of_outcome explained_text c.args.params.now c.in_ok-file.file.items _ _ _ c.in_ok-file.ensures.bytes)
+returns-in_err-verdict-clause-begun g c = where_failed c.from_residual.result
+    (nothing_of_outcome explained_text c.args.params.now c.in-Ok.ensures.value.bytes _ _ _ c.in-Ok.ensures.value.consumed)
 
 pub returns-clause-text : goal.returns-clause-text
 returns-clause-text g c =
+    let p = c.args.params.now in
     let verdict = c.in_ok-verdict.verdict in
-    let text = text_of_verdict verdict in
     let status = status_of_verdict verdict in
-    let file = c.in_ok-file.file.items in
-    let told = subst (λ (t : List ℕ). IsAudit c.args.params.now c.deref.result.now t status) (audit_text verdict) (c.in_ok-verdict.ensures.stands explained_text) in
-    let is = subst (λ (l : List ℕ). IsAudit c.args.params.now l text status) c.deref.ensures.value told in
-    verdict_written (IsAudit c.args.params.now) c.write_verdict.result file text status _ _ _ _
-    c.in_ok-file.ensures.bytes c.in_ok-file.ensures.end is c.write_verdict.ensures.ok c.write_verdict.ensures.answered
+    verdict_written (IsAudit p) (IsStored p c.in-Ok.store) c.write_verdict.result (text_of_verdict verdict) status _ _ _ _
+    c.in-Ok.ensures.value
+    (λ file stored. subst (λ (t : List ℕ). IsAudit p file t status) (audit_text verdict) (c.in_ok-verdict.ensures.stands explained_text p file stored.value))
+    c.write_verdict.ensures.ok c.write_verdict.ensures.answered
 
 pub returns-clause-begun : goal.returns-clause-begun
 returns-clause-begun g c =
+    let p = c.args.params.now in
     let verdict = c.in_ok-verdict.verdict in
-    let text = text_of_verdict verdict in
     let status = status_of_verdict verdict in
-    let file = c.in_ok-file.file.items in
-    let told = subst (λ (t : List ℕ). IsAudit c.args.params.now c.deref.result.now t status) (audit_text verdict) (c.in_ok-verdict.ensures.stands explained_text) in
-    let is = subst (λ (l : List ℕ). IsAudit c.args.params.now l text status) c.deref.ensures.value told in
-    outcome_begun (IsAudit c.args.params.now) c.write_verdict.result file text status _ _ _ _
-    c.in_ok-file.ensures.bytes c.in_ok-file.ensures.end is c.write_verdict.ensures.begun
+    outcome_begun (IsAudit p) (IsStored p c.in-Ok.store) c.write_verdict.result (text_of_verdict verdict) status _ _ _ _
+    c.in-Ok.ensures.value
+    (λ file stored. subst (λ (t : List ℕ). IsAudit p file t status) (audit_text verdict) (c.in_ok-verdict.ensures.stands explained_text p file stored.value))
+    c.write_verdict.ensures.begun
 
 pub returns-clause-headline : goal.returns-clause-headline
 returns-clause-headline g c =
-    let text = text_of_verdict c.in_ok-verdict.verdict in
-    let status = status_of_verdict c.in_ok-verdict.verdict in
-    verdict_written (ClaimsHeadline c.args.params.now) c.write_verdict.result c.in_ok-file.file.items text status _ _ _ _
-    c.in_ok-file.ensures.bytes c.in_ok-file.ensures.end
-    (subst (λ (l : List ℕ). ClaimsHeadline c.args.params.now l text status) c.deref.ensures.value c.in_ok-verdict.ensures.headline)
+    let p = c.args.params.now in
+    let verdict = c.in_ok-verdict.verdict in
+    verdict_written (ClaimsHeadline p) (IsStored p c.in-Ok.store) c.write_verdict.result (text_of_verdict verdict) (status_of_verdict verdict) _ _ _ _
+    c.in-Ok.ensures.value (λ file stored. c.in_ok-verdict.ensures.headline p file stored.value)
     c.write_verdict.ensures.ok c.write_verdict.ensures.answered

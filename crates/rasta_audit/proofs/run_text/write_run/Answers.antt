@@ -10,15 +10,15 @@ use Rattle.rasta_audit.proofs.run_text.write_run.Goals as goal
 pub returns-in_err-rests-clause-begun : goal.returns-in_err-rests-clause-begun
 returns-in_err-rests-clause-begun g c = where_failed c.from_residual.result (subst
     (λ (t : List ℕ). AppendsBeginning (g.W.Sink.contents c.args.writer.now) (g.W.Sink.contents c.write_level.new.writer) t)
-    (told_whole c.args.sent.now c.args.certificate.now c.requires)
+    (told_whole c.args.store.now c.args.certificate.now c.requires)
     (Sent-begun _ _ _ _ _ _ _ c.loop-level.invariant.sent
-    (told_levels-front c.args.sent.now.packets (scripts_of c.loop-level.rests) c.loop-level.level _ c.loop-level-test.true) c.in_err-rests.ensures.begun))
+    (told_levels-front c.args.store.now.packets (scripts_of c.loop-level.rests) c.loop-level.level _ c.loop-level-test.true) c.in_err-rests.ensures.begun))
 
 pub loop-level-preserved : goal.loop-level-preserved
 loop-level-preserved g c =
     let behind = c.in_ok-rests.ensures.rests in record {
       sent = Sent-more _ _ _ _ _ _ _ c.loop-level.invariant.sent
-          (told_levels-next c.args.sent.now.packets (scripts_of c.loop-level.rests) (scripts_of c.in_ok-rests.rests) c.loop-level.level _ c.loop-level-test.true behind.0 behind.1)
+          (told_levels-next c.args.store.now.packets (scripts_of c.loop-level.rests) (scripts_of c.in_ok-rests.rests) c.loop-level.level _ c.loop-level-test.true behind.0 behind.1)
           c.in_ok-rests.ensures.ok;
       client = from_next c.loop-level.level c.in_ok-rests.rests.client.now behind.0.order;
       server = from_next c.loop-level.level c.in_ok-rests.rests.server.now behind.1.order;
@@ -29,5 +29,5 @@ loop-level-preserved g c =
 pub returns-clause-ok : goal.returns-clause-ok
 returns-clause-ok g c = subst
     (λ (t : List ℕ). Appends (g.W.Sink.contents c.args.writer.now) (g.W.Sink.contents c.loop-level.writer) t)
-    (told_whole c.args.sent.now c.args.certificate.now c.requires)
-    (Sent-all _ _ _ _ c.loop-level.invariant.sent (told_levels-end c.args.sent.now.packets (scripts_of c.loop-level.rests) c.loop-level.level _ c.loop-level-test.false))
+    (told_whole c.args.store.now c.args.certificate.now c.requires)
+    (Sent-all _ _ _ _ c.loop-level.invariant.sent (told_levels-end c.args.store.now.packets (scripts_of c.loop-level.rests) c.loop-level.level _ c.loop-level-test.false))

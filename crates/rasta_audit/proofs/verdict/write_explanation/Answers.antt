@@ -8,19 +8,19 @@ pub returns-in_err-write_all-clause-begun : goal.returns-in_err-write_all-clause
 returns-in_err-write_all-clause-begun g c =
     let e = c.args.explanation.now in
     where_failed c.from_residual.result (Sent-begun _ _ _ _ _ _ _ (Sent-start _ (g.W.Sink.contents c.args.writer.now))
-    (explained_text-parts e.sent e.certificate (explained e.report) _ (c.as_bytes.ensures ∙ c.put_explained.ensures)) c.in_err-write_all.ensures.begun)
+    (explained_text-parts e.store.now e.certificate (explained e.report) _ (c.as_bytes.ensures ∙ c.put_explained.ensures)) c.in_err-write_all.ensures.begun)
 
 pub returns-in_err-write_run-clause-begun : goal.returns-in_err-write_run-clause-begun
 returns-in_err-write_run-clause-begun g c =
     let e = c.args.explanation.now in
     let count = Sent-more _ _ _ _ _ _ _ (Sent-start _ (g.W.Sink.contents c.args.writer.now))
-    (explained_text-parts e.sent e.certificate (explained e.report) _ (c.as_bytes.ensures ∙ c.put_explained.ensures)) c.in_ok-write_all.ensures.ok in
+    (explained_text-parts e.store.now e.certificate (explained e.report) _ (c.as_bytes.ensures ∙ c.put_explained.ensures)) c.in_ok-write_all.ensures.ok in
     where_failed c.from_residual-in_err-write_run.result (Sent-begun _ _ _ _ _ _ _ count refl c.in_err-write_run.ensures.begun)
 
 pub returns-in_err-write_taken-clause-begun : goal.returns-in_err-write_taken-clause-begun
 returns-in_err-write_taken-clause-begun g c =
     let e = c.args.explanation.now in
-    let text = explained_text-listed e.sent e.certificate (explained e.report) _ _ e.report.server_taken (c.as_bytes.ensures ∙ c.put_explained.ensures) c.as_slice.ensures refl in
+    let text = explained_text-listed e.store.now e.certificate (explained e.report) _ _ e.report.server_taken (c.as_bytes.ensures ∙ c.put_explained.ensures) c.as_slice.ensures refl in
     let count = Sent-more _ _ _ _ _ _ _ (Sent-start _ (g.W.Sink.contents c.args.writer.now)) text c.in_ok-write_all.ensures.ok in
     let run = Sent-more _ _ _ _ _ _ _ count refl c.in_ok-write_run.ensures.ok in
     where_failed c.from_residual-in_err-write_taken.result (Sent-begun _ _ _ _ _ _ _ run refl c.in_err-write_taken.ensures.begun)
@@ -28,7 +28,7 @@ returns-in_err-write_taken-clause-begun g c =
 pub returns-clause-ok : goal.returns-clause-ok
 returns-clause-ok g c =
     let e = c.args.explanation.now in
-    let text = explained_text-listed e.sent e.certificate (explained e.report) _ _ _ (c.as_bytes.ensures ∙ c.put_explained.ensures) c.as_slice.ensures c.as_slice-2.ensures in
+    let text = explained_text-listed e.store.now e.certificate (explained e.report) _ _ _ (c.as_bytes.ensures ∙ c.put_explained.ensures) c.as_slice.ensures c.as_slice-2.ensures in
     let count = Sent-more _ _ _ _ _ _ _ (Sent-start _ (g.W.Sink.contents c.args.writer.now)) text c.in_ok-write_all.ensures.ok in
     let run = Sent-more _ _ _ _ _ _ _ count refl c.in_ok-write_run.ensures.ok in
     let client = Sent-more _ _ _ _ _ _ _ run refl c.in_ok-write_taken.ensures.ok in
@@ -37,7 +37,7 @@ returns-clause-ok g c =
 pub returns-clause-begun : goal.returns-clause-begun
 returns-clause-begun g c =
     let e = c.args.explanation.now in
-    let text = explained_text-listed e.sent e.certificate (explained e.report) _ _ _ (c.as_bytes.ensures ∙ c.put_explained.ensures) c.as_slice.ensures c.as_slice-2.ensures in
+    let text = explained_text-listed e.store.now e.certificate (explained e.report) _ _ _ (c.as_bytes.ensures ∙ c.put_explained.ensures) c.as_slice.ensures c.as_slice-2.ensures in
     let count = Sent-more _ _ _ _ _ _ _ (Sent-start _ (g.W.Sink.contents c.args.writer.now)) text c.in_ok-write_all.ensures.ok in
     let run = Sent-more _ _ _ _ _ _ _ count refl c.in_ok-write_run.ensures.ok in
     let client = Sent-more _ _ _ _ _ _ _ run refl c.in_ok-write_taken.ensures.ok in
