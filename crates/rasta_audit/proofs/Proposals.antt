@@ -1,9 +1,9 @@
 -- What becomes of a capture for which a certificate is proposed, and what a run wrote of it.
-use Rattle.std.proofs.Common.{◌≡◌, ◌⊎◌, ℕ, true, false, List, [], ◌++◌, Option, Result, Ok, Err, OnErr, IfOk, ap, refl, subst, sym, ⊎_elim}
-use Rattle.std.specs.Io.KnownBytes.{Consumes, IsAtEnd}
+use Rattle.std.proofs.Common.{◌≡◌, ℕ, false, List, [], ◌++◌, Option, Result, Ok, Err, OnErr, IfOk, ap, refl, subst, sym}
+use Rattle.std.specs.Io.KnownBytes.{Consumes}
 use Rattle.std.proofs.KnownBytes.{Appends-nil}
 use Rattle.rasta_pcap.specs.declared.fault.Fault.{Fault}
-use Rattle.rasta_pcap.specs.Fault.{fault_at, no_memory, not_found}
+use Rattle.rasta_pcap.specs.Fault.{fault_at, not_found}
 use Rattle.rasta_pcap.specs.Devices.{AppendsBeginning}
 use Rattle.rasta_pcap.specs.Stream.{ReadsSo}
 use Rattle.rasta_pdu.specs.Params.{Parameters}
@@ -17,7 +17,7 @@ use Rattle.rasta_show.specs.Lines.{refused_line}
 use Rattle.rasta_audit.specs.Proposed as proposed
 use Rattle.rasta_audit.specs.Proposed.{BeginsOutcome, IsOutcome, Telling}
 use Rattle.rasta_audit.specs.Verdict.{explained_text}
-use Rattle.rasta_audit.proofs.Verdicts.{IsRefusal, Texts, if_ok_map}
+use Rattle.rasta_audit.proofs.Verdicts.{Texts, if_ok_map}
 
 -- ---- verdicts
 

@@ -1,5 +1,5 @@
 -- Refusals of a capture are told from out of memory and from a failed read by their numbers.
-use Rattle.std.proofs.Common.{◌≡◌, ◌⊎◌, inl, inr, ℕ, ◌+◌, ◌-◌, ◌<◌, ◌≤◌, List, [], ◌∷◌, ◌++◌, length, Option, Some, None, Result, Ok, Err, IfErr, Bool, true, false, refl, ap, sym, subst, arith, nat_lt, nat_le, is_none, if◌then◌else◌, ⊎_elim}
+use Rattle.std.proofs.Common.{◌≡◌, ◌⊎◌, inl, inr, ℕ, ◌+◌, ◌-◌, ◌≤◌, List, [], ◌∷◌, ◌++◌, length, Option, Some, None, Result, Ok, Err, IfErr, Bool, true, false, refl, ap, sym, subst, arith, nat_lt, nat_le, is_none, if◌then◌else◌, ⊎_elim}
 use Rattle.std.specs.Prelude.{IsSome, not, ◌||◌, ◌==◌, option_map}
 use Rattle.std.proofs.lemmas.Bool.{leb-true, leb-false}
 use native.Mathlib.Decide.{dec_lt}

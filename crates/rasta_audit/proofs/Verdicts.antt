@@ -1,8 +1,8 @@
 -- Verdicts: what they are, that a capture and a certificate have one, and their texts in parts.
-use Rattle.std.proofs.Common.{◌≡◌, ◌⊎◌, inl, inr, ℕ, suc, ◌+◌, ◌-◌, ◌<◌, ◌≤◌, true, false, List, [], ◌∷◌, ◌++◌, length, drop, get_or, map, Option, Result, Ok, Err, OnOk, OnErr, IfErr, IfOk, refl, ap, subst, sym, ◌∙◌, ⊎_elim, arith, append-nil, length-drop}
+use Rattle.std.proofs.Common.{◌≡◌, ◌⊎◌, inl, inr, ℕ, suc, ◌+◌, ◌-◌, ◌<◌, ◌≤◌, false, List, [], ◌∷◌, ◌++◌, length, drop, get_or, map, Option, Result, Ok, Err, OnOk, OnErr, IfErr, IfOk, refl, ap, subst, sym, ◌∙◌, ⊎_elim, arith, length-drop}
 use Rattle.std.specs.Prelude.{◌≢◌, decimal}
 use Rattle.std.specs.List.{flat_map}
-use Rattle.std.specs.Io.KnownBytes.{Appends, Consumes, IsAtEnd}
+use Rattle.std.specs.Io.KnownBytes.{Appends, Consumes}
 use Rattle.std.proofs.KnownBytes.{Appends-nil}
 use Rattle.std.proofs.Math.Seq.{drop-cons}
 use Rattle.std.proofs.lemmas.List.{nil_from_length, length-map}
@@ -25,7 +25,7 @@ use Rattle.rasta_audit.specs.declared.verdict.Verdict.{Verdict}
 use Rattle.rasta_audit.specs.declared.verdict.Verdict.TheVariants as verdicts
 use Rattle.rasta_audit.specs.Judged.{HasToldRun, status_of_verdict, text_of_verdict}
 use Rattle.rasta_show.specs.Lines.{in_front, message_text, refused_line}
-use Rattle.rasta_show.specs.Runs.{IsRunFault, MayFollow}
+use Rattle.rasta_show.specs.Runs.{IsRunFault}
 use Rattle.rasta_audit.specs.RunText.{run_text}
 use Rattle.rasta_audit.specs.Verdict.{BeginsVerdict, IsVerdict, WritesVerdict, capture_refused, certificate_refused, script_refused, explained, explained_line, explained_text, taken_count_line, taken_line, taken_lines, taken_text}
 
