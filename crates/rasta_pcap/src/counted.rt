@@ -126,6 +126,20 @@ impl<D: Write> Sink for Counted<D> {
     }
 }
 
+impl<S: Source> Source for &mut S {
+    ghost remaining = { λ s. S.remaining s.now };
+
+    ghost failure_count = { λ s. S.failure_count s.now };
+
+    fn read(&mut self, buf: &mut [u8]) -> io::Result<usize> {
+        Source::read(&mut **self, buf)
+    }
+
+    fn failures(&self) -> u64 {
+        Source::failures(&**self)
+    }
+}
+
 /// All bytes up to the end of input.
 ///
 /// Refused by [`Fault::NO_MEMORY`] and [`Fault::READ_FAILED`]; nothing is handed out then.
