@@ -1,5 +1,5 @@
 -- What starts a request, and which request is answered.
-use Rattle.std.proofs.Common.{◌≡◌, ℕ, zero, suc, ◌+◌, ◌-◌, ◌*◌, ◌<◌, ◌≤◌, ◌⊎◌, Bool, true, false, List, [], ◌∷◌, length, Option, Some, None, slice_get, take, refl, ap, sym, ◌∙◌, arith, inl, inr, subst, ⊎_elim}
+use Rattle.std.proofs.Common.{◌≡◌, ℕ, zero, suc, ◌+◌, ◌*◌, ◌<◌, ◌≤◌, ◌⊎◌, Bool, true, false, List, [], ◌∷◌, length, Option, Some, None, slice_get, take, refl, ap, sym, ◌∙◌, arith, inl, inr, subst, ⊎_elim}
 use Rattle.std.specs.Prelude.{nat_lt, nat_le, ◌&&◌, ◌==◌}
 use Rattle.std.proofs.lemmas.Bool.Decides.{nat_tests}
 use Rattle.std.proofs.lemmas.Option.{slice_get_within}
@@ -234,13 +234,11 @@ module _ (p : Parameters) (start : Option ℕ) (side : Side) (quiet_sn : Option 
         let nm = names q m there (omega (arith, ahead)) (omega arith) in
         let a = accepted_same in
         let c : b.end.params.n_sendmax ≡ p.n_sendmax = ap (λ (z : Parameters). z.n_sendmax) r.params in
-        reaches q (first_tried b) b.end.state.accepted b.end.params.n_sendmax (omega (arith, s, nm, a, c))
+        let z : q ≤ b.end.state.accepted + 10 * b.end.params.n_sendmax = omega (arith, s, nm, a, c) in
+        omega (arith, z)
       where
         ahead_most : (s n : ℕ) → (nat_lt 0 s && nat_le s n) ≡ true → s ≤ n
         ahead_most s n h = grind (arith, nat_tests)
-
-        reaches : (q f a n : ℕ) → q ≤ a + 10 * n → q < f + (suc (a + 10 * n) - f)
-        reaches q f a n l = omega arith
 
     -- the builder takes what makes a request owed
     pub gap_found : is_gap row ≡ true → is_ahead p e m.pdu ≡ true → (b2 : Built) × (take_trigger sent slot RetransmissionRequest b ≡ Some b2) × Found b2

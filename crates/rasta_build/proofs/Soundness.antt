@@ -308,7 +308,7 @@ module _ (p : Parameters) (side : Side) (n : ℕ) (own peer : List FirstCopy) (f
 
     make_read : (b b' : Built) → Read b → (o : Option Why) → ((w : Why) → o ≡ Some w → IsReason w) → Explaining.make_for slot c.pdu.safety o b ≡ Some b' → Next b'
     make_read b b' r None wb h = absurd (cc)
-    make_read b b' r (Some why) wb h = when_read why b b' _ r (wb why refl) (λ z. later_read why b b' r (wb why refl) _ z) _ (λ m g. clock_bound _ _ m g) h
+    make_read b b' r (Some why) wb h = when_read why b b' _ r (wb why refl) (λ z. later_read why b b' r (wb why refl) (clock_of b.clock c.pdu.safety.ts) z) _ (λ m g. clock_bound _ _ m g) h
 
     -- what explains it
     pub explain_read : ((i j : ℕ) (a b : FirstCopy) → slice_get peer i ≡ Some a → slice_get peer j ≡ Some b → i ≤ j → a.place ≤ b.place) → (b b' : Built) → Read b → Explaining.explain peer slot c.pdu.safety b ≡ Some b' → Next b'

@@ -1,12 +1,14 @@
--- What completeness asks of an answer, tried on one that gives up.
-use Rattle.std.proofs.Common.{◌≡◌, [], Err, None, refl, ap, arith}
+-- What completeness asks of an answer, tried on one that gives up, and on two that name a place.
+use Rattle.std.proofs.Common.{◌≡◌, ℕ, ◌<◌, ◌≤◌, List, [], length, Err, None, refl, ap, arith}
 use Rattle.rasta_pcap.specs.Fault.{fault_at, no_memory, not_found}
 use Rattle.rasta_pcap.specs.declared.fault.Fault.{Fault}
 use Rattle.rasta_pcap.specs.declared.fault.Side.{Side}
 use Rattle.rasta_pcap.specs.declared.fault.Side.TheVariants.{Client, Server}
 use Rattle.rasta_pdu.specs.Params.{Parameters}
-use Rattle.rasta_check.specs.Crossing.{Sent}
-use Rattle.rasta_check.specs.World.{first_world, begins}
+use Rattle.rasta_udp.specs.Frame.{Packet}
+use Rattle.rasta_check.specs.Crossing.{CrossRecorded, FirstCopy, Sent}
+use Rattle.rasta_check.specs.Theorem.{most_packets}
+use Rattle.rasta_check.specs.World.{first_world, begins, most_sent}
 use Rattle.rasta_build.specs.Completeness.{IsBounded, CanCross, IsComplete}
 
 -- where nothing crossed, nothing was sent
@@ -43,3 +45,15 @@ gives_up_always p none complete =
     let e : fault_at not_found 1 ≡ no_memory = complete.explains [] (nothing_sent p Client) (nothing_sent p Server) (nothing_crosses p none) in
     let n : not_found ≡ 1 = ap (λ (x : Fault). x.number) e in
     omega arith
+
+-- complete answers that find nothing name one place
+pub one_place : (p : Parameters) (packets : List Packet) (c s : List FirstCopy) (m n : ℕ) → CrossRecorded p packets → Sent p packets Client c → Sent p packets Server s
+    → length packets ≤ most_packets → length c ≤ most_sent → length s ≤ most_sent
+    → IsComplete p c s (Err (fault_at not_found m)) → IsComplete p c s (Err (fault_at not_found n)) → m ≡ n
+one_place p packets c s m n recorded hc hs most lc ls a b = omega (arith, below, above)
+  where
+    below : m < n → ⊥
+    below l = (let z : m < m = (a.exact packets m m recorded hc hs most lc ls refl).0 ((b.exact packets n m recorded hc hs most lc ls refl).1 l) in omega (arith, z))
+
+    above : n < m → ⊥
+    above l = (let z : n < n = (b.exact packets n n recorded hc hs most lc ls refl).0 ((a.exact packets m n recorded hc hs most lc ls refl).1 l) in omega (arith, z))
