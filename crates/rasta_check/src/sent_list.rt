@@ -6,7 +6,7 @@ ghost use Rattle.rasta_check.specs.Lists.{IsOrdered, copy_of, position_of_number
 use rasta_pdu::Pdu;
 
 /// The first copies of the packets that one side sent, in the order in which they crossed: each has a
-/// place among the packets, counted from 0, and a PDU, whose slices are slices of the capture.
+/// place among the packets, counted from 0, and a PDU, whose slices are slices of the capture or of a store.
 ///
 /// Positions count from 0. Three laws hold: places rise, redundancy numbers rise by 1 modulo 2^32, and each
 /// call is exact. No call takes memory.
