@@ -1,4 +1,6 @@
 //! The four commands over captures that come in pieces, and what they have read when.
+ghost use Rattle.std.specs.Prelude.{None};
+
 use crate::cases::{Case, Command, case_of, run, told};
 use crate::show_tests::parameters;
 use crate::verdict_rows::ROWS;

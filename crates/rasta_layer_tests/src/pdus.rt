@@ -79,8 +79,11 @@ fn is_written(alloc: Global, params: &Params, line: &str, bytes: &[u8]) -> Optio
 
 // Whether the datagram of a line is read as this text, and has the type of the line.
 fn is_read(alloc: Global, params: &Params, line: &str, bytes: &[u8], text: &str) -> Option<bool> {
-    let pdu = decode(params, side_of(line), bytes).ok()?;
-    let again = read_decoded(params, side_of(line), bytes);
+    let side = side_of(line);
+    let Ok(pdu) = decode(params, side, bytes) else {
+        return None;
+    };
+    let again = read_decoded(params, side, bytes);
     let number: u16 = line.split(' ').nth(2)?.parse().ok()?;
     Some(
         pdu.kind().number() == number

@@ -1,4 +1,6 @@
 //! Stores of captures at the limits.
+ghost use Rattle.std.specs.Prelude.{None};
+
 use rasta_check::{Fault, Store, store};
 use rasta_pcap::Counted;
 use rasta_rows::file_of;

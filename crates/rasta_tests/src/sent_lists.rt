@@ -112,7 +112,7 @@ fn has_first_copies(alloc: Global, stored: &Store) -> Option<bool> {
             && are_members(
                 alloc,
                 &stored.client(),
-                "0 7 (0, 0), 3 8 (1, 1), (None, None)",
+                "0 7 (0, 0), 3 8 (1, 1), (None, Some(1))",
             )?
             && are_members(alloc, &stored.server(), "2 40 (0, 0), (None, None)")?,
     )
