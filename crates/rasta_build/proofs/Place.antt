@@ -88,7 +88,7 @@ start_clock slack (Some q) h Server = (let z = h.server.clock_most in omega (ari
 -- ---- what a pass has explained crossed in front of what it hasn't
 
 -- a place between them
-record IsFront (c s : List FirstCopy) (t : Pass) : Type 0 where
+pub record IsFront (c s : List FirstCopy) (t : Pass) : Type 0 where
   pub low : ℕ
   pub passed : (i : ℕ) (d : FirstCopy) → i < t.made → slice_get c i ≡ Some d → d.place < low
   pub their_passed : (i : ℕ) (d : FirstCopy) → i < t.answered → slice_get s i ≡ Some d → d.place < low
@@ -177,7 +177,7 @@ module _ (p : Parameters) (packets : List Packet) (c s : List FirstCopy) (hc : I
       by true e h = (let l = less_is d.place f.place e in client_front t t' d x (λ g k. (let v = same_member s t.answered f g y k in omega (arith, v, l))) r _ h)
       by false e h = (let l = server_first t d f x y e in server_front t t' f y (λ g k. (let v = same_member c t.made d g x k in omega (arith, v, l))) r _ h)
 
-  passes_front : (k : ℕ) (t : Pass) → passes p c s k ≡ Ok t → IsFront c s t
+  pub passes_front : (k : ℕ) (t : Pass) → passes p c s k ≡ Ok t → IsFront c s t
   passes_front zero t h =
       let z : first_pass p ≡ t = cc in
       subst (λ (y : Pass). IsFront c s y) z (record { low = 0; passed = λ i d l g. absurd (omega (arith, l)); their_passed = λ i d l g. absurd (omega (arith, l)); next = λ d g. omega arith; their_next = λ d g. omega arith; most = omega arith; their_most = omega arith })
