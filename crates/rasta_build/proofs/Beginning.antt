@@ -17,6 +17,7 @@ use Rattle.rasta_build.proofs.Readiness.{IsReady, IsTrail}
 use Rattle.rasta_build.proofs.Stations.{Follows}
 use Rattle.rasta_build.proofs.Comparisons.{is_same}
 
+-- an end at the start
 pub record FirstEnd (q : Option Quiet) (s : Side) (e : EndState) : Type 0 where
   pub owed : e.owed ≡ []
   pub asks : e.asks ≡ []

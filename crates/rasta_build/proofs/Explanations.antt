@@ -382,7 +382,7 @@ module _ (p : Parameters) (start : Option ℕ) (side : Side) (quiet_sn : Option 
     explains_taking = ⊎_elim (λ (s : e ≡ lag.base). settled s)
         (λ (q : Pending p lag.base lag.mark e taken ms). ⊎_elim (λ (g : is_gap q.row ≡ true). gap_pending q g) (λ g. request_pending q g) q.kind) lag.stage
 
-  -- the builder explains the make, and is ready behind it, or the connection is over
+  -- the builder explains the make, and is ready after it, or the connection is over
   pub explains : Explains
   explains = by_need (has_to_take b.side b.end.state x.kind) refl
     where

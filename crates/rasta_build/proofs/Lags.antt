@@ -20,6 +20,7 @@ use Rattle.rasta_build.proofs.Comparisons.{is_same, is_other, was_same}
 
 -- ---- catching up by one position more
 
+-- acceptance up to before a position, by whether nothing is to be accepted, and whether the end waits for a response
 abbrev pub catch_by : Bool → Bool → List FirstCopy → ℕ → ℕ → Built → Option Built
 catch_by d rr sent slot behind b =
     if d then Some b else accept_range sent slot behind b (first_acceptable rr b.peer.quiet_sn sent b.end.state.accepted (behind - b.end.state.accepted))
@@ -110,6 +111,8 @@ pub record Pending (p : Parameters) (base : EndState) (mark : ℕ) (e : EndState
       × (length (effect p row base m.pdu).asks ≤ number is_retransmission_request (take (suc position) ms)))
   pub after : e ≡ effect p row base m.pdu
 
+-- the builder stands at the last make of the run's end, and can catch up with a base, which the run's end is, or was before something ahead
+-- made something owed
 pub record IsLag (p : Parameters) (start : Option ℕ) (side : Side) (quiet_sn : Option ℕ) (e : EndState) (taken : ℕ) (ms : List Made) (sent : List FirstCopy) (b : Built) : Type 0 where
   pub base : EndState
   pub mark : ℕ

@@ -47,6 +47,7 @@ low_quiet p (Some q) Server h = (let c = h.server in low_by p q.server.deadline 
 
 -- ---- both stations
 
+-- the builder's end follows the end of a side from its start
 abbrev pub FollowsAt : Parameters → Side → EndState → ℕ → List Made → List FirstCopy → Built → Type 0
 FollowsAt p s e taken ms sent b = Follows p (start_of p s).deadline s (peer_quiet_sn p.quiet s) (base p) e taken ms sent b
 
@@ -71,7 +72,7 @@ pub record Stays (p : Parameters) (s r : Side) (ys : List Packet) (a' b : Statio
   pub theirs : FollowsAt p r b.state b.taken a'.state.made big_own bb
 
 -- a PDU was made, and is explained
-pub record Made_one (p : Parameters) (s r : Side) (xs ys : List Packet) (a' b : Station) (own peer big_own big_peer : List FirstCopy) (ba bb : Built) : Type 0 where
+pub record MadeOne (p : Parameters) (s r : Side) (xs ys : List Packet) (a' b : Station) (own peer big_own big_peer : List FirstCopy) (ba bb : Built) : Type 0 where
   pub copy : FirstCopy
   pub place : copy.place ≡ length xs
   pub longer : length ys ≡ suc (length xs)
@@ -97,7 +98,7 @@ pub record Stands (p : Parameters) (s r : Side) (xs : List Packet) (a b : Statio
 pub moved : (p : Parameters) (s r : Side) (xs ys : List Packet) (a a' b : Station) (own peer big_own big_peer : List FirstCopy) (ba bb : Built) → AreParameters p → r ≡ other_side s → (s ≡ r → ⊥) → Moves p b xs a a' ys
     → Stands p s r xs a b own peer → length a'.state.made ≤ 1000001 → Valued a'.state → a'.state.clock < 2 ^ 64 → Begins big_peer peer (length xs)
     → FollowsAt p s a.state a.taken b.state.made big_peer ba → FollowsAt p r b.state b.taken a.state.made big_own bb
-    → Stays p s r ys a' b own peer big_own big_peer ba bb ⊎ Made_one p s r xs ys a' b own peer big_own big_peer ba bb
+    → Stays p s r ys a' b own peer big_own big_peer ba bb ⊎ MadeOne p s r xs ys a' b own peer big_own big_peer ba bb
 moved p s r xs ys a a' b own peer big_own big_peer ba bb valid turned apart (makes x why after channel reserve check bytes mk sp rec) h few' values' bounded begun fa fb =
     let e : EndState = a.state in
     let g = h.sends in

@@ -53,6 +53,7 @@ onward : (p : Parameters) (v w : World) → Step p v w → Onward v w
 onward p v w (client_moves {a = a} {after = ys} m) = (let h = move_on p v.server v.client a v.crossed ys m in record { tail = h.0; crossed = h.1; client = h.2; server = omega arith })
 onward p v w (server_moves {a = a} {after = ys} m) = (let h = move_on p v.client v.server a v.crossed ys m in record { tail = h.0; crossed = h.1; client = omega arith; server = h.2 })
 
+-- the clocks of both ends are within the limit
 abbrev Clocks : World → Type 0
 Clocks w = (w.client.state.clock < 2 ^ 64) × (w.server.state.clock < 2 ^ 64)
 

@@ -45,7 +45,7 @@ leads_rise p n own peer u v (x ∷ es) f = by x f.0 f.1 (leads_rise p n own peer
     by x m (takes_next slot position c e' a b g d f t) l = (let y = l.0 in let z = l.1 in (omega (arith, y, a), omega (arith, z)))
     by x m (makes_next c clock why e' a g k) l = (let y = l.0 in let z = l.1 in (omega (arith, y, a), omega (arith, z)))
 
--- a member of a place in front is one of the beginning
+-- a member that crossed before a place is one of the beginning
 in_beginning : (big own : List FirstCopy) (n i : ℕ) (c : FirstCopy) → Begins big own n → ((j : ℕ) (d : FirstCopy) → length own ≤ j → slice_get big j ≡ Some d → n ≤ d.place) → slice_get big i ≡ Some c → c.place < n → slice_get own i ≡ Some c
 in_beginning big own n i c b later g l =
     elim (dec_lt i (length own)) [
@@ -53,7 +53,7 @@ in_beginning big own n i c b later g l =
       | no y ↦ absurd (let z = later i c (omega (arith, y)) g in omega (arith, z, l))
     ]
 
--- what leads to a level leads there over the beginnings that crossed in front of it
+-- what leads to a level leads there over the beginnings that crossed before it
 module _ (p : Parameters) (n q : ℕ) (own peer mine theirs : List FirstCopy) (bm : Begins own mine q) (bt : Begins peer theirs q)
     (later : (j : ℕ) (d : FirstCopy) → length theirs ≤ j → slice_get peer j ≡ Some d → q ≤ d.place) where
   leads_cut : (u v : Cursor) (es : List Entry) → Leads p n own peer u es v → v.level ≤ q → v.made ≤ length mine → Leads p q mine theirs u es v
@@ -85,10 +85,10 @@ start_clock slack None h Server = omega arith
 start_clock slack (Some q) h Client = (let z = h.client.clock_most in omega (arith, z))
 start_clock slack (Some q) h Server = (let z = h.server.clock_most in omega (arith, z))
 
--- ---- what a pass has explained crossed in front of what it hasn't
+-- ---- what a pass has explained crossed before what it hasn't
 
 -- a place between them
-record IsFront (c s : List FirstCopy) (t : Pass) : Type 0 where
+pub record IsFront (c s : List FirstCopy) (t : Pass) : Type 0 where
   pub low : ℕ
   pub passed : (i : ℕ) (d : FirstCopy) → i < t.made → slice_get c i ≡ Some d → d.place < low
   pub their_passed : (i : ℕ) (d : FirstCopy) → i < t.answered → slice_get s i ≡ Some d → d.place < low
@@ -158,7 +158,7 @@ module _ (p : Parameters) (packets : List Packet) (c s : List FirstCopy) (hc : I
         their_most = (let v = slice_get_within s t.answered d g in omega (arith, v));
       })
 
-  -- the server's next copy crossed in front of the client's, where it isn't the other way
+  -- the server's next copy crossed before the client's, where it isn't the other way
   server_first : (t : Pass) (d f : FirstCopy) → slice_get c t.made ≡ Some d → slice_get s t.answered ≡ Some f → nat_lt d.place f.place ≡ false → f.place < d.place
   server_first t d f x y e =
       let l = not_less d.place f.place e in
@@ -177,7 +177,7 @@ module _ (p : Parameters) (packets : List Packet) (c s : List FirstCopy) (hc : I
       by true e h = (let l = less_is d.place f.place e in client_front t t' d x (λ g k. (let v = same_member s t.answered f g y k in omega (arith, v, l))) r _ h)
       by false e h = (let l = server_first t d f x y e in server_front t t' f y (λ g k. (let v = same_member c t.made d g x k in omega (arith, v, l))) r _ h)
 
-  passes_front : (k : ℕ) (t : Pass) → passes p c s k ≡ Ok t → IsFront c s t
+  pub passes_front : (k : ℕ) (t : Pass) → passes p c s k ≡ Ok t → IsFront c s t
   passes_front zero t h =
       let z : first_pass p ≡ t = cc in
       subst (λ (y : Pass). IsFront c s y) z (record { low = 0; passed = λ i d l g. absurd (omega (arith, l)); their_passed = λ i d l g. absurd (omega (arith, l)); next = λ d g. omega arith; their_next = λ d g. omega arith; most = omega arith; their_most = omega arith })
@@ -236,7 +236,7 @@ as_many p xs side big own k h b most front next =
       ]
     ]
 
--- the packets in front
+-- the packets before a place
 recorded_front : (p : Parameters) (xs ys packets : List Packet) → packets ≡ xs ++ ys → CrossRecorded p packets → CrossRecorded p xs
 recorded_front p xs ys packets e h place packet g = h place packet (subst (λ (l : List Packet). slice_get l place ≡ Some packet) (sym e) (get_front xs ys place packet g))
 

@@ -25,9 +25,9 @@ use Rattle.rasta_build.proofs.Times.{timed, deadline_by, effect_timed, IsNear, n
 use Rattle.std.proofs.lemmas.List.{append-nil}
 use Rattle.rasta_build.proofs.Comparisons.{not_lt}
 
--- ---- what is owed behind the units
+-- ---- what is owed after the units
 
--- behind each unit that is owed stand the later ones, and `trail` things
+-- after each unit that is owed come the later ones, and `trail` things
 abbrev pub IsTrail : ℕ → ℕ → List Owed → Type 0
 IsTrail offered trail [] = Unit {0}
 IsTrail offered trail (OweResend k ∷ os) = (k + suc (length os) ≡ offered + trail) × (k ≤ offered) × IsTrail offered trail os
@@ -106,7 +106,7 @@ ready_step p start side quiet_sn e taken ms b r slot q x row l free is =
     let w' : take_row b.end.params b.end.state x.safety ≡ row = ap (λ (z : Parameters). take_row z b.end.state x.safety) r.params ∙ w in
     step_is (nat_lt q b.next_take) (take_fault b.end.params b.end.state b.end.state.clock) (take_row b.end.params b.end.state x.safety) row slot q x b (not_lt q b.next_take (let z = r.next in omega (arith, z))) t'' w'
 
--- how many things stand behind the units that a row owes
+-- how many things come after the units that a row owes
 abbrev pub trail_of : TakeRow → ℕ
 trail_of RequestedAhead = 1
 trail_of _ = 0
@@ -132,7 +132,7 @@ trail_waiting true true ph e = rw e refl
 trail_waiting true false ph e = refl
 trail_waiting false j ph e = refl
 
--- the trail behind the take by a row
+-- the trail after the take by a row
 pub trail_row : (p : Parameters) (e : EndState) (x : SafetyPdu) (row : TakeRow) → ConveysNoMore e → e.owed ≡ [] → take_row p e x ≡ Some row
     → IsTrail (effect p row e x).offered (trail_behind (progress_of e) (progress_of (effect p row e x)) x) (effect p row e x).owed
 trail_row p e x Opened few free is = tt
@@ -170,7 +170,7 @@ least_next q = omega arith
 next_is : (q : ℕ) → q < 1000001 → min (q + 1) 18446744073709551615 ≡ suc q
 next_is q l = omega arith
 
--- and is ready behind it
+-- and is ready after it
 pub ready_effect : (p : Parameters) (start : Option ℕ) (side : Side) (quiet_sn : Option ℕ) (e : EndState) (taken : ℕ) (ms : List Made) (b : Built) → IsReady p start side quiet_sn e taken ms b
     → (slot q : ℕ) (x : RedundancyPdu) (row : TakeRow) → q < 1000001 → e.owed ≡ [] → ConveysNoMore e → take_row p e x.safety ≡ Some row
     → length (effect p row e x.safety).asks ≤ number is_retransmission_request (take (suc q) ms)

@@ -24,7 +24,7 @@ use Rattle.rasta_build.specs.Explaining.{taken_by, try_at, scan, first_tried, ta
 use Rattle.rasta_build.proofs.Readiness.{IsReady, ConveysNoMore, ready_step, ready_effect}
 use Rattle.rasta_build.proofs.Comparisons.{lt_is}
 
--- the peer's PDUs crossed in front of a place, and are found where they stand
+-- the peer's PDUs crossed before a place, and are found where they stand
 abbrev pub AreCopies : Option ℕ → List FirstCopy → List Made → ℕ → ℕ → Type 0
 AreCopies quiet_sn sent ms base n = (i : ℕ) (m : Made) → slice_get ms i ≡ Some m → base ≤ i → (c : FirstCopy) × (copy_at quiet_sn sent i ≡ Some c) × (c.pdu.safety ≡ m.pdu) × (c.place < n)
 

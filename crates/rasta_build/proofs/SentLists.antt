@@ -59,7 +59,7 @@ cut p (y ∷ ys) xs s big h =
 pub begun_get : (big own : List FirstCopy) (n i : ℕ) (c : FirstCopy) → Begins big own n → slice_get own i ≡ Some c → slice_get big i ≡ Some c
 begun_get big own n i c b g = subst (λ (l : List FirstCopy). slice_get l i ≡ Some c) (sym b.whole) (get_front own b.later i c g)
 
--- the member behind those that crossed
+-- the member after those that crossed
 get_past : (xs ys : List FirstCopy) → slice_get (xs ++ ys) (length xs) ≡ slice_get ys 0
 get_past [] ys = refl
 get_past (x ∷ xs) ys = get_past xs ys
@@ -135,7 +135,7 @@ sent_numbers p packets side own h i a g = (let l = slice_get_within own i a g in
 pub sent_within : (p : Parameters) (packets : List Packet) (side : Side) (own : List FirstCopy) → IsSent p packets side own → (i : ℕ) (a : FirstCopy) → slice_get own i ≡ Some a → a.place < length packets
 sent_within p packets side own h i a g = (let f = h.firsts i a g in slice_get_within packets a.place f.0 f.1)
 
--- members behind those that crossed cross later
+-- members after those that crossed cross later
 pub later_place : (p : Parameters) (packets : List Packet) (side : Side) (big own : List FirstCopy) (n j : ℕ) (d : FirstCopy) → IsSent p packets side big → Begins big own n → length own ≤ j → slice_get big j ≡ Some d → n ≤ d.place
 later_place p packets side big own n j d h b l g =
     let w = slice_get_within big j d g in

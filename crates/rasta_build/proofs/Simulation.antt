@@ -17,7 +17,7 @@ use Rattle.rasta_build.specs.Choices.{SidedCopy, first_of}
 use Rattle.rasta_build.specs.Explaining.{explain}
 use Rattle.rasta_build.specs.Proposing.{Pass, one_more, pass_on, passes, copy_goes, client_goes, server_goes}
 use Rattle.rasta_build.proofs.SentLists.{Begins, begun_get, begun_next}
-use Rattle.rasta_build.proofs.Moves.{FollowsAt, Stays, Made_one, Stands, moved}
+use Rattle.rasta_build.proofs.Moves.{FollowsAt, Stays, MadeOne, Stands, moved}
 use Rattle.rasta_build.proofs.Comparisons.{lt_is, not_lt}
 
 -- the pass has come as far as the run
@@ -98,7 +98,7 @@ module _ (p : Parameters) (valid : AreParameters p) (c s : List FirstCopy) (v w 
   After own peer = Keeps p c s own peer w
 
   -- the client made one
-  client_made : (st : w.server ≡ v.server) → Made_one p Client Server v.crossed w.crossed w.client v.server gv.own gv.peer c s k.pass.own k.pass.other → Keeps p c s gw.own gw.peer w
+  client_made : (st : w.server ≡ v.server) → MadeOne p Client Server v.crossed w.crossed w.client v.server gv.own gv.peer c s k.pass.own k.pass.other → Keeps p c s gw.own gw.peer w
   client_made st m =
       let own : List FirstCopy = gv.own ++ m.copy ∷ [] in
       let same = same_lists own gv.peer m.sent m.their_sent in
@@ -134,7 +134,7 @@ module _ (p : Parameters) (valid : AreParameters p) (c s : List FirstCopy) (v w 
         server = subst (λ (z : Station). FollowsAt p Server z.state z.taken w.client.state.made c k.pass.other) (sym st) m.theirs;
       })
 
-  server_made : (st : w.client ≡ v.client) → Made_one p Server Client v.crossed w.crossed w.server v.client gv.peer gv.own s c k.pass.other k.pass.own → Keeps p c s gw.own gw.peer w
+  server_made : (st : w.client ≡ v.client) → MadeOne p Server Client v.crossed w.crossed w.server v.client gv.peer gv.own s c k.pass.other k.pass.own → Keeps p c s gw.own gw.peer w
   server_made st m =
       let peer : List FirstCopy = gv.peer ++ m.copy ∷ [] in
       let same = same_lists gv.own peer m.their_sent m.sent in
@@ -179,12 +179,12 @@ step_keeps p valid c s v w (client_moves {a = a} {after = ys} m) gv gw hv hw bv 
     let st = stands_client p v hv bv gv in
     ⊎_elim
     (λ (y : Stays p Client Server ys a v.server gv.own gv.peer c s k.pass.own k.pass.other). client_stays p valid c s v w gv gw hv hw bv bw clocks cv sv cw sw k refl y)
-    (λ (y : Made_one p Client Server v.crossed ys a v.server gv.own gv.peer c s k.pass.own k.pass.other). client_made p valid c s v w gv gw hv hw bv bw clocks cv sv cw sw k refl y)
+    (λ (y : MadeOne p Client Server v.crossed ys a v.server gv.own gv.peer c s k.pass.own k.pass.other). client_made p valid c s v w gv gw hv hw bv bw clocks cv sv cw sw k refl y)
     (moved p Client Server v.crossed ys v.client a v.server gv.own gv.peer c s k.pass.own k.pass.other valid refl (λ e. cc (e)) m st few.0 hw.values clocks.0 sv k.client k.server)
 step_keeps p valid c s v w (server_moves {a = a} {after = ys} m) gv gw hv hw bv bw clocks cv sv cw sw k =
     let few = few_made p w bw in
     let st = stands_server p v hv bv gv in
     ⊎_elim
     (λ (y : Stays p Server Client ys a v.client gv.peer gv.own s c k.pass.other k.pass.own). server_stays p valid c s v w gv gw hv hw bv bw clocks cv sv cw sw k refl y)
-    (λ (y : Made_one p Server Client v.crossed ys a v.client gv.peer gv.own s c k.pass.other k.pass.own). server_made p valid c s v w gv gw hv hw bv bw clocks cv sv cw sw k refl y)
+    (λ (y : MadeOne p Server Client v.crossed ys a v.client gv.peer gv.own s c k.pass.other k.pass.own). server_made p valid c s v w gv gw hv hw bv bw clocks cv sv cw sw k refl y)
     (moved p Server Client v.crossed ys v.server a v.client gv.peer gv.own s c k.pass.other k.pass.own valid refl (λ e. cc (e)) m st few.1 hw.their_values clocks.1 cv k.server k.client)

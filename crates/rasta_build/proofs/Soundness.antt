@@ -1,4 +1,4 @@
--- What is proposed fits.
+-- What a pass has explained, its two scripts lead to.
 use Rattle.std.proofs.Common.{◌≡◌, ℕ, zero, suc, ◌+◌, ◌-◌, ◌^◌, ◌<◌, ◌≤◌, Bool, true, false, List, [], ◌∷◌, ◌++◌, length, Option, Some, None, Result, Ok, Err, slice_get, refl, ap, sym, ◌∙◌, arith, subst}
 use Rattle.std.specs.Prelude.{nat_lt, nat_le, if◌then◌else◌, ◌&&◌, ◌||◌, not, ◌==◌, option_map}
 use Rattle.std.proofs.lemmas.Bool.Decides.{nat_tests}
@@ -32,7 +32,7 @@ use Rattle.rasta_build.specs.Clock.{clock_of}
 use Rattle.rasta_build.specs.Explaining
 use Rattle.rasta_build.proofs.Comparisons.{less_is, not_less}
 
--- the script leads from the start to the builder's end, which has made so many PDUs; the next entry may stand behind this many packets
+-- the script leads from the start to the builder's end, which has made so many PDUs; the next entry may stand after this many packets
 pub record IsRead (p : Parameters) (side : Side) (n : ℕ) (own peer : List FirstCopy) (k level : ℕ) (b : Built) : Type 0 where
   pub at : Cursor
   pub leads : Leads p n own peer (at_start (start_of p side)) b.script at

@@ -38,11 +38,13 @@ use Rattle.rasta_build.proofs.LagTakes.{lag_row}
 use Rattle.rasta_build.proofs.Explanations.{IsOrigin, base_accepted, explains, gap_owes, ahead_owes}
 use Rattle.rasta_build.proofs.Comparisons.{is_same}
 
+-- the builder's end lags behind a run's end, and was the same, but for its times, at the last make
 pub record Live (p : Parameters) (start : Option ℕ) (side : Side) (quiet_sn : Option ℕ) (base0 : ℕ) (e : EndState) (taken : ℕ) (ms : List Made) (sent : List FirstCopy) (b : Built) : Type 0 where
   pub lag : IsLag p start side quiet_sn e taken ms sent b
   pub org : IsOrigin p start side quiet_sn e taken ms b
   pub low : base0 ≤ b.end.state.accepted
 
+-- the run's end has ended, or the builder's end follows it; a client that has made nothing is closed, and has no deadline
 pub record Follows (p : Parameters) (start : Option ℕ) (side : Side) (quiet_sn : Option ℕ) (base0 : ℕ) (e : EndState) (taken : ℕ) (ms : List Made) (sent : List FirstCopy) (b : Built) : Type 0 where
   pub of_side : e.side ≡ side
   pub unopened : e.side ≡ Client → e.made ≡ [] → (is_closed e.phase ≡ true) × (e.deadline ≡ None)
@@ -84,7 +86,7 @@ no_start : (ph : Phase) → is_connected ph ≡ true → is_start ph ≡ true �
 no_start Start r h = cc
 no_start _ r h = cc
 
--- a client that is in Start behind a make was Closed
+-- a client that is in Start after a make was Closed
 start_by_opening : (s : Side) (ph : Phase) (why : Why) (k : Kind) (os : List Owed) (row : MakeRow) → Making s ph why k os row → is_client s ≡ true → is_start (phase_after row ph) ≡ true → ph ≡ Closed
 start_by_opening s ph why k os row opening c h = refl
 start_by_opening s ph why k os row response c h = absurd (cc)
@@ -252,7 +254,7 @@ module _ (p : Parameters) (start : Option ℕ) (side : Side) (quiet_sn : Option 
         low = omega (arith, a, acc, least);
       }
 
-  -- a make keeps it, behind what explains it
+  -- a make keeps it, after what explains it
   pub follows_make : Follows p start side quiet_sn base0 e t ms sent b → (b' : Built) × (explain sent place x b ≡ Some b') × Follows p start side quiet_sn base0 (after_make e x k why) t ms sent b'
   follows_make h = ⊎_elim
       (λ (over : has_ended e ≡ true). absurd (let ps = passed p e x k why ok in let z = ps.open_yet in cc))

@@ -31,6 +31,11 @@ abbrev pub IsExplained : Parameters → ℕ → List FirstCopy → List FirstCop
 IsExplained p packets c s (Ok scripts) = IsCertificate scripts × BothFit p packets c s scripts
 IsExplained p packets c s (Err fault) = fault ≡ no_memory
 
+-- a certificate whose scripts both fit what crossed, or that nothing is found at a place
+abbrev pub IsProposal : Parameters → ℕ → List FirstCopy → List FirstCopy → Result Scripts Fault → Type 0
+IsProposal p packets c s (Ok scripts) = IsCertificate scripts × BothFit p packets c s scripts
+IsProposal p packets c s (Err fault) = (place : ℕ) × (fault ≡ fault_at not_found place)
+
 -- the answer that nothing is found at a place, counted from 1
 abbrev pub IsNotFound : Result Scripts Fault → ℕ → Type 0
 IsNotFound answer place = answer ≡ Err (fault_at not_found place)

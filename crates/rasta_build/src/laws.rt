@@ -1,10 +1,11 @@
-//! The builder as a function of definitions is complete: a public function without a body, whose contract
-//! is the law.
-ghost use Rattle.std.specs.Prelude.{List};
+//! Laws on the builder as a function of definitions: public functions without a body, whose contracts are
+//! the laws.
+ghost use Rattle.std.specs.Prelude.{List, ℕ};
 ghost use Rattle.rasta_pdu.specs.Params.{Parameters};
 ghost use Rattle.rasta_check.specs.Crossing.{FirstCopy};
+ghost use Rattle.rasta_check.specs.Reading.{AreSentLists};
 ghost use Rattle.rasta_check.specs.Theorem.{OfConnection};
-ghost use Rattle.rasta_build.specs.Completeness.{IsComplete};
+ghost use Rattle.rasta_build.specs.Completeness.{IsComplete, IsProposal};
 ghost use Rattle.rasta_build.specs.Proposing.{proposal};
 
 /// What is proposed for two sent lists is complete: it explains whatever a run within the limits sends; and
@@ -12,4 +13,10 @@ ghost use Rattle.rasta_build.specs.Proposing.{proposal};
 /// that place, and some run sends exactly those before it.
 pub fn complete()
     ensures { (p : Parameters) (c s : List FirstCopy) → OfConnection p → IsComplete p c s (proposal p c s) }
+{}
+
+/// What is proposed for the sent lists of so many packets fits, whether or not any run sends them; where
+/// nothing is proposed, nothing is found at a place.
+pub fn proposals_fit()
+    ensures { (p : Parameters) (packets : ℕ) (c s : List FirstCopy) → AreSentLists p packets c s → IsProposal p packets c s (proposal p c s) }
 {}

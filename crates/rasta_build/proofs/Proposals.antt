@@ -1,0 +1,136 @@
+-- What is proposed fits, run or no run; and where nothing is proposed, nothing is found at a place.
+use Rattle.std.proofs.Common.{◌≡◌, ℕ, zero, suc, ◌+◌, ◌≤◌, ◌⊎◌, Bool, true, false, List, [], ◌∷◌, length, Option, Some, None, Result, Ok, Err, slice_get, refl, ap, sym, ◌∙◌, arith, inl, inr, subst}
+use Rattle.std.specs.Prelude.{nat_lt, if◌then◌else◌}
+use Rattle.std.proofs.lemmas.Option.{slice_get_within}
+use native.Mathlib.Decide.{dec_lt}
+use Prim.{yes, no}
+use Rattle.rasta_pcap.specs.declared.fault.Fault.{Fault}
+use Rattle.rasta_pcap.specs.declared.fault.Side.TheVariants.{Client, Server}
+use Rattle.rasta_udp.specs.Frame.{Packet}
+use Rattle.rasta_pdu.specs.Params.{Parameters}
+use Rattle.rasta_cert.specs.declared.entry.Entry.{Entry}
+use Rattle.rasta_cert.specs.Certificate.{Scripts, IsCertificate, most_entries}
+use Rattle.rasta_check.specs.Crossing.{FirstCopy}
+use Rattle.rasta_check.specs.Reading.{AreSentLists}
+use Rattle.rasta_check.specs.Report.{BothFit}
+use Rattle.rasta_check.specs.Scripts.{Cursor, Advances, takes_next, makes_next, Leads}
+use Rattle.rasta_check.proofs.Copies.{IsSent}
+use Rattle.rasta_check.proofs.Forms.{to_record}
+use Rattle.rasta_check.proofs.Scripted.{slice_get_some}
+use Rattle.rasta_build.specs.Built.{Built}
+use Rattle.rasta_build.specs.Choices.{first_of}
+use Rattle.rasta_build.specs.Proposing.{Pass, first_pass, one_more, pass_on, passes, copy_goes, client_goes, server_goes, all_copies, proposal, proposed_by, scripts_of}
+use Rattle.rasta_build.specs.Completeness.{IsProposal}
+use Rattle.rasta_build.proofs.Comparisons.{not_lt}
+use Rattle.rasta_build.proofs.SentLists.{sent_rises, sent_numbers, sent_within}
+use Rattle.rasta_build.proofs.Soundness.{passes_read}
+use Rattle.rasta_build.proofs.Place.{passes_front}
+
+-- ---- entries are few
+
+leads_count : (p : Parameters) (n : ℕ) (own peer : List FirstCopy) (u v : Cursor) (es : List Entry) → Leads p n own peer u es v → length es + u.made + u.taken ≤ v.made + v.taken
+leads_count p n own peer u v [] f = (let a = ap (λ (z : Cursor). z.made) f in let b = ap (λ (z : Cursor). z.taken) f in omega arith)
+leads_count p n own peer u v (x ∷ es) f = by x f.0 f.1 (leads_count p n own peer f.0 v es f.2)
+  where
+    by : (x : Entry) (m : Cursor) → Advances p n own peer u x m → length es + m.made + m.taken ≤ v.made + v.taken → suc (length es) + u.made + u.taken ≤ v.made + v.taken
+    by x m (takes_next slot position c e' a b g d f t) l = omega arith
+    by x m (makes_next c clock why e' a g k) l = omega arith
+
+taken_within : (p : Parameters) (n : ℕ) (own peer : List FirstCopy) (u v : Cursor) (es : List Entry) → Leads p n own peer u es v → u.taken ≤ length peer → v.taken ≤ length peer
+taken_within p n own peer u v [] f l = (let b = ap (λ (z : Cursor). z.taken) f in omega arith)
+taken_within p n own peer u v (x ∷ es) f l = taken_within p n own peer f.0 v es f.2 (by x f.0 f.1)
+  where
+    by : (x : Entry) (m : Cursor) → Advances p n own peer u x m → m.taken ≤ length peer
+    by x m (takes_next slot position c e' a b g d f t) = (let z = slice_get_within peer position c g in omega arith)
+    by x m (makes_next c clock why e' a g k) = l
+
+-- ---- a pass that has gone through both lists
+
+module _ (p : Parameters) (packets : List Packet) (c s : List FirstCopy) (hc : IsSent p packets Client c) (hs : IsSent p packets Server s) (most : length packets ≤ 16000000) (lc : length c ≤ 1000000) (ls : length s ≤ 1000000) where
+  -- its scripts are a certificate, and fit
+  pub passed_fits : (t : Pass) → passes p c s (all_copies c s) ≡ Ok t → t.made ≡ length c → t.answered ≡ length s
+      → (proposal p c s ≡ Ok (scripts_of t)) × (IsCertificate (scripts_of t) × BothFit p (length packets) c s (scripts_of t))
+  passed_fits t done all their_all =
+      let a = passes_read p (length packets) c s lc ls (sent_rises p packets Client c hc) (sent_rises p packets Server s hs) hc.rising hs.rising (sent_within p packets Client c hc) (sent_within p packets Server s hs)
+      (omega (arith, most)) (sent_numbers p packets Client c hc) (sent_numbers p packets Server s hs) (all_copies c s) t done in
+      let rc = a.client in
+      let rs = a.server in
+      let nc = leads_count p (length packets) c s _ rc.at t.own.script rc.leads in
+      let ns = leads_count p (length packets) s c _ rs.at t.other.script rs.leads in
+      let tc = taken_within p (length packets) c s _ rc.at t.own.script rc.leads (omega arith) in
+      let ts = taken_within p (length packets) s c _ rs.at t.other.script rs.leads (omega arith) in
+      let mc = rc.made in
+      let ms = rs.made in
+      let few : length t.own.script + length t.other.script ≤ most_entries = omega (arith, nc, ns, tc, ts, mc, ms, all, their_all, lc, ls) in
+      let lt : nat_lt most_entries (length t.own.script + length t.other.script) ≡ false = not_lt most_entries (length t.own.script + length t.other.script) few in
+      let fits : BothFit p (length packets) c s (scripts_of t) = ((rc.at.state, (rc.at, rc.leads, rc.made ∙ all, refl)), (rs.at.state, (rs.at, rs.leads, rs.made ∙ their_all, refl))) in
+      (ap proposed_by done ∙ rw lt refl, (((rc.entries, rs.entries), few), fits))
+
+-- ---- each first copy is explained once
+
+-- so many are explained, or none is left
+abbrev Counts : List FirstCopy → List FirstCopy → Pass → ℕ → Type 0
+Counts c s t n = (t.made + t.answered ≡ n) ⊎ ((length c ≤ t.made) × (length s ≤ t.answered))
+
+none_left : (xs : List FirstCopy) (i : ℕ) → slice_get xs i ≡ None → length xs ≤ i
+none_left xs i h =
+    elim (dec_lt i (length xs)) [
+      | yes y ↦ absurd (let f = slice_get_some xs i y in let g = f.1 in cc)
+      | no y ↦ omega (arith, y)
+    ]
+
+client_counts : (c s : List FirstCopy) (t t' : Pass) (q n : ℕ) (o : Option Built) → Counts c s t n → client_goes t q o ≡ Ok t' → Counts c s t' (suc n)
+client_counts c s t t' q n None r h = absurd (cc)
+client_counts c s t t' q n (Some b) r h = (let z : record t { made = suc t.made; own = b } ≡ t' = cc in subst (λ (y : Pass). Counts c s y (suc n)) z (more r))
+  where
+    more : Counts c s t n → Counts c s (record t { made = suc t.made; own = b }) (suc n)
+    more (inl e) = inl (omega (arith, e))
+    more (inr e) = (let x = e.0 in inr (omega (arith, x), e.1))
+
+server_counts : (c s : List FirstCopy) (t t' : Pass) (q n : ℕ) (o : Option Built) → Counts c s t n → server_goes t q o ≡ Ok t' → Counts c s t' (suc n)
+server_counts c s t t' q n None r h = absurd (cc)
+server_counts c s t t' q n (Some b) r h = (let z : record t { answered = suc t.answered; other = b } ≡ t' = cc in subst (λ (y : Pass). Counts c s y (suc n)) z (more r))
+  where
+    more : Counts c s t n → Counts c s (record t { answered = suc t.answered; other = b }) (suc n)
+    more (inl e) = inl (omega (arith, e))
+    more (inr e) = (let x = e.1 in inr (e.0, omega (arith, x)))
+
+one_counts : (c s : List FirstCopy) (t t' : Pass) (n : ℕ) → Counts c s t n → (a b : Option FirstCopy) → slice_get c t.made ≡ a → slice_get s t.answered ≡ b → copy_goes c s t (first_of a b) ≡ Ok t' → Counts c s t' (suc n)
+one_counts c s t t' n r None None x y h = (let z : t ≡ t' = cc in subst (λ (k : Pass). Counts c s k (suc n)) z (inr (none_left c t.made x, none_left s t.answered y)))
+one_counts c s t t' n r (Some d) None x y h = client_counts c s t t' d.place n _ r h
+one_counts c s t t' n r None (Some d) x y h = server_counts c s t t' d.place n _ r h
+one_counts c s t t' n r (Some d) (Some f) x y h = by (nat_lt d.place f.place) h
+  where
+    by : (l : Bool) → copy_goes c s t (Some (if l then record { side = Client; copy = d } else record { side = Server; copy = f })) ≡ Ok t' → Counts c s t' (suc n)
+    by true h = client_counts c s t t' d.place n _ r h
+    by false h = server_counts c s t t' f.place n _ r h
+
+passes_count : (p : Parameters) (c s : List FirstCopy) (k : ℕ) (t : Pass) → passes p c s k ≡ Ok t → Counts c s t k
+passes_count p c s zero t h = (let z : first_pass p ≡ t = cc in subst (λ (y : Pass). Counts c s y 0) z (inl refl))
+passes_count p c s (suc k) t h = then_by k t (passes p c s k) refl h (λ u e. passes_count p c s k u e)
+  where
+    then_by : (k : ℕ) (t : Pass) (r : Result Pass ℕ) → passes p c s k ≡ r → pass_on r (one_more c s) ≡ Ok t → ((u : Pass) → passes p c s k ≡ Ok u → Counts c s u k) → Counts c s t (suc k)
+    then_by k t (Err q) e h rest = absurd (cc)
+    then_by k t (Ok u) e h rest = one_counts c s u t k (rest u e) (slice_get c u.made) (slice_get s u.answered) refl refl h
+
+-- as many steps as both lists have members go through both
+gone_through : (c s : List FirstCopy) (t : Pass) → t.made ≤ length c → t.answered ≤ length s → Counts c s t (all_copies c s) → (t.made ≡ length c) × (t.answered ≡ length s)
+gone_through c s t a b (inl e) = (omega (arith, a, b, e), omega (arith, a, b, e))
+gone_through c s t a b (inr e) = (let x = e.0 in let y = e.1 in (omega (arith, a, x), omega (arith, b, y)))
+
+-- ---- the proposal
+
+-- what is proposed for sent lists fits, or nothing is found at a place
+pub proposal_fits : (p : Parameters) (packets : ℕ) (c s : List FirstCopy) → AreSentLists p packets c s → IsProposal p packets c s (proposal p c s)
+proposal_fits p packets c s crossing = subst (λ n. IsProposal p n c s (proposal p c s)) crossing.1 (by (passes p c s (all_copies c s)) refl)
+  where
+    by : (r : Result Pass ℕ) → passes p c s (all_copies c s) ≡ r → IsProposal p (length crossing.0) c s (proposal p c s)
+    by (Err q) e = subst (λ (o : Result Scripts Fault). IsProposal p (length crossing.0) c s o) (sym (ap proposed_by e)) (_, refl)
+    by (Ok t) e =
+        let k = crossing.2 in
+        let hc = to_record p crossing.0 Client c k.valid.valid k.client in
+        let hs = to_record p crossing.0 Server s k.valid.valid k.server in
+        let fr = passes_front p crossing.0 c s hc hs (all_copies c s) t e in
+        let g = gone_through c s t fr.most fr.their_most (passes_count p c s (all_copies c s) t e) in
+        let f = passed_fits p crossing.0 c s hc hs k.few_packets k.few_client k.few_server t e g.0 g.1 in
+        subst (λ (o : Result Scripts Fault). IsProposal p (length crossing.0) c s o) (sym f.0) f.1
