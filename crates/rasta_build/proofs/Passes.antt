@@ -27,7 +27,7 @@ use Rattle.rasta_check.proofs.Telling.{Sends, sends_count, told}
 use Rattle.rasta_build.specs.Built.{Built}
 use Rattle.rasta_build.specs.Choices.{SidedCopy, first_of, fault_of_stuck}
 use Rattle.rasta_build.specs.declared.stuck.Stuck.TheVariants.{Unexplained}
-use Rattle.rasta_build.specs.Proposing.{Pass, first_pass, one_more, pass_on, passes, copy_goes, side_goes, client_goes, server_goes, scripts_of, proposed_by, proposal}
+use Rattle.rasta_build.specs.Proposing.{Pass, first_pass, one_more, pass_on, passes, copy_goes, side_goes, client_goes, server_goes, scripts_of, proposed_by, proposal, all_copies}
 use Rattle.rasta_build.specs.Completeness.{CanCross}
 use Rattle.rasta_build.proofs.SentLists.{Begins, cut, later_place}
 use Rattle.rasta_build.proofs.Beginning.{follows_first}
@@ -305,9 +305,9 @@ finds_none p conn packets rest c s place hc0 hs0 h x =
     let valid = conn.valid in
     let hc = to_record p packets Client c valid hc0 in
     let hs = to_record p packets Server s valid hs0 in
-    let q = proposed_fails (passes p c s (length c + length s)) place h in
-    let f = fails p c s q.0 (length c + length s) q.1 in
-    let low = fails_within p valid packets c s hc hs (length c + length s) q.0 f in
+    let q = proposed_fails (passes p c s (all_copies c s)) place h in
+    let f = fails p c s q.0 (all_copies c s) q.1 in
+    let low = fails_within p valid packets c s hc hs (all_copies c s) q.0 f in
     let at = q.2 in
     let small : place ≤ length packets = least_place q.0 place (length packets) at low in
     let lt = length_take place packets small in
@@ -319,7 +319,7 @@ finds_none p conn packets rest c s place hc0 hs0 h x =
     let crossed : u.1.crossed ≡ take place packets = u.3 ∙ take_of_front place w.crossed packets rest e small in
     let whole : packets ≡ u.1.crossed ++ drop place packets = take_drop place packets ∙ ap (λ (x : List Packet). x ++ drop place packets) (sym crossed) in
     let lc = ap length crossed in
-    not_failing p valid packets c s hc hs u.0 u.1 u.2 (drop place packets) whole u.4 u.5 (length c + length s) q.0 f (omega (arith, lc, lt, exact))
+    not_failing p valid packets c s hc hs u.0 u.1 u.2 (drop place packets) whole u.4 u.5 (all_copies c s) q.0 f (omega (arith, lc, lt, exact))
   where
     least_place : (q place n : ℕ) → min (q + 1) 4294967295 ≡ place → q < n → place ≤ n
     least_place q place n h l = omega arith

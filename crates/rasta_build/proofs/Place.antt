@@ -27,7 +27,7 @@ use Rattle.rasta_check.proofs.Scripted.{slice_get_some, simulated}
 use Rattle.rasta_check.proofs.Known.{known}
 use Rattle.rasta_build.specs.Built.{Built}
 use Rattle.rasta_build.specs.Choices.{first_of}
-use Rattle.rasta_build.specs.Proposing.{Pass, first_pass, one_more, pass_on, passes, copy_goes, client_goes, server_goes, proposal}
+use Rattle.rasta_build.specs.Proposing.{Pass, first_pass, one_more, pass_on, passes, copy_goes, client_goes, server_goes, proposal, all_copies}
 use Rattle.rasta_build.specs.Completeness.{CanCross}
 use Rattle.rasta_build.proofs.SentLists.{Begins, cut, begun_get, begun_next, sent_rises, sent_numbers, sent_within, later_place}
 use Rattle.rasta_build.proofs.Passes.{Fails, fails, proposed_fails, fails_within, length_take, take_drop, early, finds_none}
@@ -321,11 +321,11 @@ exact p conn packets c s place n recorded hc0 hs0 most lc ls h =
     let valid = conn.valid in
     let hc = to_record p packets Client c valid hc0 in
     let hs = to_record p packets Server s valid hs0 in
-    let q = proposed_fails (passes p c s (length c + length s)) place h in
-    let f = fails p c s q.0 (length c + length s) q.1 in
-    let low = fails_within p valid packets c s hc hs (length c + length s) q.0 f in
+    let q = proposed_fails (passes p c s (all_copies c s)) place h in
+    let f = fails p c s q.0 (all_copies c s) q.1 in
+    let low = fails_within p valid packets c s hc hs (all_copies c s) q.0 f in
     let at : q.0 ≡ place - 1 = place_of q.0 place (length packets) q.2 low most in
-    let r = crosses_before p valid packets c s hc hs recorded most lc ls (length c + length s) q.0 f low in (
+    let r = crosses_before p valid packets c s hc hs recorded most lc ls (all_copies c s) q.0 f low in (
       λ w. elim (dec_lt n place) [
         | yes y ↦ y
         | no y ↦ absurd (finds_none p conn packets (drop place (take n packets)) c s place hc0 hs0 h
