@@ -5,6 +5,7 @@
 use crate::tests::number_in;
 use rasta_params::params;
 use rasta_pcap::Counted;
+use rasta_pcap::devices::Pieces;
 use rasta_pdu::Params;
 use rasta_show::run_show;
 use std::alloc::Global;
@@ -114,23 +115,34 @@ fn capture_of(alloc: Global, magic: &str, tag: &str, datagrams: &str) -> Option<
     Some(file)
 }
 
-// The status and the text of a file.
-fn shown(alloc: Global, lines: &str, file: &[u8]) -> Option<(u8, Vec<u8>)> {
+// The status and the text of a file in pieces.
+fn shown(alloc: Global, lines: &str, pieces: Pieces<'_>) -> Option<(u8, Vec<u8>)> {
     let params = parameters(alloc, lines)?;
-    let mut reader = Counted::new(file);
+    let mut reader = Counted::new(pieces);
     let mut writer = Counted::new(Vec::new(alloc));
     let status = run_show(alloc, &params, &mut reader, &mut writer).ok()?;
     Some((status, writer.into_inner()))
 }
 
-// Whether the wanted text is shown, with the status that it calls for.
+// Whether the wanted text is shown of a file, with the status that it calls for, in pieces of each size.
 fn expect<R: Abort + AllocGlobal>(
     rt: &R,
     lines: &str,
     file: &[u8],
     want: &str,
 ) -> Result<(), Fail> {
-    let (status, text) = shown(rt.alloc(), lines, file).ok_or("a text")?;
+    expect_in_pieces(rt, lines, Pieces::new(file, 1), want)?;
+    expect_in_pieces(rt, lines, Pieces::new(file, 7), want)?;
+    expect_in_pieces(rt, lines, Pieces::new(file, 4096), want)
+}
+
+fn expect_in_pieces<R: Abort + AllocGlobal>(
+    rt: &R,
+    lines: &str,
+    pieces: Pieces<'_>,
+    want: &str,
+) -> Result<(), Fail> {
+    let (status, text) = shown(rt.alloc(), lines, pieces).ok_or("a text")?;
     let lines = format!(in rt.alloc(); "{want}/")?.replace(rt.alloc(), "/", "\n")?;
     assert_eq!(rt; text.as_slice(), lines.as_bytes(), "{want}");
     assert_eq!(rt; status, u8::from(want.starts_with("refused")));
