@@ -10,9 +10,9 @@ use Rattle.rasta_show.specs.Show.{show_status, show_text}
 use Rattle.rasta_show.specs.Runs.{IsRunFault, WritesBeginning}
 use Rattle.rasta_audit.specs.declared.form.Form.{Form}
 use Rattle.rasta_audit.specs.declared.form.Form.TheVariants.{Show, Build, Check, Audit}
-use Rattle.rasta_audit.specs.Verdict.{BeginsVerdict, IsVerdict, WritesVerdict}
-use Rattle.rasta_audit.specs.Proposed.{BeginsOutcome, IsAudit, IsBuild}
-use Rattle.rasta_audit.specs.Claims.{ClaimsHeadline}
+use Rattle.rasta_verdict.specs.Verdict.{BeginsVerdict, IsVerdict, WritesVerdict}
+use Rattle.rasta_verdict.specs.Proposed.{BeginsOutcome, IsAudit, IsBuild}
+use Rattle.rasta_verdict.specs.Claims.{ClaimsHeadline}
 
 -- the bytes that are left of the parameter file, of the certificate and of the capture, what the output holds, and how
 -- often each of the four devices has failed

@@ -1,9 +1,2 @@
 pub mod Failing
-pub mod RunText
-pub mod Told
-pub mod Verdict
-pub mod Passed
-pub mod Judged
-pub mod Proposed
-pub mod Claims
 pub mod Forms

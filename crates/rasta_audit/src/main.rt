@@ -6,37 +6,13 @@
 ghost use Rattle.std.specs.Prelude.{◌≡◌, None, IfErr, IfOk};
 ghost use Rattle.rasta_pcap.specs.Fault.{no_memory, write_failed};
 
-mod audit;
-#[cfg(test)]
-mod audit_tests;
-#[cfg(test)]
-mod cases;
-mod check;
-#[cfg(test)]
-mod check_tests;
 mod command;
-#[cfg(test)]
-mod device_tests;
 mod failure;
 mod form;
-#[cfg(test)]
-mod piece_tests;
-mod proposed;
-mod run_lines;
-mod run_text;
 mod running;
-mod script;
-#[cfg(test)]
-mod show_tests;
-mod taken_text;
 #[cfg(test)]
 mod tests;
-mod verdict;
-#[cfg(test)]
-mod verdict_rows;
 
-pub use crate::audit::{run_audit, run_build};
-pub use crate::check::run_check;
 use crate::command::form;
 use crate::failure::{Failure, status};
 use crate::form::Form;
@@ -45,6 +21,7 @@ pub use rasta_params::params;
 use rasta_pcap::Counted;
 use rasta_pdu::Fault;
 pub use rasta_show::run_show;
+pub use rasta_verdict::{run_audit, run_build, run_check};
 use std::fs::File;
 use std::io;
 use std::io::{BufReader, BufWriter, Printer, Read, Write};

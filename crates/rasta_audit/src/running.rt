@@ -3,16 +3,15 @@ ghost use Rattle.std.specs.Prelude.{◌≡◌, ◌⊎◌, List, ℕ, Ok, Err, If
 ghost use Rattle.rasta_pdu.specs.Params.{Parameters};
 ghost use Rattle.rasta_params.specs.Keys.{ReadsParameters};
 ghost use Rattle.rasta_show.specs.Runs.{IsRunFault};
-ghost use Rattle.rasta_audit.specs.Verdict.{WritesVerdict};
+ghost use Rattle.rasta_verdict.specs.Verdict.{WritesVerdict};
 ghost use Rattle.rasta_audit.specs.Forms.{BeginsTelling, CarriesOut, GivesUp, HoldsHeadline, IsReadFault, ReadsCertificate, ReadsParameterFile, ReadsWhole, StaysSilent, Tells};
 
-use crate::audit::{run_audit, run_build};
-use crate::check::run_check;
 use crate::form::Form;
 use rasta_params::params;
 use rasta_pcap::read_all;
 use rasta_pdu::{Fault, Params, Sink, Source};
 use rasta_show::run_show;
+use rasta_verdict::{run_audit, run_build, run_check};
 use std::alloc::Global;
 
 // Reads a parameter file to its end, and judges it.

@@ -72,8 +72,8 @@ const FAILURES: &str = "\
 60 1 1 | refused 60 NotFound 1 -
 ";
 
-/// The number of a word.
-pub fn number_in(word: Option<&str>) -> Option<u32> {
+// The number of a word.
+fn number_in(word: Option<&str>) -> Option<u32> {
     word?.parse::<u32>().ok()
 }
 

@@ -1,0 +1,99 @@
+-- What the checker says of some scripts, and the verdict that follows.
+use Rattle.std.proofs.Common.{◌≡◌, ◌⊎◌, ◌∙◌, inl, inr, ℕ, List, length, Result, Ok, Err, MatchResult, OnOk, IfOk, ap, refl, subst, sym, ⊎_elim}
+use Rattle.rasta_pcap.specs.declared.fault.Fault.{Fault}
+use Rattle.rasta_pcap.specs.Fault.{no_memory}
+use Rattle.rasta_pdu.specs.Params.{Parameters}
+use Rattle.rasta_cert.specs.Certificate.{IsCertificate, Scripts, certificate_text}
+use Rattle.rasta_check.specs.declared.report.Report.{Report}
+use Rattle.rasta_check.specs.Headline.{Headline}
+use Rattle.rasta_check.specs.Reading.{Crossing, crossing_of}
+use Rattle.rasta_check.specs.Report as report
+use Rattle.rasta_check.specs.Report.{BothFit, verdict_of}
+use Rattle.rasta_verdict.specs.declared.verdict.Verdict.{Verdict}
+use Rattle.rasta_verdict.specs.declared.verdict.Verdict.TheVariants as verdicts
+use Rattle.rasta_check.proofs.Filed.{same_params}
+use Rattle.rasta_verdict.specs.Claims.{ClaimsHeadline}
+use Rattle.rasta_verdict.specs.Judged.{IsChecked, IsJudged, status_of_verdict, text_of_verdict}
+use Rattle.rasta_verdict.specs.Verdict as verdict
+use Rattle.rasta_verdict.specs.Verdict.{IsVerdict}
+use Rattle.rasta_verdict.proofs.Telling.{fits-told}
+use Rattle.rasta_verdict.proofs.Verdicts.{IsRefusal, if_ok_map}
+
+-- what the checker is asked, by these parameters
+abbrev said_of : Parameters → Crossing → Scripts → Result report.Explained Fault
+said_of p k scripts = verdict_of p (length k.packets) k.client k.server scripts
+
+-- the checker's answer, by the parameters of what crossed
+pub is_checked : (p : Parameters) (k : Crossing) (scripts : Scripts) (r : Result Report Fault) → k.params ≡ p
+    → MatchResult r (λ x. said_of p k scripts ≡ Ok (report.explained x)) (λ f. (said_of p k scripts ≡ Err f) ⊎ (f ≡ no_memory))
+    → OnOk r (BothFit p (length k.packets) k.client k.server scripts) → IfOk r (λ x. Headline p k.packets (report.explained x)) → IsChecked k scripts r
+is_checked p k scripts (Ok x) same said fits claim = (
+  fits-told p k scripts fits.0.0 fits.1.0 fits.0.1 fits.1.1,
+  ap (λ (q : Parameters). said_of q k scripts) same ∙ said,
+  subst (λ (q : Parameters). Headline q k.packets (report.explained x)) (sym same) claim,
+)
+is_checked p k scripts (Err f) same said fits claim = ⊎_elim
+    (λ (refused : said_of p k scripts ≡ Err f). inl (ap (λ (q : Parameters). said_of q k scripts) same ∙ refused))
+    (λ (none : f ≡ no_memory). inr none) said
+
+-- the checker's refusal is the verdict
+pub refusal_judged : (r : Result Verdict Fault) (k : Crossing) (scripts : Scripts) (fault : Fault) → IfOk r (IsRefusal fault)
+    → IsChecked k scripts (Err fault) → IfOk r (IsJudged k scripts)
+refusal_judged r k scripts fault h said = if_ok_map r
+    (λ (v : Verdict) (w : IsRefusal fault v). subst (IsJudged k scripts) (sym w.0)
+    (⊎_elim (λ (refused : said_of k.params k scripts ≡ Err fault). refused)
+    (λ (none : fault ≡ no_memory). absurd (w.1 none)) said)) h
+
+abbrev pub Told : Crossing → Scripts → Verdict → Type 0
+Told k scripts v = (p : Parameters) (file text : List ℕ) → crossing_of p file ≡ Ok k → text ≡ certificate_text scripts → IsCertificate scripts
+    → IsVerdict p text file (text_of_verdict v) (status_of_verdict v)
+
+one : (k : Crossing) (scripts : Scripts) (v : Verdict) → IsJudged k scripts v → Told k scripts v
+one k scripts (verdicts.Refused fault) judged p file text crossed is valid = verdict.script_refused k scripts fault crossed is valid judged
+one k scripts (verdicts.Explained e) judged p file text crossed is valid =
+    subst (λ (j : Crossing). IsVerdict p text file (verdict.explained_text j e.certificate (report.explained e.report)) 0) (sym judged.0)
+    (subst (λ (s : Scripts). IsVerdict p text file (verdict.explained_text k s (report.explained e.report)) 0) (sym judged.1)
+    (verdict.explained k scripts (report.explained e.report) crossed is valid judged.2))
+
+-- the verdict on these scripts, of every capture of which this crossed
+pub verdict_stands : (r : Result Verdict Fault) (k : Crossing) (scripts : Scripts) → IfOk r (IsJudged k scripts) → IfOk r (Told k scripts)
+verdict_stands r k scripts h = if_ok_map r (λ (v : Verdict) (judged : IsJudged k scripts v). one k scripts v judged) h
+
+-- ---- the headline
+
+-- the verdict's text tells it, of a capture of which this crossed
+abbrev pub Claimed : Parameters → List ℕ → Verdict → Type 0
+Claimed p file v = ClaimsHeadline p file (text_of_verdict v) (status_of_verdict v)
+
+claim : (p : Parameters) (file : List ℕ) (k : Crossing) (scripts : Scripts) (v : Verdict) → crossing_of p file ≡ Ok k → IsJudged k scripts v → Claimed p file v
+claim p file k scripts (verdicts.Refused fault) crossed judged status = absurd (cc)
+claim p file k scripts (verdicts.Explained e) crossed judged status = record {
+  crossing = e.store.now;
+  scripts = e.certificate;
+  report = report.explained e.report;
+  crossed = crossed ∙ ap (λ (j : Crossing). Ok j) (sym judged.0);
+  told = refl;
+  headline = subst (λ (j : Crossing). Headline p j.packets (report.explained e.report)) (sym judged.0)
+      (subst (λ (q : Parameters). Headline q k.packets (report.explained e.report)) (same_params p file k crossed) judged.3);
+}
+
+refused_claims : (p : Parameters) (file : List ℕ) (fault : Fault) → Claimed p file (verdicts.Refused fault)
+refused_claims p file fault status = absurd (cc)
+
+pub refusal_of : (r : Result Verdict Fault) (fault : Fault) → IfOk r (IsRefusal fault) → IfOk r (λ v. v ≡ verdicts.Refused fault)
+refusal_of r fault h = if_ok_map r (λ (v : Verdict) (w : IsRefusal fault v). w.0) h
+
+-- of every capture of which this crossed
+abbrev pub ClaimedOf : Crossing → Verdict → Type 0
+ClaimedOf k v = (p : Parameters) (file : List ℕ) → crossing_of p file ≡ Ok k → Claimed p file v
+
+-- what the checker explains has the headline
+pub judged_claims : (r : Result Verdict Fault) (k : Crossing) (scripts : Scripts) → IfOk r (IsJudged k scripts) → IfOk r (ClaimedOf k)
+judged_claims r k scripts h = if_ok_map r
+    (λ (v : Verdict) (judged : IsJudged k scripts v) (p : Parameters) (file : List ℕ) (crossed : crossing_of p file ≡ Ok k). claim p file k scripts v crossed judged) h
+
+-- a refusal claims nothing
+pub refusal_claims : (r : Result Verdict Fault) (k : Crossing) (fault : Fault) → IfOk r (λ v. v ≡ verdicts.Refused fault) → IfOk r (ClaimedOf k)
+refusal_claims r k fault h = if_ok_map r
+    (λ (v : Verdict) (w : v ≡ verdicts.Refused fault) (p : Parameters) (file : List ℕ) (crossed : crossing_of p file ≡ Ok k).
+    subst (Claimed p file) (sym w) (refused_claims p file fault)) h

@@ -1,0 +1,178 @@
+-- Scripts that fit are in order, and what is written of them in one pass is their run.
+use Rattle.std.proofs.Common.{◌≡◌, ℕ, zero, suc, ◌+◌, ◌≤◌, Bool, true, false, List, [], ◌∷◌, ◌++◌, drop, length, Option, Some, None, slice_get, nat_eq, refl, ap, sym, ◌∙◌, arith}
+use Rattle.std.specs.Prelude.{◌==◌, nat_lt, not, cond, position, if◌then◌else◌}
+use Rattle.std.specs.List.{flat_map, position_or_len}
+use Rattle.std.proofs.lemmas.Bool.Decides.{nat_tests}
+use Rattle.std.proofs.lemmas.List.{drop_all}
+use Rattle.rasta_pcap.specs.declared.fault.Side.{Side}
+use Rattle.rasta_pcap.specs.declared.fault.Side.TheVariants.{Client, Server}
+use Rattle.rasta_udp.specs.Frame as udp
+use Rattle.rasta_pdu.specs.Params.{Parameters}
+use Rattle.rasta_end.specs.declared.why.Why.{Why}
+use Rattle.rasta_end.specs.State.{EndState}
+use Rattle.rasta_end.specs.Starts.{start_of}
+use Rattle.rasta_cert.specs.declared.entry.Entry.{Entry}
+use Rattle.rasta_cert.specs.declared.entry.Entry.TheVariants.{Take, Make}
+use Rattle.rasta_cert.specs.Certificate.{Scripts}
+use Rattle.rasta_check.specs.Crossing.{FirstCopy}
+use Rattle.rasta_check.specs.Lists.{places_of, position_of_place}
+use Rattle.rasta_check.specs.Reading.{Crossing, sent_by}
+use Rattle.rasta_check.specs.Scripts.{Advances, Cursor, Fits, Leads, at_start, makes_next, takes_next}
+use Rattle.rasta_verdict.specs.RunText.{crossed_text, level_text, levels_text, make_line, makes_at, number_of, packet_text, run_text, script_of, takes_text}
+use Rattle.rasta_verdict.specs.Told.{IsOrderedFrom, IsTold, indexes_of, of_side, told_crossing, told_level, told_levels, told_packet}
+use Rattle.rasta_verdict.proofs.Ordered.{makes_here, makes_none, makes_other, makes_past}
+
+-- ---- where a place stands among the places of a list
+
+abbrev is_found : ℕ → List ℕ → Bool
+is_found n [] = false
+is_found n (x ∷ xs) = if nat_eq n x then true else is_found n xs
+
+more : (i l : ℕ) → nat_lt (1 + i) (suc l) ≡ nat_lt i l
+more i l = grind (arith, nat_tests)
+
+none_lt : (l : ℕ) → nat_lt 0 (suc l) ≡ true
+none_lt l = grind (arith, nat_tests)
+
+within_more : (b f : Bool) (i l : ℕ) → nat_lt i l ≡ f → nat_lt (cond (not b) (1 + i) 0) (suc l) ≡ (if b then true else f)
+within_more true f i l h = none_lt l
+within_more false f i l h = more i l ∙ h
+
+within : (n : ℕ) (xs : List ℕ) → nat_lt (position_or_len (nat_eq n) xs) (length xs) ≡ is_found n xs
+within n [] = refl
+within n (x ∷ xs) = within_more (nat_eq n x) (is_found n xs) (position_or_len (nat_eq n) xs) (length xs) (within n xs)
+
+by_test : (b : Bool) (i : ℕ) → cond b (Some i) None ≡ None → b ≡ false
+by_test true i e = absurd (cc)
+by_test false i e = refl
+
+by_place : (b : Bool) (i j : ℕ) → cond b (Some i) None ≡ Some j → b ≡ true
+by_place true i j e = refl
+by_place false i j e = absurd (cc)
+
+not_found : (n : ℕ) (xs : List ℕ) → position (nat_eq n) xs ≡ None → is_found n xs ≡ false
+not_found n xs e = sym (within n xs) ∙ by_test (nat_lt (position_or_len (nat_eq n) xs) (length xs)) (position_or_len (nat_eq n) xs) e
+
+found : (n i : ℕ) (xs : List ℕ) → position (nat_eq n) xs ≡ Some i → is_found n xs ≡ true
+found n i xs e = sym (within n xs) ∙ by_place (nat_lt (position_or_len (nat_eq n) xs) (length xs)) (position_or_len (nat_eq n) xs) i e
+
+-- ---- makes by their indexes
+
+differ : (n m : ℕ) → nat_eq n m ≡ false → (m == n) ≡ false
+differ n m e = grind (arith, nat_tests)
+
+equal : (n m : ℕ) → nat_eq n m ≡ true → n ≡ m
+equal n m e = grind (arith, nat_tests)
+
+-- a place that is no index is not made
+no_make_more : (place index clock : ℕ) (why : Why) (es : List Entry) (b f : Bool) → nat_eq place index ≡ b → (f ≡ false → makes_at place es ≡ [])
+    → (if b then true else f) ≡ false → makes_at place (Make index clock why ∷ es) ≡ []
+no_make_more place index clock why es true f t rest e = absurd (cc)
+no_make_more place index clock why es false f t rest e = makes_other place index clock why es (differ place index t) ∙ rest e
+
+no_make : (place : ℕ) (es : List Entry) → is_found place (indexes_of es) ≡ false → makes_at place es ≡ []
+no_make place [] e = makes_none place
+no_make place (Take slot number ∷ es) e = makes_past place slot number es ∙ no_make place es e
+no_make place (Make index clock why ∷ es) e =
+    no_make_more place index clock why es (nat_eq place index) (is_found place (indexes_of es)) refl (λ h. no_make place es h) e
+
+-- an index is made
+abbrev HasMake : ℕ → List Entry → Type 0
+HasMake place es = (m : ℕ × Why) × (more : List (ℕ × Why)) × (makes_at place es ≡ m ∷ more)
+
+a_make_more : (place index clock : ℕ) (why : Why) (es : List Entry) (b f : Bool) → nat_eq place index ≡ b → (f ≡ true → HasMake place es)
+    → (if b then true else f) ≡ true → HasMake place (Make index clock why ∷ es)
+a_make_more place index clock why es true f t rest e = (
+  (clock, why),
+  makes_at place es,
+  ap (λ n. makes_at place (Make n clock why ∷ es)) (sym (equal place index t)) ∙ makes_here place clock why es,
+)
+a_make_more place index clock why es false f t rest e = (let h = rest e in (h.0, h.1, makes_other place index clock why es (differ place index t) ∙ h.2))
+
+a_make : (place : ℕ) (es : List Entry) → is_found place (indexes_of es) ≡ true → HasMake place es
+a_make place [] e = absurd (cc)
+a_make place (Take slot number ∷ es) e = (let h = a_make place es e in (h.0, h.1, makes_past place slot number es ∙ h.2))
+a_make place (Make index clock why ∷ es) e =
+    a_make_more place index clock why es (nat_eq place index) (is_found place (indexes_of es)) refl (λ h. a_make place es h) e
+
+-- ---- what is no make is a copy
+
+crossed : (place : ℕ) (side : Side) (number : ℕ) (es : List Entry) (own : List FirstCopy) → indexes_of es ≡ places_of own
+    → crossed_text place side number (position_of_place own place) (makes_at place es) ≡ told_crossing place side number (makes_at place es)
+unfolding told_crossing
+crossed place side number es own same = by (position_of_place own place) refl
+  where
+    by : (o : Option ℕ) → position_of_place own place ≡ o → crossed_text place side number o (makes_at place es) ≡ told_crossing place side number (makes_at place es)
+    by None e =
+        let none = no_make place es (ap (is_found place) same ∙ not_found place (places_of own) e) in
+        sym (ap (told_crossing place side number) none)
+    by (Some i) e =
+        let some = a_make place es (ap (is_found place) same ∙ found place i (places_of own) e) in
+        ap (λ (l : List (ℕ × Why)). flat_map (make_line place side number) l) some.2
+        ∙ sym (ap (told_crossing place side number) some.2)
+
+module _ (k : Crossing) (scripts : Scripts) (told : IsTold k scripts) where
+  same_packet : (place : ℕ) (packet : Option udp.Packet)
+      → packet_text k scripts place packet ≡ told_packet place (makes_at place scripts.client) (makes_at place scripts.server) packet
+  unfolding packet_text told_packet
+  same_packet place None = refl
+  same_packet place (Some packet) = by packet.side
+    where
+      by : (side : Side) → crossed_text place side (number_of packet) (position_of_place (sent_by k side) place) (makes_at place (script_of scripts side))
+          ≡ told_crossing place side (number_of packet) (of_side (makes_at place scripts.client) (makes_at place scripts.server) side)
+      by Client = crossed place Client (number_of packet) scripts.client k.client told.client_makes
+      by Server = crossed place Server (number_of packet) scripts.server k.server told.server_makes
+
+  told_run : (level left : ℕ) → told_levels k.packets scripts level left ≡ levels_text k scripts level left
+  unfolding told_levels levels_text told_level level_text
+  told_run level zero = refl
+  told_run level (suc left) =
+      ap (λ (t : List ℕ). (takes_text level Client scripts.client ++ (takes_text level Server scripts.server ++ t)) ++ told_levels k.packets scripts (suc level) left)
+      (sym (same_packet level (slice_get k.packets level)))
+      ∙ ap (λ (t : List ℕ). level_text k scripts level ++ t) (told_run (suc level) left)
+
+-- what is written from the first level on is the run
+pub told_whole : (k : Crossing) (scripts : Scripts) → IsTold k scripts → told_levels k.packets scripts 0 (length k.packets + 1) ≡ run_text k scripts
+told_whole k scripts told =
+    let one : length k.packets + 1 ≡ suc (length k.packets) = omega arith in
+    ap (told_levels k.packets scripts 0) one ∙ told_run k scripts told 0 (suc (length k.packets))
+
+-- ---- a script that fits is in order, and makes what its side sent
+
+next_up : (p : Parameters) (packets : ℕ) (own peer : List FirstCopy) (u m : Cursor) (x : Entry) (es : List Entry) → Advances p packets own peer u x m
+    → IsOrderedFrom m.level es → IsOrderedFrom u.level (x ∷ es)
+next_up p packets own peer u m x es (takes_next slot place c after low high g front up t) o = (low, o)
+next_up p packets own peer u m x es (makes_next c clock why after low g t) o = (low, o)
+
+leads_up : (p : Parameters) (packets : ℕ) (own peer : List FirstCopy) (u v : Cursor) (es : List Entry) → Leads p packets own peer u es v → IsOrderedFrom u.level es
+leads_up p packets own peer u v [] h = tt
+leads_up p packets own peer u v (x ∷ es) h = next_up p packets own peer u h.0 x es h.1 (leads_up p packets own peer h.0 v es h.2)
+
+drop_some : (xs : List FirstCopy) (i : ℕ) (c : FirstCopy) → slice_get xs i ≡ Some c → drop i xs ≡ c ∷ drop (suc i) xs
+drop_some [] i c e = absurd (cc)
+drop_some (x ∷ xs) zero c e = (let same : x ≡ c = cc in ap (λ (y : FirstCopy). y ∷ xs) same)
+drop_some (x ∷ xs) (suc i) c e = drop_some xs i c e
+
+next_make : (p : Parameters) (packets : ℕ) (own peer : List FirstCopy) (u m : Cursor) (x : Entry) (es : List Entry) → Advances p packets own peer u x m
+    → indexes_of es ≡ places_of (drop m.made own) → indexes_of (x ∷ es) ≡ places_of (drop u.made own)
+next_make p packets own peer u m x es (takes_next slot place c after low high g front up t) o = o
+next_make p packets own peer u m x es (makes_next c clock why after low g t) o =
+    ap (λ (l : List ℕ). c.place ∷ l) o ∙ ap places_of (sym (drop_some own u.made c g))
+
+leads_on : (p : Parameters) (packets : ℕ) (own peer : List FirstCopy) (u v : Cursor) (es : List Entry) → Leads p packets own peer u es v
+    → v.made ≡ length own → indexes_of es ≡ places_of (drop u.made own)
+leads_on p packets own peer u v [] h all =
+    let past : length own ≤ u.made = (let z = ap (λ (w : Cursor). w.made) h in omega arith) in
+    sym (ap places_of (drop_all u.made own past))
+leads_on p packets own peer u v (x ∷ es) h all = next_make p packets own peer u h.0 x es h.1 (leads_on p packets own peer h.0 v es h.2 all)
+
+-- scripts that fit are told
+pub fits-told : (p : Parameters) (k : Crossing) (scripts : Scripts) (a b : EndState)
+    → Fits p Client (length k.packets) k.client k.server scripts.client a
+    → Fits p Server (length k.packets) k.server k.client scripts.server b → IsTold k scripts
+fits-told p k scripts a b f g = record {
+  client_order = leads_up p (length k.packets) k.client k.server (at_start (start_of p Client)) f.0 scripts.client f.1;
+  server_order = leads_up p (length k.packets) k.server k.client (at_start (start_of p Server)) g.0 scripts.server g.1;
+  client_makes = leads_on p (length k.packets) k.client k.server (at_start (start_of p Client)) f.0 scripts.client f.1 f.2;
+  server_makes = leads_on p (length k.packets) k.server k.client (at_start (start_of p Server)) g.0 scripts.server g.1 g.2;
+}

@@ -1,0 +1,51 @@
+-- A verdict as the code holds it.
+use Rattle.std.specs.Prelude.{◌≡◌, ◌⊎◌, ℕ, List, length, Result, Ok, Err}
+use Rattle.rasta_pcap.specs.declared.fault.Fault.{Fault}
+use Rattle.rasta_pcap.specs.Fault.{no_memory}
+use Rattle.rasta_cert.specs.Certificate.{Scripts}
+use Rattle.rasta_check.specs.declared.report.Report.{Report}
+use Rattle.rasta_check.specs.Headline.{Headline}
+use Rattle.rasta_check.specs.Reading.{Crossing}
+use Rattle.rasta_check.specs.Report.{explained, verdict_of}
+use Rattle.rasta_show.specs.Lines.{refused_line}
+use Rattle.rasta_verdict.specs.Proposed.{Telling}
+use Rattle.rasta_verdict.specs.Told.{IsTold}
+use Rattle.rasta_verdict.specs.Verdict.{explained_text}
+use Rattle.rasta_verdict.specs.declared.verdict.Explanation.{Explanation}
+use Rattle.rasta_verdict.specs.declared.verdict.Verdict.{Verdict}
+use Rattle.rasta_verdict.specs.declared.verdict.Verdict.TheVariants.{Refused, Explained}
+
+abbrev pub text_of_explanation : Explanation → List ℕ
+text_of_explanation e = explained_text e.store.now e.certificate (explained e.report)
+
+abbrev pub text_of_verdict : Verdict → List ℕ
+text_of_verdict (Refused fault) = refused_line fault
+text_of_verdict (Explained e) = text_of_explanation e
+
+abbrev pub status_of_verdict : Verdict → ℕ
+status_of_verdict (Refused fault) = 1
+status_of_verdict (Explained e) = 0
+
+-- the run of an explanation can be written in one pass
+abbrev pub HasToldRun : Verdict → Type 0
+HasToldRun (Refused fault) = Unit {0}
+HasToldRun (Explained e) = IsTold e.store.now e.certificate
+
+-- what the checker says of what crossed and these scripts
+abbrev pub IsChecked : Crossing → Scripts → Result Report Fault → Type 0
+IsChecked k scripts (Ok report) = IsTold k scripts
+    × (verdict_of k.params (length k.packets) k.client k.server scripts ≡ Ok (explained report))
+    × Headline k.params k.packets (explained report)
+IsChecked k scripts (Err fault) = (verdict_of k.params (length k.packets) k.client k.server scripts ≡ Err fault) ⊎ (fault ≡ no_memory)
+
+-- the verdict on what crossed and these scripts
+abbrev pub IsJudged : Crossing → Scripts → Verdict → Type 0
+IsJudged k scripts (Refused fault) = verdict_of k.params (length k.packets) k.client k.server scripts ≡ Err fault
+IsJudged k scripts (Explained e) = (e.store.now ≡ k) × (e.certificate ≡ scripts)
+    × (verdict_of k.params (length k.packets) k.client k.server scripts ≡ Ok (explained e.report))
+    × Headline k.params k.packets (explained e.report)
+
+-- the text of a verdict whose explanation is told so
+abbrev pub told_verdict : Telling → Verdict → List ℕ
+told_verdict tell (Refused fault) = refused_line fault
+told_verdict tell (Explained e) = tell e.store.now e.certificate (explained e.report)

@@ -1,0 +1,56 @@
+-- The texts of a capture for which a certificate is looked for. Whoever proposes one is not trusted.
+use Rattle.std.specs.Prelude.{◌≡◌, ℕ, Bool, true, List, ◌++◌, length, Option, Ok, Err}
+use Rattle.std.specs.Io.KnownBytes.{Appends, Consumes, IsAtEnd}
+use Rattle.rasta_pcap.specs.declared.fault.Fault.{Fault}
+use Rattle.rasta_pcap.specs.Fault.{fault_at, not_found}
+use Rattle.rasta_pdu.specs.Params.{Parameters}
+use Rattle.rasta_cert.specs.Certificate.{IsCertificate, Scripts, certificate_text}
+use Rattle.rasta_check.specs.Reading.{Crossing, crossing_of}
+use Rattle.rasta_check.specs.Report.{Explained, verdict_of}
+use Rattle.rasta_show.specs.Lines.{refused_line}
+use Rattle.rasta_show.specs.Runs.{MayFollow}
+use Rattle.rasta_verdict.specs.Verdict.{explained_text}
+
+-- how an explanation is written: what crossed, the scripts that explain it, and the report on both
+abbrev pub Telling : Type 0
+Telling = Crossing → Scripts → Explained → List ℕ
+
+-- What may become of a capture, with its text and the status of the program: it is refused; no certificate is found for
+-- it, at some place; the scripts of some certificate are refused; or some certificate explains it, which alone has the
+-- status 0. Which certificate is left open. Whether it explains the capture is not.
+pub data IsOutcome (tell : Telling) (p : Parameters) (file : List ℕ) : List ℕ → ℕ → Type 0 where
+  capture_refused : (fault : Fault) → crossing_of p file ≡ Err fault
+      → IsOutcome tell p file (refused_line fault) 1
+  none_found : (k : Crossing) (place : ℕ) → crossing_of p file ≡ Ok k
+      → IsOutcome tell p file (refused_line (fault_at not_found place)) 1
+  scripts_refused : (k : Crossing) (scripts : Scripts) (fault : Fault) → crossing_of p file ≡ Ok k
+      → IsCertificate scripts
+      → verdict_of k.params (length k.packets) k.client k.server scripts ≡ Err fault
+      → IsOutcome tell p file (refused_line fault) 1
+  explained : (k : Crossing) (scripts : Scripts) (report : Explained) → crossing_of p file ≡ Ok k
+      → IsCertificate scripts
+      → verdict_of k.params (length k.packets) k.client k.server scripts ≡ Ok report
+      → IsOutcome tell p file (tell k scripts report) 0
+
+-- an audit tells an explanation as its run, and what each side took
+abbrev pub IsAudit : Parameters → List ℕ → List ℕ → ℕ → Type 0
+IsAudit p file text status = IsOutcome explained_text p file text status
+
+-- a build tells it as the certificate alone
+abbrev pub built_text : Telling
+built_text k scripts report = certificate_text scripts
+
+abbrev pub IsBuild : Parameters → List ℕ → List ℕ → ℕ → Type 0
+IsBuild p file text status = IsOutcome built_text p file text status
+
+-- some input was read, perhaps to its end, and whatever follows, what was written begins some text of the whole input
+pub record BeginsOutcome (IsText : List ℕ → List ℕ → ℕ → Type 0)
+    (old_input new_input old_output new_output : Option (List ℕ)) : Type 0 where
+  pub input : List ℕ
+  pub met_end : Bool
+  pub consumed : Consumes old_input new_input input
+  pub at_end : met_end ≡ true → IsAtEnd new_input
+  pub output : List ℕ
+  pub appended : Appends old_output new_output output
+  pub begins : (more : List ℕ) → MayFollow met_end more
+      → (text rest : List ℕ) × (status : ℕ) × IsText (input ++ more) text status × (text ≡ output ++ rest)

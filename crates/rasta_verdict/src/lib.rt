@@ -1,0 +1,14 @@
+//! Verdicts on a capture: what `build`, `check` and `audit` write.
+#![tactic(auto)]
+
+mod audit;
+mod check;
+mod proposed;
+mod run_lines;
+mod run_text;
+mod script;
+mod taken_text;
+mod verdict;
+
+pub use audit::{run_audit, run_build};
+pub use check::run_check;

@@ -1,0 +1,207 @@
+//! Rows of captures, read, and the four commands over them.
+use crate::show_tests::{
+    LITTLE, NO_CODES, add_cut_record, add_record, frame_of, header_of, parameters,
+};
+use rasta_pcap::Counted;
+use rasta_pdu::{Fault, Params, Sink, Source};
+use rasta_show::run_show;
+use rasta_verdict::{run_audit, run_build, run_check};
+use std::alloc::Global;
+use std::process::Abort;
+use std::test::Fail;
+
+/// A row, read.
+#[derive(Drop)]
+pub struct Case<'a> {
+    pub name: &'a str,
+    pub params: Params,
+    pub file: Vec<u8>,
+    pub certificate: String,
+    pub want: String,
+}
+
+/// A command; `check` with the text of a certificate.
+#[derive(Clone, Copy)]
+pub enum Command<'a> {
+    Show,
+    Build,
+    Check(&'a [u8]),
+    Audit,
+}
+
+// The digits of a number, lowest byte first.
+fn digits_of(alloc: Global, word: Option<&str>) -> Option<String> {
+    let number: u32 = word?.parse().ok()?;
+    let swapped = u32::from_be_bytes(number.to_le_bytes());
+    format!(in alloc; "{swapped:08x}").ok()
+}
+
+// The same of a number of two bytes.
+fn short_digits(alloc: Global, number: u16) -> Option<String> {
+    let swapped = u16::from_be_bytes(number.to_le_bytes());
+    format!(in alloc; "{swapped:04x}").ok()
+}
+
+// The sender of a packet, and its datagram in digits.
+fn sent_of(alloc: Global, packet: &str) -> Option<String> {
+    let (side, row) = packet.split_once(' ')?;
+    let ids = if side.starts_with("client") {
+        "6100000060000000"
+    } else {
+        "6000000061000000"
+    };
+    let mut words = row.split(' ');
+    let number = digits_of(alloc, words.next())?;
+    let kind = short_digits(alloc, words.next()?.parse().ok()?)?;
+    let sn = digits_of(alloc, words.next())?;
+    let cs = digits_of(alloc, words.next())?;
+    let ts = digits_of(alloc, words.next())?;
+    let cts = digits_of(alloc, words.next())?;
+    let payload = words.next().unwrap_or("");
+    let length = u16::try_from(payload.len() / 2).ok()?;
+    let whole = short_digits(alloc, length.checked_add(36)?)?;
+    let safety = short_digits(alloc, length.checked_add(28)?)?;
+    format!(in alloc;
+        "{side}:{whole}0000{number}{safety}{kind}{ids}{sn}{cs}{ts}{cts}{payload}"
+    ).ok()
+}
+
+// The frame of a packet.
+fn frame_in(alloc: Global, packet: &str) -> Option<Vec<u8>> {
+    if let Some(digits) = packet.strip_prefix("frame:") {
+        return hex::decode(alloc, digits).ok();
+    }
+    if packet.contains(':') {
+        frame_of(alloc, "", packet)
+    } else {
+        frame_of(alloc, "", sent_of(alloc, packet)?.as_str())
+    }
+}
+
+// Appends the record of a packet, whose original length may be told.
+fn add_packet(alloc: Global, file: &mut Vec<u8>, packet: &str) -> Option<()> {
+    match packet.strip_prefix("of ") {
+        Some(rest) => {
+            let (original, packet) = rest.split_once(' ')?;
+            add_cut_record(file, &frame_in(alloc, packet)?, original.parse().ok()?)
+        }
+        None => add_record(file, &frame_in(alloc, packet)?),
+    }
+}
+
+// A file of these packets, with the magic number that they name first.
+fn capture_of(alloc: Global, packets: &str) -> Option<Vec<u8>> {
+    let (magic, packets) = match packets.strip_prefix("magic:") {
+        Some(rest) => rest.split_once('/')?,
+        None => (LITTLE, packets),
+    };
+    let mut file = header_of(alloc, magic)?;
+    for packet in packets.split('/') {
+        match packet {
+            "-" => {}
+            "cut" => {
+                let _ = file.pop()?;
+            }
+            _ => add_packet(alloc, &mut file, packet)?,
+        }
+    }
+    Some(file)
+}
+
+// The lines that a part of a row stands for.
+fn lines_of(alloc: Global, part: &str) -> Option<String> {
+    if part == "-" {
+        return String::from_str(alloc, "").ok();
+    }
+    let text = format!(in alloc; "{part}/").ok()?;
+    text.replace(alloc, "/", "\n").ok()
+}
+
+// The parameters with these further keys; no codes if none of these keys is about them.
+fn params_of(alloc: Global, keys: &str) -> Option<Params> {
+    match keys {
+        "-" => parameters(alloc, NO_CODES),
+        _ if keys.contains("check_length") => parameters(alloc, keys),
+        _ => parameters(alloc, format!(in alloc; "{NO_CODES}/{keys}").ok()?.as_str()),
+    }
+}
+
+/// Reads a row: its name, further keys of the parameters, packets, a certificate, and a text.
+pub fn case_of<'a>(alloc: Global, row: &'a str) -> Option<Case<'a>> {
+    let mut parts = row.split(" | ");
+    let name = parts.next()?;
+    let params = params_of(alloc, parts.next()?)?;
+    let file = capture_of(alloc, parts.next()?)?;
+    let certificate = lines_of(alloc, parts.next()?)?;
+    let want = lines_of(alloc, parts.next()?)?;
+    Some(Case {
+        name,
+        params,
+        file,
+        certificate,
+        want,
+    })
+}
+
+/// What a command answers.
+pub fn run<R: Source, W: Sink>(
+    alloc: Global,
+    command: Command<'_>,
+    params: &Params,
+    reader: &mut R,
+    writer: &mut W,
+) -> Result<u8, Fault> {
+    match command {
+        Command::Show => run_show(alloc, params, reader, writer),
+        Command::Build => run_build(alloc, params, reader, writer),
+        Command::Check(certificate) => run_check(alloc, params, reader, certificate, writer),
+        Command::Audit => run_audit(alloc, params, reader, writer),
+    }
+}
+
+// What a command answers, and what it writes, over memory.
+fn outcome_of(
+    alloc: Global,
+    command: Command<'_>,
+    params: &Params,
+    file: &[u8],
+) -> (Result<u8, Fault>, Vec<u8>) {
+    let mut reader = Counted::new(file);
+    let mut writer = Counted::new(Vec::new(alloc));
+    let outcome = run(alloc, command, params, &mut reader, &mut writer);
+    (outcome, writer.into_inner())
+}
+
+/// The text of a command and its status. Where memory was wanting, what was written is a beginning of
+/// the text, and nothing unless it was the writer that wanted it; then the call is made again.
+pub fn told<R: Abort + AllocGlobal>(
+    rt: &R,
+    command: Command<'_>,
+    params: &Params,
+    file: &[u8],
+) -> Result<(Vec<u8>, u8), Fail> {
+    let (outcome, text) = outcome_of(rt.alloc(), command, params, file);
+    match outcome {
+        Ok(status) => Ok((text, status)),
+        Err(fault) => {
+            let (outcome, again) = outcome_of(rt.alloc(), command, params, file);
+            assert!(rt; again.starts_with(&text));
+            assert!(rt; text.is_empty() || fault.number == Fault::WRITE_FAILED);
+            Ok((again, outcome.ok().ok_or("a device")?))
+        }
+    }
+}
+
+/// Whether the command writes this text, with the status that it calls for.
+pub fn expect<R: Abort + AllocGlobal>(
+    rt: &R,
+    command: Command<'_>,
+    params: &Params,
+    file: &[u8],
+    want: &str,
+) -> Result<(), Fail> {
+    let (text, status) = told(rt, command, params, file)?;
+    assert_eq!(rt; text.as_slice(), want.as_bytes(), "{want}");
+    assert_eq!(rt; status, u8::from(want.starts_with("refused")), "{want}");
+    Ok(())
+}
