@@ -1,23 +1,30 @@
 #!/usr/bin/env python3
-"""Writes the example captures, their parameter files and certificates, and what `show` and `check` print.
+"""Writes the example captures, their parameter files and certificates, and what the program prints.
 
 Plain Python 3, no other packages. Run it anywhere: the files go beside it,
 
-    one_heartbeat   a heartbeat
-    two_channels    heartbeats on two channels, with foreign frames in between
-    handshake       the opening of a connection
-    copies          the same on two channels
-    retransmission  a unit is lost and sent again
-    both_ask        both ends miss a unit, and ask at the same time
-    quiet_start     data behind a recorded quiet point
+    one_heartbeat     a heartbeat
+    two_channels      heartbeats on two channels, with foreign frames in between
+    handshake         the opening of a connection
+    copies            the same on two channels
+    retransmission    a unit is lost and sent again
+    both_ask          both ends miss a unit, and ask at the same time
+    quiet_start       data after a recorded quiet point
+    timeout           an end hears nothing until its deadline, and disconnects
+    wrapped           every counter wraps around
+    missing_packet    a packet that isn't in the capture
+    foreign_sender    a PDU of a third party
+    flipped_bit       a late copy with a changed bit
+    repeated_request  a retransmission request that is sent twice
 
-each as NAME.pcap, NAME.toml and expected/NAME.txt, the last five also as NAME.cert and
-expected/NAME.check.txt; and every run writes the same bytes. All addresses, clocks and numbers are made up.
+each as NAME.pcap, NAME.toml and expected/NAME.txt, what `show` prints. Those from handshake to wrapped have also
+NAME.cert and expected/NAME.check.txt, what `check` prints; the last four expected/NAME.audit.txt, the refusal that
+`audit` prints. Every run writes the same bytes. All addresses, clocks and numbers are made up.
 
 The expected texts of `show` come about in two ways, which are compared: from the list of PDUs that the
 captures were made of, and by a reader of this script's own, which takes the finished file apart. Those
 of `check` are put together from the packets, the certificate's entries and the messages that each story
-says were taken. None uses rasta_audit.
+says were taken; refusals are those that a story is about. None uses rasta_audit.
 """
 
 import pathlib
@@ -284,18 +291,35 @@ def show_line(place, record, channel, pdu, code, check):
     return f"{place} {record} {channel} {fields} {body_text(pdu.body)} {codes}\n"
 
 
-def planned_text(connection, packets):
-    """The text of packets, each a record's number, a channel and a PDU."""
+def planned_lines(connection, packets):
+    """The lines of packets, each a record's number, a channel and a PDU."""
     lines = []
     for place, (record, channel, pdu) in enumerate(packets):
         whole = datagram(connection, pdu)
         check_at = len(whole) - connection.check_length
         code = whole[check_at - connection.code_length : check_at]
         lines.append(show_line(place, record, channel, pdu, code, whole[check_at:]))
-    return "".join(lines) + f"packets {len(lines)}\n"
+    return "".join(lines)
+
+
+def planned_text(connection, packets):
+    """The text of packets none of which is refused."""
+    return planned_lines(connection, packets) + f"packets {len(packets)}\n"
 
 
 # ---- certificates, and what `check` prints
+
+
+class Refusal(typing.NamedTuple):
+    """A fault's number and name, its record, and the end that it names."""
+
+    number: int
+    name: str
+    record: int
+    end: str = "-"
+
+    def line(self):
+        return f"refused {self.number} {self.name} {self.record} {self.end}\n"
 
 
 class Story(typing.NamedTuple):
@@ -423,11 +447,13 @@ def pdu_in(connection, side, whole):
     return Pdu(side, number, kinds >> 16, sn, cs, ts, cts, body), code, whole[check_at:]
 
 
-def read_text(data, connection):
-    """The text of a file in which every datagram of the connection is a sound PDU."""
+def read_text(data, connection, refusal=None):
+    """The text of a file in which every datagram of the connection is a sound PDU, or those before a refusal are."""
     lines = []
     for record, frame in enumerate(records_of(data), 1):
         found = sender_in(frame, connection.channels)
+        if refusal and refusal.record == record:
+            return "".join(lines) + refusal.line()
         if found is not None:
             channel, side, payload = found
             pdu, code, check = pdu_in(connection, side, payload)
@@ -504,10 +530,11 @@ def two_channels(connection):
     return capture(records), planned_text(connection, packets)
 
 
-def in_turn(connection, pdus):
-    """PDUs on the first channel, one every 5 milliseconds."""
+def in_turn(connection, pdus, times=None):
+    """PDUs on the first channel, one every 5 milliseconds or at these times, in milliseconds."""
     frames = [frame_of(pdu.side, 1, datagram(connection, pdu)) for pdu in pdus]
-    records = [(START + 5000 * i, frame) for i, frame in enumerate(frames)]
+    times = times or [5 * i for i in range(len(pdus))]
+    records = [(START + 1000 * time, frame) for time, frame in zip(times, frames)]
     return capture(records), planned_text(connection, [(i, 1, pdu) for i, pdu in enumerate(pdus, 1)])
 
 
@@ -689,6 +716,113 @@ QUIET_STORY = Story(
     server_took=[(0, 0, 1, FIRST[0]), (1, 0, 1, FIRST[1])],
 )
 
+# The client falls silent after the opening. The server's deadline is T_max after its own time 9000, which the client's
+# heartbeat confirms; at the deadline it disconnects for a timeout.
+TIMEOUT = HANDSHAKE + [
+    Pdu("server", 41, HEARTBEAT, 501, 101, 9300, 1010),
+    Pdu("server", 42, HEARTBEAT, 502, 101, 9600, 1010),
+    Pdu("server", 43, HEARTBEAT, 503, 101, 9900, 1010),
+    Pdu("server", 44, HEARTBEAT, 504, 101, 10200, 1010),
+    Pdu("server", 45, HEARTBEAT, 505, 101, 10500, 1010),
+    Pdu("server", 46, DISCONNECTION_REQUEST, 506, 101, 10800, 1010, (0, 4)),
+]
+
+TIMEOUT_TIMES = [0, 5, 10, 305, 605, 905, 1205, 1505, 1805]
+
+TIMEOUT_STORY = Story(
+    ["make 0 1000 open", "take 2 40", "make 2 1010 reply"],
+    [
+        "take 1 7",
+        "make 1 9000 reply",
+        "take 3 8",
+        "make 3 9300 beat",
+        "make 4 9600 beat",
+        "make 5 9900 beat",
+        "make 6 10200 beat",
+        "make 7 10500 beat",
+        "make 8 10800 expired",
+    ],
+)
+
+LAST = 2**32 - 1  # after it comes 0
+
+# The redundancy numbers, the sequence numbers and the time stamps of both ends wrap around.
+WRAPPED = [
+    Pdu("client", LAST, CONNECTION_REQUEST, LAST, 0, LAST - 5, 0, OPENING),
+    Pdu("server", LAST, CONNECTION_RESPONSE, LAST, LAST, LAST - 15, LAST - 5, OPENING),
+    Pdu("client", 0, HEARTBEAT, 0, LAST, 4, LAST - 15),
+    Pdu("client", 1, DATA, 1, LAST, 14, LAST - 15, FIRST),
+    Pdu("server", 0, HEARTBEAT, 0, 1, 10, 14),
+    Pdu("client", 2, HEARTBEAT, 2, 0, 24, 10),
+]
+
+WRAPPED_STORY = Story(
+    [
+        "make 0 4294967290 open",
+        "take 2 4294967295",
+        "make 2 4294967300 reply",
+        "make 3 4294967310 fresh",
+        "take 5 0",
+        "make 5 4294967320 beat",
+    ],
+    ["take 1 4294967295", "make 1 4294967280 reply", "take 4 0", "take 4 1", "make 4 4294967306 beat"],
+    server_took=[(0, 3, 4, FIRST[0]), (1, 3, 4, FIRST[1])],
+)
+
+# The retransmission without the client's redundancy PDU 11, which the tap missed.
+MISSING_PACKET = [pdu for pdu in RETRANSMISSION if (pdu.side, pdu.number) != ("client", 11)]
+MISSING_REFUSAL = Refusal(28, "NumberGap", 7, "client")
+
+# A PDU with another sender's id comes from the client's address.
+FOREIGN_ID = 98
+FOREIGN_SENDER = HANDSHAKE + [
+    Pdu("client", 9, DATA, 102, 500, 1015, 9000, FIRST),
+    Pdu("server", 41, HEARTBEAT, 501, 102, 9020, 1015),
+]
+FOREIGN_REFUSAL = Refusal(26, "Ids", 4, "client")
+
+
+def foreign_sender(connection):
+    """The packets, of which the fourth has another id in the sender's place."""
+    data, _ = in_turn(connection, FOREIGN_SENDER)
+    own, other = struct.pack("<I", CLIENT_ID), struct.pack("<I", FOREIGN_ID)
+    datagrams = [datagram(connection, pdu) for pdu in FOREIGN_SENDER]
+    changed = datagrams[3][:16] + other + datagrams[3][20:]
+    assert datagrams[3][16:20] == own and data.count(datagrams[3]) == 1
+    before = [(i, 1, pdu) for i, pdu in enumerate(FOREIGN_SENDER[:3], 1)]
+    return data.replace(datagrams[3], changed), planned_lines(connection, before) + FOREIGN_REFUSAL.line()
+
+
+# The opening and a unit with safety codes, and then the unit's copy on the second channel, with a changed bit.
+FLIPPED_BIT = [(channel, pdu) for pdu in HANDSHAKE for channel in (1, 2)] + [
+    (1, Pdu("client", 9, DATA, 102, 500, 1015, 9000, FIRST)),
+    (2, Pdu("client", 9, DATA, 102, 500, 1015, 9000, FIRST)),
+]
+FLIPPED_REFUSAL = Refusal(25, "Code", 8, "client")
+
+
+def flipped_bit(connection):
+    """The packets, with the last bit of the first message's last byte changed in the last one."""
+    data, _ = on_channels(connection, FLIPPED_BIT)
+    whole = datagram(connection, FLIPPED_BIT[-1][1])
+    at = 36 + 2 + len(FIRST[0]) - 1
+    changed = whole[:at] + bytes([whole[at] ^ 1]) + whole[at + 1 :]
+    front, _, end = data.rpartition(whole)
+    before = [(i, *packet) for i, packet in enumerate(FLIPPED_BIT[:-1], 1)]
+    return front + changed + end, planned_lines(connection, before) + FLIPPED_REFUSAL.line()
+
+
+# As in the retransmission the server misses a unit. It repeats its request before the answer comes.
+REPEATED_REQUEST = RETRANSMISSION[:6] + [
+    Pdu("server", 42, RETRANSMISSION_REQUEST, 502, 101, 9025, 1010),
+    Pdu("client", 11, RETRANSMISSION_RESPONSE, 104, 502, 1030, 9025),
+    Pdu("client", 12, RETRANSMITTED_DATA, 105, 502, 1035, 9025, FIRST),
+    Pdu("client", 13, RETRANSMITTED_DATA, 106, 502, 1040, 9025, SECOND),
+    Pdu("server", 43, HEARTBEAT, 503, 106, 9040, 1040),
+]
+# The place of a 60 is that of the packet in the list of all, counted from 1.
+REPEATED_REFUSAL = Refusal(60, "NotFound", 7)
+
 ONE_COMMENT = """\
 # Parameters of one_heartbeat.pcap: a connection with one redundancy channel.
 # All keys that have to be there are here; the window is the whole file, since first_record and
@@ -727,13 +861,49 @@ QUIET_COMMENT = """\
 """
 
 
-def write(name, connection, made, comment):
+TIMEOUT_COMMENT = """\
+# Parameters of timeout.pcap: a connection with one redundancy channel.
+
+"""
+
+WRAPPED_COMMENT = """\
+# Parameters of wrapped.pcap: a connection with one redundancy channel.
+
+"""
+
+MISSING_COMMENT = """\
+# Parameters of missing_packet.pcap: a connection with safety codes and check codes.
+
+"""
+
+FOREIGN_COMMENT = """\
+# Parameters of foreign_sender.pcap: a connection with one redundancy channel.
+
+"""
+
+FLIPPED_COMMENT = """\
+# Parameters of flipped_bit.pcap: a connection with two redundancy channels and safety codes.
+
+"""
+
+REPEATED_COMMENT = """\
+# Parameters of repeated_request.pcap: a connection with one redundancy channel.
+
+"""
+
+
+def write(name, connection, made, comment, refusal=None):
     data, text = made
-    assert read_text(data, connection) == text, name
+    assert read_text(data, connection, refusal) == text, name
     (HERE / "expected").mkdir(exist_ok=True)
     (HERE / f"{name}.pcap").write_bytes(data)
     (HERE / f"{name}.toml").write_bytes(parameters(comment, connection).encode())
     (HERE / "expected" / f"{name}.txt").write_bytes(text.encode())
+
+
+def write_refusal(name, refusal):
+    """What `audit` prints of a capture that nothing explains."""
+    (HERE / "expected" / f"{name}.audit.txt").write_bytes(refusal.line().encode())
 
 
 def write_verdict(name, pdus, story):
@@ -758,3 +928,16 @@ if __name__ == "__main__":
     write_verdict("retransmission", RETRANSMISSION, RETRANSMISSION_STORY)
     write_verdict("both_ask", BOTH_ASK, BOTH_ASK_STORY)
     write_verdict("quiet_start", QUIET_START, QUIET_STORY)
+    write("timeout", one, in_turn(one, TIMEOUT, TIMEOUT_TIMES), TIMEOUT_COMMENT)
+    write_verdict("timeout", TIMEOUT, TIMEOUT_STORY)
+    write("wrapped", one, in_turn(one, WRAPPED), WRAPPED_COMMENT)
+    write_verdict("wrapped", WRAPPED, WRAPPED_STORY)
+    write("missing_packet", coded, in_turn(coded, MISSING_PACKET), MISSING_COMMENT)
+    write_refusal("missing_packet", MISSING_REFUSAL)
+    write("foreign_sender", one, foreign_sender(one), FOREIGN_COMMENT, FOREIGN_REFUSAL)
+    write_refusal("foreign_sender", FOREIGN_REFUSAL)
+    both_coded = Connection(CHANNELS, 16, 4, OWN_START)
+    write("flipped_bit", both_coded, flipped_bit(both_coded), FLIPPED_COMMENT, FLIPPED_REFUSAL)
+    write_refusal("flipped_bit", FLIPPED_REFUSAL)
+    write("repeated_request", one, in_turn(one, REPEATED_REQUEST), REPEATED_COMMENT)
+    write_refusal("repeated_request", REPEATED_REFUSAL)

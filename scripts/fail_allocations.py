@@ -7,8 +7,9 @@ The program, with each of its commands on each sample and on six rows of verdict
 allocation fails, or it and all after it. The program must answer as it does with ample memory, or refuse for lack of
 it with status 3; then no part of a verdict or a certificate is written. `rt run` in crates/rasta_audit leaves it.
 
-With `tests`: tests that repeat a call that ran out of memory, of ends, of reading a certificate, and of a check, a
-build and an audit of data. `rt test` in crates/rasta_layer_tests and crates/rasta_verdict_tests leaves them.
+With `tests`: tests that repeat a call that ran out of memory, of ends, of writing a datagram, of reading a
+certificate, and of a check, a build and an audit of data. `rt test` in crates/rasta_layer_tests and
+crates/rasta_verdict_tests leaves them.
 Needs gcc; plain Python 3, no other packages.
 """
 
@@ -36,6 +37,7 @@ ROWS = [
 TESTS = [
     ("rasta_layer_tests", "ends::ends_by_rows", 1),
     ("rasta_layer_tests", "certificates::certificate_is_read_again", 1),
+    ("rasta_layer_tests", "pdus::datagrams_are_written_again", 1),
     ("rasta_verdict_tests", "device_tests::memory_is_wanting", 121),
 ]
 

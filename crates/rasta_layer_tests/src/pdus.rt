@@ -211,3 +211,42 @@ fn longest_message_is_written(rt: HostRuntime) {
     assert_eq!(rt; written(rt.alloc(), 65_469), Some((0, 65_509)));
     assert_eq!(rt; written(rt.alloc(), 65_470), Some((29, 2)));
 }
+
+// The datagram of a heartbeat.
+const HEARTBEAT: &[u8] =
+    b"\x24\0\0\0\x08\0\0\0\x1c\0\x4c\x18\x61\0\0\0\x60\0\0\0\x65\0\0\0\xf4\x01\0\0\xf2\x03\0\0\x28\x23\0\0";
+
+// Appends the heartbeat to datagrams of it, once more where memory ran out, and answers whether nothing else
+// changed.
+fn is_appended(params: &Params, parts: &PduParts, out: &mut Vec<u8>) -> bool {
+    let start = out.len();
+    if !parts.fits(params) {
+        return false;
+    }
+    let mut answer = encode(params, Side::Client, parts, out);
+    if answer == Err(Fault::at(Fault::NO_MEMORY, 0)) {
+        if out.len() != start {
+            return false;
+        }
+        answer = encode(params, Side::Client, parts, out);
+    }
+    answer.is_ok() && out.get(start..) == Some(HEARTBEAT)
+}
+
+// Whether four heartbeats are appended, one after another.
+fn are_appended(alloc: Global) -> Option<bool> {
+    let params = params_of("plain")?;
+    let parts = parts_of("client 8 6220 101 500 1010 9000 -")?;
+    let mut out = Vec::new(alloc);
+    for _ in 0..4 {
+        if !is_appended(&params, &parts, &mut out) {
+            return Some(false);
+        }
+    }
+    Some(out.starts_with(HEARTBEAT))
+}
+
+#[test]
+fn datagrams_are_written_again(rt: HostRuntime) {
+    assert_eq!(rt; are_appended(rt.alloc()), Some(true));
+}
