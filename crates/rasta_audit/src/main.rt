@@ -28,8 +28,8 @@ use std::io::{BufWriter, Printer, Read, Write};
 use std::process::ExitCode;
 use std::rt::{Env, Files};
 
-// How many bytes of a capture are read at once.
-const CAPTURE_BUFFER: usize = 65_536;
+// How many bytes of a capture are read at once, and how many of an answer written.
+const BUFFER: usize = 65_536;
 
 // A file that is opened when it is first read: one that can't be opened is one that can't be read.
 #[derive(Drop)]
@@ -70,14 +70,14 @@ fn capture_at<'a, R: AllocGlobal + Files>(
 ) -> Result<Buffered<Counted<Unopened<'a, R>>>, Fault>
     ensures { IfErr result (λ f. f ≡ no_memory) }
 {
-    Buffered::new(rt.alloc(), Counted::new(file_at(rt, path)), CAPTURE_BUFFER)
+    Buffered::new(rt.alloc(), Counted::new(file_at(rt, path)), BUFFER)
 }
 
 // Standard output, through a buffer.
 fn output<R: AllocGlobal + Print>(rt: &R) -> Result<Counted<BufWriter<Printer<'_, R>>>, Fault>
     ensures { IfErr result (λ f. f ≡ no_memory) }
 {
-    match BufWriter::new(rt.alloc(), io::writer(rt)) {
+    match BufWriter::with_capacity(rt.alloc(), BUFFER, io::writer(rt)) {
         Ok(output) => Ok(Counted::new(output)),
         Err(_) => Err(Fault::at(Fault::NO_MEMORY, 0)),
     }
