@@ -18,7 +18,7 @@ Plain Python 3, no other packages. Run it anywhere: the files go beside it,
     repeated_request  a retransmission request that is sent twice
 
 each as NAME.pcap, NAME.toml and expected/NAME.txt, what `show` prints. Those from handshake to wrapped have also
-NAME.cert and expected/NAME.check.txt, what `check` prints; the last four expected/NAME.audit.txt, the refusal that
+NAME.cert and expected/NAME.check.txt, what `check` prints; the others expected/NAME.audit.txt, the refusal that
 `audit` prints. Every run writes the same bytes. All addresses, clocks and numbers are made up.
 
 The expected texts of `show` come about in two ways, which are compared: from the list of PDUs that the
@@ -823,6 +823,9 @@ REPEATED_REQUEST = RETRANSMISSION[:6] + [
 # The place of a 60 is that of the packet in the list of all, counted from 1.
 REPEATED_REFUSAL = Refusal(60, "NotFound", 7)
 
+# A capture that begins with a heartbeat, where no quiet point is recorded.
+NO_OPENING = Refusal(60, "NotFound", 1)
+
 ONE_COMMENT = """\
 # Parameters of one_heartbeat.pcap: a connection with one redundancy channel.
 # All keys that have to be there are here; the window is the whole file, since first_record and
@@ -918,6 +921,8 @@ if __name__ == "__main__":
     quiet = Connection(CHANNELS[:1], quiet=QUIET)
     write("one_heartbeat", one, one_heartbeat(one), ONE_COMMENT)
     write("two_channels", two, two_channels(two), TWO_COMMENT)
+    write_refusal("one_heartbeat", NO_OPENING)
+    write_refusal("two_channels", NO_OPENING)
     write("handshake", one, in_turn(one, HANDSHAKE), HANDSHAKE_COMMENT)
     write("copies", two, on_channels(two, COPIES), COPIES_COMMENT)
     write("retransmission", coded, in_turn(coded, RETRANSMISSION), RETRANSMISSION_COMMENT)
