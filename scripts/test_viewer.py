@@ -55,12 +55,11 @@ SPEAKS_OF_ENDS = "No two ends that keep the rules send these packets"
 TITLES = [
     (range(1, 4), "No answer"),
     (range(10, 20), "The capture can't be read"),
-    (range(20, 29), SPEAKS_OF_ENDS),
+    ((*range(20, 29), 60), SPEAKS_OF_ENDS),
     (range(29, 30), "No answer"),
     ((30, 45), "The certificate's text is wrong"),
     ((*range(31, 45), 46, 47), "Not explained by this certificate"),
     (range(50, 53), "The parameter file is wrong"),
-    ((60,), "No explanation was found"),
 ]
 
 

@@ -13,6 +13,7 @@ use Rattle.rasta_audit.specs.declared.form.Form.TheVariants.{Show, Build, Check,
 use Rattle.rasta_verdict.specs.Verdict.{BeginsVerdict, IsVerdict, WritesVerdict}
 use Rattle.rasta_verdict.specs.Proposed.{BeginsOutcome, IsAudit, IsBuild}
 use Rattle.rasta_verdict.specs.Claims.{ClaimsHeadline}
+use Rattle.rasta_verdict.specs.Decided.{Decides}
 
 -- the bytes that are left of the parameter file, of the certificate and of the capture, what the output holds, and how
 -- often each of the four devices has failed
@@ -70,6 +71,12 @@ abbrev pub HoldsHeadline : Form → Parameters → ℕ → Option (List ℕ) →
 HoldsHeadline (Check a b c) p = WritesVerdict (ClaimsHeadline p)
 HoldsHeadline (Audit a b) p = WritesVerdict (ClaimsHeadline p)
 HoldsHeadline _ p = λ status old_input new_input old_output new_output. Unit {0}
+
+-- `build` and `audit` decide; the others make no claim
+abbrev pub HoldsDecision : Form → Parameters → ℕ → Option (List ℕ) → Option (List ℕ) → Option (List ℕ) → Option (List ℕ) → Type 0
+HoldsDecision (Build a b) p = WritesVerdict (Decides p)
+HoldsDecision (Audit a b) p = WritesVerdict (Decides p)
+HoldsDecision _ p = λ status old_input new_input old_output new_output. Unit {0}
 
 -- `build`, `check` and `audit` wrote nothing where they give up for another cause than a failed write; `show` may have
 -- written a beginning of its text

@@ -18,13 +18,13 @@ use crate::failure::{Failure, status};
 use crate::form::Form;
 pub use crate::running::run_form;
 pub use rasta_params::params;
-use rasta_pcap::Counted;
+use rasta_pcap::{Buffered, Counted};
 use rasta_pdu::Fault;
 pub use rasta_show::run_show;
 pub use rasta_verdict::{run_audit, run_build, run_check};
 use std::fs::File;
 use std::io;
-use std::io::{BufReader, BufWriter, Printer, Read, Write};
+use std::io::{BufWriter, Printer, Read, Write};
 use std::process::ExitCode;
 use std::rt::{Env, Files};
 
@@ -67,13 +67,10 @@ fn file_at<'a, R: Files>(rt: &'a R, path: &'a str) -> Unopened<'a, R> {
 fn capture_at<'a, R: AllocGlobal + Files>(
     rt: &'a R,
     path: &'a str,
-) -> Result<Counted<BufReader<Unopened<'a, R>>>, Fault>
+) -> Result<Buffered<Counted<Unopened<'a, R>>>, Fault>
     ensures { IfErr result (λ f. f ≡ no_memory) }
 {
-    match BufReader::with_capacity(rt.alloc(), CAPTURE_BUFFER, file_at(rt, path)) {
-        Ok(file) => Ok(Counted::new(file)),
-        Err(_) => Err(Fault::at(Fault::NO_MEMORY, 0)),
-    }
+    Buffered::new(rt.alloc(), Counted::new(file_at(rt, path)), CAPTURE_BUFFER)
 }
 
 // Standard output, through a buffer.

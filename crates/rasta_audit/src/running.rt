@@ -4,7 +4,7 @@ ghost use Rattle.rasta_pdu.specs.Params.{Parameters};
 ghost use Rattle.rasta_params.specs.Keys.{ReadsParameters};
 ghost use Rattle.rasta_show.specs.Runs.{IsRunFault};
 ghost use Rattle.rasta_verdict.specs.Verdict.{WritesVerdict};
-ghost use Rattle.rasta_audit.specs.Forms.{BeginsTelling, CarriesOut, GivesUp, HoldsHeadline, IsReadFault, ReadsCertificate, ReadsParameterFile, ReadsWhole, StaysSilent, Tells};
+ghost use Rattle.rasta_audit.specs.Forms.{BeginsTelling, CarriesOut, GivesUp, HoldsDecision, HoldsHeadline, IsReadFault, ReadsCertificate, ReadsParameterFile, ReadsWhole, StaysSilent, Tells};
 
 use crate::form::Form;
 use rasta_params::params;
@@ -54,6 +54,8 @@ fn run_command<R: Source, W: Sink>(
     ensures begun { OnErr result (BeginsTelling form.now params.now certificate.now
         (R.remaining capture.old) (R.remaining capture.new) (W.contents writer.old) (W.contents writer.new)) }
     ensures headline { IfOk result (λ status. HoldsHeadline form.now params.now status
+        (R.remaining capture.old) (R.remaining capture.new) (W.contents writer.old) (W.contents writer.new)) }
+    ensures decided { IfOk result (λ status. HoldsDecision form.now params.now status
         (R.remaining capture.old) (R.remaining capture.new) (W.contents writer.old) (W.contents writer.new)) }
     ensures silent { IfErr result (λ f. StaysSilent form.now f (W.contents writer.old) (W.contents writer.new)) }
     ensures err { IfErr result (λ f. IsRunFault f (R.failure_count capture.old) (R.failure_count capture.new)
@@ -124,6 +126,10 @@ pub fn run_form<P: Source, C: Source, R: Source, W: Sink>(
     ensures headline { IfOk result (λ status. (p : Parameters)
         × ReadsParameterFile (P.remaining parameters.old) (P.remaining parameters.new) p
         × HoldsHeadline form.now p status (R.remaining capture.old) (R.remaining capture.new)
+        (W.contents writer.old) (W.contents writer.new)) }
+    ensures decided { IfOk result (λ status. (p : Parameters)
+        × ReadsParameterFile (P.remaining parameters.old) (P.remaining parameters.new) p
+        × HoldsDecision form.now p status (R.remaining capture.old) (R.remaining capture.new)
         (W.contents writer.old) (W.contents writer.new)) }
     ensures silent { IfErr result (λ f. StaysSilent form.now f (W.contents writer.old) (W.contents writer.new)) }
 {

@@ -36,7 +36,7 @@ leads_count p n own peer u v (x ∷ es) f = by x f.0 f.1 (leads_count p n own pe
     by x m (takes_next slot position c e' a b g d f t) l = omega arith
     by x m (makes_next c clock why e' a g k) l = omega arith
 
-taken_within : (p : Parameters) (n : ℕ) (own peer : List FirstCopy) (u v : Cursor) (es : List Entry) → Leads p n own peer u es v → u.taken ≤ length peer → v.taken ≤ length peer
+pub taken_within : (p : Parameters) (n : ℕ) (own peer : List FirstCopy) (u v : Cursor) (es : List Entry) → Leads p n own peer u es v → u.taken ≤ length peer → v.taken ≤ length peer
 taken_within p n own peer u v [] f l = (let b = ap (λ (z : Cursor). z.taken) f in omega arith)
 taken_within p n own peer u v (x ∷ es) f l = taken_within p n own peer f.0 v es f.2 (by x f.0 f.1)
   where

@@ -19,7 +19,8 @@ use Rattle.rasta_end.specs.declared.why.Why.TheVariants.{Open, Reply, Beat, Fres
 use Rattle.rasta_end.specs.declared.take_row.TakeRow.{TakeRow}
 use Rattle.rasta_end.specs.State.{EndState, ahead_by, is_owing, is_retr_req, reason_of}
 use Rattle.rasta_end.specs.Starts.{start_of, start_by}
-use Rattle.rasta_end.specs.MakeRule.{make_fault, after_make}
+use Rattle.rasta_end.specs.MakeRule.{make_fault, row_of, after_make_by, after_make}
+use Rattle.rasta_end.specs.declared.make_row.MakeRow.{MakeRow}
 use Rattle.rasta_end.specs.TakeRule.{effect, effect_by, after_take, take_row, take_fault}
 use Rattle.rasta_check.specs.Crossing.{FirstCopy}
 use Rattle.rasta_check.specs.Scripts.{Cursor, Advances, takes_next, makes_next, Leads, at_start}
@@ -31,6 +32,7 @@ use Rattle.rasta_build.specs.Choices.{peer_quiet_sn, copy_there, copy_at, is_in_
 use Rattle.rasta_build.specs.Clock.{clock_of}
 use Rattle.rasta_build.specs.Explaining
 use Rattle.rasta_build.proofs.Comparisons.{less_is, not_less}
+use Rattle.rasta_build.proofs.Keeping.{accept_keeps, trigger_next}
 
 -- the script leads from the start to the builder's end, which has made so many PDUs; the next entry may stand after this many packets
 pub record IsRead (p : Parameters) (side : Side) (n : ℕ) (own peer : List FirstCopy) (k level : ℕ) (b : Built) : Type 0 where
@@ -43,6 +45,7 @@ pub record IsRead (p : Parameters) (side : Side) (n : ℕ) (own peer : List Firs
   pub params : b.end.params ≡ p
   pub quiet : b.peer.quiet_sn ≡ peer_quiet_sn p.quiet side
   pub entries : AreEntries b.script
+  pub accepted : b.end.state.accepted ≤ b.next_take
 
 -- ---- positions
 
@@ -61,6 +64,14 @@ member_there (Some q) Server i big c h = by (i == 0) refl h
     by : (z : Bool) → (i == 0) ≡ z → copy_there big (if z then None else Some (i - 1)) ≡ Some c → (1 ≤ i) × (slice_get big (i - 1) ≡ Some c)
     by true e h = absurd (cc)
     by false e h = (not_zero i e, h)
+
+-- a make accepts nothing
+made_accepted : (e : EndState) (x : SafetyPdu) (clock : ℕ) (why : Why) → (after_make e x clock why).accepted ≡ e.accepted
+made_accepted e x clock why = by (row_of e x why)
+  where
+    by : (o : Option MakeRow) → (after_make_by o e x clock).accepted ≡ e.accepted
+    by None = refl
+    by (Some row) = refl
 
 -- ---- entries
 
@@ -117,8 +128,8 @@ module _ (p : Parameters) (side : Side) (n : ℕ) (own peer : List FirstCopy) (f
   Read b = IsRead p side n own peer k slot b
 
   -- a take that is found
-  take_read : (q : ℕ) (c : FirstCopy) (b b' : Built) → Read b → copy_at b.peer.quiet_sn peer q ≡ Some c → c.place < slot → Explaining.take_step slot q c.pdu b ≡ Some b' → Read b'
-  take_read q c b b' r there front h = by (nat_lt q b.next_take) refl (take_fault b.end.params b.end.state b.end.state.clock) refl (take_row b.end.params b.end.state c.pdu.safety) refl h
+  take_read : (q : ℕ) (c : FirstCopy) (b b' : Built) → Read b → copy_at b.peer.quiet_sn peer q ≡ Some c → c.place < slot → (b.next_take ≤ q → b'.end.state.accepted ≤ suc q) → Explaining.take_step slot q c.pdu b ≡ Some b' → Read b'
+  take_read q c b b' r there front most h = by (nat_lt q b.next_take) refl (take_fault b.end.params b.end.state b.end.state.clock) refl (take_row b.end.params b.end.state c.pdu.safety) refl h
     where
       by : (f : Bool) → nat_lt q b.next_take ≡ f → (t : Option ℕ) → take_fault b.end.params b.end.state b.end.state.clock ≡ t → (o : Option TakeRow) → take_row b.end.params b.end.state c.pdu.safety ≡ o
           → (if f then None else Explaining.unless t (Explaining.taken_by o slot q c.pdu b)) ≡ Some b' → Read b'
@@ -151,11 +162,12 @@ module _ (p : Parameters) (side : Side) (n : ℕ) (own peer : List FirstCopy) (f
             params = r.params;
             quiet = r.quiet;
             entries = entries_push b.script (Take slot c.pdu.number) r.entries (omega (arith, small, inside), numbers (q - base p) c m.1);
+            accepted = (let bs = base_small p.quiet in let ac : after.accepted ≤ suc q = subst (λ (z : Built). z.end.state.accepted ≤ suc q) (sym e) (most above) in omega (arith, l, few, m0, bs, ac));
           })
 
   -- acceptance
   accept_read : (q : ℕ) (b b' : Built) → Read b → ((c : FirstCopy) → copy_at (peer_quiet_sn p.quiet side) peer q ≡ Some c → c.place < slot) → Explaining.accept_step peer slot q b ≡ Some b' → Read b'
-  accept_read q b b' r front h = by (copy_at b.peer.quiet_sn peer q) refl h
+  accept_read q b b' r front whole = by (copy_at b.peer.quiet_sn peer q) refl whole
     where
       same_by : (a : Bool) (x : Built) → (if a then Some x else None) ≡ Some b' → x ≡ b'
       same_by true x h = cc
@@ -163,7 +175,7 @@ module _ (p : Parameters) (side : Side) (n : ℕ) (own peer : List FirstCopy) (f
 
       then_by : (c : FirstCopy) → copy_at b.peer.quiet_sn peer q ≡ Some c → (o : Option Built) → Explaining.take_step slot q c.pdu b ≡ o → Explaining.if_accepted q o ≡ Some b' → Read b'
       then_by c g None e h = absurd (cc)
-      then_by c g (Some x) e h = (let s = same_by (x.end.state.accepted == suc q) x h in subst (λ (z : Built). Read z) s (take_read q c b x r g (front c (ap (λ (z : Option ℕ). copy_at z peer q) (sym r.quiet) ∙ g)) e))
+      then_by c g (Some x) e h = (let s = same_by (x.end.state.accepted == suc q) x h in let last = accept_keeps peer slot q b b' whole in subst (λ (z : Built). Read z) s (take_read q c b x r g (front c (ap (λ (z : Option ℕ). copy_at z peer q) (sym r.quiet) ∙ g)) (λ l. subst (λ (z : Built). z.end.state.accepted ≤ suc q) (sym s) (let y = last.1 in omega (arith, y))) e))
 
       by : (o : Option FirstCopy) → copy_at b.peer.quiet_sn peer q ≡ o → Explaining.accept_there slot q o b ≡ Some b' → Read b'
       by None g h = absurd (cc)
@@ -182,31 +194,29 @@ module _ (p : Parameters) (side : Side) (n : ℕ) (own peer : List FirstCopy) (f
   -- the scan
   scan_read : (made : Kind) (m first : ℕ) (b b' : Built) → Read b → Explaining.scan peer slot made first m b ≡ Some b' → Read b'
   scan_read made zero first b b' r h = absurd (cc)
-  scan_read made (suc m) first b b' r h = there (copy_at b.peer.quiet_sn peer first) refl h (λ x s e. scan_read made m (suc first) x b' s e)
+  scan_read made (suc m) first b b' r h = on (Explaining.try_step peer slot made first b) refl h (λ x s e. scan_read made m (suc first) x b' s e)
     where
-      tried : (c : FirstCopy) (x : Built) → copy_at b.peer.quiet_sn peer first ≡ Some c → c.place < slot → (t : Bool) → Explaining.try_at t slot first c.pdu b ≡ Some x → Read x
-      tried c x g l true e = take_read first c b x r g l e
-      tried c x g l false e = (let z : b ≡ x = cc in subst (λ (y : Built). Read y) z r)
+      tried : (c : FirstCopy) (x : Built) → copy_at b.peer.quiet_sn peer first ≡ Some c → c.place < slot → (t : Bool) → is_trigger made c.pdu.safety.kind ≡ t → Explaining.try_at t slot first c.pdu b ≡ Some x → Read x
+      tried c x g l true t e = take_read first c b x r g l (λ low. (let y = trigger_next made slot first c.pdu b x t e in let z = r.accepted in omega (arith, low, y, z))) e
+      tried c x g l false t e = (let z : b ≡ x = cc in subst (λ (y : Built). Read y) z r)
 
       ends : (x : Built) (o : Bool) → Read x → (if o then Some x else Explaining.scan peer slot made (suc first) m x) ≡ Some b' → ((y : Built) → Read y → Explaining.scan peer slot made (suc first) m y ≡ Some b' → Read b') → Read b'
       ends x true s h rest = (let z : x ≡ b' = cc in subst (λ (y : Built). Read y) z s)
       ends x false s h rest = rest x s h
 
-      on : (c : FirstCopy) → copy_at b.peer.quiet_sn peer first ≡ Some c → c.place < slot → (o : Option Built) → Explaining.try_at (is_trigger made c.pdu.safety.kind) slot first c.pdu b ≡ o
-          → Explaining.go_on (Explaining.scan peer slot made (suc first) m) o ≡ Some b' → ((y : Built) → Read y → Explaining.scan peer slot made (suc first) m y ≡ Some b' → Read b') → Read b'
-      on c g l None e h rest = absurd (cc)
-      on c g l (Some x) e h rest = ends x (is_owing x.end.state.owed) (tried c x g l (is_trigger made c.pdu.safety.kind) e) h rest
+      front_by : (c : FirstCopy) (x : Built) → copy_at b.peer.quiet_sn peer first ≡ Some c → (f : Bool) → nat_lt c.place slot ≡ f
+          → (if f then Explaining.try_at (is_trigger made c.pdu.safety.kind) slot first c.pdu b else None) ≡ Some x → Read x
+      front_by c x g true f h = tried c x g (less_is c.place slot f) (is_trigger made c.pdu.safety.kind) refl h
+      front_by c x g false f h = absurd (cc)
 
-      front_by : (c : FirstCopy) → copy_at b.peer.quiet_sn peer first ≡ Some c → (f : Bool) → nat_lt c.place slot ≡ f
-          → (if f then Explaining.go_on (Explaining.scan peer slot made (suc first) m) (Explaining.try_at (is_trigger made c.pdu.safety.kind) slot first c.pdu b) else None) ≡ Some b'
-          → ((y : Built) → Read y → Explaining.scan peer slot made (suc first) m y ≡ Some b' → Read b') → Read b'
-      front_by c g true f h rest = on c g (less_is c.place slot f) (Explaining.try_at (is_trigger made c.pdu.safety.kind) slot first c.pdu b) refl h rest
-      front_by c g false f h rest = absurd (cc)
+      there : (x : Built) (o : Option FirstCopy) → copy_at b.peer.quiet_sn peer first ≡ o → Explaining.try_there slot made first b o ≡ Some x → Read x
+      there x None g h = absurd (cc)
+      there x (Some c) g h = front_by c x g (nat_lt c.place slot) refl h
 
-      there : (o : Option FirstCopy) → copy_at b.peer.quiet_sn peer first ≡ o → Explaining.scan_there (Explaining.scan peer slot made (suc first) m) slot made first b o ≡ Some b'
+      on : (o : Option Built) → Explaining.try_step peer slot made first b ≡ o → Explaining.go_on (Explaining.scan peer slot made (suc first) m) o ≡ Some b'
           → ((y : Built) → Read y → Explaining.scan peer slot made (suc first) m y ≡ Some b' → Read b') → Read b'
-      there None g h rest = absurd (cc)
-      there (Some c) g h rest = front_by c g (nat_lt c.place slot) refl h rest
+      on None e h rest = absurd (cc)
+      on (Some x) e h rest = ends x (is_owing x.end.state.owed) (there x (copy_at b.peer.quiet_sn peer first) refl e) h rest
 
   trigger_read : (made : Kind) (b b' : Built) → Read b → Explaining.take_trigger peer slot made b ≡ Some b' → Read b'
   trigger_read made b b' r h = by (is_owing b.end.state.owed || not (wants_trigger made)) h
@@ -287,6 +297,7 @@ module _ (p : Parameters) (side : Side) (n : ℕ) (own peer : List FirstCopy) (f
           params = r.params;
           quiet = r.quiet;
           entries = entries_push b.script (Make slot clock why) r.entries (omega (arith, small, inside), cb, wb);
+          accepted = (let z = made_accepted b.end.state c.pdu.safety clock why in let y = r.accepted in omega (arith, y, z));
         }
 
     make_by_read : (why : Why) (clock : ℕ) (b b' : Built) (later : Option Built) → Read b → clock < 2 ^ 64 → IsReason why → (later ≡ Some b' → Next b') → (f : Option ℕ) → make_fault b.end.params b.end.state c.pdu.safety clock why ≡ f
@@ -337,7 +348,7 @@ module _ (p : Parameters) (n : ℕ) (c s : List FirstCopy) (few : length c ≤ 1
     (within : (i : ℕ) (a : FirstCopy) → slice_get c i ≡ Some a → a.place < n) (their_within : (i : ℕ) (a : FirstCopy) → slice_get s i ≡ Some a → a.place < n)
     (small : n < 2 ^ 32) (numbers : (i : ℕ) (a : FirstCopy) → slice_get c i ≡ Some a → a.pdu.number < 2 ^ 32) (their_numbers : (i : ℕ) (a : FirstCopy) → slice_get s i ≡ Some a → a.pdu.number < 2 ^ 32) where
   raised : (side : Side) (own peer : List FirstCopy) (k l m : ℕ) (b : Built) → l ≤ m → IsRead p side n own peer k l b → IsRead p side n own peer k m b
-  raised side own peer k l m b h r = record { at = r.at; leads = r.leads; made = r.made; taken = r.taken; low = (let z = r.low in omega (arith, z, h)); state = r.state; params = r.params; quiet = r.quiet; entries = r.entries }
+  raised side own peer k l m b h r = record { at = r.at; leads = r.leads; made = r.made; taken = r.taken; low = (let z = r.low in omega (arith, z, h)); state = r.state; params = r.params; quiet = r.quiet; entries = r.entries; accepted = r.accepted }
 
   client_read : (t t' : Proposing.Pass) (d : FirstCopy) → slice_get c t.made ≡ Some d → AreRead p n c s t → (o : Option Built) → Explaining.explain s d.place d.pdu.safety t.own ≡ o → Proposing.client_goes t d.place o ≡ Ok t' → AreRead p n c s t'
   client_read t t' d g r None e h = absurd (cc)
@@ -365,6 +376,12 @@ module _ (p : Parameters) (n : ℕ) (c s : List FirstCopy) (few : length c ≤ 1
       by true h = client_read t t' d x r _ refl h
       by false h = server_read t t' f y r _ refl h
 
+  start_low : (q : Option Quiet) (sd : Side) → (start_by q sd).accepted ≤ (start_by q sd).base
+  start_low None Client = omega arith
+  start_low None Server = omega arith
+  start_low (Some quiet) Client = omega arith
+  start_low (Some quiet) Server = omega arith
+
   base_of : (q : Option Quiet) (sd : Side) → (start_by q sd).base ≡ base_by q
   base_of q sd = start_base q sd
 
@@ -375,8 +392,8 @@ module _ (p : Parameters) (n : ℕ) (c s : List FirstCopy) (few : length c ≤ 1
       record {
         level = 0;
         their_level = 0;
-        client = record { at = at_start (start_of p Client); leads = refl; made = refl; taken = omega (arith, x); low = omega arith; state = refl; params = refl; quiet = refl; entries = tt };
-        server = record { at = at_start (start_of p Server); leads = refl; made = refl; taken = omega (arith, y); low = omega arith; state = refl; params = refl; quiet = refl; entries = tt };
+        client = record { at = at_start (start_of p Client); leads = refl; made = refl; taken = omega (arith, x); low = omega arith; state = refl; params = refl; quiet = refl; entries = tt; accepted = start_low p.quiet Client };
+        server = record { at = at_start (start_of p Server); leads = refl; made = refl; taken = omega (arith, y); low = omega arith; state = refl; params = refl; quiet = refl; entries = tt; accepted = start_low p.quiet Server };
         next = λ d g. omega arith;
         their_next = λ d g. omega arith;
         below = λ q f. omega arith;

@@ -1,5 +1,5 @@
 -- The proposal is complete.
-use Rattle.std.proofs.Common.{◌≡◌, ℕ, ◌⊎◌, List, length, Result, Err, refl, ap, sym, arith, subst, ⊎_elim}
+use Rattle.std.proofs.Common.{◌≡◌, ℕ, List, length, Result, Err, refl, ap, sym, arith, subst, ⊎_elim}
 use Rattle.rasta_pcap.specs.Fault.{fault_at, no_memory, not_found}
 use Rattle.rasta_pcap.specs.declared.fault.Fault.{Fault}
 use Rattle.rasta_pcap.specs.declared.fault.Side.TheVariants.{Client, Server}
@@ -9,7 +9,7 @@ use Rattle.rasta_cert.specs.Certificate.{Scripts}
 use Rattle.rasta_check.specs.Crossing.{FirstCopy, Sent}
 use Rattle.rasta_check.specs.Theorem.{OfConnection}
 use Rattle.rasta_check.proofs.Forms.{to_record}
-use Rattle.rasta_build.specs.Completeness.{CanCross, IsExplained, IsComplete}
+use Rattle.rasta_build.specs.Completeness.{CanCross, IsExplained, IsAnswer, IsComplete}
 use Rattle.rasta_build.specs.Proposing.{proposal}
 use Rattle.rasta_build.proofs.Passes.{explained, finds_none}
 use Rattle.rasta_build.proofs.Place.{exact}
@@ -30,10 +30,6 @@ explains p conn packets c s hc0 hs0 x =
     subst (λ (o : Result Scripts Fault). IsExplained p (length packets) c s o) (sym f.0) f.1
 
 -- ---- the theorem
-
--- want of memory, or the proposal
-abbrev pub IsAnswer : Parameters → List FirstCopy → List FirstCopy → Result Scripts Fault → Type 0
-IsAnswer p c s answer = (answer ≡ Err no_memory) ⊎ (answer ≡ proposal p c s)
 
 -- the proposal is complete
 pub complete : (p : Parameters) (c s : List FirstCopy) → OfConnection p → IsComplete p c s (proposal p c s)

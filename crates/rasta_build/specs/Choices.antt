@@ -1,7 +1,7 @@
 -- What is chosen for a script: which member of the peer's sent list a position is, what an end must have taken before a make, why it
 -- makes a PDU and at which clock.
-use Rattle.std.specs.Prelude.{◌≡◌, ◌⊎◌, ℕ, suc, ◌+◌, ◌-◌, ◌≤◌, ◌<◌, ◌^◌, Bool, true, false, ◌&&◌, not, nat_lt, nat_le, ◌==◌, if◌then◌else◌, min, List, [], ◌∷◌, length, Option, Some, None, option_map, slice_get}
-use Rattle.rasta_pcap.specs.Fault.{fault_at, no_memory, not_found, too_many_entries}
+use Rattle.std.specs.Prelude.{◌≡◌, ◌⊎◌, ℕ, ◌+◌, ◌-◌, ◌^◌, Bool, true, false, ◌&&◌, not, nat_lt, nat_le, ◌==◌, if◌then◌else◌, min, List, [], ◌∷◌, length, Option, Some, None, option_map, slice_get}
+use Rattle.rasta_pcap.specs.Fault.{fault_at, no_memory, not_found}
 use Rattle.rasta_pcap.specs.declared.fault.Fault.{Fault}
 use Rattle.rasta_pcap.specs.declared.fault.Side.{Side}
 use Rattle.rasta_pcap.specs.declared.fault.Side.TheVariants.{Client, Server}
@@ -61,17 +61,6 @@ is_in_front (Some copy) place = nat_lt copy.place place
 abbrev pub is_response : Option FirstCopy → Bool
 is_response None = false
 is_response (Some copy) = is_retransmission_response copy.pdu.safety.kind
-
--- no retransmission response stands at a position from one on and before another
-abbrev pub HaveNoResponse : Option ℕ → List FirstCopy → ℕ → ℕ → Type 0
-HaveNoResponse quiet_sn sent next behind = (position : ℕ) → next ≤ position → position < behind → is_response (copy_at quiet_sn sent position) ≡ false
-
--- of the positions from one on and before another, this is the last at which a retransmission response stands
-pub record IsLastResponse (quiet_sn : Option ℕ) (sent : List FirstCopy) (next behind position : ℕ) : Type 0 where
-  pub from_next : next ≤ position
-  pub in_front : position < behind
-  pub response : is_response (copy_at quiet_sn sent position) ≡ true
-  pub none_between : HaveNoResponse quiet_sn sent (suc position) behind
 
 -- ---- what must have been taken
 
@@ -161,6 +150,6 @@ stuck_by fault = if fault.number == 1 then NoMemory else Unexplained
 abbrev pub IsUnexplained : List FirstCopy → Fault → Type 0
 IsUnexplained sent fault = (i : ℕ) × (copy : FirstCopy) × (slice_get sent i ≡ Some copy) × (fault ≡ fault_of_stuck Unexplained copy.place)
 
--- a builder's fault: out of memory, scripts with too many entries, or a first copy of the client's or of the server's that nothing explains
+-- a builder's fault: out of memory, or a first copy of the client's or of the server's that nothing explains
 abbrev pub IsProposalFault : List FirstCopy → List FirstCopy → Fault → Type 0
-IsProposalFault client server fault = (fault ≡ no_memory) ⊎ ((fault ≡ fault_at too_many_entries 0) ⊎ (IsUnexplained client fault ⊎ IsUnexplained server fault))
+IsProposalFault client server fault = (fault ≡ no_memory) ⊎ (IsUnexplained client fault ⊎ IsUnexplained server fault)

@@ -1,5 +1,5 @@
 -- When the answer of a builder of scripts is complete: what some run sends is explained, and what isn't explained no run sends.
-use Rattle.std.specs.Prelude.{◌≡◌, ℕ, ◌<◌, ◌≤◌, ◌^◌, ◌↔◌, List, ◌++◌, length, take, Result, Ok, Err}
+use Rattle.std.specs.Prelude.{◌≡◌, ◌⊎◌, ℕ, ◌<◌, ◌≤◌, ◌^◌, ◌↔◌, List, ◌++◌, length, take, Result, Ok, Err}
 use Rattle.rasta_pcap.specs.Fault.{fault_at, no_memory, not_found}
 use Rattle.rasta_pcap.specs.declared.fault.Fault.{Fault}
 use Rattle.rasta_pcap.specs.declared.fault.Side.TheVariants.{Client, Server}
@@ -10,6 +10,7 @@ use Rattle.rasta_check.specs.Crossing.{CrossRecorded, FirstCopy, Sent}
 use Rattle.rasta_check.specs.World.{World, Reaches, most_sent, IsWithin}
 use Rattle.rasta_check.specs.Report.{BothFit}
 use Rattle.rasta_check.specs.Theorem.{most_packets}
+use Rattle.rasta_build.specs.Proposing.{proposal}
 
 -- a run that leads here is within the limits: of packets, of PDUs an end, and of the clock at each end's last make
 pub record IsBounded (p : Parameters) (w : World) : Type 0 where
@@ -39,6 +40,10 @@ IsProposal p packets c s (Err fault) = (place : ℕ) × (fault ≡ fault_at not_
 -- the answer that nothing is found at a place, counted from 1
 abbrev pub IsNotFound : Result Scripts Fault → ℕ → Type 0
 IsNotFound answer place = answer ≡ Err (fault_at not_found place)
+
+-- want of memory, or what is proposed
+abbrev pub IsAnswer : Parameters → List FirstCopy → List FirstCopy → Result Scripts Fault → Type 0
+IsAnswer p c s answer = (answer ≡ Err no_memory) ⊎ (answer ≡ proposal p c s)
 
 -- a complete answer on the client's sent list and the server's
 pub record IsComplete (p : Parameters) (c s : List FirstCopy) (answer : Result Scripts Fault) : Type 0 where

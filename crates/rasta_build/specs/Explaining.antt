@@ -96,21 +96,24 @@ abbrev pub try_at : Bool → ℕ → ℕ → RedundancyPdu → Built → Option 
 try_at true slot position x b = take_step slot position x b
 try_at false slot position x b = Some b
 
+-- where it has crossed
+abbrev pub try_there : ℕ → Kind → ℕ → Built → Option FirstCopy → Option Built
+try_there slot made position b None = None
+try_there slot made position b (Some c) = if nat_lt c.place slot then try_at (is_trigger made c.pdu.safety.kind) slot position c.pdu b else None
+
+-- the PDU at a position is tried
+abbrev pub try_step : List FirstCopy → ℕ → Kind → ℕ → Built → Option Built
+try_step sent slot made position b = try_there slot made position b (copy_at b.peer.quiet_sn sent position)
+
 -- the search ends where something is owed
 abbrev pub go_on : (Built → Option Built) → Option Built → Option Built
 go_on rest None = None
 go_on rest (Some b) = if is_owing b.end.state.owed then Some b else rest b
 
--- a PDU is tried that has crossed
-abbrev pub scan_there : (Built → Option Built) → ℕ → Kind → ℕ → Built → Option FirstCopy → Option Built
-scan_there rest slot made position b None = None
-scan_there rest slot made position b (Some c) =
-    if nat_lt c.place slot then go_on rest (try_at (is_trigger made c.pdu.safety.kind) slot position c.pdu b) else None
-
 -- of so many PDUs from a position on, the first that makes something owed is taken
 abbrev pub scan : List FirstCopy → ℕ → Kind → ℕ → ℕ → Built → Option Built
 scan sent slot made position zero b = None
-scan sent slot made position (suc n) b = scan_there (scan sent slot made (suc position) n) slot made position b (copy_at b.peer.quiet_sn sent position)
+scan sent slot made position (suc n) b = go_on (scan sent slot made (suc position) n) (try_step sent slot made position b)
 
 -- the search begins ahead of the next PDU in sequence, and not before what may still be taken
 abbrev pub first_tried : Built → ℕ

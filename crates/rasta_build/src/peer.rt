@@ -1,8 +1,9 @@
 //! The peer's PDUs, by the positions of an end.
-ghost use Rattle.std.specs.Prelude.{◌≡◌, MatchOption, option_map};
+ghost use Rattle.std.specs.Prelude.{◌≡◌, ◌-◌, option_map};
 ghost use Rattle.rasta_check.specs.Lists.{copy_of};
 ghost use Rattle.rasta_build.specs.Choices;
-ghost use Rattle.rasta_build.specs.Choices.{peer_quiet_sn, member_at, copy_at, is_in_front, HaveNoResponse, IsLastResponse};
+ghost use Rattle.rasta_build.specs.Choices.{peer_quiet_sn, member_at, copy_at, is_in_front};
+ghost use Rattle.rasta_build.specs.Explaining;
 
 use rasta_check::SentList;
 use rasta_pdu::{Kind, Params, Pdu, Side};
@@ -91,7 +92,7 @@ impl Peer {
         next: u64,
         behind: u64,
     ) -> Option<u64>
-        ensures { MatchOption result (HaveNoResponse self.quiet_sn (S.content list.now) next behind) (IsLastResponse self.quiet_sn (S.content list.now) next behind) }
+        ensures { result ≡ Explaining.last_response self.quiet_sn (S.content list.now) next (behind - next) }
     {
         let mut found = None;
         for position in next..behind {

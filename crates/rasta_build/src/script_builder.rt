@@ -1,16 +1,15 @@
 //! The script of one end, found packet by packet.
-ghost use Rattle.std.specs.Prelude.{◌≡◌, ℕ, true, false, nat_lt, length, [], ◌+◌, ◌<◌, Some, option_map, IfSome, MatchOption, OnOk, IfErr};
+ghost use Rattle.std.specs.Prelude.{◌≡◌, ◌^◌, ◌≤◌, ◌-◌, ℕ, length, [], ◌+◌, ◌<◌, Some, None, OnOk, IfErr};
 ghost use Rattle.rasta_pdu.specs.Pdu.{value_of};
 ghost use Rattle.rasta_end.specs.State;
-ghost use Rattle.rasta_end.specs.State.{is_owing, is_retr_req};
-ghost use Rattle.rasta_end.specs.MakeRule.{is_early};
-ghost use Rattle.rasta_end.specs.TakeRule.{Takes};
-ghost use Rattle.rasta_end.specs.Starts.{start_of};
+ghost use Rattle.rasta_end.specs.State.{is_retr_req};
+ghost use Rattle.rasta_end.specs.TakeRule.{take_fault, after_take};
 ghost use Rattle.rasta_build.specs.Built;
-ghost use Rattle.rasta_build.specs.Built.{built_at_start, progress_of, IsMade, IsTaken, IsAccepted, IsExplained};
+ghost use Rattle.rasta_build.specs.Built.{built_at_start, progress_of};
 ghost use Rattle.rasta_build.specs.Choices;
-ghost use Rattle.rasta_build.specs.Clock.{clock_of};
-ghost use Rattle.rasta_build.specs.Choices.{HaveNoResponse, IsLastResponse, is_unanswered, next_unit, why_of};
+ghost use Rattle.rasta_build.specs.Choices.{is_unanswered, next_unit, why_of};
+ghost use Rattle.rasta_build.specs.Explaining;
+ghost use Rattle.rasta_build.specs.Explaining.{take_step, accept_step, accept_from, try_step, take_step_by, make_step};
 
 use crate::clock::clock_from;
 use crate::peer::Peer;
@@ -24,9 +23,6 @@ use std::marker::Model;
 
 /// The reason of a disconnection request by which an end says that nothing came in time.
 const TIMEOUT: u16 = 4;
-
-/// More positions than any end can have accepted.
-const MOST_ACCEPTED: u64 = 1 << 62;
 
 /// An end, with the entries that led it so far.
 #[derive(Drop)]
@@ -141,13 +137,34 @@ impl<'a> ScriptBuilder<'a> {
         place: u32,
         pdu: &Pdu<'a>,
     ) -> Result<(), Stuck>
-        ensures { OnOk result (IsExplained self.old place (value_of pdu.now).safety self.new) }
+        requires params { self.old.end.params ≡ params.now }
+        requires accepted { self.old.end.state.accepted < 2 ^ 62 }
+        ensures ok { OnOk result (Explaining.explain (S.content peer.now) place (value_of pdu.now).safety self.old ≡ Some self.new) }
+        ensures err { IfErr result (λ stuck. stuck ≡ Stuck.Unexplained → Explaining.explain (S.content peer.now) place (value_of pdu.now).safety self.old ≡ None) }
     {
-        if self.has_to_take(pdu) {
-            self.accept_through(peer, place, pdu.cs())?;
-            self.take_trigger(params, peer, place, pdu.kind())?;
-        }
+        self.take_for(params, peer, place, pdu)?;
         self.make(params, place, pdu)
+    }
+
+    // Takes what must have been taken before the end makes this PDU.
+    fn take_for<S: SentList<'a>>(
+        &mut self,
+        params: &Params,
+        peer: &S,
+        place: u32,
+        pdu: &Pdu<'a>,
+    ) -> Result<(), Stuck>
+        requires params { self.old.end.params ≡ params.now }
+        requires accepted { self.old.end.state.accepted < 2 ^ 62 }
+        ensures ok { OnOk result (take_step_by (Choices.has_to_take self.old.side self.old.end.state (value_of pdu.now).safety.kind) (S.content peer.now) place (value_of pdu.now).safety self.old ≡ Some self.new) }
+        ensures err { IfErr result (λ stuck. stuck ≡ Stuck.Unexplained → take_step_by (Choices.has_to_take self.old.side self.old.end.state (value_of pdu.now).safety.kind) (S.content peer.now) place (value_of pdu.now).safety self.old ≡ None) }
+        ensures params { OnOk result (self.new.end.params ≡ self.old.end.params) }
+    {
+        if !self.has_to_take(pdu) {
+            return Ok(());
+        }
+        self.accept_through(peer, place, pdu.cs())?;
+        self.take_trigger(params, peer, place, pdu.kind())
     }
 
     // Whether the PDU tells what was accepted before it. While something is owed nothing can be taken,
@@ -181,7 +198,11 @@ impl<'a> ScriptBuilder<'a> {
         place: u32,
         cs: u32,
     ) -> Result<(), Stuck>
-        ensures { OnOk result (option_map (λ last. last + 1) (Choices.position_named self.old.peer.quiet_sn (S.content peer.now) cs) ≡ Some self.new.end.state.accepted) }
+        requires { self.old.end.state.accepted < 2 ^ 62 }
+        ensures ok { OnOk result (Explaining.accept_through (S.content peer.now) place self.old (Choices.position_named self.old.peer.quiet_sn (S.content peer.now) cs) ≡ Some self.new) }
+        ensures err { IfErr result (λ stuck. stuck ≡ Stuck.Unexplained → Explaining.accept_through (S.content peer.now) place self.old (Choices.position_named self.old.peer.quiet_sn (S.content peer.now) cs) ≡ None) }
+        ensures params { OnOk result (self.new.end.params ≡ self.old.end.params) }
+        ensures accepted { OnOk result (self.new.end.state.accepted < 2 ^ 62) }
     {
         let Some(last) = self.peer.position_named(peer, cs) else {
             return Err(Stuck::Unexplained);
@@ -197,25 +218,40 @@ impl<'a> ScriptBuilder<'a> {
         let Some(first) = self.first_acceptable(peer, next, behind) else {
             return Err(Stuck::Unexplained);
         };
-        for position in first..behind {
-            self.accept_at(peer, place, position)?;
-        }
-        Ok(())
+        self.accept_range(peer, place, first, behind)
     }
 
     // The first position to be accepted, from one on and before another: an end that waits for a
     // retransmission accepts the last response among them first.
     fn first_acceptable<S: SentList<'a>>(&self, peer: &S, next: u64, behind: u64) -> Option<u64>
-        ensures waiting { is_retr_req self.now.end.state.phase ≡ true →
-            MatchOption result (HaveNoResponse self.now.peer.quiet_sn (S.content peer.now) next behind) (IsLastResponse self.now.peer.quiet_sn (S.content peer.now) next behind) }
-        ensures others { is_retr_req self.now.end.state.phase ≡ false → result ≡ Some next }
-        ensures in_front { next < behind → IfSome result (λ first. first < behind) }
+        ensures { result ≡ Explaining.first_acceptable (is_retr_req self.now.end.state.phase) self.now.peer.quiet_sn (S.content peer.now) next (behind - next) }
     {
         if matches!(self.end.phase(), Phase::RetrReq) {
             self.peer.last_response(peer, next, behind)
         } else {
             Some(next)
         }
+    }
+
+    // Accepts each PDU from one position on and before another.
+    fn accept_range<S: SentList<'a>>(
+        &mut self,
+        peer: &S,
+        slot: u32,
+        first: u64,
+        behind: u64,
+    ) -> Result<(), Stuck>
+        requires accepted { self.old.end.state.accepted < 2 ^ 62 }
+        requires few { behind < 2 ^ 33 }
+        ensures ok { OnOk result (accept_from (S.content peer.now) slot first (behind - first) self.old ≡ Some self.new) }
+        ensures err { IfErr result (λ stuck. stuck ≡ Stuck.Unexplained → accept_from (S.content peer.now) slot first (behind - first) self.old ≡ None) }
+        ensures params { OnOk result (self.new.end.params ≡ self.old.end.params) }
+        ensures accepted { OnOk result (self.new.end.state.accepted < 2 ^ 62) }
+    {
+        for position in first..behind {
+            self.accept_at(peer, slot, position)?;
+        }
+        Ok(())
     }
 
     // Takes the PDU at a position, which has to be accepted.
@@ -225,7 +261,9 @@ impl<'a> ScriptBuilder<'a> {
         slot: u32,
         position: u64,
     ) -> Result<(), Stuck>
-        ensures { OnOk result (IsAccepted self.old (S.content peer.now) slot position self.new) }
+        requires { self.old.end.state.accepted < 2 ^ 62 }
+        ensures ok { OnOk result (accept_step (S.content peer.now) slot position self.old ≡ Some self.new) }
+        ensures err { IfErr result (λ stuck. stuck ≡ Stuck.Unexplained → accept_step (S.content peer.now) slot position self.old ≡ None) }
     {
         let Some((_, pdu)) = self.peer.get(peer, position) else {
             return Err(Stuck::Unexplained);
@@ -246,26 +284,64 @@ impl<'a> ScriptBuilder<'a> {
         place: u32,
         made: Kind,
     ) -> Result<(), Stuck>
-        ensures { OnOk result (Choices.wants_trigger made ≡ true → is_owing self.new.end.state.owed ≡ true) }
+        requires params { self.old.end.params ≡ params.now }
+        requires accepted { self.old.end.state.accepted < 2 ^ 62 }
+        ensures ok { OnOk result (Explaining.take_trigger (S.content peer.now) place made self.old ≡ Some self.new) }
+        ensures err { IfErr result (λ stuck. stuck ≡ Stuck.Unexplained → Explaining.take_trigger (S.content peer.now) place made self.old ≡ None) }
+        ensures params { OnOk result (self.new.end.params ≡ self.old.end.params) }
     {
         if self.end.owed() > 0 || !wants_trigger(made) {
             return Ok(());
         }
         let accepted = self.end.accepted();
-        let first = accepted.saturating_add(1).max(self.next_take);
-        let last = accepted.saturating_add(10 * u64::from(params.n_sendmax()));
-        for position in first..last.saturating_add(1) {
-            match self.peer.get(peer, position) {
-                Some((crossed_at, pdu)) if crossed_at < place => {
-                    self.try_trigger(place, position, made, &pdu)?;
-                }
-                _ => break,
-            }
+        let first = (accepted + 1).max(self.next_take);
+        let behind = accepted + 1 + 10 * u64::from(params.n_sendmax());
+        self.scan(peer, place, made, first, behind)
+    }
+
+    // Of the PDUs from one position on and before another, takes the first that makes something owed.
+    fn scan<S: SentList<'a>>(
+        &mut self,
+        peer: &S,
+        place: u32,
+        made: Kind,
+        first: u64,
+        behind: u64,
+    ) -> Result<(), Stuck>
+        requires accepted { self.old.end.state.accepted < 2 ^ 62 }
+        requires few { behind ≤ first + 2 ^ 20 }
+        ensures ok { OnOk result (Explaining.scan (S.content peer.now) place made first (behind - first) self.old ≡ Some self.new) }
+        ensures err { IfErr result (λ stuck. stuck ≡ Stuck.Unexplained → Explaining.scan (S.content peer.now) place made first (behind - first) self.old ≡ None) }
+        ensures params { OnOk result (self.new.end.params ≡ self.old.end.params) }
+    {
+        for position in first..behind {
+            self.try_at(peer, place, position, made)?;
             if self.end.owed() > 0 {
                 return Ok(());
             }
         }
         Err(Stuck::Unexplained)
+    }
+
+    // Takes the PDU at a position, which has to have crossed, where it can be what the end answers or asks
+    // for.
+    fn try_at<S: SentList<'a>>(
+        &mut self,
+        peer: &S,
+        slot: u32,
+        position: u64,
+        made: Kind,
+    ) -> Result<(), Stuck>
+        requires { self.old.end.state.accepted < 2 ^ 63 }
+        ensures ok { OnOk result (try_step (S.content peer.now) slot made position self.old ≡ Some self.new) }
+        ensures err { IfErr result (λ stuck. stuck ≡ Stuck.Unexplained → try_step (S.content peer.now) slot made position self.old ≡ None) }
+    {
+        match self.peer.get(peer, position) {
+            Some((crossed_at, pdu)) if crossed_at < slot => {
+                self.try_trigger(slot, position, made, &pdu)
+            }
+            _ => Err(Stuck::Unexplained),
+        }
     }
 
     // Takes a PDU of the peer where it can be what the end answers or asks for.
@@ -276,13 +352,15 @@ impl<'a> ScriptBuilder<'a> {
         made: Kind,
         pdu: &Pdu<'a>,
     ) -> Result<(), Stuck>
-        ensures trigger { OnOk result (Choices.is_trigger made (value_of pdu.now).safety.kind ≡ true → IsTaken self.old slot position (value_of pdu.now) self.new) }
-        ensures others { OnOk result (Choices.is_trigger made (value_of pdu.now).safety.kind ≡ false → self.new ≡ self.old) }
+        requires { self.old.end.state.accepted < 2 ^ 63 }
+        ensures ok { OnOk result (Explaining.try_at (Choices.is_trigger made (value_of pdu.now).safety.kind) slot position (value_of pdu.now) self.old ≡ Some self.new) }
+        ensures err { IfErr result (λ stuck. stuck ≡ Stuck.Unexplained → Explaining.try_at (Choices.is_trigger made (value_of pdu.now).safety.kind) slot position (value_of pdu.now) self.old ≡ None) }
     {
         if is_trigger(made, pdu.kind()) {
-            self.take(slot, position, pdu)?;
+            self.take(slot, position, pdu)
+        } else {
+            Ok(())
         }
-        Ok(())
     }
 
     fn progress(&self) -> Progress
@@ -297,12 +375,10 @@ impl<'a> ScriptBuilder<'a> {
 
     // Leads the end by the take of a PDU.
     fn lead(&mut self, pdu: &Pdu<'a>) -> Result<(), Stuck>
-        ensures takes { OnOk result (Takes self.old.end.params self.old.end.state (value_of pdu.now).safety self.old.end.state.clock self.new.end.state) }
-        ensures others { OnOk result (self.new ≡ Built.lead self.new.end.state self.old) }
+        requires { self.old.end.state.accepted < 2 ^ 63 }
+        ensures ok { OnOk result ((take_fault self.old.end.params self.old.end.state self.old.end.state.clock ≡ None) × (self.new ≡ Built.lead (after_take self.old.end.params self.old.end.state (value_of pdu.now).safety) self.old)) }
+        ensures err { IfErr result (λ stuck. stuck ≡ Stuck.Unexplained → (fault : ℕ) × (take_fault self.old.end.params self.old.end.state self.old.end.state.clock ≡ Some fault)) }
     {
-        if self.end.accepted() >= MOST_ACCEPTED {
-            return Err(Stuck::Unexplained);
-        }
         self.end.take(pdu)?;
         Ok(())
     }
@@ -315,7 +391,8 @@ impl<'a> ScriptBuilder<'a> {
         position: u64,
         pdu: &Pdu<'a>,
     ) -> Result<(), Stuck>
-        ensures { OnOk result (self.new ≡ Built.note_take before slot position (value_of pdu.now) self.old) }
+        ensures ok { OnOk result (self.new ≡ Built.note_take before slot position (value_of pdu.now) self.old) }
+        ensures err { IfErr result (λ stuck. stuck ≡ Stuck.NoMemory) }
     {
         let answers = matches!(pdu.kind(), Kind::RetransmissionRequest)
             && self.end.accepted() == before.accepted
@@ -328,10 +405,16 @@ impl<'a> ScriptBuilder<'a> {
         })
     }
 
-    // Takes a PDU. It is no entry of the script where it changes nothing.
+    // Takes a PDU that may still be taken. It is no entry of the script where it changes nothing.
+    #[tactic(auto, using(crate::proofs::Effects::take_moved, crate::proofs::Effects::take_unmoved, crate::proofs::Effects::take_refused, crate::proofs::Effects::take_below))]
     fn take(&mut self, slot: u32, position: u64, pdu: &Pdu<'a>) -> Result<(), Stuck>
-        ensures { OnOk result (IsTaken self.old slot position (value_of pdu.now) self.new) }
+        requires { self.old.end.state.accepted < 2 ^ 63 }
+        ensures ok { OnOk result (take_step slot position (value_of pdu.now) self.old ≡ Some self.new) }
+        ensures err { IfErr result (λ stuck. stuck ≡ Stuck.Unexplained → take_step slot position (value_of pdu.now) self.old ≡ None) }
     {
+        if position < self.next_take {
+            return Err(Stuck::Unexplained);
+        }
         let before = self.progress();
         self.lead(pdu)?;
         if self.progress() == before {
@@ -378,7 +461,9 @@ impl<'a> ScriptBuilder<'a> {
 
     // Makes the PDU at a place, at the least clock that its time stamp allows.
     fn make(&mut self, params: &Params, place: u32, pdu: &Pdu<'a>) -> Result<(), Stuck>
-        ensures { OnOk result (IsMade self.old place (value_of pdu.now).safety self.new) }
+        requires { self.old.end.params ≡ params.now }
+        ensures ok { OnOk result (make_step place (value_of pdu.now).safety self.old ≡ Some self.new) }
+        ensures err { IfErr result (λ stuck. stuck ≡ Stuck.Unexplained → make_step place (value_of pdu.now).safety self.old ≡ None) }
     {
         let Some(why) = self.why(pdu) else {
             return Err(Stuck::Unexplained);
@@ -404,11 +489,14 @@ impl<'a> ScriptBuilder<'a> {
         early: u64,
         why: Why,
     ) -> Result<(), Stuck>
-        requires reason { why_of self.old.end.state self.old.trail (value_of pdu.now).safety ≡ Some why }
-        requires early { clock_of self.old.clock (value_of pdu.now).safety.ts ≡ Some early }
-        ensures { OnOk result (IsMade self.old place (value_of pdu.now).safety self.new) }
+        requires { self.old.end.params ≡ params.now }
+        ensures ok { OnOk result (Explaining.make_later place (value_of pdu.now).safety why (Some early) self.old ≡ Some self.new) }
+        ensures err { IfErr result (λ stuck. stuck ≡ Stuck.Unexplained → Explaining.make_later place (value_of pdu.now).safety why (Some early) self.old ≡ None) }
     {
-        let least = early.saturating_add(1).max(self.earliest_timeout(params));
+        let Some(next) = early.checked_add(1) else {
+            return Err(Stuck::Unexplained);
+        };
+        let least = next.max(self.earliest_timeout(params));
         let Some(clock) = clock_from(least, pdu.ts()) else {
             return Err(Stuck::Unexplained);
         };
@@ -418,7 +506,8 @@ impl<'a> ScriptBuilder<'a> {
 
     // The earliest timeout by a deadline that is recorded with a quiet point.
     fn earliest_timeout(&self, params: &Params) -> u64
-        ensures { (clock : ℕ) → is_early params.now (start_of params.now self.now.side).deadline clock ≡ nat_lt clock result }
+        requires { self.now.end.params ≡ params.now }
+        ensures { result ≡ Explaining.earliest_timeout self.now }
     {
         let deadline = match (params.quiet(), self.side) {
             (Some(quiet), Side::Client) => quiet.client.deadline,

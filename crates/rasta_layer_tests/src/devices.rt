@@ -2,7 +2,7 @@
 ghost use Rattle.std.specs.Prelude.{Some, None};
 
 use rasta_pcap::devices::{FailAt, Pieces, WriteDevice};
-use rasta_pcap::{Counted, Sink, Source, read_all, write_all};
+use rasta_pcap::{Buffered, Counted, Sink, Source, read_all, write_all};
 use std::alloc::Global;
 use std::io;
 use std::io::{ErrorKind, Read, Write};
@@ -166,6 +166,25 @@ fn reader_answers_what_its_device_answers(rt: HostRuntime) {
     let mut device = reader.into_inner();
     assert_eq!(rt; read_once(&mut device, &mut buf), Ok(7));
     assert_eq!(rt; buf.as_slice(), b"bytes o\0\0".as_slice());
+}
+
+// A buffer of five bytes is filled from reads of at most four, of which the second fails: what it holds
+// is given first, and the source is read where it holds nothing.
+#[test]
+fn buffer_gives_what_its_source_gives(rt: HostRuntime) {
+    let source = Counted::new(FailAt::new(Pieces::new(TEXT.as_bytes(), 4), 2));
+    let Ok(mut reader) = Buffered::new(rt.alloc(), source, 5) else {
+        panic!(rt; "out of memory");
+    };
+    let mut buf = [0; 3];
+    assert_eq!(rt; count_once(&mut reader, &mut buf), Ok(3));
+    assert_eq!(rt; buf.as_slice(), b"twe".as_slice());
+    assert_eq!(rt; count_once(&mut reader, &mut buf), Ok(1));
+    assert_eq!(rt; buf[0], b'n');
+    assert_eq!(rt; count_once(&mut reader, &mut buf), Err(ErrorKind::Other));
+    assert_eq!(rt; Source::failures(&reader), 1);
+    let rest = read_all(rt.alloc(), &mut reader).ok();
+    assert_eq!(rt; rest.as_deref(), Some(b"ty bytes of text".as_slice()));
 }
 
 fn write_once<W: Sink>(writer: &mut W, buf: &[u8]) -> Result<usize, ErrorKind> {

@@ -8,3 +8,4 @@ pub mod Fronts
 pub mod Extent
 pub mod Stream
 pub mod Reader
+pub mod Buffered

@@ -1,6 +1,7 @@
 //! Captures in the classic libpcap format: faults, devices, and the records of a file.
 #![tactic(auto)]
 
+mod buffered;
 mod counted;
 pub mod devices;
 mod fault;
@@ -9,6 +10,7 @@ pub mod laws;
 mod pcap;
 pub mod stream;
 
+pub use buffered::Buffered;
 pub use counted::{Counted, Sink, Source, read_all, write_all};
 pub use fault::{Fault, Side};
 pub use pcap::{Pcap, Record};

@@ -155,6 +155,7 @@ impl Line {
     }
 
     /// Prepends a number, in decimal.
+    #[inline(always)]
     pub fn number(&mut self, n: u32)
         requires { length self.old ≤ 189 }
         ensures line { self.new ≡ decimal n ++ 32 ∷ self.old }

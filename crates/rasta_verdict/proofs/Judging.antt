@@ -1,5 +1,5 @@
 -- What the checker says of some scripts, and the verdict that follows.
-use Rattle.std.proofs.Common.{◌≡◌, ◌⊎◌, ◌∙◌, inl, inr, ℕ, List, length, Result, Ok, Err, MatchResult, OnOk, IfOk, ap, refl, subst, sym, ⊎_elim}
+use Rattle.std.proofs.Common.{◌≡◌, ◌⊎◌, ◌∙◌, inl, inr, ℕ, List, length, Result, Ok, Err, MatchResult, OnOk, IfErr, IfOk, ap, refl, subst, sym, ⊎_elim}
 use Rattle.rasta_pcap.specs.declared.fault.Fault.{Fault}
 use Rattle.rasta_pcap.specs.Fault.{no_memory}
 use Rattle.rasta_pdu.specs.Params.{Parameters}
@@ -13,7 +13,7 @@ use Rattle.rasta_verdict.specs.declared.verdict.Verdict.{Verdict}
 use Rattle.rasta_verdict.specs.declared.verdict.Verdict.TheVariants as verdicts
 use Rattle.rasta_check.proofs.Filed.{same_params}
 use Rattle.rasta_verdict.specs.Claims.{ClaimsHeadline}
-use Rattle.rasta_verdict.specs.Judged.{IsChecked, IsJudged, status_of_verdict, text_of_verdict}
+use Rattle.rasta_verdict.specs.Judged.{IsChecked, IsJudged, IsRefusedBy, status_of_verdict, text_of_verdict}
 use Rattle.rasta_verdict.specs.Verdict as verdict
 use Rattle.rasta_verdict.specs.Verdict.{IsVerdict}
 use Rattle.rasta_verdict.proofs.Telling.{fits-told}
@@ -23,17 +23,23 @@ use Rattle.rasta_verdict.proofs.Verdicts.{IsRefusal, if_ok_map}
 abbrev said_of : Parameters → Crossing → Scripts → Result report.Explained Fault
 said_of p k scripts = verdict_of p (length k.packets) k.client k.server scripts
 
+-- both scripts fit what crossed, by these parameters
+abbrev FitBy : Crossing → Scripts → Parameters → Type 0
+FitBy k scripts p = BothFit p (length k.packets) k.client k.server scripts
+
 -- the checker's answer, by the parameters of what crossed
 pub is_checked : (p : Parameters) (k : Crossing) (scripts : Scripts) (r : Result Report Fault) → k.params ≡ p
     → MatchResult r (λ x. said_of p k scripts ≡ Ok (report.explained x)) (λ f. (said_of p k scripts ≡ Err f) ⊎ (f ≡ no_memory))
-    → OnOk r (BothFit p (length k.packets) k.client k.server scripts) → IfOk r (λ x. Headline p k.packets (report.explained x)) → IsChecked k scripts r
-is_checked p k scripts (Ok x) same said fits claim = (
+    → IfErr r (λ f. (FitBy k scripts p → ⊥) ⊎ (f ≡ no_memory)) → OnOk r (FitBy k scripts p) → IfOk r (λ x. Headline p k.packets (report.explained x)) → IsChecked k scripts r
+is_checked p k scripts (Ok x) same said unfit fits claim = (
   fits-told p k scripts fits.0.0 fits.1.0 fits.0.1 fits.1.1,
   ap (λ (q : Parameters). said_of q k scripts) same ∙ said,
   subst (λ (q : Parameters). Headline q k.packets (report.explained x)) (sym same) claim,
 )
-is_checked p k scripts (Err f) same said fits claim = ⊎_elim
-    (λ (refused : said_of p k scripts ≡ Err f). inl (ap (λ (q : Parameters). said_of q k scripts) same ∙ refused))
+is_checked p k scripts (Err f) same said unfit fits claim = ⊎_elim
+    (λ (refused : said_of p k scripts ≡ Err f). ⊎_elim
+    (λ (no : FitBy k scripts p → ⊥). inl (ap (λ (q : Parameters). said_of q k scripts) same ∙ refused, λ fit. no (subst (FitBy k scripts) same fit)))
+    (λ (none : f ≡ no_memory). inr none) unfit)
     (λ (none : f ≡ no_memory). inr none) said
 
 -- the checker's refusal is the verdict
@@ -41,7 +47,7 @@ pub refusal_judged : (r : Result Verdict Fault) (k : Crossing) (scripts : Script
     → IsChecked k scripts (Err fault) → IfOk r (IsJudged k scripts)
 refusal_judged r k scripts fault h said = if_ok_map r
     (λ (v : Verdict) (w : IsRefusal fault v). subst (IsJudged k scripts) (sym w.0)
-    (⊎_elim (λ (refused : said_of k.params k scripts ≡ Err fault). refused)
+    (⊎_elim (λ (refused : IsRefusedBy k scripts fault). refused)
     (λ (none : fault ≡ no_memory). absurd (w.1 none)) said)) h
 
 abbrev pub Told : Crossing → Scripts → Verdict → Type 0
@@ -49,7 +55,7 @@ Told k scripts v = (p : Parameters) (file text : List ℕ) → crossing_of p fil
     → IsVerdict p text file (text_of_verdict v) (status_of_verdict v)
 
 one : (k : Crossing) (scripts : Scripts) (v : Verdict) → IsJudged k scripts v → Told k scripts v
-one k scripts (verdicts.Refused fault) judged p file text crossed is valid = verdict.script_refused k scripts fault crossed is valid judged
+one k scripts (verdicts.Refused fault) judged p file text crossed is valid = verdict.script_refused k scripts fault crossed is valid judged.0
 one k scripts (verdicts.Explained e) judged p file text crossed is valid =
     subst (λ (j : Crossing). IsVerdict p text file (verdict.explained_text j e.certificate (report.explained e.report)) 0) (sym judged.0)
     (subst (λ (s : Scripts). IsVerdict p text file (verdict.explained_text k s (report.explained e.report)) 0) (sym judged.1)

@@ -6,7 +6,7 @@ use Rattle.rasta_cert.specs.Certificate.{Scripts}
 use Rattle.rasta_check.specs.declared.report.Report.{Report}
 use Rattle.rasta_check.specs.Headline.{Headline}
 use Rattle.rasta_check.specs.Reading.{Crossing}
-use Rattle.rasta_check.specs.Report.{explained, verdict_of}
+use Rattle.rasta_check.specs.Report.{BothFit, explained, verdict_of}
 use Rattle.rasta_show.specs.Lines.{refused_line}
 use Rattle.rasta_verdict.specs.Proposed.{Telling}
 use Rattle.rasta_verdict.specs.Told.{IsTold}
@@ -31,16 +31,21 @@ abbrev pub HasToldRun : Verdict → Type 0
 HasToldRun (Refused fault) = Unit {0}
 HasToldRun (Explained e) = IsTold e.store.now e.certificate
 
+-- the checker refuses these scripts by this fault, and they don't both fit
+abbrev pub IsRefusedBy : Crossing → Scripts → Fault → Type 0
+IsRefusedBy k scripts fault = (verdict_of k.params (length k.packets) k.client k.server scripts ≡ Err fault)
+    × (BothFit k.params (length k.packets) k.client k.server scripts → ⊥)
+
 -- what the checker says of what crossed and these scripts
 abbrev pub IsChecked : Crossing → Scripts → Result Report Fault → Type 0
 IsChecked k scripts (Ok report) = IsTold k scripts
     × (verdict_of k.params (length k.packets) k.client k.server scripts ≡ Ok (explained report))
     × Headline k.params k.packets (explained report)
-IsChecked k scripts (Err fault) = (verdict_of k.params (length k.packets) k.client k.server scripts ≡ Err fault) ⊎ (fault ≡ no_memory)
+IsChecked k scripts (Err fault) = IsRefusedBy k scripts fault ⊎ (fault ≡ no_memory)
 
 -- the verdict on what crossed and these scripts
 abbrev pub IsJudged : Crossing → Scripts → Verdict → Type 0
-IsJudged k scripts (Refused fault) = verdict_of k.params (length k.packets) k.client k.server scripts ≡ Err fault
+IsJudged k scripts (Refused fault) = IsRefusedBy k scripts fault
 IsJudged k scripts (Explained e) = (e.store.now ≡ k) × (e.certificate ≡ scripts)
     × (verdict_of k.params (length k.packets) k.client k.server scripts ≡ Ok (explained e.report))
     × Headline k.params k.packets (explained e.report)

@@ -4,4 +4,5 @@ pub mod Verdict
 pub mod Passed
 pub mod Judged
 pub mod Proposed
+pub mod Decided
 pub mod Claims

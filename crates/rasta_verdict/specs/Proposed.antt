@@ -1,4 +1,4 @@
--- The texts of a capture for which a certificate is looked for. Whoever proposes one is not trusted.
+-- The texts of a capture for which a certificate is looked for.
 use Rattle.std.specs.Prelude.{◌≡◌, ℕ, Bool, true, List, ◌++◌, length, Option, Ok, Err}
 use Rattle.std.specs.Io.KnownBytes.{Appends, Consumes, IsAtEnd}
 use Rattle.rasta_pcap.specs.declared.fault.Fault.{Fault}
@@ -16,17 +16,13 @@ abbrev pub Telling : Type 0
 Telling = Crossing → Scripts → Explained → List ℕ
 
 -- What may become of a capture, with its text and the status of the program: it is refused; no certificate is found for
--- it, at some place; the scripts of some certificate are refused; or some certificate explains it, which alone has the
--- status 0. Which certificate is left open. Whether it explains the capture is not.
+-- it, at some place; or some certificate explains it, which alone has the status 0. Which certificate is left open.
+-- Whether it explains the capture is not.
 pub data IsOutcome (tell : Telling) (p : Parameters) (file : List ℕ) : List ℕ → ℕ → Type 0 where
   capture_refused : (fault : Fault) → crossing_of p file ≡ Err fault
       → IsOutcome tell p file (refused_line fault) 1
   none_found : (k : Crossing) (place : ℕ) → crossing_of p file ≡ Ok k
       → IsOutcome tell p file (refused_line (fault_at not_found place)) 1
-  scripts_refused : (k : Crossing) (scripts : Scripts) (fault : Fault) → crossing_of p file ≡ Ok k
-      → IsCertificate scripts
-      → verdict_of k.params (length k.packets) k.client k.server scripts ≡ Err fault
-      → IsOutcome tell p file (refused_line fault) 1
   explained : (k : Crossing) (scripts : Scripts) (report : Explained) → crossing_of p file ≡ Ok k
       → IsCertificate scripts
       → verdict_of k.params (length k.packets) k.client k.server scripts ≡ Ok report

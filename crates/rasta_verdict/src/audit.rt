@@ -4,6 +4,7 @@ ghost use Rattle.rasta_pcap.specs.Extent.{ReadsUpToRecord};
 ghost use Rattle.rasta_pcap.specs.Fault.{write_failed};
 ghost use Rattle.rasta_verdict.specs.Claims.{ClaimsHeadline};
 ghost use Rattle.rasta_show.specs.Runs.{IsRunFault};
+ghost use Rattle.rasta_verdict.specs.Decided.{Decides};
 ghost use Rattle.rasta_verdict.specs.Verdict.{WritesVerdict};
 ghost use Rattle.rasta_verdict.specs.Proposed.{BeginsOutcome, IsAudit, IsBuild};
 
@@ -32,6 +33,9 @@ pub fn run_audit<R: Source, W: Sink>(
         (R.remaining reader.old) (R.remaining reader.new) (W.contents writer.old) (W.contents writer.new)) }
     // Where the status is 0 the headline holds.
     ensures headline { IfOk result (λ status. WritesVerdict (ClaimsHeadline params.now) status
+        (R.remaining reader.old) (R.remaining reader.new) (W.contents writer.old) (W.contents writer.new)) }
+    // A capture without a fault is explained, or it is refused by 60, and no run sends its packets up to that place.
+    ensures decided { IfOk result (λ status. WritesVerdict (Decides params.now) status
         (R.remaining reader.old) (R.remaining reader.new) (W.contents writer.old) (W.contents writer.new)) }
     ensures silent { IfErr result (λ f. (f ≡ write_failed) ⊎ (W.contents writer.new ≡ W.contents writer.old)) }
     ensures err { IfErr result (λ f. IsRunFault f (R.failure_count reader.old) (R.failure_count reader.new)
@@ -63,6 +67,9 @@ pub fn run_build<R: Source, W: Sink>(
     ensures text { IfOk result (λ status. WritesVerdict (IsBuild params.now) status
         (R.remaining reader.old) (R.remaining reader.new) (W.contents writer.old) (W.contents writer.new)) }
     ensures begun { OnErr result (BeginsOutcome (IsBuild params.now)
+        (R.remaining reader.old) (R.remaining reader.new) (W.contents writer.old) (W.contents writer.new)) }
+    // A capture without a fault is explained, or it is refused by 60, and no run sends its packets up to that place.
+    ensures decided { IfOk result (λ status. WritesVerdict (Decides params.now) status
         (R.remaining reader.old) (R.remaining reader.new) (W.contents writer.old) (W.contents writer.new)) }
     ensures silent { IfErr result (λ f. (f ≡ write_failed) ⊎ (W.contents writer.new ≡ W.contents writer.old)) }
     ensures err { IfErr result (λ f. IsRunFault f (R.failure_count reader.old) (R.failure_count reader.new)

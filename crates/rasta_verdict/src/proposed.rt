@@ -1,67 +1,32 @@
 //! What becomes of what crossed, for which a certificate is proposed.
 ghost use Rattle.std.specs.Prelude.{◌≡◌, List, ℕ, Ok, IfErr, IfOk, OnErr, OnOk};
 ghost use Rattle.std.specs.Io.KnownBytes.{Appends};
-ghost use Rattle.rasta_pcap.specs.Fault.{fault_at, no_memory, not_found, write_failed};
+ghost use Rattle.rasta_pcap.specs.Fault.{no_memory, write_failed};
 ghost use Rattle.rasta_pcap.specs.Devices.{AppendsBeginning, HasFailed};
 ghost use Rattle.rasta_pdu.specs.Params.{Parameters};
-ghost use Rattle.rasta_cert.specs.Certificate.{AreEntries, IsCertificate, IsEntry};
 ghost use Rattle.rasta_check.specs.Reading.{crossing_of};
-ghost use Rattle.rasta_verdict.specs.declared.verdict.Verdict.TheVariants as verdicts;
 ghost use Rattle.rasta_verdict.specs.Claims.{ClaimsHeadline};
 ghost use Rattle.rasta_verdict.specs.Judged.{HasToldRun, status_of_verdict, text_of_verdict, told_verdict};
+ghost use Rattle.rasta_verdict.specs.Decided.{Decides};
 ghost use Rattle.rasta_verdict.specs.Proposed.{IsOutcome, Telling, built_text};
 
-use crate::verdict::{Verdict, judge_scripts};
+use crate::verdict::{Verdict, judge_scripts, refused};
 use rasta_build::propose_lists;
-use rasta_cert::{Certificate, Entry, write};
+use rasta_cert::write;
 use rasta_check::Store;
 use rasta_pcap::write_all;
 use rasta_pdu::{Fault, Sink};
 use rasta_show::refusal_line;
 use std::alloc::Global;
 
-// The numbers of an entry are in the ranges of their types.
-fn holds_entry(entry: Entry)
-    ensures { IsEntry entry }
-{
-    let _entry = entry;
-}
-
-// So are those of a script.
-fn holds_entries(entries: &[Entry])
-    ensures { AreEntries entries.now }
-{
-    for entry in entries {
-        holds_entry(*entry);
-    }
-}
-
-// Any certificate is one that has a text.
-fn holds_scripts(certificate: &Certificate)
-    ensures { IsCertificate certificate.now }
-{
-    holds_entries(certificate.client());
-    holds_entries(certificate.server());
-}
-
-// What the builder answers in place of a certificate, which is not trusted: out of memory, or that none
-// was found.
-fn none_proposed<'a>(fault: Fault) -> Result<Verdict<'a>, Fault>
-    ensures ok { IfOk result (λ v. v ≡ verdicts.Refused (fault_at not_found fault.place)) }
-    ensures err { IfErr result (λ f. f ≡ no_memory) }
-{
-    if fault.number == Fault::NO_MEMORY {
-        Err(Fault::at(Fault::NO_MEMORY, 0))
-    } else {
-        Ok(Verdict::Refused(Fault::at(Fault::NOT_FOUND, fault.place)))
-    }
-}
-
 /// The verdict on what crossed and a certificate that is proposed for it: [`Fault::NOT_FOUND`] where none is
-/// proposed, or else what the checker says of the one that is. Refused by [`Fault::NO_MEMORY`] alone.
+/// proposed, and no run sends these packets; or else the report on both. Refused by [`Fault::NO_MEMORY`]
+/// alone.
 pub fn judge_proposed<'a>(alloc: Global, store: &'a Store) -> Result<Verdict<'a>, Fault>
     ensures stands { IfOk result (λ v. (tell : Telling) (p : Parameters) (file : List ℕ) → crossing_of p file ≡ Ok store.now
         → IsOutcome tell p file (told_verdict tell v) (status_of_verdict v)) }
+    ensures decided { IfOk result (λ v. (tell : Telling) (p : Parameters) (file : List ℕ) → crossing_of p file ≡ Ok store.now
+        → Decides p file (told_verdict tell v) (status_of_verdict v)) }
     ensures headline { IfOk result (λ v. (p : Parameters) (file : List ℕ) → crossing_of p file ≡ Ok store.now
         → ClaimsHeadline p file (text_of_verdict v) (status_of_verdict v)) }
     ensures told { IfOk result HasToldRun }
@@ -74,11 +39,8 @@ pub fn judge_proposed<'a>(alloc: Global, store: &'a Store) -> Result<Verdict<'a>
         &store.client(),
         &store.server(),
     ) {
-        Ok(certificate) => {
-            holds_scripts(&certificate);
-            judge_scripts(alloc, store, certificate)
-        }
-        Err(fault) => none_proposed(fault),
+        Ok(certificate) => judge_scripts(alloc, store, certificate),
+        Err(fault) => refused(fault),
     }
 }
 

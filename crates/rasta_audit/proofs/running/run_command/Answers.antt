@@ -19,3 +19,9 @@ returns-in-Check-clause-headline g c = rw c.in-Check.is c.run_check.ensures.head
 
 pub returns-in-Audit-clause-headline : goal.returns-in-Audit-clause-headline
 returns-in-Audit-clause-headline g c = rw c.in-Audit.is c.run_audit.ensures.headline
+
+pub returns-in-Build-clause-decided : goal.returns-in-Build-clause-decided
+returns-in-Build-clause-decided g c = rw c.in-Build.is c.run_build.ensures.decided
+
+pub returns-in-Audit-clause-decided : goal.returns-in-Audit-clause-decided
+returns-in-Audit-clause-decided g c = rw c.in-Audit.is c.run_audit.ensures.decided

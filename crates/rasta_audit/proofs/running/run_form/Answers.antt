@@ -27,3 +27,7 @@ returns-clause-err g c =
 pub returns-clause-headline : goal.returns-clause-headline
 returns-clause-headline g c =
     if_ok c.run_command.result (λ status headline. (c.in-Ok.params, c.in-Ok.ensures.ok, headline)) c.run_command.ensures.headline
+
+pub returns-clause-decided : goal.returns-clause-decided
+returns-clause-decided g c =
+    if_ok c.run_command.result (λ status decided. (c.in-Ok.params, c.in-Ok.ensures.ok, decided)) c.run_command.ensures.decided

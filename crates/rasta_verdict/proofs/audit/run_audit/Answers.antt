@@ -2,11 +2,12 @@ use Rattle.std.proofs.Common.{List, ℕ, subst, sym}
 use Rattle.rasta_check.specs.Storing.{IsRefusedSo, IsStored}
 use Rattle.rasta_show.specs.Lines.{refused_line}
 use Rattle.rasta_verdict.specs.Claims.{ClaimsHeadline}
+use Rattle.rasta_verdict.specs.Decided.{Decides}
 use Rattle.rasta_verdict.specs.Judged.{status_of_verdict, text_of_verdict}
 use Rattle.rasta_verdict.specs.Proposed.{IsAudit, capture_refused}
 use Rattle.rasta_verdict.specs.Verdict.{explained_text}
 use Rattle.rasta_pcap.proofs.Sending.{where_failed}
-use Rattle.rasta_verdict.proofs.Proposals.{audit_text, nothing_of_outcome, outcome_begun}
+use Rattle.rasta_verdict.proofs.Proposals.{audit_text, nothing_of_outcome, outcome_begun, refused_decides}
 use Rattle.rasta_verdict.proofs.Refusing.{where_broken, where_refused}
 use Rattle.rasta_verdict.proofs.Verdicts.{is_one, verdict_written}
 use Rattle.rasta_verdict.proofs.audit.run_audit.Goals as goal
@@ -38,6 +39,15 @@ returns-in-Err-clause-headline g c =
     verdict_written (ClaimsHeadline p) (IsRefusedSo p f) c.write_refusal.result (refused_line f) 1 _ _ _ _
     (where_refused p f _ _ _ _ (sym c.if-is_refusal.ensures) c.in-Err.ensures.err)
     (λ file refused status. absurd (cc))
+    c.write_refusal.ensures.whole (is_one c.write_refusal.result c.write_refusal.ensures.answered)
+
+pub returns-in-Err-clause-decided : goal.returns-in-Err-clause-decided
+returns-in-Err-clause-decided g c =
+    let p = c.args.params.now in
+    let f = c.in-Err.fault in
+    verdict_written (Decides p) (IsRefusedSo p f) c.write_refusal.result (refused_line f) 1 _ _ _ _
+    (where_refused p f _ _ _ _ (sym c.if-is_refusal.ensures) c.in-Err.ensures.err)
+    (λ file refused. refused_decides p file f (refused_line f) 1 refused.value)
     c.write_refusal.ensures.whole (is_one c.write_refusal.result c.write_refusal.ensures.answered)
 
 pub returns-in-Err-2-clause-begun : goal.returns-in-Err-2-clause-begun
@@ -80,4 +90,14 @@ returns-clause-headline g c =
     let verdict = c.in_ok-verdict.verdict in
     verdict_written (ClaimsHeadline p) (IsStored p c.in-Ok.store) c.write_verdict.result (text_of_verdict verdict) (status_of_verdict verdict) _ _ _ _
     c.in-Ok.ensures.value (λ file stored. c.in_ok-verdict.ensures.headline p file stored.value)
+    c.write_verdict.ensures.ok c.write_verdict.ensures.answered
+
+pub returns-clause-decided : goal.returns-clause-decided
+returns-clause-decided g c =
+    let p = c.args.params.now in
+    let verdict = c.in_ok-verdict.verdict in
+    let status = status_of_verdict verdict in
+    verdict_written (Decides p) (IsStored p c.in-Ok.store) c.write_verdict.result (text_of_verdict verdict) status _ _ _ _
+    c.in-Ok.ensures.value
+    (λ file stored. subst (λ (t : List ℕ). Decides p file t status) (audit_text verdict) (c.in_ok-verdict.ensures.decided explained_text p file stored.value))
     c.write_verdict.ensures.ok c.write_verdict.ensures.answered

@@ -1,10 +1,11 @@
 use Rattle.std.proofs.Common.{sym}
 use Rattle.rasta_check.specs.Storing.{IsRefusedSo, IsStored}
 use Rattle.rasta_show.specs.Lines.{refused_line}
+use Rattle.rasta_verdict.specs.Decided.{Decides}
 use Rattle.rasta_verdict.specs.Judged.{status_of_verdict, told_verdict}
 use Rattle.rasta_verdict.specs.Proposed.{IsBuild, built_text, capture_refused}
 use Rattle.rasta_pcap.proofs.Sending.{where_failed}
-use Rattle.rasta_verdict.proofs.Proposals.{nothing_of_outcome, outcome_begun}
+use Rattle.rasta_verdict.proofs.Proposals.{nothing_of_outcome, outcome_begun, refused_decides}
 use Rattle.rasta_verdict.proofs.Refusing.{where_broken, where_refused}
 use Rattle.rasta_verdict.proofs.Verdicts.{is_one, verdict_written}
 use Rattle.rasta_verdict.proofs.audit.run_build.Goals as goal
@@ -28,6 +29,15 @@ returns-in-Err-clause-begun g c =
     (where_refused p f _ _ _ _ (sym c.if-is_refusal.ensures) c.in-Err.ensures.err)
     (λ file refused. capture_refused f refused.value)
     c.write_refusal.ensures.begun
+
+pub returns-in-Err-clause-decided : goal.returns-in-Err-clause-decided
+returns-in-Err-clause-decided g c =
+    let p = c.args.params.now in
+    let f = c.in-Err.fault in
+    verdict_written (Decides p) (IsRefusedSo p f) c.write_refusal.result (refused_line f) 1 _ _ _ _
+    (where_refused p f _ _ _ _ (sym c.if-is_refusal.ensures) c.in-Err.ensures.err)
+    (λ file refused. refused_decides p file f (refused_line f) 1 refused.value)
+    c.write_refusal.ensures.whole (is_one c.write_refusal.result c.write_refusal.ensures.answered)
 
 pub returns-in-Err-2-clause-begun : goal.returns-in-Err-2-clause-begun
 returns-in-Err-2-clause-begun g c =
@@ -58,3 +68,11 @@ returns-clause-begun g c =
     outcome_begun (IsBuild p) (IsStored p c.in-Ok.store) c.write_found.result (told_verdict built_text verdict) (status_of_verdict verdict) _ _ _ _
     c.in-Ok.ensures.value (λ file stored. c.in_ok-verdict.ensures.stands built_text p file stored.value)
     c.write_found.ensures.begun
+
+pub returns-clause-decided : goal.returns-clause-decided
+returns-clause-decided g c =
+    let p = c.args.params.now in
+    let verdict = c.in_ok-verdict.verdict in
+    verdict_written (Decides p) (IsStored p c.in-Ok.store) c.write_found.result (told_verdict built_text verdict) (status_of_verdict verdict) _ _ _ _
+    c.in-Ok.ensures.value (λ file stored. c.in_ok-verdict.ensures.decided built_text p file stored.value)
+    c.write_found.ensures.ok c.write_found.ensures.answered

@@ -1,0 +1,151 @@
+-- What a pass that is gone through step by step answers.
+use Rattle.std.proofs.Common.{◌≡◌, ℕ, zero, suc, ◌+◌, ◌-◌, ◌<◌, ◌^◌, ◌⊎◌, Bool, true, false, List, length, Option, Some, None, Result, Ok, Err, slice_get, refl, ap, sym, ◌∙◌, arith, inl, inr, subst, ⊎_elim}
+use Rattle.std.specs.Prelude.{nat_lt, if◌then◌else◌}
+use Rattle.rasta_pcap.specs.Fault.{fault_at, no_memory, not_found, too_many_entries}
+use Rattle.rasta_pcap.specs.declared.fault.Fault.{Fault}
+use Rattle.rasta_pcap.specs.declared.fault.Side.TheVariants.{Client, Server}
+use Rattle.rasta_pdu.specs.Params.{Parameters}
+use Rattle.rasta_cert.specs.Certificate.{Scripts, IsCertificate, most_entries}
+use Rattle.rasta_check.specs.Crossing.{FirstCopy}
+use Rattle.rasta_check.specs.Reading.{AreSentLists}
+use Rattle.rasta_check.specs.Report.{BothFit}
+use Rattle.rasta_check.proofs.Forms.{to_record}
+use Rattle.rasta_check.proofs.Steps.{base_small}
+use Rattle.std.specs.Result.{IfOk, IfErr, IsErr, IsErrAnd}
+use Rattle.rasta_build.specs.Built.{Built}
+use Rattle.rasta_build.specs.Choices.{first_of, fault_of_stuck, IsUnexplained, IsProposalFault}
+use Rattle.rasta_build.specs.Completeness.{IsProposal, IsAnswer}
+use Rattle.rasta_build.specs.Proposing.{Pass, one_more, pass_on, passes, copy_goes, client_goes, server_goes, all_copies, proposal, proposed_by, scripts_of, IsPassFault}
+use Rattle.rasta_build.specs.declared.stuck.Stuck.TheVariants.{Unexplained}
+use Rattle.rasta_build.proofs.SentLists.{sent_rises, sent_numbers, sent_within}
+use Rattle.rasta_build.proofs.Soundness.{passes_read}
+use Rattle.rasta_build.proofs.Proposals.{proposal_fits, taken_within}
+
+-- ---- a step
+
+pub passes_more : (p : Parameters) (c s : List FirstCopy) (k : ℕ) (t t' : Pass) → passes p c s k ≡ Ok t → one_more c s t ≡ Ok t' → passes p c s (k + 1) ≡ Ok t'
+passes_more p c s k t t' h m =
+    let next : k + 1 ≡ suc k = omega arith in
+    ap (λ (j : ℕ). passes p c s j) next ∙ (ap (λ (r : Result Pass ℕ). pass_on r (one_more c s)) h ∙ m)
+
+stays : (p : Parameters) (c s : List FirstCopy) (k m n place : ℕ) → n ≡ m + k → passes p c s k ≡ Err place → passes p c s n ≡ Err place
+stays p c s k zero n place e h = (let z : n ≡ k = omega (arith, e) in rw z h)
+stays p c s k (suc m) n place e h =
+    let z : n ≡ suc (m + k) = omega (arith, e) in
+    rw z (ap (λ (r : Result Pass ℕ). pass_on r (one_more c s)) (stays p c s k m (m + k) place refl h))
+
+-- a step that fails is the answer
+pub stuck_answers : (p : Parameters) (c s : List FirstCopy) (k : ℕ) (t : Pass) (fault : Fault) → k < all_copies c s → passes p c s k ≡ Ok t → IsPassFault (one_more c s t) fault → IsAnswer p c s (Err fault)
+stuck_answers p c s k t fault l h f = ⊎_elim
+    (λ (m : fault ≡ no_memory). inl (ap (λ (x : Fault). Err x) m))
+    (λ (e : (place : ℕ) × (one_more c s t ≡ Err place) × (fault ≡ fault_of_stuck Unexplained place)).
+    (let here : passes p c s (suc k) ≡ Err e.0 = ap (λ (r : Result Pass ℕ). pass_on r (one_more c s)) h ∙ e.1 in
+    inr (ap (λ (x : Fault). Err x) e.2 ∙ sym (ap proposed_by (stays p c s (suc k) (all_copies c s - suc k) (all_copies c s) e.0 (omega (arith, l)) here)))))
+    f
+
+-- the whole pass is
+pub pass_answers : (p : Parameters) (c s : List FirstCopy) (k : ℕ) (t : Pass) (answer : Result Scripts Fault) → k ≡ all_copies c s → passes p c s k ≡ Ok t → answer ≡ proposed_by (Ok t) → IsAnswer p c s answer
+pass_answers p c s k t answer e h a = inr (a ∙ sym (ap proposed_by (ap (λ (j : ℕ). passes p c s j) (sym e) ∙ h)))
+
+-- an error that is handed on
+pub err_is : {A E : Type 0} (r : Result A E) (y : E) → IsErr r → IsErrAnd r (λ (z : E). z ≡ y) → r ≡ Err y
+err_is (Ok x) y h k = absurd (cc)
+err_is (Err z) y h k = ap Err k
+
+-- ---- what an answer says
+
+client_place : (t : Pass) (q place : ℕ) (o : Option Built) → client_goes t q o ≡ Err place → place ≡ q
+client_place t q place None h = (let e : place ≡ q = cc in e)
+client_place t q place (Some b) h = absurd (cc)
+
+server_place : (t : Pass) (q place : ℕ) (o : Option Built) → server_goes t q o ≡ Err place → place ≡ q
+server_place t q place None h = (let e : place ≡ q = cc in e)
+server_place t q place (Some b) h = absurd (cc)
+
+abbrev Unexplains : List FirstCopy → List FirstCopy → ℕ → Type 0
+Unexplains c s place = IsUnexplained c (fault_of_stuck Unexplained place) ⊎ IsUnexplained s (fault_of_stuck Unexplained place)
+
+one_unexplained : (c s : List FirstCopy) (t : Pass) (place : ℕ) (a b : Option FirstCopy) → slice_get c t.made ≡ a → slice_get s t.answered ≡ b → copy_goes c s t (first_of a b) ≡ Err place → Unexplains c s place
+one_unexplained c s t place None None x y h = absurd (cc)
+one_unexplained c s t place (Some d) None x y h = inl (t.made, d, x, ap (fault_of_stuck Unexplained) (client_place t d.place place _ h))
+one_unexplained c s t place None (Some d) x y h = inr (t.answered, d, y, ap (fault_of_stuck Unexplained) (server_place t d.place place _ h))
+one_unexplained c s t place (Some d) (Some f) x y h = by (nat_lt d.place f.place) h
+  where
+    by : (l : Bool) → copy_goes c s t (Some (if l then record { side = Client; copy = d } else record { side = Server; copy = f })) ≡ Err place → Unexplains c s place
+    by true h = inl (t.made, d, x, ap (fault_of_stuck Unexplained) (client_place t d.place place _ h))
+    by false h = inr (t.answered, f, y, ap (fault_of_stuck Unexplained) (server_place t f.place place _ h))
+
+unexplained : (p : Parameters) (c s : List FirstCopy) (k place : ℕ) → passes p c s k ≡ Err place → Unexplains c s place
+unexplained p c s zero place h = absurd (cc)
+unexplained p c s (suc k) place h = then_by (passes p c s k) refl h (λ q e. unexplained p c s k q e)
+  where
+    then_by : (r : Result Pass ℕ) → passes p c s k ≡ r → pass_on r (one_more c s) ≡ Err place → ((q : ℕ) → passes p c s k ≡ Err q → Unexplains c s q) → Unexplains c s place
+    then_by (Err q) e h rest = (let z : q ≡ place = cc in subst (λ (n : ℕ). Unexplains c s n) z (rest q e))
+    then_by (Ok u) e h rest = one_unexplained c s u place (slice_get c u.made) (slice_get s u.answered) refl refl h
+
+-- a certificate that is answered fits
+pub answer_fits : (p : Parameters) (packets : ℕ) (c s : List FirstCopy) (answer : Result Scripts Fault) → AreSentLists p packets c s → IsAnswer p c s answer
+    → IfOk answer (λ (scripts : Scripts). IsCertificate scripts × BothFit p packets c s scripts)
+answer_fits p packets c s (Err fault) crossing a = tt
+answer_fits p packets c s (Ok scripts) crossing (inl e) = absurd (cc)
+answer_fits p packets c s (Ok scripts) crossing (inr e) = subst (λ (o : Result Scripts Fault). IsProposal p packets c s o) (sym e) (proposal_fits p packets c s crossing)
+
+many : (t : Pass) (place : ℕ) → proposed_by (Ok t) ≡ Err (fault_at not_found place) → ⊥
+many t place h = by (nat_lt most_entries (length t.own.script + length t.other.script)) h
+  where
+    by : (f : Bool) → (if f then Err (fault_at too_many_entries 0) else Ok (scripts_of t)) ≡ Err (fault_at not_found place) → ⊥
+    by true h = (let e : fault_at too_many_entries 0 ≡ fault_at not_found place = cc in let n : too_many_entries ≡ not_found = ap (λ (x : Fault). x.number) e in omega (arith, n))
+    by false h = absurd (cc)
+
+proposal_unexplained : (p : Parameters) (c s : List FirstCopy) (fault : Fault) (place : ℕ) → Err fault ≡ proposal p c s → fault ≡ fault_at not_found place → IsProposalFault c s fault
+proposal_unexplained p c s fault place h e = by (passes p c s (all_copies c s)) refl
+  where
+    by : (r : Result Pass ℕ) → passes p c s (all_copies c s) ≡ r → IsProposalFault c s fault
+    by (Err q) g =
+        let z : Err fault ≡ Err (fault_of_stuck Unexplained q) = h ∙ ap proposed_by g in
+        let y : fault_of_stuck Unexplained q ≡ fault = cc in
+        inr (subst (λ (f : Fault). IsUnexplained c f ⊎ IsUnexplained s f) y (unexplained p c s (all_copies c s) q g))
+    by (Ok t) g = absurd (many t place (sym (ap proposed_by g) ∙ (sym h ∙ ap (λ (f : Fault). Err f) e)))
+
+-- a fault that is answered is want of memory, or of a copy that nothing explains
+pub answer_fault : (p : Parameters) (packets : ℕ) (c s : List FirstCopy) (answer : Result Scripts Fault) → AreSentLists p packets c s → IsAnswer p c s answer → IfErr answer (IsProposalFault c s)
+answer_fault p packets c s (Ok scripts) crossing a = tt
+answer_fault p packets c s (Err fault) crossing (inl e) = inl (let z : fault ≡ no_memory = cc in z)
+answer_fault p packets c s (Err fault) crossing (inr e) =
+    let x : IsProposal p packets c s (Err fault) = subst (λ (o : Result Scripts Fault). IsProposal p packets c s o) (sym e) (proposal_fits p packets c s crossing) in
+    proposal_unexplained p c s fault x.0 e x.1
+
+-- ---- what holds of each pass
+
+-- the ends are of these parameters, and have accepted few PDUs
+pub record AreBound (p : Parameters) (t : Pass) : Type 0 where
+  pub own_params : t.own.end.params ≡ p
+  pub other_params : t.other.end.params ≡ p
+  pub own_accepted : t.own.end.state.accepted < 2 ^ 62
+  pub other_accepted : t.other.end.state.accepted < 2 ^ 62
+
+pub are_bound : (p : Parameters) (packets : ℕ) (c s : List FirstCopy) (k : ℕ) (t : Pass) → AreSentLists p packets c s → passes p c s k ≡ Ok t → AreBound p t
+are_bound p packets c s k t crossing h =
+    let x = crossing.2 in
+    let most = x.few_packets in
+    let hc = to_record p crossing.0 Client c x.valid.valid x.client in
+    let hs = to_record p crossing.0 Server s x.valid.valid x.server in
+    let r = passes_read p (length crossing.0) c s x.few_client x.few_server (sent_rises p crossing.0 Client c hc) (sent_rises p crossing.0 Server s hs) hc.rising hs.rising (sent_within p crossing.0 Client c hc) (sent_within p crossing.0 Server s hs)
+    (omega (arith, most)) (sent_numbers p crossing.0 Client c hc) (sent_numbers p crossing.0 Server s hs) k t h in
+    let rc = r.client in
+    let rs = r.server in
+    let tc = taken_within p (length crossing.0) c s _ rc.at t.own.script rc.leads (omega arith) in
+    let ts = taken_within p (length crossing.0) s c _ rs.at t.other.script rs.leads (omega arith) in
+    let bs = base_small p.quiet in
+    let lc = x.few_client in
+    let ls = x.few_server in
+    let ac = rc.accepted in
+    let nc = rc.taken in
+    let as_ = rs.accepted in
+    let ns = rs.taken in
+    record {
+      own_params = rc.params;
+      other_params = rs.params;
+      own_accepted = omega (arith, tc, bs, ls, ac, nc);
+      other_accepted = omega (arith, ts, bs, lc, as_, ns);
+    }

@@ -1,0 +1,160 @@
+-- What the steps of an end keep of it, and how far they raise what is accepted.
+use Rattle.std.proofs.Common.{◌≡◌, ℕ, zero, suc, ◌+◌, ◌-◌, ◌^◌, ◌<◌, ◌≤◌, Bool, true, false, List, [], ◌∷◌, length, Option, Some, None, refl, ap, ◌∙◌, arith, subst}
+use Rattle.std.specs.Prelude.{nat_lt, if◌then◌else◌, ◌==◌}
+use Rattle.rasta_pdu.specs.Params.{Parameters}
+use Rattle.rasta_pdu.specs.Pdu.{SafetyPdu, RedundancyPdu}
+use Rattle.rasta_pdu.specs.declared.kind.Kind.{Kind}
+use Rattle.rasta_pdu.specs.declared.kind.Kind.TheVariants.{RetransmissionRequest, RetransmissionResponse}
+use Rattle.rasta_end.specs.declared.take_row.TakeRow.{TakeRow}
+use Rattle.rasta_end.specs.declared.take_row.TakeRow.TheVariants.{Opened, Answered, FirstHeartbeat, InSequence, ResentInSequence, Gap, GapInRetransmission, Resumed, Requested, RequestedAhead, RequestedAgain, Disconnected}
+use Rattle.rasta_end.specs.declared.owed.Owed.{Owed}
+use Rattle.rasta_end.specs.State.{EndState, carries_unit, is_owing}
+use Rattle.rasta_end.specs.TakeRule.{accept, enter, hand_up, is_in, steps_past_next, effect, effect_by, after_take, take_row, take_fault}
+use Rattle.rasta_check.specs.Crossing.{FirstCopy}
+use Rattle.rasta_check.proofs.Accepting.{accepted_after}
+use Rattle.rasta_check.proofs.TakeRows.{row_known}
+use Rattle.rasta_build.specs.Built.{Built}
+use Rattle.rasta_build.specs.Choices.{copy_at, is_trigger}
+use Rattle.rasta_build.specs.Explaining.{unless, taken_by, take_step, if_accepted, accept_there, accept_step, accept_from, and_then, try_at, try_there, try_step, go_on, scan}
+use Rattle.rasta_build.proofs.Comparisons.{was_same}
+
+-- the parameters stay, and so much more is accepted
+abbrev pub Keeps : Built → Built → Type 0
+Keeps b b' = (b'.end.params ≡ b.end.params) × (b'.end.state.accepted ≤ b.end.state.accepted + 2 ^ 32)
+
+pub take_keeps : (slot q : ℕ) (x : RedundancyPdu) (b b' : Built) → take_step slot q x b ≡ Some b' → Keeps b b'
+take_keeps slot q x b b' h = by (nat_lt q b.next_take) (take_fault b.end.params b.end.state b.end.state.clock) (take_row b.end.params b.end.state x.safety) refl h
+  where
+    by : (f : Bool) (t : Option ℕ) (o : Option TakeRow) → take_row b.end.params b.end.state x.safety ≡ o → (if f then None else unless t (taken_by o slot q x b)) ≡ Some b' → Keeps b b'
+    by true t o w h = absurd (cc)
+    by false (Some f) o w h = absurd (cc)
+    by false None None w h = (let e : b ≡ b' = cc in subst (λ (z : Built). Keeps b z) e (refl, omega arith))
+    by false None (Some row) w h =
+        let e : taken_by (Some row) slot q x b ≡ b' = cc in
+        let after : after_take b.end.params b.end.state x.safety ≡ effect b.end.params row b.end.state x.safety = ap (λ (o : Option TakeRow). effect_by b.end.params o b.end.state x.safety) w in
+        subst (λ (z : Built). Keeps b z) e (refl, subst (λ (z : EndState). z.accepted ≤ b.end.state.accepted + 2 ^ 32) after (accepted_after b.end.params b.end.state x.safety))
+
+-- where a position is accepted, it is the last one
+abbrev pub Accepts : ℕ → Built → Built → Type 0
+Accepts q b b' = (b'.end.params ≡ b.end.params) × (b'.end.state.accepted ≡ suc q)
+
+pub accept_keeps : (sent : List FirstCopy) (slot q : ℕ) (b b' : Built) → accept_step sent slot q b ≡ Some b' → Accepts q b b'
+accept_keeps sent slot q b b' h = by (copy_at b.peer.quiet_sn sent q) h
+  where
+    last_by : (x : Built) → Keeps b x → (f : Bool) → (x.end.state.accepted == suc q) ≡ f → (if f then Some x else None) ≡ Some b' → Accepts q b b'
+    last_by x k true e h = (let z : x ≡ b' = cc in subst (λ (y : Built). Accepts q b y) z (k.0, was_same x.end.state.accepted (suc q) e))
+    last_by x k false e h = absurd (cc)
+
+    then_by : (c : FirstCopy) (o : Option Built) → take_step slot q c.pdu b ≡ o → if_accepted q o ≡ Some b' → Accepts q b b'
+    then_by c None e h = absurd (cc)
+    then_by c (Some x) e h = last_by x (take_keeps slot q c.pdu b x e) (x.end.state.accepted == suc q) refl h
+
+    by : (o : Option FirstCopy) → accept_there slot q o b ≡ Some b' → Accepts q b b'
+    by None h = absurd (cc)
+    by (Some c) h = then_by c (take_step slot q c.pdu b) refl h
+
+-- one PDU more is accepted
+pub accept_more : (sent : List FirstCopy) (slot first q : ℕ) (b b1 b2 : Built) → first ≤ q → accept_from sent slot first (q - first) b ≡ Some b1 → accept_step sent slot q b1 ≡ Some b2
+    → accept_from sent slot first (q + 1 - first) b ≡ Some b2
+accept_more sent slot first q b b1 b2 l h k =
+    let more : q + 1 - first ≡ suc (q - first) = omega arith in
+    let next : first + (q - first) ≡ q = omega arith in
+    ap (λ (m : ℕ). accept_from sent slot first m b) more
+    ∙ (ap (λ (o : Option Built). and_then o (accept_step sent slot (first + (q - first)))) h ∙ (ap (λ (m : ℕ). accept_step sent slot m b1) next ∙ k))
+
+none_more : (sent : List FirstCopy) (slot first n m k : ℕ) (b : Built) → k ≡ m + n → accept_from sent slot first n b ≡ None → accept_from sent slot first k b ≡ None
+none_more sent slot first n zero k b e h = (let z : k ≡ n = omega (arith, e) in rw z h)
+none_more sent slot first n (suc m) k b e h =
+    let z : k ≡ suc (m + n) = omega (arith, e) in
+    rw z (ap (λ (o : Option Built). and_then o (accept_step sent slot (first + (m + n)))) (none_more sent slot first n m (m + n) b refl h))
+
+-- or one isn't, and then no further one
+pub accept_stuck : (sent : List FirstCopy) (slot first behind q : ℕ) (b b1 : Built) → first ≤ q → q < behind → accept_from sent slot first (q - first) b ≡ Some b1 → accept_step sent slot q b1 ≡ None
+    → accept_from sent slot first (behind - first) b ≡ None
+accept_stuck sent slot first behind q b b1 l m h k =
+    let next : first + (q - first) ≡ q = omega arith in
+    none_more sent slot first (suc (q - first)) (behind - suc q) (behind - first) b (omega arith)
+    (ap (λ (o : Option Built). and_then o (accept_step sent slot (first + (q - first)))) h ∙ (ap (λ (j : ℕ). accept_step sent slot j b1) next ∙ k))
+
+-- the search goes on where nothing is owed yet
+scan_steps : (sent : List FirstCopy) (slot : ℕ) (made : Kind) (q behind : ℕ) (b b1 : Built) → q < behind → try_step sent slot made q b ≡ Some b1
+    → scan sent slot made q (behind - q) b ≡ (if is_owing b1.end.state.owed then Some b1 else scan sent slot made (suc q) (behind - suc q) b1)
+scan_steps sent slot made q behind b b1 l h =
+    let all : behind - q ≡ suc (behind - suc q) = omega arith in
+    ap (λ (j : ℕ). scan sent slot made q j b) all ∙ ap (λ (o : Option Built). go_on (scan sent slot made (suc q) (behind - suc q)) o) h
+
+owing : (os : List Owed) → 0 < length os → is_owing os ≡ true
+owing [] l = absurd (omega (arith, l))
+owing (o ∷ os) l = refl
+
+owing_none : (os : List Owed) → length os ≤ 0 → is_owing os ≡ false
+owing_none [] l = refl
+owing_none (o ∷ os) l = absurd (omega (arith, l))
+
+pub scan_on : (sent : List FirstCopy) (slot : ℕ) (made : Kind) (q behind : ℕ) (b b1 : Built) → q < behind → try_step sent slot made q b ≡ Some b1 → length b1.end.state.owed ≤ 0
+    → scan sent slot made q (behind - q) b ≡ scan sent slot made (q + 1) (behind - (q + 1)) b1
+scan_on sent slot made q behind b b1 l h none =
+    let next : suc q ≡ q + 1 = omega arith in
+    scan_steps sent slot made q behind b b1 l h
+    ∙ (ap (λ (t : Bool). if t then Some b1 else scan sent slot made (suc q) (behind - suc q) b1) (owing_none b1.end.state.owed none)
+    ∙ ap (λ (j : ℕ). scan sent slot made j (behind - j) b1) next)
+
+-- and ends where something is
+pub scan_ends : (sent : List FirstCopy) (slot : ℕ) (made : Kind) (q behind : ℕ) (b b1 : Built) → q < behind → try_step sent slot made q b ≡ Some b1 → 0 < length b1.end.state.owed
+    → scan sent slot made q (behind - q) b ≡ Some b1
+scan_ends sent slot made q behind b b1 l h some =
+    scan_steps sent slot made q behind b b1 l h ∙ ap (λ (t : Bool). if t then Some b1 else scan sent slot made (suc q) (behind - suc q) b1) (owing b1.end.state.owed some)
+
+-- a PDU that is tried
+pub try_keeps : (sent : List FirstCopy) (slot : ℕ) (made : Kind) (q : ℕ) (b b' : Built) → try_step sent slot made q b ≡ Some b' → Keeps b b'
+try_keeps sent slot made q b b' h = there (copy_at b.peer.quiet_sn sent q) h
+  where
+    tried : (c : FirstCopy) (t : Bool) → try_at t slot q c.pdu b ≡ Some b' → Keeps b b'
+    tried c true h = take_keeps slot q c.pdu b b' h
+    tried c false h = (let e : b ≡ b' = cc in subst (λ (z : Built). Keeps b z) e (refl, omega arith))
+
+    front_by : (c : FirstCopy) (f : Bool) → (if f then try_at (is_trigger made c.pdu.safety.kind) slot q c.pdu b else None) ≡ Some b' → Keeps b b'
+    front_by c true h = tried c (is_trigger made c.pdu.safety.kind) h
+    front_by c false h = absurd (cc)
+
+    there : (o : Option FirstCopy) → try_there slot made q b o ≡ Some b' → Keeps b b'
+    there None h = absurd (cc)
+    there (Some c) h = front_by c (nat_lt c.place slot) h
+
+-- ---- what an end answers or asks for is accepted in sequence, if at all
+
+handed : (c : Bool) (i : ℕ) (e : EndState) (x : SafetyPdu) (n : ℕ) → e.accepted ≤ n → (if c then hand_up i e x else e).accepted ≤ n
+handed true i e x n l = l
+handed false i e x n l = l
+
+next_accepted : (p : Parameters) (e : EndState) (x : SafetyPdu) → is_in e x ≡ true → (accept p e x).accepted ≤ suc e.accepted
+next_accepted p e x h = (let z = was_same (steps_past_next e x) 0 h in omega (arith, z))
+
+no_response : (made k : Kind) → is_trigger made k ≡ true → k ≡ RetransmissionResponse → ⊥
+no_response RetransmissionResponse RetransmissionResponse t h = absurd (cc)
+no_response RetransmissionRequest RetransmissionResponse t h = absurd (cc)
+no_response _ RetransmissionResponse t h = absurd (cc)
+no_response _ _ t h = absurd (cc)
+
+row_next : (p : Parameters) (e : EndState) (x : SafetyPdu) (made : Kind) → is_trigger made x.kind ≡ true → (row : TakeRow) → take_row p e x ≡ Some row → (effect p row e x).accepted ≤ suc e.accepted
+row_next p e x made t Opened w = omega arith
+row_next p e x made t Answered w = omega arith
+row_next p e x made t FirstHeartbeat w = (let k = row_known p e x FirstHeartbeat w in next_accepted p e x k.4)
+row_next p e x made t InSequence w = (let k = row_known p e x InSequence w in handed (carries_unit x.kind) e.accepted (enter _ (accept p e x)) x (suc e.accepted) (next_accepted p e x k.3))
+row_next p e x made t ResentInSequence w = (let k = row_known p e x ResentInSequence w in handed (carries_unit x.kind) e.accepted (accept p e x) x (suc e.accepted) (next_accepted p e x k.3))
+row_next p e x made t Gap w = omega arith
+row_next p e x made t GapInRetransmission w = omega arith
+row_next p e x made t Resumed w = (let k = row_known p e x Resumed w in absurd (no_response made x.kind t k.1))
+row_next p e x made t Requested w = (let k = row_known p e x Requested w in next_accepted p e x k.3)
+row_next p e x made t RequestedAhead w = omega arith
+row_next p e x made t RequestedAgain w = omega arith
+row_next p e x made t Disconnected w = omega arith
+
+pub trigger_next : (made : Kind) (slot q : ℕ) (x : RedundancyPdu) (b b' : Built) → is_trigger made x.safety.kind ≡ true → take_step slot q x b ≡ Some b' → b'.end.state.accepted ≤ suc b.end.state.accepted
+trigger_next made slot q x b b' t h = by (nat_lt q b.next_take) (take_fault b.end.params b.end.state b.end.state.clock) (take_row b.end.params b.end.state x.safety) refl h
+  where
+    by : (f : Bool) (g : Option ℕ) (o : Option TakeRow) → take_row b.end.params b.end.state x.safety ≡ o → (if f then None else unless g (taken_by o slot q x b)) ≡ Some b' → b'.end.state.accepted ≤ suc b.end.state.accepted
+    by true g o w h = absurd (cc)
+    by false (Some f) o w h = absurd (cc)
+    by false None None w h = (let e : b ≡ b' = cc in subst (λ (z : Built). z.end.state.accepted ≤ suc b.end.state.accepted) e (omega arith))
+    by false None (Some row) w h = (let e : taken_by (Some row) slot q x b ≡ b' = cc in subst (λ (z : Built). z.end.state.accepted ≤ suc b.end.state.accepted) e (row_next b.end.params b.end.state x.safety made t row w))
