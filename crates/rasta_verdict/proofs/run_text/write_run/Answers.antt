@@ -1,4 +1,4 @@
-use Rattle.std.proofs.Common.{◌∙◌, ℕ, List, subst}
+use Rattle.std.proofs.Common.{◌∙◌, ℕ, List, rules, subst}
 use Rattle.std.specs.Io.KnownBytes.{Appends}
 use Rattle.rasta_pcap.specs.Devices.{AppendsBeginning}
 use Rattle.rasta_pcap.proofs.Sending.{Sent-all, Sent-begun, Sent-more, where_failed}
@@ -6,6 +6,9 @@ use Rattle.rasta_verdict.specs.Passed.{scripts_of}
 use Rattle.rasta_verdict.proofs.RunTexts.{from_next, told_levels-end, told_levels-front, told_levels-next}
 use Rattle.rasta_verdict.proofs.Telling.{told_whole}
 use Rattle.rasta_verdict.proofs.run_text.write_run.Goals as goal
+
+pub loop-level-init : goal.loop-level-init
+loop-level-init g c = search rules
 
 pub returns-in_err-rests-clause-begun : goal.returns-in_err-rests-clause-begun
 returns-in_err-rests-clause-begun g c = where_failed c.from_residual.result (subst
