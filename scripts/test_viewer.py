@@ -335,7 +335,7 @@ def refusal(stage, number):
         expect_equal(title_of(sight), title_for(number), "title")
         says = sight.text("#verdict")
         speaks = "breaks the rules" in says
-        expect_equal(speaks, 20 <= number <= 28, "says that an end breaks the rules")
+        expect_equal(speaks, 20 <= number <= 28 or number == 60, "says that an end breaks the rules")
         expect(speaks or "othing is said about" in says, "doesn't say that nothing is said about the ends")
         sight.shot(f"refused_{number:02}_{FAULTS[number]}")
 
