@@ -38,7 +38,7 @@ TESTS = [
     ("rasta_layer_tests", "ends::ends_by_rows", 1),
     ("rasta_layer_tests", "certificates::certificate_is_read_again", 1),
     ("rasta_layer_tests", "pdus::datagrams_are_written_again", 1),
-    ("rasta_verdict_tests", "device_tests::memory_is_wanting", 121),
+    ("rasta_verdict_tests", "device_tests::memory_runs_out", 121),
 ]
 
 

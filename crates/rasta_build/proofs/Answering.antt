@@ -107,7 +107,7 @@ proposal_unexplained p c s fault place h e = by (passes p c s (all_copies c s)) 
         inr (subst (λ (f : Fault). IsUnexplained c f ⊎ IsUnexplained s f) y (unexplained p c s (all_copies c s) q g))
     by (Ok t) g = absurd (many t place (sym (ap proposed_by g) ∙ (sym h ∙ ap (λ (f : Fault). Err f) e)))
 
--- a fault that is answered is want of memory, or of a copy that nothing explains
+-- a fault that is answered is a lack of memory, or of a copy that nothing explains
 pub answer_fault : (p : Parameters) (packets : ℕ) (c s : List FirstCopy) (answer : Result Scripts Fault) → AreSentLists p packets c s → IsAnswer p c s answer → IfErr answer (IsProposalFault c s)
 answer_fault p packets c s (Ok scripts) crossing a = tt
 answer_fault p packets c s (Err fault) crossing (inl e) = inl (let z : fault ≡ no_memory = cc in z)

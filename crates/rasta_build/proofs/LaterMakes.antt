@@ -18,12 +18,12 @@ use Rattle.std.specs.Result.{IfErr, IsErrAnd}
 use Rattle.rasta_build.specs.declared.stuck.Stuck.{Stuck}
 use Rattle.rasta_build.specs.declared.stuck.Stuck.TheVariants.{Unexplained, NoMemory}
 
--- what a fault of an end says of its script, where it isn't want of memory
+-- what a fault of an end says of its script, where it isn't for lack of memory
 pub if_stuck : {A X : Type 0} (r : Result A Stuck) (fault : Fault) → IsErrAnd r (λ (s : Stuck). s ≡ stuck_by fault) → (stuck_by fault ≡ Unexplained → X) → IfErr r (λ (s : Stuck). s ≡ Unexplained → X)
 if_stuck (Ok v) fault h k = tt
 if_stuck (Err s) fault h k = λ e. k (sym h ∙ e)
 
--- where an end refuses a PDU for another reason than want of memory, there is a fault
+-- where an end refuses a PDU for another reason than lack of memory, there is a fault
 refused : (p : Parameters) (e : EndState) (x : SafetyPdu) (clock : ℕ) (why : Why) (fault : Fault) → IsMakeRefusal p e x clock why fault → stuck_by fault ≡ Unexplained → (number : ℕ) × (make_fault p e x clock why ≡ Some number)
 refused p e x clock why fault (inl h) s = (h.0, h.1)
 refused p e x clock why fault (inr h) s = absurd (let z : NoMemory ≡ Unexplained = ap stuck_by (sym h.1) ∙ s in cc)

@@ -42,7 +42,7 @@ complete p c s conn = record {
 not_memory : (place : ℕ) (r : Result Scripts Fault) → r ≡ Err no_memory → r ≡ Err (fault_at not_found place) → ⊥
 not_memory place r h k = (let e : no_memory ≡ fault_at not_found place = cc in let n : no_memory.number ≡ not_found = ap (λ (f : Fault). f.number) e in omega (arith, n))
 
--- so is want of memory
+-- so is a lack of memory
 memory_complete : (p : Parameters) (c s : List FirstCopy) → IsComplete p c s (Err no_memory)
 memory_complete p c s = record {
   explains = λ packets hc hs x. refl;

@@ -41,7 +41,7 @@ IsProposal p packets c s (Err fault) = (place : ℕ) × (fault ≡ fault_at not_
 abbrev pub IsNotFound : Result Scripts Fault → ℕ → Type 0
 IsNotFound answer place = answer ≡ Err (fault_at not_found place)
 
--- want of memory, or what is proposed
+-- out of memory, or what is proposed
 abbrev pub IsAnswer : Parameters → List FirstCopy → List FirstCopy → Result Scripts Fault → Type 0
 IsAnswer p c s answer = (answer ≡ Err no_memory) ⊎ (answer ≡ proposal p c s)
 

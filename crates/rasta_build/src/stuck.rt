@@ -9,7 +9,7 @@ use rasta_pdu::Fault;
 pub(crate) enum Stuck {
     /// No step of the end explains the packet.
     Unexplained,
-    /// Memory is wanting.
+    /// Out of memory.
     NoMemory,
 }
 

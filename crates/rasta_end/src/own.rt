@@ -243,7 +243,7 @@ impl<'a> Own<'a> {
         Ok(())
     }
 
-    /// Appends a PDU that was made; nothing changes where memory is wanting.
+    /// Appends a PDU that was made; nothing changes where memory runs out.
     pub fn push(&mut self, pdu: &Pdu<'a>, unit: Option<usize>) -> Result<(), AllocError>
         ensures room { length self.old.made + 2 ^ 33 < 2 ^ 64 }
         ensures ok { OnOk result (self.new ≡ record self.old { made = self.old.made ++ record { pdu = (value_of pdu.now).safety; unit = unit } ∷ [] }) }
@@ -259,7 +259,7 @@ impl<'a> Own<'a> {
         }
     }
 
-    /// Appends an ask; nothing changes where memory is wanting.
+    /// Appends an ask; nothing changes where memory runs out.
     pub fn ask(&mut self, position: usize) -> Result<(), AllocError>
         requires { responses_in (kinds self.old.made) ≤ length self.old.asks }
         ensures ok { OnOk result (self.new ≡ record self.old { asks = self.old.asks ++ position ∷ [] }) }

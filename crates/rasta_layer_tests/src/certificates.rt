@@ -155,7 +155,7 @@ fn entries_are_at_most_four_million(rt: HostRuntime) {
     }
 }
 
-// What is answered to the text; it is read again where memory was wanting.
+// What is answered to the text; it is read again where memory ran out.
 fn read_text(alloc: Global) -> Result<Certificate, Fault> {
     read(alloc, TEXT.as_bytes()).or_else(|fault| {
         if fault == Fault::at(1, 0) {

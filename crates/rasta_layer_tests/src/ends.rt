@@ -145,7 +145,7 @@ fn run<'a>(
     Some(fault)
 }
 
-// The datagrams of some lines; made again where memory was wanting.
+// The datagrams of some lines; made again where memory ran out.
 fn datagrams_of(alloc: Global, params: &Params, lines: &str) -> Option<Vec<Vec<u8>>> {
     datagrams(alloc, params, lines).or_else(|| datagrams(alloc, params, lines))
 }

@@ -187,7 +187,7 @@ fn check_bytes_have_the_recorded_length(rt: HostRuntime) {
 }
 
 // What `encode` answers to a message of so many bytes, and how many bytes there are then of a list that had
-// two; none where they don't fit or memory is wanting.
+// two; none where they don't fit or memory runs out.
 fn written(alloc: Global, count: usize) -> Option<(u8, usize)> {
     let params = params_of("plain")?;
     let line = parts_of("client 9 6240 102 500 1020 9000 data01")?;

@@ -95,7 +95,7 @@ pub fn parts_of(line: &str) -> Option<PduParts<'static>> {
     })
 }
 
-/// The datagram of a line; none where it is no line, doesn't fit or memory is wanting.
+/// The datagram of a line; none where it is no line, doesn't fit or memory runs out.
 pub fn datagram(alloc: Global, params: &Params, line: &str) -> Option<Vec<u8>> {
     let mut bytes = Vec::new(alloc);
     let parts = parts_of(line)?;
@@ -106,7 +106,7 @@ pub fn datagram(alloc: Global, params: &Params, line: &str) -> Option<Vec<u8>> {
     Some(bytes)
 }
 
-/// The datagrams of some lines; none where one has none or memory is wanting.
+/// The datagrams of some lines; none where one has none or memory runs out.
 pub fn datagrams(alloc: Global, params: &Params, lines: &str) -> Option<Vec<Vec<u8>>> {
     let mut all = Vec::new(alloc);
     for line in lines.lines() {

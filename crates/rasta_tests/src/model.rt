@@ -20,7 +20,7 @@ both ends ask | crossed plain | 0 1 2 3 4 5 6 7 8 9 10 11 12 13 14 15 16 | 1 4 1
 quiet start | quiet quiet | 0 1 | - | 2 0 1
 ";
 
-// The packets of a side; none where a row is no row or memory is wanting.
+// The packets of a side; none where a row is no row or memory runs out.
 fn sent<'a>(
     alloc: Global,
     params: &Params,

@@ -30,7 +30,7 @@ copy of what never crossed | client wait 1000, client make 0 1 open | client rep
 copy on a channel that is not recorded | client wait 1000, client make 0 1 open | client repeat 0 0
 ";
 
-// Whether a move is allowed; none where memory is wanting.
+// Whether a move is allowed; none where memory runs out.
 fn may<'a>(world: &mut PlainWorld<'a>, side: Side, what: Move<'a>) -> Option<bool>
     requires { IsBelow what }
 {

@@ -172,7 +172,7 @@ fn outcome_of(
     (outcome, writer.into_inner())
 }
 
-/// The text of a command and its status. Where memory was wanting, what was written is a beginning of
+/// The text of a command and its status. Where memory ran out, what was written is a beginning of
 /// the text, and nothing unless it was the writer that wanted it; then the call is made again.
 pub fn told<R: Abort + AllocGlobal>(
     rt: &R,

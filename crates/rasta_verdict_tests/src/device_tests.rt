@@ -1,4 +1,4 @@
-//! The four commands over readers and writers that go wrong, and where memory is wanting.
+//! The four commands over readers and writers that go wrong, and where memory runs out.
 use crate::cases::{Case, Command, case_of, run, told};
 use crate::verdict_rows::ROWS;
 use rasta_pcap::Counted;
@@ -86,7 +86,7 @@ fn each_call_of_a_device_goes_wrong_in_turn(rt: HostRuntime) -> Result<(), Fail>
 
 // `scripts/fail_allocations.py` makes memory want; a row that wanted it is read again.
 #[test]
-fn memory_is_wanting(rt: HostRuntime) -> Result<(), Fail> {
+fn memory_runs_out(rt: HostRuntime) -> Result<(), Fail> {
     let row = ROWS.lines().nth(2).ok_or("data")?;
     let case = match case_of(rt.alloc(), row) {
         Some(case) => case,
