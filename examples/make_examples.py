@@ -465,7 +465,7 @@ def read_text(data, connection, refusal=None):
 
 
 def one_heartbeat(connection):
-    """One heartbeat of the client, with six bytes of padding behind its frame."""
+    """One heartbeat of the client, with six bytes of padding after its frame."""
     pdu = Pdu("client", 8, HEARTBEAT, 101, 500, 1010, 9000)
     frame = frame_of("client", 1, datagram(connection, pdu), padding=bytes(6), with_checksum=False)
     return capture([(0, frame)]), planned_text(connection, [(1, 1, pdu)])
@@ -501,7 +501,7 @@ LOST = (5, 1)  # the copy on channel 1 that never passes the tap
 
 
 def foreign():
-    """Frames that are not of the connection, each behind the PDU of this number."""
+    """Frames that are not of the connection, each after the PDU of this number."""
     return [
         (0, arp(1, CLIENT_MAC, "10.0.0.1", bytes(6), "10.0.0.2", BROADCAST)),
         (0, arp(2, SERVER_MAC, "10.0.0.2", CLIENT_MAC, "10.0.0.1", CLIENT_MAC)),

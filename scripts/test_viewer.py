@@ -619,7 +619,7 @@ def bent_texts(stage):
         "digit": answer.replace("0 3 9 ab01", "0 3 9 ab0"),
         "zero": answer.replace("0 3 9 ab01", "0 3 09 ab01"),
         "count": answer.replace("taken by server 5", "taken by server 6"),
-        "behind": answer + "packets 12\n",
+        "after the answer": answer + "packets 12\n",
         "fault": "refused 25 Type 3 client\n",
         "end": "refused 25 Code 3 -\n",
         "no place": "refused 60 NotFound 0 -\n",

@@ -30,7 +30,7 @@ use Rattle.rasta_check.proofs.Numbering.{Numbered}
 use Rattle.rasta_check.proofs.Naming.{SnIs}
 use Rattle.rasta_check.proofs.HeldMake.{nothing_made}
 use Rattle.rasta_build.specs.Built.{Built}
-use Rattle.rasta_build.specs.Choices.{copy_at, is_in_front, first_sn_of, position_named, has_to_take, is_unanswered, wants_trigger}
+use Rattle.rasta_build.specs.Choices.{copy_at, is_before, first_sn_of, position_named, has_to_take, is_unanswered, wants_trigger}
 use Rattle.rasta_build.specs.Explaining.{and_then, catch_up, accept_through, take_trigger, take_step_by, made_at, make_step, explain, earliest_by}
 use Rattle.rasta_build.proofs.Readiness.{IsReady}
 use Rattle.rasta_build.proofs.Scans.{AreCopies, is_gap, is_request_ahead, gap_found, request_found}
@@ -296,7 +296,7 @@ module _ (p : Parameters) (start : Option ℕ) (side : Side) (quiet_sn : Option 
         let ba = base_accepted in
         let to : lag.base.accepted ≡ suc c.0 = ba ∙ c.1 in
         let h : catch_up sent place (suc c.0) b ≡ Some u.0 = subst (λ t. catch_up sent place t b ≡ Some u.0) to u.1 in
-        let front : b.end.state.accepted ≤ c.0 → is_in_front (copy_at b.peer.quiet_sn sent c.0) place ≡ true = λ l. (
+        let front : b.end.state.accepted ≤ c.0 → is_before (copy_at b.peer.quiet_sn sent c.0) place ≡ true = λ l. (
         let f = copies c.0 s.m s.there (omega (arith, l, low_base)) in
         let g : copy_at b.peer.quiet_sn sent c.0 ≡ Some f.0 = ap (λ (q : Option ℕ). copy_at q sent c.0) quiet ∙ f.1 in
         rw g (lt_is f.0.place place (let z = f.3 in omega (arith, z, late)))) in

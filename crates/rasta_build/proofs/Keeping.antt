@@ -69,19 +69,19 @@ none_more sent slot first n (suc m) k b e h =
     rw z (ap (λ (o : Option Built). and_then o (accept_step sent slot (first + (m + n)))) (none_more sent slot first n m (m + n) b refl h))
 
 -- or one isn't, and then no further one
-pub accept_stuck : (sent : List FirstCopy) (slot first behind q : ℕ) (b b1 : Built) → first ≤ q → q < behind → accept_from sent slot first (q - first) b ≡ Some b1 → accept_step sent slot q b1 ≡ None
-    → accept_from sent slot first (behind - first) b ≡ None
-accept_stuck sent slot first behind q b b1 l m h k =
+pub accept_stuck : (sent : List FirstCopy) (slot first bound q : ℕ) (b b1 : Built) → first ≤ q → q < bound → accept_from sent slot first (q - first) b ≡ Some b1 → accept_step sent slot q b1 ≡ None
+    → accept_from sent slot first (bound - first) b ≡ None
+accept_stuck sent slot first bound q b b1 l m h k =
     let next : first + (q - first) ≡ q = omega arith in
-    none_more sent slot first (suc (q - first)) (behind - suc q) (behind - first) b (omega arith)
+    none_more sent slot first (suc (q - first)) (bound - suc q) (bound - first) b (omega arith)
     (ap (λ (o : Option Built). and_then o (accept_step sent slot (first + (q - first)))) h ∙ (ap (λ (j : ℕ). accept_step sent slot j b1) next ∙ k))
 
 -- the search goes on where nothing is owed yet
-scan_steps : (sent : List FirstCopy) (slot : ℕ) (made : Kind) (q behind : ℕ) (b b1 : Built) → q < behind → try_step sent slot made q b ≡ Some b1
-    → scan sent slot made q (behind - q) b ≡ (if is_owing b1.end.state.owed then Some b1 else scan sent slot made (suc q) (behind - suc q) b1)
-scan_steps sent slot made q behind b b1 l h =
-    let all : behind - q ≡ suc (behind - suc q) = omega arith in
-    ap (λ (j : ℕ). scan sent slot made q j b) all ∙ ap (λ (o : Option Built). go_on (scan sent slot made (suc q) (behind - suc q)) o) h
+scan_steps : (sent : List FirstCopy) (slot : ℕ) (made : Kind) (q bound : ℕ) (b b1 : Built) → q < bound → try_step sent slot made q b ≡ Some b1
+    → scan sent slot made q (bound - q) b ≡ (if is_owing b1.end.state.owed then Some b1 else scan sent slot made (suc q) (bound - suc q) b1)
+scan_steps sent slot made q bound b b1 l h =
+    let all : bound - q ≡ suc (bound - suc q) = omega arith in
+    ap (λ (j : ℕ). scan sent slot made q j b) all ∙ ap (λ (o : Option Built). go_on (scan sent slot made (suc q) (bound - suc q)) o) h
 
 owing : (os : List Owed) → 0 < length os → is_owing os ≡ true
 owing [] l = absurd (omega (arith, l))
@@ -91,19 +91,19 @@ owing_none : (os : List Owed) → length os ≤ 0 → is_owing os ≡ false
 owing_none [] l = refl
 owing_none (o ∷ os) l = absurd (omega (arith, l))
 
-pub scan_on : (sent : List FirstCopy) (slot : ℕ) (made : Kind) (q behind : ℕ) (b b1 : Built) → q < behind → try_step sent slot made q b ≡ Some b1 → length b1.end.state.owed ≤ 0
-    → scan sent slot made q (behind - q) b ≡ scan sent slot made (q + 1) (behind - (q + 1)) b1
-scan_on sent slot made q behind b b1 l h none =
+pub scan_on : (sent : List FirstCopy) (slot : ℕ) (made : Kind) (q bound : ℕ) (b b1 : Built) → q < bound → try_step sent slot made q b ≡ Some b1 → length b1.end.state.owed ≤ 0
+    → scan sent slot made q (bound - q) b ≡ scan sent slot made (q + 1) (bound - (q + 1)) b1
+scan_on sent slot made q bound b b1 l h none =
     let next : suc q ≡ q + 1 = omega arith in
-    scan_steps sent slot made q behind b b1 l h
-    ∙ (ap (λ (t : Bool). if t then Some b1 else scan sent slot made (suc q) (behind - suc q) b1) (owing_none b1.end.state.owed none)
-    ∙ ap (λ (j : ℕ). scan sent slot made j (behind - j) b1) next)
+    scan_steps sent slot made q bound b b1 l h
+    ∙ (ap (λ (t : Bool). if t then Some b1 else scan sent slot made (suc q) (bound - suc q) b1) (owing_none b1.end.state.owed none)
+    ∙ ap (λ (j : ℕ). scan sent slot made j (bound - j) b1) next)
 
 -- and ends where something is
-pub scan_ends : (sent : List FirstCopy) (slot : ℕ) (made : Kind) (q behind : ℕ) (b b1 : Built) → q < behind → try_step sent slot made q b ≡ Some b1 → 0 < length b1.end.state.owed
-    → scan sent slot made q (behind - q) b ≡ Some b1
-scan_ends sent slot made q behind b b1 l h some =
-    scan_steps sent slot made q behind b b1 l h ∙ ap (λ (t : Bool). if t then Some b1 else scan sent slot made (suc q) (behind - suc q) b1) (owing b1.end.state.owed some)
+pub scan_ends : (sent : List FirstCopy) (slot : ℕ) (made : Kind) (q bound : ℕ) (b b1 : Built) → q < bound → try_step sent slot made q b ≡ Some b1 → 0 < length b1.end.state.owed
+    → scan sent slot made q (bound - q) b ≡ Some b1
+scan_ends sent slot made q bound b b1 l h some =
+    scan_steps sent slot made q bound b b1 l h ∙ ap (λ (t : Bool). if t then Some b1 else scan sent slot made (suc q) (bound - suc q) b1) (owing b1.end.state.owed some)
 
 -- a PDU that is tried
 pub try_keeps : (sent : List FirstCopy) (slot : ℕ) (made : Kind) (q : ℕ) (b b' : Built) → try_step sent slot made q b ≡ Some b' → Keeps b b'

@@ -28,7 +28,7 @@ use Rattle.rasta_check.proofs.Numbering.{Numbered}
 use Rattle.rasta_check.proofs.Naming.{SnIs}
 use Rattle.rasta_check.proofs.HeldMake.{over_after}
 use Rattle.rasta_build.specs.Built.{Built}
-use Rattle.rasta_build.specs.Choices.{copy_at, is_in_front, wants_trigger}
+use Rattle.rasta_build.specs.Choices.{copy_at, is_before, wants_trigger}
 use Rattle.rasta_build.specs.Explaining.{catch_up, accept_through}
 use Rattle.rasta_build.proofs.Scans.{is_gap, is_request_ahead}
 use Rattle.rasta_build.proofs.Lags.{caught_itself}
@@ -115,7 +115,7 @@ sn_near (m ∷ ms) (suc i) sn h b s =
 
 -- accepting through a position is catching up with it
 pub through : (sent : List FirstCopy) (place i : ℕ) (b b1 : Built) → catch_up sent place (suc i) b ≡ Some b1 → b.end.state.accepted ≤ suc i
-    → (b.end.state.accepted ≤ i → is_in_front (copy_at b.peer.quiet_sn sent i) place ≡ true) → accept_through sent place b (Some i) ≡ Some b1
+    → (b.end.state.accepted ≤ i → is_before (copy_at b.peer.quiet_sn sent i) place ≡ true) → accept_through sent place b (Some i) ≡ Some b1
 through sent place i b b1 h l front = by (suc i == b.end.state.accepted) refl
   where
     by : (d : Bool) → (suc i == b.end.state.accepted) ≡ d → accept_through sent place b (Some i) ≡ Some b1

@@ -22,8 +22,8 @@ use Rattle.rasta_build.proofs.Comparisons.{is_same, is_other, was_same}
 
 -- acceptance up to before a position, by whether nothing is to be accepted, and whether the end waits for a response
 abbrev pub catch_by : Bool → Bool → List FirstCopy → ℕ → ℕ → Built → Option Built
-catch_by d rr sent slot behind b =
-    if d then Some b else accept_range sent slot behind b (first_acceptable rr b.peer.quiet_sn sent b.end.state.accepted (behind - b.end.state.accepted))
+catch_by d rr sent slot bound b =
+    if d then Some b else accept_range sent slot bound b (first_acceptable rr b.peer.quiet_sn sent b.end.state.accepted (bound - b.end.state.accepted))
 
 flowing_from : (d : Bool) (sent : List FirstCopy) (slot t : ℕ) (b b1 : Built) → (t == b.end.state.accepted) ≡ d → catch_by d false sent slot t b ≡ Some b1
     → accept_from sent slot b.end.state.accepted (t - b.end.state.accepted) b ≡ Some b1

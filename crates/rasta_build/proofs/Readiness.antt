@@ -18,7 +18,7 @@ use Rattle.rasta_end.specs.MakeRule.{is_past, first_fault}
 use Rattle.rasta_end.specs.TakeRule.{hand_up, effect, take_row, take_fault, accept, enter, resends, burst, position_confirmed, is_retransmission_request}
 use Rattle.rasta_check.proofs.TakeRows.{row_known}
 use Rattle.rasta_check.proofs.Counting.{number}
-use Rattle.rasta_build.specs.Built.{Built, progress_of, trail_behind}
+use Rattle.rasta_build.specs.Built.{Built, progress_of, trail_after}
 use Rattle.rasta_build.specs.declared.script_builder.Progress.{Progress}
 use Rattle.rasta_build.specs.Explaining.{taken_by, unless, take_step}
 use Rattle.rasta_build.proofs.Times.{timed, deadline_by, effect_timed, IsNear, near_effect, not_past}
@@ -134,33 +134,33 @@ trail_waiting false j ph e = refl
 
 -- the trail after the take by a row
 pub trail_row : (p : Parameters) (e : EndState) (x : SafetyPdu) (row : TakeRow) → ConveysNoMore e → e.owed ≡ [] → take_row p e x ≡ Some row
-    → IsTrail (effect p row e x).offered (trail_behind (progress_of e) (progress_of (effect p row e x)) x) (effect p row e x).owed
+    → IsTrail (effect p row e x).offered (trail_after (progress_of e) (progress_of (effect p row e x)) x) (effect p row e x).owed
 trail_row p e x Opened few free is = tt
 trail_row p e x Answered few free is = tt
 trail_row p e x FirstHeartbeat few free is = rw free tt
 trail_row p e x InSequence few free is = by (carries_unit x.kind)
   where
-    by : (c : Bool) → IsTrail (if c then hand_up e.accepted (enter Up (accept p e x)) x else enter Up (accept p e x)).offered (trail_behind (progress_of e) (progress_of (effect p InSequence e x)) x) (if c then hand_up e.accepted (enter Up (accept p e x)) x else enter Up (accept p e x)).owed
+    by : (c : Bool) → IsTrail (if c then hand_up e.accepted (enter Up (accept p e x)) x else enter Up (accept p e x)).offered (trail_after (progress_of e) (progress_of (effect p InSequence e x)) x) (if c then hand_up e.accepted (enter Up (accept p e x)) x else enter Up (accept p e x)).owed
     by true = rw free tt
     by false = rw free tt
 trail_row p e x ResentInSequence few free is = by (carries_unit x.kind)
   where
-    by : (c : Bool) → IsTrail (if c then hand_up e.accepted (accept p e x) x else accept p e x).offered (trail_behind (progress_of e) (progress_of (effect p ResentInSequence e x)) x) (if c then hand_up e.accepted (accept p e x) x else accept p e x).owed
+    by : (c : Bool) → IsTrail (if c then hand_up e.accepted (accept p e x) x else accept p e x).offered (trail_after (progress_of e) (progress_of (effect p ResentInSequence e x)) x) (if c then hand_up e.accepted (accept p e x) x else accept p e x).owed
     by true = rw free tt
     by false = rw free tt
 trail_row p e x Gap few free is = tt
 trail_row p e x GapInRetransmission few free is = tt
 trail_row p e x Resumed few free is = rw free tt
 trail_row p e x Requested few free is =
-    let z : trail_behind (progress_of e) (progress_of (effect p Requested e x)) x ≡ 0 = trail_unset (is_retransmission_request x.kind) (is_flowing e.phase) _ (later_than e.accepted _) in
+    let z : trail_after (progress_of e) (progress_of (effect p Requested e x)) x ≡ 0 = trail_unset (is_retransmission_request x.kind) (is_flowing e.phase) _ (later_than e.accepted _) in
     subst (λ n. IsTrail e.offered n (burst e (position_confirmed e x))) (sym z) (trail_burst e (position_confirmed e x) (few _))
 trail_row p e x RequestedAhead few free is =
     let w = row_known p e x RequestedAhead is in
-    let z : trail_behind (progress_of e) (progress_of (effect p RequestedAhead e x)) x ≡ 1 = trail_set (is_retransmission_request x.kind) (is_flowing e.phase) _ (ap is_retransmission_request w.1) (same_as e.accepted) w.0 in
+    let z : trail_after (progress_of e) (progress_of (effect p RequestedAhead e x)) x ≡ 1 = trail_set (is_retransmission_request x.kind) (is_flowing e.phase) _ (ap is_retransmission_request w.1) (same_as e.accepted) w.0 in
     subst (λ n. IsTrail e.offered n (burst e (position_confirmed e x) ++ OweRetransmissionRequest ∷ [])) (sym z) (trail_more e (position_confirmed e x) (few _))
 trail_row p e x RequestedAgain few free is =
     let w = row_known p e x RequestedAgain is in
-    let z : trail_behind (progress_of e) (progress_of (effect p RequestedAgain e x)) x ≡ 0 = trail_waiting (is_retransmission_request x.kind) _ e.phase w.0 in
+    let z : trail_after (progress_of e) (progress_of (effect p RequestedAgain e x)) x ≡ 0 = trail_waiting (is_retransmission_request x.kind) _ e.phase w.0 in
     subst (λ n. IsTrail e.offered n (burst e (position_confirmed e x))) (sym z) (trail_burst e (position_confirmed e x) (few _))
 trail_row p e x Disconnected few free is = rw free tt
 
@@ -182,8 +182,8 @@ ready_effect p start side quiet_sn e taken ms b r slot q x row l free few is ask
     let pr : progress_of b.end.state ≡ progress_of e = ap progress_of r.state in
     let pr' : progress_of (effect b.end.params row b.end.state x.safety) ≡ progress_of (effect p row e x.safety) = ap progress_of s in
     let n : min (q + 1) 18446744073709551615 ≡ suc q = next_is q l in
-    let tr : trail_behind (progress_of b.end.state) (progress_of (effect b.end.params row b.end.state x.safety)) x.safety ≡ trail_behind (progress_of e) (progress_of (effect p row e x.safety)) x.safety =
-    ap (λ (z : Progress). trail_behind z (progress_of (effect b.end.params row b.end.state x.safety)) x.safety) pr ∙ ap (λ (z : Progress). trail_behind (progress_of e) z x.safety) pr' in
+    let tr : trail_after (progress_of b.end.state) (progress_of (effect b.end.params row b.end.state x.safety)) x.safety ≡ trail_after (progress_of e) (progress_of (effect p row e x.safety)) x.safety =
+    ap (λ (z : Progress). trail_after z (progress_of (effect b.end.params row b.end.state x.safety)) x.safety) pr ∙ ap (λ (z : Progress). trail_after (progress_of e) z x.safety) pr' in
     record {
       clock = r.clock;
       deadline = d;

@@ -28,7 +28,7 @@ use Rattle.rasta_check.proofs.Steps.{base, base_by, base_small, start_base}
 use Rattle.rasta_build.specs.Proposing
 use Rattle.rasta_check.proofs.Telling.{leads_more}
 use Rattle.rasta_build.specs.Built.{Built}
-use Rattle.rasta_build.specs.Choices.{peer_quiet_sn, copy_there, copy_at, is_in_front, is_trigger, wants_trigger, has_to_take, why_by, why_beating, next_unit, in_32_bits, position_named, first_of}
+use Rattle.rasta_build.specs.Choices.{peer_quiet_sn, copy_there, copy_at, is_before, is_trigger, wants_trigger, has_to_take, why_by, why_beating, next_unit, in_32_bits, position_named, first_of}
 use Rattle.rasta_build.specs.Clock.{clock_of}
 use Rattle.rasta_build.specs.Explaining
 use Rattle.rasta_build.proofs.Comparisons.{less_is, not_less}
@@ -93,10 +93,10 @@ unit_bound u v h = by (nat_lt u (2 ^ 32)) refl h
     by true f h = (let z : u ≡ v = cc in let y = less_is u (2 ^ 32) f in omega (arith, z, y))
     by false f h = absurd (cc)
 
-next_bound : (offered owed behind v : ℕ) → next_unit offered owed behind ≡ Some v → v < 2 ^ 32
-next_bound offered owed behind v h = by (nat_le behind owed && nat_le (owed - behind) offered) h
+next_bound : (offered owed trail v : ℕ) → next_unit offered owed trail ≡ Some v → v < 2 ^ 32
+next_bound offered owed trail v h = by (nat_le trail owed && nat_le (owed - trail) offered) h
   where
-    by : (f : Bool) → (if f then in_32_bits (offered - (owed - behind)) else None) ≡ Some v → v < 2 ^ 32
+    by : (f : Bool) → (if f then in_32_bits (offered - (owed - trail)) else None) ≡ Some v → v < 2 ^ 32
     by true h = unit_bound _ v h
     by false h = absurd (cc)
 
@@ -112,15 +112,15 @@ ended_bound : (o : Bool) (w : Why) → Some (if o then Expired else Bye) ≡ Som
 ended_bound true w h = (let z : Expired ≡ w = cc in subst (λ (y : Why). IsReason y) z tt)
 ended_bound false w h = (let z : Bye ≡ w = cc in subst (λ (y : Why). IsReason y) z tt)
 
-why_bound : (k : Kind) (e : EndState) (behind : ℕ) (x : SafetyPdu) (w : Why) → why_by k e behind x ≡ Some w → IsReason w
-why_bound ConnectionRequest e behind x w h = (let z : Open ≡ w = cc in subst (λ (y : Why). IsReason y) z tt)
-why_bound ConnectionResponse e behind x w h = (let z : Reply ≡ w = cc in subst (λ (y : Why). IsReason y) z tt)
-why_bound RetransmissionResponse e behind x w h = (let z : Reply ≡ w = cc in subst (λ (y : Why). IsReason y) z tt)
-why_bound RetransmissionRequest e behind x w h = (let z : Ask ≡ w = cc in subst (λ (y : Why). IsReason y) z tt)
-why_bound Data e behind x w h = (let z : Fresh ≡ w = cc in subst (λ (y : Why). IsReason y) z tt)
-why_bound RetransmittedData e behind x w h = again_bound _ w h (λ v g. next_bound e.offered (length e.owed) behind v g)
-why_bound Heartbeat e behind x w h = beating_bound (is_owing e.owed) w h
-why_bound DisconnectionRequest e behind x w h = ended_bound (reason_of x.body == 4) w h
+why_bound : (k : Kind) (e : EndState) (trail : ℕ) (x : SafetyPdu) (w : Why) → why_by k e trail x ≡ Some w → IsReason w
+why_bound ConnectionRequest e trail x w h = (let z : Open ≡ w = cc in subst (λ (y : Why). IsReason y) z tt)
+why_bound ConnectionResponse e trail x w h = (let z : Reply ≡ w = cc in subst (λ (y : Why). IsReason y) z tt)
+why_bound RetransmissionResponse e trail x w h = (let z : Reply ≡ w = cc in subst (λ (y : Why). IsReason y) z tt)
+why_bound RetransmissionRequest e trail x w h = (let z : Ask ≡ w = cc in subst (λ (y : Why). IsReason y) z tt)
+why_bound Data e trail x w h = (let z : Fresh ≡ w = cc in subst (λ (y : Why). IsReason y) z tt)
+why_bound RetransmittedData e trail x w h = again_bound _ w h (λ v g. next_bound e.offered (length e.owed) trail v g)
+why_bound Heartbeat e trail x w h = beating_bound (is_owing e.owed) w h
+why_bound DisconnectionRequest e trail x w h = ended_bound (reason_of x.body == 4) w h
 
 module _ (p : Parameters) (side : Side) (n : ℕ) (own peer : List FirstCopy) (few : length peer ≤ 1000000) (k slot : ℕ) (inside : slot ≤ n) (small : n < 2 ^ 32)
     (numbers : (i : ℕ) (a : FirstCopy) → slice_get peer i ≡ Some a → a.pdu.number < 2 ^ 32) where
@@ -250,16 +250,16 @@ module _ (p : Parameters) (side : Side) (n : ℕ) (own peer : List FirstCopy) (f
     through_read b b' r None h = absurd (cc)
     through_read b b' r (Some last) h = by (suc last == b.end.state.accepted) h
       where
-        crossed : (a : Bool) (o : Option FirstCopy) → copy_at b.peer.quiet_sn peer last ≡ o → (if a || not (is_in_front o slot) then None else Explaining.catch_up peer slot (suc last) b) ≡ Some b' → Read b'
+        crossed : (a : Bool) (o : Option FirstCopy) → copy_at b.peer.quiet_sn peer last ≡ o → (if a || not (is_before o slot) then None else Explaining.catch_up peer slot (suc last) b) ≡ Some b' → Read b'
         crossed true o g h = absurd (cc)
         crossed false None g h = absurd (cc)
-        crossed false (Some cl) g h = in_front (nat_lt cl.place slot) refl h
+        crossed false (Some cl) g h = before (nat_lt cl.place slot) refl h
           where
-            in_front : (f : Bool) → nat_lt cl.place slot ≡ f → (if not f then None else Explaining.catch_up peer slot (suc last) b) ≡ Some b' → Read b'
-            in_front true f h = caught_read last b b' r (up_to last cl (ap (λ (z : Option ℕ). copy_at z peer last) (sym r.quiet) ∙ g) (less_is cl.place slot f)) h
-            in_front false f h = absurd (cc)
+            before : (f : Bool) → nat_lt cl.place slot ≡ f → (if not f then None else Explaining.catch_up peer slot (suc last) b) ≡ Some b' → Read b'
+            before true f h = caught_read last b b' r (up_to last cl (ap (λ (z : Option ℕ). copy_at z peer last) (sym r.quiet) ∙ g) (less_is cl.place slot f)) h
+            before false f h = absurd (cc)
 
-        by : (t : Bool) → (if t then Some b else if nat_lt (suc last) b.end.state.accepted || not (is_in_front (copy_at b.peer.quiet_sn peer last) slot) then None else Explaining.catch_up peer slot (suc last) b) ≡ Some b' → Read b'
+        by : (t : Bool) → (if t then Some b else if nat_lt (suc last) b.end.state.accepted || not (is_before (copy_at b.peer.quiet_sn peer last) slot) then None else Explaining.catch_up peer slot (suc last) b) ≡ Some b' → Read b'
         by true h = (let z : b ≡ b' = cc in subst (λ (y : Built). Read y) z r)
         by false h = crossed (nat_lt (suc last) b.end.state.accepted) (copy_at b.peer.quiet_sn peer last) refl h
 

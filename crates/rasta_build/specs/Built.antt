@@ -49,9 +49,9 @@ abbrev pub progress_of : EndState → Progress
 progress_of e = record { accepted = e.accepted; owed = length e.owed; phase = e.phase }
 
 -- how many requests are owed after the burst that the take of this PDU started, which led from here to there
-abbrev pub trail_behind : Progress → Progress → SafetyPdu → ℕ
-trail_behind before after x = if is_retransmission_request x.kind && (after.accepted == before.accepted && is_flowing before.phase) then 1 else 0
+abbrev pub trail_after : Progress → Progress → SafetyPdu → ℕ
+trail_after before after x = if is_retransmission_request x.kind && (after.accepted == before.accepted && is_flowing before.phase) then 1 else 0
 
 -- the take of this PDU at this position stands in the script
 abbrev pub note_take : Progress → ℕ → ℕ → RedundancyPdu → Built → Built
-note_take before slot position x b = note (Take slot x.number) (record b { next_take = min (position + 1) 18446744073709551615; trail = trail_behind before (progress_of b.end.state) x.safety })
+note_take before slot position x b = note (Take slot x.number) (record b { next_take = min (position + 1) 18446744073709551615; trail = trail_after before (progress_of b.end.state) x.safety })

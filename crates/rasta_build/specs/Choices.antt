@@ -53,9 +53,9 @@ abbrev pub position_named : Option ℕ → List FirstCopy → ℕ → Option ℕ
 position_named quiet_sn sent sn = option_map (ahead_by sn) (first_sn_of quiet_sn sent)
 
 -- the PDU crossed before this place
-abbrev pub is_in_front : Option FirstCopy → ℕ → Bool
-is_in_front None place = false
-is_in_front (Some copy) place = nat_lt copy.place place
+abbrev pub is_before : Option FirstCopy → ℕ → Bool
+is_before None place = false
+is_before (Some copy) place = nat_lt copy.place place
 
 -- a retransmission response crossed
 abbrev pub is_response : Option FirstCopy → Bool
@@ -93,7 +93,7 @@ in_32_bits n = if nat_lt n (2 ^ 32) then Some n else None
 
 -- the unit that is sent again next: all that is owed but what follows the units are units, and they are those offered last
 abbrev pub next_unit : ℕ → ℕ → ℕ → Option ℕ
-next_unit offered owed behind = if nat_le behind owed && nat_le (owed - behind) offered then in_32_bits (offered - (owed - behind)) else None
+next_unit offered owed trail = if nat_le trail owed && nat_le (owed - trail) offered then in_32_bits (offered - (owed - trail)) else None
 
 -- why a disconnection request of this reason is made
 abbrev pub why_ended : ℕ → Why
@@ -104,18 +104,18 @@ why_beating true = Reply
 why_beating false = Beat
 
 abbrev pub why_by : Kind → EndState → ℕ → SafetyPdu → Option Why
-why_by ConnectionRequest e behind x = Some Open
-why_by ConnectionResponse e behind x = Some Reply
-why_by RetransmissionResponse e behind x = Some Reply
-why_by RetransmissionRequest e behind x = Some Ask
-why_by Data e behind x = Some Fresh
-why_by RetransmittedData e behind x = option_map Again (next_unit e.offered (length e.owed) behind)
-why_by Heartbeat e behind x = Some (why_beating (is_owing e.owed))
-why_by DisconnectionRequest e behind x = Some (why_ended (reason_of x.body))
+why_by ConnectionRequest e trail x = Some Open
+why_by ConnectionResponse e trail x = Some Reply
+why_by RetransmissionResponse e trail x = Some Reply
+why_by RetransmissionRequest e trail x = Some Ask
+why_by Data e trail x = Some Fresh
+why_by RetransmittedData e trail x = option_map Again (next_unit e.offered (length e.owed) trail)
+why_by Heartbeat e trail x = Some (why_beating (is_owing e.owed))
+why_by DisconnectionRequest e trail x = Some (why_ended (reason_of x.body))
 
 -- why this end makes this PDU, where so many things are owed after the units: by its type, its reason, and whether something is owed
 abbrev pub why_of : EndState → ℕ → SafetyPdu → Option Why
-why_of e behind x = why_by x.kind e behind x
+why_of e trail x = why_by x.kind e trail x
 
 -- ---- the order of crossing
 

@@ -14,7 +14,7 @@ use Rattle.rasta_end.specs.TakeRule.{effect, take_row, take_fault}
 use Rattle.rasta_cert.specs.declared.entry.Entry.TheVariants.{Make}
 use Rattle.rasta_check.specs.Crossing.{FirstCopy}
 use Rattle.rasta_build.specs.Clock.{clock_of}
-use Rattle.rasta_build.specs.Choices.{copy_at, position_named, is_in_front, is_response, is_trigger, wants_trigger, has_to_take, why_of}
+use Rattle.rasta_build.specs.Choices.{copy_at, position_named, is_before, is_response, is_trigger, wants_trigger, has_to_take, why_of}
 use Rattle.rasta_build.specs.Built.{Built, note, lead, progress_of, note_take}
 
 -- a second step, where the first one succeeds
@@ -72,21 +72,21 @@ first_acceptable false quiet_sn sent next n = Some next
 
 -- acceptance from there on, up to before a position
 abbrev pub accept_range : List FirstCopy → ℕ → ℕ → Built → Option ℕ → Option Built
-accept_range sent slot behind b None = None
-accept_range sent slot behind b (Some first) = accept_from sent slot first (behind - first) b
+accept_range sent slot bound b None = None
+accept_range sent slot bound b (Some first) = accept_from sent slot first (bound - first) b
 
 -- the end accepts up to before a position
 abbrev pub catch_up : List FirstCopy → ℕ → ℕ → Built → Option Built
-catch_up sent slot behind b =
-    if behind == b.end.state.accepted then Some b
-    else accept_range sent slot behind b (first_acceptable (is_retr_req b.end.state.phase) b.peer.quiet_sn sent b.end.state.accepted (behind - b.end.state.accepted))
+catch_up sent slot bound b =
+    if bound == b.end.state.accepted then Some b
+    else accept_range sent slot bound b (first_acceptable (is_retr_req b.end.state.phase) b.peer.quiet_sn sent b.end.state.accepted (bound - b.end.state.accepted))
 
 -- the end accepts through the position that a CS names: it has accepted no more, and the PDU there has crossed
 abbrev pub accept_through : List FirstCopy → ℕ → Built → Option ℕ → Option Built
 accept_through sent place b None = None
 accept_through sent place b (Some last) =
     if suc last == b.end.state.accepted then Some b
-    else if nat_lt (suc last) b.end.state.accepted || not (is_in_front (copy_at b.peer.quiet_sn sent last) place) then None
+    else if nat_lt (suc last) b.end.state.accepted || not (is_before (copy_at b.peer.quiet_sn sent last) place) then None
     else catch_up sent place (suc last) b
 
 -- ---- what is owed

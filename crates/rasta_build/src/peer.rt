@@ -2,7 +2,7 @@
 ghost use Rattle.std.specs.Prelude.{◌≡◌, ◌-◌, option_map};
 ghost use Rattle.rasta_check.specs.Lists.{copy_of};
 ghost use Rattle.rasta_build.specs.Choices;
-ghost use Rattle.rasta_build.specs.Choices.{peer_quiet_sn, member_at, copy_at, is_in_front};
+ghost use Rattle.rasta_build.specs.Choices.{peer_quiet_sn, member_at, copy_at, is_before};
 ghost use Rattle.rasta_build.specs.Explaining;
 
 use rasta_check::SentList;
@@ -67,7 +67,7 @@ impl Peer {
         position: u64,
         place: u32,
     ) -> bool
-        ensures { result ≡ is_in_front (copy_at self.quiet_sn (S.content list.now) position) place }
+        ensures { result ≡ is_before (copy_at self.quiet_sn (S.content list.now) position) place }
     {
         match self.get(list, position) {
             Some((crossed_at, _)) => crossed_at < place,
@@ -90,12 +90,12 @@ impl Peer {
         self,
         list: &S,
         next: u64,
-        behind: u64,
+        bound: u64,
     ) -> Option<u64>
-        ensures { result ≡ Explaining.last_response self.quiet_sn (S.content list.now) next (behind - next) }
+        ensures { result ≡ Explaining.last_response self.quiet_sn (S.content list.now) next (bound - next) }
     {
         let mut found = None;
-        for position in next..behind {
+        for position in next..bound {
             if self.is_response(list, position) {
                 found = Some(position);
             }

@@ -208,26 +208,26 @@ impl<'a> ScriptBuilder<'a> {
             return Err(Stuck::Unexplained);
         };
         let next = self.end.accepted();
-        let behind = u64::from(last) + 1;
-        if behind == next {
+        let bound = u64::from(last) + 1;
+        if bound == next {
             return Ok(());
         }
-        if behind < next || !self.peer.has_crossed(peer, u64::from(last), place) {
+        if bound < next || !self.peer.has_crossed(peer, u64::from(last), place) {
             return Err(Stuck::Unexplained);
         }
-        let Some(first) = self.first_acceptable(peer, next, behind) else {
+        let Some(first) = self.first_acceptable(peer, next, bound) else {
             return Err(Stuck::Unexplained);
         };
-        self.accept_range(peer, place, first, behind)
+        self.accept_range(peer, place, first, bound)
     }
 
     // The first position to be accepted, from one on and before another: an end that waits for a
     // retransmission accepts the last response among them first.
-    fn first_acceptable<S: SentList<'a>>(&self, peer: &S, next: u64, behind: u64) -> Option<u64>
-        ensures { result ≡ Explaining.first_acceptable (is_retr_req self.now.end.state.phase) self.now.peer.quiet_sn (S.content peer.now) next (behind - next) }
+    fn first_acceptable<S: SentList<'a>>(&self, peer: &S, next: u64, bound: u64) -> Option<u64>
+        ensures { result ≡ Explaining.first_acceptable (is_retr_req self.now.end.state.phase) self.now.peer.quiet_sn (S.content peer.now) next (bound - next) }
     {
         if matches!(self.end.phase(), Phase::RetrReq) {
-            self.peer.last_response(peer, next, behind)
+            self.peer.last_response(peer, next, bound)
         } else {
             Some(next)
         }
@@ -239,16 +239,16 @@ impl<'a> ScriptBuilder<'a> {
         peer: &S,
         slot: u32,
         first: u64,
-        behind: u64,
+        bound: u64,
     ) -> Result<(), Stuck>
         requires accepted { self.old.end.state.accepted < 2 ^ 62 }
-        requires few { behind < 2 ^ 33 }
-        ensures ok { OnOk result (accept_from (S.content peer.now) slot first (behind - first) self.old ≡ Some self.new) }
-        ensures err { IfErr result (λ stuck. stuck ≡ Stuck.Unexplained → accept_from (S.content peer.now) slot first (behind - first) self.old ≡ None) }
+        requires few { bound < 2 ^ 33 }
+        ensures ok { OnOk result (accept_from (S.content peer.now) slot first (bound - first) self.old ≡ Some self.new) }
+        ensures err { IfErr result (λ stuck. stuck ≡ Stuck.Unexplained → accept_from (S.content peer.now) slot first (bound - first) self.old ≡ None) }
         ensures params { OnOk result (self.new.end.params ≡ self.old.end.params) }
         ensures accepted { OnOk result (self.new.end.state.accepted < 2 ^ 62) }
     {
-        for position in first..behind {
+        for position in first..bound {
             self.accept_at(peer, slot, position)?;
         }
         Ok(())
@@ -295,8 +295,8 @@ impl<'a> ScriptBuilder<'a> {
         }
         let accepted = self.end.accepted();
         let first = (accepted + 1).max(self.next_take);
-        let behind = accepted + 1 + 10 * u64::from(params.n_sendmax());
-        self.scan(peer, place, made, first, behind)
+        let bound = accepted + 1 + 10 * u64::from(params.n_sendmax());
+        self.scan(peer, place, made, first, bound)
     }
 
     // Of the PDUs from one position on and before another, takes the first that makes something owed.
@@ -306,15 +306,15 @@ impl<'a> ScriptBuilder<'a> {
         place: u32,
         made: Kind,
         first: u64,
-        behind: u64,
+        bound: u64,
     ) -> Result<(), Stuck>
         requires accepted { self.old.end.state.accepted < 2 ^ 62 }
-        requires few { behind ≤ first + 2 ^ 20 }
-        ensures ok { OnOk result (Explaining.scan (S.content peer.now) place made first (behind - first) self.old ≡ Some self.new) }
-        ensures err { IfErr result (λ stuck. stuck ≡ Stuck.Unexplained → Explaining.scan (S.content peer.now) place made first (behind - first) self.old ≡ None) }
+        requires few { bound ≤ first + 2 ^ 20 }
+        ensures ok { OnOk result (Explaining.scan (S.content peer.now) place made first (bound - first) self.old ≡ Some self.new) }
+        ensures err { IfErr result (λ stuck. stuck ≡ Stuck.Unexplained → Explaining.scan (S.content peer.now) place made first (bound - first) self.old ≡ None) }
         ensures params { OnOk result (self.new.end.params ≡ self.old.end.params) }
     {
-        for position in first..behind {
+        for position in first..bound {
             self.try_at(peer, place, position, made)?;
             if self.end.owed() > 0 {
                 return Ok(());

@@ -187,16 +187,16 @@ Parts = List ℕ × List ℕ
 take_of-words : (slot number : ℕ) → slot < 2 ^ 32 → number < 2 ^ 32 → take_of (decimal slot ++ (32 ∷ decimal number)) ≡ Some (Take slot number)
 unfolding take_of
 take_of-words slot number hs hn =
-    let behind : Parts → Option Entry = λ fields. and_then (number_of most_32 fields.0) (λ s. and_then (number_of most_32 fields.1) (λ n. Some (Take s n))) in
-    ap (λ (o : Option Parts). and_then o behind) (cut-first 32 (decimal slot) (decimal number) (no_space slot (omega arith)))
+    let after : Parts → Option Entry = λ fields. and_then (number_of most_32 fields.0) (λ s. and_then (number_of most_32 fields.1) (λ n. Some (Take s n))) in
+    ap (λ (o : Option Parts). and_then o after) (cut-first 32 (decimal slot) (decimal number) (no_space slot (omega arith)))
     ∙ ap (λ (o : Option ℕ). and_then o (λ s. and_then (number_of most_32 (decimal number)) (λ n. Some (Take s n)))) (number_of-decimal most_32 slot (decimal slot) (omega arith) (omega arith) refl)
     ∙ ap (λ (o : Option ℕ). and_then o (λ n. Some (Take slot n))) (number_of-decimal most_32 number (decimal number) (omega arith) (omega arith) refl)
 
 again_of-words : (unit : ℕ) → unit < 2 ^ 32 → again_of (codes "again" ++ (32 ∷ decimal unit)) ≡ Some (Again unit)
 unfolding again_of
 again_of-words unit h =
-    let behind : Parts → Option Why = λ fields. cond (bytes_eq fields.0 (codes "again")) (and_then (number_of most_32 fields.1) (λ u. Some (Again u))) None in
-    ap (λ (o : Option Parts). and_then o behind) (cut-first 32 (codes "again") (decimal unit) (Lacks-word 32 (codes "again") refl))
+    let after : Parts → Option Why = λ fields. cond (bytes_eq fields.0 (codes "again")) (and_then (number_of most_32 fields.1) (λ u. Some (Again u))) None in
+    ap (λ (o : Option Parts). and_then o after) (cut-first 32 (codes "again") (decimal unit) (Lacks-word 32 (codes "again") refl))
     ∙ ap (λ (o : Option ℕ). and_then o (λ u. Some (Again u))) (number_of-decimal most_32 unit (decimal unit) (omega arith) (omega arith) refl)
 
 why_of-words : (why : Why) → IsReason why → why_of (why_words why) ≡ Some why

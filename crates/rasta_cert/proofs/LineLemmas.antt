@@ -78,8 +78,8 @@ why_lacks Ask h = Lacks-word 10 (codes "ask") refl
 why_lacks Bye h = Lacks-word 10 (codes "bye") refl
 why_lacks Expired h = Lacks-word 10 (codes "expired") refl
 
-spaced : (front behind : List ℕ) → Lacks 10 front → Lacks 10 behind → Lacks 10 (front ++ (32 ∷ behind))
-spaced front behind f b = Lacks-append 10 front (32 ∷ behind) f (Lacks-cons 10 32 behind refl b)
+spaced : (front after : List ℕ) → Lacks 10 front → Lacks 10 after → Lacks 10 (front ++ (32 ∷ after))
+spaced front after f b = Lacks-append 10 front (32 ∷ after) f (Lacks-cons 10 32 after refl b)
 
 entry_lacks : (e : Entry) → IsEntry e → Lacks 10 (entry_words e)
 entry_lacks (Take slot number) h =
@@ -114,9 +114,9 @@ pub AreLines-front : (xs ys : List (List ℕ)) → AreLines (xs ++ ys) → AreLi
 AreLines-front [] ys h = tt
 AreLines-front (a ∷ xs) ys h = (h.0, AreLines-front xs ys h.1)
 
-pub AreLines-behind : (xs ys : List (List ℕ)) → AreLines (xs ++ ys) → AreLines ys
-AreLines-behind [] ys h = h
-AreLines-behind (a ∷ xs) ys h = AreLines-behind xs ys h.1
+pub AreLines-after : (xs ys : List (List ℕ)) → AreLines (xs ++ ys) → AreLines ys
+AreLines-after [] ys h = h
+AreLines-after (a ∷ xs) ys h = AreLines-after xs ys h.1
 
 -- a list of lines goes on with the first line of what follows another's
 pub record GoesOn (xs : List (List ℕ)) (rest : List ℕ) (ys : List (List ℕ)) : Type 0 where

@@ -102,8 +102,8 @@ Stage-server cs valid few = record {
     few = λ short. omega arith;
   };
   remains = λ c lines h e.
-      let behind = rest_is client client _ _ (rest_is head head _ _ e) in
-      let told = closed server Closes-server c.client cs _ lines h.0 valid (behind ∙ append_assoc (map entry_line cs) (server ∷ []) lines) in
+      let after = rest_is client client _ _ (rest_is head head _ _ e) in
+      let told = closed server Closes-server c.client cs _ lines h.0 valid (after ∙ append_assoc (map entry_line cs) (server ∷ []) lines) in
       record {
         entries = c.server;
         valid = h.1;
@@ -130,9 +130,9 @@ concat-append [] ys = refl
 concat-append (x ∷ xs) ys = ap (λ (l : List ℕ). x ++ l) (concat-append xs ys) ∙ sym (append_assoc x (concat xs) (concat ys))
 
 -- a fault among the entries of a script
-refused_in_script : (front : Lines) (close : List ℕ) (most : ℕ) (text behind : List ℕ) (first : ℕ) (fault : Fault) → Stage front (line close) most
-    → text ≡ concat front ++ behind → length front + 1 ≡ first → IsBroken close first most behind fault → IsRefused text fault
-refused_in_script front close most text behind first fault stage split place broken = elim broken.number [
+refused_in_script : (front : Lines) (close : List ℕ) (most : ℕ) (text after : List ℕ) (first : ℕ) (fault : Fault) → Stage front (line close) most
+    → text ≡ concat front ++ after → length front + 1 ≡ first → IsBroken close first most after fault → IsRefused text fault
+refused_in_script front close most text after first fault stage split place broken = elim broken.number [
   | inl long ↦ refused text lines rest fault text_is begins (too_long long.1) not_whole (inl (long.0, with_one_more long.1)) fault_is
   | inr other ↦
       let misspelt : ¬ (BeginsScripts (lines ++ first_line rest ∷ [])) = no_line other.1 in
@@ -254,10 +254,10 @@ whole_text text one two three rest cs ss most a b s t =
         ∙ sym (append_assoc (entries_text cs) (server ++ (entries_text ss ++ ending)) rest)
 
 -- bytes after the last line
-pub refused_behind : (text one two three rest : List ℕ) (cs ss : List Entry) (most : ℕ) (fault : Fault) → most ≡ most_entries - length cs
+pub refused_after : (text one two three rest : List ℕ) (cs ss : List Entry) (most : ℕ) (fault : Fault) → most ≡ most_entries - length cs
     → text ≡ head ++ one → one ≡ client ++ two → IsScript (codes "server") most_entries two cs three → IsScript (codes "end") most three ss rest
     → rest ≢ [] → fault ≡ fault_at wrong_syntax (4 + length cs + length ss + 1) → IsRefused text fault
-refused_behind text one two three rest cs ss most fault full a b s t some is =
+refused_after text one two three rest cs ss most fault full a b s t some is =
     misspelled text (lines_of c) rest fault (whole_text text one two three rest cs ss most a b s t ∙ ap (λ (l : List ℕ). l ++ rest) (certificate_text-lines c))
     (record { scripts = c; entries = (s.valid, t.valid); more = []; lines_are = sym (append-nil (lines_of c)) }, few)
     stops (λ none d h e. some none) (is ∙ ap (λ (n : ℕ). fault_at wrong_syntax n) count)
@@ -282,9 +282,9 @@ refused_behind text one two three rest cs ss most fault full a b s t some is =
         let d = b.scripts in
         let more = first_line rest ∷ b.more in
         let all = b.lines_are ∙ append_assoc (lines_of c) (first_line rest ∷ []) b.more in
-        let behind = rest_is client client _ _ (rest_is head head _ _ all) in
+        let after = rest_is client client _ _ (rest_is head head _ _ all) in
         let one_script = closed server Closes-server d.client cs (map entry_line d.server ++ (ending ∷ [])) ((map entry_line ss ++ (ending ∷ [])) ++ more) b.entries.0 s.valid
-        (behind ∙ append_assoc (map entry_line cs) (server ∷ (map entry_line ss ++ (ending ∷ []))) more) in
+        (after ∙ append_assoc (map entry_line cs) (server ∷ (map entry_line ss ++ (ending ∷ []))) more) in
         let both = closed ending Closes-end d.server ss [] more b.entries.1 t.valid
         (one_script.1 ∙ append_assoc (map entry_line ss) (ending ∷ []) more) in
         absurd (let clash : ◌≡◌ {A = Lines} [] (first_line rest ∷ b.more) = both.1 in cc)

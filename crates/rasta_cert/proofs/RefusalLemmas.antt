@@ -6,7 +6,7 @@ use Rattle.rasta_pcap.specs.declared.fault.Fault.{Fault}
 use Rattle.rasta_pcap.specs.Fault.{fault_at, wrong_syntax}
 use Rattle.rasta_cert.specs.Certificate.{AreScripts, IsCertificate, Scripts, certificate_text}
 use Rattle.rasta_cert.specs.Refusals.{BeginsCertificate, BeginsScripts, IsFaultNumber, IsRefused, first_line, lines_of}
-use Rattle.rasta_cert.proofs.LineLemmas.{AreLines, AreLines-behind, AreLines-front, AreLines-lines_of, GoesOn, splits}
+use Rattle.rasta_cert.proofs.LineLemmas.{AreLines, AreLines-after, AreLines-front, AreLines-lines_of, GoesOn, splits}
 use Rattle.rasta_cert.proofs.ScriptLemmas.{certificate_text-lines}
 
 abbrev Lines : Type 0
@@ -67,7 +67,7 @@ no_certificate text front rest e lines stops not_whole c is h =
       | inl same ↦ not_whole same.1 c is.0 same.0
       | inr other ↦ elim other [
         | inl g ↦ stops (goes_on front rest (lines_of c) g whole)
-        | inr g ↦ (AreLines-behind (lines_of c) (first_line [] ∷ g.more) (subst AreLines g.is lines)).0.some refl
+        | inr g ↦ (AreLines-after (lines_of c) (first_line [] ∷ g.more) (subst AreLines g.is lines)).0.some refl
       ]
     ]
 

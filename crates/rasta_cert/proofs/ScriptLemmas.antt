@@ -8,7 +8,7 @@ use Rattle.rasta_cert.specs.declared.entry.Entry.TheVariants.{Take, Make}
 use Rattle.rasta_cert.specs.Certificate.{AreEntries, AreScripts, IsEntry, Scripts, certificate_text, entries_text, entry_line, first_lines, line}
 use Rattle.rasta_cert.specs.Refusals.{first_line, lines_of}
 use Rattle.rasta_cert.proofs.FieldLemmas.{entry_line_injective}
-use Rattle.rasta_cert.proofs.LineLemmas.{AreLines, AreLines-behind, AreLines-lines_of, splits}
+use Rattle.rasta_cert.proofs.LineLemmas.{AreLines, AreLines-after, AreLines-lines_of, splits}
 
 -- a line that closes a script is no entry's
 pub record Closes (close : List ℕ) : Type 0 where
@@ -88,12 +88,12 @@ unfolding certificate_text
 certificate_text-lines c =
     let S = line (codes "server") in
     let E = line (codes "end") in
-    let behind : concat (S ∷ (map entry_line c.server ++ (E ∷ []))) ≡ S ++ (entries_text c.server ++ E) =
+    let after : concat (S ∷ (map entry_line c.server ++ (E ∷ []))) ≡ S ++ (entries_text c.server ++ E) =
     ap (λ (l : List ℕ). S ++ l) (concat-entries c.server (E ∷ [])) in
-    ap (λ (l : List ℕ). first_lines ++ l) (sym (concat-entries c.client _ ∙ ap (λ (l : List ℕ). entries_text c.client ++ l) behind))
+    ap (λ (l : List ℕ). first_lines ++ l) (sym (concat-entries c.client _ ∙ ap (λ (l : List ℕ). entries_text c.client ++ l) after))
 
 empty_is_no_line : (ls more : Lines) (c : Scripts) → AreScripts c → lines_of c ≢ ls ++ (first_line [] ∷ more)
-empty_is_no_line ls more c h e = (AreLines-behind ls (first_line [] ∷ more) (subst AreLines e (AreLines-lines_of c h))).0.some refl
+empty_is_no_line ls more c h e = (AreLines-after ls (first_line [] ∷ more) (subst AreLines e (AreLines-lines_of c h))).0.some refl
 
 -- scripts with the same text are the same
 pub certificate_text_injective : (c d : Scripts) → AreScripts c → AreScripts d → certificate_text c ≡ certificate_text d → c ≡ d
@@ -109,8 +109,8 @@ certificate_text_injective c d hc hd e =
   where
     same_lines : lines_of c ≡ lines_of d → c ≡ d
     same_lines h =
-        let behind = rest_is _ _ _ _ (rest_is _ _ _ _ h) in
-        let client = closed _ Closes-server c.client d.client _ _ hc.0 hd.0 behind in
+        let after = rest_is _ _ _ _ (rest_is _ _ _ _ h) in
+        let client = closed _ Closes-server c.client d.client _ _ hc.0 hd.0 after in
         let server = closed _ Closes-end c.server d.server [] [] hc.1 hd.1 client.1 in
         let both : List Entry → List Entry → Scripts = λ one two. record { client = one; server = two } in
         ap (λ (es : List Entry). both es c.server) client.0 ∙ ap (λ (es : List Entry). both d.client es) server.0

@@ -26,14 +26,14 @@ entries_text-end es i h = ap entries_text (nil_from_length (drop i es) (length-d
     none = omega (arith, h)
 
 -- the text of one entry more
-pub entries_text_push : (es : List Entry) (e : Entry) (text rest behind : List ℕ) → text ≡ entries_text es ++ rest → rest ≡ entry_line e ++ behind
-    → text ≡ entries_text (es ++ e ∷ []) ++ behind
+pub entries_text_push : (es : List Entry) (e : Entry) (text rest after : List ℕ) → text ≡ entries_text es ++ rest → rest ≡ entry_line e ++ after
+    → text ≡ entries_text (es ++ e ∷ []) ++ after
 unfolding entries_text
-entries_text_push [] e text rest behind h k = h ∙ k ∙ ap (λ (l : List ℕ). l ++ behind) (sym (append-nil (entry_line e)))
-entries_text_push (d ∷ es) e text rest behind h k =
+entries_text_push [] e text rest after h k = h ∙ k ∙ ap (λ (l : List ℕ). l ++ after) (sym (append-nil (entry_line e)))
+entries_text_push (d ∷ es) e text rest after h k =
     h ∙ append_assoc (entry_line d) (entries_text es) rest
-    ∙ ap (λ (l : List ℕ). entry_line d ++ l) (entries_text_push es e (entries_text es ++ rest) rest behind refl k)
-    ∙ sym (append_assoc (entry_line d) (entries_text (es ++ e ∷ [])) behind)
+    ∙ ap (λ (l : List ℕ). entry_line d ++ l) (entries_text_push es e (entries_text es ++ rest) rest after refl k)
+    ∙ sym (append_assoc (entry_line d) (entries_text (es ++ e ∷ [])) after)
 
 pub AreEntries_push : (es : List Entry) (e : Entry) → AreEntries es → IsEntry e → AreEntries (es ++ e ∷ [])
 AreEntries_push [] e h k = (k, tt)

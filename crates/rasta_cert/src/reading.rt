@@ -21,7 +21,7 @@ fn next_line(text: &[u8]) -> Option<(&[u8], &[u8])>
 }
 
 // What follows this line, where the text begins with it.
-fn behind_line<'a>(text: &'a [u8], words: &[u8]) -> Option<&'a [u8]>
+fn after_line<'a>(text: &'a [u8], words: &[u8]) -> Option<&'a [u8]>
     ensures found { IfSome result (λ rest. text.entry.now ≡ line words.now ++ rest.now) }
     ensures none { IfNone result (first_line text.entry.now ≢ line words.now) }
 {
@@ -61,7 +61,7 @@ fn read_script<'a>(
 {
     let mut entries = Vec::new(alloc);
     let mut rest = text;
-    while let Some((entry, behind)) = next_entry(rest) {
+    while let Some((entry, after)) = next_entry(rest) {
         if entries.len() == most {
             let line = first + entries.len();
             return Err(Fault::at(Fault::TOO_MANY_ENTRIES, line as u32));
@@ -69,10 +69,10 @@ fn read_script<'a>(
         if entries.push(entry).is_err() {
             return Err(Fault::at(Fault::NO_MEMORY, 0));
         }
-        rest = behind;
+        rest = after;
     }
     let line = first + entries.len();
-    match behind_line(rest, close) {
+    match after_line(rest, close) {
         Some(rest) => Ok(Script { entries, rest }),
         None => Err(Fault::at(Fault::SYNTAX, line as u32)),
     }
@@ -83,10 +83,10 @@ fn read_scripts(alloc: Global, text: &[u8]) -> Result<Certificate, Fault>
     ensures ok { IfOk result (λ c. (text.now ≡ certificate_text c) × IsCertificate c) }
     ensures err { IfErr result (λ f. (f ≡ no_memory) ⊎ IsRefused text.now f) }
 {
-    let Some(rest) = behind_line(text, b"rasta-certificate 1") else {
+    let Some(rest) = after_line(text, b"rasta-certificate 1") else {
         return Err(Fault::at(Fault::SYNTAX, 1));
     };
-    let Some(rest) = behind_line(rest, b"client") else {
+    let Some(rest) = after_line(rest, b"client") else {
         return Err(Fault::at(Fault::SYNTAX, 2));
     };
     let client = read_script(alloc, rest, b"server", 3, MOST_ENTRIES)?;

@@ -141,12 +141,12 @@ module _ (e f : EndState) (t u : ℕ) (h : Held e t f.made) (peer : Held f u e.m
         subst (λ n. slice_get (asked_positions (pdus_made e.made) (pdus_made f.made)) n ≡ Some c) r.before (asked_at (pdus_made e.made) f.made all_named r.at r.m c r.there r.is at),
       )
 
-  answer_at : (before behind : List Made) (m : Made) → e.made ≡ before ++ m ∷ behind → is_retransmission_response m.pdu.kind ≡ true
+  answer_at : (before after : List Made) (m : Made) → e.made ≡ before ++ m ∷ after → is_retransmission_response m.pdu.kind ≡ true
       → (ask : ℕ) × (request : Made) × (slice_get e.asks (responses_in (kinds before)) ≡ Some ask) × (ask < length before)
       × (slice_get (requests_of f.made) (responses_in (kinds before)) ≡ Some request) × (position_with (pdus_made e.made) request.pdu.cs ≡ Some ask)
-  answer_at before behind m is r =
-      let there : slice_get e.made (length before) ≡ Some m = subst (λ (ms : List Made). slice_get ms (length before) ≡ Some m) (sym is) (get_behind before) in
-      let front : take (length before) e.made ≡ before = ap (take (length before)) is ∙ take-append_seam before (m ∷ behind) in
+  answer_at before after m is r =
+      let there : slice_get e.made (length before) ≡ Some m = subst (λ (ms : List Made). slice_get ms (length before) ≡ Some m) (sym is) (get_after before) in
+      let front : take (length before) e.made ≡ before = ap (take (length before)) is ∙ take-append_seam before (m ∷ after) in
       let n = responses_in (kinds before) in
       let n_is : n ≡ number is_retransmission_response (take (length before) e.made) = answers_number before ∙ ap (number is_retransmission_response) (sym front) in
       let one = number_take_at is_retransmission_response e.made (length before) m there r in
@@ -157,9 +157,9 @@ module _ (e f : EndState) (t u : ℕ) (h : Held e t f.made) (peer : Held f u e.m
       let jump = w.jumps (length before) m ask there r (subst (λ k. slice_get e.asks k ≡ Some ask) n_is asked) in
       (ask, request.0, asked, jump.0, request.1, request.2)
     where
-      get_behind : (xs : List Made) → slice_get (xs ++ m ∷ behind) (length xs) ≡ Some m
-      get_behind [] = refl
-      get_behind (x ∷ xs) = get_behind xs
+      get_after : (xs : List Made) → slice_get (xs ++ m ∷ after) (length xs) ≡ Some m
+      get_after [] = refl
+      get_after (x ∷ xs) = get_after xs
 
   pub in_order : AnswersInOrder e f
   in_order = record {

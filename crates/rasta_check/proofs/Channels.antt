@@ -25,9 +25,9 @@ first_of false false e f d rest h = inr (inr h)
 
 among_by : (number : ℕ) (cs : List Channel) (e f d : Direction) (rest : Option Direction) → e.channel ≡ number → f.channel ≡ number → (rest ≡ Some d → Among (number + 1) (length cs) d.channel)
     → (e ≡ d) ⊎ (f ≡ d) ⊎ (rest ≡ Some d) → Among number (suc (length cs)) d.channel
-among_by number cs e f d rest n m behind (inl w) = (let c = ap (λ (y : Direction). y.channel) w in (omega arith, omega arith))
-among_by number cs e f d rest n m behind (inr (inl w)) = (let c = ap (λ (y : Direction). y.channel) w in (omega arith, omega arith))
-among_by number cs e f d rest n m behind (inr (inr w)) = (let c = behind w in let low = c.0 in let high = c.1 in (omega arith, omega arith))
+among_by number cs e f d rest n m after (inl w) = (let c = ap (λ (y : Direction). y.channel) w in (omega arith, omega arith))
+among_by number cs e f d rest n m after (inr (inl w)) = (let c = ap (λ (y : Direction). y.channel) w in (omega arith, omega arith))
+among_by number cs e f d rest n m after (inr (inr w)) = (let c = after w in let low = c.0 in let high = c.1 in (omega arith, omega arith))
 
 direction_among : (x : Fields) (number : ℕ) (channels : List Channel) (d : Direction) → find (λ (e : Direction). goes x e.source e.destination) (directions_from number channels) ≡ Some d
     → Among number (length channels) d.channel
@@ -38,14 +38,14 @@ direction_among x number (c ∷ cs) d h =
     among_by number cs there back d _ refl refl (direction_among x (number + 1) cs d) (first_of (goes x c.client c.server) (goes x c.server c.client) there back d _ h)
 
 -- a test that answers nothing where it holds leads on
-behind_none : (b : Bool) (rest : Result (Option Found) Fault) (d : Found) → (if b then Ok None else rest) ≡ Ok (Some d) → rest ≡ Ok (Some d)
-behind_none true rest d h = absurd (cc)
-behind_none false rest d h = h
+after_none : (b : Bool) (rest : Result (Option Found) Fault) (d : Found) → (if b then Ok None else rest) ≡ Ok (Some d) → rest ≡ Ok (Some d)
+after_none true rest d h = absurd (cc)
+after_none false rest d h = h
 
 -- so does one that answers a fault
-behind_fault : (b : Bool) (fault : Fault) (rest : Result (Option Found) Fault) (d : Found) → (if b then Err fault else rest) ≡ Ok (Some d) → rest ≡ Ok (Some d)
-behind_fault true fault rest d h = absurd (cc)
-behind_fault false fault rest d h = h
+after_fault : (b : Bool) (fault : Fault) (rest : Result (Option Found) Fault) (d : Found) → (if b then Err fault else rest) ≡ Ok (Some d) → rest ≡ Ok (Some d)
+after_fault true fault rest d h = absurd (cc)
+after_fault false fault rest d h = h
 
 abbrev answer_of : Option Found → Result (Option Found) Fault
 answer_of o = Ok o
@@ -60,9 +60,9 @@ tests_failed : (t u v w x a b c e f g : Bool) (i j k l m : Fault) (rest : Result
     else if a then Err i else if b then Err j else if c then Err k else if e then Ok None else if f then Err l else if g then Err m else rest) ≡ Ok (Some d)
     → rest ≡ Ok (Some d)
 tests_failed t u v w x a b c e f g i j k l m rest d h =
-    let past_none = behind_none x _ d (behind_none w _ d (behind_none v _ d (behind_none u _ d (behind_none t _ d h)))) in
-    let past_fault = behind_fault c k _ d (behind_fault b j _ d (behind_fault a i _ d past_none)) in
-    behind_fault g m rest d (behind_fault f l _ d (behind_none e _ d past_fault))
+    let past_none = after_none x _ d (after_none w _ d (after_none v _ d (after_none u _ d (after_none t _ d h)))) in
+    let past_fault = after_fault c k _ d (after_fault b j _ d (after_fault a i _ d past_none)) in
+    after_fault g m rest d (after_fault f l _ d (after_none e _ d past_fault))
 
 found_among : (channels : List Channel) (x : Fields) (d : Found) → found_by channels x ≡ Ok (Some d) → Among 1 (length channels) d.channel
 unfolding found_by direction_of

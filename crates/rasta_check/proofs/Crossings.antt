@@ -24,7 +24,7 @@ use Rattle.rasta_check.specs.World.{IsRecorded, most_sent}
 use Rattle.rasta_check.specs.Packets.{with_new, number_in_bytes}
 use Rattle.rasta_check.specs.Lists.{copy_of}
 use Rattle.rasta_pdu.specs.declared.pdu.Pdu.{Pdu}
-use Rattle.rasta_check.specs.Reading.{Crossing, IsCrossing, sent_by, behind_pdu, behind_read, sent_behind, with_packet, crossing_with, is_within, after_packet, after_judged}
+use Rattle.rasta_check.specs.Reading.{Crossing, IsCrossing, sent_by, after_pdu, after_read, sent_after, with_packet, crossing_with, is_within, after_packet, after_judged}
 use Rattle.rasta_check.proofs.Copies.{IsSent}
 use Rattle.rasta_check.proofs.Forms.{to_record, of_record}
 use Rattle.rasta_check.proofs.Scripted.{slice_get_some}
@@ -40,7 +40,7 @@ next_of (x ∷ os) n e c g = (let same : x ≡ c = cc in let z : n ≡ wrapped (
 
 module _ (p : Parameters) (packets : List Packet) (side : Side) (own : List FirstCopy) (a : Packet) (sent : IsSent p packets side own) (of_side : a.side ≡ side) where
   by_copy : (d : RedundancyPdu) → Spells p side d a.payload → (o : Option FirstCopy) → copy_with own d.number ≡ o → number_fault p side own a.payload d o ≡ None
-      → IsSent p (packets ++ a ∷ []) side (behind_pdu own (length packets) d o)
+      → IsSent p (packets ++ a ∷ []) side (after_pdu own (length packets) d o)
   by_copy d s None e n = (sent_first p packets a side own d (first_number own d) sent (numbers_from p packets side own d sent) of_side s
       (next_from own d s.fits.number (next_of own d.number (passed (is_next_number own d.number) number_gap n)))).0
   by_copy d s (Some c) e n =
@@ -64,9 +64,9 @@ is_read p own a valid are n = read_by p own a (decode_of p a.side a.payload) ref
 
 -- the sent list of its sender goes on
 pub goes_on : (p : Parameters) (packets : List Packet) (own : List FirstCopy) (a : Packet) → IsSent p packets a.side own → IsRead p a
-    → packet_fault p own a ≡ None → IsSent p (packets ++ a ∷ []) a.side (behind_read own (length packets) (decode_of p a.side a.payload))
+    → packet_fault p own a ≡ None → IsSent p (packets ++ a ∷ []) a.side (after_read own (length packets) (decode_of p a.side a.payload))
 goes_on p packets own a sent w n =
-    subst (λ (r : Result RedundancyPdu Fault). IsSent p (packets ++ a ∷ []) a.side (behind_read own (length packets) r)) (sym w.1)
+    subst (λ (r : Result RedundancyPdu Fault). IsSent p (packets ++ a ∷ []) a.side (after_read own (length packets) r)) (sym w.1)
     (by_copy p packets a.side own a sent refl w.0 w.2 (copy_with own w.0.number) refl (sym (ap (read_fault p a.side own a.payload) w.1) ∙ n))
 
 -- ---- packets of known numbers
@@ -100,14 +100,14 @@ place_within k side number place h e = (let w = first_packet k side number place
 -- a packet of a known number has no fault exactly where its bytes are those of the first copy
 pub repeated : (k : Crossing) (a : Packet) (d : RedundancyPdu) (place : ℕ) (r : Bool) → IsCrossing k → decode_of k.params a.side a.payload ≡ Ok d
     → option_map (λ (c : FirstCopy). c.place) (copy_with (sent_by k a.side) d.number) ≡ Some place → IfSome (slice_get k.packets place) (λ (b : Packet). r ≡ bytes_eq b.payload a.payload)
-    → (packet_fault k.params (sent_by k a.side) a ≡ (if r then None else Some copy_differs)) × (sent_behind k a ≡ sent_by k a.side)
+    → (packet_fault k.params (sent_by k a.side) a ≡ (if r then None else Some copy_differs)) × (sent_after k a ≡ sent_by k a.side)
 repeated k a d place r h e f g =
     let w = first_packet k a.side d.number place h f in
     let own = sent_by k a.side in
     let test : r ≡ bytes_eq w.1.payload a.payload = subst (λ (o : Option Packet). IfSome o (λ (b : Packet). r ≡ bytes_eq b.payload a.payload)) w.3 g in
     let same : r ≡ bytes_eq (redundancy_bytes k.params a.side w.0.pdu) a.payload = test ∙ ap (λ (bs : List ℕ). bytes_eq bs a.payload) w.4 in (
       ap (read_fault k.params a.side own a.payload) e ∙ (ap (number_fault k.params a.side own a.payload d) w.2 ∙ ap (λ (b : Bool). if b then None else Some copy_differs) (sym same)),
-      ap (behind_read own (length k.packets)) e ∙ ap (behind_pdu own (length k.packets) d) w.2,
+      ap (after_read own (length k.packets)) e ∙ ap (after_pdu own (length k.packets) d) w.2,
     )
 
 -- the next number is no known one
@@ -124,13 +124,13 @@ next_unknown k side n h e (Some c) f =
 -- a packet with the next number has no fault, and its PDU joins the list
 pub is_next_pdu : (k : Crossing) (a : Packet) (pdu : Pdu) → IsCrossing k → decode_of k.params a.side a.payload ≡ Ok (value_of pdu)
     → is_next_number (sent_by k a.side) (value_of pdu).number ≡ true
-    → (packet_fault k.params (sent_by k a.side) a ≡ None) × (sent_behind k a ≡ with_new (sent_by k a.side) (length k.packets) (Some pdu))
+    → (packet_fault k.params (sent_by k a.side) a ≡ None) × (sent_after k a ≡ with_new (sent_by k a.side) (length k.packets) (Some pdu))
 is_next_pdu k a pdu h reads e =
     let own = sent_by k a.side in
     let d = value_of pdu in
     let new = next_unknown k a.side d.number h e (copy_with own d.number) refl in (
       ap (read_fault k.params a.side own a.payload) reads ∙ (ap (number_fault k.params a.side own a.payload d) new ∙ ap (λ (b : Bool). if b then None else Some number_gap) e),
-      ap (behind_read own (length k.packets)) reads ∙ ap (behind_pdu own (length k.packets) d) new,
+      ap (after_read own (length k.packets)) reads ∙ ap (after_pdu own (length k.packets) d) new,
     )
 
 -- ---- the limits
@@ -176,12 +176,12 @@ grown_at k a Server sent e h on s within =
     }
 
 pub grown_crossing : (k : Crossing) (a : Packet) → IsCrossing k → IsRecorded k.params a.channel → IsRead k.params a → packet_fault k.params (sent_by k a.side) a ≡ None → is_within (with_packet k a) ≡ true → IsCrossing (with_packet k a)
-grown_crossing k a h on are n within = grown_at k a a.side (sent_behind k a) refl h on (goes_on k.params k.packets (sent_by k a.side) a (list_of k h a.side) are n) within
+grown_crossing k a h on are n within = grown_at k a a.side (sent_after k a) refl h on (goes_on k.params k.packets (sent_by k a.side) a (list_of k h a.side) are n) within
 
 -- what the code knows of a packet without a fault
-module _ (k : Crossing) (a : Packet) (new : Option Pdu) (h : IsCrossing k) (behind : sent_behind k a ≡ with_new (sent_by k a.side) (length k.packets) new) where
+module _ (k : Crossing) (a : Packet) (new : Option Pdu) (h : IsCrossing k) (after : sent_after k a ≡ with_new (sent_by k a.side) (length k.packets) new) where
   with_is : with_packet k a ≡ crossing_with k a a.side (with_new (sent_by k a.side) (length k.packets) new)
-  with_is = ap (crossing_with k a a.side) behind
+  with_is = ap (crossing_with k a a.side) after
 
   within_is : (is_new room : Bool) → is_new ≡ is_some new → room ≡ (nat_lt (length k.packets) most_packets && (not is_new || nat_lt (length (sent_by k a.side)) most_sent)) → is_within (with_packet k a) ≡ room
   within_is is_new room e f =

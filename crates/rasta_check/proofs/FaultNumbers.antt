@@ -8,7 +8,7 @@ use Rattle.rasta_pcap.specs.declared.fault.Fault.{Fault}
 use Rattle.rasta_pcap.specs.declared.fault.Side.{Side}
 use Rattle.rasta_pcap.specs.declared.pcap.Endianness.{Endianness}
 use Rattle.rasta_pcap.specs.Fault.{no_memory, fault_at, cut_header, cut_record, cut_packet, wrong_version, wrong_link_type, fragment, bad_udp, too_many, record_too_long, redundancy_length, too_short, safety_length, wrong_code, wrong_ids, copy_differs, number_gap}
-use Rattle.rasta_pcap.specs.Capture.{Cursor, Numbered, max_records, max_captured, length_in_front, bytes_in_front, next, opening, opening_in, order_of, number_in, reading_of}
+use Rattle.rasta_pcap.specs.Capture.{Cursor, Numbered, max_records, max_captured, next_length, next_bytes, next, opening, opening_in, order_of, number_in, reading_of}
 use Rattle.rasta_pcap.proofs.Captures.{IsRefused-reading_of, opening-by_reading_of}
 use Rattle.rasta_pcap.proofs.Headers.{opening-fault_place}
 use Rattle.rasta_udp.specs.declared.channel.Channel.{Channel}
@@ -46,8 +46,8 @@ err_of (Err g) f P h e = (let same : g ≡ f = cc in subst P same h)
 next_low : (c : Cursor) (f : Fault) → next c ≡ Err f → IsLow f
 next_low c f e =
     let size = length c.rest in
-    let captured = length_in_front c in
-    err_of (next c) f IsLow (low_next (nat_eq size 0) (nat_le max_records c.count) (nat_lt size 16) (nat_lt max_captured captured) (nat_lt size (16 + captured)) (c.count + 1) (c.count + 1, bytes_in_front c)) e
+    let captured = next_length c in
+    err_of (next c) f IsLow (low_next (nat_eq size 0) (nat_le max_records c.count) (nat_lt size 16) (nat_lt max_captured captured) (nat_lt size (16 + captured)) (c.count + 1) (c.count + 1, next_bytes c)) e
 
 low_judged : (version link : Bool) (c : Cursor) → IfErr (cond version (cond link (Ok c) (Err (fault_at wrong_link_type 0))) (Err (fault_at wrong_version 0))) IsLow
 low_judged true true c = tt

@@ -18,7 +18,7 @@ use Rattle.rasta_pdu.specs.Messages.{AreBytes}
 use Rattle.rasta_check.specs.Crossing.{FirstCopy, Sent, crossing_list, found_packet, packet_fault}
 use Rattle.rasta_check.specs.Theorem.{OfConnection, most_packets}
 use Rattle.rasta_check.specs.World.{most_sent}
-use Rattle.rasta_check.specs.Reading.{Crossing, IsCrossing, and_then, after_frame, after_judged, after_packet, after_record, after_records, crossing_of, crossing_with, is_within, nothing_crossed, sent_behind, sent_by, with_packet}
+use Rattle.rasta_check.specs.Reading.{Crossing, IsCrossing, and_then, after_frame, after_judged, after_packet, after_record, after_records, crossing_of, crossing_with, is_within, nothing_crossed, sent_after, sent_by, with_packet}
 use Rattle.rasta_check.specs.Verdicts.{IsFaultlessCapture}
 use Rattle.rasta_check.proofs.Copies.{IsSent}
 use Rattle.rasta_check.proofs.Crossings.{list_of, few_of, is_read, goes_on}
@@ -157,12 +157,12 @@ record GoesThrough (k : Crossing) (more : List Packet) (c s : List FirstCopy) : 
   few_client : length c ≤ most_sent
   few_server : length s ≤ most_sent
 
-list_behind : Side → List FirstCopy → List FirstCopy → List FirstCopy
-list_behind Client c s = c
-list_behind Server c s = s
+list_after : Side → List FirstCopy → List FirstCopy → List FirstCopy
+list_after Client c s = c
+list_after Server c s = s
 
-whole_of : (k : Crossing) (more : List Packet) (c s : List FirstCopy) → IsCrossing k → GoesThrough k more c s → (side : Side) → IsSent k.params (k.packets ++ more) side (list_behind side c s) × (length (list_behind side c s) ≤ 1000000)
-unfolding list_behind
+whole_of : (k : Crossing) (more : List Packet) (c s : List FirstCopy) → IsCrossing k → GoesThrough k more c s → (side : Side) → IsSent k.params (k.packets ++ more) side (list_after side c s) × (length (list_after side c s) ≤ 1000000)
+unfolding list_after
 whole_of k more c s h g Client = (to_record k.params (k.packets ++ more) Client c h.valid.valid g.client, g.few_client)
 whole_of k more c s h g Server = (to_record k.params (k.packets ++ more) Server s h.valid.valid g.server, g.few_server)
 
@@ -173,16 +173,16 @@ none_at k a more c s h g =
     faultless k.params k.packets a.side (sent_by k a.side) a h.valid own (omega arith) (can_follow k.params k.packets more a.side (sent_by k a.side) a own (omega arith) refl _ (whole_of k (a ∷ more) c s h g a.side).0)
 
 -- so its sender has no more PDUs than are sent by all
-few_behind : (k : Crossing) (a : Packet) (more : List Packet) (c s : List FirstCopy) → IsCrossing k → AreBytes a.payload → GoesThrough k (a ∷ more) c s → length (sent_behind k a) ≤ 1000000
-few_behind k a more c s h are g =
+few_after : (k : Crossing) (a : Packet) (more : List Packet) (c s : List FirstCopy) → IsCrossing k → AreBytes a.payload → GoesThrough k (a ∷ more) c s → length (sent_after k a) ≤ 1000000
+few_after k a more c s h are g =
     let none = none_at k a more c s h g in
     let own = list_of k h a.side in
     let grown = goes_on k.params k.packets (sent_by k a.side) a own (is_read k.params (sent_by k a.side) a h.valid.valid are none) none in
     let whole = whole_of k (a ∷ more) c s h g a.side in
-    let front = sent_front_few k.params more (k.packets ++ a ∷ []) a.side _ (subst (λ (xs : List Packet). IsSent k.params xs a.side (list_behind a.side c s)) (sym (append_assoc k.packets (a ∷ []) more)) whole.0) in
+    let front = sent_front_few k.params more (k.packets ++ a ∷ []) a.side _ (subst (λ (xs : List Packet). IsSent k.params xs a.side (list_after a.side c s)) (sym (append_assoc k.packets (a ∷ []) more)) whole.0) in
     let few = whole.1 in
     let less = front.2 in
-    let same = ap length (sent_once k.params (k.packets ++ a ∷ []) a.side front.0 (sent_behind k a) front.1 grown (omega arith)) in
+    let same = ap length (sent_once k.params (k.packets ++ a ∷ []) a.side front.0 (sent_after k a) front.1 grown (omega arith)) in
     omega arith
 
 within_with : (k : Crossing) (a : Packet) (side : Side) (sent : List FirstCopy) → IsCrossing k → length (k.packets ++ a ∷ []) ≤ most_packets → length sent ≤ most_sent → is_within (crossing_with k a side sent) ≡ true
@@ -196,7 +196,7 @@ packet_goes k number a more c s h are g =
     let lengths = length-append k.packets (a ∷ more) in
     let grown = length_push k.packets a in
     ap (after_judged k number a) (none_at k a more c s h g)
-    ∙ ap (λ (b : Bool). if b then Ok (with_packet k a) else Err (fault_at too_many number)) (within_with k a a.side (sent_behind k a) h (omega arith) (few_behind k a more c s h are g))
+    ∙ ap (λ (b : Bool). if b then Ok (with_packet k a) else Err (fault_at too_many number)) (within_with k a a.side (sent_after k a) h (omega arith) (few_after k a more c s h are g))
 
 -- ---- record by record
 
@@ -217,8 +217,8 @@ record_goes k r more c s h are sound g = by (nat_lt r.0 k.params.first_record) r
     by false e w = frame_goes k r.0 r.1 (packet_in k.params.channels r.1) more c s refl h are (sound e) w
 
 -- with some of the packets after it, the rest come
-goes_behind : (k next : Crossing) (front more : List Packet) (c s : List FirstCopy) → next.packets ≡ k.packets ++ front → next.params ≡ k.params → GoesThrough k (front ++ more) c s → GoesThrough next more c s
-goes_behind k next front more c s e f g =
+goes_after : (k next : Crossing) (front more : List Packet) (c s : List FirstCopy) → next.packets ≡ k.packets ++ front → next.params ≡ k.params → GoesThrough k (front ++ more) c s → GoesThrough next more c s
+goes_after k next front more c s e f g =
     let all : k.packets ++ (front ++ more) ≡ next.packets ++ more = sym (append_assoc k.packets front more) ∙ ap (λ (xs : List Packet). xs ++ more) (sym e) in
     let few = g.few_packets in
     record {
@@ -236,7 +236,7 @@ records_go k [] c s h are sound g = (k, refl)
 records_go k (r ∷ rs) c s h are sound g =
     let w = record_goes k r (all_packets_in k.params rs) c s h are.0 sound.0 g in
     let grown = record_by k r w.0 w.1 in
-    let rest = goes_behind k w.0 (packets_in k.params r) (all_packets_in k.params rs) c s grown.0 grown.1 g in
+    let rest = goes_after k w.0 (packets_in k.params r) (all_packets_in k.params rs) c s grown.0 grown.1 g in
     let last = records_go w.0 rs c s (record_kept k w.0 r h are.0 w.1) are.1 (subst (λ (p : Parameters). AllByRecursion (IsSound p) rs) (sym grown.1) sound.1)
     (subst (λ (p : Parameters). GoesThrough w.0 (all_packets_in p rs) c s) (sym grown.1) rest) in
     (last.0, ap (λ (q : Result Crossing Fault). and_then q (λ (next : Crossing). after_records next rs None)) w.1 ∙ last.1)

@@ -18,7 +18,7 @@ to_record p packets side sent valid h =
       numbers = h.faultless.numbers;
       others = λ place packet g e. ⊎_elim
           (λ (w : (i : ℕ) × (c : FirstCopy) × (slice_get sent i ≡ Some c) × (c.place ≡ place)). inl w)
-          (λ (w : IsRepeat packets side place packet.payload). inr (w.earlier, w.packet, w.in_front, w.there, w.of_side, w.same))
+          (λ (w : IsRepeat packets side place packet.payload). inr (w.earlier, w.packet, w.before, w.there, w.of_side, w.same))
           (h.faultless.others place packet g e);
     }
 
@@ -39,7 +39,7 @@ of_record p packets side sent h few =
         others = λ place packet g e. ⊎_elim
             (λ (w : (i : ℕ) × (c : FirstCopy) × (slice_get sent i ≡ Some c) × (c.place ≡ place)). inl w)
             (λ (w : (j : ℕ) × (b : Packet) × (j < place) × (slice_get packets j ≡ Some b) × (b.side ≡ side) × (b.payload ≡ packet.payload)).
-            inr (record { earlier = w.0; packet = w.1; in_front = w.2; there = w.3; of_side = w.4; same = w.5 }))
+            inr (record { earlier = w.0; packet = w.1; before = w.2; there = w.3; of_side = w.4; same = w.5 }))
             (h.others place packet g e);
         numbers = h.numbers;
       };

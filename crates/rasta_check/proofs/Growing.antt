@@ -17,7 +17,7 @@ use Rattle.rasta_check.specs.declared.crossing_store.StoredPacket.{StoredPacket}
 use Rattle.rasta_check.specs.Crossing.{FirstCopy, Spells}
 use Rattle.rasta_check.specs.Datagrams.{Kept, KeptDatagrams, keeping, kept_by, nothing_kept}
 use Rattle.rasta_check.specs.Lists.{IsOrdered, position_of_place}
-use Rattle.rasta_check.specs.Reading.{Crossing, IsCrossing, crossing_with, is_within, sent_by, sent_behind, with_packet}
+use Rattle.rasta_check.specs.Reading.{Crossing, IsCrossing, crossing_with, is_within, sent_by, sent_after, with_packet}
 use Rattle.rasta_check.specs.Stored.{Decode, HavePositions, IsJudged, IsStore, bytes_of, copy_in, crossing_by, first_copies_from, packet_by, pdu_in}
 use Rattle.rasta_check.proofs.Crossings.{list_of}
 use Rattle.rasta_check.proofs.Lists.{get_front, get_push, get_push_cases}
@@ -160,21 +160,21 @@ module _ (p : Parameters) (d : KeptDatagrams) (packets : List StoredPacket) (st 
         ap (λ (o : Option Kept). packet_with channel Server (bytes_of o)) (ap (slice_get (d.server ++ datagram ∷ [])) e ∙ get_push d.server datagram)
 
     pub new_view : (side : Side) → position ≡ length (kept_by d side) → decode_of p side payload ≡ Ok pdu
-        → sent_behind k (packet_with channel side payload) ≡ sent_by k side ++ copy ∷ []
+        → sent_after k (packet_with channel side payload) ≡ sent_by k side ++ copy ∷ []
         → crossing_by p (keeping d side datagram) (packets ++ stored side ∷ []) ≡ with_packet k (packet_with channel side payload)
-    new_view Client e reads behind =
+    new_view Client e reads after =
         (λ i. record {
           params = p;
           packets = packets_with (keeping d Client datagram) (stored Client) _ (among_keeping d Client datagram) (here Client e) i;
-          client = (copies_with Client d.client datagram pdu reads ∙ ap (λ (n : ℕ). k.client ++ record { place = n; pdu = pdu } ∷ []) at ∙ sym behind) i;
+          client = (copies_with Client d.client datagram pdu reads ∙ ap (λ (n : ℕ). k.client ++ record { place = n; pdu = pdu } ∷ []) at ∙ sym after) i;
           server = k.server;
         })
-    new_view Server e reads behind =
+    new_view Server e reads after =
         (λ i. record {
           params = p;
           packets = packets_with (keeping d Server datagram) (stored Server) _ (among_keeping d Server datagram) (here Server e) i;
           client = k.client;
-          server = (copies_with Server d.server datagram pdu reads ∙ ap (λ (n : ℕ). k.server ++ record { place = n; pdu = pdu } ∷ []) at ∙ sym behind) i;
+          server = (copies_with Server d.server datagram pdu reads ∙ ap (λ (n : ℕ). k.server ++ record { place = n; pdu = pdu } ∷ []) at ∙ sym after) i;
         })
 
     -- its bytes come last
@@ -197,13 +197,13 @@ module _ (p : Parameters) (d : KeptDatagrams) (packets : List StoredPacket) (st 
 
     -- the store with it
     pub new_store : (side : Side) → position ≡ length (kept_by d side) → decode_of p side payload ≡ Ok pdu → Spells p side pdu payload
-        → sent_behind k (packet_with channel side payload) ≡ sent_by k side ++ copy ∷ [] → IsCrossing (with_packet k (packet_with channel side payload))
+        → sent_after k (packet_with channel side payload) ≡ sent_by k side ++ copy ∷ [] → IsCrossing (with_packet k (packet_with channel side payload))
         → IsStore p (keeping d side datagram) (packets ++ stored side ∷ [])
-    new_store Client e reads spelled behind h =
+    new_store Client e reads spelled after h =
         let a = packet_with channel Client payload in
-        let view = new_view Client e reads behind in
-        let next : IsCrossing (crossing_with k a Client (k.client ++ copy ∷ [])) = subst (λ (own : List FirstCopy). IsCrossing (crossing_with k a Client own)) behind h in
-        let whole = ap (λ (own : List FirstCopy). crossing_with k a Client own) behind in
+        let view = new_view Client e reads after in
+        let next : IsCrossing (crossing_with k a Client (k.client ++ copy ∷ [])) = subst (λ (own : List FirstCopy). IsCrossing (crossing_with k a Client own)) after h in
+        let whole = ap (λ (own : List FirstCopy). crossing_with k a Client own) after in
         let size = length_push d.client datagram in
         record {
           crossing = subst IsCrossing (sym view) h;
@@ -213,11 +213,11 @@ module _ (p : Parameters) (d : KeptDatagrams) (packets : List StoredPacket) (st 
           bytes = new_bytes Client (ordered_of (crossing_with k a Client (k.client ++ copy ∷ [])) next Client)
               ∙ sym (ap (λ (q : Crossing). first_copies_from q 0 q.packets) (view ∙ whole));
         }
-    new_store Server e reads spelled behind h =
+    new_store Server e reads spelled after h =
         let a = packet_with channel Server payload in
-        let view = new_view Server e reads behind in
-        let next : IsCrossing (crossing_with k a Server (k.server ++ copy ∷ [])) = subst (λ (own : List FirstCopy). IsCrossing (crossing_with k a Server own)) behind h in
-        let whole = ap (λ (own : List FirstCopy). crossing_with k a Server own) behind in
+        let view = new_view Server e reads after in
+        let next : IsCrossing (crossing_with k a Server (k.server ++ copy ∷ [])) = subst (λ (own : List FirstCopy). IsCrossing (crossing_with k a Server own)) after h in
+        let whole = ap (λ (own : List FirstCopy). crossing_with k a Server own) after in
         let size = length_push d.server datagram in
         record {
           crossing = subst IsCrossing (sym view) h;
@@ -231,7 +231,7 @@ module _ (p : Parameters) (d : KeptDatagrams) (packets : List StoredPacket) (st 
   -- ---- a packet that repeats a first copy
 
   module _ (channel position : ℕ) (side : Side) (payload : List ℕ) (c : FirstCopy) (there : slice_get (sent_by k side) position ≡ Some c)
-      (same : payload ≡ redundancy_bytes p side c.pdu) (behind : sent_behind k (packet_with channel side payload) ≡ sent_by k side) where
+      (same : payload ≡ redundancy_bytes p side c.pdu) (after : sent_after k (packet_with channel side payload) ≡ sent_by k side) where
     abbrev again : StoredPacket
     again = record { position = position; channel = channel; side = side }
 
@@ -263,7 +263,7 @@ module _ (p : Parameters) (d : KeptDatagrams) (packets : List StoredPacket) (st 
     copy_lists = (λ i. record { params = p; packets = packets_with d again _ (among_same d) again_here i; client = k.client; server = k.server })
 
     pub copy_view : crossing_by p d (packets ++ again ∷ []) ≡ with_packet k (packet_with channel side payload)
-    copy_view = copy_lists ∙ same_lists side ∙ ap (λ (own : List FirstCopy). crossing_with k (packet_with channel side payload) side own) (sym behind)
+    copy_view = copy_lists ∙ same_lists side ∙ ap (λ (own : List FirstCopy). crossing_with k (packet_with channel side payload) side own) (sym after)
 
     same_places : SamePlaces k longer (length k.packets)
     unfolding SamePlaces
@@ -323,7 +323,7 @@ is_room k a Client own false h e = (let l = length_push k.packets a in let x = h
 is_room k a Server own true h e = (let l = length_push k.packets a in let x = h.few_client in let y = h.few_server in grind (arith, nat_tests))
 is_room k a Server own false h e = (let l = length_push k.packets a in let x = h.few_client in let y = h.few_server in grind (arith, nat_tests))
 
-judged_length : (k : Crossing) (a : Packet) (known : Option ℕ) → IsJudged k a known → length (sent_behind k a) ≡ length (sent_by k a.side) + (if is_none known then 1 else 0)
+judged_length : (k : Crossing) (a : Packet) (known : Option ℕ) → IsJudged k a known → length (sent_after k a) ≡ length (sent_by k a.side) + (if is_none known then 1 else 0)
 judged_length k a None j = ap length j.3 ∙ length_push (sent_by k a.side) (record { place = length k.packets; pdu = j.0 })
 judged_length k a (Some position) j = ap length j.3 ∙ (let n : length (sent_by k a.side) ≡ length (sent_by k a.side) + 0 = omega arith in n)
 
@@ -337,7 +337,7 @@ module _ (k : Crossing) (a : Packet) (known : Option ℕ) (h : IsCrossing k) (j 
 
   pub within_is : is_within (with_packet k a) ≡ room
   within_is =
-      is_room k a a.side (sent_behind k a) is_new h (judged_length k a known j ∙ ap (λ (b : Bool). length (sent_by k a.side) + (if b then 1 else 0)) (same_new known is_new new_is))
+      is_room k a a.side (sent_after k a) is_new h (judged_length k a known j ∙ ap (λ (b : Bool). length (sent_by k a.side) + (if b then 1 else 0)) (same_new known is_new new_is))
       ∙ sym room_is
 
 -- ---- at the start

@@ -104,7 +104,7 @@ grown_step p v w (client_moves {a = a} {after = ys} m) g = (grown_move p v.serve
 grown_step p v w (server_moves {a = a} {after = ys} m) g = (same_grown v.client.state, grown_move p v.client v.server a v.crossed ys m g.theirs.asked)
 
 -- an earlier world of the run
-pub record Behind (p : Parameters) (v w : World) (own peer : List FirstCopy) : Type 0 where
+pub record After (p : Parameters) (v w : World) (own peer : List FirstCopy) : Type 0 where
   pub us : List World
   pub reached : Reaches p us v
   pub few : IsWithin p v
@@ -117,15 +117,15 @@ pub record Behind (p : Parameters) (v w : World) (own peer : List FirstCopy) : T
   pub own_front : (j : ℕ) (d : FirstCopy) → slice_get told.own j ≡ Some d → slice_get own j ≡ Some d
   pub peer_front : (j : ℕ) (d : FirstCopy) → slice_get told.peer j ≡ Some d → slice_get peer j ≡ Some d
 
-behind_itself : (p : Parameters) (ws : List World) (w : World) → Reaches p ws w → IsWithin p w → (g : Both p Client Server w.crossed w.client w.server) → Behind p w w g.own g.peer
-behind_itself p ws w r b g = record { us = ws; reached = r; few = b; client = same_grown _; server = same_grown _; less = omega arith; told = g; own_copies = λ j d h l. h; peer_copies = λ j d h l. h; own_front = λ j d h. h; peer_front = λ j d h. h }
+after_itself : (p : Parameters) (ws : List World) (w : World) → Reaches p ws w → IsWithin p w → (g : Both p Client Server w.crossed w.client w.server) → After p w w g.own g.peer
+after_itself p ws w r b g = record { us = ws; reached = r; few = b; client = same_grown _; server = same_grown _; less = omega arith; told = g; own_copies = λ j d h l. h; peer_copies = λ j d h l. h; own_front = λ j d h. h; peer_front = λ j d h. h }
 
 pub history : (p : Parameters) (valid : AreParameters p) (ws : List World) (w : World) → Reaches p ws w → IsWithin p w
-    → (g : Both p Client Server w.crossed w.client w.server) × ((i : ℕ) (v : World) → slice_get (ws ++ w ∷ []) i ≡ Some v → Behind p v w g.own g.peer)
+    → (g : Both p Client Server w.crossed w.client w.server) × ((i : ℕ) (v : World) → slice_get (ws ++ w ∷ []) i ≡ Some v → After p v w g.own g.peer)
 history p valid ws w (begins m n) b = (told_first p m n valid, λ i v g. only i v g)
   where
-    only : (i : ℕ) (v : World) → slice_get (first_world p m n ∷ []) i ≡ Some v → Behind p v (first_world p m n) (told_first p m n valid).own (told_first p m n valid).peer
-    only zero v g = subst (λ (z : World). Behind p z (first_world p m n) (told_first p m n valid).own (told_first p m n valid).peer) (let e : first_world p m n ≡ v = cc in e) (behind_itself p [] (first_world p m n) (begins m n) b (told_first p m n valid))
+    only : (i : ℕ) (v : World) → slice_get (first_world p m n ∷ []) i ≡ Some v → After p v (first_world p m n) (told_first p m n valid).own (told_first p m n valid).peer
+    only zero v g = subst (λ (z : World). After p z (first_world p m n) (told_first p m n valid).own (told_first p m n valid).peer) (let e : first_world p m n ≡ v = cc in e) (after_itself p [] (first_world p m n) (begins m n) b (told_first p m n valid))
     only (suc i) v g = absurd (cc)
 history p valid ws w (goes_on {ws = us} {w = u} r st) b = step (history p valid us u r few)
   where
@@ -135,8 +135,8 @@ history p valid ws w (goes_on {ws = us} {w = u} r st) b = step (history p valid 
     few : IsWithin p u
     few = (let s = stepped p u w st in record { client = (let z = s.client_made in let y = b.client in omega arith); server = (let z = s.server_made in let y = b.server in omega arith) })
 
-    step : ((g : Both p Client Server u.crossed u.client u.server) × ((i : ℕ) (v : World) → slice_get (us ++ u ∷ []) i ≡ Some v → Behind p v u g.own g.peer))
-        → (g : Both p Client Server w.crossed w.client w.server) × ((i : ℕ) (v : World) → slice_get ((us ++ u ∷ []) ++ w ∷ []) i ≡ Some v → Behind p v w g.own g.peer)
+    step : ((g : Both p Client Server u.crossed u.client u.server) × ((i : ℕ) (v : World) → slice_get (us ++ u ∷ []) i ≡ Some v → After p v u g.own g.peer))
+        → (g : Both p Client Server w.crossed w.client w.server) × ((i : ℕ) (v : World) → slice_get ((us ++ u ∷ []) ++ w ∷ []) i ≡ Some v → After p v w g.own g.peer)
     step h =
         let g = told_step p u w st h.0 in
         let cp = step_copies p u w st h.0 in
@@ -158,7 +158,7 @@ history p valid ws w (goes_on {ws = us} {w = u} r st) b = step (history p valid 
                 own_front = λ j d y. fr.0 j d (k.own_front j d y);
                 peer_front = λ j d y. fr.1 j d (k.peer_front j d y);
               }))
-              (λ (new : (i ≡ length (us ++ u ∷ [])) × (w ≡ v)). subst (λ (z : World). Behind p z w g.own g.peer) new.1 (behind_itself p (us ++ u ∷ []) w (goes_on r st) b g))
+              (λ (new : (i ≡ length (us ++ u ∷ [])) × (w ≡ v)). subst (λ (z : World). After p z w g.own g.peer) new.1 (after_itself p (us ++ u ∷ []) w (goes_on r st) b g))
               (get_push_cases (us ++ u ∷ []) w i v x),
         )
 

@@ -95,7 +95,7 @@ length-unit u = by u.messages
 
 pub of_message : (us : List TakenUnit) (m : ℕ) (t : TakenMessage) → slice_get (messages_taken us) m ≡ Some t → OfUnit us m t
 of_message [] m t g = absurd (cc)
-of_message (u ∷ us) m t g = ⊎_elim here (λ (h : (n : ℕ) × (m ≡ length (messages_of_unit u) + n) × (slice_get (messages_taken us) n ≡ Some t)). behind h.0 h.1 (of_message us h.0 t h.2)) (parted (messages_of_unit u) (messages_taken us) m t g)
+of_message (u ∷ us) m t g = ⊎_elim here (λ (h : (n : ℕ) × (m ≡ length (messages_of_unit u) + n) × (slice_get (messages_taken us) n ≡ Some t)). after h.0 h.1 (of_message us h.0 t h.2)) (parted (messages_of_unit u) (messages_taken us) m t g)
   where
     here : slice_get (messages_of_unit u) m ≡ Some t → OfUnit (u ∷ us) m t
     here h =
@@ -108,8 +108,8 @@ of_message (u ∷ us) m t g = ⊎_elim here (λ (h : (n : ℕ) × (m ≡ length 
           up = λ handed k. (let f = first_up u us 0 handed k in ap (λ (xs : List (List (List ℕ))). slice_get (joined xs) m) f.1 ∙ get_front u.messages (joined f.0) m t.message o.0);
         }
 
-    behind : (n : ℕ) → m ≡ length (messages_of_unit u) + n → OfUnit us n t → OfUnit (u ∷ us) m t
-    behind n e r =
+    after : (n : ℕ) → m ≡ length (messages_of_unit u) + n → OfUnit us n t → OfUnit (u ∷ us) m t
+    after n e r =
         record {
           i = suc r.i;
           u = r.u;

@@ -3,8 +3,8 @@ use Rattle.std.proofs.Common.{◌≡◌, ℕ, zero, suc, ◌-◌, List, drop, Op
 use Rattle.std.specs.List.{AllByRecursion}
 use Rattle.rasta_pcap.specs.declared.fault.Fault.{Fault}
 use Rattle.rasta_pcap.specs.Fault.{fault_at, too_many}
-use Rattle.rasta_pcap.specs.Capture.{Cursor, Numbered, next, behind, length_in_front, opening, read_step, reading, reading_of, reading_opened}
-use Rattle.rasta_pcap.proofs.Steps.{next-is_in_front}
+use Rattle.rasta_pcap.specs.Capture.{Cursor, Numbered, next, after, next_length, opening, read_step, reading, reading_of, reading_opened}
+use Rattle.rasta_pcap.proofs.Steps.{next-is_next_entry}
 use Rattle.rasta_pcap.proofs.Headers.{opening-is_header}
 use Rattle.rasta_udp.specs.Frame.{Packet, packet_in}
 use Rattle.rasta_pdu.specs.Params.{Parameters}
@@ -21,17 +21,17 @@ use Rattle.rasta_check.proofs.Crossings.{is_read, grown_crossing}
 abbrev pub AllBytes : List Numbered → Type 0
 AllBytes rs = AllByRecursion (λ (r : Numbered). AreBytes r.1) rs
 
-step_bytes : (left : ℕ) (c : Cursor) (o : Result (Option Numbered) Fault) → next c ≡ o → AreBytes c.rest → AllBytes (reading left (behind c)).records → AllBytes (read_step o (reading left (behind c))).records
+step_bytes : (left : ℕ) (c : Cursor) (o : Result (Option Numbered) Fault) → next c ≡ o → AreBytes c.rest → AllBytes (reading left (after c)).records → AllBytes (read_step o (reading left (after c))).records
 step_bytes left c (Err f) e are more = tt
 step_bytes left c (Ok None) e are more = tt
 step_bytes left c (Ok (Some r)) e are more =
-    let bytes = (next-is_in_front c r e).is in
-    (subst AreBytes (sym (ap (λ (x : Numbered). x.1) bytes)) (AreBytes-take (length_in_front c) (drop 16 c.rest) (AreBytes-drop 16 c.rest are)), more)
+    let bytes = (next-is_next_entry c r e).is in
+    (subst AreBytes (sym (ap (λ (x : Numbered). x.1) bytes)) (AreBytes-take (next_length c) (drop 16 c.rest) (AreBytes-drop 16 c.rest are)), more)
 
 reading_bytes : (left : ℕ) (c : Cursor) → AreBytes c.rest → AllBytes (reading left c).records
 unfolding reading
 reading_bytes zero c are = tt
-reading_bytes (suc left) c are = step_bytes left c (next c) refl are (reading_bytes left (behind c) (AreBytes-drop (length_in_front c) (drop 16 c.rest) (AreBytes-drop 16 c.rest are)))
+reading_bytes (suc left) c are = step_bytes left c (next c) refl are (reading_bytes left (after c) (AreBytes-drop (next_length c) (drop 16 c.rest) (AreBytes-drop 16 c.rest are)))
 
 opened_bytes : (limit : ℕ) (file : List ℕ) (o : Result Cursor Fault) → opening file ≡ o → AreBytes file → AllBytes (reading_opened limit o).records
 opened_bytes limit file (Err f) e are = tt

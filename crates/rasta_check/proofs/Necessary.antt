@@ -61,9 +61,9 @@ kinds_of : (ms : List Made) → map (λ (x : SafetyPdu). x.kind) (pdus_made ms) 
 kinds_of [] = refl
 kinds_of (m ∷ ms) = ap (λ ks. m.pdu.kind ∷ ks) (kinds_of ms)
 
-get_behind : {A : Type 0} (xs ys : List A) (i : ℕ) (y : A) → slice_get ys i ≡ Some y → (j : ℕ) × (slice_get (xs ++ ys) j ≡ Some y)
-get_behind [] ys i y g = (i, g)
-get_behind (x ∷ xs) ys i y g = (let r = get_behind xs ys i y g in (suc r.0, r.1))
+get_after : {A : Type 0} (xs ys : List A) (i : ℕ) (y : A) → slice_get ys i ≡ Some y → (j : ℕ) × (slice_get (xs ++ ys) j ≡ Some y)
+get_after [] ys i y g = (i, g)
+get_after (x ∷ xs) ys i y g = (let r = get_after xs ys i y g in (suc r.0, r.1))
 
 asked-append : (own xs ys : List SafetyPdu) → asked_positions own (xs ++ ys) ≡ asked_positions own xs ++ asked_positions own ys
 asked-append own xs ys =
@@ -93,7 +93,7 @@ module _ (e f : EndState) (t u : ℕ) (h : Held e t f.made) (peer : Held f u e.m
   -- a PDU of f shows no more units than f has handed up
   pub shows_handed : Shown f e → (i : ℕ) (x : SafetyPdu) → slice_get ps i ≡ Some x → units_shown (pdus_made e.made) ps x ≤ length f.handed
   shows_handed s i x g =
-      let r = get_behind first ps i x g in
+      let r = get_after first ps i x g in
       let m = made_at f.made r.0 x (subst (λ (xs : List SafetyPdu). slice_get xs r.0 ≡ Some x) (sym made) r.1) in
       subst (λ (y : SafetyPdu). units_shown (pdus_made e.made) ps y ≤ length f.handed) m.2 (by r.0 m.0 m.1 (is_connection_request m.0.pdu.kind) refl)
     where

@@ -10,10 +10,10 @@ use Rattle.rasta_pcap.proofs.Captures.{IsCapture-reading_of, reading_of-IsCaptur
 use Rattle.rasta_udp.specs.Frame.{Packet, packet_in}
 use Rattle.rasta_check.specs.Crossing.{FirstCopy, found_packet, crossing_list, packet_fault}
 use Rattle.rasta_pcap.specs.declared.fault.Fault.{Fault}
-use Rattle.rasta_pcap.specs.Capture.{Cursor, Numbered, IsCapture, next, behind, opening, reading, reading_of, bytes_of}
+use Rattle.rasta_pcap.specs.Capture.{Cursor, Numbered, IsCapture, next, after, opening, reading, reading_of, bytes_of}
 use Rattle.rasta_pcap.proofs.Steps.{reading-record, reading-end, reading-fault, reading-none_left, reading_of-opened, reading_of-refused}
 use Rattle.rasta_pdu.specs.Params.{Parameters, AreParameters}
-use Rattle.rasta_check.specs.Reading.{Crossing, and_then, at_end, after_frame, after_judged, after_packet, after_record, after_records, after_reading, crossing_of, crossing_with, is_within, nothing_crossed, sent_behind, sent_by, with_packet}
+use Rattle.rasta_check.specs.Reading.{Crossing, and_then, at_end, after_frame, after_judged, after_packet, after_record, after_records, after_reading, crossing_of, crossing_with, is_within, nothing_crossed, sent_after, sent_by, with_packet}
 
 pub after-end : (k : Crossing) (left : ℕ) (c : Cursor) → next c ≡ Ok None → after_reading k (reading (suc left) c) ≡ Ok k
 unfolding after_records
@@ -24,7 +24,7 @@ unfolding after_records
 after-fault k left c f h = ap (after_reading k) (reading-fault left c f h)
 
 pub after-record : (k : Crossing) (left : ℕ) (c : Cursor) (r : Numbered) → next c ≡ Ok (Some r)
-    → after_reading k (reading (suc left) c) ≡ and_then (after_record k r) (λ (n : Crossing). after_reading n (reading left (behind c)))
+    → after_reading k (reading (suc left) c) ≡ and_then (after_record k r) (λ (n : Crossing). after_reading n (reading left (after c)))
 unfolding after_records
 after-record k left c r h = ap (after_reading k) (reading-record left c r h)
 
@@ -40,8 +40,8 @@ unfolding after_records
 after-refused p file f h = ap (after_reading (nothing_crossed p)) (reading_of-refused p.last_record file f h)
 
 -- one step of a loop that has so many to go
-pub left-behind : (end counter : ℕ) → counter < end → end - counter ≡ suc (end - (counter + 1))
-left-behind end counter h = omega arith
+pub left-after : (end counter : ℕ) → counter < end → end - counter ≡ suc (end - (counter + 1))
+left-after end counter h = omega arith
 
 -- ---- the packets of a crossing are those of its records
 
@@ -65,7 +65,7 @@ judged_by : (k : Crossing) (number : ℕ) (a : Packet) (next : Crossing) (o : Op
 judged_by k number a next (Some fault) e = absurd (cc)
 judged_by k number a next None e =
     let same : with_packet k a ≡ next = kept_by (is_within (with_packet k a)) number k (with_packet k a) next e in
-    (ap (λ (q : Crossing). q.packets) (sym same) ∙ packets_with k a a.side (sent_behind k a), ap (λ (q : Crossing). q.params) (sym same) ∙ params_with k a a.side (sent_behind k a))
+    (ap (λ (q : Crossing). q.packets) (sym same) ∙ packets_with k a a.side (sent_after k a), ap (λ (q : Crossing). q.params) (sym same) ∙ params_with k a a.side (sent_after k a))
 
 packet_by : (k : Crossing) (number : ℕ) (a : Packet) (next : Crossing) → after_packet k number a ≡ Ok next → GoesOn k next (a ∷ [])
 unfolding after_packet

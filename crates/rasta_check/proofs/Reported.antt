@@ -132,10 +132,10 @@ get_replicated zero p k l = absurd (omega arith)
 get_replicated (suc m) p zero l = refl
 get_replicated (suc m) p (suc k) l = get_replicated m p k (omega arith)
 
-get_behind : (places : List ℕ) (m p k : ℕ) → length places ≤ k → k < length places + m → slice_get (places ++ replicate m p) k ≡ Some p
-get_behind [] m p k low high = get_replicated m p k (omega arith)
-get_behind (x ∷ places) m p zero low high = absurd (omega arith)
-get_behind (x ∷ places) m p (suc k) low high = get_behind places m p k (omega arith) (omega arith)
+get_after : (places : List ℕ) (m p k : ℕ) → length places ≤ k → k < length places + m → slice_get (places ++ replicate m p) k ≡ Some p
+get_after [] m p k low high = get_replicated m p k (omega arith)
+get_after (x ∷ places) m p zero low high = absurd (omega arith)
+get_after (x ∷ places) m p (suc k) low high = get_after places m p k (omega arith) (omega arith)
 
 length-replicated : (m p : ℕ) → length (replicate m p) ≡ m
 length-replicated zero p = refl
@@ -182,7 +182,7 @@ module _ (shown : SafetyPdu → ℕ) where
           → slice_get (places_by (with_proofs places (shown c.pdu.safety) c.place) copies) k ≡ Some (if b then c.place else first_that k copies)
       by true e rest =
           let l : k < shown c.pdu.safety = grind (arith, nat_tests) in
-          place_stays (with_proofs places (shown c.pdu.safety) c.place) copies k c.place (get_behind places (shown c.pdu.safety - length places) c.place k low (omega (arith, l)))
+          place_stays (with_proofs places (shown c.pdu.safety) c.place) copies k c.place (get_after places (shown c.pdu.safety - length places) c.place k low (omega (arith, l)))
       by false e rest =
           let l : shown c.pdu.safety ≤ k = grind (arith, nat_tests) in
           rest (let z = length-with_proofs places (shown c.pdu.safety) c.place in omega (arith, l, z))

@@ -21,7 +21,7 @@ use Rattle.rasta_check.specs.declared.crossing_store.StoredPacket.{StoredPacket}
 use Rattle.rasta_check.specs.Crossing.{FirstCopy, Spells, copy_with, is_next_number, number_fault, read_fault, packet_fault}
 use Rattle.rasta_check.specs.Datagrams.{Kept, KeptDatagrams, kept_by}
 use Rattle.rasta_check.specs.Lists.{IsOrdered, numbers_of, places_of, position_of_number, position_of_place}
-use Rattle.rasta_check.specs.Reading.{Crossing, IsCrossing, sent_by, behind_pdu, behind_read, sent_behind}
+use Rattle.rasta_check.specs.Reading.{Crossing, IsCrossing, sent_by, after_pdu, after_read, sent_after}
 use Rattle.rasta_check.specs.Stored.{IsStore, Decode, bytes_of, copy_in, pdu_in, packet_by, crossing_by}
 use Rattle.rasta_check.proofs.Crossings.{few_of, list_of}
 use Rattle.rasta_check.proofs.Positions.{far, near, places_below, position_at, position_none}
@@ -259,11 +259,11 @@ module _ (k : Crossing) (a : Packet) (pdu : RedundancyPdu) (reads : decode_of k.
   -- its bytes are compared
   pub repeats : (position : ℕ) (r : Bool) → position_of_number sent pdu.number ≡ Some position → (c : FirstCopy) → slice_get sent position ≡ Some c
       → r ≡ bytes_eq (redundancy_bytes k.params a.side c.pdu) a.payload
-      → (packet_fault k.params sent a ≡ (if r then None else Some copy_differs)) × (sent_behind k a ≡ sent)
+      → (packet_fault k.params sent a ≡ (if r then None else Some copy_differs)) × (sent_after k a ≡ sent)
   repeats position r e c g f =
       let known = copy_of_position sent pdu.number position e ∙ g in (
         ap (read_fault k.params a.side sent a.payload) reads ∙ (ap (number_fault k.params a.side sent a.payload pdu) known ∙ ap (λ (b : Bool). if b then None else Some copy_differs) (sym f)),
-        ap (behind_read sent (length k.packets)) reads ∙ ap (behind_pdu sent (length k.packets) pdu) known,
+        ap (after_read sent (length k.packets)) reads ∙ ap (after_pdu sent (length k.packets) pdu) known,
       )
 
   same_bytes : (xs ys : List ℕ) (r : Bool) → r ≡ bytes_eq xs ys → r ≡ true → ys ≡ xs
@@ -271,7 +271,7 @@ module _ (k : Crossing) (a : Packet) (pdu : RedundancyPdu) (reads : decode_of k.
 
   there_by : (position : ℕ) (o : Option FirstCopy) (r : Bool) → slice_get sent position ≡ o → position_of_number sent pdu.number ≡ Some position
       → IfSome o (λ (c : FirstCopy). r ≡ bytes_eq (redundancy_bytes k.params a.side c.pdu) a.payload)
-      → (c : FirstCopy) × (slice_get sent position ≡ Some c) × (packet_fault k.params sent a ≡ (if r then None else Some copy_differs)) × (sent_behind k a ≡ sent)
+      → (c : FirstCopy) × (slice_get sent position ≡ Some c) × (packet_fault k.params sent a ≡ (if r then None else Some copy_differs)) × (sent_after k a ≡ sent)
       × (r ≡ true → a.payload ≡ redundancy_bytes k.params a.side c.pdu)
   there_by position None r g e h =
       let l = shown_within sent pdu.number position e in
@@ -283,7 +283,7 @@ module _ (k : Crossing) (a : Packet) (pdu : RedundancyPdu) (reads : decode_of k.
 
   pub repeats_at : (position : ℕ) (r : Bool) → position_of_number sent pdu.number ≡ Some position
       → IfSome (slice_get sent position) (λ (c : FirstCopy). r ≡ bytes_eq (redundancy_bytes k.params a.side c.pdu) a.payload)
-      → (c : FirstCopy) × (slice_get sent position ≡ Some c) × (packet_fault k.params sent a ≡ (if r then None else Some copy_differs)) × (sent_behind k a ≡ sent)
+      → (c : FirstCopy) × (slice_get sent position ≡ Some c) × (packet_fault k.params sent a ≡ (if r then None else Some copy_differs)) × (sent_after k a ≡ sent)
       × (r ≡ true → a.payload ≡ redundancy_bytes k.params a.side c.pdu)
   repeats_at position r e h = there_by position (slice_get sent position) r refl e h
 

@@ -42,7 +42,7 @@ firsts_new p xs s own h l i c g w =
     let q : i ≡ r.0 = number_once p xs s own h l i r.0 c r.1 g r.3 (sym (ap (λ (d : RedundancyPdu). d.number) same ∙ w.same_number)) in
     let e : c ≡ r.1 = (let z : slice_get own i ≡ Some r.1 = subst (λ j. slice_get own j ≡ Some r.1) (sym q) r.3 in cc) in
     let p = ap (λ (x : FirstCopy). x.place) e in
-    let a = w.in_front in
+    let a = w.before in
     let b = r.4 in
     omega arith
 
@@ -53,7 +53,7 @@ others_old p xs s own h k a g e = ⊎_elim
     (λ (w : (j : ℕ) × (b : Packet) × (j < k) × (slice_get xs j ≡ Some b) × (b.side ≡ s) × (b.payload ≡ a.payload)).
     let r = earliest p xs s own h (suc w.0) w.0 (omega arith) w.1 w.3 w.4 in
     let there : Spells p s r.1.pdu w.1.payload = subst (λ (bs : List ℕ). Spells p s r.1.pdu bs) r.6 r.7 in
-    inr (r.1.pdu, subst (λ (bs : List ℕ). Spells p s r.1.pdu bs) w.5 there, record { earlier = w.0; packet = w.1; pdu = r.1.pdu; in_front = w.2; there = w.3; of_side = w.4; spelled = there; same_number = refl }))
+    inr (r.1.pdu, subst (λ (bs : List ℕ). Spells p s r.1.pdu bs) w.5 there, record { earlier = w.0; packet = w.1; pdu = r.1.pdu; before = w.2; there = w.3; of_side = w.4; spelled = there; same_number = refl }))
     (h.others k a g e)
 
 module _ (p : Parameters) (n : ℕ) (packets : List Packet) (r : Side) (own peer : List FirstCopy) (sent : IsSent p packets r peer) (few : length peer < 4294967296) where

@@ -120,9 +120,9 @@ get_made [] i m g = absurd (cc)
 get_made (x ∷ ms) zero m g = (let e : x ≡ m = cc in ap (λ (z : Made). Some z.pdu) e)
 get_made (x ∷ ms) (suc i) m g = get_made ms i m g
 
-get_behind : (xs ys : List SafetyPdu) (i : ℕ) → slice_get (xs ++ ys) (length xs + i) ≡ slice_get ys i
-get_behind [] ys i = (let e : 0 + i ≡ i = omega arith in ap (slice_get ys) e)
-get_behind (x ∷ xs) ys i = (let e : suc (length xs) + i ≡ suc (length xs + i) = omega arith in ap (λ n. slice_get (x ∷ (xs ++ ys)) n) e ∙ get_behind xs ys i)
+get_after : (xs ys : List SafetyPdu) (i : ℕ) → slice_get (xs ++ ys) (length xs + i) ≡ slice_get ys i
+get_after [] ys i = (let e : 0 + i ≡ i = omega arith in ap (slice_get ys) e)
+get_after (x ∷ xs) ys i = (let e : suc (length xs) + i ≡ suc (length xs + i) = omega arith in ap (λ n. slice_get (x ∷ (xs ++ ys)) n) e ∙ get_after xs ys i)
 
 get_copy : (cs : List FirstCopy) (i : ℕ) (x : SafetyPdu) → slice_get (pdus_of cs) i ≡ Some x → (c : FirstCopy) × (slice_get cs i ≡ Some c) × (c.pdu.safety ≡ x)
 get_copy [] i x g = absurd (cc)
@@ -176,7 +176,7 @@ copy_at p s xs own e f i m h g =
     let a = get_made e.made (base p + i) m g in
     let l : length (pdus_made (start_of p s).made) ≡ base p = length_made (start_of p s).made ∙ start_made p.quiet s in
     let b : slice_get (pdus_made (start_of p s).made ++ pdus_of own) (length (pdus_made (start_of p s).made) + i) ≡ Some m.pdu = subst (λ n. slice_get (pdus_made (start_of p s).made ++ pdus_of own) (n + i) ≡ Some m.pdu) (sym l) (subst (λ (ps : List SafetyPdu). slice_get ps (base p + i) ≡ Some m.pdu) h.same a) in
-    get_copy own i m.pdu (sym (get_behind (pdus_made (start_of p s).made) (pdus_of own) i) ∙ b)
+    get_copy own i m.pdu (sym (get_after (pdus_made (start_of p s).made) (pdus_of own) i) ∙ b)
 
 -- a packet of the other side leaves what an end sends
 sends_other : (p : Parameters) (s : Side) (xs : List Packet) (k : Packet) (own : List FirstCopy) (e : EndState) (f : ℕ) → Sends p s xs own e f → (k.side ≡ s → ⊥) → Sends p s (xs ++ k ∷ []) own e f

@@ -5,17 +5,17 @@ use Rattle.std.specs.Io.KnownBytes.{Consumes}
 use Rattle.std.proofs.KnownBytes.{Consumes-nil, Consumes-trans}
 use Rattle.rasta_pcap.specs.declared.fault.Fault.{Fault}
 use Rattle.rasta_pcap.specs.declared.stream.RecordReader.{RecordReader}
-use Rattle.rasta_pcap.specs.Capture.{Cursor, behind, cursor_at, opening, reading}
+use Rattle.rasta_pcap.specs.Capture.{Cursor, after, cursor_at, opening, reading}
 use Rattle.rasta_pcap.specs.Stream.{FailsWithin, LacksMemory, MeetsEnd, Opens, ReadsRecord, ReadsSo, RefusesHeader, RefusesRecord, count_in, order_in}
 use Rattle.rasta_pcap.proofs.Steps.{next-nil}
-use Rattle.rasta_pcap.proofs.Streams.{ReadsSo-behind}
+use Rattle.rasta_pcap.proofs.Streams.{ReadsSo-after}
 use Rattle.rasta_pdu.specs.Params.{Parameters, AreParameters}
 use Rattle.rasta_check.specs.Reading.{Crossing, after_reading, after_record, and_then, crossing_of, nothing_crossed}
 use Rattle.rasta_check.specs.Storing.{AddsRecord, IsFailure, IsRefusedSo, IsStored, crossing_left}
 use Rattle.rasta_check.specs.Theorem.{OfConnection}
 use Rattle.rasta_check.proofs.FaultNumbers.{NamesSide, file_names_side}
 use Rattle.rasta_check.proofs.Faultless.{faultless_is_read, opening_faulty, read_is_faultless}
-use Rattle.rasta_check.proofs.Readings.{after-end, after-fault, after-none_left, after-opened, after-record, after-refused, left-behind}
+use Rattle.rasta_check.proofs.Readings.{after-end, after-fault, after-none_left, after-opened, after-record, after-refused, left-after}
 use Rattle.rasta_check.proofs.Verdicts.{is_definite, opening_definite}
 
 -- bytes were read: of every input that begins so, what crosses is what crosses by the rest
@@ -43,14 +43,14 @@ Underway-opened p k r last old new h none nothing all = record {
 pub Underway-left : (whole : List ℕ → Result Crossing Fault) (k : Crossing) (r : RecordReader) (end counter : ℕ) (old new : Option (List ℕ)) → counter < end
     → IsUnderway whole (crossing_left k r (end - counter)) old new → IsUnderway whole (crossing_left k r (suc (end - (counter + 1)))) old new
 Underway-left whole k r end counter old new below h =
-    subst (λ n. IsUnderway whole (crossing_left k r n) old new) (left-behind end counter below) h
+    subst (λ n. IsUnderway whole (crossing_left k r n) old new) (left-after end counter below) h
 
 added_left : (k next : Crossing) (r n : RecordReader) (left : ℕ) (old new : Option (List ℕ)) (a : AddsRecord k next r n old new) (more : List ℕ)
     → crossing_left k r (suc left) (a.read.bytes ++ more) ≡ crossing_left next n left more
 added_left k next r n left old new a more =
     let c = cursor_at (order_in r) (a.read.bytes ++ more) (count_in r) in
     after-record k left c (count_in n, a.bytes) (a.read.each more).0
-    ∙ ap (λ q. and_then q (λ (m : Crossing). after_reading m (reading left (behind c)))) a.added
+    ∙ ap (λ q. and_then q (λ (m : Crossing). after_reading m (reading left (after c)))) a.added
     ∙ ap (λ (d : Cursor). after_reading next (reading left d)) (a.read.each more).1
     ∙ ap (λ o. after_reading next (reading left (cursor_at o more (count_in n)))) (sym a.order)
 
@@ -67,7 +67,7 @@ Underway-record whole k next r n left old mid new h a = record {
 pub Underway-ends : (whole rest : List ℕ → Result Crossing Fault) (answer : Result Crossing Fault) (old mid new : Option (List ℕ))
     → IsUnderway whole rest old mid → ReadsSo (λ bytes. rest bytes ≡ answer) mid new → ReadsSo (λ bytes. whole bytes ≡ answer) old new
 Underway-ends whole rest answer old mid new h e =
-    ReadsSo-behind (λ bytes. rest bytes ≡ answer) (λ bytes. whole bytes ≡ answer) h.bytes old mid new h.consumed (λ more is. h.each more ∙ is) e
+    ReadsSo-after (λ bytes. rest bytes ≡ answer) (λ bytes. whole bytes ≡ answer) h.bytes old mid new h.consumed (λ more is. h.each more ∙ is) e
 
 pub Underway-begun : (whole rest : List ℕ → Result Crossing Fault) (old mid new : Option (List ℕ))
     → IsUnderway whole rest old mid → (bs : List ℕ) × Consumes mid new bs → (bs : List ℕ) × Consumes old new bs
@@ -119,10 +119,10 @@ next_faulty k r number bytes f old new h e = record {
   each = λ more follows left.
       let c = cursor_at (order_in r) (h.bytes ++ more) (count_in r) in
       after-record k left c (number, bytes) (h.each more).0
-      ∙ ap (λ q. and_then q (λ (m : Crossing). after_reading m (reading left (behind c)))) e;
+      ∙ ap (λ q. and_then q (λ (m : Crossing). after_reading m (reading left (after c)))) e;
 }
 
--- with so many records left behind it
+-- with so many records left after it
 pub every_left : (k : Crossing) (r : RecordReader) (left : ℕ) (f : Fault) (old new : Option (List ℕ)) → FaultsNext k r f old new
     → ReadsSo (λ rest. crossing_left k r (suc left) rest ≡ Err f) old new
 every_left k r left f old new h = record {
@@ -173,7 +173,7 @@ module _ (p : Parameters) (h : OfConnection p) (rest : List ℕ → Result Cross
     (u : IsUnderway (crossing_of p) rest old mid) where
   pub stored_answer : (r : Result Crossing Fault) → IfOk r (λ k. ReadsSo (λ bytes. rest bytes ≡ Ok k) mid new)
       → IfOk r (λ k. ReadsSo (IsStored p k) old new)
-  stored_answer (Ok k) e = ReadsSo-behind (λ bytes. rest bytes ≡ Ok k) (IsStored p k) u.bytes old mid new u.consumed
+  stored_answer (Ok k) e = ReadsSo-after (λ bytes. rest bytes ≡ Ok k) (IsStored p k) u.bytes old mid new u.consumed
       (λ more is. file_stored p (u.bytes ++ more) k h (u.each more ∙ is)) e
   stored_answer (Err f) e = tt
 
@@ -183,7 +183,7 @@ module _ (p : Parameters) (h : OfConnection p) (rest : List ℕ → Result Cross
   refused_answer first_count old_count new_count steady (Ok k) e = tt
   refused_answer first_count old_count new_count steady (Err f) (inl failed) = inl (subst (λ n. IsFailure f n new_count) steady failed)
   refused_answer first_count old_count new_count steady (Err f) (inr e) =
-      inr (ReadsSo-behind (λ bytes. rest bytes ≡ Err f) (IsRefusedSo p f) u.bytes old mid new u.consumed
+      inr (ReadsSo-after (λ bytes. rest bytes ≡ Err f) (IsRefusedSo p f) u.bytes old mid new u.consumed
       (λ more is. file_refused p (u.bytes ++ more) f h (u.each more ∙ is)) e)
 
 pub header_answer : (p : Parameters) (most : ℕ) (f : Fault) (old_count new_count : ℕ) (old new : Option (List ℕ)) → AreParameters p

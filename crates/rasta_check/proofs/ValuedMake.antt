@@ -18,7 +18,7 @@ use Rattle.rasta_end.specs.declared.make_row.MakeRow.{MakeRow}
 use Rattle.rasta_end.specs.declared.make_row.MakeRow.TheVariants.{Resends, Offers}
 use Rattle.rasta_end.specs.declared.owed.Owed.{Owed}
 use Rattle.rasta_end.specs.State.{Made, EndState, is_connected, is_active, carries_unit, content_of}
-use Rattle.rasta_end.specs.Units.{units_behind, units_at, last_of}
+use Rattle.rasta_end.specs.Units.{units_after, units_at, last_of}
 use Rattle.rasta_end.specs.MakeRule.{has_ended, contents, is_data, is_content, differs, unit_of, phase_after, owed_after, offered_after, after_make, after_make_by}
 use Rattle.rasta_end.specs.TakeRule.{is_retransmission_response}
 use Rattle.rasta_check.proofs.Lists.{get_push_cases, get_front, get_push}
@@ -118,7 +118,7 @@ closed_client s ph why k os row (fresh r) c = absurd (let z = ap is_connected c 
 closed_client s ph why k os row (bye r) c = absurd (let z = ap is_active c in cc)
 closed_client s ph why k os row (expired r) c = absurd (let z = ap is_active c in cc)
 
-next_by : (asks vs : List ℕ) (a : ℕ) (k : Kind) → (is_plain k ≡ false → 0 < length vs) → Next (units_at vs (slice_get asks a)) (last_of vs) k (units_behind asks vs a k)
+next_by : (asks vs : List ℕ) (a : ℕ) (k : Kind) → (is_plain k ≡ false → 0 < length vs) → Next (units_at vs (slice_get asks a)) (last_of vs) k (units_after asks vs a k)
 next_by asks vs a Data l = after_unit asks vs a Data (l refl) refl
 next_by asks vs a RetransmittedData l = after_unit asks vs a RetransmittedData (l refl) refl
 next_by asks vs a RetransmissionResponse l = after_answer asks vs a (l refl)
@@ -174,7 +174,7 @@ module _ (p : Parameters) (e : EndState) (x : SafetyPdu) (clock : ℕ) (why : Wh
   new = new_made b.row e x
 
   abbrev value : ℕ
-  value = units_behind e.asks (values e) (number is_retransmission_response e.made) x.kind
+  value = units_after e.asks (values e) (number is_retransmission_response e.made) x.kind
 
   pushed : values after ≡ values e ++ value ∷ []
   pushed = values_push e.asks e.made new

@@ -6,7 +6,7 @@ use Rattle.rasta_pdu.specs.declared.kind.Kind.{Kind}
 use Rattle.rasta_pdu.specs.declared.kind.Kind.TheVariants.{Data, RetransmittedData, RetransmissionResponse}
 use Rattle.rasta_end.specs.State.{Made, EndState, kinds, carries_unit}
 use Rattle.rasta_end.specs.TakeRule.{is_retransmission_response}
-use Rattle.rasta_end.specs.Units.{all_units_conveyed, conveyed, units_behind, units_at, last_of, responses_after, responses_in}
+use Rattle.rasta_end.specs.Units.{all_units_conveyed, conveyed, units_after, units_at, last_of, responses_after, responses_in}
 use Rattle.rasta_end.proofs.Conveying.{all_units-push, conveyed-responses, length-all_units, length-kinds, more_asks}
 use Rattle.rasta_check.proofs.Counting.{number, tally}
 
@@ -67,11 +67,11 @@ kinds_push [] m = refl
 kinds_push (x ∷ ms) m = ap (λ ks. x.pdu.kind ∷ ks) (kinds_push ms m)
 
 pub values_push : (asks : List ℕ) (ms : List Made) (m : Made)
-    → all_units_conveyed asks (kinds (ms ++ m ∷ [])) ≡ all_units_conveyed asks (kinds ms) ++ units_behind asks (all_units_conveyed asks (kinds ms)) (number is_retransmission_response ms) m.pdu.kind ∷ []
+    → all_units_conveyed asks (kinds (ms ++ m ∷ [])) ≡ all_units_conveyed asks (kinds ms) ++ units_after asks (all_units_conveyed asks (kinds ms)) (number is_retransmission_response ms) m.pdu.kind ∷ []
 values_push asks ms m =
     let n : (conveyed asks (kinds ms)).responses ≡ number is_retransmission_response ms = conveyed-responses asks (kinds ms) ∙ answers_number ms in
     ap (all_units_conveyed asks) (kinds_push ms m)
-    ∙ (all_units-push asks (kinds ms) m.pdu.kind ∙ ap (λ a. all_units_conveyed asks (kinds ms) ++ units_behind asks (all_units_conveyed asks (kinds ms)) a m.pdu.kind ∷ []) n)
+    ∙ (all_units-push asks (kinds ms) m.pdu.kind ∙ ap (λ a. all_units_conveyed asks (kinds ms) ++ units_after asks (all_units_conveyed asks (kinds ms)) a m.pdu.kind ∷ []) n)
 
 pub length-values : (asks : List ℕ) (ms : List Made) → length (all_units_conveyed asks (kinds ms)) ≡ length ms
 length-values asks ms = length-all_units asks (kinds ms) ∙ length-kinds ms
@@ -81,23 +81,23 @@ values_asks asks c ms h = more_asks asks (c ∷ []) (kinds ms) (omega (arith, an
 
 -- What the next position conveys, by its type.
 
-pub first_zero : (asks vs : List ℕ) (a : ℕ) (k : Kind) → length vs ≡ 0 → units_behind asks vs a k ≡ 0
+pub first_zero : (asks vs : List ℕ) (a : ℕ) (k : Kind) → length vs ≡ 0 → units_after asks vs a k ≡ 0
 first_zero asks [] a k e = refl
 first_zero asks (v ∷ vs) a k e = absurd (omega arith)
 
-pub after_plain : (asks vs : List ℕ) (n : ℕ) (k : Kind) → is_plain k ≡ true → units_behind asks vs n k ≡ last_of vs
+pub after_plain : (asks vs : List ℕ) (n : ℕ) (k : Kind) → is_plain k ≡ true → units_after asks vs n k ≡ last_of vs
 after_plain asks [] n k h = refl
 after_plain asks (v ∷ vs) n Data h = absurd (cc)
 after_plain asks (v ∷ vs) n RetransmittedData h = absurd (cc)
 after_plain asks (v ∷ vs) n RetransmissionResponse h = absurd (cc)
 after_plain asks (v ∷ vs) n _ h = refl
 
-pub after_unit : (asks vs : List ℕ) (n : ℕ) (k : Kind) → 0 < length vs → carries_unit k ≡ true → units_behind asks vs n k ≡ suc (last_of vs)
+pub after_unit : (asks vs : List ℕ) (n : ℕ) (k : Kind) → 0 < length vs → carries_unit k ≡ true → units_after asks vs n k ≡ suc (last_of vs)
 after_unit asks [] n k l h = absurd (omega arith)
 after_unit asks (v ∷ vs) n Data l h = refl
 after_unit asks (v ∷ vs) n RetransmittedData l h = refl
 after_unit asks (v ∷ vs) n _ l h = absurd (cc)
 
-pub after_answer : (asks vs : List ℕ) (n : ℕ) → 0 < length vs → units_behind asks vs n RetransmissionResponse ≡ units_at vs (slice_get asks n)
+pub after_answer : (asks vs : List ℕ) (n : ℕ) → 0 < length vs → units_after asks vs n RetransmissionResponse ≡ units_at vs (slice_get asks n)
 after_answer asks [] n l = absurd (omega arith)
 after_answer asks (v ∷ vs) n l = refl

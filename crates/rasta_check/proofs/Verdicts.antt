@@ -8,7 +8,7 @@ use Prim.{yes, no}
 use Rattle.rasta_pcap.specs.declared.fault.Fault.{Fault}
 use Rattle.rasta_pcap.specs.declared.fault.Side.TheVariants.{Client, Server}
 use Rattle.rasta_pcap.specs.Fault.{no_memory, fault_at, fault_of_end, too_many}
-use Rattle.rasta_pcap.specs.Capture.{Cursor, Numbered, IsCapture, next, behind, opening, read_step, reading, reading_of, reading_opened, bytes_of}
+use Rattle.rasta_pcap.specs.Capture.{Cursor, Numbered, IsCapture, next, after, opening, read_step, reading, reading_of, reading_opened, bytes_of}
 use Rattle.rasta_pcap.proofs.Headers.{opening-fault_place}
 use Rattle.rasta_pcap.proofs.Captures.{IsCapture-reading_of, IsRefused-reading_of, IsRefused-place, numbers-reading_of, opening-by_reading_of}
 use Rattle.rasta_udp.specs.Frame.{Packet, packet_in}
@@ -28,8 +28,8 @@ use Rattle.rasta_check.proofs.Sending.{sent_none}
 
 -- ---- the first records of a file
 
-front_step : (n m : ℕ) (c : Cursor) (o : Result (Option Numbered) Fault) → (reading n (behind c)).records ≡ take n (reading m (behind c)).records
-    → (read_step o (reading n (behind c))).records ≡ take (suc n) (read_step o (reading m (behind c))).records
+front_step : (n m : ℕ) (c : Cursor) (o : Result (Option Numbered) Fault) → (reading n (after c)).records ≡ take n (reading m (after c)).records
+    → (read_step o (reading n (after c))).records ≡ take (suc n) (read_step o (reading m (after c))).records
 front_step n m c (Err f) more = refl
 front_step n m c (Ok None) more = refl
 front_step n m c (Ok (Some r)) more = ap (λ (rs : List Numbered). r ∷ rs) more
@@ -38,7 +38,7 @@ reading_front : (n m : ℕ) (c : Cursor) → n ≤ m → (reading n c).records �
 unfolding reading
 reading_front zero m c l = refl
 reading_front (suc n) zero c l = absurd (omega arith)
-reading_front (suc n) (suc m) c l = front_step n m c (next c) (reading_front n m (behind c) (omega arith))
+reading_front (suc n) (suc m) c l = front_step n m c (next c) (reading_front n m (after c) (omega arith))
 
 opened_front : (n m : ℕ) (o : Result Cursor Fault) → n ≤ m → (reading_opened n o).records ≡ take n (reading_opened m o).records
 opened_front zero m (Err f) l = refl
@@ -49,7 +49,7 @@ file_front : (n m : ℕ) (file : List ℕ) → n ≤ m → (reading_of n file).r
 unfolding reading_of
 file_front n m file l = opened_front n m (opening file) l
 
-few_step : (n : ℕ) (c : Cursor) (o : Result (Option Numbered) Fault) → length (reading n (behind c)).records ≤ n → length (read_step o (reading n (behind c))).records ≤ suc n
+few_step : (n : ℕ) (c : Cursor) (o : Result (Option Numbered) Fault) → length (reading n (after c)).records ≤ n → length (read_step o (reading n (after c))).records ≤ suc n
 few_step n c (Err f) l = omega arith
 few_step n c (Ok None) l = omega arith
 few_step n c (Ok (Some r)) l = omega arith
@@ -57,7 +57,7 @@ few_step n c (Ok (Some r)) l = omega arith
 reading_few : (n : ℕ) (c : Cursor) → length (reading n c).records ≤ n
 unfolding reading
 reading_few zero c = omega arith
-reading_few (suc n) c = few_step n c (next c) (reading_few n (behind c))
+reading_few (suc n) c = few_step n c (next c) (reading_few n (after c))
 
 opened_few : (n : ℕ) (o : Result Cursor Fault) → length (reading_opened n o).records ≤ n
 opened_few n (Err f) = omega arith
@@ -68,8 +68,8 @@ unfolding reading_of
 file_few n file = opened_few n (opening file)
 
 -- where as many records are there as are asked for, there is no fault
-full_step : (n : ℕ) (c : Cursor) (o : Result (Option Numbered) Fault) → (length (reading n (behind c)).records ≡ n → (reading n (behind c)).fault ≡ None)
-    → length (read_step o (reading n (behind c))).records ≡ suc n → (read_step o (reading n (behind c))).fault ≡ None
+full_step : (n : ℕ) (c : Cursor) (o : Result (Option Numbered) Fault) → (length (reading n (after c)).records ≡ n → (reading n (after c)).fault ≡ None)
+    → length (read_step o (reading n (after c))).records ≡ suc n → (read_step o (reading n (after c))).fault ≡ None
 full_step n c (Err f) more e = absurd (omega arith)
 full_step n c (Ok None) more e = refl
 full_step n c (Ok (Some r)) more e = more (omega arith)
@@ -77,7 +77,7 @@ full_step n c (Ok (Some r)) more e = more (omega arith)
 reading_full : (n : ℕ) (c : Cursor) → length (reading n c).records ≡ n → (reading n c).fault ≡ None
 unfolding reading
 reading_full zero c e = refl
-reading_full (suc n) c e = full_step n c (next c) (reading_full n (behind c)) e
+reading_full (suc n) c e = full_step n c (next c) (reading_full n (after c)) e
 
 opened_full : (n : ℕ) (o : Result Cursor Fault) → 1 ≤ n → length (reading_opened n o).records ≡ n → (reading_opened n o).fault ≡ None
 opened_full n (Err f) l e = absurd (omega arith)
@@ -155,9 +155,9 @@ refused_here k n r rs f head w =
     ap (λ (m : ℕ). all_packets_in k.params (take m (r ∷ rs))) one ∙ append-nil (packets_in k.params r) in
     (omega arith, omega arith, subst (λ (more : List Packet). Impossible k.params (k.packets ++ more)) (sym same) w.1)
 
-refused_behind : (k next : Crossing) (n : ℕ) (r : Numbered) (rs : List Numbered) (f : Fault) → (next.packets ≡ k.packets ++ packets_in k.params r) × (next.params ≡ k.params)
+refused_after : (k next : Crossing) (n : ℕ) (r : Numbered) (rs : List Numbered) (f : Fault) → (next.packets ≡ k.packets ++ packets_in k.params r) × (next.params ≡ k.params)
     → RefusedIn next (n + 1) rs f → RefusedIn k n (r ∷ rs) f
-refused_behind k next n r rs f grown w =
+refused_after k next n r rs f grown w =
     let low = w.0 in
     let high = w.1 in
     let more : f.place + 1 - n ≡ suc (f.place + 1 - (n + 1)) = omega arith in
@@ -178,7 +178,7 @@ records_refused k (r ∷ rs) n end f h are e none is fails =
     let tail : map (λ (r : Numbered). r.0) rs ≡ range_with_len (n + 1) (length rs) = cc in ⊎_elim
     (λ (w : after_record k r ≡ Err f). refused_here k n r rs f head (record_refused k r f h is w))
     (λ (w : (next : Crossing) × (after_record k r ≡ Ok next) × (after_records next rs end ≡ Err f)).
-    refused_behind k w.0 n r rs f (record_by k r w.0 w.1) (records_refused w.0 rs (n + 1) end f (record_kept k w.0 r h are.0 w.1) are.1 tail none is w.2))
+    refused_after k w.0 n r rs f (record_by k r w.0 w.1) (records_refused w.0 rs (n + 1) end f (record_kept k w.0 r h are.0 w.1) are.1 tail none is w.2))
     (then_refused (after_record k r) (λ (next : Crossing). after_records next rs end) f fails)
 
 -- ---- a file

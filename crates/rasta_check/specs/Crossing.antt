@@ -41,7 +41,7 @@ pub record IsKnown (p : Parameters) (packets : List Packet) (side : Side) (place
   pub earlier : ℕ
   pub packet : Packet
   pub pdu : RedundancyPdu
-  pub in_front : earlier < place
+  pub before : earlier < place
   pub there : slice_get packets earlier ≡ Some packet
   pub of_side : packet.side ≡ side
   pub spelled : Spells p side pdu packet.payload
@@ -66,7 +66,7 @@ pub record IsSentList (p : Parameters) (packets : List Packet) (side : Side) (se
 pub record IsRepeat (packets : List Packet) (side : Side) (place : ℕ) (bytes : List ℕ) : Type 0 where
   pub earlier : ℕ
   pub packet : Packet
-  pub in_front : earlier < place
+  pub before : earlier < place
   pub there : slice_get packets earlier ≡ Some packet
   pub of_side : packet.side ≡ side
   pub same : packet.payload ≡ bytes

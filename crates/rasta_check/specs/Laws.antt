@@ -36,7 +36,7 @@ pub record AnswersInOrder (e peer : EndState) : Type 0 where
   pub beginning : (rest : List ℕ) × (asked_positions (pdus_made e.made) (pdus_made peer.made) ≡ e.asks ++ rest)
   pub named : (position : ℕ) (request : Made) → slice_get peer.made position ≡ Some request → is_retransmission_request request.pdu.kind ≡ true
       → (c : ℕ) × (position_with (pdus_made e.made) request.pdu.cs ≡ Some c)
-  pub answers : (before behind : List Made) (m : Made) → e.made ≡ before ++ m ∷ behind → is_retransmission_response m.pdu.kind ≡ true
+  pub answers : (before after : List Made) (m : Made) → e.made ≡ before ++ m ∷ after → is_retransmission_response m.pdu.kind ≡ true
       → (ask : ℕ) × (request : Made)
       × (slice_get e.asks (responses_in (kinds before)) ≡ Some ask) × (ask < length before)
       × (slice_get (requests_of peer.made) (responses_in (kinds before)) ≡ Some request)

@@ -45,17 +45,17 @@ AreSentLists p packets client server =
 -- ---- the next packet
 
 -- a sent list goes on with a PDU whose number is new
-abbrev pub behind_pdu : List FirstCopy → ℕ → RedundancyPdu → Option FirstCopy → List FirstCopy
-behind_pdu sent place pdu None = sent ++ record { place = place; pdu = pdu } ∷ []
-behind_pdu sent place pdu (Some copy) = sent
+abbrev pub after_pdu : List FirstCopy → ℕ → RedundancyPdu → Option FirstCopy → List FirstCopy
+after_pdu sent place pdu None = sent ++ record { place = place; pdu = pdu } ∷ []
+after_pdu sent place pdu (Some copy) = sent
 
-abbrev pub behind_read : List FirstCopy → ℕ → Result RedundancyPdu Fault → List FirstCopy
-behind_read sent place (Ok pdu) = behind_pdu sent place pdu (copy_with sent pdu.number)
-behind_read sent place (Err fault) = sent
+abbrev pub after_read : List FirstCopy → ℕ → Result RedundancyPdu Fault → List FirstCopy
+after_read sent place (Ok pdu) = after_pdu sent place pdu (copy_with sent pdu.number)
+after_read sent place (Err fault) = sent
 
 -- what the sender of a packet has sent after it
-abbrev pub sent_behind : Crossing → Packet → List FirstCopy
-sent_behind k packet = behind_read (sent_by k packet.side) (length k.packets) (decode_of k.params packet.side packet.payload)
+abbrev pub sent_after : Crossing → Packet → List FirstCopy
+sent_after k packet = after_read (sent_by k packet.side) (length k.packets) (decode_of k.params packet.side packet.payload)
 
 -- one more packet, whose sender has sent this list after it
 abbrev pub crossing_with : Crossing → Packet → Side → List FirstCopy → Crossing
@@ -63,7 +63,7 @@ crossing_with k packet Client sent = record { params = k.params; packets = k.pac
 crossing_with k packet Server sent = record { params = k.params; packets = k.packets ++ packet ∷ []; client = k.client; server = sent }
 
 abbrev pub with_packet : Crossing → Packet → Crossing
-with_packet k packet = crossing_with k packet packet.side (sent_behind k packet)
+with_packet k packet = crossing_with k packet packet.side (sent_after k packet)
 
 abbrev pub is_within : Crossing → Bool
 is_within k = nat_le (length k.packets) most_packets && (nat_le (length k.client) most_sent && nat_le (length k.server) most_sent)

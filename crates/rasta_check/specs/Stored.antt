@@ -11,7 +11,7 @@ use Rattle.rasta_check.specs.declared.crossing_store.StoredPacket.{StoredPacket}
 use Rattle.rasta_check.specs.Crossing.{FirstCopy, Spells}
 use Rattle.rasta_check.specs.Datagrams.{Kept, KeptDatagrams, kept_by}
 use Rattle.rasta_check.specs.Lists.{position_of_place}
-use Rattle.rasta_check.specs.Reading.{Crossing, IsCrossing, sent_by, sent_behind}
+use Rattle.rasta_check.specs.Reading.{Crossing, IsCrossing, sent_by, sent_after}
 
 -- ---- the bytes of first copies
 
@@ -81,7 +81,7 @@ pub record IsStore (p : Parameters) (d : KeptDatagrams) (packets : List StoredPa
 abbrev pub IsJudged : Crossing → Packet → Option ℕ → Type 0
 IsJudged k packet None = (pdu : RedundancyPdu) × (decode_of k.params packet.side packet.payload ≡ Ok pdu)
     × Spells k.params packet.side pdu packet.payload
-    × (sent_behind k packet ≡ sent_by k packet.side ++ record { place = length k.packets; pdu = pdu } ∷ [])
+    × (sent_after k packet ≡ sent_by k packet.side ++ record { place = length k.packets; pdu = pdu } ∷ [])
 IsJudged k packet (Some position) = (copy : FirstCopy) × (slice_get (sent_by k packet.side) position ≡ Some copy)
     × (packet.payload ≡ redundancy_bytes k.params packet.side copy.pdu)
-    × (sent_behind k packet ≡ sent_by k packet.side)
+    × (sent_after k packet ≡ sent_by k packet.side)

@@ -5,7 +5,7 @@ ghost use Rattle.rasta_udp.specs.Frame.{Packet, packet_in, packet_of};
 ghost use Rattle.rasta_check.specs.Crossing.{FirstCopy, Spells, packet_fault};
 ghost use Rattle.rasta_pdu.specs.Pdu.{RedundancyPdu, decode_of};
 ghost use Rattle.rasta_check.specs.Lists.{copy_of};
-ghost use Rattle.rasta_check.specs.Reading.{Crossing, IsCrossing, crossing_with, sent_by, sent_behind, nothing_crossed, after_packet, after_frame, after_record};
+ghost use Rattle.rasta_check.specs.Reading.{Crossing, IsCrossing, crossing_with, sent_by, sent_after, nothing_crossed, after_packet, after_frame, after_record};
 ghost use Rattle.std.specs.Prelude.{◌<◌, ◌≤◌, IfSome, bytes_eq, nat_lt, not, ◌&&◌, ◌||◌};
 ghost use Rattle.rasta_check.specs.Crossing.{is_next_number};
 ghost use Rattle.rasta_check.specs.World.{IsRecorded, most_sent};
@@ -166,7 +166,7 @@ impl<'a> Sent<'a> {
             × Spells self.now.params found.entry.side d found.entry.payload.now) }
         ensures value { MatchResult result
             (λ new. (packet_fault self.now.params (sent_by self.now found.entry.side) (packet_of found.entry) ≡ None)
-            × (sent_behind self.now (packet_of found.entry) ≡ with_new (sent_by self.now found.entry.side) (length self.now.packets) new))
+            × (sent_after self.now (packet_of found.entry) ≡ with_new (sent_by self.now found.entry.side) (length self.now.packets) new))
             (λ f. packet_fault self.now.params (sent_by self.now found.entry.side) (packet_of found.entry) ≡ Some f) }
     {
         let pdu = match decode(&self.params, found.side, found.payload) {

@@ -6,7 +6,7 @@ use Rattle.std.proofs.lemmas.List.{length_push, length-map}
 use Rattle.rasta_end.specs.State.{Made, kinds}
 use Rattle.rasta_pdu.specs.declared.kind.Kind.{Kind}
 use Rattle.rasta_pdu.specs.declared.kind.Kind.TheVariants.{RetransmissionResponse, Data, RetransmittedData}
-use Rattle.rasta_end.specs.Units.{Conveyed, convey, conveyed, all_units_conveyed, units_behind, responses_after, responses_in, units_at, last_of, units_conveyed}
+use Rattle.rasta_end.specs.Units.{Conveyed, convey, conveyed, all_units_conveyed, units_after, responses_after, responses_in, units_at, last_of, units_conveyed}
 use Rattle.rasta_end.proofs.Lists.{get_front_within}
 
 start : Conveyed
@@ -15,7 +15,7 @@ start = record { units = []; responses = 0 }
 conveyed-push : (asks : List ℕ) (ks : List Kind) (k : Kind) → conveyed asks (ks ++ k ∷ []) ≡ convey asks (conveyed asks ks) k
 conveyed-push asks ks k = fold-append (convey asks) (record { units = []; responses = 0 }) ks (k ∷ [])
 
-pub all_units-push : (asks : List ℕ) (ks : List Kind) (k : Kind) → all_units_conveyed asks (ks ++ k ∷ []) ≡ all_units_conveyed asks ks ++ units_behind asks (all_units_conveyed asks ks) (conveyed asks ks).responses k ∷ []
+pub all_units-push : (asks : List ℕ) (ks : List Kind) (k : Kind) → all_units_conveyed asks (ks ++ k ∷ []) ≡ all_units_conveyed asks ks ++ units_after asks (all_units_conveyed asks ks) (conveyed asks ks).responses k ∷ []
 all_units-push asks ks k = ap (λ (c : Conveyed). c.units) (conveyed-push asks ks k)
 
 responses_step : (n m : ℕ) (k : Kind) → responses_after n k + m ≡ n + responses_after m k
@@ -33,7 +33,7 @@ length_from : (asks : List ℕ) (c : Conveyed) (ks : List Kind) → length (fold
 length_from asks c [] = omega arith
 length_from asks c (k ∷ ks) =
     let h = length_from asks (convey asks c k) ks in
-    let l = length_push c.units (units_behind asks c.units c.responses k) in
+    let l = length_push c.units (units_after asks c.units c.responses k) in
     omega (arith, h, l)
 
 pub length-all_units : (asks : List ℕ) (ks : List Kind) → length (all_units_conveyed asks ks) ≡ length ks
@@ -49,7 +49,7 @@ responses_in-push (j ∷ ks) k = ap (λ n. responses_after n j) (responses_in-pu
     swapped n _ RetransmissionResponse = refl
     swapped n _ _ = refl
 
-same_after : (asks more vs : List ℕ) (n : ℕ) (k : Kind) → responses_after n k ≤ length asks → units_behind (asks ++ more) vs n k ≡ units_behind asks vs n k
+same_after : (asks more vs : List ℕ) (n : ℕ) (k : Kind) → responses_after n k ≤ length asks → units_after (asks ++ more) vs n k ≡ units_after asks vs n k
 same_after asks more [] n k h = refl
 same_after asks more (v ∷ vs) n RetransmissionResponse h = ap (units_at (v ∷ vs)) (get_front_within asks more n h)
 same_after asks more (v ∷ vs) n Data h = refl
@@ -89,16 +89,16 @@ last_few [] m h = omega arith
 last_few (n ∷ []) m h = h 0
 last_few (n ∷ k ∷ ns) m h = last_few (k ∷ ns) m (λ j. h (suc j))
 
-behind_few : (asks units : List ℕ) (responses : ℕ) (k : Kind) → AreFew units → units_behind asks units responses k ≤ length units
-behind_few asks [] responses k h = omega arith
-behind_few asks (n ∷ ns) responses RetransmissionResponse h = by (slice_get asks responses)
+after_few : (asks units : List ℕ) (responses : ℕ) (k : Kind) → AreFew units → units_after asks units responses k ≤ length units
+after_few asks [] responses k h = omega arith
+after_few asks (n ∷ ns) responses RetransmissionResponse h = by (slice_get asks responses)
   where
     by : (o : Option ℕ) → units_at (n ∷ ns) o ≤ length (n ∷ ns)
     by None = omega arith
     by (Some c) = (let l = h (length ns) (omega arith) c in omega arith)
-behind_few asks (n ∷ ns) responses Data h = (let l = last_few (n ∷ ns) (length ns) (h (length ns) (omega arith)) in omega arith)
-behind_few asks (n ∷ ns) responses RetransmittedData h = (let l = last_few (n ∷ ns) (length ns) (h (length ns) (omega arith)) in omega arith)
-behind_few asks (n ∷ ns) responses _ h = (let l = last_few (n ∷ ns) (length ns) (h (length ns) (omega arith)) in omega arith)
+after_few asks (n ∷ ns) responses Data h = (let l = last_few (n ∷ ns) (length ns) (h (length ns) (omega arith)) in omega arith)
+after_few asks (n ∷ ns) responses RetransmittedData h = (let l = last_few (n ∷ ns) (length ns) (h (length ns) (omega arith)) in omega arith)
+after_few asks (n ∷ ns) responses _ h = (let l = last_few (n ∷ ns) (length ns) (h (length ns) (omega arith)) in omega arith)
 
 old_few : (units : List ℕ) (j : ℕ) → AreFew units → slice_index_or units j 0 ≤ length units
 old_few [] j h = omega arith
@@ -108,10 +108,10 @@ few_from : (asks : List ℕ) (c : Conveyed) (ks : List Kind) → AreFew c.units 
 few_from asks c [] h = h
 few_from asks c (k ∷ ks) h = few_from asks (convey asks c k) ks one
   where
-    one : AreFew (c.units ++ units_behind asks c.units c.responses k ∷ [])
+    one : AreFew (c.units ++ units_after asks c.units c.responses k ∷ [])
     one n e i =
-        let l = length_push c.units (units_behind asks c.units c.responses k) in
-        let m = index_push c.units (units_behind asks c.units c.responses k) (length c.units) i (λ j. old_few c.units j h) (behind_few asks c.units c.responses k h) in
+        let l = length_push c.units (units_after asks c.units c.responses k) in
+        let m = index_push c.units (units_after asks c.units c.responses k) (length c.units) i (λ j. old_few c.units j h) (after_few asks c.units c.responses k h) in
         omega (arith, e, l, m)
 
 none_few : AreFew []
@@ -132,30 +132,30 @@ last-at (u ∷ v ∷ vs) (suc n) e = last-at (v ∷ vs) n (omega arith)
 pub last_units : (asks : List ℕ) (ks : List Kind) (n : ℕ) → length ks ≡ suc n → units_conveyed asks ks n ≡ last_of (all_units_conveyed asks ks)
 last_units asks ks n e = last-at (all_units_conveyed asks ks) n (length-all_units asks ks ∙ e)
 
-pub behind-response : (asks : List ℕ) (ks : List Kind) (n : ℕ) (k : Kind) → k ≡ RetransmissionResponse → 0 < length ks
-    → n ≡ units_at (all_units_conveyed asks ks) (slice_get asks (responses_in ks)) → n ≡ units_behind asks (all_units_conveyed asks ks) (conveyed asks ks).responses k
-behind-response asks ks n k e some h =
+pub after-response : (asks : List ℕ) (ks : List Kind) (n : ℕ) (k : Kind) → k ≡ RetransmissionResponse → 0 < length ks
+    → n ≡ units_at (all_units_conveyed asks ks) (slice_get asks (responses_in ks)) → n ≡ units_after asks (all_units_conveyed asks ks) (conveyed asks ks).responses k
+after-response asks ks n k e some h =
     rw (e, conveyed-responses asks ks) (by (all_units_conveyed asks ks) (let l = length-all_units asks ks in omega (arith, l, some)) h)
   where
-    by : (units : List ℕ) → 0 < length units → n ≡ units_at units (slice_get asks (responses_in ks)) → n ≡ units_behind asks units (responses_in ks) RetransmissionResponse
+    by : (units : List ℕ) → 0 < length units → n ≡ units_at units (slice_get asks (responses_in ks)) → n ≡ units_after asks units (responses_in ks) RetransmissionResponse
     by [] l h = absurd (omega arith)
     by (u ∷ us) l h = h
 
-pub behind-data : (asks : List ℕ) (ks : List Kind) (n : ℕ) (k : Kind) → k ≡ Data → 0 < length ks → n ≡ last_of (all_units_conveyed asks ks)
-    → n + 1 ≡ units_behind asks (all_units_conveyed asks ks) (conveyed asks ks).responses k
-behind-data asks ks n k e some h =
+pub after-data : (asks : List ℕ) (ks : List Kind) (n : ℕ) (k : Kind) → k ≡ Data → 0 < length ks → n ≡ last_of (all_units_conveyed asks ks)
+    → n + 1 ≡ units_after asks (all_units_conveyed asks ks) (conveyed asks ks).responses k
+after-data asks ks n k e some h =
     rw e (by (all_units_conveyed asks ks) (let l = length-all_units asks ks in omega (arith, l, some)) h)
   where
-    by : (units : List ℕ) → 0 < length units → n ≡ last_of units → n + 1 ≡ units_behind asks units (conveyed asks ks).responses Data
+    by : (units : List ℕ) → 0 < length units → n ≡ last_of units → n + 1 ≡ units_after asks units (conveyed asks ks).responses Data
     by [] l h = absurd (omega arith)
     by (u ∷ us) l h = omega (arith, h)
 
-pub behind-retransmitted : (asks : List ℕ) (ks : List Kind) (n : ℕ) (k : Kind) → k ≡ RetransmittedData → 0 < length ks → n ≡ last_of (all_units_conveyed asks ks)
-    → n + 1 ≡ units_behind asks (all_units_conveyed asks ks) (conveyed asks ks).responses k
-behind-retransmitted asks ks n k e some h =
+pub after-retransmitted : (asks : List ℕ) (ks : List Kind) (n : ℕ) (k : Kind) → k ≡ RetransmittedData → 0 < length ks → n ≡ last_of (all_units_conveyed asks ks)
+    → n + 1 ≡ units_after asks (all_units_conveyed asks ks) (conveyed asks ks).responses k
+after-retransmitted asks ks n k e some h =
     rw e (by (all_units_conveyed asks ks) (let l = length-all_units asks ks in omega (arith, l, some)) h)
   where
-    by : (units : List ℕ) → 0 < length units → n ≡ last_of units → n + 1 ≡ units_behind asks units (conveyed asks ks).responses RetransmittedData
+    by : (units : List ℕ) → 0 < length units → n ≡ last_of units → n + 1 ≡ units_after asks units (conveyed asks ks).responses RetransmittedData
     by [] l h = absurd (omega arith)
     by (u ∷ us) l h = omega (arith, h)
 

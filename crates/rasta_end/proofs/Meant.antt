@@ -9,7 +9,7 @@ use Rattle.rasta_pdu.specs.declared.kind.Kind.TheVariants.{ConnectionRequest, Co
 use Rattle.rasta_pdu.specs.Params.{Parameters}
 use Rattle.rasta_end.specs.State.{ahead_by}
 use Rattle.rasta_end.specs.TakeRule.{deadline_from}
-use Rattle.rasta_end.specs.Units.{conveyed, all_units_conveyed, units_conveyed, units_behind, units_at, last_of}
+use Rattle.rasta_end.specs.Units.{conveyed, all_units_conveyed, units_conveyed, units_after, units_at, last_of}
 use Rattle.rasta_end.specs.Meanings.{units_of_ask, units_by_type}
 use Rattle.rasta_end.proofs.Lists.{get_front, get_push}
 use Rattle.rasta_end.proofs.Conveying.{all_units-push, length-all_units, conveyed-responses, last-at}
@@ -31,7 +31,7 @@ all_units-front asks [] xs = ([], ap (all_units_conveyed asks) (append_none xs) 
     append_none (x ∷ xs) = ap (λ zs. x ∷ zs) (append_none xs)
 all_units-front asks (y ∷ ys) xs =
     let r = all_units-front asks ys (xs ++ y ∷ []) in
-    let v = units_behind asks (all_units_conveyed asks xs) (conveyed asks xs).responses y in
+    let v = units_after asks (all_units_conveyed asks xs) (conveyed asks xs).responses y in
     (v ∷ r.0, ap (all_units_conveyed asks) (append_one xs y ys) ∙ (r.1 ∙ (ap (λ us. us ++ r.0) (all_units-push asks xs y) ∙ assoc (all_units_conveyed asks xs) (v ∷ []) r.0)))
   where
     assoc : (xs ys zs : List ℕ) → (xs ++ ys) ++ zs ≡ xs ++ (ys ++ zs)
@@ -46,10 +46,10 @@ conveyed-front asks xs ys c l =
     let at = slice_get-get_or (all_units_conveyed asks xs) c 0 w in
     ap (λ vs. slice_index_or vs c 0) r.1 ∙ get_or_from_slice_get (all_units_conveyed asks xs ++ r.0) c _ 0 (get_front (all_units_conveyed asks xs) r.0 c _ at)
 
-conveyed-here : (asks : List ℕ) (bs rest : List Kind) (k : Kind) → units_conveyed asks (bs ++ k ∷ rest) (length bs) ≡ units_behind asks (all_units_conveyed asks bs) (conveyed asks bs).responses k
+conveyed-here : (asks : List ℕ) (bs rest : List Kind) (k : Kind) → units_conveyed asks (bs ++ k ∷ rest) (length bs) ≡ units_after asks (all_units_conveyed asks bs) (conveyed asks bs).responses k
 conveyed-here asks bs rest k =
     let r = all_units-front asks rest (bs ++ k ∷ []) in
-    let v = units_behind asks (all_units_conveyed asks bs) (conveyed asks bs).responses k in
+    let v = units_after asks (all_units_conveyed asks bs) (conveyed asks bs).responses k in
     let all : all_units_conveyed asks (bs ++ k ∷ rest) ≡ (all_units_conveyed asks bs ++ v ∷ []) ++ r.0 = ap (all_units_conveyed asks) (append_one bs k rest) ∙ (r.1 ∙ ap (λ us. us ++ r.0) (all_units-push asks bs k)) in
     let at : slice_get (all_units_conveyed asks bs ++ v ∷ []) (length bs) ≡ Some v = subst (λ n. slice_get (all_units_conveyed asks bs ++ v ∷ []) n ≡ Some v) (length-all_units asks bs) (get_push (all_units_conveyed asks bs) v) in
     ap (λ vs. slice_index_or vs (length bs) 0) all ∙ get_or_from_slice_get ((all_units_conveyed asks bs ++ v ∷ []) ++ r.0) (length bs) v 0 (get_front (all_units_conveyed asks bs ++ v ∷ []) r.0 (length bs) v at)
@@ -76,7 +76,7 @@ asked asks xs ys (Some c) = by (nat_lt c (length xs)) refl
     by true e = sym (conveyed-front asks xs ys c (lt e))
     by false e = (let z = length-all_units asks xs in let l = ge e in get_or_past (all_units_conveyed asks xs) c 0 (omega arith))
 
-by_kind : (asks : List ℕ) (b : Kind) (bs rest : List Kind) (k : Kind) → (v : ℕ) (us : List ℕ) → all_units_conveyed asks (b ∷ bs) ≡ v ∷ us → units_behind asks (v ∷ us) (conveyed asks (b ∷ bs)).responses k ≡ units_by_type asks ((b ∷ bs) ++ k ∷ rest) (b ∷ bs) k
+by_kind : (asks : List ℕ) (b : Kind) (bs rest : List Kind) (k : Kind) → (v : ℕ) (us : List ℕ) → all_units_conveyed asks (b ∷ bs) ≡ v ∷ us → units_after asks (v ∷ us) (conveyed asks (b ∷ bs)).responses k ≡ units_by_type asks ((b ∷ bs) ++ k ∷ rest) (b ∷ bs) k
 by_kind asks b bs rest RetransmissionResponse v us e =
     ap (λ vs. units_at vs (slice_get asks (conveyed asks (b ∷ bs)).responses)) (sym e)
     ∙ (ap (λ n. units_at (all_units_conveyed asks (b ∷ bs)) (slice_get asks n)) (conveyed-responses asks (b ∷ bs)) ∙ asked asks (b ∷ bs) (RetransmissionResponse ∷ rest) _)
@@ -92,7 +92,7 @@ pub conveyed-is : (asks : List ℕ) (bs rest : List Kind) (k : Kind) → units_c
 conveyed-is asks [] rest k = conveyed-here asks [] rest k
 conveyed-is asks (b ∷ bs) rest k =
     let s = some_units asks (all_units_conveyed asks (b ∷ bs)) 0 (length bs) (length-all_units asks (b ∷ bs)) k in
-    conveyed-here asks (b ∷ bs) rest k ∙ (ap (λ vs. units_behind asks vs (conveyed asks (b ∷ bs)).responses k) s.2 ∙ by_kind asks b bs rest k s.0 s.1 s.2)
+    conveyed-here asks (b ∷ bs) rest k ∙ (ap (λ vs. units_after asks vs (conveyed asks (b ∷ bs)).responses k) s.2 ∙ by_kind asks b bs rest k s.0 s.1 s.2)
 
 pub deadline_is : (p : Parameters) (clock cts : ℕ) → (l : ℕ) × (deadline_from p clock cts ≡ l + p.t_max) × (l ≤ clock + 2 ^ 32) × (clock < l) × (l % 2 ^ 32 ≡ cts % 2 ^ 32)
 deadline_is p clock cts = (clock + 2 ^ 32 - ahead_by clock cts, refl, omega arith, omega arith, omega arith)

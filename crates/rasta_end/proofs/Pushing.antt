@@ -12,7 +12,7 @@ use Rattle.rasta_end.specs.declared.own.MadePdu.{MadePdu}
 use Rattle.rasta_end.specs.declared.own.QuietPdu.{QuietPdu}
 use Rattle.rasta_end.specs.State.{Made, kinds, content_of}
 use Rattle.rasta_end.specs.MakeRule.{contents, is_data}
-use Rattle.rasta_end.specs.Units.{all_units_conveyed, conveyed, units_behind, responses_in, responses_after}
+use Rattle.rasta_end.specs.Units.{all_units_conveyed, conveyed, units_after, responses_in, responses_after}
 use Rattle.rasta_end.specs.Kept.{made_of, conveyed_of, quiet_made, quiet_count, quiet_units, OwnPdus}
 use Rattle.rasta_end.proofs.Conveying.{all_units-push, responses_in-push, more_asks}
 
@@ -33,7 +33,7 @@ kinds-push ms m = map-push (λ (n : Made). n.pdu.kind) ms m
 
 units-pushed : (q : Option QuietPdu) (ms : List MadePdu) (m : MadePdu) (asks : List ℕ)
     → quiet_units q ++ map conveyed_of ms ≡ all_units_conveyed asks (kinds (quiet_made q ++ map made_of ms))
-    → m.conveyed ≡ units_behind asks (all_units_conveyed asks (kinds (quiet_made q ++ map made_of ms))) (conveyed asks (kinds (quiet_made q ++ map made_of ms))).responses (made_of m).pdu.kind
+    → m.conveyed ≡ units_after asks (all_units_conveyed asks (kinds (quiet_made q ++ map made_of ms))) (conveyed asks (kinds (quiet_made q ++ map made_of ms))).responses (made_of m).pdu.kind
     → quiet_units q ++ map conveyed_of (ms ++ m ∷ []) ≡ all_units_conveyed asks (kinds (quiet_made q ++ map made_of (ms ++ m ∷ [])))
 units-pushed q ms m asks h e =
     ap (λ ws. quiet_units q ++ ws) (map-push conveyed_of ms m)
@@ -126,16 +126,16 @@ contents_in_step q ms cs = map (λ (b : Bor (List ℕ)). b.now) cs ≡ contents 
 pub units-push : (q : Option QuietPdu) (ms ns : List MadePdu) (m : MadePdu) (o : OwnPdus) (asks : List ℕ) → ns ≡ ms ++ m ∷ []
     → record { quiet = q; made = quiet_made q ++ map made_of ms; asks = asks } ≡ o
     → units_in_step q ms asks
-    → (k : Kind) → (made_of m).pdu.kind ≡ k → m.conveyed ≡ units_behind o.asks (all_units_conveyed o.asks (kinds o.made)) (conveyed o.asks (kinds o.made)).responses k
+    → (k : Kind) → (made_of m).pdu.kind ≡ k → m.conveyed ≡ units_after o.asks (all_units_conveyed o.asks (kinds o.made)) (conveyed o.asks (kinds o.made)).responses k
     → units_in_step q ns asks
 units-push q ms ns m o asks items view h k kind e =
     subst (λ (l : List MadePdu). units_in_step q l asks) (sym items) (units-pushed q ms m asks h now)
   where
-    there : m.conveyed ≡ units_behind asks (all_units_conveyed asks (kinds (quiet_made q ++ map made_of ms))) (conveyed asks (kinds (quiet_made q ++ map made_of ms))).responses k
-    there = subst (λ (v : OwnPdus). m.conveyed ≡ units_behind v.asks (all_units_conveyed v.asks (kinds v.made)) (conveyed v.asks (kinds v.made)).responses k) (sym view) e
+    there : m.conveyed ≡ units_after asks (all_units_conveyed asks (kinds (quiet_made q ++ map made_of ms))) (conveyed asks (kinds (quiet_made q ++ map made_of ms))).responses k
+    there = subst (λ (v : OwnPdus). m.conveyed ≡ units_after v.asks (all_units_conveyed v.asks (kinds v.made)) (conveyed v.asks (kinds v.made)).responses k) (sym view) e
 
-    now : m.conveyed ≡ units_behind asks (all_units_conveyed asks (kinds (quiet_made q ++ map made_of ms))) (conveyed asks (kinds (quiet_made q ++ map made_of ms))).responses (made_of m).pdu.kind
-    now = subst (λ (j : Kind). m.conveyed ≡ units_behind asks (all_units_conveyed asks (kinds (quiet_made q ++ map made_of ms))) (conveyed asks (kinds (quiet_made q ++ map made_of ms))).responses j) (sym kind) there
+    now : m.conveyed ≡ units_after asks (all_units_conveyed asks (kinds (quiet_made q ++ map made_of ms))) (conveyed asks (kinds (quiet_made q ++ map made_of ms))).responses (made_of m).pdu.kind
+    now = subst (λ (j : Kind). m.conveyed ≡ units_after asks (all_units_conveyed asks (kinds (quiet_made q ++ map made_of ms))) (conveyed asks (kinds (quiet_made q ++ map made_of ms))).responses j) (sym kind) there
 
 pub contents-push : (q : Option QuietPdu) (ms ns : List MadePdu) (m : MadePdu) (cs ds : List (Bor (List ℕ))) (c : Bor (List ℕ)) → ns ≡ ms ++ m ∷ [] → ds ≡ cs ++ c ∷ []
     → is_data (made_of m).pdu.kind ≡ true → c.now ≡ content_of (made_of m).pdu.body → contents_in_step q ms cs → contents_in_step q ns ds
@@ -186,15 +186,15 @@ length-made ms m = length_push ms m
 
 -- ---- a PDU after the quiet one
 
-behind_quiet : (q : Option QuietPdu) (ms : List MadePdu) (i : ℕ) → slice_get (quiet_made q ++ map made_of ms) (quiet_count q + i) ≡ option_map made_of (slice_get ms i)
-behind_quiet None ms i = ap (slice_get (map made_of ms)) (zero-add i) ∙ slice_get-map made_of ms i
-behind_quiet (Some q) ms i = ap (slice_get (quiet_made (Some q) ++ map made_of ms)) (let e : 1 + i ≡ suc i = omega arith in e) ∙ slice_get-map made_of ms i
+after_quiet : (q : Option QuietPdu) (ms : List MadePdu) (i : ℕ) → slice_get (quiet_made q ++ map made_of ms) (quiet_count q + i) ≡ option_map made_of (slice_get ms i)
+after_quiet None ms i = ap (slice_get (map made_of ms)) (zero-add i) ∙ slice_get-map made_of ms i
+after_quiet (Some q) ms i = ap (slice_get (quiet_made (Some q) ++ map made_of ms)) (let e : 1 + i ≡ suc i = omega arith in e) ∙ slice_get-map made_of ms i
 
 module _ (q : Option QuietPdu) (ms : List MadePdu) (asks : List ℕ) (o : OwnPdus) (i : ℕ) (same : record { quiet = q; made = quiet_made q ++ map made_of ms; asks = asks } ≡ o) where
   there : option_map (λ (m : Made). m.pdu) (slice_get o.made (quiet_count o.quiet + i)) ≡ option_map (λ (m : Made). m.pdu) (option_map made_of (slice_get ms i))
   there =
       ap (λ (p : OwnPdus). option_map (λ (m : Made). m.pdu) (slice_get p.made (quiet_count p.quiet + i))) (sym same)
-      ∙ ap (option_map (λ (m : Made). m.pdu)) (behind_quiet q ms i)
+      ∙ ap (option_map (λ (m : Made). m.pdu)) (after_quiet q ms i)
 
   pub made_there : (m : MadePdu) → i < length ms → m ≡ get_or ms i m → Some (value_of m.pdu).safety ≡ option_map (λ (n : Made). n.pdu) (slice_get o.made (quiet_count o.quiet + i))
   made_there m within e =

@@ -22,11 +22,11 @@ units_by_type asks kinds (b ∷ bs) RetransmittedData = suc (units_conveyed asks
 units_by_type asks kinds (b ∷ bs) _ = units_conveyed asks kinds (length bs)
 
 abbrev pub UnitsByPosition : Type 0
-UnitsByPosition = (asks : List ℕ) (before behind : List Kind) (kind : Kind)
-    → units_conveyed asks (before ++ kind ∷ behind) (length before) ≡ units_by_type asks (before ++ kind ∷ behind) before kind
+UnitsByPosition = (asks : List ℕ) (before after : List Kind) (kind : Kind)
+    → units_conveyed asks (before ++ kind ∷ after) (length before) ≡ units_by_type asks (before ++ kind ∷ after) before kind
 
 -- 2^32 taken off, time is the greatest number that is not above the clock and congruent to the confirmed time modulo
 -- 2^32, and the deadline lies T_max after it
-abbrev pub DeadlineIsBehindTheConfirmedTime : Type 0
-DeadlineIsBehindTheConfirmedTime = (p : Parameters) (clock cts : ℕ)
+abbrev pub DeadlineFollowsTheConfirmedTime : Type 0
+DeadlineFollowsTheConfirmedTime = (p : Parameters) (clock cts : ℕ)
     → (time : ℕ) × (deadline_from p clock cts ≡ time + p.t_max) × (time ≤ clock + 2 ^ 32) × (clock < time) × (time % 2 ^ 32 ≡ cts % 2 ^ 32)

@@ -20,19 +20,19 @@ units_at units (Some position) = slice_index_or units position 0
 
 -- the units conveyed through the position after these: 0 through the first; a retransmission response goes
 -- back to the ask that it answers; data and retransmitted data convey one more than before; others none more
-abbrev pub units_behind : List ℕ → List ℕ → ℕ → Kind → ℕ
-units_behind asks [] responses kind = 0
-units_behind asks (n ∷ ns) responses RetransmissionResponse = units_at (n ∷ ns) (slice_get asks responses)
-units_behind asks (n ∷ ns) responses Data = suc (last_of (n ∷ ns))
-units_behind asks (n ∷ ns) responses RetransmittedData = suc (last_of (n ∷ ns))
-units_behind asks (n ∷ ns) responses _ = last_of (n ∷ ns)
+abbrev pub units_after : List ℕ → List ℕ → ℕ → Kind → ℕ
+units_after asks [] responses kind = 0
+units_after asks (n ∷ ns) responses RetransmissionResponse = units_at (n ∷ ns) (slice_get asks responses)
+units_after asks (n ∷ ns) responses Data = suc (last_of (n ∷ ns))
+units_after asks (n ∷ ns) responses RetransmittedData = suc (last_of (n ∷ ns))
+units_after asks (n ∷ ns) responses _ = last_of (n ∷ ns)
 
 abbrev pub responses_after : ℕ → Kind → ℕ
 responses_after n RetransmissionResponse = suc n
 responses_after n _ = n
 
 abbrev pub convey : List ℕ → Conveyed → Kind → Conveyed
-convey asks c kind = record { units = c.units ++ units_behind asks c.units c.responses kind ∷ []; responses = responses_after c.responses kind }
+convey asks c kind = record { units = c.units ++ units_after asks c.units c.responses kind ∷ []; responses = responses_after c.responses kind }
 
 abbrev pub conveyed : List ℕ → List Kind → Conveyed
 conveyed asks kinds = fold (convey asks) (record { units = []; responses = 0 }) kinds

@@ -172,9 +172,9 @@ impl<'a> Own<'a> {
     }
 
     // The units conveyed through a next PDU of this type.
-    fn units_behind(&self, kind: Kind) -> usize
+    fn units_after(&self, kind: Kind) -> usize
         ensures room { length self.now.made + 2 ^ 33 < 2 ^ 64 }
-        ensures value { result ≡ Units.units_behind self.now.asks (all_units_conveyed self.now.asks (kinds self.now.made)) (conveyed self.now.asks (kinds self.now.made)).responses kind }
+        ensures value { result ≡ Units.units_after self.now.asks (all_units_conveyed self.now.asks (kinds self.now.made)) (conveyed self.now.asks (kinds self.now.made)).responses kind }
     {
         if self.len() == 0 {
             return 0;
@@ -191,12 +191,12 @@ impl<'a> Own<'a> {
     fn made_pdu(&self, pdu: &Pdu<'a>, unit: Option<usize>) -> MadePdu<'a>
         ensures pdu { made_of result ≡ record { pdu = (value_of pdu.now).safety; unit = unit } }
         ensures room { length self.now.made + 2 ^ 33 < 2 ^ 64 }
-        ensures conveyed { result.conveyed ≡ Units.units_behind self.now.asks (all_units_conveyed self.now.asks (kinds self.now.made)) (conveyed self.now.asks (kinds self.now.made)).responses (value_of pdu.now).safety.kind }
+        ensures conveyed { result.conveyed ≡ Units.units_after self.now.asks (all_units_conveyed self.now.asks (kinds self.now.made)) (conveyed self.now.asks (kinds self.now.made)).responses (value_of pdu.now).safety.kind }
     {
         MadePdu {
             pdu: *pdu,
             unit,
-            conveyed: self.units_behind(pdu.kind()),
+            conveyed: self.units_after(pdu.kind()),
         }
     }
 

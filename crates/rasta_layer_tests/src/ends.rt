@@ -15,10 +15,10 @@ handed up once | data plain client | Up 1 3 1 0 0 | 0 | make 0 1000 open, take 1
 handed up once | data plain server | Up 3 2 0 0 1 | 0 | take 0, make 1 9000 reply, take 2, take 3, make 4 9050 beat
 numbers wrap | wrapped plain client | Up 2 3 1 0 0 | 0 | make 0 4294967280 open, take 1, make 2 4294967300 reply, make 3 4294967310 fresh, take 4
 numbers wrap | wrapped plain server | Up 3 2 0 0 1 | 0 | take 0, make 1 9000 reply, take 2, take 3, make 4 9050 beat
-deadline behind the wrap | wrapped plain client | Up 2 4 1 0 0 | 0 | make 0 4294967280 open, take 1, make 2 4294967300 reply, make 3 4294967310 fresh, take 4, make 5 4294969110 beat
-deadline behind the wrap | wrapped plain client | Up 2 3 1 0 0 | 38 | make 0 4294967280 open, take 1, make 2 4294967300 reply, make 3 4294967310 fresh, take 4, make 6 4294969111 beat
-deadline behind the wrap | wrapped plain client | Up 2 3 1 0 0 | 46 | make 0 4294967280 open, take 1, make 2 4294967300 reply, make 3 4294967310 fresh, take 4, make 7 4294969109 expired
-deadline behind the wrap | wrapped plain client | Closed 2 4 1 0 0 | 0 | make 0 4294967280 open, take 1, make 2 4294967300 reply, make 3 4294967310 fresh, take 4, make 8 4294969110 expired
+deadline after the wrap | wrapped plain client | Up 2 4 1 0 0 | 0 | make 0 4294967280 open, take 1, make 2 4294967300 reply, make 3 4294967310 fresh, take 4, make 5 4294969110 beat
+deadline after the wrap | wrapped plain client | Up 2 3 1 0 0 | 38 | make 0 4294967280 open, take 1, make 2 4294967300 reply, make 3 4294967310 fresh, take 4, make 6 4294969111 beat
+deadline after the wrap | wrapped plain client | Up 2 3 1 0 0 | 46 | make 0 4294967280 open, take 1, make 2 4294967300 reply, make 3 4294967310 fresh, take 4, make 7 4294969109 expired
+deadline after the wrap | wrapped plain client | Closed 2 4 1 0 0 | 0 | make 0 4294967280 open, take 1, make 2 4294967300 reply, make 3 4294967310 fresh, take 4, make 8 4294969110 expired
 clock falls at the wrap | wrapped plain client | Up 1 1 0 1 0 | 37 | make 0 4294967280 open, take 1, make 2 4 reply
 the capture ends in a burst | lost plain client | Up 2 6 2 1 0 | 0 | make 0 1000 open, take 1, make 2 1010 reply, make 3 1020 fresh, make 4 1030 fresh, take 5, make 6 1070 reply, make 7 1071 again 0
 the capture ends in a burst | lost plain server | RetrRun 6 3 0 0 1 | 0 | take 0, make 1 9000 reply, take 2, take 4, make 5 9060 ask, take 6, take 7, make 15 9080 beat

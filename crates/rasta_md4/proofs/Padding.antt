@@ -31,9 +31,9 @@ regrouped a b c d = ap (λ (z : List ℕ). a ++ z) (append_assoc b c d) ∙ sym 
 padded_marked : (waiting front : List ℕ) (zeros more : ℕ) → front ≡ waiting → 128 - length waiting ≡ suc (zeros + more)
     → set (front ++ drop (length waiting) (replicate {A = ℕ} 128 0)) (length waiting) 0x80 ≡ (waiting ++ 0x80 ∷ replicate zeros 0) ++ replicate more 0
 padded_marked waiting front zeros more begun left =
-    let behind : drop (length waiting) (replicate {A = ℕ} 128 0) ≡ 0 ∷ replicate (zeros + more) 0 =
+    let after : drop (length waiting) (replicate {A = ℕ} 128 0) ≡ 0 ∷ replicate (zeros + more) 0 =
     drop-replicate (length waiting) 128 0 ∙ ap (λ (i : ℕ). replicate i 0) left in
-    rw (begun, behind, set_at waiting 0 (replicate (zeros + more) 0) 0x80 (length waiting) refl, append_assoc, replicate-append-replicate) refl
+    rw (begun, after, set_at waiting 0 (replicate (zeros + more) 0) 0x80 (length waiting) refl, append_assoc, replicate-append-replicate) refl
 
 -- the bytes that wait, the byte 80, zeros and the length field, as they are laid into 128 zeros
 pub padded_tail : (waiting front field rest : List ℕ) (n f k : ℕ) → length waiting ≡ n % 64 → f + 8 ≡ n % 64 + length (padding (n % 64)) → front ≡ waiting
@@ -51,15 +51,15 @@ padded_tail waiting front field rest n f k len last begun spelled =
     let zero_list : List ℕ = replicate more 0 in
     let marked : set (front ++ drop (length waiting) (replicate {A = ℕ} 128 0)) (length waiting) 0x80 ≡ body ++ zero_list = padded_marked waiting front zeros more begun left in
     let eight : List ℕ = little_bytes 8 (8 * n % 2 ^ 64) in
-    let behind : List ℕ = post_of f k (body ++ zero_list) in
+    let after : List ℕ = post_of f k (body ++ zero_list) in
     let spelled' : field ≡ eight ++ rest = spelled ∙ ap (λ (i : ℕ). little_bytes 8 i ++ rest) bits in
-    let placed : put_mid f k (body ++ zero_list) field ≡ (body ++ eight) ++ (rest ++ behind) =
-    ap (λ (z : List ℕ). z ++ (field ++ behind)) (take_at body zero_list f long)
-    ∙ ap (λ (z : List ℕ). body ++ (z ++ behind)) spelled' ∙ regrouped body eight rest behind in
+    let placed : put_mid f k (body ++ zero_list) field ≡ (body ++ eight) ++ (rest ++ after) =
+    ap (λ (z : List ℕ). z ++ (field ++ after)) (take_at body zero_list f long)
+    ∙ ap (λ (z : List ℕ). body ++ (z ++ after)) spelled' ∙ regrouped body eight rest after in
     let width : length eight ≡ 8 = length-bytes_low_first 0 8 (8 * n % 2 ^ 64) in
     let same = length-padding n in
     let end : length (body ++ eight) ≡ n % 64 + length (padding n) = length-append body eight ∙ omega arith in
     ap (λ (z : List ℕ). take (n % 64 + length (padding n)) (put_mid f k z field)) marked
     ∙ ap (take (n % 64 + length (padding n))) placed
-    ∙ take_at (body ++ eight) (rest ++ behind) (n % 64 + length (padding n)) end
+    ∙ take_at (body ++ eight) (rest ++ after) (n % 64 + length (padding n)) end
     ∙ append_assoc waiting (0x80 ∷ replicate zeros 0) eight

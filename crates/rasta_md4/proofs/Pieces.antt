@@ -5,14 +5,14 @@ use Rattle.std.proofs.lemmas.List.{append-nil, append_assoc, take-append-drop, l
 use Rattle.std.specs.List.{flat_map}
 use Rattle.byteorder.specs.Endian.{little_bytes}
 use Rattle.rasta_md4.specs.Md4.{blocks, compress, md4, padding}
-use Rattle.rasta_md4.specs.Progress.{Progress, behind_blocks, holding}
+use Rattle.rasta_md4.specs.Progress.{Progress, past_blocks, holding}
 use Rattle.rasta_md4.proofs.Padding.{padding-mod}
 use borrow.Rule.Slice.PartMut.{put_mid, post_of}
 use Rattle.rasta_md4.proofs.Blocks.{blocks_none, fold-blocks-append}
 
 -- whole blocks before them leave the bytes after the blocks as they are
-pub behind_blocks-append : (p y : List ℕ) (a : ℕ) → length p ≡ 64 * a → behind_blocks (p ++ y) ≡ behind_blocks y
-behind_blocks-append p y a len =
+pub past_blocks-append : (p y : List ℕ) (a : ℕ) → length p ≡ 64 * a → past_blocks (p ++ y) ≡ past_blocks y
+past_blocks-append p y a len =
     let both : length (p ++ y) ≡ length p + length y = length-append p y in
     let count : length (p ++ y) / 64 * 64 ≡ 64 * a + length y / 64 * 64 = omega arith in
     ap (λ (n : ℕ). drop n (p ++ y)) count
@@ -20,15 +20,15 @@ behind_blocks-append p y a len =
     ∙ ap (drop (length y / 64 * 64)) (drop_at p y (64 * a) len)
 
 -- a message short of a block is after the blocks as a whole
-pub behind_blocks_short : (m : List ℕ) → length m < 64 → behind_blocks m ≡ m
-behind_blocks_short m h = let none : length m / 64 * 64 ≡ 0 = omega arith in rw none refl
+pub past_blocks_short : (m : List ℕ) → length m < 64 → past_blocks m ≡ m
+past_blocks_short m h = let none : length m / 64 * 64 ≡ 0 = omega arith in rw none refl
 
 -- the registers after a message and a piece more are those after what waits and the piece
-fold-behind : (r m d : List ℕ) → fold compress r (blocks (m ++ d)) ≡ fold compress (fold compress r (blocks m)) (blocks (behind_blocks m ++ d))
-fold-behind r m d =
+fold-after : (r m d : List ℕ) → fold compress r (blocks (m ++ d)) ≡ fold compress (fold compress r (blocks m)) (blocks (past_blocks m ++ d))
+fold-after r m d =
     let a : ℕ = length m / 64 in
     let p : List ℕ = take (a * 64) m in
-    let t : List ℕ = behind_blocks m in
+    let t : List ℕ = past_blocks m in
     let len : length p ≡ 64 * a = length-take-le (a * 64) m (omega arith) ∙ (let e : a * 64 ≡ 64 * a = omega arith in e) in
     let whole : p ++ t ≡ m = take-append-drop (a * 64) m in
     let short : length t < 64 = omega (arith, length-drop (a * 64) m) in
@@ -39,14 +39,14 @@ fold-behind r m d =
     ∙ ap (λ (z : List ℕ). fold compress z (blocks (t ++ d))) (sym before)
 
 -- the bytes after the blocks of a message and a piece more
-behind_blocks-behind : (m d : List ℕ) → behind_blocks (m ++ d) ≡ behind_blocks (behind_blocks m ++ d)
-behind_blocks-behind m d =
+past_blocks-after : (m d : List ℕ) → past_blocks (m ++ d) ≡ past_blocks (past_blocks m ++ d)
+past_blocks-after m d =
     let a : ℕ = length m / 64 in
     let p : List ℕ = take (a * 64) m in
     let len : length p ≡ 64 * a = length-take-le (a * 64) m (omega arith) ∙ (let e : a * 64 ≡ 64 * a = omega arith in e) in
-    let whole : p ++ behind_blocks m ≡ m = take-append-drop (a * 64) m in
-    let parts : m ++ d ≡ p ++ (behind_blocks m ++ d) = ap (λ (z : List ℕ). z ++ d) (sym whole) ∙ append_assoc p (behind_blocks m) d in
-    ap behind_blocks parts ∙ behind_blocks-append p (behind_blocks m ++ d) a len
+    let whole : p ++ past_blocks m ≡ m = take-append-drop (a * 64) m in
+    let parts : m ++ d ≡ p ++ (past_blocks m ++ d) = ap (λ (z : List ℕ). z ++ d) (sym whole) ∙ append_assoc p (past_blocks m) d in
+    ap past_blocks parts ∙ past_blocks-append p (past_blocks m ++ d) a len
 
 -- a buffer filled up to its end
 pub put_mid-end : (xs ys : List ℕ) (k n : ℕ) → length xs ≡ k + n → put_mid k n xs ys ≡ take k xs ++ ys
@@ -66,11 +66,11 @@ length_filled t d b n e sum fits =
 
 -- what is kept after a piece more follows from what was kept and the piece
 pub holding_more : (w m d : List ℕ) (s : Progress) → s ≡ holding w m
-    → record { registers = fold compress s.registers (blocks (s.waiting ++ d)); waiting = behind_blocks (s.waiting ++ d); count = (s.count + length d) % 2 ^ 64 } ≡ holding w (m ++ d)
+    → record { registers = fold compress s.registers (blocks (s.waiting ++ d)); waiting = past_blocks (s.waiting ++ d); count = (s.count + length d) % 2 ^ 64 } ≡ holding w (m ++ d)
 unfolding holding
 holding_more w m d s held =
-    let registers = fold-behind w m d in
-    let waiting = behind_blocks-behind m d in
+    let registers = fold-after w m d in
+    let waiting = past_blocks-after m d in
     let count : (length m % 2 ^ 64 + length d) % 2 ^ 64 ≡ length (m ++ d) % 2 ^ 64 = omega (arith, length-append m d) in
     rw (held, registers, waiting, ← count) refl
 
@@ -82,14 +82,14 @@ fold_filled r t d b n e sum fits =
     sym (ap (λ (z : List ℕ). fold compress r (blocks z)) (filled t d b n e) ∙ fold-blocks-append r b (drop n d) 1 len)
 
 -- the bytes after the blocks are those of what follows the filled block
-pub behind_blocks_filled : (t d b : List ℕ) (n : ℕ) → b ≡ t ++ take n d → length t + n ≡ 64 → n ≤ length d → behind_blocks (drop n d) ≡ behind_blocks (t ++ d)
-behind_blocks_filled t d b n e sum fits =
+pub past_blocks_filled : (t d b : List ℕ) (n : ℕ) → b ≡ t ++ take n d → length t + n ≡ 64 → n ≤ length d → past_blocks (drop n d) ≡ past_blocks (t ++ d)
+past_blocks_filled t d b n e sum fits =
     let len = length_filled t d b n e sum fits in
-    sym (ap behind_blocks (filled t d b n e) ∙ behind_blocks-append b (drop n d) 1 len)
+    sym (ap past_blocks (filled t d b n e) ∙ past_blocks-append b (drop n d) 1 len)
 
 -- the digest of a message, from what is kept of it
 pub md4_is : (w m : List ℕ) (s : Progress) → s ≡ holding w m → md4 w m ≡ flat_map (little_bytes 4) (fold compress s.registers (blocks (s.waiting ++ padding s.count)))
 unfolding md4 holding
 md4_is w m s held =
-    let registers = fold-behind w m (padding (length m)) in
+    let registers = fold-after w m (padding (length m)) in
     rw (held, padding-mod (length m)) (ap (flat_map (little_bytes 4)) registers)

@@ -9,14 +9,14 @@ pub record Progress : Type 0 where
   pub count : ℕ
 
 -- the bytes after the last whole block
-abbrev pub behind_blocks : List ℕ → List ℕ
-behind_blocks message = drop (length message / 64 * 64) message
+abbrev pub past_blocks : List ℕ → List ℕ
+past_blocks message = drop (length message / 64 * 64) message
 
 -- what is kept of a message that came after these start words; its length is taken modulo 2 ^ 64,
 -- since the padding reads no more of it
 unfoldable pub holding : List ℕ → List ℕ → Progress
 holding words message = record {
   registers = fold compress words (blocks message);
-  waiting = behind_blocks message;
+  waiting = past_blocks message;
   count = length message % 2 ^ 64;
 }

@@ -8,7 +8,7 @@ ghost use Rattle.std.specs.Prelude.{◌≡◌, ℕ, ◌+◌, ◌%◌, ◌<◌, �
 ghost use Rattle.std.specs.List.{flat_map};
 ghost use Rattle.byteorder.specs.Endian.{little_bytes};
 ghost use Rattle.rasta_md4.specs.Md4.{blocks, compress, md4, padding};
-ghost use Rattle.rasta_md4.specs.Progress.{behind_blocks, holding};
+ghost use Rattle.rasta_md4.specs.Progress.{past_blocks, holding};
 
 use crate::rounds::after_blocks;
 use byteorder::{ByteOrder, LittleEndian};
@@ -93,7 +93,7 @@ fn absorb(registers: [u32; 4], buffer: &mut [u8; BLOCK_LEN], used: usize, bytes:
     ensures registers { result
         ≡ fold compress registers (blocks (take used buffer.old ++ bytes.now)) }
     ensures waiting { take ((used + length bytes.now) % 64) buffer.new
-        ≡ behind_blocks (take used buffer.old ++ bytes.now) }
+        ≡ past_blocks (take used buffer.old ++ bytes.now) }
 {
     if used == 0 {
         return absorb_aligned(registers, buffer, bytes);
@@ -112,7 +112,7 @@ fn absorb(registers: [u32; 4], buffer: &mut [u8; BLOCK_LEN], used: usize, bytes:
 #[inline]
 fn absorb_aligned(registers: [u32; 4], buffer: &mut [u8; BLOCK_LEN], bytes: &[u8]) -> [u32; 4]
     ensures registers { result ≡ fold compress registers (blocks bytes.now) }
-    ensures waiting { take (length bytes.now % 64) buffer.new ≡ behind_blocks bytes.now }
+    ensures waiting { take (length bytes.now % 64) buffer.new ≡ past_blocks bytes.now }
 {
     let left = bytes.len() % BLOCK_LEN;
     let tail = &bytes[bytes.len() - left..];

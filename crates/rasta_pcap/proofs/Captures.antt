@@ -6,22 +6,22 @@ use Rattle.std.specs.List.{flat_map, AllByRecursion, range_with_len}
 use Rattle.rasta_pcap.specs.declared.fault.Fault.{Fault}
 use Rattle.rasta_pcap.specs.declared.pcap.Endianness.{Endianness}
 use Rattle.rasta_pcap.specs.Fault.{fault_at}
-use Rattle.rasta_pcap.specs.Capture.{Cursor, cursor_at, Entry, IsEntry, IsHeader, entry_bytes, captured_length, max_records, max_captured, Numbered, Reading, opening, next, behind, bytes_in_front, length_in_front, reading, reading_opened, reading_of, with_record, read_step, bytes_of, IsCapture, IsRefused}
-use Rattle.rasta_pcap.proofs.Steps.{reading-record, reading-end, reading-fault, reading-none_left, reading_of-opened, reading_of-refused, IsInFront, next-is_in_front, next-found, next-end, next-nil, next-fault_place}
+use Rattle.rasta_pcap.specs.Capture.{Cursor, cursor_at, Entry, IsEntry, IsHeader, entry_bytes, captured_length, max_records, max_captured, Numbered, Reading, opening, next, cursor_after, next_bytes, next_length, reading, reading_opened, reading_of, with_record, read_step, bytes_of, IsCapture, IsRefused}
+use Rattle.rasta_pcap.proofs.Steps.{reading-record, reading-end, reading-fault, reading-none_left, reading_of-opened, reading_of-refused, IsNextEntry, next-is_next_entry, next-found, next-end, next-nil, next-fault_place}
 use Rattle.rasta_pcap.proofs.Headers.{at_start, opening-header, opening-is_header, opening-fault_place}
 
 -- From the bytes to the relation.
 
 -- the next record as it stands in the file
-pub record EntryInFront (c : Cursor) (bytes : List ℕ) : Type 0 where
+pub record NextEntry (c : Cursor) (bytes : List ℕ) : Type 0 where
   pub entry : Entry
   pub is_entry : IsEntry c.order entry
-  pub front : c.rest ≡ entry_bytes entry ++ (behind c).rest
+  pub front : c.rest ≡ entry_bytes entry ++ (cursor_after c).rest
   pub bytes_are : bytes ≡ entry.bytes
 
-pub entry_in_front : (c : Cursor) (r : Numbered) → IsInFront c r → EntryInFront c r.1
-entry_in_front c r h =
-    let captured = length_in_front c in
+pub next_entry : (c : Cursor) (r : Numbered) → IsNextEntry c r → NextEntry c r.1
+next_entry c r h =
+    let captured = next_length c in
     let after = drop 16 c.rest in
     let header_size : length (take 16 c.rest) ≡ 16 = let fits = h.header in simp length-take (omega arith) in
     let size : length (take captured after) ≡ captured = let fits = h.whole in simp (length-take, length-drop) (omega arith) in record {
@@ -43,8 +43,8 @@ pub record IsCut (order : Endianness) (bytes : List ℕ) (records : List (List �
 nothing_cut : (order : Endianness) (bytes : List ℕ) → IsCut order bytes [] 0 bytes
 nothing_cut order bytes = record { entries = []; each = tt; whole = refl; bytes_are = refl; count_is = refl }
 
-one_more_cut : (c : Cursor) (bytes : List ℕ) (records : List (List ℕ)) (count : ℕ) (left : List ℕ) → EntryInFront c bytes
-    → IsCut c.order (behind c).rest records count left → IsCut c.order c.rest (bytes ∷ records) (suc count) left
+one_more_cut : (c : Cursor) (bytes : List ℕ) (records : List (List ℕ)) (count : ℕ) (left : List ℕ) → NextEntry c bytes
+    → IsCut c.order (cursor_after c).rest records count left → IsCut c.order c.rest (bytes ∷ records) (suc count) left
 one_more_cut c bytes records count left f h = record {
   entries = f.entry ∷ h.entries;
   each = (f.is_entry, h.each);
@@ -65,15 +65,15 @@ record IsRead (limit : ℕ) (c : Cursor) (r : Reading) : Type 0 where
   ends : Ending limit c r.fault (length r.records) left
   numbers : map (λ (n : Numbered). n.0) r.records ≡ range_with_len (c.count + 1) (length r.records)
 
-ending-behind : (limit : ℕ) (c : Cursor) (o : Option Fault) (count : ℕ) (left : List ℕ) → Ending limit (behind c) o count left
+ending-after : (limit : ℕ) (c : Cursor) (o : Option Fault) (count : ℕ) (left : List ℕ) → Ending limit (cursor_after c) o count left
     → Ending (suc limit) c o (suc count) left
-ending-behind limit c None count left h = (let w = h.0 in omega arith, elim h.1 [ inl x ↦ inl x | inr x ↦ inr (ap suc x) ])
-ending-behind limit c (Some f) count left h =
+ending-after limit c None count left h = (let w = h.0 in omega arith, elim h.1 [ inl x ↦ inl x | inr x ↦ inr (ap suc x) ])
+ending-after limit c (Some f) count left h =
     let shape : c.count + suc count ≡ c.count + 1 + count = omega arith in
     (let w = h.0 in omega arith, ap (λ n. next (cursor_at c.order left n)) shape ∙ h.1)
 
 read-by_outcome : (limit : ℕ) (c : Cursor) (o : Result (Option Numbered) Fault) → next c ≡ o
-    → IsRead limit (behind c) (reading limit (behind c)) → IsRead (suc limit) c (read_step o (reading limit (behind c)))
+    → IsRead limit (cursor_after c) (reading limit (cursor_after c)) → IsRead (suc limit) c (read_step o (reading limit (cursor_after c)))
 read-by_outcome limit c (Err f) e more =
     let here : c.count + 0 ≡ c.count = omega arith in record {
       left = c.rest;
@@ -84,12 +84,12 @@ read-by_outcome limit c (Err f) e more =
 read-by_outcome limit c (Ok None) e more =
     record { left = c.rest; cut = nothing_cut c.order c.rest; ends = (omega arith, inl (next-end c e)); numbers = refl }
 read-by_outcome limit c (Ok (Some r)) e more =
-    let found = next-is_in_front c r e in
-    let behind_it = reading limit (behind c) in record {
+    let found = next-is_next_entry c r e in
+    let after_it = reading limit (cursor_after c) in record {
       left = more.left;
-      cut = one_more_cut c r.1 (bytes_of behind_it) (length behind_it.records) more.left (entry_in_front c r found) more.cut;
-      ends = ending-behind limit c behind_it.fault (length behind_it.records) more.left more.ends;
-      numbers = ap (λ n. n ∷ map (λ (n : Numbered). n.0) behind_it.records) (ap (λ (n : Numbered). n.0) found.is)
+      cut = one_more_cut c r.1 (bytes_of after_it) (length after_it.records) more.left (next_entry c r found) more.cut;
+      ends = ending-after limit c after_it.fault (length after_it.records) more.left more.ends;
+      numbers = ap (λ n. n ∷ map (λ (n : Numbered). n.0) after_it.records) (ap (λ (n : Numbered). n.0) found.is)
           ∙ ap (λ ns. (c.count + 1) ∷ ns) more.numbers;
     }
 
@@ -97,7 +97,7 @@ read-is : (limit : ℕ) (c : Cursor) → IsRead limit c (reading limit c)
 unfolding reading
 read-is zero c =
     record { left = c.rest; cut = nothing_cut c.order c.rest; ends = (omega arith, inr refl); numbers = refl }
-read-is (suc limit) c = read-by_outcome limit c (next c) refl (read-is limit (behind c))
+read-is (suc limit) c = read-by_outcome limit c (next c) refl (read-is limit (cursor_after c))
 
 -- From the relation to the bytes.
 
@@ -110,15 +110,15 @@ bytes-numbered : (count : ℕ) (entries : List Entry) → map (λ (n : Numbered)
 bytes-numbered count [] = refl
 bytes-numbered count (e ∷ es) = ap (λ rs. e.bytes ∷ rs) (bytes-numbered (count + 1) es)
 
-abbrev in_front_of : List Numbered → Reading → Reading
-in_front_of records more = record { records = records ++ more.records; fault = more.fault }
+abbrev records_before : List Numbered → Reading → Reading
+records_before records more = record { records = records ++ more.records; fault = more.fault }
 
-abbrev in_front : Numbered → Result (Option Numbered) Fault
-in_front r = Ok (Some r)
+abbrev before : Numbered → Result (Option Numbered) Fault
+before r = Ok (Some r)
 
 pub record IsNext (c : Cursor) (bytes : List ℕ) (after : Cursor) : Type 0 where
   pub found : next c ≡ Ok (Some (c.count + 1, bytes))
-  pub after_is : behind c ≡ after
+  pub after_is : cursor_after c ≡ after
 
 -- a record before more bytes is found there
 pub next-entry : (order : Endianness) (e : Entry) (more : List ℕ) (count : ℕ) → IsEntry order e → count < max_records
@@ -131,11 +131,11 @@ next-entry order e more count h room =
     let bound : length e.bytes ≤ max_captured = h.bounded in
     let header : take 16 all ≡ e.header = ap (λ n. take n all) (sym size) ∙ ap (take (length e.header)) shape ∙ take-append_seam e.header (e.bytes ++ more) in
     let after : drop 16 all ≡ e.bytes ++ more = ap (λ n. drop n all) (sym size) ∙ ap (drop (length e.header)) shape ∙ drop-append_seam e.header (e.bytes ++ more) in
-    let captured : length_in_front c ≡ length e.bytes = ap (captured_length order) header ∙ h.captured in
+    let captured : next_length c ≡ length e.bytes = ap (captured_length order) header ∙ h.captured in
     let long : length all ≡ 16 + length e.bytes + length more = rw (length-append, length-append, size) refl in
-    let bytes : bytes_in_front c ≡ e.bytes = ap (λ k. take k (drop 16 all)) captured ∙ ap (take (length e.bytes)) after ∙ take-append_seam e.bytes more in
-    let left : drop (length_in_front c) (drop 16 all) ≡ more = ap (λ k. drop k (drop 16 all)) captured ∙ ap (drop (length e.bytes)) after ∙ drop-append_seam e.bytes more in record {
-      found = next-found c room (omega arith) (omega arith) ∙ ap (λ (b : List ℕ). in_front (count + 1, b)) bytes;
+    let bytes : next_bytes c ≡ e.bytes = ap (λ k. take k (drop 16 all)) captured ∙ ap (take (length e.bytes)) after ∙ take-append_seam e.bytes more in
+    let left : drop (next_length c) (drop 16 all) ≡ more = ap (λ k. drop k (drop 16 all)) captured ∙ ap (drop (length e.bytes)) after ∙ drop-append_seam e.bytes more in record {
+      found = next-found c room (omega arith) (omega arith) ∙ ap (λ (b : List ℕ). before (count + 1, b)) bytes;
       after_is = ap (λ (l : List ℕ). cursor_at order l (count + 1)) left;
     }
 
@@ -143,7 +143,7 @@ next-entry order e more count h room =
 reading-entries : (limit left : ℕ) (order : Endianness) (entries : List Entry) (rest : List ℕ) (count : ℕ) → AllByRecursion (IsEntry order) entries
     → limit ≡ length entries + left → count + length entries ≤ max_records
     → reading limit (cursor_at order (flat_map entry_bytes entries ++ rest) count)
-    ≡ in_front_of (numbered count entries) (reading left (cursor_at order rest (count + length entries)))
+    ≡ records_before (numbered count entries) (reading left (cursor_at order rest (count + length entries)))
 reading-entries limit left order [] rest count each bound room =
     let here : count ≡ count + 0 = omega arith in
     let same : limit ≡ left = omega arith in
@@ -159,7 +159,7 @@ reading-entries (suc limit) left order (e ∷ es) rest count each bound room =
     ∙ reading-record limit c (count + 1, e.bytes) h.found
     ∙ ap (λ k. with_record (count + 1, e.bytes) (reading limit k)) h.after_is
     ∙ ap (with_record (count + 1, e.bytes)) (reading-entries limit left order es rest (count + 1) each.1 (omega arith) (omega arith))
-    ∙ ap (λ n. in_front_of (numbered count (e ∷ es)) (reading left (cursor_at order rest n))) further
+    ∙ ap (λ n. records_before (numbered count (e ∷ es)) (reading left (cursor_at order rest n))) further
 
 -- nothing more is read where nothing is left, and where no record may be read
 reading-stops : (left : ℕ) (order : Endianness) (rest : List ℕ) (count : ℕ) → (rest ≡ []) ⊎ (left ≡ 0)
@@ -187,18 +187,18 @@ open_header order header body h =
 whole_file : (limit left : ℕ) (order : Endianness) (header : List ℕ) (entries : List Entry) (rest file : List ℕ) → IsHeader order header
     → AllByRecursion (IsEntry order) entries → file ≡ header ++ (flat_map entry_bytes entries ++ rest) → limit ≡ length entries + left
     → length entries ≤ max_records
-    → reading_of limit file ≡ in_front_of (numbered 0 entries) (reading left (cursor_at order rest (length entries)))
+    → reading_of limit file ≡ records_before (numbered 0 entries) (reading left (cursor_at order rest (length entries)))
 whole_file limit left order header entries rest file is_header each whole bound room =
     let body = flat_map entry_bytes entries ++ rest in
     let none_before : 0 + length entries ≡ length entries = omega arith in
     ap (reading_of limit) whole
     ∙ reading_of-opened limit (header ++ body) (cursor_at order body 0) (open_header order header body is_header)
     ∙ reading-entries limit left order entries rest 0 each bound (omega arith)
-    ∙ ap (λ n. in_front_of (numbered 0 entries) (reading left (cursor_at order rest n))) none_before
+    ∙ ap (λ n. records_before (numbered 0 entries) (reading left (cursor_at order rest n))) none_before
 
 -- what was read before an end
 reads_just : (r : Reading) (entries : List Entry) (records : List (List ℕ)) (fault : Option Fault)
-    → r ≡ in_front_of (numbered 0 entries) (record { records = []; fault = fault }) → records ≡ map (λ (e : Entry). e.bytes) entries
+    → r ≡ records_before (numbered 0 entries) (record { records = []; fault = fault }) → records ≡ map (λ (e : Entry). e.bytes) entries
     → (bytes_of r ≡ records) × (r.fault ≡ fault)
 reads_just r entries records fault h bytes_are = (
   ap bytes_of h ∙ ap (map (λ (n : Numbered). n.1)) (append-nil (numbered 0 entries)) ∙ bytes-numbered 0 entries ∙ sym bytes_are,
@@ -214,7 +214,7 @@ reading_of-IsCapture limit file records bound h =
     let stops : (h.rest ≡ []) ⊎ (left ≡ 0) = elim h.stops [ inl x ↦ inl x | inr x ↦ inr (omega arith) ] in
     reads_just (reading_of limit file) h.entries records None
     (whole_file limit left h.order h.header h.entries h.rest file h.is_header h.each h.whole (omega arith) (omega arith)
-    ∙ ap (in_front_of (numbered 0 h.entries)) (reading-stops left h.order h.rest (length h.entries) stops))
+    ∙ ap (records_before (numbered 0 h.entries)) (reading-stops left h.order h.rest (length h.entries) stops))
     h.bytes_are
 
 -- the records before a fault are read, and then the fault
@@ -225,7 +225,7 @@ reading_of-IsRefused limit file records fault bound h =
     let left = limit - length h.entries - 1 in
     reads_just (reading_of limit file) h.entries records (Some fault)
     (whole_file limit (suc left) h.order h.header h.entries h.rest file h.is_header h.each h.whole (omega arith) (omega arith)
-    ∙ ap (in_front_of (numbered 0 h.entries)) (reading-fault left (cursor_at h.order h.rest (length h.entries)) fault h.refused))
+    ∙ ap (records_before (numbered 0 h.entries)) (reading-fault left (cursor_at h.order h.rest (length h.entries)) fault h.refused))
     h.bytes_are
 
 file_is : (file : List ℕ) (c : Cursor) (body : List ℕ) → c ≡ at_start c.order file → c.rest ≡ body → file ≡ take 24 file ++ body

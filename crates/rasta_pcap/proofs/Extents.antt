@@ -4,15 +4,15 @@ use Rattle.std.proofs.lemmas.List.{take-append-drop, flat_map_more}
 use Rattle.std.specs.List.{flat_map, AllByRecursion}
 use Rattle.std.proofs.KnownBytes.{Consumes-trans}
 use Rattle.rasta_pcap.specs.declared.pcap.Endianness.{Endianness}
-use Rattle.rasta_pcap.specs.Capture.{Cursor, Entry, IsEntry, Numbered, behind, captured_length, cursor_at, entry_bytes}
+use Rattle.rasta_pcap.specs.Capture.{Cursor, Entry, IsEntry, Numbered, cursor_after, captured_length, cursor_at, entry_bytes}
 use Rattle.rasta_pcap.specs.Extent.{HasRead, in_header, in_records, ReadsUpToRecord, ReadsWithinRecord}
 use Rattle.rasta_pcap.specs.Filling.{IsFilled, ReadsUpTo}
 use Rattle.rasta_pcap.specs.Fronts.{front_of}
 use Rattle.rasta_pcap.specs.Stream.{Opens, ReadsRecord}
-use Rattle.rasta_pcap.proofs.Captures.{entry_in_front}
+use Rattle.rasta_pcap.proofs.Captures.{next_entry}
 use Rattle.rasta_pcap.proofs.Fronts.{front_of-some, taken_front}
 use Rattle.rasta_pcap.proofs.Headers.{opening-is_header}
-use Rattle.rasta_pcap.proofs.Steps.{next-is_in_front}
+use Rattle.rasta_pcap.proofs.Steps.{next-is_next_entry}
 
 -- ---- within one record
 
@@ -62,8 +62,8 @@ pub HasRead-more : (order : Endianness) (read count : ℕ) (r : Numbered) (old m
     → ReadsRecord order count r mid new → HasRead order (read + 1) old new
 HasRead-more order read count r old mid new h found =
     let c = cursor_at order (found.bytes ++ []) count in
-    let f = entry_in_front c r (next-is_in_front c r (found.each []).0) in
-    let nothing : (behind c).rest ≡ [] = ap (λ (c : Cursor). c.rest) (found.each []).1 in
+    let f = next_entry c r (next-is_next_entry c r (found.each []).0) in
+    let nothing : (cursor_after c).rest ≡ [] = ap (λ (c : Cursor). c.rest) (found.each []).1 in
     let bytes : found.bytes ≡ entry_bytes f.entry =
     sym (append-nil found.bytes) ∙ f.front ∙ ap (λ l. entry_bytes f.entry ++ l) nothing ∙ append-nil (entry_bytes f.entry) in record {
       bytes = h.bytes ++ found.bytes;

@@ -9,7 +9,7 @@ use Rattle.std.proofs.lemmas.Bool.Decides.{nat_tests}
 use Rattle.rasta_pcap.specs.declared.fault.Fault.{Fault}
 use Rattle.rasta_pcap.specs.declared.pcap.Endianness.{Endianness}
 use Rattle.rasta_pcap.specs.Fault.{fault_at, cut_record, too_many, record_too_long}
-use Rattle.rasta_pcap.specs.Capture.{Cursor, Entry, IsEntry, IsHeader, Numbered, cursor_at, captured_length, length_in_front, bytes_in_front, max_records, max_captured, opening, next}
+use Rattle.rasta_pcap.specs.Capture.{Cursor, Entry, IsEntry, IsHeader, Numbered, cursor_at, captured_length, next_length, next_bytes, max_records, max_captured, opening, next}
 use Rattle.rasta_pcap.specs.Filling.{IsFilled, ReadsUpTo}
 use Rattle.rasta_pcap.specs.Fronts.{front_of}
 use Rattle.rasta_pcap.specs.Stream.{ReadsJust, Opens, RefusesHeader, ReadsRecord, MeetsEnd, RefusesRecord}
@@ -152,12 +152,12 @@ next-whole_front order count front more f size h =
     let all = length rest in
     let said = captured_length order front in
     let full = nat_le max_records count in
-    let r : Numbered = (count + 1, bytes_in_front c) in
+    let r : Numbered = (count + 1, next_bytes c) in
     let whole : 16 ≤ all = simp length-append (omega arith) in
-    let captured : length_in_front c ≡ said = ap (captured_length order) (taken_front front more size) in
-    let cut = nat_lt all (16 + length_in_front c) in
-    ap (λ b. tested b full (nat_lt all 16) (nat_lt max_captured (length_in_front c)) cut (count + 1) r) (not_zero all (omega arith))
-    ∙ ap (λ b. tested false full b (nat_lt max_captured (length_in_front c)) cut (count + 1) r) (not_less all 16 whole)
+    let captured : next_length c ≡ said = ap (captured_length order) (taken_front front more size) in
+    let cut = nat_lt all (16 + next_length c) in
+    ap (λ b. tested b full (nat_lt all 16) (nat_lt max_captured (next_length c)) cut (count + 1) r) (not_zero all (omega arith))
+    ∙ ap (λ b. tested false full b (nat_lt max_captured (next_length c)) cut (count + 1) r) (not_less all 16 whole)
     ∙ ap (λ n. tested false full false (nat_lt max_captured n) cut (count + 1) r) captured
     ∙ whole_fault (nat_eq (length front) 0) full (nat_lt max_captured said) cut (count + 1) said r f
     (subst (λ b. front_tested (nat_eq (length front) 0) full b (nat_lt max_captured said) (count + 1) said ≡ Err f) (not_less (length front) 16 (omega arith)) h)
@@ -169,9 +169,9 @@ next-short_front order count front f short h =
     let size = length front in
     let said = captured_length order front in
     let full = nat_le max_records count in
-    let r : Numbered = (count + 1, bytes_in_front c) in
-    let cut = nat_lt size (16 + length_in_front c) in
-    let long = nat_lt max_captured (length_in_front c) in
+    let r : Numbered = (count + 1, next_bytes c) in
+    let cut = nat_lt size (16 + next_length c) in
+    let long = nat_lt max_captured (next_length c) in
     ap (λ b. tested (nat_eq size 0) full b long cut (count + 1) r) short
     ∙ short_fault (nat_eq size 0) full (nat_lt max_captured said) long cut (count + 1) said r f
     (subst (λ b. front_tested (nat_eq size 0) full b (nat_lt max_captured said) (count + 1) said ≡ Err f) short h)
@@ -203,10 +203,10 @@ next-cut order count captured front body h short =
     let c = cursor_at order (front ++ body) count in
     let size : length front ≡ 16 = h.size in
     let room : count < max_records = h.room in
-    let said : captured ≡ length_in_front c = h.captured_is ∙ ap (captured_length order) (sym (taken_front front body size)) in
+    let said : captured ≡ next_length c = h.captured_is ∙ ap (captured_length order) (sym (taken_front front body size)) in
     let bounded : captured ≤ max_captured = h.bounded in
     let long : length (front ++ body) ≡ 16 + length body = length-append front body ∙ ap (λ n. n + length body) size in
-    tested-cut (length (front ++ body)) count (length_in_front c) (count + 1) (count + 1, bytes_in_front c) (omega arith) room (omega arith) (omega arith)
+    tested-cut (length (front ++ body)) count (next_length c) (count + 1) (count + 1, next_bytes c) (omega arith) room (omega arith) (omega arith)
 
 pub refuses_body : (order : Endianness) (count captured : ℕ) (front body : List ℕ) (old mid new : Option (List ℕ)) → IsFilled 16 old mid front
     → front_of order count front ≡ Ok (Some captured) → IsFilled captured mid new body → length body < captured

@@ -99,16 +99,16 @@ abbrev pub opening : List ℕ → Result Cursor Fault
 opening file = if nat_lt (length file) 24 then Err (fault_at cut_header 0) else opening_in (order_of file) file
 
 -- the captured length in the next header
-abbrev pub length_in_front : Cursor → ℕ
-length_in_front c = captured_length c.order (take 16 c.rest)
+abbrev pub next_length : Cursor → ℕ
+next_length c = captured_length c.order (take 16 c.rest)
 
 -- the captured bytes of the next record
-abbrev pub bytes_in_front : Cursor → List ℕ
-bytes_in_front c = take (length_in_front c) (drop 16 c.rest)
+abbrev pub next_bytes : Cursor → List ℕ
+next_bytes c = take (next_length c) (drop 16 c.rest)
 
 -- the cursor after the next record
-abbrev pub behind : Cursor → Cursor
-behind c = record { order = c.order; rest = drop (length_in_front c) (drop 16 c.rest); count = c.count + 1 }
+abbrev pub cursor_after : Cursor → Cursor
+cursor_after c = record { order = c.order; rest = drop (next_length c) (drop 16 c.rest); count = c.count + 1 }
 
 -- a record's number, from 1, and its captured bytes
 abbrev pub Numbered : Type 0
@@ -120,13 +120,13 @@ next c =
     if length c.rest == 0 then Ok None
     else if nat_le max_records c.count then Err (fault_at too_many (c.count + 1))
     else if nat_lt (length c.rest) 16 then Err (fault_at cut_record (c.count + 1))
-    else if nat_lt max_captured (length_in_front c) then Err (fault_at record_too_long (c.count + 1))
-    else if nat_lt (length c.rest) (16 + length_in_front c) then Err (fault_at cut_record (c.count + 1))
-    else Ok (Some (c.count + 1, bytes_in_front c))
+    else if nat_lt max_captured (next_length c) then Err (fault_at record_too_long (c.count + 1))
+    else if nat_lt (length c.rest) (16 + next_length c) then Err (fault_at cut_record (c.count + 1))
+    else Ok (Some (c.count + 1, next_bytes c))
 
 -- where the cursor stands then: after a record that was there, else where it stood
 abbrev pub moved : Result (Option Numbered) Fault → Cursor → Cursor
-moved (Ok (Some r)) c = behind c
+moved (Ok (Some r)) c = cursor_after c
 moved (Ok None) c = c
 moved (Err f) c = c
 
@@ -146,7 +146,7 @@ read_step (Ok (Some r)) more = with_record r more
 -- at most so many records from the cursor on; bytes after them are not looked at
 unfoldable pub reading : ℕ → Cursor → Reading
 reading zero c = record { records = []; fault = None }
-reading (suc left) c = read_step (next c) (reading left (behind c))
+reading (suc left) c = read_step (next c) (reading left (cursor_after c))
 
 abbrev pub reading_opened : ℕ → Result Cursor Fault → Reading
 reading_opened limit (Err f) = record { records = []; fault = Some f }

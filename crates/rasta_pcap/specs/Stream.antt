@@ -10,7 +10,7 @@ use Rattle.rasta_pcap.specs.declared.stream.RecordReader.{RecordReader}
 use Rattle.rasta_pcap.specs.Fault.{no_memory, read_failed}
 use Rattle.rasta_pcap.specs.Devices.{HasFailed}
 pub use Rattle.rasta_pcap.specs.Filling.{IsFilled, ReadsUpTo}
-use Rattle.rasta_pcap.specs.Capture.{Numbered, captured_length, cursor_at, opening, next, behind}
+use Rattle.rasta_pcap.specs.Capture.{Numbered, captured_length, cursor_at, opening, next, cursor_after}
 
 -- nothing follows where the end of input was met
 abbrev pub MayFollow : Bool → List ℕ → Type 0
@@ -71,7 +71,7 @@ RefusesHeader f old new = ReadsSo (λ file. opening file ≡ Err f) old new
 -- one record was read: for every file that begins so, the cursor moves after it
 abbrev pub ReadsRecord : Endianness → ℕ → Numbered → Option (List ℕ) → Option (List ℕ) → Type 0
 ReadsRecord order count r old new = ReadsJust
-    (λ rest after. (next (cursor_at order rest count) ≡ Ok (Some r)) × (behind (cursor_at order rest count) ≡ cursor_at order after r.0))
+    (λ rest after. (next (cursor_at order rest count) ≡ Ok (Some r)) × (cursor_after (cursor_at order rest count) ≡ cursor_at order after r.0))
     old new
 
 -- nothing was read, since the file ends here

@@ -32,7 +32,7 @@ pub fn capture_is_read()
         → IsCapture limit file records
         → (bytes_of (reading_of limit file) ≡ records) × ((reading_of limit file).fault ≡ None) }
     // Where as many records stand as may be read, bytes after them change nothing.
-    ensures behind { (limit : ℕ) (file more : List ℕ) (records : List (List ℕ))
+    ensures after { (limit : ℕ) (file more : List ℕ) (records : List (List ℕ))
         → IsCapture limit file records → length records ≡ limit
         → IsCapture limit (file ++ more) records }
 {}
@@ -53,7 +53,7 @@ pub fn refusal_is_read()
         → IsRefused limit file records fault
         → fault ≡ fault_at fault.number (length records + 1) }
     // The records before a refusal are those of the same file, as far as there.
-    ensures in_front { (limit : ℕ) (file : List ℕ) (records : List (List ℕ)) (fault : Fault)
+    ensures before { (limit : ℕ) (file : List ℕ) (records : List (List ℕ)) (fault : Fault)
         → IsRefused limit file records fault → IsCapture (fault.place - 1) file records }
 {}
 

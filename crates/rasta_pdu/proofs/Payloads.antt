@@ -11,11 +11,11 @@ use Rattle.byteorder.specs.Endian.{little_bytes, little_number}
 use Rattle.byteorder.specs.Numbers.{little_number-reads_back}
 use Rattle.std.specs.Borrow.{Bor}
 use Rattle.rasta_pdu.specs.Parts.{lists_of}
-use Rattle.rasta_pdu.specs.Messages.{payload_of_messages, has_message, first_message, behind_message, messages_up_to, messages_of, are_messages, AreBytes, AreShort}
+use Rattle.rasta_pdu.specs.Messages.{payload_of_messages, has_message, first_message, after_message, messages_up_to, messages_of, are_messages, AreBytes, AreShort}
 
 -- the bytes after a message are fewer
-length-behind : (xs : List ℕ) → length (behind_message xs) ≡ length xs - (2 + little_number 2 xs)
-length-behind xs = length-drop (2 + little_number 2 xs) xs
+length-after : (xs : List ℕ) → length (after_message xs) ≡ length xs - (2 + little_number 2 xs)
+length-after xs = length-drop (2 + little_number 2 xs) xs
 
 -- more than as many messages as bytes are no more messages
 up_to_enough : (n m : ℕ) (xs : List ℕ) → length xs ≤ n → length xs ≤ m → messages_up_to n xs ≡ messages_up_to m xs
@@ -25,44 +25,44 @@ up_to_enough zero (suc m) (x ∷ xs) h k = absurd (omega arith)
 up_to_enough (suc n) zero [] h k = refl
 up_to_enough (suc n) zero (x ∷ xs) h k = absurd (omega arith)
 up_to_enough (suc n) (suc m) xs h k =
-    let less = length-behind xs in
+    let less = length-after xs in
     ap (λ (ms : List (List ℕ)). cond (has_message xs) (first_message xs ∷ ms) [])
-    (up_to_enough n m (behind_message xs) (omega arith) (omega arith))
+    (up_to_enough n m (after_message xs) (omega arith) (omega arith))
 
 -- the messages are the first and those after it
-pub messages_of-is : (xs : List ℕ) → messages_of xs ≡ cond (has_message xs) (first_message xs ∷ messages_of (behind_message xs)) []
+pub messages_of-is : (xs : List ℕ) → messages_of xs ≡ cond (has_message xs) (first_message xs ∷ messages_of (after_message xs)) []
 unfolding messages_of
 messages_of-is xs =
-    let less = length-behind xs in
+    let less = length-after xs in
     up_to_enough (length xs) (suc (length xs)) xs (omega arith) (omega arith)
     ∙ ap (λ (ms : List (List ℕ)). cond (has_message xs) (first_message xs ∷ ms) [])
-    (up_to_enough (length xs) (length (behind_message xs)) (behind_message xs) (omega arith) (omega arith))
+    (up_to_enough (length xs) (length (after_message xs)) (after_message xs) (omega arith) (omega arith))
 
 -- where a message begins, it is the first
-pub messages_of-first : (xs : List ℕ) → has_message xs ≡ true → messages_of xs ≡ first_message xs ∷ messages_of (behind_message xs)
-messages_of-first xs h = messages_of-is xs ∙ ap (λ (b : Bool). cond b (first_message xs ∷ messages_of (behind_message xs)) []) h
+pub messages_of-first : (xs : List ℕ) → has_message xs ≡ true → messages_of xs ≡ first_message xs ∷ messages_of (after_message xs)
+messages_of-first xs h = messages_of-is xs ∙ ap (λ (b : Bool). cond b (first_message xs ∷ messages_of (after_message xs)) []) h
 
 -- where none begins, there is none
 pub messages_of-none : (xs : List ℕ) → has_message xs ≡ false → messages_of xs ≡ []
-messages_of-none xs h = messages_of-is xs ∙ ap (λ (b : Bool). cond b (first_message xs ∷ messages_of (behind_message xs)) []) h
+messages_of-none xs h = messages_of-is xs ∙ ap (λ (b : Bool). cond b (first_message xs ∷ messages_of (after_message xs)) []) h
 
 -- how many bytes the messages of the bytes take
 abbrev pub filled : List ℕ → ℕ
 filled xs = length (payload_of_messages (messages_of xs))
 
 -- a message's length field and its bytes
-pub length-first : (xs : List ℕ) → has_message xs ≡ true → length (first_message xs) + 2 + length (behind_message xs) ≡ length xs
+pub length-first : (xs : List ℕ) → has_message xs ≡ true → length (first_message xs) + 2 + length (after_message xs) ≡ length xs
 length-first xs h =
     let room : 2 + little_number 2 xs ≤ length xs = leb-true (2 + little_number 2 xs) (length xs) h in
-    let less = length-behind xs in
+    let less = length-after xs in
     let taken = length-take (2 + little_number 2 xs - 2) (drop 2 xs) in
     let left = length-drop 2 xs in
     omega arith
 
-pub filled_more : (xs : List ℕ) → has_message xs ≡ true → filled xs + length (behind_message xs) ≡ filled (behind_message xs) + length xs
+pub filled_more : (xs : List ℕ) → has_message xs ≡ true → filled xs + length (after_message xs) ≡ filled (after_message xs) + length xs
 filled_more xs h =
     let all = ap (λ (ms : List (List ℕ)). length (payload_of_messages ms)) (messages_of-first xs h) in
-    let parts = length-append (first_message xs) (payload_of_messages (messages_of (behind_message xs))) in
+    let parts = length-append (first_message xs) (payload_of_messages (messages_of (after_message xs))) in
     let size = length-first xs h in
     omega arith
 
@@ -109,8 +109,8 @@ first_is m rest short =
     let size = length-append m rest in
     let has : has_message xs ≡ true = most (2 + little_number 2 xs) (length xs) (omega arith) in
     let first : first_message xs ≡ m = ap (λ (k : ℕ). take (2 + k - 2) (m ++ rest)) n ∙ ap (λ (k : ℕ). take k (m ++ rest)) (omega arith) ∙ take-append_seam m rest in
-    let behind : behind_message xs ≡ rest = ap (λ (k : ℕ). drop (2 + k) xs) n ∙ skip m rest (length m) xs refl (omega arith) in
-    messages_of-first xs has ∙ ap (λ (l : List ℕ). l ∷ messages_of (behind_message xs)) first ∙ ap (λ (l : List ℕ). m ∷ messages_of l) behind
+    let after : after_message xs ≡ rest = ap (λ (k : ℕ). drop (2 + k) xs) n ∙ skip m rest (length m) xs refl (omega arith) in
+    messages_of-first xs has ∙ ap (λ (l : List ℕ). l ∷ messages_of (after_message xs)) first ∙ ap (λ (l : List ℕ). m ∷ messages_of l) after
   where
     most : (a b : ℕ) → a ≤ b → nat_le a b ≡ true
     most a b h = grind (arith, nat_tests)
@@ -146,7 +146,7 @@ are_messages-payload (m ∷ ms) are some =
 
 -- where a message begins, the bytes are its length, itself and what follows it
 front_is : (xs : List ℕ) → AreBytes xs → has_message xs ≡ true
-    → xs ≡ little_bytes 2 (length (first_message xs)) ++ (first_message xs ++ behind_message xs)
+    → xs ≡ little_bytes 2 (length (first_message xs)) ++ (first_message xs ++ after_message xs)
 front_is xs are h =
     let n : ℕ = little_number 2 xs in
     let room : 2 + n ≤ length xs = leb-true (2 + n) (length xs) h in
@@ -160,24 +160,24 @@ record Splits (n : ℕ) (xs : List ℕ) : Type 0 where
   rest : List ℕ
   is : xs ≡ payload_of_messages (messages_up_to n xs) ++ rest
 
-first_split : (n : ℕ) (xs : List ℕ) → AreBytes xs → Splits n (behind_message xs) → (b : Bool) → has_message xs ≡ b → Splits (suc n) xs
+first_split : (n : ℕ) (xs : List ℕ) → AreBytes xs → Splits n (after_message xs) → (b : Bool) → has_message xs ≡ b → Splits (suc n) xs
 first_split n xs are more false h = record {
   rest = xs;
-  is = ap (λ (t : Bool). payload_of_messages (cond t (first_message xs ∷ messages_up_to n (behind_message xs)) []) ++ xs) (sym h);
+  is = ap (λ (t : Bool). payload_of_messages (cond t (first_message xs ∷ messages_up_to n (after_message xs)) []) ++ xs) (sym h);
 }
 first_split n xs are more true h = record {
   rest = more.rest;
   is = front_is xs are h
       ∙ ap (λ (l : List ℕ). little_bytes 2 (length (first_message xs)) ++ (first_message xs ++ l)) more.is
       ∙ ap (λ (l : List ℕ). little_bytes 2 (length (first_message xs)) ++ l)
-      (sym (append_assoc (first_message xs) (payload_of_messages (messages_up_to n (behind_message xs))) more.rest))
-      ∙ ap (λ (t : Bool). payload_of_messages (cond t (first_message xs ∷ messages_up_to n (behind_message xs)) []) ++ more.rest) (sym h);
+      (sym (append_assoc (first_message xs) (payload_of_messages (messages_up_to n (after_message xs))) more.rest))
+      ∙ ap (λ (t : Bool). payload_of_messages (cond t (first_message xs ∷ messages_up_to n (after_message xs)) []) ++ more.rest) (sym h);
 }
 
 splits : (n : ℕ) (xs : List ℕ) → AreBytes xs → Splits n xs
 splits zero xs are = record { rest = xs; is = refl }
 splits (suc n) xs are =
-    first_split n xs are (splits n (behind_message xs) (AreBytes-drop (2 + little_number 2 xs) xs are)) (has_message xs) refl
+    first_split n xs are (splits n (after_message xs) (AreBytes-drop (2 + little_number 2 xs) xs are)) (has_message xs) refl
 
 -- a payload that its messages fill is their spelling
 pub payload_of_messages-messages_of : (xs : List ℕ) → AreBytes xs → are_messages xs ≡ true → xs ≡ payload_of_messages (messages_of xs)

@@ -9,15 +9,15 @@ first_part n u c k e =
     ap (λ (l : List ℕ). take n l) (append_assoc u c k) ∙ ap (λ (m : ℕ). take m (u ++ (c ++ k))) e ∙ take-append_seam u (c ++ k)
 
 -- what follows it
-pub behind_first : (n : ℕ) (u c k : List ℕ) → n ≡ length u → drop n ((u ++ c) ++ k) ≡ c ++ k
-behind_first n u c k e =
+pub after_first : (n : ℕ) (u c k : List ℕ) → n ≡ length u → drop n ((u ++ c) ++ k) ≡ c ++ k
+after_first n u c k e =
     ap (λ (l : List ℕ). drop n l) (append_assoc u c k) ∙ ap (λ (m : ℕ). drop m (u ++ (c ++ k))) e ∙ drop-append_seam u (c ++ k)
 
 -- the second of three parts
 pub second_part : (n m : ℕ) (u c k : List ℕ) → n ≡ length u → m ≡ length u + length c → slice_range ((u ++ c) ++ k) n m ≡ c
 second_part n m u c k e f =
     let size : m - n ≡ length c = omega arith in
-    ap (λ (l : List ℕ). take (m - n) l) (behind_first n u c k e) ∙ ap (λ (i : ℕ). take i (c ++ k)) size ∙ take-append_seam c k
+    ap (λ (l : List ℕ). take (m - n) l) (after_first n u c k e) ∙ ap (λ (i : ℕ). take i (c ++ k)) size ∙ take-append_seam c k
 
 -- the third of three parts
 pub third_part : (n : ℕ) (u c k : List ℕ) → n ≡ length u + length c → drop n ((u ++ c) ++ k) ≡ k

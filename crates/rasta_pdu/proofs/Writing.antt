@@ -16,13 +16,13 @@ pub appended : (old f u k : List ℕ) (n : ℕ) (code : List ℕ → List ℕ) �
     → (((old ++ f) ++ u) ++ code (drop n ((old ++ f) ++ u))) ++ k ≡ old ++ (f ++ ((u ++ code u) ++ k))
 appended old f u k n code e =
     let size = length-append old f in
-    let behind : drop n ((old ++ f) ++ u) ≡ u = ap (λ (m : ℕ). drop m ((old ++ f) ++ u)) (e ∙ sym size) ∙ drop-append_seam (old ++ f) u in
-    ap (λ (l : List ℕ). (((old ++ f) ++ u) ++ code l) ++ k) behind
+    let after : drop n ((old ++ f) ++ u) ≡ u = ap (λ (m : ℕ). drop m ((old ++ f) ++ u)) (e ∙ sym size) ∙ drop-append_seam (old ++ f) u in
+    ap (λ (l : List ℕ). (((old ++ f) ++ u) ++ code l) ++ k) after
     ∙ simp append_assoc
 
 -- three lists after a list
-pub behind_old : (old a b c : List ℕ) → ((old ++ a) ++ b) ++ c ≡ old ++ (a ++ (b ++ c))
-behind_old old a b c = simp append_assoc
+pub after_old : (old a b c : List ℕ) → ((old ++ a) ++ b) ++ c ≡ old ++ (a ++ (b ++ c))
+after_old old a b c = simp append_assoc
 
 length-lists : (ms : List (Bor (List ℕ))) → length (lists_of ms) ≡ length ms
 length-lists [] = refl

@@ -24,14 +24,14 @@ abbrev pub first_message : List ℕ → List ℕ
 first_message bytes = slice_range bytes 2 (2 + little_number 2 bytes)
 
 -- the bytes after it
-abbrev pub behind_message : List ℕ → List ℕ
-behind_message bytes = drop (2 + little_number 2 bytes) bytes
+abbrev pub after_message : List ℕ → List ℕ
+after_message bytes = drop (2 + little_number 2 bytes) bytes
 
 -- at most so many messages, one after the other
 abbrev pub messages_up_to : ℕ → List ℕ → List (List ℕ)
 messages_up_to zero bytes = []
 messages_up_to (suc n) bytes =
-    if has_message bytes then first_message bytes ∷ messages_up_to n (behind_message bytes) else []
+    if has_message bytes then first_message bytes ∷ messages_up_to n (after_message bytes) else []
 
 -- the messages of a payload
 unfoldable pub messages_of : List ℕ → List (List ℕ)

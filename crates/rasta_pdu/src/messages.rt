@@ -1,7 +1,7 @@
 //! The messages of a payload.
 ghost use Rattle.std.specs.Prelude.{◌≡◌, ◌≤◌, MatchOption, IsTrue, false, length};
 ghost use Rattle.std.specs.Iterator.{YieldsFirstRef, item_count};
-ghost use Rattle.rasta_pdu.specs.Messages.{are_messages, has_message, first_message, behind_message, messages_of};
+ghost use Rattle.rasta_pdu.specs.Messages.{are_messages, has_message, first_message, after_message, messages_of};
 
 use crate::bytes::u16_at;
 use crate::layout::LENGTH_LEN;
@@ -20,8 +20,8 @@ impl<'a> Iterator for Messages<'a> {
     ghost remaining = { item_count (λ s. messages_of s.rest.now) };
 
     fn next(&mut self) -> Option<&'a [u8]> {
-        let (message, behind) = split_message(self.rest)?;
-        self.rest = behind;
+        let (message, after) = split_message(self.rest)?;
+        self.rest = after;
         Some(message)
     }
 }
@@ -29,7 +29,7 @@ impl<'a> Iterator for Messages<'a> {
 // The message that begins there, and the bytes after it; none where the bytes end too soon.
 fn split_message<'a>(bytes: &'a [u8]) -> Option<(&'a [u8], &'a [u8])>
     ensures { MatchOption result (has_message bytes.now ≡ false)
-        (λ parts. IsTrue (has_message bytes.now) × (parts.0.now ≡ first_message bytes.now) × (parts.1.now ≡ behind_message bytes.now)) }
+        (λ parts. IsTrue (has_message bytes.now) × (parts.0.now ≡ first_message bytes.now) × (parts.1.now ≡ after_message bytes.now)) }
 {
     if bytes.len() < LENGTH_LEN {
         return None;
@@ -46,8 +46,8 @@ pub fn are_messages(payload: &[u8]) -> bool
     ensures { result ≡ are_messages payload.now }
 {
     let mut rest = payload;
-    while let Some((_, behind)) = split_message(rest) {
-        rest = behind;
+    while let Some((_, after)) = split_message(rest) {
+        rest = after;
     }
     !payload.is_empty() && rest.is_empty()
 }

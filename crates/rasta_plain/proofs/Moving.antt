@@ -152,8 +152,8 @@ make_made p b a xs channel payload why r sp number rec calm = (
 
 -- ---- what a station keeps
 
-pub arrived_behind : (s : Inside) (v : JudgedStation) → judged_station s ≡ v → IsPlainStation s → (position : ℕ) → Contains v.station.arrived position → v.station.state.base ≤ position
-arrived_behind s v view kept position =
+pub arrived_after : (s : Inside) (v : JudgedStation) → judged_station s ≡ v → IsPlainStation s → (position : ℕ) → Contains v.station.arrived position → v.station.state.base ≤ position
+arrived_after s v view kept position =
     subst (λ (w : JudgedStation). Contains w.station.arrived position → w.station.state.base ≤ position) view (λ there. let l = kept.arrived position there in omega (arith, l, kept.base))
 
 pub kept_arrived : (s : Inside) (items : List ℕ) (position : ℕ) → IsPlainStation s → items ≡ position ∷ s.arrived.items → s.base ≤ position
@@ -164,8 +164,8 @@ kept_arrived s items position kept is low at there = ⊎_elim
     (Contains-append_cases (position ∷ []) s.arrived.items at (subst (λ (xs : List ℕ). Contains xs at) is there))
 
 -- the position of a PDU that the peer made is not below the own first one
-pub behind_base : (s : Inside) (v : JudgedStation) (base position : ℕ) → judged_station s ≡ v → IsPlainStation s → base ≡ v.station.state.base → base ≤ position → s.base ≤ position
-behind_base s v base position view kept same low = (let e = ap (λ (w : JudgedStation). w.station.state.base) view in omega (arith, e, kept.base, same, low))
+pub after_base : (s : Inside) (v : JudgedStation) (base position : ℕ) → judged_station s ≡ v → IsPlainStation s → base ≡ v.station.state.base → base ≤ position → s.base ≤ position
+after_base s v base position view kept same low = (let e = ap (λ (w : JudgedStation). w.station.state.base) view in omega (arith, e, kept.base, same, low))
 
 -- ---- faults
 
@@ -228,25 +228,25 @@ repeated p b a items all place channel d get side rec pushed =
 
 -- ---- after a make
 
-same_behind : (row : Option MakeRow) (e : EndState) (x : SafetyPdu) (clock : ℕ)
+same_after : (row : Option MakeRow) (e : EndState) (x : SafetyPdu) (clock : ℕ)
     → ((after_make_by row e x clock).side ≡ e.side) × ((after_make_by row e x clock).base ≡ e.base) × ((after_make_by row e x clock).accepted ≡ e.accepted)
-same_behind None e x clock = (refl, refl, refl)
-same_behind (Some row) e x clock = (refl, refl, refl)
+same_after None e x clock = (refl, refl, refl)
+same_after (Some row) e x clock = (refl, refl, refl)
 
-clock_behind : (row : Option MakeRow) (e : EndState) (x : SafetyPdu) (clock : ℕ) → e.clock ≤ clock → (after_make_by row e x clock).clock ≤ clock
-clock_behind None e x clock l = l
-clock_behind (Some row) e x clock l = omega arith
+clock_after : (row : Option MakeRow) (e : EndState) (x : SafetyPdu) (clock : ℕ) → e.clock ≤ clock → (after_make_by row e x clock).clock ≤ clock
+clock_after None e x clock l = l
+clock_after (Some row) e x clock l = omega arith
 
 pub kept_make : (s : Inside) (e : JudgedEnd) (why : Why) (d : RedundancyPdu) → IsPlainStation s → e ≡ record { params = s.end.params; state = after_make s.end.state d.safety s.clock why } → IsPlainStation (record s { end = e })
 kept_make s e why d kept is =
-    let same = same_behind (row_of s.end.state d.safety why) s.end.state d.safety s.clock in
+    let same = same_after (row_of s.end.state d.safety why) s.end.state d.safety s.clock in
     let few = ap (λ (f : JudgedEnd). f.state.accepted) is ∙ same.2 in
     record {
       params = ap (λ (f : JudgedEnd). f.params) is ∙ kept.params;
       side = kept.side ∙ sym (ap (λ (f : JudgedEnd). f.state.side) is ∙ same.0);
       base = kept.base ∙ sym (ap (λ (f : JudgedEnd). f.state.base) is ∙ same.1);
       small = kept.small;
-      clock = (let now = ap (λ (f : JudgedEnd). f.state.clock) is in let past = clock_behind (row_of s.end.state d.safety why) s.end.state d.safety s.clock kept.clock in omega (arith, now, past));
+      clock = (let now = ap (λ (f : JudgedEnd). f.state.clock) is in let past = clock_after (row_of s.end.state d.safety why) s.end.state d.safety s.clock kept.clock in omega (arith, now, past));
       arrived = kept.arrived;
       accepted = omega (arith, few, kept.accepted);
     }

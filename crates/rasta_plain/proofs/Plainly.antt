@@ -15,7 +15,7 @@ use Rattle.rasta_pdu.specs.declared.quiet_point.Quiet.{Quiet}
 use Rattle.rasta_end.specs.Starts.{start_of, start_by, quiet_pdu}
 use Rattle.rasta_end.specs.MakeRule.{is_data, is_connection_request}
 use Rattle.rasta_end.specs.TakeRule.{is_retransmission_response}
-use Rattle.rasta_end.specs.Units.{Conveyed, convey, units_behind, units_at, last_of, responses_after}
+use Rattle.rasta_end.specs.Units.{Conveyed, convey, units_after, units_at, last_of, responses_after}
 use Rattle.rasta_plain.specs.declared.taken.FirstCopy.{FirstCopy as PlainCopy}
 use Rattle.rasta_plain.specs.declared.taken.MadePdu.{MadePdu}
 use Rattle.rasta_check.specs.Crossing.{FirstCopy}
@@ -54,25 +54,25 @@ pub at-at_most : (m : ℕ) (ns : List ℕ) (o : Option ℕ) → AreAtMost m ns �
 at-at_most m ns None h = omega arith
 at-at_most m ns (Some i) h = index-at_most m ns i h
 
-pub behind-response : (asks units : List ℕ) (n : ℕ) (kind : Kind) → 0 < length units → kind ≡ RetransmissionResponse → units_at units (slice_get asks n) ≡ units_behind asks units n kind
-behind-response asks [] n kind some is = absurd (omega arith)
-behind-response asks (u ∷ us) n kind some is = ap (units_behind asks (u ∷ us) n) (sym is)
+pub conveys-response : (asks units : List ℕ) (n : ℕ) (kind : Kind) → 0 < length units → kind ≡ RetransmissionResponse → units_at units (slice_get asks n) ≡ units_after asks units n kind
+conveys-response asks [] n kind some is = absurd (omega arith)
+conveys-response asks (u ∷ us) n kind some is = ap (units_after asks (u ∷ us) n) (sym is)
 
-pub behind-data : (asks units : List ℕ) (n : ℕ) (kind : Kind) → 0 < length units → kind ≡ Data → last_of units + 1 ≡ units_behind asks units n kind
-behind-data asks [] n kind some is = absurd (omega arith)
-behind-data asks (u ∷ us) n kind some is = add-one (last_of (u ∷ us)) ∙ ap (units_behind asks (u ∷ us) n) (sym is)
+pub conveys-data : (asks units : List ℕ) (n : ℕ) (kind : Kind) → 0 < length units → kind ≡ Data → last_of units + 1 ≡ units_after asks units n kind
+conveys-data asks [] n kind some is = absurd (omega arith)
+conveys-data asks (u ∷ us) n kind some is = add-one (last_of (u ∷ us)) ∙ ap (units_after asks (u ∷ us) n) (sym is)
 
-pub behind-again : (asks units : List ℕ) (n : ℕ) (kind : Kind) → 0 < length units → kind ≡ RetransmittedData → last_of units + 1 ≡ units_behind asks units n kind
-behind-again asks [] n kind some is = absurd (omega arith)
-behind-again asks (u ∷ us) n kind some is = add-one (last_of (u ∷ us)) ∙ ap (units_behind asks (u ∷ us) n) (sym is)
+pub conveys-again : (asks units : List ℕ) (n : ℕ) (kind : Kind) → 0 < length units → kind ≡ RetransmittedData → last_of units + 1 ≡ units_after asks units n kind
+conveys-again asks [] n kind some is = absurd (omega arith)
+conveys-again asks (u ∷ us) n kind some is = add-one (last_of (u ∷ us)) ∙ ap (units_after asks (u ∷ us) n) (sym is)
 
-pub behind-other : (asks units : List ℕ) (n : ℕ) (kind : Kind) → 0 < length units → (kind ≡ RetransmissionResponse → ⊥) → (kind ≡ Data → ⊥) → (kind ≡ RetransmittedData → ⊥)
-    → last_of units ≡ units_behind asks units n kind
-behind-other asks [] n kind some response fresh again = absurd (omega arith)
-behind-other asks (u ∷ us) n RetransmissionResponse some response fresh again = absurd (response refl)
-behind-other asks (u ∷ us) n Data some response fresh again = absurd (fresh refl)
-behind-other asks (u ∷ us) n RetransmittedData some response fresh again = absurd (again refl)
-behind-other asks (u ∷ us) n _ some response fresh again = refl
+pub conveys-other : (asks units : List ℕ) (n : ℕ) (kind : Kind) → 0 < length units → (kind ≡ RetransmissionResponse → ⊥) → (kind ≡ Data → ⊥) → (kind ≡ RetransmittedData → ⊥)
+    → last_of units ≡ units_after asks units n kind
+conveys-other asks [] n kind some response fresh again = absurd (omega arith)
+conveys-other asks (u ∷ us) n RetransmissionResponse some response fresh again = absurd (response refl)
+conveys-other asks (u ∷ us) n Data some response fresh again = absurd (fresh refl)
+conveys-other asks (u ∷ us) n RetransmittedData some response fresh again = absurd (again refl)
+conveys-other asks (u ∷ us) n _ some response fresh again = refl
 
 pub not_empty : (units : List ℕ) (b : Bool) → b ≡ (length units == 0) → b ≡ false → 0 < length units
 not_empty [] b is no_more = (let e : true ≡ false = sym is ∙ no_more in cc)
@@ -95,11 +95,11 @@ kinds_made own = map (λ (x : SafetyPdu). x.kind) (pdus own)
 
 -- one PDU more is conveyed
 pub conveyed-more : (asks units more : List ℕ) (own : List MadePdu) (i n responses after : ℕ) (d m : MadePdu) → i < length own → m ≡ get_or own i d
-    → n ≡ units_behind asks units responses m.kind → more ≡ units ++ n ∷ [] → after ≡ responses + (if is_retransmission_response m.kind then 1 else 0)
+    → n ≡ units_after asks units responses m.kind → more ≡ units ++ n ∷ [] → after ≡ responses + (if is_retransmission_response m.kind then 1 else 0)
     → fold (convey asks) (record { units = more; responses = after }) (kinds_made (drop (i + 1) own)) ≡ fold (convey asks) (record { units = units; responses = responses }) (kinds_made (drop i own))
-conveyed-more asks units more own i n responses after d m below is behind pushed counted =
-    ap (λ (ns : List ℕ). from ns after) (pushed ∙ ap (λ k. units ++ k ∷ []) behind)
-    ∙ ap (from (units ++ units_behind asks units responses m.kind ∷ [])) (counted ∙ sym (responses-next responses m.kind))
+conveyed-more asks units more own i n responses after d m below is conveys pushed counted =
+    ap (λ (ns : List ℕ). from ns after) (pushed ∙ ap (λ k. units ++ k ∷ []) conveys)
+    ∙ ap (from (units ++ units_after asks units responses m.kind ∷ [])) (counted ∙ sym (responses-next responses m.kind))
     ∙ ap (λ (ms : List MadePdu). fold (convey asks) (record { units = units; responses = responses }) (kinds_made ms)) (sym (next_of own i d m below is))
   where
     from : List ℕ → ℕ → Conveyed

@@ -219,9 +219,9 @@ fn ask_at(asks: &[usize], responses: usize) -> Option<usize>
 }
 
 // The units conveyed through the position after these.
-fn units_behind(asks: &[usize], units: &[usize], responses: usize, kind: Kind) -> usize
+fn units_after(asks: &[usize], units: &[usize], responses: usize, kind: Kind) -> usize
     requires { AreAtMost (length units.now) units.now }
-    ensures value { result ≡ Units.units_behind asks.now units.now responses kind }
+    ensures value { result ≡ Units.units_after asks.now units.now responses kind }
     ensures bound { result ≤ length units.now + 1 }
 {
     if units.is_empty() {
@@ -243,7 +243,7 @@ fn units_along(alloc: Global, own: &[MadePdu], peer: &[FirstCopy]) -> Result<Vec
     let mut units = Vec::new(alloc);
     let mut responses = 0;
     for pdu in own {
-        units.push(units_behind(asks.as_slice(), units.as_slice(), responses, pdu.kind))?;
+        units.push(units_after(asks.as_slice(), units.as_slice(), responses, pdu.kind))?;
         responses += usize::from(is_retransmission_response(pdu.kind));
     }
     Ok(units)

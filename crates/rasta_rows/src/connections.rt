@@ -193,7 +193,7 @@ server 47 6220 507 109 9060 1060 -
 ";
 
 // The client's request comes directly after what the server accepted, which waits and answers it.
-const BEHIND: &str = "\
+const DIRECTLY: &str = "\
 client 7 6200 100 0 1000 0 open
 server 40 6201 500 100 9000 1000 open
 client 8 6220 101 500 1010 9000 -
@@ -220,7 +220,7 @@ pub fn lines_of(word: &str) -> Option<&'static str> {
         "far" => Some(FAR),
         "heartbeats" => Some(HEARTBEATS),
         "beaten" => Some(BEATEN),
-        "behind" => Some(BEHIND),
+        "directly" => Some(DIRECTLY),
         _ => None,
     }
 }

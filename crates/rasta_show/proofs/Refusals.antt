@@ -4,7 +4,7 @@ use Rattle.std.proofs.lemmas.Bool.{leb-true, leb-false}
 use Rattle.std.specs.Io.KnownBytes.{Consumes}
 use Rattle.rasta_pcap.specs.declared.fault.Fault.{Fault}
 use Rattle.rasta_pcap.specs.declared.pcap.Endianness.{Endianness}
-use Rattle.rasta_pcap.specs.Capture.{Cursor, Numbered, bytes_in_front, cursor_at, length_in_front, max_captured, max_records, next, opening, opening_in, order_of}
+use Rattle.rasta_pcap.specs.Capture.{Cursor, Numbered, next_bytes, cursor_at, next_length, max_captured, max_records, next, opening, opening_in, order_of}
 use Rattle.rasta_pcap.specs.Devices.{HasFailed}
 use Rattle.rasta_pcap.specs.Fault.{fault_at, cut_header, cut_record, no_memory, not_pcap, read_failed, record_too_long, too_many, wrong_link_type, wrong_version}
 use Rattle.rasta_pcap.specs.Stream.{FailsWithin, LacksMemory, RefusesHeader, RefusesRecord}
@@ -30,9 +30,9 @@ tested-number false false false false false place r f h = absurd (cc)
 pub next-number : (c : Cursor) (f : Fault) → next c ≡ Err f → 10 ≤ f.number
 next-number c f h =
     let size = length c.rest in
-    let captured = length_in_front c in
+    let captured = next_length c in
     tested-number (nat_eq size 0) (nat_le max_records c.count) (nat_lt size 16) (nat_lt max_captured captured)
-    (nat_lt size (16 + captured)) (c.count + 1) (c.count + 1, bytes_in_front c) f h
+    (nat_lt size (16 + captured)) (c.count + 1) (c.count + 1, next_bytes c) f h
 
 abbrev unopened : Fault → Result Cursor Fault
 unopened f = Err f

@@ -1,7 +1,7 @@
 -- What was sent of a text, piece by piece.
 use Rattle.std.proofs.Common.{◌≡◌, ◌∙◌, ℕ, ◌/◌, ◌%◌, ◌++◌, slice_index, take, drop, length, take-append-drop, arith, append_assoc, List, [], ◌∷◌, ap, refl, sym}
 use Rattle.hex.specs.Hex.{encode_lower, encode_with, lower_digits}
-use Rattle.rasta_show.specs.Lines.{in_front}
+use Rattle.rasta_show.specs.Lines.{words_before}
 
 -- the digits of two pieces
 pub encode_with-append : (t xs ys : List ℕ) → encode_with t (xs ++ ys) ≡ encode_with t xs ++ encode_with t ys
@@ -10,10 +10,10 @@ encode_with-append t [] ys = refl
 encode_with-append t (x ∷ xs) ys = ap (λ (l : List ℕ). slice_index t (x / 16) ∷ slice_index t (x % 16) ∷ l) (encode_with-append t xs ys)
 
 -- words that come before two parts of the rest
-pub in_front-append : (words : List (List ℕ)) (xs ys : List ℕ) → in_front words (xs ++ ys) ≡ in_front words xs ++ ys
-in_front-append [] xs ys = refl
-in_front-append (w ∷ words) xs ys =
-    ap (λ (l : List ℕ). w ++ (32 ∷ l)) (in_front-append words xs ys) ∙ sym (append_assoc w (32 ∷ in_front words xs) ys)
+pub words_before-append : (words : List (List ℕ)) (xs ys : List ℕ) → words_before words (xs ++ ys) ≡ words_before words xs ++ ys
+words_before-append [] xs ys = refl
+words_before-append (w ∷ words) xs ys =
+    ap (λ (l : List ℕ). w ++ (32 ∷ l)) (words_before-append words xs ys) ∙ sym (append_assoc w (32 ∷ words_before words xs) ys)
 
 -- the digits of a list that is cut in two
 pub digits-cut : (xs : List ℕ) (n : ℕ) → encode_lower xs ≡ encode_lower (take n xs) ++ encode_lower (drop n xs)

@@ -48,9 +48,9 @@ fn write_hex<W: Sink>(bytes: &[u8], writer: &mut W) -> Result<(), Fault>
 {
     let mut rest = bytes;
     while !rest.is_empty() {
-        let (piece, behind) = rest.split_at(rest.len().min(PIECE));
+        let (piece, after) = rest.split_at(rest.len().min(PIECE));
         write_piece(piece, writer)?;
-        rest = behind;
+        rest = after;
     }
     Ok(())
 }

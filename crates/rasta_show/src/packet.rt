@@ -5,7 +5,7 @@ ghost use Rattle.rasta_pcap.specs.Fault.{write_failed};
 ghost use Rattle.rasta_pcap.specs.Devices.{AppendsBeginning, HasFailed};
 ghost use Rattle.rasta_pdu.specs.Pdu.{Bye, Empty, Opening, read_code, value_of};
 ghost use Rattle.rasta_show.specs.Codes.{HasShortCodes};
-ghost use Rattle.rasta_show.specs.Lines.{body_words, codes_line, front_words, in_front, packet_line};
+ghost use Rattle.rasta_show.specs.Lines.{body_words, codes_line, front_words, words_before, packet_line};
 ghost use Rattle.rasta_show.specs.Shown.{data_front, data_line, packet_of};
 
 use crate::line::Line;
@@ -28,7 +28,7 @@ fn put_codes(line: &mut Line, pdu: &Pdu<'_>)
 // Prepends the body of a connection request or response.
 fn put_opening(line: &mut Line, version: [u8; 4], sendmax: u16, reserved: [u8; 8])
     requires { length line.old ≤ 44 }
-    ensures line { line.new ≡ in_front (body_words (Opening version sendmax reserved)) line.old }
+    ensures line { line.new ≡ words_before (body_words (Opening version sendmax reserved)) line.old }
     ensures short { length line.new ≤ 82 }
 {
     line.hex(&reserved);
@@ -40,7 +40,7 @@ fn put_opening(line: &mut Line, version: [u8; 4], sendmax: u16, reserved: [u8; 8
 // The same of a disconnection request.
 fn put_bye(line: &mut Line, detail: u16, reason: u16)
     requires { length line.old ≤ 44 }
-    ensures line { line.new ≡ in_front (body_words (Bye detail reason)) line.old }
+    ensures line { line.new ≡ words_before (body_words (Bye detail reason)) line.old }
     ensures short { length line.new ≤ 82 }
 {
     line.number(u32::from(reason));
@@ -52,7 +52,7 @@ impl ShownPacket<'_> {
     // Prepends what comes before the body.
     fn put_front(&self, place: u32, line: &mut Line)
         requires { length line.old ≤ 82 }
-        ensures { line.new ≡ in_front (front_words place (packet_of self.now)) line.old }
+        ensures { line.new ≡ words_before (front_words place (packet_of self.now)) line.old }
     {
         let pdu = self.pdu;
         line.number(pdu.cts());
@@ -72,12 +72,12 @@ impl ShownPacket<'_> {
     fn write<W: Sink>(&self, place: u32, end: &mut Line, writer: &mut W) -> Result<(), Fault>
         requires { length end.old ≤ 82 }
         ensures ok { OnOk result (Appends (W.contents writer.old) (W.contents writer.new)
-            (in_front (front_words place (packet_of self.now)) end.old)) }
+            (words_before (front_words place (packet_of self.now)) end.old)) }
         ensures steady { OnOk result (W.failure_count writer.new ≡ W.failure_count writer.old) }
         ensures err { IfErr result (λ f. (f ≡ write_failed)
             × HasFailed (W.failure_count writer.old) (W.failure_count writer.new)) }
         ensures begun { OnErr result (AppendsBeginning (W.contents writer.old) (W.contents writer.new)
-            (in_front (front_words place (packet_of self.now)) end.old)) }
+            (words_before (front_words place (packet_of self.now)) end.old)) }
     {
         self.put_front(place, end);
         write_all(writer, end.as_bytes())

@@ -30,7 +30,7 @@ timeout at the deadline | data slack | 0 1 2 3 4 6 | make 0 1000 open, take 2 40
 make at the deadline | data plain | 0 1 2 3 7 | make 0 1000 open, take 2 40, make 2 1010 reply, make 3 1020 fresh | take 1 7, make 1 9000 reply, take 4 8, take 4 9, make 4 10800 beat | 5; -; 0 3 4 ab01, 1 3 4 .
 make past the deadline | data plain | 0 1 2 3 8 | make 0 1000 open, take 2 40, make 2 1010 reply, make 3 1020 fresh | take 1 7, make 1 9000 reply, take 4 8, take 4 9, make 4 10801 beat | 38 5 server
 take at its own place | data plain | 0 1 2 3 4 | make 0 1000 open, take 2 40, make 2 1010 reply, make 3 1020 fresh | take 1 7, make 1 9000 reply, take 3 8, take 3 9, make 4 9050 beat | 34 4 server
-take right behind | data plain | 0 1 2 3 4 | make 0 1000 open, take 2 40, make 2 1010 reply, make 3 1020 fresh | take 1 7, make 1 9000 reply, take 3 8, take 4 9, make 4 9050 beat | 5; -; 0 3 4 ab01, 1 3 4 .
+take right after | data plain | 0 1 2 3 4 | make 0 1000 open, take 2 40, make 2 1010 reply, make 3 1020 fresh | take 1 7, make 1 9000 reply, take 3 8, take 4 9, make 4 9050 beat | 5; -; 0 3 4 ab01, 1 3 4 .
 capture ends in a burst | lost plain | 0 1 2 3 4 5 6 7 15 | make 0 1000 open, take 2 40, make 2 1010 reply, make 3 1020 fresh, make 4 1030 fresh, take 6 41, make 6 1070 reply, make 7 1071 again 0 | take 1 7, make 1 9000 reply, take 5 8, take 5 10, make 5 9060 ask, take 8 11, take 8 12, make 8 9080 beat | 9; -; 0 3 8 01
 number gap | data plain | 0 1 3 4 | - | - | 28 3 client
 data while a reply is owed | lost plain | 0 1 2 3 4 5 12 | make 0 1000 open, take 2 40, make 2 1010 reply, make 3 1020 fresh, make 4 1030 fresh, take 6 41, make 6 1070 fresh | - | 42 7 client
@@ -105,13 +105,13 @@ fn are_bytes(bytes: &[u8], digits: &str) -> bool {
     }
     let mut rest = digits;
     for byte in bytes {
-        let Some((front, behind)) = rest.split_at_checked(2) else {
+        let Some((front, after)) = rest.split_at_checked(2) else {
             return false;
         };
         if u8::from_str_radix(front, 16).ok() != Some(*byte) {
             return false;
         }
-        rest = behind;
+        rest = after;
     }
     rest.is_empty()
 }

@@ -18,7 +18,7 @@ resend differs | lost plain | 0 1 2 3 4 5 6 7 14 | 60 9 -
 make past the deadline | data plain | 0 1 2 3 8 | 60 5 -
 eleven lost heartbeats | heartbeats narrow | 0 1 2 3 4 5 6 7 8 9 10 11 12 13 14 15 17 19 20 21 22 | 60 18 -
 a beat in place of the request | heartbeats narrow | 0 1 2 3 4 5 14 15 18 19 20 21 23 | 60 13 -
-request directly behind | behind plain | 0 1 2 3 4 5 6 7 8 | 60 9 -
+request directly after | directly plain | 0 1 2 3 4 5 6 7 8 | 60 9 -
 second opening | byes plain | 0 1 5 6 | 60 4 -
 both ends, the client first | byes plain | 0 1 5 0@2 6 7 | 60 5 -
 both ends, the server first | byes plain | 0 0@2 1 5 7 6 | 60 5 -

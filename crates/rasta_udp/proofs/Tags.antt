@@ -17,42 +17,42 @@ module _ (f : List ℕ) (whole : 16 ≤ length f) where
       sym (drop-drop k 12 (without_tag f)) ∙ ap (drop k) (drop_at (take 12 f) (drop 16 f) 12 front)
       ∙ drop-drop k 16 f ∙ ap (λ n. drop n f) shift ∙ sym (drop-drop (12 + k) 4 f)
 
-  drop_behind : (n : ℕ) → 12 ≤ n → drop n (without_tag f) ≡ drop n (drop 4 f)
-  drop_behind n h =
+  drop_after : (n : ℕ) → 12 ≤ n → drop n (without_tag f) ≡ drop n (drop 4 f)
+  drop_after n h =
       let e : 12 + (n - 12) ≡ n = omega arith in
       subst (λ m. drop m (without_tag f) ≡ drop m (drop 4 f)) e (drop-without_tag (n - 12))
 
-  number_behind : (m n : ℕ) → 12 ≤ n → number_at m n (without_tag f) ≡ number_at m n (drop 4 f)
+  number_after : (m n : ℕ) → 12 ≤ n → number_at m n (without_tag f) ≡ number_at m n (drop 4 f)
   unfolding number_at
-  number_behind m n h = ap (big_number m) (drop_behind n h)
+  number_after m n h = ap (big_number m) (drop_after n h)
 
-  byte_behind : (n : ℕ) → 12 ≤ n → get_or (without_tag f) n 0 ≡ get_or (drop 4 f) n 0
-  byte_behind n h =
+  byte_after : (n : ℕ) → 12 ≤ n → get_or (without_tag f) n 0 ≡ get_or (drop 4 f) n 0
+  byte_after n h =
       let e : n + 0 ≡ n = omega arith in
       ap (λ m. get_or (without_tag f) m 0) (sym e) ∙ sym (get_or-drop n (without_tag f) 0 0)
-      ∙ ap (λ l. get_or l 0 0) (drop_behind n h) ∙ get_or-drop n (drop 4 f) 0 0 ∙ ap (λ m. get_or (drop 4 f) m 0) e
+      ∙ ap (λ l. get_or l 0 0) (drop_after n h) ∙ get_or-drop n (drop 4 f) 0 0 ∙ ap (λ m. get_or (drop 4 f) m 0) e
 
   length-without_tag : length (without_tag f) ≡ length (drop 4 f)
   length-without_tag = omega (arith, length-append (take 12 f) (drop 16 f), front, length-drop 16 f, length-drop 4 f)
 
-  fields_behind : fields_of (without_tag f) ≡ fields_of (drop 4 f)
-  fields_behind =
+  fields_after : fields_of (without_tag f) ≡ fields_of (drop 4 f)
+  fields_after =
       let size : length (without_tag f) ≡ length (drop 4 f) = length-without_tag in
-      let first : get_or (without_tag f) 14 0 ≡ get_or (drop 4 f) 14 0 = byte_behind 14 (omega arith) in
-      let protocol : get_or (without_tag f) 23 0 ≡ get_or (drop 4 f) 23 0 = byte_behind 23 (omega arith) in
-      let n12 : number_at 2 12 (without_tag f) ≡ number_at 2 12 (drop 4 f) = number_behind 2 12 (omega arith) in
-      let n16 : number_at 2 16 (without_tag f) ≡ number_at 2 16 (drop 4 f) = number_behind 2 16 (omega arith) in
-      let n20 : number_at 2 20 (without_tag f) ≡ number_at 2 20 (drop 4 f) = number_behind 2 20 (omega arith) in
-      let n26 : number_at 4 26 (without_tag f) ≡ number_at 4 26 (drop 4 f) = number_behind 4 26 (omega arith) in
-      let n30 : number_at 4 30 (without_tag f) ≡ number_at 4 30 (drop 4 f) = number_behind 4 30 (omega arith) in
+      let first : get_or (without_tag f) 14 0 ≡ get_or (drop 4 f) 14 0 = byte_after 14 (omega arith) in
+      let protocol : get_or (without_tag f) 23 0 ≡ get_or (drop 4 f) 23 0 = byte_after 23 (omega arith) in
+      let n12 : number_at 2 12 (without_tag f) ≡ number_at 2 12 (drop 4 f) = number_after 2 12 (omega arith) in
+      let n16 : number_at 2 16 (without_tag f) ≡ number_at 2 16 (drop 4 f) = number_after 2 16 (omega arith) in
+      let n20 : number_at 2 20 (without_tag f) ≡ number_at 2 20 (drop 4 f) = number_after 2 20 (omega arith) in
+      let n26 : number_at 4 26 (without_tag f) ≡ number_at 4 26 (drop 4 f) = number_after 4 26 (omega arith) in
+      let n30 : number_at 4 30 (without_tag f) ≡ number_at 4 30 (drop 4 f) = number_after 4 30 (omega arith) in
       let h = header_length_of (without_tag f) in
-      let p14 : number_at 2 (14 + h) (without_tag f) ≡ number_at 2 (14 + h) (drop 4 f) = number_behind 2 (14 + h) (omega arith) in
-      let p16 : number_at 2 (16 + h) (without_tag f) ≡ number_at 2 (16 + h) (drop 4 f) = number_behind 2 (16 + h) (omega arith) in
-      let p18 : number_at 2 (18 + h) (without_tag f) ≡ number_at 2 (18 + h) (drop 4 f) = number_behind 2 (18 + h) (omega arith) in
+      let p14 : number_at 2 (14 + h) (without_tag f) ≡ number_at 2 (14 + h) (drop 4 f) = number_after 2 (14 + h) (omega arith) in
+      let p16 : number_at 2 (16 + h) (without_tag f) ≡ number_at 2 (16 + h) (drop 4 f) = number_after 2 (16 + h) (omega arith) in
+      let p18 : number_at 2 (18 + h) (without_tag f) ≡ number_at 2 (18 + h) (drop 4 f) = number_after 2 (18 + h) (omega arith) in
       cc
 
-  slice_behind : (a b : ℕ) → slice_range f (a + 4) (b + 4) ≡ slice_range (drop 4 f) a b
-  slice_behind a b =
+  slice_after : (a b : ℕ) → slice_range f (a + 4) (b + 4) ≡ slice_range (drop 4 f) a b
+  slice_after a b =
       let size : (b + 4) - (a + 4) ≡ b - a = omega arith in
       let place : a + 4 ≡ 4 + a = omega arith in
       ap (λ n. take n (drop (a + 4) f)) size ∙ ap (λ n. take (b - a) (drop n f)) place
@@ -63,7 +63,7 @@ module _ (f : List ℕ) (whole : 16 ≤ length f) where
       map_found (packet_at f) (map_found (moved_on 4) r) ≡ map_found (packet_at (drop 4 f)) r
   packet_moved (Ok None) = refl
   packet_moved (Ok (Some d)) =
-      ap (λ (bytes : List ℕ). Ok (Some (record { channel = d.channel; side = d.side; payload = bytes }))) (slice_behind d.start d.end)
+      ap (λ (bytes : List ℕ). Ok (Some (record { channel = d.channel; side = d.side; payload = bytes }))) (slice_after d.start d.end)
   packet_moved (Err e) = refl
 
 -- what a tagged frame holds is read 4 bytes on
@@ -73,7 +73,7 @@ unfolding packet_in datagram_of
 packet_in_tagged channels f whole type_is =
     let tagged : is_tagged f ≡ true = grind arith in
     rw tagged (rw (take_rest f 4)
-    (packet_moved f whole _ ∙ ap (λ (x : Fields). map_found (packet_at (drop 4 f)) (found_by channels x)) (fields_behind f whole)))
+    (packet_moved f whole _ ∙ ap (λ (x : Fields). map_found (packet_at (drop 4 f)) (found_by channels x)) (fields_after f whole)))
 
 -- what a frame without a tag holds is read where it stands
 pub packet_in_untagged : (channels : List Channel) (f : List ℕ) → is_tagged f ≡ false →

@@ -96,14 +96,14 @@ not_taken : (b : Bool) (number : ℕ) (xs : List ℕ) → cons_option (if b then
 not_taken true number xs e = absurd (cc)
 not_taken false number xs e = refl
 
-not_in_front : (level slot number : ℕ) (es : List Entry) → takes_at level (Take slot number ∷ es) ≡ [] → (slot == level) ≡ false
+not_before : (level slot number : ℕ) (es : List Entry) → takes_at level (Take slot number ∷ es) ≡ [] → (slot == level) ≡ false
 unfolding takes_at
-not_in_front level slot number es e = not_taken (slot == level) number (takes_at level es) e
+not_before level slot number es e = not_taken (slot == level) number (takes_at level es) e
 
 -- one that has none, and doesn't begin with a make of this place, begins above it
 pub goes_up : (level : ℕ) (entry : Entry) (es : List Entry) → IsOrderedFrom level (entry ∷ es) → takes_at level (entry ∷ es) ≡ []
     → made_in level entry ≡ None → IsOrderedFrom (suc level) (entry ∷ es)
-goes_up level (Take slot number) es o none e = (let z = differs level slot o.0 (not_in_front level slot number es none) in omega arith, o.1)
+goes_up level (Take slot number) es o none e = (let z = differs level slot o.0 (not_before level slot number es none) in omega arith, o.1)
 goes_up level (Make index clock why) es o none e = (let z = differs level index o.0 (no_item (index == level) (clock, why) e) in omega arith, o.1)
 
 pub no_makes : (level : ℕ) (entry : Entry) (es : List Entry) → IsOrderedFrom level (entry ∷ es) → takes_at level (entry ∷ es) ≡ []

@@ -12,7 +12,7 @@ use Rattle.rasta_cert.specs.declared.entry.Entry.TheVariants.{Take}
 use Rattle.rasta_cert.specs.Certificate.{Scripts}
 use Rattle.rasta_check.specs.Crossing.{Spells}
 use Rattle.rasta_verdict.specs.RunText.{makes_at, take_line, takes_at, takes_text, number_of}
-use Rattle.rasta_verdict.specs.Told.{IsBehind, IsBehindTakes, IsOrderedFrom, of_side, told_crossing, told_level, told_levels, told_packet}
+use Rattle.rasta_verdict.specs.Told.{IsAfter, IsAfterTakes, IsOrderedFrom, of_side, told_crossing, told_level, told_levels, told_packet}
 use Rattle.rasta_check.proofs.Crossings.{number_spelled}
 use Rattle.rasta_verdict.proofs.Ordered.{below, makes_past, takes_here, takes_other}
 
@@ -34,7 +34,7 @@ among-next level number script here rest h e = record {
   makes = λ place. sym (makes_past place level number rest) ∙ (ap (makes_at place) (sym e) ∙ h.makes place);
 }
 
-pub among-end : (level : ℕ) (script rest : List Entry) → IsAmongTakes level script rest → takes_at level rest ≡ [] → IsBehindTakes level script rest
+pub among-end : (level : ℕ) (script rest : List Entry) → IsAmongTakes level script rest → takes_at level rest ≡ [] → IsAfterTakes level script rest
 among-end level script rest h none = record { order = h.order; none_left = none; takes = h.takes; makes = h.makes }
 
 pub takes_text-next : (level number : ℕ) (side : Side) (here rest : List Entry) (line : List ℕ) → here ≡ Take level number ∷ rest → line ≡ take_line level side number
@@ -70,9 +70,9 @@ the_packet p place client server makes packet side number line w m e =
 
 -- ---- a level
 
-pub level-behind : (level : ℕ) (script mid rest : List Entry) → IsBehindTakes level script mid → IsOrderedFrom (suc level) rest
-    → ((later : ℕ) → takes_at later rest ≡ takes_at later mid) → ((later : ℕ) → level < later → makes_at later rest ≡ makes_at later mid) → IsBehind level script rest
-level-behind level script mid rest h o takes makes = record {
+pub level-after : (level : ℕ) (script mid rest : List Entry) → IsAfterTakes level script mid → IsOrderedFrom (suc level) rest
+    → ((later : ℕ) → takes_at later rest ≡ takes_at later mid) → ((later : ℕ) → level < later → makes_at later rest ≡ makes_at later mid) → IsAfter level script rest
+level-after level script mid rest h o takes makes = record {
   order = o;
   takes = λ later l. takes later ∙ h.takes later l;
   makes = λ later l. makes later l ∙ h.makes later;
@@ -127,8 +127,8 @@ same_levels packets c d low level (suc left) h l =
     ap (λ (t : List ℕ). t ++ told_levels packets c (suc level) left) (same_level packets c d low level h l)
     ∙ ap (λ (t : List ℕ). told_level packets d level ++ t) (same_levels packets c d low (suc level) left h (omega arith))
 
-behind-same : (level : ℕ) (c d : Scripts) → IsBehind level c.client d.client → IsBehind level c.server d.server → SayTheSame (suc level) c d
-behind-same level c d h k = record {
+after-same : (level : ℕ) (c d : Scripts) → IsAfter level c.client d.client → IsAfter level c.server d.server → SayTheSame (suc level) c d
+after-same level c d h k = record {
   client_takes = λ later l. sym (h.takes later l);
   server_takes = λ later l. sym (k.takes later l);
   client_makes = λ later l. sym (h.makes later l);
@@ -137,14 +137,14 @@ behind-same level c d h k = record {
 
 -- a level is written, and the levels after it are told by what is left of the scripts
 pub told_levels-next : (packets : List udp.Packet) (c d : Scripts) (level end : ℕ) → level < end
-    → IsBehind level c.client d.client → IsBehind level c.server d.server
+    → IsAfter level c.client d.client → IsAfter level c.server d.server
     → told_levels packets c level (end - level) ≡ told_level packets c level ++ told_levels packets d (level + 1) (end - (level + 1))
 unfolding told_levels
 told_levels-next packets c d level end l h k =
     let count : end - level ≡ suc (end - (level + 1)) = omega arith in
     let one : suc level ≡ level + 1 = omega arith in
     ap (told_levels packets c level) count
-    ∙ ap (λ (t : List ℕ). told_level packets c level ++ t) (same_levels packets c d (suc level) (suc level) (end - (level + 1)) (behind-same level c d h k) (omega arith)
+    ∙ ap (λ (t : List ℕ). told_level packets c level ++ t) (same_levels packets c d (suc level) (suc level) (end - (level + 1)) (after-same level c d h k) (omega arith)
     ∙ ap (λ n. told_levels packets d n (end - (level + 1))) one)
 
 pub told_levels-front : (packets : List udp.Packet) (c : Scripts) (level end : ℕ) → level < end

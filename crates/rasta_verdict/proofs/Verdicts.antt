@@ -20,22 +20,22 @@ use Rattle.rasta_check.specs.declared.report.Taken.{Taken}
 use Rattle.rasta_check.specs.Listed.{ListedMessage, listed_of}
 use Rattle.rasta_check.specs.Reading.{Crossing, crossing_of}
 use Rattle.rasta_check.specs.Report.{Explained, verdict_of}
-use Rattle.rasta_show.proofs.Sending.{in_front-append}
+use Rattle.rasta_show.proofs.Sending.{words_before-append}
 use Rattle.rasta_verdict.specs.declared.verdict.Verdict.{Verdict}
 use Rattle.rasta_verdict.specs.declared.verdict.Verdict.TheVariants as verdicts
 use Rattle.rasta_verdict.specs.Judged.{HasToldRun, status_of_verdict, text_of_verdict}
-use Rattle.rasta_show.specs.Lines.{in_front, message_text, refused_line}
+use Rattle.rasta_show.specs.Lines.{words_before, message_text, refused_line}
 use Rattle.rasta_show.specs.Runs.{IsRunFault}
 use Rattle.rasta_verdict.specs.RunText.{run_text}
 use Rattle.rasta_verdict.specs.Verdict.{BeginsVerdict, IsVerdict, WritesVerdict, capture_refused, certificate_refused, script_refused, explained, explained_line, explained_text, taken_count_line, taken_line, taken_lines, taken_text}
 
 -- ---- texts in parts
 
-pub taken_line-parts : (t : ListedMessage) (front : List ℕ) → front ≡ in_front (decimal t.number ∷ decimal t.data_place ∷ decimal t.proof_place ∷ []) []
+pub taken_line-parts : (t : ListedMessage) (front : List ℕ) → front ≡ words_before (decimal t.number ∷ decimal t.data_place ∷ decimal t.proof_place ∷ []) []
     → taken_line t ≡ front ++ (message_text t.message ++ 10 ∷ [])
 unfolding taken_line
 taken_line-parts t front e =
-    in_front-append (decimal t.number ∷ decimal t.data_place ∷ decimal t.proof_place ∷ []) [] (message_text t.message ++ 10 ∷ [])
+    words_before-append (decimal t.number ∷ decimal t.data_place ∷ decimal t.proof_place ∷ []) [] (message_text t.message ++ 10 ∷ [])
     ∙ ap (λ (l : List ℕ). l ++ (message_text t.message ++ 10 ∷ [])) (sym e)
 
 pub taken_lines-next : (ts : List Taken) (i : ℕ) (d : Taken) → i < length ts

@@ -12,7 +12,7 @@ use Rattle.rasta_cert.specs.Certificate.{Scripts, why_line}
 use Rattle.rasta_check.specs.Lists.{position_of_place}
 use Rattle.rasta_check.specs.Packets.{number_in_bytes}
 use Rattle.rasta_check.specs.Reading.{Crossing, sent_by}
-use Rattle.rasta_show.specs.Lines.{in_front, line_of, side_text}
+use Rattle.rasta_show.specs.Lines.{words_before, line_of, side_text}
 
 -- ---- lines
 
@@ -23,7 +23,7 @@ take_line level side number = line_of (decimal level ∷ side_text side ∷ code
 -- `PLACE SIDE make NUMBER CLOCK WHY`
 unfoldable pub make_line : ℕ → Side → ℕ → ℕ × Why → List ℕ
 make_line place side number made =
-    in_front (decimal place ∷ side_text side ∷ codes "make" ∷ decimal number ∷ decimal made.0 ∷ []) (why_line made.1)
+    words_before (decimal place ∷ side_text side ∷ codes "make" ∷ decimal number ∷ decimal made.0 ∷ []) (why_line made.1)
 
 -- `PLACE SIDE copy NUMBER`
 unfoldable pub copy_line : ℕ → Side → ℕ → List ℕ

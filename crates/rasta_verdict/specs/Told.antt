@@ -36,14 +36,14 @@ pub record IsTold (k : Crossing) (scripts : Scripts) : Type 0 where
 -- ---- what is left of a script
 
 -- the rest of a script after its takes of this slot
-pub record IsBehindTakes (level : ℕ) (script rest : List Entry) : Type 0 where
+pub record IsAfterTakes (level : ℕ) (script rest : List Entry) : Type 0 where
   pub order : IsOrderedFrom level rest
   pub none_left : takes_at level rest ≡ []
   pub takes : (later : ℕ) → level < later → takes_at later rest ≡ takes_at later script
   pub makes : (place : ℕ) → makes_at place rest ≡ makes_at place script
 
 -- the rest of a script after all of this level
-pub record IsBehind (level : ℕ) (script rest : List Entry) : Type 0 where
+pub record IsAfter (level : ℕ) (script rest : List Entry) : Type 0 where
   pub order : IsOrderedFrom (suc level) rest
   pub takes : (later : ℕ) → level < later → takes_at later rest ≡ takes_at later script
   pub makes : (later : ℕ) → level < later → makes_at later rest ≡ makes_at later script

@@ -4,7 +4,7 @@ ghost use Rattle.std.specs.Io.KnownBytes.{Appends};
 ghost use Rattle.rasta_pcap.specs.Fault.{write_failed};
 ghost use Rattle.rasta_pcap.specs.Devices.{AppendsBeginning, HasFailed};
 ghost use Rattle.rasta_verdict.specs.RunText.{run_text, takes_text};
-ghost use Rattle.rasta_verdict.specs.Told.{IsBehind, IsBehindTakes, IsOrderedFrom, IsTold, of_side, told_crossing, told_level, told_packet};
+ghost use Rattle.rasta_verdict.specs.Told.{IsAfter, IsAfterTakes, IsOrderedFrom, IsTold, of_side, told_crossing, told_level, told_packet};
 ghost use Rattle.rasta_verdict.specs.Passed.{makes_of, scripts_of};
 
 use crate::run_lines::{Made, put_copy, put_make, put_take};
@@ -32,17 +32,17 @@ fn write_takes<'s, W: Sink>(
 ) -> Result<&'s [Entry], Fault>
     requires { IsOrderedFrom level script.now }
     ensures ok { OnOk result (Appends (W.contents writer.old) (W.contents writer.new) (takes_text level side script.entry.now)) }
-    ensures rest { IfOk result (λ r. IsBehindTakes level script.entry.now r.now) }
+    ensures rest { IfOk result (λ r. IsAfterTakes level script.entry.now r.now) }
     ensures steady { OnOk result (W.failure_count writer.new ≡ W.failure_count writer.old) }
     ensures err { IfErr result (λ f. (f ≡ write_failed)
         × HasFailed (W.failure_count writer.old) (W.failure_count writer.new)) }
     ensures begun { OnErr result (AppendsBeginning (W.contents writer.old) (W.contents writer.new) (takes_text level side script.entry.now)) }
 {
     let mut rest = script;
-    while let Some((number, behind)) = next_take(level, rest) {
+    while let Some((number, after)) = next_take(level, rest) {
         put_take(line, level, side, number);
         write_all(writer, line.as_bytes())?;
-        rest = behind;
+        rest = after;
     }
     Ok(rest)
 }
@@ -104,7 +104,7 @@ fn write_level<'s, W: Sink>(
     requires server { IsOrderedFrom level scripts.server.now }
     ensures ok { OnOk result (Appends (W.contents writer.old) (W.contents writer.new)
         (told_level store.now.packets (scripts_of scripts.entry) level)) }
-    ensures rests { IfOk result (λ r. IsBehind level scripts.entry.client.now r.client.now × IsBehind level scripts.entry.server.now r.server.now) }
+    ensures rests { IfOk result (λ r. IsAfter level scripts.entry.client.now r.client.now × IsAfter level scripts.entry.server.now r.server.now) }
     ensures steady { OnOk result (W.failure_count writer.new ≡ W.failure_count writer.old) }
     ensures err { IfErr result (λ f. (f ≡ write_failed)
         × HasFailed (W.failure_count writer.old) (W.failure_count writer.new)) }

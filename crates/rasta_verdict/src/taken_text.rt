@@ -4,7 +4,7 @@ ghost use Rattle.std.specs.Io.KnownBytes.{Appends};
 ghost use Rattle.rasta_pcap.specs.Fault.{write_failed};
 ghost use Rattle.rasta_pcap.specs.Devices.{AppendsBeginning, HasFailed};
 ghost use Rattle.rasta_check.specs.Listed.{listed_of};
-ghost use Rattle.rasta_show.specs.Lines.{in_front};
+ghost use Rattle.rasta_show.specs.Lines.{words_before};
 ghost use Rattle.rasta_verdict.specs.Verdict.{taken_count_line, taken_line, taken_lines, taken_text};
 
 use rasta_check::Taken;
@@ -25,7 +25,7 @@ fn put_count(line: &mut Line, side: Side, count: u64)
 
 // Makes what comes before a message's bytes.
 fn put_places(line: &mut Line, taken: &Taken<'_>)
-    ensures { line.new ≡ in_front (decimal taken.now.message ∷ decimal taken.now.data_index ∷ decimal taken.now.proof_index ∷ []) [] }
+    ensures { line.new ≡ words_before (decimal taken.now.message ∷ decimal taken.now.data_index ∷ decimal taken.now.proof_index ∷ []) [] }
 {
     line.clear();
     line.number(taken.proof_index);

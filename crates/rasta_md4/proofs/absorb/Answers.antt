@@ -3,7 +3,7 @@ use Rattle.std.specs.Prelude.{fold}
 use Rattle.std.proofs.lemmas.List.{length-take-le, take_rest}
 use Rattle.rasta_md4.specs.Md4.{blocks, compress}
 use Rattle.rasta_md4.proofs.Blocks.{blocks_none}
-use Rattle.rasta_md4.proofs.Pieces.{behind_blocks_filled, fold_filled, put_mid-end}
+use Rattle.rasta_md4.proofs.Pieces.{past_blocks_filled, fold_filled, put_mid-end}
 use borrow.Rule.Slice.PartMut.{put_mid}
 use Rattle.rasta_md4.proofs.absorb.Goals as goal
 
@@ -36,4 +36,4 @@ returns-clause-waiting c =
     let rest : take (length c.args.bytes.now - n) (drop n c.args.bytes.now) ≡ drop n c.args.bytes.now = take_rest c.args.bytes.now n in
     let left : (c.args.used + length c.args.bytes.now) % 64 ≡ length (drop n c.args.bytes.now) % 64 = omega (arith, length-drop n c.args.bytes.now) in
     ap (λ (i : ℕ). take i c.absorb_aligned-2.new.buffer) left ∙ (rw rest at c.absorb_aligned-2.ensures.waiting)
-    ∙ behind_blocks_filled t c.args.bytes.now b n full (omega arith) (omega arith)
+    ∙ past_blocks_filled t c.args.bytes.now b n full (omega arith) (omega arith)

@@ -23,8 +23,8 @@ loop-entry-preserved c =
     c.push.ensures.items ∙ ap (λ (b : Bool). cond b (es ++ e ∷ []) es) c.if-is_err.ensures.negation in
     let long : length (es ++ e ∷ []) ≡ length es + 1 = length-append es (e ∷ []) in
     record {
-      text_is = entries_text_push es e c.args.text.now c.loop-entry.rest.now c.in-Some.behind.now c.loop-entry.invariant.text_is found.text_is
-          ∙ ap (λ (l : List Entry). entries_text l ++ c.in-Some.behind.now) (sym pushed);
+      text_is = entries_text_push es e c.args.text.now c.loop-entry.rest.now c.in-Some.after.now c.loop-entry.invariant.text_is found.text_is
+          ∙ ap (λ (l : List Entry). entries_text l ++ c.in-Some.after.now) (sym pushed);
       valid = subst AreEntries (sym pushed) (AreEntries_push es e c.loop-entry.invariant.valid found.valid);
       few = omega (arith, long, ap length pushed, c.loop-entry.invariant.few, c.if-len-most.false, c.len.ensures);
     }

@@ -7,5 +7,5 @@ returns-clause-read c limit file h = IsCapture-reading_of limit file h
 pub returns-clause-only : goal.returns-clause-only
 returns-clause-only c limit file records bound h = reading_of-IsCapture limit file records bound h
 
-pub returns-clause-behind : goal.returns-clause-behind
-returns-clause-behind c limit file more records h full = IsCapture-append limit file more records h full
+pub returns-clause-after : goal.returns-clause-after
+returns-clause-after c limit file more records h full = IsCapture-append limit file more records h full

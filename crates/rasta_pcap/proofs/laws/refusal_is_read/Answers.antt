@@ -10,5 +10,5 @@ returns-clause-only c limit file records fault bound h = reading_of-IsRefused li
 pub returns-clause-place : goal.returns-clause-place
 returns-clause-place c limit file records fault h = IsRefused-place limit file records fault h
 
-pub returns-clause-in_front : goal.returns-clause-in_front
-returns-clause-in_front c limit file records fault h = IsCapture-IsRefused limit file records fault h
+pub returns-clause-before : goal.returns-clause-before
+returns-clause-before c limit file records fault h = IsCapture-IsRefused limit file records fault h

@@ -2,7 +2,7 @@ use Rattle.std.proofs.Common.{List, ℕ, ◌++◌, ap, ◌∙◌}
 use Rattle.byteorder.specs.Endian.{little_bytes}
 use Rattle.rasta_pdu.specs.Pdu.{receiver_of, sender_of, type_of, payload_of}
 use Rattle.rasta_pdu.specs.Parts.{parts_body}
-use Rattle.rasta_pdu.proofs.Writing.{behind_old}
+use Rattle.rasta_pdu.proofs.Writing.{after_old}
 use Rattle.rasta_pdu.proofs.write.put_uncoded.Goals as goal
 
 pub returns-clause-items : goal.returns-clause-items
@@ -15,4 +15,4 @@ returns-clause-items c =
     ++ (little_bytes 4 (receiver_of p c.args.side) ++ little_bytes 4 (sender_of p c.args.side))) in
     let stamps : List ℕ = little_bytes 4 parts.sn ++ (little_bytes 4 parts.cs ++ (little_bytes 4 parts.ts ++ little_bytes 4 parts.cts)) in
     rw (c.put_body.ensures.items, c.put_stamps.ensures.items, c.put_ids.ensures.items)
-    (behind_old old (ids c.args.len) stamps b ∙ ap (λ (n : ℕ). old ++ (ids n ++ (stamps ++ b))) c.requires.len)
+    (after_old old (ids c.args.len) stamps b ∙ ap (λ (n : ℕ). old ++ (ids n ++ (stamps ++ b))) c.requires.len)

@@ -19,12 +19,12 @@ returns-in_err-rests-clause-begun g c = where_failed c.from_residual.result (sub
 
 pub loop-level-preserved : goal.loop-level-preserved
 loop-level-preserved g c =
-    let behind = c.in_ok-rests.ensures.rests in record {
+    let after = c.in_ok-rests.ensures.rests in record {
       sent = Sent-more _ _ _ _ _ _ _ c.loop-level.invariant.sent
-          (told_levels-next c.args.store.now.packets (scripts_of c.loop-level.rests) (scripts_of c.in_ok-rests.rests) c.loop-level.level _ c.loop-level-test.true behind.0 behind.1)
+          (told_levels-next c.args.store.now.packets (scripts_of c.loop-level.rests) (scripts_of c.in_ok-rests.rests) c.loop-level.level _ c.loop-level-test.true after.0 after.1)
           c.in_ok-rests.ensures.ok;
-      client = from_next c.loop-level.level c.in_ok-rests.rests.client.now behind.0.order;
-      server = from_next c.loop-level.level c.in_ok-rests.rests.server.now behind.1.order;
+      client = from_next c.loop-level.level c.in_ok-rests.rests.client.now after.0.order;
+      server = from_next c.loop-level.level c.in_ok-rests.rests.server.now after.1.order;
       steady = c.in_ok-rests.ensures.steady ∙ c.loop-level.invariant.steady;
       end = c.loop-level.invariant.end;
     }

@@ -6,5 +6,5 @@ use Rattle.rasta_build.proofs.peer.Peer.last_response.Given as goal
 abbrev pub invariant-loop-position : goal.invariant-loop-position
 invariant-loop-position g l = record {
   last : l.found ≡ Explaining.last_response l.self.quiet_sn (g.S.SentList.content l.list) l.next (l.position - l.next);
-  most : l.behind < l.next → l.position ≡ l.next;
+  most : l.bound < l.next → l.position ≡ l.next;
 }

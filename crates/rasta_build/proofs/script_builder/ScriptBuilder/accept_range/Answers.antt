@@ -22,7 +22,7 @@ loop-position-preserved g c =
 
 pub returns-in_err-accept_at-clause-err : goal.returns-in_err-accept_at-clause-err
 returns-in_err-accept_at-clause-err g c =
-    let h : c.in_err-accept_at.field-0.0 ≡ Unexplained → accept_from (g.S.SentList.content c.args.peer.now) c.args.slot c.args.first (c.args.behind - c.args.first) c.args.self.now ≡ None =
-    λ (e : c.in_err-accept_at.field-0.0 ≡ Unexplained). accept_stuck (g.S.SentList.content c.args.peer.now) c.args.slot c.args.first c.args.behind c.loop-position.position c.args.self.now c.loop-position.self
+    let h : c.in_err-accept_at.field-0.0 ≡ Unexplained → accept_from (g.S.SentList.content c.args.peer.now) c.args.slot c.args.first (c.args.bound - c.args.first) c.args.self.now ≡ None =
+    λ (e : c.in_err-accept_at.field-0.0 ≡ Unexplained). accept_stuck (g.S.SentList.content c.args.peer.now) c.args.slot c.args.first c.args.bound c.loop-position.position c.args.self.now c.loop-position.self
     (omega arith) (omega arith) c.loop-position.invariant.accepts (c.in_err-accept_at.ensures.err e) in
     first_of (search rules, grind (arith, common_steps))

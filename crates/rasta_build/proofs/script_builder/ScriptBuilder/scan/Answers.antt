@@ -13,7 +13,7 @@ loop-position-preserved g c =
     let low = inv.accepted in
     let owes = ap (λ (b : Built). length b.end.state.owed) c.self.view_is in
     record {
-      rest = inv.rest ∙ scan_on sent c.args.place c.args.made c.loop-position.position c.args.behind c.loop-position.self c.try_at.new.self (omega arith) step (omega (arith, owes, c.owed.ensures.value, c.if-owed-gt0.false));
+      rest = inv.rest ∙ scan_on sent c.args.place c.args.made c.loop-position.position c.args.bound c.loop-position.self c.try_at.new.self (omega arith) step (omega (arith, owes, c.owed.ensures.value, c.if-owed-gt0.false));
       params = kept.0 ∙ inv.params;
       accepted = omega (arith, more, low);
     }
@@ -23,7 +23,7 @@ returns-then-owed-gt0-clause-ok g c =
     let sent = g.S.SentList.content c.args.peer.now in
     let owes = ap (λ (b : Built). length b.end.state.owed) c.self.view_is in
     c.loop-position.invariant.rest
-    ∙ scan_ends sent c.args.place c.args.made c.loop-position.position c.args.behind c.loop-position.self c.try_at.new.self (omega arith) c.in_ok-try_at.ensures.ok (omega (arith, owes, c.owed.ensures.value, c.if-owed-gt0.true))
+    ∙ scan_ends sent c.args.place c.args.made c.loop-position.position c.args.bound c.loop-position.self c.try_at.new.self (omega arith) c.in_ok-try_at.ensures.ok (omega (arith, owes, c.owed.ensures.value, c.if-owed-gt0.true))
 
 pub returns-then-owed-gt0-clause-params : goal.returns-then-owed-gt0-clause-params
 returns-then-owed-gt0-clause-params g c =

@@ -16,7 +16,7 @@ returns-clause-steps c =
 pub returns-clause-goes : goal.returns-clause-goes
 returns-clause-goes c =
     let first = messages_of-first c.args.self.now.rest.now c.in_ok-message.ensures.0 in
-    let behind = c.in_ok-message.ensures.2 in
+    let after = c.in_ok-message.ensures.2 in
     let count = ap length first in
-    let left = ap (λ (xs : List ℕ). length (messages_of xs)) behind in
+    let left = ap (λ (xs : List ℕ). length (messages_of xs)) after in
     record { on = λ _. (tt, tt, omega arith); keeps = tt; rests = λ _. tt }

@@ -2,7 +2,7 @@ use Rattle.std.proofs.Common.{rules, ◌≡◌, ◌∷◌, sym, true, subst}
 use Rattle.std.specs.List.{Contains}
 use Rattle.rasta_plain.specs.declared.world.Move.TheVariants.{Arrive}
 use Rattle.rasta_plain.specs.Moving.{Answers, JudgedStation}
-use Rattle.rasta_plain.proofs.Moving.{arrive_refused, arrive_made, kept_arrived, behind_base}
+use Rattle.rasta_plain.proofs.Moving.{arrive_refused, arrive_made, kept_arrived, after_base}
 use Rattle.rasta_plain.proofs.world.PlainStation.arrives.Goals as goal
 
 pub invariant_of-self : goal.invariant_of-self
@@ -15,7 +15,7 @@ pub invariant_of-self-2 : goal.invariant_of-self-2
 invariant_of-self-2 c =
     let k = c.self.invariant in
     let more : c.insert.new.self.items ≡ c.args.position ∷ c.self.inside.arrived.items = search rules in
-    let low = behind_base c.self.inside c.args.self.now c.args.peer.now.station.state.base c.args.position c.self.view_is k c.requires.base c.in-Some.ensures.0 in
+    let low = after_base c.self.inside c.args.self.now c.args.peer.now.station.state.base c.args.position c.self.view_is k c.requires.base c.in-Some.ensures.0 in
     record { params = k.params; side = k.side; base = k.base; small = k.small; clock = k.clock; arrived = kept_arrived c.self.inside c.insert.new.self.items c.args.position k more low; accepted = k.accepted }
 
 pub returns-clause-answer : goal.returns-clause-answer

@@ -1,7 +1,7 @@
 use Rattle.std.proofs.Common.{◌-◌, arith}
 use Rattle.rasta_end.specs.State.{kinds}
-use Rattle.rasta_end.proofs.Conveying.{last_units-few, length-kinds, behind-response, behind-data, behind-retransmitted}
-use Rattle.rasta_end.proofs.own.Own.units_behind.Goals as goal
+use Rattle.rasta_end.proofs.Conveying.{last_units-few, length-kinds, after-response, after-data, after-retransmitted}
+use Rattle.rasta_end.proofs.own.Own.units_after.Goals as goal
 
 pub overflow_add-result : goal.overflow_add-result
 overflow_add-result c =
@@ -18,14 +18,14 @@ overflow_add-result-in-RetransmittedData c =
 pub returns-in-RetransmissionResponse : goal.returns-in-RetransmissionResponse
 returns-in-RetransmissionResponse c =
     let k = length-kinds c.args.self.now.made in
-    record { room = omega arith; value = behind-response c.args.self.now.asks (kinds c.args.self.now.made) c.asked_units.result c.args.kind c.in-RetransmissionResponse.is (omega (arith, k)) c.asked_units.ensures }
+    record { room = omega arith; value = after-response c.args.self.now.asks (kinds c.args.self.now.made) c.asked_units.result c.args.kind c.in-RetransmissionResponse.is (omega (arith, k)) c.asked_units.ensures }
 
 pub returns-in-Data : goal.returns-in-Data
 returns-in-Data c =
     let k = length-kinds c.args.self.now.made in
-    record { room = omega arith; value = behind-data c.args.self.now.asks (kinds c.args.self.now.made) c.last_units.result c.args.kind c.in-Data.is (omega (arith, k)) c.last_units.ensures }
+    record { room = omega arith; value = after-data c.args.self.now.asks (kinds c.args.self.now.made) c.last_units.result c.args.kind c.in-Data.is (omega (arith, k)) c.last_units.ensures }
 
 pub returns-in-RetransmittedData : goal.returns-in-RetransmittedData
 returns-in-RetransmittedData c =
     let k = length-kinds c.args.self.now.made in
-    record { room = omega arith; value = behind-retransmitted c.args.self.now.asks (kinds c.args.self.now.made) c.last_units-in-RetransmittedData.result c.args.kind c.in-RetransmittedData.is (omega (arith, k)) c.last_units-in-RetransmittedData.ensures }
+    record { room = omega arith; value = after-retransmitted c.args.self.now.asks (kinds c.args.self.now.made) c.last_units-in-RetransmittedData.result c.args.kind c.in-RetransmittedData.is (omega (arith, k)) c.last_units-in-RetransmittedData.ensures }
