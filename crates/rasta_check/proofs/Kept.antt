@@ -3,7 +3,7 @@ use Rattle.std.proofs.Common.{◌≡◌, ℕ, zero, suc, ◌-◌, List, drop, Op
 use Rattle.std.specs.List.{AllByRecursion}
 use Rattle.rasta_pcap.specs.declared.fault.Fault.{Fault}
 use Rattle.rasta_pcap.specs.Fault.{fault_at, too_many}
-use Rattle.rasta_pcap.specs.Capture.{Cursor, Numbered, next, after, next_length, opening, read_step, reading, reading_of, reading_opened}
+use Rattle.rasta_pcap.specs.Capture.{Cursor, Numbered, next, cursor_after, next_length, opening, read_step, reading, reading_of, reading_opened}
 use Rattle.rasta_pcap.proofs.Steps.{next-is_next_entry}
 use Rattle.rasta_pcap.proofs.Headers.{opening-is_header}
 use Rattle.rasta_udp.specs.Frame.{Packet, packet_in}
@@ -21,7 +21,7 @@ use Rattle.rasta_check.proofs.Crossings.{is_read, grown_crossing}
 abbrev pub AllBytes : List Numbered → Type 0
 AllBytes rs = AllByRecursion (λ (r : Numbered). AreBytes r.1) rs
 
-step_bytes : (left : ℕ) (c : Cursor) (o : Result (Option Numbered) Fault) → next c ≡ o → AreBytes c.rest → AllBytes (reading left (after c)).records → AllBytes (read_step o (reading left (after c))).records
+step_bytes : (left : ℕ) (c : Cursor) (o : Result (Option Numbered) Fault) → next c ≡ o → AreBytes c.rest → AllBytes (reading left (cursor_after c)).records → AllBytes (read_step o (reading left (cursor_after c))).records
 step_bytes left c (Err f) e are more = tt
 step_bytes left c (Ok None) e are more = tt
 step_bytes left c (Ok (Some r)) e are more =
@@ -31,7 +31,7 @@ step_bytes left c (Ok (Some r)) e are more =
 reading_bytes : (left : ℕ) (c : Cursor) → AreBytes c.rest → AllBytes (reading left c).records
 unfolding reading
 reading_bytes zero c are = tt
-reading_bytes (suc left) c are = step_bytes left c (next c) refl are (reading_bytes left (after c) (AreBytes-drop (next_length c) (drop 16 c.rest) (AreBytes-drop 16 c.rest are)))
+reading_bytes (suc left) c are = step_bytes left c (next c) refl are (reading_bytes left (cursor_after c) (AreBytes-drop (next_length c) (drop 16 c.rest) (AreBytes-drop 16 c.rest are)))
 
 opened_bytes : (limit : ℕ) (file : List ℕ) (o : Result Cursor Fault) → opening file ≡ o → AreBytes file → AllBytes (reading_opened limit o).records
 opened_bytes limit file (Err f) e are = tt

@@ -10,7 +10,7 @@ use Rattle.rasta_pcap.proofs.Captures.{IsCapture-reading_of, reading_of-IsCaptur
 use Rattle.rasta_udp.specs.Frame.{Packet, packet_in}
 use Rattle.rasta_check.specs.Crossing.{FirstCopy, found_packet, crossing_list, packet_fault}
 use Rattle.rasta_pcap.specs.declared.fault.Fault.{Fault}
-use Rattle.rasta_pcap.specs.Capture.{Cursor, Numbered, IsCapture, next, after, opening, reading, reading_of, bytes_of}
+use Rattle.rasta_pcap.specs.Capture.{Cursor, Numbered, IsCapture, next, cursor_after, opening, reading, reading_of, bytes_of}
 use Rattle.rasta_pcap.proofs.Steps.{reading-record, reading-end, reading-fault, reading-none_left, reading_of-opened, reading_of-refused}
 use Rattle.rasta_pdu.specs.Params.{Parameters, AreParameters}
 use Rattle.rasta_check.specs.Reading.{Crossing, and_then, at_end, after_frame, after_judged, after_packet, after_record, after_records, after_reading, crossing_of, crossing_with, is_within, nothing_crossed, sent_after, sent_by, with_packet}
@@ -24,7 +24,7 @@ unfolding after_records
 after-fault k left c f h = ap (after_reading k) (reading-fault left c f h)
 
 pub after-record : (k : Crossing) (left : ℕ) (c : Cursor) (r : Numbered) → next c ≡ Ok (Some r)
-    → after_reading k (reading (suc left) c) ≡ and_then (after_record k r) (λ (n : Crossing). after_reading n (reading left (after c)))
+    → after_reading k (reading (suc left) c) ≡ and_then (after_record k r) (λ (n : Crossing). after_reading n (reading left (cursor_after c)))
 unfolding after_records
 after-record k left c r h = ap (after_reading k) (reading-record left c r h)
 

@@ -5,7 +5,7 @@ use Rattle.std.specs.Io.KnownBytes.{Consumes}
 use Rattle.std.proofs.KnownBytes.{Consumes-nil, Consumes-trans}
 use Rattle.rasta_pcap.specs.declared.fault.Fault.{Fault}
 use Rattle.rasta_pcap.specs.declared.stream.RecordReader.{RecordReader}
-use Rattle.rasta_pcap.specs.Capture.{Cursor, after, cursor_at, opening, reading}
+use Rattle.rasta_pcap.specs.Capture.{Cursor, cursor_after, cursor_at, opening, reading}
 use Rattle.rasta_pcap.specs.Stream.{FailsWithin, LacksMemory, MeetsEnd, Opens, ReadsRecord, ReadsSo, RefusesHeader, RefusesRecord, count_in, order_in}
 use Rattle.rasta_pcap.proofs.Steps.{next-nil}
 use Rattle.rasta_pcap.proofs.Streams.{ReadsSo-after}
@@ -50,7 +50,7 @@ added_left : (k next : Crossing) (r n : RecordReader) (left : ℕ) (old new : Op
 added_left k next r n left old new a more =
     let c = cursor_at (order_in r) (a.read.bytes ++ more) (count_in r) in
     after-record k left c (count_in n, a.bytes) (a.read.each more).0
-    ∙ ap (λ q. and_then q (λ (m : Crossing). after_reading m (reading left (after c)))) a.added
+    ∙ ap (λ q. and_then q (λ (m : Crossing). after_reading m (reading left (cursor_after c)))) a.added
     ∙ ap (λ (d : Cursor). after_reading next (reading left d)) (a.read.each more).1
     ∙ ap (λ o. after_reading next (reading left (cursor_at o more (count_in n)))) (sym a.order)
 
@@ -119,7 +119,7 @@ next_faulty k r number bytes f old new h e = record {
   each = λ more follows left.
       let c = cursor_at (order_in r) (h.bytes ++ more) (count_in r) in
       after-record k left c (number, bytes) (h.each more).0
-      ∙ ap (λ q. and_then q (λ (m : Crossing). after_reading m (reading left (after c)))) e;
+      ∙ ap (λ q. and_then q (λ (m : Crossing). after_reading m (reading left (cursor_after c)))) e;
 }
 
 -- with so many records left after it

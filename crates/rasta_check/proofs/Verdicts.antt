@@ -8,7 +8,7 @@ use Prim.{yes, no}
 use Rattle.rasta_pcap.specs.declared.fault.Fault.{Fault}
 use Rattle.rasta_pcap.specs.declared.fault.Side.TheVariants.{Client, Server}
 use Rattle.rasta_pcap.specs.Fault.{no_memory, fault_at, fault_of_end, too_many}
-use Rattle.rasta_pcap.specs.Capture.{Cursor, Numbered, IsCapture, next, after, opening, read_step, reading, reading_of, reading_opened, bytes_of}
+use Rattle.rasta_pcap.specs.Capture.{Cursor, Numbered, IsCapture, next, cursor_after, opening, read_step, reading, reading_of, reading_opened, bytes_of}
 use Rattle.rasta_pcap.proofs.Headers.{opening-fault_place}
 use Rattle.rasta_pcap.proofs.Captures.{IsCapture-reading_of, IsRefused-reading_of, IsRefused-place, numbers-reading_of, opening-by_reading_of}
 use Rattle.rasta_udp.specs.Frame.{Packet, packet_in}
@@ -28,8 +28,8 @@ use Rattle.rasta_check.proofs.Sending.{sent_none}
 
 -- ---- the first records of a file
 
-front_step : (n m : ℕ) (c : Cursor) (o : Result (Option Numbered) Fault) → (reading n (after c)).records ≡ take n (reading m (after c)).records
-    → (read_step o (reading n (after c))).records ≡ take (suc n) (read_step o (reading m (after c))).records
+front_step : (n m : ℕ) (c : Cursor) (o : Result (Option Numbered) Fault) → (reading n (cursor_after c)).records ≡ take n (reading m (cursor_after c)).records
+    → (read_step o (reading n (cursor_after c))).records ≡ take (suc n) (read_step o (reading m (cursor_after c))).records
 front_step n m c (Err f) more = refl
 front_step n m c (Ok None) more = refl
 front_step n m c (Ok (Some r)) more = ap (λ (rs : List Numbered). r ∷ rs) more
@@ -38,7 +38,7 @@ reading_front : (n m : ℕ) (c : Cursor) → n ≤ m → (reading n c).records �
 unfolding reading
 reading_front zero m c l = refl
 reading_front (suc n) zero c l = absurd (omega arith)
-reading_front (suc n) (suc m) c l = front_step n m c (next c) (reading_front n m (after c) (omega arith))
+reading_front (suc n) (suc m) c l = front_step n m c (next c) (reading_front n m (cursor_after c) (omega arith))
 
 opened_front : (n m : ℕ) (o : Result Cursor Fault) → n ≤ m → (reading_opened n o).records ≡ take n (reading_opened m o).records
 opened_front zero m (Err f) l = refl
@@ -49,7 +49,7 @@ file_front : (n m : ℕ) (file : List ℕ) → n ≤ m → (reading_of n file).r
 unfolding reading_of
 file_front n m file l = opened_front n m (opening file) l
 
-few_step : (n : ℕ) (c : Cursor) (o : Result (Option Numbered) Fault) → length (reading n (after c)).records ≤ n → length (read_step o (reading n (after c))).records ≤ suc n
+few_step : (n : ℕ) (c : Cursor) (o : Result (Option Numbered) Fault) → length (reading n (cursor_after c)).records ≤ n → length (read_step o (reading n (cursor_after c))).records ≤ suc n
 few_step n c (Err f) l = omega arith
 few_step n c (Ok None) l = omega arith
 few_step n c (Ok (Some r)) l = omega arith
@@ -57,7 +57,7 @@ few_step n c (Ok (Some r)) l = omega arith
 reading_few : (n : ℕ) (c : Cursor) → length (reading n c).records ≤ n
 unfolding reading
 reading_few zero c = omega arith
-reading_few (suc n) c = few_step n c (next c) (reading_few n (after c))
+reading_few (suc n) c = few_step n c (next c) (reading_few n (cursor_after c))
 
 opened_few : (n : ℕ) (o : Result Cursor Fault) → length (reading_opened n o).records ≤ n
 opened_few n (Err f) = omega arith
@@ -68,8 +68,8 @@ unfolding reading_of
 file_few n file = opened_few n (opening file)
 
 -- where as many records are there as are asked for, there is no fault
-full_step : (n : ℕ) (c : Cursor) (o : Result (Option Numbered) Fault) → (length (reading n (after c)).records ≡ n → (reading n (after c)).fault ≡ None)
-    → length (read_step o (reading n (after c))).records ≡ suc n → (read_step o (reading n (after c))).fault ≡ None
+full_step : (n : ℕ) (c : Cursor) (o : Result (Option Numbered) Fault) → (length (reading n (cursor_after c)).records ≡ n → (reading n (cursor_after c)).fault ≡ None)
+    → length (read_step o (reading n (cursor_after c))).records ≡ suc n → (read_step o (reading n (cursor_after c))).fault ≡ None
 full_step n c (Err f) more e = absurd (omega arith)
 full_step n c (Ok None) more e = refl
 full_step n c (Ok (Some r)) more e = more (omega arith)
@@ -77,7 +77,7 @@ full_step n c (Ok (Some r)) more e = more (omega arith)
 reading_full : (n : ℕ) (c : Cursor) → length (reading n c).records ≡ n → (reading n c).fault ≡ None
 unfolding reading
 reading_full zero c e = refl
-reading_full (suc n) c e = full_step n c (next c) (reading_full n (after c)) e
+reading_full (suc n) c e = full_step n c (next c) (reading_full n (cursor_after c)) e
 
 opened_full : (n : ℕ) (o : Result Cursor Fault) → 1 ≤ n → length (reading_opened n o).records ≡ n → (reading_opened n o).fault ≡ None
 opened_full n (Err f) l e = absurd (omega arith)

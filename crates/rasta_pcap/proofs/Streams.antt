@@ -35,9 +35,9 @@ pub reading-at_end : (left : ℕ) (order : Endianness) (count : ℕ) → reading
 reading-at_end left order count = let c = cursor_at order [] count in reading-end left c (next-nil c refl)
 
 -- what holds of every input that begins so holds with what was read before
-pub ReadsSo-cursor_after : (P Q : List ℕ → Type 0) (front : List ℕ) (old mid new : Option (List ℕ)) → Consumes old mid front
+pub ReadsSo-after : (P Q : List ℕ → Type 0) (front : List ℕ) (old mid new : Option (List ℕ)) → Consumes old mid front
     → ((rest : List ℕ) → P rest → Q (front ++ rest)) → ReadsSo P mid new → ReadsSo Q old new
-ReadsSo-cursor_after P Q front old mid new consumed lift h = record {
+ReadsSo-after P Q front old mid new consumed lift h = record {
   bytes = front ++ h.bytes;
   met_end = h.met_end;
   consumed = Consumes-trans old mid new front h.bytes consumed h.consumed;
@@ -45,9 +45,9 @@ ReadsSo-cursor_after P Q front old mid new consumed lift h = record {
   each = λ more follows. subst Q (sym (append_assoc front h.bytes more)) (lift (h.bytes ++ more) (h.each more follows));
 }
 
-pub ReadsJust-cursor_after : (P Q : List ℕ → List ℕ → Type 0) (front : List ℕ) (old mid new : Option (List ℕ)) → Consumes old mid front
+pub ReadsJust-after : (P Q : List ℕ → List ℕ → Type 0) (front : List ℕ) (old mid new : Option (List ℕ)) → Consumes old mid front
     → ((rest after : List ℕ) → P rest after → Q (front ++ rest) after) → ReadsJust P mid new → ReadsJust Q old new
-ReadsJust-cursor_after P Q front old mid new consumed lift h = record {
+ReadsJust-after P Q front old mid new consumed lift h = record {
   bytes = front ++ h.bytes;
   consumed = Consumes-trans old mid new front h.bytes consumed h.consumed;
   each = λ more. subst (λ l. Q l more) (sym (append_assoc front h.bytes more)) (lift (h.bytes ++ more) more (h.each more));
