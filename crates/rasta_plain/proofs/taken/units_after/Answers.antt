@@ -1,6 +1,6 @@
 use Rattle.std.proofs.Common.{◌+◌, ap, ◌∙◌, length, arith}
 use Rattle.rasta_end.specs.Units.{units_at}
-use Rattle.rasta_plain.proofs.Plainly.{not_empty, last-at_most, at-at_most, after-response, after-data, after-again, after-other}
+use Rattle.rasta_plain.proofs.Plainly.{not_empty, last-at_most, at-at_most, conveys-response, conveys-data, conveys-again, conveys-other}
 use Rattle.rasta_plain.proofs.taken.units_after.Goals as goal
 
 pub overflow_add-result : goal.overflow_add-result
@@ -14,7 +14,7 @@ returns-in-RetransmissionResponse c =
     let some = not_empty c.args.units.now c.is_empty.result c.is_empty.ensures c.if-is_empty.false in
     let l = at-at_most (length c.args.units.now) c.args.units.now c.ask_at.result c.requires in
     record {
-      value = c.units_at.ensures ∙ ap (units_at c.args.units.now) c.ask_at.ensures ∙ after-response c.args.asks.now c.args.units.now c.args.responses c.args.kind some c.in-RetransmissionResponse.is;
+      value = c.units_at.ensures ∙ ap (units_at c.args.units.now) c.ask_at.ensures ∙ conveys-response c.args.asks.now c.args.units.now c.args.responses c.args.kind some c.in-RetransmissionResponse.is;
       bound = omega (arith, l);
     }
 
@@ -23,7 +23,7 @@ returns-in-Data c =
     let some = not_empty c.args.units.now c.is_empty.result c.is_empty.ensures c.if-is_empty.false in
     let l = last-at_most (length c.args.units.now) c.args.units.now c.requires in
     record {
-      value = ap (λ n. n + 1) c.last_of.ensures ∙ after-data c.args.asks.now c.args.units.now c.args.responses c.args.kind some c.in-Data.is;
+      value = ap (λ n. n + 1) c.last_of.ensures ∙ conveys-data c.args.asks.now c.args.units.now c.args.responses c.args.kind some c.in-Data.is;
       bound = omega (arith, l);
     }
 
@@ -32,7 +32,7 @@ returns-in-RetransmittedData c =
     let some = not_empty c.args.units.now c.is_empty.result c.is_empty.ensures c.if-is_empty.false in
     let l = last-at_most (length c.args.units.now) c.args.units.now c.requires in
     record {
-      value = ap (λ n. n + 1) c.last_of-in-RetransmittedData.ensures ∙ after-again c.args.asks.now c.args.units.now c.args.responses c.args.kind some c.in-RetransmittedData.is;
+      value = ap (λ n. n + 1) c.last_of-in-RetransmittedData.ensures ∙ conveys-again c.args.asks.now c.args.units.now c.args.responses c.args.kind some c.in-RetransmittedData.is;
       bound = omega (arith, l);
     }
 
@@ -42,6 +42,6 @@ returns-in_default c =
     let l = last-at_most (length c.args.units.now) c.args.units.now c.requires in
     record {
       value = c.last_of-in_default.ensures
-          ∙ after-other c.args.asks.now c.args.units.now c.args.responses c.args.kind some c.in_default.not-RetransmissionResponse c.in_default.not-Data c.in_default.not-RetransmittedData;
+          ∙ conveys-other c.args.asks.now c.args.units.now c.args.responses c.args.kind some c.in_default.not-RetransmissionResponse c.in_default.not-Data c.in_default.not-RetransmittedData;
       bound = omega (arith, l);
     }
