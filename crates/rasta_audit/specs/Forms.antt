@@ -66,7 +66,7 @@ BeginsTelling (Build a b) p certificate = BeginsOutcome (IsBuild p)
 BeginsTelling (Check a b c) p certificate = BeginsVerdict (IsVerdict p certificate)
 BeginsTelling (Audit a b) p certificate = BeginsOutcome (IsAudit p)
 
--- where the status is 0 the headline holds of what `check` and `audit` wrote; the others make no claim
+-- where the status is 0, what `check` and `audit` wrote tells a run, and the headline holds of it; the others make no claim
 abbrev pub HoldsHeadline : Form → Parameters → ℕ → Option (List ℕ) → Option (List ℕ) → Option (List ℕ) → Option (List ℕ) → Type 0
 HoldsHeadline (Check a b c) p = WritesVerdict (ClaimsHeadline p)
 HoldsHeadline (Audit a b) p = WritesVerdict (ClaimsHeadline p)

@@ -70,7 +70,7 @@ pub record Drain (p : Parameters) (n k : ℕ) (s : Side) (own peer : List FirstC
   pub drained : Drained k es
 
 -- what a station has made, at another length
-moved_made : (ms ns : List Made) (i : ℕ) (P : Made → Type 0) → ns ≡ ms → ((m : Made) × (slice_get ms i ≡ Some m) × P m) → (m : Made) × (slice_get ns i ≡ Some m) × P m
+pub moved_made : (ms ns : List Made) (i : ℕ) (P : Made → Type 0) → ns ≡ ms → ((m : Made) × (slice_get ms i ≡ Some m) × P m) → (m : Made) × (slice_get ns i ≡ Some m) × P m
 moved_made ms ns i P e z = (z.0, subst (λ (xs : List Made). slice_get xs i ≡ Some z.0) (sym e) z.1, z.2)
 
 one_take : (p : Parameters) (n k slot number : ℕ) (s : Side) (own peer : List FirstCopy) (es : List Entry) (a b : Station) (xs : List Packet) (bs : List Entry) (r : Side) (last last' m : Cursor)
@@ -115,7 +115,7 @@ append_many (moves m r) k = moves m (append_many r k)
 prepend : {p : Parameters} {n k : ℕ} {s : Side} {own peer : List FirstCopy} {last : Cursor} {a a' b : Station} {xs : List Packet} → Many p b xs a a' xs → Drain p n k s own peer last a' b xs → Drain p n k s own peer last a b xs
 prepend m d = record { es = d.es; station = d.station; many = append_many m d.many; tracks = d.tracks; drained = d.drained }
 
-lt_of : {i j : ℕ} → (i ≤ j → ⊥) → j < i
+pub lt_of : {i j : ℕ} → (i ≤ j → ⊥) → j < i
 lt_of h = omega arith
 
 -- all takes that are due
@@ -154,7 +154,7 @@ places_once p packets s own h i j a b x y e =
 packet_is : (k : Packet) (sd : Side) (e : sd ≡ k.side) → record { channel = k.channel; side = sd; payload = k.payload } ≡ k
 packet_is k sd e = λ i. record { channel = k.channel; side = e i; payload = k.payload }
 
-next_packet : (packets : List Packet) (k : ℕ) (a : Packet) (sd : Side) → sd ≡ a.side → slice_get packets k ≡ Some a → take k packets ++ record { channel = a.channel; side = sd; payload = a.payload } ∷ [] ≡ take (suc k) packets
+pub next_packet : (packets : List Packet) (k : ℕ) (a : Packet) (sd : Side) → sd ≡ a.side → slice_get packets k ≡ Some a → take k packets ++ record { channel = a.channel; side = sd; payload = a.payload } ∷ [] ≡ take (suc k) packets
 next_packet packets k a sd e g =
     let more = take_more packets k a (slice_get_within packets k a g) in
     let there : get_or packets k a ≡ a = get_or_from_slice_get packets k a a g in
@@ -165,7 +165,7 @@ pub record Made_step (p : Parameters) (n k : ℕ) (s : Side) (own peer : List Fi
   pub many : Many p b xs a station ys
   pub tracks : Tracks p n (suc k) s own peer es last station
 
-next_number : (f b m n c : ℕ) → n ≡ b + m → (f + b) % 2 ^ 32 ≡ c → (f + n) % 2 ^ 32 ≡ (c + m) % 2 ^ 32
+pub next_number : (f b m n c : ℕ) → n ≡ b + m → (f + b) % 2 ^ 32 ≡ c → (f + n) % 2 ^ 32 ≡ (c + m) % 2 ^ 32
 next_number f b m n c e h = omega arith
 
 module _ (p : Parameters) (packets : List Packet) (k : ℕ) (s : Side) (own peer : List FirstCopy) (sent : IsSent p packets s own) (recorded : CrossRecorded p packets) where
@@ -214,7 +214,7 @@ module _ (p : Parameters) (packets : List Packet) (k : ℕ) (s : Side) (own peer
       }
 
 -- the next PDU of a script does not lie below its level
-next_place : (p : Parameters) (n : ℕ) (own peer : List FirstCopy) (u v : Cursor) (es : List Entry) → Leads p n own peer u es v → v.made ≡ length own → (c : FirstCopy) → slice_get own u.made ≡ Some c → u.level ≤ c.place
+pub next_place : (p : Parameters) (n : ℕ) (own peer : List FirstCopy) (u v : Cursor) (es : List Entry) → Leads p n own peer u es v → v.made ≡ length own → (c : FirstCopy) → slice_get own u.made ≡ Some c → u.level ≤ c.place
 next_place p n own peer u v [] f w c g = absurd (let l = slice_get_within own u.made c g in let e = ap (λ (z : Cursor). z.made) f in omega arith)
 next_place p n own peer u v (x ∷ es) f w c g = by x f.0 f.1 (next_place p n own peer f.0 v es f.2 w) g
   where
@@ -226,11 +226,11 @@ next_place p n own peer u v (x ∷ es) f w c g = by x f.0 f.1 (next_place p n ow
         omega (arith, q, lv)
 
 -- no PDU that is still to be made crosses at k
-Later : ℕ → List FirstCopy → ℕ → Type 0
+unfoldable pub Later : ℕ → List FirstCopy → ℕ → Type 0
 Later k own made = (i : ℕ) (c : FirstCopy) → slice_get own i ≡ Some c → made ≤ i → k < c.place
 
 module _ (p : Parameters) (packets : List Packet) (k : ℕ) (s : Side) (own peer : List FirstCopy) (sent : IsSent p packets s own) (recorded : CrossRecorded p packets) (last : Cursor) (whole : last.made ≡ length own) where
-  later_by : (made : ℕ) → ((c : FirstCopy) → slice_get own made ≡ Some c → k < c.place) → Later k own made
+  pub later_by : (made : ℕ) → ((c : FirstCopy) → slice_get own made ≡ Some c → k < c.place) → Later k own made
   unfolding Later
   later_by made h i c g l =
       let in_own : i < length own = slice_get_within own i c g in
@@ -243,7 +243,7 @@ module _ (p : Parameters) (packets : List Packet) (k : ℕ) (s : Side) (own peer
       ]
 
   -- a packet of the other side, or a copy, leaves the station as it is
-  untouched : (es : List Entry) (a : Station) → (f : Tracks p (length packets) k s own peer es last a) → Later k own f.made → Tracks p (length packets) (suc k) s own peer es last a
+  pub untouched : (es : List Entry) (a : Station) → (f : Tracks p (length packets) k s own peer es last a) → Later k own f.made → Tracks p (length packets) (suc k) s own peer es last a
   unfolding Later
   untouched es a f l =
       record {
@@ -315,7 +315,7 @@ module _ (p : Parameters) (packets : List Packet) (k : ℕ) (s : Side) (own peer
   next_is (Make place clock why ∷ es) a b here at hs dr f = next_make a b here place clock why es at hs f f.fits.0 f.fits.1 f.fits.2
 
   -- a packet of the other side leaves this side as it is
-  other_side : (es : List Entry) (a : Station) (here : Packet) → slice_get packets k ≡ Some here → (here.side ≡ s → ⊥) → Tracks p (length packets) k s own peer es last a → Tracks p (length packets) (suc k) s own peer es last a
+  pub other_side : (es : List Entry) (a : Station) (here : Packet) → slice_get packets k ≡ Some here → (here.side ≡ s → ⊥) → Tracks p (length packets) k s own peer es last a → Tracks p (length packets) (suc k) s own peer es last a
   unfolding Later
   other_side es a here at no_side f =
       untouched es a f
@@ -326,7 +326,7 @@ module _ (p : Parameters) (packets : List Packet) (k : ℕ) (s : Side) (own peer
       omega arith)
 
   -- when all packets have crossed and all takes that are due are done, nothing is left
-  nothing_left : (a : Station) (es : List Entry) → length packets ≡ k → Drained k es → Tracks p (length packets) k s own peer es last a → a.state ≡ last.state
+  pub nothing_left : (a : Station) (es : List Entry) → length packets ≡ k → Drained k es → Tracks p (length packets) k s own peer es last a → a.state ≡ last.state
   nothing_left a [] e dr f = ap (λ (u : Cursor). u.state) f.fits
   nothing_left a (x ∷ es) e dr f = absurd (by x dr f.fits.0 f.made f.level f.taken f.before f.fits.1)
     where
@@ -339,7 +339,7 @@ module _ (p : Parameters) (packets : List Packet) (k : ℕ) (s : Side) (own peer
           let z = h made c mine (omega (arith, e)) in
           omega (arith, z)
 
-apart_sides : Client ≡ Server → ⊥
+pub apart_sides : Client ≡ Server → ⊥
 apart_sides e = cc
 
 module _ (p : Parameters) (packets : List Packet) (c s : List FirstCopy) (sc : IsSent p packets Client c) (ss : IsSent p packets Server s) (rec : CrossRecorded p packets) (lc ls : Cursor) (wc : lc.made ≡ length c) (ws : ls.made ≡ length s) where
@@ -408,16 +408,16 @@ module _ (p : Parameters) (packets : List Packet) (c s : List FirstCopy) (sc : I
       )
 
 -- a first number so that the first PDU of the list has its own
-number_of : ℕ → List FirstCopy → ℕ
-number_of b [] = 0
-number_of b (c ∷ cs) = c.pdu.number + (2 ^ 32 - b)
+pub first_number_of : ℕ → List FirstCopy → ℕ
+first_number_of b [] = 0
+first_number_of b (c ∷ cs) = c.pdu.number + (2 ^ 32 - b)
 
 wraps_back : (n b : ℕ) → n < 2 ^ 32 → b ≤ 1 → (n + (2 ^ 32 - b) + b) % 2 ^ 32 ≡ n
 wraps_back n b l m = omega arith
 
-first_tracks : (p : Parameters) (packets : List Packet) (sd : Side) (own peer : List FirstCopy) (es : List Entry) (last : Cursor) → IsSent p packets sd own
-    → Leads p (length packets) own peer (at_start (start_of p sd)) es last → Tracks p (length packets) 0 sd own peer es last (first_station p sd (number_of (base p) own))
-unfolding number_of
+pub first_tracks : (p : Parameters) (packets : List Packet) (sd : Side) (own peer : List FirstCopy) (es : List Entry) (last : Cursor) → IsSent p packets sd own
+    → Leads p (length packets) own peer (at_start (start_of p sd)) es last → Tracks p (length packets) 0 sd own peer es last (first_station p sd (first_number_of (base p) own))
+unfolding first_number_of
 first_tracks p packets sd own peer es last sent f =
     record {
       level = 0;
@@ -436,7 +436,7 @@ first_tracks p packets sd own peer es last sent f =
       side = start_side p.quiet sd;
     }
   where
-    number_is : (own : List FirstCopy) → IsSent p packets sd own → (c : FirstCopy) → slice_get own 0 ≡ Some c → wrapped (number_of (base p) own + base p) ≡ c.pdu.number
+    number_is : (own : List FirstCopy) → IsSent p packets sd own → (c : FirstCopy) → slice_get own 0 ≡ Some c → wrapped (first_number_of (base p) own + base p) ≡ c.pdu.number
     number_is [] h c g = absurd (cc)
     number_is (x ∷ xs) h c g = (let q : x ≡ c = cc in let r = h.firsts 0 x refl in wraps_back x.pdu.number (base p) r.3.fits.number (base_small p.quiet) ∙ ap (λ (z : FirstCopy). z.pdu.number) q)
 
@@ -445,13 +445,13 @@ pub simulated : (p : Parameters) (packets : List Packet) (c s : List FirstCopy) 
     → (ws : List World) × (w : World) × Reaches p ws w × (w.crossed ≡ packets) × (w.client.state ≡ a) × (w.server.state ≡ b)
 simulated p packets c s cs ss a b rec hc hs fc fs =
     let r = at_last p packets c s hc hs rec fc.0 fs.0 fc.2 fs.2 (record {
-      client = first_station p Client (number_of (base p) c);
-      server = first_station p Server (number_of (base p) s);
+      client = first_station p Client (first_number_of (base p) c);
+      server = first_station p Server (first_number_of (base p) s);
       client_script = cs;
       server_script = ss;
       tracks_client = first_tracks p packets Client c s cs fc.0 hc fc.1;
       tracks_server = first_tracks p packets Server s c ss fs.0 hs fs.1;
       worlds = [];
-      reached = begins (number_of (base p) c) (number_of (base p) s);
+      reached = begins (first_number_of (base p) c) (first_number_of (base p) s);
     }) in
     (r.0, r.1, r.2, r.3, r.4 ∙ fc.3, r.5 ∙ fs.3)

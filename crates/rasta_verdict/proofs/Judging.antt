@@ -6,7 +6,7 @@ use Rattle.rasta_pdu.specs.Params.{Parameters}
 use Rattle.rasta_cert.specs.Certificate.{IsCertificate, Scripts, certificate_text}
 use Rattle.rasta_check.specs.declared.report.Report.{Report}
 use Rattle.rasta_check.specs.Headline.{Headline}
-use Rattle.rasta_check.specs.Reading.{Crossing, crossing_of}
+use Rattle.rasta_check.specs.Reading.{Crossing, IsCrossing, crossing_of}
 use Rattle.rasta_check.specs.Report as report
 use Rattle.rasta_check.specs.Report.{BothFit, verdict_of}
 use Rattle.rasta_verdict.specs.declared.verdict.Verdict.{Verdict}
@@ -14,6 +14,11 @@ use Rattle.rasta_verdict.specs.declared.verdict.Verdict.TheVariants as verdicts
 use Rattle.rasta_check.proofs.Filed.{same_params}
 use Rattle.rasta_verdict.specs.Claims.{ClaimsHeadline}
 use Rattle.rasta_verdict.specs.Judged.{IsChecked, IsJudged, IsRefusedBy, status_of_verdict, text_of_verdict}
+use Rattle.std.specs.List.{flat_map}
+use Rattle.rasta_runs.specs.Lines.{Line}
+use Rattle.rasta_runs.proofs.Simulated.{simulation}
+use Rattle.rasta_verdict.specs.RunText.{line_text, run_text}
+use Rattle.rasta_verdict.specs.ToldRun.{IsToldRun}
 use Rattle.rasta_verdict.specs.Verdict as verdict
 use Rattle.rasta_verdict.specs.Verdict.{IsVerdict}
 use Rattle.rasta_verdict.proofs.Telling.{fits-told}
@@ -27,16 +32,24 @@ said_of p k scripts = verdict_of p (length k.packets) k.client k.server scripts
 abbrev FitBy : Crossing → Scripts → Parameters → Type 0
 FitBy k scripts p = BothFit p (length k.packets) k.client k.server scripts
 
+-- scripts that fit tell a run
+told_run : (k : Crossing) (scripts : Scripts) → IsCrossing k → FitBy k scripts k.params → IsToldRun k.params k.packets (run_text k scripts)
+unfolding run_text
+told_run k scripts h fit =
+    let r = simulation k.params h.valid.valid k.packets k.client k.server scripts.client scripts.server fit.0.0 fit.1.0 h.recorded h.client h.server fit.0.1 fit.1.1 in
+    record { happened = r.0; world = r.1; runs = r.2; sends = r.3; lines = sym (ap (λ (ls : List Line). flat_map line_text ls) r.6) }
+
 -- the checker's answer, by the parameters of what crossed
 pub is_checked : (p : Parameters) (k : Crossing) (scripts : Scripts) (r : Result Report Fault) → k.params ≡ p
     → MatchResult r (λ x. said_of p k scripts ≡ Ok (report.explained x)) (λ f. (said_of p k scripts ≡ Err f) ⊎ (f ≡ no_memory))
-    → IfErr r (λ f. (FitBy k scripts p → ⊥) ⊎ (f ≡ no_memory)) → OnOk r (FitBy k scripts p) → IfOk r (λ x. Headline p k.packets (report.explained x)) → IsChecked k scripts r
-is_checked p k scripts (Ok x) same said unfit fits claim = (
+    → IfErr r (λ f. (FitBy k scripts p → ⊥) ⊎ (f ≡ no_memory)) → OnOk r (FitBy k scripts p) → IfOk r (λ x. Headline p k.packets (report.explained x)) → IsCrossing k → IsChecked k scripts r
+is_checked p k scripts (Ok x) same said unfit fits claim crossing = (
   fits-told p k scripts fits.0.0 fits.1.0 fits.0.1 fits.1.1,
   ap (λ (q : Parameters). said_of q k scripts) same ∙ said,
   subst (λ (q : Parameters). Headline q k.packets (report.explained x)) (sym same) claim,
+  told_run k scripts crossing (subst (FitBy k scripts) (sym same) fits),
 )
-is_checked p k scripts (Err f) same said unfit fits claim = ⊎_elim
+is_checked p k scripts (Err f) same said unfit fits claim crossing = ⊎_elim
     (λ (refused : said_of p k scripts ≡ Err f). ⊎_elim
     (λ (no : FitBy k scripts p → ⊥). inl (ap (λ (q : Parameters). said_of q k scripts) same ∙ refused, λ fit. no (subst (FitBy k scripts) same fit)))
     (λ (none : f ≡ no_memory). inr none) unfit)
@@ -79,6 +92,9 @@ claim p file k scripts (verdicts.Explained e) crossed judged status = record {
   report = report.explained e.report;
   crossed = crossed ∙ ap (λ (j : Crossing). Ok j) (sym judged.0);
   told = refl;
+  run = subst (λ (q : Parameters). IsToldRun q e.store.now.packets (run_text e.store.now e.certificate)) (same_params p file k crossed)
+      (subst (λ (j : Crossing). IsToldRun k.params j.packets (run_text j e.certificate)) (sym judged.0)
+      (subst (λ (s : Scripts). IsToldRun k.params k.packets (run_text k s)) (sym judged.1) judged.4));
   headline = subst (λ (j : Crossing). Headline p j.packets (report.explained e.report)) (sym judged.0)
       (subst (λ (q : Parameters). Headline q k.packets (report.explained e.report)) (same_params p file k crossed) judged.3);
 }

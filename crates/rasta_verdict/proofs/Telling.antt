@@ -3,7 +3,8 @@ use Rattle.std.proofs.Common.{◌≡◌, ℕ, zero, suc, ◌+◌, ◌≤◌, Boo
 use Rattle.std.specs.Prelude.{◌==◌, nat_lt, not, cond, position, if◌then◌else◌}
 use Rattle.std.specs.List.{flat_map, position_or_len}
 use Rattle.std.proofs.lemmas.Bool.Decides.{nat_tests}
-use Rattle.std.proofs.lemmas.List.{drop_all}
+use Rattle.std.proofs.lemmas.Grind.{flat_map-append}
+use Rattle.std.proofs.lemmas.List.{append-nil, drop_all}
 use Rattle.rasta_pcap.specs.declared.fault.Side.{Side}
 use Rattle.rasta_pcap.specs.declared.fault.Side.TheVariants.{Client, Server}
 use Rattle.rasta_udp.specs.Frame as udp
@@ -16,11 +17,13 @@ use Rattle.rasta_cert.specs.declared.entry.Entry.TheVariants.{Take, Make}
 use Rattle.rasta_cert.specs.Certificate.{Scripts}
 use Rattle.rasta_check.specs.Crossing.{FirstCopy}
 use Rattle.rasta_check.specs.Lists.{places_of, position_of_place}
-use Rattle.rasta_check.specs.Reading.{Crossing, sent_by}
+use Rattle.rasta_check.specs.Reading.{Crossing}
 use Rattle.rasta_check.specs.Scripts.{Advances, Cursor, Fits, Leads, at_start, makes_next, takes_next}
-use Rattle.rasta_verdict.specs.RunText.{crossed_text, level_text, levels_text, make_line, makes_at, number_of, packet_text, run_text, script_of, takes_text}
-use Rattle.rasta_verdict.specs.Told.{IsOrderedFrom, IsTold, indexes_of, of_side, told_crossing, told_level, told_levels, told_packet}
-use Rattle.rasta_verdict.proofs.Ordered.{makes_here, makes_none, makes_other, makes_past}
+use Rattle.rasta_runs.specs.Lines.{Line, number_of}
+use Rattle.rasta_runs.specs.Levels.{makes_at, takes_at, by_side_lines, crossed_lines, each_make, each_take, level_lines, levels_lines, packet_lines, takes_lines}
+use Rattle.rasta_verdict.specs.RunText.{copy_line, line_text, make_line, run_text, take_line, what_text}
+use Rattle.rasta_verdict.specs.Told.{IsOrderedFrom, IsTold, indexes_of, of_side, takes_text, told_crossing, told_level, told_levels, told_packet}
+use Rattle.rasta_runs.proofs.Entries.{makes_here, makes_none, makes_other, makes_past}
 
 -- ---- where a place stands among the places of a list
 
@@ -95,47 +98,76 @@ a_make place (Take slot number ∷ es) e = (let h = a_make place es e in (h.0, h
 a_make place (Make index clock why ∷ es) e =
     a_make_more place index clock why es (nat_eq place index) (is_found place (indexes_of es)) refl (λ h. a_make place es h) e
 
+-- ---- the text of lines
+
+takes_say : (level : ℕ) (side : Side) (numbers : List ℕ) → flat_map line_text (each_take level side numbers) ≡ flat_map (take_line level side) numbers
+unfolding line_text what_text
+takes_say level side [] = refl
+takes_say level side (n ∷ ns) = ap (λ (l : List ℕ). take_line level side n ++ l) (takes_say level side ns)
+
+makes_say : (place : ℕ) (side : Side) (number : ℕ) (ms : List (ℕ × Why)) → flat_map line_text (each_make place side number ms) ≡ flat_map (make_line place side number) ms
+unfolding line_text what_text
+makes_say place side number [] = refl
+makes_say place side number (m ∷ ms) = ap (λ (l : List ℕ). make_line place side number m ++ l) (makes_say place side number ms)
+
+copy_says : (place : ℕ) (side : Side) (number : ℕ) (ms : List (ℕ × Why)) → flat_map line_text (crossed_lines place side number None ms) ≡ copy_line place side number
+unfolding line_text what_text
+copy_says place side number ms = append-nil (copy_line place side number)
+
 -- ---- what is no make is a copy
 
 crossed : (place : ℕ) (side : Side) (number : ℕ) (es : List Entry) (own : List FirstCopy) → indexes_of es ≡ places_of own
-    → crossed_text place side number (position_of_place own place) (makes_at place es) ≡ told_crossing place side number (makes_at place es)
+    → flat_map line_text (crossed_lines place side number (position_of_place own place) (makes_at place es)) ≡ told_crossing place side number (makes_at place es)
 unfolding told_crossing
 crossed place side number es own same = by (position_of_place own place) refl
   where
-    by : (o : Option ℕ) → position_of_place own place ≡ o → crossed_text place side number o (makes_at place es) ≡ told_crossing place side number (makes_at place es)
+    by : (o : Option ℕ) → position_of_place own place ≡ o → flat_map line_text (crossed_lines place side number o (makes_at place es)) ≡ told_crossing place side number (makes_at place es)
     by None e =
         let none = no_make place es (ap (is_found place) same ∙ not_found place (places_of own) e) in
-        sym (ap (told_crossing place side number) none)
+        copy_says place side number (makes_at place es) ∙ sym (ap (told_crossing place side number) none)
     by (Some i) e =
         let some = a_make place es (ap (is_found place) same ∙ found place i (places_of own) e) in
-        ap (λ (l : List (ℕ × Why)). flat_map (make_line place side number) l) some.2
-        ∙ sym (ap (told_crossing place side number) some.2)
+        makes_say place side number (makes_at place es)
+        ∙ (ap (λ (l : List (ℕ × Why)). flat_map (make_line place side number) l) some.2
+        ∙ sym (ap (told_crossing place side number) some.2))
+
+three : (xs ys zs : List Line) → flat_map line_text (xs ++ (ys ++ zs)) ≡ flat_map line_text xs ++ (flat_map line_text ys ++ flat_map line_text zs)
+three xs ys zs = flat_map-append line_text xs (ys ++ zs) ∙ ap (λ (l : List ℕ). flat_map line_text xs ++ l) (flat_map-append line_text ys zs)
 
 module _ (k : Crossing) (scripts : Scripts) (told : IsTold k scripts) where
   same_packet : (place : ℕ) (packet : Option udp.Packet)
-      → packet_text k scripts place packet ≡ told_packet place (makes_at place scripts.client) (makes_at place scripts.server) packet
-  unfolding packet_text told_packet
+      → flat_map line_text (packet_lines place k.client k.server scripts.client scripts.server packet) ≡ told_packet place (makes_at place scripts.client) (makes_at place scripts.server) packet
+  unfolding told_packet
   same_packet place None = refl
   same_packet place (Some packet) = by packet.side
     where
-      by : (side : Side) → crossed_text place side (number_of packet) (position_of_place (sent_by k side) place) (makes_at place (script_of scripts side))
+      by : (side : Side) → flat_map line_text (by_side_lines place (number_of packet) k.client k.server scripts.client scripts.server side)
           ≡ told_crossing place side (number_of packet) (of_side (makes_at place scripts.client) (makes_at place scripts.server) side)
       by Client = crossed place Client (number_of packet) scripts.client k.client told.client_makes
       by Server = crossed place Server (number_of packet) scripts.server k.server told.server_makes
 
-  told_run : (level left : ℕ) → told_levels k.packets scripts level left ≡ levels_text k scripts level left
-  unfolding told_levels levels_text told_level level_text
-  told_run level zero = refl
-  told_run level (suc left) =
-      ap (λ (t : List ℕ). (takes_text level Client scripts.client ++ (takes_text level Server scripts.server ++ t)) ++ told_levels k.packets scripts (suc level) left)
-      (sym (same_packet level (slice_get k.packets level)))
-      ∙ ap (λ (t : List ℕ). level_text k scripts level ++ t) (told_run (suc level) left)
+  same_level : (level : ℕ) → flat_map line_text (level_lines k.packets k.client k.server scripts.client scripts.server level) ≡ told_level k.packets scripts level
+  unfolding told_level takes_text
+  same_level level =
+      three (takes_lines level Client scripts.client) (takes_lines level Server scripts.server)
+      (packet_lines level k.client k.server scripts.client scripts.server (slice_get k.packets level))
+      ∙ (λ i. takes_say level Client (takes_at level scripts.client) i
+      ++ (takes_say level Server (takes_at level scripts.server) i ++ same_packet level (slice_get k.packets level) i))
+
+  same_levels : (level left : ℕ) → flat_map line_text (levels_lines k.packets k.client k.server scripts.client scripts.server level left) ≡ told_levels k.packets scripts level left
+  unfolding told_levels
+  same_levels level zero = refl
+  same_levels level (suc left) =
+      flat_map-append line_text (level_lines k.packets k.client k.server scripts.client scripts.server level)
+      (levels_lines k.packets k.client k.server scripts.client scripts.server (suc level) left)
+      ∙ (λ i. same_level level i ++ same_levels (suc level) left i)
 
 -- what is written from the first level on is the run
 pub told_whole : (k : Crossing) (scripts : Scripts) → IsTold k scripts → told_levels k.packets scripts 0 (length k.packets + 1) ≡ run_text k scripts
+unfolding run_text
 told_whole k scripts told =
     let one : length k.packets + 1 ≡ suc (length k.packets) = omega arith in
-    ap (told_levels k.packets scripts 0) one ∙ told_run k scripts told 0 (suc (length k.packets))
+    ap (told_levels k.packets scripts 0) one ∙ sym (same_levels k scripts told 0 (suc (length k.packets)))
 
 -- ---- a script that fits is in order, and makes what its side sent
 

@@ -9,7 +9,9 @@ use Rattle.rasta_check.specs.Reading.{Crossing}
 use Rattle.rasta_check.specs.Report.{BothFit, explained, verdict_of}
 use Rattle.rasta_show.specs.Lines.{refused_line}
 use Rattle.rasta_verdict.specs.Proposed.{Telling}
+use Rattle.rasta_verdict.specs.RunText.{run_text}
 use Rattle.rasta_verdict.specs.Told.{IsTold}
+use Rattle.rasta_verdict.specs.ToldRun.{IsToldRun}
 use Rattle.rasta_verdict.specs.Verdict.{explained_text}
 use Rattle.rasta_verdict.specs.declared.verdict.Explanation.{Explanation}
 use Rattle.rasta_verdict.specs.declared.verdict.Verdict.{Verdict}
@@ -41,6 +43,7 @@ abbrev pub IsChecked : Crossing → Scripts → Result Report Fault → Type 0
 IsChecked k scripts (Ok report) = IsTold k scripts
     × (verdict_of k.params (length k.packets) k.client k.server scripts ≡ Ok (explained report))
     × Headline k.params k.packets (explained report)
+    × IsToldRun k.params k.packets (run_text k scripts)
 IsChecked k scripts (Err fault) = IsRefusedBy k scripts fault ⊎ (fault ≡ no_memory)
 
 -- the verdict on what crossed and these scripts
@@ -49,6 +52,7 @@ IsJudged k scripts (Refused fault) = IsRefusedBy k scripts fault
 IsJudged k scripts (Explained e) = (e.store.now ≡ k) × (e.certificate ≡ scripts)
     × (verdict_of k.params (length k.packets) k.client k.server scripts ≡ Ok (explained e.report))
     × Headline k.params k.packets (explained e.report)
+    × IsToldRun k.params k.packets (run_text k scripts)
 
 -- the text of a verdict whose explanation is told so
 abbrev pub told_verdict : Telling → Verdict → List ℕ

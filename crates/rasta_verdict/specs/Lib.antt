@@ -1,4 +1,5 @@
 pub mod RunText
+pub mod ToldRun
 pub mod Told
 pub mod Verdict
 pub mod Passed

@@ -10,7 +10,9 @@ use Rattle.rasta_cert.specs.declared.entry.Entry.TheVariants.{Take, Make}
 use Rattle.rasta_cert.specs.Certificate.{Scripts}
 use Rattle.rasta_check.specs.Lists.{places_of}
 use Rattle.rasta_check.specs.Reading.{Crossing}
-use Rattle.rasta_verdict.specs.RunText.{copy_line, make_line, makes_at, number_of, takes_at, takes_text}
+use Rattle.rasta_runs.specs.Lines.{number_of}
+use Rattle.rasta_runs.specs.Levels.{makes_at, takes_at}
+use Rattle.rasta_verdict.specs.RunText.{copy_line, make_line, take_line}
 
 -- ---- the order of a script
 
@@ -49,6 +51,10 @@ pub record IsAfter (level : ℕ) (script rest : List Entry) : Type 0 where
   pub makes : (later : ℕ) → level < later → makes_at later rest ≡ makes_at later script
 
 -- ---- the run, where what is no make is a copy
+
+-- a line for each take of a side with this slot
+unfoldable pub takes_text : ℕ → Side → List Entry → List ℕ
+takes_text level side script = flat_map (take_line level side) (takes_at level script)
 
 unfoldable pub told_crossing : ℕ → Side → ℕ → List (ℕ × Why) → List ℕ
 told_crossing place side number [] = copy_line place side number

@@ -31,7 +31,7 @@ pub fn run_audit<R: Source, W: Sink>(
         (R.remaining reader.old) (R.remaining reader.new) (W.contents writer.old) (W.contents writer.new)) }
     ensures begun { OnErr result (BeginsOutcome (IsAudit params.now)
         (R.remaining reader.old) (R.remaining reader.new) (W.contents writer.old) (W.contents writer.new)) }
-    // Where the status is 0 the headline holds.
+    // Where the status is 0 the text tells a run, move by move, and the headline holds.
     ensures headline { IfOk result (λ status. WritesVerdict (ClaimsHeadline params.now) status
         (R.remaining reader.old) (R.remaining reader.new) (W.contents writer.old) (W.contents writer.new)) }
     // A capture without a fault is explained, or it is refused by 60, and no run sends its packets up to that place.

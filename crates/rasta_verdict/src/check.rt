@@ -29,7 +29,7 @@ pub fn run_check<R: Source, W: Sink>(
         (R.remaining reader.old) (R.remaining reader.new) (W.contents writer.old) (W.contents writer.new)) }
     ensures begun { OnErr result (BeginsVerdict (IsVerdict params.now certificate.now)
         (R.remaining reader.old) (R.remaining reader.new) (W.contents writer.old) (W.contents writer.new)) }
-    // Where the status is 0 the headline holds.
+    // Where the status is 0 the text tells a run, move by move, and the headline holds.
     ensures headline { IfOk result (λ status. WritesVerdict (ClaimsHeadline params.now) status
         (R.remaining reader.old) (R.remaining reader.new) (W.contents writer.old) (W.contents writer.new)) }
     ensures silent { IfErr result (λ f. (f ≡ write_failed) ⊎ (W.contents writer.new ≡ W.contents writer.old)) }

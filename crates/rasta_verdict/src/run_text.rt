@@ -3,8 +3,8 @@ ghost use Rattle.std.specs.Prelude.{◌≡◌, [], ◌∷◌, slice_get, IfErr, 
 ghost use Rattle.std.specs.Io.KnownBytes.{Appends};
 ghost use Rattle.rasta_pcap.specs.Fault.{write_failed};
 ghost use Rattle.rasta_pcap.specs.Devices.{AppendsBeginning, HasFailed};
-ghost use Rattle.rasta_verdict.specs.RunText.{run_text, takes_text};
-ghost use Rattle.rasta_verdict.specs.Told.{IsAfter, IsAfterTakes, IsOrderedFrom, IsTold, of_side, told_crossing, told_level, told_packet};
+ghost use Rattle.rasta_verdict.specs.RunText.{run_text};
+ghost use Rattle.rasta_verdict.specs.Told.{IsAfter, IsAfterTakes, IsOrderedFrom, IsTold, of_side, takes_text, told_crossing, told_level, told_packet};
 ghost use Rattle.rasta_verdict.specs.Passed.{makes_of, scripts_of};
 
 use crate::run_lines::{Made, put_copy, put_make, put_take};

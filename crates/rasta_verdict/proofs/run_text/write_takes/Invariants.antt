@@ -1,6 +1,6 @@
 use Rattle.std.proofs.Common.{◌≡◌, length}
 use Rattle.rasta_pcap.proofs.Sending.{Sent}
-use Rattle.rasta_verdict.specs.RunText.{takes_text}
+use Rattle.rasta_verdict.specs.Told.{takes_text}
 use Rattle.rasta_verdict.proofs.RunTexts.{IsAmongTakes}
 use Rattle.rasta_verdict.proofs.run_text.write_takes.Given as goal
 

@@ -1,0 +1,31 @@
+-- Each move of a run has one line.
+use Rattle.std.proofs.Common.{◌≡◌, ℕ, ◌+◌, List, [], ◌∷◌, ◌++◌, Option, length, refl, ap, sym, ◌∙◌, arith}
+use Rattle.std.proofs.lemmas.List.{length_push, length-append}
+use Rattle.rasta_pcap.specs.declared.fault.Side.{Side}
+use Rattle.rasta_pcap.specs.declared.fault.Side.TheVariants.{Client, Server}
+use Rattle.rasta_udp.specs.Frame.{Packet}
+use Rattle.rasta_pdu.specs.Params.{Parameters}
+use Rattle.rasta_check.specs.World.{Station, World}
+use Rattle.rasta_runs.specs.Runs.{Move, Does, does_make, does_repeat, does_arrive, does_take, does_wait, Happened, Runs, starts, client_does, server_does}
+use Rattle.rasta_runs.specs.Lines.{Line, copy_lines, lines_in, lines_of_move, told}
+use Rattle.rasta_runs.proofs.Moving.{told_push}
+
+one_line : {p : Parameters} {b a a' : Station} {xs ys : List Packet} {m : Move} (s : Side) → Does p b xs a m a' ys → length (lines_of_move s a b xs m) ≡ 1
+one_line s (does_make x why after channel reserve check bytes mk sp rec) = refl
+one_line {xs = xs} s (does_repeat place channel old g sd rec) = ap (λ (o : Option Packet). length (copy_lines (length xs) s o)) g
+one_line s (does_arrive position low within) = refl
+one_line s (does_take position m after h l g t) = refl
+one_line s (does_wait clock l) = refl
+
+one_more : (hs : List Happened) (h : Happened) → length (told hs) ≡ length hs → length (lines_in h.world h.side h.move) ≡ 1 → length (told (hs ++ h ∷ [])) ≡ length (hs ++ h ∷ [])
+one_more hs h e f =
+    ap (λ (l : List Line). length l) (told_push hs h)
+    ∙ (length-append (told hs) (lines_in h.world h.side h.move)
+    ∙ ((λ i. e i + f i) ∙ sym (length-append hs (h ∷ []))))
+
+pub one_line_each : (p : Parameters) (happened : List Happened) (w : World) → Runs p happened w → length (told happened) ≡ length happened
+one_line_each p hs w (starts m n) = refl
+one_line_each p hs w (client_does {happened = gs} {w = v} move r d) =
+    one_more gs (record { world = v; side = Client; move = move }) (one_line_each p gs v r) (one_line Client d)
+one_line_each p hs w (server_does {happened = gs} {w = v} move r d) =
+    one_more gs (record { world = v; side = Server; move = move }) (one_line_each p gs v r) (one_line Server d)

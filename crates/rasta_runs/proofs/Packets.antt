@@ -1,0 +1,166 @@
+-- The packet of a level: its end makes it, or it is a copy, with its lines.
+use Rattle.std.proofs.Common.{◌≡◌, ℕ, suc, ◌+◌, ◌<◌, ◌≤◌, List, [], ◌∷◌, ◌++◌, length, Some, slice_get, take, refl, ap, sym, ◌∙◌, arith, ⊎_elim, subst}
+use Rattle.std.specs.Prelude.{slice_index_or, Option, None}
+use Rattle.std.proofs.lemmas.List.{append-nil, length_push, length-take-le, get_or-take}
+use Rattle.std.proofs.lemmas.Option.{slice_get_within, slice_get-get_or, get_or_from_slice_get}
+use native.Mathlib.Decide.{dec_lt}
+use Prim.{yes, no}
+use Rattle.rasta_pcap.specs.declared.fault.Side.{Side}
+use Rattle.rasta_udp.specs.Frame.{Packet}
+use Rattle.rasta_pdu.specs.Params.{Parameters}
+use Rattle.rasta_end.specs.declared.why.Why.{Why}
+use Rattle.rasta_end.specs.State.{Made, wrapped}
+use Rattle.rasta_cert.specs.declared.entry.Entry.{Entry}
+use Rattle.rasta_cert.specs.declared.entry.Entry.TheVariants.{Take, Make}
+use Rattle.rasta_check.specs.Crossing.{Spells, FirstCopy, CrossRecorded}
+use Rattle.rasta_check.specs.Lists.{position_of_place}
+use Rattle.rasta_check.specs.Packets.{number_in_bytes}
+use Rattle.rasta_check.specs.Scripts.{Cursor, Advances, takes_next, makes_next, Leads}
+use Rattle.rasta_check.specs.World.{Station}
+use Rattle.rasta_check.proofs.Copies.{IsSent}
+use Rattle.rasta_check.proofs.Crossings.{number_spelled}
+use Rattle.rasta_check.proofs.Lists.{get_front, get_push}
+use Rattle.rasta_check.proofs.Scripted.{Tracks, Drained, Later, later_by, next_number, next_packet, next_place, places_once, slice_get_some, untouched}
+use Rattle.rasta_check.proofs.Steps.{base, made_more}
+use Rattle.rasta_runs.specs.Runs.{making, repeating, waiting, does_make, does_repeat, does_wait}
+use Rattle.rasta_runs.specs.Lines.{Line, lines_of_move, copy_lines, number_of}
+use Rattle.rasta_runs.specs.Levels.{takes_at, makes_at, make_line, waited_line, each_make, side_lines, crossed_lines}
+use Rattle.rasta_runs.proofs.Entries.{takes_past, makes_here, makes_other, below}
+use Rattle.rasta_runs.proofs.Rests.{Above, lead_above, no_makes, place_found, place_missing}
+use Rattle.rasta_runs.proofs.Moving.{Many, stays, moves}
+
+-- what the make of a packet leaves: its lines are those of the packet, and of later levels the rest says what the script says
+pub record Made_step (p : Parameters) (n k : ℕ) (s : Side) (own peer : List FirstCopy) (number : ℕ) (from es : List Entry) (last : Cursor) (a b : Station) (xs ys : List Packet) : Type 0 where
+  pub station : Station
+  pub many : Many p b s xs a (side_lines k s number own from) station ys
+  pub tracks : Tracks p n (suc k) s own peer es last station
+  pub above : Above (suc k) es
+  pub takes : (j : ℕ) → takes_at j from ≡ takes_at j es
+  pub makes : (j : ℕ) → k < j → makes_at j from ≡ makes_at j es
+
+module _ (p : Parameters) (packets : List Packet) (k : ℕ) (s : Side) (own peer : List FirstCopy) (sent : IsSent p packets s own) (recorded : CrossRecorded p packets) where
+  make_one : (place clock : ℕ) (why : Why) (es : List Entry) (a b : Station) (here : Packet) (last m : Cursor) → slice_get packets k ≡ Some here → place ≡ k
+      → (f : Tracks p (length packets) k s own peer (Make place clock why ∷ es) last a)
+      → Advances p (length packets) own peer (record { level = f.level; made = f.made; taken = f.taken; state = a.state }) (Make place clock why) m → Leads p (length packets) own peer m es last
+      → Made_step p (length packets) k s own peer (number_of here) (Make place clock why ∷ es) es last a b (take k packets) (take (suc k) packets)
+  make_one place clock why es a b here last m at pl f (makes_next c clock' why' e' lv mine mk) rest =
+      let made = made_more p a.state c.pdu.safety clock why e' mk in
+      let first = sent.firsts f.made c mine in
+      let l0 = slice_get_within own f.made c mine in
+      let head = slice_get_some own 0 (omega (arith, l0)) in
+      let n : Made = made.new in
+      let waited : Station = record a { clock = clock } in
+      let now : e'.made ≡ a.state.made ++ n ∷ [] = made.made in
+      let len = length_push a.state.made n in
+      let numbered : c.pdu.number ≡ wrapped (a.first_number + length a.state.made) =
+      sent.numbers f.made head.0 c head.1 mine ∙ sym (next_number a.first_number (base p) f.made (length a.state.made) head.0.pdu.number f.count (f.number head.0 head.1)) in
+      let said : Spells p a.state.side (record { number = wrapped (a.first_number + length a.state.made); reserve = c.pdu.reserve; safety = c.pdu.safety; check_bytes = c.pdu.check_bytes }) first.0.payload =
+      subst (λ (j : ℕ). Spells p a.state.side (record { number = j; reserve = c.pdu.reserve; safety = c.pdu.safety; check_bytes = c.pdu.check_bytes }) first.0.payload) numbered (subst (λ (z : Side). Spells p z c.pdu first.0.payload) (sym f.side) first.3) in
+      let count : length e'.made ≡ suc (base p + f.made) = ap length now ∙ (len ∙ (omega (arith, f.count))) in
+      let after : Above (suc k) es = lead_above p (length packets) (suc k) own peer _ last es rest (omega (arith, pl)) in
+      let there : slice_get packets k ≡ Some first.0 = subst (λ (j : ℕ). slice_get packets j ≡ Some first.0) pl first.1 in
+      let same_packet : first.0 ≡ here = cc in
+      let shown : wrapped (a.first_number + length a.state.made) ≡ number_of here =
+      sym numbered ∙ (sym (number_spelled p s c.pdu first.0.payload first.3) ∙ ap (λ (x : Packet). number_of x) same_packet) in
+      let k_within : k < length packets = slice_get_within packets k here at in
+      let long : length (take k packets) ≡ k = length-take-le k packets (omega arith) in
+      let found : position_of_place own k ≡ Some f.made = ap (position_of_place own) (sym pl) ∙ place_found p packets s own sent f.made c mine in
+      let makes_now : makes_at k (Make c.place clock why ∷ es) ≡ (clock, why) ∷ [] =
+      ap (λ (j : ℕ). makes_at k (Make j clock why ∷ es)) pl ∙ (makes_here k clock why es ∙ ap (λ (l : List (ℕ × Why)). (clock, why) ∷ l) (no_makes k (suc k) es (omega arith) after)) in
+      let line : waited_line (length (take k packets)) s clock ∷ make_line (length (take k packets)) s (wrapped (a.first_number + length a.state.made)) (clock, why) ∷ [] ≡ side_lines k s (number_of here) own (Make c.place clock why ∷ es) =
+      (λ i. waited_line (long i) s clock ∷ make_line (long i) s (shown i) (clock, why) ∷ []) ∙ sym (ap (λ (o : Option ℕ). crossed_lines k s (number_of here) o (makes_at k (Make c.place clock why ∷ es))) found ∙ ap (each_make k s (number_of here)) makes_now) in
+      let step : Many p b s (take k packets) a (waited_line (length (take k packets)) s clock ∷ make_line (length (take k packets)) s (wrapped (a.first_number + length a.state.made)) (clock, why) ∷ []) (record waited { state = e' })
+      (take k packets ++ record { channel = first.0.channel; side = a.state.side; payload = first.0.payload } ∷ []) =
+      moves (waiting clock) (does_wait clock (let z = f.clock in omega (arith, z, made.rises)))
+      (moves (making c.pdu.safety why first.0.channel c.pdu.reserve c.pdu.check_bytes) (does_make {a = waited} c.pdu.safety why e' first.0.channel c.pdu.reserve c.pdu.check_bytes first.0.payload mk said (recorded c.place first.0 first.1)) stays) in
+      record {
+        station = record waited { state = e' };
+        many = subst (λ (ls : List Line). Many p b s (take k packets) a ls (record waited { state = e' }) (take (suc k) packets)) line
+            (subst (λ (ys : List Packet). Many p b s (take k packets) a (waited_line (length (take k packets)) s clock ∷ make_line (length (take k packets)) s (wrapped (a.first_number + length a.state.made)) (clock, why) ∷ []) (record waited { state = e' }) ys)
+            (next_packet packets k first.0 a.state.side (f.side ∙ sym first.2) there) step);
+        above = after;
+        takes = λ j. takes_past j c.place clock why es;
+        makes = λ j l. makes_other j c.place clock why es (below c.place j (omega (arith, pl, l)));
+        tracks = record {
+          level = suc c.place;
+          made = suc f.made;
+          taken = f.taken;
+          low = omega arith;
+          fits = rest;
+          based = made.base ∙ f.based;
+          count = omega (arith, count);
+          mark = f.mark;
+          clock = sym made.now;
+          number = f.number;
+          before = λ i d h v. elim (dec_lt d.place k) [ yes l ↦ (let z = f.before i d h l in omega (arith, z)) | no l ↦ (let z = places_once p packets s own sent i f.made d c h mine (omega arith) in omega (arith, z)) ];
+          after = λ i d h v. elim (dec_lt i f.made) [ yes l ↦ (let z = f.after i d h l in omega (arith, z)) | no l ↦ (let same_i : i ≡ f.made = omega arith in let same_d : d ≡ c = (let h' : slice_get own f.made ≡ Some d = subst (λ (j : ℕ). slice_get own j ≡ Some d) same_i h in cc) in let q = ap (λ (z : FirstCopy). z.place) same_d in omega (arith, q)) ];
+          same = λ i d h v. elim (dec_lt i f.made) [
+            | yes l ↦ (let z = f.same i d h l in (z.0, subst (λ (ms : List Made). slice_get ms (base p + i) ≡ Some z.0) (sym now) (get_front a.state.made (n ∷ []) (base p + i) z.0 z.1), z.2))
+            | no l ↦ (let same_i : i ≡ f.made = omega arith in let same_d : d ≡ c = (let h' : slice_get own f.made ≡ Some d = subst (λ (j : ℕ). slice_get own j ≡ Some d) same_i h in cc) in
+                let at_end : length a.state.made ≡ base p + i = omega (arith, f.count, same_i) in
+                (n, subst (λ (ms : List Made). slice_get ms (base p + i) ≡ Some n) (sym now) (subst (λ (j : ℕ). slice_get (a.state.made ++ n ∷ []) j ≡ Some n) at_end (get_push a.state.made n)), made.pdu ∙ ap (λ (z : FirstCopy). z.pdu.safety) (sym same_d)))
+          ];
+          side = made.side ∙ f.side;
+        };
+      }
+
+module _ (p : Parameters) (packets : List Packet) (k : ℕ) (s : Side) (own peer : List FirstCopy) (sent : IsSent p packets s own) (recorded : CrossRecorded p packets) (last : Cursor) (whole : last.made ≡ length own) where
+  -- what the next packet is, for a station whose takes are done
+  pub data Next (es : List Entry) (a b : Station) (here : Packet) : Type 0 where
+    made_now : (rest : List Entry) → Made_step p (length packets) k s own peer (number_of here) es rest last a b (take k packets) (take (suc k) packets) → Next es a b here
+    copied_now : Many p b s (take k packets) a (side_lines k s (number_of here) own es) a (take (suc k) packets) → Tracks p (length packets) (suc k) s own peer es last a → Next es a b here
+
+  copy_moves : (es : List Entry) (a b : Station) (here : Packet) → position_of_place own k ≡ None → slice_get packets k ≡ Some here → here.side ≡ a.state.side
+      → (j : ℕ) (old : Packet) → j < k → slice_get packets j ≡ Some old → old.side ≡ here.side → old.payload ≡ here.payload → Many p b s (take k packets) a (side_lines k s (number_of here) own es) a (take (suc k) packets)
+  copy_moves es a b here no_first at sd j old l g os ob =
+      let n : k < length packets = slice_get_within packets k here at in
+      let lt : j < length (take k packets) = omega (arith, length-take-le k packets (omega arith)) in
+      let get : slice_index_or (take k packets) j old ≡ old = get_or-take k packets j old l ∙ get_or_from_slice_get packets j old old g in
+      let whole : record old { channel = here.channel } ≡ here = (λ i. record { channel = here.channel; side = os i; payload = ob i }) in
+      let next : take k packets ++ record old { channel = here.channel } ∷ [] ≡ take (suc k) packets = ap (λ (x : Packet). take k packets ++ x ∷ []) whole ∙ next_packet packets k here here.side refl at in
+      let there : slice_get (take k packets) j ≡ Some old = slice_get-get_or (take k packets) j old lt ∙ ap Some get in
+      let long : length (take k packets) ≡ k = length-take-le k packets (omega arith) in
+      let line : lines_of_move s a b (take k packets) (repeating j here.channel) ++ [] ≡ side_lines k s (number_of here) own es =
+      append-nil (lines_of_move s a b (take k packets) (repeating j here.channel))
+      ∙ (ap (λ (o : Option Packet). copy_lines (length (take k packets)) s o) there
+      ∙ ((λ i. crossed_lines (long i) s (number_in_bytes (ob i)) None [])
+      ∙ sym (ap (λ (o : Option ℕ). crossed_lines k s (number_of here) o (makes_at k es)) no_first))) in
+      subst (λ (ls : List Line). Many p b s (take k packets) a ls a (take (suc k) packets)) line
+      (subst (λ (ys : List Packet). Many p b s (take k packets) a (lines_of_move s a b (take k packets) (repeating j here.channel) ++ []) a ys) next
+      (moves (repeating j here.channel) (does_repeat {a = a} j here.channel old there (os ∙ sd) (recorded k here at)) stays))
+
+  copied : (es : List Entry) (a b : Station) (here : Packet) → slice_get packets k ≡ Some here → here.side ≡ s → (f : Tracks p (length packets) k s own peer es last a) → Later k own f.made → Next es a b here
+  unfolding Later
+  copied es a b here at hs f l =
+      ⊎_elim
+      (λ (w : (i : ℕ) × (c : FirstCopy) × (slice_get own i ≡ Some c) × (c.place ≡ k)). absurd (not_first es a f l w.0 w.1 w.2 w.3))
+      (λ (w : (j : ℕ) × (o : Packet) × (j < k) × (slice_get packets j ≡ Some o) × (o.side ≡ s) × (o.payload ≡ here.payload)).
+      copied_now (copy_moves es a b here (place_missing own k (not_first es a f l)) at (hs ∙ sym f.side) w.0 w.1 w.2 w.3 (w.4 ∙ sym hs) w.5) (untouched p packets k s own peer sent recorded last whole es a f l))
+      (sent.others k here at hs)
+    where
+      not_first : (es : List Entry) (a : Station) → (f : Tracks p (length packets) k s own peer es last a) → Later k own f.made → (i : ℕ) (c : FirstCopy) → slice_get own i ≡ Some c → c.place ≡ k → ⊥
+      not_first es a f l i c g e = elim (dec_lt i f.made) [ yes m ↦ (let z = f.after i c g m in omega (arith, z)) | no m ↦ (let z = l i c g (omega arith) in omega (arith, z)) ]
+
+  -- the next entry is a take that is not yet due
+  undue : (a b : Station) (here : Packet) (slot number : ℕ) (es : List Entry) → slice_get packets k ≡ Some here → here.side ≡ s → k < slot
+      → (f : Tracks p (length packets) k s own peer (Take slot number ∷ es) last a) (m : Cursor) → Advances p (length packets) own peer (record { level = f.level; made = f.made; taken = f.taken; state = a.state }) (Take slot number) m → Leads p (length packets) own peer m es last
+      → Next (Take slot number ∷ es) a b here
+  undue a b here slot number es at hs dr f m (takes_next slot' position d e' lv le there below above t) rest =
+      copied (Take slot d.pdu.number ∷ es) a b here at hs f (later_by p packets k s own peer sent recorded last whole f.made (λ c g. (let l = next_place p (length packets) own peer _ last es rest whole c g in omega (arith, l))))
+
+  next_make : (a b : Station) (here : Packet) (place clock : ℕ) (why : Why) (es : List Entry) → slice_get packets k ≡ Some here → here.side ≡ s
+      → (f : Tracks p (length packets) k s own peer (Make place clock why ∷ es) last a) (m : Cursor) → Advances p (length packets) own peer (record { level = f.level; made = f.made; taken = f.taken; state = a.state }) (Make place clock why) m → Leads p (length packets) own peer m es last
+      → Next (Make place clock why ∷ es) a b here
+  next_make a b here place clock why es at hs f m (makes_next c clock' why' e' lv mine mk) rest =
+      elim (dec_lt k c.place) [
+        | yes l ↦ copied (Make c.place clock why ∷ es) a b here at hs f (later_by p packets k s own peer sent recorded last whole f.made (λ d g. (let same : c ≡ d = cc in let q = ap (λ (x : FirstCopy). x.place) same in omega (arith, q))))
+        | no l ↦ (let low : k ≤ c.place = not_before f.made c mine (f.before f.made c mine) in made_now es (make_one p packets k s own peer sent recorded c.place clock why es a b here last m at (omega arith) f (makes_next c clock why e' lv mine mk) rest))
+      ]
+    where
+      not_before : (made : ℕ) (c : FirstCopy) → slice_get own made ≡ Some c → (c.place < k → made < made) → k ≤ c.place
+      not_before made c g h = elim (dec_lt c.place k) [ yes l ↦ (let z = h l in absurd (omega (arith, z))) | no l ↦ omega arith ]
+
+  pub next_is : (es : List Entry) (a b : Station) (here : Packet) → slice_get packets k ≡ Some here → here.side ≡ s → Drained k es → Tracks p (length packets) k s own peer es last a → Next es a b here
+  next_is [] a b here at hs dr f = copied [] a b here at hs f (later_by p packets k s own peer sent recorded last whole f.made (λ c g. absurd (let l = slice_get_within own f.made c g in let z = ap (λ (u : Cursor). u.made) f.fits in omega (arith, z, l, whole))))
+  next_is (Take slot number ∷ es) a b here at hs dr f = undue a b here slot number es at hs dr f f.fits.0 f.fits.1 f.fits.2
+  next_is (Make place clock why ∷ es) a b here at hs dr f = next_make a b here place clock why es at hs f f.fits.0 f.fits.1 f.fits.2

@@ -1,0 +1,64 @@
+-- What the rest of a script that fits says of later levels.
+use Rattle.std.proofs.Common.{◌≡◌, ℕ, ◌<◌, ◌≤◌, List, [], ◌∷◌, Option, Some, None, slice_get, refl, ap, sym, ◌∙◌, arith}
+use Rattle.std.specs.Option.{option_map}
+use Rattle.std.proofs.lemmas.Option.{slice_get_within, slice_get-map}
+use Rattle.rasta_pcap.specs.declared.fault.Side.{Side}
+use Rattle.rasta_udp.specs.Frame.{Packet}
+use Rattle.rasta_pdu.specs.Params.{Parameters}
+use Rattle.rasta_cert.specs.declared.entry.Entry.{Entry}
+use Rattle.rasta_cert.specs.declared.entry.Entry.TheVariants.{Take, Make}
+use Rattle.rasta_check.specs.Crossing.{FirstCopy}
+use Rattle.rasta_check.specs.Lists.{places_of, position_of_place}
+use Rattle.rasta_check.specs.Scripts.{Cursor, Advances, takes_next, makes_next, Leads}
+use Rattle.rasta_check.proofs.Copies.{IsSent}
+use Rattle.rasta_check.proofs.Positions.{position_at, position_none}
+use Rattle.rasta_check.proofs.Scripted.{slice_get_some, places_once}
+use Rattle.rasta_runs.specs.Levels.{takes_at, makes_at}
+use Rattle.rasta_runs.proofs.Entries.{above, makes_none, makes_other, makes_past, takes_none, takes_other, takes_past}
+
+-- no entry lies below this level
+abbrev pub Above : ℕ → List Entry → Type 0
+Above k [] = Unit {0}
+Above k (Take slot number ∷ es) = (k ≤ slot) × Above k es
+Above k (Make place clock why ∷ es) = (k ≤ place) × Above k es
+
+pub lead_above : (p : Parameters) (n k : ℕ) (own peer : List FirstCopy) (u v : Cursor) (es : List Entry) → Leads p n own peer u es v → k ≤ u.level → Above k es
+lead_above p n k own peer u v [] f l = tt
+lead_above p n k own peer u v (x ∷ es) f l = by x f.0 f.1 (λ m. lead_above p n k own peer f.0 v es f.2 m)
+  where
+    by : (x : Entry) (m : Cursor) → Advances p n own peer u x m → (k ≤ m.level → Above k es) → Above k (x ∷ es)
+    by x m (takes_next slot position d e' lv le there below above t) r = (omega (arith, l, lv), r (omega (arith, l, lv)))
+    by x m (makes_next d clock why e' lv mine mk) r = (omega (arith, l, lv), r (omega (arith, l, lv)))
+
+pub no_takes : (at level : ℕ) (es : List Entry) → at < level → Above level es → takes_at at es ≡ []
+no_takes at level [] l o = takes_none at
+no_takes at level (Take slot number ∷ es) l o = takes_other at slot number es (above at slot (let z = o.0 in omega arith)) ∙ no_takes at level es l o.1
+no_takes at level (Make index clock why ∷ es) l o = takes_past at index clock why es ∙ no_takes at level es l o.1
+
+pub no_makes : (at level : ℕ) (es : List Entry) → at < level → Above level es → makes_at at es ≡ []
+no_makes at level [] l o = makes_none at
+no_makes at level (Take slot number ∷ es) l o = makes_past at slot number es ∙ no_makes at level es l o.1
+no_makes at level (Make index clock why ∷ es) l o = makes_other at index clock why es (above at index (let z = o.0 in omega arith)) ∙ no_makes at level es l o.1
+
+-- from this level on the script says what its rest says
+pub record Says (k : ℕ) (whole es : List Entry) : Type 0 where
+  pub takes : (j : ℕ) → k ≤ j → takes_at j whole ≡ takes_at j es
+  pub makes : (j : ℕ) → k ≤ j → makes_at j whole ≡ makes_at j es
+
+-- ---- places
+
+pub place_found : (p : Parameters) (packets : List Packet) (s : Side) (own : List FirstCopy) → IsSent p packets s own → (i : ℕ) (c : FirstCopy) → slice_get own i ≡ Some c → position_of_place own c.place ≡ Some i
+place_found p packets s own h i c g =
+    position_at c.place (places_of own) i (slice_get-map (λ (x : FirstCopy). x.place) own i ∙ ap (option_map (λ (x : FirstCopy). x.place)) g)
+    (λ j y l k e. (let w = slice_get_within own i c g in
+    let d = slice_get_some own j (omega (arith, l, w)) in
+    let same : Some d.0.place ≡ Some y = sym (slice_get-map (λ (x : FirstCopy). x.place) own j ∙ ap (option_map (λ (x : FirstCopy). x.place)) d.1) ∙ k in
+    let q : d.0.place ≡ c.place = cc in
+    let z = places_once p packets s own h j i d.0 c d.1 g q in omega (arith, z, l)))
+
+pub place_missing : (own : List FirstCopy) (k : ℕ) → ((i : ℕ) (c : FirstCopy) → slice_get own i ≡ Some c → c.place ≡ k → ⊥) → position_of_place own k ≡ None
+place_missing own k none = position_none k (places_of own) (λ j y g e. by j y (slice_get own j) refl (sym (slice_get-map (λ (x : FirstCopy). x.place) own j) ∙ g) e)
+  where
+    by : (j y : ℕ) (o : Option FirstCopy) → slice_get own j ≡ o → option_map (λ (x : FirstCopy). x.place) o ≡ Some y → y ≡ k → ⊥
+    by j y None h g e = absurd (cc)
+    by j y (Some c) h g e = none j c h (let q : c.place ≡ y = cc in q ∙ e)

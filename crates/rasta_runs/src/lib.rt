@@ -1,0 +1,4 @@
+//! Runs of two ends, move by move, and the lines that tell them.
+#![tactic(auto)]
+
+pub mod laws;

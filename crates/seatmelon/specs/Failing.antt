@@ -1,0 +1,24 @@
+-- The exit status of a failure.
+use Rattle.std.specs.Prelude.{◌≡◌, ◌⊎◌, ℕ, ◌==◌, ◌||◌, if◌then◌else◌}
+use Rattle.seatmelon.specs.declared.failure.Failure.{Failure}
+use Rattle.seatmelon.specs.declared.failure.Failure.TheVariants.{OutOfMemory, Arguments, Reading, Writing, Refused}
+
+-- a capture; words; memory and devices
+abbrev pub status_of : Failure → ℕ
+status_of (Refused path refusal) = 1
+status_of Arguments = 2
+status_of OutOfMemory = 3
+status_of (Reading path reason) = 3
+status_of (Writing reason) = 3
+
+-- memory and reading; the capture
+abbrev pub status_of_fault : ℕ → ℕ
+status_of_fault number = if (number == 1) || (number == 2) then 3 else 1
+
+-- memory may run out while the failure is told
+abbrev pub TellsOf : ℕ → Failure → Type 0
+TellsOf number failure = (failure ≡ OutOfMemory) ⊎ (status_of failure ≡ status_of_fault number)
+
+-- the capture, memory or a device failed, and not the words
+abbrev pub IsOfFiles : Failure → Type 0
+IsOfFiles failure = (status_of failure ≡ 1) ⊎ (status_of failure ≡ 3)

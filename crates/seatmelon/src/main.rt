@@ -1,0 +1,66 @@
+//! Tells which RaSTA connections a capture seems to hold: `survey CAPTURE`.
+#![tactic(auto)]
+
+mod command;
+mod failure;
+mod file_kind;
+mod surveying;
+#[cfg(test)]
+mod tests;
+mod watched;
+
+use crate::command::{Request, parse};
+use crate::failure::{Failure, reason_of, status};
+use crate::surveying::survey_file;
+use clap::Error;
+use clap::error::ErrorKind;
+use std::io;
+use std::process::ExitCode;
+use std::rt::{Env, Files};
+
+// The words after the program's name.
+fn words<R: AllocGlobal + Env>(rt: &R) -> Result<Vec<String>, Failure> {
+    match std::env::args(rt) {
+        Ok(words) => words
+            .skip(1)
+            .collect(rt.alloc())
+            .map_err(|_| Failure::OutOfMemory),
+        Err(error) if error.kind() == io::ErrorKind::OutOfMemory => Err(Failure::OutOfMemory),
+        Err(_) => Err(Failure::Arguments),
+    }
+}
+
+// Help and the version, on standard output, or what is wrong with the words.
+fn explain<R: AllocGlobal + Print + Eprint>(rt: &R, error: &Error) -> Result<u8, Failure> {
+    match error.kind() {
+        ErrorKind::OutOfMemory => Err(Failure::OutOfMemory),
+        ErrorKind::DisplayHelp | ErrorKind::DisplayVersion => match error.print(rt) {
+            Ok(()) => Ok(0),
+            Err(error) => Err(Failure::Writing(reason_of(rt.alloc(), &error)?)),
+        },
+        _ => {
+            // Where standard error fails too, the status alone tells.
+            let _ = error.print(rt);
+            Ok(2)
+        }
+    }
+}
+
+fn answer<R: AllocGlobal + Env + Files + Print + Eprint>(rt: &R) -> Result<u8, Failure> {
+    let words = words(rt)?;
+    match parse(rt.alloc(), &words) {
+        Ok(Request::Survey { capture }) => survey_file(rt, capture),
+        Err(error) => explain(rt, &error),
+    }
+}
+
+fn main(rt: HostRuntime) -> ExitCode {
+    match answer(&rt) {
+        Ok(code) => ExitCode::from(code),
+        Err(failure) => {
+            // Where standard error fails too, the status alone tells.
+            let _ = eprintln!(rt; "seatmelon: {failure}");
+            ExitCode::from(status(&failure))
+        }
+    }
+}

@@ -1,0 +1,3 @@
+pub mod Survey
+pub mod Extents
+pub mod Numbers

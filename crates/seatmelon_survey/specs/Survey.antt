@@ -1,0 +1,12 @@
+-- What a survey counted.
+use Rattle.std.specs.Prelude.{ℕ, List}
+use Rattle.seatmelon_survey.specs.declared.findings.Survey.{Survey}
+use Rattle.seatmelon_survey.specs.declared.connection.Connection.{Connection}
+
+-- how many records were read
+abbrev pub records_in : Survey → ℕ
+records_in s = s.records
+
+-- the connections, in the order of their first records
+abbrev pub connections_in : Survey → List Connection
+connections_in s = s.connections.items

@@ -1,0 +1,199 @@
+//! The redundancy layer's numbers of an end.
+ghost use Rattle.std.specs.Prelude.{◌≡◌, IfErr};
+ghost use Rattle.rasta_pcap.specs.Fault.{no_memory};
+ghost use Rattle.seatmelon_survey.specs.Numbers.{IsStanding};
+
+use crate::packet::Packet;
+use rasta_pcap::Fault;
+use std::alloc::Global;
+
+// With how many of an end's numbers a copy is compared.
+const REMEMBERED: u32 = 256;
+
+// Half of the numbers: a number that is so far from the expected one or further is behind it.
+const HALF: u32 = 0x8000_0000;
+
+/// What a packet is among those of its end.
+#[derive(Clone, Copy, Debug, PartialEq, Eq)]
+pub enum Sighting {
+    /// The first one of its number.
+    First,
+
+    /// One that repeats an earlier packet byte for byte.
+    Copy,
+
+    /// One of an earlier packet's number that differs from it.
+    DifferingCopy,
+
+    /// One too far behind to be compared.
+    TooOld,
+}
+
+// Where a number stands beside the one that is expected.
+#[derive(Clone, Copy, Debug, PartialEq, Eq)]
+enum Standing {
+    Expected,
+    Ahead(u32),
+    Behind(u32),
+}
+
+fn standing_of(number: u32, expected: u32) -> Standing
+    ensures { IsStanding result number expected }
+{
+    let ahead = number.wrapping_sub(expected);
+    if ahead == 0 {
+        Standing::Expected
+    } else if ahead < HALF {
+        Standing::Ahead(ahead)
+    } else {
+        Standing::Behind(expected.wrapping_sub(number))
+    }
+}
+
+// A packet that is remembered.
+#[derive(Clone, Copy, Debug, PartialEq, Eq)]
+struct Remembered {
+    number: u32,
+    digest: [u8; 16],
+}
+
+fn remembered_of(packet: &Packet) -> Remembered {
+    let digest = packet.digest;
+    Remembered {
+        number: packet.number,
+        digest,
+    }
+}
+
+/// A gap: the first number that is missing, and the record that shows it.
+#[derive(Clone, Copy, Debug, PartialEq, Eq)]
+pub struct Gap {
+    pub missing: u32,
+    pub record: u32,
+}
+
+/// What the numbers of an end show.
+#[derive(Clone, Copy, Debug, PartialEq, Eq)]
+pub struct NumberCounts {
+    pub gaps: u64,
+    pub missing: u64,
+    pub first_gap: Option<Gap>,
+    pub copies: u64,
+    pub differing: u64,
+    pub late: u64,
+    pub too_old: u64,
+}
+
+const NOTHING: NumberCounts = NumberCounts {
+    gaps: 0,
+    missing: 0,
+    first_gap: None,
+    copies: 0,
+    differing: 0,
+    late: 0,
+    too_old: 0,
+};
+
+/// The redundancy layer's numbers of an end, of which the last 256 are remembered.
+#[derive(Debug, Drop)]
+pub struct Numbers {
+    expected: Option<u32>,
+    remembered: Vec<Option<Remembered>>,
+    counts: NumberCounts,
+}
+
+fn slot_of(number: u32) -> usize {
+    (number % REMEMBERED) as usize
+}
+
+impl Numbers {
+    /// None yet.
+    ///
+    /// Refused by [`Fault::NO_MEMORY`].
+    pub fn new(alloc: Global) -> Result<Numbers, Fault>
+        ensures err { IfErr result (λ f. f ≡ no_memory) }
+    {
+        let mut remembered = Vec::new(alloc);
+        if remembered.resize(REMEMBERED as usize, None).is_err() {
+            return Err(Fault::at(Fault::NO_MEMORY, 0));
+        }
+        Ok(Numbers {
+            expected: None,
+            remembered,
+            counts: NOTHING,
+        })
+    }
+
+    /// What the numbers show.
+    pub fn counts(&self) -> NumberCounts {
+        self.counts
+    }
+
+    /// Takes the number of a packet in, and says what the packet is.
+    pub fn add(&mut self, packet: &Packet) -> Sighting {
+        let expected = self.expected.unwrap_or(packet.number);
+        match standing_of(packet.number, expected) {
+            Standing::Expected => self.go_on(packet),
+            Standing::Ahead(missing) => {
+                self.add_gap(packet, expected, missing);
+                self.go_on(packet)
+            }
+            Standing::Behind(distance) => self.look_back(packet, distance),
+        }
+    }
+
+    fn go_on(&mut self, packet: &Packet) -> Sighting {
+        self.expected = Some(packet.number.wrapping_add(1));
+        self.remember(packet);
+        Sighting::First
+    }
+
+    fn remember(&mut self, packet: &Packet) {
+        if let Some(slot) = self.remembered.get_mut(slot_of(packet.number)) {
+            *slot = Some(remembered_of(packet));
+        }
+    }
+
+    fn add_gap(&mut self, packet: &Packet, expected: u32, missing: u32) {
+        self.counts.gaps = self.counts.gaps.saturating_add(1);
+        self.counts.missing = self.counts.missing.saturating_add(u64::from(missing));
+        if self.counts.first_gap.is_none() {
+            self.counts.first_gap = Some(Gap {
+                missing: expected,
+                record: packet.record,
+            });
+        }
+    }
+
+    // The packet of this number that is remembered.
+    fn recall(&self, number: u32) -> Option<Remembered> {
+        let earlier = self.remembered.get(slot_of(number)).copied()??;
+        if earlier.number == number {
+            Some(earlier)
+        } else {
+            None
+        }
+    }
+
+    fn look_back(&mut self, packet: &Packet, distance: u32) -> Sighting {
+        if distance > REMEMBERED {
+            self.counts.too_old = self.counts.too_old.saturating_add(1);
+            return Sighting::TooOld;
+        }
+        match self.recall(packet.number) {
+            Some(earlier) if earlier == remembered_of(packet) => {
+                self.counts.copies = self.counts.copies.saturating_add(1);
+                Sighting::Copy
+            }
+            Some(_) => {
+                self.counts.differing = self.counts.differing.saturating_add(1);
+                Sighting::DifferingCopy
+            }
+            None => {
+                self.counts.late = self.counts.late.saturating_add(1);
+                self.remember(packet);
+                Sighting::First
+            }
+        }
+    }
+}

@@ -1,0 +1,152 @@
+//! Packets that have the form of RaSTA.
+ghost use Rattle.std.specs.Prelude.{◌≡◌, ◌+◌, ◌≤◌, length, IfSome};
+ghost use Rattle.rasta_pdu.specs.Pdu.{type_of};
+
+use crate::lengths::{Fits, Way, fits_of};
+use crate::route::route_in;
+use byteorder::{ByteOrder, LittleEndian};
+use rasta_md4::Md4;
+use rasta_pdu::Kind;
+use rasta_udp::{Record, datagram};
+
+// Offsets and lengths in a datagram, in bytes.
+const NUMBER_AT: usize = 4;
+
+const SAFETY_AT: usize = 8;
+
+const TYPE_AT: usize = 10;
+
+const RECEIVER_AT: usize = 12;
+
+const SENDER_AT: usize = 16;
+
+const SN_AT: usize = 20;
+
+const PAYLOAD_AT: usize = 36;
+
+const SENDMAX_AT: usize = 40;
+
+const OPENING_END: usize = 42;
+
+const REASON_AT: usize = 38;
+
+const BYE_END: usize = 40;
+
+/// What an end says of itself at the opening: its version, four digits, and its N_sendmax.
+#[derive(Clone, Copy, Debug, PartialEq, Eq)]
+pub struct Offer {
+    pub version: [u8; 4],
+    pub sendmax: u16,
+}
+
+/// A packet that has the form of RaSTA.
+#[derive(Clone, Copy, Debug, PartialEq, Eq)]
+pub struct Packet {
+    pub record: u32,
+    pub way: Way,
+    pub kind: Kind,
+    pub number: u32,
+    pub sn: u32,
+    pub fits: Fits,
+
+    /// Of a connection request or response.
+    pub offer: Option<Offer>,
+
+    /// Of a disconnection request.
+    pub reason: Option<u16>,
+
+    /// By which copies are compared.
+    pub digest: [u8; 16],
+}
+
+fn kind_of(number: u16) -> Option<Kind>
+    ensures { IfSome result (λ k. type_of k ≡ number) }
+{
+    match number {
+        6200 => Some(Kind::ConnectionRequest),
+        6201 => Some(Kind::ConnectionResponse),
+        6212 => Some(Kind::RetransmissionRequest),
+        6213 => Some(Kind::RetransmissionResponse),
+        6216 => Some(Kind::DisconnectionRequest),
+        6220 => Some(Kind::Heartbeat),
+        6240 => Some(Kind::Data),
+        6241 => Some(Kind::RetransmittedData),
+        _ => None,
+    }
+}
+
+fn u32_at(bytes: &[u8], at: usize) -> u32
+    requires { at + 4 ≤ length bytes.now }
+{
+    LittleEndian::read_u32(&bytes[at..])
+}
+
+// The length of the check code that is left after the safety PDU.
+fn check_length(datagram: &[u8]) -> Option<u8>
+    requires { 36 ≤ length datagram.now }
+{
+    let safety = usize::from(LittleEndian::read_u16(&datagram[SAFETY_AT..]));
+    match datagram.len() - SAFETY_AT {
+        rest if rest == safety => Some(0),
+        rest if rest == safety + 2 => Some(2),
+        rest if rest == safety + 4 => Some(4),
+        _ => None,
+    }
+}
+
+fn offer_in(kind: Kind, datagram: &[u8]) -> Option<Offer> {
+    let is_opening = matches!(kind, Kind::ConnectionRequest | Kind::ConnectionResponse);
+    if !is_opening || datagram.len() < OPENING_END {
+        return None;
+    }
+    let mut version = [0u8; 4];
+    version.copy_from_slice(&datagram[PAYLOAD_AT..SENDMAX_AT]);
+    Some(Offer {
+        version,
+        sendmax: LittleEndian::read_u16(&datagram[SENDMAX_AT..]),
+    })
+}
+
+fn reason_in(kind: Kind, datagram: &[u8]) -> Option<u16> {
+    if kind == Kind::DisconnectionRequest && datagram.len() >= BYE_END {
+        Some(LittleEndian::read_u16(&datagram[REASON_AT..]))
+    } else {
+        None
+    }
+}
+
+fn digest_of(datagram: &[u8]) -> [u8; 16] {
+    let mut digest = Md4::with_words([0; 4]);
+    digest.update(datagram);
+    digest.finish()
+}
+
+/// The packet that a record holds, if its datagram has the form of RaSTA for some lengths of the codes.
+pub fn packet_in(found: &Record<'_>) -> Option<Packet> {
+    let route = route_in(found.bytes)?;
+    let bytes = datagram(found, &[route]).ok()??.payload;
+    if bytes.len() < PAYLOAD_AT {
+        return None;
+    }
+    let kind = kind_of(LittleEndian::read_u16(&bytes[TYPE_AT..]))?;
+    let way = Way {
+        sender: u32_at(bytes, SENDER_AT),
+        receiver: u32_at(bytes, RECEIVER_AT),
+        route,
+    };
+    let fits = fits_of(&way, bytes, check_length(bytes)?);
+    if !fits.any() {
+        return None;
+    }
+    Some(Packet {
+        record: found.number,
+        way,
+        kind,
+        number: u32_at(bytes, NUMBER_AT),
+        sn: u32_at(bytes, SN_AT),
+        fits,
+        offer: offer_in(kind, bytes),
+        reason: reason_in(kind, bytes),
+        digest: digest_of(bytes),
+    })
+}

@@ -1,0 +1,69 @@
+//! One of the two ends of a connection.
+ghost use Rattle.std.specs.Prelude.{◌≡◌, IfErr};
+ghost use Rattle.rasta_pcap.specs.Fault.{no_memory};
+
+use crate::kinds::KindCounts;
+use crate::numbers::{Numbers, Sighting};
+use crate::packet::{Offer, Packet};
+use rasta_pcap::Fault;
+use std::alloc::Global;
+
+/// A disconnection request: its record and its reason.
+#[derive(Clone, Copy, Debug, PartialEq, Eq)]
+pub struct Ending {
+    pub record: u32,
+    pub reason: u16,
+}
+
+/// What one end of a connection sent.
+#[derive(Debug, Drop)]
+pub struct Party {
+    pub id: u32,
+    pub kinds: KindCounts,
+    pub numbers: Numbers,
+
+    /// Of its connection request or response.
+    pub offer: Option<Offer>,
+    pub ending: Option<Ending>,
+}
+
+impl Party {
+    /// An end that sent nothing yet.
+    ///
+    /// Refused by [`Fault::NO_MEMORY`].
+    pub fn new(alloc: Global, id: u32) -> Result<Party, Fault>
+        ensures err { IfErr result (λ f. f ≡ no_memory) }
+    {
+        Ok(Party {
+            id,
+            kinds: KindCounts::new(),
+            numbers: Numbers::new(alloc)?,
+            offer: None,
+            ending: None,
+        })
+    }
+
+    /// Takes a packet in that it sent.
+    pub fn add(&mut self, packet: &Packet) {
+        let sighting = self.numbers.add(packet);
+        if sighting == Sighting::First {
+            self.kinds.add(packet.kind);
+            self.note(packet);
+        }
+    }
+
+    // Keeps what the first opening and the first ending say.
+    fn note(&mut self, packet: &Packet) {
+        if self.offer.is_none() {
+            self.offer = packet.offer;
+        }
+        if let Some(reason) = packet.reason
+            && self.ending.is_none()
+        {
+            self.ending = Some(Ending {
+                record: packet.record,
+                reason,
+            });
+        }
+    }
+}

@@ -1,0 +1,464 @@
+//! The text of a survey.
+ghost use Rattle.std.specs.Prelude.{◌≡◌, IfErr, OnOk};
+ghost use Rattle.rasta_pcap.specs.Fault.{write_failed};
+ghost use Rattle.rasta_pcap.specs.Devices.{HasFailed};
+
+use crate::channel::ChannelCounts;
+use crate::connection::Connection;
+use crate::findings::Survey;
+use crate::kinds::{KINDS, name_of};
+use crate::lengths::{FitCount, Lengths};
+use crate::numbers::NumberCounts;
+use crate::party::Party;
+use crate::text::{Part, write_parts};
+use rasta_pcap::{Fault, Sink};
+
+// Writes a line if there is a reason to.
+fn write_line_if<W: Sink>(writer: &mut W, applies: bool, parts: &[Part]) -> Result<(), Fault>
+    ensures steady { OnOk result (W.failure_count writer.new ≡ W.failure_count writer.old) }
+    ensures err { IfErr result (λ f. (f ≡ write_failed)
+        × HasFailed (W.failure_count writer.old) (W.failure_count writer.new)) }
+{
+    if applies {
+        write_parts(writer, parts)
+    } else {
+        Ok(())
+    }
+}
+
+/// Writes how much was read.
+pub fn write_summary<W: Sink>(writer: &mut W, survey: &Survey) -> Result<(), Fault>
+    ensures steady { OnOk result (W.failure_count writer.new ≡ W.failure_count writer.old) }
+    ensures err { IfErr result (λ f. (f ≡ write_failed)
+        × HasFailed (W.failure_count writer.old) (W.failure_count writer.new)) }
+{
+    let records = u64::from(survey.records);
+    let passed_over = records.saturating_sub(survey.packets);
+    write_parts(
+        writer,
+        &[
+            Part::Words("records: "),
+            Part::Number(records),
+            Part::Words("\npackets of RaSTA: "),
+            Part::Number(survey.packets),
+            Part::Words("\nother records, passed over: "),
+            Part::Number(passed_over),
+            Part::Words("\n"),
+        ],
+    )?;
+    write_line_if(
+        writer,
+        survey.left_out > 0,
+        &[
+            Part::Words("packets of further connections, left out: "),
+            Part::Number(survey.left_out),
+            Part::Words("\n"),
+        ],
+    )?;
+    let none = [Part::Words("no packet of a RaSTA connection\n")];
+    write_line_if(writer, survey.connections().is_empty(), &none)
+}
+
+// What the ends are called: by their roles where the opening was captured.
+#[derive(Clone, Copy, Debug)]
+struct EndNames {
+    first: &'static str,
+    second: &'static str,
+}
+
+fn names_in(connection: &Connection) -> EndNames {
+    if connection.has_opening() {
+        EndNames {
+            first: "client",
+            second: "server",
+        }
+    } else {
+        EndNames {
+            first: "end 1",
+            second: "end 2",
+        }
+    }
+}
+
+// Writes the id of an end, and what it said of itself at the opening.
+fn write_id<W: Sink>(writer: &mut W, name: &'static str, party: &Party) -> Result<(), Fault>
+    ensures steady { OnOk result (W.failure_count writer.new ≡ W.failure_count writer.old) }
+    ensures err { IfErr result (λ f. (f ≡ write_failed)
+        × HasFailed (W.failure_count writer.old) (W.failure_count writer.new)) }
+{
+    write_parts(
+        writer,
+        &[
+            Part::Words("  "),
+            Part::Words(name),
+            Part::Words(" id "),
+            Part::Number(u64::from(party.id)),
+        ],
+    )?;
+    if let Some(offer) = party.offer {
+        write_parts(
+            writer,
+            &[
+                Part::Words(", version "),
+                Part::Version(offer.version),
+                Part::Words(", N_sendmax "),
+                Part::Number(u64::from(offer.sendmax)),
+            ],
+        )?;
+    }
+    write_parts(writer, &[Part::Words("\n")])
+}
+
+// Writes where the connection stands in the capture, and whether its opening does.
+fn write_extent<W: Sink>(writer: &mut W, connection: &Connection) -> Result<(), Fault>
+    ensures steady { OnOk result (W.failure_count writer.new ≡ W.failure_count writer.old) }
+    ensures err { IfErr result (λ f. (f ≡ write_failed)
+        × HasFailed (W.failure_count writer.old) (W.failure_count writer.new)) }
+{
+    write_parts(
+        writer,
+        &[
+            Part::Words("  records "),
+            Part::Number(u64::from(connection.first_record())),
+            Part::Words(" to "),
+            Part::Number(u64::from(connection.last_record())),
+            Part::Words("\n"),
+        ],
+    )?;
+    if !connection.has_opening() {
+        return write_parts(writer, &[Part::Words("  no opening was captured\n")]);
+    }
+    write_parts(
+        writer,
+        &[
+            Part::Words("  opened by the client at record "),
+            Part::Number(u64::from(connection.first_record())),
+            Part::Words("\n"),
+        ],
+    )
+}
+
+// Writes a disconnection request of an end.
+fn write_ending<W: Sink>(writer: &mut W, name: &'static str, party: &Party) -> Result<(), Fault>
+    ensures steady { OnOk result (W.failure_count writer.new ≡ W.failure_count writer.old) }
+    ensures err { IfErr result (λ f. (f ≡ write_failed)
+        × HasFailed (W.failure_count writer.old) (W.failure_count writer.new)) }
+{
+    let Some(ending) = party.ending else {
+        return Ok(());
+    };
+    write_parts(
+        writer,
+        &[
+            Part::Words("  ended by the "),
+            Part::Words(name),
+            Part::Words(" at record "),
+            Part::Number(u64::from(ending.record)),
+            Part::Words(", reason "),
+            Part::Number(u64::from(ending.reason)),
+            Part::Words("\n"),
+        ],
+    )
+}
+
+// Writes a channel: its ends, first that of the connection's first end.
+fn write_channel<W: Sink>(
+    writer: &mut W,
+    place: u64,
+    names: EndNames,
+    counts: &ChannelCounts,
+) -> Result<(), Fault>
+    ensures steady { OnOk result (W.failure_count writer.new ≡ W.failure_count writer.old) }
+    ensures err { IfErr result (λ f. (f ≡ write_failed)
+        × HasFailed (W.failure_count writer.old) (W.failure_count writer.new)) }
+{
+    write_parts(
+        writer,
+        &[
+            Part::Words("  channel "),
+            Part::Number(place.saturating_add(1)),
+            Part::Words(": "),
+            Part::Endpoint(counts.channel.client),
+            Part::Words(" - "),
+            Part::Endpoint(counts.channel.server),
+            Part::Words(", packets to the "),
+            Part::Words(names.second),
+            Part::Words(": "),
+            Part::Number(counts.to_second),
+            Part::Words(", to the "),
+            Part::Words(names.first),
+            Part::Words(": "),
+            Part::Number(counts.to_first),
+            Part::Words("\n"),
+        ],
+    )
+}
+
+fn write_channels<W: Sink>(
+    writer: &mut W,
+    names: EndNames,
+    channels: &[ChannelCounts],
+) -> Result<(), Fault>
+    ensures steady { OnOk result (W.failure_count writer.new ≡ W.failure_count writer.old) }
+    ensures err { IfErr result (λ f. (f ≡ write_failed)
+        × HasFailed (W.failure_count writer.old) (W.failure_count writer.new)) }
+{
+    for (place, counts) in channels.iter().enumerate() {
+        write_channel(writer, place as u64, names, counts)?;
+    }
+    Ok(())
+}
+
+// Writes how many packets have the form that a length of the safety code asks for.
+fn write_code_length<W: Sink>(
+    writer: &mut W,
+    length: u64,
+    count: FitCount,
+    packets: u64,
+) -> Result<(), Fault>
+    ensures steady { OnOk result (W.failure_count writer.new ≡ W.failure_count writer.old) }
+    ensures err { IfErr result (λ f. (f ≡ write_failed)
+        × HasFailed (W.failure_count writer.old) (W.failure_count writer.new)) }
+{
+    if count.forms == 0 {
+        return Ok(());
+    }
+    write_parts(
+        writer,
+        &[
+            Part::Words("  a safety code of "),
+            Part::Number(length),
+            Part::Words(" bytes fits the length of "),
+            Part::Number(count.forms),
+            Part::Words(" of "),
+            Part::Number(packets),
+            Part::Words(" packets\n"),
+        ],
+    )?;
+    write_line_if(
+        writer,
+        length > 0,
+        &[
+            Part::Words("    MD4's own start words fit "),
+            Part::Number(count.start_words),
+            Part::Words(" of these\n"),
+        ],
+    )
+}
+
+// Writes how many packets leave so many bytes for the check code.
+fn write_check_length<W: Sink>(
+    writer: &mut W,
+    length: u64,
+    count: u64,
+    packets: u64,
+) -> Result<(), Fault>
+    ensures steady { OnOk result (W.failure_count writer.new ≡ W.failure_count writer.old) }
+    ensures err { IfErr result (λ f. (f ≡ write_failed)
+        × HasFailed (W.failure_count writer.old) (W.failure_count writer.new)) }
+{
+    write_line_if(
+        writer,
+        count > 0,
+        &[
+            Part::Words("  a check code of "),
+            Part::Number(length),
+            Part::Words(" bytes fits the length of "),
+            Part::Number(count),
+            Part::Words(" of "),
+            Part::Number(packets),
+            Part::Words(" packets\n"),
+        ],
+    )
+}
+
+fn write_lengths<W: Sink>(writer: &mut W, lengths: &Lengths) -> Result<(), Fault>
+    ensures steady { OnOk result (W.failure_count writer.new ≡ W.failure_count writer.old) }
+    ensures err { IfErr result (λ f. (f ≡ write_failed)
+        × HasFailed (W.failure_count writer.old) (W.failure_count writer.new)) }
+{
+    write_code_length(writer, 0, lengths.no_code, lengths.pdus)?;
+    write_code_length(writer, 8, lengths.short_code, lengths.pdus)?;
+    write_code_length(writer, 16, lengths.long_code, lengths.pdus)?;
+    write_check_length(writer, 0, lengths.no_check, lengths.pdus)?;
+    write_check_length(writer, 2, lengths.short_check, lengths.pdus)?;
+    write_check_length(writer, 4, lengths.long_check, lengths.pdus)
+}
+
+// Writes how many PDUs of each type an end sent, without copies.
+fn write_kinds<W: Sink>(writer: &mut W, name: &'static str, party: &Party) -> Result<(), Fault>
+    ensures steady { OnOk result (W.failure_count writer.new ≡ W.failure_count writer.old) }
+    ensures err { IfErr result (λ f. (f ≡ write_failed)
+        × HasFailed (W.failure_count writer.old) (W.failure_count writer.new)) }
+{
+    for kind in KINDS {
+        let count = party.kinds.count(kind);
+        write_line_if(
+            writer,
+            count > 0,
+            &[
+                Part::Words("  "),
+                Part::Words(name),
+                Part::Words(" sent "),
+                Part::Words(name_of(kind)),
+                Part::Words(": "),
+                Part::Number(count),
+                Part::Words("\n"),
+            ],
+        )?;
+    }
+    Ok(())
+}
+
+fn write_gap<W: Sink>(
+    writer: &mut W,
+    name: &'static str,
+    counts: &NumberCounts,
+) -> Result<(), Fault>
+    ensures steady { OnOk result (W.failure_count writer.new ≡ W.failure_count writer.old) }
+    ensures err { IfErr result (λ f. (f ≡ write_failed)
+        × HasFailed (W.failure_count writer.old) (W.failure_count writer.new)) }
+{
+    let Some(first) = counts.first_gap else {
+        return Ok(());
+    };
+    write_parts(
+        writer,
+        &[
+            Part::Words("  "),
+            Part::Words(name),
+            Part::Words("'s gaps: "),
+            Part::Number(counts.gaps),
+            Part::Words(", numbers missing: "),
+            Part::Number(counts.missing),
+            Part::Words(", the first: "),
+            Part::Number(u64::from(first.missing)),
+            Part::Words(" at record "),
+            Part::Number(u64::from(first.record)),
+            Part::Words("\n"),
+        ],
+    )
+}
+
+// Writes how many packets came again or out of order.
+fn write_repeats<W: Sink>(
+    writer: &mut W,
+    name: &'static str,
+    counts: &NumberCounts,
+) -> Result<(), Fault>
+    ensures steady { OnOk result (W.failure_count writer.new ≡ W.failure_count writer.old) }
+    ensures err { IfErr result (λ f. (f ≡ write_failed)
+        × HasFailed (W.failure_count writer.old) (W.failure_count writer.new)) }
+{
+    write_line_if(
+        writer,
+        counts.late > 0,
+        &[
+            Part::Words("  "),
+            Part::Words(name),
+            Part::Words("'s numbers that came late: "),
+            Part::Number(counts.late),
+            Part::Words("\n"),
+        ],
+    )?;
+    write_line_if(
+        writer,
+        counts.copies > 0,
+        &[
+            Part::Words("  "),
+            Part::Words(name),
+            Part::Words("'s copies: "),
+            Part::Number(counts.copies),
+            Part::Words("\n"),
+        ],
+    )?;
+    write_line_if(
+        writer,
+        counts.differing > 0,
+        &[
+            Part::Words("  "),
+            Part::Words(name),
+            Part::Words("'s copies that differ: "),
+            Part::Number(counts.differing),
+            Part::Words("\n"),
+        ],
+    )?;
+    write_line_if(
+        writer,
+        counts.too_old > 0,
+        &[
+            Part::Words("  "),
+            Part::Words(name),
+            Part::Words("'s numbers too old to be compared: "),
+            Part::Number(counts.too_old),
+            Part::Words("\n"),
+        ],
+    )
+}
+
+// Writes what an end sent.
+fn write_sent<W: Sink>(writer: &mut W, name: &'static str, party: &Party) -> Result<(), Fault>
+    ensures steady { OnOk result (W.failure_count writer.new ≡ W.failure_count writer.old) }
+    ensures err { IfErr result (λ f. (f ≡ write_failed)
+        × HasFailed (W.failure_count writer.old) (W.failure_count writer.new)) }
+{
+    let counts = party.numbers.counts();
+    write_kinds(writer, name, party)?;
+    write_gap(writer, name, &counts)?;
+    write_repeats(writer, name, &counts)
+}
+
+// Writes the connection's ends, how it begins and how it ends.
+fn write_frame<W: Sink>(
+    writer: &mut W,
+    names: EndNames,
+    connection: &Connection,
+) -> Result<(), Fault>
+    ensures steady { OnOk result (W.failure_count writer.new ≡ W.failure_count writer.old) }
+    ensures err { IfErr result (λ f. (f ≡ write_failed)
+        × HasFailed (W.failure_count writer.old) (W.failure_count writer.new)) }
+{
+    write_id(writer, names.first, &connection.first)?;
+    write_id(writer, names.second, &connection.second)?;
+    write_extent(writer, connection)?;
+    write_ending(writer, names.first, &connection.first)?;
+    write_ending(writer, names.second, &connection.second)?;
+    let is_open = !connection.has_ending();
+    let parts = [Part::Words("  no disconnection request was captured\n")];
+    write_line_if(writer, is_open, &parts)
+}
+
+/// Writes the block of a connection, whose place counts from 0.
+pub fn write_connection<W: Sink>(
+    writer: &mut W,
+    place: u64,
+    connection: &Connection,
+) -> Result<(), Fault>
+    ensures steady { OnOk result (W.failure_count writer.new ≡ W.failure_count writer.old) }
+    ensures err { IfErr result (λ f. (f ≡ write_failed)
+        × HasFailed (W.failure_count writer.old) (W.failure_count writer.new)) }
+{
+    let names = names_in(connection);
+    write_parts(
+        writer,
+        &[
+            Part::Words("\nconnection "),
+            Part::Number(place.saturating_add(1)),
+            Part::Words("\n"),
+        ],
+    )?;
+    write_frame(writer, names, connection)?;
+    write_channels(writer, names, connection.channels.as_slice())?;
+    write_line_if(
+        writer,
+        connection.on_other_channels > 0,
+        &[
+            Part::Words("  packets on further channels: "),
+            Part::Number(connection.on_other_channels),
+            Part::Words("\n"),
+        ],
+    )?;
+    write_lengths(writer, &connection.lengths)?;
+    write_sent(writer, names.first, &connection.first)?;
+    write_sent(writer, names.second, &connection.second)
+}

@@ -1,0 +1,84 @@
+//! Lines of plain text.
+ghost use Rattle.std.specs.Prelude.{◌≡◌, IfErr, OnOk};
+ghost use Rattle.rasta_pcap.specs.Fault.{write_failed};
+ghost use Rattle.rasta_pcap.specs.Devices.{HasFailed};
+
+use itoa::Buffer;
+use rasta_pcap::{Fault, Sink, write_all};
+use rasta_udp::Endpoint;
+
+/// A part of a line.
+#[derive(Clone, Copy, Debug)]
+pub enum Part {
+    /// Words as they stand.
+    Words(&'static str),
+
+    /// A number, in decimal.
+    Number(u64),
+
+    /// An address and a port.
+    Endpoint(Endpoint),
+
+    /// Four digits.
+    Version([u8; 4]),
+}
+
+fn write_number<W: Sink>(writer: &mut W, n: u64) -> Result<(), Fault>
+    ensures steady { OnOk result (W.failure_count writer.new ≡ W.failure_count writer.old) }
+    ensures err { IfErr result (λ f. (f ≡ write_failed)
+        × HasFailed (W.failure_count writer.old) (W.failure_count writer.new)) }
+{
+    let mut buffer = Buffer::new();
+    write_all(writer, buffer.format(n).as_bytes())
+}
+
+// Writes an address, with dots between its bytes.
+fn write_address<W: Sink>(writer: &mut W, address: [u8; 4]) -> Result<(), Fault>
+    ensures steady { OnOk result (W.failure_count writer.new ≡ W.failure_count writer.old) }
+    ensures err { IfErr result (λ f. (f ≡ write_failed)
+        × HasFailed (W.failure_count writer.old) (W.failure_count writer.new)) }
+{
+    let [first, second, third, fourth] = address;
+    write_number(writer, u64::from(first))?;
+    write_all(writer, b".")?;
+    write_number(writer, u64::from(second))?;
+    write_all(writer, b".")?;
+    write_number(writer, u64::from(third))?;
+    write_all(writer, b".")?;
+    write_number(writer, u64::from(fourth))
+}
+
+fn write_endpoint<W: Sink>(writer: &mut W, endpoint: Endpoint) -> Result<(), Fault>
+    ensures steady { OnOk result (W.failure_count writer.new ≡ W.failure_count writer.old) }
+    ensures err { IfErr result (λ f. (f ≡ write_failed)
+        × HasFailed (W.failure_count writer.old) (W.failure_count writer.new)) }
+{
+    write_address(writer, endpoint.address)?;
+    write_all(writer, b":")?;
+    write_number(writer, u64::from(endpoint.port))
+}
+
+fn write_part<W: Sink>(writer: &mut W, part: Part) -> Result<(), Fault>
+    ensures steady { OnOk result (W.failure_count writer.new ≡ W.failure_count writer.old) }
+    ensures err { IfErr result (λ f. (f ≡ write_failed)
+        × HasFailed (W.failure_count writer.old) (W.failure_count writer.new)) }
+{
+    match part {
+        Part::Words(words) => write_all(writer, words.as_bytes()),
+        Part::Number(n) => write_number(writer, n),
+        Part::Endpoint(endpoint) => write_endpoint(writer, endpoint),
+        Part::Version(digits) => write_all(writer, &digits),
+    }
+}
+
+/// Writes parts, one after the other.
+pub fn write_parts<W: Sink>(writer: &mut W, parts: &[Part]) -> Result<(), Fault>
+    ensures steady { OnOk result (W.failure_count writer.new ≡ W.failure_count writer.old) }
+    ensures err { IfErr result (λ f. (f ≡ write_failed)
+        × HasFailed (W.failure_count writer.old) (W.failure_count writer.new)) }
+{
+    for part in parts {
+        write_part(writer, *part)?;
+    }
+    Ok(())
+}
