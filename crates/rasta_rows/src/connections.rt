@@ -205,6 +205,13 @@ server 43 6212 503 101 9040 1010 -
 server 44 6213 504 101 9050 1010 -
 ";
 
+// Each with four check bytes.
+const CHECKED: &str = "\
+client 7 6200 100 0 1000 0 open aabbccdd
+server 40 6201 500 100 9000 1000 open aabbccdd
+client 8 6220 101 500 1010 9000 - aabbccdd
+";
+
 /// The lines of a connection; none where no connection has the name.
 pub fn lines_of(word: &str) -> Option<&'static str> {
     match word {
@@ -221,6 +228,7 @@ pub fn lines_of(word: &str) -> Option<&'static str> {
         "heartbeats" => Some(HEARTBEATS),
         "beaten" => Some(BEATEN),
         "directly" => Some(DIRECTLY),
+        "checked" => Some(CHECKED),
         _ => None,
     }
 }

@@ -82,7 +82,7 @@ connection 1
 };
 
 const TWO_CHANNELS: Case = Case {
-    settings: "data check4",
+    settings: "checked check4",
     packets: "0 0@2 1@2 1 2 0@2",
     want: "\
 records: 6

@@ -29,7 +29,7 @@ fn text_of(alloc: Global, survey: &Survey) -> Option<Vec<u8>> {
 #[test]
 fn texts(rt: HostRuntime) -> Result<(), Fail> {
     for case in CASES {
-        let file = file_in(rt.alloc(), &case).ok_or("a file")?;
+        let file = file_in(rt.alloc(), &case).ok_or(case.packets)?;
         for most in [1, 7, 4096] {
             let found = surveyed(rt.alloc(), &file, most).ok().ok_or("a survey")?;
             let text = text_of(rt.alloc(), &found).ok_or("a text")?;
