@@ -1,18 +1,19 @@
 #!/usr/bin/env python3
 """Runs two ends over a bad network, at random, and has `audit` and `check` judge what crossed.
 
-    random_runs.py PROGRAM [RUNS [SEED]]
+    random_runs.py PROGRAM [RUNS [SEED]]        1,000 runs of seed 1
 
 The ends keep the rules of docs/ENDS.md, written here anew. The network loses, repeats, delays and reorders. Of
 each run it is tested that
 
-- `audit` explains the packets: that the builder found a certificate is measured here, and not proved;
+- `audit` explains the packets, as is proved of it for two ends within the limits;
 - what is listed as taken was handed up, once each and in order, each message before its proof crossed;
 - `build` writes a certificate by which `check` writes the same text.
 
 A run that fails is left beside its parameters in a folder that is named. Plain Python 3, no other packages.
 """
 
+import argparse
 import dataclasses
 import pathlib
 import random
@@ -311,12 +312,15 @@ def test_run(run, program, folder):
 
 
 def main():
-    program = str(pathlib.Path(sys.argv[1]).resolve())
-    runs = int(sys.argv[2]) if len(sys.argv) > 2 else 1000
-    seed = int(sys.argv[3]) if len(sys.argv) > 3 else 1
+    asked = argparse.ArgumentParser(description="Has random runs of two ends audited.")
+    asked.add_argument("program", type=pathlib.Path)
+    asked.add_argument("runs", type=int, nargs="?", default=1000)
+    asked.add_argument("seed", type=int, nargs="?", default=1)
+    asked = asked.parse_args()
+    program, runs = str(asked.program.resolve()), asked.runs
     packets = requests = listed = 0
     for number in range(runs):
-        chance = random.Random(f"{seed} {number}")
+        chance = random.Random(f"{asked.seed} {number}")
         run = Run(chance)
         for _ in range(chance.choice((20, 100, 500))):
             run.step()
@@ -325,7 +329,7 @@ def main():
         try:
             listed += test_run(run, program, folder)
         except Wrong as wrong:
-            sys.exit(f"run {number} of seed {seed}: {wrong}; see {folder}")
+            sys.exit(f"run {number} of seed {asked.seed}: {wrong}; see {folder}")
         shutil.rmtree(folder)
         packets += len(run.crossed)
         requests += sum(pdu.kind == REQUEST for end in run.ends for pdu in end.made)
