@@ -46,6 +46,8 @@ pub struct Connection {
 }
 
 impl Connection {
+    ghost use Rattle.seatmelon_survey.specs.Survey.{first_id_of, first_record_of, is_ended, is_opened, last_record_of, second_id_of};
+
     // A connection that begins with this packet, which is to be taken in.
     pub(crate) fn new(alloc: Global, packet: &Packet) -> Result<Connection, Fault>
         ensures err { IfErr result (λ f. f ≡ no_memory) }
@@ -63,27 +65,37 @@ impl Connection {
     }
 
     /// The number of its first record, from 1.
-    pub fn first_record(&self) -> u32 {
+    pub fn first_record(&self) -> u32
+        ensures { result ≡ first_record_of self.now }
+    {
         self.first_record
     }
 
     /// The number of its last record.
-    pub fn last_record(&self) -> u32 {
+    pub fn last_record(&self) -> u32
+        ensures { result ≡ last_record_of self.now }
+    {
         self.last_record
     }
 
     /// The ids of its ends, first that of the end that sent its first captured packet.
-    pub fn ids(&self) -> (u32, u32) {
+    pub fn ids(&self) -> (u32, u32)
+        ensures { result ≡ (first_id_of self.now, second_id_of self.now) }
+    {
         (self.first.id, self.second.id)
     }
 
     /// Whether its connection request was captured. The first end is the client then.
-    pub fn has_opening(&self) -> bool {
+    pub fn has_opening(&self) -> bool
+        ensures { result ≡ is_opened self.now }
+    {
         self.request.is_some()
     }
 
     /// Whether a disconnection request was captured.
-    pub fn has_ending(&self) -> bool {
+    pub fn has_ending(&self) -> bool
+        ensures { result ≡ is_ended self.now }
+    {
         self.first.ending.is_some() || self.second.ending.is_some()
     }
 
