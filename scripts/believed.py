@@ -7,7 +7,8 @@ A NAME is a public call, as `rasta_check::check`, one clause of it, as `rasta_ch
 as `rasta_check::Headline`. It prints how many definitions of this repository the contract (or the definition) cites,
 directly or through others, with their lines, by crate. Lines are those of definitions, without imports, comments and
 blank lines. A type that the code declares counts with the lines of its declaration, and a type with a model with those
-of the model. What the toolchain defines isn't counted. `--list` names each.
+of the model, but without its inverse, which is proved to undo the view. What the toolchain defines isn't counted.
+`--list` names each.
 
 Names are found by the text: a variable that has the name of an imported definition counts as that definition, so the
 figures are rather too high than too low.
@@ -136,7 +137,8 @@ class Library:
             _, crate, name = key
             path, lines = self.models[crate, name]
             room = source_room(crate, path, "\n".join(lines))
-            return Definition(crate, path, f"model of {name}", "\n".join(lines), len(lines)), self.cited("\n".join(lines), room)
+            body = [it for it in without_inverse(lines) if not it.strip().startswith("ghost use")]
+            return Definition(crate, path, f"model of {name}", "\n".join(body), len(body)), self.cited("\n".join(body), room)
         _, crate, module, name = key
         room = self.rooms.get((crate, module))
         if not room or name not in room.blocks:
@@ -148,6 +150,17 @@ class Library:
             bound = {it for it in re.findall(r"[^\s(){}]+", head[len(name) :]) if it[0].islower()}
             found += self.cited(line, room, bound)
         return Definition(crate, module, name, "\n".join(lines), len(lines)), [it for it in found if it != key]
+
+
+def without_inverse(lines):
+    """A model's lines but those of its inverse."""
+    kept, left_out = [], False
+    for line in lines:
+        left_out = left_out or line.strip().startswith(("ghost inverse =", "ghost inverse_ok ="))
+        if not left_out:
+            kept.append(line)
+        left_out = left_out and not line.rstrip().endswith("};")
+    return kept
 
 
 def equations(lines, name):

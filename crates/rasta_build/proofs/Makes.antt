@@ -16,7 +16,7 @@ use Rattle.rasta_end.specs.declared.make_row.MakeRow.{MakeRow}
 use Rattle.rasta_end.specs.declared.make_row.MakeRow.TheVariants.{Leaves, TimesOut}
 use Rattle.rasta_end.specs.State.{Made, EndState, wrapped, ahead_by, is_active, reason_of, content_of}
 use Rattle.rasta_end.specs.Starts.{start_of}
-use Rattle.rasta_end.specs.MakeRule.{first_fault, make_faults, make_fault, has_ended, row_of, row_where, make_row, is_refused_row, is_owing_else, is_next_sn, is_judged, confirms_last, confirms_a_time, differs, is_past, is_early, is_expired, after_make, after_make_by, offered_after, owed_after}
+use Rattle.rasta_end.specs.MakeRule.{first_that_holds, make_faults, make_fault, has_ended, row_of, row_where, make_row, is_refused_row, is_owing_else, is_next_sn, is_judged, confirms_last, confirms_a_time, differs, is_past, is_early, is_expired, after_make, after_make_by, offered_after, owed_after}
 use Rattle.rasta_check.proofs.Passing.{Passed, passed, fails}
 use Rattle.rasta_check.proofs.MakeRows.{Making, opening, response, first_beat, answer, again, ask, beat, fresh, bye, expired, MadeBy, made_by, after_row}
 use Rattle.rasta_build.specs.Built.{Built}
@@ -80,11 +80,11 @@ reason_is s ph reason _ k os h = tt
 -- ---- the tests of a make
 
 pub none_of : (a b c d f g h i j k l : Bool) → a ≡ false → b ≡ false → c ≡ false → d ≡ false → f ≡ false → g ≡ false → h ≡ false → i ≡ false → j ≡ false → k ≡ false → l ≡ false
-    → first_fault ((a, closed) ∷ (b, not_allowed) ∷ (c, reply_owed) ∷ (d, sequence_number) ∷ (f, clock_differs) ∷ (g, clock_falls) ∷ (h, past_deadline) ∷ (i, too_early_timeout) ∷ (j, confirmed_number) ∷ (k, confirmed_time) ∷ (l, resend_differs) ∷ []) ≡ None
+    → first_that_holds ((a, closed) ∷ (b, not_allowed) ∷ (c, reply_owed) ∷ (d, sequence_number) ∷ (f, clock_differs) ∷ (g, clock_falls) ∷ (h, past_deadline) ∷ (i, too_early_timeout) ∷ (j, confirmed_number) ∷ (k, confirmed_time) ∷ (l, resend_differs) ∷ []) ≡ None
 none_of a b c d f g h i j k l a' b' c' d' f' g' h' i' j' k' l' = rw a' (rw b' (rw c' (rw d' (rw f' (rw g' (rw h' (rw i' (rw j' (rw k' (rw l' refl))))))))))
 
 early_of : (a b c d f g h i j k l : Bool) → a ≡ false → b ≡ false → c ≡ false → d ≡ false → f ≡ false → g ≡ false → h ≡ false → i ≡ true
-    → first_fault ((a, closed) ∷ (b, not_allowed) ∷ (c, reply_owed) ∷ (d, sequence_number) ∷ (f, clock_differs) ∷ (g, clock_falls) ∷ (h, past_deadline) ∷ (i, too_early_timeout) ∷ (j, confirmed_number) ∷ (k, confirmed_time) ∷ (l, resend_differs) ∷ []) ≡ Some too_early_timeout
+    → first_that_holds ((a, closed) ∷ (b, not_allowed) ∷ (c, reply_owed) ∷ (d, sequence_number) ∷ (f, clock_differs) ∷ (g, clock_falls) ∷ (h, past_deadline) ∷ (i, too_early_timeout) ∷ (j, confirmed_number) ∷ (k, confirmed_time) ∷ (l, resend_differs) ∷ []) ≡ Some too_early_timeout
 early_of a b c d f g h i j k l a' b' c' d' f' g' h' i' = rw a' (rw b' (rw c' (rw d' (rw f' (rw g' (rw h' (rw i' refl)))))))
 
 -- all tests of an allowed make

@@ -2,7 +2,6 @@
 use Rattle.std.proofs.Common.{◌≡◌, ℕ, suc, ◌+◌, ◌-◌, ◌^◌, ◌<◌, ◌≤◌, ◌⊎◌, true, List, [], ◌∷◌, ◌++◌, length, Option, Some, None, slice_get, refl, ap, sym, ◌∙◌, arith, inl, inr, subst, ⊎_elim}
 use Rattle.std.specs.Prelude.{IfSome}
 use Rattle.std.proofs.lemmas.List.{length_push}
-use Rattle.std.proofs.lemmas.Option.{slice_get-get_or}
 use Rattle.rasta_pcap.specs.declared.fault.Side.{Side}
 use Rattle.rasta_pcap.specs.declared.fault.Side.TheVariants.{Client, Server}
 use Rattle.rasta_udp.specs.Frame.{Packet}
@@ -13,7 +12,7 @@ use Rattle.rasta_end.specs.State.{Made, EndState, wrapped}
 use Rattle.rasta_end.specs.Starts.{start_by, start_of, moved_deadline}
 use Rattle.rasta_end.specs.MakeRule.{has_ended, after_make}
 use Rattle.rasta_check.specs.Crossing.{FirstCopy, Spells}
-use Rattle.rasta_check.specs.World.{Station, Moves, makes, repeats, arrives, takes, waits}
+use Rattle.rasta_check.specs.World.{Station, Move, Moves, makes, repeats, arrives, takes, waits}
 use Rattle.rasta_check.specs.Theorem.{other_side}
 use Rattle.rasta_check.proofs.Copies.{IsSent}
 use Rattle.rasta_check.proofs.Steps.{base, base_small, made_more}
@@ -95,7 +94,7 @@ pub record Stands (p : Parameters) (s r : Side) (xs : List Packet) (a b : Statio
   pub few : length a.state.made ≤ 1000001
   pub their_few : length b.state.made ≤ 1000001
 
-pub moved : (p : Parameters) (s r : Side) (xs ys : List Packet) (a a' b : Station) (own peer big_own big_peer : List FirstCopy) (ba bb : Built) → AreParameters p → r ≡ other_side s → (s ≡ r → ⊥) → Moves p b xs a a' ys
+pub moved : (p : Parameters) (s r : Side) (xs ys : List Packet) (a a' b : Station) (own peer big_own big_peer : List FirstCopy) (ba bb : Built) → AreParameters p → r ≡ other_side s → (s ≡ r → ⊥) → {move : Move} → Moves p b xs a move a' ys
     → Stands p s r xs a b own peer → length a'.state.made ≤ 1000001 → Valued a'.state → a'.state.clock < 2 ^ 64 → Begins big_peer peer (length xs)
     → FollowsAt p s a.state a.taken b.state.made big_peer ba → FollowsAt p r b.state b.taken a.state.made big_own bb
     → Stays p s r ys a' b own peer big_own big_peer ba bb ⊎ MadeOne p s r xs ys a' b own peer big_own big_peer ba bb
@@ -129,12 +128,11 @@ moved p s r xs ys a a' b own peer big_own big_peer ba bb valid turned apart (mak
       mine = subst (λ (z : EndState). FollowsAt p s z a.taken b.state.made big_peer f.0) (sym back) f.2;
       theirs = subst (λ (ms : List Made). FollowsAt p r b.state b.taken ms big_own bb) (sym mm.made) (follows_grows p r b.state b.taken e.made (mm.new ∷ []) big_own bb fb);
     })
-moved p s r xs ys a a' b own peer big_own big_peer ba bb valid turned apart (repeats old channel c sd rec) h few' values' bounded begun fa fb =
+moved p s r xs ys a a' b own peer big_own big_peer ba bb valid turned apart (repeats place channel old at sd rec) h few' values' bounded begun fa fb =
     let k : Packet = record old { channel = channel } in
     let g = h.sends in
-    let at : slice_get xs c.0 ≡ Some old = slice_get-get_or xs c.0 old c.1 ∙ ap Some c.2 in
     inl (record {
-      sent = sent_copy p xs k s own c.0 old g.sent at (sd ∙ g.side) refl;
+      sent = sent_copy p xs k s own place old g.sent at (sd ∙ g.side) refl;
       their_sent = sent_other p xs k r peer h.their_sends.sent (λ z. apart (sym (sd ∙ g.side) ∙ z));
       mine = fa;
       theirs = fb;

@@ -14,7 +14,7 @@ use Rattle.rasta_pdu.specs.Params.{Parameters, AreParameters}
 use Rattle.rasta_cert.specs.Certificate.{Scripts, most_entries}
 use Rattle.rasta_check.specs.Crossing.{FirstCopy, Sent}
 use Rattle.rasta_check.specs.Theorem.{OfConnection}
-use Rattle.rasta_check.specs.World.{Station, World, Moves, makes, repeats, arrives, takes, waits, Step, client_moves, server_moves, Reaches, begins, goes_on, first_world, IsWithin}
+use Rattle.rasta_check.specs.World.{Station, World, Move, Moves, makes, repeats, arrives, takes, waits, Step, client_moves, server_moves, Reaches, begins, goes_on, first_world, IsWithin}
 use Rattle.rasta_check.proofs.Copies.{IsSent}
 use Rattle.rasta_check.proofs.Forms.{to_record}
 use Rattle.rasta_check.proofs.Sending.{sent_once, sent_none}
@@ -42,9 +42,9 @@ record Onward (v w : World) : Type 0 where
   pub client : v.client.state.clock ≤ w.client.state.clock
   pub server : v.server.state.clock ≤ w.server.state.clock
 
-move_on : (p : Parameters) (b a a' : Station) (xs ys : List Packet) → Moves p b xs a a' ys → (tail : List Packet) × (ys ≡ xs ++ tail) × (a.state.clock ≤ a'.state.clock)
+move_on : (p : Parameters) (b a a' : Station) (xs ys : List Packet) {move : Move} → Moves p b xs a move a' ys → (tail : List Packet) × (ys ≡ xs ++ tail) × (a.state.clock ≤ a'.state.clock)
 move_on p b a a' xs ys (makes x why e' ch res chk bs mk sp rec) = (let m = made_more p a.state x a.clock why e' mk in let n = m.now in let r = m.rises in (_, refl, omega (arith, n, r)))
-move_on p b a a' xs ys (repeats old ch c s rec) = (_, refl, omega arith)
+move_on p b a a' xs ys (repeats place ch old c s rec) = (_, refl, omega arith)
 move_on p b a a' xs ys (arrives q low i) = ([], sym (append-nil xs), omega arith)
 move_on p b a a' xs ys (takes q m e' c i s t) = (let l = take_leaves p a.state m.pdu in let z : e'.clock ≡ a.state.clock = ap (λ (e : _). e.clock) t.1 ∙ l.clock in ([], sym (append-nil xs), omega (arith, z)))
 move_on p b a a' xs ys (waits c i) = ([], sym (append-nil xs), omega arith)

@@ -14,7 +14,7 @@ use Rattle.rasta_end.specs.declared.take_row.TakeRow.{TakeRow}
 use Rattle.rasta_end.specs.declared.take_row.TakeRow.TheVariants.{Opened, Answered, FirstHeartbeat, InSequence, ResentInSequence, Gap, GapInRetransmission, Resumed, Requested, RequestedAhead, RequestedAgain, Disconnected}
 use Rattle.rasta_end.specs.State.{Made, EndState, is_owing, is_closed, is_flowing, carries_unit, kinds}
 use Rattle.rasta_end.specs.Units.{units_conveyed}
-use Rattle.rasta_end.specs.MakeRule.{is_past, first_fault}
+use Rattle.rasta_end.specs.MakeRule.{is_past, first_that_holds}
 use Rattle.rasta_end.specs.TakeRule.{hand_up, effect, take_row, take_fault, accept, enter, resends, burst, position_confirmed, is_retransmission_request}
 use Rattle.rasta_check.proofs.TakeRows.{row_known}
 use Rattle.rasta_check.proofs.Counting.{number}
@@ -76,13 +76,13 @@ pub record IsReady (p : Parameters) (start : Option ℕ) (side : Side) (quiet_sn
 
 -- ---- what the run's end may take, the builder's end may take
 
-fault_by : (os : List Owed) (a b : Bool) → (a ≡ false → b ≡ false) → first_fault ((is_owing os, reply_owed) ∷ (a, past_deadline) ∷ []) ≡ None → first_fault ((is_owing os, reply_owed) ∷ (b, past_deadline) ∷ []) ≡ None
-fault_by [] false b i h = ap (λ c. first_fault ((false, reply_owed) ∷ (c, past_deadline) ∷ [])) (i refl)
+fault_by : (os : List Owed) (a b : Bool) → (a ≡ false → b ≡ false) → first_that_holds ((is_owing os, reply_owed) ∷ (a, past_deadline) ∷ []) ≡ None → first_that_holds ((is_owing os, reply_owed) ∷ (b, past_deadline) ∷ []) ≡ None
+fault_by [] false b i h = ap (λ c. first_that_holds ((false, reply_owed) ∷ (c, past_deadline) ∷ [])) (i refl)
 fault_by [] true b i h = absurd (cc)
 fault_by (o ∷ os) a b i h = absurd (cc)
 
-fault_if : (k : Bool) (os : List Owed) (a b : Bool) → (a ≡ false → b ≡ false) → (if k then None else first_fault ((is_owing os, reply_owed) ∷ (a, past_deadline) ∷ [])) ≡ None
-    → (if k then None else first_fault ((is_owing os, reply_owed) ∷ (b, past_deadline) ∷ [])) ≡ None
+fault_if : (k : Bool) (os : List Owed) (a b : Bool) → (a ≡ false → b ≡ false) → (if k then None else first_that_holds ((is_owing os, reply_owed) ∷ (a, past_deadline) ∷ [])) ≡ None
+    → (if k then None else first_that_holds ((is_owing os, reply_owed) ∷ (b, past_deadline) ∷ [])) ≡ None
 fault_if true os a b i h = refl
 fault_if false os a b i h = fault_by os a b i h
 

@@ -16,7 +16,7 @@ use Rattle.rasta_end.specs.declared.why.Why.{Why}
 use Rattle.rasta_end.specs.declared.make_row.MakeRow.{MakeRow}
 use Rattle.rasta_end.specs.State.{Made, EndState, first_sn, has_made, is_owing, is_closed, is_client, is_start, is_active, is_connected, is_retr_req, content_of}
 use Rattle.rasta_end.specs.Starts.{start_of}
-use Rattle.rasta_end.specs.MakeRule.{first_fault, make_fault, has_ended, is_past, is_data, contents, after_make, phase_after}
+use Rattle.rasta_end.specs.MakeRule.{first_that_holds, make_fault, has_ended, is_past, is_data, contents, after_make, phase_after}
 use Rattle.rasta_end.specs.TakeRule.{effect_by, take_row, after_take, take_fault, is_in, is_ahead, is_valid}
 use Rattle.rasta_check.specs.Crossing.{FirstCopy}
 use Rattle.rasta_check.proofs.Passing.{passed}
@@ -106,16 +106,16 @@ past_before : (p : Parameters) (d : Option ℕ) (m n : ℕ) → m ≤ n → is_p
 past_before p None m n l h = refl
 past_before p (Some d) m n l h = grind (arith, nat_tests)
 
-fault_by : (os : List Owed) (a b : Bool) → (a ≡ false → b ≡ false) → first_fault ((is_owing os, reply_owed) ∷ (a, past_deadline) ∷ []) ≡ None → first_fault ((is_owing os, reply_owed) ∷ (b, past_deadline) ∷ []) ≡ None
-fault_by [] false b i h = ap (λ c. first_fault ((false, reply_owed) ∷ (c, past_deadline) ∷ [])) (i refl)
+fault_by : (os : List Owed) (a b : Bool) → (a ≡ false → b ≡ false) → first_that_holds ((is_owing os, reply_owed) ∷ (a, past_deadline) ∷ []) ≡ None → first_that_holds ((is_owing os, reply_owed) ∷ (b, past_deadline) ∷ []) ≡ None
+fault_by [] false b i h = ap (λ c. first_that_holds ((false, reply_owed) ∷ (c, past_deadline) ∷ [])) (i refl)
 fault_by [] true b i h = absurd (cc)
 fault_by (o ∷ os) a b i h = absurd (cc)
 
 earlier : (p : Parameters) (e : EndState) (m n : ℕ) → m ≤ n → take_fault p e n ≡ None → take_fault p e m ≡ None
 earlier p e m n l h = by (is_closed e.phase) h
   where
-    by : (b : Bool) → (if b then None else first_fault ((is_owing e.owed, reply_owed) ∷ (is_past p e.deadline n, past_deadline) ∷ [])) ≡ None
-        → (if b then None else first_fault ((is_owing e.owed, reply_owed) ∷ (is_past p e.deadline m, past_deadline) ∷ [])) ≡ None
+    by : (b : Bool) → (if b then None else first_that_holds ((is_owing e.owed, reply_owed) ∷ (is_past p e.deadline n, past_deadline) ∷ [])) ≡ None
+        → (if b then None else first_that_holds ((is_owing e.owed, reply_owed) ∷ (is_past p e.deadline m, past_deadline) ∷ [])) ≡ None
     by true h = refl
     by false h = fault_by e.owed _ _ (past_before p e.deadline m n l) h
 

@@ -14,14 +14,8 @@ pub record Scripts : Type 0 where
 
 -- a unit's number has 32 bits
 abbrev pub IsReason : Why → Type 0
-IsReason Open = Unit {0}
-IsReason Reply = Unit {0}
-IsReason Beat = Unit {0}
-IsReason Fresh = Unit {0}
 IsReason (Again unit) = unit < 2 ^ 32
-IsReason Ask = Unit {0}
-IsReason Bye = Unit {0}
-IsReason Expired = Unit {0}
+IsReason _ = Unit {0}
 
 -- numbers of 32 bits, and clocks of 64
 abbrev pub IsEntry : Entry → Type 0

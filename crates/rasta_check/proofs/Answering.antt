@@ -33,3 +33,7 @@ still_ok (Err f) T U h k = tt
 pub err_is : {A B : Type 0} (r : Result A B) (S : B → Type 0) (fault : B) → IsErr r × IsErrAnd r (λ f. f ≡ fault) → S fault → IfErr r S
 err_is (Ok x) S fault h s = tt
 err_is (Err f) S fault h s = subst S (sym h.1) s
+
+pub err_match : {A B : Type 0} (r : Result A B) (P : A → Type 0) (S : B → Type 0) (fault : B) → IsErr r × IsErrAnd r (λ f. f ≡ fault) → S fault → MatchResult r P S
+err_match (Ok x) P S fault h s = absurd (let z = h.0 in cc)
+err_match (Err f) P S fault h s = subst S (sym h.1) s

@@ -25,7 +25,7 @@ use Rattle.rasta_check.specs.World.{World, Reaches}
 use Rattle.rasta_check.specs.Laws.{NamesOne}
 use Rattle.rasta_check.specs.Taken.{pdus_made, pdus_of, all_made, units_along, units_shown, units_taken, position_with, surely_taken}
 use Rattle.rasta_check.specs.Scripts.{Cursor, Advances, takes_next, makes_next, Leads, at_start, Fits}
-use Rattle.rasta_check.specs.Theorem.{messages_handed, messages_listed}
+use Rattle.rasta_check.specs.Theorem.{units_handed, units_listed}
 use Rattle.rasta_check.proofs.Copies.{IsSent}
 use Rattle.rasta_check.proofs.Passing.{passed, cs_is}
 use Rattle.rasta_check.proofs.MakeRows.{Making, opening, made_by, after_row}
@@ -169,8 +169,8 @@ pub sharp : (p : Parameters) (packets : List Packet) (c s : List FirstCopy) (cs 
     → CrossRecorded p packets → IsSent p packets Client c → IsSent p packets Server s → length c ≤ 1000000 → length s ≤ 1000000
     → Fits p Client (length packets) c s cs a → Fits p Server (length packets) s c ss b
     → (ws : List World) × (w : World) × Reaches p ws w × (w.crossed ≡ packets)
-    × (messages_handed w.server.state ≡ messages_listed (surely_taken p Client c s))
-    × (messages_handed w.client.state ≡ messages_listed (surely_taken p Server s c))
+    × (units_handed w.server.state ≡ units_listed (surely_taken p Client c s))
+    × (units_handed w.client.state ≡ units_listed (surely_taken p Server s c))
 sharp p packets c s cs ss a b recorded hc hs lc ls fc fs =
     let kc = cut_fits p Client (length packets) c s cs a fc in
     let ks = cut_fits p Server (length packets) s c ss b fs in

@@ -1,6 +1,6 @@
 -- A capture is read without a fault exactly where it has none.
 use Rattle.std.proofs.Common.{◌≡◌, ◌⊎◌, ℕ, suc, ◌+◌, ◌-◌, ◌≤◌, List, [], ◌∷◌, ◌++◌, length, drop, map, append_assoc, append-nil, length-append, Option, Some, None, Result, Ok, Err, Bool, true, false, refl, ap, sym, ◌∙◌, arith, subst, nat_lt, lt-ltb, le-ltb, if◌then◌else◌, inl, inr}
-use Rattle.std.specs.Prelude.{IsOk, IfOk, IfErr}
+use Rattle.std.specs.Prelude.{IsOk, IfErr}
 use Rattle.std.specs.List.{AllByRecursion, range_with_len}
 use Rattle.std.proofs.lemmas.List.{length_push}
 use Rattle.std.proofs.lemmas.Bool.Decides.{nat_tests}
@@ -11,7 +11,7 @@ use Rattle.rasta_pcap.specs.declared.fault.Side.{Side}
 use Rattle.rasta_pcap.specs.declared.fault.Side.TheVariants.{Client, Server}
 use Rattle.rasta_pcap.specs.Fault.{no_memory, fault_at, too_many}
 use Rattle.rasta_pcap.specs.Capture.{Numbered, opening, reading_of, bytes_of}
-use Rattle.rasta_pcap.proofs.Captures.{numbers-reading_of, reading_of-IsCapture, reading_of-header_fault}
+use Rattle.rasta_pcap.proofs.Captures.{numbers-reading_of, reading_of-IsCapture, IsCapture-reading_of, reading_of-header_fault}
 use Rattle.rasta_udp.specs.Frame.{Packet, packet_in}
 use Rattle.rasta_pdu.specs.Params.{Parameters, AreParameters}
 use Rattle.rasta_pdu.specs.Messages.{AreBytes}
@@ -19,14 +19,14 @@ use Rattle.rasta_check.specs.Crossing.{FirstCopy, Sent, crossing_list, found_pac
 use Rattle.rasta_check.specs.Theorem.{OfConnection, most_packets}
 use Rattle.rasta_check.specs.World.{most_sent}
 use Rattle.rasta_check.specs.Reading.{Crossing, IsCrossing, and_then, after_frame, after_judged, after_packet, after_record, after_records, crossing_of, crossing_with, is_within, nothing_crossed, sent_after, sent_by, with_packet}
-use Rattle.rasta_check.specs.Verdicts.{IsFaultlessCapture}
+use Rattle.rasta_check.specs.Verdicts.{AreFaultless, CrossedIn, IsFaultlessCapture}
 use Rattle.rasta_check.proofs.Copies.{IsSent}
 use Rattle.rasta_check.proofs.Crossings.{list_of, few_of, is_read, goes_on}
 use Rattle.rasta_check.proofs.Faults.{faultless}
 use Rattle.rasta_check.proofs.Following.{can_follow, shorter}
 use Rattle.rasta_check.proofs.Forms.{to_record}
 use Rattle.rasta_check.proofs.Kept.{AllBytes, file_bytes, payload_bytes, record_kept}
-use Rattle.rasta_check.proofs.Readings.{all_packets_in, drop_nil, file_by, of_option, packets_in, record_by, then_by, end_by, window_by}
+use Rattle.rasta_check.proofs.Readings.{all_packets_in, drop_nil, of_option, packets_in, record_by, records_by, then_by, end_by, window_by}
 use Rattle.rasta_check.proofs.Sending.{sent_once}
 use Rattle.rasta_check.proofs.Verdicts.{Answers, nothing_is}
 
@@ -69,7 +69,7 @@ records_sound k last (r ∷ rs) fault e =
 abbrev AreSound : Parameters → List (List ℕ) → Type 0
 AreSound p frames = AllByRecursion (λ (frame : List ℕ). IsOk (packet_in p.channels frame)) frames
 
-abbrev frames_of : List Numbered → List (List ℕ)
+abbrev pub frames_of : List Numbered → List (List ℕ)
 frames_of rs = map (λ (r : Numbered). r.1) rs
 
 module _ (p : Parameters) where
@@ -112,24 +112,51 @@ module _ (p : Parameters) where
 
 -- ---- what is read without a fault
 
-pub read_is_faultless : (p : Parameters) (file : List ℕ) (k : Crossing) → OfConnection p → AreBytes file → crossing_of p file ≡ Ok k → IsFaultlessCapture p file k.client k.server
-read_is_faultless p file k h are e =
-    let all = reading_of p.last_record file in
-    let w = file_by p file k h.valid e in
-    let is = file_kept p file k h are e in
-    let same : bytes_of all ≡ w.0 = (reading_of-IsCapture p.last_record file w.0 h.valid.window.last_most w.1).0 in
-    let sound = window_sound p all.records 1 h.valid.window.from_one (numbers-reading_of p.last_record file) (records_sound (nothing_crossed p) k all.records all.fault e) in
+-- records that are numbered from 1
+abbrev pub AreNumbered : List Numbered → Type 0
+AreNumbered rs = map (λ (r : Numbered). r.0) rs ≡ range_with_len 1 (length rs)
+
+-- this crossed in records without a fault
+pub record CrossedBy (p : Parameters) (rs : List Numbered) (k : Crossing) : Type 0 where
+  pub is : IsCrossing k
+  pub faultless : AreFaultless p (frames_of rs) k.client k.server
+  pub packets : k.packets ≡ crossing_list p (frames_of rs)
+  pub params : k.params ≡ p
+
+pub crossed_by : (p : Parameters) (rs : List Numbered) (end : Option Fault) (k : Crossing) → OfConnection p → AllBytes rs → AreNumbered rs
+    → after_records (nothing_crossed p) rs end ≡ Ok k → CrossedBy p rs k
+crossed_by p rs end k h are numbers e =
+    let w = (records_by (nothing_crossed p) k rs end e).1 in
+    let is = records_kept (nothing_crossed p) k rs end (nothing_is p h) are e in
+    let packets : k.packets ≡ crossing_list p (frames_of rs) = w.0 ∙ window_by p rs 1 h.valid.window.from_one numbers in
     let few = is.few_packets in
     record {
-      records = w.0;
-      capture = w.1;
-      frames = subst (λ (frames : List (List ℕ)). AreSound p (drop (p.first_record - 1) frames)) same sound;
-      client_sent = subst (λ (xs : List Packet). Sent p xs Client k.client) w.2 (subst (λ (q : Parameters). Sent q k.packets Client k.client) w.3 is.client);
-      server_sent = subst (λ (xs : List Packet). Sent p xs Server k.server) w.2 (subst (λ (q : Parameters). Sent q k.packets Server k.server) w.3 is.server);
-      few_packets = subst (λ (xs : List Packet). length xs ≤ most_packets) w.2 few;
-      few_client = is.few_client;
-      few_server = is.few_server;
+      is = is;
+      faultless = record {
+        frames = window_sound p rs 1 h.valid.window.from_one numbers (records_sound (nothing_crossed p) k rs end e);
+        client_sent = subst (λ (xs : List Packet). Sent p xs Client k.client) packets (subst (λ (q : Parameters). Sent q k.packets Client k.client) w.1 is.client);
+        server_sent = subst (λ (xs : List Packet). Sent p xs Server k.server) packets (subst (λ (q : Parameters). Sent q k.packets Server k.server) w.1 is.server);
+        few_packets = subst (λ (xs : List Packet). length xs ≤ most_packets) packets few;
+        few_client = is.few_client;
+        few_server = is.few_server;
+      };
+      packets = packets;
+      params = w.1;
     }
+
+pub crossed_in : (p : Parameters) (file : List ℕ) (k : Crossing) → OfConnection p → AreBytes file → crossing_of p file ≡ Ok k → CrossedIn p file k
+crossed_in p file k h are e =
+    let all = reading_of p.last_record file in
+    let none = (records_by (nothing_crossed p) k all.records all.fault e).0 in
+    let w = crossed_by p all.records all.fault k h (file_bytes p.last_record file are) (numbers-reading_of p.last_record file) e in
+    record {
+      capture = record { records = bytes_of all; capture = IsCapture-reading_of p.last_record file none; faultless = w.faultless };
+      packets = w.packets;
+      params = w.params;
+    }
+
+pub read_is_faultless : (p : Parameters) (file : List ℕ) (k : Crossing) → OfConnection p → AreBytes file → crossing_of p file ≡ Ok k → IsFaultlessCapture p file k.client k.server
+read_is_faultless p file k h are e = (crossed_in p file k h are e).capture
 
 -- ---- a beginning of packets
 
@@ -243,44 +270,43 @@ records_go k (r ∷ rs) c s h are sound g =
 
 -- ---- what has no fault is read
 
-pub faultless_is_read : (p : Parameters) (file : List ℕ) (client server : List FirstCopy) → OfConnection p → AreBytes file → IsFaultlessCapture p file client server
-    → (k : Crossing) × (crossing_of p file ≡ Ok k) × (k.client ≡ client) × (k.server ≡ server)
-faultless_is_read p file client server h are f =
-    let all = reading_of p.last_record file in
-    let read = reading_of-IsCapture p.last_record file f.records h.valid.window.last_most f.capture in
-    let numbers = numbers-reading_of p.last_record file in
-    let packets : all_packets_in p all.records ≡ crossing_list p f.records = window_by p all.records 1 h.valid.window.from_one numbers ∙ ap (crossing_list p) read.0 in
-    let sound = sound_window p all.records 1 h.valid.window.from_one numbers (subst (λ (frames : List (List ℕ)). AreSound p (drop (p.first_record - 1) frames)) (sym read.0) f.frames) in
+-- the sides sent no other lists
+same_list : (p : Parameters) (side : Side) (packets : List Packet) (own sent : List FirstCopy) → AreParameters p → Sent p packets side own → Sent p packets side sent → length own ≤ 1000000 → own ≡ sent
+same_list p side packets own sent valid mine theirs few =
+    sent_once p packets side own sent (to_record p packets side own valid mine) (to_record p packets side sent valid theirs) (omega arith)
+
+pub records_are_read : (p : Parameters) (rs : List Numbered) (client server : List FirstCopy) → OfConnection p → AllBytes rs → AreNumbered rs → AreFaultless p (frames_of rs) client server
+    → (k : Crossing) × (after_records (nothing_crossed p) rs None ≡ Ok k) × (k.client ≡ client) × (k.server ≡ server)
+records_are_read p rs client server h are numbers f =
+    let packets : all_packets_in p rs ≡ crossing_list p (frames_of rs) = window_by p rs 1 h.valid.window.from_one numbers in
+    let sound = sound_window p rs 1 h.valid.window.from_one numbers f.frames in
     let few = f.few_packets in
-    let goes : GoesThrough (nothing_crossed p) (all_packets_in p all.records) client server = record {
+    let goes : GoesThrough (nothing_crossed p) (all_packets_in p rs) client server = record {
       client = subst (λ (xs : List Packet). Sent p xs Client client) (sym packets) f.client_sent;
       server = subst (λ (xs : List Packet). Sent p xs Server server) (sym packets) f.server_sent;
       few_packets = subst (λ (xs : List Packet). length xs ≤ most_packets) (sym packets) few;
       few_client = f.few_client;
       few_server = f.few_server;
     } in
-    let last = records_go (nothing_crossed p) all.records client server (nothing_is p h) (file_bytes p.last_record file are) sound goes in
-    let e : crossing_of p file ≡ Ok last.0 = ap (after_records (nothing_crossed p) all.records) read.1 ∙ last.1 in
-    let back = read_is_faultless p file last.0 h are e in
-    let same : crossing_list p back.records ≡ crossing_list p f.records =
-    ap (crossing_list p) (sym (reading_of-IsCapture p.last_record file back.records h.valid.window.last_most back.capture).0 ∙ read.0) in
-    let their_few = back.few_client in
-    let our_few = back.few_server in (
+    let last = records_go (nothing_crossed p) rs client server (nothing_is p h) are sound goes in
+    let back = (crossed_by p rs None last.0 h are numbers last.1).faultless in
+    let all = crossing_list p (frames_of rs) in (
       last.0,
-      e,
-      sent_once p (crossing_list p f.records) Client last.0.client client
-          (to_record p (crossing_list p f.records) Client last.0.client h.valid (subst (λ (xs : List Packet). Sent p xs Client last.0.client) same back.client_sent))
-          (to_record p (crossing_list p f.records) Client client h.valid f.client_sent) (omega arith),
-      sent_once p (crossing_list p f.records) Server last.0.server server
-          (to_record p (crossing_list p f.records) Server last.0.server h.valid (subst (λ (xs : List Packet). Sent p xs Server last.0.server) same back.server_sent))
-          (to_record p (crossing_list p f.records) Server server h.valid f.server_sent) (omega arith),
+      last.1,
+      same_list p Client all last.0.client client h.valid back.client_sent f.client_sent back.few_client,
+      same_list p Server all last.0.server server h.valid back.server_sent f.server_sent back.few_server,
     )
 
--- ---- answers for a file
+pub faultless_is_read : (p : Parameters) (file : List ℕ) (client server : List FirstCopy) → OfConnection p → AreBytes file → IsFaultlessCapture p file client server
+    → (k : Crossing) × (crossing_of p file ≡ Ok k) × (k.client ≡ client) × (k.server ≡ server)
+faultless_is_read p file client server h are f =
+    let all = reading_of p.last_record file in
+    let read = reading_of-IsCapture p.last_record file f.records h.valid.window.last_most f.capture in
+    let w = records_are_read p all.records client server h (file_bytes p.last_record file are) (numbers-reading_of p.last_record file)
+    (subst (λ (frames : List (List ℕ)). AreFaultless p frames client server) (sym read.0) f.faultless) in
+    (w.0, ap (after_records (nothing_crossed p) all.records) read.1 ∙ w.1, w.2, w.3)
 
-pub answer_read : (p : Parameters) (file : List ℕ) (r : Result Crossing Fault) → OfConnection p → AreBytes file → Answers p file r → IfOk r (λ s. IsFaultlessCapture p file s.client s.server)
-answer_read p file (Ok s) h are a = read_is_faultless p file s h are a
-answer_read p file (Err f) h are a = tt
+-- ---- answers for a file
 
 -- no lists make the file a capture without a fault
 abbrev pub IsFaulty : Parameters → List ℕ → Type 0

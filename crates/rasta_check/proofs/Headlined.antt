@@ -17,7 +17,7 @@ use Rattle.rasta_check.specs.Taken.{surely_taken, messages_taken, position_with,
 use Rattle.rasta_check.specs.Lists.{IsOrdered}
 use Rattle.rasta_check.specs.Scripts.{Fits}
 use Rattle.rasta_check.specs.Checking.{follow}
-use Rattle.rasta_check.specs.Theorem.{Appends, messages_handed, messages_listed}
+use Rattle.rasta_check.specs.Theorem.{Appends, units_handed, units_listed}
 use Rattle.rasta_check.specs.Reading.{Crossing, IsCrossing}
 use Rattle.rasta_check.specs.Listed.{ListedMessage, listed, numbered_from}
 use Rattle.rasta_check.specs.Report.{Explained, report_of, where_followed, verdict_of, BothFit}
@@ -31,6 +31,7 @@ use Rattle.rasta_check.proofs.Values.{values, length-values}
 use Rattle.rasta_check.proofs.Known.{Known, known}
 use Rattle.rasta_check.proofs.Cutting.{sharp}
 use Rattle.rasta_check.proofs.Necessity.{server_hands_up, server_first, server_appended, server_in_time_through, client_hands_up, client_first, client_appended, client_in_time_through}
+use Rattle.rasta_check.proofs.Offered.{offered_first}
 use Rattle.rasta_check.proofs.Joined.{joined, joined-append, up_joined, listed_joined, of_listed, of_message}
 use Rattle.rasta_check.proofs.Reported.{units_named, first_small, are_proofs, units_are}
 
@@ -157,12 +158,14 @@ module _ (p : Parameters) (packets : List Packet) (c s : List FirstCopy) (h : Is
         server_up : HandsUpListed ws w Server report.server_taken
         server_up =
             let us = surely_taken p Client c s in
+            let offered = offered_first w.server.state w.client.state (server_hands_up p ws w c s r run_c run_s h.few_client h.few_server) in
             let first = server_first p ws w c s r run_c run_s h.few_client h.few_server in
             let list : report.server_taken ≡ numbered_from 0 (messages_taken us) = ap (λ (x : Explained). x.server_taken) ended.says in
             record {
-              units = server_hands_up p ws w c s r run_c run_s h.few_client h.few_server;
+              later = offered.0;
+              units = offered.1;
               rest = joined first.0;
-              first = up_joined w.server.state.handed_pdus ∙ (ap joined first.1 ∙ (joined-append (messages_listed us) first.0
+              first = up_joined w.server.state.handed_pdus ∙ (ap joined first.1 ∙ (joined-append (units_listed us) first.0
                   ∙ ap (λ ms. ms ++ joined first.0) (sym (listed_joined us) ∙ ap messages_in_list (sym list))));
               appended = λ i m g.
                   (let l = of_listed 0 (messages_taken us) i m (subst (λ (xs : List ListedMessage). slice_get xs i ≡ Some m) list g) in
@@ -173,18 +176,20 @@ module _ (p : Parameters) (packets : List Packet) (c s : List FirstCopy) (h : Is
                   let o = of_message us i l.0 l.1 in
                   let at : Appends ws w o.u.proof_place v next = subst (λ k. Appends ws w k v next) (l.3 ∙ o.place) a in
                   ap (λ (xs : List (List ℕ)). slice_get xs i) (up_joined v.server.state.handed_pdus)
-                  ∙ (o.up (messages_handed v.server.state) (λ j t low gt. server_in_time_through p ws w c s r run_c run_s h.few_client h.few_server o.i j o.u t v next low o.there gt at) ∙ ap Some (sym l.2)));
+                  ∙ (o.up (units_handed v.server.state) (λ j t low gt. server_in_time_through p ws w c s r run_c run_s h.few_client h.few_server o.i j o.u t v next low o.there gt at) ∙ ap Some (sym l.2)));
             }
 
         client_up : HandsUpListed ws w Client report.client_taken
         client_up =
             let us = surely_taken p Server s c in
+            let offered = offered_first w.client.state w.server.state (client_hands_up p ws w c s r run_c run_s h.few_client h.few_server) in
             let first = client_first p ws w c s r run_c run_s h.few_client h.few_server in
             let list : report.client_taken ≡ numbered_from 0 (messages_taken us) = ap (λ (x : Explained). x.client_taken) ended.says in
             record {
-              units = client_hands_up p ws w c s r run_c run_s h.few_client h.few_server;
+              later = offered.0;
+              units = offered.1;
               rest = joined first.0;
-              first = up_joined w.client.state.handed_pdus ∙ (ap joined first.1 ∙ (joined-append (messages_listed us) first.0
+              first = up_joined w.client.state.handed_pdus ∙ (ap joined first.1 ∙ (joined-append (units_listed us) first.0
                   ∙ ap (λ ms. ms ++ joined first.0) (sym (listed_joined us) ∙ ap messages_in_list (sym list))));
               appended = λ i m g.
                   (let l = of_listed 0 (messages_taken us) i m (subst (λ (xs : List ListedMessage). slice_get xs i ≡ Some m) list g) in
@@ -195,7 +200,7 @@ module _ (p : Parameters) (packets : List Packet) (c s : List FirstCopy) (h : Is
                   let o = of_message us i l.0 l.1 in
                   let at : Appends ws w o.u.proof_place v next = subst (λ k. Appends ws w k v next) (l.3 ∙ o.place) a in
                   ap (λ (xs : List (List ℕ)). slice_get xs i) (up_joined v.client.state.handed_pdus)
-                  ∙ (o.up (messages_handed v.client.state) (λ j t low gt. client_in_time_through p ws w c s r run_c run_s h.few_client h.few_server o.i j o.u t v next low o.there gt at) ∙ ap Some (sym l.2)));
+                  ∙ (o.up (units_handed v.client.state) (λ j t low gt. client_in_time_through p ws w c s r run_c run_s h.few_client h.few_server o.i j o.u t v next low o.there gt at) ∙ ap Some (sym l.2)));
             }
 
       pub headline : Headline p packets report

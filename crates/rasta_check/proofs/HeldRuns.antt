@@ -12,10 +12,10 @@ use Rattle.rasta_end.specs.declared.phase.Phase.{Phase}
 use Rattle.rasta_end.specs.declared.phase.Phase.TheVariants.{Closed, Down, RetrReq}
 use Rattle.rasta_end.specs.declared.owed.Owed.{Owed}
 use Rattle.rasta_end.specs.State.{Made, EndState, is_owing, is_closed, is_connected, carries_unit}
-use Rattle.rasta_end.specs.MakeRule.{is_data, first_fault, is_past, after_make}
+use Rattle.rasta_end.specs.MakeRule.{is_data, first_that_holds, is_past, after_make}
 use Rattle.rasta_end.specs.TakeRule.{take_fault, after_take}
 use Rattle.rasta_end.specs.Starts.{fresh_end, sn_before, quiet_pdu, quiet_end, start_by}
-use Rattle.rasta_check.specs.World.{Station, World, Moves, makes, repeats, arrives, takes, waits, Reaches, IsWithin}
+use Rattle.rasta_check.specs.World.{Station, World, Move, Moves, makes, repeats, arrives, takes, waits, Reaches, IsWithin}
 use Rattle.rasta_check.proofs.Passing.{passed}
 use Rattle.rasta_check.proofs.MakeRows.{made_by, after_row, new_made}
 use Rattle.rasta_check.proofs.TakeRows.{take_made}
@@ -158,7 +158,7 @@ quiet_shown side peer own other =
 
 -- ---- the steps
 
-free_by : (owed : List Owed) (past : Bool) → first_fault ((is_owing owed, reply_owed) ∷ (past, past_deadline) ∷ []) ≡ None → owed ≡ []
+free_by : (owed : List Owed) (past : Bool) → first_that_holds ((is_owing owed, reply_owed) ∷ (past, past_deadline) ∷ []) ≡ None → owed ≡ []
 free_by [] past e = refl
 free_by (o ∷ os) past e = absurd (cc)
 
@@ -180,8 +180,8 @@ pub record All (a b : Station) : Type 0 where
 abbrev Whole : Station → Station → Type 0
 Whole a b = length a.state.made ≤ 1000001 → length b.state.made ≤ 1000001 → All a b
 
-all_kept : (p : Parameters) (b a a' : Station) (xs ys : List Packet) → Moves p b xs a a' ys → Whole a b → Whole a' b
-all_kept p b a a' xs ys (makes x why after channel reserve check bytes mk sp rec) g = λ l r. (
+all_kept : (p : Parameters) (b a a' : Station) (xs ys : List Packet) (move : Move) → Moves p b xs a move a' ys → Whole a b → Whole a' b
+all_kept p b a a' xs ys move (makes x why after channel reserve check bytes mk sp rec) g = λ l r. (
     let ok = passed p a.state x a.clock why mk.0 in
     let by = made_by p a.state x a.clock why ok in
     let n : Made = new_made by.row a.state x in
@@ -202,9 +202,9 @@ all_kept p b a a' xs ys (makes x why after channel reserve check bytes mk sp rec
       shows = shown_make p a.state b.state x a.clock why a.taken ok h.mine (numbered_once b.state.made r h.theirs.numbered) h.their_values h.up h.shows;
       their_shows = shown_peer_make p b.state a.state x a.clock why ok values (numbered_once (after_make a.state x a.clock why).made few mine.numbered) h.their_shows;
     }))
-all_kept p b a a' xs ys (repeats old channel c s rec) g = g
-all_kept p b a a' xs ys (arrives position i j) g = λ l r. (let h = g l r in record { mine = h.mine; theirs = h.theirs; values = h.values; their_values = h.their_values; up = h.up; their_up = h.their_up; shows = h.shows; their_shows = h.their_shows })
-all_kept p b a a' xs ys (takes position m after c i s t) g = λ l r. (
+all_kept p b a a' xs ys move (repeats place channel old there s rec) g = g
+all_kept p b a a' xs ys move (arrives position i j) g = λ l r. (let h = g l r in record { mine = h.mine; theirs = h.theirs; values = h.values; their_values = h.their_values; up = h.up; their_up = h.their_up; shows = h.shows; their_shows = h.their_shows })
+all_kept p b a a' xs ys move (takes position m after c i s t) g = λ l r. (
     let same : after.made ≡ a.state.made = ap (λ (e : EndState). e.made) t.1 ∙ take_made p a.state m.pdu in
     let few : length a.state.made ≤ 1000001 = subst (λ (ms : List Made). length ms ≤ 1000001) same l in
     let h = g few r in
@@ -222,7 +222,7 @@ all_kept p b a a' xs ys (takes position m after c i s t) g = λ l r. (
       shows = shown_take p a.state b.state m.pdu a.taken h.mine h.shows;
       their_shows = shown_peer_take p b.state a.state b.taken m position h.theirs s (values_take p a.state m.pdu h.mine.asked) h.their_shows;
     }))
-all_kept p b a a' xs ys (waits clock i) g = λ l r. (let h = g l r in record { mine = h.mine; theirs = h.theirs; values = h.values; their_values = h.their_values; up = h.up; their_up = h.their_up; shows = h.shows; their_shows = h.their_shows })
+all_kept p b a a' xs ys move (waits clock i) g = λ l r. (let h = g l r in record { mine = h.mine; theirs = h.theirs; values = h.values; their_values = h.their_values; up = h.up; their_up = h.their_up; shows = h.shows; their_shows = h.their_shows })
 
 -- ---- every run
 

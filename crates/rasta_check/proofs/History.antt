@@ -14,7 +14,7 @@ use Rattle.rasta_end.specs.State.{Made, EndState, is_closed}
 use Rattle.rasta_end.specs.MakeRule.{has_ended}
 use Rattle.rasta_end.specs.TakeRule.{is_retransmission_response, is_valid, is_in, is_ahead, effect_by}
 use Rattle.rasta_check.specs.Crossing.{FirstCopy}
-use Rattle.rasta_check.specs.World.{Station, World, Moves, makes, repeats, arrives, takes, waits, Step, client_moves, server_moves, Reaches, begins, goes_on, first_world, IsWithin}
+use Rattle.rasta_check.specs.World.{Station, World, Move, Moves, makes, repeats, arrives, takes, waits, Step, client_moves, server_moves, Reaches, begins, goes_on, first_world, IsWithin}
 use Rattle.rasta_check.specs.Theorem.{Appends}
 use Rattle.rasta_check.proofs.Lists.{get_push_cases, get_front, get_push}
 use Rattle.rasta_check.proofs.Passing.{passed}
@@ -43,7 +43,7 @@ over_closed : (b c : Bool) → (b && c) ≡ true → b ≡ true
 over_closed true c h = refl
 over_closed false c h = h
 
-grown_move : (p : Parameters) (b a a' : Station) (xs ys : List Packet) → Moves p b xs a a' ys → number is_retransmission_response a.state.made ≤ length a.state.asks → Grown a.state a'.state
+grown_move : (p : Parameters) (b a a' : Station) (xs ys : List Packet) {move : Move} → Moves p b xs a move a' ys → number is_retransmission_response a.state.made ≤ length a.state.asks → Grown a.state a'.state
 grown_move p b a a' xs ys (makes x why e' ch res chk bs mk sp rec) l =
     let ok = passed p a.state x a.clock why mk.0 in
     let by = made_by p a.state x a.clock why ok in
@@ -53,7 +53,7 @@ grown_move p b a a' xs ys (makes x why e' ch res chk bs mk sp rec) l =
       kept = λ i v g. subst (λ vs. slice_get vs i ≡ Some v) (sym (values_push a.state.asks a.state.made n)) (get_front (values a.state) _ i v g);
       over = λ h. absurd (let z = ok.open_yet in cc);
     })
-grown_move p b a a' xs ys (repeats old ch c s rec) l = same_grown a.state
+grown_move p b a a' xs ys (repeats place ch old c s rec) l = same_grown a.state
 grown_move p b a a' xs ys (arrives q low i) l = same_grown a.state
 grown_move p b a a' xs ys (takes q m e' c i s t) l =
     subst (λ (e : EndState). Grown a.state e) (sym t.1) (record {
@@ -63,20 +63,20 @@ grown_move p b a a' xs ys (takes q m e' c i s t) l =
     })
 grown_move p b a a' xs ys (waits c i) l = same_grown a.state
 
-made_longer : (p : Parameters) (b a a' : Station) (xs ys : List Packet) → Moves p b xs a a' ys → (length a.state.made ≤ length a'.state.made) × (length a'.state.made ≤ suc (length a.state.made))
+made_longer : (p : Parameters) (b a a' : Station) (xs ys : List Packet) {move : Move} → Moves p b xs a move a' ys → (length a.state.made ≤ length a'.state.made) × (length a'.state.made ≤ suc (length a.state.made))
 made_longer p b a a' xs ys (makes x why e' ch res chk bs mk sp rec) =
     let m = made_more p a.state x a.clock why e' mk in
     let n : Made = m.new in
     let e = ap length m.made in
     (omega (arith, e, length_push a.state.made n), omega (arith, e, length_push a.state.made n))
-made_longer p b a a' xs ys (repeats old ch c s rec) = (omega arith, omega arith)
+made_longer p b a a' xs ys (repeats place ch old c s rec) = (omega arith, omega arith)
 made_longer p b a a' xs ys (arrives q low i) = (omega arith, omega arith)
 made_longer p b a a' xs ys (takes q m e' c i s t) = (let e = ap (λ (e : EndState). length e.made) t.1 in let f = ap length (take_made p a.state m.pdu) in (omega arith, omega arith))
 made_longer p b a a' xs ys (waits c i) = (omega arith, omega arith)
 
-crossed_by : (p : Parameters) (b a a' : Station) (xs ys : List Packet) → Moves p b xs a a' ys → (length xs ≤ length ys) × (length ys ≤ suc (length xs)) × (length ys ≡ suc (length xs) → SameHanded a.state a'.state)
+crossed_by : (p : Parameters) (b a a' : Station) (xs ys : List Packet) {move : Move} → Moves p b xs a move a' ys → (length xs ≤ length ys) × (length ys ≤ suc (length xs)) × (length ys ≡ suc (length xs) → SameHanded a.state a'.state)
 crossed_by p b a a' xs ys (makes x why e' ch res chk bs mk sp rec) = (let z = length_push xs (record { channel = ch; side = a.state.side; payload = bs }) in (omega arith, omega arith, λ h. (made_more p a.state x a.clock why e' mk).same))
-crossed_by p b a a' xs ys (repeats old ch c s rec) = (let z = length_push xs (record old { channel = ch }) in (omega arith, omega arith, λ h. record { positions = refl; pdus = refl }))
+crossed_by p b a a' xs ys (repeats place ch old c s rec) = (let z = length_push xs (record old { channel = ch }) in (omega arith, omega arith, λ h. record { positions = refl; pdus = refl }))
 crossed_by p b a a' xs ys (arrives q low i) = (omega arith, omega arith, λ h. record { positions = refl; pdus = refl })
 crossed_by p b a a' xs ys (takes q m e' c i s t) = (omega arith, omega arith, λ h. absurd (omega arith))
 crossed_by p b a a' xs ys (waits c i) = (omega arith, omega arith, λ h. record { positions = refl; pdus = refl })

@@ -3,7 +3,7 @@ use Rattle.std.proofs.Common.{◌≡◌, ◌⊎◌, ℕ, zero, suc, ◌+◌, ◌
 use Rattle.std.specs.List.{flat_map}
 use Rattle.rasta_pdu.specs.Pdu.{SafetyPdu, messages_in}
 use Rattle.rasta_check.specs.Taken.{TakenUnit, TakenMessage, messages_of_unit, messages_taken}
-use Rattle.rasta_check.specs.Theorem.{messages_listed}
+use Rattle.rasta_check.specs.Theorem.{units_listed}
 use Rattle.rasta_check.specs.Listed.{ListedMessage, numbered_from}
 use Rattle.rasta_check.specs.Headline.{messages_in_list}
 use Rattle.rasta_check.proofs.Lists.{get_front}
@@ -34,7 +34,7 @@ unfolding said
 said_unit data_place proof [] = refl
 said_unit data_place proof (m ∷ ms) = ap (λ xs. m ∷ xs) (said_unit data_place proof ms)
 
-said_units : (us : List TakenUnit) → said (messages_taken us) ≡ joined (messages_listed us)
+said_units : (us : List TakenUnit) → said (messages_taken us) ≡ joined (units_listed us)
 unfolding said
 said_units [] = refl
 said_units (u ∷ us) =
@@ -47,7 +47,7 @@ said_numbered n [] = refl
 said_numbered n (m ∷ ms) = ap (λ xs. m.message ∷ xs) (said_numbered (suc n) ms)
 
 -- the messages of a report's list are those of its units
-pub listed_joined : (us : List TakenUnit) → messages_in_list (numbered_from 0 (messages_taken us)) ≡ joined (messages_listed us)
+pub listed_joined : (us : List TakenUnit) → messages_in_list (numbered_from 0 (messages_taken us)) ≡ joined (units_listed us)
 listed_joined us = said_numbered 0 (messages_taken us) ∙ said_units us
 
 -- ---- the unit of a message

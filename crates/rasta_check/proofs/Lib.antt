@@ -49,10 +49,12 @@ pub mod Kept
 pub mod Readings
 pub mod Verdicts
 pub mod Faultless
+pub mod Refused
 pub mod FaultNumbers
 pub mod Worked
 pub mod Reported
 pub mod Joined
+pub mod Offered
 pub mod Headlined
 pub mod Answering
 pub mod Filed

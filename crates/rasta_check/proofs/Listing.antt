@@ -13,7 +13,7 @@ use Rattle.rasta_end.specs.MakeRule.{is_data}
 use Rattle.rasta_end.specs.Starts.{start_by}
 use Rattle.rasta_check.specs.Crossing.{FirstCopy}
 use Rattle.rasta_check.specs.Taken.{pdus_made, pdus_of, all_made, units_shown, units_taken, TakenUnit, proof_place, units_from, data_copies, surely_taken}
-use Rattle.rasta_check.specs.Theorem.{HandsUpUnits, messages_handed, messages_listed}
+use Rattle.rasta_check.specs.Theorem.{HandsUpUnits, units_handed, units_listed}
 use Rattle.std.proofs.lemmas.List.Elements.{filter-append}
 use Rattle.rasta_check.proofs.Scripted.{slice_get_some}
 use Rattle.rasta_check.proofs.Lists.{get_front}
@@ -150,12 +150,12 @@ get_messages [] i x g = absurd (cc)
 get_messages (y ∷ xs) zero x g = (let e : y ≡ x = cc in ap (λ (z : SafetyPdu). Some (messages_in z.body)) e)
 get_messages (y ∷ xs) (suc i) x g = get_messages xs i x g
 
-get_listed : (us : List TakenUnit) (i : ℕ) (a : List (List ℕ)) → slice_get (messages_listed us) i ≡ Some a → (u : TakenUnit) × (slice_get us i ≡ Some u) × (u.messages ≡ a)
+get_listed : (us : List TakenUnit) (i : ℕ) (a : List (List ℕ)) → slice_get (units_listed us) i ≡ Some a → (u : TakenUnit) × (slice_get us i ≡ Some u) × (u.messages ≡ a)
 get_listed [] i a g = absurd (cc)
 get_listed (u ∷ us) zero a g = (u, refl, cc)
 get_listed (u ∷ us) (suc i) a g = get_listed us i a g
 
-length_listed : (us : List TakenUnit) → length (messages_listed us) ≡ length us
+length_listed : (us : List TakenUnit) → length (units_listed us) ≡ length us
 length_listed [] = refl
 length_listed (u ∷ us) = ap suc (length_listed us)
 
@@ -211,7 +211,7 @@ few_handed e f h = by (length e.handed) refl
 -- e takes the units of f; `own` is what f sent
 module _ (p : Parameters) (s : Side) (e f : EndState) (own peer : List FirstCopy) (told : pdus_made f.made ≡ all_made p s own) (h : HandsUpData e f) where
   -- the i-th PDU handed up has the messages of the i-th unit that is listed
-  pub unit_handed : (i : ℕ) (u : TakenUnit) → i < length e.handed → slice_get (surely_taken p s own peer) i ≡ Some u → slice_get (messages_handed e) i ≡ Some u.messages
+  pub unit_handed : (i : ℕ) (u : TakenUnit) → i < length e.handed → slice_get (surely_taken p s own peer) i ≡ Some u → slice_get (units_handed e) i ≡ Some u.messages
   unit_handed i u l g =
       let m = member (all_made p s own) peer 0 _ i u g in
       let t = get_take (data_copies own) _ i m.c m.there in
@@ -233,8 +233,8 @@ module _ (p : Parameters) (s : Side) (e f : EndState) (own peer : List FirstCopy
       (omega (arith, low), m.place ∙ ap (λ j. proof_place (all_made p s own) (pdus_of peer) j peer) z)
 
   -- where as many were handed up as are listed, those that are listed come first
-  pub listed_first : units_taken (all_made p s own) (pdus_of peer) ≤ length e.handed → (rest : List (List (List ℕ))) × (messages_handed e ≡ messages_listed (surely_taken p s own peer) ++ rest)
-  listed_first l = begins_with (messages_listed (surely_taken p s own peer)) (messages_handed e)
+  pub listed_first : units_taken (all_made p s own) (pdus_of peer) ≤ length e.handed → (rest : List (List (List ℕ))) × (units_handed e ≡ units_listed (surely_taken p s own peer) ++ rest)
+  listed_first l = begins_with (units_listed (surely_taken p s own peer)) (units_handed e)
       (λ i a g. (let u = get_listed (surely_taken p s own peer) i a g in
       let b = listed_below i u.0 u.1 in
       let y = b.0 in
@@ -251,11 +251,11 @@ module _ (p : Parameters) (s : Side) (e f : EndState) (own peer : List FirstCopy
 
   -- where no more was handed up than is listed, it is what is listed
   pub exactly_listed : units_taken (all_made p s own) (pdus_of peer) ≤ length e.handed → length e.handed ≤ units_taken (all_made p s own) (pdus_of peer)
-      → messages_handed e ≡ messages_listed (surely_taken p s own peer)
+      → units_handed e ≡ units_listed (surely_taken p s own peer)
   exactly_listed l m =
       let r = listed_first l in
       let a = all_listed l in
       let b = length_listed (surely_taken p s own peer) in
       let c = length_handed e.handed_pdus in
       let few = h.same_count in
-      none_left (messages_handed e) (messages_listed (surely_taken p s own peer)) r.0 r.1 (omega (arith, a, b, c, few, l, m))
+      none_left (units_handed e) (units_listed (surely_taken p s own peer)) r.0 r.1 (omega (arith, a, b, c, few, l, m))

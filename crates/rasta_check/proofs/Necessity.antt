@@ -6,7 +6,7 @@ use Rattle.rasta_pdu.specs.Params.{Parameters}
 use Rattle.rasta_check.specs.Crossing.{FirstCopy}
 use Rattle.rasta_check.specs.World.{World, Reaches}
 use Rattle.rasta_check.specs.Taken.{all_made, TakenUnit, surely_taken}
-use Rattle.rasta_check.specs.Theorem.{Appends, HandsUpUnits, HasHandedUp, messages_handed, messages_listed}
+use Rattle.rasta_check.specs.Theorem.{Appends, HandsUpUnits, HasHandedUp, units_handed, units_listed}
 use Rattle.rasta_check.proofs.Copies.{IsSent}
 use Rattle.rasta_check.proofs.Handed.{hands_up_units}
 use Rattle.rasta_check.proofs.History.{appended}
@@ -23,7 +23,7 @@ module _ (p : Parameters) (ws : List World) (w : World) (c s : List FirstCopy) (
   pub server_hands_up : HandsUpUnits w.server.state w.client.state
   server_hands_up = hands_up_units w.server.state w.client.state kn.all.values kn.all.their_up
 
-  pub server_first : (rest : List (List (List ℕ))) × (messages_handed w.server.state ≡ messages_listed (surely_taken p Client c s) ++ rest)
+  pub server_first : (rest : List (List (List ℕ))) × (units_handed w.server.state ≡ units_listed (surely_taken p Client c s) ++ rest)
   server_first = listed_first p Client w.server.state w.client.state c s kn.sends.same (of_units w.server.state w.client.state server_hands_up) kn.taken
 
   -- the packet at the proof place of a unit is appended to a world of the run
@@ -55,7 +55,7 @@ module _ (p : Parameters) (ws : List World) (w : World) (c s : List FirstCopy) (
   pub client_hands_up : HandsUpUnits w.client.state w.server.state
   client_hands_up = hands_up_units w.client.state w.server.state kn.all.their_values kn.all.up
 
-  pub client_first : (rest : List (List (List ℕ))) × (messages_handed w.client.state ≡ messages_listed (surely_taken p Server s c) ++ rest)
+  pub client_first : (rest : List (List (List ℕ))) × (units_handed w.client.state ≡ units_listed (surely_taken p Server s c) ++ rest)
   client_first = listed_first p Server w.client.state w.server.state s c kn.their_sends.same (of_units w.client.state w.server.state client_hands_up) kn.their_taken
 
   pub client_appended : (i : ℕ) (u : TakenUnit) → slice_get (surely_taken p Server s c) i ≡ Some u → (v next : World) × Appends ws w u.proof_place v next

@@ -8,10 +8,10 @@ use Rattle.rasta_pdu.specs.Pdu.{SafetyPdu}
 use Rattle.rasta_pdu.specs.Params.{Parameters}
 use Rattle.rasta_end.specs.declared.why.Why.{Why}
 use Rattle.rasta_end.specs.State.{EndState, content_of}
-use Rattle.rasta_end.specs.MakeRule.{first_fault, make_faults, make_fault, has_ended, row_of, is_refused_row, is_owing_else, is_next_sn, is_judged, confirms_last, differs}
+use Rattle.rasta_end.specs.MakeRule.{first_that_holds, make_faults, make_fault, has_ended, row_of, is_refused_row, is_owing_else, is_next_sn, is_judged, confirms_last, differs}
 
 Fails : List (Bool × ℕ) → Type 0
-Fails ts = first_fault ts ≡ None → (k : ℕ) (t : Bool × ℕ) → slice_get ts k ≡ Some t → t.0 ≡ false
+Fails ts = first_that_holds ts ≡ None → (k : ℕ) (t : Bool × ℕ) → slice_get ts k ≡ Some t → t.0 ≡ false
 
 fails_more : (b : Bool) (n : ℕ) (us : List (Bool × ℕ)) → Fails us → Fails ((b, n) ∷ us)
 unfolding Fails
@@ -20,7 +20,7 @@ fails_more false n us h e zero t g = let same : (false, n) ≡ t = cc in sym (ap
 fails_more false n us h e (suc k) t g = h e k t g
 
 -- where no fault is first, each test fails
-pub fails : (ts : List (Bool × ℕ)) → first_fault ts ≡ None → (k : ℕ) (t : Bool × ℕ) → slice_get ts k ≡ Some t → t.0 ≡ false
+pub fails : (ts : List (Bool × ℕ)) → first_that_holds ts ≡ None → (k : ℕ) (t : Bool × ℕ) → slice_get ts k ≡ Some t → t.0 ≡ false
 unfolding Fails
 fails [] e k t g = absurd (cc)
 fails (u ∷ us) e k t g = fails_more u.0 u.1 us (fails us) e k t g

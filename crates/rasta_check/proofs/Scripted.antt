@@ -13,7 +13,7 @@ use Rattle.rasta_pdu.specs.Pdu.{SafetyPdu}
 use Rattle.rasta_end.specs.State.{Made, EndState, wrapped}
 use Rattle.rasta_end.specs.TakeRule.{Takes}
 use Rattle.rasta_udp.specs.Frame.{Packet}
-use Rattle.rasta_check.specs.World.{Station, World, Moves, makes, repeats, arrives, takes, waits, client_moves, server_moves, Reaches, begins, goes_on, first_station}
+use Rattle.rasta_check.specs.World.{Station, World, Move, Moves, makes, repeats, arrives, takes, waits, client_moves, server_moves, Reaches, begins, goes_on, first_station}
 use Rattle.rasta_end.specs.Starts.{start_of}
 use Rattle.rasta_check.proofs.Steps.{base, base_small, start_base, start_made, start_side, made_more}
 use Rattle.rasta_check.specs.Crossing.{Spells, FirstCopy, CrossRecorded}
@@ -27,7 +27,7 @@ use Rattle.rasta_check.proofs.TakeRows.{take_leaves}
 -- several moves of one station
 pub data Many (p : Parameters) (b : Station) : List Packet → Station → Station → List Packet → Type 0 where
   stays : {xs : List Packet} {a : Station} → Many p b xs a a xs
-  moves : {xs ys zs : List Packet} {a a' a'' : Station} → Moves p b xs a a' ys → Many p b ys a' a'' zs → Many p b xs a a'' zs
+  moves : {xs ys zs : List Packet} {a a' a'' : Station} {move : Move} → Moves p b xs a move a' ys → Many p b ys a' a'' zs → Many p b xs a a'' zs
 
 pub client_many : {p : Parameters} {b : Station} {xs ys : List Packet} {a a' : Station} (ws : List World) → Many p b xs a a' ys
     → Reaches p ws (record { client = a; server = b; crossed = xs }) → (vs : List World) × Reaches p vs (record { client = a'; server = b; crossed = ys })
@@ -274,9 +274,10 @@ module _ (p : Parameters) (packets : List Packet) (k : ℕ) (s : Side) (own peer
       let n : k < length packets = slice_get_within packets k here at in
       let lt : j < length (take k packets) = omega (arith, length-take-le k packets (omega arith)) in
       let get : slice_index_or (take k packets) j old ≡ old = get_or-take k packets j old l ∙ get_or_from_slice_get packets j old old g in
+      let there : slice_get (take k packets) j ≡ Some old = slice_get-get_or (take k packets) j old lt ∙ ap Some get in
       let whole : record old { channel = here.channel } ≡ here = (λ i. record { channel = here.channel; side = os i; payload = ob i }) in
       let next : take k packets ++ record old { channel = here.channel } ∷ [] ≡ take (suc k) packets = ap (λ (x : Packet). take k packets ++ x ∷ []) whole ∙ next_packet packets k here here.side refl at in
-      subst (λ (ys : List Packet). Many p b (take k packets) a a ys) next (moves (repeats {a = a} old here.channel (j, lt, get) (os ∙ sd) (recorded k here at)) stays)
+      subst (λ (ys : List Packet). Many p b (take k packets) a a ys) next (moves (repeats {a = a} j here.channel old there (os ∙ sd) (recorded k here at)) stays)
 
   copied : (es : List Entry) (a b : Station) (here : Packet) → slice_get packets k ≡ Some here → here.side ≡ s → (f : Tracks p (length packets) k s own peer es last a) → Later k own f.made → Next es a b here
   unfolding Later

@@ -12,8 +12,8 @@ use Rattle.rasta_end.specs.declared.phase.Phase.TheVariants.{Closed, Down, Start
 use Rattle.rasta_end.specs.declared.take_row.TakeRow.{TakeRow}
 use Rattle.rasta_end.specs.declared.take_row.TakeRow.TheVariants.{Opened, Answered, FirstHeartbeat, InSequence, ResentInSequence, Gap, GapInRetransmission, Resumed, Requested, RequestedAhead, RequestedAgain, Disconnected}
 use Rattle.rasta_end.specs.State.{EndState, is_client, is_closed, is_down, is_start, is_up, is_retr_req, is_retr_run, is_flowing, is_active, is_timed, carries_unit}
-use Rattle.rasta_end.specs.MakeRule.{is_connection_request, is_disconnection_request}
-use Rattle.rasta_end.specs.TakeRule.{is_connection_response, is_heartbeat, is_heartbeat_or_data, is_retransmitted_data, is_retransmission_request, is_retransmission_response, take_rows, first_row, is_in, is_ahead, is_valid, take_row, effect, effect_by, accept, enter, hand_up, after_take}
+use Rattle.rasta_end.specs.MakeRule.{first_that_holds, is_connection_request, is_disconnection_request}
+use Rattle.rasta_end.specs.TakeRule.{is_connection_response, is_heartbeat, is_heartbeat_or_data, is_retransmitted_data, is_retransmission_request, is_retransmission_response, take_rows, is_in, is_ahead, is_valid, take_row, effect, effect_by, accept, enter, hand_up, after_take}
 
 -- what a row knows of side, phase and type, and of the tests: next in sequence, ahead, a valid CS
 abbrev pub Premise : TakeRow → Side → Phase → Kind → Bool → Bool → Bool → Type 0
@@ -36,11 +36,11 @@ Each P [] = Unit {0}
 Each P (t ∷ ts) = (t.0 ≡ true → P t.1) × Each P ts
 
 first_by : (P : TakeRow → Type 0) (b : Bool) (r : TakeRow) (ts : List (Bool × TakeRow)) → (b ≡ true → P r)
-    → ((row : TakeRow) → first_row ts ≡ Some row → P row) → (row : TakeRow) → first_row ((b, r) ∷ ts) ≡ Some row → P row
+    → ((row : TakeRow) → first_that_holds ts ≡ Some row → P row) → (row : TakeRow) → first_that_holds ((b, r) ∷ ts) ≡ Some row → P row
 first_by P true r ts h g row e = (let same : r ≡ row = cc in subst P same (h refl))
 first_by P false r ts h g row e = g row e
 
-first_has : (P : TakeRow → Type 0) (ts : List (Bool × TakeRow)) → Each P ts → (row : TakeRow) → first_row ts ≡ Some row → P row
+first_has : (P : TakeRow → Type 0) (ts : List (Bool × TakeRow)) → Each P ts → (row : TakeRow) → first_that_holds ts ≡ Some row → P row
 unfolding Each
 first_has P [] each row e = absurd (cc)
 first_has P (t ∷ ts) each row e = first_by P t.0 t.1 ts each.0 (first_has P ts each.1) row e
@@ -163,7 +163,7 @@ module _ (s : Side) (ph : Phase) (k : Kind) (n a v : Bool) where
   all_rows = (opened, (answered, (first_heartbeat, (in_sequence, (resent, (gap, (gap_again, (resumed, (asked, (asked_ahead, (asked_again, (disconnected, tt))))))))))))
 
   -- the first row whose test holds has its premise
-  pub premise : (row : TakeRow) → first_row (take_rows s ph k n a v) ≡ Some row → Premise row s ph k n a v
+  pub premise : (row : TakeRow) → first_that_holds (take_rows s ph k n a v) ≡ Some row → Premise row s ph k n a v
   premise row e = first_has (λ (r : TakeRow). Premise r s ph k n a v) (take_rows s ph k n a v) all_rows row e
 
 -- what an end knows of a PDU that it takes by a row
@@ -174,7 +174,7 @@ pub row_known : (p : Parameters) (e : EndState) (x : SafetyPdu) (row : TakeRow) 
 row_known p e x row h = premise e.side e.phase x.kind (is_in e x) (is_ahead p e x) (is_valid e x) row h
 
 -- a closed end takes by no row
-pub closed_row : (s : Side) (ph : Phase) (k : Kind) (n a v : Bool) → is_closed ph ≡ true → first_row (take_rows s ph k n a v) ≡ None
+pub closed_row : (s : Side) (ph : Phase) (k : Kind) (n a v : Bool) → is_closed ph ≡ true → first_that_holds (take_rows s ph k n a v) ≡ None
 closed_row s Closed k n a v h = refl
 closed_row s _ k n a v h = absurd (cc)
 

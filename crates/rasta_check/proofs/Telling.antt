@@ -3,7 +3,7 @@ use Rattle.std.proofs.Common.{◌≡◌, ℕ, zero, suc, ◌+◌, ◌-◌, ◌<�
 use Rattle.std.specs.Prelude.{map, if◌then◌else◌}
 use Rattle.std.proofs.lemmas.Bool.Decides.{nat_tests}
 use Rattle.std.proofs.lemmas.List.{length_push}
-use Rattle.std.proofs.lemmas.Option.{slice_get_within, slice_get-get_or}
+use Rattle.std.proofs.lemmas.Option.{slice_get_within}
 use Rattle.rasta_pcap.specs.declared.fault.Side.{Side}
 use Rattle.rasta_pcap.specs.declared.fault.Side.TheVariants.{Client, Server}
 use Rattle.rasta_end.specs.declared.why.Why.{Why}
@@ -12,13 +12,13 @@ use Rattle.rasta_pcap.specs.Fault.{reply_owed, past_deadline}
 use Rattle.rasta_pdu.specs.Params.{Parameters, AreParameters}
 use Rattle.rasta_pdu.specs.Pdu.{SafetyPdu, RedundancyPdu}
 use Rattle.rasta_end.specs.State.{Made, EndState, wrapped, is_closed, is_owing}
-use Rattle.rasta_end.specs.MakeRule.{Makes, is_past, first_fault}
+use Rattle.rasta_end.specs.MakeRule.{Makes, is_past, first_that_holds}
 use Rattle.rasta_end.specs.TakeRule.{Takes, after_take, take_fault}
 use Rattle.rasta_end.specs.Starts.{start_of}
 use Rattle.rasta_check.proofs.Steps.{base, start_base, start_made, start_side, made_more}
 use Rattle.rasta_check.specs.Crossing.{Spells, FirstCopy}
 use Rattle.rasta_udp.specs.Frame.{Packet}
-use Rattle.rasta_check.specs.World.{Station, World, Moves, makes, repeats, arrives, takes, waits, Step, client_moves, server_moves, Reaches, begins, goes_on, first_station}
+use Rattle.rasta_check.specs.World.{Station, World, Move, Moves, makes, repeats, arrives, takes, waits, Step, client_moves, server_moves, Reaches, begins, goes_on, first_station}
 use Rattle.rasta_cert.specs.declared.entry.Entry.{Entry}
 use Rattle.rasta_cert.specs.declared.entry.Entry.TheVariants.{Take, Make}
 use Rattle.rasta_cert.specs.Certificate.{most_entries}
@@ -85,16 +85,16 @@ past_before : (p : Parameters) (d : Option ℕ) (m n : ℕ) → m ≤ n → is_p
 past_before p None m n l h = refl
 past_before p (Some d) m n l h = grind (arith, nat_tests)
 
-fault_by : (os : List Owed) (b c : Bool) → (b ≡ false → c ≡ false) → first_fault ((is_owing os, reply_owed) ∷ (b, past_deadline) ∷ []) ≡ None → first_fault ((is_owing os, reply_owed) ∷ (c, past_deadline) ∷ []) ≡ None
-fault_by [] false c i h = ap (λ b. first_fault ((false, reply_owed) ∷ (b, past_deadline) ∷ [])) (i refl)
+fault_by : (os : List Owed) (b c : Bool) → (b ≡ false → c ≡ false) → first_that_holds ((is_owing os, reply_owed) ∷ (b, past_deadline) ∷ []) ≡ None → first_that_holds ((is_owing os, reply_owed) ∷ (c, past_deadline) ∷ []) ≡ None
+fault_by [] false c i h = ap (λ b. first_that_holds ((false, reply_owed) ∷ (b, past_deadline) ∷ [])) (i refl)
 fault_by [] true c i h = absurd (cc)
 fault_by (o ∷ os) b c i h = absurd (cc)
 
 earlier : (p : Parameters) (e : EndState) (m n : ℕ) → m ≤ n → take_fault p e n ≡ None → take_fault p e m ≡ None
 earlier p e m n l h = by (is_closed e.phase) h
   where
-    by : (b : Bool) → (if b then None else first_fault ((is_owing e.owed, reply_owed) ∷ (is_past p e.deadline n, past_deadline) ∷ [])) ≡ None
-        → (if b then None else first_fault ((is_owing e.owed, reply_owed) ∷ (is_past p e.deadline m, past_deadline) ∷ [])) ≡ None
+    by : (b : Bool) → (if b then None else first_that_holds ((is_owing e.owed, reply_owed) ∷ (is_past p e.deadline n, past_deadline) ∷ [])) ≡ None
+        → (if b then None else first_that_holds ((is_owing e.owed, reply_owed) ∷ (is_past p e.deadline m, past_deadline) ∷ [])) ≡ None
     by true h = refl
     by false h = fault_by e.owed _ _ (past_before p e.deadline m n l) h
 
@@ -286,7 +286,7 @@ took p s r xs own peer e e' f clock taken position their m tk above g hs t =
       clocks = subst (λ n. ClocksWithin n (t.es ++ Take (length xs) c.0.pdu.number ∷ [])) (sym same) (clocks_take e.clock (length xs) c.0.pdu.number t.es t.clocks);
     }
 
-both_kept : (p : Parameters) (s r : Side) (xs ys : List Packet) (a a' b : Station) → (s ≡ r → ⊥) → Moves p b xs a a' ys → Both p s r xs a b → Both p s r ys a' b
+both_kept : (p : Parameters) (s r : Side) (xs ys : List Packet) (a a' b : Station) → (s ≡ r → ⊥) → {move : Move} → Moves p b xs a move a' ys → Both p s r xs a b → Both p s r ys a' b
 unfolding packet
 both_kept p s r xs ys a a' b apart (makes x why e' ch res chk bs mk sp rec) g =
     let k = packet p s xs g.own g.peer a.state e' a.first_number a.clock a.taken ch res chk bs x why mk sp g.sends g.told in
@@ -298,14 +298,13 @@ both_kept p s r xs ys a a' b apart (makes x why e' ch res chk bs mk sp rec) g =
       told = made_told p s xs g.own g.peer a.state e' a.first_number a.clock a.taken ch res chk bs x why mk sp g.sends g.told;
       their_told = told_wider p r (length xs) _ g.peer g.own (copy p s xs g.own g.peer a.state e' a.first_number a.clock a.taken ch res chk bs x why mk sp g.sends g.told ∷ []) b.state b.clock b.taken (let z = length_push xs (record { channel = ch; side = a.state.side; payload = bs }) in omega arith) g.their_told;
     }
-both_kept p s r xs ys a a' b apart (repeats old ch c sd rec) g =
+both_kept p s r xs ys a a' b apart (repeats place ch old at sd rec) g =
     let k : Packet = record old { channel = ch } in
     let len = length_push xs k in
-    let at : slice_get xs c.0 ≡ Some old = slice_get-get_or xs c.0 old c.1 ∙ ap Some c.2 in
     record {
       own = g.own;
       peer = g.peer;
-      sends = record { sent = sent_copy p xs k s g.own c.0 old g.sends.sent at (sd ∙ g.sends.side) refl; same = g.sends.same; numbers = g.sends.numbers; side = g.sends.side };
+      sends = record { sent = sent_copy p xs k s g.own place old g.sends.sent at (sd ∙ g.sends.side) refl; same = g.sends.same; numbers = g.sends.numbers; side = g.sends.side };
       their_sends = sends_other p r xs k g.peer b.state b.first_number g.their_sends (λ z. apart (sym (sd ∙ g.sends.side) ∙ z));
       told = told_longer p s (length xs) _ g.own g.peer a.state a.clock a.taken (omega arith) g.told;
       their_told = told_longer p r (length xs) _ g.peer g.own b.state b.clock b.taken (omega arith) g.their_told;
@@ -357,31 +356,31 @@ told p valid ws w (begins m n) = told_first p m n valid
 told p valid ws w (goes_on {ws = vs} {w = v} r st) = told_step p v w st (told p valid vs v r)
 
 -- the copies below the packets so far stay where they are
-kept_copies : (p : Parameters) (s r : Side) (xs ys : List Packet) (a a' b : Station) (apart : s ≡ r → ⊥) (m : Moves p b xs a a' ys) (g : Both p s r xs a b) (j : ℕ) (d : FirstCopy)
+kept_copies : (p : Parameters) (s r : Side) (xs ys : List Packet) (a a' b : Station) (apart : s ≡ r → ⊥) {move : Move} (m : Moves p b xs a move a' ys) (g : Both p s r xs a b) (j : ℕ) (d : FirstCopy)
     → slice_get (both_kept p s r xs ys a a' b apart m g).own j ≡ Some d → d.place < length xs → slice_get g.own j ≡ Some d
 unfolding both_kept copy
 kept_copies p s r xs ys a a' b apart (makes x why e' ch res chk bs mk sp rec) g j d at l = ⊎_elim
     (λ (old : slice_get g.own j ≡ Some d). old)
     (λ (new : (j ≡ length g.own) × (_ ≡ d)). absurd (let z = ap (λ (c : FirstCopy). c.place) new.1 in omega arith))
     (get_push_cases g.own _ j d at)
-kept_copies p s r xs ys a a' b apart (repeats old ch c sd rec) g j d at l = at
+kept_copies p s r xs ys a a' b apart (repeats place ch old there sd rec) g j d at l = at
 kept_copies p s r xs ys a a' b apart (arrives q low i) g j d at l = at
 kept_copies p s r xs ys a a' b apart (takes q m e' c i t tk) g j d at l = at
 kept_copies p s r xs ys a a' b apart (waits c i) g j d at l = at
 
-kept_front : (p : Parameters) (s r : Side) (xs ys : List Packet) (a a' b : Station) (apart : s ≡ r → ⊥) (m : Moves p b xs a a' ys) (g : Both p s r xs a b) (j : ℕ) (d : FirstCopy)
+kept_front : (p : Parameters) (s r : Side) (xs ys : List Packet) (a a' b : Station) (apart : s ≡ r → ⊥) {move : Move} (m : Moves p b xs a move a' ys) (g : Both p s r xs a b) (j : ℕ) (d : FirstCopy)
     → slice_get g.own j ≡ Some d → slice_get (both_kept p s r xs ys a a' b apart m g).own j ≡ Some d
 unfolding both_kept copy
 kept_front p s r xs ys a a' b apart (makes x why e' ch res chk bs mk sp rec) g j d at = get_front g.own _ j d at
-kept_front p s r xs ys a a' b apart (repeats old ch c sd rec) g j d at = at
+kept_front p s r xs ys a a' b apart (repeats place ch old there sd rec) g j d at = at
 kept_front p s r xs ys a a' b apart (arrives q low i) g j d at = at
 kept_front p s r xs ys a a' b apart (takes q m e' c i t tk) g j d at = at
 kept_front p s r xs ys a a' b apart (waits c i) g j d at = at
 
-same_peer : (p : Parameters) (s r : Side) (xs ys : List Packet) (a a' b : Station) (apart : s ≡ r → ⊥) (m : Moves p b xs a a' ys) (g : Both p s r xs a b) → (both_kept p s r xs ys a a' b apart m g).peer ≡ g.peer
+same_peer : (p : Parameters) (s r : Side) (xs ys : List Packet) (a a' b : Station) (apart : s ≡ r → ⊥) {move : Move} (m : Moves p b xs a move a' ys) (g : Both p s r xs a b) → (both_kept p s r xs ys a a' b apart m g).peer ≡ g.peer
 unfolding both_kept
 same_peer p s r xs ys a a' b apart (makes x why e' ch res chk bs mk sp rec) g = refl
-same_peer p s r xs ys a a' b apart (repeats old ch c sd rec) g = refl
+same_peer p s r xs ys a a' b apart (repeats place ch old at sd rec) g = refl
 same_peer p s r xs ys a a' b apart (arrives q low i) g = refl
 same_peer p s r xs ys a a' b apart (takes q m e' c i t tk) g = refl
 same_peer p s r xs ys a a' b apart (waits c i) g = refl

@@ -45,7 +45,7 @@ opened_front zero m (Err f) l = refl
 opened_front (suc n) m (Err f) l = refl
 opened_front n m (Ok c) l = reading_front n m c l
 
-file_front : (n m : ℕ) (file : List ℕ) → n ≤ m → (reading_of n file).records ≡ take n (reading_of m file).records
+pub file_front : (n m : ℕ) (file : List ℕ) → n ≤ m → (reading_of n file).records ≡ take n (reading_of m file).records
 unfolding reading_of
 file_front n m file l = opened_front n m (opening file) l
 
@@ -63,7 +63,7 @@ opened_few : (n : ℕ) (o : Result Cursor Fault) → length (reading_opened n o)
 opened_few n (Err f) = omega arith
 opened_few n (Ok c) = reading_few n c
 
-file_few : (n : ℕ) (file : List ℕ) → length (reading_of n file).records ≤ n
+pub file_few : (n : ℕ) (file : List ℕ) → length (reading_of n file).records ≤ n
 unfolding reading_of
 file_few n file = opened_few n (opening file)
 
@@ -83,7 +83,7 @@ opened_full : (n : ℕ) (o : Result Cursor Fault) → 1 ≤ n → length (readin
 opened_full n (Err f) l e = absurd (omega arith)
 opened_full n (Ok c) l e = reading_full n c e
 
-file_full : (n : ℕ) (file : List ℕ) → 1 ≤ n → length (reading_of n file).records ≡ n → (reading_of n file).fault ≡ None
+pub file_full : (n : ℕ) (file : List ℕ) → 1 ≤ n → length (reading_of n file).records ≡ n → (reading_of n file).fault ≡ None
 unfolding reading_of
 file_full n file l e = opened_full n (opening file) l e
 

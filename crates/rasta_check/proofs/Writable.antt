@@ -1,5 +1,5 @@
 -- Entries of a script that fits have numbers that a certificate can hold.
-use Rattle.std.proofs.Common.{◌≡◌, ℕ, zero, suc, ◌+◌, ◌<◌, ◌≤◌, ◌^◌, Bool, true, false, List, [], ◌∷◌, Option, Some, None, length, slice_get, refl, ap, ◌∙◌, arith, subst, cond}
+use Rattle.std.proofs.Common.{◌≡◌, ℕ, suc, ◌+◌, ◌<◌, ◌≤◌, ◌^◌, Bool, true, false, List, [], ◌∷◌, Option, Some, None, length, slice_get, refl, ap, ◌∙◌, arith, subst, cond}
 use Rattle.std.specs.Prelude.{not, map, filter}
 use Rattle.std.proofs.lemmas.List.{length_push}
 use Rattle.std.proofs.lemmas.Option.{slice_get_within}
@@ -21,7 +21,7 @@ use Rattle.rasta_end.specs.MakeRule.{Makes, contents, is_content, differs, is_da
 use Rattle.rasta_end.specs.Starts.{start_of}
 use Rattle.rasta_check.specs.Crossing.{FirstCopy}
 use Rattle.rasta_check.specs.Scripts.{Cursor, Advances, takes_next, makes_next, Leads, at_start}
-use Rattle.rasta_check.specs.Theorem.{IsWritable, IsWritableReason, AreWritable}
+use Rattle.rasta_cert.specs.Certificate.{AreEntries, IsEntry, IsReason}
 use Rattle.rasta_check.proofs.Copies.{IsSent}
 use Rattle.rasta_check.proofs.Passing.{passed}
 use Rattle.rasta_check.proofs.MakeRows.{made_by, Making, again}
@@ -47,7 +47,7 @@ unit_there made unit content (Some c) e d = (let a = slice_get_within (contents 
 again_row : (s : Side) (ph : Phase) (unit : ℕ) (k : Kind) (os : List Owed) (row : MakeRow) → Making s ph (Again unit) k os row → row ≡ Resends unit
 again_row s ph unit k os row (again c) = refl
 
-reason_fits : (p : Parameters) (e e' : EndState) (x : SafetyPdu) (clock : ℕ) (why : Why) → Makes p e x clock why e' → length e.made < 2 ^ 32 → IsWritableReason why
+reason_fits : (p : Parameters) (e e' : EndState) (x : SafetyPdu) (clock : ℕ) (why : Why) → Makes p e x clock why e' → length e.made < 2 ^ 32 → IsReason why
 reason_fits p e e' x clock Open mk l = tt
 reason_fits p e e' x clock Reply mk l = tt
 reason_fits p e e' x clock Beat mk l = tt
@@ -80,7 +80,7 @@ rest_clocks (Make place clock why) es h = h.1
 module _ (p : Parameters) (packets : List Packet) (side other : Side) (own peer : List FirstCopy) (sent : IsSent p packets side own) (theirs : IsSent p packets other peer)
     (few : length packets ≤ 16000000) (short : length own ≤ 1000000) where
   entry_fits : (u v : Cursor) (x : Entry) → length u.state.made ≡ base p + u.made → Advances p (length packets) own peer u x v → ClocksWithin most_clock (x ∷ [])
-      → IsWritable x × (length v.state.made ≡ base p + v.made)
+      → IsEntry x × (length v.state.made ≡ base p + v.made)
   entry_fits u v x n (takes_next slot position c after a b g d f t) h =
       let w = theirs.firsts position c g in
       ((omega arith, w.3.fits.number), ap (λ (z : EndState). length z.made) t.1 ∙ (ap length (take_leaves p u.state c.pdu.safety).made ∙ n))
@@ -93,10 +93,11 @@ module _ (p : Parameters) (packets : List Packet) (side other : Side) (own peer 
       let k = length_push u.state.made m.new in
       ((omega arith, (let z = h.0 in omega arith), reason_fits p u.state after c.pdu.safety clock why mk (omega arith)), ap length m.made ∙ (k ∙ omega arith))
 
-  entries_fit : (u v : Cursor) (es : List Entry) → length u.state.made ≡ base p + u.made → Leads p (length packets) own peer u es v → ClocksWithin most_clock es → AreWritable es
-  entries_fit u v [] n f h i x g = absurd (cc)
-  entries_fit u v (e ∷ es) n f h zero x g = (let same : e ≡ x = cc in subst IsWritable same (entry_fits u f.0 e n f.1 (first_clock e es h)).0)
-  entries_fit u v (e ∷ es) n f h (suc i) x g = entries_fit f.0 v es (entry_fits u f.0 e n f.1 (first_clock e es h)).1 f.2 (rest_clocks e es h) i x g
+  entries_fit : (u v : Cursor) (es : List Entry) → length u.state.made ≡ base p + u.made → Leads p (length packets) own peer u es v → ClocksWithin most_clock es → AreEntries es
+  entries_fit u v [] n f h = tt
+  entries_fit u v (e ∷ es) n f h =
+      let one = entry_fits u f.0 e n f.1 (first_clock e es h) in
+      (one.0, entries_fit f.0 v es one.1 f.2 (rest_clocks e es h))
 
-  pub script_fits : (v : Cursor) (es : List Entry) → Leads p (length packets) own peer (at_start (start_of p side)) es v → ClocksWithin most_clock es → AreWritable es
+  pub script_fits : (v : Cursor) (es : List Entry) → Leads p (length packets) own peer (at_start (start_of p side)) es v → ClocksWithin most_clock es → AreEntries es
   script_fits v es f h = entries_fit (at_start (start_of p side)) v es (let z = start_made p.quiet side in omega arith) f h

@@ -1,14 +1,15 @@
 -- The headline: what a report says of every run that sends the packets that crossed.
-use Rattle.std.specs.Prelude.{◌≡◌, ℕ, List, ◌++◌, map, Some, slice_get}
+use Rattle.std.specs.Prelude.{◌≡◌, ℕ, List, ◌++◌, map, filter, Some, slice_get}
 use Rattle.std.specs.List.{flat_map}
 use Rattle.rasta_pcap.specs.declared.fault.Side.{Side}
 use Rattle.rasta_pcap.specs.declared.fault.Side.TheVariants.{Client, Server}
 use Rattle.rasta_udp.specs.Frame.{Packet}
 use Rattle.rasta_pdu.specs.Params.{Parameters}
 use Rattle.rasta_pdu.specs.Pdu.{SafetyPdu, messages_in}
-use Rattle.rasta_end.specs.State.{EndState}
+use Rattle.rasta_end.specs.State.{EndState, Made}
+use Rattle.rasta_end.specs.MakeRule.{is_data}
 use Rattle.rasta_check.specs.World.{World, Reaches}
-use Rattle.rasta_check.specs.Theorem.{other_side, end_of, Appends, HandsUpUnits}
+use Rattle.rasta_check.specs.Theorem.{other_side, end_of, Appends, units_handed}
 use Rattle.rasta_check.specs.Listed.{ListedMessage}
 use Rattle.rasta_check.specs.Report.{Explained}
 
@@ -20,11 +21,16 @@ messages_up e = flat_map (λ (x : SafetyPdu). messages_in x.body) e.handed_pdus
 abbrev pub messages_in_list : List ListedMessage → List (List ℕ)
 messages_in_list listed = map (λ (m : ListedMessage). m.message) listed
 
--- in this run this side handed up the units of its peer from the first on, once each and in order, and their messages begin with those
--- of the list; and the packet at the proof place of each message of the list is appended to a world of the run, and to each such world
--- the message had been handed up
+-- the units that an end offered, in order: the messages of each of its data PDUs
+abbrev pub units_offered : EndState → List (List (List ℕ))
+units_offered e = map (λ (m : Made). messages_in m.pdu.body) (filter (λ (m : Made). is_data m.pdu.kind) e.made)
+
+-- in this run this side handed up the units that its peer offered, from the first on, once each and in order, and their messages begin
+-- with those of the list; and the packet at the proof place of each message of the list is appended to a world of the run, and to each
+-- such world the message had been handed up
 pub record HandsUpListed (ws : List World) (w : World) (side : Side) (listed : List ListedMessage) : Type 0 where
-  pub units : HandsUpUnits (end_of w side) (end_of w (other_side side))
+  pub later : List (List (List ℕ))
+  pub units : units_offered (end_of w (other_side side)) ≡ units_handed (end_of w side) ++ later
   pub rest : List (List ℕ)
   pub first : messages_up (end_of w side) ≡ messages_in_list listed ++ rest
   pub appended : (i : ℕ) (m : ListedMessage) → slice_get listed i ≡ Some m → (v next : World) × Appends ws w m.proof_place v next

@@ -6,6 +6,7 @@ pub mod Taken
 pub mod Scripts
 pub mod Laws
 pub mod Theorem
+pub mod ScriptLaws
 pub mod Lists
 pub mod Checking
 pub mod Reading

@@ -35,6 +35,10 @@ proved_units places unit [] = []
 proved_units places unit (c ∷ copies) =
     if is_data c.pdu.safety.kind then with_unit c (slice_get places unit) (proved_units places (suc unit) copies) else proved_units places unit copies
 
+-- the list of a report for the units that have these places of proofs
+abbrev pub listed_with : List ℕ → List FirstCopy → List ListedMessage
+listed_with places own = numbered_from 0 (messages_taken (proved_units places 0 own))
+
 -- the list of a report for the units of this end
 abbrev pub listed_by : EndState → List FirstCopy → List FirstCopy → List ListedMessage
-listed_by e own peer = numbered_from 0 (messages_taken (proved_units (proofs_from e [] peer) 0 own))
+listed_by e own peer = listed_with (proofs_from e [] peer) own

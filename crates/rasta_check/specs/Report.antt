@@ -1,5 +1,5 @@
 -- What the checker answers: the report on two sent lists, or the first fault of a script.
-use Rattle.std.specs.Prelude.{ℕ, List, length, Result, Ok, Err}
+use Rattle.std.specs.Prelude.{◌≡◌, ℕ, List, length, Result, Ok, Err}
 use Rattle.rasta_pcap.specs.declared.fault.Fault.{Fault}
 use Rattle.rasta_pcap.specs.declared.fault.Side.TheVariants.{Client, Server}
 use Rattle.rasta_pdu.specs.Params.{Parameters}
@@ -10,8 +10,7 @@ use Rattle.rasta_check.specs.Crossing.{FirstCopy, crossing_list}
 use Rattle.rasta_check.specs.Listed.{ListedMessage, listed}
 use Rattle.rasta_check.specs.Scripts.{Fits}
 use Rattle.rasta_check.specs.Checking.{follow}
-use Rattle.rasta_check.specs.Reading.{Crossing, crossing_of}
-use Rattle.rasta_check.specs.Verdicts.{IsFaultlessCapture}
+use Rattle.rasta_check.specs.Verdicts.{IsFaultlessCapture, IsRefusedCapture}
 
 -- how many packets crossed, and what each side took of its peer
 pub record Explained : Type 0 where
@@ -44,13 +43,11 @@ explained r = record { packets = r.packets; client_taken = r.client_taken; serve
 
 -- ---- over a file
 
-abbrev pub verdict_on : Result Crossing Fault → Scripts → Result Explained Fault
-verdict_on (Ok k) scripts = verdict_of k.params (length k.packets) k.client k.server scripts
-verdict_on (Err fault) scripts = Err fault
-
--- the verdict on a capture and a certificate: the first fault of the capture, else the verdict on what crossed
-abbrev pub verdict_of_file : Parameters → List ℕ → Scripts → Result Explained Fault
-verdict_of_file p file scripts = verdict_on (crossing_of p file) scripts
+-- the verdict on a capture and a certificate: the first fault of the capture, else the verdict on the lists that its sides sent
+pub data IsFileVerdict (p : Parameters) (file : List ℕ) (scripts : Scripts) : Result Explained Fault → Type 0 where
+  refused : (fault : Fault) → IsRefusedCapture p file fault → IsFileVerdict p file scripts (Err fault)
+  judged : (client server : List FirstCopy) (capture : IsFaultlessCapture p file client server) (verdict : Result Explained Fault)
+      → verdict_of p (length (crossing_list p capture.records)) client server scripts ≡ verdict → IsFileVerdict p file scripts verdict
 
 -- a certificate explains a capture: the capture has no fault, and both scripts fit what its sides sent
 pub record Explains (p : Parameters) (file : List ℕ) (scripts : Scripts) : Type 0 where

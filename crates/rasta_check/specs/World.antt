@@ -30,37 +30,45 @@ pub record World : Type 0 where
 abbrev pub IsRecorded : Parameters → ℕ → Type 0
 IsRecorded p channel = (1 ≤ channel) × (channel ≤ length p.channels)
 
--- what may happen to one station while its peer stands still: from what it was to what it is, and what has crossed then
-pub data Moves (p : Parameters) (peer : Station) (crossed : List Packet) : Station → Station → List Packet → Type 0 where
+-- what one station does. Positions are those of the peer, and a place is that of a packet among those that crossed
+pub data Move : Type 0 where
+  making : SafetyPdu → Why → (channel reserve : ℕ) → List ℕ → Move
+  repeating : (place channel : ℕ) → Move
+  arriving : (position : ℕ) → Move
+  taking : (position : ℕ) → Move
+  waiting : (clock : ℕ) → Move
+
+-- a station does this while its peer stands still: from what it was to what it is, and what has crossed then
+pub data Moves (p : Parameters) (peer : Station) (crossed : List Packet) : Station → Move → Station → List Packet → Type 0 where
   -- it makes a PDU, and a datagram that spells it crosses, under the station's next redundancy number
   makes : {a : Station} (x : SafetyPdu) (why : Why) (after : EndState) (channel reserve : ℕ) (check bytes : List ℕ)
       → Makes p a.state x a.clock why after
       → Spells p a.state.side (record { reserve = reserve; number = wrapped (a.first_number + length a.state.made); safety = x; check_bytes = check }) bytes
       → IsRecorded p channel
-      → Moves p peer crossed a (record a { state = after }) (crossed ++ record { channel = channel; side = a.state.side; payload = bytes } ∷ [])
-  -- a packet of this station that crossed crosses again
-  repeats : {a : Station} (old : Packet) (channel : ℕ)
-      → Contains crossed old → old.side ≡ a.state.side → IsRecorded p channel
-      → Moves p peer crossed a a (crossed ++ record old { channel = channel } ∷ [])
-  -- a PDU of the peer arrives that crossed
+      → Moves p peer crossed a (making x why channel reserve check) (record a { state = after }) (crossed ++ record { channel = channel; side = a.state.side; payload = bytes } ∷ [])
+  -- its packet at this place crosses again
+  repeats : {a : Station} (place channel : ℕ) (old : Packet)
+      → slice_get crossed place ≡ Some old → old.side ≡ a.state.side → IsRecorded p channel
+      → Moves p peer crossed a (repeating place channel) a (crossed ++ record old { channel = channel } ∷ [])
+  -- the PDU of the peer at this position, which crossed, arrives
   arrives : {a : Station} (position : ℕ)
       → peer.state.base ≤ position → position < length peer.state.made
-      → Moves p peer crossed a (record a { arrived = position ∷ a.arrived }) crossed
-  -- it takes a PDU that arrived, above the position that it took last
+      → Moves p peer crossed a (arriving position) (record a { arrived = position ∷ a.arrived }) crossed
+  -- it takes the PDU at this position, which arrived, above the position that it took last
   takes : {a : Station} (position : ℕ) (m : Made) (after : EndState)
       → Contains a.arrived position → a.taken ≤ position
       → slice_get peer.state.made position ≡ Some m
       → Takes p a.state m.pdu a.clock after
-      → Moves p peer crossed a (record a { state = after; taken = suc position }) crossed
+      → Moves p peer crossed a (taking position) (record a { state = after; taken = suc position }) crossed
   -- its clock rises, or stands still
   waits : {a : Station} (clock : ℕ)
       → a.clock ≤ clock
-      → Moves p peer crossed a (record a { clock = clock }) crossed
+      → Moves p peer crossed a (waiting clock) (record a { clock = clock }) crossed
 
 -- one of the two stations moves
 pub data Step (p : Parameters) : World → World → Type 0 where
-  client_moves : {w : World} {a : Station} {after : List Packet} → Moves p w.server w.crossed w.client a after → Step p w (record w { client = a; crossed = after })
-  server_moves : {w : World} {a : Station} {after : List Packet} → Moves p w.client w.crossed w.server a after → Step p w (record w { server = a; crossed = after })
+  client_moves : {w : World} {a : Station} {after : List Packet} {move : Move} → Moves p w.server w.crossed w.client move a after → Step p w (record w { client = a; crossed = after })
+  server_moves : {w : World} {a : Station} {after : List Packet} {move : Move} → Moves p w.client w.crossed w.server move a after → Step p w (record w { server = a; crossed = after })
 
 -- a station at the start: nothing has arrived, and from a quiet point the peer's quiet PDU was taken
 abbrev pub first_station : Parameters → Side → ℕ → Station

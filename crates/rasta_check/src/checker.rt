@@ -1,12 +1,15 @@
 //! The checker: it follows a certificate, and never searches.
-ghost use Rattle.std.specs.Prelude.{◌≡◌, ◌⊎◌, ℕ, length, Ok, Err, IfOk, OnOk, IfErr, MatchResult, List};
+ghost use Rattle.std.specs.Prelude.{◌≡◌, ◌≤◌, ◌⊎◌, ℕ, [], length, Ok, Err, IfOk, OnOk, IfErr, MatchResult, List};
 ghost use Rattle.rasta_pcap.specs.Fault.{no_memory};
 ghost use Rattle.rasta_pcap.specs.Capture.{IsCapture};
 ghost use Rattle.rasta_udp.specs.Frame.{Packet};
 ghost use Rattle.rasta_check.specs.Crossing.{crossing_list};
-ghost use Rattle.rasta_check.specs.Reading.{AreSentLists, IsCrossing, crossing_of};
-ghost use Rattle.rasta_check.specs.Listing.{listed_by};
-ghost use Rattle.rasta_check.specs.Report.{BothFit, Explains, explained, report_of, verdict_of, verdict_of_file};
+ghost use Rattle.rasta_check.specs.Reading.{AreSentLists, IsCrossing};
+ghost use Rattle.rasta_end.specs.State.{EndState};
+ghost use Rattle.rasta_check.specs.Checking;
+ghost use Rattle.rasta_check.specs.Listing.{listed_with, proofs_from};
+ghost use Rattle.rasta_check.specs.Report.{BothFit, Explains, IsFileVerdict, explained, report_of, verdict_of};
+ghost use Rattle.rasta_check.specs.Verdicts.{CrossedIn};
 ghost use Rattle.rasta_check.specs.Headline.{Headline, IsSharp};
 
 use crate::crossing::Sent;
@@ -15,28 +18,50 @@ use crate::follower::follow;
 use crate::reading::sent;
 use crate::report::Report;
 use crate::sent_list::SentList;
-use crate::surely_taken::taken_list;
-use rasta_cert::Certificate;
-use rasta_end::End;
+use crate::surely_taken::{proof_places, taken_list};
+use rasta_cert::{Certificate, Entry};
 use rasta_pcap::{Fault, Side};
 use rasta_pdu::Params;
 use std::alloc::{AllocError, Global};
 
-// The report on both sent lists, by the ends that their scripts lead to.
+// The places of the proofs of the units of an end, unit by unit, or the first fault of its script. The end is let go.
+fn script_proofs<'a, S: SentList<'a>>(
+    alloc: Global,
+    p: &Params,
+    side: Side,
+    packets: u32,
+    own: &S,
+    peer: &S,
+    script: &[Entry],
+) -> Result<Vec<u32>, Fault>
+    requires few { length script.now ≤ 4000000 }
+    ensures { MatchResult result
+        (λ places. (e : EndState) × (Checking.follow p.now side packets (S.content own.now) (S.content peer.now) script.now ≡ Ok e)
+        × (places.items ≡ proofs_from e [] (S.content peer.now)))
+        (λ f. (Checking.follow p.now side packets (S.content own.now) (S.content peer.now) script.now ≡ Err f) ⊎ (f ≡ no_memory)) }
+{
+    let end = follow(alloc, p, side, packets, own, peer, script)?;
+    match proof_places(alloc, &end, peer) {
+        Ok(places) => Ok(places),
+        Err(_) => Err(Fault::at(Fault::NO_MEMORY, 0)),
+    }
+}
+
+// The report on both sent lists, by the places of the proofs of their units.
 fn report<'a, S: SentList<'a>>(
     alloc: Global,
     packets: u32,
-    client: (&S, &End<'a>),
-    server: (&S, &End<'a>),
+    client: (&S, &[u32]),
+    server: (&S, &[u32]),
 ) -> Result<Report<'a>, AllocError>
     ensures { IfOk result (λ r. explained r ≡ record {
       packets = packets;
-      client_taken = listed_by server.entry.1.now.state (S.content server.entry.0.now) (S.content client.entry.0.now);
-      server_taken = listed_by client.entry.1.now.state (S.content client.entry.0.now) (S.content server.entry.0.now);
+      client_taken = listed_with server.entry.1.now (S.content server.entry.0.now);
+      server_taken = listed_with client.entry.1.now (S.content client.entry.0.now);
     }) }
 {
-    let client_taken = taken_list(alloc, server.1, server.0, client.0)?;
-    let server_taken = taken_list(alloc, client.1, client.0, server.0)?;
+    let client_taken = taken_list(alloc, server.0, server.1)?;
+    let server_taken = taken_list(alloc, client.0, client.1)?;
     Ok(Report {
         packets,
         client_taken,
@@ -58,7 +83,7 @@ fn verdict<'a, S: SentList<'a>>(
         (λ r. verdict_of p.now packets (S.content client.now) (S.content server.now) certificate.now ≡ Ok (explained r))
         (λ f. (verdict_of p.now packets (S.content client.now) (S.content server.now) certificate.now ≡ Err f) ⊎ (f ≡ no_memory)) }
 {
-    let client_end = follow(
+    let client_proofs = script_proofs(
         alloc,
         p,
         Side::Client,
@@ -67,7 +92,7 @@ fn verdict<'a, S: SentList<'a>>(
         server,
         certificate.client(),
     )?;
-    let server_end = follow(
+    let server_proofs = script_proofs(
         alloc,
         p,
         Side::Server,
@@ -76,7 +101,12 @@ fn verdict<'a, S: SentList<'a>>(
         client,
         certificate.server(),
     )?;
-    match report(alloc, packets, (client, &client_end), (server, &server_end)) {
+    match report(
+        alloc,
+        packets,
+        (client, &client_proofs),
+        (server, &server_proofs),
+    ) {
         Ok(report) => Ok(report),
         Err(_) => Err(Fault::at(Fault::NO_MEMORY, 0)),
     }
@@ -181,9 +211,9 @@ pub fn check_store<'a>(
     ensures headline { IfOk result (λ r. Headline p.now store.now.packets (explained r)) }
     ensures sharp { IfOk result (λ r. IsSharp p.now store.now.packets (explained r)) }
     // What `check` answers for a capture of which this is the store.
-    ensures of_file { (file : List ℕ) → crossing_of p.now file ≡ Ok store.now → MatchResult result
-        (λ r. verdict_of_file p.now file certificate.now ≡ Ok (explained r))
-        (λ f. (verdict_of_file p.now file certificate.now ≡ Err f) ⊎ (f ≡ no_memory)) }
+    ensures of_file { (file : List ℕ) → CrossedIn p.now file store.now → MatchResult result
+        (λ r. IsFileVerdict p.now file certificate.now (Ok (explained r)))
+        (λ f. IsFileVerdict p.now file certificate.now (Err f) ⊎ (f ≡ no_memory)) }
 {
     check_lists(
         alloc,
@@ -210,8 +240,8 @@ pub fn check<'a>(
 ) -> Result<Report<'a>, Fault>
     // The report, or the first fault.
     ensures verdict { MatchResult result
-        (λ r. verdict_of_file p.now file.now certificate.now ≡ Ok (explained r))
-        (λ f. (verdict_of_file p.now file.now certificate.now ≡ Err f) ⊎ (f ≡ no_memory)) }
+        (λ r. IsFileVerdict p.now file.now certificate.now (Ok (explained r)))
+        (λ f. IsFileVerdict p.now file.now certificate.now (Err f) ⊎ (f ≡ no_memory)) }
     // A report stands exactly where the capture has no fault and both scripts fit.
     ensures explains { OnOk result (Explains p.now file.now certificate.now) }
     ensures refused { IfErr result (λ f. (Explains p.now file.now certificate.now → ⊥) ⊎ (f ≡ no_memory)) }

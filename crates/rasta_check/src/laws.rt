@@ -1,6 +1,6 @@
 //! Laws on every run of two ends, and on captures: public functions without a body, whose contracts are
 //! the laws.
-ghost use Rattle.std.specs.Prelude.{◌≡◌, ◌≤◌, ◌↔◌, ℕ, List, [], length, Ok, Err, IsSome};
+ghost use Rattle.std.specs.Prelude.{◌≡◌, ◌≤◌, ◌↔◌, ◌⊎◌, ℕ, List, [], length, Ok, Err, IsSome};
 ghost use Rattle.rasta_pcap.specs.declared.fault.Fault.{Fault};
 ghost use Rattle.rasta_pcap.specs.Fault.{redundancy_length, number_gap};
 ghost use Rattle.rasta_pcap.specs.Capture.{IsCapture};
@@ -8,9 +8,10 @@ ghost use Rattle.rasta_pdu.specs.Params.{Parameters, AreParameters};
 ghost use Rattle.rasta_pdu.specs.Messages.{AreBytes};
 ghost use Rattle.rasta_check.specs.Crossing.{FirstCopy, crossing_list};
 ghost use Rattle.rasta_check.specs.Reading.{AreSentLists, Crossing, crossing_of};
-ghost use Rattle.rasta_check.specs.Verdicts.{Impossible, packets_through, IsFaultlessCapture};
+ghost use Rattle.rasta_check.specs.Verdicts.{Impossible, packets_through, IsFaultlessCapture, IsRefusedCapture};
 ghost use Rattle.rasta_check.specs.Laws;
-ghost use Rattle.rasta_check.specs.Theorem.{OfConnection, SentLists, Definite, Simulation, Necessity, Sharpness, Complete, Stuck};
+ghost use Rattle.rasta_check.specs.Theorem.{OfConnection, SentLists, Definite, Necessity};
+ghost use Rattle.rasta_check.specs.ScriptLaws.{Simulation, Sharpness, Complete, Stuck};
 
 /// The SN of a PDU names one position of its end.
 pub fn sn_once()
@@ -114,6 +115,27 @@ pub fn faultless_capture_is_read()
     ensures only { (p : Parameters) (file : List ℕ) (client server : List FirstCopy) → OfConnection p → AreBytes file
         → IsFaultlessCapture p file client server
         → (k : Crossing) × (crossing_of p file ≡ Ok k) × (k.client ≡ client) × (k.server ≡ server) }
+{}
+
+/// Exactly a refused capture is read with a fault, which is its first.
+pub fn refused_capture_is_read()
+    // What is read with a fault is a refused capture.
+    ensures read { (p : Parameters) (file : List ℕ) (f : Fault) → OfConnection p → AreBytes file
+        → crossing_of p file ≡ Err f → IsRefusedCapture p file f }
+    // Such a capture is read with that fault.
+    ensures only { (p : Parameters) (file : List ℕ) (f : Fault) → OfConnection p → AreBytes file
+        → IsRefusedCapture p file f → crossing_of p file ≡ Err f }
+{}
+
+/// A file is a capture without a fault, or one with a first fault, and not both.
+pub fn captures_have_one_answer()
+    ensures some { (p : Parameters) (file : List ℕ) → OfConnection p → AreBytes file
+        → ((c : List FirstCopy) × (s : List FirstCopy) × IsFaultlessCapture p file c s) ⊎ ((f : Fault) × IsRefusedCapture p file f) }
+    // No other fault is its first.
+    ensures one { (p : Parameters) (file : List ℕ) (f g : Fault) → OfConnection p → AreBytes file
+        → IsRefusedCapture p file f → IsRefusedCapture p file g → f ≡ g }
+    ensures not_both { (p : Parameters) (file : List ℕ) (c s : List FirstCopy) (f : Fault) → OfConnection p → AreBytes file
+        → IsFaultlessCapture p file c s → IsRefusedCapture p file f → ⊥ }
 {}
 
 /// The first fault of a capture speaks of a side exactly where it is one of 20 to 28.

@@ -1,11 +1,11 @@
 //! Reading what each side sent from a capture.
-ghost use Rattle.std.specs.Prelude.{◌≡◌, ◌≤◌, ◌↔◌, ℕ, suc, List, Ok, Err, MatchResult, IfOk, IfErr, IsSome, ◌⊎◌};
+ghost use Rattle.std.specs.Prelude.{◌≡◌, ◌≤◌, ◌↔◌, ℕ, suc, List, Ok, Err, MatchResult, IfErr, IsSome, ◌⊎◌};
 ghost use Rattle.rasta_pcap.specs.Fault.{no_memory, redundancy_length, number_gap};
 ghost use Rattle.rasta_pcap.specs.Capture.{reading};
 ghost use Rattle.rasta_check.specs.Crossing.{FirstCopy};
-ghost use Rattle.rasta_check.specs.Reading.{after_reading, crossing_of};
+ghost use Rattle.rasta_check.specs.Reading.{after_reading};
 ghost use Rattle.rasta_check.specs.Packets.{after_next};
-ghost use Rattle.rasta_check.specs.Verdicts.{Impossible, packets_through, IsFaultlessCapture};
+ghost use Rattle.rasta_check.specs.Verdicts.{CrossedIn, Impossible, IsFaultlessCapture, IsRefusedCapture, packets_through};
 
 use crate::crossing::Sent;
 use rasta_pcap::{Fault, Pcap};
@@ -53,12 +53,10 @@ fn add_records<'a>(mut sent: Sent<'a>, mut pcap: Pcap<'a>, last: u32) -> Result<
 /// [`Fault::NUMBER_GAP`], speak of its sender. Records before the window are read and not judged,
 /// and nothing after its last record is read. [`Fault::NO_MEMORY`] may stand in place of any answer.
 pub fn sent<'a>(alloc: Global, p: Params, file: &'a [u8]) -> Result<Sent<'a>, Fault>
+    // Exactly a capture without a fault is read, memory aside; else the fault is its first.
     ensures value { MatchResult result
-        (λ s. crossing_of p file.now ≡ Ok s)
-        (λ f. (f ≡ no_memory) ⊎ (crossing_of p file.now ≡ Err f)) }
-
-    // Exactly a capture without a fault is read, memory aside.
-    ensures read { IfOk result (λ s. IsFaultlessCapture p file.now s.client s.server) }
+        (λ s. CrossedIn p file.now s)
+        (λ f. (f ≡ no_memory) ⊎ IsRefusedCapture p file.now f) }
     ensures only { IfErr result (λ f. (f ≡ no_memory)
         ⊎ ((client server : List FirstCopy) → IsFaultlessCapture p file.now client server → ⊥)) }
 

@@ -6,7 +6,7 @@ ghost use Rattle.rasta_check.specs.Crossing.{FirstCopy};
 ghost use Rattle.rasta_check.specs.Lists.{copy_of};
 ghost use Rattle.rasta_check.specs.Taken.{messages_of_unit, messages_taken};
 ghost use Rattle.rasta_check.specs.Listed.{listed_of, numbered_from};
-ghost use Rattle.rasta_check.specs.Listing.{listed_by, proofs_from, proved_units, shown_by, with_proofs};
+ghost use Rattle.rasta_check.specs.Listing.{listed_with, proofs_from, proved_units, shown_by, with_proofs};
 
 use crate::report::{Taken, TakenList};
 use crate::sent_list::SentList;
@@ -40,8 +40,8 @@ fn add_proofs(places: &mut Vec<u32>, shown: usize, place: u32) -> Result<(), All
     Ok(())
 }
 
-// The places of the PDUs of the peer that prove the units of an end, unit by unit.
-fn proof_places<'a, S: SentList<'a>>(
+/// The places of the PDUs of the peer that prove the units of an end, unit by unit. The only error is out of memory.
+pub(crate) fn proof_places<'a, S: SentList<'a>>(
     alloc: Global,
     end: &End,
     peer: &S,
@@ -128,16 +128,14 @@ fn messages_with<'a, S: SentList<'a>>(
     Ok(items)
 }
 
-/// The messages of an end that its peer surely took. The only error is out of memory.
+/// The messages of an end that its peer surely took, by the places of their proofs. The only error is out of memory.
 pub(crate) fn taken_list<'a, S: SentList<'a>>(
     alloc: Global,
-    end: &End,
     own: &S,
-    peer: &S,
+    proofs: &[u32],
 ) -> Result<TakenList<'a>, AllocError>
-    ensures { IfOk result (λ l. l ≡ listed_by end.now.state (S.content own.now) (S.content peer.now)) }
+    ensures { IfOk result (λ l. l ≡ listed_with proofs.now (S.content own.now)) }
 {
-    let proofs = proof_places(alloc, end, peer)?;
-    let items = messages_with(alloc, own, proofs.as_slice())?;
+    let items = messages_with(alloc, own, proofs)?;
     Ok(TakenList::of(items))
 }

@@ -165,12 +165,13 @@ make_faults p e x clock why =
     ∷ (differs e.made (row_of e x why) (content_of x.body), resend_differs)
     ∷ []
 
-abbrev pub first_fault : List (Bool × ℕ) → Option ℕ
-first_fault [] = None
-first_fault (t ∷ ts) = if t.0 then Some t.1 else first_fault ts
+-- what stands beside the first test that holds
+abbrev pub first_that_holds : {A : Type 0} → List (Bool × A) → Option A
+first_that_holds [] = None
+first_that_holds (t ∷ ts) = if t.0 then Some t.1 else first_that_holds ts
 
 abbrev pub make_fault : Parameters → EndState → SafetyPdu → ℕ → Why → Option ℕ
-make_fault p e x clock why = first_fault (make_faults p e x clock why)
+make_fault p e x clock why = first_that_holds (make_faults p e x clock why)
 
 abbrev pub without_first : List Owed → List Owed
 without_first [] = []

@@ -48,9 +48,7 @@ moved_deadline (Some deadline) = Some (deadline + 2 ^ 32)
 
 -- an end at the quiet point: connected, with its quiet PDU made and confirmed and that of its peer accepted
 abbrev pub quiet_end : Side → QuietEnd → QuietEnd → EndState
-quiet_end side own other = record {
-  side = side;
-  phase = Up;
+quiet_end side own other = record (fresh_end side Up) {
   base = 1;
   made = record { pdu = quiet_pdu own other; unit = None } ∷ [];
   accepted = 1;
@@ -58,27 +56,15 @@ quiet_end side own other = record {
   last_ts = wrapped other.clock;
   timed_ts = Some (wrapped other.clock);
   handed_ts = other.handed_ts;
-  confirmed = 0;
-  offered = 0;
-  handed = [];
-  handed_pdus = [];
-  asks = [];
-  owed = [];
   clock = own.clock;
   deadline = moved_deadline own.deadline;
 }
 
-abbrev pub client_start : Option Quiet → EndState
-client_start None = fresh_end Client Closed
-client_start (Some quiet) = quiet_end Client quiet.client quiet.server
-
-abbrev pub server_start : Option Quiet → EndState
-server_start None = fresh_end Server Down
-server_start (Some quiet) = quiet_end Server quiet.server quiet.client
-
 abbrev pub start_by : Option Quiet → Side → EndState
-start_by quiet Client = client_start quiet
-start_by quiet Server = server_start quiet
+start_by None Client = fresh_end Client Closed
+start_by None Server = fresh_end Server Down
+start_by (Some quiet) Client = quiet_end Client quiet.client quiet.server
+start_by (Some quiet) Server = quiet_end Server quiet.server quiet.client
 
 abbrev pub start_of : Parameters → Side → EndState
 start_of p side = start_by p.quiet side

@@ -4,7 +4,7 @@ use Rattle.rasta_pcap.specs.declared.fault.Side.{Side}
 use Rattle.rasta_pcap.specs.declared.fault.Side.TheVariants.{Client, Server}
 use Rattle.rasta_pdu.specs.declared.kind.Kind.{Kind}
 use Rattle.rasta_pdu.specs.declared.kind.Kind.TheVariants.{Heartbeat, Data, RetransmittedData}
-use Rattle.rasta_pdu.specs.Pdu.{SafetyPdu, SafetyBody, Opening, Bye, Messages, Empty}
+use Rattle.rasta_pdu.specs.Pdu.{SafetyPdu, SafetyBody, Bye, Messages}
 use Rattle.rasta_end.specs.declared.owed.Owed.{Owed}
 use Rattle.rasta_end.specs.declared.phase.Phase.{Phase}
 use Rattle.rasta_end.specs.declared.phase.Phase.TheVariants.{Closed, Down, Start, Up, RetrReq, RetrRun}
@@ -117,13 +117,9 @@ carries_unit _ = false
 -- the reason of a disconnection request, else 0
 abbrev pub reason_of : SafetyBody → ℕ
 reason_of (Bye detail reason) = reason
-reason_of (Opening version sendmax reserved) = 0
-reason_of (Messages payload) = 0
-reason_of Empty = 0
+reason_of _ = 0
 
 -- the bytes that spell the messages of a unit
 abbrev pub content_of : SafetyBody → List ℕ
 content_of (Messages payload) = payload
-content_of (Opening version sendmax reserved) = []
-content_of (Bye detail reason) = []
-content_of Empty = []
+content_of _ = []

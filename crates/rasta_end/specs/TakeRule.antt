@@ -15,7 +15,7 @@ use Rattle.rasta_end.specs.declared.owed.Owed.{Owed}
 use Rattle.rasta_end.specs.declared.owed.Owed.TheVariants.{ConnectionResponse as OweConnectionResponse, FirstHeartbeat as OweFirstHeartbeat, RetransmissionResponse as OweRetransmissionResponse, Resend as OweResend, RetransmissionRequest as OweRetransmissionRequest}
 use Rattle.rasta_end.specs.Units.{units_conveyed}
 use Rattle.rasta_end.specs.State.{EndState, ahead_by, sn_at, kinds, is_owing, is_client, is_closed, is_down, is_start, is_up, is_retr_req, is_retr_run, is_flowing, is_active, is_timed, carries_unit}
-use Rattle.rasta_end.specs.MakeRule.{first_fault, is_past, is_connection_request, is_disconnection_request}
+use Rattle.rasta_end.specs.MakeRule.{first_that_holds, is_past, is_connection_request, is_disconnection_request}
 
 -- how many steps after the next position of the peer the PDU stands, modulo 2^32
 abbrev pub steps_past_next : EndState → SafetyPdu → ℕ
@@ -76,10 +76,6 @@ take_rows side phase kind next ahead valid =
     ∷ (is_retr_req phase && (is_retransmission_request kind && (ahead && valid)), RequestedAgain)
     ∷ (is_active phase && is_disconnection_request kind, Disconnected)
     ∷ []
-
-abbrev pub first_row : List (Bool × TakeRow) → Option TakeRow
-first_row [] = None
-first_row (t ∷ ts) = if t.0 then Some t.1 else first_row ts
 
 -- the deadline that a confirmed time sets: T_max after the greatest number that is not above the clock and congruent
 -- to it modulo 2^32; moved by 2^32
@@ -147,7 +143,7 @@ effect p RequestedAgain e x = owe (burst e (position_confirmed e x)) (note_ask (
 effect p Disconnected e x = enter Closed e
 
 abbrev pub take_row : Parameters → EndState → SafetyPdu → Option TakeRow
-take_row p e x = first_row (take_rows e.side e.phase x.kind (is_in e x) (is_ahead p e x) (is_valid e x))
+take_row p e x = first_that_holds (take_rows e.side e.phase x.kind (is_in e x) (is_ahead p e x) (is_valid e x))
 
 abbrev pub effect_by : Parameters → Option TakeRow → EndState → SafetyPdu → EndState
 effect_by p None e x = e
@@ -159,7 +155,7 @@ after_take p e x = effect_by p (take_row p e x) e x
 -- why an end may not take anything at this moment, in the order in which it is judged
 abbrev pub take_fault : Parameters → EndState → ℕ → Option ℕ
 take_fault p e moment =
-    if is_closed e.phase then None else first_fault ((is_owing e.owed, reply_owed) ∷ (is_past p e.deadline moment, past_deadline) ∷ [])
+    if is_closed e.phase then None else first_that_holds ((is_owing e.owed, reply_owed) ∷ (is_past p e.deadline moment, past_deadline) ∷ [])
 
 -- the take rule: this end takes this PDU at this moment, and is that end afterwards
 abbrev pub Takes : Parameters → EndState → SafetyPdu → ℕ → EndState → Type 0

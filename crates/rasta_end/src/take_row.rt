@@ -108,7 +108,7 @@ pub struct Standing {
 impl TakeRow {
     /// The row of this side and phase and of a PDU of this type.
     pub fn of(side: Side, phase: Phase, kind: Kind, standing: Standing) -> Option<TakeRow>
-        ensures value { result ≡ TakeRule.first_row (TakeRule.take_rows side phase kind standing.next standing.ahead standing.valid) }
+        ensures value { result ≡ MakeRule.first_that_holds (TakeRule.take_rows side phase kind standing.next standing.ahead standing.valid) }
         ensures valid { IfSome result (λ row. TakeRule.wants_valid row ≡ true → standing.valid ≡ true) }
     {
         let Standing { next, ahead, valid } = standing;

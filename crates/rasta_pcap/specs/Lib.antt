@@ -6,6 +6,7 @@ pub mod Capture
 pub mod Filling
 pub mod Fronts
 pub mod Extent
+pub mod Times
 pub mod Stream
 pub mod Reader
 pub mod Buffered

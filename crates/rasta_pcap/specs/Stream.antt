@@ -7,6 +7,8 @@ use Rattle.rasta_pcap.specs.declared.stream.Progress.{Progress}
 use Rattle.rasta_pcap.specs.declared.stream.Progress.TheVariants.{Reading, Ended, Refused}
 use Rattle.rasta_pcap.specs.declared.stream.RecordBuffer.{RecordBuffer}
 use Rattle.rasta_pcap.specs.declared.stream.RecordReader.{RecordReader}
+use Rattle.rasta_pcap.specs.declared.time.CaptureTime.{CaptureTime}
+use Rattle.rasta_pcap.specs.declared.time.FractionUnit.{FractionUnit}
 use Rattle.rasta_pcap.specs.Fault.{no_memory, read_failed}
 use Rattle.rasta_pcap.specs.Devices.{HasFailed}
 pub use Rattle.rasta_pcap.specs.Filling.{IsFilled, ReadsUpTo}
@@ -51,6 +53,13 @@ count_in r = r.count
 
 abbrev pub progress_of : RecordReader → Progress
 progress_of r = r.progress
+
+-- the unit of its file's times, and the time of the record read last
+abbrev pub unit_in : RecordReader → FractionUnit
+unit_in r = r.unit
+
+abbrev pub time_in : RecordReader → Option CaptureTime
+time_in r = r.time
 
 -- how many bytes its buffer can hold before it grows
 abbrev pub room_in : RecordReader → ℕ

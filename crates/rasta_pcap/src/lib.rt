@@ -9,9 +9,11 @@ mod filling;
 pub mod laws;
 mod pcap;
 pub mod stream;
+mod time;
 
 pub use buffered::Buffered;
 pub use counted::{Counted, Sink, Source, read_all, write_all};
 pub use fault::{Fault, Side};
 pub use pcap::{Pcap, Record};
 pub use stream::Stream;
+pub use time::{CaptureTime, FractionUnit};

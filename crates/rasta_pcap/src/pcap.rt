@@ -30,7 +30,7 @@ pub(crate) const MAX_RECORDS: u32 = 4_000_000_000;
 
 const MICROSECONDS: u32 = 0xa1b2_c3d4;
 
-const NANOSECONDS: u32 = 0xa1b2_3c4d;
+pub(crate) const NANOSECONDS: u32 = 0xa1b2_3c4d;
 
 impl Endianness {
     // The order in which the file begins with a magic number.

@@ -1,5 +1,5 @@
 //! The records of a capture that comes from a reader, in whatever pieces.
-ghost use Rattle.std.specs.Prelude.{max, ◌+◌, ◌≡◌, ◌≢◌, ℕ, ◌<◌, ◌≤◌, ◌⊎◌, [], take, length, vec_len, Ok, IfOk, IfErr, IfSome, OnOk, OnErr, MatchOption, MatchResult};
+ghost use Rattle.std.specs.Prelude.{max, ◌+◌, ◌≡◌, ◌≢◌, ℕ, ◌<◌, ◌≤◌, ◌⊎◌, [], take, length, vec_len, None, Ok, IfOk, IfErr, IfSome, OnOk, OnErr, MatchOption, MatchResult};
 ghost use Rattle.std.specs.Io.KnownBytes.{Consumes};
 ghost use Rattle.rasta_pcap.specs.Fault.{no_memory, read_failed};
 ghost use Rattle.rasta_pcap.specs.Devices.{HasFailed};
@@ -14,6 +14,7 @@ use crate::filling::fill;
 use crate::pcap::{
     Endianness, FILE_HEADER, MAX_CAPTURED, MAX_RECORDS, Pcap, RECORD_HEADER, Record,
 };
+use crate::time::{CaptureTime, FractionUnit, time_in, unit_in};
 use std::alloc::Global;
 
 /// Whether a reading goes on.
@@ -128,6 +129,8 @@ fn judge_front(order: Endianness, count: u32, front: &[u8]) -> Result<Option<usi
 #[derive(Debug, Drop)]
 pub struct RecordReader {
     order: Endianness,
+    unit: FractionUnit,
+    time: Option<CaptureTime>,
     count: u32,
     progress: Progress,
     buffer: RecordBuffer,
@@ -135,7 +138,8 @@ pub struct RecordReader {
 }
 
 impl RecordReader {
-    ghost use Rattle.rasta_pcap.specs.Stream.{order_in, count_in, progress_of, lent_by, room_in, FailsWithin, LacksMemory, Opens, RefusesHeader, ReadsRecord, MeetsEnd, RefusesRecord, count_after};
+    ghost use Rattle.rasta_pcap.specs.Stream.{order_in, unit_in, time_in, count_in, progress_of, lent_by, room_in, FailsWithin, LacksMemory, Opens, RefusesHeader, ReadsRecord, MeetsEnd, RefusesRecord, count_after};
+    ghost use Rattle.rasta_pcap.specs.Times.{TellsTime, TellsUnit};
     ghost use Rattle.rasta_pcap.specs.Reader.{Advances};
     ghost use Rattle.rasta_pcap.specs.declared.stream.Progress.TheVariants.{Reading};
 
@@ -144,7 +148,8 @@ impl RecordReader {
     /// Refused by [`Fault::READ_FAILED`] and as [`Pcap::open`] refuses it.
     pub fn open<S: Source>(alloc: Global, reader: &mut S) -> Result<RecordReader, Fault>
         ensures opened { IfOk result (λ r. Opens (order_in r) (S.remaining reader.old) (S.remaining reader.new)) }
-        ensures start { IfOk result (λ r. (count_in r ≡ 0) × (progress_of r ≡ Reading) × (lent_by r ≡ [])) }
+        ensures unit { IfOk result (λ r. TellsUnit (order_in r) (unit_in r) (S.remaining reader.old) (S.remaining reader.new)) }
+        ensures start { IfOk result (λ r. (count_in r ≡ 0) × (progress_of r ≡ Reading) × (lent_by r ≡ []) × (time_in r ≡ None)) }
         ensures err { IfErr result (λ f.
             FailsWithin 24 f (S.failure_count reader.old) (S.failure_count reader.new) (S.remaining reader.old) (S.remaining reader.new)
             ⊎ RefusesHeader f (S.remaining reader.old) (S.remaining reader.new)) }
@@ -156,6 +161,8 @@ impl RecordReader {
         let order = Pcap::open(&header[..filled])?.order();
         Ok(RecordReader {
             order,
+            unit: unit_in(order, &header[..filled]),
+            time: None,
             count: 0,
             progress: Progress::Reading,
             buffer: RecordBuffer::new(alloc),
@@ -168,6 +175,13 @@ impl RecordReader {
         ensures bound { length result.now ≤ max_captured }
     {
         self.buffer.lend()
+    }
+
+    /// When the record read last was captured; `None` before the first.
+    pub fn time(&self) -> Option<CaptureTime>
+        ensures { result ≡ time_in self.now }
+    {
+        self.time
     }
 
     /// Reads the next record, and nothing after it, into the buffer, and answers its number; `None`
@@ -204,9 +218,13 @@ impl RecordReader {
             (S.remaining reader.old) (S.remaining reader.new)
             ⊎ (LacksMemory (order_in self.old) (room_in self.old) f (S.remaining reader.old) (S.remaining reader.new)
             ⊎ RefusesRecord (order_in self.old) (count_in self.old) f (S.remaining reader.old) (S.remaining reader.new))) }
+        ensures timed { IfOk result (λ o. MatchOption o (time_in self.new ≡ time_in self.old)
+            (λ n. TellsTime (order_in self.old) (unit_in self.old) (time_in self.new) (S.remaining reader.old) (S.remaining reader.new))) }
+        ensures untimed { OnErr result (time_in self.new ≡ time_in self.old) }
         ensures within { ReadsWithinRecord (order_in self.old) (S.remaining reader.old) (S.remaining reader.new) }
         ensures steady { OnOk result (S.failure_count reader.new ≡ S.failure_count reader.old) }
         ensures order { order_in self.new ≡ order_in self.old }
+        ensures unit { unit_in self.new ≡ unit_in self.old }
         ensures count { count_in self.new ≡ count_after (count_in self.old) result }
         ensures progress { progress_of self.new ≡ progress_of self.old }
     {
@@ -219,6 +237,7 @@ impl RecordReader {
         if self.buffer.lend().len() < captured {
             return Err(Fault::at(Fault::CUT_RECORD, self.count + 1));
         }
+        self.time = Some(time_in(self.order, self.unit, &front[..filled]));
         self.count += 1;
         Ok(Some(self.count))
     }
@@ -235,7 +254,8 @@ impl<R: Source + Drop> Stream<R> {
     ghost use Rattle.std.specs.Io.BufRead.{Rests};
     ghost use Rattle.std.specs.Borrow.{sem};
     ghost use Rattle.rasta_pcap.specs.contracts.stream.Stream.{the_row as stream-row};
-    ghost use Rattle.rasta_pcap.specs.Stream.{order_in, count_in, progress_of, lent_by, FailsWithin, Opens, RefusesHeader};
+    ghost use Rattle.rasta_pcap.specs.Stream.{order_in, unit_in, time_in, count_in, progress_of, lent_by, FailsWithin, Opens, RefusesHeader};
+    ghost use Rattle.rasta_pcap.specs.Times.{TellsUnit};
     ghost use Rattle.rasta_pcap.specs.Reader.{reader_of, records_of, Advances, answer_of, LendsRecord};
     ghost use Rattle.rasta_pcap.specs.declared.stream.Progress.TheVariants.{Reading};
 
@@ -245,7 +265,8 @@ impl<R: Source + Drop> Stream<R> {
     pub fn open(alloc: Global, mut reader: R) -> Result<Stream<R>, Fault>
         ensures opened { IfOk result (λ s. Opens (order_in (records_of s)) (R.remaining reader) (R.remaining (reader_of s))) }
         ensures start { IfOk result (λ s. (count_in (records_of s) ≡ 0) × (progress_of (records_of s) ≡ Reading)
-            × (lent_by (records_of s) ≡ [])) }
+            × (lent_by (records_of s) ≡ []) × (time_in (records_of s) ≡ None)) }
+        ensures unit { IfOk result (λ s. TellsUnit (order_in (records_of s)) (unit_in (records_of s)) (R.remaining reader) (R.remaining (reader_of s))) }
         ensures err { IfErr result (λ f. (left : R) × ReadsUpTo 24 (R.remaining reader) (R.remaining left) × (
             FailsWithin 24 f (R.failure_count reader) (R.failure_count left) (R.remaining reader) (R.remaining left)
             ⊎ RefusesHeader f (R.remaining reader) (R.remaining left))) }
@@ -291,6 +312,13 @@ impl<R: Source + Drop> Stream<R> {
         ensures bound { length result.now ≤ max_captured }
     {
         self.records.buffer()
+    }
+
+    /// When the record read last was captured; `None` before the first.
+    pub fn time(&self) -> Option<CaptureTime>
+        ensures { result ≡ time_in (records_of self.now) }
+    {
+        self.records.time()
     }
 
     /// Gives the reader back.

@@ -5,7 +5,7 @@ use Rattle.std.specs.Option.{is_some}
 use Rattle.std.specs.Borrow.{Bor}
 use Rattle.std.proofs.lemmas.List.{map-append}
 use Rattle.std.proofs.lemmas.List.Elements.{Contains-push_cases, Contains-append_cases}
-use Rattle.std.proofs.lemmas.Option.{slice_get_within, get_or_from_slice_get}
+use Rattle.std.proofs.lemmas.Option.{slice_get_within}
 use Rattle.rasta_pcap.specs.declared.fault.Fault.{Fault}
 use Rattle.rasta_pcap.specs.declared.fault.Side.{Side}
 use Rattle.rasta_pcap.specs.Fault.{fault_of_end, no_memory}
@@ -24,7 +24,7 @@ use Rattle.rasta_plain.specs.declared.world.Move.TheVariants.{Make, Repeat, Arri
 use Rattle.rasta_plain.specs.declared.world.PlainStation.TheInside.{Inside}
 use Rattle.rasta_end.specs.Judged.{JudgedEnd}
 use Rattle.rasta_check.specs.Crossing.{Spells}
-use Rattle.rasta_check.specs.World.{Station, World, Moves, makes, repeats, arrives, takes, waits, Step, client_moves, server_moves, IsRecorded}
+use Rattle.rasta_check.specs.World.{Station, World, Move as Label, making, repeating, arriving, taking, waiting, Moves, makes, repeats, arrives, takes, waits, Step, client_moves, server_moves, IsRecorded}
 use Rattle.rasta_plain.specs.Moving.{IsMove, Answers, JudgedStation, judged_station, IsPlainStation}
 use Rattle.rasta_check.proofs.Accepting.{accepted_after}
 use Rattle.rasta_check.proofs.TakeRows.{take_leaves}
@@ -33,35 +33,35 @@ use Rattle.rasta_check.proofs.Answering.{if_ok}
 
 -- ---- waits
 
-wait_needs : (p : Parameters) (b : Station) (xs : List Packet) (a a' : Station) (ys : List Packet) (m : Moves p b xs a a' ys) (clock : ℕ) → IsMove p b xs a a' ys m (Wait clock) → a.clock ≤ clock
+wait_needs : (p : Parameters) (b : Station) (xs : List Packet) (a a' : Station) (ys : List Packet) {label : Label} (m : Moves p b xs a label a' ys) (clock : ℕ) → IsMove p b xs a a' ys m (Wait clock) → a.clock ≤ clock
 wait_needs p b xs a a' ys (makes x why e channel reserve check bytes mk sp rec) clock is = absurd is
-wait_needs p b xs a a' ys (repeats old channel there side rec) clock is = absurd is
+wait_needs p b xs a a' ys (repeats place channel old there side rec) clock is = absurd is
 wait_needs p b xs a a' ys (arrives position low within) clock is = absurd is
 wait_needs p b xs a a' ys (takes position m e there above get tk) clock is = absurd is
 wait_needs p b xs a a' ys (waits until rises) clock is = omega (arith, rises, is)
 
 pub wait_refused : (p : Parameters) (b a : Station) (clock : ℕ) → clock < a.clock → (xs : List Packet) → Answers p b xs a (Wait clock) false a xs
-wait_refused p b a clock falls xs = (refl, refl, λ c ys m is. let l = wait_needs p b xs a c ys m clock is in omega (arith, l, falls))
+wait_refused p b a clock falls xs = (refl, refl, λ c ys label m is. let l = wait_needs p b xs a c ys m clock is in omega (arith, l, falls))
 
 pub wait_made : (p : Parameters) (b a : Station) (clock : ℕ) → a.clock ≤ clock → (xs : List Packet) → Answers p b xs a (Wait clock) true (record a { clock = clock }) xs
-wait_made p b a clock rises xs = (waits clock rises, refl)
+wait_made p b a clock rises xs = (waiting clock, waits clock rises, refl)
 
 -- ---- arrivals
 
-arrive_needs : (p : Parameters) (b : Station) (xs : List Packet) (a a' : Station) (ys : List Packet) (m : Moves p b xs a a' ys) (position : ℕ) → IsMove p b xs a a' ys m (Arrive position)
+arrive_needs : (p : Parameters) (b : Station) (xs : List Packet) (a a' : Station) (ys : List Packet) {label : Label} (m : Moves p b xs a label a' ys) (position : ℕ) → IsMove p b xs a a' ys m (Arrive position)
     → (b.state.base ≤ position) × (position < length b.state.made)
 arrive_needs p b xs a a' ys (makes x why e channel reserve check bytes mk sp rec) position is = absurd is
-arrive_needs p b xs a a' ys (repeats old channel there side rec) position is = absurd is
+arrive_needs p b xs a a' ys (repeats place channel old there side rec) position is = absurd is
 arrive_needs p b xs a a' ys (arrives at low within) position is = (omega (arith, low, is), omega (arith, within, is))
 arrive_needs p b xs a a' ys (takes at m e there above get tk) position is = absurd is
 arrive_needs p b xs a a' ys (waits until rises) position is = absurd is
 
 pub arrive_refused : (p : Parameters) (b a : Station) (position : ℕ) → (b.state.base ≤ position → position < length b.state.made → ⊥) → (xs : List Packet) → Answers p b xs a (Arrive position) false a xs
-arrive_refused p b a position none xs = (refl, refl, λ c ys m is. let n = arrive_needs p b xs a c ys m position is in none n.0 n.1)
+arrive_refused p b a position none xs = (refl, refl, λ c ys label m is. let n = arrive_needs p b xs a c ys m position is in none n.0 n.1)
 
 pub arrive_made : (p : Parameters) (b a : Station) (position : ℕ) → b.state.base ≤ position → (m : Made) → slice_get b.state.made position ≡ Some m
     → (xs : List Packet) → Answers p b xs a (Arrive position) true (record a { arrived = position ∷ a.arrived }) xs
-arrive_made p b a position low m get xs = (arrives position low (slice_get_within b.state.made position m get), refl)
+arrive_made p b a position low m get xs = (arriving position, arrives position low (slice_get_within b.state.made position m get), refl)
 
 -- ---- takes
 
@@ -78,10 +78,10 @@ pub takeable_there : (p : Parameters) (peer a : Station) (position : ℕ) (r : O
 takeable_there p peer a position None same there above low calm none = λ m i l get t. none (let P : ℕ → Type 0 = λ n. n ≤ position in subst P (sym same) low) (slice_get_within peer.state.made position m get)
 takeable_there p peer a position (Some d) same there above low calm found = (there, above, found.1, calm)
 
-take_needs : (p : Parameters) (b : Station) (xs : List Packet) (a a' : Station) (ys : List Packet) (m : Moves p b xs a a' ys) (position : ℕ) → IsMove p b xs a a' ys m (Take position)
+take_needs : (p : Parameters) (b : Station) (xs : List Packet) (a a' : Station) (ys : List Packet) {label : Label} (m : Moves p b xs a label a' ys) (position : ℕ) → IsMove p b xs a a' ys m (Take position)
     → (n : Made) × Contains a.arrived position × (a.taken ≤ position) × (slice_get b.state.made position ≡ Some n) × (take_fault p a.state a.clock ≡ None)
 take_needs p b xs a a' ys (makes x why e channel reserve check bytes mk sp rec) position is = absurd is
-take_needs p b xs a a' ys (repeats old channel there side rec) position is = absurd is
+take_needs p b xs a a' ys (repeats place channel old there side rec) position is = absurd is
 take_needs p b xs a a' ys (arrives at low within) position is = absurd is
 take_needs p b xs a a' ys (takes at n e there above get tk) position is =
     subst (λ (q : ℕ). (n : Made) × Contains a.arrived q × (a.taken ≤ q) × (slice_get b.state.made q ≡ Some n) × (take_fault p a.state a.clock ≡ None)) (sym is) (n, there, above, get, tk.0)
@@ -90,37 +90,38 @@ take_needs p b xs a a' ys (waits until rises) position is = absurd is
 pub take_refused : (p : Parameters) (b a : Station) (position : ℕ)
     → ((m : Made) → Contains a.arrived position → a.taken ≤ position → slice_get b.state.made position ≡ Some m → take_fault p a.state a.clock ≡ None → ⊥)
     → (xs : List Packet) → Answers p b xs a (Take position) false a xs
-take_refused p b a position none xs = (refl, refl, λ c ys m is. let n = take_needs p b xs a c ys m position is in none n.0 n.1 n.2 n.3 n.4)
+take_refused p b a position none xs = (refl, refl, λ c ys label m is. let n = take_needs p b xs a c ys m position is in none n.0 n.1 n.2 n.3 n.4)
 
 pub take_made : (p : Parameters) (b a : Station) (position : ℕ) (m : Made) → Contains a.arrived position → a.taken ≤ position → slice_get b.state.made position ≡ Some m
     → take_fault p a.state a.clock ≡ None
     → (xs : List Packet) → Answers p b xs a (Take position) true (record a { state = after_take p a.state m.pdu; taken = suc position }) xs
-take_made p b a position m there above get calm xs = (takes position m (after_take p a.state m.pdu) there above get (calm, refl), refl)
+take_made p b a position m there above get calm xs = (taking position, takes position m (after_take p a.state m.pdu) there above get (calm, refl), refl)
 
 -- ---- repeats
 
-repeat_needs : (p : Parameters) (b : Station) (xs : List Packet) (a a' : Station) (ys : List Packet) (m : Moves p b xs a a' ys) (place channel : ℕ) → IsMove p b xs a a' ys m (Repeat place channel)
+repeat_needs : (p : Parameters) (b : Station) (xs : List Packet) (a a' : Station) (ys : List Packet) {label : Label} (m : Moves p b xs a label a' ys) (place channel : ℕ) → IsMove p b xs a a' ys m (Repeat place channel)
     → (old : Packet) × (slice_get xs place ≡ Some old) × (old.side ≡ a.state.side) × IsRecorded p channel
 repeat_needs p b xs a a' ys (makes x why e on reserve check bytes mk sp rec) place channel is = absurd is
-repeat_needs p b xs a a' ys (repeats old on there side rec) place channel is = (old, is.0, side, subst (λ (n : ℕ). IsRecorded p n) (sym is.1) rec)
+repeat_needs p b xs a a' ys (repeats at on old there side rec) place channel is =
+    (old, subst (λ (n : ℕ). slice_get xs n ≡ Some old) (sym is.0) there, side, subst (λ (n : ℕ). IsRecorded p n) (sym is.1) rec)
 repeat_needs p b xs a a' ys (arrives at low within) place channel is = absurd is
 repeat_needs p b xs a a' ys (takes at m e there above get tk) place channel is = absurd is
 repeat_needs p b xs a a' ys (waits until rises) place channel is = absurd is
 
 pub repeat_refused : (p : Parameters) (b a : Station) (xs : List Packet) (place channel : ℕ)
     → ((old : Packet) → slice_get xs place ≡ Some old → old.side ≡ a.state.side → IsRecorded p channel → ⊥) → Answers p b xs a (Repeat place channel) false a xs
-repeat_refused p b a xs place channel none = (refl, refl, λ c ys m is. let n = repeat_needs p b xs a c ys m place channel is in none n.0 n.1 n.2 n.3)
+repeat_refused p b a xs place channel none = (refl, refl, λ c ys label m is. let n = repeat_needs p b xs a c ys m place channel is in none n.0 n.1 n.2 n.3)
 
 pub repeat_made : (p : Parameters) (b a : Station) (xs : List Packet) (place channel : ℕ) (old : Packet) → slice_get xs place ≡ Some old → old.side ≡ a.state.side → IsRecorded p channel
     → Answers p b xs a (Repeat place channel) true a (xs ++ record old { channel = channel } ∷ [])
-repeat_made p b a xs place channel old get side rec = (repeats old channel (place, slice_get_within xs place old get, get_or_from_slice_get xs place old old get) side rec, (get, refl))
+repeat_made p b a xs place channel old get side rec = (repeating place channel, repeats place channel old get side rec, (refl, refl))
 
 -- ---- makes
 
 abbrev next : Station → ℕ
 next a = wrapped (a.first_number + length a.state.made)
 
-make_needs : (p : Parameters) (b : Station) (xs : List Packet) (a a' : Station) (ys : List Packet) (m : Moves p b xs a a' ys) (channel : ℕ) (payload : Bor (List ℕ)) (why : Why)
+make_needs : (p : Parameters) (b : Station) (xs : List Packet) (a a' : Station) (ys : List Packet) {label : Label} (m : Moves p b xs a label a' ys) (channel : ℕ) (payload : Bor (List ℕ)) (why : Why)
     → IsMove p b xs a a' ys m (Make channel payload why)
     → (r : RedundancyPdu) × Spells p a.state.side r payload.now × (r.number ≡ next a) × IsRecorded p channel × (make_fault p a.state r.safety a.clock why ≡ None)
 make_needs p b xs a a' ys (makes x because e on reserve check bytes mk sp rec) channel payload why is =
@@ -131,7 +132,7 @@ make_needs p b xs a a' ys (makes x because e on reserve check bytes mk sp rec) c
       subst (λ (n : ℕ). IsRecorded p n) (sym is.0) rec,
       subst (λ (w : Why). make_fault p a.state x a.clock w ≡ None) (sym is.2) mk.0,
     )
-make_needs p b xs a a' ys (repeats old on there side rec) channel payload why is = absurd is
+make_needs p b xs a a' ys (repeats at on old there side rec) channel payload why is = absurd is
 make_needs p b xs a a' ys (arrives at low within) channel payload why is = absurd is
 make_needs p b xs a a' ys (takes at m e there above get tk) channel payload why is = absurd is
 make_needs p b xs a a' ys (waits until rises) channel payload why is = absurd is
@@ -139,12 +140,13 @@ make_needs p b xs a a' ys (waits until rises) channel payload why is = absurd is
 pub make_refused : (p : Parameters) (b a : Station) (xs : List Packet) (channel : ℕ) (payload : Bor (List ℕ)) (why : Why)
     → ((r : RedundancyPdu) → Spells p a.state.side r payload.now → r.number ≡ next a → IsRecorded p channel → make_fault p a.state r.safety a.clock why ≡ None → ⊥)
     → Answers p b xs a (Make channel payload why) false a xs
-make_refused p b a xs channel payload why none = (refl, refl, λ c ys m is. let n = make_needs p b xs a c ys m channel payload why is in none n.0 n.1 n.2 n.3 n.4)
+make_refused p b a xs channel payload why none = (refl, refl, λ c ys label m is. let n = make_needs p b xs a c ys m channel payload why is in none n.0 n.1 n.2 n.3 n.4)
 
 pub make_made : (p : Parameters) (b a : Station) (xs : List Packet) (channel : ℕ) (payload : Bor (List ℕ)) (why : Why) (r : RedundancyPdu)
     → Spells p a.state.side r payload.now → r.number ≡ next a → IsRecorded p channel → make_fault p a.state r.safety a.clock why ≡ None
     → Answers p b xs a (Make channel payload why) true (record a { state = after_make a.state r.safety a.clock why }) (xs ++ record { channel = channel; side = a.state.side; payload = payload.now } ∷ [])
 make_made p b a xs channel payload why r sp number rec calm = (
+  making r.safety why channel r.reserve r.check_bytes,
   makes r.safety why (after_make a.state r.safety a.clock why) channel r.reserve r.check_bytes payload.now (calm, refl)
       (subst (λ (n : ℕ). Spells p a.state.side (record { reserve = r.reserve; number = n; safety = r.safety; check_bytes = r.check_bytes }) payload.now) number sp) rec,
   (refl, refl, refl),
@@ -298,15 +300,15 @@ module _ (s : Inside) (v : JudgedStation) (b : Station) (e : JudgedEnd) (channel
 
 -- ---- in a world
 
-moves_base : (p : Parameters) (b : Station) (xs : List Packet) (a a' : Station) (ys : List Packet) → Moves p b xs a a' ys → a'.state.base ≡ a.state.base
+moves_base : (p : Parameters) (b : Station) (xs : List Packet) (a a' : Station) (ys : List Packet) {label : Label} → Moves p b xs a label a' ys → a'.state.base ≡ a.state.base
 moves_base p b xs a a' ys (makes x why e channel reserve check bytes mk sp rec) = (made_more p a.state x a.clock why e mk).base
-moves_base p b xs a a' ys (repeats old channel there side rec) = refl
+moves_base p b xs a a' ys (repeats place channel old there side rec) = refl
 moves_base p b xs a a' ys (arrives position low within) = refl
 moves_base p b xs a a' ys (takes position m e there above get tk) = ap (λ (f : EndState). f.base) tk.1 ∙ (take_leaves p a.state m.pdu).base
 moves_base p b xs a a' ys (waits clock rises) = refl
 
 answered_base : (p : Parameters) (b : Station) (xs : List Packet) (a : Station) (move : Move) (moved : Bool) (a' : Station) (ys : List Packet) → Answers p b xs a move moved a' ys → a'.state.base ≡ a.state.base
-answered_base p b xs a move true a' ys h = moves_base p b xs a a' ys h.0
+answered_base p b xs a move true a' ys h = moves_base p b xs a a' ys h.1
 answered_base p b xs a move false a' ys h = ap (λ (c : Station). c.state.base) h.0
 
 module _ {E : Type 0} (p : Parameters) (b : Station) (xs : List Packet) (v w : JudgedStation) (move : Move) (ys : List Packet) where
@@ -316,14 +318,14 @@ module _ {E : Type 0} (p : Parameters) (b : Station) (xs : List Packet) (v w : J
 
 module _ (p : Parameters) (w : World) (move : Move) (a : Station) (ys : List Packet) where
   client_answer : (moved : Bool) → Answers p w.server w.crossed w.client move moved a ys → IsTrue moved → Step p w (record w { client = a; crossed = ys })
-  client_answer true h t = client_moves h.0
+  client_answer true h t = client_moves h.1
   client_answer false h t = absurd (let e : false ≡ true = t in cc)
 
   pub client_steps : {E : Type 0} (r : Result Bool E) → IfOk r (λ moved. Answers p w.server w.crossed w.client move moved a ys) → IfOk r (λ moved. IsTrue moved → Step p w (record w { client = a; crossed = ys }))
   client_steps r h = if_ok r _ _ h client_answer
 
   server_answer : (moved : Bool) → Answers p w.client w.crossed w.server move moved a ys → IsTrue moved → Step p w (record w { server = a; crossed = ys })
-  server_answer true h t = server_moves h.0
+  server_answer true h t = server_moves h.1
   server_answer false h t = absurd (let e : false ≡ true = t in cc)
 
   pub server_steps : {E : Type 0} (r : Result Bool E) → IfOk r (λ moved. Answers p w.client w.crossed w.server move moved a ys) → IfOk r (λ moved. IsTrue moved → Step p w (record w { server = a; crossed = ys }))

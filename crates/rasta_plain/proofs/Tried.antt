@@ -13,7 +13,7 @@ use Rattle.rasta_pdu.specs.Pdu.{RedundancyPdu, redundancy_bytes, Messages, Empty
 use Rattle.rasta_pdu.specs.declared.kind.Kind.TheVariants.{Heartbeat, Data}
 use Rattle.rasta_cert.specs.declared.entry.Entry.{Entry}
 use Rattle.rasta_cert.specs.declared.entry.Entry.TheVariants.{Take, Make}
-use Rattle.rasta_cert.specs.Certificate.{most_entries}
+use Rattle.rasta_cert.specs.Certificate.{IsCertificate}
 use Rattle.rasta_end.specs.declared.why.Why.TheVariants.{Fresh, Beat}
 use Rattle.rasta_end.specs.State.{EndState, wrapped}
 use Rattle.rasta_end.specs.MakeRule.{make_fault, after_make}
@@ -23,7 +23,8 @@ use Rattle.rasta_check.specs.Crossing.{FirstCopy, Spells, Sent, CrossRecorded, p
 use Rattle.rasta_check.specs.World.{World, Reaches}
 use Rattle.rasta_check.specs.Taken.{TakenUnit, pdus_made, all_made, surely_taken}
 use Rattle.rasta_check.specs.Scripts.{Cursor, Advances, takes_next, makes_next, Leads, at_start, Fits}
-use Rattle.rasta_check.specs.Theorem.{OfConnection, SentLists, Definite, Simulation, Necessity, Sharpness, Complete, Stuck, Appends, HasHandedUp, messages_handed, messages_listed, AreWritable}
+use Rattle.rasta_check.specs.Theorem.{OfConnection, SentLists, Definite, Necessity, Appends, HasHandedUp, units_handed, units_listed}
+use Rattle.rasta_check.specs.ScriptLaws.{Simulation, Sharpness, Complete, Stuck}
 use Rattle.rasta_check.proofs.Forms.{of_record}
 
 -- ---- the example
@@ -274,24 +275,24 @@ tried_simulation law = law packets from_client from_server client_script server_
 
 -- the server handed up both messages, before the heartbeat crossed
 pub tried_necessity : Necessity connection → (ws : List World) (w : World) → Reaches connection ws w → w.crossed ≡ packets
-    → ((rest : List (List (List ℕ))) × (messages_handed w.server.state ≡ content ∷ rest)) × ((v next : World) → Appends ws w 1 v next → HasHandedUp v.server.state 0 content)
+    → ((rest : List (List (List ℕ))) × (units_handed w.server.state ≡ content ∷ rest)) × ((v next : World) → Appends ws w 1 v next → HasHandedUp v.server.state 0 content)
 tried_necessity law ws w r e =
     let n = law ws w Client from_client from_server r (client_crossed w e) (server_crossed w e) (omega arith) (omega arith) in
     let unit : TakenUnit = record { messages = content; data_place = 0; proof_place = 1 } in (
-      (n.1.0, n.1.1 ∙ ap (λ (us : List TakenUnit). messages_listed us ++ n.1.0) listed),
+      (n.1.0, n.1.1 ∙ ap (λ (us : List TakenUnit). units_listed us ++ n.1.0) listed),
       λ v next at. n.2 0 unit v next (ap (λ (us : List TakenUnit). slice_get us 0) listed) at,
     )
 
 -- in some run that sends the packets, nothing else was handed up
-pub tried_sharpness : Sharpness connection → (ws : List World) × (w : World) × Reaches connection ws w × (w.crossed ≡ packets) × (messages_handed w.server.state ≡ content ∷ []) × (messages_handed w.client.state ≡ [])
+pub tried_sharpness : Sharpness connection → (ws : List World) × (w : World) × Reaches connection ws w × (w.crossed ≡ packets) × (units_handed w.server.state ≡ content ∷ []) × (units_handed w.client.state ≡ [])
 tried_sharpness law =
     let s = law packets from_client from_server client_script server_script client_end server_end recorded client_sent server_sent (omega arith) (omega arith) client_fits server_fits in
-    (s.0, s.1, s.2, s.3, s.4 ∙ ap messages_listed listed, s.5 ∙ ap messages_listed none_listed)
+    (s.0, s.1, s.2, s.3, s.4 ∙ ap units_listed listed, s.5 ∙ ap units_listed none_listed)
 
 -- the run is told by scripts
 pub tried_complete : Complete connection → (ws : List World) (w : World) → Reaches connection ws w → w.crossed ≡ packets → w.client.state ≡ client_end → w.server.state ≡ server_end
     → (cs ss : List Entry) × Fits connection Client (length w.crossed) from_client from_server cs w.client.state × Fits connection Server (length w.crossed) from_server from_client ss w.server.state
-    × (length cs + length ss ≤ most_entries) × AreWritable cs × AreWritable ss
+    × IsCertificate (record { client = cs; server = ss })
 tried_complete law ws w r e a b =
     let few = ap (λ (ks : List Packet). length ks) e in
     let c = ap (λ (f : EndState). f.clock) a in

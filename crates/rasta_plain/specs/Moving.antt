@@ -5,12 +5,12 @@ use Rattle.rasta_pdu.specs.Params.{Parameters}
 use Rattle.rasta_plain.specs.declared.world.Move.{Move}
 use Rattle.rasta_plain.specs.declared.world.Move.TheVariants.{Make, Repeat, Arrive, Take, Wait}
 use Rattle.rasta_plain.specs.declared.world.PlainStation.TheInside.{Inside}
-use Rattle.rasta_check.specs.World.{Station, World, Moves, makes, repeats, arrives, takes, waits}
+use Rattle.rasta_check.specs.World.{Station, World, Move as Label, Moves, makes, repeats, arrives, takes, waits}
 
 -- what happened to the station is this move
-abbrev pub IsMove : (p : Parameters) (peer : Station) (crossed : List Packet) (a b : Station) (after : List Packet) → Moves p peer crossed a b after → Move → Type 0
+abbrev pub IsMove : (p : Parameters) (peer : Station) (crossed : List Packet) (a b : Station) (after : List Packet) {label : Label} → Moves p peer crossed a label b after → Move → Type 0
 IsMove p peer crossed a b after (makes x why e channel reserve check bytes mk sp rec) (Make on payload reason) = (on ≡ channel) × (payload.now ≡ bytes) × (reason ≡ why)
-IsMove p peer crossed a b after (repeats old channel there side rec) (Repeat place on) = (slice_get crossed place ≡ Some old) × (on ≡ channel)
+IsMove p peer crossed a b after (repeats place channel old there side rec) (Repeat at on) = (at ≡ place) × (on ≡ channel)
 IsMove p peer crossed a b after (arrives position low within) (Arrive at) = at ≡ position
 IsMove p peer crossed a b after (takes position m e there above get tk) (Take at) = at ≡ position
 IsMove p peer crossed a b after (waits clock rises) (Wait until) = until ≡ clock
@@ -18,9 +18,9 @@ IsMove p peer crossed a b after _ _ = ⊥
 
 -- true: the move was made, and led from here to there; false: it isn't allowed, wherever it might lead, and nothing happened
 abbrev pub Answers : Parameters → Station → List Packet → Station → Move → Bool → Station → List Packet → Type 0
-Answers p peer crossed a move true b after = (m : Moves p peer crossed a b after) × IsMove p peer crossed a b after m move
+Answers p peer crossed a move true b after = (label : Label) × (m : Moves p peer crossed a label b after) × IsMove p peer crossed a b after m move
 Answers p peer crossed a move false b after =
-    (b ≡ a) × (after ≡ crossed) × ((c : Station) (later : List Packet) (m : Moves p peer crossed a c later) → IsMove p peer crossed a c later m move → ⊥)
+    (b ≡ a) × (after ≡ crossed) × ((c : Station) (later : List Packet) (label : Label) (m : Moves p peer crossed a label c later) → IsMove p peer crossed a c later m move → ⊥)
 
 -- a take names a position below 2^31
 abbrev pub IsBelow : Move → Type 0

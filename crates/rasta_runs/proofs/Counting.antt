@@ -5,17 +5,17 @@ use Rattle.rasta_pcap.specs.declared.fault.Side.{Side}
 use Rattle.rasta_pcap.specs.declared.fault.Side.TheVariants.{Client, Server}
 use Rattle.rasta_udp.specs.Frame.{Packet}
 use Rattle.rasta_pdu.specs.Params.{Parameters}
-use Rattle.rasta_check.specs.World.{Station, World}
-use Rattle.rasta_runs.specs.Runs.{Move, Does, does_make, does_repeat, does_arrive, does_take, does_wait, Happened, Runs, starts, client_does, server_does}
+use Rattle.rasta_check.specs.World.{Station, World, Move, Moves, makes, repeats, arrives, takes, waits}
+use Rattle.rasta_runs.specs.Runs.{Happened, Runs, starts, client_does, server_does}
 use Rattle.rasta_runs.specs.Lines.{Line, copy_lines, lines_in, lines_of_move, told}
 use Rattle.rasta_runs.proofs.Moving.{told_push}
 
-one_line : {p : Parameters} {b a a' : Station} {xs ys : List Packet} {m : Move} (s : Side) → Does p b xs a m a' ys → length (lines_of_move s a b xs m) ≡ 1
-one_line s (does_make x why after channel reserve check bytes mk sp rec) = refl
-one_line {xs = xs} s (does_repeat place channel old g sd rec) = ap (λ (o : Option Packet). length (copy_lines (length xs) s o)) g
-one_line s (does_arrive position low within) = refl
-one_line s (does_take position m after h l g t) = refl
-one_line s (does_wait clock l) = refl
+one_line : {p : Parameters} {b a a' : Station} {xs ys : List Packet} {m : Move} (s : Side) → Moves p b xs a m a' ys → length (lines_of_move s a b xs m) ≡ 1
+one_line s (makes x why after channel reserve check bytes mk sp rec) = refl
+one_line {xs = xs} s (repeats place channel old g sd rec) = ap (λ (o : Option Packet). length (copy_lines (length xs) s o)) g
+one_line s (arrives position low within) = refl
+one_line s (takes position m after h l g t) = refl
+one_line s (waits clock l) = refl
 
 one_more : (hs : List Happened) (h : Happened) → length (told hs) ≡ length hs → length (lines_in h.world h.side h.move) ≡ 1 → length (told (hs ++ h ∷ [])) ≡ length (hs ++ h ∷ [])
 one_more hs h e f =

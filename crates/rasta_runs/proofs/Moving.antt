@@ -5,8 +5,8 @@ use Rattle.rasta_pcap.specs.declared.fault.Side.{Side}
 use Rattle.rasta_pcap.specs.declared.fault.Side.TheVariants.{Client, Server}
 use Rattle.rasta_udp.specs.Frame.{Packet}
 use Rattle.rasta_pdu.specs.Params.{Parameters}
-use Rattle.rasta_check.specs.World.{Station}
-use Rattle.rasta_runs.specs.Runs.{Move, Does, Happened, Runs, client_does, server_does}
+use Rattle.rasta_check.specs.World.{Station, Move, Moves}
+use Rattle.rasta_runs.specs.Runs.{Happened, Runs, client_does, server_does}
 use Rattle.rasta_runs.specs.Lines.{Line, lines_of_move, lines_in, told}
 
 -- ---- lists of lines
@@ -22,7 +22,7 @@ told_push (x ∷ hs) h =
 -- several moves of one station, and their lines
 pub data Many (p : Parameters) (b : Station) (s : Side) : List Packet → Station → List Line → Station → List Packet → Type 0 where
   stays : {xs : List Packet} {a : Station} → Many p b s xs a [] a xs
-  moves : {xs ys zs : List Packet} {a a' a'' : Station} {ls : List Line} (m : Move) → Does p b xs a m a' ys → Many p b s ys a' ls a'' zs → Many p b s xs a (lines_of_move s a b xs m ++ ls) a'' zs
+  moves : {xs ys zs : List Packet} {a a' a'' : Station} {ls : List Line} (m : Move) → Moves p b xs a m a' ys → Many p b s ys a' ls a'' zs → Many p b s xs a (lines_of_move s a b xs m ++ ls) a'' zs
 
 shown_more : (hs : List Happened) (h : Happened) (ms ls : List Line) (v : List Line) → ms ≡ lines_in h.world h.side h.move → v ≡ told (hs ++ h ∷ []) ++ ls → v ≡ told hs ++ (ms ++ ls)
 shown_more hs h ms ls v e q =

@@ -16,13 +16,12 @@ use Rattle.rasta_check.specs.Crossing.{Spells, FirstCopy, CrossRecorded}
 use Rattle.rasta_check.specs.Lists.{position_of_place}
 use Rattle.rasta_check.specs.Packets.{number_in_bytes}
 use Rattle.rasta_check.specs.Scripts.{Cursor, Advances, takes_next, makes_next, Leads}
-use Rattle.rasta_check.specs.World.{Station}
+use Rattle.rasta_check.specs.World.{Station, making, repeating, waiting, makes, repeats, waits}
 use Rattle.rasta_check.proofs.Copies.{IsSent}
 use Rattle.rasta_check.proofs.Crossings.{number_spelled}
 use Rattle.rasta_check.proofs.Lists.{get_front, get_push}
 use Rattle.rasta_check.proofs.Scripted.{Tracks, Drained, Later, later_by, next_number, next_packet, next_place, places_once, slice_get_some, untouched}
 use Rattle.rasta_check.proofs.Steps.{base, made_more}
-use Rattle.rasta_runs.specs.Runs.{making, repeating, waiting, does_make, does_repeat, does_wait}
 use Rattle.rasta_runs.specs.Lines.{Line, lines_of_move, copy_lines, number_of}
 use Rattle.rasta_runs.specs.Levels.{takes_at, makes_at, make_line, waited_line, each_make, side_lines, crossed_lines}
 use Rattle.rasta_runs.proofs.Entries.{takes_past, makes_here, makes_other, below}
@@ -71,8 +70,8 @@ module _ (p : Parameters) (packets : List Packet) (k : ℕ) (s : Side) (own peer
       (λ i. waited_line (long i) s clock ∷ make_line (long i) s (shown i) (clock, why) ∷ []) ∙ sym (ap (λ (o : Option ℕ). crossed_lines k s (number_of here) o (makes_at k (Make c.place clock why ∷ es))) found ∙ ap (each_make k s (number_of here)) makes_now) in
       let step : Many p b s (take k packets) a (waited_line (length (take k packets)) s clock ∷ make_line (length (take k packets)) s (wrapped (a.first_number + length a.state.made)) (clock, why) ∷ []) (record waited { state = e' })
       (take k packets ++ record { channel = first.0.channel; side = a.state.side; payload = first.0.payload } ∷ []) =
-      moves (waiting clock) (does_wait clock (let z = f.clock in omega (arith, z, made.rises)))
-      (moves (making c.pdu.safety why first.0.channel c.pdu.reserve c.pdu.check_bytes) (does_make {a = waited} c.pdu.safety why e' first.0.channel c.pdu.reserve c.pdu.check_bytes first.0.payload mk said (recorded c.place first.0 first.1)) stays) in
+      moves (waiting clock) (waits clock (let z = f.clock in omega (arith, z, made.rises)))
+      (moves (making c.pdu.safety why first.0.channel c.pdu.reserve c.pdu.check_bytes) (makes {a = waited} c.pdu.safety why e' first.0.channel c.pdu.reserve c.pdu.check_bytes first.0.payload mk said (recorded c.place first.0 first.1)) stays) in
       record {
         station = record waited { state = e' };
         many = subst (λ (ls : List Line). Many p b s (take k packets) a ls (record waited { state = e' }) (take (suc k) packets)) line
@@ -127,7 +126,7 @@ module _ (p : Parameters) (packets : List Packet) (k : ℕ) (s : Side) (own peer
       ∙ sym (ap (λ (o : Option ℕ). crossed_lines k s (number_of here) o (makes_at k es)) no_first))) in
       subst (λ (ls : List Line). Many p b s (take k packets) a ls a (take (suc k) packets)) line
       (subst (λ (ys : List Packet). Many p b s (take k packets) a (lines_of_move s a b (take k packets) (repeating j here.channel) ++ []) a ys) next
-      (moves (repeating j here.channel) (does_repeat {a = a} j here.channel old there (os ∙ sd) (recorded k here at)) stays))
+      (moves (repeating j here.channel) (repeats {a = a} j here.channel old there (os ∙ sd) (recorded k here at)) stays))
 
   copied : (es : List Entry) (a b : Station) (here : Packet) → slice_get packets k ≡ Some here → here.side ≡ s → (f : Tracks p (length packets) k s own peer es last a) → Later k own f.made → Next es a b here
   unfolding Later

@@ -13,12 +13,11 @@ use Rattle.rasta_cert.specs.declared.entry.Entry.{Entry}
 use Rattle.rasta_cert.specs.declared.entry.Entry.TheVariants.{Take, Make}
 use Rattle.rasta_check.specs.Crossing.{FirstCopy}
 use Rattle.rasta_check.specs.Scripts.{Cursor, Advances, takes_next, makes_next, Leads}
-use Rattle.rasta_check.specs.World.{Station}
+use Rattle.rasta_check.specs.World.{Station, arriving, taking, arrives, takes}
 use Rattle.rasta_check.proofs.Copies.{IsSent}
 use Rattle.rasta_check.proofs.Scripted.{Tracks, Drained, lt_of, moved_made, next_number, slice_get_some}
 use Rattle.rasta_check.proofs.Steps.{base}
 use Rattle.rasta_check.proofs.TakeRows.{take_leaves}
-use Rattle.rasta_runs.specs.Runs.{arriving, taking, does_arrive, does_take}
 use Rattle.rasta_runs.specs.Lines.{Line}
 use Rattle.rasta_runs.specs.Levels.{takes_at, makes_at, take_line, brought_line, each_take, takes_lines}
 use Rattle.rasta_runs.proofs.Entries.{takes_here, takes_other, takes_past, makes_past, below, takes_none}
@@ -82,7 +81,7 @@ one_take p packets n k slot number s own peer es a b xs bs r last last' m sent a
     next_number b.first_number (base p) position q head.0.pdu.number refl (g.number head.0 head.1) ∙ sym (sent.numbers position head.0 c head.1 there) in
     let line : brought_line (length xs) s (wrapped (b.first_number + q)) ∷ take_line (length xs) s (wrapped (b.first_number + q)) ∷ [] ≡ brought_line slot s c.pdu.number ∷ take_line slot s c.pdu.number ∷ [] = (λ i. brought_line (at i) s (numbered i) ∷ take_line (at i) s (numbered i) ∷ []) in
     let both : Many p b s xs a (brought_line (length xs) s (wrapped (b.first_number + q)) ∷ take_line (length xs) s (wrapped (b.first_number + q)) ∷ []) (record arrived { state = e'; taken = suc q }) xs =
-    moves (arriving q) (does_arrive q low within) (moves (taking q) (does_take q x.0 e' (0, omega arith, refl) passed_mark x.1 t) stays) in (
+    moves (arriving q) (arrives q low within) (moves (taking q) (takes q x.0 e' (0, omega arith, refl) passed_mark x.1 t) stays) in (
       record arrived { state = e'; taken = suc q },
       subst (λ (ls : List Line). Many p b s xs a ls (record arrived { state = e'; taken = suc q }) xs) line both,
       record {

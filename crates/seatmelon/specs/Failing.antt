@@ -1,12 +1,13 @@
 -- The exit status of a failure.
 use Rattle.std.specs.Prelude.{◌≡◌, ◌⊎◌, ℕ, ◌==◌, ◌||◌, if◌then◌else◌}
 use Rattle.seatmelon.specs.declared.failure.Failure.{Failure}
-use Rattle.seatmelon.specs.declared.failure.Failure.TheVariants.{OutOfMemory, Arguments, Reading, Writing, Refused}
+use Rattle.seatmelon.specs.declared.failure.Failure.TheVariants.{OutOfMemory, Arguments, Reading, Writing, Refused, NoConnection}
 
 -- a capture; words; memory and devices
 abbrev pub status_of : Failure → ℕ
 status_of (Refused path refusal) = 1
 status_of Arguments = 2
+status_of (NoConnection path number count) = 2
 status_of OutOfMemory = 3
 status_of (Reading path reason) = 3
 status_of (Writing reason) = 3
@@ -22,3 +23,7 @@ TellsOf number failure = (failure ≡ OutOfMemory) ⊎ (status_of failure ≡ st
 -- the capture, memory or a device failed, and not the words
 abbrev pub IsOfFiles : Failure → Type 0
 IsOfFiles failure = (status_of failure ≡ 1) ⊎ (status_of failure ≡ 3)
+
+-- the words, or memory ran out while that is told
+abbrev pub TellsWords : Failure → Type 0
+TellsWords failure = (failure ≡ OutOfMemory) ⊎ (status_of failure ≡ 2)

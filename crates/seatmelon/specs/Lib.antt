@@ -1,3 +1,4 @@
+pub mod Drafts
 pub mod Failing
 pub mod FileKinds
 pub mod Watching

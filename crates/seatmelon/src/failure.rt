@@ -16,11 +16,23 @@ pub enum Failure {
     #[error("an argument is not UTF-8 text")]
     Arguments,
     #[error("{path}: {reason}")]
-    Reading { path: String, reason: String },
+    Reading {
+        path: String,
+        reason: String,
+    },
     #[error("standard output: {0}")]
     Writing(String),
     #[error("{path}: {refusal}")]
-    Refused { path: String, refusal: Refusal },
+    Refused {
+        path: String,
+        refusal: Refusal,
+    },
+    #[error("{path}: there is no connection {number}: a survey finds {count}")]
+    NoConnection {
+        path: String,
+        number: u64,
+        count: u64,
+    },
 }
 
 /// Why a capture is refused, and what kind of file it seems to be.
@@ -86,7 +98,7 @@ pub fn status(failure: &Failure) -> u8
 {
     match failure {
         Failure::Refused { .. } => 1,
-        Failure::Arguments => 2,
+        Failure::Arguments | Failure::NoConnection { .. } => 2,
         Failure::OutOfMemory | Failure::Reading { .. } | Failure::Writing(_) => 3,
     }
 }

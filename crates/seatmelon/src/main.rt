@@ -1,7 +1,10 @@
-//! Tells which RaSTA connections a capture seems to hold: `survey CAPTURE`.
+//! Tells which RaSTA connections a capture seems to hold, `survey CAPTURE`, and writes a parameter file for one of
+//! them, `draft CAPTURE N`.
 #![tactic(auto)]
 
+mod answer;
 mod command;
+mod drafting;
 mod failure;
 mod file_kind;
 mod surveying;
@@ -10,6 +13,7 @@ mod tests;
 mod watched;
 
 use crate::command::{Request, parse};
+use crate::drafting::draft_file;
 use crate::failure::{Failure, reason_of, status};
 use crate::surveying::survey_file;
 use clap::Error;
@@ -46,16 +50,17 @@ fn explain<R: AllocGlobal + Print + Eprint>(rt: &R, error: &Error) -> Result<u8,
     }
 }
 
-fn answer<R: AllocGlobal + Env + Files + Print + Eprint>(rt: &R) -> Result<u8, Failure> {
+fn run<R: AllocGlobal + Env + Files + Print + Eprint>(rt: &R) -> Result<u8, Failure> {
     let words = words(rt)?;
     match parse(rt.alloc(), &words) {
         Ok(Request::Survey { capture }) => survey_file(rt, capture),
+        Ok(Request::Draft { capture, number }) => draft_file(rt, capture, number),
         Err(error) => explain(rt, &error),
     }
 }
 
 fn main(rt: HostRuntime) -> ExitCode {
-    match answer(&rt) {
+    match run(&rt) {
         Ok(code) => ExitCode::from(code),
         Err(failure) => {
             // Where standard error fails too, the status alone tells.

@@ -1,7 +1,9 @@
 //! The command `survey`.
-ghost use Rattle.std.specs.Prelude.{◌≡◌, ◌≤◌, IfErr, IfOk};
+ghost use Rattle.std.specs.Prelude.{◌≡◌, ◌<◌, ◌≤◌, length, IfErr, IfOk};
+ghost use Rattle.seatmelon_survey.specs.Survey.{connections_in};
 ghost use Rattle.seatmelon.specs.Failing.{status_of, TellsOf, IsOfFiles};
 
+use crate::answer::{Answer, write_answer};
 use crate::failure::{Failure, Refusal, reason_of};
 use crate::file_kind::file_kind;
 use crate::watched::Watched;
@@ -10,10 +12,10 @@ use seatmelon_survey::{Survey, survey};
 use std::alloc::Global;
 use std::fs::File;
 use std::io;
-use std::io::{BufWriter, Read, Write};
+use std::io::Read;
 use std::rt::Files;
 
-// How many bytes of a capture are read at once, and how many of an answer written.
+// How many bytes of a capture are read at once.
 const BUFFER: usize = 65_536;
 
 // Why a file can't be read.
@@ -27,20 +29,6 @@ fn unread(alloc: Global, path: &str, error: Option<io::Error>) -> Failure
     match (String::from_str(alloc, path), reason) {
         (Ok(path), Ok(reason)) => Failure::Reading { path, reason },
         _ => Failure::OutOfMemory,
-    }
-}
-
-// Why the answer can't be written.
-fn unwritten(alloc: Global, error: Option<io::Error>) -> Failure
-    ensures { status_of result ≡ 3 }
-{
-    let reason = match error {
-        Some(error) => reason_of(alloc, &error),
-        None => String::from_str(alloc, "writing failed"),
-    };
-    match reason {
-        Ok(reason) => Failure::Writing(reason),
-        Err(_) => Failure::OutOfMemory,
     }
 }
 
@@ -77,44 +65,31 @@ pub fn survey_of<D: Read + Drop>(alloc: Global, path: &str, file: D) -> Result<S
     outcome.map_err(|fault| refused(alloc, path, fault, &file))
 }
 
-/// Writes a survey, all of it.
-pub fn write_survey<W: Write + Drop>(
-    alloc: Global,
-    survey: &Survey,
-    device: W,
-) -> Result<(), Failure>
-    ensures err { IfErr result (λ failure. status_of failure ≡ 3) }
+/// Surveys the capture of that path.
+pub fn survey_at<R: AllocGlobal + Files>(rt: &R, path: &str) -> Result<Survey, Failure>
+    ensures err { IfErr result (λ failure. IsOfFiles failure) }
 {
-    let Ok(buffered) = BufWriter::with_capacity(alloc, BUFFER, Watched::new(device)) else {
-        return Err(Failure::OutOfMemory);
-    };
-    let mut sink = Counted::new(buffered);
-    let outcome = survey.write(&mut sink);
-    let mut buffered = sink.into_inner();
-    let flushed = match outcome {
-        Ok(()) => buffered.flush().is_ok(),
-        Err(_) => false,
-    };
-    if flushed {
-        return Ok(());
+    let alloc = rt.alloc();
+    match File::open(rt, path) {
+        Ok(file) => survey_of(alloc, path, file),
+        Err(error) => Err(unread(alloc, path, Some(error))),
     }
-    let (device, _) = buffered.into_parts();
-    Err(unwritten(alloc, device.error()))
 }
 
-/// Surveys the capture of that path, and writes the survey to standard output.
-///
-/// Answers the program's status: 1 where no connection was found.
+/// The program's status after a survey: 1 where it found no connection.
+pub fn status_of_survey(survey: &Survey) -> u8
+    ensures none { length (connections_in survey.now) ≡ 0 → result ≡ 1 }
+    ensures some { 0 < length (connections_in survey.now) → result ≡ 0 }
+{
+    u8::from(survey.connections().is_empty())
+}
+
+/// Surveys the capture of that path, and writes the survey to standard output. Answers the program's status.
 pub fn survey_file<R: AllocGlobal + Files + Print>(rt: &R, path: &str) -> Result<u8, Failure>
     ensures ok { IfOk result (λ status. status ≤ 1) }
     ensures err { IfErr result (λ failure. IsOfFiles failure) }
 {
-    let alloc = rt.alloc();
-    let file = match File::open(rt, path) {
-        Ok(file) => file,
-        Err(error) => return Err(unread(alloc, path, Some(error))),
-    };
-    let survey = survey_of(alloc, path, file)?;
-    write_survey(alloc, &survey, io::writer(rt))?;
-    Ok(u8::from(survey.connections().is_empty()))
+    let survey = survey_at(rt, path)?;
+    write_answer(rt.alloc(), &Answer::Survey(&survey), io::writer(rt))?;
+    Ok(status_of_survey(&survey))
 }

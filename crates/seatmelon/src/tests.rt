@@ -1,13 +1,15 @@
 //! The command line, refused captures, and devices that fail.
 ghost use Rattle.std.specs.Prelude.{None};
 
+use crate::answer::{Answer, write_answer};
 use crate::command::{Request, parse};
+use crate::drafting::draft_in;
 use crate::failure::status;
-use crate::surveying::{survey_of, write_survey};
+use crate::surveying::survey_of;
 use rasta_pcap::devices::{FailAt, Pieces};
 use std::alloc::Global;
 use std::io;
-use std::io::Read;
+use std::io::{Read, Write};
 use std::process::Abort;
 use std::test::Fail;
 
@@ -26,6 +28,9 @@ fn words_in(alloc: Global, text: &str) -> Result<Vec<String>, Fail> {
 fn request_text(alloc: Global, words: &[String]) -> Result<String, Fail> {
     match parse(alloc, words) {
         Ok(Request::Survey { capture }) => Ok(format!(in alloc; "survey {capture}")?),
+        Ok(Request::Draft { capture, number }) => {
+            Ok(format!(in alloc; "draft {number} of {capture}")?)
+        }
         Err(error) => {
             let kind = error.kind();
             Ok(format!(in alloc; "{kind:?}")?)
@@ -40,9 +45,14 @@ survey /dev/stdin | survey /dev/stdin
 survey -- -c | survey -c
 survey -- --help | survey --help
 survey survey | survey survey
+draft c 1 | draft 1 of c
+draft c 0 | draft 0 of c
+draft c 018446744073709551615 | draft 18446744073709551615 of c
+draft -- -c 7 | draft 7 of -c
 --help | DisplayHelp
 help | DisplayHelp
 survey --help | DisplayHelp
+draft --help | DisplayHelp
 --version | DisplayVersion
 -V | DisplayVersion
  | MissingSubcommand
@@ -50,6 +60,12 @@ survy c | InvalidSubcommand
 survey | MissingRequiredArgument
 survey c p | UnknownArgument
 survey -c | UnknownArgument
+draft | MissingRequiredArgument
+draft c | MissingRequiredArgument
+draft c 1 2 | UnknownArgument
+draft 1 c | ValueValidation
+draft c -1 | UnknownArgument
+draft c 18446744073709551616 | ValueValidation
 ";
 
 #[test]
@@ -183,7 +199,7 @@ fn expect_unwritten<R: Abort + AllocGlobal>(
     text: &str,
 ) -> Result<(), Fail> {
     let survey = survey_of(rt.alloc(), "c", NO_RECORD.as_slice()).map_err(|_| "a capture")?;
-    match write_survey(rt.alloc(), &survey, device) {
+    match write_answer(rt.alloc(), &Answer::Survey(&survey), device) {
         Ok(()) => Err("refused")?,
         Err(failure) => {
             assert_eq!(rt; failure.to_string(rt.alloc())?.as_str(), text);
@@ -199,4 +215,46 @@ fn writers_that_fail(rt: HostRuntime) -> Result<(), Fail> {
     expect_unwritten(&rt, failing, "standard output: other error")?;
     let idle = FailAt::idle_at(Vec::new(rt.alloc()), 1);
     expect_unwritten(&rt, idle, "standard output: writing failed")
+}
+
+// A capture of one connection request.
+const ONE_REQUEST: &[u8; 132] = b"\xd4\xc3\xb2\xa1\x02\0\x04\0\0\0\0\0\0\0\0\0\0\0\x04\0\x01\0\0\0\
+    \0\0\0\0\0\0\0\0\x5c\0\0\0\x5c\0\0\0\
+    \0\0\0\0\0\0\0\0\0\0\0\0\x08\0\
+    \x45\0\0\x4e\0\0\0\0\x40\x11\0\0\x0a\0\0\x01\x0a\0\0\x02\
+    \x13\x88\x13\x88\0\x3a\0\0\
+    \x32\0\0\0\x07\0\0\0\
+    \x2a\0\x38\x18\x61\0\0\0\x60\0\0\0\x64\0\0\0\0\0\0\0\xe8\x03\0\0\0\0\0\0\
+    0303\x14\0\0\0\0\0\0\0\0\0";
+
+// What is written for a draft of the connection of this number, or why nothing is.
+fn draft_text(alloc: Global, file: &[u8], number: u64) -> Result<Vec<u8>, Fail> {
+    let survey = survey_of(alloc, "c", file).map_err(|_| "a capture")?;
+    let mut text = Vec::new(alloc);
+    match draft_in(alloc, "c", &survey, number) {
+        Ok(answer) => write_answer(alloc, &answer, &mut text).map_err(|_| "a text")?,
+        Err(failure) => write!(text, "{} {failure}", status(&failure))?,
+    }
+    Ok(text)
+}
+
+#[test]
+fn drafts_by_number(rt: HostRuntime) -> Result<(), Fail> {
+    let draft = draft_text(rt.alloc(), ONE_REQUEST, 1)?;
+    assert!(rt;
+        draft.starts_with(b"# A draft of the parameters of the connection in the records 1 to 1 ")
+    );
+    let missing = b"2 c: there is no connection 0: a survey finds 1";
+    assert_eq!(rt;
+        draft_text(rt.alloc(), ONE_REQUEST, 0)?.as_slice(),
+        missing.as_slice()
+    );
+    let missing = b"2 c: there is no connection 2: a survey finds 1";
+    assert_eq!(rt;
+        draft_text(rt.alloc(), ONE_REQUEST, 2)?.as_slice(),
+        missing.as_slice()
+    );
+    let survey = draft_text(rt.alloc(), NO_RECORD, 1)?;
+    assert!(rt; survey.starts_with(b"records: 0\n"));
+    Ok(())
 }

@@ -1,5 +1,5 @@
 -- What a survey counted.
-use Rattle.std.specs.Prelude.{ℕ, List, Bool, is_some, ◌||◌}
+use Rattle.std.specs.Prelude.{ℕ, List, Bool, ◌||◌, is_some}
 use Rattle.seatmelon_survey.specs.declared.findings.Survey.{Survey}
 use Rattle.seatmelon_survey.specs.declared.connection.Connection.{Connection}
 
@@ -11,24 +11,24 @@ records_in s = s.records
 abbrev pub connections_in : Survey → List Connection
 connections_in s = s.connections.items
 
--- the numbers of the first and of the last record of a connection
-abbrev pub first_record_of : Connection → ℕ
-first_record_of c = c.first_record
+-- the number of a connection's first record, from 1
+abbrev pub first_record_in : Connection → ℕ
+first_record_in c = c.first_record
 
-abbrev pub last_record_of : Connection → ℕ
-last_record_of c = c.last_record
+abbrev pub last_record_in : Connection → ℕ
+last_record_in c = c.last_record
 
--- the ids of its ends
-abbrev pub first_id_of : Connection → ℕ
-first_id_of c = c.first.id
+-- the id of the end that sent the first packet
+abbrev pub first_id_in : Connection → ℕ
+first_id_in c = c.first.id
 
-abbrev pub second_id_of : Connection → ℕ
-second_id_of c = c.second.id
+abbrev pub second_id_in : Connection → ℕ
+second_id_in c = c.second.id
 
--- whether its connection request was seen
-abbrev pub is_opened : Connection → Bool
-is_opened c = is_some c.request
+-- a connection request was captured
+abbrev pub has_opening_in : Connection → Bool
+has_opening_in c = is_some c.request
 
--- whether a disconnection request of either end was seen
-abbrev pub is_ended : Connection → Bool
-is_ended c = is_some c.first.ending || is_some c.second.ending
+-- an end's disconnection request was captured
+abbrev pub has_ending_in : Connection → Bool
+has_ending_in c = is_some c.first.ending || is_some c.second.ending

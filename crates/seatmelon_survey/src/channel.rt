@@ -11,30 +11,38 @@ pub enum End {
     Second,
 }
 
-/// How many packets crossed on a channel in each direction. Its client is the first end.
+/// How many packets crossed on a channel in each direction, and in which record the first one. Its client is
+/// the first end.
 #[derive(Clone, Copy, Debug, PartialEq, Eq)]
 pub struct ChannelCounts {
     pub channel: Channel,
+    pub first_record: u32,
     pub to_second: u64,
     pub to_first: u64,
+}
+
+/// The channel with its ends exchanged.
+pub fn reversed(channel: &Channel) -> Channel {
+    Channel {
+        client: channel.server,
+        server: channel.client,
+    }
 }
 
 /// The channel of a packet that this end sent on this way.
 pub fn channel_of(sender: End, route: &Channel) -> Channel {
     match sender {
         End::First => *route,
-        End::Second => Channel {
-            client: route.server,
-            server: route.client,
-        },
+        End::Second => reversed(route),
     }
 }
 
 impl ChannelCounts {
-    /// No packet yet.
-    pub fn new(channel: Channel) -> ChannelCounts {
+    /// No packet yet; the first one is in this record.
+    pub fn new(channel: Channel, first_record: u32) -> ChannelCounts {
         ChannelCounts {
             channel,
+            first_record,
             to_second: 0,
             to_first: 0,
         }

@@ -6,7 +6,7 @@ ghost use Rattle.rasta_pcap.specs.Devices.{HasFailed};
 use crate::connection::Connection;
 use crate::packet::{Packet, packet_in};
 use crate::report::{write_connection, write_summary};
-use rasta_pcap::{Fault, Record, Sink};
+use rasta_pcap::{CaptureTime, Fault, Record, Sink};
 use std::alloc::Global;
 
 // How many connections are told apart.
@@ -43,12 +43,17 @@ impl Survey {
         self.connections.as_slice()
     }
 
-    // Takes the next record in.
-    pub(crate) fn add_record(&mut self, alloc: Global, found: &Record<'_>) -> Result<(), Fault>
+    // Takes the next record in, which was captured at this time.
+    pub(crate) fn add_record(
+        &mut self,
+        alloc: Global,
+        found: &Record<'_>,
+        time: Option<CaptureTime>,
+    ) -> Result<(), Fault>
         ensures counted { OnOk result (records_in self.new ≡ found.now.number) }
         ensures err { IfErr result (λ f. f ≡ no_memory) }
     {
-        if let Some(packet) = packet_in(found) {
+        if let Some(packet) = packet_in(found, time) {
             self.add_packet(alloc, &packet)?;
         }
         self.records = found.number;

@@ -95,6 +95,56 @@ impl FitCount {
     }
 }
 
+/// A length of a code in bytes, how many PDUs have the form that it asks for, and in how many of these the code
+/// is right.
+#[derive(Clone, Copy, Debug, PartialEq, Eq)]
+pub struct LengthFit {
+    pub length: u8,
+    pub forms: u64,
+    pub right: u64,
+}
+
+impl LengthFit {
+    // Whether this length is more likely than a shorter one. Where the codes decide nothing, it isn't: messages
+    // may stand where a code would, but a code's bytes are hardly ever messages.
+    fn is_likelier_than(&self, shorter: &LengthFit) -> bool {
+        let is_confirmed = self.right > 0 && self.right >= shorter.right;
+        self.forms > shorter.forms || (self.forms == shorter.forms && is_confirmed)
+    }
+}
+
+/// The likeliest of some lengths, which rise: one that fits the most PDUs, and of these the one whose codes are
+/// right, or else the shortest.
+pub fn likeliest(lengths: &[LengthFit; 3]) -> LengthFit {
+    let [none, short, long] = *lengths;
+    let best = if short.is_likelier_than(&none) {
+        short
+    } else {
+        none
+    };
+    if long.is_likelier_than(&best) {
+        long
+    } else {
+        best
+    }
+}
+
+fn code_fit(length: u8, count: FitCount) -> LengthFit {
+    LengthFit {
+        length,
+        forms: count.forms,
+        right: if length == 0 { 0 } else { count.start_words },
+    }
+}
+
+fn check_fit(length: u8, forms: u64) -> LengthFit {
+    LengthFit {
+        length,
+        forms,
+        right: 0,
+    }
+}
+
 const NONE: FitCount = FitCount {
     forms: 0,
     start_words: 0,
@@ -137,5 +187,22 @@ impl Lengths {
             2 => self.short_check = self.short_check.saturating_add(1),
             _ => self.long_check = self.long_check.saturating_add(1),
         }
+    }
+    /// The lengths of the safety code. A code is right if it is that of MD4's own start words.
+    pub fn of_code(&self) -> [LengthFit; 3] {
+        [
+            code_fit(0, self.no_code),
+            code_fit(8, self.short_code),
+            code_fit(16, self.long_code),
+        ]
+    }
+
+    /// The lengths of the check code, which nothing confirms.
+    pub fn of_check(&self) -> [LengthFit; 3] {
+        [
+            check_fit(0, self.no_check),
+            check_fit(2, self.short_check),
+            check_fit(4, self.long_check),
+        ]
     }
 }

@@ -3,16 +3,20 @@
 
 mod channel;
 mod connection;
+mod draft;
 mod findings;
 mod kinds;
 mod lengths;
 mod numbers;
 mod packet;
 mod party;
+mod quiet;
+mod quiet_draft;
 mod reading;
 mod report;
 mod route;
 mod text;
+mod time;
 
 pub use connection::Connection;
 pub use findings::Survey;

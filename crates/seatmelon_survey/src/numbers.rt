@@ -10,8 +10,8 @@ use std::alloc::Global;
 // With how many of an end's numbers a copy is compared.
 const REMEMBERED: u32 = 256;
 
-// Half of the numbers: a number that is so far from the expected one or further is behind it.
-const HALF: u32 = 0x8000_0000;
+/// Half of the numbers: a number that is so far from the expected one or further is behind it.
+pub const HALF: u32 = 0x8000_0000;
 
 /// What a packet is among those of its end.
 #[derive(Clone, Copy, Debug, PartialEq, Eq)]
@@ -19,11 +19,14 @@ pub enum Sighting {
     /// The first one of its number.
     First,
 
-    /// One that repeats an earlier packet byte for byte.
-    Copy,
+    /// The first one of its number, after a later number.
+    Late,
 
-    /// One of an earlier packet's number that differs from it.
-    DifferingCopy,
+    /// One that repeats the packet of an earlier record byte for byte.
+    Copy { first: u32 },
+
+    /// One of the number of an earlier record's packet that differs from it.
+    DifferingCopy { first: u32 },
 
     /// One too far behind to be compared.
     TooOld,
@@ -53,6 +56,7 @@ fn standing_of(number: u32, expected: u32) -> Standing
 // A packet that is remembered.
 #[derive(Clone, Copy, Debug, PartialEq, Eq)]
 struct Remembered {
+    record: u32,
     number: u32,
     digest: [u8; 16],
 }
@@ -60,9 +64,17 @@ struct Remembered {
 fn remembered_of(packet: &Packet) -> Remembered {
     let digest = packet.digest;
     Remembered {
+        record: packet.record,
         number: packet.number,
         digest,
     }
+}
+
+// Whether the packet has the bytes of the remembered one.
+fn is_copy(packet: &Packet, earlier: &Remembered) -> bool {
+    let digest = packet.digest;
+    let first = earlier.digest;
+    digest == first
 }
 
 /// A gap: the first number that is missing, and the record that shows it.
@@ -181,18 +193,22 @@ impl Numbers {
             return Sighting::TooOld;
         }
         match self.recall(packet.number) {
-            Some(earlier) if earlier == remembered_of(packet) => {
+            Some(earlier) if is_copy(packet, &earlier) => {
                 self.counts.copies = self.counts.copies.saturating_add(1);
-                Sighting::Copy
+                Sighting::Copy {
+                    first: earlier.record,
+                }
             }
-            Some(_) => {
+            Some(earlier) => {
                 self.counts.differing = self.counts.differing.saturating_add(1);
-                Sighting::DifferingCopy
+                Sighting::DifferingCopy {
+                    first: earlier.record,
+                }
             }
             None => {
                 self.counts.late = self.counts.late.saturating_add(1);
                 self.remember(packet);
-                Sighting::First
+                Sighting::Late
             }
         }
     }

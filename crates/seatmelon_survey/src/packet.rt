@@ -6,6 +6,7 @@ use crate::lengths::{Fits, Way, fits_of};
 use crate::route::route_in;
 use byteorder::{ByteOrder, LittleEndian};
 use rasta_md4::Md4;
+use rasta_pcap::CaptureTime;
 use rasta_pdu::Kind;
 use rasta_udp::{Record, datagram};
 
@@ -22,6 +23,10 @@ const SENDER_AT: usize = 16;
 
 const SN_AT: usize = 20;
 
+const CS_AT: usize = 24;
+
+const TS_AT: usize = 28;
+
 const PAYLOAD_AT: usize = 36;
 
 const SENDMAX_AT: usize = 40;
@@ -32,9 +37,10 @@ const REASON_AT: usize = 38;
 
 const BYE_END: usize = 40;
 
-/// What an end says of itself at the opening: its version, four digits, and its N_sendmax.
+/// What an end says of itself at the opening, in which record: its version, four digits, and its N_sendmax.
 #[derive(Clone, Copy, Debug, PartialEq, Eq)]
 pub struct Offer {
+    pub record: u32,
     pub version: [u8; 4],
     pub sendmax: u16,
 }
@@ -43,10 +49,13 @@ pub struct Offer {
 #[derive(Clone, Copy, Debug, PartialEq, Eq)]
 pub struct Packet {
     pub record: u32,
+    pub time: Option<CaptureTime>,
     pub way: Way,
     pub kind: Kind,
     pub number: u32,
     pub sn: u32,
+    pub cs: u32,
+    pub ts: u32,
     pub fits: Fits,
 
     /// Of a connection request or response.
@@ -94,7 +103,7 @@ fn check_length(datagram: &[u8]) -> Option<u8>
     }
 }
 
-fn offer_in(kind: Kind, datagram: &[u8]) -> Option<Offer> {
+fn offer_in(record: u32, kind: Kind, datagram: &[u8]) -> Option<Offer> {
     let is_opening = matches!(kind, Kind::ConnectionRequest | Kind::ConnectionResponse);
     if !is_opening || datagram.len() < OPENING_END {
         return None;
@@ -102,6 +111,7 @@ fn offer_in(kind: Kind, datagram: &[u8]) -> Option<Offer> {
     let mut version = [0u8; 4];
     version.copy_from_slice(&datagram[PAYLOAD_AT..SENDMAX_AT]);
     Some(Offer {
+        record,
         version,
         sendmax: LittleEndian::read_u16(&datagram[SENDMAX_AT..]),
     })
@@ -122,7 +132,7 @@ fn digest_of(datagram: &[u8]) -> [u8; 16] {
 }
 
 /// The packet that a record holds, if its datagram has the form of RaSTA for some lengths of the codes.
-pub fn packet_in(found: &Record<'_>) -> Option<Packet> {
+pub fn packet_in(found: &Record<'_>, time: Option<CaptureTime>) -> Option<Packet> {
     let route = route_in(found.bytes)?;
     let bytes = datagram(found, &[route]).ok()??.payload;
     if bytes.len() < PAYLOAD_AT {
@@ -140,12 +150,15 @@ pub fn packet_in(found: &Record<'_>) -> Option<Packet> {
     }
     Some(Packet {
         record: found.number,
+        time,
         way,
         kind,
         number: u32_at(bytes, NUMBER_AT),
         sn: u32_at(bytes, SN_AT),
+        cs: u32_at(bytes, CS_AT),
+        ts: u32_at(bytes, TS_AT),
         fits,
-        offer: offer_in(kind, bytes),
+        offer: offer_in(found.number, kind, bytes),
         reason: reason_in(kind, bytes),
         digest: digest_of(bytes),
     })

@@ -43,13 +43,14 @@ impl Party {
         })
     }
 
-    /// Takes a packet in that it sent.
-    pub fn add(&mut self, packet: &Packet) {
+    /// Takes a packet in that it sent, and says what it is among the others.
+    pub fn add(&mut self, packet: &Packet) -> Sighting {
         let sighting = self.numbers.add(packet);
-        if sighting == Sighting::First {
+        if matches!(sighting, Sighting::First | Sighting::Late) {
             self.kinds.add(packet.kind);
             self.note(packet);
         }
+        sighting
     }
 
     // Keeps what the first opening and the first ending say.

@@ -29,7 +29,7 @@ pub fn survey<R: Source>(alloc: Global, reader: &mut R) -> Result<Survey, Fault>
             return Ok(survey);
         };
         let bytes = records.buffer();
-        survey.add_record(alloc, &Record { number, bytes })?;
+        survey.add_record(alloc, &Record { number, bytes }, records.time())?;
     }
     unreachable!()
 }

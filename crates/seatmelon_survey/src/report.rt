@@ -10,21 +10,8 @@ use crate::kinds::{KINDS, name_of};
 use crate::lengths::{FitCount, Lengths};
 use crate::numbers::NumberCounts;
 use crate::party::Party;
-use crate::text::{Part, write_parts};
+use crate::text::{Part, write_parts, write_parts_if};
 use rasta_pcap::{Fault, Sink};
-
-// Writes a line if there is a reason to.
-fn write_line_if<W: Sink>(writer: &mut W, applies: bool, parts: &[Part]) -> Result<(), Fault>
-    ensures steady { OnOk result (W.failure_count writer.new ≡ W.failure_count writer.old) }
-    ensures err { IfErr result (λ f. (f ≡ write_failed)
-        × HasFailed (W.failure_count writer.old) (W.failure_count writer.new)) }
-{
-    if applies {
-        write_parts(writer, parts)
-    } else {
-        Ok(())
-    }
-}
 
 /// Writes how much was read.
 pub fn write_summary<W: Sink>(writer: &mut W, survey: &Survey) -> Result<(), Fault>
@@ -46,7 +33,7 @@ pub fn write_summary<W: Sink>(writer: &mut W, survey: &Survey) -> Result<(), Fau
             Part::Words("\n"),
         ],
     )?;
-    write_line_if(
+    write_parts_if(
         writer,
         survey.left_out > 0,
         &[
@@ -56,7 +43,7 @@ pub fn write_summary<W: Sink>(writer: &mut W, survey: &Survey) -> Result<(), Fau
         ],
     )?;
     let none = [Part::Words("no packet of a RaSTA connection\n")];
-    write_line_if(writer, survey.connections().is_empty(), &none)
+    write_parts_if(writer, survey.connections().is_empty(), &none)
 }
 
 // What the ends are called: by their roles where the opening was captured.
@@ -109,6 +96,27 @@ fn write_id<W: Sink>(writer: &mut W, name: &'static str, party: &Party) -> Resul
     write_parts(writer, &[Part::Words("\n")])
 }
 
+// Writes when the first and the last record were captured.
+fn write_times<W: Sink>(writer: &mut W, connection: &Connection) -> Result<(), Fault>
+    ensures steady { OnOk result (W.failure_count writer.new ≡ W.failure_count writer.old) }
+    ensures err { IfErr result (λ f. (f ≡ write_failed)
+        × HasFailed (W.failure_count writer.old) (W.failure_count writer.new)) }
+{
+    let (Some(first), Some(last)) = (connection.first_time, connection.last_time) else {
+        return Ok(());
+    };
+    write_parts(
+        writer,
+        &[
+            Part::Words("  captured from "),
+            Part::Time(first),
+            Part::Words(" to "),
+            Part::Time(last),
+            Part::Words(" UTC\n"),
+        ],
+    )
+}
+
 // Writes where the connection stands in the capture, and whether its opening does.
 fn write_extent<W: Sink>(writer: &mut W, connection: &Connection) -> Result<(), Fault>
     ensures steady { OnOk result (W.failure_count writer.new ≡ W.failure_count writer.old) }
@@ -125,6 +133,7 @@ fn write_extent<W: Sink>(writer: &mut W, connection: &Connection) -> Result<(), 
             Part::Words("\n"),
         ],
     )?;
+    write_times(writer, connection)?;
     if !connection.has_opening() {
         return write_parts(writer, &[Part::Words("  no opening was captured\n")]);
     }
@@ -235,7 +244,7 @@ fn write_code_length<W: Sink>(
             Part::Words(" packets\n"),
         ],
     )?;
-    write_line_if(
+    write_parts_if(
         writer,
         length > 0,
         &[
@@ -257,7 +266,7 @@ fn write_check_length<W: Sink>(
     ensures err { IfErr result (λ f. (f ≡ write_failed)
         × HasFailed (W.failure_count writer.old) (W.failure_count writer.new)) }
 {
-    write_line_if(
+    write_parts_if(
         writer,
         count > 0,
         &[
@@ -293,7 +302,7 @@ fn write_kinds<W: Sink>(writer: &mut W, name: &'static str, party: &Party) -> Re
 {
     for kind in KINDS {
         let count = party.kinds.count(kind);
-        write_line_if(
+        write_parts_if(
             writer,
             count > 0,
             &[
@@ -340,6 +349,30 @@ fn write_gap<W: Sink>(
     )
 }
 
+// Writes how many of something there are, unless there are none.
+fn write_count<W: Sink>(
+    writer: &mut W,
+    name: &'static str,
+    what: &'static str,
+    count: u64,
+) -> Result<(), Fault>
+    ensures steady { OnOk result (W.failure_count writer.new ≡ W.failure_count writer.old) }
+    ensures err { IfErr result (λ f. (f ≡ write_failed)
+        × HasFailed (W.failure_count writer.old) (W.failure_count writer.new)) }
+{
+    write_parts_if(
+        writer,
+        count > 0,
+        &[
+            Part::Words("  "),
+            Part::Words(name),
+            Part::Words(what),
+            Part::Number(count),
+            Part::Words("\n"),
+        ],
+    )
+}
+
 // Writes how many packets came again or out of order.
 fn write_repeats<W: Sink>(
     writer: &mut W,
@@ -350,49 +383,14 @@ fn write_repeats<W: Sink>(
     ensures err { IfErr result (λ f. (f ≡ write_failed)
         × HasFailed (W.failure_count writer.old) (W.failure_count writer.new)) }
 {
-    write_line_if(
+    write_count(writer, name, "'s numbers that came late: ", counts.late)?;
+    write_count(writer, name, "'s copies: ", counts.copies)?;
+    write_count(writer, name, "'s copies that differ: ", counts.differing)?;
+    write_count(
         writer,
-        counts.late > 0,
-        &[
-            Part::Words("  "),
-            Part::Words(name),
-            Part::Words("'s numbers that came late: "),
-            Part::Number(counts.late),
-            Part::Words("\n"),
-        ],
-    )?;
-    write_line_if(
-        writer,
-        counts.copies > 0,
-        &[
-            Part::Words("  "),
-            Part::Words(name),
-            Part::Words("'s copies: "),
-            Part::Number(counts.copies),
-            Part::Words("\n"),
-        ],
-    )?;
-    write_line_if(
-        writer,
-        counts.differing > 0,
-        &[
-            Part::Words("  "),
-            Part::Words(name),
-            Part::Words("'s copies that differ: "),
-            Part::Number(counts.differing),
-            Part::Words("\n"),
-        ],
-    )?;
-    write_line_if(
-        writer,
-        counts.too_old > 0,
-        &[
-            Part::Words("  "),
-            Part::Words(name),
-            Part::Words("'s numbers too old to be compared: "),
-            Part::Number(counts.too_old),
-            Part::Words("\n"),
-        ],
+        name,
+        "'s numbers too old to be compared: ",
+        counts.too_old,
     )
 }
 
@@ -425,7 +423,7 @@ fn write_frame<W: Sink>(
     write_ending(writer, names.second, &connection.second)?;
     let is_open = !connection.has_ending();
     let parts = [Part::Words("  no disconnection request was captured\n")];
-    write_line_if(writer, is_open, &parts)
+    write_parts_if(writer, is_open, &parts)
 }
 
 /// Writes the block of a connection, whose place counts from 0.
@@ -449,7 +447,7 @@ pub fn write_connection<W: Sink>(
     )?;
     write_frame(writer, names, connection)?;
     write_channels(writer, names, connection.channels.as_slice())?;
-    write_line_if(
+    write_parts_if(
         writer,
         connection.on_other_channels > 0,
         &[

@@ -3,8 +3,9 @@ ghost use Rattle.std.specs.Prelude.{◌≡◌, IfErr, OnOk};
 ghost use Rattle.rasta_pcap.specs.Fault.{write_failed};
 ghost use Rattle.rasta_pcap.specs.Devices.{HasFailed};
 
+use crate::time::write_time;
 use itoa::Buffer;
-use rasta_pcap::{Fault, Sink, write_all};
+use rasta_pcap::{CaptureTime, Fault, Sink, write_all};
 use rasta_udp::Endpoint;
 
 /// A part of a line.
@@ -21,6 +22,9 @@ pub enum Part {
 
     /// Four digits.
     Version([u8; 4]),
+
+    /// Date and time of day, in UTC.
+    Time(CaptureTime),
 }
 
 fn write_number<W: Sink>(writer: &mut W, n: u64) -> Result<(), Fault>
@@ -68,6 +72,7 @@ fn write_part<W: Sink>(writer: &mut W, part: Part) -> Result<(), Fault>
         Part::Number(n) => write_number(writer, n),
         Part::Endpoint(endpoint) => write_endpoint(writer, endpoint),
         Part::Version(digits) => write_all(writer, &digits),
+        Part::Time(time) => write_time(writer, time),
     }
 }
 
@@ -81,4 +86,17 @@ pub fn write_parts<W: Sink>(writer: &mut W, parts: &[Part]) -> Result<(), Fault>
         write_part(writer, *part)?;
     }
     Ok(())
+}
+
+/// Writes parts if there is a reason to.
+pub fn write_parts_if<W: Sink>(writer: &mut W, applies: bool, parts: &[Part]) -> Result<(), Fault>
+    ensures steady { OnOk result (W.failure_count writer.new ≡ W.failure_count writer.old) }
+    ensures err { IfErr result (λ f. (f ≡ write_failed)
+        × HasFailed (W.failure_count writer.old) (W.failure_count writer.new)) }
+{
+    if applies {
+        write_parts(writer, parts)
+    } else {
+        Ok(())
+    }
 }

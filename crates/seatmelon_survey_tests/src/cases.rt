@@ -20,6 +20,7 @@ connection 1
   client id 96, version 0303, N_sendmax 20
   server id 97, version 0303, N_sendmax 20
   records 1 to 3
+  captured from 1970-01-01 00:00:00.000000 to 1970-01-01 00:00:00.000000 UTC
   opened by the client at record 1
   no disconnection request was captured
   channel 1: 10.0.0.1:5000 - 10.0.0.2:5000, packets to the server: 2, to the client: 1
@@ -43,6 +44,7 @@ connection 1
   client id 96, version 0303, N_sendmax 20
   server id 97, version 0303, N_sendmax 20
   records 1 to 6
+  captured from 1970-01-01 00:00:00.000000 to 1970-01-01 00:00:00.000000 UTC
   opened by the client at record 1
   ended by the client at record 6, reason 4
   channel 1: 10.0.0.1:5000 - 10.0.0.2:5000, packets to the server: 4, to the client: 2
@@ -70,6 +72,7 @@ connection 1
   end 1 id 97
   end 2 id 96
   records 1 to 2
+  captured from 1970-01-01 00:00:00.000000 to 1970-01-01 00:00:00.000000 UTC
   no opening was captured
   no disconnection request was captured
   channel 1: 10.0.0.2:5000 - 10.0.0.1:5000, packets to the end 2: 1, to the end 1: 1
@@ -93,6 +96,7 @@ connection 1
   client id 96, version 0303, N_sendmax 20
   server id 97, version 0303, N_sendmax 20
   records 1 to 6
+  captured from 1970-01-01 00:00:00.000000 to 1970-01-01 00:00:00.000000 UTC
   opened by the client at record 1
   no disconnection request was captured
   channel 1: 10.0.0.1:5000 - 10.0.0.2:5000, packets to the server: 2, to the client: 1
@@ -119,6 +123,7 @@ connection 1
   client id 96, version 0303, N_sendmax 20
   server id 97, version 0303, N_sendmax 20
   records 1 to 8
+  captured from 1970-01-01 00:00:00.000000 to 1970-01-01 00:00:00.000000 UTC
   opened by the client at record 1
   no disconnection request was captured
   channel 1: 10.0.0.1:5000 - 10.0.0.2:5000, packets to the server: 7, to the client: 1
@@ -148,6 +153,7 @@ connection 1
   client id 96, version 0303, N_sendmax 20
   server id 97, version 0303, N_sendmax 20
   records 1 to 6
+  captured from 1970-01-01 00:00:00.000000 to 1970-01-01 00:00:00.000000 UTC
   opened by the client at record 1
   ended by the client at record 6, reason 4
   channel 1: 10.0.0.1:5000 - 10.0.0.2:5000, packets to the server: 4, to the client: 2
@@ -164,6 +170,7 @@ connection 2
   client id 96, version 0303, N_sendmax 20
   server id 97, version 0303, N_sendmax 20
   records 7 to 8
+  captured from 1970-01-01 00:00:00.000000 to 1970-01-01 00:00:00.000000 UTC
   opened by the client at record 7
   no disconnection request was captured
   channel 1: 10.0.0.1:5000 - 10.0.0.2:5000, packets to the server: 1, to the client: 1

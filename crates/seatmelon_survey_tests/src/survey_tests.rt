@@ -92,6 +92,40 @@ fn failing_writes(rt: HostRuntime) -> Result<(), Fail> {
     Ok(())
 }
 
+fn overwrite(file: &mut Vec<u8>, from: usize, bytes: &[u8]) -> Option<()> {
+    for (offset, byte) in bytes.iter().enumerate() {
+        *file.get_mut(from.checked_add(offset)?)? = *byte;
+    }
+    Some(())
+}
+
+// A file of one record, which was captured 5 units after noon of a day.
+fn file_at_noon(alloc: Global, is_in_nanoseconds: bool) -> Option<Vec<u8>> {
+    let (_, mut file) = file_of(alloc, "data plain", "0")?;
+    overwrite(&mut file, 24, b"\x40\x15\x43\x67\x05\x00\x00\x00")?;
+    if is_in_nanoseconds {
+        overwrite(&mut file, 0, b"\x4d\x3c")?;
+    }
+    Some(file)
+}
+
+// The line of a survey that tells when packets were captured.
+fn line_of_times(alloc: Global, is_in_nanoseconds: bool) -> Option<String> {
+    let file = file_at_noon(alloc, is_in_nanoseconds)?;
+    let text = text_of(alloc, &surveyed(alloc, &file, 4096).ok()?)?;
+    let line = std::str::from_utf8(&text).ok()?.lines().nth(8)?;
+    String::from_str(alloc, line).ok()
+}
+
+#[test]
+fn times(rt: HostRuntime) -> Result<(), Fail> {
+    let line = line_of_times(rt.alloc(), false).ok_or("a line")?;
+    assert_eq!(rt; line.as_str(), "  captured from 2024-11-24 12:00:00.000005 to 2024-11-24 12:00:00.000005 UTC");
+    let line = line_of_times(rt.alloc(), true).ok_or("a line")?;
+    assert_eq!(rt; line.as_str(), "  captured from 2024-11-24 12:00:00.000000005 to 2024-11-24 12:00:00.000000005 UTC");
+    Ok(())
+}
+
 // What the calls answer of two connections of the same ends, the second of which another request begins.
 #[test]
 fn connections(rt: HostRuntime) -> Result<(), Fail> {

@@ -14,7 +14,11 @@ returns z p h ws w c s r hc hs few lc ls bc bs =
       k.1,
       k.2,
       k.3,
-      k.4,
-      script_fits p w.crossed Client Server c s own peer few lc k.2.0 k.0 k.2.1 k.5,
-      script_fits p w.crossed Server Client s c peer own few ls k.3.0 k.1 k.3.1 k.6,
+      (
+        (
+          script_fits p w.crossed Client Server c s own peer few lc k.2.0 k.0 k.2.1 k.5,
+          script_fits p w.crossed Server Client s c peer own few ls k.3.0 k.1 k.3.1 k.6,
+        ),
+        k.4,
+      ),
     )

@@ -5,9 +5,11 @@ use Rattle.rasta_pcap.specs.Capture.{reading}
 use Rattle.rasta_pdu.specs.Messages.{AreBytes}
 use Rattle.rasta_check.specs.Reading.{Crossing, after_reading, crossing_of}
 use Rattle.rasta_check.specs.Theorem.{OfConnection}
-use Rattle.rasta_check.proofs.Readings.{after-opened, after-refused}
-use Rattle.rasta_check.proofs.Verdicts.{answer_definite, opening_definite}
-use Rattle.rasta_check.proofs.Faultless.{answer_read, answer_only, opening_faulty}
+use Rattle.rasta_check.specs.Verdicts.{in_header}
+use Rattle.rasta_check.proofs.Readings.{after-opened}
+use Rattle.rasta_check.proofs.Verdicts.{Answers, answer_definite, opening_definite}
+use Rattle.rasta_check.proofs.Faultless.{answer_only, opening_faulty}
+use Rattle.rasta_check.proofs.Refused.{answer_is}
 use Rattle.rasta_check.proofs.FaultNumbers.{answer_names_side, opening_names_side}
 use Rattle.rasta_check.proofs.reading.sent.Goals as goal
 
@@ -17,26 +19,26 @@ connection c = subst (λ (k : Crossing). OfConnection k.params) c.new.ensures.va
 bytes : (c : goal.After-add_records) → AreBytes c.args.file.now
 bytes c = record { fits = λ i. omega (arith, c.type_inv.file i) }
 
-pub returns-in-Ok-clause-value : goal.returns-in-Ok-clause-value
-returns-in-Ok-clause-value c =
+all_read : (c : goal.After-add_records) → Answers c.args.p c.args.file.now c.add_records.result
+all_read c =
     let all : crossing_of c.args.p c.args.file.now ≡ after_reading c.new.result (reading c.last_record-last.result c.in-Ok.pcap) =
     after-opened c.args.p c.args.file.now c.in-Ok.pcap (sym c.in-Ok.ensures) ∙ sym (λ i. after_reading (c.new.ensures.value i) (reading (c.last_record-last.ensures.value i) c.in-Ok.pcap)) in
     subst (λ (x : Result Crossing Fault). MatchResult c.add_records.result (λ s. x ≡ Ok s) (λ f. (f ≡ no_memory) ⊎ (x ≡ Err f))) (sym all) c.add_records.ensures
 
-pub returns-in-Ok-clause-read : goal.returns-in-Ok-clause-read
-returns-in-Ok-clause-read c = answer_read c.args.p c.args.file.now c.add_records.result (connection c) (bytes c) (returns-in-Ok-clause-value c)
+pub returns-in-Ok-clause-value : goal.returns-in-Ok-clause-value
+returns-in-Ok-clause-value c = answer_is c.args.p c.args.file.now c.add_records.result (connection c) (bytes c) (all_read c)
 
 pub returns-in-Ok-clause-only : goal.returns-in-Ok-clause-only
-returns-in-Ok-clause-only c = answer_only c.args.p c.args.file.now c.add_records.result (connection c) (bytes c) (returns-in-Ok-clause-value c)
+returns-in-Ok-clause-only c = answer_only c.args.p c.args.file.now c.add_records.result (connection c) (bytes c) (all_read c)
 
 pub returns-in-Ok-clause-side : goal.returns-in-Ok-clause-side
-returns-in-Ok-clause-side c = answer_names_side c.args.p c.args.file.now c.add_records.result (returns-in-Ok-clause-value c)
+returns-in-Ok-clause-side c = answer_names_side c.args.p c.args.file.now c.add_records.result (all_read c)
 
 pub returns-in-Ok-clause-definite : goal.returns-in-Ok-clause-definite
-returns-in-Ok-clause-definite c = answer_definite c.args.p c.args.file.now c.add_records.result (connection c) (bytes c) (returns-in-Ok-clause-value c)
+returns-in-Ok-clause-definite c = answer_definite c.args.p c.args.file.now c.add_records.result (connection c) (bytes c) (all_read c)
 
 pub returns-in-Err-clause-value : goal.returns-in-Err-clause-value
-returns-in-Err-clause-value c = inr (after-refused c.args.p c.args.file.now c.in-Err.fault (sym c.in-Err.ensures))
+returns-in-Err-clause-value c = inr (in_header c.in-Err.fault (sym c.in-Err.ensures))
 
 pub returns-in-Err-clause-only : goal.returns-in-Err-clause-only
 returns-in-Err-clause-only c = inr (opening_faulty c.args.p c.args.file.now c.in-Err.fault c.last_record-last.ensures.valid (sym c.in-Err.ensures))

@@ -1,13 +1,16 @@
-use Rattle.std.proofs.Common.{◌≡◌, ◌<◌, ◌⊎◌, ◌+◌, ℕ, Option, Some, Result, Ok, sym, ap, ◌∙◌, subst, inl, inr, take, length, rules, arith}
+use Rattle.std.proofs.Common.{◌≡◌, ◌<◌, ◌⊎◌, ◌+◌, ◌++◌, ℕ, Option, Some, Result, Ok, sym, ap, ◌∙◌, subst, inl, inr, take, length, rules, arith}
+use Rattle.std.proofs.KnownBytes.{Consumes-trans}
 use Rattle.rasta_pcap.specs.declared.fault.Fault.{Fault}
+use Rattle.rasta_pcap.specs.declared.time.CaptureTime.{CaptureTime}
 use Rattle.rasta_pcap.specs.Devices.{HasFailed}
 use Rattle.rasta_pcap.specs.Capture.{captured_length, max_captured}
 use Rattle.rasta_pcap.specs.Extent.{ReadsWithinRecord}
 use Rattle.rasta_pcap.specs.Filling.{IsFilled}
 use Rattle.rasta_pcap.specs.Fronts.{front_of}
-use Rattle.rasta_pcap.specs.Stream.{ReadsJust, bytes_in, order_in, count_in, room_in, FailsWithin, LacksMemory, RefusesRecord}
+use Rattle.rasta_pcap.specs.Stream.{ReadsJust, bytes_in, order_in, unit_in, count_in, room_in, FailsWithin, LacksMemory, RefusesRecord}
+use Rattle.rasta_pcap.specs.Times.{time_of}
 use Rattle.rasta_pcap.proofs.Extents.{filled-ReadsUpTo, ReadsWithinRecord-bytes, ReadsWithinRecord-header}
-use Rattle.rasta_pcap.proofs.Fronts.{front_of-some, lacks_memory, reads_record, reads_up_to, refuses_body, refuses_front}
+use Rattle.rasta_pcap.proofs.Fronts.{front_of-some, lacks_memory, reads_record, reads_up_to, refuses_body, refuses_front, taken_front}
 use Rattle.rasta_pcap.proofs.stream.RecordReader.read_record.Goals as goal
 
 pub returns-in_err-captured-clause-err : goal.returns-in_err-captured-clause-err
@@ -77,6 +80,26 @@ returns-clause-found g c =
     let body = bytes_in c.read.new.self in
     let same = ap length c.lend.ensures.bytes in
     reads_record order count c.in-Some.captured front body old mid new c.in_ok-filled.ensures.filled said c.in_ok-read.ensures.filled (omega arith)
+
+abbrev timed : CaptureTime → Option CaptureTime
+timed t = Some t
+
+pub returns-clause-timed : goal.returns-clause-timed
+returns-clause-timed g c =
+    let old = g.S.Source.remaining c.args.reader.now in
+    let mid = g.S.Source.remaining c.fill.new.reader in
+    let new = g.S.Source.remaining c.read.new.reader in
+    let order = order_in c.args.self.now in
+    let count = count_in c.args.self.now in
+    let front = take c.in_ok-filled.filled c.fill.new.buf in
+    let filled : IsFilled 16 old mid front = c.in_ok-filled.ensures.filled in
+    let said : front_of order count front ≡ Ok (Some c.in-Some.captured) = sym c.in_ok-captured.ensures ∙ ap found c.in-Some.is in
+    let body = bytes_in c.read.new.self in
+    let size : length front ≡ 16 = (front_of-some order count front c.in-Some.captured filled.within said).size in (
+      front ++ body,
+      Consumes-trans old mid new front body filled.consumed c.in_ok-read.ensures.filled.consumed,
+      ap timed c.time_in.ensures ∙ ap (λ header. timed (time_of order (unit_in c.args.self.now) header)) (sym (taken_front front body size)),
+    )
 
 pub returns-in_err-read-clause-within : goal.returns-in_err-read-clause-within
 returns-in_err-read-clause-within g c =

@@ -1,0 +1,62 @@
+-- The theorem over runs: what scripts that fit say of runs, each judged without the other.
+use Rattle.std.specs.Prelude.{◌≡◌, ℕ, ◌<◌, ◌≤◌, ◌^◌, List, ◌∷◌, ◌++◌, length}
+use Rattle.rasta_pcap.specs.declared.fault.Side.{Side}
+use Rattle.rasta_pcap.specs.declared.fault.Side.TheVariants.{Client, Server}
+use Rattle.rasta_udp.specs.Frame.{Packet}
+use Rattle.rasta_pdu.specs.Params.{Parameters}
+use Rattle.rasta_cert.specs.declared.entry.Entry.{Entry}
+use Rattle.rasta_cert.specs.Certificate.{IsCertificate}
+use Rattle.rasta_end.specs.State.{EndState}
+use Rattle.rasta_end.specs.Starts.{start_of}
+use Rattle.rasta_check.specs.Crossing.{CrossRecorded, FirstCopy, Sent}
+use Rattle.rasta_check.specs.World.{World, Reaches, most_sent}
+use Rattle.rasta_check.specs.Taken.{surely_taken}
+use Rattle.rasta_check.specs.Scripts.{Cursor, Advances, Leads, at_start, Fits}
+use Rattle.rasta_check.specs.Theorem.{most_packets, other_side, units_handed, units_listed}
+
+-- ---- 4. simulation
+
+-- two scripts that fit, each without the other, give one run that sends exactly these packets and ends in the ends that they reach
+abbrev pub Simulation : Parameters → Type 0
+Simulation p =
+    (packets : List Packet) (c s : List FirstCopy) (cs ss : List Entry) (a b : EndState) → CrossRecorded p packets
+    → Sent p packets Client c → Sent p packets Server s
+    → Fits p Client (length packets) c s cs a → Fits p Server (length packets) s c ss b
+    → (ws : List World) × (w : World) × Reaches p ws w × (w.crossed ≡ packets) × (w.client.state ≡ a) × (w.server.state ≡ b)
+
+-- ---- 5. sharpness
+
+-- where both scripts fit, and the lists are within the limits, some run that sends the packets has both ends handing up exactly what is listed
+abbrev pub Sharpness : Parameters → Type 0
+Sharpness p =
+    (packets : List Packet) (c s : List FirstCopy) (cs ss : List Entry) (a b : EndState) → CrossRecorded p packets
+    → Sent p packets Client c → Sent p packets Server s → length c ≤ most_sent → length s ≤ most_sent
+    → Fits p Client (length packets) c s cs a → Fits p Server (length packets) s c ss b
+    → (ws : List World) × (w : World) × Reaches p ws w × (w.crossed ≡ packets)
+    × (units_handed w.server.state ≡ units_listed (surely_taken p Client c s))
+    × (units_handed w.client.state ≡ units_listed (surely_taken p Server s c))
+
+-- ---- 6. completeness
+
+-- a run within the limits is told by two scripts that fit, and that make a certificate: it sends at most 16,000,000 packets and
+-- 1,000,000 PDUs an end, and each end makes its last PDU at a clock below 2^64
+abbrev pub Complete : Parameters → Type 0
+Complete p =
+    (ws : List World) (w : World) (c s : List FirstCopy) → Reaches p ws w
+    → Sent p w.crossed Client c → Sent p w.crossed Server s
+    → length w.crossed ≤ most_packets → length c ≤ most_sent → length s ≤ most_sent
+    → w.client.state.clock < 2 ^ 64 → w.server.state.clock < 2 ^ 64
+    → (cs ss : List Entry) × Fits p Client (length w.crossed) c s cs w.client.state × Fits p Server (length w.crossed) s c ss w.server.state
+    × IsCertificate (record { client = cs; server = ss })
+
+-- ---- 7. scripts that are stuck
+
+-- what a script leads to is one; and where the next entry can't follow there, no script that begins so fits
+abbrev pub Stuck : Parameters → Type 0
+Stuck p =
+    (packets : List Packet) (side : Side) (own peer : List FirstCopy) → Sent p packets (other_side side) peer → length peer < 2 ^ 32
+    → ((u v w : Cursor) (entries : List Entry) → Leads p (length packets) own peer u entries v → Leads p (length packets) own peer u entries w → v ≡ w)
+    × ((entries rest : List Entry) (x : Entry) (v : Cursor) (e : EndState)
+    → Leads p (length packets) own peer (at_start (start_of p side)) entries v
+    → ((w : Cursor) → Advances p (length packets) own peer v x w → ⊥)
+    → Fits p side (length packets) own peer (entries ++ x ∷ rest) e → ⊥)

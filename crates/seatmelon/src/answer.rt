@@ -1,0 +1,72 @@
+//! What the program writes.
+ghost use Rattle.std.specs.Prelude.{◌≡◌, IfErr};
+ghost use Rattle.seatmelon.specs.Failing.{status_of};
+
+use crate::failure::{Failure, reason_of};
+use crate::watched::Watched;
+use rasta_pcap::{Counted, Fault, Sink};
+use seatmelon_survey::{Connection, Survey};
+use std::alloc::Global;
+use std::io;
+use std::io::{BufWriter, Write};
+
+// How many bytes of an answer are written at once.
+const BUFFER: usize = 65_536;
+
+/// What the program writes.
+#[derive(Clone, Copy, Debug)]
+pub enum Answer<'a> {
+    /// What was found in a capture.
+    Survey(&'a Survey),
+
+    /// A parameter file for a connection.
+    Draft(&'a Connection),
+}
+
+impl Answer<'_> {
+    fn write<W: Sink>(&self, writer: &mut W) -> Result<(), Fault> {
+        match self {
+            Answer::Survey(survey) => survey.write(writer),
+            Answer::Draft(connection) => connection.write_draft(writer),
+        }
+    }
+}
+
+// Why the answer can't be written.
+fn unwritten(alloc: Global, error: Option<io::Error>) -> Failure
+    ensures { status_of result ≡ 3 }
+{
+    let reason = match error {
+        Some(error) => reason_of(alloc, &error),
+        None => String::from_str(alloc, "writing failed"),
+    };
+    match reason {
+        Ok(reason) => Failure::Writing(reason),
+        Err(_) => Failure::OutOfMemory,
+    }
+}
+
+/// Writes an answer, all of it.
+pub fn write_answer<W: Write + Drop>(
+    alloc: Global,
+    answer: &Answer<'_>,
+    device: W,
+) -> Result<(), Failure>
+    ensures err { IfErr result (λ failure. status_of failure ≡ 3) }
+{
+    let Ok(buffered) = BufWriter::with_capacity(alloc, BUFFER, Watched::new(device)) else {
+        return Err(Failure::OutOfMemory);
+    };
+    let mut sink = Counted::new(buffered);
+    let outcome = answer.write(&mut sink);
+    let mut buffered = sink.into_inner();
+    let flushed = match outcome {
+        Ok(()) => buffered.flush().is_ok(),
+        Err(_) => false,
+    };
+    if flushed {
+        return Ok(());
+    }
+    let (device, _) = buffered.into_parts();
+    Err(unwritten(alloc, device.error()))
+}

@@ -1,0 +1,446 @@
+//! The draft of a parameter file.
+ghost use Rattle.std.specs.Prelude.{◌≡◌, IfErr, OnOk};
+ghost use Rattle.rasta_pcap.specs.Fault.{write_failed};
+ghost use Rattle.rasta_pcap.specs.Devices.{HasFailed};
+
+use crate::channel::{ChannelCounts, reversed};
+use crate::connection::Connection;
+use crate::lengths::{LengthFit, likeliest};
+use crate::packet::Offer;
+use crate::party::Party;
+use crate::quiet_draft::write_quiet_points;
+use crate::text::{Part, write_parts, write_parts_if};
+use rasta_pcap::{Fault, Sink};
+use rasta_pdu::Kind;
+use rasta_udp::Channel;
+
+// How many channels a parameter file may have.
+const MOST_CHANNELS: u64 = 4;
+
+// An N_sendmax that stands where no end offered one.
+const PLACEHOLDER_SENDMAX: u64 = 20;
+
+// Which end is the client.
+#[derive(Clone, Copy, Debug)]
+struct Roles<'a> {
+    client: &'a Party,
+    server: &'a Party,
+    is_first_client: bool,
+}
+
+// The sender of a connection request is the client, and that of a connection response the server. Without either
+// the first end stands for the client.
+fn roles_in(connection: &Connection) -> Roles<'_> {
+    let responses = connection.first.kinds.count(Kind::ConnectionResponse);
+    if connection.has_opening() || responses == 0 {
+        Roles {
+            client: &connection.first,
+            server: &connection.second,
+            is_first_client: true,
+        }
+    } else {
+        Roles {
+            client: &connection.second,
+            server: &connection.first,
+            is_first_client: false,
+        }
+    }
+}
+
+fn write_heading<W: Sink>(writer: &mut W, connection: &Connection) -> Result<(), Fault>
+    ensures steady { OnOk result (W.failure_count writer.new ≡ W.failure_count writer.old) }
+    ensures err { IfErr result (λ f. (f ≡ write_failed)
+        × HasFailed (W.failure_count writer.old) (W.failure_count writer.new)) }
+{
+    write_parts(
+        writer,
+        &[
+            Part::Words("# A draft of the parameters of the connection in the records "),
+            Part::Number(u64::from(connection.first_record())),
+            Part::Words(" to "),
+            Part::Number(u64::from(connection.last_record())),
+            Part::Words(" of a capture.\n"),
+            Part::Words(
+                "# Each line tells where its value was seen; one from the engineering data is a placeholder.\n",
+            ),
+            Part::Words(
+                "# A draft is a guess from the form of packets: compare each line with the engineering data.\n\n",
+            ),
+        ],
+    )
+}
+
+// Writes a key with a number.
+fn write_number<W: Sink>(writer: &mut W, key: &'static str, value: u64) -> Result<(), Fault>
+    ensures steady { OnOk result (W.failure_count writer.new ≡ W.failure_count writer.old) }
+    ensures err { IfErr result (λ f. (f ≡ write_failed)
+        × HasFailed (W.failure_count writer.old) (W.failure_count writer.new)) }
+{
+    write_parts(
+        writer,
+        &[
+            Part::Words(key),
+            Part::Words(" = "),
+            Part::Number(value),
+            Part::Words(" # "),
+        ],
+    )
+}
+
+fn write_ids<W: Sink>(
+    writer: &mut W,
+    client: &[Part],
+    server: &[Part],
+    roles: Roles<'_>,
+) -> Result<(), Fault>
+    ensures steady { OnOk result (W.failure_count writer.new ≡ W.failure_count writer.old) }
+    ensures err { IfErr result (λ f. (f ≡ write_failed)
+        × HasFailed (W.failure_count writer.old) (W.failure_count writer.new)) }
+{
+    write_number(writer, "client_id", u64::from(roles.client.id))?;
+    write_parts(writer, client)?;
+    write_number(writer, "server_id", u64::from(roles.server.id))?;
+    write_parts(writer, server)
+}
+
+// Writes the ids, and by what the client is known.
+fn write_roles<W: Sink>(
+    writer: &mut W,
+    connection: &Connection,
+    roles: Roles<'_>,
+) -> Result<(), Fault>
+    ensures steady { OnOk result (W.failure_count writer.new ≡ W.failure_count writer.old) }
+    ensures err { IfErr result (λ f. (f ≡ write_failed)
+        × HasFailed (W.failure_count writer.old) (W.failure_count writer.new)) }
+{
+    if connection.has_opening() {
+        let record = Part::Number(u64::from(connection.first_record()));
+        let request = [
+            Part::Words("sender of the connection request in record "),
+            record,
+            Part::Words("\n"),
+        ];
+        return write_ids(writer, &request, &[Part::Words("its receiver\n")], roles);
+    }
+    if let Some(offer) = roles.server.offer {
+        let record = Part::Number(u64::from(offer.record));
+        let response = [
+            Part::Words("sender of the connection response in record "),
+            record,
+            Part::Words("\n"),
+        ];
+        return write_ids(
+            writer,
+            &[Part::Words("receiver of what the server sent\n")],
+            &response,
+            roles,
+        );
+    }
+    write_ids(
+        writer,
+        &[Part::Words("from the engineering data: end 1 of the survey, which may be the server\n")],
+        &[Part::Words("from the engineering data: end 2 of the survey\n")],
+        roles,
+    )
+}
+
+// Writes the lengths other than the chosen one that fit some packets.
+fn write_other_lengths<W: Sink>(
+    writer: &mut W,
+    chosen: LengthFit,
+    lengths: &[LengthFit; 3],
+) -> Result<(), Fault>
+    ensures steady { OnOk result (W.failure_count writer.new ≡ W.failure_count writer.old) }
+    ensures err { IfErr result (λ f. (f ≡ write_failed)
+        × HasFailed (W.failure_count writer.old) (W.failure_count writer.new)) }
+{
+    for other in lengths {
+        write_parts_if(
+            writer,
+            other.length != chosen.length && other.forms > 0,
+            &[
+                Part::Words("; "),
+                Part::Number(u64::from(other.length)),
+                Part::Words(" fits "),
+                Part::Number(other.forms),
+            ],
+        )?;
+    }
+    Ok(())
+}
+
+// Writes the likeliest length of a code.
+fn write_length<W: Sink>(
+    writer: &mut W,
+    key: &'static str,
+    lengths: &[LengthFit; 3],
+    packets: u64,
+) -> Result<(), Fault>
+    ensures steady { OnOk result (W.failure_count writer.new ≡ W.failure_count writer.old) }
+    ensures err { IfErr result (λ f. (f ≡ write_failed)
+        × HasFailed (W.failure_count writer.old) (W.failure_count writer.new)) }
+{
+    let chosen = likeliest(lengths);
+    write_number(writer, key, u64::from(chosen.length))?;
+    let doubt = [Part::Words("from the engineering data, since none fits all packets: ")];
+    write_parts_if(writer, chosen.forms < packets, &doubt)?;
+    write_parts(
+        writer,
+        &[
+            Part::Words("fits the length of "),
+            Part::Number(chosen.forms),
+            Part::Words(" of "),
+            Part::Number(packets),
+            Part::Words(" packets"),
+        ],
+    )?;
+    write_other_lengths(writer, chosen, lengths)?;
+    write_parts(writer, &[Part::Words("\n")])
+}
+
+// Writes MD4's own start words, and whether they fit the safety codes.
+fn write_start_words<W: Sink>(writer: &mut W, code: LengthFit) -> Result<(), Fault>
+    ensures steady { OnOk result (W.failure_count writer.new ≡ W.failure_count writer.old) }
+    ensures err { IfErr result (λ f. (f ≡ write_failed)
+        × HasFailed (W.failure_count writer.old) (W.failure_count writer.new)) }
+{
+    write_parts(
+        writer,
+        &[Part::Words("md4_start = \"67452301efcdab8998badcfe10325476\" # ")],
+    )?;
+    if code.length == 0 {
+        return write_parts(
+            writer,
+            &[Part::Words("MD4's own start words; without a safety code they have no effect\n")],
+        );
+    }
+    let doubt = [Part::Words("from the engineering data: ")];
+    write_parts_if(writer, code.right < code.forms, &doubt)?;
+    write_parts(
+        writer,
+        &[
+            Part::Words("MD4's own start words fit "),
+            Part::Number(code.right),
+            Part::Words(" of "),
+            Part::Number(code.forms),
+            Part::Words(" safety codes\n"),
+        ],
+    )
+}
+
+// An offer that a parameter file may repeat.
+fn usable(offer: Option<Offer>) -> Option<Offer> {
+    offer.filter(|offer| offer.sendmax > 0)
+}
+
+// Writes the N_sendmax that one end alone offered.
+fn write_offer<W: Sink>(writer: &mut W, name: &'static str, offer: Offer) -> Result<(), Fault>
+    ensures steady { OnOk result (W.failure_count writer.new ≡ W.failure_count writer.old) }
+    ensures err { IfErr result (λ f. (f ≡ write_failed)
+        × HasFailed (W.failure_count writer.old) (W.failure_count writer.new)) }
+{
+    write_number(writer, "n_sendmax", u64::from(offer.sendmax))?;
+    write_parts(
+        writer,
+        &[
+            Part::Words("offered by the "),
+            Part::Words(name),
+            Part::Words(" in record "),
+            Part::Number(u64::from(offer.record)),
+            Part::Words("\n"),
+        ],
+    )
+}
+
+// Writes what both ends offered: the greater N_sendmax, where they differ.
+fn write_both_offers<W: Sink>(writer: &mut W, client: Offer, server: Offer) -> Result<(), Fault>
+    ensures steady { OnOk result (W.failure_count writer.new ≡ W.failure_count writer.old) }
+    ensures err { IfErr result (λ f. (f ≡ write_failed)
+        × HasFailed (W.failure_count writer.old) (W.failure_count writer.new)) }
+{
+    write_number(
+        writer,
+        "n_sendmax",
+        u64::from(client.sendmax.max(server.sendmax)),
+    )?;
+    let doubt = [Part::Words("from the engineering data: ")];
+    write_parts_if(writer, client.sendmax != server.sendmax, &doubt)?;
+    write_parts(
+        writer,
+        &[
+            Part::Words("the client offered "),
+            Part::Number(u64::from(client.sendmax)),
+            Part::Words(" in record "),
+            Part::Number(u64::from(client.record)),
+            Part::Words(", the server "),
+            Part::Number(u64::from(server.sendmax)),
+            Part::Words(" in record "),
+            Part::Number(u64::from(server.record)),
+            Part::Words("\n"),
+        ],
+    )
+}
+
+fn write_sendmax<W: Sink>(writer: &mut W, roles: Roles<'_>) -> Result<(), Fault>
+    ensures steady { OnOk result (W.failure_count writer.new ≡ W.failure_count writer.old) }
+    ensures err { IfErr result (λ f. (f ≡ write_failed)
+        × HasFailed (W.failure_count writer.old) (W.failure_count writer.new)) }
+{
+    match (usable(roles.client.offer), usable(roles.server.offer)) {
+        (Some(client), Some(server)) => write_both_offers(writer, client, server),
+        (Some(client), None) => write_offer(writer, "client", client),
+        (None, Some(server)) => write_offer(writer, "server", server),
+        (None, None) => {
+            write_number(writer, "n_sendmax", PLACEHOLDER_SENDMAX)?;
+            write_parts(
+                writer,
+                &[Part::Words("from the engineering data: no offer of one was captured\n")],
+            )
+        }
+    }
+}
+
+// Writes what no packet tells.
+fn write_limits<W: Sink>(writer: &mut W) -> Result<(), Fault>
+    ensures steady { OnOk result (W.failure_count writer.new ≡ W.failure_count writer.old) }
+    ensures err { IfErr result (λ f. (f ≡ write_failed)
+        × HasFailed (W.failure_count writer.old) (W.failure_count writer.new)) }
+{
+    write_parts(
+        writer,
+        &[
+            Part::Words("t_max = 1800 # from the engineering data, in milliseconds\n"),
+            Part::Words("slack = 0 # from the engineering data, in milliseconds\n"),
+        ],
+    )
+}
+
+// Writes the records: those of the connection, or only those after a quiet point.
+fn write_window<W: Sink>(writer: &mut W, connection: &Connection) -> Result<(), Fault>
+    ensures steady { OnOk result (W.failure_count writer.new ≡ W.failure_count writer.old) }
+    ensures err { IfErr result (λ f. (f ≡ write_failed)
+        × HasFailed (W.failure_count writer.old) (W.failure_count writer.new)) }
+{
+    match connection.quiet.earliest() {
+        Some(point) => {
+            write_number(
+                writer,
+                "first_record",
+                u64::from(point.record).saturating_add(1),
+            )?;
+            write_parts(
+                writer,
+                &[Part::Words("the first record after the quiet point\n")],
+            )?;
+        }
+        None => {
+            write_number(writer, "first_record", u64::from(connection.first_record()))?;
+            write_parts(writer, &[Part::Words("the connection's first packet\n")])?;
+        }
+    }
+    write_number(writer, "last_record", u64::from(connection.last_record()))?;
+    write_parts(writer, &[Part::Words("the connection's last packet\n")])
+}
+
+// Writes a channel as a table.
+fn write_table<W: Sink>(writer: &mut W, channel: Channel, record: u32) -> Result<(), Fault>
+    ensures steady { OnOk result (W.failure_count writer.new ≡ W.failure_count writer.old) }
+    ensures err { IfErr result (λ f. (f ≡ write_failed)
+        × HasFailed (W.failure_count writer.old) (W.failure_count writer.new)) }
+{
+    let seen = Part::Number(u64::from(record));
+    write_parts(
+        writer,
+        &[
+            Part::Words("\n[[channel]]\nclient = \""),
+            Part::Endpoint(channel.client),
+            Part::Words("\" # seen in record "),
+            seen,
+            Part::Words("\nserver = \""),
+            Part::Endpoint(channel.server),
+            Part::Words("\" # seen in record "),
+            seen,
+            Part::Words("\n"),
+        ],
+    )
+}
+
+// Writes a channel as a comment.
+fn write_left_out<W: Sink>(writer: &mut W, channel: Channel, record: u32) -> Result<(), Fault>
+    ensures steady { OnOk result (W.failure_count writer.new ≡ W.failure_count writer.old) }
+    ensures err { IfErr result (λ f. (f ≡ write_failed)
+        × HasFailed (W.failure_count writer.old) (W.failure_count writer.new)) }
+{
+    write_parts(
+        writer,
+        &[
+            Part::Words("\n# A further channel, seen in record "),
+            Part::Number(u64::from(record)),
+            Part::Words(", which can't stand beside those above:\n# client "),
+            Part::Endpoint(channel.client),
+            Part::Words(", server "),
+            Part::Endpoint(channel.server),
+            Part::Words("\n"),
+        ],
+    )
+}
+
+// Whether one of the channels leads the other way between the ends of this one.
+fn has_reverse(channels: &[ChannelCounts], channel: Channel) -> bool {
+    let back = reversed(&channel);
+    channels.iter().any(|counts| counts.channel == back)
+}
+
+// Writes the channels, as many as a parameter file may have.
+fn write_channels<W: Sink>(
+    writer: &mut W,
+    channels: &[ChannelCounts],
+    is_first_client: bool,
+) -> Result<(), Fault>
+    ensures steady { OnOk result (W.failure_count writer.new ≡ W.failure_count writer.old) }
+    ensures err { IfErr result (λ f. (f ≡ write_failed)
+        × HasFailed (W.failure_count writer.old) (W.failure_count writer.new)) }
+{
+    let mut written = 0u64;
+    for (place, counts) in channels.iter().enumerate() {
+        let channel = if is_first_client {
+            counts.channel
+        } else {
+            reversed(&counts.channel)
+        };
+        if written >= MOST_CHANNELS || has_reverse(&channels[..place], counts.channel) {
+            write_left_out(writer, channel, counts.first_record)?;
+        } else {
+            write_table(writer, channel, counts.first_record)?;
+            written = written.saturating_add(1);
+        }
+    }
+    Ok(())
+}
+
+/// Writes a parameter file for a connection, with comments.
+pub fn write_draft<W: Sink>(writer: &mut W, connection: &Connection) -> Result<(), Fault>
+    ensures steady { OnOk result (W.failure_count writer.new ≡ W.failure_count writer.old) }
+    ensures err { IfErr result (λ f. (f ≡ write_failed)
+        × HasFailed (W.failure_count writer.old) (W.failure_count writer.new)) }
+{
+    let roles = roles_in(connection);
+    let lengths = connection.lengths;
+    write_heading(writer, connection)?;
+    write_roles(writer, connection, roles)?;
+    write_length(writer, "code_length", &lengths.of_code(), lengths.pdus)?;
+    write_start_words(writer, likeliest(&lengths.of_code()))?;
+    write_length(writer, "check_length", &lengths.of_check(), lengths.pdus)?;
+    write_sendmax(writer, roles)?;
+    write_limits(writer)?;
+    write_window(writer, connection)?;
+    if !connection.has_opening() {
+        let candidates = connection.quiet.candidates();
+        write_quiet_points(writer, candidates, roles.is_first_client)?;
+    }
+    write_channels(
+        writer,
+        connection.channels.as_slice(),
+        roles.is_first_client,
+    )
+}

@@ -1,0 +1,243 @@
+//! Points at which a connection seems to be quiet.
+ghost use Rattle.std.specs.Prelude.{◌≡◌, IfErr};
+ghost use Rattle.rasta_pcap.specs.Fault.{no_memory};
+
+use crate::channel::End;
+use crate::numbers::{HALF, Sighting};
+use crate::packet::Packet;
+use rasta_pcap::Fault;
+use rasta_pdu::Kind;
+use std::alloc::Global;
+
+// How many candidates are kept. The earliest of those that can still be found are always among them.
+const MOST_CANDIDATES: usize = 24;
+
+/// A time stamp, and the record in which it was seen.
+#[derive(Clone, Copy, Debug, PartialEq, Eq)]
+pub struct Stamp {
+    pub ts: u32,
+    pub record: u32,
+}
+
+/// What an end sent last: the sequence number, the time stamp, and the time stamp of its last data.
+#[derive(Clone, Copy, Debug, PartialEq, Eq)]
+pub struct LastSent {
+    kind: Kind,
+    pub sn: u32,
+    pub stamp: Stamp,
+    pub handed: Option<Stamp>,
+}
+
+/// A point of a connection: after which record, and what each end had sent last.
+#[derive(Clone, Copy, Debug, PartialEq, Eq)]
+pub struct Point {
+    pub record: u32,
+    pub first: LastSent,
+    pub second: LastSent,
+}
+
+/// A point that may be quiet, and which ends have still to confirm what the other one sent before it.
+#[derive(Clone, Copy, Debug, PartialEq, Eq)]
+pub struct Candidate {
+    pub point: Point,
+    awaits_first: bool,
+    awaits_second: bool,
+}
+
+impl Candidate {
+    /// Whether both ends have confirmed it.
+    pub fn is_found(&self) -> bool {
+        !self.awaits_first && !self.awaits_second
+    }
+
+    fn awaits(&self, sender: End) -> bool {
+        match sender {
+            End::First => self.awaits_first,
+            End::Second => self.awaits_second,
+        }
+    }
+
+    // The sequence number that the next PDU of this end has to confirm.
+    fn due(&self, sender: End) -> u32 {
+        match sender {
+            End::First => self.point.second.sn,
+            End::Second => self.point.first.sn,
+        }
+    }
+
+    // Whether this PDU of an end leaves the candidate in place.
+    fn stands_after(&self, sender: End, packet: &Packet) -> bool {
+        !self.awaits(sender) || reaches(packet.cs, self.due(sender))
+    }
+
+    // The end has sent a PDU that confirms what is due.
+    fn note(&mut self, sender: End) {
+        match sender {
+            End::First => self.awaits_first = false,
+            End::Second => self.awaits_second = false,
+        }
+    }
+}
+
+// Whether a sequence number is another one or one after it.
+fn reaches(sn: u32, earlier: u32) -> bool {
+    sn.wrapping_sub(earlier) < HALF
+}
+
+// How far an end is in what it has to send.
+#[derive(Clone, Copy, Debug, PartialEq, Eq)]
+struct Progress {
+    last: Option<LastSent>,
+
+    // It asked for a retransmission, and the other end hasn't responded.
+    has_asked: bool,
+}
+
+const NOTHING_SENT: Progress = Progress {
+    last: None,
+    has_asked: false,
+};
+
+impl Progress {
+    // The end sends a PDU.
+    fn send(&mut self, packet: &Packet) {
+        let stamp = Stamp {
+            ts: packet.ts,
+            record: packet.record,
+        };
+        let handed = match packet.kind {
+            Kind::Data | Kind::RetransmittedData => Some(stamp),
+            _ => self.last.and_then(|last| last.handed),
+        };
+        self.last = Some(LastSent {
+            kind: packet.kind,
+            sn: packet.sn,
+            stamp,
+            handed,
+        });
+        if packet.kind == Kind::RetransmissionRequest {
+            self.has_asked = true;
+        }
+    }
+
+    // The other end sends a PDU.
+    fn hear(&mut self, packet: &Packet) {
+        if packet.kind == Kind::RetransmissionResponse {
+            self.has_asked = false;
+        }
+    }
+
+    // What the end sent last, if it is connected, and no retransmission is asked for or under way.
+    fn at_rest(&self) -> Option<LastSent> {
+        let last = self.last?;
+        let rests = matches!(
+            last.kind,
+            Kind::Heartbeat | Kind::Data | Kind::RetransmissionRequest
+        );
+        if rests && !self.has_asked {
+            Some(last)
+        } else {
+            None
+        }
+    }
+}
+
+/// The points at which a connection seems to be quiet.
+///
+/// After such a point each end's first PDU confirms the last one that the other sent before it, or a later one. No
+/// request for a retransmission is unanswered, no retransmission is under way, and no copy of an earlier packet
+/// crosses later.
+#[derive(Debug, Drop)]
+pub struct QuietPoints {
+    first: Progress,
+    second: Progress,
+    candidates: Vec<Candidate>,
+}
+
+impl QuietPoints {
+    /// None yet.
+    pub fn new(alloc: Global) -> QuietPoints {
+        QuietPoints {
+            first: NOTHING_SENT,
+            second: NOTHING_SENT,
+            candidates: Vec::new(alloc),
+        }
+    }
+
+    /// The candidates, in their order.
+    pub fn candidates(&self) -> &[Candidate] {
+        self.candidates.as_slice()
+    }
+
+    /// The earliest point that was found.
+    pub fn earliest(&self) -> Option<Point> {
+        let candidate = self
+            .candidates
+            .iter()
+            .find(|candidate| candidate.is_found())?;
+        Some(candidate.point)
+    }
+
+    /// Takes a packet in that this end sent.
+    pub fn add(&mut self, sender: End, packet: &Packet, sighting: Sighting) -> Result<(), Fault>
+        ensures err { IfErr result (λ f. f ≡ no_memory) }
+    {
+        match sighting {
+            Sighting::First => self.send(sender, packet),
+            Sighting::Copy { first } | Sighting::DifferingCopy { first } => self.forget_from(first),
+            Sighting::Late | Sighting::TooOld => self.candidates.clear(),
+        }
+        self.propose(packet.record)
+    }
+
+    // A PDU crosses for the first time.
+    fn send(&mut self, sender: End, packet: &Packet) {
+        self.candidates
+            .retain(|candidate| candidate.stands_after(sender, packet));
+        for candidate in self.candidates.iter_mut() {
+            candidate.note(sender);
+        }
+        match sender {
+            End::First => {
+                self.first.send(packet);
+                self.second.hear(packet);
+            }
+            End::Second => {
+                self.second.send(packet);
+                self.first.hear(packet);
+            }
+        }
+    }
+
+    // A packet crosses again that was first seen in this record: no point between the two is quiet.
+    fn forget_from(&mut self, first: u32) {
+        self.candidates
+            .retain(|candidate| candidate.point.record < first);
+    }
+
+    // Makes the point after this record a candidate, if both ends are at rest.
+    fn propose(&mut self, record: u32) -> Result<(), Fault>
+        ensures err { IfErr result (λ f. f ≡ no_memory) }
+    {
+        let (Some(first), Some(second)) = (self.first.at_rest(), self.second.at_rest()) else {
+            return Ok(());
+        };
+        if self.candidates.len() >= MOST_CANDIDATES {
+            return Ok(());
+        }
+        let point = Point {
+            record,
+            first,
+            second,
+        };
+        let candidate = Candidate {
+            point,
+            awaits_first: true,
+            awaits_second: true,
+        };
+        if self.candidates.push(candidate).is_err() {
+            return Err(Fault::at(Fault::NO_MEMORY, 0));
+        }
+        Ok(())
+    }
+}

@@ -1,0 +1,151 @@
+//! The quiet points of a draft.
+ghost use Rattle.std.specs.Prelude.{◌≡◌, IfErr, OnOk};
+ghost use Rattle.rasta_pcap.specs.Fault.{write_failed};
+ghost use Rattle.rasta_pcap.specs.Devices.{HasFailed};
+
+use crate::quiet::{Candidate, LastSent, Point};
+use crate::text::{Part, write_parts, write_parts_if};
+use rasta_pcap::{Fault, Sink};
+
+// How many points are proposed.
+const MOST_POINTS: u64 = 11;
+
+// Writes what is known of an end at a point, after some words.
+fn write_end<W: Sink>(
+    writer: &mut W,
+    before: &'static str,
+    name: &'static str,
+    last: LastSent,
+) -> Result<(), Fault>
+    ensures steady { OnOk result (W.failure_count writer.new ≡ W.failure_count writer.old) }
+    ensures err { IfErr result (λ f. (f ≡ write_failed)
+        × HasFailed (W.failure_count writer.old) (W.failure_count writer.new)) }
+{
+    write_parts(
+        writer,
+        &[
+            Part::Words(before),
+            Part::Words("quiet."),
+            Part::Words(name),
+            Part::Words(" = { next_sn = "),
+            Part::Number(u64::from(last.sn.wrapping_add(1))),
+            Part::Words(", clock = "),
+            Part::Number(u64::from(last.stamp.ts)),
+        ],
+    )?;
+    let seen = Part::Number(u64::from(last.stamp.record));
+    match last.handed {
+        Some(handed) => write_parts(
+            writer,
+            &[
+                Part::Words(", handed_ts = "),
+                Part::Number(u64::from(handed.ts)),
+                Part::Words(" } # its last PDU is in record "),
+                seen,
+                Part::Words(", its last data in record "),
+                Part::Number(u64::from(handed.record)),
+                Part::Words("\n"),
+            ],
+        ),
+        None => write_parts(
+            writer,
+            &[
+                Part::Words(" } # its last PDU is in record "),
+                seen,
+                Part::Words("\n"),
+            ],
+        ),
+    }
+}
+
+// Writes both ends at a point, each after some words.
+fn write_ends<W: Sink>(
+    writer: &mut W,
+    before: &'static str,
+    point: &Point,
+    is_first_client: bool,
+) -> Result<(), Fault>
+    ensures steady { OnOk result (W.failure_count writer.new ≡ W.failure_count writer.old) }
+    ensures err { IfErr result (λ f. (f ≡ write_failed)
+        × HasFailed (W.failure_count writer.old) (W.failure_count writer.new)) }
+{
+    if is_first_client {
+        write_end(writer, before, "client", point.first)?;
+        write_end(writer, before, "server", point.second)
+    } else {
+        write_end(writer, before, "client", point.second)?;
+        write_end(writer, before, "server", point.first)
+    }
+}
+
+// Writes the point that the draft proposes.
+fn write_proposal<W: Sink>(
+    writer: &mut W,
+    point: &Point,
+    is_first_client: bool,
+) -> Result<(), Fault>
+    ensures steady { OnOk result (W.failure_count writer.new ≡ W.failure_count writer.old) }
+    ensures err { IfErr result (λ f. (f ≡ write_failed)
+        × HasFailed (W.failure_count writer.old) (W.failure_count writer.new)) }
+{
+    write_parts(
+        writer,
+        &[
+            Part::Words("\n# No opening was captured. After record "),
+            Part::Number(u64::from(point.record)),
+            Part::Words(" both ends seem to be up and to owe each other nothing: a quiet point.\n"),
+            Part::Words(
+                "# It is a premise of every answer: only the engineering data or a log can confirm it.\n",
+            ),
+        ],
+    )?;
+    write_ends(writer, "", point, is_first_client)
+}
+
+// Writes another point, as a comment.
+fn write_alternative<W: Sink>(
+    writer: &mut W,
+    point: &Point,
+    is_first_client: bool,
+) -> Result<(), Fault>
+    ensures steady { OnOk result (W.failure_count writer.new ≡ W.failure_count writer.old) }
+    ensures err { IfErr result (λ f. (f ≡ write_failed)
+        × HasFailed (W.failure_count writer.old) (W.failure_count writer.new)) }
+{
+    write_parts(
+        writer,
+        &[
+            Part::Words("\n# Another quiet point:\n# first_record = "),
+            Part::Number(u64::from(point.record).saturating_add(1)),
+            Part::Words("\n"),
+        ],
+    )?;
+    write_ends(writer, "# ", point, is_first_client)
+}
+
+/// Writes the quiet points: the first one as keys, and others as comments.
+pub fn write_quiet_points<W: Sink>(
+    writer: &mut W,
+    candidates: &[Candidate],
+    is_first_client: bool,
+) -> Result<(), Fault>
+    ensures steady { OnOk result (W.failure_count writer.new ≡ W.failure_count writer.old) }
+    ensures err { IfErr result (λ f. (f ≡ write_failed)
+        × HasFailed (W.failure_count writer.old) (W.failure_count writer.new)) }
+{
+    let mut written = 0u64;
+    for candidate in candidates {
+        if candidate.is_found() && written < MOST_POINTS {
+            if written == 0 {
+                write_proposal(writer, &candidate.point, is_first_client)?;
+            } else {
+                write_alternative(writer, &candidate.point, is_first_client)?;
+            }
+            written = written.saturating_add(1);
+        }
+    }
+    let none = [Part::Words(
+        "\n# No opening was captured. An audit needs a quiet point, from the engineering data or a log.\n",
+    )];
+    write_parts_if(writer, written == 0, &none)
+}
