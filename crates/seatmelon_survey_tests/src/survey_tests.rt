@@ -120,9 +120,15 @@ fn line_of_times(alloc: Global, is_in_nanoseconds: bool) -> Option<String> {
 #[test]
 fn times(rt: HostRuntime) -> Result<(), Fail> {
     let line = line_of_times(rt.alloc(), false).ok_or("a line")?;
-    assert_eq!(rt; line.as_str(), "  captured from 2024-11-24 12:00:00.000005 to 2024-11-24 12:00:00.000005 UTC");
+    assert_eq!(rt;
+        line.as_str(),
+        "  captured from 2024-11-24 12:00:00.000005 to 2024-11-24 12:00:00.000005 UTC"
+    );
     let line = line_of_times(rt.alloc(), true).ok_or("a line")?;
-    assert_eq!(rt; line.as_str(), "  captured from 2024-11-24 12:00:00.000000005 to 2024-11-24 12:00:00.000000005 UTC");
+    assert_eq!(rt;
+        line.as_str(),
+        "  captured from 2024-11-24 12:00:00.000000005 to 2024-11-24 12:00:00.000000005 UTC"
+    );
     Ok(())
 }
 
