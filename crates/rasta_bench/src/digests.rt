@@ -7,8 +7,8 @@ use std::io;
 use std::rt::Clock;
 use std::time::Instant;
 
-// The start words of RFC 1320, section 3.3.
-const WORDS: [u32; 4] = [0x6745_2301, 0xefcd_ab89, 0x98ba_dcfe, 0x1032_5476];
+/// The start words of RFC 1320, section 3.3.
+pub const WORDS: [u32; 4] = [0x6745_2301, 0xefcd_ab89, 0x98ba_dcfe, 0x1032_5476];
 
 // How often each is measured.
 const TURNS: u32 = 9;

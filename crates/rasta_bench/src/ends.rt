@@ -1,6 +1,6 @@
 //! An end that offers units, is asked for all of them again, and so on: its time has to grow with the
 //! number of its PDUs.
-use crate::digests::nanos_since;
+use crate::digests::{WORDS, nanos_since};
 use rasta_end::{End, Why};
 use rasta_pdu::{Body, Channel, Endpoint, Kind, Params, PduParts, Side, decode, encode};
 use std::alloc::Global;
@@ -11,7 +11,7 @@ use std::time::Instant;
 // Units between two retransmission requests, all of which are sent again.
 const UNITS: u32 = 4000;
 
-const CHANNELS: [Channel; 1] = [Channel {
+pub const CHANNELS: [Channel; 1] = [Channel {
     client: Endpoint {
         address: [10, 0, 0, 1],
         port: 5000,
@@ -30,8 +30,22 @@ const OPENING: Body<&[&[u8]]> = Body::Opening {
     reserved: [0; 8],
 };
 
-fn params() -> Option<Params> {
-    Params::new(96, 97, 0, [0; 4], 0, 20, 1800, 0, 1, 1, &CHANNELS, None)
+/// Parameters of a connection with this length of the safety code.
+pub fn params(code_length: u8) -> Option<Params> {
+    Params::new(
+        96,
+        97,
+        code_length,
+        WORDS,
+        0,
+        20,
+        1800,
+        0,
+        1,
+        1,
+        &CHANNELS,
+        None,
+    )
 }
 
 // What the client does with a datagram that begins there: it makes it for this reason, or takes it.
@@ -116,7 +130,7 @@ impl Plan {
 
 fn make_plan(alloc: Global, rounds: u32) -> Option<Plan> {
     let mut plan = Plan {
-        params: params()?,
+        params: params(0)?,
         bytes: Vec::new(alloc),
         steps: Vec::new(alloc),
         sn: 100,

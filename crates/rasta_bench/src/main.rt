@@ -1,14 +1,16 @@
-//! Timings of `rasta_md4`, `rasta_end` and `rasta_cert`. Without the argument `measure` a usage line is all that is
-//! printed.
+//! Timings of each layer: records, frames, digests, PDUs, an end, certificates. Without the argument `measure` a usage
+//! line is all that is printed.
 #![tactic(auto)]
 
 mod certificates;
 mod digests;
 mod ends;
+mod layers;
 
 use certificates::measure_certificates;
 use digests::{measure_long, measure_short};
 use ends::measure_ends;
+use layers::measure_layers;
 use std::rt::Env;
 use std::{env, io};
 
@@ -24,6 +26,7 @@ fn is_asked(rt: &(impl Env + AllocGlobal)) -> io::Result<bool> {
 
 fn main(rt: HostRuntime) -> io::Result<()> {
     if is_asked(&rt)? {
+        measure_layers(&rt)?;
         measure_long(&rt)?;
         measure_short(&rt)?;
         measure_ends(&rt, 25)?;
