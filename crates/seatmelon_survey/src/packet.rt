@@ -27,6 +27,8 @@ const CS_AT: usize = 24;
 
 const TS_AT: usize = 28;
 
+const CTS_AT: usize = 32;
+
 const PAYLOAD_AT: usize = 36;
 
 const SENDMAX_AT: usize = 40;
@@ -56,6 +58,7 @@ pub struct Packet {
     pub sn: u32,
     pub cs: u32,
     pub ts: u32,
+    pub cts: u32,
     pub fits: Fits,
 
     /// Of a connection request or response.
@@ -157,6 +160,7 @@ pub fn packet_in(found: &Record<'_>, time: Option<CaptureTime>) -> Option<Packet
         sn: u32_at(bytes, SN_AT),
         cs: u32_at(bytes, CS_AT),
         ts: u32_at(bytes, TS_AT),
+        cts: u32_at(bytes, CTS_AT),
         fits,
         offer: offer_in(found.number, kind, bytes),
         reason: reason_in(kind, bytes),

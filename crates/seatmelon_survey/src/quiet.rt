@@ -19,13 +19,32 @@ pub struct Stamp {
     pub record: u32,
 }
 
+/// The time stamp of an end's last data, and how it is known.
+#[derive(Clone, Copy, Debug, PartialEq, Eq)]
+pub enum LastData {
+    /// The data was captured in this record.
+    Sent(Stamp),
+
+    /// It was not: in this record the other end confirms a time stamp that is older than all that were captured.
+    Confirmed(Stamp),
+}
+
 /// What an end sent last: the sequence number, the time stamp, and the time stamp of its last data.
 #[derive(Clone, Copy, Debug, PartialEq, Eq)]
 pub struct LastSent {
     kind: Kind,
     pub sn: u32,
     pub stamp: Stamp,
-    pub handed: Option<Stamp>,
+    pub data: Option<LastData>,
+}
+
+impl LastSent {
+    // The other end has confirmed an older time stamp than all that were captured.
+    fn note_older(&mut self, confirmed: Stamp) {
+        if self.data.is_none() {
+            self.data = Some(LastData::Confirmed(confirmed));
+        }
+    }
 }
 
 /// A point of a connection: after which record, and what each end had sent last.
@@ -70,23 +89,33 @@ impl Candidate {
         !self.awaits(sender) || reaches(packet.cs, self.due(sender))
     }
 
-    // The end has sent a PDU that confirms what is due.
-    fn note(&mut self, sender: End) {
-        match sender {
-            End::First => self.awaits_first = false,
-            End::Second => self.awaits_second = false,
+    // The end has sent a PDU that confirms what is due, and maybe a time stamp that is older than the capture.
+    fn note(&mut self, sender: End, older: Option<Stamp>) {
+        let other = match sender {
+            End::First => {
+                self.awaits_first = false;
+                &mut self.point.second
+            }
+            End::Second => {
+                self.awaits_second = false;
+                &mut self.point.first
+            }
+        };
+        if let Some(confirmed) = older {
+            other.note_older(confirmed);
         }
     }
 }
 
-// Whether a sequence number is another one or one after it.
-fn reaches(sn: u32, earlier: u32) -> bool {
-    sn.wrapping_sub(earlier) < HALF
+// Whether a number, which wraps around, is another one or one after it.
+fn reaches(number: u32, earlier: u32) -> bool {
+    number.wrapping_sub(earlier) < HALF
 }
 
 // How far an end is in what it has to send.
 #[derive(Clone, Copy, Debug, PartialEq, Eq)]
 struct Progress {
+    first_ts: Option<u32>,
     last: Option<LastSent>,
 
     // It asked for a retransmission, and the other end hasn't responded.
@@ -94,6 +123,7 @@ struct Progress {
 }
 
 const NOTHING_SENT: Progress = Progress {
+    first_ts: None,
     last: None,
     has_asked: false,
 };
@@ -105,15 +135,18 @@ impl Progress {
             ts: packet.ts,
             record: packet.record,
         };
-        let handed = match packet.kind {
-            Kind::Data | Kind::RetransmittedData => Some(stamp),
-            _ => self.last.and_then(|last| last.handed),
+        let data = match packet.kind {
+            Kind::Data | Kind::RetransmittedData => Some(LastData::Sent(stamp)),
+            _ => self.last.and_then(|last| last.data),
         };
+        if self.first_ts.is_none() {
+            self.first_ts = Some(packet.ts);
+        }
         self.last = Some(LastSent {
             kind: packet.kind,
             sn: packet.sn,
             stamp,
-            handed,
+            data,
         });
         if packet.kind == Kind::RetransmissionRequest {
             self.has_asked = true;
@@ -125,6 +158,18 @@ impl Progress {
         if packet.kind == Kind::RetransmissionResponse {
             self.has_asked = false;
         }
+    }
+
+    // What the other end's PDU confirms, if it is older than all that this end sent since the capture began.
+    fn older_than_all(&self, packet: &Packet) -> Option<Stamp> {
+        let first = self.first_ts?;
+        if reaches(packet.cts, first) {
+            return None;
+        }
+        Some(Stamp {
+            ts: packet.cts,
+            record: packet.record,
+        })
     }
 
     // What the end sent last, if it is connected, and no retransmission is asked for or under way.
@@ -190,12 +235,20 @@ impl QuietPoints {
         self.propose(packet.record)
     }
 
+    fn other(&self, sender: End) -> &Progress {
+        match sender {
+            End::First => &self.second,
+            End::Second => &self.first,
+        }
+    }
+
     // A PDU crosses for the first time.
     fn send(&mut self, sender: End, packet: &Packet) {
         self.candidates
             .retain(|candidate| candidate.stands_after(sender, packet));
+        let older = self.other(sender).older_than_all(packet);
         for candidate in self.candidates.iter_mut() {
-            candidate.note(sender);
+            candidate.note(sender, older);
         }
         match sender {
             End::First => {

@@ -3,9 +3,12 @@ ghost use Rattle.std.specs.Prelude.{◌≡◌, IfErr, OnOk};
 ghost use Rattle.rasta_pcap.specs.Fault.{write_failed};
 ghost use Rattle.rasta_pcap.specs.Devices.{HasFailed};
 
-use crate::quiet::{Candidate, LastSent, Point};
+use crate::quiet::{Candidate, LastData, LastSent, Point};
 use crate::text::{Part, write_parts, write_parts_if};
 use rasta_pcap::{Fault, Sink};
+
+// What stands before the record of an end's last PDU.
+const SEEN_IN: &str = " } # its last PDU is in record ";
 
 // How many points are proposed.
 const MOST_POINTS: u64 = 11;
@@ -34,28 +37,26 @@ fn write_end<W: Sink>(
         ],
     )?;
     let seen = Part::Number(u64::from(last.stamp.record));
-    match last.handed {
-        Some(handed) => write_parts(
-            writer,
-            &[
-                Part::Words(", handed_ts = "),
-                Part::Number(u64::from(handed.ts)),
-                Part::Words(" } # its last PDU is in record "),
-                seen,
-                Part::Words(", its last data in record "),
-                Part::Number(u64::from(handed.record)),
-                Part::Words("\n"),
-            ],
-        ),
-        None => write_parts(
-            writer,
-            &[
-                Part::Words(" } # its last PDU is in record "),
-                seen,
-                Part::Words("\n"),
-            ],
-        ),
-    }
+    let (data, words) = match last.data {
+        Some(LastData::Sent(data)) => (data, ", its last data in record "),
+        Some(LastData::Confirmed(data)) => (data, "; an older time stamp is confirmed in record "),
+        None => {
+            let rest = [Part::Words(SEEN_IN), seen, Part::Words("\n")];
+            return write_parts(writer, &rest);
+        }
+    };
+    write_parts(
+        writer,
+        &[
+            Part::Words(", handed_ts = "),
+            Part::Number(u64::from(data.ts)),
+            Part::Words(SEEN_IN),
+            seen,
+            Part::Words(words),
+            Part::Number(u64::from(data.record)),
+            Part::Words("\n"),
+        ],
+    )
 }
 
 // Writes both ends at a point, each after some words.

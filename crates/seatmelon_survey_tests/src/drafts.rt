@@ -376,17 +376,17 @@ last_record = 6 # the connection's last packet
 # No opening was captured. After record 2 both ends seem to be up and to owe each other nothing: a quiet point.
 # It is a premise of every answer: only the engineering data or a log can confirm it.
 quiet.client = { next_sn = 103, clock = 1020, handed_ts = 1020 } # its last PDU is in record 1, its last data in record 1
-quiet.server = { next_sn = 502, clock = 9050 } # its last PDU is in record 2
+quiet.server = { next_sn = 502, clock = 9050, handed_ts = 9000 } # its last PDU is in record 2; an older time stamp is confirmed in record 3
 
 # Another quiet point:
 # first_record = 4
 # quiet.client = { next_sn = 104, clock = 1030, handed_ts = 1020 } # its last PDU is in record 3, its last data in record 1
-# quiet.server = { next_sn = 502, clock = 9050 } # its last PDU is in record 2
+# quiet.server = { next_sn = 502, clock = 9050, handed_ts = 9000 } # its last PDU is in record 2; an older time stamp is confirmed in record 5
 
 # Another quiet point:
 # first_record = 5
 # quiet.client = { next_sn = 104, clock = 1030, handed_ts = 1020 } # its last PDU is in record 3, its last data in record 1
-# quiet.server = { next_sn = 503, clock = 9052 } # its last PDU is in record 4
+# quiet.server = { next_sn = 503, clock = 9052, handed_ts = 9000 } # its last PDU is in record 4; an older time stamp is confirmed in record 5
 
 [[channel]]
 client = \"10.0.0.1:5000\" # seen in record 1
@@ -437,7 +437,7 @@ last_record = 7 # the connection's last packet
 # No opening was captured. After record 5 both ends seem to be up and to owe each other nothing: a quiet point.
 # It is a premise of every answer: only the engineering data or a log can confirm it.
 quiet.client = { next_sn = 104, clock = 1030, handed_ts = 1020 } # its last PDU is in record 3, its last data in record 1
-quiet.server = { next_sn = 503, clock = 9052 } # its last PDU is in record 4
+quiet.server = { next_sn = 503, clock = 9052, handed_ts = 9000 } # its last PDU is in record 4; an older time stamp is confirmed in record 6
 
 [[channel]]
 client = \"10.0.0.1:5000\" # seen in record 1
