@@ -25,7 +25,7 @@ pub enum LastData {
     /// The data was captured in this record.
     Sent(Stamp),
 
-    /// It was not: in this record the other end confirms a time stamp that is older than all that were captured.
+    /// It was not: in this record the other end confirms a time stamp that is from before the capture.
     Confirmed(Stamp),
 }
 
@@ -39,9 +39,9 @@ pub struct LastSent {
 }
 
 impl LastSent {
-    // The other end has confirmed an older time stamp than all that were captured.
+    // The other end has confirmed a time stamp from before the capture.
     fn note_older(&mut self, confirmed: Stamp) {
-        if self.data.is_none() {
+        if self.data.is_none() && confirmed.ts != self.stamp.ts {
             self.data = Some(LastData::Confirmed(confirmed));
         }
     }
@@ -89,7 +89,7 @@ impl Candidate {
         !self.awaits(sender) || reaches(packet.cs, self.due(sender))
     }
 
-    // The end has sent a PDU that confirms what is due, and maybe a time stamp that is older than the capture.
+    // The end has sent a PDU that confirms what is due, and maybe a time stamp from before the capture.
     fn note(&mut self, sender: End, older: Option<Stamp>) {
         let other = match sender {
             End::First => {
@@ -160,10 +160,10 @@ impl Progress {
         }
     }
 
-    // What the other end's PDU confirms, if it is older than all that this end sent since the capture began.
-    fn older_than_all(&self, packet: &Packet) -> Option<Stamp> {
+    // The time stamp that the other end's PDU confirms, if none that was captured is earlier.
+    fn older(&self, packet: &Packet) -> Option<Stamp> {
         let first = self.first_ts?;
-        if reaches(packet.cts, first) {
+        if !reaches(first, packet.cts) {
             return None;
         }
         Some(Stamp {
@@ -246,7 +246,7 @@ impl QuietPoints {
     fn send(&mut self, sender: End, packet: &Packet) {
         self.candidates
             .retain(|candidate| candidate.stands_after(sender, packet));
-        let older = self.other(sender).older_than_all(packet);
+        let older = self.other(sender).older(packet);
         for candidate in self.candidates.iter_mut() {
             candidate.note(sender, older);
         }
