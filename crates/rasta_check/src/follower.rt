@@ -1,5 +1,5 @@
 //! One script, followed entry by entry.
-ghost use Rattle.std.specs.Prelude.{◌≡◌, ◌⊎◌, ◌==◌, ℕ, false, length, suc, ◌+◌, ◌*◌, ◌<◌, ◌≤◌, ◌^◌, Some, None, Ok, Err, OnOk, IfErr, MatchResult};
+ghost use Rattle.std.specs.Prelude.{◌≡◌, ◌⊎◌, ◌==◌, ℕ, false, length, suc, ◌+◌, ◌*◌, ◌<◌, ◌≤◌, ◌^◌, Some, None, Ok, Err, OnOk, IfOk, IfErr, MatchResult};
 ghost use Rattle.rasta_pcap.specs.Fault.{fault_of_end, no_memory, make_missing};
 ghost use Rattle.rasta_pdu.specs.Pdu.{value_of};
 ghost use Rattle.rasta_end.specs.TakeRule.{take_fault, after_take};
@@ -14,7 +14,7 @@ use rasta_cert::Entry;
 use rasta_end::{End, Why};
 use rasta_pcap::{Fault, Side};
 use rasta_pdu::{Params, Pdu};
-use std::alloc::Global;
+use std::alloc::{AllocError, Global};
 use std::marker::Model;
 
 /// An end that follows its script.
@@ -193,18 +193,26 @@ impl<'a> Follower<'a> {
         }
     }
 
-    // At the start of a script.
-    fn start(alloc: Global, params: &Params, side: Side) -> Follower<'a>
-        ensures { result ≡ record { params = params.now; side = side; entry = 1; cursor = at_start (start_of params.now side) } }
+    // At the start of a script, with room for so many PDUs made and handed up.
+    fn start(
+        alloc: Global,
+        params: &Params,
+        side: Side,
+        made: u32,
+        handed: u32,
+    ) -> Result<Follower<'a>, AllocError>
+        ensures { IfOk result (λ f. f ≡ record { params = params.now; side = side; entry = 1; cursor = at_start (start_of params.now side) }) }
     {
-        Follower {
+        let mut end = End::start(alloc, params, side);
+        end.reserve(made as usize, handed as usize)?;
+        Ok(Follower {
             side,
             entry: 1,
             level: 0,
             made: 0,
             taken: 0,
-            end: End::start(alloc, params, side),
-        }
+            end,
+        })
     }
 
     // After the last entry: the whole sent list has to be made.
@@ -236,7 +244,10 @@ pub(crate) fn follow<'a, S: SentList<'a>>(
         (λ e. (e.params ≡ params.now) × (Checking.follow params.now side packets (S.content own.now) (S.content peer.now) script.now ≡ Ok e.state))
         (λ f. (Checking.follow params.now side packets (S.content own.now) (S.content peer.now) script.now ≡ Err f) ⊎ (f ≡ no_memory)) }
 {
-    let mut follower = Follower::start(alloc, params, side);
+    let mut follower = match Follower::start(alloc, params, side, own.len(), peer.len()) {
+        Ok(follower) => follower,
+        Err(_) => return Err(Fault::at(Fault::NO_MEMORY, 0)),
+    };
     for entry in script {
         follower.next(packets, own, peer, *entry)?;
     }

@@ -15,7 +15,7 @@ use crate::owed::Owes;
 use crate::own::{Own, QuietPdu};
 use crate::phase::Phase;
 use rasta_pdu::{Params, Pdu, QuietEnd, Side};
-use std::alloc::Global;
+use std::alloc::{AllocError, Global};
 use std::marker::Model;
 
 /// One end of a connection, with the parameters by which it is judged.
@@ -168,6 +168,15 @@ impl<'a> End<'a> {
                 quiet.client,
             ),
         }
+    }
+
+    /// Makes room for so many more PDUs made, and so many more handed up; nothing else changes.
+    pub fn reserve(&mut self, made: usize, handed: usize) -> Result<(), AllocError>
+        ensures { self.new ≡ self.old }
+    {
+        self.own.reserve(made)?;
+        self.handed.try_reserve_exact(handed)?;
+        self.handed_positions.try_reserve_exact(handed)
     }
 
     /// The phase.

@@ -88,6 +88,13 @@ impl<'a> Own<'a> {
         }
     }
 
+    /// Makes room for so many PDUs more; nothing else changes.
+    pub fn reserve(&mut self, additional: usize) -> Result<(), AllocError>
+        ensures { self.new ≡ self.old }
+    {
+        self.made.try_reserve_exact(additional)
+    }
+
     /// How many PDUs there are, the quiet one too.
     pub fn len(&self) -> usize
         ensures value { result ≡ length self.now.made }
