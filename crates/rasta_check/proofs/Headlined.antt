@@ -158,10 +158,12 @@ module _ (p : Parameters) (packets : List Packet) (c s : List FirstCopy) (h : Is
         server_up : HandsUpListed ws w Server report.server_taken
         server_up =
             let us = surely_taken p Client c s in
-            let offered = offered_first w.server.state w.client.state (server_hands_up p ws w c s r run_c run_s h.few_client h.few_server) in
+            let up = server_hands_up p ws w c s r run_c run_s h.few_client h.few_server in
+            let offered = offered_first w.server.state w.client.state up in
             let first = server_first p ws w c s r run_c run_s h.few_client h.few_server in
             let list : report.server_taken ≡ numbered_from 0 (messages_taken us) = ap (λ (x : Explained). x.server_taken) ended.says in
             record {
+              labels = up.labels;
               later = offered.0;
               units = offered.1;
               rest = joined first.0;
@@ -182,10 +184,12 @@ module _ (p : Parameters) (packets : List Packet) (c s : List FirstCopy) (h : Is
         client_up : HandsUpListed ws w Client report.client_taken
         client_up =
             let us = surely_taken p Server s c in
-            let offered = offered_first w.client.state w.server.state (client_hands_up p ws w c s r run_c run_s h.few_client h.few_server) in
+            let up = client_hands_up p ws w c s r run_c run_s h.few_client h.few_server in
+            let offered = offered_first w.client.state w.server.state up in
             let first = client_first p ws w c s r run_c run_s h.few_client h.few_server in
             let list : report.client_taken ≡ numbered_from 0 (messages_taken us) = ap (λ (x : Explained). x.client_taken) ended.says in
             record {
+              labels = up.labels;
               later = offered.0;
               units = offered.1;
               rest = joined first.0;

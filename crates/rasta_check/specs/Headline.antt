@@ -9,6 +9,7 @@ use Rattle.rasta_pdu.specs.Pdu.{SafetyPdu, messages_in}
 use Rattle.rasta_end.specs.State.{EndState, Made}
 use Rattle.rasta_end.specs.MakeRule.{is_data}
 use Rattle.rasta_check.specs.World.{World, Reaches}
+use Rattle.rasta_check.specs.Laws.{HandsUp}
 use Rattle.rasta_check.specs.Theorem.{other_side, end_of, Appends, units_handed}
 use Rattle.rasta_check.specs.Listed.{ListedMessage}
 use Rattle.rasta_check.specs.Report.{Explained}
@@ -25,10 +26,11 @@ messages_in_list listed = map (λ (m : ListedMessage). m.message) listed
 abbrev pub units_offered : EndState → List (List (List ℕ))
 units_offered e = map (λ (m : Made). messages_in m.pdu.body) (filter (λ (m : Made). is_data m.pdu.kind) e.made)
 
--- in this run this side handed up the units that its peer offered, from the first on, once each and in order, and their messages begin
--- with those of the list; and the packet at the proof place of each message of the list is appended to a world of the run, and to each
--- such world the message had been handed up
+-- in this run this side handed up the units 0, 1, .. of its peer, once each and in order, which are the first that its peer offered, and
+-- their messages begin with those of the list; and the packet at the proof place of each message of the list is appended to a world of
+-- the run, and to each such world the message had been handed up
 pub record HandsUpListed (ws : List World) (w : World) (side : Side) (listed : List ListedMessage) : Type 0 where
+  pub labels : HandsUp (end_of w side) (end_of w (other_side side))
   pub later : List (List (List ℕ))
   pub units : units_offered (end_of w (other_side side)) ≡ units_handed (end_of w side) ++ later
   pub rest : List (List ℕ)
