@@ -93,3 +93,8 @@ unfolding md4 holding
 md4_is w m s held =
     let registers = fold-after w m (padding (length m)) in
     rw (held, padding-mod (length m)) (ap (flat_map (little_bytes 4)) registers)
+
+-- the digest of a message, from its whole blocks and what follows them
+pub md4_whole : (w m : List ℕ) → md4 w m ≡ flat_map (little_bytes 4) (fold compress (fold compress w (blocks m)) (blocks (past_blocks m ++ padding (length m))))
+unfolding md4
+md4_whole w m = ap (flat_map (little_bytes 4)) (fold-after w m (padding (length m)))

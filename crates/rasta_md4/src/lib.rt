@@ -85,6 +85,17 @@ impl Md4 {
     }
 }
 
+/// The digest of a whole message, of which only what follows its last whole block is copied.
+pub fn digest(words: [u32; 4], message: &[u8]) -> [u8; DIGEST_LEN]
+    ensures { result ≡ md4 words message.now }
+{
+    let used = message.len() % BLOCK_LEN;
+    let tail = tail_of(&message[message.len() - used..], message.len() as u64);
+    let whole = after_blocks(words, message);
+    let registers = after_blocks(whole, &tail[..tail_len(used)]);
+    digest_of(registers)
+}
+
 // Works off the blocks of the first `used` bytes of `buffer` followed by `bytes`, and leaves the
 // bytes after them at the beginning of `buffer`.
 #[inline]

@@ -9,6 +9,7 @@ use crate::fault::Fault;
 
 // Reads so many bytes into the front of the buffer, or all up to the end of input, and says how many
 // came.
+#[inline(always)]
 pub fn fill<S: Source>(reader: &mut S, buf: &mut [u8], len: usize) -> Result<usize, Fault>
     requires { len ≤ length buf.old }
     ensures bound { IfOk result (λ n. n ≤ length buf.new) }

@@ -59,6 +59,7 @@ impl RecordBuffer {
     }
 
     // Reads so many bytes, or all up to the end of input.
+    #[inline(always)]
     fn read<S: Source>(&mut self, reader: &mut S, len: usize) -> Result<(), Fault>
         requires { len ≤ max_captured }
         ensures filled { OnOk result (IsFilled len (S.remaining reader.old) (S.remaining reader.new) (bytes_in self.new)) }
@@ -89,6 +90,7 @@ fn make_room(memory: &mut Vec<u8>, len: usize) -> Result<(), Fault>
 
 // Reads so many bytes into the front of the memory, or all up to the end of input, and says how many
 // came.
+#[inline(always)]
 fn read_front<S: Source>(reader: &mut S, memory: &mut Vec<u8>, len: usize) -> Result<usize, Fault>
     ensures kept { vec_len memory.old ≤ vec_len memory.new }
     ensures grown { vec_len memory.new ≤ max (vec_len memory.old) len }
@@ -105,6 +107,7 @@ fn read_front<S: Source>(reader: &mut S, memory: &mut Vec<u8>, len: usize) -> Re
 
 // What a record's front says, of which fewer than 16 bytes stand at the end of input alone: none at
 // the exact end, or how many bytes were captured.
+#[inline(always)]
 fn judge_front(order: Endianness, count: u32, front: &[u8]) -> Result<Option<usize>, Fault>
     requires { count ≤ max_records }
     ensures { result ≡ front_of order count front.now }
@@ -189,6 +192,7 @@ impl RecordReader {
     ///
     /// Refused by [`Fault::NO_MEMORY`], [`Fault::READ_FAILED`] and as [`Pcap::next_record`] refuses it.
     /// After the end and after a refusal nothing is read, and every later call answers the same.
+    #[inline(always)]
     pub fn advance<S: Source>(&mut self, reader: &mut S) -> Result<Option<u32>, Fault>
         ensures step { Advances self.old self.new (S.remaining reader.old) (S.remaining reader.new)
             (S.failure_count reader.old) (S.failure_count reader.new) result }
@@ -208,6 +212,7 @@ impl RecordReader {
         answer
     }
 
+    #[inline(always)]
     fn read_record<S: Source>(&mut self, reader: &mut S) -> Result<Option<u32>, Fault>
         ensures found { IfOk result (λ o. MatchOption o
             (MeetsEnd (S.remaining reader.old) (S.remaining reader.new))

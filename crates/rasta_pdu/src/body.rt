@@ -97,6 +97,7 @@ fn nothing<'a>(payload: &'a [u8]) -> Option<Body<&'a [u8]>>
 }
 
 // The body of this kind that a payload spells.
+#[inline(always)]
 pub fn body_in<'a>(kind: Kind, payload: &'a [u8]) -> Option<Body<&'a [u8]>>
     ensures { option_map body_of result ≡ body_in (layout_of kind) payload.now }
 {

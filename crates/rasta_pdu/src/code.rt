@@ -5,16 +5,13 @@ ghost use Rattle.rasta_pdu.specs.Params.{AreParameters};
 ghost use Rattle.rasta_pdu.specs.Pdu.{code_over};
 
 use crate::params::Params;
-use rasta_md4::Md4;
 
 // The digest of the bytes, from the recorded start words.
 pub fn digest(params: &Params, covered: &[u8]) -> [u8; 16]
     ensures value { result ≡ md4 params.now.md4_start covered.now }
     ensures valid { AreParameters params.now }
 {
-    let mut md4 = Md4::with_words(params.md4_start());
-    md4.update(covered);
-    md4.finish()
+    rasta_md4::digest(params.md4_start(), covered)
 }
 
 // Whether this is the safety code over the bytes.

@@ -110,6 +110,7 @@ fn fields<'a>(
     }
 }
 
+#[inline(always)]
 #[tactic(auto, unfolding(crate::specs::Pdu::decode_of))]
 fn read<'a>(params: &Params, side: Side, bytes: &'a [u8]) -> Result<Pdu<'a>, Fault>
     ensures value { MatchResult result (λ d. decode_of params.now side bytes.now ≡ Ok (value_of d))
@@ -150,6 +151,7 @@ fn read<'a>(params: &Params, side: Side, bytes: &'a [u8]) -> Result<Pdu<'a>, Fau
 /// Refused, in this order, by [`Fault::REDUNDANCY_LENGTH`], [`Fault::TOO_SHORT`],
 /// [`Fault::SAFETY_LENGTH`], [`Fault::TYPE`], [`Fault::PAYLOAD`], [`Fault::CODE`] and [`Fault::IDS`],
 /// at place 0.
+#[inline(always)]
 pub fn decode<'a>(params: &Params, side: Side, bytes: &'a [u8]) -> Result<Pdu<'a>, Fault>
     ensures value { MatchResult result (λ d. decode_of params.now side bytes.now ≡ Ok (value_of d))
         (λ f. decode_of params.now side bytes.now ≡ Err f) }

@@ -122,6 +122,7 @@ fn sender(frame: &[u8], channel: &Channel) -> Option<Side>
 }
 
 // The number of the first channel between whose ends the frame goes, and the side that sends.
+#[inline(always)]
 fn direction(frame: &[u8], channels: &[Channel]) -> Option<(u8, Side)>
     requires channels { length channels.now ≤ 255 }
     requires addresses { 34 ≤ length frame.now }
@@ -137,6 +138,7 @@ fn direction(frame: &[u8], channels: &[Channel]) -> Option<(u8, Side)>
 }
 
 // The datagram in a frame that has no tag.
+#[inline(always)]
 #[tactic(auto, unfolding(crate::specs::Frame::found_by))]
 fn untagged<'a>(frame: &'a [u8], channels: &[Channel]) -> Result<Option<Datagram<'a>>, Fault>
     requires { length channels.now ≤ 255 }
