@@ -5,6 +5,8 @@ use clap::error::ErrorKind;
 use clap::{Arg, ArgMatches, Command, Error};
 use rasta_pdu::Fault;
 use std::alloc::{AllocError, Global};
+use std::io;
+use std::rt::Env;
 
 // A subcommand that takes a capture and a parameter file.
 fn subcommand<'a>(alloc: Global, name: &'a str) -> Result<Command<'a>, AllocError> {
@@ -83,5 +85,17 @@ pub fn form<'a>(alloc: Global, words: &'a [String]) -> Result<Form<'a>, Failure>
     match command.try_get_matches_from(words) {
         Ok(matches) => form_of(&matches).ok_or(Failure::Usage),
         Err(error) => Err(failure_of(&error)),
+    }
+}
+
+/// The words after the program's name.
+///
+/// Refused by [`Failure::Usage`] where one of them is no text, and by [`Fault::NO_MEMORY`].
+pub fn words<R: AllocGlobal + Env>(rt: &R) -> Result<Vec<String>, Failure> {
+    let no_memory = Failure::Refused(Fault::at(Fault::NO_MEMORY, 0));
+    match std::env::args(rt) {
+        Ok(words) => words.skip(1).collect(rt.alloc()).map_err(|_| no_memory),
+        Err(error) if error.kind() == io::ErrorKind::OutOfMemory => Err(no_memory),
+        Err(_) => Err(Failure::Usage),
     }
 }

@@ -92,10 +92,12 @@ Streams-ends whole rest place s line oi mi fi oo mo fo h e is out = record {
   at_end = e.at_end;
   output = h.output ++ line;
   appended = Appends-trans oo mo fo h.output line h.appended out;
-  whole = λ more follows. ap (text_by whole) (append_assoc h.input e.bytes more) ∙ h.text (e.bytes ++ more)
-      ∙ ap (λ t. h.output ++ text_from place t) (e.each more follows) ∙ ap (λ (l : List ℕ). h.output ++ l) is;
-  answered = λ more follows. ap (status_by whole) (append_assoc h.input e.bytes more) ∙ h.status (e.bytes ++ more)
-      ∙ ap (λ (t : Shown). status_after t.fault) (e.each more follows);
+  holds = λ more follows. (
+    sym (ap (text_by whole) (append_assoc h.input e.bytes more) ∙ h.text (e.bytes ++ more)
+        ∙ ap (λ t. h.output ++ text_from place t) (e.each more follows) ∙ ap (λ (l : List ℕ). h.output ++ l) is),
+    sym (ap (status_by whole) (append_assoc h.input e.bytes more) ∙ h.status (e.bytes ++ more)
+        ∙ ap (λ (t : Shown). status_after t.fault) (e.each more follows)),
+  );
 }
 
 -- the last line begun
@@ -109,7 +111,7 @@ Streams-ends_begun whole rest place s line oi mi fi oo mo fo h e is begun = reco
   at_end = e.at_end;
   output = h.output ++ begun.0;
   appended = Appends-trans oo mo fo h.output begun.0 h.appended begun.2;
-  begins = λ more follows. (
+  holds = λ more follows. (
     begun.1,
     ap (text_by whole) (append_assoc h.input e.bytes more) ∙ h.text (e.bytes ++ more)
         ∙ ap (λ t. h.output ++ text_from place t) (e.each more follows) ∙ ap (λ (l : List ℕ). h.output ++ l) (is ∙ begun.3)
@@ -128,7 +130,7 @@ Streams-packet_begun whole rest next place q oi mi fi oo mo fo h seen begun = re
   at_end = λ h. absurd (cc);
   output = h.output ++ begun.0;
   appended = Appends-trans oo mo fo h.output begun.0 h.appended begun.2;
-  begins = λ more follows.
+  holds = λ more follows.
       let after = text_from (place + 1) (next more) in (
         begun.1 ++ after,
         ap (text_by whole) (append_assoc h.input seen.bytes more) ∙ h.text (seen.bytes ++ more)
@@ -149,7 +151,7 @@ Streams-broken whole rest place bytes oi mi fi oo fo h consumed = record {
   at_end = λ h. absurd (cc);
   output = h.output;
   appended = h.appended;
-  begins = λ more follows. (
+  holds = λ more follows. (
     text_from place (rest (bytes ++ more)),
     ap (text_by whole) (append_assoc h.input bytes more) ∙ h.text (bytes ++ more),
   );
@@ -235,8 +237,11 @@ WritesText-after text whole status answer answered front oi mi fi oo fo consumed
   at_end = h.at_end;
   output = h.output;
   appended = h.appended;
-  whole = λ more follows. ap whole (append_assoc front h.input more) ∙ same (h.input ++ more) ∙ h.whole more follows;
-  answered = λ more follows. ap answer (append_assoc front h.input more) ∙ same_status (h.input ++ more) ∙ h.answered more follows;
+  holds = λ more follows.
+      let said = h.holds more follows in (
+        said.0 ∙ sym (ap whole (append_assoc front h.input more) ∙ same (h.input ++ more)),
+        said.1 ∙ sym (ap answer (append_assoc front h.input more) ∙ same_status (h.input ++ more)),
+      );
 }
 
 pub WritesBeginning-after : (text whole : List ℕ → List ℕ) (front : List ℕ) (oi mi fi oo fo : Option (List ℕ))
@@ -249,8 +254,8 @@ WritesBeginning-after text whole front oi mi fi oo fo consumed same h = record {
   at_end = h.at_end;
   output = h.output;
   appended = h.appended;
-  begins = λ more follows.
-      let rest = h.begins more follows in
+  holds = λ more follows.
+      let rest = h.holds more follows in
       (rest.0, ap whole (append_assoc front h.input more) ∙ same (h.input ++ more) ∙ rest.1);
 }
 

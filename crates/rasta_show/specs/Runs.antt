@@ -8,30 +8,24 @@ use Rattle.rasta_pcap.specs.Devices.{HasFailed}
 use Rattle.rasta_pcap.specs.Extent.{HasRead, ReadsUpToRecord}
 pub use Rattle.rasta_pcap.specs.Stream.{MayFollow}
 
--- some input was read, perhaps to its end, and what was written is the text of every input that
--- begins so; the answer is the status of each of them
-pub record WritesText (text : List ℕ → List ℕ) (status : List ℕ → ℕ) (answer : ℕ)
-    (old_input new_input old_output new_output : Option (List ℕ)) : Type 0 where
+-- some input was read, perhaps to its end, and some output was written; and this holds of every input that begins so, and
+-- of what was written
+pub record Writes (Holds : List ℕ → List ℕ → Type 0) (old_input new_input old_output new_output : Option (List ℕ)) : Type 0 where
   pub input : List ℕ
   pub met_end : Bool
   pub consumed : Consumes old_input new_input input
   pub at_end : met_end ≡ true → IsAtEnd new_input
   pub output : List ℕ
   pub appended : Appends old_output new_output output
-  pub whole : (more : List ℕ) → MayFollow met_end more → text (input ++ more) ≡ output
-  pub answered : (more : List ℕ) → MayFollow met_end more → status (input ++ more) ≡ answer
+  pub holds : (more : List ℕ) → MayFollow met_end more → Holds (input ++ more) output
 
--- some input was read, perhaps to its end, and what was written begins the text of every input that
--- begins so
-pub record WritesBeginning (text : List ℕ → List ℕ)
-    (old_input new_input old_output new_output : Option (List ℕ)) : Type 0 where
-  pub input : List ℕ
-  pub met_end : Bool
-  pub consumed : Consumes old_input new_input input
-  pub at_end : met_end ≡ true → IsAtEnd new_input
-  pub output : List ℕ
-  pub appended : Appends old_output new_output output
-  pub begins : (more : List ℕ) → MayFollow met_end more → (rest : List ℕ) × (text (input ++ more) ≡ output ++ rest)
+-- what was written is the text of every such input, and the answer is the status of each of them
+abbrev pub WritesText : (List ℕ → List ℕ) → (List ℕ → ℕ) → ℕ → Option (List ℕ) → Option (List ℕ) → Option (List ℕ) → Option (List ℕ) → Type 0
+WritesText text status answer = Writes (λ file output. (output ≡ text file) × (answer ≡ status file))
+
+-- what was written begins the text of every such input
+abbrev pub WritesBeginning : (List ℕ → List ℕ) → Option (List ℕ) → Option (List ℕ) → Option (List ℕ) → Option (List ℕ) → Type 0
+WritesBeginning text = Writes (λ file output. (rest : List ℕ) × (text file ≡ output ++ rest))
 
 -- where the header of a capture was read before and no record, nothing was read after the record with this number
 abbrev pub GoesUpToRecord : Endianness → ℕ → Option (List ℕ) → Option (List ℕ) → Type 0

@@ -152,7 +152,7 @@ nothing_of_outcome tell p input oi ni o consumed = record {
   at_end = λ h. absurd (cc);
   output = [];
   appended = Appends-nil o;
-  begins = λ more h. let some = by_crossing p (input ++ more) tell (crossing_of p (input ++ more)) refl in (some.0, some.0, some.1, some.2, refl);
+  holds = λ more h. let some = by_crossing p (input ++ more) tell (crossing_of p (input ++ more)) refl in (some.0, some.0, some.1, some.2, refl);
 }
 
 -- a beginning of the text that stands
@@ -166,5 +166,5 @@ outcome_begun IsText P (Err f) text status oi ni oo on read is begun = record {
   at_end = read.at_end;
   output = begun.0;
   appended = begun.2;
-  begins = λ more h. (text, begun.1, status, is (read.bytes ++ more) (read.each more h), begun.3);
+  holds = λ more h. (text, begun.1, status, is (read.bytes ++ more) (read.each more h), begun.3);
 }

@@ -157,7 +157,7 @@ verdict_written IsText P (Ok s) text status oi ni oo on read is appended answere
   at_end = read.at_end;
   output = text;
   appended = appended;
-  whole = λ more h. subst (λ n. IsText (read.bytes ++ more) text n) answered (is (read.bytes ++ more) (read.each more h));
+  holds = λ more h. subst (λ n. IsText (read.bytes ++ more) text n) answered (is (read.bytes ++ more) (read.each more h));
 }
 
 pub verdict_begun : (IsText : Texts) (P : List ℕ → Type 0) (r : Result ℕ Fault) (text : List ℕ) (oi ni oo on : Option (List ℕ)) → ReadsSo P oi ni
@@ -170,7 +170,7 @@ verdict_begun IsText P (Err f) text oi ni oo on read one begun = record {
   at_end = read.at_end;
   output = begun.0;
   appended = begun.2;
-  begins = λ more t s h is. (begun.1, one (read.bytes ++ more) t s (read.each more h) is ∙ begun.3);
+  holds = λ more h t s is. (begun.1, one (read.bytes ++ more) t s (read.each more h) is ∙ begun.3);
 }
 
 -- the status 1 of a refusal
@@ -187,7 +187,7 @@ nothing_begun IsText input oi ni o consumed = record {
   at_end = λ h. absurd (cc);
   output = [];
   appended = Appends-nil o;
-  begins = λ more t s h is. (t, refl);
+  holds = λ more h t s is. (t, refl);
 }
 
 -- where nothing was written

@@ -1,6 +1,5 @@
 -- The texts of a capture for which a certificate is looked for.
-use Rattle.std.specs.Prelude.{◌≡◌, ℕ, Bool, true, List, ◌++◌, length, Option, Ok, Err}
-use Rattle.std.specs.Io.KnownBytes.{Appends, Consumes, IsAtEnd}
+use Rattle.std.specs.Prelude.{◌≡◌, ℕ, List, ◌++◌, length, Option, Ok, Err}
 use Rattle.rasta_pcap.specs.declared.fault.Fault.{Fault}
 use Rattle.rasta_pcap.specs.Fault.{fault_at, not_found}
 use Rattle.rasta_pdu.specs.Params.{Parameters}
@@ -8,7 +7,7 @@ use Rattle.rasta_cert.specs.Certificate.{IsCertificate, Scripts, certificate_tex
 use Rattle.rasta_check.specs.Reading.{Crossing, crossing_of}
 use Rattle.rasta_check.specs.Report.{Explained, verdict_of}
 use Rattle.rasta_show.specs.Lines.{refused_line}
-use Rattle.rasta_show.specs.Runs.{MayFollow}
+use Rattle.rasta_show.specs.Runs.{Writes}
 use Rattle.rasta_verdict.specs.Verdict.{explained_text}
 
 -- how an explanation is written: what crossed, the scripts that explain it, and the report on both
@@ -39,14 +38,6 @@ built_text k scripts report = certificate_text scripts
 abbrev pub IsBuild : Parameters → List ℕ → List ℕ → ℕ → Type 0
 IsBuild p file text status = IsOutcome built_text p file text status
 
--- some input was read, perhaps to its end, and whatever follows, what was written begins some text of the whole input
-pub record BeginsOutcome (IsText : List ℕ → List ℕ → ℕ → Type 0)
-    (old_input new_input old_output new_output : Option (List ℕ)) : Type 0 where
-  pub input : List ℕ
-  pub met_end : Bool
-  pub consumed : Consumes old_input new_input input
-  pub at_end : met_end ≡ true → IsAtEnd new_input
-  pub output : List ℕ
-  pub appended : Appends old_output new_output output
-  pub begins : (more : List ℕ) → MayFollow met_end more
-      → (text rest : List ℕ) × (status : ℕ) × IsText (input ++ more) text status × (text ≡ output ++ rest)
+-- what was written begins some text of every input that begins with what was read
+abbrev pub BeginsOutcome : (List ℕ → List ℕ → ℕ → Type 0) → Option (List ℕ) → Option (List ℕ) → Option (List ℕ) → Option (List ℕ) → Type 0
+BeginsOutcome IsText = Writes (λ file output. (text rest : List ℕ) × (status : ℕ) × IsText file text status × (text ≡ output ++ rest))

@@ -1,8 +1,7 @@
 -- The text of a verdict on a capture and a certificate.
-use Rattle.std.specs.Prelude.{◌≡◌, ℕ, Bool, true, List, [], ◌∷◌, ◌++◌, length, codes, Option, Ok, Err}
+use Rattle.std.specs.Prelude.{◌≡◌, ℕ, List, [], ◌∷◌, ◌++◌, length, codes, Option, Ok, Err}
 use Rattle.std.specs.List.{flat_map}
 use Rattle.std.specs.Fmt.{decimal}
-use Rattle.std.specs.Io.KnownBytes.{Appends, Consumes, IsAtEnd}
 use Rattle.rasta_pcap.specs.declared.fault.Fault.{Fault}
 use Rattle.rasta_pcap.specs.declared.fault.Side.{Side}
 use Rattle.rasta_pcap.specs.declared.fault.Side.TheVariants.{Client, Server}
@@ -14,7 +13,7 @@ use Rattle.rasta_check.specs.Listed.{ListedMessage}
 use Rattle.rasta_check.specs.Report.{Explained, verdict_of}
 use Rattle.rasta_show.specs.Lines.{line_of, message_text, refused_line, side_text}
 use Rattle.rasta_verdict.specs.RunText.{run_text}
-use Rattle.rasta_show.specs.Runs.{MayFollow}
+use Rattle.rasta_show.specs.Runs.{Writes}
 
 -- ---- texts
 
@@ -64,26 +63,10 @@ pub data IsVerdict (p : Parameters) (certificate file : List ℕ) : List ℕ →
 
 -- ---- what a run read and wrote, where a relation says which inputs have which text and status
 
--- some input was read, perhaps to its end, and what was written and answered is the text and the status of every input
--- that begins so
-pub record WritesVerdict (IsText : List ℕ → List ℕ → ℕ → Type 0) (answer : ℕ)
-    (old_input new_input old_output new_output : Option (List ℕ)) : Type 0 where
-  pub input : List ℕ
-  pub met_end : Bool
-  pub consumed : Consumes old_input new_input input
-  pub at_end : met_end ≡ true → IsAtEnd new_input
-  pub output : List ℕ
-  pub appended : Appends old_output new_output output
-  pub whole : (more : List ℕ) → MayFollow met_end more → IsText (input ++ more) output answer
+-- what was written and answered is a text and a status of every input that begins with what was read
+abbrev pub WritesVerdict : (List ℕ → List ℕ → ℕ → Type 0) → ℕ → Option (List ℕ) → Option (List ℕ) → Option (List ℕ) → Option (List ℕ) → Type 0
+WritesVerdict IsText answer = Writes (λ file output. IsText file output answer)
 
--- some input was read, perhaps to its end, and what was written begins the text of every input that begins so
-pub record BeginsVerdict (IsText : List ℕ → List ℕ → ℕ → Type 0)
-    (old_input new_input old_output new_output : Option (List ℕ)) : Type 0 where
-  pub input : List ℕ
-  pub met_end : Bool
-  pub consumed : Consumes old_input new_input input
-  pub at_end : met_end ≡ true → IsAtEnd new_input
-  pub output : List ℕ
-  pub appended : Appends old_output new_output output
-  pub begins : (more text : List ℕ) (status : ℕ) → MayFollow met_end more → IsText (input ++ more) text status
-      → (rest : List ℕ) × (text ≡ output ++ rest)
+-- what was written begins each text of every such input
+abbrev pub BeginsVerdict : (List ℕ → List ℕ → ℕ → Type 0) → Option (List ℕ) → Option (List ℕ) → Option (List ℕ) → Option (List ℕ) → Type 0
+BeginsVerdict IsText = Writes (λ file output. (text : List ℕ) (status : ℕ) → IsText file text status → (rest : List ℕ) × (text ≡ output ++ rest))
