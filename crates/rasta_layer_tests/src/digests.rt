@@ -1,5 +1,5 @@
 //! Digests of messages that come in two pieces.
-use rasta_md4::{DIGEST_LEN, Md4};
+use rasta_md4::{DIGEST_LEN, Md4, digest};
 use rasta_rows::{RFC_WORDS, bytes_of};
 use std::alloc::Global;
 use std::process::Abort;
@@ -39,15 +39,15 @@ fn digest_of_two(words: [u32; 4], first: &[u8], second: &[u8]) -> [u8; DIGEST_LE
     message.finish()
 }
 
-// Whether a message has the digest, wherever it is cut.
-fn has_digest(words: [u32; 4], message: &[u8], digest: &[u8]) -> bool {
+// Whether a message has the digest, whole and wherever it is cut.
+fn has_digest(words: [u32; 4], message: &[u8], expected: &[u8]) -> bool {
     for cut in 0..=message.len() {
         let (first, second) = message.split_at(cut);
-        if digest_of_two(words, first, second).as_slice() != digest {
+        if digest_of_two(words, first, second).as_slice() != expected {
             return false;
         }
     }
-    true
+    digest(words, message).as_slice() == expected
 }
 
 // Whether the message of a row has its digest.
