@@ -75,18 +75,22 @@ Agree p =
 
 -- ---- 9. one answer
 
--- a script fits, with one end, or has a first fault, which is one, and not both
-abbrev pub OneFault : Type 0
-OneFault =
-    (p : Parameters) (side : Side) (packets : ℕ) (own peer : List FirstCopy) (entries : List Entry)
-    → (((e : EndState) × Fits p side packets own peer entries e) ⊎ ((fault : Fault) × FirstFault p side packets own peer entries fault))
-    × ((a b : EndState) → Fits p side packets own peer entries a → Fits p side packets own peer entries b → a ≡ b)
-    × ((f g : Fault) → FirstFault p side packets own peer entries f → FirstFault p side packets own peer entries g → f ≡ g)
-    × ((e : EndState) (f : Fault) → Fits p side packets own peer entries e → FirstFault p side packets own peer entries f → ⊥)
+-- this script fits, with one end, or has one first fault, and not both
+pub record HasOneAnswer (p : Parameters) (side : Side) (packets : ℕ) (own peer : List FirstCopy) (entries : List Entry) : Type 0 where
+  pub some : ((e : EndState) × Fits p side packets own peer entries e) ⊎ ((fault : Fault) × FirstFault p side packets own peer entries fault)
+  pub one_end : (a b : EndState) → Fits p side packets own peer entries a → Fits p side packets own peer entries b → a ≡ b
+  pub one_fault : (f g : Fault) → FirstFault p side packets own peer entries f → FirstFault p side packets own peer entries g → f ≡ g
+  pub not_both : (e : EndState) (f : Fault) → Fits p side packets own peer entries e → FirstFault p side packets own peer entries f → ⊥
+
+-- so it is with every script and all lists
+abbrev pub OneAnswer : Type 0
+OneAnswer = (p : Parameters) (side : Side) (packets : ℕ) (own peer : List FirstCopy) (entries : List Entry) → HasOneAnswer p side packets own peer entries
 
 -- two scripts have a verdict, and no other
+pub record HasOneVerdict (p : Parameters) (packets : ℕ) (c s : List FirstCopy) (scripts : Scripts) : Type 0 where
+  pub some : (answer : Result Explained Fault) × IsScriptVerdict p packets c s scripts answer
+  pub one : (a b : Result Explained Fault) → IsScriptVerdict p packets c s scripts a → IsScriptVerdict p packets c s scripts b → a ≡ b
+
+-- so it is with all scripts and lists
 abbrev pub OneVerdict : Type 0
-OneVerdict =
-    (p : Parameters) (packets : ℕ) (c s : List FirstCopy) (scripts : Scripts)
-    → ((answer : Result Explained Fault) × IsScriptVerdict p packets c s scripts answer)
-    × ((a b : Result Explained Fault) → IsScriptVerdict p packets c s scripts a → IsScriptVerdict p packets c s scripts b → a ≡ b)
+OneVerdict = (p : Parameters) (packets : ℕ) (c s : List FirstCopy) (scripts : Scripts) → HasOneVerdict p packets c s scripts

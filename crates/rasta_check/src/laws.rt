@@ -11,7 +11,7 @@ ghost use Rattle.rasta_check.specs.Reading.{AreSentLists, Crossing, crossing_of}
 ghost use Rattle.rasta_check.specs.Verdicts.{Impossible, packets_through, IsFaultlessCapture, IsRefusedCapture};
 ghost use Rattle.rasta_check.specs.Laws;
 ghost use Rattle.rasta_check.specs.Theorem.{OfConnection, SentLists, Definite, Necessity};
-ghost use Rattle.rasta_check.specs.ScriptLaws.{Simulation, Sharpness, Complete, Stuck, Agree, OneFault, OneVerdict};
+ghost use Rattle.rasta_check.specs.ScriptLaws.{Simulation, Sharpness, Complete, Stuck, Agree, OneAnswer, OneVerdict};
 
 /// The SN of a PDU names one position of its end.
 pub fn sn_once()
@@ -84,7 +84,7 @@ pub fn fits_where_followed()
 
 /// A script fits, with one end, or has one first fault, and not both.
 pub fn scripts_have_one_answer()
-    ensures { OneFault }
+    ensures { OneAnswer }
 {}
 
 /// Two scripts have one verdict.
