@@ -17,7 +17,7 @@ use Rattle.rasta_end.specs.Starts.{start_of, start_by}
 use Rattle.rasta_check.specs.Crossing.{FirstCopy, Sent, CrossRecorded}
 use Rattle.rasta_check.specs.World.{most_sent}
 use Rattle.rasta_check.specs.Theorem.{OfConnection, most_packets}
-use Rattle.rasta_check.specs.Scripts.{Cursor, Advances, takes_next, makes_next, Leads, at_start, Fits}
+use Rattle.rasta_check.specs.Following.{Cursor, Advances, takes_next, makes_next, Leads, at_start, Follows}
 use Rattle.rasta_check.proofs.Lists.{get_front}
 use Rattle.rasta_check.proofs.Copies.{IsSent}
 use Rattle.rasta_check.proofs.Forms.{to_record}
@@ -270,8 +270,8 @@ module _ (p : Parameters) (valid : AreParameters p) (packets : List Packet) (c s
       (omega (arith, low_c, below_c, lp)) (omega (arith, made_c, mc)) in
       let lead_s = leads_cut p (length packets) (length front) s c ks.0 kc.0 ks.2 kc.2 (λ j d l g. later_place p packets Client c kc.0 (length front) j d hc kc.2 l g) (at_start (start_of p Server)) rs.at t.other.script rs.leads
       (omega (arith, low_s, below_s, lp)) (omega (arith, made_s, ms)) in
-      let fits_c : Fits p Client (length front) kc.0 ks.0 t.own.script rc.at.state = (rc.at, lead_c, rc.made ∙ mc, refl) in
-      let fits_s : Fits p Server (length front) ks.0 kc.0 t.other.script rs.at.state = (rs.at, lead_s, rs.made ∙ ms, refl) in
+      let fits_c : Follows p Client (length front) kc.0 ks.0 t.own.script rc.at.state = (rc.at, lead_c, rc.made ∙ mc, refl) in
+      let fits_s : Follows p Server (length front) ks.0 kc.0 t.other.script rs.at.state = (rs.at, lead_s, rs.made ∙ ms, refl) in
       let r = simulated p front kc.0 ks.0 t.own.script t.other.script rc.at.state rs.at.state (recorded_front p front (drop q packets) packets whole recorded) kc.1 ks.1 fits_c fits_s in
       let few_c = fr.most in
       let few_s = fr.their_most in

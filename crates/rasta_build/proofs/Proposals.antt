@@ -13,8 +13,10 @@ use Rattle.rasta_cert.specs.Certificate.{Scripts, IsCertificate, most_entries}
 use Rattle.rasta_check.specs.Crossing.{FirstCopy}
 use Rattle.rasta_check.specs.Reading.{AreSentLists}
 use Rattle.rasta_check.specs.Report.{BothFit}
-use Rattle.rasta_check.specs.Scripts.{Cursor, Advances, takes_next, makes_next, Leads}
+use Rattle.rasta_check.specs.Following.{Cursor, Advances, takes_next, makes_next, Leads}
+use Rattle.rasta_check.specs.Lists.{IsOrdered}
 use Rattle.rasta_check.proofs.Copies.{IsSent}
+use Rattle.rasta_check.proofs.Fitting.{follows_fits}
 use Rattle.rasta_check.proofs.Forms.{to_record}
 use Rattle.rasta_check.proofs.Scripted.{slice_get_some}
 use Rattle.rasta_build.specs.Built.{Built}
@@ -63,7 +65,12 @@ module _ (p : Parameters) (packets : List Packet) (c s : List FirstCopy) (hc : I
       let ms = rs.made in
       let few : length t.own.script + length t.other.script ≤ most_entries = omega (arith, nc, ns, tc, ts, mc, ms, all, their_all, lc, ls) in
       let lt : nat_lt most_entries (length t.own.script + length t.other.script) ≡ false = not_lt most_entries (length t.own.script + length t.other.script) few in
-      let fits : BothFit p (length packets) c s (scripts_of t) = ((rc.at.state, (rc.at, rc.leads, rc.made ∙ all, refl)), (rs.at.state, (rs.at, rs.leads, rs.made ∙ their_all, refl))) in
+      let mine : IsOrdered c = record { places = hc.rising; numbers = hc.numbers } in
+      let theirs : IsOrdered s = record { places = hs.rising; numbers = hs.numbers } in
+      let fits : BothFit p (length packets) c s (scripts_of t) = (
+        (rc.at.state, follows_fits p (length packets) c s mine theirs (omega (arith, ls)) Client t.own.script rc.at.state (rc.at, rc.leads, rc.made ∙ all, refl)),
+        (rs.at.state, follows_fits p (length packets) s c theirs mine (omega (arith, lc)) Server t.other.script rs.at.state (rs.at, rs.leads, rs.made ∙ their_all, refl)),
+      ) in
       (ap proposed_by done ∙ rw lt refl, (((rc.entries, rs.entries), few), fits))
 
 -- ---- each first copy is explained once

@@ -23,7 +23,7 @@ use Rattle.rasta_end.specs.MakeRule.{make_fault, row_of, after_make_by, after_ma
 use Rattle.rasta_end.specs.declared.make_row.MakeRow.{MakeRow}
 use Rattle.rasta_end.specs.TakeRule.{effect, effect_by, after_take, take_row, take_fault}
 use Rattle.rasta_check.specs.Crossing.{FirstCopy}
-use Rattle.rasta_check.specs.Scripts.{Cursor, Advances, takes_next, makes_next, Leads, at_start}
+use Rattle.rasta_check.specs.Following.{Cursor, Advances, takes_next, makes_next, Leads, at_start}
 use Rattle.rasta_check.proofs.Steps.{base, base_by, base_small, start_base}
 use Rattle.rasta_build.specs.Proposing
 use Rattle.rasta_check.proofs.Telling.{leads_more}

@@ -10,7 +10,7 @@ use Rattle.rasta_udp.specs.declared.channel.Channel.{Channel}
 use Rattle.rasta_udp.specs.Frame.{Direction, Fields, Found, Packet, directions_from, direction_of, goes, found_by, found_in, has_known_addresses, fields_of, map_found, moved_on, datagram_of, is_tagged, untagged_of, without_tag, packet_at, packet_in}
 use Rattle.rasta_pdu.specs.Params.{Parameters}
 use Rattle.rasta_check.specs.Crossing.{CrossRecorded}
-use Rattle.rasta_check.specs.World.{IsRecorded}
+use Rattle.rasta_check.specs.Crossing.{IsRecorded}
 use Rattle.rasta_check.proofs.Lists.{get_push_cases}
 
 -- a channel's number is one of so many from this one on

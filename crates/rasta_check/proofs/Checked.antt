@@ -19,7 +19,7 @@ use Rattle.rasta_end.specs.Starts.{start_of}
 use Rattle.rasta_end.specs.Judged.{JudgedEnd}
 use Rattle.rasta_check.specs.Crossing.{FirstCopy}
 use Rattle.rasta_check.specs.Lists.{IsOrdered, places_of, numbers_of, position_of_number, position_of_place}
-use Rattle.rasta_check.specs.Scripts.{Cursor, Advances, takes_next, makes_next, Leads, at_start, Fits}
+use Rattle.rasta_check.specs.Following.{Cursor, Advances, takes_next, makes_next, Leads, at_start, Follows}
 use Rattle.rasta_check.specs.Checking.{unless, take_at, take_found, make_of, make_found, next_cursor, then_follow, follow_from, follow, Followed, moved_to, IsRefused}
 use Rattle.rasta_check.proofs.Positions.{position_at, places_below}
 use Rattle.rasta_check.proofs.Sending.{not_again}
@@ -56,26 +56,26 @@ not_true : (b : Bool) → not b ≡ false → b ≡ true
 not_true true e = refl
 not_true false e = absurd (cc)
 
-less : (a b : ℕ) → not (nat_lt a b) ≡ false → a < b
+pub less : (a b : ℕ) → not (nat_lt a b) ≡ false → a < b
 less a b e = (let t = not_true (nat_lt a b) e in grind (arith, nat_tests))
 
-not_less : (a b : ℕ) → nat_lt a b ≡ false → b ≤ a
+pub not_less : (a b : ℕ) → nat_lt a b ≡ false → b ≤ a
 not_less a b e = grind (arith, nat_tests)
 
 -- a test that isn't met is passed
-passes : {A B : Type 0} (b : Bool) (f : B) (r : Result A B) (v : A) → (if b then Err f else r) ≡ Ok v → (b ≡ false) × (r ≡ Ok v)
+pub passes : {A B : Type 0} (b : Bool) (f : B) (r : Result A B) (v : A) → (if b then Err f else r) ≡ Ok v → (b ≡ false) × (r ≡ Ok v)
 passes true f r v e = absurd (cc)
 passes false f r v e = (refl, e)
 
-holds : {A B : Type 0} (b : Bool) (f : B) (r : Result A B) (v : A) → (if b then r else Err f) ≡ Ok v → (b ≡ true) × (r ≡ Ok v)
+pub holds : {A B : Type 0} (b : Bool) (f : B) (r : Result A B) (v : A) → (if b then r else Err f) ≡ Ok v → (b ≡ true) × (r ≡ Ok v)
 holds true f r v e = (refl, e)
 holds false f r v e = absurd (cc)
 
-allowed : (fault : Option ℕ) (w v : Cursor) → unless fault w ≡ Ok v → (fault ≡ None) × (w ≡ v)
+pub allowed : (fault : Option ℕ) (w v : Cursor) → unless fault w ≡ Ok v → (fault ≡ None) × (w ≡ v)
 allowed None w v e = (refl, cc)
 allowed (Some f) w v e = absurd (cc)
 
-neither : (a b : Bool) → (a || b) ≡ false → (a ≡ false) × (b ≡ false)
+pub neither : (a b : Bool) → (a || b) ≡ false → (a ≡ false) × (b ≡ false)
 neither false false e = (refl, refl)
 neither true b e = absurd (cc)
 neither false true e = absurd (cc)
@@ -144,7 +144,7 @@ module _ (p : Parameters) (packets : ℕ) (own peer : List FirstCopy) where
       by (Ok v) k g rest = (let r = rest v g in (r.0, (v, leads_on u v x k, r.1), r.2, r.3))
 
   -- a script that the checker follows fits
-  pub follow_fits : (side : Side) (es : List Entry) (e : EndState) → follow p side packets own peer es ≡ Ok e → Fits p side packets own peer es e
+  pub follow_fits : (side : Side) (es : List Entry) (e : EndState) → follow p side packets own peer es ≡ Ok e → Follows p side packets own peer es e
   follow_fits side es e h = leads_from side 1 (at_start (start_of p side)) es e h
 
 -- ---- a script that fits is followed
@@ -171,26 +171,26 @@ place_at cs h i c g = position_at c.place (places_of cs) i (slice_get-map (λ (x
         let z = d.2 in
         omega arith
 
-above : (a b : ℕ) → b ≤ a → nat_lt a b ≡ false
+pub above : (a b : ℕ) → b ≤ a → nat_lt a b ≡ false
 above a b l = grind (arith, nat_tests)
 
-below : (a b : ℕ) → a < b → not (nat_lt a b) ≡ false
+pub below : (a b : ℕ) → a < b → not (nat_lt a b) ≡ false
 below a b l = (let t : nat_lt a b ≡ true = grind (arith, nat_tests) in ap not t)
 
-both : (a b : Bool) → a ≡ false → b ≡ false → (a || b) ≡ false
+pub both : (a b : Bool) → a ≡ false → b ≡ false → (a || b) ≡ false
 both false false e f = refl
 both true b e f = e
 both false true e f = f
 
-passed : {A B : Type 0} (b : Bool) (f : B) (r : Result A B) → b ≡ false → (if b then Err f else r) ≡ r
+pub passed : {A B : Type 0} (b : Bool) (f : B) (r : Result A B) → b ≡ false → (if b then Err f else r) ≡ r
 passed true f r e = absurd (cc)
 passed false f r e = refl
 
-held : {A B : Type 0} (b : Bool) (f : B) (r : Result A B) → b ≡ true → (if b then r else Err f) ≡ r
+pub held : {A B : Type 0} (b : Bool) (f : B) (r : Result A B) → b ≡ true → (if b then r else Err f) ≡ r
 held true f r e = refl
 held false f r e = absurd (cc)
 
-same_equal : (a b : ℕ) → a ≡ b → (a == b) ≡ true
+pub same_equal : (a b : ℕ) → a ≡ b → (a == b) ≡ true
 same_equal a b e = grind (arith, nat_tests)
 
 module _ (p : Parameters) (packets : ℕ) (own peer : List FirstCopy) (mine : IsOrdered own) (theirs : IsOrdered peer) (few : length peer < 4294967296) where
@@ -220,7 +220,7 @@ module _ (p : Parameters) (packets : ℕ) (own peer : List FirstCopy) (mine : Is
       ap (then_follow (λ w. follow_from p side packets own peer (suc entry) w xs) entry side) (goes_on u f.0 x f.1) ∙ follows_from side (suc entry) f.0 v xs f.2 e
 
   -- a script that fits is followed to its end
-  pub fits_follow : (side : Side) (es : List Entry) (e : EndState) → Fits p side packets own peer es e → follow p side packets own peer es ≡ Ok e
+  pub fits_follow : (side : Side) (es : List Entry) (e : EndState) → Follows p side packets own peer es e → follow p side packets own peer es ≡ Ok e
   fits_follow side es e f = follows_from side 1 (at_start (start_of p side)) f.0 es f.1 f.2 ∙ ap Ok f.3
 
 -- ---- step by step

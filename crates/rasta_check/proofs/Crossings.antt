@@ -20,7 +20,8 @@ use Rattle.rasta_pdu.proofs.Spellings.{decode_of-Ok}
 use Rattle.rasta_end.specs.State.{wrapped}
 use Rattle.rasta_check.specs.Crossing.{FirstCopy, Spells, copy_with, is_next_number, number_fault, read_fault, packet_fault}
 use Rattle.rasta_check.specs.Theorem.{most_packets}
-use Rattle.rasta_check.specs.World.{IsRecorded, most_sent}
+use Rattle.rasta_check.specs.Crossing.{IsRecorded}
+use Rattle.rasta_check.specs.World.{most_sent}
 use Rattle.rasta_check.specs.Packets.{with_new, number_in_bytes}
 use Rattle.rasta_check.specs.Lists.{copy_of}
 use Rattle.rasta_pdu.specs.declared.pdu.Pdu.{Pdu}

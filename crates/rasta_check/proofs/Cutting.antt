@@ -24,7 +24,7 @@ use Rattle.rasta_check.specs.Crossing.{FirstCopy, CrossRecorded}
 use Rattle.rasta_check.specs.World.{World, Reaches}
 use Rattle.rasta_check.specs.Laws.{NamesOne}
 use Rattle.rasta_check.specs.Taken.{pdus_made, pdus_of, all_made, units_along, units_shown, units_taken, position_with, surely_taken}
-use Rattle.rasta_check.specs.Scripts.{Cursor, Advances, takes_next, makes_next, Leads, at_start, Fits}
+use Rattle.rasta_check.specs.Following.{Cursor, Advances, takes_next, makes_next, Leads, at_start, Follows}
 use Rattle.rasta_check.specs.Theorem.{units_handed, units_listed}
 use Rattle.rasta_check.proofs.Copies.{IsSent}
 use Rattle.rasta_check.proofs.Passing.{passed, cs_is}
@@ -99,10 +99,10 @@ cut_made p n own peer u v (Make place clock why ∷ es) h f e = by (has_make es)
     by false k r = (f.0, (f.0, f.1, subst (λ zs. Leads p n own peer f.0 zs f.0) (sym (cut_none es k)) refl), no_makes p n own peer f.0 v es f.2 k ∙ e, just_made p n own peer u f.0 place clock why f.1)
 
 -- a script that fits, cut: it leads to an end that is as at the start_of or has just made something
-cut_fits : (p : Parameters) (s : Side) (n : ℕ) (own peer : List FirstCopy) (es : List Entry) (e : EndState) → Fits p s n own peer es e → (e' : EndState) × Fits p s n own peer (cut es) e' × ((e' ≡ start_of p s) ⊎ JustMade p own e')
+cut_fits : (p : Parameters) (s : Side) (n : ℕ) (own peer : List FirstCopy) (es : List Entry) (e : EndState) → Follows p s n own peer es e → (e' : EndState) × Follows p s n own peer (cut es) e' × ((e' ≡ start_of p s) ⊎ JustMade p own e')
 cut_fits p s n own peer es e f = by (has_make es) refl
   where
-    by : (b : Bool) → has_make es ≡ b → (e' : EndState) × Fits p s n own peer (cut es) e' × ((e' ≡ start_of p s) ⊎ JustMade p own e')
+    by : (b : Bool) → has_make es ≡ b → (e' : EndState) × Follows p s n own peer (cut es) e' × ((e' ≡ start_of p s) ⊎ JustMade p own e')
     by true h = (let r = cut_made p n own peer _ f.0 es h f.1 f.2 in (r.0.state, (r.0, r.1, r.2, refl), inr r.3))
     by false h = (start_of p s, (at_start (start_of p s), subst (λ zs. Leads p n own peer (at_start (start_of p s)) zs (at_start (start_of p s))) (sym (cut_none es h)) refl, no_makes p n own peer _ f.0 es f.1 h ∙ f.2, refl), inl refl)
 
@@ -167,7 +167,7 @@ module _ (p : Parameters) (s : Side) (e f : EndState) (t u : ℕ) (own : List Fi
 
 pub sharp : (p : Parameters) (packets : List Packet) (c s : List FirstCopy) (cs ss : List Entry) (a b : EndState)
     → CrossRecorded p packets → IsSent p packets Client c → IsSent p packets Server s → length c ≤ 1000000 → length s ≤ 1000000
-    → Fits p Client (length packets) c s cs a → Fits p Server (length packets) s c ss b
+    → Follows p Client (length packets) c s cs a → Follows p Server (length packets) s c ss b
     → (ws : List World) × (w : World) × Reaches p ws w × (w.crossed ≡ packets)
     × (units_handed w.server.state ≡ units_listed (surely_taken p Client c s))
     × (units_handed w.client.state ≡ units_listed (surely_taken p Server s c))

@@ -11,7 +11,7 @@ use Rattle.rasta_cert.specs.Certificate.{Scripts}
 use Rattle.rasta_check.specs.Crossing.{FirstCopy, Sent, crossing_list}
 use Rattle.rasta_check.specs.Reading.{Crossing, IsCrossing, crossing_of, nothing_crossed}
 use Rattle.rasta_check.specs.Verdicts.{CrossedIn}
-use Rattle.rasta_check.specs.Report.{Explained, BothFit, Explains, IsFileVerdict, judged, report_of, verdict_of}
+use Rattle.rasta_check.specs.Report.{Explained, BothFit, Explains, IsFileVerdict, IsScriptVerdict, judged, report_of}
 use Rattle.rasta_check.specs.Headline.{Headline}
 use Rattle.rasta_check.proofs.Forms.{to_record}
 use Rattle.rasta_check.proofs.Readings.{records_by}
@@ -23,9 +23,9 @@ same_params p file k e = (records_by (nothing_crossed p) k (reading_of p.last_re
 
 -- the verdict on a capture without a fault is that on what crossed in it
 pub verdict_is : (p : Parameters) (file : List ℕ) (k : Crossing) → CrossedIn p file k → (scripts : Scripts) (verdict : Result Explained Fault)
-    → verdict_of p (length k.packets) k.client k.server scripts ≡ verdict → IsFileVerdict p file scripts verdict
+    → IsScriptVerdict p (length k.packets) k.client k.server scripts verdict → IsFileVerdict p file scripts verdict
 verdict_is p file k x scripts verdict g =
-    judged k.client k.server x.capture verdict (subst (λ (xs : List Packet). verdict_of p (length xs) k.client k.server scripts ≡ verdict) x.packets g)
+    judged k.client k.server x.capture verdict (subst (λ (xs : List Packet). IsScriptVerdict p (length xs) k.client k.server scripts verdict) x.packets g)
 
 -- the inside of what is read is what is seen of it
 pub seen : (inside k : Crossing) → inside ≡ k → IsCrossing inside → IsCrossing k

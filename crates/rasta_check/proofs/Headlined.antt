@@ -1,6 +1,6 @@
 -- The headline of a verdict, from the theorem over runs.
 use Rattle.std.specs.Prelude.{if◌then◌else◌, take}
-use Rattle.std.proofs.Common.{◌≡◌, ℕ, ◌-◌, List, [], ◌++◌, length, Result, Ok, Err, Some, slice_get, refl, ap, sym, ◌∙◌, arith, subst, ◌<◌}
+use Rattle.std.proofs.Common.{◌≡◌, ℕ, ◌-◌, List, [], ◌++◌, length, Result, Ok, Err, Some, slice_get, refl, ap, sym, ◌∙◌, arith, subst}
 use Rattle.rasta_pcap.specs.declared.fault.Fault.{Fault}
 use Rattle.rasta_pcap.specs.declared.fault.Side.{Side}
 use Rattle.rasta_pcap.specs.declared.fault.Side.TheVariants.{Client, Server}
@@ -14,18 +14,18 @@ use Rattle.rasta_end.specs.MakeRule.{is_connection_request}
 use Rattle.rasta_check.specs.Crossing.{FirstCopy}
 use Rattle.rasta_check.specs.World.{World, Reaches}
 use Rattle.rasta_check.specs.Taken.{surely_taken, messages_taken, position_with, pdus_of, all_made, units_shown, units_taken, units_from, data_copies}
-use Rattle.rasta_check.specs.Lists.{IsOrdered}
-use Rattle.rasta_check.specs.Scripts.{Fits}
-use Rattle.rasta_check.specs.Checking.{follow}
+use Rattle.rasta_check.specs.Following.{Follows}
+use Rattle.rasta_check.specs.Checking.{follow, where_followed, verdict_of}
 use Rattle.rasta_check.specs.Theorem.{Appends, units_handed, units_listed}
 use Rattle.rasta_check.specs.Reading.{Crossing, IsCrossing}
 use Rattle.rasta_check.specs.Listed.{ListedMessage, listed, numbered_from}
-use Rattle.rasta_check.specs.Report.{Explained, report_of, where_followed, verdict_of, BothFit}
+use Rattle.rasta_check.specs.Report.{Explained, report_of, BothFit}
 use Rattle.rasta_check.specs.Listing.{listed_by, shown_by, proofs_from}
 use Rattle.rasta_check.specs.Headline.{messages_in_list, HandsUpListed, Headline, IsSharp}
 use Rattle.rasta_check.proofs.Copies.{IsSent}
 use Rattle.rasta_check.proofs.Forms.{to_record}
-use Rattle.rasta_check.proofs.Checked.{follow_fits, fits_follow}
+use Rattle.rasta_check.proofs.Checked.{follow_fits}
+use Rattle.rasta_check.proofs.Fitting.{fits_is, is_fits}
 use Rattle.rasta_check.proofs.Scripted.{simulated}
 use Rattle.rasta_check.proofs.Values.{values, length-values}
 use Rattle.rasta_check.proofs.Known.{Known, known}
@@ -61,12 +61,6 @@ module _ (p : Parameters) (packets : List Packet) (c s : List FirstCopy) (h : Is
 
   sent_s : IsSent p packets Server s
   sent_s = to_record p packets Server s h.valid.valid h.server
-
-  ordered_c : IsOrdered c
-  ordered_c = record { places = sent_c.rising; numbers = sent_c.numbers }
-
-  ordered_s : IsOrdered s
-  ordered_s = record { places = sent_s.rising; numbers = sent_s.numbers }
 
   -- ---- the lists of the report
 
@@ -123,14 +117,12 @@ module _ (p : Parameters) (packets : List Packet) (c s : List FirstCopy) (h : Is
     pub verdict_fits : (report : Explained) → verdict_of p (length packets) c s scripts ≡ Ok report → BothFit p (length packets) c s scripts
     verdict_fits report e =
         let z = ends p (length packets) c s scripts report e in
-        ((z.a, follow_fits p (length packets) c s Client scripts.client z.a z.client), (z.b, follow_fits p (length packets) s c Server scripts.server z.b z.server))
+        ((z.a, is_fits p (length packets) c s Client scripts.client z.a z.client), (z.b, is_fits p (length packets) s c Server scripts.server z.b z.server))
 
     pub verdict_refuses : (fault : Fault) → verdict_of p (length packets) c s scripts ≡ Err fault → BothFit p (length packets) c s scripts → ⊥
     verdict_refuses fault e f =
-        let few_c : length c < 4294967296 = (let z = h.few_client in omega arith) in
-        let few_s : length s < 4294967296 = (let z = h.few_server in omega arith) in
-        let a = fits_follow p (length packets) c s ordered_c ordered_s few_s Client scripts.client f.0.0 f.0.1 in
-        let b = fits_follow p (length packets) s c ordered_s ordered_c few_c Server scripts.server f.1.0 f.1.1 in
+        let a = fits_is p (length packets) c s Client scripts.client f.0.0 f.0.1 in
+        let b = fits_is p (length packets) s c Server scripts.server f.1.0 f.1.1 in
         absurd (let z : Ok (report_of p (length packets) c s) ≡ Err fault = sym (λ i. where_followed (a i) (where_followed (b i) (Ok (report_of p (length packets) c s)))) ∙ e in cc)
 
     -- ---- the headline
@@ -139,10 +131,10 @@ module _ (p : Parameters) (packets : List Packet) (c s : List FirstCopy) (h : Is
       ended : Ends p (length packets) c s scripts report
       ended = ends p (length packets) c s scripts report e
 
-      fits_c : Fits p Client (length packets) c s scripts.client ended.a
+      fits_c : Follows p Client (length packets) c s scripts.client ended.a
       fits_c = follow_fits p (length packets) c s Client scripts.client ended.a ended.client
 
-      fits_s : Fits p Server (length packets) s c scripts.server ended.b
+      fits_s : Follows p Server (length packets) s c scripts.server ended.b
       fits_s = follow_fits p (length packets) s c Server scripts.server ended.b ended.server
 
       some_run : (ws : List World) × (w : World) × Reaches p ws w × (w.crossed ≡ packets)

@@ -11,7 +11,7 @@ use Rattle.rasta_pdu.specs.Params.{Parameters}
 use Rattle.rasta_pdu.specs.Messages.{AreBytes}
 use Rattle.rasta_pdu.proofs.Numbers.{AreBytes-take, AreBytes-drop}
 use Rattle.rasta_check.specs.Crossing.{packet_fault}
-use Rattle.rasta_check.specs.World.{IsRecorded}
+use Rattle.rasta_check.specs.Crossing.{IsRecorded}
 use Rattle.rasta_check.specs.Reading.{Crossing, IsCrossing, after_frame, after_judged, after_packet, after_record, is_within, sent_by, with_packet}
 use Rattle.rasta_check.proofs.Channels.{in_range, is_recorded}
 use Rattle.rasta_check.proofs.Crossings.{is_read, grown_crossing}

@@ -15,6 +15,7 @@ pub mod Sending
 pub mod Telling
 pub mod Following
 pub mod Stuck
+pub mod Fitting
 pub mod Forms
 pub mod Faults
 pub mod Writable

@@ -2,7 +2,7 @@
 use Rattle.std.proofs.Common.{◌≡◌, ◌⊎◌, ℕ, Option, Some, Result, Ok, Err, MatchResult, IsErr, IsErrAnd, ap, sym, ◌∙◌, inl, inr, ⊎_elim, subst}
 use Rattle.rasta_pcap.specs.declared.fault.Fault.{Fault}
 use Rattle.rasta_pcap.specs.Fault.{fault_of_end, no_memory}
-use Rattle.rasta_check.specs.Scripts.{Cursor}
+use Rattle.rasta_check.specs.Following.{Cursor}
 use Rattle.rasta_check.specs.Checking.{Followed, IsRefused, unless}
 
 -- f is what the follower holds, and g what contracts see of it

@@ -20,7 +20,7 @@ use Rattle.rasta_check.specs.Crossing.{Spells, FirstCopy, CrossRecorded}
 use Rattle.rasta_cert.specs.declared.entry.Entry.{Entry}
 use Rattle.rasta_cert.specs.declared.entry.Entry.TheVariants.{Take, Make}
 use Rattle.rasta_check.proofs.Copies.{IsSent}
-use Rattle.rasta_check.specs.Scripts.{Cursor, Advances, takes_next, makes_next, Leads, Fits, at_start}
+use Rattle.rasta_check.specs.Following.{Cursor, Advances, takes_next, makes_next, Leads, Follows, at_start}
 use Rattle.rasta_check.proofs.Lists.{get_front, get_push}
 use Rattle.rasta_check.proofs.TakeRows.{take_leaves}
 
@@ -442,7 +442,7 @@ first_tracks p packets sd own peer es last sent f =
     number_is (x ∷ xs) h c g = (let q : x ≡ c = cc in let r = h.firsts 0 x refl in wraps_back x.pdu.number (base p) r.3.fits.number (base_small p.quiet) ∙ ap (λ (z : FirstCopy). z.pdu.number) q)
 
 pub simulated : (p : Parameters) (packets : List Packet) (c s : List FirstCopy) (cs ss : List Entry) (a b : EndState) → CrossRecorded p packets → IsSent p packets Client c → IsSent p packets Server s
-    → Fits p Client (length packets) c s cs a → Fits p Server (length packets) s c ss b
+    → Follows p Client (length packets) c s cs a → Follows p Server (length packets) s c ss b
     → (ws : List World) × (w : World) × Reaches p ws w × (w.crossed ≡ packets) × (w.client.state ≡ a) × (w.server.state ≡ b)
 simulated p packets c s cs ss a b rec hc hs fc fs =
     let r = at_last p packets c s hc hs rec fc.0 fs.0 fc.2 fs.2 (record {

@@ -14,7 +14,7 @@ use Rattle.rasta_udp.specs.Frame.{Packet}
 use Rattle.rasta_cert.specs.declared.entry.Entry.{Entry}
 use Rattle.rasta_cert.specs.declared.entry.Entry.TheVariants.{Take, Make}
 use Rattle.rasta_check.proofs.Copies.{IsSent}
-use Rattle.rasta_check.specs.Scripts.{Cursor, Advances, takes_next, makes_next, Leads}
+use Rattle.rasta_check.specs.Following.{Cursor, Advances, takes_next, makes_next, Leads}
 use Rattle.rasta_check.proofs.Spelled.{read_once}
 use Rattle.rasta_check.proofs.Sending.{earliest, not_again}
 use Rattle.rasta_check.proofs.Scripted.{slice_get_some}

@@ -23,7 +23,7 @@ use Rattle.rasta_cert.specs.declared.entry.Entry.{Entry}
 use Rattle.rasta_cert.specs.declared.entry.Entry.TheVariants.{Take, Make}
 use Rattle.rasta_cert.specs.Certificate.{most_entries}
 use Rattle.rasta_check.proofs.Copies.{IsSent}
-use Rattle.rasta_check.specs.Scripts.{Cursor, Advances, takes_next, makes_next, Leads, Fits, at_start}
+use Rattle.rasta_check.specs.Following.{Cursor, Advances, takes_next, makes_next, Leads, Follows, at_start}
 use Rattle.rasta_check.specs.Taken.{pdus_of, pdus_made}
 use Rattle.rasta_check.proofs.Lists.{get_push_cases, get_front, get_push}
 use Rattle.rasta_check.proofs.TakeRows.{take_leaves}
@@ -420,7 +420,7 @@ told_of p ws w c s r hc hs lc ls =
     let g = told p hc.valid ws w r in
     (g, sym (sent_once p w.crossed Client c g.own hc g.sends.sent (omega arith)), sym (sent_once p w.crossed Server s g.peer hs g.their_sends.sent (omega arith)))
 
-told_fits : (p : Parameters) (s : Side) (n : ℕ) (own peer : List FirstCopy) (e : EndState) (clock taken : ℕ) (t : Told p s n own peer e clock taken) → Fits p s n own peer t.es e
+told_fits : (p : Parameters) (s : Side) (n : ℕ) (own peer : List FirstCopy) (e : EndState) (clock taken : ℕ) (t : Told p s n own peer e clock taken) → Follows p s n own peer t.es e
 told_fits p s n own peer e clock taken t = (t.at, t.leads, t.made, t.state)
 
 told_few : (p : Parameters) (s : Side) (n : ℕ) (own peer : List FirstCopy) (e : EndState) (clock taken : ℕ) (t : Told p s n own peer e clock taken) → length t.es ≤ length own + length peer
@@ -434,15 +434,15 @@ pub complete : (p : Parameters) (ws : List World) (w : World) (c s : List FirstC
     → IsSent p w.crossed Client c → IsSent p w.crossed Server s → length c ≤ 1000000 → length s ≤ 1000000
     → (n : ℕ) → w.client.state.clock ≤ n → w.server.state.clock ≤ n
     → (cs ss : List Entry)
-    × Fits p Client (length w.crossed) c s cs w.client.state × Fits p Server (length w.crossed) s c ss w.server.state
+    × Follows p Client (length w.crossed) c s cs w.client.state × Follows p Server (length w.crossed) s c ss w.server.state
     × (length cs + length ss ≤ most_entries) × ClocksWithin n cs × ClocksWithin n ss
 complete p ws w c s r hc hs lc ls n bc bs =
     let g = told_of p ws w c s r hc hs lc ls in
     let h = g.0 in
-    let fc : Fits p Client (length w.crossed) c s h.told.es w.client.state =
-    subst (λ (o : List FirstCopy). Fits p Client (length w.crossed) o s h.told.es w.client.state) g.1 (subst (λ (q : List FirstCopy). Fits p Client (length w.crossed) h.own q h.told.es w.client.state) g.2 (told_fits p Client _ h.own h.peer _ _ _ h.told)) in
-    let fs : Fits p Server (length w.crossed) s c h.their_told.es w.server.state =
-    subst (λ (o : List FirstCopy). Fits p Server (length w.crossed) o c h.their_told.es w.server.state) g.2 (subst (λ (q : List FirstCopy). Fits p Server (length w.crossed) h.peer q h.their_told.es w.server.state) g.1 (told_fits p Server _ h.peer h.own _ _ _ h.their_told)) in
+    let fc : Follows p Client (length w.crossed) c s h.told.es w.client.state =
+    subst (λ (o : List FirstCopy). Follows p Client (length w.crossed) o s h.told.es w.client.state) g.1 (subst (λ (q : List FirstCopy). Follows p Client (length w.crossed) h.own q h.told.es w.client.state) g.2 (told_fits p Client _ h.own h.peer _ _ _ h.told)) in
+    let fs : Follows p Server (length w.crossed) s c h.their_told.es w.server.state =
+    subst (λ (o : List FirstCopy). Follows p Server (length w.crossed) o c h.their_told.es w.server.state) g.2 (subst (λ (q : List FirstCopy). Follows p Server (length w.crossed) h.peer q h.their_told.es w.server.state) g.1 (told_fits p Server _ h.peer h.own _ _ _ h.their_told)) in
     let few = told_few p Client _ h.own h.peer _ _ _ h.told in
     let their_few = told_few p Server _ h.peer h.own _ _ _ h.their_told in
     let x = ap length g.1 in

@@ -20,7 +20,7 @@ use Rattle.rasta_end.specs.State.{Made, EndState, content_of}
 use Rattle.rasta_end.specs.MakeRule.{Makes, contents, is_content, differs, is_data, row_of}
 use Rattle.rasta_end.specs.Starts.{start_of}
 use Rattle.rasta_check.specs.Crossing.{FirstCopy}
-use Rattle.rasta_check.specs.Scripts.{Cursor, Advances, takes_next, makes_next, Leads, at_start}
+use Rattle.rasta_check.specs.Following.{Cursor, Advances, takes_next, makes_next, Leads, at_start}
 use Rattle.rasta_cert.specs.Certificate.{AreEntries, IsEntry, IsReason}
 use Rattle.rasta_check.proofs.Copies.{IsSent}
 use Rattle.rasta_check.proofs.Passing.{passed}

@@ -1,9 +1,11 @@
--- What the checker answers for one script: the end that it leads to, or its first fault.
+-- How the code follows a script: the end that it leads to, or its first fault; and what it answers on two scripts.
 use Rattle.std.specs.Prelude.{◌≡◌, ◌⊎◌, ℕ, suc, not, ◌||◌, nat_lt, if◌then◌else◌, ◌==◌, List, [], ◌∷◌, length, Option, Some, None, Result, Ok, Err, slice_get}
 use Rattle.rasta_pcap.specs.declared.fault.Fault.{Fault}
 use Rattle.rasta_pcap.specs.declared.fault.Side.{Side}
+use Rattle.rasta_pcap.specs.declared.fault.Side.TheVariants.{Client, Server}
 use Rattle.rasta_pcap.specs.Fault.{fault_of_end, no_memory, slot_order, not_first_copy, make_missing, not_yet_crossed, not_rising}
 use Rattle.rasta_pdu.specs.Params.{Parameters}
+use Rattle.rasta_cert.specs.Certificate.{Scripts}
 use Rattle.rasta_cert.specs.declared.entry.Entry.{Entry}
 use Rattle.rasta_cert.specs.declared.entry.Entry.TheVariants.{Take, Make}
 use Rattle.rasta_end.specs.declared.why.Why.{Why}
@@ -13,7 +15,8 @@ use Rattle.rasta_end.specs.TakeRule.{take_fault, after_take}
 use Rattle.rasta_end.specs.Starts.{start_of}
 use Rattle.rasta_check.specs.Crossing.{FirstCopy}
 use Rattle.rasta_check.specs.Lists.{position_of_number, position_of_place}
-use Rattle.rasta_check.specs.Scripts.{Cursor, at_start}
+use Rattle.rasta_check.specs.Following.{Cursor, at_start}
+use Rattle.rasta_check.specs.Report.{Explained, report_of}
 
 -- where no rule of the end is broken, the script goes on
 abbrev pub unless : Option ℕ → Cursor → Result Cursor ℕ
@@ -67,6 +70,20 @@ follow_from p side packets own peer entry u (x ∷ xs) = then_follow (λ v. foll
 -- a whole script
 abbrev pub follow : Parameters → Side → ℕ → List FirstCopy → List FirstCopy → List Entry → Result EndState Fault
 follow p side packets own peer entries = follow_from p side packets own peer 1 (at_start (start_of p side)) entries
+
+-- ---- both scripts
+
+abbrev pub where_followed : Result EndState Fault → Result Explained Fault → Result Explained Fault
+where_followed (Ok e) next = next
+where_followed (Err fault) next = Err fault
+
+-- the verdict: the client's script is followed, and then the server's; where both fit, the report stands
+abbrev pub verdict_of : Parameters → ℕ → List FirstCopy → List FirstCopy → Scripts → Result Explained Fault
+verdict_of p packets c s scripts =
+    where_followed (follow p Client packets c s scripts.client)
+    (where_followed (follow p Server packets s c scripts.server) (Ok (report_of p packets c s)))
+
+-- ---- the follower
 
 -- an end that follows its script: the entry of this number is the next
 pub record Followed : Type 0 where

@@ -20,9 +20,13 @@ found_packet (Err fault) = None
 abbrev pub crossing_list : Parameters → List (List ℕ) → List Packet
 crossing_list p records = filter_map (λ (frame : List ℕ). found_packet (packet_in p.channels frame)) (drop (p.first_record - 1) records)
 
+-- a recorded channel
+abbrev pub IsRecorded : Parameters → ℕ → Type 0
+IsRecorded p channel = (1 ≤ channel) × (channel ≤ length p.channels)
+
 -- packets cross on recorded channels
 abbrev pub CrossRecorded : Parameters → List Packet → Type 0
-CrossRecorded p packets = (place : ℕ) (packet : Packet) → slice_get packets place ≡ Some packet → (1 ≤ packet.channel) × (packet.channel ≤ length p.channels)
+CrossRecorded p packets = (place : ℕ) (packet : Packet) → slice_get packets place ≡ Some packet → IsRecorded p packet.channel
 
 -- ---- the sent list of a side
 

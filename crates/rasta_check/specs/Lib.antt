@@ -4,6 +4,7 @@ pub mod Crossing
 pub mod World
 pub mod Taken
 pub mod Scripts
+pub mod Following
 pub mod Laws
 pub mod Theorem
 pub mod ScriptLaws

@@ -1,5 +1,5 @@
 -- What the checker answers: the report on two sent lists, or the first fault of a script.
-use Rattle.std.specs.Prelude.{◌≡◌, ℕ, List, length, Result, Ok, Err}
+use Rattle.std.specs.Prelude.{ℕ, List, length, Result, Ok, Err}
 use Rattle.rasta_pcap.specs.declared.fault.Fault.{Fault}
 use Rattle.rasta_pcap.specs.declared.fault.Side.TheVariants.{Client, Server}
 use Rattle.rasta_pdu.specs.Params.{Parameters}
@@ -8,8 +8,7 @@ use Rattle.rasta_end.specs.State.{EndState}
 use Rattle.rasta_check.specs.declared.report.Report.{Report}
 use Rattle.rasta_check.specs.Crossing.{FirstCopy, crossing_list}
 use Rattle.rasta_check.specs.Listed.{ListedMessage, listed}
-use Rattle.rasta_check.specs.Scripts.{Fits}
-use Rattle.rasta_check.specs.Checking.{follow}
+use Rattle.rasta_check.specs.Scripts.{Fits, FirstFault}
 use Rattle.rasta_check.specs.Verdicts.{IsFaultlessCapture, IsRefusedCapture}
 
 -- how many packets crossed, and what each side took of its peer
@@ -22,20 +21,17 @@ pub record Explained : Type 0 where
 abbrev pub report_of : Parameters → ℕ → List FirstCopy → List FirstCopy → Explained
 report_of p packets c s = record { packets = packets; client_taken = listed p Server s c; server_taken = listed p Client c s }
 
-abbrev pub where_followed : Result EndState Fault → Result Explained Fault → Result Explained Fault
-where_followed (Ok e) next = next
-where_followed (Err fault) next = Err fault
-
--- the verdict: the client's script is followed, and then the server's; where both fit, the report stands
-abbrev pub verdict_of : Parameters → ℕ → List FirstCopy → List FirstCopy → Scripts → Result Explained Fault
-verdict_of p packets c s scripts =
-    where_followed (follow p Client packets c s scripts.client)
-    (where_followed (follow p Server packets s c scripts.server) (Ok (report_of p packets c s)))
-
 -- both scripts fit
 abbrev pub BothFit : Parameters → ℕ → List FirstCopy → List FirstCopy → Scripts → Type 0
 BothFit p packets c s scripts =
     ((a : EndState) × Fits p Client packets c s scripts.client a) × ((b : EndState) × Fits p Server packets s c scripts.server b)
+
+-- the verdict on two scripts: the report, where both fit; else the first fault of the client's, and where that fits of the server's
+pub data IsScriptVerdict (p : Parameters) (packets : ℕ) (c s : List FirstCopy) (scripts : Scripts) : Result Explained Fault → Type 0 where
+  both_fit : BothFit p packets c s scripts → IsScriptVerdict p packets c s scripts (Ok (report_of p packets c s))
+  client_refused : (fault : Fault) → FirstFault p Client packets c s scripts.client fault → IsScriptVerdict p packets c s scripts (Err fault)
+  server_refused : (a : EndState) (fault : Fault) → Fits p Client packets c s scripts.client a → FirstFault p Server packets s c scripts.server fault
+      → IsScriptVerdict p packets c s scripts (Err fault)
 
 -- what a report says
 abbrev pub explained : Report → Explained
@@ -47,7 +43,7 @@ explained r = record { packets = r.packets; client_taken = r.client_taken; serve
 pub data IsFileVerdict (p : Parameters) (file : List ℕ) (scripts : Scripts) : Result Explained Fault → Type 0 where
   refused : (fault : Fault) → IsRefusedCapture p file fault → IsFileVerdict p file scripts (Err fault)
   judged : (client server : List FirstCopy) (capture : IsFaultlessCapture p file client server) (verdict : Result Explained Fault)
-      → verdict_of p (length (crossing_list p capture.records)) client server scripts ≡ verdict → IsFileVerdict p file scripts verdict
+      → IsScriptVerdict p (length (crossing_list p capture.records)) client server scripts verdict → IsFileVerdict p file scripts verdict
 
 -- a certificate explains a capture: the capture has no fault, and both scripts fit what its sides sent
 pub record Explains (p : Parameters) (file : List ℕ) (scripts : Scripts) : Type 0 where

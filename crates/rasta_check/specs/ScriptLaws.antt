@@ -1,17 +1,20 @@
 -- The theorem over runs: what scripts that fit say of runs, each judged without the other.
-use Rattle.std.specs.Prelude.{◌≡◌, ℕ, ◌<◌, ◌≤◌, ◌^◌, List, ◌∷◌, ◌++◌, length}
+use Rattle.std.specs.Prelude.{◌≡◌, ◌↔◌, ◌⊎◌, ℕ, ◌<◌, ◌≤◌, ◌^◌, List, ◌∷◌, ◌++◌, length, Result}
+use Rattle.rasta_pcap.specs.declared.fault.Fault.{Fault}
 use Rattle.rasta_pcap.specs.declared.fault.Side.{Side}
 use Rattle.rasta_pcap.specs.declared.fault.Side.TheVariants.{Client, Server}
 use Rattle.rasta_udp.specs.Frame.{Packet}
 use Rattle.rasta_pdu.specs.Params.{Parameters}
 use Rattle.rasta_cert.specs.declared.entry.Entry.{Entry}
-use Rattle.rasta_cert.specs.Certificate.{IsCertificate}
+use Rattle.rasta_cert.specs.Certificate.{IsCertificate, Scripts}
 use Rattle.rasta_end.specs.State.{EndState}
 use Rattle.rasta_end.specs.Starts.{start_of}
 use Rattle.rasta_check.specs.Crossing.{CrossRecorded, FirstCopy, Sent}
 use Rattle.rasta_check.specs.World.{World, Reaches, most_sent}
 use Rattle.rasta_check.specs.Taken.{surely_taken}
-use Rattle.rasta_check.specs.Scripts.{Cursor, Advances, Leads, at_start, Fits}
+use Rattle.rasta_check.specs.Scripts.{Fits, FirstFault}
+use Rattle.rasta_check.specs.Following.{Cursor, Advances, Leads, Follows, at_start}
+use Rattle.rasta_check.specs.Report.{Explained, IsScriptVerdict}
 use Rattle.rasta_check.specs.Theorem.{most_packets, other_side, units_handed, units_listed}
 
 -- ---- 4. simulation
@@ -60,3 +63,34 @@ Stuck p =
     → Leads p (length packets) own peer (at_start (start_of p side)) entries v
     → ((w : Cursor) → Advances p (length packets) own peer v x w → ⊥)
     → Fits p side (length packets) own peer (entries ++ x ∷ rest) e → ⊥)
+
+-- ---- 8. one form and another
+
+-- a script fits exactly where it is followed, entry by entry, to the same end
+abbrev pub Agree : Parameters → Type 0
+Agree p =
+    (packets : List Packet) (side : Side) (own peer : List FirstCopy) (entries : List Entry) (e : EndState)
+    → Sent p packets side own → Sent p packets (other_side side) peer → length peer < 2 ^ 32
+    → Fits p side (length packets) own peer entries e ↔ Follows p side (length packets) own peer entries e
+
+-- ---- 9. one answer
+
+-- this script fits, with one end, or has one first fault, and not both
+pub record HasOneAnswer (p : Parameters) (side : Side) (packets : ℕ) (own peer : List FirstCopy) (entries : List Entry) : Type 0 where
+  pub some : ((e : EndState) × Fits p side packets own peer entries e) ⊎ ((fault : Fault) × FirstFault p side packets own peer entries fault)
+  pub one_end : (a b : EndState) → Fits p side packets own peer entries a → Fits p side packets own peer entries b → a ≡ b
+  pub one_fault : (f g : Fault) → FirstFault p side packets own peer entries f → FirstFault p side packets own peer entries g → f ≡ g
+  pub not_both : (e : EndState) (f : Fault) → Fits p side packets own peer entries e → FirstFault p side packets own peer entries f → ⊥
+
+-- so it is with every script and all lists
+abbrev pub OneAnswer : Type 0
+OneAnswer = (p : Parameters) (side : Side) (packets : ℕ) (own peer : List FirstCopy) (entries : List Entry) → HasOneAnswer p side packets own peer entries
+
+-- two scripts have a verdict, and no other
+pub record HasOneVerdict (p : Parameters) (packets : ℕ) (c s : List FirstCopy) (scripts : Scripts) : Type 0 where
+  pub some : (answer : Result Explained Fault) × IsScriptVerdict p packets c s scripts answer
+  pub one : (a b : Result Explained Fault) → IsScriptVerdict p packets c s scripts a → IsScriptVerdict p packets c s scripts b → a ≡ b
+
+-- so it is with all scripts and lists
+abbrev pub OneVerdict : Type 0
+OneVerdict = (p : Parameters) (packets : ℕ) (c s : List FirstCopy) (scripts : Scripts) → HasOneVerdict p packets c s scripts

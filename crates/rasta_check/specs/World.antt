@@ -10,7 +10,7 @@ use Rattle.rasta_end.specs.State.{Made, EndState, wrapped}
 use Rattle.rasta_end.specs.MakeRule.{Makes}
 use Rattle.rasta_end.specs.TakeRule.{Takes}
 use Rattle.rasta_end.specs.Starts.{start_of}
-use Rattle.rasta_check.specs.Crossing.{Spells}
+use Rattle.rasta_check.specs.Crossing.{Spells, IsRecorded}
 
 -- an end with its clock and what the network brought it. Positions are those of the peer
 pub record Station : Type 0 where
@@ -25,10 +25,6 @@ pub record World : Type 0 where
   pub client : Station
   pub server : Station
   pub crossed : List Packet
-
--- a recorded channel
-abbrev pub IsRecorded : Parameters → ℕ → Type 0
-IsRecorded p channel = (1 ≤ channel) × (channel ≤ length p.channels)
 
 -- what one station does. Positions are those of the peer, and a place is that of a packet among those that crossed
 pub data Move : Type 0 where

@@ -8,7 +8,8 @@ ghost use Rattle.rasta_check.specs.Reading.{AreSentLists, IsCrossing};
 ghost use Rattle.rasta_end.specs.State.{EndState};
 ghost use Rattle.rasta_check.specs.Checking;
 ghost use Rattle.rasta_check.specs.Listing.{listed_with, proofs_from};
-ghost use Rattle.rasta_check.specs.Report.{BothFit, Explains, IsFileVerdict, explained, report_of, verdict_of};
+ghost use Rattle.rasta_check.specs.Checking.{verdict_of};
+ghost use Rattle.rasta_check.specs.Report.{BothFit, Explains, IsFileVerdict, IsScriptVerdict, explained, report_of};
 ghost use Rattle.rasta_check.specs.Verdicts.{CrossedIn};
 ghost use Rattle.rasta_check.specs.Headline.{Headline, IsSharp};
 
@@ -136,8 +137,8 @@ pub fn check_lists<'a, S: SentList<'a>>(
     requires crossed { AreSentLists p.now packets (S.content client.now) (S.content server.now) }
     // The report, or the first fault.
     ensures verdict { MatchResult result
-        (λ r. verdict_of p.now packets (S.content client.now) (S.content server.now) certificate.now ≡ Ok (explained r))
-        (λ f. (verdict_of p.now packets (S.content client.now) (S.content server.now) certificate.now ≡ Err f) ⊎ (f ≡ no_memory)) }
+        (λ r. IsScriptVerdict p.now packets (S.content client.now) (S.content server.now) certificate.now (Ok (explained r)))
+        (λ f. IsScriptVerdict p.now packets (S.content client.now) (S.content server.now) certificate.now (Err f) ⊎ (f ≡ no_memory)) }
     // A report stands exactly where both scripts fit.
     ensures fits { OnOk result (BothFit p.now packets (S.content client.now) (S.content server.now) certificate.now) }
     ensures refused { IfErr result (λ f. (BothFit p.now packets (S.content client.now) (S.content server.now) certificate.now → ⊥) ⊎ (f ≡ no_memory)) }
@@ -170,8 +171,8 @@ pub fn check_sent<'a>(
 ) -> Result<Report<'a>, Fault>
     requires same { sent.now.params ≡ p.now }
     ensures verdict { MatchResult result
-        (λ r. verdict_of p.now (length sent.now.packets) sent.now.client sent.now.server certificate.now ≡ Ok (explained r))
-        (λ f. (verdict_of p.now (length sent.now.packets) sent.now.client sent.now.server certificate.now ≡ Err f) ⊎ (f ≡ no_memory)) }
+        (λ r. IsScriptVerdict p.now (length sent.now.packets) sent.now.client sent.now.server certificate.now (Ok (explained r)))
+        (λ f. IsScriptVerdict p.now (length sent.now.packets) sent.now.client sent.now.server certificate.now (Err f) ⊎ (f ≡ no_memory)) }
     ensures fits { OnOk result (BothFit p.now (length sent.now.packets) sent.now.client sent.now.server certificate.now) }
     ensures refused { IfErr result (λ f. (BothFit p.now (length sent.now.packets) sent.now.client sent.now.server certificate.now → ⊥) ⊎ (f ≡ no_memory)) }
     ensures exact { IfOk result (λ r. BothFit p.now (length sent.now.packets) sent.now.client sent.now.server certificate.now
@@ -202,8 +203,8 @@ pub fn check_store<'a>(
 ) -> Result<Report<'a>, Fault>
     requires same { store.now.params ≡ p.now }
     ensures verdict { MatchResult result
-        (λ r. verdict_of p.now (length store.now.packets) store.now.client store.now.server certificate.now ≡ Ok (explained r))
-        (λ f. (verdict_of p.now (length store.now.packets) store.now.client store.now.server certificate.now ≡ Err f) ⊎ (f ≡ no_memory)) }
+        (λ r. IsScriptVerdict p.now (length store.now.packets) store.now.client store.now.server certificate.now (Ok (explained r)))
+        (λ f. IsScriptVerdict p.now (length store.now.packets) store.now.client store.now.server certificate.now (Err f) ⊎ (f ≡ no_memory)) }
     ensures fits { OnOk result (BothFit p.now (length store.now.packets) store.now.client store.now.server certificate.now) }
     ensures refused { IfErr result (λ f. (BothFit p.now (length store.now.packets) store.now.client store.now.server certificate.now → ⊥) ⊎ (f ≡ no_memory)) }
     ensures exact { IfOk result (λ r. BothFit p.now (length store.now.packets) store.now.client store.now.server certificate.now

@@ -8,7 +8,8 @@ ghost use Rattle.rasta_check.specs.Lists.{copy_of};
 ghost use Rattle.rasta_check.specs.Reading.{Crossing, IsCrossing, crossing_with, sent_by, sent_after, nothing_crossed, after_packet, after_frame, after_record};
 ghost use Rattle.std.specs.Prelude.{◌<◌, ◌≤◌, IfSome, bytes_eq, nat_lt, not, ◌&&◌, ◌||◌};
 ghost use Rattle.rasta_check.specs.Crossing.{is_next_number};
-ghost use Rattle.rasta_check.specs.World.{IsRecorded, most_sent};
+ghost use Rattle.rasta_check.specs.Crossing.{IsRecorded};
+ghost use Rattle.rasta_check.specs.World.{most_sent};
 ghost use Rattle.rasta_check.specs.Theorem.{most_packets};
 ghost use Rattle.rasta_check.specs.Packets.{number_in_bytes, with_new};
 

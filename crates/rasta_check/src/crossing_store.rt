@@ -10,7 +10,8 @@ ghost use Rattle.rasta_check.specs.Packets.{number_in_bytes};
 ghost use Rattle.rasta_check.specs.Reading.{Crossing, IsCrossing, sent_by, with_packet, nothing_crossed, after_packet, after_frame, after_record};
 ghost use Rattle.rasta_check.specs.Stored.{IsJudged, IsStore, crossing_by, first_copy_bytes};
 ghost use Rattle.rasta_check.specs.Theorem.{most_packets};
-ghost use Rattle.rasta_check.specs.World.{IsRecorded, most_sent};
+ghost use Rattle.rasta_check.specs.Crossing.{IsRecorded};
+ghost use Rattle.rasta_check.specs.World.{most_sent};
 
 use crate::crossing::{MOST_PACKETS, MOST_SENT, number_in};
 use crate::datagrams::Datagrams;

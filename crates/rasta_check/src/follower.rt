@@ -5,7 +5,7 @@ ghost use Rattle.rasta_pdu.specs.Pdu.{value_of};
 ghost use Rattle.rasta_end.specs.TakeRule.{take_fault, after_take};
 ghost use Rattle.rasta_end.specs.MakeRule.{make_fault, after_make};
 ghost use Rattle.rasta_end.specs.Starts.{start_of};
-ghost use Rattle.rasta_check.specs.Scripts.{at_start};
+ghost use Rattle.rasta_check.specs.Following.{at_start};
 ghost use Rattle.rasta_check.specs.Checking;
 ghost use Rattle.rasta_check.specs.Checking.{unless, next_cursor, take_entry, make_entry, taken_there, made_there, moved_to, IsRefused};
 

@@ -11,7 +11,7 @@ ghost use Rattle.rasta_check.specs.Reading.{AreSentLists, Crossing, crossing_of}
 ghost use Rattle.rasta_check.specs.Verdicts.{Impossible, packets_through, IsFaultlessCapture, IsRefusedCapture};
 ghost use Rattle.rasta_check.specs.Laws;
 ghost use Rattle.rasta_check.specs.Theorem.{OfConnection, SentLists, Definite, Necessity};
-ghost use Rattle.rasta_check.specs.ScriptLaws.{Simulation, Sharpness, Complete, Stuck};
+ghost use Rattle.rasta_check.specs.ScriptLaws.{Simulation, Sharpness, Complete, Stuck, Agree, OneAnswer, OneVerdict};
 
 /// The SN of a PDU names one position of its end.
 pub fn sn_once()
@@ -75,6 +75,21 @@ pub fn complete()
 /// A script leads to one end; where its next entry can't follow, no script that begins so fits.
 pub fn stuck()
     ensures { (p : Parameters) → OfConnection p → Stuck p }
+{}
+
+/// A script fits exactly where it is followed entry by entry.
+pub fn fits_where_followed()
+    ensures { (p : Parameters) → OfConnection p → Agree p }
+{}
+
+/// A script fits, with one end, or has one first fault, and not both.
+pub fn scripts_have_one_answer()
+    ensures { OneAnswer }
+{}
+
+/// Two scripts have one verdict.
+pub fn verdicts_are_one()
+    ensures { OneVerdict }
 {}
 
 /// Two empty lists and no packets meet the condition of [`check_lists`](crate::check_lists).

@@ -24,7 +24,8 @@ use Rattle.rasta_plain.specs.declared.world.Move.TheVariants.{Make, Repeat, Arri
 use Rattle.rasta_plain.specs.declared.world.PlainStation.TheInside.{Inside}
 use Rattle.rasta_end.specs.Judged.{JudgedEnd}
 use Rattle.rasta_check.specs.Crossing.{Spells}
-use Rattle.rasta_check.specs.World.{Station, World, Move as Label, making, repeating, arriving, taking, waiting, Moves, makes, repeats, arrives, takes, waits, Step, client_moves, server_moves, IsRecorded}
+use Rattle.rasta_check.specs.Crossing.{IsRecorded}
+use Rattle.rasta_check.specs.World.{Station, World, Move as Label, making, repeating, arriving, taking, waiting, Moves, makes, repeats, arrives, takes, waits, Step, client_moves, server_moves}
 use Rattle.rasta_plain.specs.Moving.{IsMove, Answers, JudgedStation, judged_station, IsPlainStation}
 use Rattle.rasta_check.proofs.Accepting.{accepted_after}
 use Rattle.rasta_check.proofs.TakeRows.{take_leaves}

@@ -5,6 +5,7 @@ use Rattle.std.specs.List.{list_all}
 use Rattle.std.proofs.lemmas.Bool.Decides.{nat_tests}
 use Rattle.rasta_pcap.specs.declared.fault.Side.{Side}
 use Rattle.rasta_pcap.specs.declared.fault.Side.TheVariants.{Client, Server}
+use Rattle.rasta_pcap.specs.Fault.{fault_of_end, clock_differs, make_missing, not_first_copy}
 use Rattle.rasta_udp.specs.declared.channel.Endpoint.{Endpoint}
 use Rattle.rasta_udp.specs.Frame.{Packet}
 use Rattle.rasta_pdu.specs.Params.{Parameters, AreParameters}
@@ -22,7 +23,8 @@ use Rattle.rasta_end.specs.Starts.{start_of}
 use Rattle.rasta_check.specs.Crossing.{FirstCopy, Spells, Sent, CrossRecorded, packet_fault}
 use Rattle.rasta_check.specs.World.{World, Reaches}
 use Rattle.rasta_check.specs.Taken.{TakenUnit, pdus_made, all_made, surely_taken}
-use Rattle.rasta_check.specs.Scripts.{Cursor, Advances, takes_next, makes_next, Leads, at_start, Fits}
+use Rattle.rasta_check.specs.Scripts.{Fits, FirstFault, at_entry, after_last}
+use Rattle.rasta_check.specs.Following.{Cursor, Advances, takes_next, makes_next, Leads, at_start}
 use Rattle.rasta_check.specs.Theorem.{OfConnection, SentLists, Definite, Necessity, Appends, HasHandedUp, units_handed, units_listed}
 use Rattle.rasta_check.specs.ScriptLaws.{Simulation, Sharpness, Complete, Stuck}
 use Rattle.rasta_check.proofs.Forms.{of_record}
@@ -199,27 +201,39 @@ abbrev server_end : EndState
 server_end = after_make server_taken beat.safety 9050 Beat
 
 pub client_fits : Fits connection Client 2 from_client from_server client_script client_end
-client_fits =
-    let v : Cursor = record { level = 1; made = 1; taken = 0; state = client_end } in (
-      v,
-      (v, makes_next offered 1020 Fresh client_end (omega arith) refl (refl, refl), refl),
-      refl,
-      refl,
-    )
+client_fits = record {
+  makes = refl;
+  slots = (omega arith, tt);
+  taken = [];
+  takes = tt;
+  ends = (client_end, (refl, refl), refl);
+}
 
 pub server_fits : Fits connection Server 2 from_server from_client server_script server_end
-server_fits =
-    let u : Cursor = record { level = 1; made = 0; taken = 1; state = server_taken } in
-    let v : Cursor = record { level = 2; made = 1; taken = 1; state = server_end } in (
-      v,
-      (
-        u,
-        takes_next 1 0 offered server_taken (omega arith) (omega arith) refl (omega arith) (omega arith) (refl, refl),
-        (v, makes_next beaten 9050 Beat server_end (omega arith) refl (refl, refl), refl),
-      ),
-      refl,
-      refl,
-    )
+server_fits = record {
+  makes = refl;
+  slots = (omega arith, omega arith, (omega arith, tt));
+  taken = 0 ∷ [];
+  takes = (omega arith, refl, (offered, refl, omega arith), tt);
+  ends = (offered, server_taken, refl, (refl, refl), (server_end, (refl, refl), refl));
+}
+
+-- ---- the first fault of others
+
+nothing_fits : Fits connection Client 2 [] from_server [] (start_of connection Client)
+nothing_fits = record { makes = refl; slots = tt; taken = []; takes = tt; ends = refl }
+
+-- at another clock the data has not its time stamp
+pub late_clock : FirstFault connection Client 2 from_client from_server (Make 0 1021 Fresh ∷ []) (fault_of_end clock_differs 1 Client)
+late_clock = at_entry [] [] (Make 0 1021 Fresh) [] from_client (start_of connection Client) nothing_fits clock_differs refl refl refl
+
+-- a script without entries leaves the data unmade
+pub nothing_made : FirstFault connection Client 2 from_client from_server [] (fault_of_end make_missing 1 Client)
+nothing_made = after_last [] [] offered (start_of connection Client) nothing_fits refl
+
+-- the heartbeat is no packet of the client
+pub not_own : FirstFault connection Client 2 from_client from_server (Make 1 1020 Fresh ∷ []) (fault_of_end not_first_copy 1 Client)
+not_own = at_entry [] [] (Make 1 1020 Fresh) [] from_client (start_of connection Client) nothing_fits not_first_copy refl refl refl
 
 -- ---- what is listed
 
@@ -300,9 +314,11 @@ tried_complete law ws w r e a b =
     law ws w from_client from_server r (client_crossed w e) (server_crossed w e) (omega (arith, few)) (omega arith) (omega arith) (omega (arith, c)) (omega (arith, s))
 
 -- the client's script leads to one end
+client_leads : (v : Cursor) × Leads connection 2 from_client from_server (at_start (start_of connection Client)) client_script v × (v.state ≡ client_end)
+client_leads = (let v : Cursor = record { level = 1; made = 1; taken = 0; state = client_end } in (v, (v, makes_next offered 1020 Fresh client_end (omega arith) refl (refl, refl), refl), refl))
+
 pub tried_once : Stuck connection → (v : Cursor) → Leads connection 2 from_client from_server (at_start (start_of connection Client)) client_script v → v.state ≡ client_end
-unfolding client_fits
-tried_once law v leads = ap (λ (u : Cursor). u.state) ((law packets Client from_client from_server server_sent (omega arith)).0 (at_start (start_of connection Client)) v client_fits.0 client_script leads client_fits.1)
+tried_once law v leads = ap (λ (u : Cursor). u.state) ((law packets Client from_client from_server server_sent (omega arith)).0 (at_start (start_of connection Client)) v client_leads.0 client_script leads client_leads.1) ∙ client_leads.2
 
 some_none : (n : ℕ) → Some n ≡ None → ⊥
 some_none n e = (cc)

@@ -6,7 +6,8 @@ ghost use Rattle.rasta_end.specs.State.{Made, wrapped};
 ghost use Rattle.rasta_end.specs.TakeRule.{take_fault};
 ghost use Rattle.rasta_end.specs.Starts.{start_of};
 ghost use Rattle.rasta_check.specs.Crossing.{Spells};
-ghost use Rattle.rasta_check.specs.World.{Station, IsRecorded, Step, first_station, first_world};
+ghost use Rattle.rasta_check.specs.Crossing.{IsRecorded};
+ghost use Rattle.rasta_check.specs.World.{Station, Step, first_station, first_world};
 ghost use Rattle.rasta_check.specs.Theorem.{other_side, station_of};
 ghost use Rattle.rasta_plain.specs.Moving.{Answers, IsBelow};
 

@@ -13,7 +13,7 @@ use Rattle.rasta_end.specs.Starts.{start_of}
 use Rattle.rasta_cert.specs.declared.entry.Entry.{Entry}
 use Rattle.rasta_check.specs.Crossing.{FirstCopy, CrossRecorded}
 use Rattle.rasta_check.specs.Lists.{position_of_place}
-use Rattle.rasta_check.specs.Scripts.{Cursor, Fits, at_start}
+use Rattle.rasta_check.specs.Following.{Cursor, Follows, at_start}
 use Rattle.rasta_check.specs.World.{Station, World, first_station}
 use Rattle.rasta_check.proofs.Copies.{IsSent}
 use Rattle.rasta_check.proofs.Scripted.{Tracks, Drained, apart_sides, first_number_of, first_tracks, nothing_left, other_side, slice_get_some}
@@ -229,7 +229,7 @@ module _ (p : Parameters) (packets : List Packet) (c s : List FirstCopy) (sc : I
       )
 
 pub simulated : (p : Parameters) (packets : List Packet) (c s : List FirstCopy) (cs ss : List Entry) (a b : EndState) → CrossRecorded p packets → IsSent p packets Client c → IsSent p packets Server s
-    → Fits p Client (length packets) c s cs a → Fits p Server (length packets) s c ss b
+    → Follows p Client (length packets) c s cs a → Follows p Server (length packets) s c ss b
     → (hs : List Happened) × (w : World) × Runs p hs w × (w.crossed ≡ packets) × (w.client.state ≡ a) × (w.server.state ≡ b) × (told hs ≡ lines_before packets c s cs ss (suc (length packets)))
 simulated p packets c s cs ss a b rec hc hs fc fs =
     let r = at_last p packets c s hc hs rec fc.0 fs.0 fc.2 fs.2 cs ss (record {

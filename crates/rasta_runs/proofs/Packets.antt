@@ -15,7 +15,7 @@ use Rattle.rasta_cert.specs.declared.entry.Entry.TheVariants.{Take, Make}
 use Rattle.rasta_check.specs.Crossing.{Spells, FirstCopy, CrossRecorded}
 use Rattle.rasta_check.specs.Lists.{position_of_place}
 use Rattle.rasta_check.specs.Packets.{number_in_bytes}
-use Rattle.rasta_check.specs.Scripts.{Cursor, Advances, takes_next, makes_next, Leads}
+use Rattle.rasta_check.specs.Following.{Cursor, Advances, takes_next, makes_next, Leads}
 use Rattle.rasta_check.specs.World.{Station, making, repeating, waiting, makes, repeats, waits}
 use Rattle.rasta_check.proofs.Copies.{IsSent}
 use Rattle.rasta_check.proofs.Crossings.{number_spelled}

@@ -6,6 +6,7 @@ use Rattle.rasta_udp.specs.Frame.{Packet}
 use Rattle.rasta_pdu.specs.Params.{Parameters, AreParameters}
 use Rattle.rasta_cert.specs.declared.entry.Entry.{Entry}
 use Rattle.rasta_check.specs.Crossing.{FirstCopy}
+use Rattle.rasta_check.proofs.Fitting.{fits_follows}
 use Rattle.rasta_check.proofs.Forms.{to_record}
 use Rattle.rasta_runs.specs.Levels.{level_lines, levels_lines, run_lines}
 use Rattle.rasta_runs.specs.Theorem.{Simulation}
@@ -24,5 +25,6 @@ module _ (packets : List Packet) (c s : List FirstCopy) (cs ss : List Entry) whe
 
 pub simulation : (p : Parameters) → AreParameters p → Simulation p
 simulation p valid packets c s cs ss a b rec hc hs fc fs =
-    let r = simulated p packets c s cs ss a b rec (to_record p packets Client c valid hc) (to_record p packets Server s valid hs) fc fs in
+    let r = simulated p packets c s cs ss a b rec (to_record p packets Client c valid hc) (to_record p packets Server s valid hs)
+    (fits_follows p (length packets) c s Client cs a fc) (fits_follows p (length packets) s c Server ss b fs) in
     (r.0, r.1, r.2, r.3, r.4, r.5, r.6 ∙ forward packets c s cs ss)

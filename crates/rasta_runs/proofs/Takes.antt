@@ -12,7 +12,7 @@ use Rattle.rasta_end.specs.TakeRule.{Takes}
 use Rattle.rasta_cert.specs.declared.entry.Entry.{Entry}
 use Rattle.rasta_cert.specs.declared.entry.Entry.TheVariants.{Take, Make}
 use Rattle.rasta_check.specs.Crossing.{FirstCopy}
-use Rattle.rasta_check.specs.Scripts.{Cursor, Advances, takes_next, makes_next, Leads}
+use Rattle.rasta_check.specs.Following.{Cursor, Advances, takes_next, makes_next, Leads}
 use Rattle.rasta_check.specs.World.{Station, arriving, taking, arrives, takes}
 use Rattle.rasta_check.proofs.Copies.{IsSent}
 use Rattle.rasta_check.proofs.Scripted.{Tracks, Drained, lt_of, moved_made, next_number, slice_get_some}

@@ -8,7 +8,7 @@ use Rattle.rasta_check.specs.declared.report.Report.{Report}
 use Rattle.rasta_check.specs.Headline.{Headline}
 use Rattle.rasta_check.specs.Reading.{Crossing, IsCrossing, crossing_of}
 use Rattle.rasta_check.specs.Report as report
-use Rattle.rasta_check.specs.Report.{BothFit, verdict_of}
+use Rattle.rasta_check.specs.Report.{BothFit, IsScriptVerdict}
 use Rattle.rasta_verdict.specs.declared.verdict.Verdict.{Verdict}
 use Rattle.rasta_verdict.specs.declared.verdict.Verdict.TheVariants as verdicts
 use Rattle.rasta_check.proofs.Filed.{same_params}
@@ -24,9 +24,9 @@ use Rattle.rasta_verdict.specs.Verdict.{IsVerdict}
 use Rattle.rasta_verdict.proofs.Telling.{fits-told}
 use Rattle.rasta_verdict.proofs.Verdicts.{IsRefusal, if_ok_map}
 
--- what the checker is asked, by these parameters
-abbrev said_of : Parameters → Crossing → Scripts → Result report.Explained Fault
-said_of p k scripts = verdict_of p (length k.packets) k.client k.server scripts
+-- what the checker says, by these parameters
+abbrev Said : Parameters → Crossing → Scripts → Result report.Explained Fault → Type 0
+Said p k scripts answer = IsScriptVerdict p (length k.packets) k.client k.server scripts answer
 
 -- both scripts fit what crossed, by these parameters
 abbrev FitBy : Crossing → Scripts → Parameters → Type 0
@@ -41,17 +41,17 @@ told_run k scripts h fit =
 
 -- the checker's answer, by the parameters of what crossed
 pub is_checked : (p : Parameters) (k : Crossing) (scripts : Scripts) (r : Result Report Fault) → k.params ≡ p
-    → MatchResult r (λ x. said_of p k scripts ≡ Ok (report.explained x)) (λ f. (said_of p k scripts ≡ Err f) ⊎ (f ≡ no_memory))
+    → MatchResult r (λ x. Said p k scripts (Ok (report.explained x))) (λ f. Said p k scripts (Err f) ⊎ (f ≡ no_memory))
     → IfErr r (λ f. (FitBy k scripts p → ⊥) ⊎ (f ≡ no_memory)) → OnOk r (FitBy k scripts p) → IfOk r (λ x. Headline p k.packets (report.explained x)) → IsCrossing k → IsChecked k scripts r
 is_checked p k scripts (Ok x) same said unfit fits claim crossing = (
   fits-told p k scripts fits.0.0 fits.1.0 fits.0.1 fits.1.1,
-  ap (λ (q : Parameters). said_of q k scripts) same ∙ said,
+  subst (λ (q : Parameters). Said q k scripts (Ok (report.explained x))) (sym same) said,
   subst (λ (q : Parameters). Headline q k.packets (report.explained x)) (sym same) claim,
   told_run k scripts crossing (subst (FitBy k scripts) (sym same) fits),
 )
 is_checked p k scripts (Err f) same said unfit fits claim crossing = ⊎_elim
-    (λ (refused : said_of p k scripts ≡ Err f). ⊎_elim
-    (λ (no : FitBy k scripts p → ⊥). inl (ap (λ (q : Parameters). said_of q k scripts) same ∙ refused, λ fit. no (subst (FitBy k scripts) same fit)))
+    (λ (refused : Said p k scripts (Err f)). ⊎_elim
+    (λ (no : FitBy k scripts p → ⊥). inl (subst (λ (q : Parameters). Said q k scripts (Err f)) (sym same) refused, λ fit. no (subst (FitBy k scripts) same fit)))
     (λ (none : f ≡ no_memory). inr none) unfit)
     (λ (none : f ≡ no_memory). inr none) said
 

@@ -18,11 +18,11 @@ use Rattle.rasta_cert.specs.Certificate.{Scripts}
 use Rattle.rasta_check.specs.Crossing.{FirstCopy}
 use Rattle.rasta_check.specs.Lists.{places_of, position_of_place}
 use Rattle.rasta_check.specs.Reading.{Crossing}
-use Rattle.rasta_check.specs.Scripts.{Advances, Cursor, Fits, Leads, at_start, makes_next, takes_next}
+use Rattle.rasta_check.specs.Scripts.{AreInOrder, Fits, places_made}
 use Rattle.rasta_runs.specs.Lines.{Line, number_of}
 use Rattle.rasta_runs.specs.Levels.{makes_at, takes_at, by_side_lines, crossed_lines, each_make, each_take, level_lines, levels_lines, packet_lines, takes_lines}
 use Rattle.rasta_verdict.specs.RunText.{copy_line, line_text, make_line, run_text, take_line, what_text}
-use Rattle.rasta_verdict.specs.Told.{IsOrderedFrom, IsTold, indexes_of, of_side, takes_text, told_crossing, told_level, told_levels, told_packet}
+use Rattle.rasta_verdict.specs.Told.{IsOrderedFrom, IsTold, of_side, takes_text, told_crossing, told_level, told_levels, told_packet}
 use Rattle.rasta_runs.proofs.Entries.{makes_here, makes_none, makes_other, makes_past}
 
 -- ---- where a place stands among the places of a list
@@ -73,11 +73,11 @@ no_make_more : (place index clock : ℕ) (why : Why) (es : List Entry) (b f : Bo
 no_make_more place index clock why es true f t rest e = absurd (cc)
 no_make_more place index clock why es false f t rest e = makes_other place index clock why es (differ place index t) ∙ rest e
 
-no_make : (place : ℕ) (es : List Entry) → is_found place (indexes_of es) ≡ false → makes_at place es ≡ []
+no_make : (place : ℕ) (es : List Entry) → is_found place (places_made es) ≡ false → makes_at place es ≡ []
 no_make place [] e = makes_none place
 no_make place (Take slot number ∷ es) e = makes_past place slot number es ∙ no_make place es e
 no_make place (Make index clock why ∷ es) e =
-    no_make_more place index clock why es (nat_eq place index) (is_found place (indexes_of es)) refl (λ h. no_make place es h) e
+    no_make_more place index clock why es (nat_eq place index) (is_found place (places_made es)) refl (λ h. no_make place es h) e
 
 -- an index is made
 abbrev HasMake : ℕ → List Entry → Type 0
@@ -92,11 +92,11 @@ a_make_more place index clock why es true f t rest e = (
 )
 a_make_more place index clock why es false f t rest e = (let h = rest e in (h.0, h.1, makes_other place index clock why es (differ place index t) ∙ h.2))
 
-a_make : (place : ℕ) (es : List Entry) → is_found place (indexes_of es) ≡ true → HasMake place es
+a_make : (place : ℕ) (es : List Entry) → is_found place (places_made es) ≡ true → HasMake place es
 a_make place [] e = absurd (cc)
 a_make place (Take slot number ∷ es) e = (let h = a_make place es e in (h.0, h.1, makes_past place slot number es ∙ h.2))
 a_make place (Make index clock why ∷ es) e =
-    a_make_more place index clock why es (nat_eq place index) (is_found place (indexes_of es)) refl (λ h. a_make place es h) e
+    a_make_more place index clock why es (nat_eq place index) (is_found place (places_made es)) refl (λ h. a_make place es h) e
 
 -- ---- the text of lines
 
@@ -116,7 +116,7 @@ copy_says place side number ms = append-nil (copy_line place side number)
 
 -- ---- what is no make is a copy
 
-crossed : (place : ℕ) (side : Side) (number : ℕ) (es : List Entry) (own : List FirstCopy) → indexes_of es ≡ places_of own
+crossed : (place : ℕ) (side : Side) (number : ℕ) (es : List Entry) (own : List FirstCopy) → places_made es ≡ places_of own
     → flat_map line_text (crossed_lines place side number (position_of_place own place) (makes_at place es)) ≡ told_crossing place side number (makes_at place es)
 unfolding told_crossing
 crossed place side number es own same = by (position_of_place own place) refl
@@ -171,40 +171,18 @@ told_whole k scripts told =
 
 -- ---- a script that fits is in order, and makes what its side sent
 
-next_up : (p : Parameters) (packets : ℕ) (own peer : List FirstCopy) (u m : Cursor) (x : Entry) (es : List Entry) → Advances p packets own peer u x m
-    → IsOrderedFrom m.level es → IsOrderedFrom u.level (x ∷ es)
-next_up p packets own peer u m x es (takes_next slot place c after low high g front up t) o = (low, o)
-next_up p packets own peer u m x es (makes_next c clock why after low g t) o = (low, o)
-
-leads_up : (p : Parameters) (packets : ℕ) (own peer : List FirstCopy) (u v : Cursor) (es : List Entry) → Leads p packets own peer u es v → IsOrderedFrom u.level es
-leads_up p packets own peer u v [] h = tt
-leads_up p packets own peer u v (x ∷ es) h = next_up p packets own peer u h.0 x es h.1 (leads_up p packets own peer h.0 v es h.2)
-
-drop_some : (xs : List FirstCopy) (i : ℕ) (c : FirstCopy) → slice_get xs i ≡ Some c → drop i xs ≡ c ∷ drop (suc i) xs
-drop_some [] i c e = absurd (cc)
-drop_some (x ∷ xs) zero c e = (let same : x ≡ c = cc in ap (λ (y : FirstCopy). y ∷ xs) same)
-drop_some (x ∷ xs) (suc i) c e = drop_some xs i c e
-
-next_make : (p : Parameters) (packets : ℕ) (own peer : List FirstCopy) (u m : Cursor) (x : Entry) (es : List Entry) → Advances p packets own peer u x m
-    → indexes_of es ≡ places_of (drop m.made own) → indexes_of (x ∷ es) ≡ places_of (drop u.made own)
-next_make p packets own peer u m x es (takes_next slot place c after low high g front up t) o = o
-next_make p packets own peer u m x es (makes_next c clock why after low g t) o =
-    ap (λ (l : List ℕ). c.place ∷ l) o ∙ ap places_of (sym (drop_some own u.made c g))
-
-leads_on : (p : Parameters) (packets : ℕ) (own peer : List FirstCopy) (u v : Cursor) (es : List Entry) → Leads p packets own peer u es v
-    → v.made ≡ length own → indexes_of es ≡ places_of (drop u.made own)
-leads_on p packets own peer u v [] h all =
-    let past : length own ≤ u.made = (let z = ap (λ (w : Cursor). w.made) h in omega arith) in
-    sym (ap places_of (drop_all u.made own past))
-leads_on p packets own peer u v (x ∷ es) h all = next_make p packets own peer u h.0 x es h.1 (leads_on p packets own peer h.0 v es h.2 all)
+in_order : (packets level : ℕ) (es : List Entry) → AreInOrder packets level es → IsOrderedFrom level es
+in_order packets level [] h = tt
+in_order packets level (Take slot number ∷ es) h = (h.0, in_order packets slot es h.2)
+in_order packets level (Make index clock why ∷ es) h = (h.0, in_order packets (suc index) es h.1)
 
 -- scripts that fit are told
 pub fits-told : (p : Parameters) (k : Crossing) (scripts : Scripts) (a b : EndState)
     → Fits p Client (length k.packets) k.client k.server scripts.client a
     → Fits p Server (length k.packets) k.server k.client scripts.server b → IsTold k scripts
 fits-told p k scripts a b f g = record {
-  client_order = leads_up p (length k.packets) k.client k.server (at_start (start_of p Client)) f.0 scripts.client f.1;
-  server_order = leads_up p (length k.packets) k.server k.client (at_start (start_of p Server)) g.0 scripts.server g.1;
-  client_makes = leads_on p (length k.packets) k.client k.server (at_start (start_of p Client)) f.0 scripts.client f.1 f.2;
-  server_makes = leads_on p (length k.packets) k.server k.client (at_start (start_of p Server)) g.0 scripts.server g.1 g.2;
+  client_order = in_order (length k.packets) 0 scripts.client f.slots;
+  server_order = in_order (length k.packets) 0 scripts.server g.slots;
+  client_makes = f.makes;
+  server_makes = g.makes;
 }

@@ -19,7 +19,8 @@ use Rattle.rasta_cert.proofs.ScriptLemmas.{certificate_text_injective}
 use Rattle.rasta_check.specs.declared.report.Taken.{Taken}
 use Rattle.rasta_check.specs.Listed.{ListedMessage, listed_of}
 use Rattle.rasta_check.specs.Reading.{Crossing, crossing_of}
-use Rattle.rasta_check.specs.Report.{Explained, verdict_of}
+use Rattle.rasta_check.specs.Report.{Explained, IsScriptVerdict}
+use Rattle.rasta_check.proofs.Fitting.{one_answer}
 use Rattle.rasta_show.proofs.Sending.{words_before-append}
 use Rattle.rasta_verdict.specs.declared.verdict.Verdict.{Verdict}
 use Rattle.rasta_verdict.specs.declared.verdict.Verdict.TheVariants as verdicts
@@ -99,14 +100,15 @@ swapped (inr b) = inl b
 
 -- ---- one verdict
 
-abbrev verdict_with : Crossing → Scripts → Result Explained Fault
-verdict_with k scripts = verdict_of k.params (length k.packets) k.client k.server scripts
+abbrev VerdictWith : Crossing → Scripts → Result Explained Fault → Type 0
+VerdictWith k scripts answer = IsScriptVerdict k.params (length k.packets) k.client k.server scripts answer
 
 same_scripts : (certificate : List ℕ) (c d : Scripts) → certificate ≡ certificate_text c → IsCertificate c → certificate ≡ certificate_text d → IsCertificate d → c ≡ d
 same_scripts certificate c d e hc f hd = certificate_text_injective c d hc.0 hd.0 (sym e ∙ f)
 
-same_result : (k j : Crossing) (c d : Scripts) (x y : Result Explained Fault) → k ≡ j → c ≡ d → verdict_with k c ≡ x → verdict_with j d ≡ y → x ≡ y
-same_result k j c d x y e f g h = sym g ∙ (ap (λ (q : Crossing). verdict_with q c) e ∙ (ap (λ (s : Scripts). verdict_with j s) f ∙ h))
+same_result : (k j : Crossing) (c d : Scripts) (x y : Result Explained Fault) → k ≡ j → c ≡ d → VerdictWith k c x → VerdictWith j d y → x ≡ y
+same_result k j c d x y e f g h =
+    one_answer j.params (length j.packets) j.client j.server d x y (subst (λ (s : Scripts). VerdictWith j s x) f (subst (λ (q : Crossing). VerdictWith q c x) e g)) h
 
 same_crossing : (p : Parameters) (file : List ℕ) (k j : Crossing) → crossing_of p file ≡ Ok k → crossing_of p file ≡ Ok j → k ≡ j
 same_crossing p file k j e f = cc

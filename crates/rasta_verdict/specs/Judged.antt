@@ -6,7 +6,7 @@ use Rattle.rasta_cert.specs.Certificate.{Scripts}
 use Rattle.rasta_check.specs.declared.report.Report.{Report}
 use Rattle.rasta_check.specs.Headline.{Headline}
 use Rattle.rasta_check.specs.Reading.{Crossing}
-use Rattle.rasta_check.specs.Report.{BothFit, explained, verdict_of}
+use Rattle.rasta_check.specs.Report.{BothFit, IsScriptVerdict, explained}
 use Rattle.rasta_show.specs.Lines.{refused_line}
 use Rattle.rasta_verdict.specs.Proposed.{Telling}
 use Rattle.rasta_verdict.specs.RunText.{run_text}
@@ -35,13 +35,13 @@ HasToldRun (Explained e) = IsTold e.store.now e.certificate
 
 -- the checker refuses these scripts by this fault, and they don't both fit
 abbrev pub IsRefusedBy : Crossing → Scripts → Fault → Type 0
-IsRefusedBy k scripts fault = (verdict_of k.params (length k.packets) k.client k.server scripts ≡ Err fault)
+IsRefusedBy k scripts fault = IsScriptVerdict k.params (length k.packets) k.client k.server scripts (Err fault)
     × (BothFit k.params (length k.packets) k.client k.server scripts → ⊥)
 
 -- what the checker says of what crossed and these scripts
 abbrev pub IsChecked : Crossing → Scripts → Result Report Fault → Type 0
 IsChecked k scripts (Ok report) = IsTold k scripts
-    × (verdict_of k.params (length k.packets) k.client k.server scripts ≡ Ok (explained report))
+    × IsScriptVerdict k.params (length k.packets) k.client k.server scripts (Ok (explained report))
     × Headline k.params k.packets (explained report)
     × IsToldRun k.params k.packets (run_text k scripts)
 IsChecked k scripts (Err fault) = IsRefusedBy k scripts fault ⊎ (fault ≡ no_memory)
@@ -50,7 +50,7 @@ IsChecked k scripts (Err fault) = IsRefusedBy k scripts fault ⊎ (fault ≡ no_
 abbrev pub IsJudged : Crossing → Scripts → Verdict → Type 0
 IsJudged k scripts (Refused fault) = IsRefusedBy k scripts fault
 IsJudged k scripts (Explained e) = (e.store.now ≡ k) × (e.certificate ≡ scripts)
-    × (verdict_of k.params (length k.packets) k.client k.server scripts ≡ Ok (explained e.report))
+    × IsScriptVerdict k.params (length k.packets) k.client k.server scripts (Ok (explained e.report))
     × Headline k.params k.packets (explained e.report)
     × IsToldRun k.params k.packets (run_text k scripts)
 

@@ -5,7 +5,7 @@ use Rattle.rasta_pcap.specs.Fault.{fault_at, not_found}
 use Rattle.rasta_pdu.specs.Params.{Parameters}
 use Rattle.rasta_cert.specs.Certificate.{IsCertificate, Scripts, certificate_text}
 use Rattle.rasta_check.specs.Reading.{Crossing, crossing_of}
-use Rattle.rasta_check.specs.Report.{Explained, verdict_of}
+use Rattle.rasta_check.specs.Report.{Explained, IsScriptVerdict}
 use Rattle.rasta_show.specs.Lines.{refused_line}
 use Rattle.rasta_show.specs.Runs.{Writes}
 use Rattle.rasta_verdict.specs.Verdict.{explained_text}
@@ -24,7 +24,7 @@ pub data IsOutcome (tell : Telling) (p : Parameters) (file : List ℕ) : List �
       → IsOutcome tell p file (refused_line (fault_at not_found place)) 1
   explained : (k : Crossing) (scripts : Scripts) (report : Explained) → crossing_of p file ≡ Ok k
       → IsCertificate scripts
-      → verdict_of k.params (length k.packets) k.client k.server scripts ≡ Ok report
+      → IsScriptVerdict k.params (length k.packets) k.client k.server scripts (Ok report)
       → IsOutcome tell p file (tell k scripts report) 0
 
 -- an audit tells an explanation as its run, and what each side took

@@ -10,6 +10,7 @@ use Rattle.rasta_cert.specs.declared.entry.Entry.TheVariants.{Take, Make}
 use Rattle.rasta_cert.specs.Certificate.{Scripts}
 use Rattle.rasta_check.specs.Lists.{places_of}
 use Rattle.rasta_check.specs.Reading.{Crossing}
+use Rattle.rasta_check.specs.Scripts.{places_made}
 use Rattle.rasta_runs.specs.Lines.{number_of}
 use Rattle.rasta_runs.specs.Levels.{makes_at, takes_at}
 use Rattle.rasta_verdict.specs.RunText.{copy_line, make_line, take_line}
@@ -22,18 +23,12 @@ IsOrderedFrom level [] = Unit {0}
 IsOrderedFrom level (Take slot number ∷ entries) = (level ≤ slot) × IsOrderedFrom slot entries
 IsOrderedFrom level (Make index clock why ∷ entries) = (level ≤ index) × IsOrderedFrom (suc index) entries
 
--- the places of the packets that a script makes
-abbrev pub indexes_of : List Entry → List ℕ
-indexes_of [] = []
-indexes_of (Take slot number ∷ entries) = indexes_of entries
-indexes_of (Make index clock why ∷ entries) = index ∷ indexes_of entries
-
 -- both scripts are in order, and make the first copies of their sides, and nothing else
 pub record IsTold (k : Crossing) (scripts : Scripts) : Type 0 where
   pub client_order : IsOrderedFrom 0 scripts.client
   pub server_order : IsOrderedFrom 0 scripts.server
-  pub client_makes : indexes_of scripts.client ≡ places_of k.client
-  pub server_makes : indexes_of scripts.server ≡ places_of k.server
+  pub client_makes : places_made scripts.client ≡ places_of k.client
+  pub server_makes : places_made scripts.server ≡ places_of k.server
 
 -- ---- what is left of a script
 

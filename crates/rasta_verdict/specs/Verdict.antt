@@ -10,7 +10,7 @@ use Rattle.rasta_cert.specs.Certificate.{IsCertificate, Scripts, certificate_tex
 use Rattle.rasta_cert.specs.Refusals.{IsRefused}
 use Rattle.rasta_check.specs.Reading.{Crossing, crossing_of}
 use Rattle.rasta_check.specs.Listed.{ListedMessage}
-use Rattle.rasta_check.specs.Report.{Explained, verdict_of}
+use Rattle.rasta_check.specs.Report.{Explained, IsScriptVerdict}
 use Rattle.rasta_show.specs.Lines.{line_of, message_text, refused_line, side_text}
 use Rattle.rasta_verdict.specs.RunText.{run_text}
 use Rattle.rasta_show.specs.Runs.{Writes}
@@ -54,11 +54,11 @@ pub data IsVerdict (p : Parameters) (certificate file : List ℕ) : List ℕ →
       → IsVerdict p certificate file (refused_line fault) 1
   script_refused : (k : Crossing) (scripts : Scripts) (fault : Fault) → crossing_of p file ≡ Ok k
       → certificate ≡ certificate_text scripts → IsCertificate scripts
-      → verdict_of k.params (length k.packets) k.client k.server scripts ≡ Err fault
+      → IsScriptVerdict k.params (length k.packets) k.client k.server scripts (Err fault)
       → IsVerdict p certificate file (refused_line fault) 1
   explained : (k : Crossing) (scripts : Scripts) (report : Explained) → crossing_of p file ≡ Ok k
       → certificate ≡ certificate_text scripts → IsCertificate scripts
-      → verdict_of k.params (length k.packets) k.client k.server scripts ≡ Ok report
+      → IsScriptVerdict k.params (length k.packets) k.client k.server scripts (Ok report)
       → IsVerdict p certificate file (explained_text k scripts report) 0
 
 -- ---- what a run read and wrote, where a relation says which inputs have which text and status

@@ -1,8 +1,15 @@
 use Rattle.std.proofs.Common.{◌≡◌, Ok, Err, sym, subst, inl, inr, ⊎_elim}
-use Rattle.rasta_check.specs.Report.{BothFit, explained, verdict_of}
-use Rattle.rasta_check.proofs.Answering.{where_ok, on_ok, where_err}
+use Rattle.rasta_check.specs.Checking.{verdict_of}
+use Rattle.rasta_check.specs.Report.{BothFit, explained}
+use Rattle.rasta_check.proofs.Answering.{both, where_ok, on_ok, where_err}
+use Rattle.rasta_check.proofs.Fitting.{is_verdict}
 use Rattle.rasta_check.proofs.Headlined.{ends, verdict_fits, verdict_refuses, headline, is_sharp}
 use Rattle.rasta_check.proofs.checker.check_lists.Goals as goal
+
+pub returns-clause-verdict : goal.returns-clause-verdict
+returns-clause-verdict g c =
+    let is = is_verdict c.args.p.now c.args.packets (g.S.SentList.content c.args.client.now) (g.S.SentList.content c.args.server.now) c.args.certificate.now in
+    both c.verdict.result _ _ _ _ c.verdict.ensures (λ x e. is (Ok (explained x)) e) (λ f why. ⊎_elim (λ e. inl (is (Err f) e)) (λ e. inr e) why)
 
 pub returns-clause-fits : goal.returns-clause-fits
 returns-clause-fits g c =

@@ -1,8 +1,13 @@
-use Rattle.std.proofs.Common.{◌∙◌, refl, sym, inl, inr, ⊎_elim}
-use Rattle.rasta_check.specs.Report.{report_of, verdict_of}
+use Rattle.std.proofs.Common.{◌≡◌, ◌∙◌, ℕ, List, Ok, Err, refl, subst, sym, inl, inr, ⊎_elim}
+use Rattle.rasta_check.specs.Crossing.{FirstCopy}
+use Rattle.rasta_check.specs.Report.{IsScriptVerdict, explained, report_of}
 use Rattle.rasta_check.proofs.Answering.{both, if_ok, if_err, still_ok}
 use Rattle.rasta_check.proofs.Headlined.{fits_by, lent}
 use Rattle.rasta_check.proofs.checker.check_sent.Goals as goal
+
+-- the packets' count and both lists
+abbrev Lent : Type 0
+Lent = ℕ × List FirstCopy × List FirstCopy
 
 pub check_lists-requires : goal.check_lists-requires
 check_lists-requires c =
@@ -11,9 +16,11 @@ check_lists-requires c =
 
 pub returns-clause-verdict : goal.returns-clause-verdict
 returns-clause-verdict c =
+    let same : ◌≡◌ {A = Lent} (c.len.result, c.client.result.now, c.server.result.now) (_, c.args.sent.now.client, c.args.sent.now.server) =
+    (λ i. (c.len.ensures.value i, c.client.ensures.value i, c.server.ensures.value i)) in
     both c.check_lists.result _ _ _ _ c.check_lists.ensures.verdict
-    (λ r e. (λ i. verdict_of c.args.p.now (sym c.len.ensures.value i) (sym c.client.ensures.value i) (sym c.server.ensures.value i) c.args.certificate.now) ∙ e)
-    (λ f why. ⊎_elim (λ e. inl ((λ i. verdict_of c.args.p.now (sym c.len.ensures.value i) (sym c.client.ensures.value i) (sym c.server.ensures.value i) c.args.certificate.now) ∙ e)) (λ e. inr e) why)
+    (λ r e. subst (λ (x : Lent). IsScriptVerdict c.args.p.now x.0 x.1 x.2 c.args.certificate.now (Ok (explained r))) same e)
+    (λ f why. ⊎_elim (λ e. inl (subst (λ (x : Lent). IsScriptVerdict c.args.p.now x.0 x.1 x.2 c.args.certificate.now (Err f)) same e)) (λ e. inr e) why)
 
 pub returns-clause-fits : goal.returns-clause-fits
 returns-clause-fits c =

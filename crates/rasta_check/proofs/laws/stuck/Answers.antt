@@ -1,5 +1,6 @@
-use Rattle.std.proofs.Common.{length}
+use Rattle.std.proofs.Common.{length, ◌++◌, ◌∷◌}
 use Rattle.rasta_check.specs.Theorem.{other_side}
+use Rattle.rasta_check.proofs.Fitting.{fits_follows}
 use Rattle.rasta_check.proofs.Forms.{to_record}
 use Rattle.rasta_check.proofs.Stuck.{stuck, leads_once}
 use Rattle.rasta_check.proofs.laws.stuck.Goals as goal
@@ -8,5 +9,7 @@ pub returns : goal.returns
 returns z p h packets side own peer sent few =
     let theirs = to_record p packets (other_side side) peer h.valid sent in (
       (λ u v w es f g. leads_once p (length packets) packets (other_side side) own peer theirs few u v w es f g),
-      λ es rest x v e f n g. stuck p (length packets) packets (other_side side) own peer theirs few _ v g.0 es rest x f n g.1,
+      λ es rest x v e f n g.
+          (let w = fits_follows p (length packets) own peer side (es ++ x ∷ rest) e g in
+          stuck p (length packets) packets (other_side side) own peer theirs few _ v w.0 es rest x f n w.1),
     )
