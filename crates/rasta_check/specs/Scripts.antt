@@ -52,7 +52,7 @@ pub record Fits (p : Parameters) (side : Side) (packets : ℕ) (own peer : List 
   pub makes : places_made script ≡ places_of own
   -- slots and places are in order
   pub slots : AreInOrder packets 0 script
-  -- its takes name first copies of the peer in front of their slots, at positions that rise
+  -- its takes name first copies of the peer that crossed before their slots, at positions that rise
   pub taken : List ℕ
   pub takes : AreNamed peer 0 script taken
   -- each step is one of the end
