@@ -52,7 +52,7 @@ pub record Fits (p : Parameters) (side : Side) (packets : ℕ) (own peer : List 
   pub makes : places_made script ≡ places_of own
   -- slots and places are in order
   pub slots : AreInOrder packets 0 script
-  -- its takes name first copies of the peer in front of their slots, at positions that rise
+  -- its takes name first copies of the peer that crossed before their slots, at positions that rise
   pub taken : List ℕ
   pub takes : AreNamed peer 0 script taken
   -- each step is one of the end
@@ -66,7 +66,7 @@ level_after level [] = level
 level_after level (Take slot number ∷ entries) = level_after slot entries
 level_after level (Make place clock why ∷ entries) = level_after (suc place) entries
 
--- the position after the last of these
+-- the position after the last of these; this one, where there are none
 abbrev pub position_after : ℕ → List ℕ → ℕ
 position_after low positions = fold (λ (last position : ℕ). suc position) low positions
 
