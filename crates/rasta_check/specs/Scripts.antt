@@ -66,7 +66,7 @@ level_after level [] = level
 level_after level (Take slot number ∷ entries) = level_after slot entries
 level_after level (Make place clock why ∷ entries) = level_after (suc place) entries
 
--- the position after the last of these
+-- the position after the last of these; this one, where there are none
 abbrev pub position_after : ℕ → List ℕ → ℕ
 position_after low positions = fold (λ (last position : ℕ). suc position) low positions
 
