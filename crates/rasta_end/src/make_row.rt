@@ -41,6 +41,7 @@ fn row_where(test: bool, row: MakeRow) -> Option<MakeRow>
     if test { Some(row) } else { None }
 }
 
+/// Whether this is the client.
 pub fn is_client(side: Side) -> bool
     ensures { result ≡ State.is_client side }
 {

@@ -42,6 +42,7 @@ impl Owed {
 }
 
 impl Demand {
+    /// What a row of the make table demands of what is owed.
     pub fn of(row: MakeRow) -> Demand
         ensures { result ≡ demand_of row }
     {
@@ -89,6 +90,7 @@ fn requests(request: bool) -> usize
 }
 
 impl Owes {
+    /// An end that owes nothing.
     pub fn nothing() -> Owes
         ensures list { owed_list result ≡ [] }
         ensures reply { result.reply ≡ None }
@@ -102,6 +104,7 @@ impl Owes {
         }
     }
 
+    /// An end that owes this reply alone.
     pub fn reply(owed: Owed) -> Owes
         ensures list { owed_list result ≡ owed ∷ [] }
         ensures reply { result.reply ≡ Some owed }
@@ -115,6 +118,7 @@ impl Owes {
         }
     }
 
+    /// Whether anything is owed.
     pub fn is_some(self) -> bool
         ensures { result ≡ is_owing (owed_list self) }
     {

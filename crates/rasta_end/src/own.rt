@@ -76,6 +76,7 @@ fn is_retransmission_response(kind: Kind) -> bool
 }
 
 impl<'a> Own<'a> {
+    /// Before the first make: the quiet point's PDU, where one is recorded.
     pub fn new(alloc: Global, quiet: Option<QuietPdu>) -> Own<'a>
         ensures { result ≡ record { quiet = quiet; made = quiet_made quiet; asks = [] } }
     {

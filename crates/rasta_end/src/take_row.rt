@@ -37,60 +37,70 @@ pub enum TakeRow {
     Disconnected,
 }
 
+/// Whether this is the type of a connection request.
 pub fn is_connection_request(kind: Kind) -> bool
     ensures { result ≡ MakeRule.is_connection_request kind }
 {
     matches!(kind, Kind::ConnectionRequest)
 }
 
+/// Whether this is the type of a connection response.
 pub fn is_connection_response(kind: Kind) -> bool
     ensures { result ≡ TakeRule.is_connection_response kind }
 {
     matches!(kind, Kind::ConnectionResponse)
 }
 
+/// Whether this is the type of a disconnection request.
 pub fn is_disconnection_request(kind: Kind) -> bool
     ensures { result ≡ MakeRule.is_disconnection_request kind }
 {
     matches!(kind, Kind::DisconnectionRequest)
 }
 
+/// Whether this is the type of a heartbeat.
 pub fn is_heartbeat(kind: Kind) -> bool
     ensures { result ≡ TakeRule.is_heartbeat kind }
 {
     matches!(kind, Kind::Heartbeat)
 }
 
+/// Whether this is the type of a heartbeat or of data that is sent for the first time.
 pub fn is_heartbeat_or_data(kind: Kind) -> bool
     ensures { result ≡ TakeRule.is_heartbeat_or_data kind }
 {
     matches!(kind, Kind::Heartbeat | Kind::Data)
 }
 
+/// Whether this is the type of data that is sent again.
 pub fn is_retransmitted_data(kind: Kind) -> bool
     ensures { result ≡ TakeRule.is_retransmitted_data kind }
 {
     matches!(kind, Kind::RetransmittedData)
 }
 
+/// Whether this is the type of a retransmission request.
 pub fn is_retransmission_request(kind: Kind) -> bool
     ensures { result ≡ TakeRule.is_retransmission_request kind }
 {
     matches!(kind, Kind::RetransmissionRequest)
 }
 
+/// Whether this is the type of a retransmission response.
 pub fn is_retransmission_response(kind: Kind) -> bool
     ensures { result ≡ TakeRule.is_retransmission_response kind }
 {
     matches!(kind, Kind::RetransmissionResponse)
 }
 
+/// Whether PDUs of this type are time-relevant.
 pub fn is_timed(kind: Kind) -> bool
     ensures { result ≡ State.is_timed kind }
 {
     matches!(kind, Kind::Heartbeat | Kind::Data | Kind::RetransmittedData)
 }
 
+/// Whether PDUs of this type carry a unit: data, for the first time or again.
 pub fn carries_unit(kind: Kind) -> bool
     ensures { result ≡ State.carries_unit kind }
 {
