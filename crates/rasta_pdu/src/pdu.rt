@@ -10,13 +10,13 @@ use crate::messages::Messages;
 /// are slices of the datagram.
 #[derive(Clone, Copy, Debug, PartialEq, Eq)]
 pub struct Pdu<'a> {
-    pub(crate) reserve: u16,
     pub(crate) number: u32,
-    pub(crate) kind: Kind,
     pub(crate) sn: u32,
     pub(crate) cs: u32,
     pub(crate) ts: u32,
     pub(crate) cts: u32,
+    pub(crate) reserve: u16,
+    pub(crate) kind: Kind,
     pub(crate) body: Body<&'a [u8]>,
     pub(crate) code: &'a [u8],
     pub(crate) check_bytes: &'a [u8],
