@@ -1,16 +1,19 @@
 -- The exit status of a failure.
 use Rattle.std.specs.Prelude.{◌≡◌, ◌⊎◌, ℕ, ◌==◌, ◌||◌, if◌then◌else◌}
 use Rattle.seatmelon.specs.declared.failure.Failure.{Failure}
-use Rattle.seatmelon.specs.declared.failure.Failure.TheVariants.{OutOfMemory, Arguments, Reading, Writing, Refused, NoConnection}
+use Rattle.seatmelon.specs.declared.failure.Failure.TheVariants.{OutOfMemory, Arguments, Reading, Writing, Refused, NoConnection, Parameters, NoFile, Changed}
 
--- a capture; words; memory and devices
+-- a capture; words and parameters; memory, devices and files that change
 abbrev pub status_of : Failure → ℕ
 status_of (Refused path refusal) = 1
 status_of Arguments = 2
 status_of (NoConnection path number count) = 2
+status_of (Parameters path refusal) = 2
+status_of (NoFile path) = 2
 status_of OutOfMemory = 3
 status_of (Reading path reason) = 3
 status_of (Writing reason) = 3
+status_of (Changed path) = 3
 
 -- memory and reading; the capture
 abbrev pub status_of_fault : ℕ → ℕ
@@ -27,3 +30,7 @@ IsOfFiles failure = (status_of failure ≡ 1) ⊎ (status_of failure ≡ 3)
 -- the words, or memory ran out while that is told
 abbrev pub TellsWords : Failure → Type 0
 TellsWords failure = (failure ≡ OutOfMemory) ⊎ (status_of failure ≡ 2)
+
+-- words, parameters, memory or a device failed: a refused capture is no failure
+abbrev pub IsOfExplaining : Failure → Type 0
+IsOfExplaining failure = (status_of failure ≡ 2) ⊎ (status_of failure ≡ 3)

@@ -1,5 +1,11 @@
--- A device that is watched.
+-- A device that is watched, and a reader that is read whole.
+use Rattle.std.specs.Prelude.{◌≡◌, ℕ, List, ⊤, Option, None, Some}
 use Rattle.seatmelon.specs.declared.watched.Watched.{Watched}
 
 abbrev pub device_of : {D : Type 0} → Watched D → D
 device_of w = w.device
+
+-- these are all bytes that a reader had left, where they are known
+abbrev pub HoldsAll : Option (List ℕ) → List ℕ → Type 0
+HoldsAll None bytes = ⊤
+HoldsAll (Some left) bytes = left ≡ bytes

@@ -32,8 +32,8 @@ impl Answer<'_> {
     }
 }
 
-// Why the answer can't be written.
-fn unwritten(alloc: Global, error: Option<io::Error>) -> Failure
+/// Why an answer can't be written.
+pub fn unwritten(alloc: Global, error: Option<io::Error>) -> Failure
     ensures { status_of result ≡ 3 }
 {
     let reason = match error {

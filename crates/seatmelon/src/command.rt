@@ -1,16 +1,29 @@
 //! The command line.
+use clap::builder::ValueParser;
 use clap::error::ErrorKind;
-use clap::{Arg, ArgMatches, Command, Error, value_parser};
+use clap::{Arg, ArgAction, ArgMatches, Command, Error, value_parser};
 use std::alloc::{AllocError, Global};
 
+/// What is to be explained: the paths of the files, and the numbers of the records that are left out, rising.
+#[derive(Debug, Drop)]
+pub struct Explaining<'a> {
+    pub capture: &'a str,
+    pub parameters: &'a str,
+    pub certificate: Option<&'a str>,
+    pub without: Vec<u32>,
+}
+
 /// What the program is asked for.
-#[derive(Clone, Copy, Debug)]
+#[derive(Debug, Drop)]
 pub enum Request<'a> {
     /// Which connections a capture seems to hold.
     Survey { capture: &'a str },
 
     /// A parameter file for the connection of this number, from 1.
     Draft { capture: &'a str, number: u64 },
+
+    /// The verdict on a capture, in words.
+    Explain(Explaining<'a>),
 }
 
 const SURVEY_STATUSES: &str = "\
@@ -26,6 +39,13 @@ Exit status:
   1  the capture holds no connection, or it is refused
   2  the arguments are wrong, or there is no connection of that number
   3  memory, reading or writing failed";
+
+const EXPLAIN_STATUSES: &str = "\
+Exit status:
+  0  two ends that keep the rules could have sent the packets
+  1  the capture, its packets or the certificate are refused, or no packet is of the connection
+  2  the arguments are wrong, or the parameters are refused
+  3  memory, reading or writing failed, or the capture changed meanwhile";
 
 fn capture<'a>(alloc: Global) -> Arg<'a> {
     Arg::new(alloc, "capture")
@@ -54,6 +74,39 @@ fn draft<'a>(alloc: Global) -> Result<Command<'a>, AllocError> {
         .arg(number)
 }
 
+// The option that leaves a record out; it may stand again and again.
+fn without<'a>(alloc: Global) -> Arg<'a> {
+    Arg::new(alloc, "without")
+        .long("without")
+        .value_name("RECORD")
+        .help("Takes the record of this number for one of another connection; may be repeated")
+        .action(ArgAction::Append)
+        .value_parser(ValueParser::unsigned(1, 4_294_967_295))
+}
+
+fn explain<'a>(alloc: Global) -> Result<Command<'a>, AllocError> {
+    let capture = Arg::new(alloc, "capture")
+        .value_name("CAPTURE")
+        .help("A classic libpcap file of Ethernet frames; it is read twice, so no pipe will do")
+        .required(true);
+    let parameters = Arg::new(alloc, "params")
+        .value_name("PARAMS")
+        .help("The connection's parameter file")
+        .required(true);
+    let certificate = Arg::new(alloc, "certificate").value_name("CERT").help(
+        "A certificate to be judged, in place of one that is found",
+    );
+    Command::new(alloc, "explain")
+        .about(
+            "Tells in words whether the rules can explain a connection, and which messages were surely taken",
+        )
+        .after_help(EXPLAIN_STATUSES)
+        .arg(capture)?
+        .arg(parameters)?
+        .arg(certificate)?
+        .arg(without(alloc))
+}
+
 fn command<'a>(alloc: Global) -> Result<Command<'a>, AllocError> {
     Command::new(alloc, "seatmelon")
         .bin_name("seatmelon")?
@@ -62,19 +115,60 @@ fn command<'a>(alloc: Global) -> Result<Command<'a>, AllocError> {
         .about("Looks into captures of RaSTA connections")
         .subcommand_required(true)
         .subcommand(survey(alloc)?)?
-        .subcommand(draft(alloc)?)
+        .subcommand(draft(alloc)?)?
+        .subcommand(explain(alloc)?)
+}
+
+// The numbers of the records that are left out, rising, each once.
+fn left_out(alloc: Global, matches: &ArgMatches<'_>) -> Result<Vec<u32>, AllocError> {
+    let mut numbers = Vec::new(alloc);
+    for text in matches.get_strs("without").unwrap_or(&[]) {
+        if let Ok(number) = text.parse::<u32>() {
+            numbers.push(number)?;
+        }
+    }
+    numbers.sort_unstable();
+    numbers.dedup();
+    Ok(numbers)
+}
+
+// What the words of `explain` ask for.
+fn explaining_in<'a>(
+    alloc: Global,
+    matches: &ArgMatches<'a>,
+    capture: &'a str,
+) -> Result<Option<Request<'a>>, AllocError> {
+    let Some(parameters) = matches.get_str("params") else {
+        return Ok(None);
+    };
+    Ok(Some(Request::Explain(Explaining {
+        capture,
+        parameters,
+        certificate: matches.get_str("certificate"),
+        without: left_out(alloc, matches)?,
+    })))
+}
+
+fn drafting_in<'a>(matches: &ArgMatches<'a>, capture: &'a str) -> Option<Request<'a>> {
+    let number = matches.get_one("number")?;
+    Some(Request::Draft { capture, number })
 }
 
 // What the words of a command ask for.
-fn request_in<'a>(matches: &ArgMatches<'a>) -> Option<Request<'a>> {
-    let (name, inner) = matches.subcommand()?;
-    let capture = inner.get_str("capture")?;
+fn request_in<'a>(
+    alloc: Global,
+    matches: &ArgMatches<'a>,
+) -> Result<Option<Request<'a>>, AllocError> {
+    let Some((name, inner)) = matches.subcommand() else {
+        return Ok(None);
+    };
+    let Some(capture) = inner.get_str("capture") else {
+        return Ok(None);
+    };
     match name {
-        "survey" => Some(Request::Survey { capture }),
-        _ => Some(Request::Draft {
-            capture,
-            number: inner.get_one("number")?,
-        }),
+        "survey" => Ok(Some(Request::Survey { capture })),
+        "explain" => explaining_in(alloc, inner, capture),
+        _ => Ok(drafting_in(inner, capture)),
     }
 }
 
@@ -83,7 +177,7 @@ fn request_in<'a>(matches: &ArgMatches<'a>) -> Option<Request<'a>> {
 /// An error is a mistake in the words, a lack of memory, or a request for help or the version.
 pub fn parse<'a>(alloc: Global, words: &'a [String]) -> Result<Request<'a>, Error> {
     let matches = command(alloc)?.try_get_matches_from(words)?;
-    match request_in(&matches) {
+    match request_in(alloc, &matches)? {
         Some(request) => Ok(request),
         None => Err(command(alloc)?.error(ErrorKind::MissingSubcommand, "a command is missing")?),
     }

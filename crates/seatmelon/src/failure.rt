@@ -3,6 +3,7 @@ ghost use Rattle.std.specs.Prelude.{◌≡◌};
 ghost use Rattle.seatmelon.specs.Failing.{status_of};
 
 use crate::file_kind::FileKind;
+use crate::parameters::ParameterRefusal;
 use rasta_pcap::Fault;
 use std::alloc::{AllocError, Global};
 use std::{fmt, io};
@@ -32,6 +33,19 @@ pub enum Failure {
         path: String,
         number: u64,
         count: u64,
+    },
+    #[error("{path}: {refusal}")]
+    Parameters {
+        path: String,
+        refusal: ParameterRefusal,
+    },
+    #[error("{path}: this is a pipe or a device, and CAPTURE is read twice: write it to a file first")]
+    NoFile {
+        path: String,
+    },
+    #[error("{path}: two readings of it differ: nothing is said of a capture that changes")]
+    Changed {
+        path: String,
     },
 }
 
@@ -78,7 +92,7 @@ impl fmt::Display for Refusal {
                 f,
                 "\nthis looks like a text file; CAPTURE is the file that holds the packets"
             ),
-            FileKind::Other => Ok(()),
+            FileKind::Capture | FileKind::Other => Ok(()),
         }
     }
 }
@@ -92,13 +106,20 @@ pub fn reason_of(alloc: Global, error: &io::Error) -> Result<String, AllocError>
     }
 }
 
-/// The exit status of a failure: 1 for a refused capture, 2 for words, 3 for memory and devices.
+/// The exit status of a failure: 1 for a refused capture, 2 for words and parameters, 3 for memory, devices and files
+/// that change.
 pub fn status(failure: &Failure) -> u8
     ensures { result ≡ status_of failure.now }
 {
     match failure {
         Failure::Refused { .. } => 1,
-        Failure::Arguments | Failure::NoConnection { .. } => 2,
-        Failure::OutOfMemory | Failure::Reading { .. } | Failure::Writing(_) => 3,
+        Failure::Arguments
+        | Failure::NoConnection { .. }
+        | Failure::Parameters { .. }
+        | Failure::NoFile { .. } => 2,
+        Failure::OutOfMemory
+        | Failure::Reading { .. }
+        | Failure::Writing(_)
+        | Failure::Changed { .. } => 3,
     }
 }

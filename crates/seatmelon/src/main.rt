@@ -1,12 +1,16 @@
-//! Tells which RaSTA connections a capture seems to hold, `survey CAPTURE`, and writes a parameter file for one of
-//! them, `draft CAPTURE N`.
+//! Tells which RaSTA connections a capture seems to hold, `survey CAPTURE`, writes a parameter file for one of them,
+//! `draft CAPTURE N`, and tells in words what the verdict on one is, `explain CAPTURE PARAMS [CERT]`.
 #![tactic(auto)]
 
 mod answer;
 mod command;
 mod drafting;
+mod explaining;
 mod failure;
 mod file_kind;
+mod key_lines;
+mod parameters;
+mod reading;
 mod surveying;
 #[cfg(test)]
 mod tests;
@@ -14,6 +18,7 @@ mod watched;
 
 use crate::command::{Request, parse};
 use crate::drafting::draft_file;
+use crate::explaining::explain_files;
 use crate::failure::{Failure, reason_of, status};
 use crate::surveying::survey_file;
 use clap::Error;
@@ -35,7 +40,7 @@ fn words<R: AllocGlobal + Env>(rt: &R) -> Result<Vec<String>, Failure> {
 }
 
 // Help and the version, on standard output, or what is wrong with the words.
-fn explain<R: AllocGlobal + Print + Eprint>(rt: &R, error: &Error) -> Result<u8, Failure> {
+fn tell<R: AllocGlobal + Print + Eprint>(rt: &R, error: &Error) -> Result<u8, Failure> {
     match error.kind() {
         ErrorKind::OutOfMemory => Err(Failure::OutOfMemory),
         ErrorKind::DisplayHelp | ErrorKind::DisplayVersion => match error.print(rt) {
@@ -55,7 +60,8 @@ fn run<R: AllocGlobal + Env + Files + Print + Eprint>(rt: &R) -> Result<u8, Fail
     match parse(rt.alloc(), &words) {
         Ok(Request::Survey { capture }) => survey_file(rt, capture),
         Ok(Request::Draft { capture, number }) => draft_file(rt, capture, number),
-        Err(error) => explain(rt, &error),
+        Ok(Request::Explain(explaining)) => explain_files(rt, &explaining),
+        Err(error) => tell(rt, &error),
     }
 }
 

@@ -4,8 +4,9 @@ ghost use Rattle.seatmelon_survey.specs.Survey.{connections_in};
 ghost use Rattle.seatmelon.specs.Failing.{status_of, TellsOf, IsOfFiles};
 
 use crate::answer::{Answer, write_answer};
-use crate::failure::{Failure, Refusal, reason_of};
+use crate::failure::{Failure, Refusal};
 use crate::file_kind::file_kind;
+use crate::reading::{BUFFER, unread};
 use crate::watched::Watched;
 use rasta_pcap::{Buffered, Counted, Fault};
 use seatmelon_survey::{Survey, survey};
@@ -14,23 +15,6 @@ use std::fs::File;
 use std::io;
 use std::io::Read;
 use std::rt::Files;
-
-// How many bytes of a capture are read at once.
-const BUFFER: usize = 65_536;
-
-// Why a file can't be read.
-fn unread(alloc: Global, path: &str, error: Option<io::Error>) -> Failure
-    ensures { status_of result ≡ 3 }
-{
-    let reason = match error {
-        Some(error) => reason_of(alloc, &error),
-        None => String::from_str(alloc, "reading failed"),
-    };
-    match (String::from_str(alloc, path), reason) {
-        (Ok(path), Ok(reason)) => Failure::Reading { path, reason },
-        _ => Failure::OutOfMemory,
-    }
-}
 
 // Why a capture isn't surveyed, by the fault and what was read of its file.
 fn refused<D>(alloc: Global, path: &str, fault: Fault, file: &Watched<D>) -> Failure

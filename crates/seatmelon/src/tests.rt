@@ -1,10 +1,13 @@
-//! The command line, refused captures, and devices that fail.
+//! The command line, refused captures and parameters, and devices that fail.
 ghost use Rattle.std.specs.Prelude.{None};
 
 use crate::answer::{Answer, write_answer};
-use crate::command::{Request, parse};
+use crate::command::{Explaining, Request, parse};
 use crate::drafting::draft_in;
+use crate::explaining::{Inputs, explain_of, status_of_outcome};
 use crate::failure::status;
+use crate::parameters::params_in;
+use crate::reading::whole_of;
 use crate::surveying::survey_of;
 use rasta_pcap::devices::{FailAt, Pieces};
 use std::alloc::Global;
@@ -24,6 +27,17 @@ fn words_in(alloc: Global, text: &str) -> Result<Vec<String>, Fail> {
     Ok(list)
 }
 
+fn explaining_text(alloc: Global, explaining: &Explaining<'_>) -> Result<String, Fail> {
+    let Explaining {
+        capture,
+        parameters,
+        certificate,
+        without,
+    } = explaining;
+    let certificate = certificate.unwrap_or("-");
+    Ok(format!(in alloc; "explain {capture} {parameters} {certificate} {without:?}")?)
+}
+
 // The request as a text, or what is wrong with the words.
 fn request_text(alloc: Global, words: &[String]) -> Result<String, Fail> {
     match parse(alloc, words) {
@@ -31,6 +45,7 @@ fn request_text(alloc: Global, words: &[String]) -> Result<String, Fail> {
         Ok(Request::Draft { capture, number }) => {
             Ok(format!(in alloc; "draft {number} of {capture}")?)
         }
+        Ok(Request::Explain(explaining)) => explaining_text(alloc, &explaining),
         Err(error) => {
             let kind = error.kind();
             Ok(format!(in alloc; "{kind:?}")?)
@@ -49,10 +64,18 @@ draft c 1 | draft 1 of c
 draft c 0 | draft 0 of c
 draft c 018446744073709551615 | draft 18446744073709551615 of c
 draft -- -c 7 | draft 7 of -c
+explain c p | explain c p - []
+explain c p z | explain c p z []
+explain -- -c -p -z | explain -c -p -z []
+explain c p --without 7 | explain c p - [7]
+explain --without=7 c p z | explain c p z [7]
+explain c --without 9 p --without 2 z --without 9 | explain c p z [2, 9]
+explain c p --without 1 --without 4294967295 | explain c p - [1, 4294967295]
 --help | DisplayHelp
 help | DisplayHelp
 survey --help | DisplayHelp
 draft --help | DisplayHelp
+explain --help | DisplayHelp
 --version | DisplayVersion
 -V | DisplayVersion
  | MissingSubcommand
@@ -66,6 +89,13 @@ draft c 1 2 | UnknownArgument
 draft 1 c | ValueValidation
 draft c -1 | UnknownArgument
 draft c 18446744073709551616 | ValueValidation
+explain c | MissingRequiredArgument
+explain c p z x | UnknownArgument
+explain c p --without 0 | ValueValidation
+explain c p --without 4294967296 | ValueValidation
+explain c p --without x | ValueValidation
+explain c p --without | InvalidValue
+survey c --without 7 | UnknownArgument
 ";
 
 #[test]
@@ -256,5 +286,178 @@ fn drafts_by_number(rt: HostRuntime) -> Result<(), Fail> {
     );
     let survey = draft_text(rt.alloc(), NO_RECORD, 1)?;
     assert!(rt; survey.starts_with(b"records: 0\n"));
+    Ok(())
+}
+
+// A parameter file, and what is said of it.
+struct RefusedParameters {
+    file: &'static [u8],
+    text: &'static str,
+}
+
+const REFUSED_PARAMETERS: [RefusedParameters; 10] = [
+    RefusedParameters {
+        file: b"",
+        text: "p: client_id is missing; it must be a whole number from 0 to 4294967295 (51 MissingKey)",
+    },
+    RefusedParameters {
+        file: b"client_id = 96\nserver_id = 96\n",
+        text: "p: line 2: server_id must be a whole number from 0 to 4294967295, and not client_id (52 BadValue)",
+    },
+    RefusedParameters {
+        file: b"# lengths\n  \"code_length\" = 12\nserver_id = 97\nclient_id = 96\n",
+        text: "p: line 2: code_length must be 0, 8 or 16 (52 BadValue)",
+    },
+    RefusedParameters {
+        file: b"client_id = 96\nserver_id = 97\ncode_length = 0\ncheck_length = 0\nn_sendmax = 20\n\
+            [[channel]]\nt_max = 1800\n",
+        text: "p: line 7: t_max stands in a table; it must stand before the first one (51 MissingKey)",
+    },
+    RefusedParameters {
+        file: b"client_id = 96\nserver_id = 97\ncode_length = 0\ncheck_length = 0\nn_sendmax = 20\nt_max = 1800\n\
+            slack = 0\n[[channel]]\nclient = \"10.0.0.1:5000\"\n",
+        text: "p: line 8: channel must be one to four tables with only client and server, each a text \
+               \"a.b.c.d:port\", no direction twice (51 MissingKey)",
+    },
+    RefusedParameters {
+        file: b"slack = 0\ntmax = 1\nclient_id = 96\nserver_id = 97\ncode_length = 0\ncheck_length = 0\n\
+            n_sendmax = 20\nt_max = 1800\n[[channel]]\nclient = \"10.0.0.1:5000\"\nserver = \"10.0.0.2:5000\"\n",
+        text: "p: line 2: a parameter file has no such key (52 BadValue)",
+    },
+    RefusedParameters {
+        file: b"slack = 0\nclient_id = 96\nserver_id = 97\ncode_length = 0\ncheck_length = 0\n\
+            n_sendmax = 20\nt_max = 1800\n[[channel]]\nclient = \"10.0.0.1:5000\"\nserver = \"10.0.0.2:5000\"\n[more]\n",
+        text: "p: line 11: a parameter file has no such key (52 BadValue)",
+    },
+    RefusedParameters {
+        file: b"slack = 0\nclient_id = 96\nserver_id = 97\ncode_length = 0\ncheck_length = 0\n\
+            n_sendmax = 20\nt_max = 1800\nquiet.client = { next_sn = 5, clock = 5 }\n\
+            [[channel]]\nclient = \"10.0.0.1:5000\"\nserver = \"10.0.0.2:5000\"\n",
+        text: "p: line 8: quiet must be a table with only client and server, each with next_sn, clock and, \
+               if any, deadline and handed_ts (51 MissingKey)",
+    },
+    RefusedParameters {
+        file: b"client_id = 96\nserver_id 97\n",
+        text: "p: line 2: this is no TOML document: key with no value, expected `=` (50 Toml)",
+    },
+    RefusedParameters {
+        file: NO_RECORD,
+        text: "p: line 1: this is no TOML document: invalid UTF-8 (50 Toml)\n\
+               this looks like a capture: are CAPTURE and PARAMS swapped?",
+    },
+];
+
+#[test]
+fn refused_parameters(rt: HostRuntime) -> Result<(), Fail> {
+    for refused in &REFUSED_PARAMETERS {
+        match params_in(rt.alloc(), "p", refused.file) {
+            Ok(_) => Err(refused.text)?,
+            Err(failure) => {
+                assert_eq!(rt; failure.to_string(rt.alloc())?.as_str(), refused.text);
+                assert_eq!(rt; status(&failure), 2);
+            }
+        }
+    }
+    Ok(())
+}
+
+#[test]
+fn files_that_are_read_whole(rt: HostRuntime) -> Result<(), Fail> {
+    match whole_of(rt.alloc(), "p", Pieces::new(NO_RECORD, 5)) {
+        Ok(bytes) => assert_eq!(rt; bytes.as_slice(), NO_RECORD.as_slice()),
+        Err(_) => Err("a file")?,
+    }
+    match whole_of(rt.alloc(), "p", Broken { number: 5 }) {
+        Ok(_) => Err("refused")?,
+        Err(failure) => {
+            assert_eq!(rt;
+                failure.to_string(rt.alloc())?.as_str(),
+                "p: Input/output error"
+            );
+        }
+    }
+    Ok(())
+}
+
+// Parameters by which the client of the request opens the connection.
+const PARAMETERS: &[u8] =
+    b"client_id = 96\nserver_id = 97\ncode_length = 0\ncheck_length = 0\nn_sendmax = 20\n\
+    t_max = 1800\nslack = 0\n[[channel]]\nclient = \"10.0.0.1:5000\"\nserver = \"10.0.0.2:5000\"\n";
+
+// What the two readings come to, in a word or as the text of a failure, and the program's status.
+fn explained<A: Read + Drop, B: Read + Drop, W: Write + Drop>(
+    alloc: Global,
+    first: A,
+    again: B,
+    device: W,
+) -> Result<String, Fail> {
+    let params = params_in(alloc, "p", PARAMETERS).map_err(|_| "parameters")?;
+    let explaining = Explaining {
+        capture: "c",
+        parameters: "p",
+        certificate: None,
+        without: Vec::new(alloc),
+    };
+    let inputs = Inputs {
+        params,
+        parameters: Vec::new(alloc),
+        certificate: None,
+    };
+    match explain_of(alloc, &explaining, &inputs, first, again, device) {
+        Ok(explanation) => {
+            let code = status_of_outcome(explanation.outcome);
+            let (outcome, kind) = (explanation.outcome, explanation.kind);
+            Ok(format!(in alloc; "{code} {outcome:?} {kind:?}")?)
+        }
+        Err(failure) => Ok(format!(in alloc; "{} {failure}", status(&failure))?),
+    }
+}
+
+// What the same capture, twice, comes to.
+fn explained_twice(alloc: Global, file: &[u8]) -> Result<String, Fail> {
+    explained(alloc, file, Pieces::new(file, 7), Vec::new(alloc))
+}
+
+#[test]
+fn explanations(rt: HostRuntime) -> Result<(), Fail> {
+    let text = explained_twice(rt.alloc(), ONE_REQUEST)?;
+    assert_eq!(rt; text.as_str(), "0 Explained Capture");
+    let text = explained_twice(rt.alloc(), NO_RECORD)?;
+    assert_eq!(rt; text.as_str(), "1 NoPackets Capture");
+    let text = explained_twice(rt.alloc(), PARAMETERS)?;
+    assert_eq!(rt; text.as_str(), "1 Refused Text");
+    let text = explained(
+        rt.alloc(),
+        ONE_REQUEST.as_slice(),
+        NO_RECORD.as_slice(),
+        Vec::new(rt.alloc()),
+    )?;
+    assert_eq!(rt;
+        text.as_str(),
+        "3 c: two readings of it differ: nothing is said of a capture that changes"
+    );
+    Ok(())
+}
+
+#[test]
+fn explanations_over_devices_that_fail(rt: HostRuntime) -> Result<(), Fail> {
+    let alloc = rt.alloc();
+    let text = explained(
+        alloc,
+        Broken { number: 5 },
+        NO_RECORD.as_slice(),
+        Vec::new(alloc),
+    )?;
+    assert_eq!(rt; text.as_str(), "3 c: Input/output error");
+    let text = explained(
+        alloc,
+        NO_RECORD.as_slice(),
+        Broken { number: 21 },
+        Vec::new(alloc),
+    )?;
+    assert_eq!(rt; text.as_str(), "3 c: Is a directory");
+    let device = FailAt::new(Vec::new(alloc), 1);
+    let text = explained(alloc, NO_RECORD.as_slice(), NO_RECORD.as_slice(), device)?;
+    assert_eq!(rt; text.as_str(), "3 standard output: other error");
     Ok(())
 }

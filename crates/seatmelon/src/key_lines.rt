@@ -1,0 +1,79 @@
+//! The lines of a parameter file on which its keys stand.
+
+// The keys that stand outside of every table.
+const TOP_KEYS: [&str; 12] = [
+    "client_id",
+    "server_id",
+    "code_length",
+    "md4_start",
+    "check_length",
+    "n_sendmax",
+    "t_max",
+    "slack",
+    "first_record",
+    "last_record",
+    "channel",
+    "quiet",
+];
+
+// Whether a line begins with a key of this name, or is the header of its table.
+fn begins_with_key(line: &str, name: &str) -> bool {
+    let line = line.trim_start_matches(&[' ', '\t', '[', '"', '\'']);
+    match line.strip_prefix(name) {
+        Some(rest) => rest.trim_start().starts_with(&['=', '.', ']', '"', '\'']),
+        None => false,
+    }
+}
+
+fn begins_with_known_key(line: &str) -> bool {
+    TOP_KEYS.iter().any(|name| begins_with_key(line, name))
+}
+
+// Whether a line is the header of a table.
+fn is_header(line: &str) -> bool {
+    line.trim_start().starts_with('[')
+}
+
+// Whether a line begins with a key, outside of tables, that no parameter file has.
+fn is_unknown_key(line: &str) -> bool {
+    let line = line.trim_start();
+    let is_key = line.starts_with(|c: char| c.is_ascii_alphanumeric()
+        || c == '_'
+        || c == '-'
+        || c == '"');
+    is_key && line.contains('=') && !begins_with_known_key(line)
+}
+
+// Whether a line is the header of a table that no parameter file has.
+fn is_unknown_header(line: &str) -> bool {
+    is_header(line) && !begins_with_known_key(line)
+}
+
+/// The first line, from 1, that begins with the key of this name.
+pub fn line_of_key(text: &str, name: &str) -> Option<usize> {
+    text.lines()
+        .position(|line| begins_with_key(line, name))?
+        .checked_add(1)
+}
+
+/// The first line, from 1, that begins with a key or a table's name that no parameter file has.
+pub fn line_of_unknown_key(text: &str) -> Option<usize> {
+    let key = text
+        .lines()
+        .take_while(|line| !is_header(line))
+        .position(is_unknown_key);
+    match key {
+        Some(place) => place.checked_add(1),
+        None => text.lines().position(is_unknown_header)?.checked_add(1),
+    }
+}
+
+/// The line, from 1, of a place in a text.
+pub fn line_of_place(text: &[u8], place: usize) -> Option<usize> {
+    let before = text.get(..place)?;
+    before
+        .iter()
+        .filter(|&&byte| byte == b'\n')
+        .count()
+        .checked_add(1)
+}

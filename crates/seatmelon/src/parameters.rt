@@ -1,0 +1,172 @@
+//! Parameter files, and why they are refused, in words.
+ghost use Rattle.std.specs.Prelude.{◌≡◌, Ok, IfErr, IfOk};
+ghost use Rattle.rasta_params.specs.Keys.{ReadsParameters};
+ghost use Rattle.seatmelon.specs.Failing.{TellsWords};
+
+use crate::failure::Failure;
+use crate::file_kind::{FileKind, file_kind};
+use crate::key_lines::{line_of_key, line_of_place, line_of_unknown_key};
+use rasta_params::params;
+use rasta_pdu::{Fault, Params};
+use std::alloc::Global;
+use std::{fmt, str};
+
+/// A key of a parameter file, and what may stand there.
+#[derive(Clone, Copy, Debug)]
+struct Key {
+    name: &'static str,
+    form: &'static str,
+}
+
+/// Why a parameter file is refused.
+#[derive(Clone, Copy, Debug)]
+pub struct ParameterRefusal {
+    fault: Fault,
+    // The line that seems to be at fault, from 1.
+    line: Option<usize>,
+    // What is wrong with a text that is no TOML document.
+    error: Option<toml::de::Error>,
+    kind: FileKind,
+}
+
+impl Key {
+    const fn new(name: &'static str, form: &'static str) -> Key {
+        Key { name, form }
+    }
+}
+
+// The key of that number.
+fn key_of(number: u32) -> Option<Key> {
+    match number {
+        1 => Some(Key::new("client_id", "a whole number from 0 to 4294967295")),
+        2 => Some(Key::new(
+            "server_id",
+            "a whole number from 0 to 4294967295, and not client_id",
+        )),
+        3 => Some(Key::new("code_length", "0, 8 or 16")),
+        4 => Some(Key::new("md4_start", "a text of 32 hexadecimal digits")),
+        5 => Some(Key::new("check_length", "0, 2 or 4")),
+        6 => Some(Key::new("n_sendmax", "a whole number from 1 to 65535")),
+        7 => Some(Key::new("t_max", "a whole number from 1 to 60000")),
+        8 => Some(Key::new("slack", "a whole number from 0 to 1000")),
+        9 => Some(Key::new("first_record", "a whole number from 1 to 4000000000")),
+        10 => Some(Key::new(
+            "last_record",
+            "a whole number from first_record to 4000000000",
+        )),
+        11 => Some(Key::new(
+            "channel",
+            "one to four tables with only client and server, each a text \"a.b.c.d:port\", no direction twice",
+        )),
+        13 => Some(Key::new(
+            "quiet",
+            "a table with only client and server, each with next_sn, clock and, if any, deadline and handed_ts",
+        )),
+        _ => None,
+    }
+}
+
+// The line of a parameter file at which a fault seems to be.
+fn line_of(text: &[u8], fault: Fault, error: Option<toml::de::Error>) -> Option<usize> {
+    if let Some(error) = error {
+        return line_of_place(text, error.span()?.start);
+    }
+    let text = str::from_utf8(text).ok()?;
+    match key_of(fault.place) {
+        Some(key) => line_of_key(text, key.name),
+        None => line_of_unknown_key(text),
+    }
+}
+
+impl ParameterRefusal {
+    // Why a parameter file of this text is refused by this fault.
+    fn new(alloc: Global, text: &[u8], fault: Fault) -> ParameterRefusal {
+        let error = match fault.number {
+            Fault::TOML => toml::table_from_slice(alloc, text).err(),
+            _ => None,
+        };
+        ParameterRefusal {
+            fault,
+            line: line_of(text, fault, error),
+            error,
+            kind: file_kind(text),
+        }
+    }
+
+    // Whether a key is missing, although a line begins with it: in a table, where it has no effect.
+    fn is_in_a_table(&self) -> bool {
+        self.fault.number == Fault::MISSING_KEY && self.fault.place <= 10 && self.line.is_some()
+    }
+
+    // What is wrong with the value of a key.
+    fn write_key<W: fmt::Write>(&self, f: &mut fmt::Formatter<W>, key: Key) -> fmt::Result {
+        let Key { name, form } = key;
+        if self.is_in_a_table() {
+            write!(
+                f,
+                "{name} stands in a table; it must stand before the first one"
+            )
+        } else if self.fault.number == Fault::MISSING_KEY && self.line.is_none() {
+            write!(f, "{name} is missing; it must be {form}")
+        } else {
+            write!(f, "{name} must be {form}")
+        }
+    }
+
+    fn write_reason<W: fmt::Write>(&self, f: &mut fmt::Formatter<W>) -> fmt::Result {
+        match (self.error, key_of(self.fault.place)) {
+            (Some(error), _) => {
+                let message = error.message();
+                write!(f, "this is no TOML document: {message}")
+            }
+            (None, Some(key)) => self.write_key(f, key),
+            (None, None) => write!(f, "a parameter file has no such key"),
+        }
+    }
+}
+
+impl fmt::Display for ParameterRefusal {
+    fn fmt<W: fmt::Write>(&self, f: &mut fmt::Formatter<W>) -> fmt::Result {
+        if let Some(line) = self.line {
+            write!(f, "line {line}: ")?;
+        }
+        self.write_reason(f)?;
+        let number = self.fault.number;
+        let name = self.fault.name();
+        write!(f, " ({number} {name})")?;
+        match self.kind {
+            FileKind::Capture | FileKind::Gzip | FileKind::Pcapng => write!(
+                f,
+                "\nthis looks like a capture: are CAPTURE and PARAMS swapped?"
+            ),
+            FileKind::Text | FileKind::Other => Ok(()),
+        }
+    }
+}
+
+// Why there are no parameters.
+fn unparsed(alloc: Global, path: &str, text: &[u8], fault: Fault) -> Failure
+    ensures { TellsWords result }
+{
+    if fault.number == Fault::NO_MEMORY {
+        return Failure::OutOfMemory;
+    }
+    match String::from_str(alloc, path) {
+        Ok(path) => Failure::Parameters {
+            path,
+            refusal: ParameterRefusal::new(alloc, text, fault),
+        },
+        Err(_) => Failure::OutOfMemory,
+    }
+}
+
+/// The parameters of a parameter file; `path` is its name in the failure.
+pub fn params_in(alloc: Global, path: &str, text: &[u8]) -> Result<Params, Failure>
+    ensures ok { IfOk result (λ p. ReadsParameters text.now (Ok p)) }
+    ensures err { IfErr result TellsWords }
+{
+    match params(alloc, text) {
+        Ok(params) => Ok(params),
+        Err(fault) => Err(unparsed(alloc, path, text, fault)),
+    }
+}
