@@ -6,11 +6,11 @@ use Rattle.rasta_pcap.specs.declared.fault.Fault.{Fault}
 use Rattle.rasta_pcap.specs.declared.fault.Side.TheVariants.{Client, Server}
 use Rattle.rasta_pdu.specs.Params.{Parameters}
 use Rattle.rasta_cert.specs.Certificate.{Scripts, IsCertificate, most_entries}
-use Rattle.rasta_check.specs.Crossing.{FirstCopy}
-use Rattle.rasta_check.specs.Reading.{AreSentLists}
-use Rattle.rasta_check.specs.Report.{BothFit}
-use Rattle.rasta_check.proofs.Forms.{to_record}
-use Rattle.rasta_check.proofs.Steps.{base_small}
+use Rattle.rasta_check.specs.Capture.Crossing.{FirstCopy}
+use Rattle.rasta_check.specs.Capture.Reading.{AreSentLists}
+use Rattle.rasta_check.specs.Verdict.Report.{BothFit}
+use Rattle.rasta_check.proofs.Capture.ListForms.{to_record}
+use Rattle.rasta_check.proofs.Model.Steps.{base_small}
 use Rattle.std.specs.Result.{IfOk, IfErr, IsErr, IsErrAnd}
 use Rattle.rasta_build.specs.Built.{Built}
 use Rattle.rasta_build.specs.Choices.{first_of, fault_of_stuck, IsUnexplained, IsProposalFault}

@@ -8,8 +8,8 @@ use Rattle.rasta_pdu.specs.declared.quiet_point.Quiet.{Quiet}
 use Rattle.rasta_end.specs.declared.owed.Owed.{Owed}
 use Rattle.rasta_end.specs.State.{Made, EndState, is_closed, is_client, is_start}
 use Rattle.rasta_end.specs.Starts.{start_of, start_by}
-use Rattle.rasta_check.specs.Crossing.{FirstCopy}
-use Rattle.rasta_check.proofs.Steps.{base, base_by}
+use Rattle.rasta_check.specs.Capture.Crossing.{FirstCopy}
+use Rattle.rasta_check.proofs.Model.Steps.{base, base_by}
 use Rattle.rasta_build.specs.Built.{built_at_start}
 use Rattle.rasta_build.specs.Choices.{peer_quiet_sn}
 use Rattle.rasta_build.proofs.Times.{NearDeadlines}

@@ -11,8 +11,8 @@ use Rattle.rasta_end.specs.declared.take_row.TakeRow.{TakeRow}
 use Rattle.rasta_end.specs.declared.take_row.TakeRow.TheVariants.{Opened, Answered, FirstHeartbeat, InSequence, ResentInSequence, Gap, GapInRetransmission, Resumed, Requested, RequestedAhead, RequestedAgain, Disconnected}
 use Rattle.rasta_end.specs.State.{EndState, is_active, carries_unit}
 use Rattle.rasta_end.specs.TakeRule.{effect, effect_by, take_row, take_fault, after_take, accept, enter, hand_up}
-use Rattle.rasta_check.proofs.TakeRows.{row_known, not_closed}
-use Rattle.rasta_check.proofs.HeldRuns.{free}
+use Rattle.rasta_check.proofs.Model.TakeRows.{row_known, not_closed}
+use Rattle.rasta_check.proofs.Model.InvariantOfRuns.{free}
 use Rattle.rasta_build.specs.declared.script_builder.Progress.{Progress}
 use Rattle.rasta_build.specs.Built.{Built, lead, progress_of, note_take}
 use Rattle.rasta_build.specs.Explaining.{unless, taken_by, take_step}

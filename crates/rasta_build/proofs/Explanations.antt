@@ -21,14 +21,14 @@ use Rattle.rasta_end.specs.State.{Made, EndState, ahead_by, first_sn, is_owing, 
 use Rattle.rasta_end.specs.Starts.{start_of}
 use Rattle.rasta_end.specs.MakeRule.{make_fault, has_ended, is_judged, confirms_last, confirms_a_time, is_past, is_early, is_expired, is_connection_request, is_disconnection_request, after_make}
 use Rattle.rasta_end.specs.TakeRule.{effect, take_row, is_ahead, is_retransmission_request}
-use Rattle.rasta_check.specs.Crossing.{FirstCopy}
-use Rattle.rasta_check.proofs.Passing.{passed, cs_is}
-use Rattle.rasta_check.proofs.MakeRows.{Making, opening, response, first_beat, answer, again, ask, beat, fresh, bye, expired, MadeBy, made_by}
-use Rattle.rasta_check.proofs.TakeRows.{row_known}
-use Rattle.rasta_check.proofs.Counting.{number}
-use Rattle.rasta_check.proofs.Numbering.{Numbered}
-use Rattle.rasta_check.proofs.Naming.{SnIs}
-use Rattle.rasta_check.proofs.HeldMake.{nothing_made}
+use Rattle.rasta_check.specs.Capture.Crossing.{FirstCopy}
+use Rattle.rasta_check.proofs.Model.PassedTests.{passed, cs_is}
+use Rattle.rasta_check.proofs.Model.MakeRows.{Making, opening, response, first_beat, answer, again, ask, beat, fresh, bye, expired, MadeBy, made_by}
+use Rattle.rasta_check.proofs.Model.TakeRows.{row_known}
+use Rattle.rasta_check.proofs.Model.Counts.{number}
+use Rattle.rasta_check.proofs.Model.SequenceNumbers.{Numbered}
+use Rattle.rasta_check.proofs.Model.NamedPositions.{SnIs}
+use Rattle.rasta_check.proofs.Model.InvariantAtMake.{nothing_made}
 use Rattle.rasta_build.specs.Built.{Built}
 use Rattle.rasta_build.specs.Choices.{copy_at, is_before, first_sn_of, position_named, has_to_take, is_unanswered, wants_trigger}
 use Rattle.rasta_build.specs.Explaining.{and_then, catch_up, accept_through, take_trigger, take_step_by, made_at, make_step, explain, earliest_by}

@@ -10,9 +10,9 @@ use Rattle.rasta_end.specs.declared.take_row.TakeRow.TheVariants.{Opened, Answer
 use Rattle.rasta_end.specs.declared.owed.Owed.{Owed}
 use Rattle.rasta_end.specs.State.{EndState, carries_unit, is_owing}
 use Rattle.rasta_end.specs.TakeRule.{accept, enter, hand_up, is_in, steps_past_next, effect, effect_by, after_take, take_row, take_fault}
-use Rattle.rasta_check.specs.Crossing.{FirstCopy}
-use Rattle.rasta_check.proofs.Accepting.{accepted_after}
-use Rattle.rasta_check.proofs.TakeRows.{row_known}
+use Rattle.rasta_check.specs.Capture.Crossing.{FirstCopy}
+use Rattle.rasta_check.proofs.Model.Acceptance.{accepted_after}
+use Rattle.rasta_check.proofs.Model.TakeRows.{row_known}
 use Rattle.rasta_build.specs.Built.{Built}
 use Rattle.rasta_build.specs.Choices.{copy_at, is_trigger}
 use Rattle.rasta_build.specs.Explaining.{unless, taken_by, take_step, if_accepted, accept_there, accept_step, accept_from, and_then, try_at, try_there, try_step, go_on, scan}

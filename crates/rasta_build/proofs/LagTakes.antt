@@ -14,14 +14,14 @@ use Rattle.rasta_end.specs.declared.take_row.TakeRow.{TakeRow}
 use Rattle.rasta_end.specs.declared.take_row.TakeRow.TheVariants.{Opened, Answered, FirstHeartbeat, InSequence, ResentInSequence, Gap, GapInRetransmission, Resumed, Requested, RequestedAhead, RequestedAgain, Disconnected}
 use Rattle.rasta_end.specs.State.{Made, EndState, is_owing, is_closed, is_active, is_retr_req, is_flowing, carries_unit}
 use Rattle.rasta_end.specs.TakeRule.{effect, effect_by, after_take, take_row, take_fault, is_retransmission_request, is_retransmission_response, is_heartbeat_or_data, steps_past_next, is_in, is_ahead, accept, enter, hand_up}
-use Rattle.rasta_check.specs.Crossing.{FirstCopy}
-use Rattle.rasta_check.proofs.TakeRows.{row_known}
-use Rattle.rasta_check.proofs.Counting.{number}
-use Rattle.rasta_check.proofs.Naming.{position_is}
-use Rattle.rasta_check.proofs.Values.{values, get_or_is, get_or_none}
-use Rattle.rasta_check.proofs.Valued.{Valued}
-use Rattle.rasta_check.proofs.Held.{is_opener, has_peer}
-use Rattle.rasta_check.proofs.HeldTake.{Taken, place, index, flowing_peer, own_take}
+use Rattle.rasta_check.specs.Capture.Crossing.{FirstCopy}
+use Rattle.rasta_check.proofs.Model.TakeRows.{row_known}
+use Rattle.rasta_check.proofs.Model.Counts.{number}
+use Rattle.rasta_check.proofs.Model.NamedPositions.{position_is}
+use Rattle.rasta_check.proofs.Model.ConveyedUnits.{values, get_or_is, get_or_none}
+use Rattle.rasta_check.proofs.Model.OfferedUnits.{Valued}
+use Rattle.rasta_check.proofs.Model.Invariant.{is_opener, has_peer}
+use Rattle.rasta_check.proofs.Model.InvariantAtTake.{Taken, place, index, flowing_peer, own_take}
 use Rattle.rasta_build.specs.Built.{Built}
 use Rattle.rasta_build.specs.Explaining.{catch_up}
 use Rattle.rasta_build.proofs.Readiness.{IsReady, ConveysNoMore}

@@ -9,8 +9,8 @@ use Rattle.rasta_end.specs.declared.take_row.TakeRow.{TakeRow}
 use Rattle.rasta_end.specs.declared.take_row.TakeRow.TheVariants.{Opened, Answered, FirstHeartbeat, InSequence, ResentInSequence, Resumed, Requested}
 use Rattle.rasta_end.specs.State.{Made, EndState, is_owing, is_retr_req}
 use Rattle.rasta_end.specs.TakeRule.{effect, take_row, take_fault, is_retransmission_request, is_retransmission_response}
-use Rattle.rasta_check.specs.Crossing.{FirstCopy}
-use Rattle.rasta_check.proofs.Counting.{number}
+use Rattle.rasta_check.specs.Capture.Crossing.{FirstCopy}
+use Rattle.rasta_check.proofs.Model.Counts.{number}
 use Rattle.rasta_build.specs.Built.{Built}
 use Rattle.rasta_build.specs.Choices.{copy_at, is_response}
 use Rattle.rasta_build.specs.Explaining.{taken_by, take_step, accept_there, accept_step, accept_from, last_response, first_acceptable, accept_range, catch_up}

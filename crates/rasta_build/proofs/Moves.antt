@@ -11,17 +11,17 @@ use Rattle.rasta_pdu.specs.declared.quiet_point.Quiet.{Quiet}
 use Rattle.rasta_end.specs.State.{Made, EndState, wrapped}
 use Rattle.rasta_end.specs.Starts.{start_by, start_of, moved_deadline}
 use Rattle.rasta_end.specs.MakeRule.{has_ended, after_make}
-use Rattle.rasta_check.specs.Crossing.{FirstCopy, Spells}
-use Rattle.rasta_check.specs.World.{Station, Move, Moves, makes, repeats, arrives, takes, waits}
-use Rattle.rasta_check.specs.Theorem.{other_side}
-use Rattle.rasta_check.proofs.Copies.{IsSent}
-use Rattle.rasta_check.proofs.Steps.{base, base_small, made_more}
-use Rattle.rasta_check.proofs.TakeRows.{take_made}
-use Rattle.rasta_check.proofs.Held.{Held}
-use Rattle.rasta_check.proofs.HeldTake.{Taken}
-use Rattle.rasta_check.proofs.Valued.{Valued}
-use Rattle.rasta_check.proofs.Sending.{sent_first, sent_other, sent_copy}
-use Rattle.rasta_check.proofs.Telling.{Sends, sends_count}
+use Rattle.rasta_check.specs.Capture.Crossing.{FirstCopy, Spells}
+use Rattle.rasta_check.specs.Model.World.{Station, Move, Moves, makes, repeats, arrives, takes, waits}
+use Rattle.rasta_check.specs.Model.Theorem.{other_side}
+use Rattle.rasta_check.proofs.Capture.FaultlessLists.{IsSent}
+use Rattle.rasta_check.proofs.Model.Steps.{base, base_small, made_more}
+use Rattle.rasta_check.proofs.Model.TakeRows.{take_made}
+use Rattle.rasta_check.proofs.Model.Invariant.{Held}
+use Rattle.rasta_check.proofs.Model.InvariantAtTake.{Taken}
+use Rattle.rasta_check.proofs.Model.OfferedUnits.{Valued}
+use Rattle.rasta_check.proofs.Capture.FirstCopies.{sent_first, sent_other, sent_copy}
+use Rattle.rasta_check.proofs.Script.ScriptsOfRuns.{Sends, sends_count}
 use Rattle.rasta_build.specs.Built.{Built}
 use Rattle.rasta_build.specs.Choices.{peer_quiet_sn}
 use Rattle.rasta_build.specs.Explaining.{explain, earliest_by}

@@ -12,18 +12,18 @@ use Rattle.rasta_pcap.specs.declared.fault.Side.TheVariants.{Client, Server}
 use Rattle.rasta_udp.specs.Frame.{Packet}
 use Rattle.rasta_pdu.specs.Params.{Parameters, AreParameters}
 use Rattle.rasta_cert.specs.Certificate.{Scripts, most_entries}
-use Rattle.rasta_check.specs.Crossing.{FirstCopy, Sent}
-use Rattle.rasta_check.specs.Theorem.{OfConnection}
-use Rattle.rasta_check.specs.World.{Station, World, Move, Moves, makes, repeats, arrives, takes, waits, Step, client_moves, server_moves, Reaches, begins, goes_on, first_world, IsWithin}
-use Rattle.rasta_check.proofs.Copies.{IsSent}
-use Rattle.rasta_check.proofs.Forms.{to_record}
-use Rattle.rasta_check.proofs.Sending.{sent_once, sent_none}
-use Rattle.rasta_check.proofs.Steps.{start_base, made_more}
+use Rattle.rasta_check.specs.Capture.Crossing.{FirstCopy, Sent}
+use Rattle.rasta_check.specs.Model.Theorem.{OfConnection}
+use Rattle.rasta_check.specs.Model.World.{Station, World, Move, Moves, makes, repeats, arrives, takes, waits, Step, client_moves, server_moves, Reaches, begins, goes_on, first_world, IsWithin}
+use Rattle.rasta_check.proofs.Capture.FaultlessLists.{IsSent}
+use Rattle.rasta_check.proofs.Capture.ListForms.{to_record}
+use Rattle.rasta_check.proofs.Capture.FirstCopies.{sent_once, sent_none}
+use Rattle.rasta_check.proofs.Model.Steps.{start_base, made_more}
 use Rattle.rasta_end.specs.Starts.{start_of}
-use Rattle.rasta_check.proofs.TakeRows.{take_leaves}
-use Rattle.rasta_check.proofs.HeldRuns.{all_held, few_made}
-use Rattle.rasta_check.proofs.History.{stepped}
-use Rattle.rasta_check.proofs.Telling.{Sends, sends_count, told}
+use Rattle.rasta_check.proofs.Model.TakeRows.{take_leaves}
+use Rattle.rasta_check.proofs.Model.InvariantOfRuns.{all_held, few_made}
+use Rattle.rasta_check.proofs.Model.History.{stepped}
+use Rattle.rasta_check.proofs.Script.ScriptsOfRuns.{Sends, sends_count, told}
 use Rattle.rasta_build.specs.Built.{Built}
 use Rattle.rasta_build.specs.Choices.{SidedCopy, first_of, fault_of_stuck}
 use Rattle.rasta_build.specs.declared.stuck.Stuck.TheVariants.{Unexplained}

@@ -14,17 +14,17 @@ use Rattle.rasta_cert.specs.Certificate.{AreEntries, IsEntry}
 use Rattle.rasta_cert.specs.declared.entry.Entry.{Entry}
 use Rattle.rasta_end.specs.State.{EndState}
 use Rattle.rasta_end.specs.Starts.{start_of, start_by}
-use Rattle.rasta_check.specs.Crossing.{FirstCopy, Sent, CrossRecorded}
-use Rattle.rasta_check.specs.World.{most_sent}
-use Rattle.rasta_check.specs.Theorem.{OfConnection, most_packets}
-use Rattle.rasta_check.specs.Following.{Cursor, Advances, takes_next, makes_next, Leads, at_start, Follows}
-use Rattle.rasta_check.proofs.Lists.{get_front}
-use Rattle.rasta_check.proofs.Copies.{IsSent}
-use Rattle.rasta_check.proofs.Forms.{to_record}
-use Rattle.rasta_check.proofs.Steps.{made_more}
-use Rattle.rasta_check.proofs.TakeRows.{take_leaves}
-use Rattle.rasta_check.proofs.Scripted.{slice_get_some, simulated}
-use Rattle.rasta_check.proofs.Known.{known}
+use Rattle.rasta_check.specs.Capture.Crossing.{FirstCopy, Sent, CrossRecorded}
+use Rattle.rasta_check.specs.Model.World.{most_sent}
+use Rattle.rasta_check.specs.Model.Theorem.{OfConnection, most_packets}
+use Rattle.rasta_check.specs.Script.Following.{Cursor, Advances, takes_next, makes_next, Leads, at_start, Follows}
+use Rattle.rasta_check.proofs.Model.ListGrowth.{get_front}
+use Rattle.rasta_check.proofs.Capture.FaultlessLists.{IsSent}
+use Rattle.rasta_check.proofs.Capture.ListForms.{to_record}
+use Rattle.rasta_check.proofs.Model.Steps.{made_more}
+use Rattle.rasta_check.proofs.Model.TakeRows.{take_leaves}
+use Rattle.rasta_check.proofs.Script.Simulation.{slice_get_some, simulated}
+use Rattle.rasta_check.proofs.Theorem.SentRuns.{known}
 use Rattle.rasta_build.specs.Built.{Built}
 use Rattle.rasta_build.specs.Choices.{first_of}
 use Rattle.rasta_build.specs.Proposing.{Pass, first_pass, one_more, pass_on, passes, copy_goes, client_goes, server_goes, proposal, all_copies}

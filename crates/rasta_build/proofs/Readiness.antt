@@ -16,8 +16,8 @@ use Rattle.rasta_end.specs.State.{Made, EndState, is_owing, is_closed, is_flowin
 use Rattle.rasta_end.specs.Units.{units_conveyed}
 use Rattle.rasta_end.specs.MakeRule.{is_past, first_that_holds}
 use Rattle.rasta_end.specs.TakeRule.{hand_up, effect, take_row, take_fault, accept, enter, resends, burst, position_confirmed, is_retransmission_request}
-use Rattle.rasta_check.proofs.TakeRows.{row_known}
-use Rattle.rasta_check.proofs.Counting.{number}
+use Rattle.rasta_check.proofs.Model.TakeRows.{row_known}
+use Rattle.rasta_check.proofs.Model.Counts.{number}
 use Rattle.rasta_build.specs.Built.{Built, progress_of, trail_after}
 use Rattle.rasta_build.specs.declared.script_builder.Progress.{Progress}
 use Rattle.rasta_build.specs.Explaining.{taken_by, unless, take_step}

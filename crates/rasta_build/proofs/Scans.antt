@@ -14,10 +14,10 @@ use Rattle.rasta_end.specs.declared.take_row.TakeRow.{TakeRow}
 use Rattle.rasta_end.specs.declared.take_row.TakeRow.TheVariants.{Opened, Answered, FirstHeartbeat, InSequence, ResentInSequence, Gap, GapInRetransmission, Resumed, Requested, RequestedAhead, RequestedAgain, Disconnected}
 use Rattle.rasta_end.specs.State.{Made, EndState, is_timed, is_owing}
 use Rattle.rasta_end.specs.TakeRule.{effect, take_row, take_fault, is_retransmission_request, is_heartbeat_or_data, steps_past_next, is_in, is_ahead}
-use Rattle.rasta_check.specs.Crossing.{FirstCopy}
-use Rattle.rasta_check.proofs.TakeRows.{row_known}
-use Rattle.rasta_check.proofs.Counting.{number, number_take_more, number_take_at}
-use Rattle.rasta_check.proofs.Scripted.{slice_get_some}
+use Rattle.rasta_check.specs.Capture.Crossing.{FirstCopy}
+use Rattle.rasta_check.proofs.Model.TakeRows.{row_known}
+use Rattle.rasta_check.proofs.Model.Counts.{number, number_take_more, number_take_at}
+use Rattle.rasta_check.proofs.Script.Simulation.{slice_get_some}
 use Rattle.rasta_build.specs.Built.{Built}
 use Rattle.rasta_build.specs.Choices.{copy_at, is_trigger}
 use Rattle.rasta_build.specs.Explaining.{taken_by, try_at, scan, first_tried, take_trigger, positions_tried}

@@ -14,15 +14,15 @@ use Rattle.rasta_pdu.specs.Pdu.{SafetyPdu}
 use Rattle.rasta_pdu.specs.declared.quiet_point.Quiet.{Quiet}
 use Rattle.rasta_end.specs.State.{Made, EndState, first_sn}
 use Rattle.rasta_end.specs.Starts.{start_by}
-use Rattle.rasta_check.specs.Crossing.{FirstCopy}
-use Rattle.rasta_check.specs.Theorem.{other_side}
-use Rattle.rasta_check.specs.Taken.{pdus_made, pdus_of}
-use Rattle.rasta_check.proofs.Lists.{get_front}
-use Rattle.rasta_check.proofs.Copies.{IsSent}
-use Rattle.rasta_check.proofs.Scripted.{slice_get_some, places_rise}
-use Rattle.rasta_check.proofs.Steps.{base, base_by}
-use Rattle.rasta_check.proofs.Following.{shorter}
-use Rattle.rasta_check.proofs.Telling.{Sends, copy_at as sent_at}
+use Rattle.rasta_check.specs.Capture.Crossing.{FirstCopy}
+use Rattle.rasta_check.specs.Model.Theorem.{other_side}
+use Rattle.rasta_check.specs.Verdict.Taken.{pdus_made, pdus_of}
+use Rattle.rasta_check.proofs.Model.ListGrowth.{get_front}
+use Rattle.rasta_check.proofs.Capture.FaultlessLists.{IsSent}
+use Rattle.rasta_check.proofs.Script.Simulation.{slice_get_some, places_rise}
+use Rattle.rasta_check.proofs.Model.Steps.{base, base_by}
+use Rattle.rasta_check.proofs.Capture.NextPackets.{shorter}
+use Rattle.rasta_check.proofs.Script.ScriptsOfRuns.{Sends, copy_at as sent_at}
 use Rattle.rasta_build.specs.Choices.{peer_quiet_sn, member_at, copy_there, first_sn_of}
 use Rattle.rasta_build.proofs.Scans.{AreCopies}
 

@@ -5,13 +5,13 @@ use Rattle.rasta_pcap.specs.declared.fault.Side.{Side}
 use Rattle.rasta_pcap.specs.declared.fault.Side.TheVariants.{Client, Server}
 use Rattle.rasta_udp.specs.Frame.{Packet}
 use Rattle.rasta_pdu.specs.Params.{Parameters, AreParameters}
-use Rattle.rasta_check.specs.Crossing.{FirstCopy}
-use Rattle.rasta_check.specs.World.{Station, World, Step, client_moves, server_moves, IsWithin}
-use Rattle.rasta_check.proofs.Lists.{get_push}
-use Rattle.rasta_check.proofs.Copies.{IsSent}
-use Rattle.rasta_check.proofs.Sending.{sent_once}
-use Rattle.rasta_check.proofs.HeldRuns.{All, few_made}
-use Rattle.rasta_check.proofs.Telling.{Both, Sends, sends_count}
+use Rattle.rasta_check.specs.Capture.Crossing.{FirstCopy}
+use Rattle.rasta_check.specs.Model.World.{Station, World, Step, client_moves, server_moves, IsWithin}
+use Rattle.rasta_check.proofs.Model.ListGrowth.{get_push}
+use Rattle.rasta_check.proofs.Capture.FaultlessLists.{IsSent}
+use Rattle.rasta_check.proofs.Capture.FirstCopies.{sent_once}
+use Rattle.rasta_check.proofs.Model.InvariantOfRuns.{All, few_made}
+use Rattle.rasta_check.proofs.Script.ScriptsOfRuns.{Both, Sends, sends_count}
 use Rattle.rasta_build.specs.Built.{Built}
 use Rattle.rasta_build.specs.Choices.{SidedCopy, first_of}
 use Rattle.rasta_build.specs.Explaining.{explain}

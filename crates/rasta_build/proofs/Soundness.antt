@@ -22,11 +22,11 @@ use Rattle.rasta_end.specs.Starts.{start_of, start_by}
 use Rattle.rasta_end.specs.MakeRule.{make_fault, row_of, after_make_by, after_make}
 use Rattle.rasta_end.specs.declared.make_row.MakeRow.{MakeRow}
 use Rattle.rasta_end.specs.TakeRule.{effect, effect_by, after_take, take_row, take_fault}
-use Rattle.rasta_check.specs.Crossing.{FirstCopy}
-use Rattle.rasta_check.specs.Following.{Cursor, Advances, takes_next, makes_next, Leads, at_start}
-use Rattle.rasta_check.proofs.Steps.{base, base_by, base_small, start_base}
+use Rattle.rasta_check.specs.Capture.Crossing.{FirstCopy}
+use Rattle.rasta_check.specs.Script.Following.{Cursor, Advances, takes_next, makes_next, Leads, at_start}
+use Rattle.rasta_check.proofs.Model.Steps.{base, base_by, base_small, start_base}
 use Rattle.rasta_build.specs.Proposing
-use Rattle.rasta_check.proofs.Telling.{leads_more}
+use Rattle.rasta_check.proofs.Script.ScriptsOfRuns.{leads_more}
 use Rattle.rasta_build.specs.Built.{Built}
 use Rattle.rasta_build.specs.Choices.{peer_quiet_sn, copy_there, copy_at, is_before, is_trigger, wants_trigger, has_to_take, why_by, why_beating, next_unit, in_32_bits, position_named, first_of}
 use Rattle.rasta_build.specs.Clock.{clock_of}

@@ -18,16 +18,16 @@ use Rattle.rasta_end.specs.State.{Made, EndState, first_sn, has_made, is_owing, 
 use Rattle.rasta_end.specs.Starts.{start_of}
 use Rattle.rasta_end.specs.MakeRule.{first_that_holds, make_fault, has_ended, is_past, is_data, contents, after_make, phase_after}
 use Rattle.rasta_end.specs.TakeRule.{effect_by, take_row, after_take, take_fault, is_in, is_ahead, is_valid}
-use Rattle.rasta_check.specs.Crossing.{FirstCopy}
-use Rattle.rasta_check.proofs.Passing.{passed}
-use Rattle.rasta_check.proofs.MakeRows.{Making, opening, response, first_beat, answer, again, ask, beat, fresh, bye, expired, made_by, after_row, new_made}
-use Rattle.rasta_check.proofs.TakeRows.{closed_row, not_closed, take_leaves}
-use Rattle.rasta_check.proofs.Numbering.{Numbered}
-use Rattle.rasta_check.proofs.Held.{Held}
-use Rattle.rasta_check.proofs.HeldMake.{nothing_made, push_some}
-use Rattle.rasta_check.proofs.HeldTake.{Taken}
-use Rattle.rasta_check.proofs.HeldRuns.{free}
-use Rattle.rasta_check.proofs.Valued.{Valued}
+use Rattle.rasta_check.specs.Capture.Crossing.{FirstCopy}
+use Rattle.rasta_check.proofs.Model.PassedTests.{passed}
+use Rattle.rasta_check.proofs.Model.MakeRows.{Making, opening, response, first_beat, answer, again, ask, beat, fresh, bye, expired, made_by, after_row, new_made}
+use Rattle.rasta_check.proofs.Model.TakeRows.{closed_row, not_closed, take_leaves}
+use Rattle.rasta_check.proofs.Model.SequenceNumbers.{Numbered}
+use Rattle.rasta_check.proofs.Model.Invariant.{Held}
+use Rattle.rasta_check.proofs.Model.InvariantAtMake.{nothing_made, push_some}
+use Rattle.rasta_check.proofs.Model.InvariantAtTake.{Taken}
+use Rattle.rasta_check.proofs.Model.InvariantOfRuns.{free}
+use Rattle.rasta_check.proofs.Model.OfferedUnits.{Valued}
 use Rattle.rasta_build.specs.Built.{Built}
 use Rattle.rasta_build.specs.Choices.{first_sn_of}
 use Rattle.rasta_build.specs.Explaining.{catch_up, explain, earliest_by}

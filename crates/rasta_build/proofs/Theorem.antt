@@ -6,9 +6,9 @@ use Rattle.rasta_pcap.specs.declared.fault.Side.TheVariants.{Client, Server}
 use Rattle.rasta_udp.specs.Frame.{Packet}
 use Rattle.rasta_pdu.specs.Params.{Parameters}
 use Rattle.rasta_cert.specs.Certificate.{Scripts}
-use Rattle.rasta_check.specs.Crossing.{FirstCopy, Sent}
-use Rattle.rasta_check.specs.Theorem.{OfConnection}
-use Rattle.rasta_check.proofs.Forms.{to_record}
+use Rattle.rasta_check.specs.Capture.Crossing.{FirstCopy, Sent}
+use Rattle.rasta_check.specs.Model.Theorem.{OfConnection}
+use Rattle.rasta_check.proofs.Capture.ListForms.{to_record}
 use Rattle.rasta_build.specs.Completeness.{CanCross, IsExplained, IsAnswer, IsComplete}
 use Rattle.rasta_build.specs.Proposing.{proposal}
 use Rattle.rasta_build.proofs.Passes.{explained, finds_none}

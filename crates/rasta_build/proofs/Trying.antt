@@ -6,9 +6,9 @@ use Rattle.rasta_pcap.specs.declared.fault.Side.{Side}
 use Rattle.rasta_pcap.specs.declared.fault.Side.TheVariants.{Client, Server}
 use Rattle.rasta_pdu.specs.Params.{Parameters}
 use Rattle.rasta_udp.specs.Frame.{Packet}
-use Rattle.rasta_check.specs.Crossing.{CrossRecorded, FirstCopy, Sent}
-use Rattle.rasta_check.specs.Theorem.{most_packets}
-use Rattle.rasta_check.specs.World.{first_world, begins, most_sent}
+use Rattle.rasta_check.specs.Capture.Crossing.{CrossRecorded, FirstCopy, Sent}
+use Rattle.rasta_check.specs.Model.Theorem.{most_packets}
+use Rattle.rasta_check.specs.Model.World.{first_world, begins, most_sent}
 use Rattle.rasta_build.specs.Completeness.{IsBounded, CanCross, IsComplete}
 
 -- where nothing crossed, nothing was sent

@@ -16,8 +16,8 @@ use Rattle.rasta_end.specs.MakeRule.{is_connection_request, is_disconnection_req
 use Rattle.rasta_end.specs.TakeRule.{is_retransmission_request, is_retransmission_response}
 use Rattle.rasta_end.specs.declared.why.Why.{Why}
 use Rattle.rasta_end.specs.declared.why.Why.TheVariants.{Open, Reply, Beat, Fresh, Again, Ask, Bye, Expired}
-use Rattle.rasta_check.specs.Crossing.{FirstCopy}
-use Rattle.rasta_check.specs.Lists.{copy_of}
+use Rattle.rasta_check.specs.Capture.Crossing.{FirstCopy}
+use Rattle.rasta_check.specs.Capture.Lists.{copy_of}
 use Rattle.rasta_build.specs.declared.stuck.Stuck.{Stuck}
 use Rattle.rasta_build.specs.declared.stuck.Stuck.TheVariants.{Unexplained, NoMemory}
 

@@ -6,10 +6,10 @@ use Rattle.rasta_pcap.specs.declared.fault.Side.TheVariants.{Client, Server}
 use Rattle.rasta_udp.specs.Frame.{Packet}
 use Rattle.rasta_pdu.specs.Params.{Parameters}
 use Rattle.rasta_cert.specs.Certificate.{Scripts, IsCertificate}
-use Rattle.rasta_check.specs.Crossing.{CrossRecorded, FirstCopy, Sent}
-use Rattle.rasta_check.specs.World.{World, Reaches, most_sent, IsWithin}
-use Rattle.rasta_check.specs.Report.{BothFit}
-use Rattle.rasta_check.specs.Theorem.{most_packets}
+use Rattle.rasta_check.specs.Capture.Crossing.{CrossRecorded, FirstCopy, Sent}
+use Rattle.rasta_check.specs.Model.World.{World, Reaches, most_sent, IsWithin}
+use Rattle.rasta_check.specs.Verdict.Report.{BothFit}
+use Rattle.rasta_check.specs.Model.Theorem.{most_packets}
 use Rattle.rasta_build.specs.Proposing.{proposal}
 
 -- a run that leads here is within the limits: of packets, of PDUs an end, and of the clock at each end's last make

@@ -12,7 +12,7 @@ use Rattle.rasta_end.specs.Starts.{start_of}
 use Rattle.rasta_end.specs.MakeRule.{make_fault, after_make}
 use Rattle.rasta_end.specs.TakeRule.{effect, take_row, take_fault}
 use Rattle.rasta_cert.specs.declared.entry.Entry.TheVariants.{Make}
-use Rattle.rasta_check.specs.Crossing.{FirstCopy}
+use Rattle.rasta_check.specs.Capture.Crossing.{FirstCopy}
 use Rattle.rasta_build.specs.Clock.{clock_of}
 use Rattle.rasta_build.specs.Choices.{copy_at, position_named, is_before, is_response, is_trigger, wants_trigger, has_to_take, why_of}
 use Rattle.rasta_build.specs.Built.{Built, note, lead, progress_of, note_take}

@@ -1,6 +1,6 @@
 //! The peer's PDUs, by the positions of an end.
 ghost use Rattle.std.specs.Prelude.{◌≡◌, ◌-◌, option_map};
-ghost use Rattle.rasta_check.specs.Lists.{copy_of};
+ghost use Rattle.rasta_check.specs.Capture.Lists.{copy_of};
 ghost use Rattle.rasta_build.specs.Choices;
 ghost use Rattle.rasta_build.specs.Choices.{peer_quiet_sn, member_at, copy_at, is_before};
 ghost use Rattle.rasta_build.specs.Explaining;

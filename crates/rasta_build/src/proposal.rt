@@ -2,9 +2,9 @@
 ghost use Rattle.std.specs.Prelude.{◌≡◌, ◌⊎◌, ◌+◌, ◌<◌, ◌^◌, length, option_map, Ok, OnOk, IfOk, IfErr};
 ghost use Rattle.rasta_pdu.specs.Pdu.{value_of};
 ghost use Rattle.rasta_cert.specs.Certificate.{IsCertificate};
-ghost use Rattle.rasta_check.specs.Lists.{copy_of};
-ghost use Rattle.rasta_check.specs.Reading.{AreSentLists};
-ghost use Rattle.rasta_check.specs.Report.{BothFit};
+ghost use Rattle.rasta_check.specs.Capture.Lists.{copy_of};
+ghost use Rattle.rasta_check.specs.Capture.Reading.{AreSentLists};
+ghost use Rattle.rasta_check.specs.Verdict.Report.{BothFit};
 ghost use Rattle.rasta_build.specs.Choices;
 ghost use Rattle.rasta_build.specs.Choices.{sided_copy, IsProposalFault};
 ghost use Rattle.rasta_build.specs.Completeness.{IsAnswer, IsComplete};

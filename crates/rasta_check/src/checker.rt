@@ -3,15 +3,15 @@ ghost use Rattle.std.specs.Prelude.{◌≡◌, ◌≤◌, ◌⊎◌, ℕ, [], le
 ghost use Rattle.rasta_pcap.specs.Fault.{no_memory};
 ghost use Rattle.rasta_pcap.specs.Capture.{IsCapture};
 ghost use Rattle.rasta_udp.specs.Frame.{Packet};
-ghost use Rattle.rasta_check.specs.Crossing.{crossing_list};
-ghost use Rattle.rasta_check.specs.Reading.{AreSentLists, IsCrossing};
+ghost use Rattle.rasta_check.specs.Capture.Crossing.{crossing_list};
+ghost use Rattle.rasta_check.specs.Capture.Reading.{AreSentLists, IsCrossing};
 ghost use Rattle.rasta_end.specs.State.{EndState};
-ghost use Rattle.rasta_check.specs.Checking;
-ghost use Rattle.rasta_check.specs.Listing.{listed_with, proofs_from};
-ghost use Rattle.rasta_check.specs.Checking.{verdict_of};
-ghost use Rattle.rasta_check.specs.Report.{BothFit, Explains, IsFileVerdict, IsScriptVerdict, explained, report_of};
-ghost use Rattle.rasta_check.specs.Verdicts.{CrossedIn};
-ghost use Rattle.rasta_check.specs.Headline.{Headline, IsSharp};
+ghost use Rattle.rasta_check.specs.Internals.Checking;
+ghost use Rattle.rasta_check.specs.Internals.Listing.{listed_with, proofs_from};
+ghost use Rattle.rasta_check.specs.Internals.Checking.{verdict_of};
+ghost use Rattle.rasta_check.specs.Verdict.Report.{BothFit, Explains, IsFileVerdict, IsScriptVerdict, explained, report_of};
+ghost use Rattle.rasta_check.specs.Capture.Faults.{CrossedIn};
+ghost use Rattle.rasta_check.specs.Verdict.Headline.{Headline, IsSharp};
 
 use crate::crossing::Sent;
 use crate::crossing_store::Store;

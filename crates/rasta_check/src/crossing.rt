@@ -2,16 +2,16 @@
 ghost use Rattle.std.specs.Prelude.{◌≡◌, [], ◌∷◌, ◌++◌, List, map, length, option_map, slice_get, None, Some, Ok, Err, MatchOption, MatchResult, OnOk, OnErr, IfOk, ◌⊎◌};
 ghost use Rattle.rasta_pcap.specs.Fault.{no_memory};
 ghost use Rattle.rasta_udp.specs.Frame.{Packet, packet_in, packet_of};
-ghost use Rattle.rasta_check.specs.Crossing.{FirstCopy, Spells, packet_fault};
+ghost use Rattle.rasta_check.specs.Capture.Crossing.{FirstCopy, Spells, packet_fault};
 ghost use Rattle.rasta_pdu.specs.Pdu.{RedundancyPdu, decode_of};
-ghost use Rattle.rasta_check.specs.Lists.{copy_of};
-ghost use Rattle.rasta_check.specs.Reading.{Crossing, IsCrossing, crossing_with, sent_by, sent_after, nothing_crossed, after_packet, after_frame, after_record};
+ghost use Rattle.rasta_check.specs.Capture.Lists.{copy_of};
+ghost use Rattle.rasta_check.specs.Capture.Reading.{Crossing, IsCrossing, crossing_with, sent_by, sent_after, nothing_crossed, after_packet, after_frame, after_record};
 ghost use Rattle.std.specs.Prelude.{◌<◌, ◌≤◌, IfSome, bytes_eq, nat_lt, not, ◌&&◌, ◌||◌};
-ghost use Rattle.rasta_check.specs.Crossing.{is_next_number};
-ghost use Rattle.rasta_check.specs.Crossing.{IsRecorded};
-ghost use Rattle.rasta_check.specs.World.{most_sent};
-ghost use Rattle.rasta_check.specs.Theorem.{most_packets};
-ghost use Rattle.rasta_check.specs.Packets.{number_in_bytes, with_new};
+ghost use Rattle.rasta_check.specs.Capture.Crossing.{is_next_number};
+ghost use Rattle.rasta_check.specs.Capture.Crossing.{IsRecorded};
+ghost use Rattle.rasta_check.specs.Model.World.{most_sent};
+ghost use Rattle.rasta_check.specs.Model.Theorem.{most_packets};
+ghost use Rattle.rasta_check.specs.Internals.Packets.{number_in_bytes, with_new};
 
 use crate::map_list::MapList;
 use crate::sent_list::SentList;
@@ -220,7 +220,7 @@ impl<'a> Sent<'a> {
     }
 
     // Adds the packet of a record.
-    #[tactic(auto, unfolding(crate::specs::Reading::after_packet))]
+    #[tactic(auto, unfolding(crate::specs::Capture::Reading::after_packet))]
     fn add_packet(&mut self, number: u32, found: Datagram<'a>) -> Result<(), Fault>
         requires { IsRecorded self.old.params found.channel }
         ensures { MatchResult result
@@ -254,7 +254,7 @@ impl<'a> Sent<'a> {
     }
 
     // Adds what a record holds, unless it stands before the window.
-    #[tactic(auto, unfolding(crate::specs::Reading::after_record))]
+    #[tactic(auto, unfolding(crate::specs::Capture::Reading::after_record))]
     pub(crate) fn add_record(&mut self, record: &Record<'a>) -> Result<(), Fault>
         ensures { MatchResult result
             (λ _. after_record self.old («record».now.number, «record».now.bytes.now) ≡ Ok self.new)

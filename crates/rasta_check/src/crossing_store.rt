@@ -3,15 +3,15 @@ ghost use Rattle.std.specs.Prelude.{◌≡◌, ◌∷◌, ◌++◌, [], ◌<◌,
 ghost use Rattle.rasta_pcap.specs.Fault.{no_memory};
 ghost use Rattle.rasta_udp.specs.Frame.{Packet, packet_in, packet_of};
 ghost use Rattle.rasta_pdu.specs.Pdu.{RedundancyPdu, decode_of, redundancy_bytes};
-ghost use Rattle.rasta_check.specs.Crossing.{FirstCopy, Spells, is_next_number, packet_fault};
-ghost use Rattle.rasta_check.specs.Datagrams.{kept_by};
-ghost use Rattle.rasta_check.specs.Lists.{copy_of, position_of_number, position_of_place};
-ghost use Rattle.rasta_check.specs.Packets.{number_in_bytes};
-ghost use Rattle.rasta_check.specs.Reading.{Crossing, IsCrossing, sent_by, with_packet, nothing_crossed, after_packet, after_frame, after_record};
-ghost use Rattle.rasta_check.specs.Stored.{IsJudged, IsStore, crossing_by, first_copy_bytes};
-ghost use Rattle.rasta_check.specs.Theorem.{most_packets};
-ghost use Rattle.rasta_check.specs.Crossing.{IsRecorded};
-ghost use Rattle.rasta_check.specs.World.{most_sent};
+ghost use Rattle.rasta_check.specs.Capture.Crossing.{FirstCopy, Spells, is_next_number, packet_fault};
+ghost use Rattle.rasta_check.specs.Internals.Datagrams.{kept_by};
+ghost use Rattle.rasta_check.specs.Capture.Lists.{copy_of, position_of_number, position_of_place};
+ghost use Rattle.rasta_check.specs.Internals.Packets.{number_in_bytes};
+ghost use Rattle.rasta_check.specs.Capture.Reading.{Crossing, IsCrossing, sent_by, with_packet, nothing_crossed, after_packet, after_frame, after_record};
+ghost use Rattle.rasta_check.specs.Internals.Stored.{IsJudged, IsStore, crossing_by, first_copy_bytes};
+ghost use Rattle.rasta_check.specs.Model.Theorem.{most_packets};
+ghost use Rattle.rasta_check.specs.Capture.Crossing.{IsRecorded};
+ghost use Rattle.rasta_check.specs.Model.World.{most_sent};
 
 use crate::crossing::{MOST_PACKETS, MOST_SENT, number_in};
 use crate::datagrams::Datagrams;
@@ -267,7 +267,7 @@ impl Store {
     }
 
     // Adds the packet of a record.
-    #[tactic(auto, unfolding(crate::specs::Reading::after_packet))]
+    #[tactic(auto, unfolding(crate::specs::Capture::Reading::after_packet))]
     fn add_packet(&mut self, number: u32, found: &Datagram<'_>) -> Result<(), Fault>
         requires { IsRecorded self.old.params found.now.channel }
         ensures { MatchResult result
@@ -301,7 +301,7 @@ impl Store {
     }
 
     // Adds what a record holds, unless it stands before the window.
-    #[tactic(auto, unfolding(crate::specs::Reading::after_record))]
+    #[tactic(auto, unfolding(crate::specs::Capture::Reading::after_record))]
     pub(crate) fn add_record(&mut self, record: &Record<'_>) -> Result<(), Fault>
         ensures { MatchResult result
             (λ _. after_record self.old («record».now.number, «record».now.bytes.now) ≡ Ok self.new)

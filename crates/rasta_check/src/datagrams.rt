@@ -1,6 +1,6 @@
 //! Datagrams one after the other in one vector.
 ghost use Rattle.std.specs.Prelude.{◌≡◌, ◌+◌, ◌<◌, ◌≤◌, ◌^◌, [], ◌∷◌, ◌++◌, length, map, slice_get, option_map, OnOk, OnErr};
-ghost use Rattle.rasta_check.specs.Datagrams.{AreWithin, KeptDatagrams, keeping, kept_by, kept_in, kept_of, nothing_kept};
+ghost use Rattle.rasta_check.specs.Internals.Datagrams.{AreWithin, KeptDatagrams, keeping, kept_by, kept_in, kept_of, nothing_kept};
 
 use rasta_pcap::Side;
 use std::alloc::{AllocError, Global};

@@ -1,7 +1,7 @@
 //! A sent list in one vector.
 ghost use Rattle.std.specs.Prelude.{◌≡◌, ◌+◌, ◌<◌, ◌^◌, [], ◌∷◌, ◌++◌, List, length, map, IfOk, OnOk, OnErr};
-ghost use Rattle.rasta_check.specs.Crossing.{FirstCopy};
-ghost use Rattle.rasta_check.specs.Lists.{AreMarks, IsOrdered, copy_of};
+ghost use Rattle.rasta_check.specs.Capture.Crossing.{FirstCopy};
+ghost use Rattle.rasta_check.specs.Capture.Lists.{AreMarks, IsOrdered, copy_of};
 
 use crate::place_table::PlaceTable;
 use crate::sent_list::SentList;

@@ -5,9 +5,9 @@ ghost use Rattle.rasta_pdu.specs.Pdu.{value_of};
 ghost use Rattle.rasta_end.specs.TakeRule.{take_fault, after_take};
 ghost use Rattle.rasta_end.specs.MakeRule.{make_fault, after_make};
 ghost use Rattle.rasta_end.specs.Starts.{start_of};
-ghost use Rattle.rasta_check.specs.Following.{at_start};
-ghost use Rattle.rasta_check.specs.Checking;
-ghost use Rattle.rasta_check.specs.Checking.{unless, next_cursor, take_entry, make_entry, taken_there, made_there, moved_to, IsRefused};
+ghost use Rattle.rasta_check.specs.Script.Following.{at_start};
+ghost use Rattle.rasta_check.specs.Internals.Checking;
+ghost use Rattle.rasta_check.specs.Internals.Checking.{unless, next_cursor, take_entry, make_entry, taken_there, made_there, moved_to, IsRefused};
 
 use crate::sent_list::SentList;
 use rasta_cert::Entry;
@@ -31,7 +31,7 @@ pub(crate) struct Follower<'a> {
 
 impl<'a> Model for Follower<'a> {
     ghost use Rattle.std.specs.Prelude.{◌≤◌, ◌*◌, ◌^◌};
-    ghost use Rattle.rasta_check.specs.Checking.{Followed};
+    ghost use Rattle.rasta_check.specs.Internals.Checking.{Followed};
 
     ghost Value = { Followed };
 
@@ -174,7 +174,7 @@ impl<'a> Follower<'a> {
     }
 
     // Follows one entry.
-    #[tactic(auto, unfolding(crate::specs::Checking::next_cursor))]
+    #[tactic(auto, unfolding(crate::specs::Internals::Checking::next_cursor))]
     fn next<S: SentList<'a>>(
         &mut self,
         packets: u32,

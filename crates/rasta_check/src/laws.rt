@@ -6,12 +6,12 @@ ghost use Rattle.rasta_pcap.specs.Fault.{redundancy_length, number_gap};
 ghost use Rattle.rasta_pcap.specs.Capture.{IsCapture};
 ghost use Rattle.rasta_pdu.specs.Params.{Parameters, AreParameters};
 ghost use Rattle.rasta_pdu.specs.Messages.{AreBytes};
-ghost use Rattle.rasta_check.specs.Crossing.{FirstCopy, crossing_list};
-ghost use Rattle.rasta_check.specs.Reading.{AreSentLists, Crossing, crossing_of};
-ghost use Rattle.rasta_check.specs.Verdicts.{Impossible, packets_through, IsFaultlessCapture, IsRefusedCapture};
-ghost use Rattle.rasta_check.specs.Laws;
-ghost use Rattle.rasta_check.specs.Theorem.{OfConnection, SentLists, Definite, Necessity};
-ghost use Rattle.rasta_check.specs.ScriptLaws.{Simulation, Sharpness, Complete, Stuck, Agree, OneAnswer, OneVerdict};
+ghost use Rattle.rasta_check.specs.Capture.Crossing.{FirstCopy, crossing_list};
+ghost use Rattle.rasta_check.specs.Capture.Reading.{AreSentLists, Crossing, crossing_of};
+ghost use Rattle.rasta_check.specs.Capture.Faults.{Impossible, packets_through, IsFaultlessCapture, IsRefusedCapture};
+ghost use Rattle.rasta_check.specs.Model.Laws;
+ghost use Rattle.rasta_check.specs.Model.Theorem.{OfConnection, SentLists, Definite, Necessity};
+ghost use Rattle.rasta_check.specs.Script.Laws.{Simulation, Sharpness, Complete, Stuck, Agree, OneAnswer, OneVerdict};
 
 /// The SN of a PDU names one position of its end.
 pub fn sn_once()

@@ -1,6 +1,6 @@
 //! A table of the places of a list.
 ghost use Rattle.std.specs.Prelude.{◌≡◌, ℕ, ◌+◌, ◌<◌, ◌^◌, length, [], Some, OnOk, nat_eq, if◌then◌else◌};
-ghost use Rattle.rasta_check.specs.Lists.{marked};
+ghost use Rattle.rasta_check.specs.Capture.Lists.{marked};
 
 use std::alloc::{AllocError, Global};
 

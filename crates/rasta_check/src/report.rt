@@ -1,6 +1,6 @@
 //! The report on a capture that two scripts explain.
 ghost use Rattle.std.specs.Prelude.{◌≡◌, map};
-ghost use Rattle.rasta_check.specs.Listed.{listed_of};
+ghost use Rattle.rasta_check.specs.Verdict.Listed.{listed_of};
 
 use std::marker::Model;
 
@@ -25,7 +25,7 @@ pub struct TakenList<'a> {
 
 impl<'a> Model for TakenList<'a> {
     ghost use Rattle.std.specs.Prelude.{List, map};
-    ghost use Rattle.rasta_check.specs.Listed.{ListedMessage, listed_of};
+    ghost use Rattle.rasta_check.specs.Verdict.Listed.{ListedMessage, listed_of};
 
     ghost Value = { List ListedMessage };
 

@@ -5,7 +5,7 @@ ghost use Rattle.rasta_pcap.specs.Fault.{redundancy_length, number_gap};
 ghost use Rattle.rasta_pcap.specs.Extent.{HasRead, ReadsUpToRecord, ReadsWithinRecord};
 ghost use Rattle.rasta_pcap.specs.Stream.{ReadsSo, order_in, progress_of};
 ghost use Rattle.rasta_pcap.specs.declared.stream.Progress.TheVariants.{Reading};
-ghost use Rattle.rasta_check.specs.Storing.{AddsNext, IsFailure, IsRefusedSo, IsStored, crossing_left};
+ghost use Rattle.rasta_check.specs.Internals.Storing.{AddsNext, IsFailure, IsRefusedSo, IsStored, crossing_left};
 
 use crate::crossing_store::Store;
 use rasta_pcap::stream::RecordReader;

@@ -2,11 +2,11 @@
 ghost use Rattle.std.specs.Prelude.{◌≡◌, ◌++◌, ◌∷◌, [], List, length, map, slice_get, IfOk, OnOk};
 ghost use Rattle.rasta_pdu.specs.Pdu.{value_of, messages_in};
 ghost use Rattle.rasta_end.specs.MakeRule;
-ghost use Rattle.rasta_check.specs.Crossing.{FirstCopy};
-ghost use Rattle.rasta_check.specs.Lists.{copy_of};
-ghost use Rattle.rasta_check.specs.Taken.{messages_of_unit, messages_taken};
-ghost use Rattle.rasta_check.specs.Listed.{listed_of, numbered_from};
-ghost use Rattle.rasta_check.specs.Listing.{listed_with, proofs_from, proved_units, shown_by, with_proofs};
+ghost use Rattle.rasta_check.specs.Capture.Crossing.{FirstCopy};
+ghost use Rattle.rasta_check.specs.Capture.Lists.{copy_of};
+ghost use Rattle.rasta_check.specs.Verdict.Taken.{messages_of_unit, messages_taken};
+ghost use Rattle.rasta_check.specs.Verdict.Listed.{listed_of, numbered_from};
+ghost use Rattle.rasta_check.specs.Internals.Listing.{listed_with, proofs_from, proved_units, shown_by, with_proofs};
 
 use crate::report::{Taken, TakenList};
 use crate::sent_list::SentList;

@@ -23,14 +23,14 @@ use Rattle.rasta_plain.specs.declared.world.Move.{Move}
 use Rattle.rasta_plain.specs.declared.world.Move.TheVariants.{Make, Repeat, Arrive, Take, Wait}
 use Rattle.rasta_plain.specs.declared.world.PlainStation.TheInside.{Inside}
 use Rattle.rasta_end.specs.Judged.{JudgedEnd}
-use Rattle.rasta_check.specs.Crossing.{Spells}
-use Rattle.rasta_check.specs.Crossing.{IsRecorded}
-use Rattle.rasta_check.specs.World.{Station, World, Move as Label, making, repeating, arriving, taking, waiting, Moves, makes, repeats, arrives, takes, waits, Step, client_moves, server_moves}
+use Rattle.rasta_check.specs.Capture.Crossing.{Spells}
+use Rattle.rasta_check.specs.Capture.Crossing.{IsRecorded}
+use Rattle.rasta_check.specs.Model.World.{Station, World, Move as Label, making, repeating, arriving, taking, waiting, Moves, makes, repeats, arrives, takes, waits, Step, client_moves, server_moves}
 use Rattle.rasta_plain.specs.Moving.{IsMove, Answers, JudgedStation, judged_station, IsPlainStation}
-use Rattle.rasta_check.proofs.Accepting.{accepted_after}
-use Rattle.rasta_check.proofs.TakeRows.{take_leaves}
-use Rattle.rasta_check.proofs.Steps.{made_more}
-use Rattle.rasta_check.proofs.Answering.{if_ok}
+use Rattle.rasta_check.proofs.Model.Acceptance.{accepted_after}
+use Rattle.rasta_check.proofs.Model.TakeRows.{take_leaves}
+use Rattle.rasta_check.proofs.Model.Steps.{made_more}
+use Rattle.rasta_check.proofs.Verdict.CallAnswers.{if_ok}
 
 -- ---- waits
 

@@ -20,14 +20,14 @@ use Rattle.rasta_end.specs.State.{EndState, wrapped}
 use Rattle.rasta_end.specs.MakeRule.{make_fault, after_make}
 use Rattle.rasta_end.specs.TakeRule.{after_take}
 use Rattle.rasta_end.specs.Starts.{start_of}
-use Rattle.rasta_check.specs.Crossing.{FirstCopy, Spells, Sent, CrossRecorded, packet_fault}
-use Rattle.rasta_check.specs.World.{World, Reaches}
-use Rattle.rasta_check.specs.Taken.{TakenUnit, pdus_made, all_made, surely_taken}
-use Rattle.rasta_check.specs.Scripts.{Fits, FirstFault, at_entry, after_last}
-use Rattle.rasta_check.specs.Following.{Cursor, Advances, takes_next, makes_next, Leads, at_start}
-use Rattle.rasta_check.specs.Theorem.{OfConnection, SentLists, Definite, Necessity, Appends, HasHandedUp, units_handed, units_listed}
-use Rattle.rasta_check.specs.ScriptLaws.{Simulation, Sharpness, Complete, Stuck}
-use Rattle.rasta_check.proofs.Forms.{of_record}
+use Rattle.rasta_check.specs.Capture.Crossing.{FirstCopy, Spells, Sent, CrossRecorded, packet_fault}
+use Rattle.rasta_check.specs.Model.World.{World, Reaches}
+use Rattle.rasta_check.specs.Verdict.Taken.{TakenUnit, pdus_made, all_made, surely_taken}
+use Rattle.rasta_check.specs.Script.Fitting.{Fits, FirstFault, at_entry, after_last}
+use Rattle.rasta_check.specs.Script.Following.{Cursor, Advances, takes_next, makes_next, Leads, at_start}
+use Rattle.rasta_check.specs.Model.Theorem.{OfConnection, SentLists, Definite, Necessity, Appends, HasHandedUp, units_handed, units_listed}
+use Rattle.rasta_check.specs.Script.Laws.{Simulation, Sharpness, Complete, Stuck}
+use Rattle.rasta_check.proofs.Capture.ListForms.{of_record}
 
 -- ---- the example
 

@@ -5,7 +5,7 @@ use Rattle.rasta_pdu.specs.Params.{Parameters}
 use Rattle.rasta_plain.specs.declared.world.Move.{Move}
 use Rattle.rasta_plain.specs.declared.world.Move.TheVariants.{Make, Repeat, Arrive, Take, Wait}
 use Rattle.rasta_plain.specs.declared.world.PlainStation.TheInside.{Inside}
-use Rattle.rasta_check.specs.World.{Station, World, Move as Label, Moves, makes, repeats, arrives, takes, waits}
+use Rattle.rasta_check.specs.Model.World.{Station, World, Move as Label, Moves, makes, repeats, arrives, takes, waits}
 
 -- what happened to the station is this move
 abbrev pub IsMove : (p : Parameters) (peer : Station) (crossed : List Packet) (a b : Station) (after : List Packet) {label : Label} → Moves p peer crossed a label b after → Move → Type 0

@@ -11,13 +11,13 @@ use Rattle.rasta_end.specs.declared.why.Why.{Why}
 use Rattle.rasta_end.specs.State.{EndState}
 use Rattle.rasta_end.specs.Starts.{start_of}
 use Rattle.rasta_cert.specs.declared.entry.Entry.{Entry}
-use Rattle.rasta_check.specs.Crossing.{FirstCopy, CrossRecorded}
-use Rattle.rasta_check.specs.Lists.{position_of_place}
-use Rattle.rasta_check.specs.Following.{Cursor, Follows, at_start}
-use Rattle.rasta_check.specs.World.{Station, World, first_station}
-use Rattle.rasta_check.proofs.Copies.{IsSent}
-use Rattle.rasta_check.proofs.Scripted.{Tracks, Drained, apart_sides, first_number_of, first_tracks, nothing_left, other_side, slice_get_some}
-use Rattle.rasta_check.proofs.Steps.{base}
+use Rattle.rasta_check.specs.Capture.Crossing.{FirstCopy, CrossRecorded}
+use Rattle.rasta_check.specs.Capture.Lists.{position_of_place}
+use Rattle.rasta_check.specs.Script.Following.{Cursor, Follows, at_start}
+use Rattle.rasta_check.specs.Model.World.{Station, World, first_station}
+use Rattle.rasta_check.proofs.Capture.FaultlessLists.{IsSent}
+use Rattle.rasta_check.proofs.Script.Simulation.{Tracks, Drained, apart_sides, first_number_of, first_tracks, nothing_left, other_side, slice_get_some}
+use Rattle.rasta_check.proofs.Model.Steps.{base}
 use Rattle.rasta_runs.specs.Runs.{Happened, Runs, starts}
 use Rattle.rasta_runs.specs.Lines.{Line, told, number_of}
 use Rattle.rasta_runs.specs.Levels.{takes_at, makes_at, each_take, takes_lines, side_lines, crossed_lines, by_side_lines, packet_lines, level_lines}

@@ -5,7 +5,7 @@ use Rattle.rasta_pcap.specs.declared.fault.Side.{Side}
 use Rattle.rasta_pcap.specs.declared.fault.Side.TheVariants.{Client, Server}
 use Rattle.rasta_udp.specs.Frame.{Packet}
 use Rattle.rasta_pdu.specs.Params.{Parameters}
-use Rattle.rasta_check.specs.World.{Station, World, Move, Moves, makes, repeats, arrives, takes, waits}
+use Rattle.rasta_check.specs.Model.World.{Station, World, Move, Moves, makes, repeats, arrives, takes, waits}
 use Rattle.rasta_runs.specs.Runs.{Happened, Runs, starts, client_does, server_does}
 use Rattle.rasta_runs.specs.Lines.{Line, copy_lines, lines_in, lines_of_move, told}
 use Rattle.rasta_runs.proofs.Moving.{told_push}

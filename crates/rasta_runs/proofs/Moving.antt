@@ -5,7 +5,7 @@ use Rattle.rasta_pcap.specs.declared.fault.Side.{Side}
 use Rattle.rasta_pcap.specs.declared.fault.Side.TheVariants.{Client, Server}
 use Rattle.rasta_udp.specs.Frame.{Packet}
 use Rattle.rasta_pdu.specs.Params.{Parameters}
-use Rattle.rasta_check.specs.World.{Station, Move, Moves}
+use Rattle.rasta_check.specs.Model.World.{Station, Move, Moves}
 use Rattle.rasta_runs.specs.Runs.{Happened, Runs, client_does, server_does}
 use Rattle.rasta_runs.specs.Lines.{Line, lines_of_move, lines_in, told}
 

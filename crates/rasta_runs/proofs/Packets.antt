@@ -12,16 +12,16 @@ use Rattle.rasta_end.specs.declared.why.Why.{Why}
 use Rattle.rasta_end.specs.State.{Made, wrapped}
 use Rattle.rasta_cert.specs.declared.entry.Entry.{Entry}
 use Rattle.rasta_cert.specs.declared.entry.Entry.TheVariants.{Take, Make}
-use Rattle.rasta_check.specs.Crossing.{Spells, FirstCopy, CrossRecorded}
-use Rattle.rasta_check.specs.Lists.{position_of_place}
-use Rattle.rasta_check.specs.Packets.{number_in_bytes}
-use Rattle.rasta_check.specs.Following.{Cursor, Advances, takes_next, makes_next, Leads}
-use Rattle.rasta_check.specs.World.{Station, making, repeating, waiting, makes, repeats, waits}
-use Rattle.rasta_check.proofs.Copies.{IsSent}
-use Rattle.rasta_check.proofs.Crossings.{number_spelled}
-use Rattle.rasta_check.proofs.Lists.{get_front, get_push}
-use Rattle.rasta_check.proofs.Scripted.{Tracks, Drained, Later, later_by, next_number, next_packet, next_place, places_once, slice_get_some, untouched}
-use Rattle.rasta_check.proofs.Steps.{base, made_more}
+use Rattle.rasta_check.specs.Capture.Crossing.{Spells, FirstCopy, CrossRecorded}
+use Rattle.rasta_check.specs.Capture.Lists.{position_of_place}
+use Rattle.rasta_check.specs.Internals.Packets.{number_in_bytes}
+use Rattle.rasta_check.specs.Script.Following.{Cursor, Advances, takes_next, makes_next, Leads}
+use Rattle.rasta_check.specs.Model.World.{Station, making, repeating, waiting, makes, repeats, waits}
+use Rattle.rasta_check.proofs.Capture.FaultlessLists.{IsSent}
+use Rattle.rasta_check.proofs.Capture.Crossings.{number_spelled}
+use Rattle.rasta_check.proofs.Model.ListGrowth.{get_front, get_push}
+use Rattle.rasta_check.proofs.Script.Simulation.{Tracks, Drained, Later, later_by, next_number, next_packet, next_place, places_once, slice_get_some, untouched}
+use Rattle.rasta_check.proofs.Model.Steps.{base, made_more}
 use Rattle.rasta_runs.specs.Lines.{Line, lines_of_move, copy_lines, number_of}
 use Rattle.rasta_runs.specs.Levels.{takes_at, makes_at, make_line, waited_line, each_make, side_lines, crossed_lines}
 use Rattle.rasta_runs.proofs.Entries.{takes_past, makes_here, makes_other, below}

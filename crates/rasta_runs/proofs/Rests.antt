@@ -7,12 +7,12 @@ use Rattle.rasta_udp.specs.Frame.{Packet}
 use Rattle.rasta_pdu.specs.Params.{Parameters}
 use Rattle.rasta_cert.specs.declared.entry.Entry.{Entry}
 use Rattle.rasta_cert.specs.declared.entry.Entry.TheVariants.{Take, Make}
-use Rattle.rasta_check.specs.Crossing.{FirstCopy}
-use Rattle.rasta_check.specs.Lists.{places_of, position_of_place}
-use Rattle.rasta_check.specs.Following.{Cursor, Advances, takes_next, makes_next, Leads}
-use Rattle.rasta_check.proofs.Copies.{IsSent}
-use Rattle.rasta_check.proofs.Positions.{position_at, position_none}
-use Rattle.rasta_check.proofs.Scripted.{slice_get_some, places_once}
+use Rattle.rasta_check.specs.Capture.Crossing.{FirstCopy}
+use Rattle.rasta_check.specs.Capture.Lists.{places_of, position_of_place}
+use Rattle.rasta_check.specs.Script.Following.{Cursor, Advances, takes_next, makes_next, Leads}
+use Rattle.rasta_check.proofs.Capture.FaultlessLists.{IsSent}
+use Rattle.rasta_check.proofs.Capture.Positions.{position_at, position_none}
+use Rattle.rasta_check.proofs.Script.Simulation.{slice_get_some, places_once}
 use Rattle.rasta_runs.specs.Levels.{takes_at, makes_at}
 use Rattle.rasta_runs.proofs.Entries.{above, makes_none, makes_other, makes_past, takes_none, takes_other, takes_past}
 

@@ -2,7 +2,7 @@
 use Rattle.std.proofs.Common.{◌≡◌, List, [], ◌∷◌, ◌++◌, refl, ap, sym, ◌∙◌, subst}
 use Rattle.rasta_pcap.specs.declared.fault.Side.TheVariants.{Client, Server}
 use Rattle.rasta_pdu.specs.Params.{Parameters}
-use Rattle.rasta_check.specs.World.{World, Step, client_moves, server_moves, Reaches, begins, goes_on}
+use Rattle.rasta_check.specs.Model.World.{World, Step, client_moves, server_moves, Reaches, begins, goes_on}
 use Rattle.rasta_runs.specs.Runs.{Happened, Runs, starts, client_does, server_does, worlds_of}
 
 worlds_push : (hs : List Happened) (h : Happened) → worlds_of (hs ++ h ∷ []) ≡ worlds_of hs ++ h.world ∷ []

@@ -5,9 +5,9 @@ use Rattle.rasta_pcap.specs.declared.fault.Side.TheVariants.{Client, Server}
 use Rattle.rasta_udp.specs.Frame.{Packet}
 use Rattle.rasta_pdu.specs.Params.{Parameters, AreParameters}
 use Rattle.rasta_cert.specs.declared.entry.Entry.{Entry}
-use Rattle.rasta_check.specs.Crossing.{FirstCopy}
-use Rattle.rasta_check.proofs.Fitting.{fits_follows}
-use Rattle.rasta_check.proofs.Forms.{to_record}
+use Rattle.rasta_check.specs.Capture.Crossing.{FirstCopy}
+use Rattle.rasta_check.proofs.Script.Fits.{fits_follows}
+use Rattle.rasta_check.proofs.Capture.ListForms.{to_record}
 use Rattle.rasta_runs.specs.Levels.{level_lines, levels_lines, run_lines}
 use Rattle.rasta_runs.specs.Theorem.{Simulation}
 use Rattle.rasta_runs.proofs.AllLevels.{lines_before, simulated}

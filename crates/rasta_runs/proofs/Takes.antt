@@ -11,13 +11,13 @@ use Rattle.rasta_end.specs.State.{Made, EndState, wrapped}
 use Rattle.rasta_end.specs.TakeRule.{Takes}
 use Rattle.rasta_cert.specs.declared.entry.Entry.{Entry}
 use Rattle.rasta_cert.specs.declared.entry.Entry.TheVariants.{Take, Make}
-use Rattle.rasta_check.specs.Crossing.{FirstCopy}
-use Rattle.rasta_check.specs.Following.{Cursor, Advances, takes_next, makes_next, Leads}
-use Rattle.rasta_check.specs.World.{Station, arriving, taking, arrives, takes}
-use Rattle.rasta_check.proofs.Copies.{IsSent}
-use Rattle.rasta_check.proofs.Scripted.{Tracks, Drained, lt_of, moved_made, next_number, slice_get_some}
-use Rattle.rasta_check.proofs.Steps.{base}
-use Rattle.rasta_check.proofs.TakeRows.{take_leaves}
+use Rattle.rasta_check.specs.Capture.Crossing.{FirstCopy}
+use Rattle.rasta_check.specs.Script.Following.{Cursor, Advances, takes_next, makes_next, Leads}
+use Rattle.rasta_check.specs.Model.World.{Station, arriving, taking, arrives, takes}
+use Rattle.rasta_check.proofs.Capture.FaultlessLists.{IsSent}
+use Rattle.rasta_check.proofs.Script.Simulation.{Tracks, Drained, lt_of, moved_made, next_number, slice_get_some}
+use Rattle.rasta_check.proofs.Model.Steps.{base}
+use Rattle.rasta_check.proofs.Model.TakeRows.{take_leaves}
 use Rattle.rasta_runs.specs.Lines.{Line}
 use Rattle.rasta_runs.specs.Levels.{takes_at, makes_at, take_line, brought_line, each_take, takes_lines}
 use Rattle.rasta_runs.proofs.Entries.{takes_here, takes_other, takes_past, makes_past, below, takes_none}

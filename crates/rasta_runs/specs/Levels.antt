@@ -6,8 +6,8 @@ use Rattle.rasta_udp.specs.Frame.{Packet}
 use Rattle.rasta_end.specs.declared.why.Why.{Why}
 use Rattle.rasta_cert.specs.declared.entry.Entry.{Entry}
 use Rattle.rasta_cert.specs.declared.entry.Entry.TheVariants.{Take, Make}
-use Rattle.rasta_check.specs.Crossing.{FirstCopy}
-use Rattle.rasta_check.specs.Lists.{position_of_place}
+use Rattle.rasta_check.specs.Capture.Crossing.{FirstCopy}
+use Rattle.rasta_check.specs.Capture.Lists.{position_of_place}
 use Rattle.rasta_runs.specs.Lines.{Line, took, made, copied, brought, waited, number_of}
 
 -- ---- what a script says of a level

@@ -5,8 +5,8 @@ use Rattle.rasta_pcap.specs.declared.fault.Side.TheVariants.{Client, Server}
 use Rattle.rasta_udp.specs.Frame.{Packet}
 use Rattle.rasta_end.specs.declared.why.Why.{Why}
 use Rattle.rasta_end.specs.State.{wrapped}
-use Rattle.rasta_check.specs.Packets.{number_in_bytes}
-use Rattle.rasta_check.specs.World.{Station, World, Move, making, repeating, arriving, taking, waiting}
+use Rattle.rasta_check.specs.Internals.Packets.{number_in_bytes}
+use Rattle.rasta_check.specs.Model.World.{Station, World, Move, making, repeating, arriving, taking, waiting}
 use Rattle.rasta_runs.specs.Runs.{Happened}
 
 -- what a line tells, by redundancy numbers

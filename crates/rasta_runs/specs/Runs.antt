@@ -4,7 +4,7 @@ use Rattle.rasta_pcap.specs.declared.fault.Side.{Side}
 use Rattle.rasta_pcap.specs.declared.fault.Side.TheVariants.{Client, Server}
 use Rattle.rasta_udp.specs.Frame.{Packet}
 use Rattle.rasta_pdu.specs.Params.{Parameters}
-use Rattle.rasta_check.specs.World.{Station, World, Move, Moves, first_world}
+use Rattle.rasta_check.specs.Model.World.{Station, World, Move, Moves, first_world}
 
 -- what happened: in this world, this side did this
 pub record Happened : Type 0 where

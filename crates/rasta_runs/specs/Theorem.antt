@@ -5,9 +5,9 @@ use Rattle.rasta_udp.specs.Frame.{Packet}
 use Rattle.rasta_pdu.specs.Params.{Parameters}
 use Rattle.rasta_cert.specs.declared.entry.Entry.{Entry}
 use Rattle.rasta_end.specs.State.{EndState}
-use Rattle.rasta_check.specs.Crossing.{CrossRecorded, FirstCopy, Sent}
-use Rattle.rasta_check.specs.World.{World, Reaches}
-use Rattle.rasta_check.specs.Scripts.{Fits}
+use Rattle.rasta_check.specs.Capture.Crossing.{CrossRecorded, FirstCopy, Sent}
+use Rattle.rasta_check.specs.Model.World.{World, Reaches}
+use Rattle.rasta_check.specs.Script.Fitting.{Fits}
 use Rattle.rasta_runs.specs.Runs.{Happened, Runs, worlds_of}
 use Rattle.rasta_runs.specs.Lines.{told}
 use Rattle.rasta_runs.specs.Levels.{run_lines}

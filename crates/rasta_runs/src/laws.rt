@@ -1,6 +1,6 @@
 //! Laws on runs and their lines: public functions without a body, whose contracts are the laws.
 ghost use Rattle.rasta_pdu.specs.Params.{Parameters};
-ghost use Rattle.rasta_check.specs.Theorem.{OfConnection};
+ghost use Rattle.rasta_check.specs.Model.Theorem.{OfConnection};
 ghost use Rattle.rasta_runs.specs.Theorem.{OneLineEach, SameRuns, Simulation};
 
 /// Runs with what happened in them are the runs of two ends.

@@ -5,13 +5,13 @@ use Rattle.rasta_pcap.specs.Fault.{no_memory}
 use Rattle.rasta_pdu.specs.Params.{Parameters}
 use Rattle.rasta_cert.specs.Certificate.{IsCertificate, Scripts, certificate_text}
 use Rattle.rasta_check.specs.declared.report.Report.{Report}
-use Rattle.rasta_check.specs.Headline.{Headline}
-use Rattle.rasta_check.specs.Reading.{Crossing, IsCrossing, crossing_of}
-use Rattle.rasta_check.specs.Report as report
-use Rattle.rasta_check.specs.Report.{BothFit, IsScriptVerdict}
+use Rattle.rasta_check.specs.Verdict.Headline.{Headline}
+use Rattle.rasta_check.specs.Capture.Reading.{Crossing, IsCrossing, crossing_of}
+use Rattle.rasta_check.specs.Verdict.Report as report
+use Rattle.rasta_check.specs.Verdict.Report.{BothFit, IsScriptVerdict}
 use Rattle.rasta_verdict.specs.declared.verdict.Verdict.{Verdict}
 use Rattle.rasta_verdict.specs.declared.verdict.Verdict.TheVariants as verdicts
-use Rattle.rasta_check.proofs.Filed.{same_params}
+use Rattle.rasta_check.proofs.Verdict.FileVerdicts.{same_params}
 use Rattle.rasta_verdict.specs.Claims.{ClaimsHeadline}
 use Rattle.rasta_verdict.specs.Judged.{IsChecked, IsJudged, IsRefusedBy, status_of_verdict, text_of_verdict}
 use Rattle.std.specs.List.{flat_map}

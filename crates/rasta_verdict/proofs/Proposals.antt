@@ -9,8 +9,8 @@ use Rattle.rasta_pcap.specs.Devices.{AppendsBeginning}
 use Rattle.rasta_pcap.specs.Stream.{ReadsSo}
 use Rattle.rasta_pdu.specs.Params.{Parameters}
 use Rattle.rasta_cert.specs.Certificate.{IsCertificate, Scripts}
-use Rattle.rasta_check.specs.Reading.{Crossing, IsCrossing, crossing_of}
-use Rattle.rasta_check.specs.Report as report
+use Rattle.rasta_check.specs.Capture.Reading.{Crossing, IsCrossing, crossing_of}
+use Rattle.rasta_check.specs.Verdict.Report as report
 use Rattle.rasta_verdict.specs.declared.verdict.Verdict.{Verdict}
 use Rattle.rasta_verdict.specs.declared.verdict.Verdict.TheVariants as verdicts
 use Rattle.rasta_verdict.specs.Judged.{IsJudged, status_of_verdict, text_of_verdict, told_verdict}
@@ -22,9 +22,9 @@ use Rattle.rasta_verdict.specs.Decided.{Decides}
 use Rattle.rasta_verdict.specs.Decided as decided
 use Rattle.rasta_build.specs.Choices.{IsProposalFault, IsUnexplained}
 use Rattle.rasta_build.specs.Completeness.{IsComplete}
-use Rattle.rasta_check.specs.Crossing.{FirstCopy}
-use Rattle.rasta_check.specs.Report.{BothFit}
-use Rattle.rasta_check.proofs.Filed.{same_params}
+use Rattle.rasta_check.specs.Capture.Crossing.{FirstCopy}
+use Rattle.rasta_check.specs.Verdict.Report.{BothFit}
+use Rattle.rasta_check.proofs.Verdict.FileVerdicts.{same_params}
 use Rattle.rasta_verdict.proofs.Verdicts.{IsRefusal, Texts, if_ok_map}
 
 -- ---- verdicts

@@ -13,11 +13,11 @@ use Rattle.rasta_pcap.proofs.Captures.{IsRefused-reading_of, opening-by_reading_
 use Rattle.rasta_udp.specs.declared.channel.Channel.{Channel}
 use Rattle.rasta_udp.specs.Frame.{Fields, Found, Packet, datagram_of, direction_of, fields_of, found_by, found_in, has_known_addresses, is_tagged, map_found, moved_on, packet_at, packet_in, untagged_of, without_tag}
 use Rattle.rasta_pdu.specs.Params.{Parameters}
-use Rattle.rasta_check.specs.Crossing.{packet_fault}
-use Rattle.rasta_check.specs.Reading.{Crossing, after_frame, after_judged, after_packet, after_record, after_records, crossing_of, is_within, nothing_crossed, sent_by, with_packet}
-use Rattle.rasta_check.specs.Storing.{IsFailure, IsRefusedSo}
-use Rattle.rasta_check.proofs.FaultNumbers.{file_names_side}
-use Rattle.rasta_check.proofs.Verdicts.{then_refused}
+use Rattle.rasta_check.specs.Capture.Crossing.{packet_fault}
+use Rattle.rasta_check.specs.Capture.Reading.{Crossing, after_frame, after_judged, after_packet, after_record, after_records, crossing_of, is_within, nothing_crossed, sent_by, with_packet}
+use Rattle.rasta_check.specs.Internals.Storing.{IsFailure, IsRefusedSo}
+use Rattle.rasta_check.proofs.Capture.FaultNumbers.{file_names_side}
+use Rattle.rasta_check.proofs.Capture.DefiniteFaults.{then_refused}
 use Rattle.rasta_show.specs.Runs.{IsRunFault}
 use Rattle.rasta_show.proofs.Refusals.{next-number, opening-number}
 

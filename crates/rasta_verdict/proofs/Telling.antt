@@ -15,10 +15,10 @@ use Rattle.rasta_end.specs.Starts.{start_of}
 use Rattle.rasta_cert.specs.declared.entry.Entry.{Entry}
 use Rattle.rasta_cert.specs.declared.entry.Entry.TheVariants.{Take, Make}
 use Rattle.rasta_cert.specs.Certificate.{Scripts}
-use Rattle.rasta_check.specs.Crossing.{FirstCopy}
-use Rattle.rasta_check.specs.Lists.{places_of, position_of_place}
-use Rattle.rasta_check.specs.Reading.{Crossing}
-use Rattle.rasta_check.specs.Scripts.{AreInOrder, Fits, places_made}
+use Rattle.rasta_check.specs.Capture.Crossing.{FirstCopy}
+use Rattle.rasta_check.specs.Capture.Lists.{places_of, position_of_place}
+use Rattle.rasta_check.specs.Capture.Reading.{Crossing}
+use Rattle.rasta_check.specs.Script.Fitting.{AreInOrder, Fits, places_made}
 use Rattle.rasta_runs.specs.Lines.{Line, number_of}
 use Rattle.rasta_runs.specs.Levels.{makes_at, takes_at, by_side_lines, crossed_lines, each_make, each_take, level_lines, levels_lines, packet_lines, takes_lines}
 use Rattle.rasta_verdict.specs.RunText.{copy_line, line_text, make_line, run_text, take_line, what_text}

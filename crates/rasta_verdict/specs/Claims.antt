@@ -2,9 +2,9 @@
 use Rattle.std.specs.Prelude.{◌≡◌, ℕ, List, Ok}
 use Rattle.rasta_pdu.specs.Params.{Parameters}
 use Rattle.rasta_cert.specs.Certificate.{Scripts}
-use Rattle.rasta_check.specs.Reading.{Crossing, crossing_of}
-use Rattle.rasta_check.specs.Headline.{Headline}
-use Rattle.rasta_check.specs.Report.{Explained}
+use Rattle.rasta_check.specs.Capture.Reading.{Crossing, crossing_of}
+use Rattle.rasta_check.specs.Verdict.Headline.{Headline}
+use Rattle.rasta_check.specs.Verdict.Report.{Explained}
 use Rattle.rasta_verdict.specs.RunText.{run_text}
 use Rattle.rasta_verdict.specs.ToldRun.{IsToldRun}
 use Rattle.rasta_verdict.specs.Verdict.{explained_text}

@@ -3,7 +3,7 @@ use Rattle.std.specs.Prelude.{◌≡◌, ◌⊎◌, ◌↔◌, ℕ, ◌<◌, Lis
 use Rattle.rasta_pcap.specs.Fault.{fault_at, not_found}
 use Rattle.rasta_udp.specs.Frame.{Packet}
 use Rattle.rasta_pdu.specs.Params.{Parameters}
-use Rattle.rasta_check.specs.Reading.{Crossing, crossing_of}
+use Rattle.rasta_check.specs.Capture.Reading.{Crossing, crossing_of}
 use Rattle.rasta_build.specs.Completeness.{CanCross}
 use Rattle.rasta_show.specs.Lines.{refused_line}
 

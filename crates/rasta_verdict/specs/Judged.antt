@@ -4,9 +4,9 @@ use Rattle.rasta_pcap.specs.declared.fault.Fault.{Fault}
 use Rattle.rasta_pcap.specs.Fault.{no_memory}
 use Rattle.rasta_cert.specs.Certificate.{Scripts}
 use Rattle.rasta_check.specs.declared.report.Report.{Report}
-use Rattle.rasta_check.specs.Headline.{Headline}
-use Rattle.rasta_check.specs.Reading.{Crossing}
-use Rattle.rasta_check.specs.Report.{BothFit, IsScriptVerdict, explained}
+use Rattle.rasta_check.specs.Verdict.Headline.{Headline}
+use Rattle.rasta_check.specs.Capture.Reading.{Crossing}
+use Rattle.rasta_check.specs.Verdict.Report.{BothFit, IsScriptVerdict, explained}
 use Rattle.rasta_show.specs.Lines.{refused_line}
 use Rattle.rasta_verdict.specs.Proposed.{Telling}
 use Rattle.rasta_verdict.specs.RunText.{run_text}

@@ -4,8 +4,8 @@ use Rattle.rasta_pcap.specs.declared.fault.Fault.{Fault}
 use Rattle.rasta_pcap.specs.Fault.{fault_at, not_found}
 use Rattle.rasta_pdu.specs.Params.{Parameters}
 use Rattle.rasta_cert.specs.Certificate.{IsCertificate, Scripts, certificate_text}
-use Rattle.rasta_check.specs.Reading.{Crossing, crossing_of}
-use Rattle.rasta_check.specs.Report.{Explained, IsScriptVerdict}
+use Rattle.rasta_check.specs.Capture.Reading.{Crossing, crossing_of}
+use Rattle.rasta_check.specs.Verdict.Report.{Explained, IsScriptVerdict}
 use Rattle.rasta_show.specs.Lines.{refused_line}
 use Rattle.rasta_show.specs.Runs.{Writes}
 use Rattle.rasta_verdict.specs.Verdict.{explained_text}

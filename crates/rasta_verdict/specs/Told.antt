@@ -8,9 +8,9 @@ use Rattle.rasta_end.specs.declared.why.Why.{Why}
 use Rattle.rasta_cert.specs.declared.entry.Entry.{Entry}
 use Rattle.rasta_cert.specs.declared.entry.Entry.TheVariants.{Take, Make}
 use Rattle.rasta_cert.specs.Certificate.{Scripts}
-use Rattle.rasta_check.specs.Lists.{places_of}
-use Rattle.rasta_check.specs.Reading.{Crossing}
-use Rattle.rasta_check.specs.Scripts.{places_made}
+use Rattle.rasta_check.specs.Capture.Lists.{places_of}
+use Rattle.rasta_check.specs.Capture.Reading.{Crossing}
+use Rattle.rasta_check.specs.Script.Fitting.{places_made}
 use Rattle.rasta_runs.specs.Lines.{number_of}
 use Rattle.rasta_runs.specs.Levels.{makes_at, takes_at}
 use Rattle.rasta_verdict.specs.RunText.{copy_line, make_line, take_line}

@@ -3,7 +3,7 @@ use Rattle.std.specs.Prelude.{◌≡◌, ℕ, List}
 use Rattle.std.specs.List.{flat_map}
 use Rattle.rasta_udp.specs.Frame.{Packet}
 use Rattle.rasta_pdu.specs.Params.{Parameters}
-use Rattle.rasta_check.specs.World.{World}
+use Rattle.rasta_check.specs.Model.World.{World}
 use Rattle.rasta_runs.specs.Runs.{Happened, Runs}
 use Rattle.rasta_runs.specs.Lines.{told}
 use Rattle.rasta_verdict.specs.RunText.{line_text}

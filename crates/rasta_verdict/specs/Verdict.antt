@@ -8,9 +8,9 @@ use Rattle.rasta_pcap.specs.declared.fault.Side.TheVariants.{Client, Server}
 use Rattle.rasta_pdu.specs.Params.{Parameters}
 use Rattle.rasta_cert.specs.Certificate.{IsCertificate, Scripts, certificate_text}
 use Rattle.rasta_cert.specs.Refusals.{IsRefused}
-use Rattle.rasta_check.specs.Reading.{Crossing, crossing_of}
-use Rattle.rasta_check.specs.Listed.{ListedMessage}
-use Rattle.rasta_check.specs.Report.{Explained, IsScriptVerdict}
+use Rattle.rasta_check.specs.Capture.Reading.{Crossing, crossing_of}
+use Rattle.rasta_check.specs.Verdict.Listed.{ListedMessage}
+use Rattle.rasta_check.specs.Verdict.Report.{Explained, IsScriptVerdict}
 use Rattle.rasta_show.specs.Lines.{line_of, message_text, refused_line, side_text}
 use Rattle.rasta_verdict.specs.RunText.{run_text}
 use Rattle.rasta_show.specs.Runs.{Writes}

@@ -4,7 +4,7 @@ ghost use Rattle.std.specs.Io.KnownBytes.{Appends};
 ghost use Rattle.rasta_pcap.specs.Fault.{no_memory, write_failed};
 ghost use Rattle.rasta_pcap.specs.Devices.{AppendsBeginning, HasFailed};
 ghost use Rattle.rasta_pdu.specs.Params.{Parameters};
-ghost use Rattle.rasta_check.specs.Reading.{crossing_of};
+ghost use Rattle.rasta_check.specs.Capture.Reading.{crossing_of};
 ghost use Rattle.rasta_verdict.specs.Claims.{ClaimsHeadline};
 ghost use Rattle.rasta_verdict.specs.Judged.{HasToldRun, status_of_verdict, text_of_verdict, told_verdict};
 ghost use Rattle.rasta_verdict.specs.Decided.{Decides};

@@ -3,7 +3,7 @@ ghost use Rattle.std.specs.Prelude.{◌≡◌, ◌++◌, ◌∷◌, [], length, 
 ghost use Rattle.std.specs.Io.KnownBytes.{Appends};
 ghost use Rattle.rasta_pcap.specs.Fault.{write_failed};
 ghost use Rattle.rasta_pcap.specs.Devices.{AppendsBeginning, HasFailed};
-ghost use Rattle.rasta_check.specs.Listed.{listed_of};
+ghost use Rattle.rasta_check.specs.Verdict.Listed.{listed_of};
 ghost use Rattle.rasta_show.specs.Lines.{words_before};
 ghost use Rattle.rasta_verdict.specs.Verdict.{taken_count_line, taken_line, taken_lines, taken_text};
 

@@ -5,7 +5,7 @@ ghost use Rattle.rasta_pcap.specs.Fault.{no_memory, write_failed};
 ghost use Rattle.rasta_pcap.specs.Devices.{AppendsBeginning, HasFailed};
 ghost use Rattle.rasta_pdu.specs.Params.{Parameters};
 ghost use Rattle.rasta_cert.specs.Certificate.{IsCertificate, certificate_text};
-ghost use Rattle.rasta_check.specs.Reading.{crossing_of};
+ghost use Rattle.rasta_check.specs.Capture.Reading.{crossing_of};
 ghost use Rattle.rasta_verdict.specs.declared.verdict.Verdict.TheVariants as verdicts;
 ghost use Rattle.rasta_verdict.specs.Told.{IsTold};
 ghost use Rattle.rasta_verdict.specs.Verdict.{IsVerdict, explained_line, explained_text};

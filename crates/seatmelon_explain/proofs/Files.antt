@@ -2,8 +2,8 @@
 use Rattle.std.proofs.Common.{◌≡◌, ◌⊎◌, inl, inr, ℕ, List, [], Option, None, Some, Result, Ok, Err, IfOk, sym, subst}
 use Rattle.rasta_pcap.specs.declared.fault.Fault.{Fault}
 use Rattle.rasta_pcap.specs.Stream.{ReadsSo}
-use Rattle.rasta_check.specs.Reading.{crossing_of}
-use Rattle.rasta_check.specs.Storing.{IsFailure, IsRefusedSo}
+use Rattle.rasta_check.specs.Capture.Reading.{crossing_of}
+use Rattle.rasta_check.specs.Internals.Storing.{IsFailure, IsRefusedSo}
 use Rattle.rasta_pdu.specs.Params.{Parameters}
 use Rattle.seatmelon_explain.specs.Outcomes.{IsFileExplained, IsStoredExplained}
 use Rattle.seatmelon_explain.specs.Reading.{IsRead, IsRefusal}

@@ -5,9 +5,9 @@ use Rattle.rasta_cert.specs.Certificate.{Scripts, IsCertificate, certificate_tex
 use Rattle.rasta_cert.specs.Refusals.{IsRefused}
 use Rattle.rasta_build.specs.Completeness.{IsAnswer, IsComplete}
 use Rattle.rasta_check.specs.declared.report.Report.{Report}
-use Rattle.rasta_check.specs.Reading.{Crossing}
-use Rattle.rasta_check.specs.Report.{IsScriptVerdict, explained}
-use Rattle.rasta_check.specs.Report as reports
+use Rattle.rasta_check.specs.Capture.Reading.{Crossing}
+use Rattle.rasta_check.specs.Verdict.Report.{IsScriptVerdict, explained}
+use Rattle.rasta_check.specs.Verdict.Report as reports
 use Rattle.seatmelon_explain.specs.declared.verdict.Verdict.{Verdict}
 use Rattle.seatmelon_explain.specs.declared.verdict.Verdict.TheVariants.{Unscripted, Refused, Explained}
 

@@ -1,7 +1,7 @@
 -- What an outcome says of a capture.
 use Rattle.std.specs.Prelude.{◌≡◌, ℕ, List, Option, None, Some, Ok, option_map, ⊤}
 use Rattle.rasta_pdu.specs.Params.{Parameters}
-use Rattle.rasta_check.specs.Reading.{Crossing, crossing_of}
+use Rattle.rasta_check.specs.Capture.Reading.{Crossing, crossing_of}
 use Rattle.seatmelon_explain.specs.Judged.{IsExplained}
 use Rattle.seatmelon_explain.specs.declared.first_reading.Stored.{Stored}
 use Rattle.seatmelon_explain.specs.declared.first_reading.Stored.TheVariants.{Crossed, Refused}

@@ -3,7 +3,7 @@ use Rattle.std.specs.Prelude.{◌≡◌, ◌≢◌, ℕ, List, Option, None, Som
 use Rattle.rasta_pcap.specs.declared.fault.Fault.{Fault}
 use Rattle.rasta_pcap.specs.Fault.{no_memory, read_failed}
 use Rattle.rasta_pdu.specs.Params.{Parameters}
-use Rattle.rasta_check.specs.Reading.{crossing_of}
+use Rattle.rasta_check.specs.Capture.Reading.{crossing_of}
 use Rattle.seatmelon_explain.specs.declared.first_reading.Stored.{Stored}
 use Rattle.seatmelon_explain.specs.declared.first_reading.Stored.TheVariants.{Crossed, Refused}
 

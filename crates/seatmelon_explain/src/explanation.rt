@@ -1,6 +1,6 @@
 //! What explains a capture.
 ghost use Rattle.std.specs.Prelude.{length, Ok};
-ghost use Rattle.rasta_check.specs.Report.{IsScriptVerdict, explained};
+ghost use Rattle.rasta_check.specs.Verdict.Report.{IsScriptVerdict, explained};
 
 use rasta_cert::Certificate;
 use rasta_check::{Report, Store};

@@ -1,7 +1,7 @@
 use Rattle.std.proofs.Common.{inl, inr, ⊎_elim}
-use Rattle.rasta_check.specs.Report.{explained, refused}
-use Rattle.rasta_check.proofs.Answering.{both, if_ok, if_err, still_ok, err_is, err_match}
-use Rattle.rasta_check.proofs.Filed.{seen, verdict_is, explains, exactly, not_explained, headline_is}
+use Rattle.rasta_check.specs.Verdict.Report.{explained, refused}
+use Rattle.rasta_check.proofs.Verdict.CallAnswers.{both, if_ok, if_err, still_ok, err_is, err_match}
+use Rattle.rasta_check.proofs.Verdict.FileVerdicts.{seen, verdict_is, explains, exactly, not_explained, headline_is}
 use Rattle.rasta_check.proofs.checker.check.Goals as goal
 
 pub returns-in_err-sent-clause-refused : goal.returns-in_err-sent-clause-refused

@@ -1,9 +1,9 @@
 use Rattle.std.proofs.Common.{◌≡◌, Ok, Err, sym, subst, inl, inr, ⊎_elim}
-use Rattle.rasta_check.specs.Checking.{verdict_of}
-use Rattle.rasta_check.specs.Report.{BothFit, explained}
-use Rattle.rasta_check.proofs.Answering.{both, where_ok, on_ok, where_err}
-use Rattle.rasta_check.proofs.Fitting.{is_verdict}
-use Rattle.rasta_check.proofs.Headlined.{ends, verdict_fits, verdict_refuses, headline, is_sharp}
+use Rattle.rasta_check.specs.Internals.Checking.{verdict_of}
+use Rattle.rasta_check.specs.Verdict.Report.{BothFit, explained}
+use Rattle.rasta_check.proofs.Verdict.CallAnswers.{both, where_ok, on_ok, where_err}
+use Rattle.rasta_check.proofs.Script.Fits.{is_verdict}
+use Rattle.rasta_check.proofs.Verdict.Headline.{ends, verdict_fits, verdict_refuses, headline, is_sharp}
 use Rattle.rasta_check.proofs.checker.check_lists.Goals as goal
 
 pub returns-clause-verdict : goal.returns-clause-verdict

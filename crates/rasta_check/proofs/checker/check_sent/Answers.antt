@@ -1,8 +1,8 @@
 use Rattle.std.proofs.Common.{◌≡◌, ◌∙◌, ℕ, List, Ok, Err, refl, subst, sym, inl, inr, ⊎_elim}
-use Rattle.rasta_check.specs.Crossing.{FirstCopy}
-use Rattle.rasta_check.specs.Report.{IsScriptVerdict, explained, report_of}
-use Rattle.rasta_check.proofs.Answering.{both, if_ok, if_err, still_ok}
-use Rattle.rasta_check.proofs.Headlined.{fits_by, lent}
+use Rattle.rasta_check.specs.Capture.Crossing.{FirstCopy}
+use Rattle.rasta_check.specs.Verdict.Report.{IsScriptVerdict, explained, report_of}
+use Rattle.rasta_check.proofs.Verdict.CallAnswers.{both, if_ok, if_err, still_ok}
+use Rattle.rasta_check.proofs.Verdict.Headline.{fits_by, lent}
 use Rattle.rasta_check.proofs.checker.check_sent.Goals as goal
 
 -- the packets' count and both lists

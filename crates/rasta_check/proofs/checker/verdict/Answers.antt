@@ -1,7 +1,7 @@
 use Rattle.std.proofs.Common.{◌∙◌}
-use Rattle.rasta_check.specs.Listing.{listed_with}
-use Rattle.rasta_check.specs.Report.{explained}
-use Rattle.rasta_check.proofs.Headlined.{verdict_of_ends}
+use Rattle.rasta_check.specs.Internals.Listing.{listed_with}
+use Rattle.rasta_check.specs.Verdict.Report.{explained}
+use Rattle.rasta_check.proofs.Verdict.Headline.{verdict_of_ends}
 use Rattle.rasta_check.proofs.checker.verdict.Goals as goal
 
 pub returns-in-Ok : goal.returns-in-Ok

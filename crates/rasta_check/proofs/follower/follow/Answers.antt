@@ -1,6 +1,6 @@
 use Rattle.std.proofs.Common.{◌∙◌, ap, arith}
-use Rattle.rasta_check.proofs.Refusing.{handed_on}
-use Rattle.rasta_check.proofs.Checked.{loop_on, loop_off, loop_answer, loop_end}
+use Rattle.rasta_check.proofs.Script.RefusedEntries.{handed_on}
+use Rattle.rasta_check.proofs.Script.FollowedScripts.{loop_on, loop_off, loop_answer, loop_end}
 use Rattle.rasta_check.proofs.follower.follow.Goals as goal
 
 -- src/follower.rt

@@ -1,6 +1,6 @@
-use Rattle.rasta_check.proofs.Numbering.{numbered_once}
-use Rattle.rasta_check.proofs.HeldRuns.{all_held, few_made}
-use Rattle.rasta_check.proofs.Asking.{in_order}
+use Rattle.rasta_check.proofs.Model.SequenceNumbers.{numbered_once}
+use Rattle.rasta_check.proofs.Model.InvariantOfRuns.{all_held, few_made}
+use Rattle.rasta_check.proofs.Model.Requests.{in_order}
 use Rattle.rasta_check.proofs.laws.asks.Goals as goal
 
 pub returns : goal.returns

@@ -1,4 +1,4 @@
-use Rattle.rasta_check.proofs.Refused.{not_both, one_fault, some_answer}
+use Rattle.rasta_check.proofs.Capture.RefusedCaptures.{not_both, one_fault, some_answer}
 use Rattle.rasta_check.proofs.laws.captures_have_one_answer.Goals as goal
 
 pub returns-clause-some : goal.returns-clause-some

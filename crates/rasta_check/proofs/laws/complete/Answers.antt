@@ -1,10 +1,10 @@
 use Rattle.std.proofs.Common.{◌<◌, length, arith}
 use Rattle.rasta_pcap.specs.declared.fault.Side.TheVariants.{Client, Server}
-use Rattle.rasta_check.specs.Lists.{IsOrdered}
-use Rattle.rasta_check.proofs.Fitting.{follows_fits}
-use Rattle.rasta_check.proofs.Forms.{to_record}
-use Rattle.rasta_check.proofs.Telling.{complete}
-use Rattle.rasta_check.proofs.Writable.{most_clock, script_fits}
+use Rattle.rasta_check.specs.Capture.Lists.{IsOrdered}
+use Rattle.rasta_check.proofs.Script.Fits.{follows_fits}
+use Rattle.rasta_check.proofs.Capture.ListForms.{to_record}
+use Rattle.rasta_check.proofs.Script.ScriptsOfRuns.{complete}
+use Rattle.rasta_check.proofs.Script.WritableEntries.{most_clock, script_fits}
 use Rattle.rasta_check.proofs.laws.complete.Goals as goal
 
 pub returns : goal.returns

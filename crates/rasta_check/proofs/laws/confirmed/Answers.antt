@@ -13,13 +13,13 @@ use Rattle.rasta_end.specs.declared.owed.Owed.{Owed}
 use Rattle.rasta_end.specs.declared.make_row.MakeRow.{MakeRow}
 use Rattle.rasta_end.specs.State.{Made, EndState, is_client, is_start}
 use Rattle.rasta_end.specs.MakeRule.{is_judged, is_connection_request, is_disconnection_request}
-use Rattle.rasta_check.specs.Laws.{NamesOne, ConfirmsAccepted}
-use Rattle.rasta_check.proofs.Passing.{Passed, passed, cs_is}
-use Rattle.rasta_check.proofs.MakeRows.{Making, opening, made_by}
-use Rattle.rasta_check.proofs.Numbering.{numbered_once}
-use Rattle.rasta_check.proofs.Held.{Held}
-use Rattle.rasta_check.proofs.HeldMake.{nothing_made}
-use Rattle.rasta_check.proofs.HeldRuns.{all_held, few_made}
+use Rattle.rasta_check.specs.Model.Laws.{NamesOne, ConfirmsAccepted}
+use Rattle.rasta_check.proofs.Model.PassedTests.{Passed, passed, cs_is}
+use Rattle.rasta_check.proofs.Model.MakeRows.{Making, opening, made_by}
+use Rattle.rasta_check.proofs.Model.SequenceNumbers.{numbered_once}
+use Rattle.rasta_check.proofs.Model.Invariant.{Held}
+use Rattle.rasta_check.proofs.Model.InvariantAtMake.{nothing_made}
+use Rattle.rasta_check.proofs.Model.InvariantOfRuns.{all_held, few_made}
 use Rattle.rasta_check.proofs.laws.confirmed.Goals as goal
 
 -- a connection request is made by a closed client

@@ -1,4 +1,4 @@
-use Rattle.rasta_check.proofs.Readings.{file_by, file_records}
+use Rattle.rasta_check.proofs.Capture.Readings.{file_by, file_records}
 use Rattle.rasta_check.proofs.laws.crossing_is_read.Goals as goal
 
 pub returns-clause-records : goal.returns-clause-records

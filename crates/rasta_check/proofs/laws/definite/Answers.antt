@@ -1,7 +1,7 @@
 use Rattle.std.proofs.Common.{refl, arith}
-use Rattle.rasta_check.proofs.Forms.{to_record}
-use Rattle.rasta_check.proofs.Faults.{follows, faultless, grown}
-use Rattle.rasta_check.proofs.Following.{definite, can_follow}
+use Rattle.rasta_check.proofs.Capture.ListForms.{to_record}
+use Rattle.rasta_check.proofs.Capture.PacketFaults.{follows, faultless, grown}
+use Rattle.rasta_check.proofs.Capture.NextPackets.{definite, can_follow}
 use Rattle.rasta_check.proofs.laws.definite.Goals as goal
 
 pub returns : goal.returns

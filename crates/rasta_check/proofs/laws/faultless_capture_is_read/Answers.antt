@@ -1,4 +1,4 @@
-use Rattle.rasta_check.proofs.Faultless.{read_is_faultless, faultless_is_read}
+use Rattle.rasta_check.proofs.Capture.FaultlessCaptures.{read_is_faultless, faultless_is_read}
 use Rattle.rasta_check.proofs.laws.faultless_capture_is_read.Goals as goal
 
 pub returns-clause-read : goal.returns-clause-read

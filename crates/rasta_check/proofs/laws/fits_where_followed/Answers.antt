@@ -2,10 +2,10 @@ use Rattle.std.proofs.Common.{List, length}
 use Rattle.rasta_pcap.specs.declared.fault.Side.{Side}
 use Rattle.rasta_udp.specs.Frame.{Packet}
 use Rattle.rasta_pdu.specs.Params.{Parameters}
-use Rattle.rasta_check.specs.Crossing.{FirstCopy, Sent}
-use Rattle.rasta_check.specs.Lists.{IsOrdered}
-use Rattle.rasta_check.specs.Theorem.{other_side}
-use Rattle.rasta_check.proofs.Fitting.{fits_follows, follows_fits}
+use Rattle.rasta_check.specs.Capture.Crossing.{FirstCopy, Sent}
+use Rattle.rasta_check.specs.Capture.Lists.{IsOrdered}
+use Rattle.rasta_check.specs.Model.Theorem.{other_side}
+use Rattle.rasta_check.proofs.Script.Fits.{fits_follows, follows_fits}
 use Rattle.rasta_check.proofs.laws.fits_where_followed.Goals as goal
 
 ordered : (p : Parameters) (packets : List Packet) (side : Side) (sent : List FirstCopy) → Sent p packets side sent → IsOrdered sent

@@ -1,5 +1,5 @@
-use Rattle.rasta_check.proofs.Handed.{hands_up}
-use Rattle.rasta_check.proofs.HeldRuns.{all_held}
+use Rattle.rasta_check.proofs.Model.HandedUnits.{hands_up}
+use Rattle.rasta_check.proofs.Model.InvariantOfRuns.{all_held}
 use Rattle.rasta_check.proofs.laws.handed.Goals as goal
 
 pub returns : goal.returns

@@ -1,8 +1,8 @@
 use Rattle.rasta_pcap.specs.declared.fault.Side.TheVariants.{Client, Server}
 use Rattle.rasta_pdu.specs.Params.{Parameters}
-use Rattle.rasta_check.specs.Theorem.{OfConnection, Necessity}
-use Rattle.rasta_check.proofs.Forms.{to_record}
-use Rattle.rasta_check.proofs.Necessity.{server_hands_up, server_first, server_in_time, client_hands_up, client_first, client_in_time}
+use Rattle.rasta_check.specs.Model.Theorem.{OfConnection, Necessity}
+use Rattle.rasta_check.proofs.Capture.ListForms.{to_record}
+use Rattle.rasta_check.proofs.Theorem.Necessity.{server_hands_up, server_first, server_in_time, client_hands_up, client_first, client_in_time}
 use Rattle.rasta_check.proofs.laws.necessity.Goals as goal
 
 by : (p : Parameters) → OfConnection p → Necessity p

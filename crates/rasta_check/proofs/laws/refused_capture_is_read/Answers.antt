@@ -1,4 +1,4 @@
-use Rattle.rasta_check.proofs.Refused.{is_refused, refused_is_read}
+use Rattle.rasta_check.proofs.Capture.RefusedCaptures.{is_refused, refused_is_read}
 use Rattle.rasta_check.proofs.laws.refused_capture_is_read.Goals as goal
 
 pub returns-clause-read : goal.returns-clause-read

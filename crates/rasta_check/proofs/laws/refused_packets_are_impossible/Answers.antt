@@ -1,5 +1,5 @@
 use Rattle.std.proofs.Common.{refl}
-use Rattle.rasta_check.proofs.Verdicts.{is_definite}
+use Rattle.rasta_check.proofs.Capture.DefiniteFaults.{is_definite}
 use Rattle.rasta_check.proofs.laws.refused_packets_are_impossible.Goals as goal
 
 pub returns-clause-packets : goal.returns-clause-packets

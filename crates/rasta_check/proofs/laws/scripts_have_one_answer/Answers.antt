@@ -1,4 +1,4 @@
-use Rattle.rasta_check.proofs.Fitting.{some_answer, one_end, one_fault, not_both}
+use Rattle.rasta_check.proofs.Script.Fits.{some_answer, one_end, one_fault, not_both}
 use Rattle.rasta_check.proofs.laws.scripts_have_one_answer.Goals as goal
 
 pub returns : goal.returns

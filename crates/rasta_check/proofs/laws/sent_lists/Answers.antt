@@ -1,9 +1,9 @@
 use Rattle.rasta_pcap.specs.declared.fault.Side.TheVariants.{Client, Server}
-use Rattle.rasta_check.proofs.Known.{known}
-use Rattle.rasta_check.proofs.Forms.{to_record}
-use Rattle.rasta_check.proofs.History.{appended}
-use Rattle.rasta_check.proofs.Placed.{made_list}
-use Rattle.rasta_check.proofs.Sending.{sent_once}
+use Rattle.rasta_check.proofs.Theorem.SentRuns.{known}
+use Rattle.rasta_check.proofs.Capture.ListForms.{to_record}
+use Rattle.rasta_check.proofs.Model.History.{appended}
+use Rattle.rasta_check.proofs.Model.Places.{made_list}
+use Rattle.rasta_check.proofs.Capture.FirstCopies.{sent_once}
 use Rattle.rasta_check.proofs.laws.sent_lists.Goals as goal
 
 pub returns : goal.returns

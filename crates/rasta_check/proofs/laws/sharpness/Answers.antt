@@ -1,8 +1,8 @@
 use Rattle.std.proofs.Common.{length}
 use Rattle.rasta_pcap.specs.declared.fault.Side.TheVariants.{Client, Server}
-use Rattle.rasta_check.proofs.Fitting.{fits_follows}
-use Rattle.rasta_check.proofs.Forms.{to_record}
-use Rattle.rasta_check.proofs.Cutting.{sharp}
+use Rattle.rasta_check.proofs.Script.Fits.{fits_follows}
+use Rattle.rasta_check.proofs.Capture.ListForms.{to_record}
+use Rattle.rasta_check.proofs.Script.CutScripts.{sharp}
 use Rattle.rasta_check.proofs.laws.sharpness.Goals as goal
 
 pub returns : goal.returns

@@ -1,8 +1,8 @@
 use Rattle.std.proofs.Common.{length, ◌++◌, ◌∷◌}
-use Rattle.rasta_check.specs.Theorem.{other_side}
-use Rattle.rasta_check.proofs.Fitting.{fits_follows}
-use Rattle.rasta_check.proofs.Forms.{to_record}
-use Rattle.rasta_check.proofs.Stuck.{stuck, leads_once}
+use Rattle.rasta_check.specs.Model.Theorem.{other_side}
+use Rattle.rasta_check.proofs.Script.Fits.{fits_follows}
+use Rattle.rasta_check.proofs.Capture.ListForms.{to_record}
+use Rattle.rasta_check.proofs.Script.OneWay.{stuck, leads_once}
 use Rattle.rasta_check.proofs.laws.stuck.Goals as goal
 
 pub returns : goal.returns

@@ -1,10 +1,10 @@
 use Rattle.rasta_end.specs.State.{EndState}
 use Rattle.rasta_end.specs.Units.{last_of}
-use Rattle.rasta_check.specs.Laws.{ConveysAll}
-use Rattle.rasta_check.proofs.Values.{values, jump}
-use Rattle.rasta_check.proofs.Valued.{Valued}
-use Rattle.rasta_check.proofs.ValuedTake.{bare_rest}
-use Rattle.rasta_check.proofs.HeldRuns.{all_held}
+use Rattle.rasta_check.specs.Model.Laws.{ConveysAll}
+use Rattle.rasta_check.proofs.Model.ConveyedUnits.{values, jump}
+use Rattle.rasta_check.proofs.Model.OfferedUnits.{Valued}
+use Rattle.rasta_check.proofs.Model.OfferedUnitsAtTake.{bare_rest}
+use Rattle.rasta_check.proofs.Model.InvariantOfRuns.{all_held}
 use Rattle.rasta_check.proofs.laws.units.Goals as goal
 
 conveys : (e peer : EndState) → Valued e → ConveysAll e peer

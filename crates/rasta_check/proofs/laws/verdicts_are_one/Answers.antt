@@ -1,5 +1,5 @@
 use Rattle.std.proofs.Common.{refl}
-use Rattle.rasta_check.proofs.Fitting.{is_verdict, one_answer}
+use Rattle.rasta_check.proofs.Script.Fits.{is_verdict, one_answer}
 use Rattle.rasta_check.proofs.laws.verdicts_are_one.Goals as goal
 
 pub returns : goal.returns

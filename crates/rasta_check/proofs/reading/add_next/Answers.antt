@@ -1,7 +1,7 @@
 use Rattle.std.proofs.Common.{◌≡◌, ◌∙◌, ap, sym, inl, inr, ⊎_elim}
 use Rattle.rasta_pcap.specs.Capture.{Cursor, cursor_after, moved, reading}
-use Rattle.rasta_check.specs.Reading.{Crossing, and_then, after_reading}
-use Rattle.rasta_check.proofs.Readings.{after-end, after-fault, after-record}
+use Rattle.rasta_check.specs.Capture.Reading.{Crossing, and_then, after_reading}
+use Rattle.rasta_check.proofs.Capture.Readings.{after-end, after-fault, after-record}
 use Rattle.rasta_check.proofs.reading.add_next.Goals as goal
 
 pub returns-in-Ok-None : goal.returns-in-Ok-None

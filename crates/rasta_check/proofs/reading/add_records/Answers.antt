@@ -1,8 +1,8 @@
 use Rattle.std.proofs.Common.{◌≡◌, ◌∙◌, ◌+◌, ◌-◌, ℕ, Ok, ap, sym, inl, inr, ⊎_elim, arith}
 use Rattle.rasta_pcap.specs.Capture.{reading}
-use Rattle.rasta_check.specs.Reading.{after_reading}
-use Rattle.rasta_check.specs.Packets.{after_next}
-use Rattle.rasta_check.proofs.Readings.{after-none_left, left-after}
+use Rattle.rasta_check.specs.Capture.Reading.{after_reading}
+use Rattle.rasta_check.specs.Internals.Packets.{after_next}
+use Rattle.rasta_check.proofs.Capture.Readings.{after-none_left, left-after}
 use Rattle.rasta_check.proofs.reading.add_records.Goals as goal
 use Rattle.rasta_check.proofs.reading.add_records.Goals.{else-loop-test, then-loop-test+in-Ok-false}
 

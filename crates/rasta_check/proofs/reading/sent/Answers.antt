@@ -3,14 +3,14 @@ use Rattle.rasta_pcap.specs.declared.fault.Fault.{Fault}
 use Rattle.rasta_pcap.specs.Fault.{no_memory}
 use Rattle.rasta_pcap.specs.Capture.{reading}
 use Rattle.rasta_pdu.specs.Messages.{AreBytes}
-use Rattle.rasta_check.specs.Reading.{Crossing, after_reading, crossing_of}
-use Rattle.rasta_check.specs.Theorem.{OfConnection}
-use Rattle.rasta_check.specs.Verdicts.{in_header}
-use Rattle.rasta_check.proofs.Readings.{after-opened}
-use Rattle.rasta_check.proofs.Verdicts.{Answers, answer_definite, opening_definite}
-use Rattle.rasta_check.proofs.Faultless.{answer_only, opening_faulty}
-use Rattle.rasta_check.proofs.Refused.{answer_is}
-use Rattle.rasta_check.proofs.FaultNumbers.{answer_names_side, opening_names_side}
+use Rattle.rasta_check.specs.Capture.Reading.{Crossing, after_reading, crossing_of}
+use Rattle.rasta_check.specs.Model.Theorem.{OfConnection}
+use Rattle.rasta_check.specs.Capture.Faults.{in_header}
+use Rattle.rasta_check.proofs.Capture.Readings.{after-opened}
+use Rattle.rasta_check.proofs.Capture.DefiniteFaults.{Answers, answer_definite, opening_definite}
+use Rattle.rasta_check.proofs.Capture.FaultlessCaptures.{answer_only, opening_faulty}
+use Rattle.rasta_check.proofs.Capture.RefusedCaptures.{answer_is}
+use Rattle.rasta_check.proofs.Capture.FaultNumbers.{answer_names_side, opening_names_side}
 use Rattle.rasta_check.proofs.reading.sent.Goals as goal
 
 connection : (c : goal.After-add_records) → OfConnection c.args.p

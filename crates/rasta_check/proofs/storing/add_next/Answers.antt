@@ -1,6 +1,6 @@
 use Rattle.std.proofs.Common.{◌∙◌, ap, inl, inr, sym, ⊎_elim}
-use Rattle.rasta_check.specs.Reading.{after_record}
-use Rattle.rasta_check.proofs.Underway.{next_faulty, why_begun, why_faulty}
+use Rattle.rasta_check.specs.Capture.Reading.{after_record}
+use Rattle.rasta_check.proofs.Internals.PartialReading.{next_faulty, why_begun, why_faulty}
 use Rattle.rasta_check.proofs.storing.add_next.Goals as goal
 
 pub returns-in-Err-add_record-clause-err : goal.returns-in-Err-add_record-clause-err

@@ -1,8 +1,8 @@
 use Rattle.std.proofs.Common.{◌≡◌, ◌∙◌, ◌+◌, ◌-◌, ℕ, Ok, subst, sym, inl, inr, ⊎_elim, arith}
 use Rattle.rasta_pcap.specs.Stream.{ReadsSo}
 use Rattle.rasta_pcap.proofs.Extents.{HasRead-more, ReadsUpToRecord-part, ReadsUpToRecord-whole}
-use Rattle.rasta_check.specs.Storing.{IsFailure, crossing_left}
-use Rattle.rasta_check.proofs.Underway.{Underway-begun, Underway-ends, Underway-left, Underway-record, all_at_end, all_with_window, every_left}
+use Rattle.rasta_check.specs.Internals.Storing.{IsFailure, crossing_left}
+use Rattle.rasta_check.proofs.Internals.PartialReading.{Underway-begun, Underway-ends, Underway-left, Underway-record, all_at_end, all_with_window, every_left}
 use Rattle.rasta_check.proofs.storing.add_records.Goals as goal
 use Rattle.rasta_check.proofs.storing.add_records.Goals.{else-loop-test, then-loop-test+in-Ok-false}
 

@@ -1,10 +1,10 @@
 use Rattle.std.proofs.Common.{subst}
 use Rattle.rasta_pcap.proofs.Extents.{HasRead-opened, ReadsUpToRecord-header}
 use Rattle.rasta_pcap.proofs.Sending.{on_err_map}
-use Rattle.rasta_check.specs.Reading.{Crossing, crossing_of}
-use Rattle.rasta_check.specs.Storing.{crossing_left}
-use Rattle.rasta_check.specs.Theorem.{OfConnection}
-use Rattle.rasta_check.proofs.Underway.{IsUnderway, Underway-begun, Underway-opened, answer_sided, header_answer, header_begun, refused_answer, refused_names_side, stored_answer}
+use Rattle.rasta_check.specs.Capture.Reading.{Crossing, crossing_of}
+use Rattle.rasta_check.specs.Internals.Storing.{crossing_left}
+use Rattle.rasta_check.specs.Model.Theorem.{OfConnection}
+use Rattle.rasta_check.proofs.Internals.PartialReading.{IsUnderway, Underway-begun, Underway-opened, answer_sided, header_answer, header_begun, refused_answer, refused_names_side, stored_answer}
 use Rattle.rasta_check.proofs.storing.store.Given.{Over}
 use Rattle.rasta_check.proofs.storing.store.Goals as goal
 

@@ -1,11 +1,11 @@
 use Rattle.std.proofs.Common.{◌+◌, ◌++◌, ◌∙◌, ap, sym, arith, drop, length, map}
 use Rattle.std.specs.Option.{option_map}
-use Rattle.rasta_check.specs.Lists.{copy_of}
-use Rattle.rasta_check.specs.Taken.{messages_taken}
-use Rattle.rasta_check.specs.Listed.{listed_of, numbered_from}
-use Rattle.rasta_check.specs.Listing.{proved_units}
-use Rattle.rasta_check.proofs.Positions.{none_within}
-use Rattle.rasta_check.proofs.Worked.{units_left, units_end, listing_ends}
+use Rattle.rasta_check.specs.Capture.Lists.{copy_of}
+use Rattle.rasta_check.specs.Verdict.Taken.{messages_taken}
+use Rattle.rasta_check.specs.Verdict.Listed.{listed_of, numbered_from}
+use Rattle.rasta_check.specs.Internals.Listing.{proved_units}
+use Rattle.rasta_check.proofs.Capture.Positions.{none_within}
+use Rattle.rasta_check.proofs.Verdict.ListSteps.{units_left, units_end, listing_ends}
 use Rattle.rasta_check.proofs.surely_taken.messages_with.Goals as goal
 use Rattle.rasta_check.proofs.surely_taken.messages_with.Goals.{in-Some+in_ok-unit, in_default}
 

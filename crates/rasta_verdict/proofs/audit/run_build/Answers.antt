@@ -1,5 +1,5 @@
 use Rattle.std.proofs.Common.{sym}
-use Rattle.rasta_check.specs.Storing.{IsRefusedSo, IsStored}
+use Rattle.rasta_check.specs.Internals.Storing.{IsRefusedSo, IsStored}
 use Rattle.rasta_show.specs.Lines.{refused_line}
 use Rattle.rasta_verdict.specs.Decided.{Decides}
 use Rattle.rasta_verdict.specs.Judged.{status_of_verdict, told_verdict}

@@ -1,6 +1,6 @@
 use Rattle.std.proofs.Common.{◌≡◌, drop, map}
 use Rattle.rasta_pcap.proofs.Sending.{Sent}
-use Rattle.rasta_check.specs.Listed.{listed_of}
+use Rattle.rasta_check.specs.Verdict.Listed.{listed_of}
 use Rattle.rasta_verdict.specs.Verdict.{taken_lines}
 use Rattle.rasta_verdict.proofs.taken_text.write_messages.Given as goal
 

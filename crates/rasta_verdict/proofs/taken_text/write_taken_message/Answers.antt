@@ -1,5 +1,5 @@
 use Rattle.std.proofs.Common.{◌∙◌, refl}
-use Rattle.rasta_check.specs.Listed.{listed_of}
+use Rattle.rasta_check.specs.Verdict.Listed.{listed_of}
 use Rattle.rasta_pcap.proofs.Sending.{Sent-begun, Sent-last, Sent-last_begun, Sent-more, Sent-start, on_err_map, on_ok_map, where_failed}
 use Rattle.rasta_verdict.proofs.Verdicts.{taken_line-parts}
 use Rattle.rasta_verdict.proofs.taken_text.write_taken_message.Goals as goal

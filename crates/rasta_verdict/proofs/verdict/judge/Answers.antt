@@ -1,6 +1,6 @@
 use Rattle.std.proofs.Common.{◌≡◌, List, ℕ, Ok}
 use Rattle.rasta_pdu.specs.Params.{Parameters}
-use Rattle.rasta_check.specs.Reading.{crossing_of}
+use Rattle.rasta_check.specs.Capture.Reading.{crossing_of}
 use Rattle.rasta_verdict.specs.Verdict as verdict
 use Rattle.rasta_verdict.specs.Verdict.{IsVerdict}
 use Rattle.rasta_verdict.proofs.Judging.{judged_claims, refusal_claims, refusal_of}

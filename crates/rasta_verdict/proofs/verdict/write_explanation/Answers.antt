@@ -1,5 +1,5 @@
 use Rattle.std.proofs.Common.{◌∙◌, refl}
-use Rattle.rasta_check.specs.Report.{explained}
+use Rattle.rasta_check.specs.Verdict.Report.{explained}
 use Rattle.rasta_pcap.proofs.Sending.{Sent-begun, Sent-last, Sent-last_begun, Sent-more, Sent-start, on_err_map, on_ok_map, where_failed}
 use Rattle.rasta_verdict.proofs.Verdicts.{explained_text-listed, explained_text-parts}
 use Rattle.rasta_verdict.proofs.verdict.write_explanation.Goals as goal

@@ -1,6 +1,6 @@
 use Rattle.std.proofs.Common.{Ok, Err, ap, sym, ◌∙◌, inr}
 use Rattle.rasta_udp.specs.Frame.{packet_of}
-use Rattle.rasta_check.proofs.Crossings.{may_push, pushed_all, pushed_none, refused}
+use Rattle.rasta_check.proofs.Capture.Crossings.{may_push, pushed_all, pushed_none, refused}
 use Rattle.rasta_check.proofs.crossing.Sent.add_packet.Goals as goal
 
 pub returns-in-Err : goal.returns-in-Err

@@ -2,9 +2,9 @@ use Rattle.std.proofs.Common.{◌≡◌, true, Ok, Some, None, ap, sym, ◌∙�
 use Rattle.std.specs.Option.{option_map}
 use Rattle.rasta_udp.specs.Frame.{packet_of}
 use Rattle.rasta_pdu.specs.Pdu.{decode_of, value_of}
-use Rattle.rasta_check.specs.Crossing.{FirstCopy, Spells, copy_with, is_next_number}
-use Rattle.rasta_check.specs.Reading.{Crossing, IsCrossing, sent_by}
-use Rattle.rasta_check.proofs.Crossings.{is_next_pdu, place_within, repeated}
+use Rattle.rasta_check.specs.Capture.Crossing.{FirstCopy, Spells, copy_with, is_next_number}
+use Rattle.rasta_check.specs.Capture.Reading.{Crossing, IsCrossing, sent_by}
+use Rattle.rasta_check.proofs.Capture.Crossings.{is_next_pdu, place_within, repeated}
 use Rattle.rasta_check.proofs.crossing.Sent.judge.Goals as goal
 
 pub has_bytes-requires : goal.has_bytes-requires

@@ -4,9 +4,9 @@ use Rattle.std.proofs.lemmas.List.{length-map}
 use Rattle.std.proofs.lemmas.Option.{slice_get-map, slice_get-get_or, slice_get_past}
 use Rattle.rasta_udp.specs.declared.channel.Datagram.{Datagram}
 use Rattle.rasta_udp.specs.Frame.{packet_of}
-use Rattle.rasta_check.specs.Crossing.{Spells}
-use Rattle.rasta_check.specs.Reading.{Crossing}
-use Rattle.rasta_check.proofs.Crossings.{spelled_at, number_spelled, length_spelled}
+use Rattle.rasta_check.specs.Capture.Crossing.{Spells}
+use Rattle.rasta_check.specs.Capture.Reading.{Crossing}
+use Rattle.rasta_check.proofs.Capture.Crossings.{spelled_at, number_spelled, length_spelled}
 use Rattle.rasta_check.proofs.crossing.Sent.packet.Goals as goal
 
 seen : (items lent : List Datagram) (place : ℕ) (x d : Datagram) → lent ≡ items → place < length lent → slice_get lent place ≡ Some x → slice_get (map packet_of items) place ≡ Some (packet_of x)

@@ -4,9 +4,9 @@ use Rattle.rasta_udp.specs.declared.channel.Datagram.{Datagram}
 use Rattle.rasta_udp.specs.Frame.{packet_of}
 use Rattle.rasta_pdu.specs.declared.pdu.Pdu.{Pdu}
 use Rattle.rasta_check.specs.declared.crossing.Sent.TheInside.{Inside}
-use Rattle.rasta_check.specs.Packets.{with_new}
-use Rattle.rasta_check.specs.Reading.{Crossing, IsCrossing, sent_by, crossing_with}
-use Rattle.rasta_check.proofs.Crossings.{after_client, after_server, after_repeat}
+use Rattle.rasta_check.specs.Internals.Packets.{with_new}
+use Rattle.rasta_check.specs.Capture.Reading.{Crossing, IsCrossing, sent_by, crossing_with}
+use Rattle.rasta_check.proofs.Capture.Crossings.{after_client, after_server, after_repeat}
 use Rattle.rasta_check.proofs.crossing.Sent.push.Goals as goal
 use Rattle.rasta_check.proofs.crossing.Sent.push.Goals.{in-Some+in-Client+in_ok-push-in-Client, in-Some+in-Server+in_ok-push-in-Server, in_default}
 

@@ -1,8 +1,8 @@
 use Rattle.std.proofs.Common.{◌≡◌, ◌∙◌, List, Ok, ap, sym}
 use Rattle.rasta_udp.specs.declared.channel.Channel.{Channel}
 use Rattle.rasta_udp.specs.Frame.{map_found, packet_of, packet_in}
-use Rattle.rasta_check.specs.Reading.{Crossing}
-use Rattle.rasta_check.proofs.Channels.{is_recorded}
+use Rattle.rasta_check.specs.Capture.Reading.{Crossing}
+use Rattle.rasta_check.proofs.Capture.Channels.{is_recorded}
 use Rattle.rasta_check.proofs.crossing_store.Store.add_frame.Goals as goal
 
 pub add_packet-requires : goal.add_packet-requires

@@ -1,7 +1,7 @@
 use Rattle.std.proofs.Common.{◌∙◌}
 use Rattle.rasta_udp.specs.Frame.{packet_of}
-use Rattle.rasta_check.proofs.Crossings.{grown_crossing}
-use Rattle.rasta_check.proofs.Growing.{within_is}
+use Rattle.rasta_check.proofs.Capture.Crossings.{grown_crossing}
+use Rattle.rasta_check.proofs.Internals.StoreGrowth.{within_is}
 use Rattle.rasta_check.proofs.crossing_store.Store.add_packet.Goals as goal
 
 pub push-requires-clause-crossing : goal.push-requires-clause-crossing

@@ -1,11 +1,11 @@
 use Rattle.std.proofs.Common.{◌≡◌, true, Ok, Some, None, ap, sym, ◌∙◌, subst, if◌then◌else◌}
 use Rattle.rasta_udp.specs.Frame.{packet_of}
 use Rattle.rasta_pdu.specs.Pdu.{decode_of, value_of}
-use Rattle.rasta_check.specs.Crossing.{Spells, is_next_number}
-use Rattle.rasta_check.specs.Lists.{position_of_number}
-use Rattle.rasta_check.specs.Reading.{Crossing, IsCrossing, sent_by}
-use Rattle.rasta_check.proofs.Crossings.{is_next_pdu}
-use Rattle.rasta_check.proofs.Stored.{repeats_at, skips}
+use Rattle.rasta_check.specs.Capture.Crossing.{Spells, is_next_number}
+use Rattle.rasta_check.specs.Capture.Lists.{position_of_number}
+use Rattle.rasta_check.specs.Capture.Reading.{Crossing, IsCrossing, sent_by}
+use Rattle.rasta_check.proofs.Capture.Crossings.{is_next_pdu}
+use Rattle.rasta_check.proofs.Internals.StoreLists.{repeats_at, skips}
 use Rattle.rasta_check.proofs.crossing_store.Store.judge.Goals as goal
 
 pub returns-then-is_next-clause-value : goal.returns-then-is_next-clause-value

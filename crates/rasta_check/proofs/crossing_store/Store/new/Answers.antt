@@ -1,9 +1,9 @@
 use Rattle.std.proofs.Common.{List, [], sym, subst, arith}
 use Rattle.rasta_check.specs.declared.crossing_store.StoredPacket.{StoredPacket}
-use Rattle.rasta_check.specs.Datagrams.{KeptDatagrams}
-use Rattle.rasta_check.specs.Stored.{IsStore}
-use Rattle.rasta_check.specs.Theorem.{OfConnection}
-use Rattle.rasta_check.proofs.Growing.{empty_store}
+use Rattle.rasta_check.specs.Internals.Datagrams.{KeptDatagrams}
+use Rattle.rasta_check.specs.Internals.Stored.{IsStore}
+use Rattle.rasta_check.specs.Model.Theorem.{OfConnection}
+use Rattle.rasta_check.proofs.Internals.StoreGrowth.{empty_store}
 use Rattle.rasta_check.proofs.crossing_store.Store.new.Goals as goal
 
 made : (c : goal.After-new-2) → IsStore c.args.params c.new.result c.new-2.result.items

@@ -1,9 +1,9 @@
 use Rattle.std.proofs.Common.{ap, sym, ◌∙◌, Some, slice_get}
 use Rattle.std.specs.Option.{option_map}
-use Rattle.rasta_check.specs.Crossing.{FirstCopy}
-use Rattle.rasta_check.specs.Reading.{Crossing, sent_by}
-use Rattle.rasta_check.proofs.Crossings.{length_spelled, number_spelled}
-use Rattle.rasta_check.proofs.Stored.{kept_at}
+use Rattle.rasta_check.specs.Capture.Crossing.{FirstCopy}
+use Rattle.rasta_check.specs.Capture.Reading.{Crossing, sent_by}
+use Rattle.rasta_check.proofs.Capture.Crossings.{length_spelled, number_spelled}
+use Rattle.rasta_check.proofs.Internals.StoreLists.{kept_at}
 use Rattle.rasta_check.proofs.crossing_store.Store.number_at.Goals as goal
 
 pub number_in-requires : goal.number_in-requires

@@ -1,9 +1,9 @@
 use Rattle.std.proofs.Common.{List, slice_get, ap, sym, ◌∙◌, subst}
 use Rattle.std.specs.Option.{option_map}
 use Rattle.rasta_check.specs.declared.crossing_store.StoredPacket.{StoredPacket}
-use Rattle.rasta_check.specs.Crossing.{Spells, FirstCopy}
-use Rattle.rasta_check.specs.Reading.{Crossing, sent_by}
-use Rattle.rasta_check.proofs.Stored.{stored_packet}
+use Rattle.rasta_check.specs.Capture.Crossing.{Spells, FirstCopy}
+use Rattle.rasta_check.specs.Capture.Reading.{Crossing, sent_by}
+use Rattle.rasta_check.proofs.Internals.StoreLists.{stored_packet}
 use Rattle.rasta_check.proofs.crossing_store.Store.packet.Goals as goal
 
 pub returns-clause-value : goal.returns-clause-value

@@ -1,5 +1,5 @@
 use Rattle.std.proofs.Common.{◌+◌, ◌-◌, ◌%◌, refl, sym, ◌∙◌, arith}
-use Rattle.rasta_check.proofs.Stored.{far_from, near_to}
+use Rattle.rasta_check.proofs.Internals.StoreLists.{far_from, near_to}
 use Rattle.rasta_check.proofs.crossing_store.Store.position_of.Goals as goal
 
 pub returns-then-position-count-clause-value : goal.returns-then-position-count-clause-value

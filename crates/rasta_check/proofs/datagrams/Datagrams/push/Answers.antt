@@ -1,7 +1,7 @@
 use Rattle.std.proofs.Common.{ap, sym, ◌∙◌, [], ◌∷◌, ◌++◌}
 use Rattle.rasta_pcap.specs.declared.fault.Side.{Side}
-use Rattle.rasta_check.specs.Datagrams.{Kept, KeptDatagrams, keeping}
-use Rattle.rasta_check.proofs.Keeping.{both_ok, kept_grown, same_kept}
+use Rattle.rasta_check.specs.Internals.Datagrams.{Kept, KeptDatagrams, keeping}
+use Rattle.rasta_check.proofs.Internals.DatagramGrowth.{both_ok, kept_grown, same_kept}
 use Rattle.rasta_check.proofs.datagrams.Datagrams.push.Goals as goal
 
 pub returns-in-Client-clause-ok : goal.returns-in-Client-clause-ok

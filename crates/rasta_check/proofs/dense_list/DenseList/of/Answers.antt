@@ -1,9 +1,9 @@
 use Rattle.std.proofs.Common.{◌+◌, List, [], ◌∷◌, ◌++◌, ap, sym, ◌∙◌, length, subst, arith}
 use Rattle.std.specs.Option.{option_map}
 use Rattle.std.proofs.lemmas.List.{length-take-le}
-use Rattle.rasta_check.specs.Crossing.{FirstCopy}
-use Rattle.rasta_check.specs.Lists.{IsOrdered, copy_of}
-use Rattle.rasta_check.proofs.Positions.{none_within, ordered_take, take_one_more}
+use Rattle.rasta_check.specs.Capture.Crossing.{FirstCopy}
+use Rattle.rasta_check.specs.Capture.Lists.{IsOrdered, copy_of}
+use Rattle.rasta_check.proofs.Capture.Positions.{none_within, ordered_take, take_one_more}
 use Rattle.rasta_check.proofs.dense_list.DenseList.of.Goals as goal
 use Rattle.rasta_check.proofs.dense_list.DenseList.of.Goals.{in-Some+in_ok-push, in_default}
 

@@ -1,9 +1,9 @@
 use Rattle.std.proofs.Common.{◌≡◌, ℕ, [], ◌∷◌, ◌++◌, ◌+◌, ◌<◌, List, map, length, refl, ap, sym, ◌∙◌, subst, arith}
 use Rattle.std.proofs.lemmas.List.{length-map}
 use Rattle.rasta_pdu.specs.declared.pdu.Pdu.{Pdu}
-use Rattle.rasta_check.specs.Crossing.{FirstCopy}
-use Rattle.rasta_check.specs.Lists.{IsOrdered, copy_of}
-use Rattle.rasta_check.proofs.Pushes.{marks_grown, vector_grown, vector_few}
+use Rattle.rasta_check.specs.Capture.Crossing.{FirstCopy}
+use Rattle.rasta_check.specs.Capture.Lists.{IsOrdered, copy_of}
+use Rattle.rasta_check.proofs.Internals.ListPushes.{marks_grown, vector_grown, vector_few}
 use Rattle.rasta_check.proofs.dense_list.DenseList.push.Goals as goal
 
 pub invariant_of-self-2 : goal.invariant_of-self-2

@@ -3,9 +3,9 @@ use Rattle.std.specs.Option.{option_map}
 use Rattle.std.proofs.lemmas.List.{length-map}
 use Rattle.std.proofs.lemmas.Option.{slice_get-map}
 use Rattle.rasta_pdu.specs.declared.pdu.Pdu.{Pdu}
-use Rattle.rasta_check.specs.Crossing.{FirstCopy}
-use Rattle.rasta_check.specs.Lists.{copy_of, position_of_number}
-use Rattle.rasta_check.proofs.Positions.{near, far}
+use Rattle.rasta_check.specs.Capture.Crossing.{FirstCopy}
+use Rattle.rasta_check.specs.Capture.Lists.{copy_of, position_of_number}
+use Rattle.rasta_check.proofs.Capture.Positions.{near, far}
 use Rattle.rasta_check.proofs.dense_list.DenseListSentList.position_of.Goals as goal
 
 first_of : (items : List (ℕ × Pdu)) (x : ℕ × Pdu) → slice_get items 0 ≡ Some x → slice_get (map copy_of items) 0 ≡ Some (copy_of x)

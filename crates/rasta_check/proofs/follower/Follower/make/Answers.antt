@@ -1,8 +1,8 @@
 use Rattle.std.proofs.Common.{inl, inr, ⊎_elim}
 use Rattle.rasta_pdu.specs.Pdu.{value_of}
 use Rattle.rasta_end.specs.MakeRule.{make_fault}
-use Rattle.rasta_check.specs.Checking.{Followed}
-use Rattle.rasta_check.proofs.Refusing.{refused}
+use Rattle.rasta_check.specs.Internals.Checking.{Followed}
+use Rattle.rasta_check.proofs.Script.RefusedEntries.{refused}
 use Rattle.rasta_check.proofs.follower.Follower.make.Goals as goal
 
 -- src/follower.rt

@@ -1,8 +1,8 @@
 use Rattle.std.proofs.Common.{ℕ, List, ap, ◌∙◌}
 use Rattle.std.specs.Option.{option_map}
 use Rattle.rasta_pdu.specs.declared.pdu.Pdu.{Pdu}
-use Rattle.rasta_check.specs.Crossing.{FirstCopy, copy_with}
-use Rattle.rasta_check.proofs.Pushes.{place_found}
+use Rattle.rasta_check.specs.Capture.Crossing.{FirstCopy, copy_with}
+use Rattle.rasta_check.proofs.Internals.ListPushes.{place_found}
 use Rattle.rasta_check.proofs.map_list.MapList.place_of.Goals as goal
 
 pub returns-in-Some : goal.returns-in-Some

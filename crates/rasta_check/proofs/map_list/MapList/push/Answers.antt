@@ -1,9 +1,9 @@
 use Rattle.std.proofs.Common.{◌≡◌, ℕ, [], ◌∷◌, ◌++◌, ◌+◌, ◌<◌, List, length, refl, ap, sym, ◌∙◌, subst, arith}
 use Rattle.std.proofs.lemmas.List.{length-map}
 use Rattle.rasta_pdu.specs.declared.pdu.Pdu.{Pdu}
-use Rattle.rasta_check.specs.Crossing.{FirstCopy}
-use Rattle.rasta_check.specs.Lists.{IsOrdered, copy_of, copies_in}
-use Rattle.rasta_check.proofs.Pushes.{marks_grown, map_grown, map_few, keys_grown}
+use Rattle.rasta_check.specs.Capture.Crossing.{FirstCopy}
+use Rattle.rasta_check.specs.Capture.Lists.{IsOrdered, copy_of, copies_in}
+use Rattle.rasta_check.proofs.Internals.ListPushes.{marks_grown, map_grown, map_few, keys_grown}
 use Rattle.rasta_check.proofs.map_list.MapList.push.Goals as goal
 
 pub invariant_of-self-2 : goal.invariant_of-self-2

@@ -1,6 +1,6 @@
 use Rattle.std.proofs.Common.{rules, true, subst}
 use Rattle.rasta_plain.specs.declared.world.Move.TheVariants.{Wait}
-use Rattle.rasta_check.specs.World.{Station}
+use Rattle.rasta_check.specs.Model.World.{Station}
 use Rattle.rasta_plain.specs.Moving.{Answers, JudgedStation}
 use Rattle.rasta_plain.proofs.Moving.{wait_refused, wait_made}
 use Rattle.rasta_plain.proofs.world.PlainStation.waits.Goals as goal

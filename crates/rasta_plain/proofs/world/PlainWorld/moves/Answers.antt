@@ -1,6 +1,6 @@
 use Rattle.std.proofs.Common.{◌∙◌, map, sym, subst, IfOk, IsTrue}
 use Rattle.rasta_udp.specs.Frame.{packet_of}
-use Rattle.rasta_check.specs.World.{World, Step}
+use Rattle.rasta_check.specs.Model.World.{World, Step}
 use Rattle.rasta_plain.specs.Moving.{JudgedWorld}
 use Rattle.rasta_plain.proofs.Moving.{base_kept, client_steps, server_steps}
 use Rattle.rasta_plain.proofs.world.PlainWorld.moves.Goals as goal

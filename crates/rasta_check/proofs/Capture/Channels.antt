@@ -1,0 +1,118 @@
+-- Packets are found on recorded channels.
+use Rattle.std.proofs.Common.{◌≡◌, ◌⊎◌, ℕ, suc, ◌+◌, ◌-◌, ◌<◌, ◌≤◌, List, [], ◌∷◌, ◌++◌, length, Bool, true, false, cond, if◌then◌else◌, Option, Some, None, is_none, Result, Ok, Err, slice_get, refl, ap, arith, inl, inr, ⊎_elim, subst}
+use Rattle.std.specs.Prelude.{slice_range, not, ◌||◌, ◌==◌, nat_lt}
+use Rattle.std.specs.List.{find}
+use Rattle.std.specs.Option.{option_map}
+use Rattle.rasta_pcap.specs.declared.fault.Fault.{Fault}
+use Rattle.rasta_pcap.specs.Fault.{fault_at, fragment, bad_udp, cut_packet}
+use Rattle.rasta_pcap.specs.declared.fault.Side.TheVariants.{Client, Server}
+use Rattle.rasta_udp.specs.declared.channel.Channel.{Channel}
+use Rattle.rasta_udp.specs.Frame.{Direction, Fields, Found, Packet, directions_from, direction_of, goes, found_by, found_in, has_known_addresses, fields_of, map_found, moved_on, datagram_of, is_tagged, untagged_of, without_tag, packet_at, packet_in}
+use Rattle.rasta_pdu.specs.Params.{Parameters}
+use Rattle.rasta_check.specs.Capture.Crossing.{CrossRecorded}
+use Rattle.rasta_check.specs.Capture.Crossing.{IsRecorded}
+use Rattle.rasta_check.proofs.Model.ListGrowth.{get_push_cases}
+
+-- a channel's number is one of so many from this one on
+abbrev Among : ℕ → ℕ → ℕ → Type 0
+Among number count channel = (number ≤ channel) × (channel < number + count)
+
+-- one of two directions, or one of the rest
+first_of : (a b : Bool) (e f d : Direction) (rest : Option Direction) → cond a (Some e) (cond b (Some f) rest) ≡ Some d → (e ≡ d) ⊎ (f ≡ d) ⊎ (rest ≡ Some d)
+first_of true b e f d rest h = inl (cc)
+first_of false true e f d rest h = inr (inl (cc))
+first_of false false e f d rest h = inr (inr h)
+
+among_by : (number : ℕ) (cs : List Channel) (e f d : Direction) (rest : Option Direction) → e.channel ≡ number → f.channel ≡ number → (rest ≡ Some d → Among (number + 1) (length cs) d.channel)
+    → (e ≡ d) ⊎ (f ≡ d) ⊎ (rest ≡ Some d) → Among number (suc (length cs)) d.channel
+among_by number cs e f d rest n m after (inl w) = (let c = ap (λ (y : Direction). y.channel) w in (omega arith, omega arith))
+among_by number cs e f d rest n m after (inr (inl w)) = (let c = ap (λ (y : Direction). y.channel) w in (omega arith, omega arith))
+among_by number cs e f d rest n m after (inr (inr w)) = (let c = after w in let low = c.0 in let high = c.1 in (omega arith, omega arith))
+
+direction_among : (x : Fields) (number : ℕ) (channels : List Channel) (d : Direction) → find (λ (e : Direction). goes x e.source e.destination) (directions_from number channels) ≡ Some d
+    → Among number (length channels) d.channel
+direction_among x number [] d h = absurd (cc)
+direction_among x number (c ∷ cs) d h =
+    let there : Direction = record { channel = number; side = Client; source = c.client; destination = c.server } in
+    let back : Direction = record { channel = number; side = Server; source = c.server; destination = c.client } in
+    among_by number cs there back d _ refl refl (direction_among x (number + 1) cs d) (first_of (goes x c.client c.server) (goes x c.server c.client) there back d _ h)
+
+-- a test that answers nothing where it holds leads on
+after_none : (b : Bool) (rest : Result (Option Found) Fault) (d : Found) → (if b then Ok None else rest) ≡ Ok (Some d) → rest ≡ Ok (Some d)
+after_none true rest d h = absurd (cc)
+after_none false rest d h = h
+
+-- so does one that answers a fault
+after_fault : (b : Bool) (fault : Fault) (rest : Result (Option Found) Fault) (d : Found) → (if b then Err fault else rest) ≡ Ok (Some d) → rest ≡ Ok (Some d)
+after_fault true fault rest d h = absurd (cc)
+after_fault false fault rest d h = h
+
+abbrev answer_of : Option Found → Result (Option Found) Fault
+answer_of o = Ok o
+
+named_by : (x : Fields) (o : Option Direction) (d : Found) → answer_of (option_map (found_in x) o) ≡ Ok (Some d) → (e : Direction) × (o ≡ Some e) × (e.channel ≡ d.channel)
+named_by x None d h = absurd (cc)
+named_by x (Some e) d h = (e, refl, (let same : found_in x e ≡ d = cc in ap (λ (y : Found). y.channel) same))
+
+-- what is found where no test of the frame table holds
+tests_failed : (t u v w x a b c e f g : Bool) (i j k l m : Fault) (rest : Result (Option Found) Fault) (d : Found)
+    → (if t then Ok None else if u then Ok None else if v then Ok None else if w then Ok None else if x then Ok None
+    else if a then Err i else if b then Err j else if c then Err k else if e then Ok None else if f then Err l else if g then Err m else rest) ≡ Ok (Some d)
+    → rest ≡ Ok (Some d)
+tests_failed t u v w x a b c e f g i j k l m rest d h =
+    let past_none = after_none x _ d (after_none w _ d (after_none v _ d (after_none u _ d (after_none t _ d h)))) in
+    let past_fault = after_fault c k _ d (after_fault b j _ d (after_fault a i _ d past_none)) in
+    after_fault g m rest d (after_fault f l _ d (after_none e _ d past_fault))
+
+found_among : (channels : List Channel) (x : Fields) (d : Found) → found_by channels x ≡ Ok (Some d) → Among 1 (length channels) d.channel
+unfolding found_by direction_of
+found_among channels x d h =
+    let found : answer_of (option_map (found_in x) (direction_of channels x)) ≡ Ok (Some d) =
+    tests_failed (nat_lt x.captured 34) (not (x.ether_type == 0x0800)) (not (x.version == 4) || nat_lt x.header_length 20) (not (x.protocol == 17)) (not (has_known_addresses channels x))
+    (x.more_fragments == 1 || nat_lt 0 x.fragment_offset) (nat_lt x.total_length (x.header_length + 8)) (nat_lt x.captured (14 + x.header_length + 8)) (is_none (direction_of channels x))
+    (nat_lt x.udp_length 8 || nat_lt (x.total_length - x.header_length) x.udp_length) (nat_lt x.captured (14 + x.header_length + x.udp_length))
+    (fault_at fragment 0) (fault_at bad_udp 0) (fault_at cut_packet 0) (fault_at bad_udp 0) (fault_at cut_packet 0)
+    (answer_of (option_map (found_in x) (direction_of channels x))) d h in
+    let w = named_by x (direction_of channels x) d found in
+    subst (λ (n : ℕ). Among 1 (length channels) n) w.2 (direction_among x 1 channels w.0 w.1)
+
+moved_by : (r : Result (Option Found) Fault) (n : ℕ) (d : Found) → map_found (moved_on n) r ≡ Ok (Some d) → (e : Found) × (r ≡ Ok (Some e)) × (e.channel ≡ d.channel)
+moved_by (Ok None) n d h = absurd (cc)
+moved_by (Err fault) n d h = absurd (cc)
+moved_by (Ok (Some e)) n d h = (e, refl, (let same : moved_on n e ≡ d = cc in ap (λ (y : Found). y.channel) same))
+
+datagram_among : (channels : List Channel) (frame : List ℕ) (d : Found) → datagram_of channels frame ≡ Ok (Some d) → Among 1 (length channels) d.channel
+unfolding datagram_of
+datagram_among channels frame d h = by (is_tagged frame) h
+  where
+    by : (b : Bool) → (if b then map_found (moved_on 4) (untagged_of channels (without_tag frame)) else untagged_of channels frame) ≡ Ok (Some d) → Among 1 (length channels) d.channel
+    by true e = (let w = moved_by (untagged_of channels (without_tag frame)) 4 d e in subst (λ (n : ℕ). Among 1 (length channels) n) w.2 (found_among channels (fields_of (without_tag frame)) w.0 w.1))
+    by false e = found_among channels (fields_of frame) d e
+
+packet_by : (frame : List ℕ) (r : Result (Option Found) Fault) (a : Packet) → map_found (packet_at frame) r ≡ Ok (Some a)
+    → (d : Found) × (r ≡ Ok (Some d)) × (d.channel ≡ a.channel) × (slice_range frame d.start d.end ≡ a.payload)
+packet_by frame (Ok None) a h = absurd (cc)
+packet_by frame (Err fault) a h = absurd (cc)
+packet_by frame (Ok (Some d)) a h = (let same : packet_at frame d ≡ a = cc in (d, refl, ap (λ (y : Packet). y.channel) same, ap (λ (y : Packet). y.payload) same))
+
+-- its payload is a range of the frame
+pub in_range : (channels : List Channel) (frame : List ℕ) (a : Packet) → packet_in channels frame ≡ Ok (Some a) → (start end : ℕ) × (slice_range frame start end ≡ a.payload)
+unfolding packet_in
+in_range channels frame a h = (let w = packet_by frame (datagram_of channels frame) a h in (w.0.start, w.0.end, w.3))
+
+-- the packet that a frame holds was sent on a recorded channel
+pub is_recorded : (p : Parameters) (frame : List ℕ) (a : Packet) → packet_in p.channels frame ≡ Ok (Some a) → IsRecorded p a.channel
+unfolding packet_in
+is_recorded p frame a h =
+    let w = packet_by frame (datagram_of p.channels frame) a h in
+    let among = subst (λ (n : ℕ). Among 1 (length p.channels) n) w.2 (datagram_among p.channels frame w.0 w.1) in
+    let low = among.0 in
+    let high = among.1 in
+    (omega arith, omega arith)
+
+-- packets on recorded channels, and one more
+pub recorded_more : (p : Parameters) (packets : List Packet) (a : Packet) → CrossRecorded p packets → IsRecorded p a.channel → CrossRecorded p (packets ++ a ∷ [])
+recorded_more p packets a all one place b g = ⊎_elim
+    (λ (old : slice_get packets place ≡ Some b). all place b old)
+    (λ (new : (place ≡ length packets) × (a ≡ b)). subst (λ (x : Packet). IsRecorded p x.channel) new.1 one)
+    (get_push_cases packets a place b g)

@@ -1,0 +1,264 @@
+-- A crossing goes on with a packet that has no fault.
+use Rattle.std.proofs.Common.{◌≡◌, ℕ, suc, ◌+◌, ◌<◌, ◌≤◌, ◌^◌, ◌++◌, Bool, true, false, List, [], ◌∷◌, Option, Some, None, Result, Ok, Err, length, slice_get, refl, ap, sym, ◌∙◌, arith, subst, not, nat_lt, is_some, if◌then◌else◌, IfSome}
+use Rattle.std.specs.Prelude.{◌&&◌, ◌||◌}
+use Rattle.std.specs.Option.{option_map}
+use Rattle.std.proofs.lemmas.List.{length_push}
+use Rattle.std.proofs.lemmas.Option.{slice_get_within}
+use Rattle.std.specs.Str.{bytes_eq}
+use Rattle.std.proofs.lemmas.Slice.Eq.{bytes_eq-Decides}
+use Rattle.rasta_pcap.specs.declared.fault.Fault.{Fault}
+use Rattle.rasta_pcap.specs.Fault.{copy_differs, number_gap, fault_at, fault_of_end, too_many}
+use Rattle.rasta_pcap.specs.declared.fault.Side.{Side}
+use Rattle.rasta_pcap.specs.declared.fault.Side.TheVariants.{Client, Server}
+use Rattle.rasta_udp.specs.Frame.{Packet}
+use Rattle.rasta_pdu.specs.Params.{Parameters, AreParameters}
+use Rattle.rasta_pdu.specs.Messages.{AreBytes}
+use Rattle.rasta_pdu.specs.Pdu.{RedundancyPdu, redundancy_bytes, safety_bytes, length_of, decode_of, value_of}
+use Rattle.std.specs.Int.{bytes_low_first}
+use Rattle.std.proofs.lemmas.Nat.{from_le_bytes-to_le_bytes_4}
+use Rattle.rasta_pdu.proofs.Spellings.{decode_of-Ok}
+use Rattle.rasta_end.specs.State.{wrapped}
+use Rattle.rasta_check.specs.Capture.Crossing.{FirstCopy, Spells, copy_with, is_next_number, number_fault, read_fault, packet_fault}
+use Rattle.rasta_check.specs.Model.Theorem.{most_packets}
+use Rattle.rasta_check.specs.Capture.Crossing.{IsRecorded}
+use Rattle.rasta_check.specs.Model.World.{most_sent}
+use Rattle.rasta_check.specs.Internals.Packets.{with_new, number_in_bytes}
+use Rattle.rasta_check.specs.Capture.Lists.{copy_of}
+use Rattle.rasta_pdu.specs.declared.pdu.Pdu.{Pdu}
+use Rattle.rasta_check.specs.Capture.Reading.{Crossing, IsCrossing, sent_by, after_pdu, after_read, sent_after, with_packet, crossing_with, is_within, after_packet, after_judged}
+use Rattle.rasta_check.proofs.Capture.FaultlessLists.{IsSent}
+use Rattle.rasta_check.proofs.Capture.ListForms.{to_record, of_record}
+use Rattle.rasta_check.proofs.Script.Simulation.{slice_get_some}
+use Rattle.rasta_check.proofs.Capture.FirstCopies.{not_again, sent_copy, sent_first, sent_other, earliest}
+use Rattle.rasta_check.proofs.Capture.NextPackets.{first_number, numbers_from, next_from}
+use Rattle.std.proofs.lemmas.Bool.Decides.{nat_tests}
+use Rattle.rasta_check.proofs.Capture.PacketFaults.{copy_found, passed}
+use Rattle.rasta_check.proofs.Capture.Channels.{recorded_more}
+
+next_of : (os : List FirstCopy) (n : ℕ) → is_next_number os n ≡ true → (c : FirstCopy) → slice_get os 0 ≡ Some c → n ≡ wrapped (c.pdu.number + length os)
+next_of [] n e c g = absurd (cc)
+next_of (x ∷ os) n e c g = (let same : x ≡ c = cc in let z : n ≡ wrapped (x.pdu.number + length (x ∷ os)) = grind (arith, nat_tests) in z ∙ ap (λ (y : FirstCopy). wrapped (y.pdu.number + length (x ∷ os))) same)
+
+module _ (p : Parameters) (packets : List Packet) (side : Side) (own : List FirstCopy) (a : Packet) (sent : IsSent p packets side own) (of_side : a.side ≡ side) where
+  by_copy : (d : RedundancyPdu) → Spells p side d a.payload → (o : Option FirstCopy) → copy_with own d.number ≡ o → number_fault p side own a.payload d o ≡ None
+      → IsSent p (packets ++ a ∷ []) side (after_pdu own (length packets) d o)
+  by_copy d s None e n = (sent_first p packets a side own d (first_number own d) sent (numbers_from p packets side own d sent) of_side s
+      (next_from own d s.fits.number (next_of own d.number (passed (is_next_number own d.number) number_gap n)))).0
+  by_copy d s (Some c) e n =
+      let f = copy_found own d.number c e in
+      let w = sent.firsts f.0 c f.1 in
+      let same : redundancy_bytes p side c.pdu ≡ a.payload = (bytes_eq-Decides (redundancy_bytes p side c.pdu) a.payload).0 (passed (bytes_eq (redundancy_bytes p side c.pdu) a.payload) copy_differs n) in
+      sent_copy p packets a side own c.place w.0 sent w.1 w.2 (w.3.same ∙ same)
+
+-- it is read as this PDU, which its bytes spell
+abbrev pub IsRead : Parameters → Packet → Type 0
+IsRead p a = (d : RedundancyPdu) × (decode_of p a.side a.payload ≡ Ok d) × Spells p a.side d a.payload
+
+read_by : (p : Parameters) (own : List FirstCopy) (a : Packet) (r : Result RedundancyPdu Fault) → decode_of p a.side a.payload ≡ r → AreParameters p → AreBytes a.payload
+    → read_fault p a.side own a.payload r ≡ None → IsRead p a
+read_by p own a (Err fault) e valid are n = absurd (cc)
+read_by p own a (Ok d) e valid are n = (let is = decode_of-Ok p a.side a.payload d valid are e in (d, e, record { fits = is.is; same = is.spelled }))
+
+-- a packet without a fault is read
+pub is_read : (p : Parameters) (own : List FirstCopy) (a : Packet) → AreParameters p → AreBytes a.payload → packet_fault p own a ≡ None → IsRead p a
+is_read p own a valid are n = read_by p own a (decode_of p a.side a.payload) refl valid are n
+
+-- the sent list of its sender goes on
+pub goes_on : (p : Parameters) (packets : List Packet) (own : List FirstCopy) (a : Packet) → IsSent p packets a.side own → IsRead p a
+    → packet_fault p own a ≡ None → IsSent p (packets ++ a ∷ []) a.side (after_read own (length packets) (decode_of p a.side a.payload))
+goes_on p packets own a sent w n =
+    subst (λ (r : Result RedundancyPdu Fault). IsSent p (packets ++ a ∷ []) a.side (after_read own (length packets) r)) (sym w.1)
+    (by_copy p packets a.side own a sent refl w.0 w.2 (copy_with own w.0.number) refl (sym (ap (read_fault p a.side own a.payload) w.1) ∙ n))
+
+-- ---- packets of known numbers
+
+pub list_of : (k : Crossing) → IsCrossing k → (side : Side) → IsSent k.params k.packets side (sent_by k side)
+list_of k h Client = to_record k.params k.packets Client k.client h.valid.valid h.client
+list_of k h Server = to_record k.params k.packets Server k.server h.valid.valid h.server
+
+pub few_of : (k : Crossing) → IsCrossing k → (side : Side) → length (sent_by k side) ≤ 1000000
+few_of k h Client = h.few_client
+few_of k h Server = h.few_server
+
+-- the first copy at this place
+placed : (o : Option FirstCopy) (place : ℕ) → option_map (λ (c : FirstCopy). c.place) o ≡ Some place → (c : FirstCopy) × (o ≡ Some c) × (c.place ≡ place)
+placed None place e = absurd (cc)
+placed (Some c) place e = (c, refl, cc)
+
+-- the packet of a first copy
+first_packet : (k : Crossing) (side : Side) (number place : ℕ) → IsCrossing k → option_map (λ (c : FirstCopy). c.place) (copy_with (sent_by k side) number) ≡ Some place
+    → (c : FirstCopy) × (b : Packet) × (copy_with (sent_by k side) number ≡ Some c) × (slice_get k.packets place ≡ Some b) × (b.payload ≡ redundancy_bytes k.params side c.pdu)
+first_packet k side number place h e =
+    let w = placed (copy_with (sent_by k side) number) place e in
+    let f = copy_found (sent_by k side) number w.0 w.1 in
+    let q = (list_of k h side).firsts f.0 w.0 f.1 in
+    (w.0, q.0, w.1, subst (λ (j : ℕ). slice_get k.packets j ≡ Some q.0) w.2 q.1, q.3.same)
+
+pub place_within : (k : Crossing) (side : Side) (number place : ℕ) → IsCrossing k → option_map (λ (c : FirstCopy). c.place) (copy_with (sent_by k side) number) ≡ Some place
+    → place < length k.packets
+place_within k side number place h e = (let w = first_packet k side number place h e in slice_get_within k.packets place w.1 w.3)
+
+-- a packet of a known number has no fault exactly where its bytes are those of the first copy
+pub repeated : (k : Crossing) (a : Packet) (d : RedundancyPdu) (place : ℕ) (r : Bool) → IsCrossing k → decode_of k.params a.side a.payload ≡ Ok d
+    → option_map (λ (c : FirstCopy). c.place) (copy_with (sent_by k a.side) d.number) ≡ Some place → IfSome (slice_get k.packets place) (λ (b : Packet). r ≡ bytes_eq b.payload a.payload)
+    → (packet_fault k.params (sent_by k a.side) a ≡ (if r then None else Some copy_differs)) × (sent_after k a ≡ sent_by k a.side)
+repeated k a d place r h e f g =
+    let w = first_packet k a.side d.number place h f in
+    let own = sent_by k a.side in
+    let test : r ≡ bytes_eq w.1.payload a.payload = subst (λ (o : Option Packet). IfSome o (λ (b : Packet). r ≡ bytes_eq b.payload a.payload)) w.3 g in
+    let same : r ≡ bytes_eq (redundancy_bytes k.params a.side w.0.pdu) a.payload = test ∙ ap (λ (bs : List ℕ). bytes_eq bs a.payload) w.4 in (
+      ap (read_fault k.params a.side own a.payload) e ∙ (ap (number_fault k.params a.side own a.payload d) w.2 ∙ ap (λ (b : Bool). if b then None else Some copy_differs) (sym same)),
+      ap (after_read own (length k.packets)) e ∙ ap (after_pdu own (length k.packets) d) w.2,
+    )
+
+-- the next number is no known one
+next_unknown : (k : Crossing) (side : Side) (n : ℕ) → IsCrossing k → is_next_number (sent_by k side) n ≡ true → (o : Option FirstCopy) → copy_with (sent_by k side) n ≡ o → o ≡ None
+next_unknown k side n h e None f = refl
+next_unknown k side n h e (Some c) f =
+    let own = sent_by k side in
+    let w = copy_found own n c f in
+    let l = slice_get_within own w.0 c w.1 in
+    let few = few_of k h side in
+    let head = slice_get_some own 0 (omega arith) in
+    absurd (not_again head.0.pdu.number w.0 (length own) c.pdu.number n ((list_of k h side).numbers w.0 head.0 c head.1 w.1) (next_of own n e head.0 head.1) l (omega arith) w.2)
+
+-- a packet with the next number has no fault, and its PDU joins the list
+pub is_next_pdu : (k : Crossing) (a : Packet) (pdu : Pdu) → IsCrossing k → decode_of k.params a.side a.payload ≡ Ok (value_of pdu)
+    → is_next_number (sent_by k a.side) (value_of pdu).number ≡ true
+    → (packet_fault k.params (sent_by k a.side) a ≡ None) × (sent_after k a ≡ with_new (sent_by k a.side) (length k.packets) (Some pdu))
+is_next_pdu k a pdu h reads e =
+    let own = sent_by k a.side in
+    let d = value_of pdu in
+    let new = next_unknown k a.side d.number h e (copy_with own d.number) refl in (
+      ap (read_fault k.params a.side own a.payload) reads ∙ (ap (number_fault k.params a.side own a.payload d) new ∙ ap (λ (b : Bool). if b then None else Some number_gap) e),
+      ap (after_read own (length k.packets)) reads ∙ ap (after_pdu own (length k.packets) d) new,
+    )
+
+-- ---- the limits
+
+room_at : (k : Crossing) (a : Packet) (side : Side) (place : ℕ) (new : Option Pdu) → IsCrossing k
+    → is_within (crossing_with k a side (with_new (sent_by k side) place new)) ≡ (nat_lt (length k.packets) most_packets && (not (is_some new) || nat_lt (length (sent_by k side)) most_sent))
+room_at k a Client place None h = (let l = length_push k.packets a in let x = h.few_client in let y = h.few_server in grind (arith, nat_tests))
+room_at k a Client place (Some pdu) h = (let l = length_push k.packets a in let m = length_push k.client (copy_of (place, pdu)) in let x = h.few_client in let y = h.few_server in grind (arith, nat_tests))
+room_at k a Server place None h = (let l = length_push k.packets a in let x = h.few_client in let y = h.few_server in grind (arith, nat_tests))
+room_at k a Server place (Some pdu) h = (let l = length_push k.packets a in let m = length_push k.server (copy_of (place, pdu)) in let x = h.few_client in let y = h.few_server in grind (arith, nat_tests))
+
+-- ---- one packet more
+
+within_packets : (k : Crossing) → is_within k ≡ true → (length k.packets ≤ most_packets) × (length k.client ≤ most_sent) × (length k.server ≤ most_sent)
+within_packets k e = (grind (arith, nat_tests), grind (arith, nat_tests), grind (arith, nat_tests))
+
+client_not_server : Client ≡ Server → ⊥
+client_not_server e = cc
+
+grown_at : (k : Crossing) (a : Packet) (side : Side) (sent : List FirstCopy) → a.side ≡ side → IsCrossing k → IsRecorded k.params a.channel → IsSent k.params (k.packets ++ a ∷ []) side sent
+    → is_within (crossing_with k a side sent) ≡ true → IsCrossing (crossing_with k a side sent)
+grown_at k a Client sent e h on s within =
+    let w = within_packets (crossing_with k a Client sent) within in
+    record {
+      valid = h.valid;
+      recorded = recorded_more k.params k.packets a h.recorded on;
+      client = of_record k.params (k.packets ++ a ∷ []) Client sent s (let z = w.1 in omega arith);
+      server = of_record k.params (k.packets ++ a ∷ []) Server k.server (sent_other k.params k.packets a Server k.server (list_of k h Server) (λ f. client_not_server (sym e ∙ f))) (let z = w.2 in omega arith);
+      few_packets = w.0;
+      few_client = w.1;
+      few_server = w.2;
+    }
+grown_at k a Server sent e h on s within =
+    let w = within_packets (crossing_with k a Server sent) within in
+    record {
+      valid = h.valid;
+      recorded = recorded_more k.params k.packets a h.recorded on;
+      client = of_record k.params (k.packets ++ a ∷ []) Client k.client (sent_other k.params k.packets a Client k.client (list_of k h Client) (λ f. client_not_server (sym f ∙ e))) (let z = w.1 in omega arith);
+      server = of_record k.params (k.packets ++ a ∷ []) Server sent s (let z = w.2 in omega arith);
+      few_packets = w.0;
+      few_client = w.1;
+      few_server = w.2;
+    }
+
+pub grown_crossing : (k : Crossing) (a : Packet) → IsCrossing k → IsRecorded k.params a.channel → IsRead k.params a → packet_fault k.params (sent_by k a.side) a ≡ None → is_within (with_packet k a) ≡ true → IsCrossing (with_packet k a)
+grown_crossing k a h on are n within = grown_at k a a.side (sent_after k a) refl h on (goes_on k.params k.packets (sent_by k a.side) a (list_of k h a.side) are n) within
+
+-- what the code knows of a packet without a fault
+module _ (k : Crossing) (a : Packet) (new : Option Pdu) (h : IsCrossing k) (after : sent_after k a ≡ with_new (sent_by k a.side) (length k.packets) new) where
+  with_is : with_packet k a ≡ crossing_with k a a.side (with_new (sent_by k a.side) (length k.packets) new)
+  with_is = ap (crossing_with k a a.side) after
+
+  within_is : (is_new room : Bool) → is_new ≡ is_some new → room ≡ (nat_lt (length k.packets) most_packets && (not is_new || nat_lt (length (sent_by k a.side)) most_sent)) → is_within (with_packet k a) ≡ room
+  within_is is_new room e f =
+      ap is_within with_is ∙ (room_at k a a.side (length k.packets) new h
+      ∙ (ap (λ (b : Bool). nat_lt (length k.packets) most_packets && (not b || nat_lt (length (sent_by k a.side)) most_sent)) (sym e) ∙ sym f))
+
+  pub may_push : (is_new room : Bool) → is_new ≡ is_some new → room ≡ (nat_lt (length k.packets) most_packets && (not is_new || nat_lt (length (sent_by k a.side)) most_sent)) → room ≡ true
+      → IsRecorded k.params a.channel → IsRead k.params a → packet_fault k.params (sent_by k a.side) a ≡ None → IsCrossing (crossing_with k a a.side (with_new (sent_by k a.side) (length k.packets) new))
+  may_push is_new room e f g on are n = subst IsCrossing with_is (grown_crossing k a h on are n (within_is is_new room e f ∙ g))
+
+  pub pushed : (is_new room : Bool) (number : ℕ) → is_new ≡ is_some new → room ≡ (nat_lt (length k.packets) most_packets && (not is_new || nat_lt (length (sent_by k a.side)) most_sent))
+      → packet_fault k.params (sent_by k a.side) a ≡ None
+      → after_packet k number a ≡ (if room then Ok (crossing_with k a a.side (with_new (sent_by k a.side) (length k.packets) new)) else Err (fault_at too_many number))
+  unfolding after_packet
+  pushed is_new room number e f n =
+      ap (after_judged k number a) n
+      ∙ (λ i. if within_is is_new room e f i then Ok (with_is i) else Err (fault_at too_many number))
+
+  pub pushed_all : (is_new room : Bool) (number : ℕ) → is_new ≡ is_some new → room ≡ (nat_lt (length k.packets) most_packets && (not is_new || nat_lt (length (sent_by k a.side)) most_sent))
+      → packet_fault k.params (sent_by k a.side) a ≡ None → room ≡ true
+      → after_packet k number a ≡ Ok (crossing_with k a a.side (with_new (sent_by k a.side) (length k.packets) new))
+  pushed_all is_new room number e f n g =
+      pushed is_new room number e f n ∙ ap (λ (b : Bool). if b then Ok (crossing_with k a a.side (with_new (sent_by k a.side) (length k.packets) new)) else Err (fault_at too_many number)) g
+
+  pub pushed_none : (is_new room : Bool) (number : ℕ) → is_new ≡ is_some new → room ≡ (nat_lt (length k.packets) most_packets && (not is_new || nat_lt (length (sent_by k a.side)) most_sent))
+      → packet_fault k.params (sent_by k a.side) a ≡ None → room ≡ false → after_packet k number a ≡ Err (fault_at too_many number)
+  pushed_none is_new room number e f n g =
+      pushed is_new room number e f n ∙ ap (λ (b : Bool). if b then Ok (crossing_with k a a.side (with_new (sent_by k a.side) (length k.packets) new)) else Err (fault_at too_many number)) g
+
+-- a packet's fault
+pub refused : (k : Crossing) (a : Packet) (number fault : ℕ) → packet_fault k.params (sent_by k a.side) a ≡ Some fault → after_packet k number a ≡ Err (fault_of_end fault number a.side)
+unfolding after_packet
+refused k a number fault e = ap (after_judged k number a) e
+
+-- ---- the parts of a crossing with one packet more
+
+module _ (k : Crossing) (a : Packet) (packets : List Packet) (grown : packets ≡ k.packets ++ a ∷ []) where
+  pub after_client : (place : ℕ) (pdu : Pdu) (client : List FirstCopy) → a.side ≡ Client → place ≡ length k.packets → client ≡ k.client ++ copy_of (place, pdu) ∷ []
+      → record { params = k.params; packets = packets; client = client; server = k.server } ≡ crossing_with k a a.side (with_new (sent_by k a.side) (length k.packets) (Some pdu))
+  after_client place pdu client s l f =
+      (λ i. record { params = k.params; packets = grown i; client = (f ∙ ap (λ n. k.client ++ copy_of (n, pdu) ∷ []) l) i; server = k.server })
+      ∙ sym (ap (λ (t : Side). crossing_with k a t (with_new (sent_by k t) (length k.packets) (Some pdu))) s)
+
+  pub after_server : (place : ℕ) (pdu : Pdu) (server : List FirstCopy) → a.side ≡ Server → place ≡ length k.packets → server ≡ k.server ++ copy_of (place, pdu) ∷ []
+      → record { params = k.params; packets = packets; client = k.client; server = server } ≡ crossing_with k a a.side (with_new (sent_by k a.side) (length k.packets) (Some pdu))
+  after_server place pdu server s l f =
+      (λ i. record { params = k.params; packets = grown i; client = k.client; server = (f ∙ ap (λ n. k.server ++ copy_of (n, pdu) ∷ []) l) i })
+      ∙ sym (ap (λ (t : Side). crossing_with k a t (with_new (sent_by k t) (length k.packets) (Some pdu))) s)
+
+  pub after_repeat : record { params = k.params; packets = packets; client = k.client; server = k.server } ≡ crossing_with k a a.side (with_new (sent_by k a.side) (length k.packets) None)
+  after_repeat = (λ i. record { params = k.params; packets = grown i; client = k.client; server = k.server }) ∙ by a.side
+    where
+      by : (t : Side) → record { params = k.params; packets = k.packets ++ a ∷ []; client = k.client; server = k.server } ≡ crossing_with k a t (with_new (sent_by k t) (length k.packets) None)
+      by Client = refl
+      by Server = refl
+
+-- ---- the number of a packet
+
+-- each packet spells a PDU
+pub spelled_at : (k : Crossing) (place : ℕ) (a : Packet) → IsCrossing k → slice_get k.packets place ≡ Some a → (d : RedundancyPdu) × Spells k.params a.side d a.payload
+spelled_at k place a h g =
+    let r = earliest k.params k.packets a.side (sent_by k a.side) (list_of k h a.side) (suc place) place (omega arith) a g refl in
+    (r.1.pdu, subst (λ (bs : List ℕ). Spells k.params a.side r.1.pdu bs) r.6 r.7)
+
+number_bytes : (a b n : ℕ) (rest : List ℕ) → n < 2 ^ 32 → number_in_bytes (bytes_low_first 0 2 a ++ (bytes_low_first 0 2 b ++ (bytes_low_first 0 4 n ++ rest))) ≡ n
+number_bytes a b n rest h = from_le_bytes-to_le_bytes_4 n h
+
+long_enough : (a b n : ℕ) (rest : List ℕ) → 8 ≤ length (bytes_low_first 0 2 a ++ (bytes_low_first 0 2 b ++ (bytes_low_first 0 4 n ++ rest)))
+long_enough a b n rest = omega arith
+
+-- the redundancy number of what is spelled stands at its place
+pub number_spelled : (p : Parameters) (side : Side) (d : RedundancyPdu) (bytes : List ℕ) → Spells p side d bytes → number_in_bytes bytes ≡ d.number
+unfolding redundancy_bytes
+number_spelled p side d bytes s = ap number_in_bytes s.same ∙ number_bytes (length_of p d) d.reserve d.number (safety_bytes p side d.safety ++ d.check_bytes) s.fits.number
+
+pub length_spelled : (p : Parameters) (side : Side) (d : RedundancyPdu) (bytes : List ℕ) → Spells p side d bytes → 8 ≤ length bytes
+unfolding redundancy_bytes
+length_spelled p side d bytes s =
+    subst (λ (bs : List ℕ). 8 ≤ length bs) (sym s.same) (long_enough (length_of p d) d.reserve d.number (safety_bytes p side d.safety ++ d.check_bytes))

@@ -1,0 +1,17 @@
+-- Sent lists as the proofs use them: the list and the absence of faults in one record.
+use Rattle.std.proofs.Common.{◌≡◌, ◌⊎◌, ℕ, suc, ◌+◌, ◌<◌, List, Some, slice_get}
+use Rattle.rasta_pcap.specs.declared.fault.Side.{Side}
+use Rattle.rasta_udp.specs.Frame.{Packet}
+use Rattle.rasta_pdu.specs.Params.{Parameters, AreParameters}
+use Rattle.rasta_end.specs.State.{wrapped}
+use Rattle.rasta_check.specs.Capture.Crossing.{FirstCopy, Spells}
+
+-- these are the first copies of a side, in the order in which they crossed
+pub record IsSent (p : Parameters) (packets : List Packet) (side : Side) (sent : List FirstCopy) : Type 0 where
+  pub valid : AreParameters p
+  pub firsts : (i : ℕ) (c : FirstCopy) → slice_get sent i ≡ Some c → (k : Packet) × (slice_get packets c.place ≡ Some k) × (k.side ≡ side) × Spells p side c.pdu k.payload
+  pub rising : (i : ℕ) (c d : FirstCopy) → slice_get sent i ≡ Some c → slice_get sent (suc i) ≡ Some d → c.place < d.place
+  pub numbers : (i : ℕ) (c d : FirstCopy) → slice_get sent 0 ≡ Some c → slice_get sent i ≡ Some d → d.pdu.number ≡ wrapped (c.pdu.number + i)
+  pub others : (k : ℕ) (a : Packet) → slice_get packets k ≡ Some a → a.side ≡ side
+      → ((i : ℕ) × (c : FirstCopy) × (slice_get sent i ≡ Some c) × (c.place ≡ k))
+      ⊎ ((j : ℕ) × (b : Packet) × (j < k) × (slice_get packets j ≡ Some b) × (b.side ≡ side) × (b.payload ≡ a.payload))

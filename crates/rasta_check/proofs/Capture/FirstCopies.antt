@@ -1,0 +1,194 @@
+-- The first copies of a growing list of packets, and that a list of packets has one list of first copies.
+use Rattle.std.proofs.Common.{◌≡◌, ℕ, zero, suc, ◌+◌, ◌-◌, ◌%◌, ◌^◌, ◌<◌, ◌≤◌, ◌⊎◌, List, [], ◌∷◌, ◌++◌, length, Option, Some, None, slice_get, refl, ap, sym, ◌∙◌, arith, inl, inr, ⊎_elim, subst}
+use Rattle.std.proofs.lemmas.Option.{slice_get_within}
+use native.Mathlib.Decide.{dec_lt}
+use Prim.{yes, no}
+use Rattle.rasta_pcap.specs.declared.fault.Side.{Side}
+use Rattle.rasta_end.specs.State.{wrapped}
+use Rattle.rasta_pdu.specs.Pdu.{RedundancyPdu}
+use Rattle.rasta_check.specs.Capture.Crossing.{Spells, FirstCopy}
+use Rattle.rasta_udp.specs.Frame.{Packet}
+use Rattle.rasta_check.proofs.Capture.FaultlessLists.{IsSent}
+use Rattle.rasta_check.proofs.Model.ListGrowth.{get_push_cases, get_front, get_push}
+use Rattle.rasta_check.proofs.Capture.Spellings.{read_once}
+use Rattle.rasta_check.proofs.Script.Simulation.{places_rise, slice_get_some}
+use Rattle.rasta_pdu.specs.Params.{Parameters, AreParameters}
+
+abbrev pub First : List Packet → Side → List FirstCopy → ℕ → Type 0
+First xs s own k = (i : ℕ) × (c : FirstCopy) × (slice_get own i ≡ Some c) × (c.place ≡ k)
+
+abbrev pub Again : List Packet → Side → ℕ → List ℕ → Type 0
+Again xs s k bytes = (j : ℕ) × (b : Packet) × (j < k) × (slice_get xs j ≡ Some b) × (b.side ≡ s) × (b.payload ≡ bytes)
+
+again_front : (xs : List Packet) (k : Packet) (s : Side) (j : ℕ) (bytes : List ℕ) → Again xs s j bytes → Again (xs ++ k ∷ []) s j bytes
+again_front xs k s j bytes w = (w.0, w.1, w.2, get_front xs (k ∷ []) w.0 w.1 w.3, w.4, w.5)
+
+old_other : (p : Parameters) (xs : List Packet) (k : Packet) (s : Side) (own : List FirstCopy) (j : ℕ) (a : Packet) → IsSent p xs s own → slice_get xs j ≡ Some a → a.side ≡ s → First (xs ++ k ∷ []) s own j ⊎ Again (xs ++ k ∷ []) s j a.payload
+old_other p xs k s own j a h g e = ⊎_elim (λ (w : First xs s own j). inl w) (λ (w : Again xs s j a.payload). inr (again_front xs k s j a.payload w)) (h.others j a g e)
+
+old_first : (p : Parameters) (xs : List Packet) (k : Packet) (s : Side) (own : List FirstCopy) (i : ℕ) (c : FirstCopy) → IsSent p xs s own → slice_get own i ≡ Some c → (b : Packet) × (slice_get (xs ++ k ∷ []) c.place ≡ Some b) × (b.side ≡ s) × Spells p s c.pdu b.payload
+old_first p xs k s own i c h g = (let w = h.firsts i c g in (w.0, get_front xs (k ∷ []) c.place w.0 w.1, w.2, w.3))
+
+-- a packet of the other side
+pub sent_other : (p : Parameters) (xs : List Packet) (k : Packet) (s : Side) (own : List FirstCopy) → IsSent p xs s own → (k.side ≡ s → ⊥) → IsSent p (xs ++ k ∷ []) s own
+sent_other p xs k s own h apart =
+    record {
+      valid = h.valid;
+      firsts = λ i c g. old_first p xs k s own i c h g;
+      rising = h.rising;
+      numbers = h.numbers;
+      others = λ j a g e. ⊎_elim
+          (λ (old : slice_get xs j ≡ Some a). old_other p xs k s own j a h old e)
+          (λ (new : (j ≡ length xs) × (k ≡ a)). absurd (apart (ap (λ (b : Packet). b.side) new.1 ∙ e)))
+          (get_push_cases xs k j a g);
+    }
+
+-- a copy
+pub sent_copy : (p : Parameters) (xs : List Packet) (k : Packet) (s : Side) (own : List FirstCopy) (j : ℕ) (b : Packet) → IsSent p xs s own → slice_get xs j ≡ Some b → b.side ≡ s → b.payload ≡ k.payload → IsSent p (xs ++ k ∷ []) s own
+sent_copy p xs k s own j b h there side same =
+    record {
+      valid = h.valid;
+      firsts = λ i c g. old_first p xs k s own i c h g;
+      rising = h.rising;
+      numbers = h.numbers;
+      others = λ i a g e. ⊎_elim
+          (λ (old : slice_get xs i ≡ Some a). old_other p xs k s own i a h old e)
+          (λ (new : (i ≡ length xs) × (k ≡ a)). inr (j, b, (let l = slice_get_within xs j b there in omega arith), get_front xs (k ∷ []) j b there, side, same ∙ ap (λ (z : Packet). z.payload) new.1))
+          (get_push_cases xs k i a g);
+    }
+
+wrapped_from : (f i : ℕ) → (f + (0 + i)) % 2 ^ 32 ≡ ((f + (0 + 0)) % 2 ^ 32 + i) % 2 ^ 32
+wrapped_from f i = omega arith
+
+abbrev pub Counts_from : ℕ → List FirstCopy → Type 0
+Counts_from f own = (i : ℕ) (c : FirstCopy) → slice_get own i ≡ Some c → c.pdu.number ≡ wrapped (f + i)
+
+counts_push : (f : ℕ) (own : List FirstCopy) (c : FirstCopy) → Counts_from f own → c.pdu.number ≡ wrapped (f + length own) → Counts_from f (own ++ c ∷ [])
+counts_push f own c h e i d g = ⊎_elim
+    (λ (old : slice_get own i ≡ Some d). h i d old)
+    (λ (new : (i ≡ length own) × (c ≡ d)). ap (λ (z : FirstCopy). z.pdu.number) (sym new.1) ∙ (e ∙ ap (λ n. wrapped (f + n)) (sym new.0)))
+    (get_push_cases own c i d g)
+
+from_first : (f a b i : ℕ) → a ≡ (f + 0) % 2 ^ 32 → b ≡ (f + i) % 2 ^ 32 → b ≡ (a + i) % 2 ^ 32
+from_first f a b i x y = omega arith
+
+-- a new first copy
+pub sent_first : (p : Parameters) (xs : List Packet) (k : Packet) (s : Side) (own : List FirstCopy) (d : RedundancyPdu) (f : ℕ) → IsSent p xs s own → Counts_from f own → k.side ≡ s → Spells p s d k.payload → d.number ≡ wrapped (f + length own)
+    → IsSent p (xs ++ k ∷ []) s (own ++ record { place = length xs; pdu = d } ∷ []) × Counts_from f (own ++ record { place = length xs; pdu = d } ∷ [])
+sent_first p xs k s own d f h cf side sp num =
+    let c : FirstCopy = record { place = length xs; pdu = d } in
+    let cf' = counts_push f own c cf num in (
+      record {
+        valid = h.valid;
+        firsts = λ i e g. ⊎_elim
+            (λ (old : slice_get own i ≡ Some e). old_first p xs k s own i e h old)
+            (λ (new : (i ≡ length own) × (c ≡ e)). subst (λ (z : FirstCopy). (b : Packet) × (slice_get (xs ++ k ∷ []) z.place ≡ Some b) × (b.side ≡ s) × Spells p s z.pdu b.payload) new.1 (k, get_push xs k, side, sp))
+            (get_push_cases own c i e g);
+        rising = λ i a b x y. rise i a b x y;
+        numbers = λ i a b x y. from_first f a.pdu.number b.pdu.number i (cf' 0 a x) (cf' i b y);
+        others = λ i a g e. ⊎_elim
+            (λ (old : slice_get xs i ≡ Some a). ⊎_elim (λ (w : First (xs ++ k ∷ []) s own i). inl (w.0, w.1, get_front own (c ∷ []) w.0 w.1 w.2, w.3)) (λ (w : Again (xs ++ k ∷ []) s i a.payload). inr w) (old_other p xs k s own i a h old e))
+            (λ (new : (i ≡ length xs) × (k ≡ a)). inl (length own, c, get_push own c, sym new.0))
+            (get_push_cases xs k i a g);
+      },
+      cf',
+    )
+  where
+    rise : (i : ℕ) (a b : FirstCopy) → slice_get (own ++ record { place = length xs; pdu = d } ∷ []) i ≡ Some a → slice_get (own ++ record { place = length xs; pdu = d } ∷ []) (suc i) ≡ Some b → a.place < b.place
+    rise i a b x y = ⊎_elim
+        (λ (old : slice_get own (suc i) ≡ Some b). (let l = slice_get_within own (suc i) b old in
+        ⊎_elim (λ (o : slice_get own i ≡ Some a). h.rising i a b o old) (λ (n : (i ≡ length own) × (record { place = length xs; pdu = d } ≡ a)). absurd (omega arith)) (get_push_cases own _ i a x)))
+        (λ (new : (suc i ≡ length own) × (record { place = length xs; pdu = d } ≡ b)).
+        ⊎_elim
+        (λ (o : slice_get own i ≡ Some a). (let w = h.firsts i a o in let l = slice_get_within xs a.place w.0 w.1 in let q = ap (λ (z : FirstCopy). z.place) new.1 in omega arith))
+        (λ (n : (i ≡ length own) × (record { place = length xs; pdu = d } ≡ a)). absurd (omega arith))
+        (get_push_cases own _ i a x))
+        (get_push_cases own _ (suc i) b y)
+
+pub sent_none : (p : Parameters) (s : Side) → AreParameters p → IsSent p [] s []
+sent_none p s valid = record { valid = valid; firsts = λ i c g. absurd (cc); rising = λ i a b x y. absurd (cc); numbers = λ i a b x y. absurd (cc); others = λ k a g e. absurd (cc) }
+
+-- each packet of a side has a first copy not after it
+pub earliest : (p : Parameters) (xs : List Packet) (s : Side) (own : List FirstCopy) → IsSent p xs s own → (n k : ℕ) → k < n → (a : Packet) → slice_get xs k ≡ Some a → a.side ≡ s
+    → (i : ℕ) × (c : FirstCopy) × (b : Packet) × (slice_get own i ≡ Some c) × (c.place ≤ k) × (slice_get xs c.place ≡ Some b) × (b.payload ≡ a.payload) × Spells p s c.pdu b.payload
+earliest p xs s own h zero k l a g e = absurd (omega arith)
+earliest p xs s own h (suc n) k l a g e =
+    ⊎_elim
+    (λ (w : First xs s own k). (let f = h.firsts w.0 w.1 w.2 in
+    let same : f.0 ≡ a = (let z : slice_get xs k ≡ Some f.0 = subst (λ (t : ℕ). slice_get xs t ≡ Some f.0) w.3 f.1 in cc) in
+    (w.0, w.1, f.0, w.2, (let p = w.3 in omega arith), f.1, ap (λ (z : Packet). z.payload) same, f.3)))
+    (λ (w : Again xs s k a.payload). (let r = earliest p xs s own h n w.0 (let z = w.2 in omega arith) w.1 w.3 w.4 in (r.0, r.1, r.2, r.3, (let z = w.2 in let y = r.4 in omega arith), r.5, r.6 ∙ w.5, r.7)))
+    (h.others k a g e)
+
+pub not_again : (f i j m n : ℕ) → m ≡ (f + i) % 2 ^ 32 → n ≡ (f + j) % 2 ^ 32 → i < j → j < 4294967296 → m ≡ n → ⊥
+not_again f i j m n x y l b e = omega arith
+
+-- two lists of first copies that agree p below i: the place of the one's i-th is not below that of the other's
+module _ (p : Parameters) (xs : List Packet) (s : Side) (c d : List FirstCopy) (hc : IsSent p xs s c) (hd : IsSent p xs s d) where
+  abbrev Agree : ℕ → Type 0
+  Agree i = (j : ℕ) → j < i → slice_get c j ≡ slice_get d j
+
+  -- c has an i-th; all copies of d at or below its place come before i
+  absent : (i : ℕ) (a : FirstCopy) → i < 4294967296 → Agree i → slice_get c i ≡ Some a → ((j : ℕ) (b : FirstCopy) → slice_get d j ≡ Some b → b.place ≤ a.place → j < i) → ⊥
+  absent i a l ag g all =
+      let f = hc.firsts i a g in
+      let r = earliest p xs s d hd (suc a.place) a.place (omega arith) f.0 f.1 f.2 in
+      let low = all r.0 r.1 r.3 r.4 in
+      let mine : slice_get c r.0 ≡ Some r.1 = ag r.0 low ∙ r.3 in
+      let here : Spells p s a.pdu r.2.payload = subst (λ (bs : List ℕ). Spells p s a.pdu bs) (sym r.6) f.3 in
+      let same : r.1.pdu ≡ a.pdu = read_once p hc.valid s r.1.pdu a.pdu r.2.payload r.7 here in
+      let lc = slice_get_within c i a g in
+      let head = slice_get_some c 0 (omega arith) in
+      not_again head.0.pdu.number r.0 i r.1.pdu.number a.pdu.number (hc.numbers r.0 head.0 r.1 head.1 mine) (hc.numbers i head.0 a head.1 g) low l (ap (λ (z : RedundancyPdu). z.number) same)
+
+below_by : (p : Parameters) (xs : List Packet) (s : Side) (d : List FirstCopy) → IsSent p xs s d → (i j : ℕ) (a b e : FirstCopy) → slice_get d i ≡ Some e → a.place < e.place → slice_get d j ≡ Some b → b.place ≤ a.place → j < i
+below_by p xs s d h i j a b e at l g m =
+    elim (dec_lt j i) [
+      | yes z ↦ z
+      | no z ↦ elim (dec_lt i j) [
+        | yes y ↦ absurd (let r = places_rise p xs s d h (j - suc i) i e b at (subst (λ (t : ℕ). slice_get d t ≡ Some b) (omega arith) g) in omega arith)
+        | no y ↦ absurd (let same : i ≡ j = omega arith in let q : e ≡ b = (let g' : slice_get d i ≡ Some b = subst (λ (t : ℕ). slice_get d t ≡ Some b) (sym same) g in cc) in let w = ap (λ (u : FirstCopy). u.place) q in omega arith)
+      ]
+    ]
+
+at_same : (p : Parameters) (xs : List Packet) (s : Side) (c d : List FirstCopy) → IsSent p xs s c → IsSent p xs s d → (i : ℕ) (a b : FirstCopy) → slice_get c i ≡ Some a → slice_get d i ≡ Some b → a.place ≡ b.place → a ≡ b
+at_same p xs s c d hc hd i a b g k e =
+    let f = hc.firsts i a g in
+    let f' = hd.firsts i b k in
+    let same : f.0 ≡ f'.0 = (let z : slice_get xs b.place ≡ Some f.0 = subst (λ (t : ℕ). slice_get xs t ≡ Some f.0) e f.1 in let y = f'.1 in cc) in
+    let sp : Spells p s b.pdu f.0.payload = subst (λ (z : Packet). Spells p s b.pdu z.payload) (sym same) f'.3 in
+    let dat = read_once p hc.valid s a.pdu b.pdu f.0.payload f.3 sp in
+    (λ t. record { place = e t; pdu = dat t })
+
+agree_at : (p : Parameters) (xs : List Packet) (s : Side) (c d : List FirstCopy) (hc : IsSent p xs s c) (hd : IsSent p xs s d) (i : ℕ) → i < 4294967296 → ((j : ℕ) → j < i → slice_get c j ≡ slice_get d j)
+    → (u v : Option FirstCopy) → slice_get c i ≡ u → slice_get d i ≡ v → u ≡ v
+agree_at p xs s c d hc hd i l ag None None x y = refl
+agree_at p xs s c d hc hd i l ag (Some a) None x y = absurd (absent p xs s c d hc hd i a l ag x (λ j b g p. (let w = slice_get_within d j b g in elim (dec_lt j i) [ yes z ↦ z | no z ↦ absurd (let r = slice_get_some d i (omega arith) in let e = r.1 in cc) ])))
+agree_at p xs s c d hc hd i l ag None (Some b) x y = absurd (absent p xs s d c hd hc i b l (λ j k. sym (ag j k)) y (λ j a g p. (let w = slice_get_within c j a g in elim (dec_lt j i) [ yes z ↦ z | no z ↦ absurd (let r = slice_get_some c i (omega arith) in let e = r.1 in cc) ])))
+agree_at p xs s c d hc hd i l ag (Some a) (Some b) x y =
+    let not_low : a.place < b.place → ⊥ = λ w. absent p xs s c d hc hd i a l ag x (λ j e g u. below_by p xs s d hd i j a e b y w g u) in
+    let not_high : b.place < a.place → ⊥ = λ w. absent p xs s d c hd hc i b l (λ j k. sym (ag j k)) y (λ j e g u. below_by p xs s c hc i j b e a x w g u) in
+    let same : a.place ≡ b.place = omega (arith, not_low, not_high) in
+    ap Some (at_same p xs s c d hc hd i a b x y same)
+
+agree : (p : Parameters) (xs : List Packet) (s : Side) (c d : List FirstCopy) → IsSent p xs s c → IsSent p xs s d → (n : ℕ) → n ≤ 4294967296 → (j : ℕ) → j < n → slice_get c j ≡ slice_get d j
+agree p xs s c d hc hd zero l j k = absurd (omega arith)
+agree p xs s c d hc hd (suc n) l j k =
+    elim (dec_lt j n) [
+      | yes z ↦ agree p xs s c d hc hd n (omega arith) j z
+      | no z ↦ (let e : j ≡ n = omega arith in subst (λ (t : ℕ). slice_get c t ≡ slice_get d t) (sym e) (agree_at p xs s c d hc hd n (omega arith) (agree p xs s c d hc hd n (omega arith)) (slice_get c n) (slice_get d n) refl refl))
+    ]
+
+-- lists that agree p up to and with the end of one are equal
+equal_by : {A : Type 0} (xs ys : List A) → ((j : ℕ) → j < suc (length xs) → slice_get xs j ≡ slice_get ys j) → xs ≡ ys
+equal_by [] [] h = refl
+equal_by [] (y ∷ ys) h = absurd (let z = h 0 (omega arith) in cc)
+equal_by (x ∷ xs) [] h = absurd (let z = h 0 (omega arith) in cc)
+equal_by (x ∷ xs) (y ∷ ys) h =
+    let e : x ≡ y = (let z = h 0 (omega arith) in cc) in
+    let r = equal_by xs ys (λ j l. h (suc j) (omega arith)) in
+    (λ i. e i ∷ r i)
+
+-- a list of packets has one list of first copies
+pub sent_once : (p : Parameters) (xs : List Packet) (s : Side) (c d : List FirstCopy) → IsSent p xs s c → IsSent p xs s d → length c < 4294967296 → c ≡ d
+sent_once p xs s c d hc hd l = equal_by c d (agree p xs s c d hc hd (suc (length c)) l)

@@ -1,0 +1,205 @@
+-- Positions in ordered lists of first copies.
+use Rattle.std.proofs.Common.{◌≡◌, ℕ, zero, suc, ◌+◌, ◌-◌, ◌%◌, ◌^◌, ◌<◌, ◌≤◌, ◌++◌, Bool, true, false, cond, nat_lt, nat_eq, List, [], ◌∷◌, Option, Some, None, length, get_or, slice_get, position, refl, ap, sym, ◌∙◌, arith, subst, ⊎_elim, lt-ltb, le-ltb, true≢false, not, if◌then◌else◌, eqb, take, drop}
+use Rattle.std.specs.List.{position_or_len}
+use Rattle.std.specs.Option.{option_map}
+use Rattle.std.proofs.lemmas.Bool.Decides.{nat_tests}
+use Rattle.std.proofs.lemmas.List.{length_push, take-append-drop}
+use Rattle.std.proofs.lemmas.List.Sums.{position_or_len_is}
+use Rattle.std.proofs.lemmas.List.Folds.{position_or_len_push}
+use Rattle.std.proofs.lemmas.Option.{slice_get_within, slice_get-map, slice_get-get_or}
+use Rattle.rasta_end.specs.State.{wrapped}
+use Rattle.rasta_check.specs.Capture.Crossing.{FirstCopy}
+use Rattle.rasta_check.specs.Capture.Lists.{IsOrdered, places_of, numbers_of, position_of_number, position_of_place, AreMarks, marked}
+use Rattle.rasta_check.proofs.Model.ListGrowth.{get_push_cases, get_front, get_push}
+use Rattle.rasta_check.proofs.Capture.FirstCopies.{not_again}
+use Rattle.rasta_check.proofs.Script.Simulation.{slice_get_some}
+
+-- ---- the first position of a number in a list of numbers
+
+differ : (n m : ℕ) → (m ≡ n → ⊥) → nat_eq n m ≡ false
+differ n m h = grind (arith, nat_tests)
+
+equal : (n m : ℕ) → m ≡ n → nat_eq n m ≡ true
+equal n m h = grind (arith, nat_tests)
+
+cond_lt : (i l : ℕ) → i < l → cond (nat_lt i l) (Some i) None ≡ Some i
+cond_lt i l h = ap (λ b. cond b (Some i) None) (lt-ltb i l h)
+
+cond_not : (l : ℕ) → cond (nat_lt l l) (Some l) None ≡ None
+cond_not l = ap (λ b. cond b (Some l) None) (le-ltb l l (omega arith))
+
+module _ (n : ℕ) (xs : List ℕ) where
+  before : (i : ℕ) → i ≤ length xs → ((j y : ℕ) → j < i → slice_get xs j ≡ Some y → y ≡ n → ⊥) → (k : ℕ) → k < i → nat_eq n (get_or xs k 0) ≡ false
+  before i l fails k b = differ n (get_or xs k 0) (fails k (get_or xs k 0) b (slice_get-get_or xs k 0 (omega arith)))
+
+  pub position_at : (i : ℕ) → slice_get xs i ≡ Some n → ((j y : ℕ) → j < i → slice_get xs j ≡ Some y → y ≡ n → ⊥) → position (nat_eq n) xs ≡ Some i
+  position_at i g fails =
+      let l = slice_get_within xs i n g in
+      let here : get_or xs i 0 ≡ n = (let z = slice_get-get_or xs i 0 l in cc) in
+      let e : position_or_len (nat_eq n) xs ≡ i = position_or_len_is (nat_eq n) xs i 0 (omega arith) (before i (omega arith) fails) (λ z. equal n (get_or xs i 0) here) in
+      ap (λ k. cond (nat_lt k (length xs)) (Some k) None) e ∙ cond_lt i (length xs) l
+
+  pub position_none : ((j y : ℕ) → slice_get xs j ≡ Some y → y ≡ n → ⊥) → position (nat_eq n) xs ≡ None
+  position_none fails =
+      let e : position_or_len (nat_eq n) xs ≡ length xs = position_or_len_is (nat_eq n) xs (length xs) 0 (omega arith) (before (length xs) (omega arith) (λ j y b. fails j y)) (λ z. absurd (omega arith)) in
+      ap (λ k. cond (nat_lt k (length xs)) (Some k) None) e ∙ cond_not (length xs)
+
+-- ---- a list that goes on
+
+shown : ℕ → ℕ → Option ℕ
+shown k l = cond (nat_lt k l) (Some k) None
+
+shown_not : (k l : ℕ) → l ≤ k → shown k l ≡ None
+unfolding shown
+shown_not k l h = ap (λ b. cond b (Some k) None) (le-ltb k l h)
+
+shown_lt : (k l : ℕ) → k < l → shown k l ≡ Some k
+unfolding shown
+shown_lt k l h = cond_lt k l h
+
+pushed : (k l n : ℕ) (b : Bool) → b ≡ false → k ≤ l → (e : Bool) → eqb k l ≡ e → n ≡ cond e (l + cond b 0 1) k → shown n (l + 1) ≡ shown k l
+pushed k l n true fails h e f m = absurd (true≢false fails)
+pushed k l n false fails h true f m = (let z : k ≡ l = grind (arith, nat_tests) in shown_not n (l + 1) (omega arith) ∙ sym (shown_not k l (omega arith)))
+pushed k l n false fails h false f m = (let z : k ≡ l → ⊥ = λ e. grind (arith, nat_tests) in shown_lt n (l + 1) (omega (arith, z)) ∙ (ap Some m ∙ sym (shown_lt k l (omega (arith, z)))))
+
+or_len_step : (b : Bool) (k l : ℕ) → k ≤ l → cond (not b) (1 + k) 0 ≤ suc l
+or_len_step true k l h = omega arith
+or_len_step false k l h = omega arith
+
+or_len_most : (p : ℕ → Bool) (xs : List ℕ) → position_or_len p xs ≤ length xs
+or_len_most p [] = omega arith
+or_len_most p (x ∷ xs) = or_len_step (p x) (position_or_len p xs) (length xs) (or_len_most p xs)
+
+-- a member that doesn't pass changes nothing
+pub position_push : (p : ℕ → Bool) (xs : List ℕ) (y : ℕ) → p y ≡ false → position p (xs ++ y ∷ []) ≡ position p xs
+unfolding shown
+position_push p xs y fails =
+    ap (λ l. shown (position_or_len p (xs ++ y ∷ [])) l) (length_push xs y)
+    ∙ pushed (position_or_len p xs) (length xs) (position_or_len p (xs ++ y ∷ [])) (p y) fails (or_len_most p xs) (eqb (position_or_len p xs) (length xs)) refl (position_or_len_push p xs y)
+
+-- ---- ordered lists
+
+module _ (sent : List FirstCopy) (c : FirstCopy) (h : IsOrdered (sent ++ c ∷ [])) where
+  pub ordered_front : IsOrdered sent
+  ordered_front = record {
+    places = λ i a b x y. h.places i a b (get_front sent (c ∷ []) i a x) (get_front sent (c ∷ []) (suc i) b y);
+    numbers = λ i a b x y. h.numbers i a b (get_front sent (c ∷ []) 0 a x) (get_front sent (c ∷ []) i b y);
+  }
+
+  -- its number is new
+  pub number_new : length sent < 4294967296 → (i : ℕ) (d : FirstCopy) → slice_get sent i ≡ Some d → d.pdu.number ≡ c.pdu.number → ⊥
+  number_new few i d g e =
+      let l = slice_get_within sent i d g in
+      let head = slice_get_some sent 0 (omega arith) in
+      let start = get_front sent (c ∷ []) 0 head.0 head.1 in
+      not_again head.0.pdu.number i (length sent) d.pdu.number c.pdu.number
+      (h.numbers i head.0 d start (get_front sent (c ∷ []) i d g)) (h.numbers (length sent) head.0 c start (get_push sent c)) l few e
+
+-- places rise
+pub places_below : (sent : List FirstCopy) → IsOrdered sent → (d i : ℕ) (a b : FirstCopy) → slice_get sent i ≡ Some a → slice_get sent (suc d + i) ≡ Some b → a.place < b.place
+places_below sent h zero i a b x y = h.places i a b x (subst (λ (j : ℕ). slice_get sent j ≡ Some b) (omega arith) y)
+places_below sent h (suc d) i a b x y =
+    let l : suc (suc d) + i < length sent = slice_get_within sent (suc (suc d) + i) b y in
+    let mid = slice_get_some sent (suc d + i) (omega arith) in
+    let low = places_below sent h d i a mid.0 x mid.1 in
+    let high = h.places (suc d + i) mid.0 b mid.1 (subst (λ (j : ℕ). slice_get sent j ≡ Some b) (omega arith) y) in
+    omega (arith, low, high)
+
+pub place_new : (sent : List FirstCopy) (c : FirstCopy) → IsOrdered (sent ++ c ∷ []) → (i : ℕ) (d : FirstCopy) → slice_get sent i ≡ Some d → d.place < c.place
+place_new sent c h i d g =
+    let l = slice_get_within sent i d g in
+    places_below (sent ++ c ∷ []) h (length sent - suc i) i d c (get_front sent (c ∷ []) i d g)
+    (subst (λ (j : ℕ). slice_get (sent ++ c ∷ []) j ≡ Some c) (omega arith) (get_push sent c))
+
+-- ---- the table of places of a list that goes on
+
+place_there : (sent : List FirstCopy) (i y : ℕ) → slice_get (places_of sent) i ≡ Some y → (c : FirstCopy) × (slice_get sent i ≡ Some c) × (c.place ≡ y)
+place_there [] i y g = absurd (cc)
+place_there (c ∷ sent) zero y g = (c, refl, cc)
+place_there (c ∷ sent) (suc i) y g = place_there sent i y g
+
+number_there : (sent : List FirstCopy) (i y : ℕ) → slice_get (numbers_of sent) i ≡ Some y → (c : FirstCopy) × (slice_get sent i ≡ Some c) × (c.pdu.number ≡ y)
+number_there [] i y g = absurd (cc)
+number_there (c ∷ sent) zero y g = (c, refl, cc)
+number_there (c ∷ sent) (suc i) y g = number_there sent i y g
+
+places_push : (sent : List FirstCopy) (c : FirstCopy) → places_of (sent ++ c ∷ []) ≡ places_of sent ++ c.place ∷ []
+places_push [] c = refl
+places_push (d ∷ sent) c = ap (λ xs. d.place ∷ xs) (places_push sent c)
+
+length_places : (sent : List FirstCopy) → length (places_of sent) ≡ length sent
+length_places [] = refl
+length_places (c ∷ sent) = ap suc (length_places sent)
+
+module _ (sent : List FirstCopy) (c : FirstCopy) (h : IsOrdered (sent ++ c ∷ [])) where
+  place_last : position_of_place (sent ++ c ∷ []) c.place ≡ Some (length sent)
+  place_last =
+      ap (position (nat_eq c.place)) (places_push sent c)
+      ∙ (position_at c.place (places_of sent ++ c.place ∷ []) (length (places_of sent)) (get_push (places_of sent) c.place)
+      (λ j y b g e. ⊎_elim
+      (λ (o : slice_get (places_of sent) j ≡ Some y). (let w = place_there sent j y o in let z = place_new sent c h j w.0 w.1 in let q = w.2 in omega arith))
+      (λ (n : (j ≡ length (places_of sent)) × (c.place ≡ y)). (let q = n.0 in omega arith))
+      (get_push_cases (places_of sent) c.place j y g))
+      ∙ ap Some (length_places sent))
+
+  pub place_pushed : (q : ℕ) → position_of_place (sent ++ c ∷ []) q ≡ (if nat_eq q c.place then Some (length sent) else position_of_place sent q)
+  place_pushed q = by (nat_eq q c.place) refl
+    where
+      by : (b : Bool) → nat_eq q c.place ≡ b → position_of_place (sent ++ c ∷ []) q ≡ (if b then Some (length sent) else position_of_place sent q)
+      by true e = (let same : c.place ≡ q = grind (arith, nat_tests) in subst (λ n. position_of_place (sent ++ c ∷ []) n ≡ Some (length sent)) same place_last)
+      by false e = ap (position (nat_eq q)) (places_push sent c) ∙ position_push (nat_eq q) (places_of sent) c.place e
+
+  -- the marks with one more are those of the list with one more
+  pub marks_pushed : (old new : List ℕ) → AreMarks sent old → ((q : ℕ) → marked new q ≡ (if nat_eq q c.place then Some (length sent) else marked old q)) → AreMarks (sent ++ c ∷ []) new
+  marks_pushed old new m f q = f q ∙ (ap (λ o. if nat_eq q c.place then Some (length sent) else o) (m q) ∙ sym (place_pushed q))
+
+-- ---- the position of a number is its distance from the first
+
+same_place : (f n i : ℕ) → f < 4294967296 → i < 4294967296 → n ≡ (f + i) % 2 ^ 32 → (n + (4294967296 - f)) % 2 ^ 32 ≡ i
+same_place f n i a b e = omega arith
+
+there_again : (f n : ℕ) → f < 4294967296 → n < 4294967296 → n ≡ (f + (n + (4294967296 - f)) % 2 ^ 32) % 2 ^ 32
+there_again f n a b = omega arith
+
+module _ (sent : List FirstCopy) (h : IsOrdered sent) (few : length sent < 4294967296) (start : FirstCopy) (g0 : slice_get sent 0 ≡ Some start) (n : ℕ) (small : n < 4294967296) where
+  start_small : start.pdu.number < 4294967296
+  start_small = (let e = h.numbers 0 start start g0 g0 in small_wrapped start.pdu.number e)
+    where
+      small_wrapped : (m : ℕ) → m ≡ wrapped (m + 0) → m < 4294967296
+      small_wrapped m e = omega arith
+
+  pub near : (d : ℕ) → d ≡ (n + (4294967296 - start.pdu.number)) % 2 ^ 32 → d < length sent → position_of_number sent n ≡ Some d
+  near d e l =
+      let c = slice_get_some sent d l in
+      let at : c.0.pdu.number ≡ n = h.numbers d start c.0 g0 c.1 ∙ (ap (λ k. wrapped (start.pdu.number + k)) e ∙ sym (there_again start.pdu.number n start_small small)) in
+      position_at n (numbers_of sent) d (slice_get-map (λ (x : FirstCopy). x.pdu.number) sent d ∙ (ap (option_map (λ (x : FirstCopy). x.pdu.number)) c.1 ∙ ap Some at))
+      (λ j y b g q. (let w = number_there sent j y g in
+      let same = same_place start.pdu.number n j start_small (omega arith) (sym (w.2 ∙ q) ∙ h.numbers j start w.0 g0 w.1) in omega arith))
+
+  pub far : (d : ℕ) → d ≡ (n + (4294967296 - start.pdu.number)) % 2 ^ 32 → length sent ≤ d → position_of_number sent n ≡ None
+  far d e l =
+      position_none n (numbers_of sent) (λ j y g q. (let w = number_there sent j y g in
+      let m = slice_get_within sent j w.0 w.1 in
+      let same = same_place start.pdu.number n j start_small (omega arith) (sym (w.2 ∙ q) ∙ h.numbers j start w.0 g0 w.1) in omega arith))
+
+-- ---- a beginning of a list
+
+ordered_part : (xs ys : List FirstCopy) → IsOrdered (xs ++ ys) → IsOrdered xs
+ordered_part xs ys h = record {
+  places = λ i a b x y. h.places i a b (get_front xs ys i a x) (get_front xs ys (suc i) b y);
+  numbers = λ i a b x y. h.numbers i a b (get_front xs ys 0 a x) (get_front xs ys i b y);
+}
+
+pub ordered_take : (n : ℕ) (xs : List FirstCopy) → IsOrdered xs → IsOrdered (take n xs)
+ordered_take n xs h = ordered_part (take n xs) (drop n xs) (subst IsOrdered (sym (take-append-drop n xs)) h)
+
+-- one more of them
+pub take_one_more : (i : ℕ) (xs : List FirstCopy) (c : FirstCopy) → slice_get xs i ≡ Some c → take i xs ++ c ∷ [] ≡ take (i + 1) xs
+take_one_more zero [] c g = absurd (cc)
+take_one_more zero (x ∷ xs) c g = (let same : x ≡ c = cc in ap (λ (y : FirstCopy). y ∷ []) (sym same))
+take_one_more (suc i) [] c g = absurd (cc)
+take_one_more (suc i) (x ∷ xs) c g = ap (λ (ys : List FirstCopy). x ∷ ys) (take_one_more i xs c g) ∙ (let e : suc (i + 1) ≡ suc i + 1 = omega arith in ap (λ n. take n (x ∷ xs)) e)
+
+-- a position within a list has a member
+pub none_within : (xs : List FirstCopy) (i : ℕ) → i < length xs → None ≡ slice_get xs i → ⊥
+none_within xs i l e = (let g = slice_get_some xs i l in let h = g.1 in cc)

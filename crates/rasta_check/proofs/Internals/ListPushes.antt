@@ -1,0 +1,99 @@
+-- Lists of first copies as vectors and maps hold them, with one more.
+use Rattle.std.proofs.Common.{◌≡◌, ℕ, suc, ◌+◌, ◌<◌, ◌++◌, Bool, true, false, true≢false, cond, Option, List, [], ◌∷◌, Some, length, map, nat_eq, refl, ap, sym, ◌∙◌, arith, subst, if◌then◌else◌, slice_get}
+use Rattle.std.specs.HashMap.{HashMap}
+use Rattle.std.specs.Map.{keys_of, lookup}
+use Rattle.std.specs.Option.{option_map}
+use Rattle.std.specs.Prelude.{◌==◌}
+use Rattle.std.proofs.lemmas.List.{map-append, length-map, length_push}
+use Rattle.std.proofs.lemmas.Map.{NonePasses, lookup-none}
+use Rattle.std.proofs.lemmas.Bool.Decides.{nat_tests}
+use Rattle.indexmap.specs.IndexMap.{insert_entry}
+use Rattle.indexmap.proofs.CallerLemmas.{insert_entry-new}
+use Rattle.rasta_pdu.specs.declared.pdu.Pdu.{Pdu}
+use Rattle.rasta_pdu.specs.Pdu.{value_of}
+use Rattle.rasta_check.specs.Capture.Crossing.{FirstCopy, copy_with}
+use Rattle.rasta_check.specs.Capture.Lists.{IsOrdered, AreMarks, copy_of, copies_in, numbers_of, marked}
+use Rattle.rasta_check.proofs.Capture.Positions.{marks_pushed, number_new}
+
+-- ---- marks
+
+pub marks_grown : (sent all : List FirstCopy) (c : FirstCopy) (place position : ℕ) (old mid new : List ℕ)
+    → all ≡ sent ++ c ∷ [] → IsOrdered (sent ++ c ∷ []) → AreMarks sent old → c.place ≡ place → position ≡ length sent
+    → ((q : ℕ) → marked mid q ≡ marked old q) → ((q : ℕ) → marked new q ≡ (if nat_eq q place then Some position else marked mid q))
+    → IsOrdered all × AreMarks all new
+marks_grown sent all c place position old mid new e h m at count same set =
+    let new_marks : AreMarks (sent ++ c ∷ []) new = marks_pushed sent c h old new m (λ q. set q ∙ (
+    (λ i. if nat_eq q (sym at i) then Some (count i) else same q i))) in
+    subst (λ (xs : List FirstCopy). IsOrdered xs × AreMarks xs new) (sym e) (h, new_marks)
+
+-- ---- a vector
+
+pub vector_grown : (items all : List (ℕ × Pdu)) (x : ℕ × Pdu) → all ≡ items ++ x ∷ [] → map copy_of all ≡ map copy_of items ++ copy_of x ∷ []
+vector_grown items all x e = ap (map copy_of) e ∙ map-append copy_of items (x ∷ [])
+
+pub vector_few : (items all : List (ℕ × Pdu)) (x : ℕ × Pdu) → all ≡ items ++ x ∷ [] → length (map copy_of items) + 1 < 4294967296 → length all < 4294967296
+vector_few items all x e few = (let a = ap length e in let b = length_push items x in let d = length-map items copy_of in omega (arith, a, b, d, few))
+
+-- ---- a map
+
+abbrev pub Entries : Type 0
+Entries = List (ℕ × (ℕ × Pdu))
+
+copies_push : (es : Entries) (k : ℕ) (x : ℕ × Pdu) → copies_in (es ++ (k, x) ∷ []) ≡ copies_in es ++ copy_of x ∷ []
+copies_push es k x = map-append (λ (e : ℕ × (ℕ × Pdu)). copy_of e.1) es ((k, x) ∷ [])
+
+keys_push : (es : Entries) (k : ℕ) (x : ℕ × Pdu) → keys_of (es ++ (k, x) ∷ []) ≡ keys_of es ++ k ∷ []
+keys_push [] k x = refl
+keys_push (e ∷ es) k x = ap (λ ks. e.0 ∷ ks) (keys_push es k x)
+
+numbers_push : (sent : List FirstCopy) (c : FirstCopy) → numbers_of (sent ++ c ∷ []) ≡ numbers_of sent ++ c.pdu.number ∷ []
+numbers_push [] c = refl
+numbers_push (d ∷ sent) c = ap (λ ns. d.pdu.number ∷ ns) (numbers_push sent c)
+
+differ : (n m : ℕ) → (m ≡ n → ⊥) → nat_eq n m ≡ false
+differ n m h = grind (arith, nat_tests)
+
+-- no entry has a new number
+none_has : (es : Entries) (n : ℕ) → keys_of es ≡ numbers_of (copies_in es)
+    → ((i : ℕ) (d : FirstCopy) → slice_get (copies_in es) i ≡ Some d → d.pdu.number ≡ n → ⊥) → NonePasses (nat_eq n) es
+none_has [] n same new = tt
+none_has (e ∷ es) n same new =
+    let head : e.0 ≡ (value_of e.1.1).number = cc in
+    let tail : keys_of es ≡ numbers_of (copies_in es) = cc in
+    (differ n e.0 (λ z. new 0 (copy_of e.1) refl (sym head ∙ z)), none_has es n tail (λ i d g. new (suc i) d g))
+
+module _ {S : Type 0} (m : HashMap ℕ (ℕ × Pdu) S) (x : ℕ × Pdu) (h : IsOrdered (copies_in m.entries ++ copy_of x ∷ [])) (keys : keys_of m.entries ≡ numbers_of (copies_in m.entries)) (few : length (copies_in m.entries) < 4294967296) where
+  inserted : (number : ℕ) → number ≡ x.1.number → insert_entry nat_eq m.entries number x ≡ m.entries ++ (number, x) ∷ []
+  inserted number e =
+      insert_entry-new nat_eq m number x (lookup-none (nat_eq number) m.entries (none_has m.entries number keys
+      (λ i d g z. number_new (copies_in m.entries) (copy_of x) h few i d g (z ∙ e))))
+
+  pub map_grown : (number : ℕ) (all : Entries) → number ≡ x.1.number → all ≡ insert_entry nat_eq m.entries number x → copies_in all ≡ copies_in m.entries ++ copy_of x ∷ []
+  map_grown number all e f = ap copies_in (f ∙ inserted number e) ∙ copies_push m.entries number x
+
+  pub keys_grown : (number : ℕ) (all : Entries) → number ≡ x.1.number → all ≡ insert_entry nat_eq m.entries number x → keys_of all ≡ numbers_of (copies_in all)
+  keys_grown number all e f =
+      ap keys_of (f ∙ inserted number e) ∙ (keys_push m.entries number x ∙ ((λ i. keys i ++ e i ∷ []) ∙ (sym (numbers_push (copies_in m.entries) (copy_of x)) ∙ ap numbers_of (sym (map_grown number all e f)))))
+
+pub map_few : (es all : Entries) (c : FirstCopy) → copies_in all ≡ copies_in es ++ c ∷ [] → length (copies_in es) + 1 < 4294967296 → length all < 4294967296
+map_few es all c e few = (let a = ap length e in let b = length_push (copies_in es) c in let d = length-map all (λ (x : ℕ × (ℕ × Pdu)). copy_of x.1) in omega (arith, a, b, d, few))
+
+-- ---- the place of a number
+
+found_by : (b d : Bool) (v : ℕ × Pdu) (o : Option (ℕ × Pdu)) (q : Option FirstCopy) → b ≡ d → option_map (λ (w : ℕ × Pdu). w.0) o ≡ option_map (λ (x : FirstCopy). x.place) q
+    → option_map (λ (w : ℕ × Pdu). w.0) (cond b (Some v) o) ≡ option_map (λ (x : FirstCopy). x.place) (if d then Some (copy_of v) else q)
+found_by true true v o q e h = refl
+found_by true false v o q e h = absurd (true≢false e)
+found_by false true v o q e h = absurd (true≢false (sym e))
+found_by false false v o q e h = h
+
+same_test : (n m k : ℕ) → m ≡ k → nat_eq n m ≡ (k == n)
+same_test n m k e = grind (arith, nat_tests)
+
+pub place_found : (es : Entries) (n : ℕ) → keys_of es ≡ numbers_of (copies_in es)
+    → option_map (λ (w : ℕ × Pdu). w.0) (lookup (nat_eq n) es) ≡ option_map (λ (x : FirstCopy). x.place) (copy_with (copies_in es) n)
+place_found [] n same = refl
+place_found (e ∷ es) n same =
+    let head : e.0 ≡ (value_of e.1.1).number = cc in
+    let tail : keys_of es ≡ numbers_of (copies_in es) = cc in
+    found_by (nat_eq n e.0) ((value_of e.1.1).number == n) e.1 (lookup (nat_eq n) es) (copy_with (copies_in es) n) (same_test n e.0 (value_of e.1.1).number head) (place_found es n tail)

@@ -1,0 +1,353 @@
+-- A store with one packet more.
+use Rattle.std.proofs.Common.{◌≡◌, ℕ, suc, ◌+◌, ◌<◌, ◌≤◌, List, [], ◌∷◌, ◌++◌, append_assoc, length, map, Bool, true, false, not, nat_eq, nat_lt, Option, Some, None, slice_get, refl, ap, sym, ◌∙◌, subst, arith, ⊎_elim, if◌then◌else◌}
+use Rattle.std.specs.Prelude.{Result, Ok, is_some, is_none, ◌&&◌, ◌||◌}
+use Rattle.rasta_check.specs.Model.World.{most_sent}
+use Rattle.rasta_check.specs.Model.Theorem.{OfConnection, most_packets}
+use Rattle.rasta_pcap.specs.declared.fault.Fault.{Fault}
+use Rattle.std.proofs.lemmas.Bool.Decides.{nat_tests}
+use Rattle.std.proofs.lemmas.List.{append-nil, length-map, length_push, map-append}
+use Rattle.std.proofs.lemmas.Option.{slice_get_within}
+use Rattle.rasta_pcap.specs.declared.fault.Side.{Side}
+use Rattle.rasta_pcap.specs.declared.fault.Side.TheVariants.{Client, Server}
+use Rattle.rasta_udp.specs.Frame.{Packet}
+use Rattle.rasta_pdu.specs.Params.{Parameters, AreParameters}
+use Rattle.rasta_pdu.proofs.Spellings.{length-redundancy_bytes}
+use Rattle.rasta_pdu.specs.Pdu.{RedundancyPdu, redundancy_bytes, decode_of}
+use Rattle.rasta_check.specs.declared.crossing_store.StoredPacket.{StoredPacket}
+use Rattle.rasta_check.specs.Capture.Crossing.{FirstCopy, Spells}
+use Rattle.rasta_check.specs.Internals.Datagrams.{Kept, KeptDatagrams, keeping, kept_by, nothing_kept}
+use Rattle.rasta_check.specs.Capture.Lists.{IsOrdered, position_of_place}
+use Rattle.rasta_check.specs.Capture.Reading.{Crossing, IsCrossing, crossing_with, is_within, sent_by, sent_after, with_packet}
+use Rattle.rasta_check.specs.Internals.Stored.{Decode, HavePositions, IsJudged, IsStore, bytes_of, copy_in, crossing_by, first_copies_from, packet_by, pdu_in}
+use Rattle.rasta_check.proofs.Capture.Crossings.{list_of}
+use Rattle.rasta_check.proofs.Model.ListGrowth.{get_front, get_push, get_push_cases}
+use Rattle.rasta_check.proofs.Capture.Positions.{place_pushed}
+use Rattle.rasta_check.proofs.Script.Simulation.{slice_get_some}
+use Rattle.rasta_check.proofs.Capture.DefiniteFaults.{nothing_is}
+use Rattle.rasta_check.proofs.Internals.StoreLists.{count_of, kept_at, ordered_of, place_found, place_missing}
+
+-- ---- the packets that are there
+
+-- these datagrams are among those
+Among : KeptDatagrams → KeptDatagrams → Type 0
+Among d e = (side : Side) (i : ℕ) (x : Kept) → slice_get (kept_by d side) i ≡ Some x → slice_get (kept_by e side) i ≡ Some x
+
+same_packet : (d e : KeptDatagrams) → Among d e → (x : StoredPacket) → x.position < length (kept_by d x.side) → packet_by e x ≡ packet_by d x
+unfolding Among
+same_packet d e h x l =
+    let w = slice_get_some (kept_by d x.side) x.position l in
+    ap (λ (o : Option Kept). record { channel = x.channel; side = x.side; payload = bytes_of o }) (h x.side x.position w.0 w.1 ∙ sym w.1)
+
+same_packets : (d e : KeptDatagrams) → Among d e → (xs : List StoredPacket) → HavePositions d xs → map (packet_by e) xs ≡ map (packet_by d) xs
+same_packets d e h [] l = refl
+same_packets d e h (x ∷ xs) l =
+    (λ i. same_packet d e h x (l 0 x refl) i ∷ same_packets d e h xs (λ j y g. l (suc j) y g) i)
+
+among_keeping : (d : KeptDatagrams) (side : Side) (y : Kept) → Among d (keeping d side y)
+unfolding Among
+among_keeping d Client y Client i x g = get_front d.client (y ∷ []) i x g
+among_keeping d Client y Server i x g = g
+among_keeping d Server y Client i x g = g
+among_keeping d Server y Server i x g = get_front d.server (y ∷ []) i x g
+
+among_same : (d : KeptDatagrams) → Among d d
+unfolding Among
+among_same d side i x g = g
+
+positions_more : (d e : KeptDatagrams) → Among d e → (xs : List StoredPacket) (x : StoredPacket) → HavePositions d xs → x.position < length (kept_by e x.side) → HavePositions e (xs ++ x ∷ [])
+unfolding Among
+positions_more d e h xs x l last i y g =
+    ⊎_elim
+    (λ (o : slice_get xs i ≡ Some y). (let w = slice_get_some (kept_by d y.side) y.position (l i y o) in slice_get_within (kept_by e y.side) y.position w.0 (h y.side y.position w.0 w.1)))
+    (λ (n : (i ≡ length xs) × (x ≡ y)). subst (λ (z : StoredPacket). z.position < length (kept_by e z.side)) n.1 last)
+    (get_push_cases xs x i y g)
+
+decode_more : (p : Parameters) (side : Side) (kept : List Kept) (y : Kept) (pdu : RedundancyPdu) → Decode p side kept → decode_of p side y.bytes ≡ Ok pdu → Spells p side pdu y.bytes
+    → Decode p side (kept ++ y ∷ [])
+decode_more p side kept y pdu h reads spelled i x g =
+    ⊎_elim
+    (λ (o : slice_get kept i ≡ Some x). h i x o)
+    (λ (n : (i ≡ length kept) × (y ≡ x)). subst (λ (z : Kept). (r : RedundancyPdu) × (decode_of p side z.bytes ≡ Ok r) × Spells p side r z.bytes) n.1 (pdu, reads, spelled))
+    (get_push_cases kept y i x g)
+
+-- ---- the bytes of first copies
+
+abbrev first_part : Crossing → Packet → ℕ → List ℕ
+first_part k a place = if is_some (position_of_place (sent_by k a.side) place) then a.payload else []
+
+copies_more : (k : Crossing) (place : ℕ) (xs : List Packet) (a : Packet) → first_copies_from k place (xs ++ a ∷ []) ≡ first_copies_from k place xs ++ first_part k a (place + length xs)
+unfolding first_copies_from
+copies_more k place [] a = append-nil (first_part k a place) ∙ ap (first_part k a) (let n : place ≡ place + 0 = omega arith in n)
+copies_more k place (x ∷ xs) a =
+    ap (λ (bs : List ℕ). first_part k x place ++ bs) (copies_more k (suc place) xs a ∙ ap (λ (n : ℕ). first_copies_from k (suc place) xs ++ first_part k a n) (let n : suc place + length xs ≡ place + suc (length xs) = omega arith in n))
+    ∙ sym (append_assoc (first_part k x place) (first_copies_from k (suc place) xs) (first_part k a (place + suc (length xs))))
+
+copies_last : (k : Crossing) (xs : List Packet) (a : Packet) → first_copies_from k 0 (xs ++ a ∷ []) ≡ first_copies_from k 0 xs ++ first_part k a (length xs)
+copies_last k xs a = copies_more k 0 xs a ∙ ap (λ (n : ℕ). first_copies_from k 0 xs ++ first_part k a n) (let n : 0 + length xs ≡ length xs = omega arith in n)
+
+-- both lists have the same places below this one
+SamePlaces : Crossing → Crossing → ℕ → Type 0
+SamePlaces k l end = (side : Side) (place : ℕ) → place < end → position_of_place (sent_by l side) place ≡ position_of_place (sent_by k side) place
+
+copies_same : (k l : Crossing) (end place : ℕ) (xs : List Packet) → SamePlaces k l end → place + length xs ≤ end → first_copies_from l place xs ≡ first_copies_from k place xs
+unfolding first_copies_from SamePlaces
+copies_same k l end place [] h few = refl
+copies_same k l end place (x ∷ xs) h few =
+    (λ i. (if is_some (h x.side place (omega arith) i) then x.payload else []) ++ copies_same k l end (suc place) xs h (omega arith) i)
+
+at_some : {A : Type 0} (o : Option A) (x : A) (bs : List ℕ) → o ≡ Some x → (if is_some o then bs else []) ≡ bs
+at_some o x bs e = ap (λ q. if is_some q then bs else []) e
+
+at_none : {A : Type 0} (o : Option A) (bs : List ℕ) → o ≡ None → (if is_some o then bs else []) ≡ []
+at_none o bs e = ap (λ q. if is_some q then bs else []) e
+
+lower_place : (place end n : ℕ) (o q : Option ℕ) → place < end → q ≡ (if nat_eq place end then Some n else o) → q ≡ o
+lower_place place end n o q l e = (let t : nat_eq place end ≡ false = grind (arith, nat_tests) in e ∙ ap (λ (b : Bool). if b then Some n else o) t)
+
+-- the list of one side goes on at the end
+module _ (k : Crossing) (a : Packet) (c : FirstCopy) (at : c.place ≡ length k.packets) where
+  client_places : IsOrdered (k.client ++ c ∷ []) → SamePlaces k (crossing_with k a Client (k.client ++ c ∷ [])) (length k.packets)
+  unfolding SamePlaces
+  client_places o Client place l = lower_place place c.place (length k.client) (position_of_place k.client place) _ (omega arith) (place_pushed k.client c o place)
+  client_places o Server place l = refl
+
+  server_places : IsOrdered (k.server ++ c ∷ []) → SamePlaces k (crossing_with k a Server (k.server ++ c ∷ [])) (length k.packets)
+  unfolding SamePlaces
+  server_places o Client place l = refl
+  server_places o Server place l = lower_place place c.place (length k.server) (position_of_place k.server place) _ (omega arith) (place_pushed k.server c o place)
+
+no_place : (k : Crossing) → IsCrossing k → (side : Side) → position_of_place (sent_by k side) (length k.packets) ≡ None
+no_place k h side =
+    place_missing (sent_by k side) (length k.packets) (λ i c g e.
+    (let w = (list_of k h side).firsts i c g in let l = slice_get_within k.packets c.place w.0 w.1 in omega arith))
+
+-- ---- a packet whose number is new
+
+module _ (p : Parameters) (d : KeptDatagrams) (packets : List StoredPacket) (st : IsStore p d packets) where
+  abbrev k : Crossing
+  k = crossing_by p d packets
+
+  abbrev packet_with : ℕ → Side → List ℕ → Packet
+  packet_with channel side payload = record { channel = channel; side = side; payload = payload }
+
+  -- the packets that are there, and one more
+  packets_with : (e : KeptDatagrams) (x : StoredPacket) (a : Packet) → Among d e → packet_by e x ≡ a → map (packet_by e) (packets ++ x ∷ []) ≡ k.packets ++ a ∷ []
+  packets_with e x a h f = map-append (packet_by e) packets (x ∷ []) ∙ (λ i. same_packets d e h packets st.positions i ++ f i ∷ [])
+
+  copies_with : (side : Side) (kept : List Kept) (y : Kept) (pdu : RedundancyPdu) → decode_of p side y.bytes ≡ Ok pdu
+      → map (copy_in p side) (kept ++ y ∷ []) ≡ map (copy_in p side) kept ++ record { place = y.place; pdu = pdu } ∷ []
+  copies_with side kept y pdu reads =
+      map-append (copy_in p side) kept (y ∷ [])
+      ∙ ap (λ (r : RedundancyPdu). map (copy_in p side) kept ++ record { place = y.place; pdu = r } ∷ []) (pdu_read reads)
+    where
+      pdu_read : {r : Result RedundancyPdu Fault} {v : RedundancyPdu} → r ≡ Ok v → pdu_in r ≡ v
+      pdu_read e = ap pdu_in e
+
+  module _ (channel position place : ℕ) (payload : List ℕ) (pdu : RedundancyPdu) (at : place ≡ length k.packets) where
+    abbrev datagram : Kept
+    datagram = record { place = place; bytes = payload }
+
+    abbrev stored : Side → StoredPacket
+    stored side = record { position = position; channel = channel; side = side }
+
+    abbrev copy : FirstCopy
+    copy = record { place = length k.packets; pdu = pdu }
+
+    here : (side : Side) → position ≡ length (kept_by d side) → packet_by (keeping d side datagram) (stored side) ≡ packet_with channel side payload
+    here Client e =
+        ap (λ (o : Option Kept). packet_with channel Client (bytes_of o)) (ap (slice_get (d.client ++ datagram ∷ [])) e ∙ get_push d.client datagram)
+    here Server e =
+        ap (λ (o : Option Kept). packet_with channel Server (bytes_of o)) (ap (slice_get (d.server ++ datagram ∷ [])) e ∙ get_push d.server datagram)
+
+    pub new_view : (side : Side) → position ≡ length (kept_by d side) → decode_of p side payload ≡ Ok pdu
+        → sent_after k (packet_with channel side payload) ≡ sent_by k side ++ copy ∷ []
+        → crossing_by p (keeping d side datagram) (packets ++ stored side ∷ []) ≡ with_packet k (packet_with channel side payload)
+    new_view Client e reads after =
+        (λ i. record {
+          params = p;
+          packets = packets_with (keeping d Client datagram) (stored Client) _ (among_keeping d Client datagram) (here Client e) i;
+          client = (copies_with Client d.client datagram pdu reads ∙ ap (λ (n : ℕ). k.client ++ record { place = n; pdu = pdu } ∷ []) at ∙ sym after) i;
+          server = k.server;
+        })
+    new_view Server e reads after =
+        (λ i. record {
+          params = p;
+          packets = packets_with (keeping d Server datagram) (stored Server) _ (among_keeping d Server datagram) (here Server e) i;
+          client = k.client;
+          server = (copies_with Server d.server datagram pdu reads ∙ ap (λ (n : ℕ). k.server ++ record { place = n; pdu = pdu } ∷ []) at ∙ sym after) i;
+        })
+
+    -- its bytes come last
+    new_bytes : (side : Side) → IsOrdered (sent_by k side ++ copy ∷ []) → d.bytes ++ payload
+        ≡ first_copies_from (crossing_with k (packet_with channel side payload) side (sent_by k side ++ copy ∷ [])) 0 (k.packets ++ packet_with channel side payload ∷ [])
+    new_bytes Client h =
+        let a = packet_with channel Client payload in
+        let l = crossing_with k a Client (k.client ++ copy ∷ []) in
+        let last = at_some (position_of_place l.client (length k.packets)) (length k.client) payload
+        (place_found l.client h (length k.client) copy (get_push k.client copy)) in
+        (λ i. st.bytes i ++ payload)
+        ∙ sym (copies_last l k.packets a ∙ (λ i. copies_same k l (length k.packets) 0 k.packets (client_places k a copy refl h) (omega arith) i ++ last i))
+    new_bytes Server h =
+        let a = packet_with channel Server payload in
+        let l = crossing_with k a Server (k.server ++ copy ∷ []) in
+        let last = at_some (position_of_place l.server (length k.packets)) (length k.server) payload
+        (place_found l.server h (length k.server) copy (get_push k.server copy)) in
+        (λ i. st.bytes i ++ payload)
+        ∙ sym (copies_last l k.packets a ∙ (λ i. copies_same k l (length k.packets) 0 k.packets (server_places k a copy refl h) (omega arith) i ++ last i))
+
+    -- the store with it
+    pub new_store : (side : Side) → position ≡ length (kept_by d side) → decode_of p side payload ≡ Ok pdu → Spells p side pdu payload
+        → sent_after k (packet_with channel side payload) ≡ sent_by k side ++ copy ∷ [] → IsCrossing (with_packet k (packet_with channel side payload))
+        → IsStore p (keeping d side datagram) (packets ++ stored side ∷ [])
+    new_store Client e reads spelled after h =
+        let a = packet_with channel Client payload in
+        let view = new_view Client e reads after in
+        let next : IsCrossing (crossing_with k a Client (k.client ++ copy ∷ [])) = subst (λ (own : List FirstCopy). IsCrossing (crossing_with k a Client own)) after h in
+        let whole = ap (λ (own : List FirstCopy). crossing_with k a Client own) after in
+        let size = length_push d.client datagram in
+        record {
+          crossing = subst IsCrossing (sym view) h;
+          client = decode_more p Client d.client datagram pdu st.client reads spelled;
+          server = st.server;
+          positions = positions_more d (keeping d Client datagram) (among_keeping d Client datagram) packets (stored Client) st.positions (omega arith);
+          bytes = new_bytes Client (ordered_of (crossing_with k a Client (k.client ++ copy ∷ [])) next Client)
+              ∙ sym (ap (λ (q : Crossing). first_copies_from q 0 q.packets) (view ∙ whole));
+        }
+    new_store Server e reads spelled after h =
+        let a = packet_with channel Server payload in
+        let view = new_view Server e reads after in
+        let next : IsCrossing (crossing_with k a Server (k.server ++ copy ∷ [])) = subst (λ (own : List FirstCopy). IsCrossing (crossing_with k a Server own)) after h in
+        let whole = ap (λ (own : List FirstCopy). crossing_with k a Server own) after in
+        let size = length_push d.server datagram in
+        record {
+          crossing = subst IsCrossing (sym view) h;
+          client = st.client;
+          server = decode_more p Server d.server datagram pdu st.server reads spelled;
+          positions = positions_more d (keeping d Server datagram) (among_keeping d Server datagram) packets (stored Server) st.positions (omega arith);
+          bytes = new_bytes Server (ordered_of (crossing_with k a Server (k.server ++ copy ∷ [])) next Server)
+              ∙ sym (ap (λ (q : Crossing). first_copies_from q 0 q.packets) (view ∙ whole));
+        }
+
+  -- ---- a packet that repeats a first copy
+
+  module _ (channel position : ℕ) (side : Side) (payload : List ℕ) (c : FirstCopy) (there : slice_get (sent_by k side) position ≡ Some c)
+      (same : payload ≡ redundancy_bytes p side c.pdu) (after : sent_after k (packet_with channel side payload) ≡ sent_by k side) where
+    abbrev again : StoredPacket
+    again = record { position = position; channel = channel; side = side }
+
+    position_within : position < length (kept_by d side)
+    position_within = (let l = slice_get_within (sent_by k side) position c there in let n = count_of p d packets side in omega arith)
+
+    again_here : packet_by d again ≡ packet_with channel side payload
+    again_here =
+        let w = slice_get_some (kept_by d side) position position_within in
+        let f = kept_at p d packets st side position w.0 w.1 in
+        let g = f.there in
+        let one : record { place = w.0.place; pdu = f.pdu } ≡ c = cc in
+        let pdu : f.pdu ≡ c.pdu = ap (λ (z : FirstCopy). z.pdu) one in
+        ap (λ (o : Option Kept). packet_with channel side (bytes_of o)) w.1
+        ∙ ap (packet_with channel side) (f.spelled.same ∙ ap (redundancy_bytes p side) pdu ∙ sym same)
+
+    abbrev longer : Crossing
+    longer = record { params = p; packets = k.packets ++ packet_with channel side payload ∷ []; client = k.client; server = k.server }
+
+    same_lists : (s : Side) → longer ≡ crossing_with k (packet_with channel side payload) s (sent_by k s)
+    same_lists Client = refl
+    same_lists Server = refl
+
+    same_sent : (s : Side) → sent_by longer s ≡ sent_by k s
+    same_sent Client = refl
+    same_sent Server = refl
+
+    copy_lists : crossing_by p d (packets ++ again ∷ []) ≡ longer
+    copy_lists = (λ i. record { params = p; packets = packets_with d again _ (among_same d) again_here i; client = k.client; server = k.server })
+
+    pub copy_view : crossing_by p d (packets ++ again ∷ []) ≡ with_packet k (packet_with channel side payload)
+    copy_view = copy_lists ∙ same_lists side ∙ ap (λ (own : List FirstCopy). crossing_with k (packet_with channel side payload) side own) (sym after)
+
+    same_places : SamePlaces k longer (length k.packets)
+    unfolding SamePlaces
+    same_places Client place l = refl
+    same_places Server place l = refl
+
+    -- it adds no bytes
+    copy_bytes : d.bytes ≡ first_copies_from longer 0 longer.packets
+    copy_bytes =
+        let a = packet_with channel side payload in
+        let last = at_none (position_of_place (sent_by longer side) (length k.packets)) payload
+        (ap (λ (own : List FirstCopy). position_of_place own (length k.packets)) (same_sent side) ∙ no_place k st.crossing side) in
+        st.bytes ∙ sym (copies_last longer k.packets a
+        ∙ (λ i. copies_same k longer (length k.packets) 0 k.packets same_places (omega arith) i ++ last i) ∙ append-nil (first_copies_from k 0 k.packets))
+
+    pub copy_store : IsCrossing (with_packet k (packet_with channel side payload)) → IsStore p d (packets ++ again ∷ [])
+    copy_store h = record {
+      crossing = subst IsCrossing (sym copy_view) h;
+      client = st.client;
+      server = st.server;
+      positions = positions_more d d (among_same d) packets again st.positions position_within;
+      bytes = copy_bytes ∙ sym (ap (λ (q : Crossing). first_copies_from q 0 q.packets) copy_lists);
+    }
+
+-- ---- as the code adds it
+
+-- a datagram that decodes fits its length field
+pub datagram_fits : (p : Parameters) (side : Side) (pdu : RedundancyPdu) (bytes : List ℕ) → AreParameters p → Spells p side pdu bytes → length bytes < 65536
+datagram_fits p side pdu bytes valid s = (let n = ap length s.same ∙ length-redundancy_bytes p side pdu valid s.fits in let few = s.fits.size in omega arith)
+
+module _ (p : Parameters) (d : KeptDatagrams) (packets : List StoredPacket) (st : IsStore p d packets) (a : Packet) (h : IsCrossing (with_packet (crossing_by p d packets) a)) (all : List StoredPacket) where
+  pub grown_copy : (position : ℕ) → IsJudged (crossing_by p d packets) a (Some position)
+      → all ≡ packets ++ record { position = position; channel = a.channel; side = a.side } ∷ []
+      → IsStore p d all × (crossing_by p d all ≡ with_packet (crossing_by p d packets) a)
+  grown_copy position j e =
+      let store = copy_store p d packets st a.channel position a.side a.payload j.0 j.1 j.2 j.3 h in
+      let view = copy_view p d packets st a.channel position a.side a.payload j.0 j.1 j.2 j.3 in
+      (subst (IsStore p d) (sym e) store, ap (crossing_by p d) e ∙ view)
+
+  pub grown_new : (position place : ℕ) (more : KeptDatagrams) → place ≡ length packets → position ≡ length (kept_by d a.side) → IsJudged (crossing_by p d packets) a None
+      → more ≡ keeping d a.side (record { place = place; bytes = a.payload })
+      → all ≡ packets ++ record { position = position; channel = a.channel; side = a.side } ∷ []
+      → IsStore p more all × (crossing_by p more all ≡ with_packet (crossing_by p d packets) a)
+  grown_new position place more at last j m e =
+      let n : place ≡ length (map (packet_by d) packets) = at ∙ sym (length-map packets (packet_by d)) in
+      let store = new_store p d packets st a.channel position place a.payload j.0 n a.side last j.1 j.2 j.3 h in
+      let view = new_view p d packets st a.channel position place a.payload j.0 n a.side last j.1 j.3 in
+      (subst (λ (x : KeptDatagrams). IsStore p x all) (sym m) (subst (IsStore p _) (sym e) store), (λ i. crossing_by p (m i) (e i)) ∙ view)
+
+-- ---- the limits
+
+-- a list of its side that is as long, or longer by one
+is_room : (k : Crossing) (a : Packet) (side : Side) (own : List FirstCopy) (is_new : Bool) → IsCrossing k → length own ≡ length (sent_by k side) + (if is_new then 1 else 0)
+    → is_within (crossing_with k a side own) ≡ (nat_lt (length k.packets) most_packets && (not is_new || nat_lt (length (sent_by k side)) most_sent))
+is_room k a Client own true h e = (let l = length_push k.packets a in let x = h.few_client in let y = h.few_server in grind (arith, nat_tests))
+is_room k a Client own false h e = (let l = length_push k.packets a in let x = h.few_client in let y = h.few_server in grind (arith, nat_tests))
+is_room k a Server own true h e = (let l = length_push k.packets a in let x = h.few_client in let y = h.few_server in grind (arith, nat_tests))
+is_room k a Server own false h e = (let l = length_push k.packets a in let x = h.few_client in let y = h.few_server in grind (arith, nat_tests))
+
+judged_length : (k : Crossing) (a : Packet) (known : Option ℕ) → IsJudged k a known → length (sent_after k a) ≡ length (sent_by k a.side) + (if is_none known then 1 else 0)
+judged_length k a None j = ap length j.3 ∙ length_push (sent_by k a.side) (record { place = length k.packets; pdu = j.0 })
+judged_length k a (Some position) j = ap length j.3 ∙ (let n : length (sent_by k a.side) ≡ length (sent_by k a.side) + 0 = omega arith in n)
+
+module _ (k : Crossing) (a : Packet) (known : Option ℕ) (h : IsCrossing k) (j : IsJudged k a known) (is_new room : Bool) (new_is : is_some known ≡ not is_new)
+    (room_is : room ≡ (nat_lt (length k.packets) most_packets && (not is_new || nat_lt (length (sent_by k a.side)) most_sent))) where
+  same_new : (o : Option ℕ) (b : Bool) → is_some o ≡ not b → is_none o ≡ b
+  same_new None true e = refl
+  same_new None false e = absurd (cc)
+  same_new (Some x) true e = absurd (cc)
+  same_new (Some x) false e = refl
+
+  pub within_is : is_within (with_packet k a) ≡ room
+  within_is =
+      is_room k a a.side (sent_after k a) is_new h (judged_length k a known j ∙ ap (λ (b : Bool). length (sent_by k a.side) + (if b then 1 else 0)) (same_new known is_new new_is))
+      ∙ sym room_is
+
+-- ---- at the start
+
+pub empty_store : (p : Parameters) → OfConnection p → IsStore p nothing_kept []
+unfolding first_copies_from
+empty_store p h = record {
+  crossing = nothing_is p h;
+  client = λ i x g. absurd (cc);
+  server = λ i x g. absurd (cc);
+  positions = λ i x g. absurd (cc);
+  bytes = refl;
+}

@@ -1,0 +1,314 @@
+-- What a store keeps at its positions and places.
+use Rattle.std.proofs.Common.{◌≡◌, ℕ, zero, suc, ◌+◌, ◌-◌, ◌%◌, ◌<◌, ◌≤◌, List, [], ◌∷◌, length, map, Bool, true, false, cond, not, nat_lt, nat_eq, Option, Some, None, slice_get, refl, ap, sym, ◌∙◌, subst, arith, IfSome, if◌then◌else◌}
+use Rattle.std.specs.Prelude.{◌==◌, Ok, Result}
+use Rattle.std.specs.List.{position_or_len}
+use Rattle.std.specs.Option.{option_map}
+use Rattle.std.specs.Str.{bytes_eq}
+use Rattle.std.proofs.lemmas.Bool.Decides.{nat_tests}
+use Rattle.std.proofs.lemmas.Slice.Eq.{bytes_eq-Decides}
+use Rattle.std.proofs.lemmas.List.{length-map}
+use Rattle.std.proofs.lemmas.Option.{slice_get-map, slice_get_past, slice_get_within}
+use native.Mathlib.Decide.{dec_lt}
+use Prim.{yes, no}
+use Rattle.rasta_pcap.specs.declared.fault.Fault.{Fault}
+use Rattle.rasta_pcap.specs.declared.fault.Side.{Side}
+use Rattle.rasta_pcap.specs.declared.fault.Side.TheVariants.{Client, Server}
+use Rattle.rasta_pcap.specs.Fault.{copy_differs, number_gap}
+use Rattle.rasta_udp.specs.Frame.{Packet}
+use Rattle.rasta_pdu.specs.Params.{Parameters}
+use Rattle.rasta_pdu.specs.Pdu.{RedundancyPdu, redundancy_bytes, decode_of}
+use Rattle.rasta_check.specs.declared.crossing_store.StoredPacket.{StoredPacket}
+use Rattle.rasta_check.specs.Capture.Crossing.{FirstCopy, Spells, copy_with, is_next_number, number_fault, read_fault, packet_fault}
+use Rattle.rasta_check.specs.Internals.Datagrams.{Kept, KeptDatagrams, kept_by}
+use Rattle.rasta_check.specs.Capture.Lists.{IsOrdered, numbers_of, places_of, position_of_number, position_of_place}
+use Rattle.rasta_check.specs.Capture.Reading.{Crossing, IsCrossing, sent_by, after_pdu, after_read, sent_after}
+use Rattle.rasta_check.specs.Internals.Stored.{IsStore, Decode, bytes_of, copy_in, pdu_in, packet_by, crossing_by}
+use Rattle.rasta_check.proofs.Capture.Crossings.{few_of, list_of}
+use Rattle.rasta_check.proofs.Capture.Positions.{far, near, places_below, position_at, position_none}
+use Rattle.rasta_check.proofs.Script.Simulation.{slice_get_some}
+use Rattle.rasta_check.proofs.Capture.FirstCopies.{not_again}
+use Rattle.rasta_check.proofs.Capture.Spellings.{read_once}
+
+-- ---- a datagram and the first copy that it spells
+
+pub record IsFirst (p : Parameters) (side : Side) (x : Kept) (own : List FirstCopy) (position : ℕ) : Type 0 where
+  pub pdu : RedundancyPdu
+  pub reads : decode_of p side x.bytes ≡ Ok pdu
+  pub spelled : Spells p side pdu x.bytes
+  pub there : slice_get own position ≡ Some (record { place = x.place; pdu = pdu })
+
+first_in : (p : Parameters) (side : Side) (kept : List Kept) → Decode p side kept → (position : ℕ) (x : Kept) → slice_get kept position ≡ Some x
+    → IsFirst p side x (map (copy_in p side) kept) position
+first_in p side kept h position x g =
+    let w = h position x g in
+    record {
+      pdu = w.0;
+      reads = w.1;
+      spelled = w.2;
+      there = slice_get-map (copy_in p side) kept position ∙ ap (option_map (copy_in p side)) g
+          ∙ ap (λ (r : Result RedundancyPdu Fault). Some (record { place = x.place; pdu = pdu_in r })) w.1;
+    }
+
+none_in : (p : Parameters) (side : Side) (kept : List Kept) (position : ℕ) → slice_get kept position ≡ None → slice_get (map (copy_in p side) kept) position ≡ None
+none_in p side kept position g = slice_get-map (copy_in p side) kept position ∙ ap (option_map (copy_in p side)) g
+
+module _ (p : Parameters) (d : KeptDatagrams) (packets : List StoredPacket) where
+  abbrev whole : Crossing
+  whole = crossing_by p d packets
+
+  pub kept_at : IsStore p d packets → (side : Side) (position : ℕ) (x : Kept) → slice_get (kept_by d side) position ≡ Some x
+      → IsFirst p side x (sent_by whole side) position
+  kept_at st Client position x g = first_in p Client d.client st.client position x g
+  kept_at st Server position x g = first_in p Server d.server st.server position x g
+
+  pub none_at : (side : Side) (position : ℕ) → slice_get (kept_by d side) position ≡ None → slice_get (sent_by whole side) position ≡ None
+  none_at Client position g = none_in p Client d.client position g
+  none_at Server position g = none_in p Server d.server position g
+
+  pub count_of : (side : Side) → length (sent_by whole side) ≡ length (kept_by d side)
+  count_of Client = length-map d.client (copy_in p Client)
+  count_of Server = length-map d.server (copy_in p Server)
+
+  -- the packet at a place
+  pub packet_there : (place : ℕ) (x : StoredPacket) → slice_get packets place ≡ Some x → slice_get whole.packets place ≡ Some (packet_by d x)
+  packet_there place x g = slice_get-map (packet_by d) packets place ∙ ap (option_map (packet_by d)) g
+
+  pub no_packet : (place : ℕ) → slice_get packets place ≡ None → slice_get whole.packets place ≡ None
+  no_packet place g = slice_get-map (packet_by d) packets place ∙ ap (option_map (packet_by d)) g
+
+  -- its payload is that of its first copy
+  pub payload_at : (place position : ℕ) (x : StoredPacket) (y : Kept) → slice_get packets place ≡ Some x → slice_get (kept_by d x.side) x.position ≡ Some y
+      → slice_get whole.packets place ≡ Some (record { channel = x.channel; side = x.side; payload = y.bytes })
+  payload_at place position x y g h =
+      packet_there place x g ∙ ap (λ (o : Option Kept). Some (record { channel = x.channel; side = x.side; payload = bytes_of o })) h
+
+-- ---- lists of a crossing are ordered
+
+pub ordered_of : (k : Crossing) → IsCrossing k → (side : Side) → IsOrdered (sent_by k side)
+ordered_of k h side = (let s = list_of k h side in record { places = s.rising; numbers = s.numbers })
+
+-- two positions with one number are one
+pub one_number : (k : Crossing) → IsCrossing k → (side : Side) (i j : ℕ) (a b : FirstCopy) → slice_get (sent_by k side) i ≡ Some a → slice_get (sent_by k side) j ≡ Some b
+    → a.pdu.number ≡ b.pdu.number → i < j → ⊥
+one_number k h side i j a b g f e l =
+    let s = list_of k h side in
+    let few = few_of k h side in
+    let high = slice_get_within (sent_by k side) j b f in
+    let head = slice_get_some (sent_by k side) 0 (omega arith) in
+    not_again head.0.pdu.number i j a.pdu.number b.pdu.number (s.numbers i head.0 a head.1 g) (s.numbers j head.0 b head.1 f) l (omega arith) e
+
+-- two positions with one place are one
+pub one_place : (sent : List FirstCopy) → IsOrdered sent → (i j : ℕ) (a b : FirstCopy) → slice_get sent i ≡ Some a → slice_get sent j ≡ Some b → i < j → a.place < b.place
+one_place sent h i j a b g f l =
+    places_below sent h (j - suc i) i a b g (subst (λ (n : ℕ). slice_get sent n ≡ Some b) (omega arith) f)
+
+place_in : (sent : List FirstCopy) (i y : ℕ) → slice_get (places_of sent) i ≡ Some y → (c : FirstCopy) × (slice_get sent i ≡ Some c) × (c.place ≡ y)
+place_in [] i y g = absurd (cc)
+place_in (c ∷ sent) zero y g = (c, refl, cc)
+place_in (c ∷ sent) (suc i) y g = place_in sent i y g
+
+-- the position of a place is that of the copy there
+pub place_found : (sent : List FirstCopy) → IsOrdered sent → (position : ℕ) (c : FirstCopy) → slice_get sent position ≡ Some c → position_of_place sent c.place ≡ Some position
+place_found sent h position c g =
+    position_at c.place (places_of sent) position (slice_get-map (λ (x : FirstCopy). x.place) sent position ∙ ap (option_map (λ (x : FirstCopy). x.place)) g)
+    (λ j y b f e. (let w = place_in sent j y f in let z = one_place sent h j position w.0 c w.1 g b in let q = w.2 in omega arith))
+
+pub place_missing : (sent : List FirstCopy) (place : ℕ) → ((i : ℕ) (c : FirstCopy) → slice_get sent i ≡ Some c → c.place ≡ place → ⊥) → position_of_place sent place ≡ None
+place_missing sent place h = position_none place (places_of sent) (λ j y f e. (let w = place_in sent j y f in h j w.0 w.1 (w.2 ∙ e)))
+
+module _ (p : Parameters) (d : KeptDatagrams) (packets : List StoredPacket) (st : IsStore p d packets) where
+  abbrev all : Crossing
+  all = crossing_by p d packets
+
+  -- no packet, no copy
+  pub not_placed : (side : Side) (place : ℕ) → slice_get packets place ≡ None → position_of_place (sent_by all side) place ≡ None
+  not_placed side place g =
+      place_missing (sent_by all side) place (λ i c f e.
+      (let w = (list_of all st.crossing side).firsts i c f in
+      let here : slice_get all.packets place ≡ Some w.0 = subst (λ (n : ℕ). slice_get all.packets n ≡ Some w.0) e w.1 in
+      let none = no_packet p d packets place g in cc))
+
+  -- a packet of the other side is no copy of this
+  pub other_side : (side : Side) (place : ℕ) (x : StoredPacket) → slice_get packets place ≡ Some x → (x.side ≡ side → ⊥) → position_of_place (sent_by all side) place ≡ None
+  other_side side place x g differ =
+      place_missing (sent_by all side) place (λ i c f e.
+      (let w = (list_of all st.crossing side).firsts i c f in
+      let here : slice_get all.packets place ≡ Some w.0 = subst (λ (n : ℕ). slice_get all.packets n ≡ Some w.0) e w.1 in
+      let there = packet_there p d packets place x g in
+      let same : packet_by d x ≡ w.0 = cc in
+      differ (ap (λ (a : Packet). a.side) same ∙ w.2)))
+
+  -- the copy at a packet's place is the one at its position, if any
+  pub position_is : (side : Side) (place : ℕ) (x : StoredPacket) (y : Kept) → slice_get packets place ≡ Some x → x.side ≡ side
+      → slice_get (kept_by d side) x.position ≡ Some y → (i : ℕ) (c : FirstCopy) → slice_get (sent_by all side) i ≡ Some c → c.place ≡ place → i ≡ x.position
+  position_is side place x y g s h i c f e =
+      let mine = kept_at p d packets st side x.position y h in
+      let w = (list_of all st.crossing side).firsts i c f in
+      let here : slice_get all.packets place ≡ Some w.0 = subst (λ (n : ℕ). slice_get all.packets n ≡ Some w.0) e w.1 in
+      let there = payload_at p d packets place x.position x y g (ap (λ (t : Side). slice_get (kept_by d t) x.position) s ∙ h) in
+      let same : record { channel = x.channel; side = x.side; payload = y.bytes } ≡ w.0 = cc in
+      let bytes : y.bytes ≡ w.0.payload = ap (λ (a : Packet). a.payload) same in
+      let one : mine.pdu ≡ c.pdu = read_once p st.crossing.valid.valid side mine.pdu c.pdu y.bytes mine.spelled
+      (subst (λ (bs : List ℕ). Spells p side c.pdu bs) (sym bytes) w.3) in
+      let number : mine.pdu.number ≡ c.pdu.number = ap (λ (r : RedundancyPdu). r.number) one in
+      elim (dec_lt i x.position) [
+        | yes l ↦ absurd (one_number all st.crossing side i x.position c _ f mine.there (sym number) l)
+        | no n ↦ elim (dec_lt x.position i) [
+          | yes l ↦ absurd (one_number all st.crossing side x.position i _ c mine.there f number l)
+          | no m ↦ omega arith
+        ]
+      ]
+
+  -- each packet has the position of a datagram
+  pub not_stored : (side : Side) (place : ℕ) (x : StoredPacket) → slice_get packets place ≡ Some x → x.side ≡ side → slice_get (kept_by d side) x.position ≡ None → ⊥
+  not_stored side place x g s e =
+      let l = st.positions place x g in
+      let w = slice_get_some (kept_by d side) x.position (subst (λ (t : Side). x.position < length (kept_by d t)) s l) in
+      let h = w.1 in cc
+
+  -- the packet that a place holds, and its number
+  pub stored_packet : (place : ℕ) (x : StoredPacket) → slice_get packets place ≡ Some x → (number : ℕ)
+      → option_map (λ (c : FirstCopy). c.pdu.number) (slice_get (sent_by all x.side) x.position) ≡ Some number
+      → (a : Packet) × (r : RedundancyPdu) × (slice_get all.packets place ≡ Some a) × Spells p a.side r a.payload × ◌≡◌ {A = Side × ℕ} (x.side, number) (a.side, r.number)
+  stored_packet place x g number e =
+      let w = slice_get_some (kept_by d x.side) x.position (st.positions place x g) in
+      let mine = kept_at p d packets st x.side x.position w.0 w.1 in
+      let same : mine.pdu.number ≡ number = (let z = sym (ap (option_map (λ (c : FirstCopy). c.pdu.number)) mine.there) ∙ e in cc) in (
+        record { channel = x.channel; side = x.side; payload = w.0.bytes },
+        mine.pdu,
+        payload_at p d packets place x.position x w.0 g w.1,
+        mine.spelled,
+        (λ i. (x.side, sym same i)),
+      )
+
+  pub first_there : (side : Side) (place : ℕ) (x : StoredPacket) (y : Kept) → slice_get packets place ≡ Some x → x.side ≡ side
+      → slice_get (kept_by d side) x.position ≡ Some y → y.place ≡ place → position_of_place (sent_by all side) place ≡ Some x.position
+  first_there side place x y g s h e =
+      let mine = kept_at p d packets st side x.position y h in
+      subst (λ (n : ℕ). position_of_place (sent_by all side) n ≡ Some x.position) e
+      (place_found (sent_by all side) (ordered_of all st.crossing side) x.position (record { place = y.place; pdu = mine.pdu }) mine.there)
+
+  pub copy_there : (side : Side) (place : ℕ) (x : StoredPacket) (y : Kept) → slice_get packets place ≡ Some x → x.side ≡ side
+      → slice_get (kept_by d side) x.position ≡ Some y → (y.place ≡ place → ⊥) → position_of_place (sent_by all side) place ≡ None
+  copy_there side place x y g s h differ =
+      let mine = kept_at p d packets st side x.position y h in
+      place_missing (sent_by all side) place (λ i c f e.
+      (let same = position_is side place x y g s h i c f e in
+      let here : slice_get (sent_by all side) x.position ≡ Some c = subst (λ (n : ℕ). slice_get (sent_by all side) n ≡ Some c) same f in
+      let there = mine.there in
+      let one : record { place = y.place; pdu = mine.pdu } ≡ c = cc in
+      differ (ap (λ (z : FirstCopy). z.place) one ∙ e)))
+
+-- ---- packets of known numbers
+
+same_test : (n m : ℕ) → nat_eq n m ≡ (m == n)
+same_test n m = grind (arith, nat_tests)
+
+-- the first copy of a number stands at the number's position
+copy_step : (e b : Bool) (c : FirstCopy) (own : List FirstCopy) (l : ℕ) (o : Option FirstCopy) → e ≡ b → o ≡ slice_get own l
+    → (if b then Some c else o) ≡ slice_get (c ∷ own) (cond (not e) (1 + l) 0)
+copy_step true true c own l o e h = refl
+copy_step true false c own l o e h = absurd (cc)
+copy_step false true c own l o e h = absurd (cc)
+copy_step false false c own l o e h = h ∙ ap (slice_get (c ∷ own)) (let n : suc l ≡ 1 + l = omega arith in n)
+
+or_len : (own : List FirstCopy) (n : ℕ) → copy_with own n ≡ slice_get own (position_or_len (nat_eq n) (numbers_of own))
+or_len [] n = refl
+or_len (c ∷ own) n =
+    copy_step (nat_eq n c.pdu.number) (c.pdu.number == n) c own (position_or_len (nat_eq n) (numbers_of own)) (copy_with own n) (same_test n c.pdu.number) (or_len own n)
+
+shown_some : (b : Bool) (l i : ℕ) → cond b (Some l) None ≡ Some i → l ≡ i
+shown_some true l i e = cc
+shown_some false l i e = absurd (cc)
+
+shown_none : (l n : ℕ) → cond (nat_lt l n) (Some l) None ≡ None → n ≤ l
+shown_none l n e = by (nat_lt l n) refl e
+  where
+    by : (b : Bool) → nat_lt l n ≡ b → cond b (Some l) None ≡ None → n ≤ l
+    by true f g = absurd (cc)
+    by false f g = grind (arith, nat_tests)
+
+length-numbers : (own : List FirstCopy) → length (numbers_of own) ≡ length own
+length-numbers own = length-map own (λ (c : FirstCopy). c.pdu.number)
+
+pub copy_of_position : (own : List FirstCopy) (n position : ℕ) → position_of_number own n ≡ Some position → copy_with own n ≡ slice_get own position
+copy_of_position own n position e =
+    or_len own n ∙ ap (slice_get own) (shown_some (nat_lt (position_or_len (nat_eq n) (numbers_of own)) (length (numbers_of own))) (position_or_len (nat_eq n) (numbers_of own)) position e)
+
+pub no_copy : (own : List FirstCopy) (n : ℕ) → position_of_number own n ≡ None → copy_with own n ≡ None
+no_copy own n e =
+    let l = shown_none (position_or_len (nat_eq n) (numbers_of own)) (length (numbers_of own)) e in
+    let size = length-numbers own in
+    or_len own n ∙ slice_get_past own (position_or_len (nat_eq n) (numbers_of own)) (omega arith)
+
+within_by : (b : Bool) (l n i : ℕ) → nat_lt l n ≡ b → cond b (Some l) None ≡ Some i → i < n
+within_by true l n i f e = (let same : l ≡ i = cc in let z : l < n = grind (arith, nat_tests) in omega arith)
+within_by false l n i f e = absurd (cc)
+
+-- a number's position is one of the list
+pub shown_within : (own : List FirstCopy) (n position : ℕ) → position_of_number own n ≡ Some position → position < length own
+shown_within own n position e =
+    let l = within_by (nat_lt (position_or_len (nat_eq n) (numbers_of own)) (length (numbers_of own))) (position_or_len (nat_eq n) (numbers_of own)) (length (numbers_of own)) position refl e in
+    let size = length-numbers own in omega arith
+
+-- what is known of a packet whose number is that of a first copy
+module _ (k : Crossing) (a : Packet) (pdu : RedundancyPdu) (reads : decode_of k.params a.side a.payload ≡ Ok pdu) where
+  abbrev sent : List FirstCopy
+  sent = sent_by k a.side
+
+  -- its bytes are compared
+  pub repeats : (position : ℕ) (r : Bool) → position_of_number sent pdu.number ≡ Some position → (c : FirstCopy) → slice_get sent position ≡ Some c
+      → r ≡ bytes_eq (redundancy_bytes k.params a.side c.pdu) a.payload
+      → (packet_fault k.params sent a ≡ (if r then None else Some copy_differs)) × (sent_after k a ≡ sent)
+  repeats position r e c g f =
+      let known = copy_of_position sent pdu.number position e ∙ g in (
+        ap (read_fault k.params a.side sent a.payload) reads ∙ (ap (number_fault k.params a.side sent a.payload pdu) known ∙ ap (λ (b : Bool). if b then None else Some copy_differs) (sym f)),
+        ap (after_read sent (length k.packets)) reads ∙ ap (after_pdu sent (length k.packets) pdu) known,
+      )
+
+  same_bytes : (xs ys : List ℕ) (r : Bool) → r ≡ bytes_eq xs ys → r ≡ true → ys ≡ xs
+  same_bytes xs ys r e f = sym ((bytes_eq-Decides xs ys).0 (sym e ∙ f))
+
+  there_by : (position : ℕ) (o : Option FirstCopy) (r : Bool) → slice_get sent position ≡ o → position_of_number sent pdu.number ≡ Some position
+      → IfSome o (λ (c : FirstCopy). r ≡ bytes_eq (redundancy_bytes k.params a.side c.pdu) a.payload)
+      → (c : FirstCopy) × (slice_get sent position ≡ Some c) × (packet_fault k.params sent a ≡ (if r then None else Some copy_differs)) × (sent_after k a ≡ sent)
+      × (r ≡ true → a.payload ≡ redundancy_bytes k.params a.side c.pdu)
+  there_by position None r g e h =
+      let l = shown_within sent pdu.number position e in
+      let w = slice_get_some sent position l in
+      let there = w.1 in absurd (cc)
+  there_by position (Some c) r g e h =
+      let w = repeats position r e c g h in
+      (c, g, w.0, w.1, same_bytes (redundancy_bytes k.params a.side c.pdu) a.payload r h)
+
+  pub repeats_at : (position : ℕ) (r : Bool) → position_of_number sent pdu.number ≡ Some position
+      → IfSome (slice_get sent position) (λ (c : FirstCopy). r ≡ bytes_eq (redundancy_bytes k.params a.side c.pdu) a.payload)
+      → (c : FirstCopy) × (slice_get sent position ≡ Some c) × (packet_fault k.params sent a ≡ (if r then None else Some copy_differs)) × (sent_after k a ≡ sent)
+      × (r ≡ true → a.payload ≡ redundancy_bytes k.params a.side c.pdu)
+  repeats_at position r e h = there_by position (slice_get sent position) r refl e h
+
+  -- no first copy has its number, which isn't the next
+  pub skips : position_of_number sent pdu.number ≡ None → is_next_number sent pdu.number ≡ false → packet_fault k.params sent a ≡ Some number_gap
+  skips e f =
+      ap (read_fault k.params a.side sent a.payload) reads ∙ (ap (number_fault k.params a.side sent a.payload pdu) (no_copy sent pdu.number e)
+      ∙ ap (λ (b : Bool). if b then None else Some number_gap) f)
+
+-- ---- numbers by their distance from the first
+
+first_of : (o : Option FirstCopy) (n : ℕ) → option_map (λ (c : FirstCopy). c.pdu.number) o ≡ Some n → (c : FirstCopy) × (o ≡ Some c) × (c.pdu.number ≡ n)
+first_of None n e = absurd (cc)
+first_of (Some c) n e = (c, refl, cc)
+
+module _ (k : Crossing) (h : IsCrossing k) (side : Side) (first : ℕ) (starts : option_map (λ (c : FirstCopy). c.pdu.number) (slice_get (sent_by k side) 0) ≡ Some first) (n : ℕ) (small : n < 4294967296)
+    (position : ℕ) (distance : position ≡ (n + (4294967296 - first)) % 4294967296) where
+  pub near_to : position < length (sent_by k side) → Some position ≡ position_of_number (sent_by k side) n
+  near_to l =
+      let w = first_of (slice_get (sent_by k side) 0) first starts in
+      let few = few_of k h side in
+      sym (near (sent_by k side) (ordered_of k h side) (omega arith) w.0 w.1 n small position (distance ∙ ap (λ (m : ℕ). (n + (4294967296 - m)) % 4294967296) (sym w.2)) l)
+
+  pub far_from : length (sent_by k side) ≤ position → None ≡ position_of_number (sent_by k side) n
+  far_from l =
+      let w = first_of (slice_get (sent_by k side) 0) first starts in
+      let few = few_of k h side in
+      sym (far (sent_by k side) (ordered_of k h side) (omega arith) w.0 w.1 n small position (distance ∙ ap (λ (m : ℕ). (n + (4294967296 - m)) % 4294967296) (sym w.2)) l)

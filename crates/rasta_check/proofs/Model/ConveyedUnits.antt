@@ -1,0 +1,103 @@
+-- The units conveyed through the positions of an end, as what it made and the asks grow.
+use Rattle.std.proofs.Common.{◌≡◌, ℕ, zero, suc, ◌<◌, ◌≤◌, Bool, true, false, List, [], ◌∷◌, ◌++◌, length, Some, None, slice_get, refl, ap, ◌∙◌, arith}
+use Rattle.std.specs.Prelude.{slice_index_or}
+use Rattle.std.proofs.lemmas.Option.{slice_get-get_or, get_or_from_slice_get}
+use Rattle.rasta_pdu.specs.declared.kind.Kind.{Kind}
+use Rattle.rasta_pdu.specs.declared.kind.Kind.TheVariants.{Data, RetransmittedData, RetransmissionResponse}
+use Rattle.rasta_end.specs.State.{Made, EndState, kinds, carries_unit}
+use Rattle.rasta_end.specs.TakeRule.{is_retransmission_response}
+use Rattle.rasta_end.specs.Units.{all_units_conveyed, conveyed, units_after, units_at, last_of, responses_after, responses_in}
+use Rattle.rasta_end.proofs.Conveying.{all_units-push, conveyed-responses, length-all_units, length-kinds, more_asks}
+use Rattle.rasta_check.proofs.Model.Counts.{number, tally}
+
+-- neither a unit nor a retransmission response
+abbrev pub is_plain : Kind → Bool
+is_plain Data = false
+is_plain RetransmittedData = false
+is_plain RetransmissionResponse = false
+is_plain _ = true
+
+-- the units conveyed through each position of an end
+abbrev pub values : EndState → List ℕ
+values e = all_units_conveyed e.asks (kinds e.made)
+
+-- the units at the position that the next retransmission response goes back to
+abbrev pub jump : EndState → ℕ
+jump e = units_at (values e) (slice_get e.asks (number is_retransmission_response e.made))
+
+-- The last member.
+
+pub last_push : (vs : List ℕ) (v : ℕ) → last_of (vs ++ v ∷ []) ≡ v
+last_push [] v = refl
+last_push (x ∷ []) v = refl
+last_push (x ∷ y ∷ vs) v = last_push (y ∷ vs) v
+
+pub last_get : (vs : List ℕ) (q : ℕ) → length vs ≡ suc q → slice_get vs q ≡ Some (last_of vs)
+last_get [] q e = absurd (cc)
+last_get (v ∷ []) zero e = refl
+last_get (v ∷ []) (suc q) e = absurd (omega arith)
+last_get (v ∷ w ∷ vs) zero e = absurd (omega arith)
+last_get (v ∷ w ∷ vs) (suc q) e = last_get (w ∷ vs) q (omega arith)
+
+-- The member at a position, or 0 where there is none.
+
+pub get_within : (vs : List ℕ) (c : ℕ) → c < length vs → slice_get vs c ≡ Some (slice_index_or vs c 0)
+get_within vs c l = slice_get-get_or vs c 0 l
+
+pub get_or_is : (vs : List ℕ) (c v : ℕ) → slice_get vs c ≡ Some v → slice_index_or vs c 0 ≡ v
+get_or_is vs c v g = get_or_from_slice_get vs c v 0 g
+
+pub get_or_none : (vs : List ℕ) (c : ℕ) → slice_get vs c ≡ None → slice_index_or vs c 0 ≡ 0
+get_or_none [] c g = refl
+get_or_none (v ∷ vs) zero g = absurd (cc)
+get_or_none (v ∷ vs) (suc c) g = get_or_none vs c g
+
+-- One more PDU appends one value; one more ask changes none.
+
+answers_tally : (n : ℕ) (k : Kind) → responses_after n k ≡ tally (is_retransmission_response k) n
+answers_tally n RetransmissionResponse = refl
+answers_tally n _ = refl
+
+pub answers_number : (ms : List Made) → responses_in (kinds ms) ≡ number is_retransmission_response ms
+answers_number [] = refl
+answers_number (m ∷ ms) = answers_tally (responses_in (kinds ms)) m.pdu.kind ∙ ap (tally (is_retransmission_response m.pdu.kind)) (answers_number ms)
+
+pub kinds_push : (ms : List Made) (m : Made) → kinds (ms ++ m ∷ []) ≡ kinds ms ++ m.pdu.kind ∷ []
+kinds_push [] m = refl
+kinds_push (x ∷ ms) m = ap (λ ks. x.pdu.kind ∷ ks) (kinds_push ms m)
+
+pub values_push : (asks : List ℕ) (ms : List Made) (m : Made)
+    → all_units_conveyed asks (kinds (ms ++ m ∷ [])) ≡ all_units_conveyed asks (kinds ms) ++ units_after asks (all_units_conveyed asks (kinds ms)) (number is_retransmission_response ms) m.pdu.kind ∷ []
+values_push asks ms m =
+    let n : (conveyed asks (kinds ms)).responses ≡ number is_retransmission_response ms = conveyed-responses asks (kinds ms) ∙ answers_number ms in
+    ap (all_units_conveyed asks) (kinds_push ms m)
+    ∙ (all_units-push asks (kinds ms) m.pdu.kind ∙ ap (λ a. all_units_conveyed asks (kinds ms) ++ units_after asks (all_units_conveyed asks (kinds ms)) a m.pdu.kind ∷ []) n)
+
+pub length-values : (asks : List ℕ) (ms : List Made) → length (all_units_conveyed asks (kinds ms)) ≡ length ms
+length-values asks ms = length-all_units asks (kinds ms) ∙ length-kinds ms
+
+pub values_asks : (asks : List ℕ) (c : ℕ) (ms : List Made) → number is_retransmission_response ms ≤ length asks → all_units_conveyed (asks ++ c ∷ []) (kinds ms) ≡ all_units_conveyed asks (kinds ms)
+values_asks asks c ms h = more_asks asks (c ∷ []) (kinds ms) (omega (arith, answers_number ms, h))
+
+-- What the next position conveys, by its type.
+
+pub first_zero : (asks vs : List ℕ) (a : ℕ) (k : Kind) → length vs ≡ 0 → units_after asks vs a k ≡ 0
+first_zero asks [] a k e = refl
+first_zero asks (v ∷ vs) a k e = absurd (omega arith)
+
+pub after_plain : (asks vs : List ℕ) (n : ℕ) (k : Kind) → is_plain k ≡ true → units_after asks vs n k ≡ last_of vs
+after_plain asks [] n k h = refl
+after_plain asks (v ∷ vs) n Data h = absurd (cc)
+after_plain asks (v ∷ vs) n RetransmittedData h = absurd (cc)
+after_plain asks (v ∷ vs) n RetransmissionResponse h = absurd (cc)
+after_plain asks (v ∷ vs) n _ h = refl
+
+pub after_unit : (asks vs : List ℕ) (n : ℕ) (k : Kind) → 0 < length vs → carries_unit k ≡ true → units_after asks vs n k ≡ suc (last_of vs)
+after_unit asks [] n k l h = absurd (omega arith)
+after_unit asks (v ∷ vs) n Data l h = refl
+after_unit asks (v ∷ vs) n RetransmittedData l h = refl
+after_unit asks (v ∷ vs) n _ l h = absurd (cc)
+
+pub after_answer : (asks vs : List ℕ) (n : ℕ) → 0 < length vs → units_after asks vs n RetransmissionResponse ≡ units_at vs (slice_get asks n)
+after_answer asks [] n l = absurd (omega arith)
+after_answer asks (v ∷ vs) n l = refl

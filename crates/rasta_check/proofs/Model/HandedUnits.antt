@@ -1,0 +1,340 @@
+-- What an end has handed up: the units conveyed through the last position of its peer that it accepted.
+use Rattle.std.proofs.Common.{◌≡◌, ℕ, zero, suc, ◌+◌, ◌<◌, ◌≤◌, ◌⊎◌, Bool, true, false, List, [], ◌∷◌, ◌++◌, length, Option, Some, None, slice_get, take, refl, ap, sym, ◌∙◌, arith, inl, inr, ⊎_elim, subst}
+use Rattle.std.specs.Prelude.{◌==◌, slice_index_or, if◌then◌else◌, map, filter}
+use Rattle.std.proofs.lemmas.Bool.Decides.{nat_tests}
+use Rattle.std.proofs.lemmas.List.{take-append-le, take_all, length_push}
+use Rattle.std.proofs.lemmas.Option.{slice_get_within, slice_get-get_or, get_or_from_slice_get}
+use Rattle.rasta_pcap.specs.declared.fault.Side.{Side}
+use Rattle.rasta_pcap.specs.declared.fault.Side.TheVariants.{Server}
+use Rattle.rasta_pdu.specs.declared.kind.Kind.{Kind}
+use Rattle.rasta_pdu.specs.declared.kind.Kind.TheVariants.{RetransmissionRequest, RetransmissionResponse, Heartbeat, Data}
+use Rattle.rasta_pdu.specs.Params.{Parameters}
+use Rattle.rasta_pdu.specs.Messages.{messages_of}
+use Rattle.rasta_pdu.specs.Pdu.{SafetyPdu, SafetyBody, Opening, Bye, Messages, Empty, messages_in}
+use Rattle.rasta_end.specs.declared.phase.Phase.{Phase}
+use Rattle.rasta_end.specs.declared.phase.Phase.TheVariants.{Start, Up, RetrReq, RetrRun}
+use Rattle.rasta_end.specs.declared.why.Why.{Why}
+use Rattle.rasta_end.specs.declared.make_row.MakeRow.{MakeRow}
+use Rattle.rasta_end.specs.declared.take_row.TakeRow.{TakeRow}
+use Rattle.rasta_end.specs.declared.take_row.TakeRow.TheVariants.{Opened, Answered, FirstHeartbeat, InSequence, ResentInSequence, Gap, GapInRetransmission, Resumed, Requested, RequestedAhead, RequestedAgain, Disconnected}
+use Rattle.rasta_end.specs.declared.owed.Owed.TheVariants.{RetransmissionRequest as OweRetransmissionRequest}
+use Rattle.rasta_end.specs.State.{Made, EndState, is_closed, is_flowing, carries_unit, content_of}
+use Rattle.rasta_end.specs.MakeRule.{is_data, row_of, phase_after, owed_after, after_make, after_make_by}
+use Rattle.rasta_end.specs.TakeRule.{is_retransmission_request, is_retransmission_response, is_heartbeat_or_data, is_in, steps_past_next, position_confirmed, accept, enter, hand_up, burst, take_row, effect, effect_by, after_take}
+use Rattle.rasta_check.specs.Model.Laws.{conveyed_before, HandsUp}
+use Rattle.rasta_check.specs.Model.Theorem.{HandsUpUnits}
+use Rattle.rasta_check.proofs.Model.ListGrowth.{get_push_cases, get_front, get_push}
+use Rattle.rasta_check.proofs.Model.PassedTests.{Passed, cs_is}
+use Rattle.rasta_check.proofs.Model.MakeRows.{MadeBy, made_by, after_row, new_made}
+use Rattle.rasta_check.proofs.Model.TakeRows.{Knows, row_known, not_closed}
+use Rattle.rasta_check.proofs.Model.Counts.{number, owes, tally, number_push, number_take_all, number_take_more, number_take_at, is_request_owed, owes-append}
+use Rattle.rasta_check.proofs.Model.SequenceNumbers.{numbered_once}
+use Rattle.rasta_check.proofs.Model.Invariant.{Held, has_peer, is_named, is_opener, open_bit}
+use Rattle.rasta_check.proofs.Model.InvariantAtMake.{Changed, changed, over, opened, goes_on, named_judged}
+use Rattle.rasta_check.proofs.Model.InvariantAtTake.{Taken, place, flowing_peer}
+use Rattle.rasta_check.proofs.Model.ConveyedUnits.{values, is_plain, length-values, values_push}
+use Rattle.rasta_check.proofs.Model.OfferedUnits.{Valued}
+
+-- how many units an end has been handed that accepted so many positions
+abbrev pub worth : List ℕ → ℕ → ℕ
+worth vs zero = 0
+worth vs (suc i) = slice_index_or vs i 0
+
+-- the i-th position handed up is that of a made PDU with unit i, and the i-th PDU handed up is that one
+abbrev pub AreUnits : List ℕ → List SafetyPdu → List Made → Type 0
+AreUnits positions pdus made = (i position : ℕ) → slice_get positions i ≡ Some position
+    → (n : Made) × (slice_get made position ≡ Some n) × (carries_unit n.pdu.kind ≡ true) × (n.unit ≡ Some i) × (slice_get pdus i ≡ Some n.pdu)
+
+-- the last request that this end made has this CS
+abbrev pub LastRequest : List Made → ℕ → Type 0
+LastRequest made cs = (p : ℕ) × (n : Made) × (slice_get made p ≡ Some n) × (is_retransmission_request n.pdu.kind ≡ true) × (n.pdu.cs ≡ cs)
+    × (suc (number is_retransmission_request (take p made)) ≡ number is_retransmission_request made)
+
+pub record Handed (e f : EndState) : Type 0 where
+  pub count : length e.handed ≡ worth (values f) e.accepted
+  pub labels : AreUnits e.handed e.handed_pdus f.made
+  pub as_many : length e.handed_pdus ≡ length e.handed
+  pub awaited : e.phase ≡ RetrReq → owes is_request_owed e.owed ≡ 0 → LastRequest e.made e.last_sn
+
+worth_front : (vs ws : List ℕ) (a : ℕ) → a ≤ length vs → worth (vs ++ ws) a ≡ worth vs a
+worth_front vs ws zero l = refl
+worth_front vs ws (suc i) l = get_or_from_slice_get (vs ++ ws) i (slice_index_or vs i 0) 0 (get_front vs ws i (slice_index_or vs i 0) (slice_get-get_or vs i 0 l))
+
+pub worth_at : (vs : List ℕ) (a p v : ℕ) → a ≡ suc p → slice_get vs p ≡ Some v → worth vs a ≡ v
+worth_at vs a p v e g = ap (worth vs) e ∙ get_or_from_slice_get vs p v 0 g
+
+-- The peer makes and takes.
+
+peer_row : (e f : EndState) (x : SafetyPdu) (clock : ℕ) (row : Option MakeRow) → e.accepted ≤ length f.made → Handed e f → Handed e (after_make_by row f x clock)
+peer_row e f x clock None l h = h
+peer_row e f x clock (Some row) l h =
+    let m : Made = new_made row f x in
+    let more = values_push f.asks f.made m in
+    let len = length-values f.asks f.made in
+    record {
+      count = h.count ∙ sym (ap (λ vs. worth vs e.accepted) more ∙ worth_front (values f) _ e.accepted (omega (arith, l, len)));
+      labels = λ i pos g. (let r = h.labels i pos g in (r.0, get_front f.made (m ∷ []) pos r.0 r.1, r.2, r.3, r.4));
+      as_many = h.as_many;
+      awaited = h.awaited;
+    }
+
+pub handed_peer_make : (e f : EndState) (x : SafetyPdu) (clock : ℕ) (why : Why) → e.accepted ≤ length f.made → Handed e f → Handed e (after_make f x clock why)
+handed_peer_make e f x clock why l h = peer_row e f x clock (row_of f x why) l h
+
+pub handed_peer_take : (e f f' : EndState) → f'.made ≡ f.made → values f' ≡ values f → Handed e f → Handed e f'
+handed_peer_take e f f' same vals h =
+    record {
+      count = h.count ∙ ap (λ vs. worth vs e.accepted) (sym vals);
+      labels = subst (AreUnits e.handed e.handed_pdus) (sym same) h.labels;
+      as_many = h.as_many;
+      awaited = h.awaited;
+    }
+
+-- The end itself makes.
+
+ask_named : (k : Kind) → is_retransmission_request k ≡ true → is_named k ≡ true
+ask_named RetransmissionRequest h = refl
+ask_named _ h = absurd (cc)
+
+module _ (p : Parameters) (e f : EndState) (x : SafetyPdu) (clock : ℕ) (why : Why) (t : ℕ) (pass : Passed p e x clock why) (h : Held e t f.made) (w : Handed e f) (b : MadeBy e x why) where
+  abbrev new : Made
+  new = new_made b.row e x
+
+  new_ask : (c : Bool) → is_retransmission_request x.kind ≡ c → e.phase ≡ RetrReq
+      → tally c (owes is_request_owed (owed_after b.row e.owed)) ≡ owes is_request_owed e.owed → owes is_request_owed (owed_after b.row e.owed) ≡ 0 → LastRequest (e.made ++ new ∷ []) e.last_sn
+  new_ask true c ph d none =
+      let all : take (length e.made) (e.made ++ new ∷ []) ≡ e.made = take-append-le (length e.made) e.made (new ∷ []) (omega arith) ∙ take_all (length e.made) e.made (omega arith) in
+      let num = number_push is_retransmission_request e.made new in
+      let bit = ap (λ v. tally v (number is_retransmission_request e.made)) c in
+      let here = ap (number is_retransmission_request) all in
+      (length e.made, new, get_push e.made new, c, (cs_is e x.kind x.cs (named_judged e x.kind (ask_named x.kind c)) pass.cs).1, omega (arith, num, bit, here))
+  new_ask false c ph d none =
+      let r = w.awaited ph (sym d ∙ none) in
+      let l = slice_get_within e.made r.0 r.1 r.2 in
+      let same : take r.0 (e.made ++ new ∷ []) ≡ take r.0 e.made = take-append-le r.0 e.made (new ∷ []) (omega (arith, l)) in
+      let num = number_push is_retransmission_request e.made new in
+      let bit = ap (λ v. tally v (number is_retransmission_request e.made)) c in
+      (r.0, r.1, get_front e.made (new ∷ []) r.0 r.1 r.2, r.3, r.4, ap (λ ms. suc (number is_retransmission_request ms)) same ∙ (r.5 ∙ sym (num ∙ bit)))
+
+  await_by : Changed e.side e.phase x.kind e.owed b.row → phase_after b.row e.phase ≡ RetrReq → owes is_request_owed (owed_after b.row e.owed) ≡ 0 → LastRequest (e.made ++ new ∷ []) e.last_sn
+  await_by (over a c d g j) ph none = absurd (cc)
+  await_by (opened a s c o j) ph none = absurd (cc)
+  await_by (goes_on a c d g j k l) ph none = new_ask (is_retransmission_request x.kind) refl (sym a ∙ ph) g none
+
+  handed_row : Handed (after_make_by (Some b.row) e x clock) f
+  handed_row = record { count = w.count; labels = w.labels; as_many = w.as_many; awaited = await_by (changed e.side e.phase why x.kind e.owed b.row b.how) }
+
+pub handed_make : (p : Parameters) (e f : EndState) (x : SafetyPdu) (clock : ℕ) (why : Why) (t : ℕ) → Passed p e x clock why → Held e t f.made → Handed e f → Handed (after_make e x clock why) f
+handed_make p e f x clock why t pass h w =
+    let b = made_by p e x clock why pass in
+    subst (λ (e' : EndState). Handed e' f) (after_row e x clock why b) (handed_row p e f x clock why t pass h w b)
+
+-- The end itself takes.
+
+flowing_cases : (ph : Phase) → is_flowing ph ≡ true → (ph ≡ Up) ⊎ (ph ≡ RetrRun)
+flowing_cases Up h = inl refl
+flowing_cases RetrRun h = inr refl
+flowing_cases _ h = absurd (cc)
+
+heartbeat_or_data : (k : Kind) → is_heartbeat_or_data k ≡ true → (k ≡ Heartbeat) ⊎ (k ≡ Data)
+heartbeat_or_data Heartbeat h = inl refl
+heartbeat_or_data Data h = inr refl
+heartbeat_or_data _ h = absurd (cc)
+
+flowing_not : (ph : Phase) → is_flowing ph ≡ true → ph ≡ RetrReq → ⊥
+flowing_not RetrReq h g = cc
+flowing_not _ h g = cc
+
+-- a server in Start has accepted the connection request
+peer_of : {s : Side} {ph : Phase} → s ≡ Server → ph ≡ Start → has_peer s ph ≡ true
+peer_of {s = s} a b = ap (has_peer s) b ∙ ap (λ side. has_peer side Start) a
+
+in_zero : (n : ℕ) → (n == 0) ≡ true → n ≡ 0
+in_zero n h = grind (arith, nat_tests)
+
+module _ (q : Parameters) (e f : EndState) (t u : ℕ) (m : Made) (p : ℕ) (k : Taken e f t u m p) (w : Handed e f) (vf : Valued f) where
+  -- the end accepts position p, through which as many are conveyed as through the last one
+  same_worth : (i : ℕ) → e.accepted ≡ suc i → slice_get (values f) p ≡ slice_get (values f) i → worth (values f) (suc (e.accepted + steps_past_next e m.pdu)) ≡ worth (values f) e.accepted
+  same_worth i a s =
+      let pl : e.accepted + steps_past_next e m.pdu ≡ p = place q e f t u m p k i a in
+      let l : p < length (values f) = omega (arith, length-values f.asks f.made, slice_get_within f.made p m k.there) in
+      let g : slice_get (values f) p ≡ Some (slice_index_or (values f) p 0) = slice_get-get_or (values f) p 0 l in
+      worth_at (values f) (suc (e.accepted + steps_past_next e m.pdu)) p _ (ap suc pl) g ∙ sym (worth_at (values f) e.accepted i _ a (sym s ∙ g))
+
+  -- nothing is handed up
+  keeps : (e' : EndState) → e'.handed ≡ e.handed → e'.handed_pdus ≡ e.handed_pdus → worth (values f) e'.accepted ≡ worth (values f) e.accepted
+      → (e'.phase ≡ RetrReq → owes is_request_owed e'.owed ≡ 0 → ⊥) → Handed e' f
+  keeps e' s x v never =
+      record {
+        count = ap length s ∙ (w.count ∙ sym v);
+        labels = λ i pos g. (let r = w.labels i pos (subst (λ (hs : List ℕ). slice_get hs i ≡ Some pos) s g) in (r.0, r.1, r.2, r.3, ap (λ (xs : List SafetyPdu). slice_get xs i) x ∙ r.4));
+        as_many = ap length x ∙ (w.as_many ∙ sym (ap length s));
+        awaited = λ r n. absurd (never r n);
+      }
+
+  -- a unit in sequence is handed up
+  hands : (e' : EndState) (i : ℕ) → e.accepted ≡ suc i → p ≡ suc i → carries_unit m.pdu.kind ≡ true
+      → e'.handed ≡ e.handed ++ e.accepted ∷ [] → e'.handed_pdus ≡ e.handed_pdus ++ m.pdu ∷ [] → e'.accepted ≡ suc p → (e'.phase ≡ RetrReq → ⊥) → Handed e' f
+  hands e' i a s c hd hp ac ph =
+      let un = vf.units p m k.there c in
+      let z : un.0 ≡ i = omega (arith, s, un.2) in
+      let lab : slice_get (values f) i ≡ Some un.1 = subst (λ j. slice_get (values f) j ≡ Some un.1) z un.4 in
+      let old : length e.handed ≡ un.1 = w.count ∙ worth_at (values f) e.accepted i un.1 a lab in
+      record {
+        count = ap length hd ∙ (length_push e.handed e.accepted ∙ (ap (λ n. n + 1) old ∙ (omega arith ∙ sym (worth_at (values f) e'.accepted p (suc un.1) ac un.5))));
+        labels = λ j pos g. ⊎_elim
+            (λ (o : slice_get e.handed j ≡ Some pos).
+            let r = w.labels j pos o in
+            (r.0, r.1, r.2, r.3, subst (λ (xs : List SafetyPdu). slice_get xs j ≡ Some r.0.pdu) (sym hp) (get_front e.handed_pdus (m.pdu ∷ []) j r.0.pdu r.4)))
+            (λ (n : (j ≡ length e.handed) × (e.accepted ≡ pos)).
+            let there : slice_get f.made pos ≡ Some m = subst (λ x. slice_get f.made x ≡ Some m) (s ∙ (sym a ∙ n.1)) k.there in
+            let unit : m.unit ≡ Some j = un.3 ∙ ap Some (sym old ∙ sym n.0) in
+            let last : slice_get (e.handed_pdus ++ m.pdu ∷ []) j ≡ Some m.pdu = subst (λ x. slice_get (e.handed_pdus ++ m.pdu ∷ []) x ≡ Some m.pdu) (w.as_many ∙ sym n.0) (get_push e.handed_pdus m.pdu) in
+            (m, there, c, unit, subst (λ (xs : List SafetyPdu). slice_get xs j ≡ Some m.pdu) (sym hp) last))
+            (get_push_cases e.handed e.accepted j pos (subst (λ (hs : List ℕ). slice_get hs j ≡ Some pos) hd g));
+        as_many = ap length hp ∙ (length_push e.handed_pdus m.pdu ∙ (ap (λ n. n + 1) w.as_many ∙ (sym (length_push e.handed e.accepted) ∙ sym (ap length hd))));
+        awaited = λ r n. absurd (ph r);
+      }
+
+  in_place : is_in e m.pdu ≡ true → (i : ℕ) → e.accepted ≡ suc i → p ≡ suc i
+  in_place b i a =
+      let d : steps_past_next e m.pdu ≡ 0 = in_zero (steps_past_next e m.pdu) b in
+      let pl : e.accepted + steps_past_next e m.pdu ≡ p = place q e f t u m p k i a in
+      omega (arith, pl, d, a)
+
+  plain_next : (i : ℕ) → p ≡ suc i → is_plain m.pdu.kind ≡ true → slice_get (values f) p ≡ slice_get (values f) i
+  plain_next i s c =
+      let r = vf.others i m (subst (λ z. slice_get f.made z ≡ Some m) s k.there) c in
+      ap (slice_get (values f)) s ∙ r
+
+  -- the retransmission response goes back to the last accepted position
+  resumed : e.phase ≡ RetrReq → e.owed ≡ [] → m.pdu.kind ≡ RetransmissionResponse → (i : ℕ) → e.accepted ≡ suc i → slice_get (values f) p ≡ slice_get (values f) i
+  resumed ph free ki i a =
+      let aw = w.awaited ph (ap (owes is_request_owed) free) in
+      let is_a : is_retransmission_response m.pdu.kind ≡ true = ap is_retransmission_response ki in
+      let low = number_take_more is_retransmission_response f.made t p k.above in
+      let next = number_take_at is_retransmission_response f.made p m k.there is_a in
+      let all = number_take_all is_retransmission_response f.made (suc p) in
+      let req : number is_retransmission_request e.made ≤ number is_retransmission_response (take t f.made) + 1 = omega (arith, k.mine.open_requests, ap open_bit ph) in
+      let most = number_take_all is_retransmission_request e.made u in
+      let idx : number is_retransmission_response (take p f.made) ≡ number is_retransmission_request (take aw.0 e.made) = omega (arith, low, next, all, req, most, aw.5, k.theirs.asked, k.theirs.asks_taken) in
+      let inside : number is_retransmission_response (take p f.made) < length f.asks = omega (arith, next, all, k.theirs.asked) in
+      let c : slice_get f.asks (number is_retransmission_response (take p f.made)) ≡ Some (slice_index_or f.asks (number is_retransmission_response (take p f.made)) 0) = slice_get-get_or f.asks _ 0 inside in
+      let j = vf.jumps p m _ k.there is_a c in
+      let named = k.theirs.answered aw.0 aw.1 _ aw.2 aw.3 (subst (λ n. slice_get f.asks n ≡ Some (slice_index_or f.asks (number is_retransmission_response (take p f.made)) 0)) idx c) in
+      let mine = k.mine.last i a in
+      let sns : named.m.pdu.sn ≡ mine.m.pdu.sn = named.same ∙ (aw.4 ∙ sym mine.same) in
+      let same : slice_index_or f.asks (number is_retransmission_response (take p f.made)) 0 ≡ i = numbered_once f.made k.few_theirs k.theirs.numbered _ i named.m mine.m named.there mine.there sns in
+      j.1 ∙ ap (slice_get (values f)) same
+
+  first_worth : p ≡ 0 → worth (values f) 1 ≡ 0
+  first_worth s =
+      let l : p < length (values f) = omega (arith, length-values f.asks f.made, slice_get_within f.made p m k.there) in
+      let g : slice_get (values f) 0 ≡ Some (slice_index_or (values f) 0 0) = slice_get-get_or (values f) 0 0 (omega arith) in
+      vf.zeroth _ g
+
+  -- the first PDU is accepted
+  first_by : (e' : EndState) → e'.handed ≡ e.handed → e'.handed_pdus ≡ e.handed_pdus → e'.accepted ≡ 1 → (e'.phase ≡ RetrReq → ⊥) → e.accepted ≡ 0 → p ≡ 0 → Handed e' f
+  first_by e' s x a ph z zp =
+      keeps e' s x (ap (worth (values f)) a ∙ (first_worth zp ∙ sym (ap (worth (values f)) z))) (λ r n. ph r)
+
+  -- nothing is accepted
+  passes : (e' : EndState) → e'.handed ≡ e.handed → e'.handed_pdus ≡ e.handed_pdus → e'.accepted ≡ e.accepted → (e'.phase ≡ RetrReq → owes is_request_owed e'.owed ≡ 0 → ⊥) → Handed e' f
+  passes e' s x a never = keeps e' s x (ap (worth (values f)) a) never
+
+  in_sequence_by : (i : ℕ) → e.accepted ≡ suc i → p ≡ suc i → (m.pdu.kind ≡ Heartbeat) ⊎ (m.pdu.kind ≡ Data) → Handed (effect q InSequence e m.pdu) f
+  in_sequence_by i a s c =
+      let pl : e.accepted + steps_past_next e m.pdu ≡ p = place q e f t u m p k i a in
+      ⊎_elim
+      (λ (beat : m.pdu.kind ≡ Heartbeat).
+      subst
+      (λ (b : Bool). Handed (if b then hand_up e.accepted (enter Up (accept q e m.pdu)) m.pdu else enter Up (accept q e m.pdu)) f)
+      (sym (ap carries_unit beat))
+      (keeps (enter Up (accept q e m.pdu)) refl refl (same_worth i a (plain_next i s (ap is_plain beat))) (λ r n. cc (r))))
+      (λ (unit : m.pdu.kind ≡ Data).
+      subst
+      (λ (b : Bool). Handed (if b then hand_up e.accepted (enter Up (accept q e m.pdu)) m.pdu else enter Up (accept q e m.pdu)) f)
+      (sym (ap carries_unit unit))
+      (hands (hand_up e.accepted (enter Up (accept q e m.pdu)) m.pdu) i a s (ap carries_unit unit) refl refl (ap suc pl) (λ r. cc (r))))
+      c
+
+  h_row : e.owed ≡ [] → (r : TakeRow) → Knows q r e m.pdu → Handed (effect q r e m.pdu) f
+  h_row free Opened x =
+      let zp = k.theirs.openers p m k.there (ap is_opener x.1) in
+      first_by (effect q Opened e m.pdu) refl refl refl (λ r. cc (r)) (k.mine.down x.0).2 zp
+  h_row free Answered x =
+      let zp = k.theirs.openers p m k.there (ap is_opener x.2) in
+      first_by (effect q Answered e m.pdu) refl refl refl (λ r. cc (r)) (k.mine.starting x.0 x.1) zp
+  h_row free FirstHeartbeat x =
+      let a = k.mine.connected (peer_of x.0 x.1) in
+      keeps (effect q FirstHeartbeat e m.pdu) refl refl (same_worth a.0 a.1 (plain_next a.0 (in_place x.4 a.0 a.1) (ap is_plain x.2))) (λ r n. cc (r))
+  h_row free InSequence x =
+      let a = k.mine.connected (flowing_peer e.side e.phase x.0) in
+      in_sequence_by a.0 a.1 (in_place x.3 a.0 a.1) (heartbeat_or_data m.pdu.kind x.1)
+  h_row free ResentInSequence x =
+      let a = k.mine.connected (ap (has_peer e.side) x.0) in
+      let pl : e.accepted + steps_past_next e m.pdu ≡ p = place q e f t u m p k a.0 a.1 in
+      subst
+      (λ (b : Bool). Handed (if b then hand_up e.accepted (accept q e m.pdu) m.pdu else accept q e m.pdu) f)
+      (sym (ap carries_unit x.1))
+      (hands (hand_up e.accepted (accept q e m.pdu) m.pdu) a.0 a.1 (in_place x.3 a.0 a.1) (ap carries_unit x.1) refl refl (ap suc pl) (λ r. cc (x.0, r)))
+  h_row free Gap x = passes (effect q Gap e m.pdu) refl refl refl (λ r n. cc (n))
+  h_row free GapInRetransmission x = passes (effect q GapInRetransmission e m.pdu) refl refl refl (λ r n. cc (n))
+  h_row free Resumed x =
+      let a = k.mine.connected (ap (has_peer e.side) x.0) in
+      keeps (effect q Resumed e m.pdu) refl refl (same_worth a.0 a.1 (resumed x.0 free x.1 a.0 a.1)) (λ r n. cc (r))
+  h_row free Requested x =
+      let a = k.mine.connected (flowing_peer e.side e.phase x.0) in
+      keeps (effect q Requested e m.pdu) refl refl (same_worth a.0 a.1 (plain_next a.0 (in_place x.3 a.0 a.1) (ap is_plain x.1))) (λ r n. flowing_not e.phase x.0 r)
+  h_row free RequestedAhead x =
+      passes (effect q RequestedAhead e m.pdu) refl refl refl (λ r n. (let a = owes-append is_request_owed (burst e (position_confirmed e m.pdu)) (OweRetransmissionRequest ∷ []) in omega arith))
+  h_row free RequestedAgain x = record { count = w.count; labels = w.labels; as_many = w.as_many; awaited = λ r n. w.awaited x.0 (ap (owes is_request_owed) free) }
+  h_row free Disconnected x = passes (effect q Disconnected e m.pdu) refl refl refl (λ r n. cc (r))
+
+module _ (q : Parameters) (e f : EndState) (t u : ℕ) (m : Made) (p : ℕ) (k : Taken e f t u m p) (w : Handed e f) (vf : Valued f) (free : is_closed e.phase ≡ false → e.owed ≡ []) where
+  h_by : (o : Option TakeRow) → take_row q e m.pdu ≡ o → Handed (effect_by q o e m.pdu) f
+  h_by None g = w
+  h_by (Some r) g = h_row q e f t u m p k w vf (free (not_closed q e m.pdu r g)) r (row_known q e m.pdu r g)
+
+  pub handed_take : Handed (after_take q e m.pdu) f
+  handed_take = h_by (take_row q e m.pdu) refl
+
+-- What it handed up, unit by unit.
+
+worth_before : (f : EndState) (a : ℕ) → worth (values f) a ≡ conveyed_before f a
+worth_before f zero = refl
+worth_before f (suc i) = refl
+
+pub hands_up : (e f : EndState) → Handed e f → HandsUp e f
+hands_up e f w = record {
+  count = w.count ∙ worth_before f e.accepted;
+  same_count = w.as_many;
+  units = λ i pos g. (let r = w.labels i pos g in (r.0, r.1, r.3, r.4));
+}
+
+messages_by_content : (body : SafetyBody) → messages_in body ≡ messages_of (content_of body)
+unfolding messages_of
+messages_by_content (Messages payload) = refl
+messages_by_content (Opening version sendmax reserved) = refl
+messages_by_content (Bye detail reason) = refl
+messages_by_content Empty = refl
+
+-- the data PDU with this content
+data_with : (ms : List Made) (i : ℕ) (content : List ℕ) → slice_get (map (λ (n : Made). content_of n.pdu.body) ms) i ≡ Some content → (m : Made) × (slice_get ms i ≡ Some m) × (content_of m.pdu.body ≡ content)
+data_with [] i content g = absurd (cc)
+data_with (m ∷ ms) zero content g = (m, refl, cc)
+data_with (m ∷ ms) (suc i) content g = data_with ms i content g
+
+-- the i-th PDU handed up carries the messages of the i-th data PDU
+handed_messages : (e f : EndState) → Valued f → Handed e f → (i : ℕ) (x : SafetyPdu) → slice_get e.handed_pdus i ≡ Some x
+    → (m : Made) × (slice_get (filter (λ (n : Made). is_data n.pdu.kind) f.made) i ≡ Some m) × (messages_in x.body ≡ messages_in m.pdu.body)
+handed_messages e f vf w i x g =
+    let l : i < length e.handed = omega (arith, slice_get_within e.handed_pdus i x g, w.as_many) in
+    let r = w.labels i _ (slice_get-get_or e.handed i 0 l) in
+    let same : r.0.pdu ≡ x = (let z : Some r.0.pdu ≡ Some x = sym r.4 ∙ g in cc) in
+    let content = (vf.carried _ r.0 i r.1 r.3).1 in
+    let d = data_with (filter (λ (n : Made). is_data n.pdu.kind) f.made) i (content_of r.0.pdu.body) content in
+    (d.0, d.1, ap (λ (y : SafetyPdu). messages_in y.body) (sym same) ∙ (messages_by_content r.0.pdu.body ∙ (ap messages_of (sym d.2) ∙ sym (messages_by_content d.0.pdu.body))))
+
+pub hands_up_units : (e f : EndState) → Valued f → Handed e f → HandsUpUnits e f
+hands_up_units e f vf w = record { labels = hands_up e f w; messages = handed_messages e f vf w }

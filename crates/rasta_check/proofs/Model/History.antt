@@ -1,0 +1,209 @@
+-- What of an end stays along a run, and the worlds of a run.
+use Rattle.std.proofs.Common.{◌≡◌, ℕ, zero, suc, ◌+◌, ◌<◌, ◌≤◌, Bool, true, false, List, [], ◌∷◌, ◌++◌, length, Option, Some, slice_get, refl, ap, sym, ◌∙◌, arith, ⊎_elim, subst}
+use Rattle.std.specs.Prelude.{◌&&◌}
+use Rattle.std.proofs.lemmas.List.{length_push}
+use Rattle.std.proofs.lemmas.Option.{slice_get_within}
+use native.Mathlib.Decide.{dec_lt}
+use Prim.{yes, no}
+use Rattle.rasta_pcap.specs.declared.fault.Side.{Side}
+use Rattle.rasta_pcap.specs.declared.fault.Side.TheVariants.{Client, Server}
+use Rattle.rasta_udp.specs.Frame.{Packet}
+use Rattle.rasta_pdu.specs.Params.{Parameters, AreParameters}
+use Rattle.rasta_end.specs.declared.take_row.TakeRow.{TakeRow}
+use Rattle.rasta_end.specs.State.{Made, EndState, is_closed}
+use Rattle.rasta_end.specs.MakeRule.{has_ended}
+use Rattle.rasta_end.specs.TakeRule.{is_retransmission_response, is_valid, is_in, is_ahead, effect_by}
+use Rattle.rasta_check.specs.Capture.Crossing.{FirstCopy}
+use Rattle.rasta_check.specs.Model.World.{Station, World, Move, Moves, makes, repeats, arrives, takes, waits, Step, client_moves, server_moves, Reaches, begins, goes_on, first_world, IsWithin}
+use Rattle.rasta_check.specs.Model.Theorem.{Appends}
+use Rattle.rasta_check.proofs.Model.ListGrowth.{get_push_cases, get_front, get_push}
+use Rattle.rasta_check.proofs.Model.PassedTests.{passed}
+use Rattle.rasta_check.proofs.Model.MakeRows.{made_by, after_row, new_made}
+use Rattle.rasta_check.proofs.Model.TakeRows.{take_made, closed_row}
+use Rattle.rasta_check.proofs.Model.Steps.{base, made_more, SameHanded}
+use Rattle.rasta_check.proofs.Model.Counts.{number}
+use Rattle.rasta_check.proofs.Model.ConveyedUnits.{values, values_push}
+use Rattle.rasta_check.proofs.Model.OfferedUnitsAtTake.{values_take}
+use Rattle.rasta_check.proofs.Model.InvariantOfRuns.{All, all_held}
+use Rattle.rasta_check.proofs.Script.ScriptsOfRuns.{Both, Sends, told_first, told_step, step_copies, step_front, sends_count, copy_at}
+
+-- what of an end stays
+pub record Grown (e e' : EndState) : Type 0 where
+  pub made : (i : ℕ) (m : Made) → slice_get e.made i ≡ Some m → slice_get e'.made i ≡ Some m
+  pub kept : (i v : ℕ) → slice_get (values e) i ≡ Some v → slice_get (values e') i ≡ Some v
+  pub over : has_ended e ≡ true → e' ≡ e
+
+same_grown : (e : EndState) → Grown e e
+same_grown e = record { made = λ i m g. g; kept = λ i v g. g; over = λ h. refl }
+
+both_grown : (a b c : EndState) → Grown a b → Grown b c → Grown a c
+both_grown a b c g h = record { made = λ i m x. h.made i m (g.made i m x); kept = λ i v x. h.kept i v (g.kept i v x); over = λ x. (let e = g.over x in h.over (ap has_ended e ∙ x) ∙ e) }
+
+over_closed : (b c : Bool) → (b && c) ≡ true → b ≡ true
+over_closed true c h = refl
+over_closed false c h = h
+
+grown_move : (p : Parameters) (b a a' : Station) (xs ys : List Packet) {move : Move} → Moves p b xs a move a' ys → number is_retransmission_response a.state.made ≤ length a.state.asks → Grown a.state a'.state
+grown_move p b a a' xs ys (makes x why e' ch res chk bs mk sp rec) l =
+    let ok = passed p a.state x a.clock why mk.0 in
+    let by = made_by p a.state x a.clock why ok in
+    let n : Made = new_made by.row a.state x in
+    subst (λ (e : EndState). Grown a.state e) (after_row a.state x a.clock why by ∙ sym mk.1) (record {
+      made = λ i m g. get_front a.state.made (n ∷ []) i m g;
+      kept = λ i v g. subst (λ vs. slice_get vs i ≡ Some v) (sym (values_push a.state.asks a.state.made n)) (get_front (values a.state) _ i v g);
+      over = λ h. absurd (let z = ok.open_yet in cc);
+    })
+grown_move p b a a' xs ys (repeats place ch old c s rec) l = same_grown a.state
+grown_move p b a a' xs ys (arrives q low i) l = same_grown a.state
+grown_move p b a a' xs ys (takes q m e' c i s t) l =
+    subst (λ (e : EndState). Grown a.state e) (sym t.1) (record {
+      made = λ i n g. subst (λ (ms : List Made). slice_get ms i ≡ Some n) (sym (take_made p a.state m.pdu)) g;
+      kept = λ i v g. subst (λ vs. slice_get vs i ≡ Some v) (sym (values_take p a.state m.pdu l)) g;
+      over = λ h. ap (λ (r : Option TakeRow). effect_by p r a.state m.pdu) (closed_row a.state.side a.state.phase m.pdu.kind (is_in a.state m.pdu) (is_ahead p a.state m.pdu) (is_valid a.state m.pdu) (over_closed (is_closed a.state.phase) _ h));
+    })
+grown_move p b a a' xs ys (waits c i) l = same_grown a.state
+
+made_longer : (p : Parameters) (b a a' : Station) (xs ys : List Packet) {move : Move} → Moves p b xs a move a' ys → (length a.state.made ≤ length a'.state.made) × (length a'.state.made ≤ suc (length a.state.made))
+made_longer p b a a' xs ys (makes x why e' ch res chk bs mk sp rec) =
+    let m = made_more p a.state x a.clock why e' mk in
+    let n : Made = m.new in
+    let e = ap length m.made in
+    (omega (arith, e, length_push a.state.made n), omega (arith, e, length_push a.state.made n))
+made_longer p b a a' xs ys (repeats place ch old c s rec) = (omega arith, omega arith)
+made_longer p b a a' xs ys (arrives q low i) = (omega arith, omega arith)
+made_longer p b a a' xs ys (takes q m e' c i s t) = (let e = ap (λ (e : EndState). length e.made) t.1 in let f = ap length (take_made p a.state m.pdu) in (omega arith, omega arith))
+made_longer p b a a' xs ys (waits c i) = (omega arith, omega arith)
+
+crossed_by : (p : Parameters) (b a a' : Station) (xs ys : List Packet) {move : Move} → Moves p b xs a move a' ys → (length xs ≤ length ys) × (length ys ≤ suc (length xs)) × (length ys ≡ suc (length xs) → SameHanded a.state a'.state)
+crossed_by p b a a' xs ys (makes x why e' ch res chk bs mk sp rec) = (let z = length_push xs (record { channel = ch; side = a.state.side; payload = bs }) in (omega arith, omega arith, λ h. (made_more p a.state x a.clock why e' mk).same))
+crossed_by p b a a' xs ys (repeats place ch old c s rec) = (let z = length_push xs (record old { channel = ch }) in (omega arith, omega arith, λ h. record { positions = refl; pdus = refl }))
+crossed_by p b a a' xs ys (arrives q low i) = (omega arith, omega arith, λ h. record { positions = refl; pdus = refl })
+crossed_by p b a a' xs ys (takes q m e' c i s t) = (omega arith, omega arith, λ h. absurd (omega arith))
+crossed_by p b a a' xs ys (waits c i) = (omega arith, omega arith, λ h. record { positions = refl; pdus = refl })
+
+pub record Stepped (v w : World) : Type 0 where
+  pub less : length v.crossed ≤ length w.crossed
+  pub more : length w.crossed ≤ suc (length v.crossed)
+  pub client : length w.crossed ≡ suc (length v.crossed) → SameHanded v.client.state w.client.state
+  pub server : length w.crossed ≡ suc (length v.crossed) → SameHanded v.server.state w.server.state
+  pub client_made : length v.client.state.made ≤ length w.client.state.made
+  pub server_made : length v.server.state.made ≤ length w.server.state.made
+  pub client_most : length w.client.state.made ≤ suc (length v.client.state.made)
+  pub server_most : length w.server.state.made ≤ suc (length v.server.state.made)
+
+pub stepped : (p : Parameters) (v w : World) → Step p v w → Stepped v w
+stepped p v w (client_moves {a = a} {after = ys} m) =
+    let c = crossed_by p v.server v.client a v.crossed ys m in
+    record { less = c.0; more = c.1; client = c.2; server = λ h. record { positions = refl; pdus = refl }; client_made = (made_longer p v.server v.client a v.crossed ys m).0; server_made = omega arith; client_most = (made_longer p v.server v.client a v.crossed ys m).1; server_most = omega arith }
+stepped p v w (server_moves {a = a} {after = ys} m) =
+    let c = crossed_by p v.client v.server a v.crossed ys m in
+    record { less = c.0; more = c.1; client = λ h. record { positions = refl; pdus = refl }; server = c.2; client_made = omega arith; server_made = (made_longer p v.client v.server a v.crossed ys m).0; client_most = omega arith; server_most = (made_longer p v.client v.server a v.crossed ys m).1 }
+
+grown_step : (p : Parameters) (v w : World) → Step p v w → All v.client v.server → Grown v.client.state w.client.state × Grown v.server.state w.server.state
+grown_step p v w (client_moves {a = a} {after = ys} m) g = (grown_move p v.server v.client a v.crossed ys m g.mine.asked, same_grown v.server.state)
+grown_step p v w (server_moves {a = a} {after = ys} m) g = (same_grown v.client.state, grown_move p v.client v.server a v.crossed ys m g.theirs.asked)
+
+-- an earlier world of the run
+pub record After (p : Parameters) (v w : World) (own peer : List FirstCopy) : Type 0 where
+  pub us : List World
+  pub reached : Reaches p us v
+  pub few : IsWithin p v
+  pub client : Grown v.client.state w.client.state
+  pub server : Grown v.server.state w.server.state
+  pub less : length v.crossed ≤ length w.crossed
+  pub told : Both p Client Server v.crossed v.client v.server
+  pub own_copies : (j : ℕ) (d : FirstCopy) → slice_get own j ≡ Some d → d.place < length v.crossed → slice_get told.own j ≡ Some d
+  pub peer_copies : (j : ℕ) (d : FirstCopy) → slice_get peer j ≡ Some d → d.place < length v.crossed → slice_get told.peer j ≡ Some d
+  pub own_front : (j : ℕ) (d : FirstCopy) → slice_get told.own j ≡ Some d → slice_get own j ≡ Some d
+  pub peer_front : (j : ℕ) (d : FirstCopy) → slice_get told.peer j ≡ Some d → slice_get peer j ≡ Some d
+
+after_itself : (p : Parameters) (ws : List World) (w : World) → Reaches p ws w → IsWithin p w → (g : Both p Client Server w.crossed w.client w.server) → After p w w g.own g.peer
+after_itself p ws w r b g = record { us = ws; reached = r; few = b; client = same_grown _; server = same_grown _; less = omega arith; told = g; own_copies = λ j d h l. h; peer_copies = λ j d h l. h; own_front = λ j d h. h; peer_front = λ j d h. h }
+
+pub history : (p : Parameters) (valid : AreParameters p) (ws : List World) (w : World) → Reaches p ws w → IsWithin p w
+    → (g : Both p Client Server w.crossed w.client w.server) × ((i : ℕ) (v : World) → slice_get (ws ++ w ∷ []) i ≡ Some v → After p v w g.own g.peer)
+history p valid ws w (begins m n) b = (told_first p m n valid, λ i v g. only i v g)
+  where
+    only : (i : ℕ) (v : World) → slice_get (first_world p m n ∷ []) i ≡ Some v → After p v (first_world p m n) (told_first p m n valid).own (told_first p m n valid).peer
+    only zero v g = subst (λ (z : World). After p z (first_world p m n) (told_first p m n valid).own (told_first p m n valid).peer) (let e : first_world p m n ≡ v = cc in e) (after_itself p [] (first_world p m n) (begins m n) b (told_first p m n valid))
+    only (suc i) v g = absurd (cc)
+history p valid ws w (goes_on {ws = us} {w = u} r st) b = step (history p valid us u r few)
+  where
+    sd : Stepped u w
+    sd = stepped p u w st
+
+    few : IsWithin p u
+    few = (let s = stepped p u w st in record { client = (let z = s.client_made in let y = b.client in omega arith); server = (let z = s.server_made in let y = b.server in omega arith) })
+
+    step : ((g : Both p Client Server u.crossed u.client u.server) × ((i : ℕ) (v : World) → slice_get (us ++ u ∷ []) i ≡ Some v → After p v u g.own g.peer))
+        → (g : Both p Client Server w.crossed w.client w.server) × ((i : ℕ) (v : World) → slice_get ((us ++ u ∷ []) ++ w ∷ []) i ≡ Some v → After p v w g.own g.peer)
+    step h =
+        let g = told_step p u w st h.0 in
+        let cp = step_copies p u w st h.0 in
+        let fr = step_front p u w st h.0 in
+        let gr = grown_step p u w st (all_held p us u r few) in
+        let l = (stepped p u w st).less in (
+          g,
+          λ i v x. ⊎_elim
+              (λ (old : slice_get (us ++ u ∷ []) i ≡ Some v). (let k = h.1 i v old in record {
+                us = k.us;
+                reached = k.reached;
+                few = k.few;
+                client = both_grown v.client.state u.client.state w.client.state k.client gr.0;
+                server = both_grown v.server.state u.server.state w.server.state k.server gr.1;
+                less = (let z = k.less in omega arith);
+                told = k.told;
+                own_copies = λ j d y z. k.own_copies j d (cp.0 j d y (let q = k.less in omega arith)) z;
+                peer_copies = λ j d y z. k.peer_copies j d (cp.1 j d y (let q = k.less in omega arith)) z;
+                own_front = λ j d y. fr.0 j d (k.own_front j d y);
+                peer_front = λ j d y. fr.1 j d (k.peer_front j d y);
+              }))
+              (λ (new : (i ≡ length (us ++ u ∷ [])) × (w ≡ v)). subst (λ (z : World). After p z w g.own g.peer) new.1 (after_itself p (us ++ u ∷ []) w (goes_on r st) b g))
+              (get_push_cases (us ++ u ∷ []) w i v x),
+        )
+
+-- two worlds one after the other in a run are joined by a step
+pub joined : (p : Parameters) (ws : List World) (w : World) → Reaches p ws w → (i : ℕ) (u v : World) → slice_get (ws ++ w ∷ []) i ≡ Some u → slice_get (ws ++ w ∷ []) (suc i) ≡ Some v → Step p u v
+joined p ws w (begins m n) i u v g h = absurd (cc)
+joined p ws w (goes_on {ws = us} {w = z} r st) i u v g h = ⊎_elim
+    (λ (old : slice_get (us ++ z ∷ []) (suc i) ≡ Some v). (let l = slice_get_within (us ++ z ∷ []) (suc i) v old in
+    ⊎_elim
+    (λ (o : slice_get (us ++ z ∷ []) i ≡ Some u). joined p us z r i u v o old)
+    (λ (n : (i ≡ length (us ++ z ∷ [])) × (w ≡ u)). absurd (omega arith))
+    (get_push_cases (us ++ z ∷ []) w i u g)))
+    (λ (new : (suc i ≡ length (us ++ z ∷ [])) × (w ≡ v)).
+    let at : i ≡ length us = (let q = length_push us z in omega arith) in
+    let there : slice_get ((us ++ z ∷ []) ++ w ∷ []) i ≡ Some z = subst (λ j. slice_get ((us ++ z ∷ []) ++ w ∷ []) j ≡ Some z) (sym at) (get_front (us ++ z ∷ []) (w ∷ []) (length us) z (get_push us z)) in
+    let same : z ≡ u = cc in
+    subst (λ (y : World). Step p y v) same (subst (λ (y : World). Step p z y) new.1 st))
+    (get_push_cases (us ++ z ∷ []) w (suc i) v h)
+
+pub appended : (p : Parameters) (ws : List World) (w : World) → Reaches p ws w → (k : ℕ) → k < length w.crossed → (v next : World) × Appends ws w k v next
+appended p ws w (begins m n) k l = absurd (omega arith)
+appended p ws w (goes_on {ws = us} {w = u} r st) k l =
+    elim (dec_lt k (length u.crossed)) [
+      | yes y ↦ (let a = appended p us u r k y in (a.0, a.1, record { i = a.2.i; here = get_front (us ++ u ∷ []) (w ∷ []) a.2.i a.0 a.2.here; there = get_front (us ++ u ∷ []) (w ∷ []) (suc a.2.i) a.1 a.2.there; before = a.2.before; after = a.2.after }))
+      | no y ↦ (let s = stepped p u w st in let m = s.more in let q = length_push us u in
+          (u, w, record { i = length us; here = get_front (us ++ u ∷ []) (w ∷ []) (length us) u (get_push us u); there = subst (λ j. slice_get ((us ++ u ∷ []) ++ w ∷ []) j ≡ Some w) (let z : length (us ++ u ∷ []) ≡ suc (length us) = omega arith in z) (get_push (us ++ u ∷ []) w); before = at_end k (length u.crossed) (length w.crossed) y l m; after = at_next k (length u.crossed) (length w.crossed) y l m }))
+    ]
+  where
+    at_end : (k m n : ℕ) → (k < m → ⊥) → k < n → n ≤ suc m → m ≡ k
+    at_end k m n h l q = omega arith
+
+    at_next : (k m n : ℕ) → (k < m → ⊥) → k < n → n ≤ suc m → n ≡ suc k
+    at_next k m n h l q = omega arith
+
+-- the PDU of a copy
+pub made_at : (p : Parameters) (s : Side) (xs : List Packet) (own : List FirstCopy) (e : EndState) (f j : ℕ) (d : FirstCopy) → Sends p s xs own e f → slice_get own j ≡ Some d → (m : Made) × (slice_get e.made (base p + j) ≡ Some m) × (m.pdu ≡ d.pdu.safety)
+made_at p s xs own e f j d h g =
+    let l = slice_get_within own j d g in
+    let n = sends_count p s xs own e f h in
+    let a = some e.made (base p + j) (omega arith) in
+    let b = copy_at p s xs own e f j a.0 h a.1 in
+    let same : b.0 ≡ d = (let z = b.1 in cc) in
+    (a.0, a.1, sym b.2 ∙ ap (λ (c : FirstCopy). c.pdu.safety) same)
+  where
+    some : (ms : List Made) (i : ℕ) → i < length ms → (m : Made) × (slice_get ms i ≡ Some m)
+    some [] i l = absurd (omega arith)
+    some (m ∷ ms) zero l = (m, refl)
+    some (m ∷ ms) (suc i) l = some ms i (omega arith)

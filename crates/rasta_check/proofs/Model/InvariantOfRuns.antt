@@ -1,0 +1,276 @@
+-- Every run keeps what holds.
+use Rattle.std.proofs.Common.{◌≡◌, ℕ, zero, suc, ◌≤◌, Bool, false, List, [], ◌∷◌, ◌++◌, length, Option, Some, None, slice_get, refl, ap, sym, subst, ◌∙◌, arith, inl, inr, ◌<◌}
+use Rattle.std.proofs.lemmas.List.{length_push}
+use Rattle.rasta_pcap.specs.Fault.{reply_owed, past_deadline}
+use Rattle.rasta_pcap.specs.declared.fault.Side.{Side}
+use Rattle.rasta_pcap.specs.declared.fault.Side.TheVariants.{Client, Server}
+use Rattle.rasta_udp.specs.Frame.{Packet}
+use Rattle.rasta_pdu.specs.Params.{Parameters}
+use Rattle.rasta_pdu.specs.declared.quiet_point.Quiet.{Quiet}
+use Rattle.rasta_pdu.specs.declared.quiet_point.QuietEnd.{QuietEnd}
+use Rattle.rasta_end.specs.declared.phase.Phase.{Phase}
+use Rattle.rasta_end.specs.declared.phase.Phase.TheVariants.{Closed, Down, RetrReq}
+use Rattle.rasta_end.specs.declared.owed.Owed.{Owed}
+use Rattle.rasta_end.specs.State.{Made, EndState, is_owing, is_closed, is_connected, carries_unit}
+use Rattle.rasta_end.specs.MakeRule.{is_data, first_that_holds, is_past, after_make}
+use Rattle.rasta_end.specs.TakeRule.{take_fault, after_take}
+use Rattle.rasta_end.specs.Starts.{fresh_end, sn_before, quiet_pdu, quiet_end, start_by}
+use Rattle.rasta_check.specs.Model.World.{Station, World, Move, Moves, makes, repeats, arrives, takes, waits, Reaches, IsWithin}
+use Rattle.rasta_check.proofs.Model.PassedTests.{passed}
+use Rattle.rasta_check.proofs.Model.MakeRows.{made_by, after_row, new_made}
+use Rattle.rasta_check.proofs.Model.TakeRows.{take_made}
+use Rattle.rasta_check.proofs.Model.NamedPositions.{SnIs}
+use Rattle.rasta_check.proofs.Model.Invariant.{Held, has_peer}
+use Rattle.rasta_check.proofs.Model.InvariantAtMake.{own_make, peer_make}
+use Rattle.rasta_check.proofs.Model.InvariantAtTake.{Taken, own_take}
+use Rattle.rasta_check.proofs.Model.OfferedUnits.{Valued}
+use Rattle.rasta_check.proofs.Model.OfferedUnitsAtMake.{valued_make}
+use Rattle.rasta_check.proofs.Model.OfferedUnitsAtTake.{valued_take, values_take}
+use Rattle.rasta_check.proofs.Model.HandedUnits.{Handed, handed_make, handed_peer_make, handed_take, handed_peer_take}
+use Rattle.rasta_check.proofs.Model.ShownUnits.{Shown, shown_make, shown_peer_make, shown_take, shown_peer_take}
+use Rattle.rasta_check.proofs.Model.SequenceNumbers.{numbered_once}
+use Rattle.rasta_check.proofs.Model.Induction.{always}
+
+-- ---- the start: a fresh end, or one at a quiet point
+
+nothing_at : {A B : Type 0} (i : ℕ) (x : A) → slice_get [] i ≡ Some x → B
+nothing_at i x e = absurd (cc)
+
+fresh_held : (side : Side) (phase : Phase) → (phase ≡ Down → side ≡ Server) → has_peer side phase ≡ false → Held (fresh_end side phase) 0 []
+fresh_held side phase down peer =
+    record {
+      numbered = λ i m e. nothing_at (suc i) m e;
+      confirmed = omega arith;
+      asked = omega arith;
+      owing = λ _. refl;
+      openers = λ i m e. nothing_at i m e;
+      down = λ e. (refl, down e, refl);
+      starting = λ _ _. refl;
+      unmade = λ _ _. (refl, refl);
+      response_due = inl refl;
+      connected = λ v. absurd (cc);
+      reached = omega arith;
+      within = omega arith;
+      last = λ i v. absurd (cc);
+      answered = λ i m d e. nothing_at i m e;
+      asks_taken = omega arith;
+      open_requests = omega arith;
+      named = λ i m e. nothing_at i m e;
+    }
+
+-- the only one of a list of one
+only_at : (x m : Made) (i : ℕ) → slice_get (x ∷ []) i ≡ Some m → (i ≡ 0) × (x ≡ m)
+only_at x m zero e = (refl, cc)
+only_at x m (suc i) e = nothing_at i m e
+
+quiet_sn : (side : Side) (own other : QuietEnd) (i sn : ℕ) → i ≡ 0 → sn ≡ sn_before own.next_sn → SnIs ((quiet_end side own other).made) i sn
+quiet_sn side own other i sn e f =
+    let m : Made = record { pdu = quiet_pdu own other; unit = None } in
+    record { m = m; there = subst (λ j. slice_get ((quiet_end side own other).made) j ≡ Some m) (sym e) refl; same = sym f }
+
+quiet_cs : (own other : QuietEnd) (m : Made) → record { pdu = quiet_pdu own other; unit = None } ≡ m → m.pdu.cs ≡ sn_before other.next_sn
+quiet_cs own other m e = ap (λ (n : Made). n.pdu.cs) (sym e)
+
+-- each quiet PDU confirms the other
+quiet_held : (side peer : Side) (own other : QuietEnd) → Held (quiet_end side own other) 1 (quiet_end peer other own).made
+quiet_held side peer own other =
+    record {
+      numbered = λ i m e. nothing_at i m e;
+      confirmed = omega arith;
+      asked = omega arith;
+      owing = λ _. refl;
+      openers = λ i m e k. (only_at _ m i e).0;
+      down = λ e. absurd (cc);
+      starting = λ _ v. absurd (cc);
+      unmade = λ _ v. absurd (cc);
+      response_due = inl refl;
+      connected = λ v. (0, refl);
+      reached = omega arith;
+      within = omega arith;
+      last = λ i v. quiet_sn peer other own i _ (omega arith) refl;
+      answered = λ i m d e k g. absurd (cc);
+      asks_taken = omega arith;
+      open_requests = omega arith;
+      named = λ i m e k. (0, omega arith, quiet_sn peer other own 0 m.pdu.cs refl (quiet_cs own other m (only_at _ m i e).1));
+    }
+
+fresh_valued : (side : Side) (phase : Phase) → is_connected phase ≡ false → Valued (fresh_end side phase)
+fresh_valued side phase c =
+    record {
+      due = λ _. refl;
+      bounded = λ i v e. nothing_at i v e;
+      units = λ i m e. nothing_at i m e;
+      others = λ i m e. nothing_at (suc i) m e;
+      jumps = λ i m d e. nothing_at i m e;
+      zeroth = λ v e. nothing_at 0 v e;
+      asks_within = λ i d e. nothing_at i d e;
+      grown = λ v. absurd (cc);
+      counted = refl;
+      fresh = λ i m e. nothing_at i m e;
+      carried = λ i m k e. nothing_at i m e;
+    }
+
+zero_at : (i v : ℕ) → slice_get (0 ∷ []) i ≡ Some v → v ≤ 0
+zero_at zero v e = (let z : 0 ≡ v = cc in omega arith)
+zero_at (suc i) v e = nothing_at i v e
+
+quiet_valued : (side : Side) (own other : QuietEnd) → Valued (quiet_end side own other)
+quiet_valued side own other =
+    record {
+      due = λ _. refl;
+      bounded = λ i v e. zero_at i v e;
+      units = λ i m e k. absurd (let z = ap (λ (n : Made). carries_unit n.pdu.kind) (only_at _ m i e).1 in cc);
+      others = λ i m e. nothing_at i m e;
+      jumps = λ i m d e k g. absurd (cc);
+      zeroth = λ v e. cc;
+      asks_within = λ i d e. nothing_at i d e;
+      grown = λ v. (record { pdu = quiet_pdu own other; unit = None }, [], refl);
+      counted = refl;
+      fresh = λ i m e k. absurd (let z = ap (λ (n : Made). is_data n.pdu.kind) (only_at _ m i e).1 in cc);
+      carried = λ i m k e u. absurd (let z = ap (λ (n : Made). n.unit) (only_at _ m i e).1 in cc);
+    }
+
+fresh_handed : (side : Side) (phase : Phase) (e : EndState) → (phase ≡ RetrReq → ⊥) → Handed (fresh_end side phase) e
+fresh_handed side phase e c = record { count = refl; labels = λ i m g. nothing_at i m g; as_many = refl; awaited = λ v. absurd (c v) }
+
+quiet_handed : (side peer : Side) (own other : QuietEnd) → Handed (quiet_end side own other) (quiet_end peer other own)
+quiet_handed side peer own other = record { count = refl; labels = λ i m g. nothing_at i m g; as_many = refl; awaited = λ v. absurd (cc) }
+
+fresh_shown : (side : Side) (phase : Phase) (e : EndState) → is_connected e.phase ≡ false → (0 < e.offered → 0 < 0) → Shown (fresh_end side phase) e
+fresh_shown side phase e c offer =
+    record {
+      shown = λ i j v m g. nothing_at i m g;
+      judged = λ i m g. nothing_at i m g;
+      first_words = λ _ _ i m g. nothing_at i m g;
+      ready_run = λ r. absurd (cc);
+      ready_offer = offer;
+    }
+
+quiet_shown : (side peer : Side) (own other : QuietEnd) → Shown (quiet_end side own other) (quiet_end peer other own)
+quiet_shown side peer own other =
+    record {
+      shown = λ i j v m g k t u. zero_at j v u;
+      judged = λ i m g k. inr (0, omega arith, quiet_sn peer other own 0 m.pdu.cs refl (quiet_cs own other m (only_at _ m i g).1));
+      first_words = λ z. absurd (omega arith);
+      ready_run = λ _. omega arith;
+      ready_offer = λ _. omega arith;
+    }
+
+-- ---- the steps
+
+free_by : (owed : List Owed) (past : Bool) → first_that_holds ((is_owing owed, reply_owed) ∷ (past, past_deadline) ∷ []) ≡ None → owed ≡ []
+free_by [] past e = refl
+free_by (o ∷ os) past e = absurd (cc)
+
+-- an end that takes something owes nothing
+pub free : (p : Parameters) (e : EndState) (clock : ℕ) → take_fault p e clock ≡ None → is_closed e.phase ≡ false → e.owed ≡ []
+free p e clock h c = free_by e.owed (is_past p e.deadline clock) (rw c at h)
+
+-- all that holds of two stations
+pub record All (a b : Station) : Type 0 where
+  pub mine : Held a.state a.taken b.state.made
+  pub theirs : Held b.state b.taken a.state.made
+  pub values : Valued a.state
+  pub their_values : Valued b.state
+  pub up : Handed a.state b.state
+  pub their_up : Handed b.state a.state
+  pub shows : Shown a.state b.state
+  pub their_shows : Shown b.state a.state
+
+abbrev Whole : Station → Station → Type 0
+Whole a b = length a.state.made ≤ 1000001 → length b.state.made ≤ 1000001 → All a b
+
+all_kept : (p : Parameters) (b a a' : Station) (xs ys : List Packet) (move : Move) → Moves p b xs a move a' ys → Whole a b → Whole a' b
+all_kept p b a a' xs ys move (makes x why after channel reserve check bytes mk sp rec) g = λ l r. (
+    let ok = passed p a.state x a.clock why mk.0 in
+    let by = made_by p a.state x a.clock why ok in
+    let n : Made = new_made by.row a.state x in
+    let now : after_make a.state x a.clock why ≡ after = sym mk.1 in
+    let made : (after_make a.state x a.clock why).made ≡ a.state.made ++ n ∷ [] = ap (λ (e : EndState). e.made) (sym (after_row a.state x a.clock why by)) in
+    let few : length (after_make a.state x a.clock why).made ≤ 1000001 = subst (λ (e : EndState). length e.made ≤ 1000001) (sym now) l in
+    let h = g (let longer = ap (λ (ms : List Made). length ms) made in omega (arith, longer, few, length_push a.state.made n)) r in
+    let mine = own_make p a.state x a.clock why a.taken b.state.made ok h.mine in
+    let values = valued_make p a.state x a.clock why a.taken b.state.made ok h.mine h.values in
+    let P : EndState → Type 0 = λ e. All (record a { state = e }) b in
+    subst P now (record {
+      mine = mine;
+      theirs = subst (λ (ms : List Made). Held b.state b.taken ms) (sym made) (peer_make b.state b.taken a.state.made n h.theirs);
+      values = values;
+      their_values = h.their_values;
+      up = handed_make p a.state b.state x a.clock why a.taken ok h.mine h.up;
+      their_up = handed_peer_make b.state a.state x a.clock why (let z = h.theirs in omega (arith, z.reached, z.within)) h.their_up;
+      shows = shown_make p a.state b.state x a.clock why a.taken ok h.mine (numbered_once b.state.made r h.theirs.numbered) h.their_values h.up h.shows;
+      their_shows = shown_peer_make p b.state a.state x a.clock why ok values (numbered_once (after_make a.state x a.clock why).made few mine.numbered) h.their_shows;
+    }))
+all_kept p b a a' xs ys move (repeats place channel old there s rec) g = g
+all_kept p b a a' xs ys move (arrives position i j) g = λ l r. (let h = g l r in record { mine = h.mine; theirs = h.theirs; values = h.values; their_values = h.their_values; up = h.up; their_up = h.their_up; shows = h.shows; their_shows = h.their_shows })
+all_kept p b a a' xs ys move (takes position m after c i s t) g = λ l r. (
+    let same : after.made ≡ a.state.made = ap (λ (e : EndState). e.made) t.1 ∙ take_made p a.state m.pdu in
+    let few : length a.state.made ≤ 1000001 = subst (λ (ms : List Made). length ms ≤ 1000001) same l in
+    let h = g few r in
+    let now : after_take p a.state m.pdu ≡ after = sym t.1 in
+    let k : Taken a.state b.state a.taken b.taken m position = record { mine = h.mine; theirs = h.theirs; there = s; above = i; few = few; few_theirs = r } in
+    let P : EndState → Type 0 = λ e. All (record a { state = e; taken = suc position }) b in
+    let fr = free p a.state a.clock t.0 in
+    subst P now (record {
+      mine = own_take p a.state b.state a.taken b.taken m position k fr;
+      theirs = subst (λ (ms : List Made). Held b.state b.taken ms) (sym (take_made p a.state m.pdu)) h.theirs;
+      values = valued_take p a.state b.state a.taken b.taken m position k h.values fr;
+      their_values = h.their_values;
+      up = handed_take p a.state b.state a.taken b.taken m position k h.up h.their_values fr;
+      their_up = handed_peer_take b.state a.state (after_take p a.state m.pdu) (take_made p a.state m.pdu) (values_take p a.state m.pdu h.mine.asked) h.their_up;
+      shows = shown_take p a.state b.state m.pdu a.taken h.mine h.shows;
+      their_shows = shown_peer_take p b.state a.state b.taken m position h.theirs s (values_take p a.state m.pdu h.mine.asked) h.their_shows;
+    }))
+all_kept p b a a' xs ys move (waits clock i) g = λ l r. (let h = g l r in record { mine = h.mine; theirs = h.theirs; values = h.values; their_values = h.their_values; up = h.up; their_up = h.their_up; shows = h.shows; their_shows = h.their_shows })
+
+-- ---- every run
+
+station_by : Option Quiet → Side → ℕ → Station
+station_by quiet side number = record { state = start_by quiet side; clock = (start_by quiet side).clock; arrived = []; taken = (start_by quiet side).base; first_number = number }
+
+first_all : (quiet : Option Quiet) (m n : ℕ) → All (station_by quiet Client m) (station_by quiet Server n)
+unfolding station_by
+first_all None m n =
+    record {
+      mine = fresh_held Client Closed (λ e. absurd (cc)) refl;
+      theirs = fresh_held Server Down (λ _. refl) refl;
+      values = fresh_valued Client Closed refl;
+      their_values = fresh_valued Server Down refl;
+      up = fresh_handed Client Closed _ (λ e. cc (e));
+      their_up = fresh_handed Server Down _ (λ e. cc (e));
+      shows = fresh_shown Client Closed (fresh_end Server Down) refl (λ l. omega arith);
+      their_shows = fresh_shown Server Down (fresh_end Client Closed) refl (λ l. omega arith);
+    }
+first_all (Some quiet) m n =
+    record {
+      mine = quiet_held Client Server quiet.client quiet.server;
+      theirs = quiet_held Server Client quiet.server quiet.client;
+      values = quiet_valued Client quiet.client quiet.server;
+      their_values = quiet_valued Server quiet.server quiet.client;
+      up = quiet_handed Client Server quiet.client quiet.server;
+      their_up = quiet_handed Server Client quiet.server quiet.client;
+      shows = quiet_shown Client Server quiet.client quiet.server;
+      their_shows = quiet_shown Server Client quiet.server quiet.client;
+    }
+
+base_by : (quiet : Option Quiet) (side : Side) → (start_by quiet side).base ≤ 1
+base_by None Client = omega arith
+base_by None Server = omega arith
+base_by (Some quiet) Client = omega arith
+base_by (Some quiet) Server = omega arith
+
+-- no end has made more than 1,000,001 PDUs
+pub few_made : (p : Parameters) (w : World) → IsWithin p w → (length w.client.state.made ≤ 1000001) × (length w.server.state.made ≤ 1000001)
+few_made p w b =
+    let c = base_by p.quiet Client in
+    let s = base_by p.quiet Server in
+    (omega (arith, c, b.client), omega (arith, s, b.server))
+
+pub all_held : (p : Parameters) (ws : List World) (w : World) → Reaches p ws w → IsWithin p w → All w.client w.server
+unfolding station_by
+all_held p ws w r b =
+    let few = few_made p w b in
+    always p Whole
+    (λ x y g l m. (let h = g m l in record { mine = h.theirs; theirs = h.mine; values = h.their_values; their_values = h.values; up = h.their_up; their_up = h.up; shows = h.their_shows; their_shows = h.shows }))
+    (λ m n l k. first_all p.quiet m n) (all_kept p) ws w r few.0 few.1

@@ -1,0 +1,121 @@
+-- The rows of the make table, one by one.
+use Rattle.std.proofs.Common.{◌≡◌, ℕ, Bool, true, false, List, [], ◌∷◌, Some, refl, ap, sym, arith}
+use Rattle.std.specs.Prelude.{not, ◌&&◌, ◌==◌}
+use Rattle.std.proofs.lemmas.Bool.Decides.{nat_tests}
+use Rattle.rasta_pcap.specs.declared.fault.Side.{Side}
+use Rattle.rasta_pcap.specs.declared.fault.Side.TheVariants.{Client, Server}
+use Rattle.rasta_pdu.specs.declared.kind.Kind.{Kind}
+use Rattle.rasta_pdu.specs.declared.kind.Kind.TheVariants.{ConnectionRequest, ConnectionResponse, RetransmissionRequest, RetransmissionResponse, DisconnectionRequest, Heartbeat, Data, RetransmittedData}
+use Rattle.rasta_pdu.specs.Pdu.{SafetyPdu}
+use Rattle.rasta_pdu.specs.Params.{Parameters}
+use Rattle.rasta_end.specs.declared.phase.Phase.{Phase}
+use Rattle.rasta_end.specs.declared.phase.Phase.TheVariants.{Closed, Start, Up}
+use Rattle.rasta_end.specs.declared.why.Why.{Why}
+use Rattle.rasta_end.specs.declared.why.Why.TheVariants.{Open, Reply, Beat, Fresh, Again, Ask, Bye, Expired}
+use Rattle.rasta_end.specs.declared.make_row.MakeRow.{MakeRow}
+use Rattle.rasta_end.specs.declared.make_row.MakeRow.TheVariants.{Opens, Answers, StartsBeating, Returns, Resends, Requests, Beats, Offers, Leaves, TimesOut}
+use Rattle.rasta_end.specs.declared.owed.Owed.{Owed}
+use Rattle.rasta_end.specs.declared.owed.Owed.TheVariants.{ConnectionResponse as OweConnectionResponse, FirstHeartbeat as OweFirstHeartbeat, RetransmissionResponse as OweRetransmissionResponse, Resend as OweResend, RetransmissionRequest as OweRetransmissionRequest}
+use Rattle.rasta_end.specs.declared.owed.Demand.{Demand}
+use Rattle.rasta_end.specs.declared.owed.Demand.TheVariants.{First, Nothing, Anything}
+use Rattle.rasta_end.specs.State.{Made, EndState, is_client, is_closed, is_start, is_up, is_connected, is_active, reason_of}
+use Rattle.rasta_end.specs.MakeRule.{row_where, make_row, demand_of, same_owed, lacks, owes_else, is_refused_row, is_owing_else, row_of, unit_of, after_make, after_make_by}
+use Rattle.rasta_check.proofs.Model.PassedTests.{Passed, un_not}
+
+-- which row allows a make: side, phase, why, type, what is owed, and the row
+pub data Making : Side → Phase → Why → Kind → List Owed → MakeRow → Type 0 where
+  opening : {os : List Owed} → Making Client Closed Open ConnectionRequest os Opens
+  response : {os : List Owed} → Making Server Start Reply ConnectionResponse (OweConnectionResponse ∷ os) Answers
+  first_beat : {os : List Owed} → Making Client Up Reply Heartbeat (OweFirstHeartbeat ∷ os) StartsBeating
+  answer : {s : Side} {ph : Phase} {os : List Owed} → is_connected ph ≡ true → Making s ph Reply RetransmissionResponse (OweRetransmissionResponse ∷ os) Returns
+  again : {s : Side} {ph : Phase} {k : ℕ} {os : List Owed} → is_connected ph ≡ true → Making s ph (Again k) RetransmittedData (OweResend k ∷ os) (Resends k)
+  ask : {s : Side} {ph : Phase} {os : List Owed} → is_connected ph ≡ true → Making s ph Ask RetransmissionRequest (OweRetransmissionRequest ∷ os) Requests
+  beat : {s : Side} {ph : Phase} → is_connected ph ≡ true → Making s ph Beat Heartbeat [] Beats
+  fresh : {s : Side} {ph : Phase} → is_connected ph ≡ true → Making s ph Fresh Data [] Offers
+  bye : {s : Side} {ph : Phase} {os : List Owed} → is_active ph ≡ true → Making s ph Bye DisconnectionRequest os Leaves
+  expired : {s : Side} {ph : Phase} {os : List Owed} → is_active ph ≡ true → Making s ph Expired DisconnectionRequest os TimesOut
+
+-- what a row's demand says of the owed list
+Met : Demand → List Owed → Type 0
+Met (First o) os = (rest : List Owed) × (os ≡ o ∷ rest)
+Met Nothing os = os ≡ []
+Met Anything os = Unit {0}
+
+-- ---- each row in turn
+
+same_is : (q o : Owed) → same_owed q o ≡ true → q ≡ o
+same_is OweConnectionResponse OweConnectionResponse h = refl
+same_is OweFirstHeartbeat OweFirstHeartbeat h = refl
+same_is OweRetransmissionResponse OweRetransmissionResponse h = refl
+same_is (OweResend j) (OweResend k) h = ap OweResend (grind (arith, nat_tests))
+same_is OweRetransmissionRequest OweRetransmissionRequest h = refl
+same_is _ _ h = absurd (cc)
+
+meets : (d : Demand) (os : List Owed) → lacks d os ≡ false → owes_else d os ≡ false → Met d os
+unfolding Met
+meets (First o) [] e f = absurd (cc)
+meets (First o) (q ∷ os) e f = (os, ap (λ p. p ∷ os) (same_is q o (un_not _ f)))
+meets Nothing [] e f = refl
+meets Nothing (q ∷ os) e f = absurd (cc)
+meets Anything os e f = tt
+
+met : (row : MakeRow) (b : Bool) (os : List Owed) → is_refused_row (row_where b row) os ≡ false → is_owing_else (row_where b row) os ≡ false → (b ≡ true) × Met (demand_of row) os
+met row false os e f = absurd (cc)
+met row true os e f = (refl, meets (demand_of row) os e f)
+
+both : (a b : Bool) → (a && b) ≡ true → (a ≡ true) × (b ≡ true)
+both true b e = (refl, e)
+both false b e = absurd (cc)
+
+open_row : (s : Side) (ph : Phase) (os : List Owed) → (is_client s && is_closed ph) ≡ true → Making s ph Open ConnectionRequest os Opens
+open_row Client Closed os e = opening
+open_row Client _ os e = absurd (cc)
+open_row Server ph os e = absurd (cc)
+
+response_row : (s : Side) (ph : Phase) (os : List Owed) → (not (is_client s) && is_start ph) ≡ true → Making s ph Reply ConnectionResponse (OweConnectionResponse ∷ os) Answers
+response_row Server Start os e = response
+response_row Server _ os e = absurd (cc)
+response_row Client ph os e = absurd (cc)
+
+first_beat_row : (s : Side) (ph : Phase) (os : List Owed) → (is_client s && is_up ph) ≡ true → Making s ph Reply Heartbeat (OweFirstHeartbeat ∷ os) StartsBeating
+first_beat_row Client Up os e = first_beat
+first_beat_row Client _ os e = absurd (cc)
+first_beat_row Server ph os e = absurd (cc)
+
+-- the row of a make that is neither refused nor kept back by what is owed
+pub making : (s : Side) (ph : Phase) (reason : ℕ) (why : Why) (k : Kind) (os : List Owed)
+    → is_refused_row (make_row s ph reason why k) os ≡ false → is_owing_else (make_row s ph reason why k) os ≡ false
+    → (row : MakeRow) × (make_row s ph reason why k ≡ Some row) × Making s ph why k os row
+unfolding Met
+making s ph reason Open ConnectionRequest os e f = let m = met Opens _ os e f in (Opens, ap (λ b. row_where b Opens) m.0, open_row s ph os m.0)
+making s ph reason Reply ConnectionResponse os e f = let m = met Answers _ os e f in (Answers, ap (λ b. row_where b Answers) m.0, rw (m.1.1) (response_row s ph m.1.0 m.0))
+making s ph reason Reply Heartbeat os e f = let m = met StartsBeating _ os e f in (StartsBeating, ap (λ b. row_where b StartsBeating) m.0, rw (m.1.1) (first_beat_row s ph m.1.0 m.0))
+making s ph reason Reply RetransmissionResponse os e f = let m = met Returns (is_connected ph) os e f in (Returns, ap (λ b. row_where b Returns) m.0, rw (m.1.1) (answer m.0))
+making s ph reason (Again j) RetransmittedData os e f = let m = met (Resends j) (is_connected ph) os e f in (Resends j, ap (λ b. row_where b (Resends j)) m.0, rw (m.1.1) (again m.0))
+making s ph reason Ask RetransmissionRequest os e f = let m = met Requests (is_connected ph) os e f in (Requests, ap (λ b. row_where b Requests) m.0, rw (m.1.1) (ask m.0))
+making s ph reason Beat Heartbeat os e f = let m = met Beats (is_connected ph) os e f in (Beats, ap (λ b. row_where b Beats) m.0, rw (m.1) (beat m.0))
+making s ph reason Fresh Data os e f = let m = met Offers (is_connected ph) os e f in (Offers, ap (λ b. row_where b Offers) m.0, rw (m.1) (fresh m.0))
+making s ph reason Bye DisconnectionRequest os e f = let m = met Leaves (is_active ph && not (reason == 4)) os e f in (Leaves, ap (λ b. row_where b Leaves) m.0, bye (both _ _ m.0).0)
+making s ph reason Expired DisconnectionRequest os e f = let m = met TimesOut (is_active ph && (reason == 4)) os e f in (TimesOut, ap (λ b. row_where b TimesOut) m.0, expired (both _ _ m.0).0)
+making s ph reason _ _ os e f = absurd (cc)
+
+-- ---- the row of a make
+
+-- the row by which an end makes a PDU
+pub record MadeBy (e : EndState) (x : SafetyPdu) (why : Why) : Type 0 where
+  pub row : MakeRow
+  pub is : row_of e x why ≡ Some row
+  pub how : Making e.side e.phase why x.kind e.owed row
+
+pub made_by : (p : Parameters) (e : EndState) (x : SafetyPdu) (clock : ℕ) (why : Why) → Passed p e x clock why → MadeBy e x why
+made_by p e x clock why pass =
+    let m = making e.side e.phase (reason_of x.body) why x.kind e.owed pass.row pass.owed in
+    record { row = m.0; is = m.1; how = m.2 }
+
+-- the end after a make is that of its row
+pub after_row : (e : EndState) (x : SafetyPdu) (clock : ℕ) (why : Why) (m : MadeBy e x why) → after_make_by (Some m.row) e x clock ≡ after_make e x clock why
+after_row e x clock why m = ap (λ r. after_make_by r e x clock) (sym m.is)
+
+-- what a row adds to the PDUs made
+abbrev pub new_made : MakeRow → EndState → SafetyPdu → Made
+new_made row e x = record { pdu = x; unit = unit_of row e.offered }

@@ -1,0 +1,48 @@
+-- Which position an SN and a CS name.
+use Rattle.std.proofs.Common.{◌≡◌, ℕ, zero, suc, ◌+◌, ◌%◌, ◌^◌, ◌<◌, ◌≤◌, true, List, [], ◌∷◌, length, Some, slice_get, ap, ◌∙◌, arith}
+use Rattle.std.specs.Prelude.{nat_lt}
+use Rattle.std.proofs.lemmas.Bool.Decides.{nat_tests}
+use Rattle.std.proofs.lemmas.Option.{slice_get_within}
+use Rattle.rasta_pdu.specs.Pdu.{SafetyPdu}
+use Rattle.rasta_end.specs.State.{Made, EndState, ahead_by, first_sn, sn_at}
+use Rattle.rasta_end.specs.TakeRule.{is_valid, position_confirmed}
+use Rattle.rasta_check.proofs.Model.SequenceNumbers.{Numbered}
+use Rattle.rasta_check.proofs.Model.Distances.{apart, confirmed_at}
+
+-- the PDU at this position has this SN
+pub record SnIs (ms : List Made) (i sn : ℕ) : Type 0 where
+  pub m : Made
+  pub there : slice_get ms i ≡ Some m
+  pub same : m.pdu.sn ≡ sn
+
+-- modulo 2^32 an SN is the first one and its position
+sn_mod : (ms : List Made) (i sn : ℕ) → Numbered ms → SnIs ms i sn → sn % 2 ^ 32 ≡ (first_sn ms + i) % 2 ^ 32
+sn_mod [] i sn h s = absurd (let e = s.there in cc)
+sn_mod (m ∷ ms) zero sn h s =
+    let e = s.there in
+    let a : m ≡ s.m = cc in
+    let b : m.pdu.sn ≡ sn = ap (λ (k : Made). k.pdu.sn) a ∙ s.same in
+    omega arith
+sn_mod (m ∷ ms) (suc i) sn h s =
+    let a : s.m.pdu.sn ≡ (m.pdu.sn + suc i) % 2 ^ 32 = h i s.m s.there in
+    let b = s.same in
+    omega arith
+
+-- an SN after that of position i names the position that is so far after it
+pub position_is : (ms : List Made) (i p u v : ℕ) → Numbered ms → length ms ≤ 1000001 → SnIs ms p u → SnIs ms i v → i < p → i + suc (ahead_by u (v + 1)) ≡ p
+position_is ms i p u v h b x y l =
+    let w : p < length ms = slice_get_within ms p x.m x.there in
+    apart u v (first_sn ms) i p (sn_mod ms p u h x) (sn_mod ms i v h y) l (omega arith)
+
+-- a valid SN of a position lies as far after the confirmed one as the position does
+valid_at : (ms : List Made) (c j u : ℕ) → Numbered ms → length ms ≤ 1000001 → c ≤ length ms → SnIs ms j u
+    → nat_lt (ahead_by u (sn_at ms c)) (ahead_by (sn_at ms (length ms)) (sn_at ms c)) ≡ true → c + ahead_by u (sn_at ms c) ≡ j
+valid_at [] c j u h b l s v = absurd (let e = s.there in cc)
+valid_at (m ∷ ms) c j u h b l s v =
+    let w : j < length (m ∷ ms) = slice_get_within (m ∷ ms) j s.m s.there in
+    let t : ahead_by u ((m.pdu.sn + c) % 2 ^ 32) < ahead_by ((m.pdu.sn + length (m ∷ ms)) % 2 ^ 32) ((m.pdu.sn + c) % 2 ^ 32) = grind (arith, nat_tests) in
+    confirmed_at u m.pdu.sn c j (length (m ∷ ms)) (sn_mod (m ∷ ms) j u h s) l w b t
+
+-- a valid CS confirms the position that it names
+pub confirms_is : (e : EndState) (x : SafetyPdu) (j : ℕ) → Numbered e.made → length e.made ≤ 1000001 → e.confirmed ≤ length e.made → SnIs e.made j x.cs → is_valid e x ≡ true → position_confirmed e x ≡ j
+confirms_is e x j h b l s v = valid_at e.made e.confirmed j x.cs h b l s v

@@ -1,0 +1,169 @@
+-- What an end was asked, and what its retransmission responses answer.
+use Rattle.std.proofs.Common.{◌≡◌, ℕ, zero, suc, ◌<◌, Bool, true, false, List, [], ◌∷◌, ◌++◌, length, Some, slice_get, take, refl, ap, sym, ◌∙◌, arith, subst, cond}
+use Rattle.std.specs.Prelude.{slice_index_or, filter, filter_map, if◌then◌else◌, ◌==◌}
+use Rattle.std.specs.Option.{option_map}
+use Rattle.std.specs.List.{cons_option}
+use Rattle.std.proofs.Math.Seq.{take-append_seam}
+use Rattle.std.proofs.lemmas.Bool.Decides.{nat_tests}
+use Rattle.std.proofs.lemmas.Option.{slice_get_within}
+use Rattle.rasta_pdu.specs.declared.kind.Kind.{Kind}
+use Rattle.rasta_pdu.specs.declared.kind.Kind.TheVariants.{RetransmissionRequest}
+use Rattle.rasta_pdu.specs.Pdu.{SafetyPdu}
+use Rattle.rasta_end.specs.State.{Made, EndState, kinds}
+use Rattle.rasta_end.specs.Units.{responses_in}
+use Rattle.rasta_end.specs.TakeRule.{is_retransmission_request, is_retransmission_response}
+use Rattle.rasta_check.specs.Verdict.Taken.{pdus_made, position_with, asked_positions}
+use Rattle.rasta_check.specs.Model.Laws.{NamesOne, requests_of, AnswersInOrder}
+use Rattle.rasta_check.proofs.Model.Counts.{number, tally, number_take_all, number_take_at}
+use Rattle.rasta_check.proofs.Model.NamedPositions.{SnIs}
+use Rattle.rasta_check.proofs.Model.Invariant.{Held, is_named}
+use Rattle.rasta_check.proofs.Model.ConveyedUnits.{get_within, answers_number}
+use Rattle.rasta_check.proofs.Model.OfferedUnits.{Valued}
+
+-- ---- the position that a CS confirms
+
+-- an SN names one position of these PDUs
+abbrev pub OnceIn : List Made → Type 0
+OnceIn ms = (i j : ℕ) (m n : Made) → slice_get ms i ≡ Some m → slice_get ms j ≡ Some n → m.pdu.sn ≡ n.pdu.sn → i ≡ j
+
+-- where an SN names one position it is the one that a CS confirms
+pub named_position : (ms : List Made) (c sn : ℕ) → OnceIn ms → SnIs ms c sn → position_with (pdus_made ms) sn ≡ Some c
+named_position [] c sn once s = absurd (let e = s.there in cc)
+named_position (x ∷ ms) zero sn once s =
+    let e = s.there in
+    let same : x ≡ s.m = cc in
+    let sn_is : x.pdu.sn ≡ sn = ap (λ (m : Made). m.pdu.sn) same ∙ s.same in
+    let test : (x.pdu.sn == sn) ≡ true = grind (arith, nat_tests, sn_is) in
+    ap (λ b. if b then Some 0 else option_map suc (position_with (pdus_made ms) sn)) test
+named_position (x ∷ ms) (suc c) sn once s =
+    by (named_position ms c sn (λ i j m n e f g. (let same = once (suc i) (suc j) m n e f g in omega (arith, same))) (record { m = s.m; there = s.there; same = s.same })) (x.pdu.sn == sn) refl
+  where
+    by : position_with (pdus_made ms) sn ≡ Some c → (b : Bool) → (x.pdu.sn == sn) ≡ b → (if b then Some 0 else option_map suc (position_with (pdus_made ms) sn)) ≡ Some (suc c)
+    by later true e = absurd (let here : x.pdu.sn ≡ sn = grind (arith, nat_tests, e) in let z = once 0 (suc c) x s.m refl s.there (here ∙ sym s.same) in omega (arith, z))
+    by later false e = ap (option_map suc) later
+
+-- ---- the k-th of a kind
+
+-- the position of the k-th of a kind
+pub record Found (f : Kind → Bool) (ms : List Made) (k : ℕ) : Type 0 where
+  pub at : ℕ
+  pub m : Made
+  pub there : slice_get ms at ≡ Some m
+  pub is : f m.pdu.kind ≡ true
+  pub before : number f (take at ms) ≡ k
+
+found_by : (f : Kind → Bool) (x : Made) (ms : List Made) (b : Bool) → f x.pdu.kind ≡ b → ((k : ℕ) → k < number f ms → Found f ms k) → (k : ℕ) → k < tally b (number f ms) → Found f (x ∷ ms) k
+found_by f x ms true e rest zero l = record { at = 0; m = x; there = refl; is = e; before = refl }
+found_by f x ms true e rest (suc k) l =
+    let r = rest k (omega (arith, l)) in
+    record { at = suc r.at; m = r.m; there = r.there; is = r.is; before = ap (λ b. tally b (number f (take r.at ms))) e ∙ ap suc r.before }
+found_by f x ms false e rest k l =
+    let r = rest k l in
+    record { at = suc r.at; m = r.m; there = r.there; is = r.is; before = ap (λ b. tally b (number f (take r.at ms))) e ∙ r.before }
+
+pub found : (f : Kind → Bool) (ms : List Made) (k : ℕ) → k < number f ms → Found f ms k
+found f [] k l = absurd (omega (arith, l))
+found f (x ∷ ms) k l = found_by f x ms (f x.pdu.kind) refl (found f ms) k l
+
+-- ---- what each request confirms
+
+more_of : {A : Type 0} (b : Bool) (x a : A) (xs : List A) (k : ℕ) → slice_get xs k ≡ Some a → slice_get (cond b (x ∷ xs) xs) (tally b k) ≡ Some a
+more_of true x a xs k e = e
+more_of false x a xs k e = e
+
+-- the k-th request, by its position
+pub request_at : (ms : List Made) (p : ℕ) (m : Made) → slice_get ms p ≡ Some m → is_retransmission_request m.pdu.kind ≡ true
+    → slice_get (requests_of ms) (number is_retransmission_request (take p ms)) ≡ Some m
+request_at [] p m e r = absurd (cc)
+request_at (x ∷ ms) zero m e r =
+    let same : x ≡ m = cc in
+    let b : is_retransmission_request x.pdu.kind ≡ true = ap (λ (n : Made). is_retransmission_request n.pdu.kind) same ∙ r in
+    ap (λ c. slice_get (cond c (x ∷ requests_of ms) (requests_of ms)) 0) b ∙ ap Some same
+request_at (x ∷ ms) (suc p) m e r = more_of (is_retransmission_request x.pdu.kind) x m (requests_of ms) (number is_retransmission_request (take p ms)) (request_at ms p m e r)
+
+more_asked : (own : List SafetyPdu) (b : Bool) (x : SafetyPdu) (xs : List SafetyPdu) (k c : ℕ) → (b ≡ true → (d : ℕ) × (position_with own x.cs ≡ Some d))
+    → slice_get (filter_map (λ (y : SafetyPdu). position_with own y.cs) xs) k ≡ Some c
+    → slice_get (filter_map (λ (y : SafetyPdu). position_with own y.cs) (cond b (x ∷ xs) xs)) (tally b k) ≡ Some c
+more_asked own true x xs k c h e =
+    let d = h refl in
+    subst (λ o. slice_get (cons_option o (filter_map (λ (y : SafetyPdu). position_with own y.cs) xs)) (suc k) ≡ Some c) (sym d.1) e
+more_asked own false x xs k c h e = e
+
+-- each request confirms a position
+abbrev pub AllNamed : List SafetyPdu → List Made → Type 0
+AllNamed own ms = (p : ℕ) (m : Made) → slice_get ms p ≡ Some m → is_retransmission_request m.pdu.kind ≡ true → (d : ℕ) × (position_with own m.pdu.cs ≡ Some d)
+
+-- the position that the k-th request confirms, by the position of the request
+pub asked_at : (own : List SafetyPdu) (ms : List Made) → AllNamed own ms → (p : ℕ) (m : Made) (c : ℕ) → slice_get ms p ≡ Some m → is_retransmission_request m.pdu.kind ≡ true
+    → position_with own m.pdu.cs ≡ Some c → slice_get (asked_positions own (pdus_made ms)) (number is_retransmission_request (take p ms)) ≡ Some c
+asked_at own [] all p m c e r h = absurd (cc)
+asked_at own (x ∷ ms) all zero m c e r h =
+    let same : x ≡ m = cc in
+    let b : is_retransmission_request x.pdu.kind ≡ true = ap (λ (n : Made). is_retransmission_request n.pdu.kind) same ∙ r in
+    let at : position_with own x.pdu.cs ≡ Some c = ap (λ (n : Made). position_with own n.pdu.cs) same ∙ h in
+    let rest = filter (λ (y : SafetyPdu). is_retransmission_request y.kind) (pdus_made ms) in
+    ap (λ d. slice_get (filter_map (λ (y : SafetyPdu). position_with own y.cs) (cond d (x.pdu ∷ rest) rest)) 0) b
+    ∙ ap (λ o. slice_get (cons_option o (filter_map (λ (y : SafetyPdu). position_with own y.cs) rest)) 0) at
+asked_at own (x ∷ ms) all (suc p) m c e r h =
+    more_asked own (is_retransmission_request x.pdu.kind) x.pdu (filter (λ (y : SafetyPdu). is_retransmission_request y.kind) (pdus_made ms)) (number is_retransmission_request (take p ms)) c
+    (all 0 x refl) (asked_at own ms (λ q n g. all (suc q) n g) p m c e r h)
+
+pub begins_with : {A : Type 0} (xs ys : List A) → ((k : ℕ) (a : A) → slice_get xs k ≡ Some a → slice_get ys k ≡ Some a) → (rest : List A) × (ys ≡ xs ++ rest)
+begins_with [] ys h = (ys, refl)
+begins_with (x ∷ xs) [] h = absurd (let z = h 0 x refl in cc)
+begins_with (x ∷ xs) (y ∷ ys) h =
+    let z : Some y ≡ Some x = h 0 x refl in
+    let same : y ≡ x = cc in
+    let r = begins_with xs ys (λ k a e. h (suc k) a e) in
+    (r.0, ap (λ a. a ∷ ys) same ∙ ap (λ zs. x ∷ zs) r.1)
+
+request_named : (k : Kind) → is_retransmission_request k ≡ true → is_named k ≡ true
+request_named RetransmissionRequest h = refl
+request_named _ h = absurd (cc)
+
+-- ---- asks and answers
+
+module _ (e f : EndState) (t u : ℕ) (h : Held e t f.made) (peer : Held f u e.made) (w : Valued e) (once : NamesOne e f) where
+  all_named : AllNamed (pdus_made e.made) f.made
+  all_named p m g r = (let n = peer.named p m g (request_named m.pdu.kind r) in (n.0, named_position e.made n.0 m.pdu.cs once n.2))
+
+  -- the k-th ask is that of the k-th request
+  pub ask_at : (k c : ℕ) → slice_get e.asks k ≡ Some c
+      → (m : Made) × (slice_get (requests_of f.made) k ≡ Some m) × (position_with (pdus_made e.made) m.pdu.cs ≡ Some c) × (slice_get (asked_positions (pdus_made e.made) (pdus_made f.made)) k ≡ Some c)
+  ask_at k c g =
+      let few = slice_get_within e.asks k c g in
+      let r = found is_retransmission_request f.made k (omega (arith, few, h.asks_taken, number_take_all is_retransmission_request f.made t)) in
+      let g' = subst (λ n. slice_get e.asks n ≡ Some c) (sym r.before) g in
+      let at = named_position e.made c r.m.pdu.cs once (h.answered r.at r.m c r.there r.is g') in (
+        r.m,
+        subst (λ n. slice_get (requests_of f.made) n ≡ Some r.m) r.before (request_at f.made r.at r.m r.there r.is),
+        at,
+        subst (λ n. slice_get (asked_positions (pdus_made e.made) (pdus_made f.made)) n ≡ Some c) r.before (asked_at (pdus_made e.made) f.made all_named r.at r.m c r.there r.is at),
+      )
+
+  answer_at : (before after : List Made) (m : Made) → e.made ≡ before ++ m ∷ after → is_retransmission_response m.pdu.kind ≡ true
+      → (ask : ℕ) × (request : Made) × (slice_get e.asks (responses_in (kinds before)) ≡ Some ask) × (ask < length before)
+      × (slice_get (requests_of f.made) (responses_in (kinds before)) ≡ Some request) × (position_with (pdus_made e.made) request.pdu.cs ≡ Some ask)
+  answer_at before after m is r =
+      let there : slice_get e.made (length before) ≡ Some m = subst (λ (ms : List Made). slice_get ms (length before) ≡ Some m) (sym is) (get_after before) in
+      let front : take (length before) e.made ≡ before = ap (take (length before)) is ∙ take-append_seam before (m ∷ after) in
+      let n = responses_in (kinds before) in
+      let n_is : n ≡ number is_retransmission_response (take (length before) e.made) = answers_number before ∙ ap (number is_retransmission_response) (sym front) in
+      let one = number_take_at is_retransmission_response e.made (length before) m there r in
+      let all = number_take_all is_retransmission_response e.made (suc (length before)) in
+      let ask = slice_index_or e.asks n 0 in
+      let asked = get_within e.asks n (omega (arith, n_is, one, all, h.asked)) in
+      let request = ask_at n ask asked in
+      let jump = w.jumps (length before) m ask there r (subst (λ k. slice_get e.asks k ≡ Some ask) n_is asked) in
+      (ask, request.0, asked, jump.0, request.1, request.2)
+    where
+      get_after : (xs : List Made) → slice_get (xs ++ m ∷ after) (length xs) ≡ Some m
+      get_after [] = refl
+      get_after (x ∷ xs) = get_after xs
+
+  pub in_order : AnswersInOrder e f
+  in_order = record {
+    named = all_named;
+    beginning = begins_with e.asks (asked_positions (pdus_made e.made) (pdus_made f.made)) (λ k c g. (ask_at k c g).3);
+    answers = answer_at;
+  }

@@ -1,0 +1,308 @@
+-- What the PDUs of an end show: no more units than it has handed up.
+use Rattle.std.proofs.Common.{◌≡◌, ℕ, zero, suc, ◌<◌, ◌≤◌, ◌⊎◌, Bool, true, false, List, [], ◌∷◌, ◌++◌, length, Option, Some, None, slice_get, refl, ap, sym, ◌∙◌, arith, inl, inr, ⊎_elim, subst}
+use Rattle.std.specs.Prelude.{not, ◌&&◌, ◌==◌, if◌then◌else◌}
+use Rattle.std.proofs.lemmas.Bool.Decides.{nat_tests}
+use Rattle.std.proofs.lemmas.List.{length_push}
+use Rattle.std.proofs.lemmas.Option.{slice_get_within}
+use Rattle.rasta_pcap.specs.declared.fault.Side.{Side}
+use Rattle.rasta_pdu.specs.declared.kind.Kind.{Kind}
+use Rattle.rasta_pdu.specs.Params.{Parameters}
+use Rattle.rasta_pdu.specs.Pdu.{SafetyPdu}
+use Rattle.rasta_end.specs.declared.phase.Phase.{Phase}
+use Rattle.rasta_end.specs.declared.phase.Phase.TheVariants.{Up}
+use Rattle.rasta_end.specs.declared.why.Why.{Why}
+use Rattle.rasta_end.specs.declared.make_row.MakeRow.{MakeRow}
+use Rattle.rasta_end.specs.declared.take_row.TakeRow.{TakeRow}
+use Rattle.rasta_end.specs.declared.take_row.TakeRow.TheVariants.{Opened, Answered, FirstHeartbeat, InSequence, ResentInSequence, Gap, GapInRetransmission, Resumed, Requested, RequestedAhead, RequestedAgain, Disconnected}
+use Rattle.rasta_end.specs.declared.owed.Owed.{Owed}
+use Rattle.rasta_end.specs.State.{Made, EndState, is_client, is_start, is_closed, is_connected, carries_unit}
+use Rattle.rasta_end.specs.MakeRule.{is_connection_request, is_disconnection_request, is_judged, phase_after, offered_after, after_make, after_make_by}
+use Rattle.rasta_end.specs.TakeRule.{accept, enter, hand_up, take_row, effect, effect_by, after_take}
+use Rattle.rasta_check.proofs.Model.ListGrowth.{get_push_cases}
+use Rattle.rasta_check.proofs.Model.PassedTests.{Passed, cs_is}
+use Rattle.rasta_check.proofs.Model.MakeRows.{Making, opening, response, first_beat, answer, again, ask, beat, fresh, bye, expired, MadeBy, made_by, after_row, new_made}
+use Rattle.rasta_check.proofs.Model.TakeRows.{Knows, row_known, not_closed, take_made, take_leaves}
+use Rattle.rasta_check.proofs.Model.NamedPositions.{SnIs}
+use Rattle.rasta_check.proofs.Model.Invariant.{Held, is_named}
+use Rattle.rasta_check.proofs.Model.InvariantAtMake.{Changed, changed, over, opened, goes_on, named_connected, nothing_made, SnIs_front}
+use Rattle.rasta_check.proofs.Model.InvariantAtTake.{fresh_named}
+use Rattle.rasta_check.proofs.Model.ConveyedUnits.{values, values_push, length-values}
+use Rattle.rasta_check.proofs.Model.OfferedUnits.{Valued}
+use Rattle.rasta_check.proofs.Model.Requests.{OnceIn}
+use Rattle.rasta_check.proofs.Model.HandedUnits.{Handed, worth_at}
+
+-- e: the end whose PDUs show units; f: its peer, which offers them
+pub record Shown (e f : EndState) : Type 0 where
+  pub shown : (p j v : ℕ) (m : Made) → slice_get e.made p ≡ Some m → is_connection_request m.pdu.kind ≡ false → SnIs f.made j m.pdu.cs → slice_get (values f) j ≡ Some v → v ≤ length e.handed
+  pub judged : (p : ℕ) (m : Made) → slice_get e.made p ≡ Some m → is_connection_request m.pdu.kind ≡ false → (e.accepted ≡ 0) ⊎ ((i : ℕ) × (i < e.accepted) × SnIs f.made i m.pdu.cs)
+  -- an end that has accepted nothing and isn't over has made a connection request at most
+  pub first_words : e.accepted ≡ 0 → is_closed e.phase ≡ false → (p : ℕ) (m : Made) → slice_get e.made p ≡ Some m → is_connection_request m.pdu.kind ≡ true
+  -- the peer is connected, or has offered a unit, only where this end has accepted something
+  pub ready_run : is_connected f.phase ≡ true → 0 < e.accepted
+  pub ready_offer : 0 < f.offered → 0 < e.accepted
+
+-- The end makes.
+
+judges : (r d z c : Bool) → r ≡ false → z ≡ false → (not r && not (d && (z && c))) ≡ true
+judges true d z c e g = absurd (cc)
+judges false true true c e g = absurd (cc)
+judges false true false c e g = refl
+judges false false z c e g = refl
+
+-- once something is accepted, every CS is judged but that of a connection request
+pub judged_after : (e : EndState) (k : Kind) (i : ℕ) → e.accepted ≡ suc i → is_connection_request k ≡ false → is_judged e k ≡ true
+judged_after e k i a c =
+    let z : (e.accepted == 0) ≡ false = grind (arith, nat_tests) in
+    judges (is_connection_request k) (is_disconnection_request k) (e.accepted == 0) (is_client e.side && is_start e.phase) c z
+
+-- an end makes a connection request, or is over then, or has accepted something
+first_word : (s : Side) (ph : Phase) (why : Why) (k : Kind) (os : List Owed) (row : MakeRow) → Making s ph why k os row
+    → is_closed (phase_after row ph) ≡ false → (is_named k ≡ true → ⊥) → is_connection_request k ≡ true
+first_word s ph why k os row opening c named = refl
+first_word s ph why k os row response c named = absurd (named refl)
+first_word s ph why k os row first_beat c named = absurd (named refl)
+first_word s ph why k os row (answer r) c named = absurd (named refl)
+first_word s ph why k os row (again r) c named = absurd (named refl)
+first_word s ph why k os row (ask r) c named = absurd (named refl)
+first_word s ph why k os row (beat r) c named = absurd (named refl)
+first_word s ph why k os row (fresh r) c named = absurd (named refl)
+first_word s ph why k os row (bye r) c named = absurd (cc)
+first_word s ph why k os row (expired r) c named = absurd (cc)
+
+module _ (p : Parameters) (e f : EndState) (x : SafetyPdu) (clock : ℕ) (why : Why) (t : ℕ) (pass : Passed p e x clock why) (h : Held e t f.made) (fnum : OnceIn f.made) (vf : Valued f) (hd : Handed e f) (w : Shown e f) (b : MadeBy e x why) where
+  abbrev new : Made
+  new = new_made b.row e x
+
+  cs_last : (i : ℕ) → e.accepted ≡ suc i → is_connection_request x.kind ≡ false → x.cs ≡ e.last_sn
+  cs_last i a k = (cs_is e x.kind x.cs (judged_after e x.kind i a k) pass.cs).1
+
+  new_shown : (a : ℕ) → e.accepted ≡ a → is_connection_request x.kind ≡ false → (j v : ℕ) → SnIs f.made j x.cs → slice_get (values f) j ≡ Some v → v ≤ length e.handed
+  new_shown zero a k j v s g =
+      let none : 0 < f.offered → ⊥ = λ l. (let z = w.ready_offer l in omega arith) in
+      let b = vf.bounded j v g in
+      omega (arith, none, b)
+  new_shown (suc i) a k j v s g =
+      let l = h.last i a in
+      let same : j ≡ i = fnum j i s.m l.m s.there l.there (s.same ∙ (cs_last i a k ∙ sym l.same)) in
+      let worth_v = worth_at (values f) e.accepted i v a (subst (λ z. slice_get (values f) z ≡ Some v) same g) in
+      omega (arith, hd.count, worth_v)
+
+  new_judged : (a : ℕ) → e.accepted ≡ a → is_connection_request x.kind ≡ false → (e.accepted ≡ 0) ⊎ ((i : ℕ) × (i < e.accepted) × SnIs f.made i x.cs)
+  new_judged zero a k = inl a
+  new_judged (suc i) a k =
+      let l = h.last i a in
+      inr (i, omega arith, record { m = l.m; there = l.there; same = l.same ∙ sym (cs_last i a k) })
+
+  new_first : e.accepted ≡ 0 → is_closed (phase_after b.row e.phase) ≡ false → is_connection_request x.kind ≡ true
+  new_first a c =
+      first_word e.side e.phase why x.kind e.owed b.row b.how c
+      (λ n. (let z = h.connected (named_connected e.side e.phase why x.kind e.owed b.row b.how n) in omega (arith, a, z.1)))
+
+  old_first : Changed e.side e.phase x.kind e.owed b.row → e.accepted ≡ 0 → is_closed (phase_after b.row e.phase) ≡ false → (i : ℕ) (m : Made) → slice_get e.made i ≡ Some m → is_connection_request m.pdu.kind ≡ true
+  old_first (over a c d g j) z cl i m u = absurd (let y = ap is_closed a in cc)
+  old_first (opened a s c o j) z cl i m u =
+      absurd (let y = nothing_made e.side e.phase e.made a pass.open_yet in let u' : slice_get [] i ≡ Some m = subst (λ (ms : List Made). slice_get ms i ≡ Some m) y u in cc)
+  old_first (goes_on a c d g j k l) z cl i m u = w.first_words z (subst (λ (ph : Phase). is_closed ph ≡ false) a cl) i m u
+
+  shown_row : Shown (after_make_by (Some b.row) e x clock) f
+  shown_row =
+      record {
+        shown = λ i j v m g k s u. ⊎_elim
+            (λ (old : slice_get e.made i ≡ Some m). w.shown i j v m old k s u)
+            (λ (now : (i ≡ length e.made) × (new ≡ m)).
+            new_shown e.accepted refl (ap (λ (z : Made). is_connection_request z.pdu.kind) now.1 ∙ k) j v (record { m = s.m; there = s.there; same = s.same ∙ ap (λ (z : Made). z.pdu.cs) (sym now.1) }) u)
+            (get_push_cases e.made new i m g);
+        judged = λ i m g k. ⊎_elim
+            (λ (old : slice_get e.made i ≡ Some m). w.judged i m old k)
+            (λ (now : (i ≡ length e.made) × (new ≡ m)).
+            subst
+            (λ (z : Made). (e.accepted ≡ 0) ⊎ ((i : ℕ) × (i < e.accepted) × SnIs f.made i z.pdu.cs))
+            now.1
+            (new_judged e.accepted refl (ap (λ (z : Made). is_connection_request z.pdu.kind) now.1 ∙ k)))
+            (get_push_cases e.made new i m g);
+        first_words = λ a c i m g. ⊎_elim
+            (λ (old : slice_get e.made i ≡ Some m). old_first (changed e.side e.phase why x.kind e.owed b.row b.how) a c i m old)
+            (λ (now : (i ≡ length e.made) × (new ≡ m)). sym (ap (λ (z : Made). is_connection_request z.pdu.kind) now.1) ∙ new_first a c)
+            (get_push_cases e.made new i m g);
+        ready_run = w.ready_run;
+        ready_offer = w.ready_offer;
+      }
+
+pub shown_make : (p : Parameters) (e f : EndState) (x : SafetyPdu) (clock : ℕ) (why : Why) (t : ℕ) → Passed p e x clock why → Held e t f.made → OnceIn f.made → Valued f → Handed e f → Shown e f → Shown (after_make e x clock why) f
+shown_make p e f x clock why t pass h fnum vf hd w =
+    let b = made_by p e x clock why pass in
+    subst (λ (e' : EndState). Shown e' f) (after_row e x clock why b) (shown_row p e f x clock why t pass h fnum vf hd w b)
+
+-- The peer makes.
+
+offers_by : (s : Side) (ph : Phase) (why : Why) (k : Kind) (os : List Owed) (row : MakeRow) (n : ℕ) → Making s ph why k os row → 0 < offered_after row n → (0 < n) ⊎ (is_connected ph ≡ true)
+offers_by s ph why k os row n opening l = inl l
+offers_by s ph why k os row n response l = inl l
+offers_by s ph why k os row n first_beat l = inl l
+offers_by s ph why k os row n (answer r) l = inl l
+offers_by s ph why k os row n (again r) l = inl l
+offers_by s ph why k os row n (ask r) l = inl l
+offers_by s ph why k os row n (beat r) l = inl l
+offers_by s ph why k os row n (fresh r) l = inr r
+offers_by s ph why k os row n (bye r) l = inl l
+offers_by s ph why k os row n (expired r) l = inl l
+
+module _ (e f : EndState) (x : SafetyPdu) (clock : ℕ) (why : Why) (b : MadeBy f x why) (vf' : Valued (after_make_by (Some b.row) f x clock))
+    (fnum' : OnceIn (f.made ++ new_made b.row f x ∷ [])) (w : Shown e f) where
+  abbrev after : EndState
+  after = after_make_by (Some b.row) f x clock
+
+  abbrev added : Made
+  added = new_made b.row f x
+
+  f_offer : 0 < after.offered → 0 < e.accepted
+  f_offer l =
+      ⊎_elim
+      (λ (n : 0 < f.offered). w.ready_offer n)
+      (λ (r : is_connected f.phase ≡ true). w.ready_run r)
+      (offers_by f.side f.phase why x.kind f.owed b.row f.offered b.how l)
+
+  f_runs : Changed f.side f.phase x.kind f.owed b.row → is_connected (phase_after b.row f.phase) ≡ true → 0 < e.accepted
+  f_runs (over a c d g j) r = absurd (let z = ap is_connected a in cc)
+  f_runs (opened a s c o j) r = absurd (let z = ap is_connected o in cc)
+  f_runs (goes_on a c d g j k l) r = w.ready_run (subst (λ (ph : Phase). is_connected ph ≡ true) a r)
+
+  new_position : (a : ℕ) → e.accepted ≡ a → (i j v : ℕ) (m : Made) → slice_get e.made i ≡ Some m → is_connection_request m.pdu.kind ≡ false
+      → SnIs after.made j m.pdu.cs → j ≡ length f.made → slice_get (values after) j ≡ Some v → v ≤ length e.handed
+  new_position zero a i j v m g k s q u =
+      let none : 0 < after.offered → ⊥ = λ l. (let z = f_offer l in omega arith) in
+      let b = vf'.bounded j v u in
+      omega (arith, none, b)
+  new_position (suc n) a i j v m g k s q u =
+      ⊎_elim
+      (λ (z : e.accepted ≡ 0). absurd (omega arith))
+      (λ (z : (o : ℕ) × (o < e.accepted) × SnIs f.made o m.pdu.cs).
+      let old = SnIs_front f.made added z.0 m.pdu.cs z.2 in
+      let same : z.0 ≡ j = fnum' z.0 j old.m s.m old.there s.there (old.same ∙ sym s.same) in
+      let l = slice_get_within f.made z.0 z.2.m z.2.there in
+      absurd (omega arith))
+      (w.judged i m g k)
+
+  shown_peer_row : Shown e after
+  shown_peer_row =
+      let more = values_push f.asks f.made added in
+      let len = length-values f.asks f.made in
+      record {
+        shown = λ i j v m g k s u. ⊎_elim
+            (λ (old : slice_get f.made j ≡ Some s.m).
+            let l = slice_get_within f.made j s.m old in
+            let u' = subst (λ vs. slice_get vs j ≡ Some v) more u in
+            ⊎_elim
+            (λ (o : slice_get (values f) j ≡ Some v). w.shown i j v m g k (record { m = s.m; there = old; same = s.same }) o)
+            (λ (z : (j ≡ length (values f)) × (_ ≡ v)). absurd (omega (arith, z.0, len, l)))
+            (get_push_cases (values f) _ j v u'))
+            (λ (now : (j ≡ length f.made) × (added ≡ s.m)). new_position e.accepted refl i j v m g k s now.0 u)
+            (get_push_cases f.made added j s.m s.there);
+        judged = λ i m g k. ⊎_elim
+            (λ (z : e.accepted ≡ 0). inl z)
+            (λ (z : (o : ℕ) × (o < e.accepted) × SnIs f.made o m.pdu.cs). inr (z.0, z.1, SnIs_front f.made added z.0 m.pdu.cs z.2))
+            (w.judged i m g k);
+        first_words = w.first_words;
+        ready_run = f_runs (changed f.side f.phase why x.kind f.owed b.row b.how);
+        ready_offer = f_offer;
+      }
+
+pub shown_peer_make : (p : Parameters) (e f : EndState) (x : SafetyPdu) (clock : ℕ) (why : Why) → Passed p f x clock why
+    → Valued (after_make f x clock why) → OnceIn (after_make f x clock why).made → Shown e f → Shown e (after_make f x clock why)
+shown_peer_make p e f x clock why pass vf' fnum' w =
+    let b = made_by p f x clock why pass in
+    let is = after_row f x clock why b in
+    subst (λ (f' : EndState). Shown e f') is (shown_peer_row e f x clock why b (subst Valued (sym is) vf') (subst (λ (f' : EndState). OnceIn f'.made) (sym is) fnum') w)
+
+-- The end itself takes.
+
+more_if : (b : Bool) (i : ℕ) (g : EndState) (x : SafetyPdu) → length g.handed ≤ length (if b then hand_up i g x else g).handed
+more_if true i g x = omega (arith, length_push g.handed i)
+more_if false i g x = omega arith
+
+accepted_if : (b : Bool) (i : ℕ) (g : EndState) (x : SafetyPdu) → (if b then hand_up i g x else g).accepted ≡ g.accepted
+accepted_if true i g x = refl
+accepted_if false i g x = refl
+
+-- a take hands up more, if anything
+handed_more : (q : Parameters) (e : EndState) (x : SafetyPdu) (o : Option TakeRow) → length e.handed ≤ length (effect_by q o e x).handed
+handed_more q e x None = omega arith
+handed_more q e x (Some r) = by r
+  where
+    by : (r : TakeRow) → length e.handed ≤ length (effect q r e x).handed
+    by InSequence = more_if (carries_unit x.kind) e.accepted (enter Up (accept q e x)) x
+    by ResentInSequence = more_if (carries_unit x.kind) e.accepted (accept q e x) x
+    by _ = omega arith
+
+-- a take accepts more, if anything
+accepted_more : (q : Parameters) (e : EndState) (x : SafetyPdu) (t : ℕ) (peer : List Made) → Held e t peer → (r : TakeRow) → Knows q r e x → e.accepted ≤ (effect q r e x).accepted
+accepted_more q e x t peer h Opened w = (let z = (h.down w.0).2 in omega (arith, z))
+accepted_more q e x t peer h Answered w = (let z = h.starting w.0 w.1 in omega (arith, z))
+accepted_more q e x t peer h FirstHeartbeat w = omega arith
+accepted_more q e x t peer h InSequence w = (let z = accepted_if (carries_unit x.kind) e.accepted (enter Up (accept q e x)) x in omega (arith, z))
+accepted_more q e x t peer h ResentInSequence w = (let z = accepted_if (carries_unit x.kind) e.accepted (accept q e x) x in omega (arith, z))
+accepted_more q e x t peer h Resumed w = omega arith
+accepted_more q e x t peer h Requested w = omega arith
+accepted_more q e x t peer h _ w = omega arith
+
+module _ (q : Parameters) (e f : EndState) (x : SafetyPdu) (t : ℕ) (h : Held e t f.made) (w : Shown e f) where
+  shown_by : (o : Option TakeRow) → take_row q e x ≡ o → (effect_by q o e x).made ≡ e.made → Shown (effect_by q o e x) f
+  shown_by None is made = w
+  shown_by (Some r) is made =
+      let more = accepted_more q e x t f.made h r (row_known q e x r is) in
+      let back : (i : ℕ) (m : Made) → slice_get (effect q r e x).made i ≡ Some m → slice_get e.made i ≡ Some m = λ i m g. subst (λ (ms : List Made). slice_get ms i ≡ Some m) made g in
+      record {
+        shown = λ i j v m g k s u. (let z = w.shown i j v m (back i m g) k s u in omega (arith, z, handed_more q e x (Some r)));
+        judged = λ i m g k. ⊎_elim
+            (λ (z : e.accepted ≡ 0). absurd (let y = w.first_words z (not_closed q e x r is) i m (back i m g) in cc))
+            (λ (z : (o : ℕ) × (o < e.accepted) × SnIs f.made o m.pdu.cs). inr (z.0, omega (arith, z.1, more), z.2))
+            (w.judged i m (back i m g) k);
+        first_words = λ a d i m g. w.first_words (omega (arith, more, a)) (not_closed q e x r is) i m (back i m g);
+        ready_run = λ c. (let z = w.ready_run c in omega (arith, z, more));
+        ready_offer = λ l. (let z = w.ready_offer l in omega (arith, z, more));
+      }
+
+  pub shown_take : Shown (after_take q e x) f
+  shown_take = shown_by (take_row q e x) refl (take_made q e x)
+
+-- The peer takes a PDU of the end.
+
+module _ (q : Parameters) (e f : EndState) (t : ℕ) (m : Made) (p : ℕ) (h : Held e t f.made) (there : slice_get e.made p ≡ Some m) (same_values : values (after_take q f m.pdu) ≡ values f) (w : Shown e f) where
+  by_name : is_named m.pdu.kind ≡ true → 0 < e.accepted
+  by_name k = (let r = h.named p m there k in omega (arith, r.1))
+
+  run_by : (r : TakeRow) → Knows q r f m.pdu → is_connected (effect q r f m.pdu).phase ≡ true → 0 < e.accepted
+  run_by Opened x r = absurd (cc)
+  run_by Answered x r = by_name (ap is_named x.2)
+  run_by FirstHeartbeat x r = by_name (ap is_named x.2)
+  run_by InSequence x r = by_name (fresh_named m.pdu.kind x.1)
+  run_by ResentInSequence x r = by_name (ap is_named x.1)
+  run_by Gap x r = w.ready_run (ap is_connected x.0)
+  run_by GapInRetransmission x r = w.ready_run (ap is_connected x.0)
+  run_by Resumed x r = by_name (ap is_named x.1)
+  run_by Requested x r = by_name (ap is_named x.1)
+  run_by RequestedAhead x r = by_name (ap is_named x.1)
+  run_by RequestedAgain x r = by_name (ap is_named x.1)
+  run_by Disconnected x r = absurd (cc)
+
+  run_by_option : (o : Option TakeRow) → take_row q f m.pdu ≡ o → is_connected (effect_by q o f m.pdu).phase ≡ true → 0 < e.accepted
+  run_by_option None is r = w.ready_run r
+  run_by_option (Some row) is r = run_by row (row_known q f m.pdu row is) r
+
+  pub shown_peer_take : Shown e (after_take q f m.pdu)
+  shown_peer_take =
+      let alone = take_leaves q f m.pdu in
+      record {
+        shown = λ i j v n g k s u.
+            w.shown i j v n g k
+            (record { m = s.m; there = subst (λ (ms : List Made). slice_get ms j ≡ Some s.m) alone.made s.there; same = s.same })
+            (subst (λ vs. slice_get vs j ≡ Some v) same_values u);
+        judged = λ i n g k. ⊎_elim
+            (λ (z : e.accepted ≡ 0). inl z)
+            (λ (z : (o : ℕ) × (o < e.accepted) × SnIs f.made o n.pdu.cs).
+            inr (z.0, z.1, record { m = z.2.m; there = subst (λ (ms : List Made). slice_get ms z.0 ≡ Some z.2.m) (sym alone.made) z.2.there; same = z.2.same }))
+            (w.judged i n g k);
+        first_words = w.first_words;
+        ready_run = run_by_option (take_row q f m.pdu) refl;
+        ready_offer = λ l. w.ready_offer (let z = alone.offered in omega (arith, z, l));
+      }

@@ -1,0 +1,80 @@
+-- What a make adds and leaves alone, and what holds at the start.
+use Rattle.std.proofs.Common.{◌≡◌, ℕ, ◌≤◌, false, [], ◌∷◌, ◌++◌, length, Option, Some, None, refl, ap, sym, ◌∙◌, arith}
+use Rattle.std.specs.Prelude.{nat_lt}
+use Rattle.std.proofs.lemmas.Bool.Decides.{nat_tests}
+use Rattle.rasta_pcap.specs.declared.fault.Side.{Side}
+use Rattle.rasta_pcap.specs.declared.fault.Side.TheVariants.{Client, Server}
+use Rattle.rasta_pdu.specs.Params.{Parameters}
+use Rattle.rasta_pdu.specs.Pdu.{SafetyPdu}
+use Rattle.rasta_pdu.specs.declared.quiet_point.Quiet.{Quiet}
+use Rattle.rasta_end.specs.declared.why.Why.{Why}
+use Rattle.rasta_end.specs.State.{Made, EndState}
+use Rattle.rasta_end.specs.MakeRule.{Makes, after_make_by}
+use Rattle.rasta_end.specs.Starts.{start_by}
+use Rattle.rasta_check.proofs.Model.PassedTests.{passed}
+use Rattle.rasta_check.proofs.Model.MakeRows.{made_by, after_row, new_made}
+
+pub clock_le : (u v : ℕ) → nat_lt u v ≡ false → v ≤ u
+clock_le u v h = grind (arith, nat_tests)
+
+-- nothing more was handed up
+pub record SameHanded (e e' : EndState) : Type 0 where
+  pub positions : e'.handed ≡ e.handed
+  pub pdus : e'.handed_pdus ≡ e.handed_pdus
+
+-- an end after a make
+pub record AfterMake (e : EndState) (x : SafetyPdu) (clock : ℕ) (e' : EndState) : Type 0 where
+  pub new : Made
+  pub pdu : new.pdu ≡ x
+  pub made : e'.made ≡ e.made ++ new ∷ []
+  pub now : e'.clock ≡ clock
+  pub rises : e.clock ≤ clock
+  pub side : e'.side ≡ e.side
+  pub base : e'.base ≡ e.base
+  pub same : SameHanded e e'
+
+pub made_more : (p : Parameters) (e : EndState) (x : SafetyPdu) (clock : ℕ) (why : Why) (e' : EndState) → Makes p e x clock why e' → AfterMake e x clock e'
+made_more p e x clock why e' mk =
+    let pass = passed p e x clock why mk.0 in
+    let m = made_by p e x clock why pass in
+    let after : e' ≡ after_make_by (Some m.row) e x clock = mk.1 ∙ sym (after_row e x clock why m) in
+    record {
+      new = new_made m.row e x;
+      pdu = refl;
+      made = ap (λ (z : EndState). z.made) after;
+      now = ap (λ (z : EndState). z.clock) after;
+      rises = clock_le clock e.clock pass.clock_rises;
+      side = ap (λ (z : EndState). z.side) after;
+      base = ap (λ (z : EndState). z.base) after;
+      same = record { positions = ap (λ (z : EndState). z.handed) after; pdus = ap (λ (z : EndState). z.handed_pdus) after };
+    }
+
+-- the position of the first PDU of a sent list: 0, or 1 from a quiet point
+abbrev pub base_by : Option Quiet → ℕ
+base_by None = 0
+base_by (Some q) = 1
+
+abbrev pub base : Parameters → ℕ
+base p = base_by p.quiet
+
+pub base_small : (q : Option Quiet) → base_by q ≤ 1
+base_small None = omega arith
+base_small (Some q) = omega arith
+
+pub start_base : (q : Option Quiet) (s : Side) → (start_by q s).base ≡ base_by q
+start_base None Client = refl
+start_base None Server = refl
+start_base (Some q) Client = refl
+start_base (Some q) Server = refl
+
+pub start_made : (q : Option Quiet) (s : Side) → length (start_by q s).made ≡ base_by q
+start_made None Client = refl
+start_made None Server = refl
+start_made (Some q) Client = refl
+start_made (Some q) Server = refl
+
+pub start_side : (q : Option Quiet) (s : Side) → (start_by q s).side ≡ s
+start_side None Client = refl
+start_side None Server = refl
+start_side (Some q) Client = refl
+start_side (Some q) Server = refl

@@ -1,0 +1,558 @@
+-- The script that fits is the one that the code follows to its end, and the first fault of another is the one that the code answers.
+use Rattle.std.proofs.Common.{◌≡◌, ℕ, zero, suc, ◌+◌, ◌<◌, ◌≤◌, Bool, true, false, List, [], ◌∷◌, ◌++◌, length, Option, Some, None, Result, Ok, Err, slice_get, ◌⊎◌, inl, inr, refl, ap, sym, ◌∙◌, arith, subst}
+use Rattle.std.specs.Prelude.{not, nat_lt, ◌==◌, ◌||◌, if◌then◌else◌, is_none}
+use Rattle.std.specs.Option.{option_map_or, option_or}
+use Rattle.std.proofs.lemmas.Bool.Decides.{nat_tests}
+use Rattle.std.proofs.lemmas.List.{length-append}
+use Rattle.std.proofs.lemmas.Option.{slice_get_within}
+use Rattle.rasta_pcap.specs.declared.fault.Fault.{Fault}
+use Rattle.rasta_pcap.specs.declared.fault.Side.{Side}
+use Rattle.rasta_pcap.specs.declared.fault.Side.TheVariants.{Client, Server}
+use Rattle.rasta_pcap.specs.Fault.{fault_of_end, slot_order, not_first_copy, make_missing, not_yet_crossed, not_rising}
+use Rattle.rasta_pdu.specs.Params.{Parameters}
+use Rattle.rasta_cert.specs.Certificate.{Scripts}
+use Rattle.rasta_cert.specs.declared.entry.Entry.{Entry}
+use Rattle.rasta_cert.specs.declared.entry.Entry.TheVariants.{Take, Make}
+use Rattle.rasta_end.specs.declared.why.Why.{Why}
+use Rattle.rasta_end.specs.State.{EndState}
+use Rattle.rasta_end.specs.MakeRule.{Makes, make_fault, after_make, first_that_holds, is_there}
+use Rattle.rasta_end.specs.TakeRule.{Takes, take_fault, after_take}
+use Rattle.rasta_end.specs.Starts.{start_of}
+use Rattle.rasta_check.specs.Capture.Crossing.{FirstCopy, copy_with}
+use Rattle.rasta_check.specs.Capture.Lists.{IsOrdered, places_of, position_of_number, position_of_place}
+use Rattle.rasta_check.specs.Script.Following.{Cursor, at_start, Follows}
+use Rattle.rasta_check.specs.Script.Fitting.{places_made, AreInOrder, AreNamed, Joins, Fits, level_after, position_after, entry_tests, end_fault, FirstFault, at_entry, after_last}
+use Rattle.rasta_check.specs.Internals.Checking.{unless, take_at, take_found, make_of, make_found, next_cursor, then_follow, follow_from, follow, where_followed, verdict_of}
+use Rattle.rasta_check.specs.Verdict.Report.{Explained, IsScriptVerdict, both_fit, client_refused, server_refused, report_of}
+use Rattle.rasta_check.proofs.Capture.Positions.{position_at}
+use Rattle.rasta_check.proofs.Script.FollowedScripts.{number_found, place_found, less, not_less, passes, holds, allowed, neither, above, below, both, passed, held, same_equal, follow_fits, fits_follow}
+use Rattle.rasta_check.proofs.Script.Simulation.{slice_get_some}
+use Rattle.rasta_check.proofs.Internals.StoreLists.{copy_of_position, no_copy}
+
+append_none : {A : Type 0} (xs : List A) → xs ++ [] ≡ xs
+append_none [] = refl
+append_none (x ∷ xs) = ap (λ ys. x ∷ ys) (append_none xs)
+
+append_more : {A : Type 0} (xs ys zs : List A) → (xs ++ ys) ++ zs ≡ xs ++ (ys ++ zs)
+append_more [] ys zs = refl
+append_more (x ∷ xs) ys zs = ap (λ (l : List _). x ∷ l) (append_more xs ys zs)
+
+get_behind : (made left : List FirstCopy) (j n : ℕ) → n ≡ length made + j → slice_get (made ++ left) n ≡ slice_get left j
+get_behind [] left j n e = (let z : n ≡ j = omega (arith, e) in ap (slice_get left) z)
+get_behind (c ∷ made) left j zero e = absurd (omega (arith, e))
+get_behind (c ∷ made) left j (suc n) e = get_behind made left j n (omega (arith, e))
+
+-- so many and those of a list
+counted : {A : Type 0} → ℕ → List A → ℕ
+counted n [] = n
+counted n (x ∷ xs) = counted (suc n) xs
+
+counted_is : {A : Type 0} (n : ℕ) (xs : List A) → counted n xs ≡ n + length xs
+unfolding counted
+counted_is n [] = omega arith
+counted_is n (x ∷ xs) = (let z = counted_is (suc n) xs in omega (arith, z))
+
+get_place : (cs : List FirstCopy) (i : ℕ) (c : FirstCopy) → slice_get cs i ≡ Some c → slice_get (places_of cs) i ≡ Some c.place
+get_place [] i c g = absurd (cc)
+get_place (d ∷ cs) zero c g = (let same : d ≡ c = cc in ap (λ (x : FirstCopy). Some x.place) same)
+get_place (d ∷ cs) (suc i) c g = get_place cs i c g
+
+place_back : (cs : List FirstCopy) (i n : ℕ) → slice_get (places_of cs) i ≡ Some n → (c : FirstCopy) × (slice_get cs i ≡ Some c) × (c.place ≡ n)
+place_back [] i n g = absurd (cc)
+place_back (c ∷ cs) zero n g = (c, refl, cc)
+place_back (c ∷ cs) (suc i) n g = place_back cs i n g
+
+module _ (p : Parameters) (packets : ℕ) (own peer : List FirstCopy) where
+  -- ---- one entry
+
+  -- the code goes on with an entry: from here to there
+  data Goes : Cursor → Entry → Cursor → Type 0 where
+    takes : {u : Cursor} (slot number position : ℕ) (c : FirstCopy) (after : EndState) → u.level ≤ slot → slot ≤ packets
+        → position_of_number peer number ≡ Some position → slice_get peer position ≡ Some c → c.place < slot → u.taken ≤ position
+        → Takes p u.state c.pdu.safety u.state.clock after
+        → Goes u (Take slot number) (record { level = slot; made = u.made; taken = suc position; state = after })
+    makes : {u : Cursor} (place clock : ℕ) (why : Why) (c : FirstCopy) (after : EndState) → u.level ≤ place
+        → position_of_place own place ≡ Some u.made → slice_get own u.made ≡ Some c → c.place ≡ place
+        → Makes p u.state c.pdu.safety clock why after
+        → Goes u (Make place clock why) (record { level = suc place; made = suc u.made; taken = u.taken; state = after })
+
+  take_goes : (u v : Cursor) (slot number : ℕ) → u.level ≤ slot → slot ≤ packets → (o : Option ℕ) → position_of_number peer number ≡ o
+      → take_found p peer u slot o ≡ Ok v → Goes u (Take slot number) v
+  take_goes u v slot number low high None e g = absurd (cc)
+  take_goes u v slot number low high (Some position) e g =
+      let f = number_found peer number position e in
+      let at : take_at p u slot position (Some f.0) ≡ Ok v = ap (take_at p u slot position) (sym f.1) ∙ g in
+      let a = passes (not (nat_lt f.0.place slot)) not_yet_crossed _ v at in
+      let b = passes (nat_lt position u.taken) not_rising _ v a.1 in
+      let d = allowed (take_fault p u.state u.state.clock) _ v b.1 in
+      let step : Goes u (Take slot number) (record { level = slot; made = u.made; taken = suc position; state = after_take p u.state f.0.pdu.safety })
+      = takes slot number position f.0 (after_take p u.state f.0.pdu.safety) low high e f.1 (less f.0.place slot a.0) (not_less position u.taken b.0) (d.0, refl) in
+      subst (λ (w : Cursor). Goes u (Take slot number) w) d.1 step
+
+  make_goes : (u v : Cursor) (place clock : ℕ) (why : Why) → u.level ≤ place → (o : Option ℕ) → position_of_place own place ≡ o
+      → make_found p own u place clock why o ≡ Ok v → Goes u (Make place clock why) v
+  make_goes u v place clock why low None e g = absurd (cc)
+  make_goes u v place clock why low (Some position) e g =
+      let f = place_found own place position e in
+      let h = holds (position == u.made) make_missing _ v g in
+      let same : position ≡ u.made = (let t = h.0 in grind (arith, nat_tests)) in
+      let there : slice_get own u.made ≡ Some f.0 = subst (λ i. slice_get own i ≡ Some f.0) same f.1 in
+      let at : make_of p u place clock why (Some f.0) ≡ Ok v = ap (make_of p u place clock why) (sym f.1) ∙ h.1 in
+      let d = allowed (make_fault p u.state f.0.pdu.safety clock why) _ v at in
+      let step : Goes u (Make place clock why) (record { level = suc place; made = suc u.made; taken = u.taken; state = after_make u.state f.0.pdu.safety clock why })
+      = makes place clock why f.0 (after_make u.state f.0.pdu.safety clock why) low (e ∙ ap Some same) there f.2 (d.0, refl) in
+      subst (λ (w : Cursor). Goes u (Make place clock why) w) d.1 step
+
+  goes : (u v : Cursor) (x : Entry) → next_cursor p packets own peer u x ≡ Ok v → Goes u x v
+  unfolding next_cursor
+  goes u v (Take slot number) e =
+      let a = passes (nat_lt slot u.level || nat_lt packets slot) slot_order _ v e in
+      let b = neither (nat_lt slot u.level) (nat_lt packets slot) a.0 in
+      take_goes u v slot number (not_less slot u.level b.0) (not_less packets slot b.1) (position_of_number peer number) refl a.1
+  goes u v (Make place clock why) e =
+      let a = passes (nat_lt place u.level) slot_order _ v e in
+      make_goes u v place clock why (not_less place u.level a.0) (position_of_place own place) refl a.1
+
+  gone : (u v : Cursor) (x : Entry) → Goes u x v → next_cursor p packets own peer u x ≡ Ok v
+  unfolding next_cursor
+  gone u v x (takes slot number position c after low high at g front up t) =
+      passed (nat_lt slot u.level || nat_lt packets slot) slot_order _ (both _ _ (above slot u.level low) (above packets slot high))
+      ∙ (ap (take_found p peer u slot) at ∙ (ap (take_at p u slot position) g
+      ∙ (passed (not (nat_lt c.place slot)) not_yet_crossed _ (below c.place slot front) ∙ (passed (nat_lt position u.taken) not_rising _ (above position u.taken up)
+      ∙ (ap (λ o. unless o (record { level = slot; made = u.made; taken = suc position; state = after_take p u.state c.pdu.safety })) t.0
+      ∙ ap (λ (z : EndState). Ok (record { level = slot; made = u.made; taken = suc position; state = z })) (sym t.1))))))
+  gone u v x (makes place clock why c after low at g same m) =
+      passed (nat_lt place u.level) slot_order _ (above place u.level low)
+      ∙ (ap (make_found p own u place clock why) at ∙ (held (u.made == u.made) make_missing _ (same_equal u.made u.made refl)
+      ∙ (ap (make_of p u place clock why) g
+      ∙ (ap (λ o. unless o (record { level = suc place; made = suc u.made; taken = u.taken; state = after_make u.state c.pdu.safety clock why })) m.0
+      ∙ ap (λ (z : EndState). Ok (record { level = suc place; made = suc u.made; taken = u.taken; state = z })) (sym m.1)))))
+
+  -- ---- entries from a cursor on
+
+  -- these entries fit from here on
+  record FitsFrom (u : Cursor) (xs : List Entry) (made : List FirstCopy) (taken : List ℕ) (e : EndState) : Type 0 where
+    makes : places_made xs ≡ places_of made
+    slots : AreInOrder packets u.level xs
+    takes : AreNamed peer u.taken xs taken
+    ends : Joins p peer u.state xs made e
+
+  -- the cursor behind them
+  abbrev reached : Cursor → List Entry → List FirstCopy → List ℕ → EndState → Cursor
+  reached u xs made taken e = record { level = level_after u.level xs; made = counted u.made made; taken = position_after u.taken taken; state = e }
+
+  -- these own PDUs are left at the cursor
+  abbrev Rests : Cursor → List FirstCopy → Type 0
+  Rests u left = (j : ℕ) → slice_get own (u.made + j) ≡ slice_get left j
+
+  -- what was made lies below the level
+  abbrev Behind : Cursor → Type 0
+  Behind u = (j : ℕ) (c : FirstCopy) → j < u.made → slice_get own j ≡ Some c → c.place < u.level
+
+  head_rests : (u : Cursor) (c : FirstCopy) (left : List FirstCopy) → Rests u (c ∷ left) → slice_get own u.made ≡ Some c
+  head_rests u c left h = subst (λ n. slice_get own n ≡ Some c) (omega arith) (h 0)
+
+  rests_on : (u v : Cursor) (c : FirstCopy) (left : List FirstCopy) → v.made ≡ suc u.made → Rests u (c ∷ left) → Rests v left
+  rests_on u v c left e h j = ap (slice_get own) (let z = e in omega arith) ∙ h (suc j)
+
+  -- the next own PDU is found by its place
+  found_at : (u : Cursor) (c : FirstCopy) → Behind u → u.level ≤ c.place → slice_get own u.made ≡ Some c → position_of_place own c.place ≡ Some u.made
+  found_at u c low l g = position_at c.place (places_of own) u.made (get_place own u.made c g) (λ j y b k e. earlier j y b k e)
+    where
+      earlier : (j y : ℕ) → j < u.made → slice_get (places_of own) j ≡ Some y → y ≡ c.place → ⊥
+      earlier j y b k e =
+          let d = place_back own j y k in
+          let q = low j d.0 b d.1 in
+          let z = d.2 in
+          omega arith
+
+  behind_on : (u v : Cursor) (c : FirstCopy) → v.made ≡ suc u.made → v.level ≡ suc c.place → u.level ≤ c.place → slice_get own u.made ≡ Some c → Behind u → Behind v
+  behind_on u v c m l low g h j d b k = by (cases (nat_lt j u.made) refl)
+    where
+      cases : (t : Bool) → nat_lt j u.made ≡ t → (j < u.made) ⊎ (j ≡ u.made)
+      cases true e = inl (grind (arith, nat_tests))
+      cases false e = (let z = not_less j u.made e in inr (omega (arith, z, m, b)))
+
+      by : (j < u.made) ⊎ (j ≡ u.made) → d.place < v.level
+      by (inl q) = (let r = h j d q k in let z = l in omega arith)
+      by (inr q) = (let at : slice_get own u.made ≡ Some d = subst (λ n. slice_get own n ≡ Some d) q k in let same : d ≡ c = cc in let y = ap (λ (x : FirstCopy). x.place) same in let z = l in omega arith)
+
+  -- entries that fit are followed, whatever comes behind them
+  runs : (side : Side) (entry : ℕ) (u : Cursor) (xs rest : List Entry) (made left : List FirstCopy) (taken : List ℕ) (e : EndState)
+      → Rests u (made ++ left) → Behind u → FitsFrom u xs made taken e
+      → follow_from p side packets own peer entry u (xs ++ rest) ≡ follow_from p side packets own peer (counted entry xs) (reached u xs made taken e) rest
+  unfolding follow_from counted
+  runs side entry u [] rest (c ∷ made) left taken e r b f = absurd (let z = f.makes in cc)
+  runs side entry u [] rest [] left (j ∷ taken) e r b f = absurd f.takes
+  runs side entry u [] rest [] left [] e r b f =
+      (λ i. follow_from p side packets own peer entry (record { level = u.level; made = u.made; taken = u.taken; state = f.ends i }) rest)
+  runs side entry u (Take slot number ∷ xs) rest made left [] e r b f = absurd f.takes
+  runs side entry u (Take slot number ∷ xs) rest made left (position ∷ taken) e r b f =
+      let c = f.ends.0 in
+      let after = f.ends.1 in
+      let at = f.takes.1 in
+      let there : slice_get peer position ≡ Some c = sym (copy_of_position peer number position at) ∙ f.ends.2 in
+      let same : f.takes.2.0 ≡ c = (let x = f.takes.2.1 in let y = f.ends.2 in cc) in
+      let front : c.place < slot = subst (λ (d : FirstCopy). d.place < slot) same f.takes.2.2 in
+      let v : Cursor = record { level = slot; made = u.made; taken = suc position; state = after } in
+      let step = gone u v (Take slot number) (takes slot number position c after f.slots.0 f.slots.1 at there front f.takes.0 f.ends.3) in
+      ap (then_follow (λ w. follow_from p side packets own peer (suc entry) w (xs ++ rest)) entry side) step
+      ∙ runs side (suc entry) v xs rest made left taken e r (λ j d l k. let q = b j d l k in let z = f.slots.0 in omega arith)
+      (record { makes = f.makes; slots = f.slots.2; takes = f.takes.3; ends = f.ends.4 })
+  runs side entry u (Make place clock why ∷ xs) rest [] left taken e r b f = absurd f.ends
+  runs side entry u (Make place clock why ∷ xs) rest (c ∷ made) left taken e r b f =
+      let same : place ≡ c.place = (let z = f.makes in cc) in
+      let tail : places_made xs ≡ places_of made = (let z = f.makes in cc) in
+      let low : u.level ≤ c.place = (let z = f.slots.0 in omega arith) in
+      let there = head_rests u c (made ++ left) r in
+      let at : position_of_place own place ≡ Some u.made = subst (λ n. position_of_place own n ≡ Some u.made) (sym same) (found_at u c b low there) in
+      let v : Cursor = record { level = suc place; made = suc u.made; taken = u.taken; state = f.ends.0 } in
+      let step = gone u v (Make place clock why) (makes place clock why c f.ends.0 f.slots.0 at there (sym same) f.ends.1) in
+      ap (then_follow (λ w. follow_from p side packets own peer (suc entry) w (xs ++ rest)) entry side) step
+      ∙ runs side (suc entry) v xs rest made left taken e (rests_on u v c (made ++ left) refl r) (behind_on u v c refl (ap suc same) low there b)
+      (record { makes = tail; slots = f.slots.1; takes = f.takes; ends = f.ends.2 })
+
+  -- ---- an entry that the code follows is one that fits
+
+  record Consed (u v : Cursor) (x : Entry) (left : List FirstCopy) : Type 0 where
+    one : List FirstCopy
+    others : List FirstCopy
+    is : left ≡ one ++ others
+    rests : Rests v others
+    within : u.made ≤ length own → v.made ≤ length own
+    fits : (xs : List Entry) (made : List FirstCopy) (taken : List ℕ) (e : EndState) → FitsFrom v xs made taken e
+        → (positions : List ℕ) × FitsFrom u (x ∷ xs) (one ++ made) positions e × (reached u (x ∷ xs) (one ++ made) positions e ≡ reached v xs made taken e)
+
+  none_there : (u : Cursor) (c : FirstCopy) → Rests u [] → slice_get own u.made ≡ Some c → ⊥
+  none_there u c r g = absurd (let z : slice_get own u.made ≡ None = subst (λ n. slice_get own n ≡ None) (omega arith) (r 0) in cc)
+
+  consed : (u v : Cursor) (x : Entry) (left : List FirstCopy) → Goes u x v → Rests u left → Consed u v x left
+  unfolding counted
+  consed u v x left (takes slot number position c after low high at g front up t) r =
+      let named : copy_with peer number ≡ Some c = copy_of_position peer number position at ∙ g in
+      record {
+        one = [];
+        others = left;
+        is = refl;
+        rests = r;
+        within = λ l. l;
+        fits = λ xs made taken e f. (
+          position ∷ taken,
+          record { makes = f.makes; slots = (low, high, f.slots); takes = (up, at, (c, named, front), f.takes); ends = (c, after, named, t, f.ends) },
+          refl,
+        );
+      }
+  consed u v x [] (makes place clock why c after low at g same m) r = absurd (none_there u c r g)
+  consed u v x (d ∷ left) (makes place clock why c after low at g same m) r =
+      let there = head_rests u d left r in
+      let is : c ≡ d = cc in
+      let here : place ≡ d.place = sym same ∙ ap (λ (z : FirstCopy). z.place) is in
+      let mk : Makes p u.state d.pdu.safety clock why after = subst (λ (z : FirstCopy). Makes p u.state z.pdu.safety clock why after) is m in
+      record {
+        one = d ∷ [];
+        others = left;
+        is = refl;
+        rests = rests_on u (record { level = suc place; made = suc u.made; taken = u.taken; state = after }) d left refl r;
+        within = λ l. slice_get_within own u.made c g;
+        fits = λ xs made taken e f. (taken, record { makes = (λ i. here i ∷ f.makes i); slots = (low, f.slots); takes = f.takes; ends = (after, mk, f.ends) }, refl);
+      }
+
+  -- ---- what the code follows to the end fits
+
+  back : (side : Side) (entry : ℕ) (u : Cursor) (xs : List Entry) (left : List FirstCopy) (e : EndState) → Rests u left
+      → follow_from p side packets own peer entry u xs ≡ Ok e → (taken : List ℕ) × FitsFrom u xs left taken e
+  unfolding follow_from
+  back side entry u [] [] e r h = ([], record { makes = refl; slots = tt; takes = tt; ends = (let a = holds (u.made == length own) (fault_of_end make_missing entry side) _ e h in let z = a.1 in cc) })
+  back side entry u [] (c ∷ left) e r h =
+      let a = holds (u.made == length own) (fault_of_end make_missing entry side) _ e h in
+      let l = slice_get_within own u.made c (head_rests u c left r) in
+      absurd (let t = a.0 in let z : u.made ≡ length own = grind (arith, nat_tests) in omega (arith, l, z))
+  back side entry u (x ∷ xs) left e r h = by (next_cursor p packets own peer u x) refl h (λ v l q k. back side (suc entry) v xs l e q k)
+    where
+      by : (o : Result Cursor ℕ) → next_cursor p packets own peer u x ≡ o → then_follow (λ v. follow_from p side packets own peer (suc entry) v xs) entry side o ≡ Ok e
+          → ((v : Cursor) (l : List FirstCopy) → Rests v l → follow_from p side packets own peer (suc entry) v xs ≡ Ok e → (taken : List ℕ) × FitsFrom v xs l taken e)
+          → (taken : List ℕ) × FitsFrom u (x ∷ xs) left taken e
+      by (Err f) k g rest = absurd (cc)
+      by (Ok v) k g rest =
+          let z = consed u v x left (goes u v x k) r in
+          let w = rest v z.others z.rests g in
+          let y = z.fits xs z.others w.0 e w.1 in
+          (y.0, subst (λ (cs : List FirstCopy). FitsFrom u (x ∷ xs) cs y.0 e) (sym z.is) y.1)
+
+  -- ---- the tests on an entry are those of the code
+
+  entry_fault : Cursor → List FirstCopy → Entry → Option ℕ
+  entry_fault w left x = option_or (first_that_holds (entry_tests packets own peer w.level w.made w.taken x)) (end_fault p w.state left x)
+
+  Same : Result Cursor ℕ → Option ℕ → Type 0
+  Same (Ok v) o = o ≡ None
+  Same (Err n) o = o ≡ Some n
+
+  step : (b : Bool) (n : ℕ) (r : Result Cursor ℕ) (ts : List (Bool × ℕ)) (o : Option ℕ) → Same r (option_or (first_that_holds ts) o)
+      → Same (if b then Err n else r) (option_or (first_that_holds ((b, n) ∷ ts)) o)
+  unfolding Same
+  step true n r ts o s = refl
+  step false n r ts o s = s
+
+  by_rules : (o : Option ℕ) (v : Cursor) → Same (unless o v) o
+  unfolding Same
+  by_rules None v = refl
+  by_rules (Some n) v = refl
+
+  take_tests : ℕ → ℕ → Option ℕ → Option FirstCopy → List (Bool × ℕ)
+  take_tests next slot o copy =
+      (not (option_map_or (λ (c : FirstCopy). nat_lt c.place slot) copy false), not_yet_crossed)
+      ∷ (option_map_or (λ (position : ℕ). nat_lt position next) o false, not_rising)
+      ∷ []
+
+  take_same : (w : Cursor) (slot : ℕ) (o : Option ℕ) (copy : Option FirstCopy)
+      → ((o ≡ None) × (copy ≡ None)) ⊎ ((i : ℕ) × (c : FirstCopy) × (o ≡ Some i) × (slice_get peer i ≡ Some c) × (copy ≡ Some c))
+      → Same (take_found p peer w slot o) (option_or (first_that_holds (take_tests w.taken slot o copy)) (take_fault p w.state w.state.clock))
+  unfolding Same take_tests
+  take_same w slot o copy (inl h) =
+      subst (λ (x : Option ℕ). Same (take_found p peer w slot x) (option_or (first_that_holds (take_tests w.taken slot x copy)) (take_fault p w.state w.state.clock))) (sym h.0)
+      (subst (λ (x : Option FirstCopy). option_or (first_that_holds (take_tests w.taken slot None x)) (take_fault p w.state w.state.clock) ≡ Some not_yet_crossed) (sym h.1) refl)
+  take_same w slot o copy (inr h) =
+      let i = h.0 in
+      let c = h.1 in
+      subst (λ (x : Option ℕ). Same (take_found p peer w slot x) (option_or (first_that_holds (take_tests w.taken slot x copy)) (take_fault p w.state w.state.clock))) (sym h.2)
+      (subst (λ (x : Option FirstCopy). Same (take_at p w slot i (slice_get peer i)) (option_or (first_that_holds (take_tests w.taken slot (Some i) x)) (take_fault p w.state w.state.clock))) (sym h.4)
+      (subst (λ (x : Option FirstCopy). Same (take_at p w slot i x) (option_or (first_that_holds (take_tests w.taken slot (Some i) (Some c))) (take_fault p w.state w.state.clock))) (sym h.3)
+      (step (not (nat_lt c.place slot)) not_yet_crossed _ ((nat_lt i w.taken, not_rising) ∷ []) (take_fault p w.state w.state.clock)
+      (step (nat_lt i w.taken) not_rising _ [] (take_fault p w.state w.state.clock) (by_rules (take_fault p w.state w.state.clock) _)))))
+
+  numbered : (number : ℕ) (o : Option ℕ) → position_of_number peer number ≡ o
+      → ((o ≡ None) × (copy_with peer number ≡ None)) ⊎ ((i : ℕ) × (c : FirstCopy) × (o ≡ Some i) × (slice_get peer i ≡ Some c) × (copy_with peer number ≡ Some c))
+  numbered number None e = inl (refl, no_copy peer number e)
+  numbered number (Some i) e = (let f = number_found peer number i e in inr (i, f.0, refl, f.1, copy_of_position peer number i e ∙ f.1))
+
+  make_same : (w : Cursor) (place clock : ℕ) (why : Why) (left : List FirstCopy) → Rests w left → (o : Option ℕ) → ((i : ℕ) → o ≡ Some i → (c : FirstCopy) × (slice_get own i ≡ Some c))
+      → Same (make_found p own w place clock why o)
+      (option_or (first_that_holds ((is_none o, not_first_copy) ∷ (not (is_there o w.made), make_missing) ∷ [])) (end_fault p w.state left (Make place clock why)))
+  unfolding Same
+  make_same w place clock why left r None h = refl
+  make_same w place clock why left r (Some i) h = by (i == w.made) refl
+    where
+      last : (cs : List FirstCopy) → Rests w cs → i ≡ w.made → Same (make_of p w place clock why (slice_get own i)) (end_fault p w.state cs (Make place clock why))
+      last [] q e = (let f = h i refl in absurd (none_there w f.0 q (subst (λ n. slice_get own n ≡ Some f.0) e f.1)))
+      last (d ∷ cs) q e =
+          let there : slice_get own i ≡ Some d = subst (λ n. slice_get own n ≡ Some d) (sym e) (head_rests w d cs q) in
+          subst (λ (x : Option FirstCopy). Same (make_of p w place clock why x) (make_fault p w.state d.pdu.safety clock why)) (sym there) (by_rules (make_fault p w.state d.pdu.safety clock why) _)
+
+      by : (b : Bool) → (i == w.made) ≡ b
+          → Same (if b then make_of p w place clock why (slice_get own i) else Err make_missing) (option_or (first_that_holds ((not b, make_missing) ∷ [])) (end_fault p w.state left (Make place clock why)))
+      by false e = refl
+      by true e = last left r (grind (arith, nat_tests))
+
+  judged : (w : Cursor) (left : List FirstCopy) (x : Entry) → Rests w left → Same (next_cursor p packets own peer w x) (entry_fault w left x)
+  unfolding next_cursor entry_fault take_tests
+  judged w left (Take slot number) r =
+      step (nat_lt slot w.level || nat_lt packets slot) slot_order _ (take_tests w.taken slot (position_of_number peer number) (copy_with peer number)) (take_fault p w.state w.state.clock) (take_same w slot (position_of_number peer number) (copy_with peer number) (numbered number (position_of_number peer number) refl))
+  judged w left (Make place clock why) r =
+      step (nat_lt place w.level) slot_order _ ((is_none (position_of_place own place), not_first_copy) ∷ (not (is_there (position_of_place own place) w.made), make_missing) ∷ []) (end_fault p w.state left (Make place clock why)) (make_same w place clock why left r (position_of_place own place) (λ i e. let f = place_found own place i e in (f.0, f.1)))
+
+  -- the code refuses an entry by the first test that holds
+  refuses : (w : Cursor) (left : List FirstCopy) (x : Entry) (n : ℕ) → Rests w left → entry_fault w left x ≡ Some n → next_cursor p packets own peer w x ≡ Err n
+  unfolding Same
+  refuses w left x n r h = by (next_cursor p packets own peer w x) (judged w left x r)
+    where
+      by : (o : Result Cursor ℕ) → Same o (entry_fault w left x) → o ≡ Err n
+      by (Ok v) s = absurd (cc)
+      by (Err m) s = cc
+
+  is_refused : (w : Cursor) (left : List FirstCopy) (x : Entry) (n : ℕ) → Rests w left → next_cursor p packets own peer w x ≡ Err n → entry_fault w left x ≡ Some n
+  unfolding Same
+  is_refused w left x n r h = subst (λ (o : Result Cursor ℕ). Same o (entry_fault w left x)) h (judged w left x r)
+
+  -- ---- what the code answers is the first fault
+
+  data FaultFrom (side : Side) (entry : ℕ) (u : Cursor) (xs : List Entry) (all : List FirstCopy) : Fault → Type 0 where
+    one_of : (front behind : List Entry) (x : Entry) (made left : List FirstCopy) (taken : List ℕ) (e : EndState) (number : ℕ)
+        → xs ≡ front ++ x ∷ behind → all ≡ made ++ left → FitsFrom u front made taken e → entry_fault (reached u front made taken e) left x ≡ Some number
+        → FaultFrom side entry u xs all (fault_of_end number (counted entry front) side)
+    none_left : (made left : List FirstCopy) (c : FirstCopy) (taken : List ℕ) (e : EndState) → FitsFrom u xs made taken e → all ≡ made ++ c ∷ left
+        → FaultFrom side entry u xs all (fault_of_end make_missing (counted entry xs) side)
+
+  here : (u : Cursor) → FitsFrom u [] [] [] u.state
+  here u = record { makes = refl; slots = tt; takes = tt; ends = refl }
+
+  fault_after : (side : Side) (entry : ℕ) (u v : Cursor) (x : Entry) (xs : List Entry) (left : List FirstCopy) (f : Fault) (z : Consed u v x left)
+      → FaultFrom side (suc entry) v xs z.others f → FaultFrom side entry u (x ∷ xs) left f
+  unfolding counted
+  fault_after side entry u v x xs left f z (one_of front behind y made rest taken e number is parts fits says) =
+      let w = z.fits front made taken e fits in
+      one_of (x ∷ front) behind y (z.one ++ made) rest w.0 e number (ap (λ (l : List Entry). x ∷ l) is)
+      (z.is ∙ (ap (λ (l : List FirstCopy). z.one ++ l) parts ∙ sym (append_more z.one made rest))) w.1
+      (subst (λ (q : Cursor). entry_fault q rest y ≡ Some number) (sym w.2) says)
+  fault_after side entry u v x xs left f z (none_left made rest c taken e fits parts) =
+      let w = z.fits xs made taken e fits in
+      none_left (z.one ++ made) rest c w.0 e w.1 (z.is ∙ (ap (λ (l : List FirstCopy). z.one ++ l) parts ∙ sym (append_more z.one made (c ∷ rest))))
+
+  some_left : (u : Cursor) → u.made < length own → Rests u [] → ⊥
+  some_left u l r = (let f = slice_get_some own u.made l in none_there u f.0 r f.1)
+
+  back_fault : (side : Side) (entry : ℕ) (u : Cursor) (xs : List Entry) (left : List FirstCopy) (f : Fault) → Rests u left → u.made ≤ length own
+      → follow_from p side packets own peer entry u xs ≡ Err f → FaultFrom side entry u xs left f
+  unfolding follow_from counted
+  back_fault side entry u [] left f r l h =
+      let a = last_fault (u.made == length own) u.state (fault_of_end make_missing entry side) f h in
+      let m : u.made < length own = (let t = a.0 in let z : u.made ≡ length own → ⊥ = (λ e. absurd (grind (arith, nat_tests, e))) in omega (arith, z, l)) in
+      by left r m a.1
+    where
+      last_fault : (b : Bool) (e : EndState) (g f : Fault) → ◌≡◌ {A = Result EndState Fault} (if b then Ok e else Err g) (Err f) → (b ≡ false) × (g ≡ f)
+      last_fault true e g f h = absurd (cc)
+      last_fault false e g f h = (refl, cc)
+
+      by : (left : List FirstCopy) → Rests u left → u.made < length own → fault_of_end make_missing entry side ≡ f → FaultFrom side entry u [] left f
+      by [] r m e = absurd (some_left u m r)
+      by (c ∷ left) r m e = subst (FaultFrom side entry u [] (c ∷ left)) e (none_left [] left c [] u.state (here u) refl)
+  back_fault side entry u (x ∷ xs) left f r l h = by (next_cursor p packets own peer u x) refl h (λ v cs q m k. back_fault side (suc entry) v xs cs f q m k)
+    where
+      by : (o : Result Cursor ℕ) → next_cursor p packets own peer u x ≡ o → then_follow (λ v. follow_from p side packets own peer (suc entry) v xs) entry side o ≡ Err f
+          → ((v : Cursor) (cs : List FirstCopy) → Rests v cs → v.made ≤ length own → follow_from p side packets own peer (suc entry) v xs ≡ Err f → FaultFrom side (suc entry) v xs cs f)
+          → FaultFrom side entry u (x ∷ xs) left f
+      by (Err n) k g rest =
+          let is : fault_of_end n entry side ≡ f = cc in
+          subst (FaultFrom side entry u (x ∷ xs) left) is (one_of [] xs x [] left [] u.state n refl refl (here u) (is_refused u left x n r k))
+      by (Ok v) k g rest =
+          let z = consed u v x left (goes u v x k) r in
+          fault_after side entry u v x xs left f z (rest v z.others z.rests (z.within l) g)
+
+  -- ---- a whole script
+
+  start_behind : (e : EndState) → Behind (at_start e)
+  start_behind e j c l g = absurd (omega arith)
+
+  from_start : (side : Side) (made : List FirstCopy) (es : List Entry) (e : EndState) (f : Fits p side packets made peer es e) → FitsFrom (at_start (start_of p side)) es made f.taken e
+  from_start side made es e f = record { makes = f.makes; slots = f.slots; takes = f.takes; ends = f.ends }
+
+  to_start : (side : Side) (made : List FirstCopy) (es : List Entry) (taken : List ℕ) (e : EndState) → FitsFrom (at_start (start_of p side)) es made taken e → Fits p side packets made peer es e
+  to_start side made es taken e f = record { makes = f.makes; slots = f.slots; taken = taken; takes = f.takes; ends = f.ends }
+
+  start_rests : (e : EndState) (made left : List FirstCopy) → own ≡ made ++ left → Rests (at_start e) (made ++ left)
+  start_rests e made left parts j = (let z : 0 + j ≡ j = omega arith in ap (slice_get own) z ∙ ap (λ (cs : List FirstCopy). slice_get cs j) parts)
+
+  -- what was made is left behind
+  rests_behind : (w : Cursor) (made left : List FirstCopy) → own ≡ made ++ left → w.made ≡ length made → Rests w left
+  rests_behind w made left parts m j = ap (λ (cs : List FirstCopy). slice_get cs (w.made + j)) parts ∙ get_behind made left j (w.made + j) (let z = m in omega (arith, z))
+
+  -- a script that fits is followed
+  pub fits_is : (side : Side) (es : List Entry) (e : EndState) → Fits p side packets own peer es e → follow p side packets own peer es ≡ Ok e
+  unfolding follow_from
+  fits_is side es e f =
+      let w = reached (at_start (start_of p side)) es own f.taken e in
+      let all : w.made ≡ length own = (let z = counted_is 0 own in omega (arith, z)) in
+      ap (λ (xs : List Entry). follow_from p side packets own peer 1 (at_start (start_of p side)) xs) (sym (append_none es))
+      ∙ (runs side 1 (at_start (start_of p side)) es [] own [] f.taken e (start_rests (start_of p side) own [] (sym (append_none own))) (start_behind (start_of p side)) (from_start side own es e f)
+      ∙ held (w.made == length own) (fault_of_end make_missing (counted 1 es) side) _ (same_equal w.made (length own) all))
+
+  -- and what is followed fits
+  pub is_fits : (side : Side) (es : List Entry) (e : EndState) → follow p side packets own peer es ≡ Ok e → Fits p side packets own peer es e
+  is_fits side es e h = (let z = back side 1 (at_start (start_of p side)) es own e (λ j. let z : 0 + j ≡ j = omega arith in ap (slice_get own) z) h in to_start side own es z.0 e z.1)
+
+  -- at the start the counts are lengths
+  first_entry : (xs : List Entry) → counted 1 xs ≡ suc (length xs)
+  first_entry xs = (let z = counted_is 1 xs in omega (arith, z))
+
+  first_made : (cs : List FirstCopy) → counted 0 cs ≡ length cs
+  first_made cs = (let z = counted_is 0 cs in omega (arith, z))
+
+  at_length : (u : Cursor) (made left : List FirstCopy) (x : Entry) (number : ℕ) (n : ℕ) → n ≡ length made
+      → option_or (first_that_holds (entry_tests packets own peer u.level (length made) u.taken x)) (end_fault p u.state left x) ≡ Some number
+      → entry_fault (record { level = u.level; made = n; taken = u.taken; state = u.state }) left x ≡ Some number
+  unfolding entry_fault
+  at_length u made left x number n e h = subst (λ k. option_or (first_that_holds (entry_tests packets own peer u.level k u.taken x)) (end_fault p u.state left x) ≡ Some number) (sym e) h
+
+  by_length : (u : Cursor) (made left : List FirstCopy) (x : Entry) (number : ℕ) (n : ℕ) → n ≡ length made
+      → entry_fault (record { level = u.level; made = n; taken = u.taken; state = u.state }) left x ≡ Some number
+      → option_or (first_that_holds (entry_tests packets own peer u.level (length made) u.taken x)) (end_fault p u.state left x) ≡ Some number
+  unfolding entry_fault
+  by_length u made left x number n e h = subst (λ k. option_or (first_that_holds (entry_tests packets own peer u.level k u.taken x)) (end_fault p u.state left x) ≡ Some number) e h
+
+  pub is_fault : (side : Side) (es : List Entry) (f : Fault) → follow p side packets own peer es ≡ Err f → FirstFault p side packets own peer es f
+  unfolding to_start
+  is_fault side es f h = by f (back_fault side 1 (at_start (start_of p side)) es own f (λ j. let z : 0 + j ≡ j = omega arith in ap (slice_get own) z) (omega arith) h)
+    where
+      by : (f : Fault) → FaultFrom side 1 (at_start (start_of p side)) es own f → FirstFault p side packets own peer es f
+      by f (one_of front behind x made left taken e number is parts fits says) =
+          subst (λ k. FirstFault p side packets own peer es (fault_of_end number k side)) (sym (first_entry front))
+          (at_entry front behind x made left e (to_start side made front taken e fits) number is parts
+          (by_length (record { level = level_after 0 front; made = 0; taken = position_after 0 taken; state = e }) made left x number (counted 0 made) (first_made made) says))
+      by f (none_left made left c taken e fits parts) =
+          subst (λ k. FirstFault p side packets own peer es (fault_of_end make_missing k side)) (sym (first_entry es))
+          (after_last made left c e (to_start side made es taken e fits) parts)
+
+  pub fault_is : (side : Side) (es : List Entry) (f : Fault) → FirstFault p side packets own peer es f → follow p side packets own peer es ≡ Err f
+  unfolding follow_from
+  fault_is side es f (at_entry front behind x made left e before number is parts says) =
+      let u = at_start (start_of p side) in
+      let w = reached u front made before.taken e in
+      let at = at_length (record { level = level_after 0 front; made = 0; taken = position_after 0 before.taken; state = e }) made left x number (counted 0 made) (first_made made) says in
+      ap (λ (xs : List Entry). follow_from p side packets own peer 1 u xs) is
+      ∙ (runs side 1 u front (x ∷ behind) made left before.taken e (start_rests (start_of p side) made left parts) (start_behind (start_of p side)) (from_start side made front e before)
+      ∙ (ap (then_follow (λ v. follow_from p side packets own peer (suc (counted 1 front)) v behind) (counted 1 front) side) (refuses w left x number (rests_behind w made left parts (first_made made)) at)
+      ∙ ap (λ k. Err (fault_of_end number k side)) (first_entry front)))
+  fault_is side es f (after_last made left c e before parts) =
+      let u = at_start (start_of p side) in
+      let w = reached u es made before.taken e in
+      let more : (w.made == length own) ≡ false = (let z = first_made made in let y = ap length parts in let q = length-append made (c ∷ left) in grind (arith, nat_tests, z, y, q)) in
+      ap (λ (xs : List Entry). follow_from p side packets own peer 1 u xs) (sym (append_none es))
+      ∙ (runs side 1 u es [] made (c ∷ left) before.taken e (start_rests (start_of p side) made (c ∷ left) parts) (start_behind (start_of p side)) (from_start side made es e before)
+      ∙ (missing (w.made == length own) w.state (fault_of_end make_missing (counted 1 es) side) more ∙ ap (λ k. Err (fault_of_end make_missing k side)) (first_entry es)))
+    where
+      missing : (b : Bool) (s : EndState) (g : Fault) → b ≡ false → ◌≡◌ {A = Result EndState Fault} (if b then Ok s else Err g) (Err g)
+      missing true s g h = absurd (cc)
+      missing false s g h = refl
+
+  -- ---- one answer
+
+  pub some_answer : (side : Side) (es : List Entry) → ((e : EndState) × Fits p side packets own peer es e) ⊎ ((f : Fault) × FirstFault p side packets own peer es f)
+  some_answer side es = by (follow p side packets own peer es) refl
+    where
+      by : (r : Result EndState Fault) → follow p side packets own peer es ≡ r → ((e : EndState) × Fits p side packets own peer es e) ⊎ ((f : Fault) × FirstFault p side packets own peer es f)
+      by (Ok e) h = inl (e, is_fits side es e h)
+      by (Err f) h = inr (f, is_fault side es f h)
+
+  pub one_end : (side : Side) (es : List Entry) (a b : EndState) → Fits p side packets own peer es a → Fits p side packets own peer es b → a ≡ b
+  one_end side es a b f g = (let x = fits_is side es a f in let y = fits_is side es b g in cc)
+
+  pub one_fault : (side : Side) (es : List Entry) (f g : Fault) → FirstFault p side packets own peer es f → FirstFault p side packets own peer es g → f ≡ g
+  one_fault side es f g a b = (let x = fault_is side es f a in let y = fault_is side es g b in cc)
+
+  pub not_both : (side : Side) (es : List Entry) (e : EndState) (f : Fault) → Fits p side packets own peer es e → FirstFault p side packets own peer es f → ⊥
+  not_both side es e f a b = absurd (let x = fits_is side es e a in let y = fault_is side es f b in cc)
+
+  -- ---- the cursor's form
+
+  pub fits_follows : (side : Side) (es : List Entry) (e : EndState) → Fits p side packets own peer es e → Follows p side packets own peer es e
+  fits_follows side es e f = follow_fits p packets own peer side es e (fits_is side es e f)
+
+  pub follows_fits : IsOrdered own → IsOrdered peer → length peer < 4294967296 → (side : Side) (es : List Entry) (e : EndState) → Follows p side packets own peer es e → Fits p side packets own peer es e
+  follows_fits mine theirs few side es e f = is_fits side es e (fits_follow p packets own peer mine theirs few side es e f)
+
+-- ---- two scripts
+
+module _ (p : Parameters) (packets : ℕ) (c s : List FirstCopy) (scripts : Scripts) where
+  -- the verdict of the code is one
+  pub is_verdict : (answer : Result Explained Fault) → verdict_of p packets c s scripts ≡ answer → IsScriptVerdict p packets c s scripts answer
+  is_verdict answer h = by (follow p Client packets c s scripts.client) (follow p Server packets s c scripts.server) refl refl answer h
+    where
+      by : (a b : Result EndState Fault) → follow p Client packets c s scripts.client ≡ a → follow p Server packets s c scripts.server ≡ b → (answer : Result Explained Fault)
+          → where_followed a (where_followed b (Ok (report_of p packets c s))) ≡ answer → IsScriptVerdict p packets c s scripts answer
+      by (Err f) b g k answer h = subst (IsScriptVerdict p packets c s scripts) h (client_refused f (is_fault p packets c s Client scripts.client f g))
+      by (Ok e) (Err f) g k answer h = subst (IsScriptVerdict p packets c s scripts) h (server_refused e f (is_fits p packets c s Client scripts.client e g) (is_fault p packets s c Server scripts.server f k))
+      by (Ok e) (Ok e') g k answer h = subst (IsScriptVerdict p packets c s scripts) h (both_fit ((e, is_fits p packets c s Client scripts.client e g), (e', is_fits p packets s c Server scripts.server e' k)))
+
+  -- and no other is
+  pub verdict_is_of : (answer : Result Explained Fault) → IsScriptVerdict p packets c s scripts answer → verdict_of p packets c s scripts ≡ answer
+  verdict_is_of answer (both_fit fits) =
+      ap (λ (r : Result EndState Fault). where_followed r (where_followed (follow p Server packets s c scripts.server) (Ok (report_of p packets c s)))) (fits_is p packets c s Client scripts.client fits.0.0 fits.0.1)
+      ∙ ap (λ (r : Result EndState Fault). where_followed r (Ok (report_of p packets c s))) (fits_is p packets s c Server scripts.server fits.1.0 fits.1.1)
+  verdict_is_of answer (client_refused f fault) =
+      ap (λ (r : Result EndState Fault). where_followed r (where_followed (follow p Server packets s c scripts.server) (Ok (report_of p packets c s)))) (fault_is p packets c s Client scripts.client f fault)
+  verdict_is_of answer (server_refused e f fits fault) =
+      ap (λ (r : Result EndState Fault). where_followed r (where_followed (follow p Server packets s c scripts.server) (Ok (report_of p packets c s)))) (fits_is p packets c s Client scripts.client e fits)
+      ∙ ap (λ (r : Result EndState Fault). where_followed r (Ok (report_of p packets c s))) (fault_is p packets s c Server scripts.server f fault)
+
+  pub one_answer : (a b : Result Explained Fault) → IsScriptVerdict p packets c s scripts a → IsScriptVerdict p packets c s scripts b → a ≡ b
+  one_answer a b h k = sym (verdict_is_of a h) ∙ verdict_is_of b k

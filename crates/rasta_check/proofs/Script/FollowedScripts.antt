@@ -1,0 +1,311 @@
+-- What the checker answers for a script is the end that it leads to, exactly where it fits.
+use Rattle.std.proofs.Common.{◌≡◌, ℕ, zero, suc, ◌+◌, ◌<◌, ◌≤◌, Bool, true, false, List, [], ◌∷◌, drop, length, get_or, Option, Some, None, Result, Ok, Err, slice_get, position, nat_eq, MatchResult, ◌⊎◌, inl, inr, ⊎_elim, refl, ap, sym, ◌∙◌, arith, subst}
+use Rattle.std.specs.Option.{option_map}
+use Rattle.std.specs.Prelude.{◌-◌, not, nat_lt, ◌==◌, ◌||◌, if◌then◌else◌}
+use Rattle.std.proofs.lemmas.Bool.Decides.{nat_tests}
+use Rattle.std.proofs.lemmas.List.Quantifiers.{position-Some}
+use Rattle.std.proofs.lemmas.Option.{slice_get_within, slice_get-map, slice_get-get_or}
+use Rattle.rasta_pcap.specs.declared.fault.Fault.{Fault}
+use Rattle.rasta_pcap.specs.declared.fault.Side.{Side}
+use Rattle.rasta_pcap.specs.Fault.{fault_of_end, no_memory, slot_order, make_missing, not_yet_crossed, not_rising}
+use Rattle.rasta_pdu.specs.Params.{Parameters}
+use Rattle.rasta_cert.specs.declared.entry.Entry.{Entry}
+use Rattle.rasta_cert.specs.declared.entry.Entry.TheVariants.{Take, Make}
+use Rattle.rasta_end.specs.declared.why.Why.{Why}
+use Rattle.rasta_end.specs.State.{EndState}
+use Rattle.rasta_end.specs.MakeRule.{make_fault, after_make}
+use Rattle.rasta_end.specs.TakeRule.{take_fault, after_take}
+use Rattle.rasta_end.specs.Starts.{start_of}
+use Rattle.rasta_end.specs.Judged.{JudgedEnd}
+use Rattle.rasta_check.specs.Capture.Crossing.{FirstCopy}
+use Rattle.rasta_check.specs.Capture.Lists.{IsOrdered, places_of, numbers_of, position_of_number, position_of_place}
+use Rattle.rasta_check.specs.Script.Following.{Cursor, Advances, takes_next, makes_next, Leads, at_start, Follows}
+use Rattle.rasta_check.specs.Internals.Checking.{unless, take_at, take_found, make_of, make_found, next_cursor, then_follow, follow_from, follow, Followed, moved_to, IsRefused}
+use Rattle.rasta_check.proofs.Capture.Positions.{position_at, places_below}
+use Rattle.rasta_check.proofs.Capture.FirstCopies.{not_again}
+use Rattle.rasta_check.proofs.Script.Simulation.{slice_get_some}
+
+-- ---- positions
+
+found_in : (n : ℕ) (xs : List ℕ) (i : ℕ) → position (nat_eq n) xs ≡ Some i → slice_get xs i ≡ Some n
+found_in n xs i e =
+    let f = position-Some (nat_eq n) xs i 0 e in
+    let same : get_or xs i 0 ≡ n = (let t = f.1 in grind (arith, nat_tests)) in
+    slice_get-get_or xs i 0 f.0 ∙ ap Some same
+
+get_number : (cs : List FirstCopy) (i n : ℕ) → slice_get (numbers_of cs) i ≡ Some n → (c : FirstCopy) × (slice_get cs i ≡ Some c) × (c.pdu.number ≡ n)
+get_number [] i n g = absurd (cc)
+get_number (c ∷ cs) zero n g = (c, refl, cc)
+get_number (c ∷ cs) (suc i) n g = get_number cs i n g
+
+get_place : (cs : List FirstCopy) (i n : ℕ) → slice_get (places_of cs) i ≡ Some n → (c : FirstCopy) × (slice_get cs i ≡ Some c) × (c.place ≡ n)
+get_place [] i n g = absurd (cc)
+get_place (c ∷ cs) zero n g = (c, refl, cc)
+get_place (c ∷ cs) (suc i) n g = get_place cs i n g
+
+-- the member that a number names
+pub number_found : (cs : List FirstCopy) (number i : ℕ) → position_of_number cs number ≡ Some i → (c : FirstCopy) × (slice_get cs i ≡ Some c) × (c.pdu.number ≡ number)
+number_found cs number i e = get_number cs i number (found_in number (numbers_of cs) i e)
+
+pub place_found : (cs : List FirstCopy) (place i : ℕ) → position_of_place cs place ≡ Some i → (c : FirstCopy) × (slice_get cs i ≡ Some c) × (c.place ≡ place)
+place_found cs place i e = get_place cs i place (found_in place (places_of cs) i e)
+
+-- ---- one entry that is allowed leads on
+
+not_true : (b : Bool) → not b ≡ false → b ≡ true
+not_true true e = refl
+not_true false e = absurd (cc)
+
+pub less : (a b : ℕ) → not (nat_lt a b) ≡ false → a < b
+less a b e = (let t = not_true (nat_lt a b) e in grind (arith, nat_tests))
+
+pub not_less : (a b : ℕ) → nat_lt a b ≡ false → b ≤ a
+not_less a b e = grind (arith, nat_tests)
+
+-- a test that isn't met is passed
+pub passes : {A B : Type 0} (b : Bool) (f : B) (r : Result A B) (v : A) → (if b then Err f else r) ≡ Ok v → (b ≡ false) × (r ≡ Ok v)
+passes true f r v e = absurd (cc)
+passes false f r v e = (refl, e)
+
+pub holds : {A B : Type 0} (b : Bool) (f : B) (r : Result A B) (v : A) → (if b then r else Err f) ≡ Ok v → (b ≡ true) × (r ≡ Ok v)
+holds true f r v e = (refl, e)
+holds false f r v e = absurd (cc)
+
+pub allowed : (fault : Option ℕ) (w v : Cursor) → unless fault w ≡ Ok v → (fault ≡ None) × (w ≡ v)
+allowed None w v e = (refl, cc)
+allowed (Some f) w v e = absurd (cc)
+
+pub neither : (a b : Bool) → (a || b) ≡ false → (a ≡ false) × (b ≡ false)
+neither false false e = (refl, refl)
+neither true b e = absurd (cc)
+neither false true e = absurd (cc)
+
+module _ (p : Parameters) (packets : ℕ) (own peer : List FirstCopy) where
+  take_leads : (u v : Cursor) (slot position : ℕ) (c : FirstCopy) → u.level ≤ slot → slot ≤ packets → slice_get peer position ≡ Some c
+      → take_at p u slot position (Some c) ≡ Ok v → Advances p packets own peer u (Take slot c.pdu.number) v
+  take_leads u v slot position c low high g e =
+      let a = passes (not (nat_lt c.place slot)) not_yet_crossed _ v e in
+      let b = passes (nat_lt position u.taken) not_rising _ v a.1 in
+      let d = allowed (take_fault p u.state u.state.clock) _ v b.1 in
+      let step : Advances p packets own peer u (Take slot c.pdu.number) (record { level = slot; made = u.made; taken = suc position; state = after_take p u.state c.pdu.safety })
+      = takes_next slot position c (after_take p u.state c.pdu.safety) low high g (less c.place slot a.0) (not_less position u.taken b.0) (d.0, refl) in
+      subst (λ (w : Cursor). Advances p packets own peer u (Take slot c.pdu.number) w) d.1 step
+
+  make_leads : (u v : Cursor) (clock : ℕ) (why : Why) (c : FirstCopy) → u.level ≤ c.place → slice_get own u.made ≡ Some c
+      → make_of p u c.place clock why (Some c) ≡ Ok v → Advances p packets own peer u (Make c.place clock why) v
+  make_leads u v clock why c low g e =
+      let d = allowed (make_fault p u.state c.pdu.safety clock why) _ v e in
+      let step : Advances p packets own peer u (Make c.place clock why) (record { level = suc c.place; made = suc u.made; taken = u.taken; state = after_make u.state c.pdu.safety clock why })
+      = makes_next c clock why (after_make u.state c.pdu.safety clock why) low g (d.0, refl) in
+      subst (λ (w : Cursor). Advances p packets own peer u (Make c.place clock why) w) d.1 step
+
+  take_by : (u v : Cursor) (slot number : ℕ) → u.level ≤ slot → slot ≤ packets → (o : Option ℕ) → position_of_number peer number ≡ o
+      → take_found p peer u slot o ≡ Ok v → Advances p packets own peer u (Take slot number) v
+  take_by u v slot number low high None e g = absurd (cc)
+  take_by u v slot number low high (Some position) e g =
+      let f = number_found peer number position e in
+      let at : take_at p u slot position (Some f.0) ≡ Ok v = ap (take_at p u slot position) (sym f.1) ∙ g in
+      subst (λ n. Advances p packets own peer u (Take slot n) v) f.2 (take_leads u v slot position f.0 low high f.1 at)
+
+  make_by : (u v : Cursor) (index clock : ℕ) (why : Why) → u.level ≤ index → (o : Option ℕ) → position_of_place own index ≡ o
+      → make_found p own u index clock why o ≡ Ok v → Advances p packets own peer u (Make index clock why) v
+  make_by u v index clock why low None e g = absurd (cc)
+  make_by u v index clock why low (Some position) e g =
+      let f = place_found own index position e in
+      let h = holds (position == u.made) make_missing _ v g in
+      let same : position ≡ u.made = (let t = h.0 in grind (arith, nat_tests)) in
+      let there : slice_get own u.made ≡ Some f.0 = subst (λ i. slice_get own i ≡ Some f.0) same f.1 in
+      let at : make_of p u index clock why (Some f.0) ≡ Ok v = ap (make_of p u index clock why) (sym f.1) ∙ h.1 in
+      let at' : make_of p u f.0.place clock why (Some f.0) ≡ Ok v = subst (λ n. make_of p u n clock why (Some f.0) ≡ Ok v) (sym f.2) at in
+      let low' : u.level ≤ f.0.place = (let z = f.2 in omega arith) in
+      subst (λ n. Advances p packets own peer u (Make n clock why) v) f.2 (make_leads u v clock why f.0 low' there at')
+
+  -- what follows by one entry is where it leads
+  pub leads_on : (u v : Cursor) (x : Entry) → next_cursor p packets own peer u x ≡ Ok v → Advances p packets own peer u x v
+  unfolding next_cursor
+  leads_on u v (Take slot number) e =
+      let a = passes (nat_lt slot u.level || nat_lt packets slot) slot_order _ v e in
+      let b = neither (nat_lt slot u.level) (nat_lt packets slot) a.0 in
+      take_by u v slot number (not_less slot u.level b.0) (not_less packets slot b.1) (position_of_number peer number) refl a.1
+  leads_on u v (Make index clock why) e =
+      let a = passes (nat_lt index u.level) slot_order _ v e in
+      make_by u v index clock why (not_less index u.level a.0) (position_of_place own index) refl a.1
+
+  leads_from : (side : Side) (entry : ℕ) (u : Cursor) (es : List Entry) (e : EndState) → follow_from p side packets own peer entry u es ≡ Ok e
+      → (v : Cursor) × Leads p packets own peer u es v × (v.made ≡ length own) × (v.state ≡ e)
+  unfolding follow_from
+  leads_from side entry u [] e h = (let a = holds (u.made == length own) (fault_of_end make_missing entry side) _ e h in (u, refl, (let t = a.0 in grind (arith, nat_tests)), (let z = a.1 in cc)))
+  leads_from side entry u (x ∷ xs) e h = by (next_cursor p packets own peer u x) refl h (λ v k. leads_from side (suc entry) v xs e k)
+    where
+      by : (r : Result Cursor ℕ) → next_cursor p packets own peer u x ≡ r → then_follow (λ v. follow_from p side packets own peer (suc entry) v xs) entry side r ≡ Ok e
+          → ((v : Cursor) → follow_from p side packets own peer (suc entry) v xs ≡ Ok e → (w : Cursor) × Leads p packets own peer v xs w × (w.made ≡ length own) × (w.state ≡ e))
+          → (w : Cursor) × Leads p packets own peer u (x ∷ xs) w × (w.made ≡ length own) × (w.state ≡ e)
+      by (Err f) k g rest = absurd (cc)
+      by (Ok v) k g rest = (let r = rest v g in (r.0, (v, leads_on u v x k, r.1), r.2, r.3))
+
+  -- a script that the checker follows fits
+  pub follow_fits : (side : Side) (es : List Entry) (e : EndState) → follow p side packets own peer es ≡ Ok e → Follows p side packets own peer es e
+  follow_fits side es e h = leads_from side 1 (at_start (start_of p side)) es e h
+
+-- ---- a script that fits is followed
+
+-- the number of a member of an ordered list names its position
+number_at : (cs : List FirstCopy) → IsOrdered cs → length cs < 4294967296 → (i : ℕ) (c : FirstCopy) → slice_get cs i ≡ Some c → position_of_number cs c.pdu.number ≡ Some i
+number_at cs h few i c g = position_at c.pdu.number (numbers_of cs) i (slice_get-map (λ (x : FirstCopy). x.pdu.number) cs i ∙ ap (option_map (λ (x : FirstCopy). x.pdu.number)) g) (λ j y l k e. earlier j y l k e)
+  where
+    earlier : (j y : ℕ) → j < i → slice_get (numbers_of cs) j ≡ Some y → y ≡ c.pdu.number → ⊥
+    earlier j y l k e =
+        let d = get_number cs j y k in
+        let w = slice_get_within cs i c g in
+        let head = slice_get_some cs 0 (omega arith) in
+        not_again head.0.pdu.number j i d.0.pdu.number c.pdu.number (h.numbers j head.0 d.0 head.1 d.1) (h.numbers i head.0 c head.1 g) l (omega arith) (d.2 ∙ e)
+
+-- the place of a member names its position
+place_at : (cs : List FirstCopy) → IsOrdered cs → (i : ℕ) (c : FirstCopy) → slice_get cs i ≡ Some c → position_of_place cs c.place ≡ Some i
+place_at cs h i c g = position_at c.place (places_of cs) i (slice_get-map (λ (x : FirstCopy). x.place) cs i ∙ ap (option_map (λ (x : FirstCopy). x.place)) g) (λ j y l k e. earlier j y l k e)
+  where
+    earlier : (j y : ℕ) → j < i → slice_get (places_of cs) j ≡ Some y → y ≡ c.place → ⊥
+    earlier j y l k e =
+        let d = get_place cs j y k in
+        let low = places_below cs h (i - suc j) j d.0 c d.1 (subst (λ n. slice_get cs n ≡ Some c) (omega arith) g) in
+        let z = d.2 in
+        omega arith
+
+pub above : (a b : ℕ) → b ≤ a → nat_lt a b ≡ false
+above a b l = grind (arith, nat_tests)
+
+pub below : (a b : ℕ) → a < b → not (nat_lt a b) ≡ false
+below a b l = (let t : nat_lt a b ≡ true = grind (arith, nat_tests) in ap not t)
+
+pub both : (a b : Bool) → a ≡ false → b ≡ false → (a || b) ≡ false
+both false false e f = refl
+both true b e f = e
+both false true e f = f
+
+pub passed : {A B : Type 0} (b : Bool) (f : B) (r : Result A B) → b ≡ false → (if b then Err f else r) ≡ r
+passed true f r e = absurd (cc)
+passed false f r e = refl
+
+pub held : {A B : Type 0} (b : Bool) (f : B) (r : Result A B) → b ≡ true → (if b then r else Err f) ≡ r
+held true f r e = refl
+held false f r e = absurd (cc)
+
+pub same_equal : (a b : ℕ) → a ≡ b → (a == b) ≡ true
+same_equal a b e = grind (arith, nat_tests)
+
+module _ (p : Parameters) (packets : ℕ) (own peer : List FirstCopy) (mine : IsOrdered own) (theirs : IsOrdered peer) (few : length peer < 4294967296) where
+  -- where an entry leads, the checker goes
+  pub goes_on : (u v : Cursor) (x : Entry) → Advances p packets own peer u x v → next_cursor p packets own peer u x ≡ Ok v
+  unfolding next_cursor
+  goes_on u v x (takes_next slot position c after low high g front up t) =
+      let at : position_of_number peer c.pdu.number ≡ Some position = number_at peer theirs few position c g in
+      passed (nat_lt slot u.level || nat_lt packets slot) slot_order _ (both _ _ (above slot u.level low) (above packets slot high))
+      ∙ (ap (take_found p peer u slot) at ∙ (ap (take_at p u slot position) g
+      ∙ (passed (not (nat_lt c.place slot)) not_yet_crossed _ (below c.place slot front) ∙ (passed (nat_lt position u.taken) not_rising _ (above position u.taken up)
+      ∙ (ap (λ o. unless o (record { level = slot; made = u.made; taken = suc position; state = after_take p u.state c.pdu.safety })) t.0
+      ∙ ap (λ (z : EndState). Ok (record { level = slot; made = u.made; taken = suc position; state = z })) (sym t.1))))))
+  goes_on u v x (makes_next c clock why after low g m) =
+      let at : position_of_place own c.place ≡ Some u.made = place_at own mine u.made c g in
+      passed (nat_lt c.place u.level) slot_order _ (above c.place u.level low)
+      ∙ (ap (make_found p own u c.place clock why) at ∙ (held (u.made == u.made) make_missing _ (same_equal u.made u.made refl)
+      ∙ (ap (make_of p u c.place clock why) g
+      ∙ (ap (λ o. unless o (record { level = suc c.place; made = suc u.made; taken = u.taken; state = after_make u.state c.pdu.safety clock why })) m.0
+      ∙ ap (λ (z : EndState). Ok (record { level = suc c.place; made = suc u.made; taken = u.taken; state = z })) (sym m.1)))))
+
+  follows_from : (side : Side) (entry : ℕ) (u v : Cursor) (es : List Entry) → Leads p packets own peer u es v → v.made ≡ length own → follow_from p side packets own peer entry u es ≡ Ok v.state
+  unfolding follow_from
+  follows_from side entry u v [] f e =
+      held (u.made == length own) (fault_of_end make_missing entry side) _ (same_equal u.made (length own) (ap (λ (z : Cursor). z.made) f ∙ e)) ∙ ap (λ (z : Cursor). Ok z.state) f
+  follows_from side entry u v (x ∷ xs) f e =
+      ap (then_follow (λ w. follow_from p side packets own peer (suc entry) w xs) entry side) (goes_on u f.0 x f.1) ∙ follows_from side (suc entry) f.0 v xs f.2 e
+
+  -- a script that fits is followed to its end
+  pub fits_follow : (side : Side) (es : List Entry) (e : EndState) → Follows p side packets own peer es e → follow p side packets own peer es ≡ Ok e
+  fits_follow side es e f = follows_from side 1 (at_start (start_of p side)) f.0 es f.1 f.2 ∙ ap Ok f.3
+
+-- ---- step by step
+
+module _ (p : Parameters) (packets : ℕ) (own peer : List FirstCopy) (side : Side) where
+  next_of : (es : List Entry) (i : ℕ) (x : Entry) → slice_get es i ≡ Some x → drop i es ≡ x ∷ drop (suc i) es
+  next_of [] i x g = absurd (cc)
+  next_of (y ∷ es) zero x g = (let same : y ≡ x = cc in ap (λ (z : Entry). z ∷ es) same)
+  next_of (y ∷ es) (suc i) x g = next_of es i x g
+
+  -- an entry that is followed leads on
+  pub step_on : (entry : ℕ) (u v : Cursor) (es : List Entry) (i : ℕ) (x : Entry) → slice_get es i ≡ Some x → next_cursor p packets own peer u x ≡ Ok v
+      → follow_from p side packets own peer entry u (drop i es) ≡ follow_from p side packets own peer (suc entry) v (drop (suc i) es)
+  unfolding follow_from
+  step_on entry u v es i x g n =
+      ap (follow_from p side packets own peer entry u) (next_of es i x g) ∙ ap (then_follow (λ w. follow_from p side packets own peer (suc entry) w (drop (suc i) es)) entry side) n
+
+  -- one that is refused ends the script
+  pub step_off : (entry : ℕ) (u : Cursor) (es : List Entry) (i : ℕ) (x : Entry) (n : ℕ) → slice_get es i ≡ Some x → next_cursor p packets own peer u x ≡ Err n
+      → follow_from p side packets own peer entry u (drop i es) ≡ Err (fault_of_end n entry side)
+  unfolding follow_from
+  step_off entry u es i x n g e =
+      ap (follow_from p side packets own peer entry u) (next_of es i x g) ∙ ap (then_follow (λ w. follow_from p side packets own peer (suc entry) w (drop (suc i) es)) entry side) e
+
+  -- after the last
+  pub step_end : (entry : ℕ) (u : Cursor) (es : List Entry) (i : ℕ) → length es ≤ i
+      → follow_from p side packets own peer entry u (drop i es) ≡ (if u.made == length own then Ok u.state else Err (fault_of_end make_missing entry side))
+  unfolding follow_from
+  step_end entry u es i l = ap (follow_from p side packets own peer entry u) (none_of es i l)
+    where
+      none_of : (es : List Entry) (i : ℕ) → length es ≤ i → drop i es ≡ []
+      none_of [] zero l = refl
+      none_of [] (suc i) l = refl
+      none_of (y ∷ es) zero l = absurd (omega arith)
+      none_of (y ∷ es) (suc i) l = none_of es i (omega arith)
+
+  -- the same for a follower
+  pub loop_on : (f f' : Followed) (es : List Entry) (i : ℕ) (d : Entry) → i < length es → f.params ≡ p → f.side ≡ side
+      → next_cursor f.params packets own peer f.cursor (get_or es i d) ≡ Ok f'.cursor → f' ≡ moved_to f f'.cursor
+      → follow_from p side packets own peer f'.entry f'.cursor (drop (i + 1) es) ≡ follow_from p side packets own peer f.entry f.cursor (drop i es)
+  loop_on f f' es i d l same_p same_s n m =
+      let n' : next_cursor p packets own peer f.cursor (get_or es i d) ≡ Ok f'.cursor = ap (λ q. next_cursor q packets own peer f.cursor (get_or es i d)) (sym same_p) ∙ n in
+      let number : f'.entry ≡ suc f.entry = ap (λ (g : Followed). g.entry) m in
+      let one : i + 1 ≡ suc i = omega arith in
+      sym (step_on f.entry f.cursor f'.cursor es i (get_or es i d) (slice_get-get_or es i d l) n'
+      ∙ (ap (λ k. follow_from p side packets own peer k f'.cursor (drop (suc i) es)) (sym number)
+      ∙ ap (λ k. follow_from p side packets own peer f'.entry f'.cursor (drop k es)) (sym one)))
+
+  pub loop_off : (f : Followed) (es : List Entry) (i : ℕ) (d : Entry) (fault : Fault) → i < length es → f.params ≡ p → f.side ≡ side
+      → IsRefused f (next_cursor f.params packets own peer f.cursor (get_or es i d)) fault
+      → (follow_from p side packets own peer f.entry f.cursor (drop i es) ≡ Err fault) ⊎ (fault ≡ no_memory)
+  loop_off f es i d fault l same_p same_s why = ⊎_elim
+      (λ (w : (number : ℕ) × (next_cursor f.params packets own peer f.cursor (get_or es i d) ≡ Err number) × (fault ≡ fault_of_end number f.entry f.side)).
+      let n : next_cursor p packets own peer f.cursor (get_or es i d) ≡ Err w.0 = ap (λ q. next_cursor q packets own peer f.cursor (get_or es i d)) (sym same_p) ∙ w.1 in
+      inl (step_off f.entry f.cursor es i (get_or es i d) w.0 (slice_get-get_or es i d l) n ∙ ap Err (ap (fault_of_end w.0 f.entry) (sym same_s) ∙ sym w.2)))
+      (λ (w : fault ≡ no_memory). inr w)
+      why
+
+  -- an entry that is refused is the answer of the whole script
+  pub loop_answer : (es : List Entry) (fault : Fault) → {here : Result EndState Fault} → here ≡ follow p side packets own peer es → (here ≡ Err fault) ⊎ (fault ≡ no_memory)
+      → (follow p side packets own peer es ≡ Err fault) ⊎ (fault ≡ no_memory)
+  loop_answer es fault {here = here} rest why = ⊎_elim (λ (w : here ≡ Err fault). inl (sym rest ∙ w)) (λ (w : fault ≡ no_memory). inr w) why
+
+  -- what the end of a script answers
+  abbrev pub Answers : Result JudgedEnd Fault → List Entry → Type 0
+  Answers result es = MatchResult result
+      (λ (e : JudgedEnd). (e.params ≡ p) × (follow p side packets own peer es ≡ Ok e.state))
+      (λ (f : Fault). (follow p side packets own peer es ≡ Err f) ⊎ (f ≡ no_memory))
+
+  if_true : {A B : Type 0} (b : Bool) (x y : Result A B) → b ≡ true → (if b then x else y) ≡ x
+  if_true true x y e = refl
+  if_true false x y e = absurd (cc)
+
+  if_false : {A B : Type 0} (b : Bool) (x y : Result A B) → b ≡ false → (if b then x else y) ≡ y
+  if_false true x y e = absurd (cc)
+  if_false false x y e = refl
+
+  pub loop_end : (f : Followed) (es : List Entry) (i : ℕ) (result : Result JudgedEnd Fault) → length es ≤ i → f.params ≡ p → f.side ≡ side
+      → follow_from p side packets own peer f.entry f.cursor (drop i es) ≡ follow p side packets own peer es
+      → MatchResult result (λ (e : JudgedEnd). (e ≡ record { params = f.params; state = f.cursor.state }) × (f.cursor.made ≡ length own))
+      (λ (fault : Fault). (fault ≡ fault_of_end make_missing f.entry f.side) × ((f.cursor.made == length own) ≡ false))
+      → Answers result es
+  loop_end f es i (Ok e) l same_p same_s rest h = (
+    ap (λ (x : JudgedEnd). x.params) h.0 ∙ same_p,
+    sym rest ∙ (step_end f.entry f.cursor es i l ∙ (if_true (f.cursor.made == length own) _ _ (same_equal f.cursor.made (length own) h.1) ∙ ap (λ (x : JudgedEnd). Ok x.state) (sym h.0))),
+  )
+  loop_end f es i (Err fault) l same_p same_s rest h =
+      inl (sym rest ∙ (step_end f.entry f.cursor es i l ∙ (if_false (f.cursor.made == length own) _ _ h.1 ∙ ap Err (ap (fault_of_end make_missing f.entry) (sym same_s) ∙ sym h.0))))

@@ -1,0 +1,102 @@
+-- Scripts are followed in one way, and first copies are the packets with a new number.
+use Rattle.std.proofs.Common.{◌≡◌, ℕ, suc, ◌<◌, ◌⊎◌, List, [], ◌∷◌, ◌++◌, length, Some, slice_get, refl, ap, sym, ◌∙◌, arith, inl, inr, ⊎_elim, subst}
+use Rattle.std.proofs.lemmas.Option.{slice_get_within}
+use native.Mathlib.Decide.{dec_lt}
+use Prim.{yes, no}
+use Rattle.rasta_pcap.specs.declared.fault.Side.{Side}
+use Rattle.rasta_end.specs.declared.why.Why.{Why}
+use Rattle.rasta_pdu.specs.Params.{Parameters}
+use Rattle.rasta_pdu.specs.Pdu.{RedundancyPdu}
+use Rattle.rasta_end.specs.MakeRule.{after_make}
+use Rattle.rasta_end.specs.TakeRule.{after_take}
+use Rattle.rasta_check.specs.Capture.Crossing.{Spells, FirstCopy, IsKnown}
+use Rattle.rasta_udp.specs.Frame.{Packet}
+use Rattle.rasta_cert.specs.declared.entry.Entry.{Entry}
+use Rattle.rasta_cert.specs.declared.entry.Entry.TheVariants.{Take, Make}
+use Rattle.rasta_check.proofs.Capture.FaultlessLists.{IsSent}
+use Rattle.rasta_check.specs.Script.Following.{Cursor, Advances, takes_next, makes_next, Leads}
+use Rattle.rasta_check.proofs.Capture.Spellings.{read_once}
+use Rattle.rasta_check.proofs.Capture.FirstCopies.{earliest, not_again}
+use Rattle.rasta_check.proofs.Script.Simulation.{slice_get_some}
+
+-- a number names one position of a list
+pub number_once : (p : Parameters) (xs : List Packet) (s : Side) (own : List FirstCopy) → IsSent p xs s own → length own < 4294967296 → (i j : ℕ) (c d : FirstCopy) → slice_get own i ≡ Some c → slice_get own j ≡ Some d → c.pdu.number ≡ d.pdu.number → i ≡ j
+number_once p xs s own h l i j c d x y e =
+    let li = slice_get_within own i c x in
+    let lj = slice_get_within own j d y in
+    let head = slice_get_some own 0 (omega arith) in
+    let ni = h.numbers i head.0 c head.1 x in
+    let nj = h.numbers j head.0 d head.1 y in
+    elim (dec_lt i j) [
+      | yes z ↦ absurd (not_again head.0.pdu.number i j c.pdu.number d.pdu.number ni nj z (omega arith) e)
+      | no z ↦ elim (dec_lt j i) [
+        | yes w ↦ absurd (not_again head.0.pdu.number j i d.pdu.number c.pdu.number nj ni w (omega arith) (sym e))
+        | no w ↦ omega arith
+      ]
+    ]
+
+pub firsts_new : (p : Parameters) (xs : List Packet) (s : Side) (own : List FirstCopy) → IsSent p xs s own → length own < 4294967296 → (i : ℕ) (c : FirstCopy) → slice_get own i ≡ Some c → IsKnown p xs s c.place c.pdu.number → ⊥
+firsts_new p xs s own h l i c g w =
+    let r = earliest p xs s own h (suc w.earlier) w.earlier (omega arith) w.packet w.there w.of_side in
+    let same : r.1.pdu ≡ w.pdu = read_once p h.valid s r.1.pdu w.pdu r.2.payload r.7 (subst (λ (bs : List ℕ). Spells p s w.pdu bs) (sym r.6) w.spelled) in
+    let q : i ≡ r.0 = number_once p xs s own h l i r.0 c r.1 g r.3 (sym (ap (λ (d : RedundancyPdu). d.number) same ∙ w.same_number)) in
+    let e : c ≡ r.1 = (let z : slice_get own i ≡ Some r.1 = subst (λ j. slice_get own j ≡ Some r.1) (sym q) r.3 in cc) in
+    let p = ap (λ (x : FirstCopy). x.place) e in
+    let a = w.before in
+    let b = r.4 in
+    omega arith
+
+pub others_old : (p : Parameters) (xs : List Packet) (s : Side) (own : List FirstCopy) → IsSent p xs s own → (k : ℕ) (a : Packet) → slice_get xs k ≡ Some a → a.side ≡ s
+    → ((i : ℕ) × (c : FirstCopy) × (slice_get own i ≡ Some c) × (c.place ≡ k)) ⊎ ((d : RedundancyPdu) × Spells p s d a.payload × IsKnown p xs s k d.number)
+others_old p xs s own h k a g e = ⊎_elim
+    (λ (w : (i : ℕ) × (c : FirstCopy) × (slice_get own i ≡ Some c) × (c.place ≡ k)). inl w)
+    (λ (w : (j : ℕ) × (b : Packet) × (j < k) × (slice_get xs j ≡ Some b) × (b.side ≡ s) × (b.payload ≡ a.payload)).
+    let r = earliest p xs s own h (suc w.0) w.0 (omega arith) w.1 w.3 w.4 in
+    let there : Spells p s r.1.pdu w.1.payload = subst (λ (bs : List ℕ). Spells p s r.1.pdu bs) r.6 r.7 in
+    inr (r.1.pdu, subst (λ (bs : List ℕ). Spells p s r.1.pdu bs) w.5 there, record { earlier = w.0; packet = w.1; pdu = r.1.pdu; before = w.2; there = w.3; of_side = w.4; spelled = there; same_number = refl }))
+    (h.others k a g e)
+
+module _ (p : Parameters) (n : ℕ) (packets : List Packet) (r : Side) (own peer : List FirstCopy) (sent : IsSent p packets r peer) (few : length peer < 4294967296) where
+  take_once : (u v w : Cursor) (slot number : ℕ) → Advances p n own peer u (Take slot number) v → Advances p n own peer u (Take slot number) w → v ≡ w
+  take_once u v w slot number (takes_next slot' i c e a b g d f t) y = by c refl w y
+    where
+      by : (c' : FirstCopy) → c' ≡ c → (w : Cursor) → Advances p n own peer u (Take slot' c'.pdu.number) w → record { level = slot'; made = u.made; taken = suc i; state = e } ≡ w
+      by c' q w y = at (c'.pdu.number) (ap (λ (x : FirstCopy). x.pdu.number) q) w y
+        where
+          at : (m : ℕ) → m ≡ c.pdu.number → (w : Cursor) → Advances p n own peer u (Take slot' m) w → record { level = slot'; made = u.made; taken = suc i; state = e } ≡ w
+          at m q w (takes_next slot'' j d' e' a' b' g' d'' f' t') =
+              let same : i ≡ j = number_once p packets r peer sent few i j c d' g g' (sym q) in
+              let cd : c ≡ d' = (let z : slice_get peer i ≡ Some d' = subst (λ k. slice_get peer k ≡ Some d') (sym same) g' in cc) in
+              let ee : e ≡ e' = t.1 ∙ (ap (λ (x : FirstCopy). after_take p u.state x.pdu.safety) cd ∙ sym t'.1) in
+              (λ k. record { level = slot'; made = u.made; taken = suc (same k); state = ee k })
+
+  make_once : (u v w : Cursor) (place clock : ℕ) (why : Why) → Advances p n own peer u (Make place clock why) v → Advances p n own peer u (Make place clock why) w → v ≡ w
+  make_once u v w place clock why (makes_next c clock' why' e a g m) y = at c.place refl w y
+    where
+      at : (q : ℕ) → q ≡ c.place → (w : Cursor) → Advances p n own peer u (Make q clock' why') w → record { level = suc c.place; made = suc u.made; taken = u.taken; state = e } ≡ w
+      at q f w (makes_next d clock'' why'' e' a' g' m') =
+          let cd : c ≡ d = cc in
+          let ee : e ≡ e' = m.1 ∙ (ap (λ (x : FirstCopy). after_make u.state x.pdu.safety clock' why') cd ∙ sym m'.1) in
+          (λ k. record { level = suc (cd k).place; made = suc u.made; taken = u.taken; state = ee k })
+
+  pub advances_once : (u v w : Cursor) (x : Entry) → Advances p n own peer u x v → Advances p n own peer u x w → v ≡ w
+  advances_once u v w (Take slot number) a b = take_once u v w slot number a b
+  advances_once u v w (Make place clock why) a b = make_once u v w place clock why a b
+
+  -- what leads to v, and the rest of a longer script
+  leads_rest : (u v w : Cursor) (es rest : List Entry) → Leads p n own peer u es v → Leads p n own peer u (es ++ rest) w → Leads p n own peer v rest w
+  leads_rest u v w [] rest f g = subst (λ (z : Cursor). Leads p n own peer z rest w) f g
+  leads_rest u v w (x ∷ es) rest f g =
+      let same : g.0 ≡ f.0 = advances_once u g.0 f.0 x g.1 f.1 in
+      leads_rest f.0 v w es rest f.2 (subst (λ (z : Cursor). Leads p n own peer z (es ++ rest) w) same g.2)
+
+  pub stuck : (u v w : Cursor) (es rest : List Entry) (x : Entry) → Leads p n own peer u es v → ((z : Cursor) → Advances p n own peer v x z → ⊥) → Leads p n own peer u (es ++ x ∷ rest) w → ⊥
+  stuck u v w es rest x f h g = (let r = leads_rest u v w es (x ∷ rest) f g in h r.0 r.1)
+
+  append_none : (es : List Entry) → es ++ [] ≡ es
+  append_none [] = refl
+  append_none (x ∷ es) = ap (λ xs. x ∷ xs) (append_none es)
+
+  -- a script leads to one cursor
+  pub leads_once : (u v w : Cursor) (es : List Entry) → Leads p n own peer u es v → Leads p n own peer u es w → v ≡ w
+  leads_once u v w es f g = leads_rest u v w es [] f (subst (λ (xs : List Entry). Leads p n own peer u xs w) (sym (append_none es)) g)

@@ -1,0 +1,20 @@
+-- An entry that the end refuses is refused at its number.
+use Rattle.std.proofs.Common.{◌≡◌, ◌⊎◌, ℕ, Option, Some, Result, Ok, Err, MatchResult, IsErr, IsErrAnd, ap, sym, ◌∙◌, inl, inr, ⊎_elim, subst}
+use Rattle.rasta_pcap.specs.declared.fault.Fault.{Fault}
+use Rattle.rasta_pcap.specs.Fault.{fault_of_end, no_memory}
+use Rattle.rasta_check.specs.Script.Following.{Cursor}
+use Rattle.rasta_check.specs.Internals.Checking.{Followed, IsRefused, unless}
+
+-- f is what the follower holds, and g what contracts see of it
+pub refused : (f g : Followed) → f ≡ g → (answer : Result Cursor ℕ) (rule : Followed → Option ℕ) (there : Cursor) → answer ≡ unless (rule g) there
+    → (placed : Fault) → ((number : ℕ) × (rule f ≡ Some number) × (placed ≡ fault_of_end number f.entry f.side)) ⊎ (placed ≡ no_memory) → IsRefused g answer placed
+refused f g same answer rule there is placed why = ⊎_elim
+    (λ (w : (number : ℕ) × (rule f ≡ Some number) × (placed ≡ fault_of_end number f.entry f.side)).
+    inl (w.0, is ∙ ap (λ o. unless o there) (ap rule (sym same) ∙ w.1), w.2 ∙ ap (λ (h : Followed). fault_of_end w.0 h.entry h.side) same))
+    (λ (w : placed ≡ no_memory). inr w)
+    why
+
+-- a `?` hands the refusal on
+pub handed_on : {A : Type 0} (P : A → Type 0) (Q : Fault → Type 0) (r : Result A Fault) (fault : Fault) → IsErr r × IsErrAnd r (λ f. f ≡ fault) → Q fault → MatchResult r P Q
+handed_on P Q (Ok x) fault h q = absurd (let z = h.0 in cc)
+handed_on P Q (Err f) fault h q = subst Q (sym h.1) q

@@ -1,0 +1,450 @@
+-- Along a run: the first copies so far, and a script for each end.
+use Rattle.std.proofs.Common.{◌≡◌, ℕ, zero, suc, ◌+◌, ◌-◌, ◌<◌, ◌≤◌, Bool, true, false, List, [], ◌∷◌, ◌++◌, length, Option, Some, None, slice_get, refl, ap, sym, ◌∙◌, arith, ⊎_elim, subst, length-append}
+use Rattle.std.specs.Prelude.{map, if◌then◌else◌}
+use Rattle.std.proofs.lemmas.Bool.Decides.{nat_tests}
+use Rattle.std.proofs.lemmas.List.{length_push}
+use Rattle.std.proofs.lemmas.Option.{slice_get_within}
+use Rattle.rasta_pcap.specs.declared.fault.Side.{Side}
+use Rattle.rasta_pcap.specs.declared.fault.Side.TheVariants.{Client, Server}
+use Rattle.rasta_end.specs.declared.why.Why.{Why}
+use Rattle.rasta_end.specs.declared.owed.Owed.{Owed}
+use Rattle.rasta_pcap.specs.Fault.{reply_owed, past_deadline}
+use Rattle.rasta_pdu.specs.Params.{Parameters, AreParameters}
+use Rattle.rasta_pdu.specs.Pdu.{SafetyPdu, RedundancyPdu}
+use Rattle.rasta_end.specs.State.{Made, EndState, wrapped, is_closed, is_owing}
+use Rattle.rasta_end.specs.MakeRule.{Makes, is_past, first_that_holds}
+use Rattle.rasta_end.specs.TakeRule.{Takes, after_take, take_fault}
+use Rattle.rasta_end.specs.Starts.{start_of}
+use Rattle.rasta_check.proofs.Model.Steps.{base, start_base, start_made, start_side, made_more}
+use Rattle.rasta_check.specs.Capture.Crossing.{Spells, FirstCopy}
+use Rattle.rasta_udp.specs.Frame.{Packet}
+use Rattle.rasta_check.specs.Model.World.{Station, World, Move, Moves, makes, repeats, arrives, takes, waits, Step, client_moves, server_moves, Reaches, begins, goes_on, first_station}
+use Rattle.rasta_cert.specs.declared.entry.Entry.{Entry}
+use Rattle.rasta_cert.specs.declared.entry.Entry.TheVariants.{Take, Make}
+use Rattle.rasta_cert.specs.Certificate.{most_entries}
+use Rattle.rasta_check.proofs.Capture.FaultlessLists.{IsSent}
+use Rattle.rasta_check.specs.Script.Following.{Cursor, Advances, takes_next, makes_next, Leads, Follows, at_start}
+use Rattle.rasta_check.specs.Verdict.Taken.{pdus_of, pdus_made}
+use Rattle.rasta_check.proofs.Model.ListGrowth.{get_push_cases, get_front, get_push}
+use Rattle.rasta_check.proofs.Model.TakeRows.{take_leaves}
+use Rattle.rasta_check.proofs.Capture.FirstCopies.{Counts_from, sent_other, sent_copy, sent_first, sent_none, sent_once}
+
+-- scripts in a wider setting, and one entry more
+advances_wider : (p : Parameters) (n n' : ℕ) (own o peer q : List FirstCopy) (u v : Cursor) (x : Entry) → n ≤ n' → Advances p n own peer u x v → Advances p n' (own ++ o) (peer ++ q) u x v
+advances_wider p n n' own o peer q u v x l (takes_next slot position c e' a b g d f t) = takes_next slot position c e' a (omega arith) (get_front peer q position c g) d f t
+advances_wider p n n' own o peer q u v x l (makes_next c clock why e' a g m) = makes_next c clock why e' a (get_front own o _ c g) m
+
+leads_wider : (p : Parameters) (n n' : ℕ) (own o peer q : List FirstCopy) (u v : Cursor) (es : List Entry) → n ≤ n' → Leads p n own peer u es v → Leads p n' (own ++ o) (peer ++ q) u es v
+leads_wider p n n' own o peer q u v [] l f = f
+leads_wider p n n' own o peer q u v (x ∷ es) l f = (f.0, advances_wider p n n' own o peer q u f.0 x l f.1, leads_wider p n n' own o peer q f.0 v es l f.2)
+
+pub leads_more : (p : Parameters) (n : ℕ) (own peer : List FirstCopy) (u v w : Cursor) (es : List Entry) (x : Entry) → Leads p n own peer u es v → Advances p n own peer v x w → Leads p n own peer u (es ++ x ∷ []) w
+leads_more p n own peer u v w [] x f a = (w, subst (λ (z : Cursor). Advances p n own peer z x w) (sym f) a, refl)
+leads_more p n own peer u v w (y ∷ es) x f a = (f.0, f.1, leads_more p n own peer f.0 v w es x f.2 a)
+
+-- each make's clock is at most n
+abbrev pub ClocksWithin : ℕ → List Entry → Type 0
+ClocksWithin n [] = Unit {0}
+ClocksWithin n (Take slot number ∷ es) = ClocksWithin n es
+ClocksWithin n (Make place clock why ∷ es) = (clock ≤ n) × ClocksWithin n es
+
+clocks_more : (m n : ℕ) (es : List Entry) → m ≤ n → ClocksWithin m es → ClocksWithin n es
+clocks_more m n [] l h = tt
+clocks_more m n (Take slot number ∷ es) l h = clocks_more m n es l h
+clocks_more m n (Make place clock why ∷ es) l h = ((let z = h.0 in omega arith), clocks_more m n es l h.1)
+
+clocks_take : (n slot number : ℕ) (es : List Entry) → ClocksWithin n es → ClocksWithin n (es ++ Take slot number ∷ [])
+clocks_take n slot number [] h = tt
+clocks_take n slot number (Take s m ∷ es) h = clocks_take n slot number es h
+clocks_take n slot number (Make place clock why ∷ es) h = (h.0, clocks_take n slot number es h.1)
+
+clocks_make : (n place clock : ℕ) (why : Why) (es : List Entry) → clock ≤ n → ClocksWithin n es → ClocksWithin n (es ++ Make place clock why ∷ [])
+clocks_make n place clock why [] l h = (l, tt)
+clocks_make n place clock why (Take s m ∷ es) l h = clocks_make n place clock why es l h
+clocks_make n place clock why (Make q c y ∷ es) l h = (h.0, clocks_make n place clock why es l h.1)
+
+-- each entry raises one of the two marks
+leads_count : (p : Parameters) (n : ℕ) (own peer : List FirstCopy) (u v : Cursor) (es : List Entry) → Leads p n own peer u es v → length es + u.made + u.taken ≤ v.made + v.taken
+leads_count p n own peer u v [] f = (let a = ap (λ (z : Cursor). z.made) f in let b = ap (λ (z : Cursor). z.taken) f in omega arith)
+leads_count p n own peer u v (x ∷ es) f = by x f.0 f.1 (leads_count p n own peer f.0 v es f.2)
+  where
+    by : (x : Entry) (m : Cursor) → Advances p n own peer u x m → length es + m.made + m.taken ≤ v.made + v.taken → suc (length es) + u.made + u.taken ≤ v.made + v.taken
+    by x m (takes_next slot position c e' a b g d f t) l = omega arith
+    by x m (makes_next c clock why e' a g k) l = omega arith
+
+taken_within : (p : Parameters) (n : ℕ) (own peer : List FirstCopy) (u v : Cursor) (es : List Entry) → Leads p n own peer u es v → u.taken ≤ length peer → v.taken ≤ length peer
+taken_within p n own peer u v [] f l = (let b = ap (λ (z : Cursor). z.taken) f in omega arith)
+taken_within p n own peer u v (x ∷ es) f l = taken_within p n own peer f.0 v es f.2 (by x f.0 f.1)
+  where
+    by : (x : Entry) (m : Cursor) → Advances p n own peer u x m → m.taken ≤ length peer
+    by x m (takes_next slot position c e' a b g d f t) = (let z = slice_get_within peer position c g in omega arith)
+    by x m (makes_next c clock why e' a g k) = l
+
+-- the deadline test at an earlier moment
+past_before : (p : Parameters) (d : Option ℕ) (m n : ℕ) → m ≤ n → is_past p d n ≡ false → is_past p d m ≡ false
+past_before p None m n l h = refl
+past_before p (Some d) m n l h = grind (arith, nat_tests)
+
+fault_by : (os : List Owed) (b c : Bool) → (b ≡ false → c ≡ false) → first_that_holds ((is_owing os, reply_owed) ∷ (b, past_deadline) ∷ []) ≡ None → first_that_holds ((is_owing os, reply_owed) ∷ (c, past_deadline) ∷ []) ≡ None
+fault_by [] false c i h = ap (λ b. first_that_holds ((false, reply_owed) ∷ (b, past_deadline) ∷ [])) (i refl)
+fault_by [] true c i h = absurd (cc)
+fault_by (o ∷ os) b c i h = absurd (cc)
+
+earlier : (p : Parameters) (e : EndState) (m n : ℕ) → m ≤ n → take_fault p e n ≡ None → take_fault p e m ≡ None
+earlier p e m n l h = by (is_closed e.phase) h
+  where
+    by : (b : Bool) → (if b then None else first_that_holds ((is_owing e.owed, reply_owed) ∷ (is_past p e.deadline n, past_deadline) ∷ [])) ≡ None
+        → (if b then None else first_that_holds ((is_owing e.owed, reply_owed) ∷ (is_past p e.deadline m, past_deadline) ∷ [])) ≡ None
+    by true h = refl
+    by false h = fault_by e.owed _ _ (past_before p e.deadline m n l) h
+
+-- lists under a map
+map_push : (ms : List Made) (m : Made) → map (λ (x : Made). x.pdu) (ms ++ m ∷ []) ≡ map (λ (x : Made). x.pdu) ms ++ m.pdu ∷ []
+map_push [] m = refl
+map_push (x ∷ ms) m = ap (λ ps. x.pdu ∷ ps) (map_push ms m)
+
+pdus_push : (cs : List FirstCopy) (c : FirstCopy) → pdus_of (cs ++ c ∷ []) ≡ pdus_of cs ++ c.pdu.safety ∷ []
+pdus_push [] c = refl
+pdus_push (x ∷ cs) c = ap (λ ps. x.pdu.safety ∷ ps) (pdus_push cs c)
+
+length_made : (ms : List Made) → length (map (λ (x : Made). x.pdu) ms) ≡ length ms
+length_made [] = refl
+length_made (m ∷ ms) = ap suc (length_made ms)
+
+length_pdus : (cs : List FirstCopy) → length (pdus_of cs) ≡ length cs
+length_pdus [] = refl
+length_pdus (c ∷ cs) = ap suc (length_pdus cs)
+
+get_made : (ms : List Made) (i : ℕ) (m : Made) → slice_get ms i ≡ Some m → slice_get (map (λ (x : Made). x.pdu) ms) i ≡ Some m.pdu
+get_made [] i m g = absurd (cc)
+get_made (x ∷ ms) zero m g = (let e : x ≡ m = cc in ap (λ (z : Made). Some z.pdu) e)
+get_made (x ∷ ms) (suc i) m g = get_made ms i m g
+
+get_after : (xs ys : List SafetyPdu) (i : ℕ) → slice_get (xs ++ ys) (length xs + i) ≡ slice_get ys i
+get_after [] ys i = (let e : 0 + i ≡ i = omega arith in ap (slice_get ys) e)
+get_after (x ∷ xs) ys i = (let e : suc (length xs) + i ≡ suc (length xs + i) = omega arith in ap (λ n. slice_get (x ∷ (xs ++ ys)) n) e ∙ get_after xs ys i)
+
+get_copy : (cs : List FirstCopy) (i : ℕ) (x : SafetyPdu) → slice_get (pdus_of cs) i ≡ Some x → (c : FirstCopy) × (slice_get cs i ≡ Some c) × (c.pdu.safety ≡ x)
+get_copy [] i x g = absurd (cc)
+get_copy (c ∷ cs) zero x g = (c, refl, cc)
+get_copy (c ∷ cs) (suc i) x g = get_copy cs i x g
+
+assoc : (xs ys zs : List SafetyPdu) → (xs ++ ys) ++ zs ≡ xs ++ (ys ++ zs)
+assoc [] ys zs = refl
+assoc (x ∷ xs) ys zs = ap (λ ps. x ∷ ps) (assoc xs ys zs)
+
+-- what a station sends: its first copies so far are what it has made since the start_of
+pub record Sends (p : Parameters) (s : Side) (xs : List Packet) (own : List FirstCopy) (e : EndState) (first : ℕ) : Type 0 where
+  pub sent : IsSent p xs s own
+  pub same : pdus_made e.made ≡ pdus_made (start_of p s).made ++ pdus_of own
+  pub numbers : Counts_from (first + base p) own
+  pub side : e.side ≡ s
+
+-- a script for it
+pub record Told (p : Parameters) (s : Side) (n : ℕ) (own peer : List FirstCopy) (e : EndState) (moment passed_mark : ℕ) : Type 0 where
+  pub es : List Entry
+  pub at : Cursor
+  pub leads : Leads p n own peer (at_start (start_of p s)) es at
+  pub made : at.made ≡ length own
+  pub mark : passed_mark ≡ base p + at.taken
+  pub level : at.level ≤ n
+  pub state : at.state ≡ e
+  pub clock : e.clock ≤ moment
+  pub clocks : ClocksWithin e.clock es
+
+pub record Both (p : Parameters) (s r : Side) (xs : List Packet) (a b : Station) : Type 0 where
+  pub own : List FirstCopy
+  pub peer : List FirstCopy
+  pub sends : Sends p s xs own a.state a.first_number
+  pub their_sends : Sends p r xs peer b.state b.first_number
+  pub told : Told p s (length xs) own peer a.state a.clock a.taken
+  pub their_told : Told p r (length xs) peer own b.state b.clock b.taken
+
+pub sends_count : (p : Parameters) (s : Side) (xs : List Packet) (own : List FirstCopy) (e : EndState) (f : ℕ) → Sends p s xs own e f → length e.made ≡ base p + length own
+sends_count p s xs own e f h =
+    let a = length_made e.made in
+    let b = ap length h.same in
+    let c = length-append (pdus_made (start_of p s).made) (pdus_of own) in
+    let d = length_made (start_of p s).made in
+    let g = start_made p.quiet s in
+    let k = length_pdus own in
+    omega (arith, a, b, c, d, g, k)
+
+-- the copy at a position of the peer
+pub copy_at : (p : Parameters) (s : Side) (xs : List Packet) (own : List FirstCopy) (e : EndState) (f i : ℕ) (m : Made) → Sends p s xs own e f → slice_get e.made (base p + i) ≡ Some m → (c : FirstCopy) × (slice_get own i ≡ Some c) × (c.pdu.safety ≡ m.pdu)
+copy_at p s xs own e f i m h g =
+    let a = get_made e.made (base p + i) m g in
+    let l : length (pdus_made (start_of p s).made) ≡ base p = length_made (start_of p s).made ∙ start_made p.quiet s in
+    let b : slice_get (pdus_made (start_of p s).made ++ pdus_of own) (length (pdus_made (start_of p s).made) + i) ≡ Some m.pdu = subst (λ n. slice_get (pdus_made (start_of p s).made ++ pdus_of own) (n + i) ≡ Some m.pdu) (sym l) (subst (λ (ps : List SafetyPdu). slice_get ps (base p + i) ≡ Some m.pdu) h.same a) in
+    get_copy own i m.pdu (sym (get_after (pdus_made (start_of p s).made) (pdus_of own) i) ∙ b)
+
+-- a packet of the other side leaves what an end sends
+sends_other : (p : Parameters) (s : Side) (xs : List Packet) (k : Packet) (own : List FirstCopy) (e : EndState) (f : ℕ) → Sends p s xs own e f → (k.side ≡ s → ⊥) → Sends p s (xs ++ k ∷ []) own e f
+sends_other p s xs k own e f h apart = record { sent = sent_other p xs k s own h.sent apart; same = h.same; numbers = h.numbers; side = h.side }
+
+told_wider : (p : Parameters) (s : Side) (n n' : ℕ) (own peer q : List FirstCopy) (e : EndState) (clock taken : ℕ) → n ≤ n' → Told p s n own peer e clock taken → Told p s n' own (peer ++ q) e clock taken
+told_wider p s n n' own peer q e clock taken l h =
+    record {
+      es = h.es;
+      at = h.at;
+      leads = subst (λ (os : List FirstCopy). Leads p n' os (peer ++ q) (at_start (start_of p s)) h.es h.at) (append_nil own) (leads_wider p n n' own [] peer q _ h.at h.es l h.leads);
+      made = h.made;
+      mark = h.mark;
+      level = omega (arith, h.level);
+      state = h.state;
+      clock = h.clock;
+      clocks = h.clocks;
+    }
+  where
+    append_nil : (cs : List FirstCopy) → cs ++ [] ≡ cs
+    append_nil [] = refl
+    append_nil (c ∷ cs) = ap (λ ds. c ∷ ds) (append_nil cs)
+
+told_longer : (p : Parameters) (s : Side) (n n' : ℕ) (own peer : List FirstCopy) (e : EndState) (clock taken : ℕ) → n ≤ n' → Told p s n own peer e clock taken → Told p s n' own peer e clock taken
+told_longer p s n n' own peer e clock taken l h =
+    subst (λ (qs : List FirstCopy). Told p s n' own qs e clock taken) (append_nil peer) (told_wider p s n n' own peer [] e clock taken l h)
+  where
+    append_nil : (cs : List FirstCopy) → cs ++ [] ≡ cs
+    append_nil [] = refl
+    append_nil (c ∷ cs) = ap (λ ds. c ∷ ds) (append_nil cs)
+
+-- a make
+module _ (p : Parameters) (s : Side) (xs : List Packet) (own peer : List FirstCopy) (e e' : EndState) (first clock taken channel reserve : ℕ) (check bytes : List ℕ) (x : SafetyPdu) (why : Why)
+    (mk : Makes p e x clock why e') (sp : Spells p e.side (record { number = wrapped (first + length e.made); reserve = reserve; safety = x; check_bytes = check }) bytes)
+    (h : Sends p s xs own e first) (t : Told p s (length xs) own peer e clock taken) where
+  datagram : RedundancyPdu
+  datagram = record { number = wrapped (first + length e.made); reserve = reserve; safety = x; check_bytes = check }
+
+  packet : Packet
+  packet = record { channel = channel; side = e.side; payload = bytes }
+
+  copy : FirstCopy
+  copy = record { place = length xs; pdu = datagram }
+
+  made_sends : Sends p s (xs ++ packet ∷ []) (own ++ copy ∷ []) e' first
+  unfolding datagram packet copy
+  made_sends =
+      let r = sent_first p xs packet s own datagram (first + base p) h.sent h.numbers h.side (subst (λ (z : Side). Spells p z datagram bytes) h.side sp) (ap (λ n. wrapped n) (let z = sends_count p s xs own e first h in omega arith)) in
+      let made = made_more p e x clock why e' mk in
+      let n : Made = made.new in
+      let now : e'.made ≡ e.made ++ n ∷ [] = made.made in
+      record {
+        sent = r.0;
+        same = ap pdus_made now ∙ (map_push e.made n ∙ (ap (λ y. pdus_made e.made ++ y ∷ []) made.pdu ∙ (ap (λ ps. ps ++ x ∷ []) h.same ∙ (assoc (pdus_made (start_of p s).made) (pdus_of own) (x ∷ []) ∙ ap (λ ps. pdus_made (start_of p s).made ++ ps) (sym (pdus_push own copy))))));
+        numbers = r.1;
+        side = made.side ∙ h.side;
+      }
+
+  made_told : Told p s (length (xs ++ packet ∷ [])) (own ++ copy ∷ []) peer e' clock taken
+  unfolding datagram packet copy
+  made_told =
+      let len = length_push xs packet in
+      let made = made_more p e x clock why e' mk in
+      let rises : e.clock ≤ clock = made.rises in
+      let now : e'.clock ≡ clock = made.now in
+      let wide = leads_wider p (length xs) (length (xs ++ packet ∷ [])) own (copy ∷ []) peer [] _ t.at t.es (omega arith) t.leads in
+      let there : slice_get (own ++ copy ∷ []) t.at.made ≡ Some copy = subst (λ n. slice_get (own ++ copy ∷ []) n ≡ Some copy) (sym t.made) (get_push own copy) in
+      let step : Advances p (length (xs ++ packet ∷ [])) (own ++ copy ∷ []) peer t.at (Make (length xs) clock why) (record { level = suc (length xs); made = suc t.at.made; taken = t.at.taken; state = e' }) = makes_next copy clock why e' t.level there (subst (λ (z : EndState). Makes p z x clock why e') (sym t.state) mk) in
+      record {
+        es = t.es ++ Make (length xs) clock why ∷ [];
+        at = record { level = suc (length xs); made = suc t.at.made; taken = t.at.taken; state = e' };
+        leads = leads_more p (length (xs ++ packet ∷ [])) (own ++ copy ∷ []) peer _ t.at _ t.es _ (subst (λ (qs : List FirstCopy). Leads p (length (xs ++ packet ∷ [])) (own ++ copy ∷ []) qs (at_start (start_of p s)) t.es t.at) (append_nil peer) wide) step;
+        made = (let z = length_push own copy in let y = t.made in omega arith);
+        mark = t.mark;
+        level = omega arith;
+        state = refl;
+        clock = omega arith;
+        clocks = subst (λ n. ClocksWithin n (t.es ++ Make (length xs) clock why ∷ [])) (sym now) (clocks_make clock (length xs) clock why t.es (omega arith) (clocks_more e.clock clock t.es rises t.clocks));
+      }
+    where
+      append_nil : (cs : List FirstCopy) → cs ++ [] ≡ cs
+      append_nil [] = refl
+      append_nil (c ∷ cs) = ap (λ ds. c ∷ ds) (append_nil cs)
+
+-- a take
+took : (p : Parameters) (s r : Side) (xs : List Packet) (own peer : List FirstCopy) (e e' f : EndState) (clock taken position their : ℕ) (m : Made) → Takes p e m.pdu clock e' → taken ≤ position → slice_get f.made position ≡ Some m
+    → Sends p r xs peer f their → Told p s (length xs) own peer e clock taken → Told p s (length xs) own peer e' clock (suc position)
+took p s r xs own peer e e' f clock taken position their m tk above g hs t =
+    let i : ℕ = position - base p in
+    let at : position ≡ base p + i = (let z = t.mark in omega arith) in
+    let c = copy_at p r xs peer f their i m hs (subst (λ n. slice_get f.made n ≡ Some m) at g) in
+    let fst = hs.sent.firsts i c.0 c.1 in
+    let low = slice_get_within xs c.0.place fst.0 fst.1 in
+    let fault : take_fault p t.at.state t.at.state.clock ≡ None = subst (λ (z : EndState). take_fault p z z.clock ≡ None) (sym t.state) (earlier p e e.clock clock t.clock tk.0) in
+    let eff : e' ≡ after_take p t.at.state c.0.pdu.safety = tk.1 ∙ ap (λ (z : EndState). after_take p z m.pdu) (sym t.state) ∙ ap (λ (y : SafetyPdu). after_take p t.at.state y) (sym c.2) in
+    let step : Advances p (length xs) own peer t.at (Take (length xs) c.0.pdu.number) (record { level = length xs; made = t.at.made; taken = suc i; state = e' }) = takes_next (length xs) i c.0 e' t.level (omega arith) c.1 low (let z = t.mark in omega arith) (fault, eff) in
+    let same : e'.clock ≡ e.clock = ap (λ (z : EndState). z.clock) tk.1 ∙ (take_leaves p e m.pdu).clock in
+    record {
+      es = t.es ++ Take (length xs) c.0.pdu.number ∷ [];
+      at = record { level = length xs; made = t.at.made; taken = suc i; state = e' };
+      leads = leads_more p (length xs) own peer _ t.at _ t.es _ t.leads step;
+      made = t.made;
+      mark = omega arith;
+      level = omega arith;
+      state = refl;
+      clock = (let z = t.clock in omega arith);
+      clocks = subst (λ n. ClocksWithin n (t.es ++ Take (length xs) c.0.pdu.number ∷ [])) (sym same) (clocks_take e.clock (length xs) c.0.pdu.number t.es t.clocks);
+    }
+
+both_kept : (p : Parameters) (s r : Side) (xs ys : List Packet) (a a' b : Station) → (s ≡ r → ⊥) → {move : Move} → Moves p b xs a move a' ys → Both p s r xs a b → Both p s r ys a' b
+unfolding packet
+both_kept p s r xs ys a a' b apart (makes x why e' ch res chk bs mk sp rec) g =
+    let k = packet p s xs g.own g.peer a.state e' a.first_number a.clock a.taken ch res chk bs x why mk sp g.sends g.told in
+    record {
+      own = g.own ++ copy p s xs g.own g.peer a.state e' a.first_number a.clock a.taken ch res chk bs x why mk sp g.sends g.told ∷ [];
+      peer = g.peer;
+      sends = made_sends p s xs g.own g.peer a.state e' a.first_number a.clock a.taken ch res chk bs x why mk sp g.sends g.told;
+      their_sends = sends_other p r xs (record { channel = ch; side = a.state.side; payload = bs }) g.peer b.state b.first_number g.their_sends (λ z. apart (sym g.sends.side ∙ z));
+      told = made_told p s xs g.own g.peer a.state e' a.first_number a.clock a.taken ch res chk bs x why mk sp g.sends g.told;
+      their_told = told_wider p r (length xs) _ g.peer g.own (copy p s xs g.own g.peer a.state e' a.first_number a.clock a.taken ch res chk bs x why mk sp g.sends g.told ∷ []) b.state b.clock b.taken (let z = length_push xs (record { channel = ch; side = a.state.side; payload = bs }) in omega arith) g.their_told;
+    }
+both_kept p s r xs ys a a' b apart (repeats place ch old at sd rec) g =
+    let k : Packet = record old { channel = ch } in
+    let len = length_push xs k in
+    record {
+      own = g.own;
+      peer = g.peer;
+      sends = record { sent = sent_copy p xs k s g.own place old g.sends.sent at (sd ∙ g.sends.side) refl; same = g.sends.same; numbers = g.sends.numbers; side = g.sends.side };
+      their_sends = sends_other p r xs k g.peer b.state b.first_number g.their_sends (λ z. apart (sym (sd ∙ g.sends.side) ∙ z));
+      told = told_longer p s (length xs) _ g.own g.peer a.state a.clock a.taken (omega arith) g.told;
+      their_told = told_longer p r (length xs) _ g.peer g.own b.state b.clock b.taken (omega arith) g.their_told;
+    }
+both_kept p s r xs ys a a' b apart (arrives q low l) g = record { own = g.own; peer = g.peer; sends = g.sends; their_sends = g.their_sends; told = g.told; their_told = g.their_told }
+both_kept p s r xs ys a a' b apart (takes q m e' c l at tk) g =
+    let left = take_leaves p a.state m.pdu in
+    let same : e'.made ≡ a.state.made = ap (λ (z : EndState). z.made) tk.1 ∙ left.made in
+    record {
+      own = g.own;
+      peer = g.peer;
+      sends = record { sent = g.sends.sent; same = ap pdus_made same ∙ g.sends.same; numbers = g.sends.numbers; side = ap (λ (z : EndState). z.side) tk.1 ∙ (left.side ∙ g.sends.side) };
+      their_sends = g.their_sends;
+      told = took p s r xs g.own g.peer a.state e' b.state a.clock a.taken q b.first_number m tk l at g.their_sends g.told;
+      their_told = g.their_told;
+    }
+both_kept p s r xs ys a a' b apart (waits c l) g =
+    record {
+      own = g.own;
+      peer = g.peer;
+      sends = g.sends;
+      their_sends = g.their_sends;
+      their_told = g.their_told;
+      told = (let t = g.told in record { es = t.es; at = t.at; leads = t.leads; made = t.made; mark = t.mark; level = t.level; state = t.state; clock = (let z = t.clock in omega arith); clocks = t.clocks });
+    }
+
+turn : (p : Parameters) (s r : Side) (xs : List Packet) (a b : Station) → Both p s r xs a b → Both p r s xs b a
+turn p s r xs a b g = record { own = g.peer; peer = g.own; sends = g.their_sends; their_sends = g.sends; told = g.their_told; their_told = g.told }
+
+first_sends : (p : Parameters) (s : Side) (n : ℕ) → AreParameters p → Sends p s [] [] (start_of p s) n
+first_sends p s n valid = record { sent = sent_none p s valid; same = sym (append_nil (pdus_made (start_of p s).made)); numbers = λ i c g. absurd (cc); side = start_side p.quiet s }
+  where
+    append_nil : (cs : List SafetyPdu) → cs ++ [] ≡ cs
+    append_nil [] = refl
+    append_nil (c ∷ cs) = ap (λ ds. c ∷ ds) (append_nil cs)
+
+first_told : (p : Parameters) (s : Side) → Told p s 0 [] [] (start_of p s) (start_of p s).clock (start_of p s).base
+first_told p s = record { es = []; at = at_start (start_of p s); leads = refl; made = refl; mark = (let z = start_base p.quiet s in omega arith); level = omega arith; state = refl; clock = omega arith; clocks = tt }
+
+pub told_step : (p : Parameters) (v w : World) → Step p v w → Both p Client Server v.crossed v.client v.server → Both p Client Server w.crossed w.client w.server
+told_step p v w (client_moves {a = a} {after = ys} m) g = both_kept p Client Server v.crossed ys v.client a v.server (λ e. cc (e)) m g
+told_step p v w (server_moves {a = a} {after = ys} m) g = turn p Server Client ys a v.client (both_kept p Server Client v.crossed ys v.server a v.client (λ e. cc (e)) m (turn p Client Server v.crossed v.client v.server g))
+
+pub told_first : (p : Parameters) (m n : ℕ) → AreParameters p → Both p Client Server [] (first_station p Client m) (first_station p Server n)
+told_first p m n valid = record { own = []; peer = []; sends = first_sends p Client m valid; their_sends = first_sends p Server n valid; told = first_told p Client; their_told = first_told p Server }
+
+pub told : (p : Parameters) → AreParameters p → (ws : List World) (w : World) → Reaches p ws w → Both p Client Server w.crossed w.client w.server
+told p valid ws w (begins m n) = told_first p m n valid
+told p valid ws w (goes_on {ws = vs} {w = v} r st) = told_step p v w st (told p valid vs v r)
+
+-- the copies below the packets so far stay where they are
+kept_copies : (p : Parameters) (s r : Side) (xs ys : List Packet) (a a' b : Station) (apart : s ≡ r → ⊥) {move : Move} (m : Moves p b xs a move a' ys) (g : Both p s r xs a b) (j : ℕ) (d : FirstCopy)
+    → slice_get (both_kept p s r xs ys a a' b apart m g).own j ≡ Some d → d.place < length xs → slice_get g.own j ≡ Some d
+unfolding both_kept copy
+kept_copies p s r xs ys a a' b apart (makes x why e' ch res chk bs mk sp rec) g j d at l = ⊎_elim
+    (λ (old : slice_get g.own j ≡ Some d). old)
+    (λ (new : (j ≡ length g.own) × (_ ≡ d)). absurd (let z = ap (λ (c : FirstCopy). c.place) new.1 in omega arith))
+    (get_push_cases g.own _ j d at)
+kept_copies p s r xs ys a a' b apart (repeats place ch old there sd rec) g j d at l = at
+kept_copies p s r xs ys a a' b apart (arrives q low i) g j d at l = at
+kept_copies p s r xs ys a a' b apart (takes q m e' c i t tk) g j d at l = at
+kept_copies p s r xs ys a a' b apart (waits c i) g j d at l = at
+
+kept_front : (p : Parameters) (s r : Side) (xs ys : List Packet) (a a' b : Station) (apart : s ≡ r → ⊥) {move : Move} (m : Moves p b xs a move a' ys) (g : Both p s r xs a b) (j : ℕ) (d : FirstCopy)
+    → slice_get g.own j ≡ Some d → slice_get (both_kept p s r xs ys a a' b apart m g).own j ≡ Some d
+unfolding both_kept copy
+kept_front p s r xs ys a a' b apart (makes x why e' ch res chk bs mk sp rec) g j d at = get_front g.own _ j d at
+kept_front p s r xs ys a a' b apart (repeats place ch old there sd rec) g j d at = at
+kept_front p s r xs ys a a' b apart (arrives q low i) g j d at = at
+kept_front p s r xs ys a a' b apart (takes q m e' c i t tk) g j d at = at
+kept_front p s r xs ys a a' b apart (waits c i) g j d at = at
+
+same_peer : (p : Parameters) (s r : Side) (xs ys : List Packet) (a a' b : Station) (apart : s ≡ r → ⊥) {move : Move} (m : Moves p b xs a move a' ys) (g : Both p s r xs a b) → (both_kept p s r xs ys a a' b apart m g).peer ≡ g.peer
+unfolding both_kept
+same_peer p s r xs ys a a' b apart (makes x why e' ch res chk bs mk sp rec) g = refl
+same_peer p s r xs ys a a' b apart (repeats place ch old at sd rec) g = refl
+same_peer p s r xs ys a a' b apart (arrives q low i) g = refl
+same_peer p s r xs ys a a' b apart (takes q m e' c i t tk) g = refl
+same_peer p s r xs ys a a' b apart (waits c i) g = refl
+
+pub step_copies : (p : Parameters) (v w : World) (st : Step p v w) (g : Both p Client Server v.crossed v.client v.server)
+    → ((j : ℕ) (d : FirstCopy) → slice_get (told_step p v w st g).own j ≡ Some d → d.place < length v.crossed → slice_get g.own j ≡ Some d)
+    × ((j : ℕ) (d : FirstCopy) → slice_get (told_step p v w st g).peer j ≡ Some d → d.place < length v.crossed → slice_get g.peer j ≡ Some d)
+unfolding told_step turn
+step_copies p v w (client_moves {a = a} {after = ys} m) g = (
+  λ j d at l. kept_copies p Client Server v.crossed ys v.client a v.server (λ e. cc (e)) m g j d at l,
+  λ j d at l. subst (λ (cs : List FirstCopy). slice_get cs j ≡ Some d) (same_peer p Client Server v.crossed ys v.client a v.server (λ e. cc (e)) m g) at,
+)
+step_copies p v w (server_moves {a = a} {after = ys} m) g =
+    let h = turn p Client Server v.crossed v.client v.server g in (
+      λ j d at l. subst (λ (cs : List FirstCopy). slice_get cs j ≡ Some d) (same_peer p Server Client v.crossed ys v.server a v.client (λ e. cc (e)) m h) at,
+      λ j d at l. kept_copies p Server Client v.crossed ys v.server a v.client (λ e. cc (e)) m h j d at l,
+    )
+
+pub step_front : (p : Parameters) (v w : World) (st : Step p v w) (g : Both p Client Server v.crossed v.client v.server)
+    → ((j : ℕ) (d : FirstCopy) → slice_get g.own j ≡ Some d → slice_get (told_step p v w st g).own j ≡ Some d)
+    × ((j : ℕ) (d : FirstCopy) → slice_get g.peer j ≡ Some d → slice_get (told_step p v w st g).peer j ≡ Some d)
+unfolding told_step turn
+step_front p v w (client_moves {a = a} {after = ys} m) g = (
+  λ j d at. kept_front p Client Server v.crossed ys v.client a v.server (λ e. cc (e)) m g j d at,
+  λ j d at. subst (λ (cs : List FirstCopy). slice_get cs j ≡ Some d) (sym (same_peer p Client Server v.crossed ys v.client a v.server (λ e. cc (e)) m g)) at,
+)
+step_front p v w (server_moves {a = a} {after = ys} m) g =
+    let h = turn p Client Server v.crossed v.client v.server g in (
+      λ j d at. subst (λ (cs : List FirstCopy). slice_get cs j ≡ Some d) (sym (same_peer p Server Client v.crossed ys v.server a v.client (λ e. cc (e)) m h)) at,
+      λ j d at. kept_front p Server Client v.crossed ys v.server a v.client (λ e. cc (e)) m h j d at,
+    )
+
+-- the same for given lists of first copies
+pub told_of : (p : Parameters) (ws : List World) (w : World) (c s : List FirstCopy) → Reaches p ws w → IsSent p w.crossed Client c → IsSent p w.crossed Server s → length c ≤ 1000000 → length s ≤ 1000000
+    → (g : Both p Client Server w.crossed w.client w.server) × (g.own ≡ c) × (g.peer ≡ s)
+told_of p ws w c s r hc hs lc ls =
+    let g = told p hc.valid ws w r in
+    (g, sym (sent_once p w.crossed Client c g.own hc g.sends.sent (omega arith)), sym (sent_once p w.crossed Server s g.peer hs g.their_sends.sent (omega arith)))
+
+told_fits : (p : Parameters) (s : Side) (n : ℕ) (own peer : List FirstCopy) (e : EndState) (clock taken : ℕ) (t : Told p s n own peer e clock taken) → Follows p s n own peer t.es e
+told_fits p s n own peer e clock taken t = (t.at, t.leads, t.made, t.state)
+
+told_few : (p : Parameters) (s : Side) (n : ℕ) (own peer : List FirstCopy) (e : EndState) (clock taken : ℕ) (t : Told p s n own peer e clock taken) → length t.es ≤ length own + length peer
+told_few p s n own peer e clock taken t =
+    let a = leads_count p n own peer _ t.at t.es t.leads in
+    let b = taken_within p n own peer _ t.at t.es t.leads (omega arith) in
+    let c = t.made in
+    omega arith
+
+pub complete : (p : Parameters) (ws : List World) (w : World) (c s : List FirstCopy) → Reaches p ws w
+    → IsSent p w.crossed Client c → IsSent p w.crossed Server s → length c ≤ 1000000 → length s ≤ 1000000
+    → (n : ℕ) → w.client.state.clock ≤ n → w.server.state.clock ≤ n
+    → (cs ss : List Entry)
+    × Follows p Client (length w.crossed) c s cs w.client.state × Follows p Server (length w.crossed) s c ss w.server.state
+    × (length cs + length ss ≤ most_entries) × ClocksWithin n cs × ClocksWithin n ss
+complete p ws w c s r hc hs lc ls n bc bs =
+    let g = told_of p ws w c s r hc hs lc ls in
+    let h = g.0 in
+    let fc : Follows p Client (length w.crossed) c s h.told.es w.client.state =
+    subst (λ (o : List FirstCopy). Follows p Client (length w.crossed) o s h.told.es w.client.state) g.1 (subst (λ (q : List FirstCopy). Follows p Client (length w.crossed) h.own q h.told.es w.client.state) g.2 (told_fits p Client _ h.own h.peer _ _ _ h.told)) in
+    let fs : Follows p Server (length w.crossed) s c h.their_told.es w.server.state =
+    subst (λ (o : List FirstCopy). Follows p Server (length w.crossed) o c h.their_told.es w.server.state) g.2 (subst (λ (q : List FirstCopy). Follows p Server (length w.crossed) h.peer q h.their_told.es w.server.state) g.1 (told_fits p Server _ h.peer h.own _ _ _ h.their_told)) in
+    let few = told_few p Client _ h.own h.peer _ _ _ h.told in
+    let their_few = told_few p Server _ h.peer h.own _ _ _ h.their_told in
+    let x = ap length g.1 in
+    let y = ap length g.2 in
+    (h.told.es, h.their_told.es, fc, fs, omega arith, clocks_more _ n h.told.es bc h.told.clocks, clocks_more _ n h.their_told.es bs h.their_told.clocks)

@@ -1,0 +1,6 @@
+-- What the checker answers.
+pub mod CallAnswers
+pub mod FileVerdicts
+pub mod Headline
+pub mod Reports
+pub mod ListSteps

@@ -1,0 +1,78 @@
+-- The verdict on a file, by what crossed.
+use Rattle.std.proofs.Common.{◌≡◌, ℕ, ◌≤◌, List, length, Result, Ok, ap, sym, ◌∙◌, arith, subst}
+use Rattle.rasta_pcap.specs.declared.fault.Fault.{Fault}
+use Rattle.rasta_pcap.specs.declared.fault.Side.{Side}
+use Rattle.rasta_pcap.specs.declared.fault.Side.TheVariants.{Client, Server}
+use Rattle.rasta_pcap.specs.Capture.{IsCapture, reading_of}
+use Rattle.rasta_pcap.proofs.Captures.{reading_of-IsCapture}
+use Rattle.rasta_udp.specs.Frame.{Packet}
+use Rattle.rasta_pdu.specs.Params.{Parameters, AreParameters}
+use Rattle.rasta_cert.specs.Certificate.{Scripts}
+use Rattle.rasta_check.specs.Capture.Crossing.{FirstCopy, Sent, crossing_list}
+use Rattle.rasta_check.specs.Capture.Reading.{Crossing, IsCrossing, crossing_of, nothing_crossed}
+use Rattle.rasta_check.specs.Capture.Faults.{CrossedIn}
+use Rattle.rasta_check.specs.Verdict.Report.{Explained, BothFit, Explains, IsFileVerdict, IsScriptVerdict, judged, report_of}
+use Rattle.rasta_check.specs.Verdict.Headline.{Headline}
+use Rattle.rasta_check.proofs.Capture.ListForms.{to_record}
+use Rattle.rasta_check.proofs.Capture.Readings.{records_by}
+use Rattle.rasta_check.proofs.Capture.FirstCopies.{sent_once}
+
+-- what is read has the parameters by which it is read
+pub same_params : (p : Parameters) (file : List ℕ) (k : Crossing) → crossing_of p file ≡ Ok k → k.params ≡ p
+same_params p file k e = (records_by (nothing_crossed p) k (reading_of p.last_record file).records (reading_of p.last_record file).fault e).1.1
+
+-- the verdict on a capture without a fault is that on what crossed in it
+pub verdict_is : (p : Parameters) (file : List ℕ) (k : Crossing) → CrossedIn p file k → (scripts : Scripts) (verdict : Result Explained Fault)
+    → IsScriptVerdict p (length k.packets) k.client k.server scripts verdict → IsFileVerdict p file scripts verdict
+verdict_is p file k x scripts verdict g =
+    judged k.client k.server x.capture verdict (subst (λ (xs : List Packet). IsScriptVerdict p (length xs) k.client k.server scripts verdict) x.packets g)
+
+-- the inside of what is read is what is seen of it
+pub seen : (inside k : Crossing) → inside ≡ k → IsCrossing inside → IsCrossing k
+seen inside k e h = subst IsCrossing e h
+
+module _ (p : Parameters) (file : List ℕ) (k : Crossing) (x : CrossedIn p file k) (h : IsCrossing k) where
+  valid : AreParameters p
+  valid = subst AreParameters x.params h.valid.valid
+
+  -- the packets are those of whatever records the file has
+  packets_of : (records : List (List ℕ)) → IsCapture p.last_record file records → k.packets ≡ crossing_list p records
+  packets_of records c =
+      let top = valid.window.last_most in
+      x.packets ∙ ap (crossing_list p) (sym (reading_of-IsCapture p.last_record file x.capture.records top x.capture.capture).0 ∙ (reading_of-IsCapture p.last_record file records top c).0)
+
+  pub explains : (scripts : Scripts) → BothFit p (length k.packets) k.client k.server scripts → Explains p file scripts
+  explains scripts fits =
+      record {
+        client = k.client;
+        server = k.server;
+        capture = x.capture;
+        fits = subst (λ (xs : List Packet). BothFit p (length xs) k.client k.server scripts) x.packets fits;
+      }
+
+  -- a report on what crossed is that on the lists of a capture that is explained
+  pub exactly : (scripts : Scripts) (report : Explained) → BothFit p (length k.packets) k.client k.server scripts
+      → report ≡ report_of p (length k.packets) k.client k.server
+      → (e : Explains p file scripts) × (report ≡ report_of p (length (crossing_list p e.capture.records)) e.client e.server)
+  unfolding explains
+  exactly scripts report fits says = (explains scripts fits, says ∙ ap (λ (xs : List Packet). report_of p (length xs) k.client k.server) x.packets)
+
+  -- no other lists are sent
+  same_list : (side : Side) (records : List (List ℕ)) (sent own : List FirstCopy) → IsCapture p.last_record file records → Sent p (crossing_list p records) side sent
+      → Sent k.params k.packets side own → length own ≤ 1000000 → own ≡ sent
+  same_list side records sent own c g o few =
+      let mine : Sent p k.packets side own = subst (λ (q : Parameters). Sent q k.packets side own) x.params o in
+      let theirs : Sent p k.packets side sent = subst (λ (xs : List Packet). Sent p xs side sent) (sym (packets_of records c)) g in
+      sent_once p k.packets side own sent (to_record p k.packets side own valid mine) (to_record p k.packets side sent valid theirs) (omega arith)
+
+  pub not_explained : (scripts : Scripts) → (BothFit p (length k.packets) k.client k.server scripts → ⊥) → Explains p file scripts → ⊥
+  not_explained scripts unfit e =
+      let c = same_list Client e.capture.records e.client k.client e.capture.capture e.capture.faultless.client_sent h.client h.few_client in
+      let s = same_list Server e.capture.records e.server k.server e.capture.capture e.capture.faultless.server_sent h.server h.few_server in
+      let n = ap length (packets_of e.capture.records e.capture.capture) in
+      unfit (subst (λ (b : List FirstCopy). BothFit p (length k.packets) k.client b scripts) (sym s)
+      (subst (λ (a : List FirstCopy). BothFit p (length k.packets) a e.server scripts) (sym c)
+      (subst (λ m. BothFit p m e.client e.server scripts) (sym n) e.fits)))
+
+  pub headline_is : (report : Explained) (records : List (List ℕ)) → IsCapture p.last_record file records → Headline p k.packets report → Headline p (crossing_list p records) report
+  headline_is report records c g = subst (λ (xs : List Packet). Headline p xs report) (packets_of records c) g

@@ -1,0 +1,104 @@
+-- Working out a list: what is left to be done is done at one member more.
+use Rattle.std.proofs.Common.{◌≡◌, ℕ, zero, suc, ◌+◌, ◌≤◌, Bool, true, false, List, [], ◌∷◌, ◌++◌, length, drop, map, Some, None, refl, ap, sym, ◌∙◌, arith, append_assoc, slice_get}
+use Rattle.std.specs.Prelude.{if◌then◌else◌}
+use Rattle.std.proofs.lemmas.List.{append-nil, length-append, length-map}
+use Rattle.rasta_end.specs.State.{EndState}
+use Rattle.rasta_end.specs.MakeRule.{is_data}
+use Rattle.rasta_check.specs.Capture.Crossing.{FirstCopy}
+use Rattle.rasta_check.specs.declared.report.Taken.{Taken}
+use Rattle.rasta_check.specs.Verdict.Taken.{TakenMessage, TakenUnit, messages_taken}
+use Rattle.rasta_check.specs.Verdict.Listed.{ListedMessage, listed_of, numbered_from}
+use Rattle.rasta_check.specs.Internals.Listing.{shown_by, with_proofs, proofs_from, proved_unit, with_unit, proved_units}
+
+-- ---- what is left of a list
+
+pub left_at : (xs : List FirstCopy) (i : ℕ) (x : FirstCopy) → slice_get xs i ≡ Some x → drop i xs ≡ x ∷ drop (i + 1) xs
+left_at [] i x g = absurd (cc)
+left_at (y ∷ xs) zero x g = (let e : y ≡ x = cc in ap (λ (z : FirstCopy). z ∷ xs) e)
+left_at (y ∷ xs) (suc i) x g = (let n : suc (i + 1) ≡ suc i + 1 = omega arith in left_at xs i x g ∙ ap (λ k. x ∷ drop k (y ∷ xs)) n)
+
+pub none_left : (xs : List FirstCopy) (i : ℕ) → length xs ≤ i → drop i xs ≡ []
+none_left [] zero l = refl
+none_left [] (suc i) l = refl
+none_left (x ∷ xs) zero l = absurd (omega arith)
+none_left (x ∷ xs) (suc i) l = none_left xs i (omega arith)
+
+-- ---- places of proofs
+
+pub proofs_more : (e : EndState) (xs : List FirstCopy) (i : ℕ) (x : FirstCopy) (places new : List ℕ) → slice_get xs i ≡ Some x
+    → new ≡ with_proofs places (shown_by e x.pdu.safety) x.place → proofs_from e new (drop (i + 1) xs) ≡ proofs_from e places (drop i xs)
+unfolding proofs_from
+proofs_more e xs i x places new g h = ap (λ ps. proofs_from e ps (drop (i + 1) xs)) h ∙ sym (ap (proofs_from e places) (left_at xs i x g))
+
+pub proofs_end : (e : EndState) (xs : List FirstCopy) (i : ℕ) (places : List ℕ) → length xs ≤ i → proofs_from e places (drop i xs) ≡ places
+unfolding proofs_from
+proofs_end e xs i places l = ap (proofs_from e places) (none_left xs i l)
+
+-- ---- units
+
+-- where a unit has no proof, no further one has
+unproved : (places : List ℕ) (unit : ℕ) (copies : List FirstCopy) → slice_get places unit ≡ None → proved_units places unit copies ≡ []
+unfolding proved_units
+unproved places unit [] g = refl
+unproved places unit (c ∷ copies) g = by (is_data c.pdu.safety.kind) (unproved places unit copies g)
+  where
+    by : (b : Bool) → proved_units places unit copies ≡ [] → (if b then with_unit c (slice_get places unit) (proved_units places (suc unit) copies) else proved_units places unit copies) ≡ []
+    by true e = ap (λ o. with_unit c o (proved_units places (suc unit) copies)) g
+    by false e = e
+
+pub other_copy : (places : List ℕ) (unit : ℕ) (c : FirstCopy) (copies : List FirstCopy) → is_data c.pdu.safety.kind ≡ false → proved_units places unit (c ∷ copies) ≡ proved_units places unit copies
+unfolding proved_units
+other_copy places unit c copies k = ap (λ b. if b then with_unit c (slice_get places unit) (proved_units places (suc unit) copies) else proved_units places unit copies) k
+
+pub unproved_copy : (places : List ℕ) (unit : ℕ) (c : FirstCopy) (copies : List FirstCopy) → slice_get places unit ≡ None → proved_units places unit (c ∷ copies) ≡ proved_units places unit copies
+unproved_copy places unit c copies g = unproved places unit (c ∷ copies) g ∙ sym (unproved places unit copies g)
+
+pub proved_copy : (places : List ℕ) (unit place : ℕ) (c : FirstCopy) (copies : List FirstCopy) → is_data c.pdu.safety.kind ≡ true → slice_get places unit ≡ Some place
+    → proved_units places unit (c ∷ copies) ≡ proved_unit c place ∷ proved_units places (unit + 1) copies
+unfolding proved_units
+proved_copy places unit place c copies k g =
+    ap (λ b. if b then with_unit c (slice_get places unit) (proved_units places (suc unit) copies) else proved_units places unit copies) k
+    ∙ (ap (λ o. with_unit c o (proved_units places (suc unit) copies)) g
+    ∙ (let n : suc unit ≡ unit + 1 = omega arith in ap (λ k. proved_unit c place ∷ proved_units places k copies) n))
+
+-- ---- numbered messages
+
+pub numbered-append : (n : ℕ) (xs ys : List TakenMessage) → numbered_from n (xs ++ ys) ≡ numbered_from n xs ++ numbered_from (n + length xs) ys
+numbered-append n [] ys = ap (λ k. numbered_from k ys) (omega arith)
+numbered-append n (x ∷ xs) ys =
+    ap (λ ms. record { number = n; data_place = x.data_place; proof_place = x.proof_place; message = x.message } ∷ ms)
+    (numbered-append (suc n) xs ys ∙ ap (λ k. numbered_from (suc n) xs ++ numbered_from k ys) (omega arith))
+
+length-numbered : (n : ℕ) (xs : List TakenMessage) → length (numbered_from n xs) ≡ length xs
+length-numbered n [] = refl
+length-numbered n (x ∷ xs) = ap suc (length-numbered (suc n) xs)
+
+-- so many are listed, and these messages are added
+module _ (old new : List Taken) (added more : List TakenMessage) where
+  counted : map listed_of new ≡ map listed_of old ++ numbered_from (length old) added → length new ≡ length old + length added
+  counted e =
+      let a = ap length e in
+      let b = length-map new listed_of in
+      let c = length-map old listed_of in
+      let d = length-numbered (length old) added in
+      let f = length-append (map listed_of old) (numbered_from (length old) added) in
+      omega (arith, a, b, c, d, f)
+
+  pub added_more : map listed_of new ≡ map listed_of old ++ numbered_from (length old) added
+      → map listed_of new ++ numbered_from (length new) more ≡ map listed_of old ++ numbered_from (length old) (added ++ more)
+  added_more e =
+      (let n = counted e in
+      ((λ i. e i ++ numbered_from (n i) more) ∙ append_assoc (map listed_of old) (numbered_from (length old) added) (numbered_from (length old + length added) more))
+      ∙ ap (λ (xs : List ListedMessage). map listed_of old ++ xs) (sym (numbered-append (length old) added more)))
+
+-- ---- first copies that are left
+
+pub units_left : (places : List ℕ) (unit : ℕ) (xs : List FirstCopy) (i : ℕ) (x : FirstCopy) → slice_get xs i ≡ Some x → proved_units places unit (drop i xs) ≡ proved_units places unit (x ∷ drop (i + 1) xs)
+units_left places unit xs i x g = ap (proved_units places unit) (left_at xs i x g)
+
+pub units_end : (places : List ℕ) (unit : ℕ) (xs : List FirstCopy) (i : ℕ) → length xs ≤ i → proved_units places unit (drop i xs) ≡ []
+unfolding proved_units
+units_end places unit xs i l = ap (proved_units places unit) (none_left xs i l)
+
+pub listing_ends : (items : List Taken) (units : List TakenUnit) → units ≡ [] → map listed_of items ≡ map listed_of items ++ numbered_from (length items) (messages_taken units)
+listing_ends items units e = sym (append-nil (map listed_of items)) ∙ ap (λ us. map listed_of items ++ numbered_from (length items) (messages_taken us)) (sym e)

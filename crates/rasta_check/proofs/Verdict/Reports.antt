@@ -1,0 +1,259 @@
+-- What is worked out from the two ends of scripts that fit is what is surely taken.
+use Rattle.std.proofs.Common.{◌≡◌, ℕ, zero, suc, ◌+◌, ◌-◌, ◌%◌, ◌^◌, ◌<◌, ◌≤◌, Bool, true, false, List, [], ◌∷◌, ◌++◌, length, map, replicate, take, Option, Some, None, slice_get, refl, ap, sym, ◌∙◌, arith, subst}
+use Rattle.std.specs.Prelude.{fold, max, nat_lt, slice_index_or, if◌then◌else◌, ◌==◌}
+use Rattle.std.specs.Option.{option_map}
+use Rattle.std.proofs.lemmas.Bool.Decides.{nat_tests}
+use Rattle.std.proofs.lemmas.List.{length-append}
+use Rattle.std.proofs.lemmas.Option.{slice_get_within}
+use Rattle.rasta_pcap.specs.declared.fault.Side.{Side}
+use Rattle.rasta_pcap.specs.declared.fault.Side.TheVariants.{Client, Server}
+use Rattle.rasta_pdu.specs.declared.quiet_point.Quiet.{Quiet}
+use Rattle.rasta_pdu.specs.Pdu.{SafetyPdu}
+use Rattle.rasta_end.specs.State.{Made, EndState, ahead_by, first_sn}
+use Rattle.rasta_end.specs.Units.{units_at}
+use Rattle.rasta_end.specs.Starts.{start_by}
+use Rattle.rasta_end.specs.MakeRule.{is_data}
+use Rattle.rasta_check.specs.Capture.Crossing.{FirstCopy}
+use Rattle.rasta_check.specs.Verdict.Taken.{position_with, pdus_of, pdus_made, units_shown, units_taken, proof_place, units_from, data_copies}
+use Rattle.rasta_check.specs.Internals.Listing.{shown_by, with_proofs, proofs_from, proved_unit, with_unit, proved_units}
+use Rattle.rasta_check.proofs.Model.ListGrowth.{get_front}
+use Rattle.rasta_check.proofs.Model.SequenceNumbers.{Numbered}
+use Rattle.rasta_check.proofs.Model.NamedPositions.{SnIs}
+use Rattle.rasta_check.proofs.Script.Simulation.{slice_get_some}
+use Rattle.rasta_check.proofs.Model.ConveyedUnits.{get_or_none}
+
+-- ---- the position that a CS names
+
+-- where no member has this SN, none is at a position
+none_has : (ms : List Made) (sn i : ℕ) (m : Made) → position_with (pdus_made ms) sn ≡ None → slice_get ms i ≡ Some m → m.pdu.sn ≡ sn → ⊥
+none_has [] sn i m n g e = absurd (cc)
+none_has (x ∷ ms) sn i m n g e = by (λ n i g. none_has ms sn i m n g e) (x.pdu.sn == sn) refl i g
+  where
+    option_none : (o : Option ℕ) → option_map suc o ≡ None → o ≡ None
+    option_none None h = refl
+    option_none (Some k) h = absurd (cc)
+
+    same : (a b : ℕ) → (a == b) ≡ false → a ≡ b → ⊥
+    same a b h k = absurd (grind (arith, nat_tests))
+
+    left : (x.pdu.sn == sn) ≡ false → position_with (pdus_made ms) sn ≡ None
+    left h = option_none (position_with (pdus_made ms) sn) (sym (ap (λ b. if b then Some 0 else option_map suc (position_with (pdus_made ms) sn)) h) ∙ n)
+
+    by : (position_with (pdus_made ms) sn ≡ None → (i : ℕ) → slice_get ms i ≡ Some m → ⊥) → (b : Bool) → (x.pdu.sn == sn) ≡ b → (i : ℕ) → slice_get (x ∷ ms) i ≡ Some m → ⊥
+    by rest true h i g = absurd (let z = sym (ap (λ b. if b then Some 0 else option_map suc (position_with (pdus_made ms) sn)) h) ∙ n in cc)
+    by rest false h zero g = (let f : x ≡ m = cc in same x.pdu.sn sn h (ap (λ (k : Made). k.pdu.sn) f ∙ e))
+    by rest false h (suc i) g = rest (left h) i g
+
+-- a position that is named has this SN
+has : (ms : List Made) (sn i : ℕ) → position_with (pdus_made ms) sn ≡ Some i → SnIs ms i sn
+has [] sn i n = absurd (cc)
+has (x ∷ ms) sn i n = by (λ i n. has ms sn i n) (x.pdu.sn == sn) refl i n
+  where
+    same : (a b : ℕ) → (a == b) ≡ true → a ≡ b
+    same a b h = grind (arith, nat_tests)
+
+    option_some : (o : Option ℕ) (i : ℕ) → option_map suc o ≡ Some i → (k : ℕ) × (o ≡ Some k) × (i ≡ suc k)
+    option_some None i h = absurd (cc)
+    option_some (Some k) i h = (k, refl, sym (cc))
+
+    by : ((i : ℕ) → position_with (pdus_made ms) sn ≡ Some i → SnIs ms i sn) → (b : Bool) → (x.pdu.sn == sn) ≡ b → (i : ℕ) → position_with (pdus_made (x ∷ ms)) sn ≡ Some i → SnIs (x ∷ ms) i sn
+    by rest true h i n =
+        let z : Some 0 ≡ Some i = sym (ap (λ b. if b then Some 0 else option_map suc (position_with (pdus_made ms) sn)) h) ∙ n in
+        let i0 : 0 ≡ i = cc in
+        subst (λ k. SnIs (x ∷ ms) k sn) i0 (record { m = x; there = refl; same = same x.pdu.sn sn h })
+    by rest false h i n =
+        let z = option_some (position_with (pdus_made ms) sn) i (sym (ap (λ b. if b then Some 0 else option_map suc (position_with (pdus_made ms) sn)) h) ∙ n) in
+        let r = rest z.0 z.1 in
+        subst (λ k. SnIs (x ∷ ms) k sn) (sym z.2) (record { m = r.m; there = r.there; same = r.same })
+
+-- a named position lies as far after the first SN as the SN does
+distance : (ms : List Made) (sn i : ℕ) → Numbered ms → length ms ≤ 1000001 → SnIs ms i sn → ahead_by sn (first_sn ms) ≡ i
+distance [] sn i h b s = absurd (let e = s.there in cc)
+distance (m ∷ ms) sn zero h b s =
+    let e = s.there in
+    let a : m ≡ s.m = cc in
+    let c : m.pdu.sn ≡ sn = ap (λ (k : Made). k.pdu.sn) a ∙ s.same in
+    omega arith
+distance (m ∷ ms) sn (suc i) h b s =
+    let a : s.m.pdu.sn ≡ (m.pdu.sn + suc i) % 2 ^ 32 = h i s.m s.there in
+    let c = s.same in
+    let l = slice_get_within ms i s.m s.there in
+    omega arith
+
+-- a position as far after the first SN as an SN has that SN
+at_distance : (ms : List Made) (sn i : ℕ) (m : Made) → Numbered ms → first_sn ms < 2 ^ 32 → sn < 2 ^ 32 → slice_get ms i ≡ Some m → ahead_by sn (first_sn ms) ≡ i → m.pdu.sn ≡ sn
+at_distance [] sn i m h f l g d = absurd (cc)
+at_distance (x ∷ ms) sn zero m h f l g d =
+    let a : x ≡ m = cc in
+    let b : x.pdu.sn ≡ m.pdu.sn = ap (λ (k : Made). k.pdu.sn) a in
+    omega arith
+at_distance (x ∷ ms) sn (suc i) m h f l g d = (let a : m.pdu.sn ≡ (x.pdu.sn + suc i) % 2 ^ 32 = h i m g in omega arith)
+
+-- the units at the position that a CS names are those at its distance
+pub units_named : (ms : List Made) (vs : List ℕ) (cs : ℕ) → Numbered ms → length ms ≤ 1000001 → length vs ≡ length ms → first_sn ms < 2 ^ 32 → cs < 2 ^ 32
+    → slice_index_or vs (ahead_by cs (first_sn ms)) 0 ≡ units_at vs (position_with (pdus_made ms) cs)
+units_named ms vs cs h b l f small = by (position_with (pdus_made ms) cs) refl
+  where
+    beyond : position_with (pdus_made ms) cs ≡ None → (o : Option ℕ) → slice_get vs (ahead_by cs (first_sn ms)) ≡ o → slice_index_or vs (ahead_by cs (first_sn ms)) 0 ≡ 0
+    beyond n None g = get_or_none vs (ahead_by cs (first_sn ms)) g
+    beyond n (Some v) g =
+        let w = slice_get_within vs (ahead_by cs (first_sn ms)) v g in
+        let m = slice_get_some ms (ahead_by cs (first_sn ms)) (omega (arith, w, l)) in
+        absurd (none_has ms cs (ahead_by cs (first_sn ms)) m.0 n m.1 (at_distance ms cs (ahead_by cs (first_sn ms)) m.0 h f small m.1 refl))
+
+    by : (o : Option ℕ) → position_with (pdus_made ms) cs ≡ o → slice_index_or vs (ahead_by cs (first_sn ms)) 0 ≡ units_at vs (position_with (pdus_made ms) cs)
+    by None e = beyond e (slice_get vs (ahead_by cs (first_sn ms))) refl ∙ ap (units_at vs) (sym e)
+    by (Some i) e = ap (λ k. slice_index_or vs k 0) (distance ms cs i h b (has ms cs i e)) ∙ ap (units_at vs) (sym e)
+
+-- the first SN of what an end made has 32 bits
+pub first_small : (q : Option Quiet) (s : Side) (ms : List Made) (own : List FirstCopy) → pdus_made ms ≡ pdus_made (start_by q s).made ++ pdus_of own
+    → ((i : ℕ) (c : FirstCopy) → slice_get own i ≡ Some c → c.pdu.safety.sn < 2 ^ 32) → first_sn ms < 2 ^ 32
+first_small q s [] own e h = omega arith
+first_small q s (m ∷ ms) own e h = (let z = head q s own e h in omega arith)
+  where
+    head_is : (x : SafetyPdu) (xs : List SafetyPdu) → m.pdu ∷ pdus_made ms ≡ x ∷ xs → m.pdu.sn ≡ x.sn
+    head_is x xs e = (let f : m.pdu ≡ x = cc in ap (λ (y : SafetyPdu). y.sn) f)
+
+    of_copies : (own : List FirstCopy) → m.pdu ∷ pdus_made ms ≡ pdus_of own → ((i : ℕ) (c : FirstCopy) → slice_get own i ≡ Some c → c.pdu.safety.sn < 2 ^ 32) → m.pdu.sn < 2 ^ 32
+    of_copies [] e h = absurd (cc)
+    of_copies (c ∷ own) e h = (let a = head_is c.pdu.safety (pdus_of own) e in let b = h 0 c refl in omega arith)
+
+    head : (q : Option Quiet) (s : Side) (own : List FirstCopy) → m.pdu ∷ pdus_made ms ≡ pdus_made (start_by q s).made ++ pdus_of own
+        → ((i : ℕ) (c : FirstCopy) → slice_get own i ≡ Some c → c.pdu.safety.sn < 2 ^ 32) → m.pdu.sn < 2 ^ 32
+    head None Client own e h = of_copies own e h
+    head None Server own e h = of_copies own e h
+    head (Some q) Client own e h = (let a = head_is _ (pdus_of own) e in omega arith)
+    head (Some q) Server own e h = (let a = head_is _ (pdus_of own) e in omega arith)
+
+-- ---- places of proofs, by what each PDU shows
+
+get_replicated : (m p k : ℕ) → k < m → slice_get (replicate m p) k ≡ Some p
+get_replicated zero p k l = absurd (omega arith)
+get_replicated (suc m) p zero l = refl
+get_replicated (suc m) p (suc k) l = get_replicated m p k (omega arith)
+
+get_after : (places : List ℕ) (m p k : ℕ) → length places ≤ k → k < length places + m → slice_get (places ++ replicate m p) k ≡ Some p
+get_after [] m p k low high = get_replicated m p k (omega arith)
+get_after (x ∷ places) m p zero low high = absurd (omega arith)
+get_after (x ∷ places) m p (suc k) low high = get_after places m p k (omega arith) (omega arith)
+
+length-replicated : (m p : ℕ) → length (replicate m p) ≡ m
+length-replicated zero p = refl
+length-replicated (suc m) p = ap suc (length-replicated m p)
+
+length-with_proofs : (places : List ℕ) (n p : ℕ) → length (with_proofs places n p) ≡ max (length places) n
+length-with_proofs places n p =
+    let a = length-append places (replicate (n - length places) p) in
+    let b = length-replicated (n - length places) p in
+    omega (arith, a, b)
+
+module _ (shown : SafetyPdu → ℕ) where
+  places_by : List ℕ → List FirstCopy → List ℕ
+  places_by places [] = places
+  places_by places (c ∷ copies) = places_by (with_proofs places (shown c.pdu.safety) c.place) copies
+
+  -- the place of the first that shows more than so many
+  first_that : ℕ → List FirstCopy → ℕ
+  first_that unit [] = 0
+  first_that unit (c ∷ copies) = if nat_lt unit (shown c.pdu.safety) then c.place else first_that unit copies
+
+  length-places : (places : List ℕ) (copies : List FirstCopy) → length (places_by places copies) ≡ fold max (length places) (map shown (pdus_of copies))
+  unfolding places_by
+  length-places places [] = refl
+  length-places places (c ∷ copies) =
+      length-places (with_proofs places (shown c.pdu.safety) c.place) copies
+      ∙ ap (λ n. fold max n (map shown (pdus_of copies))) (length-with_proofs places (shown c.pdu.safety) c.place)
+
+  -- what has a place keeps it
+  place_stays : (places : List ℕ) (copies : List FirstCopy) (k v : ℕ) → slice_get places k ≡ Some v → slice_get (places_by places copies) k ≡ Some v
+  unfolding places_by
+  place_stays places [] k v g = g
+  place_stays places (c ∷ copies) k v g = place_stays (with_proofs places (shown c.pdu.safety) c.place) copies k v (get_front places (replicate (shown c.pdu.safety - length places) c.place) k v g)
+
+  -- a new unit has the place of the first that shows it
+  place_new : (places : List ℕ) (copies : List FirstCopy) (k : ℕ) → length places ≤ k → k < length (places_by places copies) → slice_get (places_by places copies) k ≡ Some (first_that k copies)
+  unfolding places_by first_that
+  place_new places [] k low high = absurd (omega arith)
+  place_new places (c ∷ copies) k low high =
+      by (nat_lt k (shown c.pdu.safety)) refl (λ l. place_new (with_proofs places (shown c.pdu.safety) c.place) copies k l high)
+    where
+      by : (b : Bool) → nat_lt k (shown c.pdu.safety) ≡ b
+          → (length (with_proofs places (shown c.pdu.safety) c.place) ≤ k → slice_get (places_by (with_proofs places (shown c.pdu.safety) c.place) copies) k ≡ Some (first_that k copies))
+          → slice_get (places_by (with_proofs places (shown c.pdu.safety) c.place) copies) k ≡ Some (if b then c.place else first_that k copies)
+      by true e rest =
+          let l : k < shown c.pdu.safety = grind (arith, nat_tests) in
+          place_stays (with_proofs places (shown c.pdu.safety) c.place) copies k c.place (get_after places (shown c.pdu.safety - length places) c.place k low (omega (arith, l)))
+      by false e rest =
+          let l : shown c.pdu.safety ≤ k = grind (arith, nat_tests) in
+          rest (let z = length-with_proofs places (shown c.pdu.safety) c.place in omega (arith, l, z))
+
+  -- an end by which each PDU shows as much has these places
+  same_places : (e : EndState) (places : List ℕ) (copies : List FirstCopy) → ((i : ℕ) (c : FirstCopy) → slice_get copies i ≡ Some c → shown_by e c.pdu.safety ≡ shown c.pdu.safety)
+      → proofs_from e places copies ≡ places_by places copies
+  unfolding places_by proofs_from
+  same_places e places [] h = refl
+  same_places e places (c ∷ copies) h =
+      ap (λ n. proofs_from e (with_proofs places n c.place) copies) (h 0 c refl)
+      ∙ same_places e (with_proofs places (shown c.pdu.safety) c.place) copies (λ i d g. h (suc i) d g)
+
+first_is : (own peer : List SafetyPdu) (unit : ℕ) (copies : List FirstCopy) → first_that (units_shown own peer) unit copies ≡ proof_place own peer unit copies
+unfolding first_that
+first_is own peer unit [] = refl
+first_is own peer unit (c ∷ copies) = ap (λ n. if nat_lt unit (units_shown own peer c.pdu.safety) then c.place else n) (first_is own peer unit copies)
+
+-- ---- the places of the units that are taken
+
+-- as many as are taken, each that of its proof
+pub record AreProofs (own : List SafetyPdu) (peer : List FirstCopy) (places : List ℕ) : Type 0 where
+  pub count : length places ≡ units_taken own (pdus_of peer)
+  pub each : (k : ℕ) → k < length places → slice_get places k ≡ Some (proof_place own (pdus_of peer) k peer)
+
+pub are_proofs : (e : EndState) (own : List SafetyPdu) (peer : List FirstCopy)
+    → ((i : ℕ) (c : FirstCopy) → slice_get peer i ≡ Some c → shown_by e c.pdu.safety ≡ units_shown own (pdus_of peer) c.pdu.safety) → AreProofs own peer (proofs_from e [] peer)
+are_proofs e own peer h =
+    let same = same_places (units_shown own (pdus_of peer)) e [] peer h in
+    record {
+      count = ap length same ∙ length-places (units_shown own (pdus_of peer)) [] peer;
+      each = λ k l.
+          (let l' : k < length (places_by (units_shown own (pdus_of peer)) [] peer) = subst (λ (xs : List ℕ). k < length xs) same l in
+          ap (λ (xs : List ℕ). slice_get xs k) same ∙ (place_new (units_shown own (pdus_of peer)) [] peer k (omega arith) l'
+          ∙ ap Some (first_is own (pdus_of peer) k peer)));
+    }
+
+-- ---- the units that are taken
+
+module _ (own : List SafetyPdu) (peer : List FirstCopy) (places : List ℕ) (h : AreProofs own peer places) where
+  pub units_are : (unit : ℕ) (copies : List FirstCopy) → proved_units places unit copies ≡ units_from own peer unit (take (length places - unit) (data_copies copies))
+  unfolding proved_units
+  units_are unit [] = nothing (length places - unit)
+    where
+      nothing : (n : ℕ) → [] ≡ units_from own peer unit (take n [])
+      nothing zero = refl
+      nothing (suc n) = refl
+  units_are unit (c ∷ copies) = by (is_data c.pdu.safety.kind) (units_are (suc unit) copies) (units_are unit copies)
+    where
+      listed : proved_units places (suc unit) copies ≡ units_from own peer (suc unit) (take (length places - suc unit) (data_copies copies)) → (b : Bool) → nat_lt unit (length places) ≡ b
+          → with_unit c (slice_get places unit) (proved_units places (suc unit) copies) ≡ units_from own peer unit (take (length places - unit) (c ∷ data_copies copies))
+      listed r true e =
+          let l : unit < length places = grind (arith, nat_tests) in
+          let n : suc (length places - suc unit) ≡ length places - unit = omega (arith, l) in
+          ap (λ o. with_unit c o (proved_units places (suc unit) copies)) (h.each unit l)
+          ∙ (ap (λ us. proved_unit c (proof_place own (pdus_of peer) unit peer) ∷ us) r
+          ∙ ap (λ k. units_from own peer unit (take k (c ∷ data_copies copies))) n)
+      listed r false e =
+          let l : length places ≤ unit = grind (arith, nat_tests) in
+          let n : 0 ≡ length places - unit = omega (arith, l) in
+          ap (λ o. with_unit c o (proved_units places (suc unit) copies)) (past places unit l)
+          ∙ ap (λ k. units_from own peer unit (take k (c ∷ data_copies copies))) n
+        where
+          past : (xs : List ℕ) (k : ℕ) → length xs ≤ k → slice_get xs k ≡ None
+          past [] k l = refl
+          past (x ∷ xs) zero l = absurd (omega arith)
+          past (x ∷ xs) (suc k) l = past xs k (omega arith)
+
+      by : (b : Bool) → proved_units places (suc unit) copies ≡ units_from own peer (suc unit) (take (length places - suc unit) (data_copies copies))
+          → proved_units places unit copies ≡ units_from own peer unit (take (length places - unit) (data_copies copies))
+          → (if b then with_unit c (slice_get places unit) (proved_units places (suc unit) copies) else proved_units places unit copies)
+          ≡ units_from own peer unit (take (length places - unit) (if b then c ∷ data_copies copies else data_copies copies))
+      by true r s = listed r (nat_lt unit (length places)) refl
+      by false r s = s

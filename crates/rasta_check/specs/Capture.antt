@@ -1,0 +1,5 @@
+-- What a capture holds: the packets that crossed, what each side sent, and faults.
+pub mod Crossing
+pub mod Lists
+pub mod Reading
+pub mod Faults

@@ -1,0 +1,116 @@
+-- What is read of a capture: the packets that crossed with what each side sent, or the first fault.
+use Rattle.std.specs.Prelude.{◌≡◌, ℕ, ◌≤◌, List, [], ◌∷◌, ◌++◌, length, Option, Some, None, Result, Ok, Err, Bool, ◌&&◌, nat_lt, nat_le, if◌then◌else◌}
+use Rattle.rasta_pcap.specs.declared.fault.Fault.{Fault}
+use Rattle.rasta_pcap.specs.declared.fault.Side.{Side}
+use Rattle.rasta_pcap.specs.declared.fault.Side.TheVariants.{Client, Server}
+use Rattle.rasta_pcap.specs.Fault.{fault_at, fault_of_end, too_many}
+use Rattle.rasta_pcap.specs.Capture.{Numbered, Reading, reading_of}
+use Rattle.rasta_udp.specs.Frame.{Packet, packet_in}
+use Rattle.rasta_pdu.specs.Params.{Parameters}
+use Rattle.rasta_pdu.specs.Pdu.{RedundancyPdu, decode_of}
+use Rattle.rasta_check.specs.Capture.Crossing.{CrossRecorded, FirstCopy, Sent, copy_with, packet_fault}
+use Rattle.rasta_check.specs.Model.World.{most_sent}
+use Rattle.rasta_check.specs.Model.Theorem.{OfConnection, most_packets}
+
+-- what crossed between ends of these parameters: the packets, and the sent list of each side
+pub record Crossing : Type 0 where
+  pub params : Parameters
+  pub packets : List Packet
+  pub client : List FirstCopy
+  pub server : List FirstCopy
+
+-- nothing crossed
+abbrev pub nothing_crossed : Parameters → Crossing
+nothing_crossed p = record { params = p; packets = []; client = []; server = [] }
+
+abbrev pub sent_by : Crossing → Side → List FirstCopy
+sent_by k Client = k.client
+sent_by k Server = k.server
+
+-- each side sent its list over the channels of a connection, without a fault, and all are within the limits
+pub record IsCrossing (k : Crossing) : Type 0 where
+  pub valid : OfConnection k.params
+  pub recorded : CrossRecorded k.params k.packets
+  pub client : Sent k.params k.packets Client k.client
+  pub server : Sent k.params k.packets Server k.server
+  pub few_packets : length k.packets ≤ most_packets
+  pub few_client : length k.client ≤ most_sent
+  pub few_server : length k.server ≤ most_sent
+
+-- these are the sent lists of so many packets
+abbrev pub AreSentLists : Parameters → ℕ → List FirstCopy → List FirstCopy → Type 0
+AreSentLists p packets client server =
+    (w : List Packet) × (length w ≡ packets) × IsCrossing (record { params = p; packets = w; client = client; server = server })
+
+-- ---- the next packet
+
+-- a sent list goes on with a PDU whose number is new
+abbrev pub after_pdu : List FirstCopy → ℕ → RedundancyPdu → Option FirstCopy → List FirstCopy
+after_pdu sent place pdu None = sent ++ record { place = place; pdu = pdu } ∷ []
+after_pdu sent place pdu (Some copy) = sent
+
+abbrev pub after_read : List FirstCopy → ℕ → Result RedundancyPdu Fault → List FirstCopy
+after_read sent place (Ok pdu) = after_pdu sent place pdu (copy_with sent pdu.number)
+after_read sent place (Err fault) = sent
+
+-- what the sender of a packet has sent after it
+abbrev pub sent_after : Crossing → Packet → List FirstCopy
+sent_after k packet = after_read (sent_by k packet.side) (length k.packets) (decode_of k.params packet.side packet.payload)
+
+-- one more packet, whose sender has sent this list after it
+abbrev pub crossing_with : Crossing → Packet → Side → List FirstCopy → Crossing
+crossing_with k packet Client sent = record { params = k.params; packets = k.packets ++ packet ∷ []; client = sent; server = k.server }
+crossing_with k packet Server sent = record { params = k.params; packets = k.packets ++ packet ∷ []; client = k.client; server = sent }
+
+abbrev pub with_packet : Crossing → Packet → Crossing
+with_packet k packet = crossing_with k packet packet.side (sent_after k packet)
+
+abbrev pub is_within : Crossing → Bool
+is_within k = nat_le (length k.packets) most_packets && (nat_le (length k.client) most_sent && nat_le (length k.server) most_sent)
+
+-- at this record the limits are kept
+abbrev pub within_limits : ℕ → Crossing → Result Crossing Fault
+within_limits number k = if is_within k then Ok k else Err (fault_at too_many number)
+
+-- a packet's fault speaks of its sender
+abbrev pub after_judged : Crossing → ℕ → Packet → Option ℕ → Result Crossing Fault
+after_judged k number packet (Some fault) = Err (fault_of_end fault number packet.side)
+after_judged k number packet None = within_limits number (with_packet k packet)
+
+-- the crossing with the packet of this record, or its fault
+unfoldable pub after_packet : Crossing → ℕ → Packet → Result Crossing Fault
+after_packet k number packet = after_judged k number packet (packet_fault k.params (sent_by k packet.side) packet)
+
+-- ---- the next record
+
+-- a frame's fault speaks of no end
+abbrev pub after_frame : Crossing → ℕ → Result (Option Packet) Fault → Result Crossing Fault
+after_frame k number (Ok None) = Ok k
+after_frame k number (Ok (Some packet)) = after_packet k number packet
+after_frame k number (Err fault) = Err (fault_at fault.number number)
+
+-- records before the window are not judged
+unfoldable pub after_record : Crossing → Numbered → Result Crossing Fault
+after_record k r = if nat_lt r.0 k.params.first_record then Ok k else after_frame k r.0 (packet_in k.params.channels r.1)
+
+-- ---- a file
+
+abbrev pub at_end : Crossing → Option Fault → Result Crossing Fault
+at_end k None = Ok k
+at_end k (Some fault) = Err fault
+
+abbrev pub and_then : Result Crossing Fault → (Crossing → Result Crossing Fault) → Result Crossing Fault
+and_then (Ok k) next = next k
+and_then (Err fault) next = Err fault
+
+-- the crossing with these records one after the other, up to the first fault, and then the fault that ended the reading
+unfoldable pub after_records : Crossing → List Numbered → Option Fault → Result Crossing Fault
+after_records k [] fault = at_end k fault
+after_records k (r ∷ rs) fault = and_then (after_record k r) (λ (next : Crossing). after_records next rs fault)
+
+abbrev pub after_reading : Crossing → Reading → Result Crossing Fault
+after_reading k r = after_records k r.records r.fault
+
+-- what crossed by a file, up to the last record of the window, or the first fault
+abbrev pub crossing_of : Parameters → List ℕ → Result Crossing Fault
+crossing_of p file = after_reading (nothing_crossed p) (reading_of p.last_record file)

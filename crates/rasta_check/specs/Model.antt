@@ -1,0 +1,4 @@
+-- Two ends and a network, and what holds of every run.
+pub mod World
+pub mod Laws
+pub mod Theorem
