@@ -11,7 +11,7 @@ use rasta_params::params;
 use rasta_pcap::read_all;
 use rasta_pdu::{Fault, Params, Sink, Source};
 use rasta_show::run_show;
-use rasta_verdict::{run_audit, run_build, run_check};
+use rasta_verdict::{run_audit, run_build, run_check_by_value};
 use std::alloc::Global;
 
 // Reads a parameter file to its end, and judges it.
@@ -45,13 +45,13 @@ fn run_command<R: Source, W: Sink>(
     alloc: Global,
     form: &Form<'_>,
     params: &Params,
-    certificate: &[u8],
+    certificate: Vec<u8>,
     capture: &mut R,
     writer: &mut W,
 ) -> Result<u8, Fault>
-    ensures text { IfOk result (λ status. WritesVerdict (Tells form.now params.now certificate.now) status
+    ensures text { IfOk result (λ status. WritesVerdict (Tells form.now params.now certificate.items) status
         (R.remaining capture.old) (R.remaining capture.new) (W.contents writer.old) (W.contents writer.new)) }
-    ensures begun { OnErr result (BeginsTelling form.now params.now certificate.now
+    ensures begun { OnErr result (BeginsTelling form.now params.now certificate.items
         (R.remaining capture.old) (R.remaining capture.new) (W.contents writer.old) (W.contents writer.new)) }
     ensures headline { IfOk result (λ status. HoldsHeadline form.now params.now status
         (R.remaining capture.old) (R.remaining capture.new) (W.contents writer.old) (W.contents writer.new)) }
@@ -64,7 +64,7 @@ fn run_command<R: Source, W: Sink>(
     match form {
         Form::Show { .. } => run_show(alloc, params, capture, writer),
         Form::Build { .. } => run_build(alloc, params, capture, writer),
-        Form::Check { .. } => run_check(alloc, params, capture, certificate, writer),
+        Form::Check { .. } => run_check_by_value(alloc, params, capture, certificate, writer),
         Form::Audit { .. } => run_audit(alloc, params, capture, writer),
     }
 }
@@ -141,5 +141,5 @@ pub fn run_form<P: Source, C: Source, R: Source, W: Sink>(
         Ok(text) => text,
         Err(fault) => return Err(fault),
     };
-    run_command(alloc, form, &params, &text, capture, writer)
+    run_command(alloc, form, &params, text, capture, writer)
 }

@@ -11,6 +11,7 @@ use rasta_check::store;
 use rasta_pdu::{Fault, Params, Sink, Source};
 use rasta_show::{is_refusal, write_refusal};
 use std::alloc::Global;
+use std::convert::AsSlice;
 
 /// Reads a capture up to the window's last record, and writes the verdict on it and the text of a
 /// certificate, and nothing else: the run that the certificate tells and the messages that each end surely
@@ -28,6 +29,31 @@ pub fn run_check<R: Source, W: Sink>(
     ensures text { IfOk result (λ status. WritesVerdict (IsVerdict params.now certificate.now) status
         (R.remaining reader.old) (R.remaining reader.new) (W.contents writer.old) (W.contents writer.new)) }
     ensures begun { OnErr result (BeginsVerdict (IsVerdict params.now certificate.now)
+        (R.remaining reader.old) (R.remaining reader.new) (W.contents writer.old) (W.contents writer.new)) }
+    // Where the status is 0 the text tells a run, move by move, and the headline holds.
+    ensures headline { IfOk result (λ status. WritesVerdict (ClaimsHeadline params.now) status
+        (R.remaining reader.old) (R.remaining reader.new) (W.contents writer.old) (W.contents writer.new)) }
+    ensures silent { IfErr result (λ f. (f ≡ write_failed) ⊎ (W.contents writer.new ≡ W.contents writer.old)) }
+    ensures err { IfErr result (λ f. IsRunFault f (R.failure_count reader.old) (R.failure_count reader.new)
+        (W.failure_count writer.old) (W.failure_count writer.new)) }
+    // Nothing after the window's last record is read.
+    ensures bounded { ReadsUpToRecord params.now.last_record (R.remaining reader.old) (R.remaining reader.new) }
+{
+    run_check_by_value(alloc, params, reader, certificate, writer)
+}
+
+/// Does what [`run_check`] does, of a certificate's text that is passed by value: it is let go once it is
+/// read, and doesn't take up memory while the scripts are followed.
+pub fn run_check_by_value<C: AsSlice<u8> + Drop, R: Source, W: Sink>(
+    alloc: Global,
+    params: &Params,
+    reader: &mut R,
+    certificate: C,
+    writer: &mut W,
+) -> Result<u8, Fault>
+    ensures text { IfOk result (λ status. WritesVerdict (IsVerdict params.now (C.items certificate)) status
+        (R.remaining reader.old) (R.remaining reader.new) (W.contents writer.old) (W.contents writer.new)) }
+    ensures begun { OnErr result (BeginsVerdict (IsVerdict params.now (C.items certificate))
         (R.remaining reader.old) (R.remaining reader.new) (W.contents writer.old) (W.contents writer.new)) }
     // Where the status is 0 the text tells a run, move by move, and the headline holds.
     ensures headline { IfOk result (λ status. WritesVerdict (ClaimsHeadline params.now) status

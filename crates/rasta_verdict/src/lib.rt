@@ -11,4 +11,4 @@ mod taken_text;
 mod verdict;
 
 pub use audit::{run_audit, run_build};
-pub use check::run_check;
+pub use check::{run_check, run_check_by_value};

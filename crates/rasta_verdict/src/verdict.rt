@@ -1,10 +1,11 @@
 //! The verdict on what crossed and a certificate, and its text.
-ghost use Rattle.std.specs.Prelude.{◌≡◌, ◌≢◌, List, ℕ, Ok, IfErr, IfOk, OnErr, OnOk};
+ghost use Rattle.std.specs.Prelude.{◌≡◌, ◌≢◌, ◌⊎◌, List, ℕ, Ok, IfErr, IfOk, OnErr, OnOk};
 ghost use Rattle.std.specs.Io.KnownBytes.{Appends};
 ghost use Rattle.rasta_pcap.specs.Fault.{no_memory, write_failed};
 ghost use Rattle.rasta_pcap.specs.Devices.{AppendsBeginning, HasFailed};
 ghost use Rattle.rasta_pdu.specs.Params.{Parameters};
 ghost use Rattle.rasta_cert.specs.Certificate.{IsCertificate, certificate_text};
+ghost use Rattle.rasta_cert.specs.Refusals.{IsRefused};
 ghost use Rattle.rasta_check.specs.Capture.Reading.{crossing_of};
 ghost use Rattle.rasta_verdict.specs.declared.verdict.Verdict.TheVariants as verdicts;
 ghost use Rattle.rasta_verdict.specs.Told.{IsTold};
@@ -20,6 +21,7 @@ use rasta_pcap::write_all;
 use rasta_pdu::{Fault, Side, Sink};
 use rasta_show::{Line, refusal_line};
 use std::alloc::Global;
+use std::convert::AsSlice;
 
 /// What crossed, the certificate that explains it, and the report on both.
 #[derive(Drop)]
@@ -86,17 +88,29 @@ pub fn judge_scripts<'a>(
     verdict_by(store, certificate, checked)
 }
 
-/// The verdict on what crossed and a certificate's text: the text is judged first, then the client's script,
-/// then the server's. Refused by [`Fault::NO_MEMORY`] alone.
-pub fn judge<'a>(alloc: Global, store: &'a Store, certificate: &[u8]) -> Result<Verdict<'a>, Fault>
+// The certificate of a text, which is let go.
+fn certificate_of<C: AsSlice<u8> + Drop>(alloc: Global, text: C) -> Result<Certificate, Fault>
+    ensures ok { IfOk result (λ c. (C.items text ≡ certificate_text c) × IsCertificate c) }
+    ensures err { IfErr result (λ f. (f ≡ no_memory) ⊎ IsRefused (C.items text) f) }
+{
+    read(alloc, text.as_slice())
+}
+
+/// The verdict on what crossed and a certificate's text, which is let go before the scripts are followed: the
+/// text is judged first, then the client's script, then the server's. Refused by [`Fault::NO_MEMORY`] alone.
+pub fn judge<'a, C: AsSlice<u8> + Drop>(
+    alloc: Global,
+    store: &'a Store,
+    certificate: C,
+) -> Result<Verdict<'a>, Fault>
     ensures stands { IfOk result (λ v. (p : Parameters) (file : List ℕ) → crossing_of p file ≡ Ok store.now
-        → IsVerdict p certificate.now file (text_of_verdict v) (status_of_verdict v)) }
+        → IsVerdict p (C.items certificate) file (text_of_verdict v) (status_of_verdict v)) }
     ensures headline { IfOk result (λ v. (p : Parameters) (file : List ℕ) → crossing_of p file ≡ Ok store.now
         → ClaimsHeadline p file (text_of_verdict v) (status_of_verdict v)) }
     ensures told { IfOk result HasToldRun }
     ensures err { IfErr result (λ f. f ≡ no_memory) }
 {
-    match read(alloc, certificate) {
+    match certificate_of(alloc, certificate) {
         Ok(certificate) => judge_scripts(alloc, store, certificate),
         Err(fault) => refused(fault),
     }

@@ -1,5 +1,5 @@
-use Rattle.std.proofs.Common.{List, ℕ, refl, subst, sym}
-use Rattle.rasta_audit.specs.Forms.{ReadsCertificate, certificate_unread, run_failed}
+use Rattle.std.proofs.Common.{refl}
+use Rattle.rasta_audit.specs.Forms.{certificate_unread, run_failed}
 use Rattle.rasta_audit.proofs.GivingUp.{if_err, if_ok, of_parameters, untouched}
 use Rattle.rasta_audit.proofs.running.run_form.Goals as goal
 
@@ -18,10 +18,8 @@ returns-in-Err-read_certificate-clause-silent g c = untouched c.args.form.now c.
 
 pub returns-clause-err : goal.returns-clause-err
 returns-clause-err g c =
-    let certificate = subst (λ (l : List ℕ). ReadsCertificate c.args.form.now (g.C.Source.remaining c.args.certificate.now) (g.C.Source.remaining c.read_certificate.new.reader) l)
-    (sym c.deref.ensures.value) c.in-Ok-read_certificate.ensures.ok in
     if_err c.run_command.result
-    (λ f fault begun. run_failed c.in-Ok.params c.in-Ok.ensures.ok c.deref.result.now certificate fault begun)
+    (λ f fault begun. run_failed c.in-Ok.params c.in-Ok.ensures.ok c.in-Ok-read_certificate.text.items c.in-Ok-read_certificate.ensures.ok fault begun)
     c.run_command.ensures.err c.run_command.ensures.begun
 
 pub returns-clause-headline : goal.returns-clause-headline
