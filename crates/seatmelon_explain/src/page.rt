@@ -1,4 +1,12 @@
-//! What is shown of the files.
+//! What each text begins with: what was read.
+ghost use Rattle.std.specs.Prelude.{◌≡◌, IfErr};
+ghost use Rattle.rasta_pcap.specs.Fault.{write_failed};
+
+use crate::sightings::{ChannelCount, Sighting, Sightings};
+use crate::text::{Part, write_parts, write_words};
+use rasta_pcap::{CaptureTime, Fault, Side, Sink};
+use rasta_pdu::Params;
+use sha2::{Digest, Sha256};
 
 /// How the files are named in the text.
 #[derive(Clone, Copy, Debug)]
@@ -13,4 +21,200 @@ pub struct Names<'a> {
 pub struct Texts<'a> {
     pub parameters: &'a [u8],
     pub certificate: Option<&'a [u8]>,
+}
+
+/// What was read, of which a text tells.
+#[derive(Drop)]
+pub struct Page<'a> {
+    pub names: Names<'a>,
+    pub texts: Texts<'a>,
+    pub params: Params,
+    pub without: &'a [u32],
+    pub digest: [u8; 32],
+    pub sightings: Sightings,
+}
+
+// Writes a file's name and its SHA-256.
+fn write_file<W: Sink>(writer: &mut W, what: &str, name: &str, digest: &[u8]) -> Result<(), Fault>
+    ensures err { IfErr result (λ f. f ≡ write_failed) }
+{
+    write_words(writer, what)?;
+    write_words(writer, ": ")?;
+    write_words(writer, name)?;
+    write_words(writer, "\n  SHA-256: ")?;
+    write_parts(writer, &[Part::Hex(digest), Part::Words("\n")])
+}
+
+// Writes the name and the SHA-256 of the certificate, if one was given.
+fn write_certificate<W: Sink>(writer: &mut W, page: &Page<'_>) -> Result<(), Fault>
+    ensures err { IfErr result (λ f. f ≡ write_failed) }
+{
+    match page.texts.certificate {
+        Some(text) => {
+            let name = page.names.certificate.unwrap_or("-");
+            write_file(writer, "certificate", name, &Sha256::digest(text))
+        }
+        None => write_words(writer, "certificate: none was given, so one is built\n"),
+    }
+}
+
+/// Writes which records were left out, if some were, as the end of a phrase.
+pub fn write_without<W: Sink>(writer: &mut W, without: &[u32]) -> Result<(), Fault>
+    ensures err { IfErr result (λ f. f ≡ write_failed) }
+{
+    let mut before = " without record ";
+    for number in without {
+        let number = Part::Number(u64::from(*number));
+        write_parts(writer, &[Part::Words(before), number])?;
+        before = ", record ";
+    }
+    Ok(())
+}
+
+// Writes which records were left out, if some were, as a line.
+fn write_left_out<W: Sink>(writer: &mut W, without: &[u32]) -> Result<(), Fault>
+    ensures err { IfErr result (λ f. f ≡ write_failed) }
+{
+    if without.is_empty() {
+        return Ok(());
+    }
+    write_words(writer, "read")?;
+    write_without(writer, without)?;
+    write_words(writer, ": left out as of no connection\n")
+}
+
+fn write_channel<W: Sink>(writer: &mut W, number: u64, count: ChannelCount) -> Result<(), Fault>
+    ensures err { IfErr result (λ f. f ≡ write_failed) }
+{
+    write_parts(
+        writer,
+        &[
+            Part::Words("  on channel "),
+            Part::Number(number),
+            Part::Words(": from the client "),
+            Part::Number(count.client),
+            Part::Words(", from the server "),
+            Part::Number(count.server),
+            Part::Words("\n"),
+        ],
+    )
+}
+
+// Writes how many packets each recorded channel has.
+fn write_channels<W: Sink>(writer: &mut W, page: &Page<'_>) -> Result<(), Fault>
+    ensures err { IfErr result (λ f. f ≡ write_failed) }
+{
+    let recorded = page.params.channel().len();
+    for (place, count) in page.sightings.channels.iter().enumerate() {
+        if place < recorded {
+            write_channel(writer, (place as u64).saturating_add(1), *count)?;
+        }
+    }
+    Ok(())
+}
+
+// Writes how many records were read, and what they are.
+fn write_counts<W: Sink>(writer: &mut W, page: &Page<'_>) -> Result<(), Fault>
+    ensures err { IfErr result (λ f. f ≡ write_failed) }
+{
+    let records = u64::from(page.sightings.records);
+    let packets = page.sightings.packets.len() as u64;
+    write_parts(
+        writer,
+        &[
+            Part::Words("\nrecords read: "),
+            Part::Number(records),
+            Part::Words("\npackets of the connection: "),
+            Part::Number(packets),
+            Part::Words("\n"),
+        ],
+    )?;
+    write_channels(writer, page)?;
+    write_parts(
+        writer,
+        &[
+            Part::Words("records passed over: "),
+            Part::Number(records.saturating_sub(packets)),
+            Part::Words("\n\n"),
+        ],
+    )
+}
+
+/// Writes what was read.
+pub fn write_read<W: Sink>(writer: &mut W, page: &Page<'_>) -> Result<(), Fault>
+    ensures err { IfErr result (λ f. f ≡ write_failed) }
+{
+    write_left_out(writer, page.without)?;
+    write_file(writer, "capture", page.names.capture, &page.digest)?;
+    let parameters = Sha256::digest(page.texts.parameters);
+    write_file(writer, "parameters", page.names.parameters, &parameters)?;
+    write_certificate(writer, page)?;
+    write_counts(writer, page)
+}
+
+/// Writes a time after a comma, if there is one.
+pub fn write_time_if<W: Sink>(writer: &mut W, time: Option<CaptureTime>) -> Result<(), Fault>
+    ensures err { IfErr result (λ f. f ≡ write_failed) }
+{
+    match time {
+        Some(time) => write_parts(
+            writer,
+            &[Part::Words(", "), Part::Time(time), Part::Words(" UTC")],
+        ),
+        None => Ok(()),
+    }
+}
+
+/// Writes record, time and channel of a packet.
+pub fn write_sighting<W: Sink>(writer: &mut W, sighting: &Sighting) -> Result<(), Fault>
+    ensures err { IfErr result (λ f. f ≡ write_failed) }
+{
+    write_parts(
+        writer,
+        &[
+            Part::Words("record "),
+            Part::Number(u64::from(sighting.record)),
+        ],
+    )?;
+    write_time_if(writer, sighting.time)?;
+    write_parts(
+        writer,
+        &[
+            Part::Words(", channel "),
+            Part::Number(u64::from(sighting.channel)),
+        ],
+    )
+}
+
+/// Writes record, time and channel of the packet at a place, as the rest of a line.
+pub fn write_place<W: Sink>(writer: &mut W, page: &Page<'_>, place: u32) -> Result<(), Fault>
+    ensures err { IfErr result (λ f. f ≡ write_failed) }
+{
+    match page.sightings.packets.get(place as usize) {
+        Some(sighting) => write_sighting(writer, sighting)?,
+        None => write_parts(
+            writer,
+            &[Part::Words("place "), Part::Number(u64::from(place))],
+        )?,
+    }
+    write_words(writer, "\n")
+}
+
+/// Writes that no packet of the connection is in the window.
+pub fn write_no_packets<W: Sink>(writer: &mut W, page: &Page<'_>) -> Result<(), Fault>
+    ensures err { IfErr result (λ f. f ≡ write_failed) }
+{
+    write_read(writer, page)?;
+    write_words(writer, "no packet of the connection")?;
+    write_without(writer, page.without)?;
+    write_words(
+        writer,
+        "
+
+No record of the window was sent between the recorded addresses and ports.
+This says nothing about the ends.
+May be the cause: an address or a port of a channel is wrong, or the window is.
+Look next at: seatmelon survey CAPTURE, which lists the connections that the capture seems to hold.
+",
+    )
 }

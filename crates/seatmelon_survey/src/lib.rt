@@ -20,4 +20,6 @@ mod time;
 
 pub use connection::Connection;
 pub use findings::Survey;
+pub use kinds::name_of;
 pub use reading::survey;
+pub use time::write_time;

@@ -1,0 +1,433 @@
+//! The text on a refused capture.
+ghost use Rattle.std.specs.Prelude.{◌≡◌, IfErr};
+ghost use Rattle.rasta_pcap.specs.Fault.{write_failed};
+
+use crate::first_reading::CaptureRefusal;
+use crate::packet_text::{number_at, write_codes, write_datagram, write_differences, write_pdu};
+use crate::page::{Page, write_place, write_read, write_sighting, write_time_if, write_without};
+use crate::sightings::Wanted;
+use crate::text::{Part, other, write_parts, write_words};
+use crate::words::{cause_of, meaning_of, next_step_of};
+use rasta_cert::{Certificate, Entry};
+use rasta_check::{SentList, SpanList, Store};
+use rasta_pcap::{Fault, Record, Side, Sink};
+use rasta_pdu::{Params, Pdu};
+use rasta_udp::{Datagram, datagram};
+
+// Where the redundancy number stands in a datagram, and where the safety PDU begins.
+const NUMBER_AT: usize = 4;
+
+const SAFETY_AT: u64 = 8;
+
+// The bytes of a datagram without payload and codes.
+const LEAST_LENGTH: u64 = 36;
+
+// The datagram of a refused record, if it holds one of the connection.
+fn packet_in<'a>(params: &Params, frame: &'a [u8], number: u32) -> Option<Datagram<'a>> {
+    let record = Record {
+        number,
+        bytes: frame,
+    };
+    datagram(&record, params.channel()).ok()?
+}
+
+/// What a refusal asks of the second reading.
+pub fn wanted_in(params: &Params, refusal: &CaptureRefusal) -> Option<Wanted> {
+    let fault = refusal.fault;
+    let side = fault.end?;
+    let packet = packet_in(params, &refusal.frame, fault.place)?;
+    let number = match fault.number {
+        Fault::NUMBER_GAP => None,
+        _ => Some(number_at(packet.payload, NUMBER_AT, 4)?),
+    };
+    Some(Wanted { side, number })
+}
+
+// Writes number, name and meaning of a fault.
+fn write_fault<W: Sink>(writer: &mut W, page: &Page<'_>, fault: Fault) -> Result<(), Fault>
+    ensures err { IfErr result (λ f. f ≡ write_failed) }
+{
+    write_parts(
+        writer,
+        &[
+            Part::Words("refused by "),
+            Part::Number(u64::from(fault.number)),
+            Part::Words(" "),
+            Part::Words(fault.name()),
+        ],
+    )?;
+    write_without(writer, page.without)?;
+    write_parts(
+        writer,
+        &[
+            Part::Words(":\n  "),
+            Part::Words(meaning_of(fault.number)),
+            Part::Words("\n\n"),
+        ],
+    )
+}
+
+// Writes what may be the cause of a fault, and what to look at next.
+fn write_advice<W: Sink>(writer: &mut W, fault: Fault) -> Result<(), Fault>
+    ensures err { IfErr result (λ f. f ≡ write_failed) }
+{
+    write_parts(
+        writer,
+        &[
+            Part::Words("\nmay be the cause:\n  "),
+            Part::Words(cause_of(fault.number)),
+            Part::Words("\nlook next at:\n  "),
+            Part::Words(next_step_of(fault.number)),
+            Part::Words("\n"),
+        ],
+    )
+}
+
+// Writes the refused record and its time.
+fn write_record<W: Sink>(writer: &mut W, page: &Page<'_>, record: u32) -> Result<(), Fault>
+    ensures err { IfErr result (λ f. f ≡ write_failed) }
+{
+    write_parts(
+        writer,
+        &[Part::Words("record "), Part::Number(u64::from(record))],
+    )?;
+    write_time_if(writer, page.sightings.refused_time)
+}
+
+// Writes where the first copy of a packet stands, and in which bytes the packet differs from it.
+fn write_first_copy<W: Sink>(writer: &mut W, page: &Page<'_>, datagram: &[u8]) -> Result<(), Fault>
+    ensures err { IfErr result (λ f. f ≡ write_failed) }
+{
+    let Some(found) = page.sightings.found else {
+        return write_words(writer, "  no other packet of this end has its number\n");
+    };
+    write_words(writer, "  another packet with its number: ")?;
+    write_sighting(writer, &found)?;
+    write_words(writer, "\n")?;
+    write_differences(writer, datagram, &page.sightings.found_bytes)
+}
+
+// Writes which number was due, and where it crosses later.
+fn write_gap<W: Sink>(writer: &mut W, page: &Page<'_>, datagram: &[u8]) -> Result<(), Fault>
+    ensures err { IfErr result (λ f. f ≡ write_failed) }
+{
+    let Some(due) = page.sightings.next_number else {
+        return Ok(());
+    };
+    let number = number_at(datagram, NUMBER_AT, 4).unwrap_or(0);
+    write_parts(
+        writer,
+        &[
+            Part::Words("  redundancy number due: "),
+            Part::Number(u64::from(due)),
+            Part::Words("\n  redundancy number found: "),
+            Part::Number(u64::from(number)),
+            Part::Words("\n  "),
+            Part::Number(u64::from(due)),
+        ],
+    )?;
+    match page.sightings.found {
+        Some(found) => {
+            write_words(writer, " crosses later: ")?;
+            write_sighting(writer, &found)?;
+            write_words(writer, "\n")
+        }
+        None => write_words(writer, " doesn't cross later in the window\n"),
+    }
+}
+
+// Writes a number that is due, as a line.
+fn write_due<W: Sink>(writer: &mut W, what: &str, due: u64) -> Result<(), Fault>
+    ensures err { IfErr result (λ f. f ≡ write_failed) }
+{
+    write_parts(
+        writer,
+        &[
+            Part::Words("  "),
+            Part::Words(what),
+            Part::Words(" due: "),
+            Part::Number(due),
+            Part::Words("\n"),
+        ],
+    )
+}
+
+// Writes the ids that are recorded of a sender and of its receiver.
+fn write_ids<W: Sink>(writer: &mut W, params: &Params, side: Side) -> Result<(), Fault>
+    ensures err { IfErr result (λ f. f ≡ write_failed) }
+{
+    let (sender, receiver) = match side {
+        Side::Client => (params.client_id(), params.server_id()),
+        Side::Server => (params.server_id(), params.client_id()),
+    };
+    write_due(writer, "receiver", u64::from(receiver))?;
+    write_due(writer, "sender", u64::from(sender))
+}
+
+// Writes which length is due, or else what the fault means.
+fn write_length<W: Sink>(
+    writer: &mut W,
+    params: &Params,
+    fault: Fault,
+    datagram: &[u8],
+) -> Result<(), Fault>
+    ensures err { IfErr result (λ f. f ≡ write_failed) }
+{
+    let bytes = datagram.len() as u64;
+    let check = u64::from(params.check_length());
+    let least = LEAST_LENGTH + u64::from(params.code_length()) + check;
+    match fault.number {
+        Fault::REDUNDANCY_LENGTH => write_due(writer, "length field", bytes),
+        Fault::TOO_SHORT => write_due(writer, "bytes of the datagram, at least", least),
+        Fault::SAFETY_LENGTH => {
+            let due = bytes.saturating_sub(SAFETY_AT + check);
+            write_due(writer, "length field of the safety layer", due)
+        }
+        _ => {
+            let meaning = Part::Words(meaning_of(fault.number));
+            write_parts(writer, &[Part::Words("  "), meaning, Part::Words("\n")])
+        }
+    }
+}
+
+// Writes what is wrong with a packet.
+fn write_trouble<W: Sink>(
+    writer: &mut W,
+    page: &Page<'_>,
+    fault: Fault,
+    packet: &Datagram<'_>,
+) -> Result<(), Fault>
+    ensures err { IfErr result (λ f. f ≡ write_failed) }
+{
+    let datagram = packet.payload;
+    write_words(writer, "what is wrong with it:\n")?;
+    match fault.number {
+        Fault::CODE => {
+            write_codes(writer, &page.params, datagram)?;
+            write_first_copy(writer, page, datagram)
+        }
+        Fault::IDS => write_ids(writer, &page.params, packet.side),
+        Fault::COPY_DIFFERS => write_first_copy(writer, page, datagram),
+        Fault::NUMBER_GAP => write_gap(writer, page, datagram),
+        _ => write_length(writer, &page.params, fault, datagram),
+    }
+}
+
+// Writes the packet of a refused record.
+fn write_packet<W: Sink>(
+    writer: &mut W,
+    page: &Page<'_>,
+    fault: Fault,
+    packet: &Datagram<'_>,
+) -> Result<(), Fault>
+    ensures err { IfErr result (λ f. f ≡ write_failed) }
+{
+    write_parts(
+        writer,
+        &[
+            Part::Words(", channel "),
+            Part::Number(u64::from(packet.channel)),
+            Part::Words(", from the "),
+            Part::End(packet.side),
+            Part::Words("\n"),
+        ],
+    )?;
+    write_datagram(writer, packet.payload)?;
+    write_trouble(writer, page, fault, packet)
+}
+
+/// Writes the text on a capture with a fault of its own.
+pub fn write_capture_refusal<W: Sink>(
+    writer: &mut W,
+    page: &Page<'_>,
+    refusal: &CaptureRefusal,
+) -> Result<(), Fault>
+    ensures err { IfErr result (λ f. f ≡ write_failed) }
+{
+    let fault = refusal.fault;
+    write_read(writer, page)?;
+    write_fault(writer, page, fault)?;
+    if fault.place > 0 {
+        write_record(writer, page, fault.place)?;
+        match packet_in(&page.params, &refusal.frame, fault.place) {
+            Some(packet) => write_packet(writer, page, fault, &packet)?,
+            None => write_words(writer, "\n")?,
+        }
+    }
+    write_advice(writer, fault)
+}
+
+// The PDU of an end at a place, if a first copy crossed there.
+fn pdu_at<'a>(list: &SpanList<'a>, place: u32) -> Option<Pdu<'a>> {
+    let position = list.at_place(place)?;
+    let (_, pdu) = list.get(position)?;
+    Some(pdu)
+}
+
+// The place and the PDU of an end with a redundancy number.
+fn pdu_with<'a>(list: &SpanList<'a>, number: u32) -> Option<(u32, Pdu<'a>)> {
+    let position = list.position_of(number)?;
+    list.get(position)
+}
+
+fn list_of(store: &Store, side: Side) -> SpanList<'_> {
+    match side {
+        Side::Client => store.client(),
+        Side::Server => store.server(),
+    }
+}
+
+// Writes the packet at a place, whose bytes are those of a first copy of this end.
+fn write_crossed<W: Sink>(
+    writer: &mut W,
+    page: &Page<'_>,
+    side: Side,
+    place: u32,
+    pdu: Option<Pdu<'_>>,
+) -> Result<(), Fault>
+    ensures err { IfErr result (λ f. f ≡ write_failed) }
+{
+    write_parts(
+        writer,
+        &[
+            Part::Words("the "),
+            Part::End(side),
+            Part::Words("'s PDU in "),
+        ],
+    )?;
+    write_place(writer, page, place)?;
+    match pdu {
+        Some(pdu) => write_pdu(writer, &pdu),
+        None => Ok(()),
+    }
+}
+
+// Writes the packet that can't be explained, at this place from 1.
+fn write_unexplained<W: Sink>(
+    writer: &mut W,
+    page: &Page<'_>,
+    store: &Store,
+    place: u32,
+) -> Result<(), Fault>
+    ensures err { IfErr result (λ f. f ≡ write_failed) }
+{
+    let place = place.saturating_sub(1);
+    match store.packet(place) {
+        Some((side, _)) => {
+            let list = list_of(store, side);
+            let pdu = pdu_at(&list, place);
+            write_crossed(writer, page, side, place, pdu)
+        }
+        None => Ok(()),
+    }
+}
+
+/// Writes the text on packets for which there are no scripts.
+pub fn write_unscripted<W: Sink>(
+    writer: &mut W,
+    page: &Page<'_>,
+    store: &Store,
+    fault: Fault,
+) -> Result<(), Fault>
+    ensures err { IfErr result (λ f. f ≡ write_failed) }
+{
+    write_read(writer, page)?;
+    write_fault(writer, page, fault)?;
+    if fault.number == Fault::NOT_FOUND {
+        write_unexplained(writer, page, store, fault.place)?;
+    } else {
+        write_parts(
+            writer,
+            &[
+                Part::Words("line "),
+                Part::Number(u64::from(fault.place)),
+                Part::Words(" of the certificate\n"),
+            ],
+        )?;
+    }
+    write_advice(writer, fault)
+}
+
+// The entry of that number in a script, from 1.
+fn entry_in(script: &[Entry], number: u32) -> Option<Entry> {
+    let place = number.checked_sub(1)?;
+    script.get(place as usize).copied()
+}
+
+// Writes an entry's number, script and line.
+fn write_entry_place<W: Sink>(
+    writer: &mut W,
+    certificate: &Certificate,
+    side: Side,
+    number: u32,
+) -> Result<(), Fault>
+    ensures err { IfErr result (λ f. f ≡ write_failed) }
+{
+    let before: u64 = match side {
+        Side::Client => 2,
+        Side::Server => (certificate.client().len() as u64).saturating_add(3),
+    };
+    write_parts(
+        writer,
+        &[
+            Part::Words("entry "),
+            Part::Number(u64::from(number)),
+            Part::Words(" of the "),
+            Part::End(side),
+            Part::Words("'s script, line "),
+            Part::Number(u64::from(number).saturating_add(before)),
+            Part::Words(" of the certificate\n"),
+        ],
+    )
+}
+
+// Writes the PDU that an entry of this end names.
+fn write_entry<W: Sink>(
+    writer: &mut W,
+    page: &Page<'_>,
+    store: &Store,
+    side: Side,
+    entry: Entry,
+) -> Result<(), Fault>
+    ensures err { IfErr result (λ f. f ≡ write_failed) }
+{
+    match entry {
+        Entry::Take { number, .. } => {
+            let peer = other(side);
+            let list = list_of(store, peer);
+            match pdu_with(&list, number) {
+                Some((place, pdu)) => write_crossed(writer, page, peer, place, Some(pdu)),
+                None => write_words(writer, "no packet has the number that it takes\n"),
+            }
+        }
+        Entry::Make { index, .. } => {
+            let list = list_of(store, side);
+            let pdu = pdu_at(&list, index);
+            write_crossed(writer, page, side, index, pdu)
+        }
+    }
+}
+
+/// Writes the text on packets whose scripts the checker refuses.
+pub fn write_refused<W: Sink>(
+    writer: &mut W,
+    page: &Page<'_>,
+    store: &Store,
+    fault: Fault,
+    certificate: &Certificate,
+) -> Result<(), Fault>
+    ensures err { IfErr result (λ f. f ≡ write_failed) }
+{
+    write_read(writer, page)?;
+    write_fault(writer, page, fault)?;
+    let side = fault.end.unwrap_or(Side::Client);
+    write_entry_place(writer, certificate, side, fault.place)?;
+    let script = match side {
+        Side::Client => certificate.client(),
+        Side::Server => certificate.server(),
+    };
+    if let Some(entry) = entry_in(script, fault.place) {
+        write_entry(writer, page, store, side, entry)?;
+    }
+    write_advice(writer, fault)
+}

@@ -1,0 +1,128 @@
+//! Lines of plain text.
+ghost use Rattle.std.specs.Prelude.{◌≡◌, IfErr};
+ghost use Rattle.rasta_pcap.specs.Fault.{write_failed};
+
+use itoa::Buffer;
+use rasta_pcap::{CaptureTime, Fault, Side, Sink, write_all};
+use seatmelon_survey::write_time;
+
+// The digits of hexadecimal numbers.
+const DIGITS: [u8; 16] = *b"0123456789abcdef";
+
+/// A part of a line.
+#[derive(Clone, Copy, Debug)]
+pub enum Part<'a> {
+    /// Words as they stand.
+    Words(&'a str),
+
+    /// A number, in decimal.
+    Number(u64),
+
+    /// Two hexadecimal digits a byte.
+    Hex(&'a [u8]),
+
+    /// Two hexadecimal digits.
+    Byte(u8),
+
+    /// Bytes as text: those that aren't printable ASCII as `\xNN`.
+    Text(&'a [u8]),
+
+    /// Date and time of day, in UTC.
+    Time(CaptureTime),
+
+    /// The name of an end.
+    End(Side),
+}
+
+fn write_number<W: Sink>(writer: &mut W, n: u64) -> Result<(), Fault>
+    ensures err { IfErr result (λ f. f ≡ write_failed) }
+{
+    let mut buffer = Buffer::new();
+    write_all(writer, buffer.format(n).as_bytes())
+}
+
+fn digit(n: u8) -> u8 {
+    DIGITS[usize::from(n % 16)]
+}
+
+fn write_byte<W: Sink>(writer: &mut W, byte: u8) -> Result<(), Fault>
+    ensures err { IfErr result (λ f. f ≡ write_failed) }
+{
+    write_all(writer, &[digit(byte / 16), digit(byte)])
+}
+
+fn write_hex<W: Sink>(writer: &mut W, bytes: &[u8]) -> Result<(), Fault>
+    ensures err { IfErr result (λ f. f ≡ write_failed) }
+{
+    for byte in bytes {
+        write_byte(writer, *byte)?;
+    }
+    Ok(())
+}
+
+// Writes a byte as text. A backslash is doubled.
+fn write_character<W: Sink>(writer: &mut W, byte: u8) -> Result<(), Fault>
+    ensures err { IfErr result (λ f. f ≡ write_failed) }
+{
+    match byte {
+        b'\\' => write_all(writer, b"\\\\"),
+        b' '..=b'~' => write_all(writer, &[byte]),
+        _ => write_all(writer, &[b'\\', b'x', digit(byte / 16), digit(byte)]),
+    }
+}
+
+fn write_text<W: Sink>(writer: &mut W, bytes: &[u8]) -> Result<(), Fault>
+    ensures err { IfErr result (λ f. f ≡ write_failed) }
+{
+    for byte in bytes {
+        write_character(writer, *byte)?;
+    }
+    Ok(())
+}
+
+/// The name of an end.
+pub fn name_of_end(side: Side) -> &'static str {
+    match side {
+        Side::Client => "client",
+        Side::Server => "server",
+    }
+}
+
+/// The other end.
+pub fn other(side: Side) -> Side {
+    match side {
+        Side::Client => Side::Server,
+        Side::Server => Side::Client,
+    }
+}
+
+fn write_part<W: Sink>(writer: &mut W, part: Part<'_>) -> Result<(), Fault>
+    ensures err { IfErr result (λ f. f ≡ write_failed) }
+{
+    match part {
+        Part::Words(words) => write_all(writer, words.as_bytes()),
+        Part::Number(n) => write_number(writer, n),
+        Part::Hex(bytes) => write_hex(writer, bytes),
+        Part::Byte(byte) => write_byte(writer, byte),
+        Part::Text(bytes) => write_text(writer, bytes),
+        Part::Time(time) => write_time(writer, time),
+        Part::End(side) => write_all(writer, name_of_end(side).as_bytes()),
+    }
+}
+
+/// Writes parts, one after the other.
+pub fn write_parts<W: Sink>(writer: &mut W, parts: &[Part<'_>]) -> Result<(), Fault>
+    ensures err { IfErr result (λ f. f ≡ write_failed) }
+{
+    for part in parts {
+        write_part(writer, *part)?;
+    }
+    Ok(())
+}
+
+/// Writes words.
+pub fn write_words<W: Sink>(writer: &mut W, words: &str) -> Result<(), Fault>
+    ensures err { IfErr result (λ f. f ≡ write_failed) }
+{
+    write_all(writer, words.as_bytes())
+}
