@@ -1,0 +1,164 @@
+//! The text of an explanation, and what is answered where a device goes wrong.
+use crate::cases::{CASES, Case, EXPLAINED, EXPLAINED_TEXT};
+use rasta_pcap::devices::{FailAt, Pieces};
+use rasta_pcap::{Counted, Fault, Sink, Source};
+use rasta_rows::{file_of, params_of};
+use seatmelon_explain::{Names, Outcome, Texts, explain};
+use std::alloc::Global;
+use std::str;
+use std::test::Fail;
+
+// The file of a case.
+fn file_in(alloc: Global, case: &Case) -> Option<Vec<u8>> {
+    let (_, mut file) = file_of(alloc, case.settings, case.packets)?;
+    for &(place, byte) in case.changes {
+        *file.get_mut(place)? = byte;
+    }
+    Some(file)
+}
+
+// The certificate of a case, if it has one.
+fn certificate_in(case: &Case) -> Option<&'static [u8]> {
+    match case.certificate {
+        "" => None,
+        text => Some(text.as_bytes()),
+    }
+}
+
+// Explains a case by these two readers; none where its parameters have no name.
+fn explained<R: Source, A: Source, W: Sink>(
+    alloc: Global,
+    case: &Case,
+    first: &mut R,
+    again: &mut A,
+    writer: &mut W,
+) -> Option<Result<Outcome, Fault>> {
+    let certificate = certificate_in(case);
+    let names = Names {
+        capture: "c",
+        parameters: "p",
+        certificate: Some("z"),
+    };
+    let texts = Texts {
+        parameters: b"client_id = 96",
+        certificate,
+    };
+    let params = params_of(case.parameters)?;
+    Some(explain(
+        alloc,
+        &names,
+        &texts,
+        &params,
+        case.without,
+        first,
+        again,
+        writer,
+    ))
+}
+
+// The text on a file that comes in pieces of this size.
+fn text_of(alloc: Global, case: &Case, file: &[u8], most: usize) -> Option<Vec<u8>> {
+    let mut first = Counted::new(Pieces::new(file, most.max(1)));
+    let mut again = Counted::new(file);
+    let mut writer = Counted::new(Vec::new(alloc));
+    let outcome = explained(alloc, case, &mut first, &mut again, &mut writer)?;
+    outcome.ok()?;
+    Some(writer.into_inner())
+}
+
+// What is told after what was read.
+fn verdict_in(text: &[u8]) -> Option<&str> {
+    let (_, rest) = str::from_utf8(text).ok()?.split_once("\n\n")?;
+    let (_, verdict) = rest.split_once("\n\n")?;
+    Some(verdict)
+}
+
+#[test]
+fn texts(rt: HostRuntime) -> Result<(), Fail> {
+    for case in CASES {
+        let file = file_in(rt.alloc(), &case).ok_or(case.packets)?;
+        for most in [1, 4096] {
+            let text = text_of(rt.alloc(), &case, &file, most).ok_or("a text")?;
+            let verdict = verdict_in(&text).ok_or("a verdict")?;
+            assert_eq!(rt; verdict, case.want, "{}", case.packets);
+        }
+    }
+    Ok(())
+}
+
+#[test]
+fn whole_text(rt: HostRuntime) -> Result<(), Fail> {
+    let file = file_in(rt.alloc(), &EXPLAINED).ok_or("a file")?;
+    let text = text_of(rt.alloc(), &EXPLAINED, &file, 7).ok_or("a text")?;
+    assert_eq!(rt; text.as_slice(), EXPLAINED_TEXT.as_bytes());
+    Ok(())
+}
+
+// What two files come to as two readings of one, and how much is written.
+fn outcome_of(alloc: Global, first: &[u8], again: &[u8]) -> Option<(Outcome, usize)> {
+    let mut writer = Counted::new(Vec::new(alloc));
+    let mut first = Counted::new(first);
+    let mut again = Counted::new(again);
+    let outcome = explained(alloc, &EXPLAINED, &mut first, &mut again, &mut writer)?;
+    Some((outcome.ok()?, writer.into_inner().len()))
+}
+
+#[test]
+fn outcomes(rt: HostRuntime) -> Result<(), Fail> {
+    let file = file_in(rt.alloc(), &EXPLAINED).ok_or("a file")?;
+    let (outcome, _) = outcome_of(rt.alloc(), &file, &file).ok_or("explained")?;
+    assert_eq!(rt; outcome, Outcome::Explained);
+    let front = file.get(..24).ok_or("a header")?;
+    let (outcome, _) = outcome_of(rt.alloc(), front, front).ok_or("no packets")?;
+    assert_eq!(rt; outcome, Outcome::NoPackets);
+    let front = file.get(..30).ok_or("a part")?;
+    let (outcome, _) = outcome_of(rt.alloc(), front, front).ok_or("refused")?;
+    assert_eq!(rt; outcome, Outcome::Refused);
+    let (outcome, len) = outcome_of(rt.alloc(), &file, front).ok_or("changed")?;
+    assert_eq!(rt; (outcome, len), (Outcome::Changed, 0));
+    Ok(())
+}
+
+// Each read of either reading fails in turn: the text is the same, or the failure is told and nothing is written.
+#[test]
+fn failing_reads(rt: HostRuntime) -> Result<(), Fail> {
+    let file = file_in(rt.alloc(), &EXPLAINED).ok_or("a file")?;
+    for call in 0..200 {
+        let mut first = Counted::new(FailAt::new(Pieces::new(&file, 9), call));
+        let mut again = Counted::new(FailAt::new(Pieces::new(&file, 9), call.saturating_sub(90)));
+        let mut writer = Counted::new(Vec::new(rt.alloc()));
+        let outcome = explained(rt.alloc(), &EXPLAINED, &mut first, &mut again, &mut writer).ok_or(
+            "parameters",
+        )?;
+        let has_failed = Source::failures(&first) > 0 || Source::failures(&again) > 0;
+        let text = writer.into_inner();
+        if has_failed {
+            assert_eq!(rt; outcome, Err(Fault::at(Fault::READ_FAILED, 0)));
+            assert!(rt; text.is_empty());
+        } else {
+            assert_eq!(rt; outcome, Ok(Outcome::Explained));
+            assert_eq!(rt; text.as_slice(), EXPLAINED_TEXT.as_bytes());
+        }
+    }
+    Ok(())
+}
+
+// Each write fails in turn: what was written begins the text, and the failure is told.
+#[test]
+fn failing_writes(rt: HostRuntime) -> Result<(), Fail> {
+    let file = file_in(rt.alloc(), &EXPLAINED).ok_or("a file")?;
+    for call in 1..400 {
+        let mut first = Counted::new(file.as_slice());
+        let mut again = Counted::new(file.as_slice());
+        let mut writer = Counted::new(FailAt::new(Vec::new(rt.alloc()), call));
+        let outcome = explained(rt.alloc(), &EXPLAINED, &mut first, &mut again, &mut writer).ok_or(
+            "parameters",
+        )?;
+        let has_failed = Sink::failures(&writer) > 0;
+        let text = writer.into_inner().into_inner();
+        assert!(rt; EXPLAINED_TEXT.as_bytes().starts_with(&text));
+        assert_eq!(rt; text.len() < EXPLAINED_TEXT.len(), has_failed);
+        assert_eq!(rt; outcome.is_err(), has_failed);
+    }
+    Ok(())
+}

@@ -1,0 +1,7 @@
+//! Tests of explanations, by rows of text, and over devices that go wrong.
+#![tactic(auto)]
+
+#[cfg(test)]
+mod cases;
+#[cfg(test)]
+mod explain_tests;
