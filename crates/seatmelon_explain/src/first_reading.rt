@@ -35,7 +35,7 @@ fn copied(alloc: Global, bytes: &[u8]) -> Result<Vec<u8>, Fault>
     }
 }
 
-// What a capture's fault is: want of memory and a failed read are errors.
+// What a capture's fault is: running out of memory and a failed read are errors.
 fn refused(alloc: Global, fault: Fault, frame: &[u8]) -> Result<Stored, Fault>
     ensures ok { IfOk result (IsRefusal fault) }
     ensures err { IfErr result (λ f. (f ≡ no_memory) ⊎ (f ≡ read_failed)) }

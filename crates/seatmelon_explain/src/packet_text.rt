@@ -16,7 +16,7 @@ struct Field {
     len: usize,
 }
 
-// The fields of a datagram in front of its payload, but for the reserve.
+// The fields of a datagram before its payload, but for the reserve.
 const FIELDS: [Field; 9] = [
     Field {
         name: "length field",

@@ -216,7 +216,7 @@ fn add_records<S: Source + Drop>(
     Ok(())
 }
 
-// What a fault of the reading is: want of memory and a failed read are errors.
+// What a fault of the reading is: running out of memory and a failed read are errors.
 fn stopped(fault: Fault) -> Result<(), Fault>
     ensures err { IfErr result (λ f. (f ≡ no_memory) ⊎ (f ≡ read_failed)) }
 {
