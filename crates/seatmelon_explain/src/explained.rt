@@ -3,7 +3,7 @@ ghost use Rattle.std.specs.Prelude.{◌≡◌, IfErr};
 ghost use Rattle.rasta_pcap.specs.Fault.{write_failed};
 
 use crate::explanation::Explanation;
-use crate::page::{Page, write_place, write_read, write_without};
+use crate::page::{Page, write_offers, write_place, write_read, write_without};
 use crate::text::{Part, other, write_parts, write_words};
 use rasta_check::{SentList, SpanList, Taken};
 use rasta_pcap::{Fault, Side, Sink};
@@ -21,7 +21,9 @@ What it doesn't say:
 What it rests on:
   Whatever an end sent reached the tap, in the order in which it was sent, and the capture has all
   of it, in that order.
-  Nobody else sent a packet with a valid safety code between the recorded addresses.
+";
+
+const RESTS_TOO: &str = "\
   The parameters are right.
   For 'surely taken': both ends kept the rules.
 ";
@@ -250,6 +252,27 @@ fn write_sentence<W: Sink>(writer: &mut W, page: &Page<'_>, packets: u32) -> Res
     )
 }
 
+// Writes whose packets nobody else may have sent: where there is no safety code, anybody can.
+fn write_strangers<W: Sink>(writer: &mut W, page: &Page<'_>) -> Result<(), Fault>
+    ensures err { IfErr result (λ f. f ≡ write_failed) }
+{
+    write_words(writer, "  Nobody else sent a packet ")?;
+    if page.params.code_length() > 0 {
+        write_words(writer, "with a valid safety code ")?;
+    }
+    write_words(writer, "between the recorded addresses.\n")
+}
+
+// Writes what the verdict says, and what it rests on.
+fn write_meaning<W: Sink>(writer: &mut W, page: &Page<'_>) -> Result<(), Fault>
+    ensures err { IfErr result (λ f. f ≡ write_failed) }
+{
+    write_words(writer, SAYS)?;
+    write_strangers(writer, page)?;
+    write_words(writer, RESTS_TOO)?;
+    write_start(writer, page)
+}
+
 /// Writes the text on an explained capture.
 pub fn write_explained<W: Sink>(
     writer: &mut W,
@@ -261,9 +284,9 @@ pub fn write_explained<W: Sink>(
     let store = explanation.store();
     let report = explanation.report();
     write_read(writer, page)?;
+    write_offers(writer, page, store)?;
     write_sentence(writer, page, report.packets)?;
-    write_words(writer, SAYS)?;
-    write_start(writer, page)?;
+    write_meaning(writer, page)?;
     write_direction(
         writer,
         page,

@@ -4,8 +4,9 @@ ghost use Rattle.rasta_pcap.specs.Fault.{write_failed};
 
 use crate::sightings::{ChannelCount, Sighting, Sightings};
 use crate::text::{Part, write_parts, write_words};
+use rasta_check::{SentList, SpanList, Store};
 use rasta_pcap::{CaptureTime, Fault, Side, Sink};
-use rasta_pdu::Params;
+use rasta_pdu::{Body, Params};
 use sha2::{Digest, Sha256};
 
 /// How the files are named in the text.
@@ -33,6 +34,10 @@ pub struct Page<'a> {
     pub digest: [u8; 32],
     pub sightings: Sightings,
 }
+
+// The program, and what it was proved with.
+const PROGRAM: &str =
+    "program: seatmelon 0.1.0, proved with rattle-kit-13f logic dac8208d650f15bf\n";
 
 // Writes a file's name and its SHA-256.
 fn write_file<W: Sink>(writer: &mut W, what: &str, name: &str, digest: &[u8]) -> Result<(), Fault>
@@ -149,7 +154,50 @@ pub fn write_read<W: Sink>(writer: &mut W, page: &Page<'_>) -> Result<(), Fault>
     let parameters = Sha256::digest(page.texts.parameters);
     write_file(writer, "parameters", page.names.parameters, &parameters)?;
     write_certificate(writer, page)?;
+    write_words(writer, PROGRAM)?;
     write_counts(writer, page)
+}
+
+// Writes what an end offers at the opening, where the parameters have something else.
+fn write_offer<W: Sink>(
+    writer: &mut W,
+    page: &Page<'_>,
+    side: Side,
+    list: &SpanList<'_>,
+) -> Result<(), Fault>
+    ensures err { IfErr result (λ f. f ≡ write_failed) }
+{
+    let recorded = page.params.n_sendmax();
+    let offered = match list.get(0) {
+        Some((_, pdu)) => match pdu.body() {
+            Body::Opening { sendmax, .. } => sendmax,
+            _ => recorded,
+        },
+        None => recorded,
+    };
+    if offered == recorded {
+        return Ok(());
+    }
+    write_parts(
+        writer,
+        &[
+            Part::Words("the "),
+            Part::End(side),
+            Part::Words("'s opening offers N_sendmax "),
+            Part::Number(u64::from(offered)),
+            Part::Words(", and the parameters have "),
+            Part::Number(u64::from(recorded)),
+            Part::Words("\n\n"),
+        ],
+    )
+}
+
+/// Writes what the ends offer at the opening, where the parameters have something else.
+pub fn write_offers<W: Sink>(writer: &mut W, page: &Page<'_>, store: &Store) -> Result<(), Fault>
+    ensures err { IfErr result (λ f. f ≡ write_failed) }
+{
+    write_offer(writer, page, Side::Client, &store.client())?;
+    write_offer(writer, page, Side::Server, &store.server())
 }
 
 /// Writes a time after a comma, if there is one.

@@ -4,7 +4,9 @@ ghost use Rattle.rasta_pcap.specs.Fault.{write_failed};
 
 use crate::first_reading::CaptureRefusal;
 use crate::packet_text::{number_at, write_codes, write_datagram, write_differences, write_pdu};
-use crate::page::{Page, write_place, write_read, write_sighting, write_time_if, write_without};
+use crate::page::{
+    Page, write_offers, write_place, write_read, write_sighting, write_time_if, write_without,
+};
 use crate::sightings::Wanted;
 use crate::text::{Part, other, write_parts, write_words};
 use crate::words::{cause_of, meaning_of, next_step_of};
@@ -62,7 +64,7 @@ fn write_fault<W: Sink>(writer: &mut W, page: &Page<'_>, fault: Fault) -> Result
         &[
             Part::Words(":\n  "),
             Part::Words(meaning_of(fault.number)),
-            Part::Words("\n\n"),
+            Part::Words("\n"),
         ],
     )
 }
@@ -178,7 +180,14 @@ fn write_length<W: Sink>(
     let least = LEAST_LENGTH + u64::from(params.code_length()) + check;
     match fault.number {
         Fault::REDUNDANCY_LENGTH => write_due(writer, "length field", bytes),
-        Fault::TOO_SHORT => write_due(writer, "bytes of the datagram, at least", least),
+        Fault::TOO_SHORT => write_parts(
+            writer,
+            &[
+                Part::Words("  bytes of the datagram due: "),
+                Part::Number(least),
+                Part::Words(" or more\n"),
+            ],
+        ),
         Fault::SAFETY_LENGTH => {
             let due = bytes.saturating_sub(SAFETY_AT + check);
             write_due(writer, "length field of the safety layer", due)
@@ -248,6 +257,7 @@ pub fn write_capture_refusal<W: Sink>(
     write_read(writer, page)?;
     write_fault(writer, page, fault)?;
     if fault.place > 0 {
+        write_words(writer, "\n")?;
         write_record(writer, page, fault.place)?;
         match packet_in(&page.params, &refusal.frame, fault.place) {
             Some(packet) => write_packet(writer, page, fault, &packet)?,
@@ -332,7 +342,9 @@ pub fn write_unscripted<W: Sink>(
     ensures err { IfErr result (λ f. f ≡ write_failed) }
 {
     write_read(writer, page)?;
+    write_offers(writer, page, store)?;
     write_fault(writer, page, fault)?;
+    write_words(writer, "\n")?;
     if fault.number == Fault::NOT_FOUND {
         write_unexplained(writer, page, store, fault.place)?;
     } else {
@@ -419,7 +431,9 @@ pub fn write_refused<W: Sink>(
     ensures err { IfErr result (λ f. f ≡ write_failed) }
 {
     write_read(writer, page)?;
+    write_offers(writer, page, store)?;
     write_fault(writer, page, fault)?;
+    write_words(writer, "\n")?;
     let side = fault.end.unwrap_or(Side::Client);
     write_entry_place(writer, certificate, side, fault.place)?;
     let script = match side {

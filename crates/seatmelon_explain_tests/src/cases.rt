@@ -24,7 +24,6 @@ const NOT_PCAP: Case = Case {
 refused by 10 NotPcap:
   this is not a classic libpcap file
 
-
 may be the cause:
   the file has another format, or is compressed
 look next at:
@@ -42,7 +41,6 @@ const VERSION: Case = Case {
     want: "\
 refused by 11 Version:
   this is not version 2.4 of the libpcap format
-
 
 may be the cause:
   the file has another format, or is compressed
@@ -62,7 +60,6 @@ const LINK_TYPE: Case = Case {
 refused by 12 LinkType:
   the frames are not Ethernet frames
 
-
 may be the cause:
   the file has another format, or is compressed
 look next at:
@@ -80,7 +77,6 @@ const CUT_HEADER: Case = Case {
     want: "\
 refused by 13 CutHeader:
   the file ends inside its header
-
 
 may be the cause:
   the file is not whole
@@ -250,7 +246,7 @@ record 1, 1970-01-01 00:00:00.000000 UTC, channel 1, from the client
   TS: 1010
   CTS: 9000
 what is wrong with it:
-  bytes of the datagram, at least due: 52
+  bytes of the datagram due: 52 or more
 
 may be the cause:
   a stranger on the recorded addresses; an end that broke the rules; a damaged packet; or,
@@ -611,6 +607,30 @@ look next at:
 ",
 };
 
+const OTHER_SENDMAX: Case = Case {
+    parameters: "narrow",
+    settings: "data plain",
+    packets: "0 1 2",
+    changes: &[],
+    certificate: "rasta-certificate 2\n",
+    without: &[],
+    want: "\
+the client's opening offers N_sendmax 20, and the parameters have 1
+
+the server's opening offers N_sendmax 20, and the parameters have 1
+
+refused by 30 Syntax:
+  this line isn't one that a certificate has there
+
+line 1 of the certificate
+
+may be the cause:
+  the certificate is wrong: another one may explain the same packets
+look next at:
+  this line of the certificate
+",
+};
+
 const NOT_YET_CROSSED: Case = Case {
     parameters: "plain",
     settings: "data plain",
@@ -743,7 +763,7 @@ look next at:
 };
 
 /// Each kind of refusal that a small capture or a certificate of it can have.
-pub const CASES: [Case; 26] = [
+pub const CASES: [Case; 27] = [
     NOT_PCAP,
     VERSION,
     LINK_TYPE,
@@ -765,6 +785,7 @@ pub const CASES: [Case; 26] = [
     MISSING_PACKET,
     LEFT_OUT,
     SYNTAX,
+    OTHER_SENDMAX,
     NOT_YET_CROSSED,
     CLOCK_DIFFERS,
     NOT_ALLOWED,
@@ -790,6 +811,7 @@ capture: c
 parameters: p
   SHA-256: 690d7880e356248a4f526b2a78d7367e4412615a8a85f47eafa354a793430538
 certificate: none was given, so one is built
+program: seatmelon 0.1.0, proved with rattle-kit-13f logic dac8208d650f15bf
 
 records read: 5
 packets of the connection: 5
@@ -810,7 +832,7 @@ What it doesn't say:
 What it rests on:
   Whatever an end sent reached the tap, in the order in which it was sent, and the capture has all
   of it, in that order.
-  Nobody else sent a packet with a valid safety code between the recorded addresses.
+  Nobody else sent a packet between the recorded addresses.
   The parameters are right.
   For 'surely taken': both ends kept the rules.
   What is judged begins before the opening of the connection.
