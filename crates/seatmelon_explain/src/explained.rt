@@ -23,10 +23,8 @@ What it rests on:
   of it, in that order.
 ";
 
-const RESTS_TOO: &str = "\
-  The parameters are right.
-  For 'surely taken': both ends kept the rules.
-";
+const RESTS_TOO: &str =
+    "  The parameters are right.\n  For 'surely taken': both ends kept the rules.\n";
 
 // Writes a number that may be missing.
 fn write_optional<W: Sink>(writer: &mut W, words: &str, number: Option<u64>) -> Result<(), Fault>
