@@ -1,8 +1,11 @@
 -- What a pass that is gone through step by step answers.
-use Rattle.std.proofs.Common.{◌≡◌, ℕ, zero, suc, ◌+◌, ◌-◌, ◌<◌, ◌^◌, ◌⊎◌, Bool, true, false, List, length, Option, Some, None, Result, Ok, Err, slice_get, refl, ap, sym, ◌∙◌, arith, inl, inr, subst, ⊎_elim}
-use Rattle.std.specs.Prelude.{nat_lt, if◌then◌else◌}
+use Rattle.std.proofs.Common.{◌≡◌, ℕ, zero, suc, ◌+◌, ◌-◌, ◌<◌, ◌^◌, ◌⊎◌, Bool, true, false, List, length, Option, Some, None, Result, Ok, Err, slice_get, refl, ap, sym, ◌∙◌, arith, inl, inr, subst}
+use Rattle.std.specs.Prelude.{nat_lt, if◌then◌else◌, option_map}
+use Rattle.rasta_pdu.specs.declared.pdu.Pdu.{Pdu}
+use Rattle.rasta_check.specs.Capture.Lists.{copy_of}
 use Rattle.rasta_pcap.specs.Fault.{fault_at, no_memory, not_found, too_many_entries}
 use Rattle.rasta_pcap.specs.declared.fault.Fault.{Fault}
+use Rattle.rasta_pcap.specs.declared.fault.Side.{Side}
 use Rattle.rasta_pcap.specs.declared.fault.Side.TheVariants.{Client, Server}
 use Rattle.rasta_pdu.specs.Params.{Parameters}
 use Rattle.rasta_cert.specs.Certificate.{Scripts, IsCertificate, most_entries}
@@ -13,10 +16,16 @@ use Rattle.rasta_check.proofs.Capture.ListForms.{to_record}
 use Rattle.rasta_check.proofs.Model.Steps.{base_small}
 use Rattle.std.specs.Result.{IfOk, IfErr, IsErr, IsErrAnd}
 use Rattle.rasta_build.specs.Built.{Built}
-use Rattle.rasta_build.specs.Choices.{first_of, fault_of_stuck, IsUnexplained, IsProposalFault}
+use Rattle.rasta_build.specs.Choices.{SidedCopy, sided_copy, first_of, fault_of_stuck, IsUnexplained, IsProposalFault}
 use Rattle.rasta_build.specs.Completeness.{IsProposal, IsAnswer}
-use Rattle.rasta_build.specs.Proposing.{Pass, one_more, pass_on, passes, copy_goes, client_goes, server_goes, all_copies, proposal, proposed_by, scripts_of, IsPassFault}
-use Rattle.rasta_build.specs.declared.stuck.Stuck.TheVariants.{Unexplained}
+use Rattle.rasta_build.specs.Proposing.{Pass, one_more, pass_on, passes, copy_goes, client_goes, server_goes, all_copies, proposal, proposed_by, scripts_of}
+use Rattle.rasta_build.specs.Explaining.{explain}
+use Rattle.rasta_build.specs.Stopping.{fault_of_stop, list_of, IsHaltAt, IsPassStop, IsNextStop, IsStopped, IsMet}
+use Rattle.rasta_build.specs.declared.obstacles.Obstacle.{Obstacle}
+use Rattle.rasta_build.specs.declared.obstacles.Stop.{Stop}
+use Rattle.rasta_build.specs.declared.obstacles.Stop.TheVariants.{OutOfMemory, Blocked}
+use Rattle.rasta_build.specs.declared.stuck.Stuck.{Stuck}
+use Rattle.rasta_build.specs.declared.stuck.Stuck.TheVariants.{Unexplained, NoMemory}
 use Rattle.rasta_build.proofs.SentLists.{sent_rises, sent_numbers, sent_within}
 use Rattle.rasta_build.proofs.Soundness.{passes_read}
 use Rattle.rasta_build.proofs.Proposals.{proposal_fits, taken_within}
@@ -34,25 +43,50 @@ stays p c s k (suc m) n place e h =
     let z : n ≡ suc (m + k) = omega (arith, e) in
     rw z (ap (λ (r : Result Pass ℕ). pass_on r (one_more c s)) (stays p c s k m (m + k) place refl h))
 
--- a step that fails is the answer
-pub stuck_answers : (p : Parameters) (c s : List FirstCopy) (k : ℕ) (t : Pass) (fault : Fault) → k < all_copies c s → passes p c s k ≡ Ok t → IsPassFault (one_more c s t) fault → IsAnswer p c s (Err fault)
-stuck_answers p c s k t fault l h f = ⊎_elim
-    (λ (m : fault ≡ no_memory). inl (ap (λ (x : Fault). Err x) m))
-    (λ (e : (place : ℕ) × (one_more c s t ≡ Err place) × (fault ≡ fault_of_stuck Unexplained place)).
-    (let here : passes p c s (suc k) ≡ Err e.0 = ap (λ (r : Result Pass ℕ). pass_on r (one_more c s)) h ∙ e.1 in
-    inr (ap (λ (x : Fault). Err x) e.2 ∙ sym (ap proposed_by (stays p c s (suc k) (all_copies c s - suc k) (all_copies c s) e.0 (omega (arith, l)) here)))))
-    f
+-- a copy with its side
+abbrev pub sided : Side → FirstCopy → SidedCopy
+sided side copy = record { side = side; copy = copy }
 
--- the whole pass is
-pub pass_answers : (p : Parameters) (c s : List FirstCopy) (k : ℕ) (t : Pass) (answer : Result Scripts Fault) → k ≡ all_copies c s → passes p c s k ≡ Ok t → answer ≡ proposed_by (Ok t) → IsAnswer p c s answer
-pass_answers p c s k t answer e h a = inr (a ∙ sym (ap proposed_by (ap (λ (j : ℕ). passes p c s j) (sym e) ∙ h)))
+is_copy : (x y : SidedCopy) → Some x ≡ Some y → x ≡ y
+is_copy x y h = (let z : x ≡ y = cc in z)
 
--- an error that is handed on
-pub err_is : {A E : Type 0} (r : Result A E) (y : E) → IsErr r → IsErrAnd r (λ (z : E). z ≡ y) → r ≡ Err y
-err_is (Ok x) y h k = absurd (cc)
-err_is (Err z) y h k = ap Err k
+same_copy : (side : Side) (d copy : FirstCopy) → Some (sided side d) ≡ Some (sided side copy) → Some d ≡ Some copy
+same_copy side d copy h = ap (λ (x : SidedCopy). Some x.copy) (is_copy (sided side d) (sided side copy) h)
 
--- ---- what an answer says
+no_client : (f copy : FirstCopy) → Some (sided Server f) ≡ Some (sided Client copy) → ⊥
+no_client f copy h = (let q : Server ≡ Client = ap (λ (x : SidedCopy). x.side) (is_copy (sided Server f) (sided Client copy) h) in absurd (cc))
+
+no_server : (d copy : FirstCopy) → Some (sided Client d) ≡ Some (sided Server copy) → ⊥
+no_server d copy h = (let q : Client ≡ Server = ap (λ (x : SidedCopy). x.side) (is_copy (sided Client d) (sided Server copy) h) in absurd (cc))
+
+-- the copy that crossed first is of its side's list
+first_client : (a b : Option FirstCopy) (copy : FirstCopy) → first_of a b ≡ Some (sided Client copy) → a ≡ Some copy
+first_client None None copy h = absurd (cc)
+first_client (Some d) None copy h = same_copy Client d copy h
+first_client None (Some f) copy h = absurd (no_client f copy h)
+first_client (Some d) (Some f) copy h = by (nat_lt d.place f.place) h
+  where
+    by : (l : Bool) → Some (if l then sided Client d else sided Server f) ≡ Some (sided Client copy) → Some d ≡ Some copy
+    by true h = same_copy Client d copy h
+    by false h = absurd (no_client f copy h)
+
+first_server : (a b : Option FirstCopy) (copy : FirstCopy) → first_of a b ≡ Some (sided Server copy) → b ≡ Some copy
+first_server None None copy h = absurd (cc)
+first_server None (Some f) copy h = same_copy Server f copy h
+first_server (Some d) None copy h = absurd (no_server d copy h)
+first_server (Some d) (Some f) copy h = by (nat_lt d.place f.place) h
+  where
+    by : (l : Bool) → Some (if l then sided Client d else sided Server f) ≡ Some (sided Server copy) → Some f ≡ Some copy
+    by true h = absurd (no_server d copy h)
+    by false h = same_copy Server f copy h
+
+-- the copy that is found first is the first of both lists
+pub next_is : (c s : List FirstCopy) (made answered : ℕ) (x y : Option (ℕ × Pdu)) (o : Option (Side × (ℕ × Pdu))) (side : Side) (sent : ℕ × Pdu)
+    → option_map copy_of x ≡ slice_get c made → option_map copy_of y ≡ slice_get s answered → option_map sided_copy o ≡ first_of (option_map copy_of x) (option_map copy_of y)
+    → o ≡ Some (side, sent) → first_of (slice_get c made) (slice_get s answered) ≡ Some (sided side (copy_of sent))
+next_is c s made answered x y o side sent v w f is =
+    let e : first_of (option_map copy_of x) (option_map copy_of y) ≡ first_of (slice_get c made) (slice_get s answered) = cc in
+    sym e ∙ (sym f ∙ ap (option_map sided_copy) is)
 
 client_place : (t : Pass) (q place : ℕ) (o : Option Built) → client_goes t q o ≡ Err place → place ≡ q
 client_place t q place None h = (let e : place ≡ q = cc in e)
@@ -61,6 +95,74 @@ client_place t q place (Some b) h = absurd (cc)
 server_place : (t : Pass) (q place : ℕ) (o : Option Built) → server_goes t q o ≡ Err place → place ≡ q
 server_place t q place None h = (let e : place ≡ q = cc in e)
 server_place t q place (Some b) h = absurd (cc)
+
+-- a script that can't go on stops a step at its copy, where the step fails for want of an explanation
+step_stops : (u : Stuck) (stop : Stop) (side : Side) (place : ℕ) (pass : Result Pass ℕ) → IsHaltAt u side place stop → (u ≡ Unexplained → pass ≡ Err place) → IsPassStop side pass stop
+step_stops u OutOfMemory side place pass h k = tt
+step_stops NoMemory (Blocked met) side place pass h k = absurd (cc)
+step_stops Unexplained (Blocked met) side place pass h k = (h.0, k refl ∙ ap (λ (q : ℕ). Err q) (sym h.1))
+
+pub client_stops : (u : Stuck) (stop : Stop) (place : ℕ) (t : Pass) (o : Option Built) → IsHaltAt u Client place stop → (u ≡ Unexplained → o ≡ None) → IsPassStop Client (client_goes t place o) stop
+client_stops u stop place t o h k = step_stops u stop Client place (client_goes t place o) h (λ e. ap (client_goes t place) (k e))
+
+pub server_stops : (u : Stuck) (stop : Stop) (place : ℕ) (t : Pass) (o : Option Built) → IsHaltAt u Server place stop → (u ≡ Unexplained → o ≡ None) → IsPassStop Server (server_goes t place o) stop
+server_stops u stop place t o h k = step_stops u stop Server place (server_goes t place o) h (λ e. ap (server_goes t place) (k e))
+
+-- the step of the copy that crossed first is the next step
+next_client : (c s : List FirstCopy) (t : Pass) (copy : FirstCopy) (stop : Stop) → first_of (slice_get c t.made) (slice_get s t.answered) ≡ Some (sided Client copy)
+    → IsPassStop Client (client_goes t copy.place (explain s copy.place copy.pdu.safety t.own)) stop → IsNextStop c s t stop
+next_client c s t copy OutOfMemory e h = tt
+next_client c s t copy (Blocked met) e h = (
+  ap (copy_goes c s t) e ∙ h.1,
+  subst (λ (z : Side). IsUnexplained (list_of z c s) (fault_of_stuck Unexplained met.place)) (sym h.0)
+      (t.made, copy, first_client (slice_get c t.made) (slice_get s t.answered) copy e, ap (fault_of_stuck Unexplained) (client_place t copy.place met.place _ h.1)),
+)
+
+pub client_next : {A : Type 0} (c s : List FirstCopy) (t : Pass) (copy : FirstCopy) (r : Result A Stop) → first_of (slice_get c t.made) (slice_get s t.answered) ≡ Some (sided Client copy)
+    → IfErr r (IsPassStop Client (client_goes t copy.place (explain s copy.place copy.pdu.safety t.own))) → IfErr r (IsNextStop c s t)
+client_next c s t copy (Ok x) e h = tt
+client_next c s t copy (Err stop) e h = next_client c s t copy stop e h
+
+next_server : (c s : List FirstCopy) (t : Pass) (copy : FirstCopy) (stop : Stop) → first_of (slice_get c t.made) (slice_get s t.answered) ≡ Some (sided Server copy)
+    → IsPassStop Server (server_goes t copy.place (explain c copy.place copy.pdu.safety t.other)) stop → IsNextStop c s t stop
+next_server c s t copy OutOfMemory e h = tt
+next_server c s t copy (Blocked met) e h = (
+  ap (copy_goes c s t) e ∙ h.1,
+  subst (λ (z : Side). IsUnexplained (list_of z c s) (fault_of_stuck Unexplained met.place)) (sym h.0)
+      (t.answered, copy, first_server (slice_get c t.made) (slice_get s t.answered) copy e, ap (fault_of_stuck Unexplained) (server_place t copy.place met.place _ h.1)),
+)
+
+pub server_next : {A : Type 0} (c s : List FirstCopy) (t : Pass) (copy : FirstCopy) (r : Result A Stop) → first_of (slice_get c t.made) (slice_get s t.answered) ≡ Some (sided Server copy)
+    → IfErr r (IsPassStop Server (server_goes t copy.place (explain c copy.place copy.pdu.safety t.other))) → IfErr r (IsNextStop c s t)
+server_next c s t copy (Ok x) e h = tt
+server_next c s t copy (Err stop) e h = next_server c s t copy stop e h
+
+-- a step that stops, stops the whole pass
+pub pass_stops : (p : Parameters) (c s : List FirstCopy) (k : ℕ) (t : Pass) (stop : Stop) → k < all_copies c s → passes p c s k ≡ Ok t → IsNextStop c s t stop → IsStopped p c s stop
+pass_stops p c s k t OutOfMemory l h n = tt
+pass_stops p c s k t (Blocked met) l h n =
+    let here : passes p c s (suc k) ≡ Err met.place = ap (λ (r : Result Pass ℕ). pass_on r (one_more c s)) h ∙ n.0 in
+    (stays p c s (suc k) (all_copies c s - suc k) (all_copies c s) met.place (omega (arith, l)) here, n.1)
+
+-- the whole pass
+pub pass_ends : (p : Parameters) (c s : List FirstCopy) (k : ℕ) (t : Pass) → k ≡ all_copies c s → passes p c s k ≡ Ok t → passes p c s (all_copies c s) ≡ Ok t
+pass_ends p c s k t e h = ap (λ (j : ℕ). passes p c s j) (sym e) ∙ h
+
+-- its certificate is the answer
+pub pass_answers : (p : Parameters) (c s : List FirstCopy) (t : Pass) (answer : Result Scripts Fault) → passes p c s (all_copies c s) ≡ Ok t → answer ≡ proposed_by (Ok t) → IsAnswer p c s answer
+pass_answers p c s t answer h a = inr (a ∙ sym (ap proposed_by h))
+
+-- or the fault of what stops it
+pub stop_answers : (p : Parameters) (c s : List FirstCopy) (stop : Stop) → IsStopped p c s stop → IsAnswer p c s (Err (fault_of_stop stop))
+stop_answers p c s OutOfMemory h = inl refl
+stop_answers p c s (Blocked met) h = inr (sym (ap proposed_by h.0))
+
+-- an error that is handed on
+pub err_is : {A E : Type 0} (r : Result A E) (y : E) → IsErr r → IsErrAnd r (λ (z : E). z ≡ y) → r ≡ Err y
+err_is (Ok x) y h k = absurd (cc)
+err_is (Err z) y h k = ap Err k
+
+-- ---- what an answer says
 
 abbrev Unexplains : List FirstCopy → List FirstCopy → ℕ → Type 0
 Unexplains c s place = IsUnexplained c (fault_of_stuck Unexplained place) ⊎ IsUnexplained s (fault_of_stuck Unexplained place)
@@ -96,6 +198,13 @@ many t place h = by (nat_lt most_entries (length t.own.script + length t.other.s
     by : (f : Bool) → (if f then Err (fault_at too_many_entries 0) else Ok (scripts_of t)) ≡ Err (fault_at not_found place) → ⊥
     by true h = (let e : fault_at too_many_entries 0 ≡ fault_at not_found place = cc in let n : too_many_entries ≡ not_found = ap (λ (x : Fault). x.number) e in omega (arith, n))
     by false h = absurd (cc)
+
+-- what a walk meets that is through, and one that is stopped
+pub none_met : (p : Parameters) (c s : List FirstCopy) (t : Pass) → passes p c s (all_copies c s) ≡ Ok t → IsMet p c s None
+none_met p c s t h = λ place n. many t place (sym (ap proposed_by h) ∙ n)
+
+pub one_met : (p : Parameters) (c s : List FirstCopy) (met : Obstacle) → IsStopped p c s (Blocked met) → IsMet p c s (Some met)
+one_met p c s met h = (ap proposed_by h.0, h.1)
 
 proposal_unexplained : (p : Parameters) (c s : List FirstCopy) (fault : Fault) (place : ℕ) → Err fault ≡ proposal p c s → fault ≡ fault_at not_found place → IsProposalFault c s fault
 proposal_unexplained p c s fault place h e = by (passes p c s (all_copies c s)) refl

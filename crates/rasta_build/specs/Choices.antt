@@ -18,6 +18,7 @@ use Rattle.rasta_end.specs.declared.why.Why.{Why}
 use Rattle.rasta_end.specs.declared.why.Why.TheVariants.{Open, Reply, Beat, Fresh, Again, Ask, Bye, Expired}
 use Rattle.rasta_check.specs.Capture.Crossing.{FirstCopy}
 use Rattle.rasta_check.specs.Capture.Lists.{copy_of}
+use Rattle.rasta_build.specs.declared.rules.Rule.{Rule}
 use Rattle.rasta_build.specs.declared.stuck.Stuck.{Stuck}
 use Rattle.rasta_build.specs.declared.stuck.Stuck.TheVariants.{Unexplained, NoMemory}
 
@@ -141,6 +142,11 @@ first_of (Some c) (Some s) = Some (if nat_lt c.place s.place then record { side 
 abbrev pub fault_of_stuck : Stuck → ℕ → Fault
 fault_of_stuck Unexplained place = fault_at not_found (min (place + 1) 4294967295)
 fault_of_stuck NoMemory place = no_memory
+
+-- a script that no rule stops is out of memory
+abbrev pub stuck_for : Option Rule → Stuck
+stuck_for None = NoMemory
+stuck_for (Some rule) = Unexplained
 
 -- what a fault of an end says of its script
 abbrev pub stuck_by : Fault → Stuck

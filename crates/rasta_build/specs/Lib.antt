@@ -6,3 +6,4 @@ pub mod Built
 pub mod Explaining
 pub mod Proposing
 pub mod Completeness
+pub mod Stopping

@@ -3,11 +3,16 @@
 #![tactic(auto)]
 
 mod clock;
+mod halt;
 pub mod laws;
+mod obstacles;
 mod peer;
 mod proposal;
+mod rules;
 mod script_builder;
 mod stuck;
 
-pub use proposal::{propose, propose_lists};
+pub use obstacles::Obstacle;
+pub use proposal::{find_obstacle, propose, propose_lists};
 pub use rasta_pdu::{Fault, Side, Sink, Source};
+pub use rules::Rule;

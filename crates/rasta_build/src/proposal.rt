@@ -1,5 +1,7 @@
 //! The scripts of both ends.
 ghost use Rattle.std.specs.Prelude.{◌≡◌, ◌⊎◌, ◌+◌, ◌<◌, ◌^◌, length, option_map, Ok, OnOk, IfOk, IfErr};
+ghost use Rattle.rasta_pcap.specs.Fault.{no_memory};
+ghost use Rattle.rasta_pcap.specs.declared.fault.Side.TheVariants.{Client, Server};
 ghost use Rattle.rasta_pdu.specs.Pdu.{value_of};
 ghost use Rattle.rasta_cert.specs.Certificate.{IsCertificate};
 ghost use Rattle.rasta_check.specs.Capture.Lists.{copy_of};
@@ -10,8 +12,10 @@ ghost use Rattle.rasta_build.specs.Choices.{sided_copy, IsProposalFault};
 ghost use Rattle.rasta_build.specs.Completeness.{IsAnswer, IsComplete};
 ghost use Rattle.rasta_build.specs.Explaining.{explain};
 ghost use Rattle.rasta_build.specs.Proposing;
-ghost use Rattle.rasta_build.specs.Proposing.{first_pass, one_more, proposed_by, IsPassFault};
+ghost use Rattle.rasta_build.specs.Proposing.{all_copies, first_pass, one_more, passes, proposed_by};
+ghost use Rattle.rasta_build.specs.Stopping.{IsMet, IsNextStop, IsPassStop, IsStopped};
 
+use crate::obstacles::{Obstacle, Stop};
 use crate::script_builder::ScriptBuilder;
 use rasta_cert::Certificate;
 use rasta_check::{Sent, SentList};
@@ -65,48 +69,50 @@ impl<'a> Pass<'a> {
     }
 
     // Explains the client's next first copy, which crossed at this place.
+    #[tactic(auto, using(crate::proofs::Answering::client_stops))]
     fn explain_client<S: SentList<'a>>(
         &mut self,
         params: &Params,
         server: &S,
         place: u32,
         pdu: &Pdu<'a>,
-    ) -> Result<(), Fault>
+    ) -> Result<(), Stop>
         requires params { self.old.own.end.params ≡ params.now }
         requires accepted { self.old.own.end.state.accepted < 2 ^ 62 }
         requires few { self.old.made + 1 < 2 ^ 32 }
         ensures ok { OnOk result (Proposing.client_goes self.old place (explain (S.content server.now) place (value_of pdu.now).safety self.old.own) ≡ Ok self.new) }
-        ensures err { IfErr result (IsPassFault (Proposing.client_goes self.old place (explain (S.content server.now) place (value_of pdu.now).safety self.old.own))) }
+        ensures err { IfErr result (IsPassStop Client (Proposing.client_goes self.old place (explain (S.content server.now) place (value_of pdu.now).safety self.old.own))) }
     {
         match self.own.explain(params, server, place, pdu) {
             Ok(()) => {
                 self.made += 1;
                 Ok(())
             }
-            Err(stuck) => Err(stuck.at(place)),
+            Err(halt) => Err(halt.at(Side::Client, place)),
         }
     }
 
     // Explains the server's next first copy, which crossed at this place.
+    #[tactic(auto, using(crate::proofs::Answering::server_stops))]
     fn explain_server<S: SentList<'a>>(
         &mut self,
         params: &Params,
         client: &S,
         place: u32,
         pdu: &Pdu<'a>,
-    ) -> Result<(), Fault>
+    ) -> Result<(), Stop>
         requires params { self.old.other.end.params ≡ params.now }
         requires accepted { self.old.other.end.state.accepted < 2 ^ 62 }
         requires few { self.old.answered + 1 < 2 ^ 32 }
         ensures ok { OnOk result (Proposing.server_goes self.old place (explain (S.content client.now) place (value_of pdu.now).safety self.old.other) ≡ Ok self.new) }
-        ensures err { IfErr result (IsPassFault (Proposing.server_goes self.old place (explain (S.content client.now) place (value_of pdu.now).safety self.old.other))) }
+        ensures err { IfErr result (IsPassStop Server (Proposing.server_goes self.old place (explain (S.content client.now) place (value_of pdu.now).safety self.old.other))) }
     {
         match self.other.explain(params, client, place, pdu) {
             Ok(()) => {
                 self.answered += 1;
                 Ok(())
             }
-            Err(stuck) => Err(stuck.at(place)),
+            Err(halt) => Err(halt.at(Side::Server, place)),
         }
     }
 
@@ -116,12 +122,12 @@ impl<'a> Pass<'a> {
         params: &Params,
         client: &S,
         server: &S,
-    ) -> Result<(), Fault>
+    ) -> Result<(), Stop>
         requires params { (self.old.own.end.params ≡ params.now) × (self.old.other.end.params ≡ params.now) }
         requires accepted { (self.old.own.end.state.accepted < 2 ^ 62) × (self.old.other.end.state.accepted < 2 ^ 62) }
         requires few { (length (S.content client.now) < 2 ^ 32) × (length (S.content server.now) < 2 ^ 32) }
         ensures ok { OnOk result (one_more (S.content client.now) (S.content server.now) self.old ≡ Ok self.new) }
-        ensures err { IfErr result (IsPassFault (one_more (S.content client.now) (S.content server.now) self.old)) }
+        ensures err { IfErr result (IsNextStop (S.content client.now) (S.content server.now) self.old) }
     {
         match first_of(client.get(self.made), server.get(self.answered)) {
             Some((Side::Client, (place, pdu))) => {
@@ -142,7 +148,27 @@ impl<'a> Pass<'a> {
     }
 }
 
+// Goes through the two sent lists of so many packets.
+fn pass_through<'a, S: SentList<'a>>(
+    alloc: Global,
+    p: &Params,
+    packets: u32,
+    client: &S,
+    server: &S,
+) -> Result<Pass<'a>, Stop>
+    requires { AreSentLists p.now packets (S.content client.now) (S.content server.now) }
+    ensures ok { IfOk result (λ pass. passes p.now (S.content client.now) (S.content server.now) (all_copies (S.content client.now) (S.content server.now)) ≡ Ok pass) }
+    ensures err { IfErr result (IsStopped p.now (S.content client.now) (S.content server.now)) }
+{
+    let mut pass = Pass::new(alloc, p);
+    for _ in 0..u64::from(client.len()) + u64::from(server.len()) {
+        pass.explain_next(p, client, server)?;
+    }
+    Ok(pass)
+}
+
 // Proposes scripts for the two sent lists of so many packets.
+#[tactic(auto, using(crate::proofs::Answering::pass_answers, crate::proofs::Answering::stop_answers))]
 fn answer<'a, S: SentList<'a>>(
     alloc: Global,
     p: &Params,
@@ -153,11 +179,35 @@ fn answer<'a, S: SentList<'a>>(
     requires { AreSentLists p.now packets (S.content client.now) (S.content server.now) }
     ensures { IsAnswer p.now (S.content client.now) (S.content server.now) result }
 {
-    let mut pass = Pass::new(alloc, p);
-    for _ in 0..u64::from(client.len()) + u64::from(server.len()) {
-        pass.explain_next(p, client, server)?;
+    match pass_through(alloc, p, packets, client, server) {
+        Ok(pass) => pass.into_certificate(),
+        Err(stop) => Err(stop.fault()),
     }
-    pass.into_certificate()
+}
+
+/// What a pass over the two sent lists of so many packets can't get over, as no part of any verdict: where
+/// [`propose_lists`] answers [`Fault::NOT_FOUND`], the packet at its place, with its end and the rule that
+/// refuses it.
+///
+/// Refused by [`Fault::NO_MEMORY`] alone.
+#[tactic(auto, using(crate::proofs::Answering::none_met, crate::proofs::Answering::one_met))]
+pub fn find_obstacle<'a, S: SentList<'a>>(
+    alloc: Global,
+    p: &Params,
+    packets: u32,
+    client: &S,
+    server: &S,
+) -> Result<Option<Obstacle>, Fault>
+    // Both are the sent lists of so many packets.
+    requires crossed { AreSentLists p.now packets (S.content client.now) (S.content server.now) }
+    ensures met { IfOk result (IsMet p.now (S.content client.now) (S.content server.now)) }
+    ensures err { IfErr result (λ f. f ≡ no_memory) }
+{
+    match pass_through(alloc, p, packets, client, server) {
+        Ok(_) => Ok(None),
+        Err(Stop::Blocked(met)) => Ok(Some(met)),
+        Err(Stop::OutOfMemory) => Err(Fault::at(Fault::NO_MEMORY, 0)),
+    }
 }
 
 /// Proposes scripts for the two sent lists of so many packets: each first copy is explained in the order of

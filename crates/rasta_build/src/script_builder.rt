@@ -12,7 +12,9 @@ ghost use Rattle.rasta_build.specs.Explaining;
 ghost use Rattle.rasta_build.specs.Explaining.{take_step, accept_step, accept_from, try_step, take_step_by, make_step};
 
 use crate::clock::clock_from;
+use crate::halt::Halt;
 use crate::peer::Peer;
+use crate::rules::Rule;
 use crate::stuck::Stuck;
 use rasta_cert::Entry;
 use rasta_check::SentList;
@@ -136,7 +138,7 @@ impl<'a> ScriptBuilder<'a> {
         peer: &S,
         place: u32,
         pdu: &Pdu<'a>,
-    ) -> Result<(), Stuck>
+    ) -> Result<(), Halt>
         requires params { self.old.end.params ≡ params.now }
         requires accepted { self.old.end.state.accepted < 2 ^ 62 }
         ensures ok { OnOk result (Explaining.explain (S.content peer.now) place (value_of pdu.now).safety self.old ≡ Some self.new) }
@@ -153,7 +155,7 @@ impl<'a> ScriptBuilder<'a> {
         peer: &S,
         place: u32,
         pdu: &Pdu<'a>,
-    ) -> Result<(), Stuck>
+    ) -> Result<(), Halt>
         requires params { self.old.end.params ≡ params.now }
         requires accepted { self.old.end.state.accepted < 2 ^ 62 }
         ensures ok { OnOk result (take_step_by (Choices.has_to_take self.old.side self.old.end.state (value_of pdu.now).safety.kind) (S.content peer.now) place (value_of pdu.now).safety self.old ≡ Some self.new) }
@@ -192,12 +194,7 @@ impl<'a> ScriptBuilder<'a> {
     }
 
     // Accepts what the peer sent, through the position that a CS names.
-    fn accept_through<S: SentList<'a>>(
-        &mut self,
-        peer: &S,
-        place: u32,
-        cs: u32,
-    ) -> Result<(), Stuck>
+    fn accept_through<S: SentList<'a>>(&mut self, peer: &S, place: u32, cs: u32) -> Result<(), Halt>
         requires { self.old.end.state.accepted < 2 ^ 62 }
         ensures ok { OnOk result (Explaining.accept_through (S.content peer.now) place self.old (Choices.position_named self.old.peer.quiet_sn (S.content peer.now) cs) ≡ Some self.new) }
         ensures err { IfErr result (λ stuck. stuck ≡ Stuck.Unexplained → Explaining.accept_through (S.content peer.now) place self.old (Choices.position_named self.old.peer.quiet_sn (S.content peer.now) cs) ≡ None) }
@@ -205,7 +202,7 @@ impl<'a> ScriptBuilder<'a> {
         ensures accepted { OnOk result (self.new.end.state.accepted < 2 ^ 62) }
     {
         let Some(last) = self.peer.position_named(peer, cs) else {
-            return Err(Stuck::Unexplained);
+            return Err(Halt::by(Rule::PeerIsSilent));
         };
         let next = self.end.accepted();
         let bound = u64::from(last) + 1;
@@ -213,12 +210,29 @@ impl<'a> ScriptBuilder<'a> {
             return Ok(());
         }
         if bound < next || !self.peer.has_crossed(peer, u64::from(last), place) {
-            return Err(Stuck::Unexplained);
+            return Err(Halt::by(self.why_unconfirmed(peer, cs, last)));
         }
         let Some(first) = self.first_acceptable(peer, next, bound) else {
-            return Err(Stuck::Unexplained);
+            return Err(Halt::by(Rule::NoResponse));
         };
         self.accept_range(peer, place, first, bound)
+    }
+
+    // Why a CS that names this position can't be confirmed: it comes before what is accepted, or hasn't crossed.
+    fn why_unconfirmed<S: SentList<'a>>(&self, peer: &S, cs: u32, last: u32) -> Rule {
+        let bound = u64::from(last) + 1;
+        match (
+            self.end.accepted().checked_sub(bound),
+            self.peer.get(peer, u64::from(last)),
+        ) {
+            (Some(passed), _) => Rule::ConfirmsEarlier {
+                confirmed: cs.wrapping_add((passed % (1 << 32)) as u32),
+            },
+            (None, Some((_, pdu))) => Rule::ConfirmsLater {
+                number: pdu.number(),
+            },
+            (None, None) => Rule::ConfirmsNone,
+        }
     }
 
     // The first position to be accepted, from one on and before another: an end that waits for a
@@ -240,7 +254,7 @@ impl<'a> ScriptBuilder<'a> {
         slot: u32,
         first: u64,
         bound: u64,
-    ) -> Result<(), Stuck>
+    ) -> Result<(), Halt>
         requires accepted { self.old.end.state.accepted < 2 ^ 62 }
         requires few { bound < 2 ^ 33 }
         ensures ok { OnOk result (accept_from (S.content peer.now) slot first (bound - first) self.old ≡ Some self.new) }
@@ -255,23 +269,20 @@ impl<'a> ScriptBuilder<'a> {
     }
 
     // Takes the PDU at a position, which has to be accepted.
-    fn accept_at<S: SentList<'a>>(
-        &mut self,
-        peer: &S,
-        slot: u32,
-        position: u64,
-    ) -> Result<(), Stuck>
+    fn accept_at<S: SentList<'a>>(&mut self, peer: &S, slot: u32, position: u64) -> Result<(), Halt>
         requires { self.old.end.state.accepted < 2 ^ 62 }
         ensures ok { OnOk result (accept_step (S.content peer.now) slot position self.old ≡ Some self.new) }
         ensures err { IfErr result (λ stuck. stuck ≡ Stuck.Unexplained → accept_step (S.content peer.now) slot position self.old ≡ None) }
     {
         let Some((_, pdu)) = self.peer.get(peer, position) else {
-            return Err(Stuck::Unexplained);
+            return Err(Halt::by(Rule::ConfirmsNone));
         };
         self.take(slot, position, &pdu)?;
         match self.end.accepted().checked_sub(1) {
             Some(last) if last == position => Ok(()),
-            _ => Err(Stuck::Unexplained),
+            _ => Err(Halt::by(Rule::NotAccepted {
+                number: pdu.number(),
+            })),
         }
     }
 
@@ -283,7 +294,7 @@ impl<'a> ScriptBuilder<'a> {
         peer: &S,
         place: u32,
         made: Kind,
-    ) -> Result<(), Stuck>
+    ) -> Result<(), Halt>
         requires params { self.old.end.params ≡ params.now }
         requires accepted { self.old.end.state.accepted < 2 ^ 62 }
         ensures ok { OnOk result (Explaining.take_trigger (S.content peer.now) place made self.old ≡ Some self.new) }
@@ -307,7 +318,7 @@ impl<'a> ScriptBuilder<'a> {
         made: Kind,
         first: u64,
         bound: u64,
-    ) -> Result<(), Stuck>
+    ) -> Result<(), Halt>
         requires accepted { self.old.end.state.accepted < 2 ^ 62 }
         requires few { bound ≤ first + 2 ^ 20 }
         ensures ok { OnOk result (Explaining.scan (S.content peer.now) place made first (bound - first) self.old ≡ Some self.new) }
@@ -320,7 +331,7 @@ impl<'a> ScriptBuilder<'a> {
                 return Ok(());
             }
         }
-        Err(Stuck::Unexplained)
+        Err(Halt::by(Rule::nothing_for(made)))
     }
 
     // Takes the PDU at a position, which has to have crossed, where it can be what the end answers or asks
@@ -331,7 +342,7 @@ impl<'a> ScriptBuilder<'a> {
         slot: u32,
         position: u64,
         made: Kind,
-    ) -> Result<(), Stuck>
+    ) -> Result<(), Halt>
         requires { self.old.end.state.accepted < 2 ^ 63 }
         ensures ok { OnOk result (try_step (S.content peer.now) slot made position self.old ≡ Some self.new) }
         ensures err { IfErr result (λ stuck. stuck ≡ Stuck.Unexplained → try_step (S.content peer.now) slot made position self.old ≡ None) }
@@ -340,7 +351,7 @@ impl<'a> ScriptBuilder<'a> {
             Some((crossed_at, pdu)) if crossed_at < slot => {
                 self.try_trigger(slot, position, made, &pdu)
             }
-            _ => Err(Stuck::Unexplained),
+            _ => Err(Halt::by(Rule::nothing_for(made))),
         }
     }
 
@@ -351,7 +362,7 @@ impl<'a> ScriptBuilder<'a> {
         position: u64,
         made: Kind,
         pdu: &Pdu<'a>,
-    ) -> Result<(), Stuck>
+    ) -> Result<(), Halt>
         requires { self.old.end.state.accepted < 2 ^ 63 }
         ensures ok { OnOk result (Explaining.try_at (Choices.is_trigger made (value_of pdu.now).safety.kind) slot position (value_of pdu.now) self.old ≡ Some self.new) }
         ensures err { IfErr result (λ stuck. stuck ≡ Stuck.Unexplained → Explaining.try_at (Choices.is_trigger made (value_of pdu.now).safety.kind) slot position (value_of pdu.now) self.old ≡ None) }
@@ -374,13 +385,21 @@ impl<'a> ScriptBuilder<'a> {
     }
 
     // Leads the end by the take of a PDU.
-    fn lead(&mut self, pdu: &Pdu<'a>) -> Result<(), Stuck>
+    fn lead(&mut self, pdu: &Pdu<'a>) -> Result<(), Halt>
         requires { self.old.end.state.accepted < 2 ^ 63 }
         ensures ok { OnOk result ((take_fault self.old.end.params self.old.end.state self.old.end.state.clock ≡ None) × (self.new ≡ Built.lead (after_take self.old.end.params self.old.end.state (value_of pdu.now).safety) self.old)) }
         ensures err { IfErr result (λ stuck. stuck ≡ Stuck.Unexplained → (fault : ℕ) × (take_fault self.old.end.params self.old.end.state self.old.end.state.clock ≡ Some fault)) }
     {
-        self.end.take(pdu)?;
-        Ok(())
+        match self.end.take(pdu) {
+            Ok(()) => Ok(()),
+            Err(fault) => Err(Halt::of(
+                Stuck::from(fault),
+                Rule::TakeRefused {
+                    number: pdu.number(),
+                    fault: fault.number,
+                },
+            )),
+        }
     }
 
     // Notes a take that had an effect.
@@ -390,7 +409,7 @@ impl<'a> ScriptBuilder<'a> {
         slot: u32,
         position: u64,
         pdu: &Pdu<'a>,
-    ) -> Result<(), Stuck>
+    ) -> Result<(), Halt>
         ensures ok { OnOk result (self.new ≡ Built.note_take before slot position (value_of pdu.now) self.old) }
         ensures err { IfErr result (λ stuck. stuck ≡ Stuck.NoMemory) }
     {
@@ -407,13 +426,15 @@ impl<'a> ScriptBuilder<'a> {
 
     // Takes a PDU that may still be taken. It is no entry of the script where it changes nothing.
     #[tactic(auto, using(crate::proofs::Effects::take_moved, crate::proofs::Effects::take_unmoved, crate::proofs::Effects::take_refused, crate::proofs::Effects::take_below))]
-    fn take(&mut self, slot: u32, position: u64, pdu: &Pdu<'a>) -> Result<(), Stuck>
+    fn take(&mut self, slot: u32, position: u64, pdu: &Pdu<'a>) -> Result<(), Halt>
         requires { self.old.end.state.accepted < 2 ^ 63 }
         ensures ok { OnOk result (take_step slot position (value_of pdu.now) self.old ≡ Some self.new) }
         ensures err { IfErr result (λ stuck. stuck ≡ Stuck.Unexplained → take_step slot position (value_of pdu.now) self.old ≡ None) }
     {
         if position < self.next_take {
-            return Err(Stuck::Unexplained);
+            return Err(Halt::by(Rule::TakesEarlier {
+                number: pdu.number(),
+            }));
         }
         let before = self.progress();
         self.lead(pdu)?;
@@ -423,13 +444,13 @@ impl<'a> ScriptBuilder<'a> {
         self.note_take(before, slot, position, pdu)
     }
 
-    fn note(&mut self, entry: Entry) -> Result<(), Stuck>
+    fn note(&mut self, entry: Entry) -> Result<(), Halt>
         ensures ok { OnOk result (self.new ≡ Built.note entry self.old) }
         ensures err { IfErr result (λ stuck. stuck ≡ Stuck.NoMemory) }
     {
         match self.script.push(entry) {
             Ok(()) => Ok(()),
-            Err(_) => Err(Stuck::NoMemory),
+            Err(_) => Err(Halt::no_memory()),
         }
     }
 
@@ -460,23 +481,23 @@ impl<'a> ScriptBuilder<'a> {
     }
 
     // Makes the PDU at a place, at the least clock that its time stamp allows.
-    fn make(&mut self, params: &Params, place: u32, pdu: &Pdu<'a>) -> Result<(), Stuck>
+    fn make(&mut self, params: &Params, place: u32, pdu: &Pdu<'a>) -> Result<(), Halt>
         requires { self.old.end.params ≡ params.now }
         ensures ok { OnOk result (make_step place (value_of pdu.now).safety self.old ≡ Some self.new) }
         ensures err { IfErr result (λ stuck. stuck ≡ Stuck.Unexplained → make_step place (value_of pdu.now).safety self.old ≡ None) }
     {
         let Some(why) = self.why(pdu) else {
-            return Err(Stuck::Unexplained);
+            return Err(Halt::by(Rule::NothingToResend));
         };
         let Some(clock) = clock_from(self.clock, pdu.ts()) else {
-            return Err(Stuck::Unexplained);
+            return Err(Halt::by(Rule::ClockTooLarge));
         };
         match self.end.make(pdu, clock, why) {
             Ok(()) => self.note_make(place, clock, why),
             Err(fault) if fault.number == Fault::TOO_EARLY_TIMEOUT => {
                 self.make_later(params, place, pdu, clock, why)
             }
-            Err(fault) => Err(Stuck::from(fault)),
+            Err(fault) => Err(Halt::from(fault)),
         }
     }
 
@@ -488,17 +509,17 @@ impl<'a> ScriptBuilder<'a> {
         pdu: &Pdu<'a>,
         early: u64,
         why: Why,
-    ) -> Result<(), Stuck>
+    ) -> Result<(), Halt>
         requires { self.old.end.params ≡ params.now }
         ensures ok { OnOk result (Explaining.make_later place (value_of pdu.now).safety why (Some early) self.old ≡ Some self.new) }
         ensures err { IfErr result (λ stuck. stuck ≡ Stuck.Unexplained → Explaining.make_later place (value_of pdu.now).safety why (Some early) self.old ≡ None) }
     {
         let Some(next) = early.checked_add(1) else {
-            return Err(Stuck::Unexplained);
+            return Err(Halt::by(Rule::ClockTooLarge));
         };
         let least = next.max(self.earliest_timeout(params));
         let Some(clock) = clock_from(least, pdu.ts()) else {
-            return Err(Stuck::Unexplained);
+            return Err(Halt::by(Rule::ClockTooLarge));
         };
         self.end.make(pdu, clock, why)?;
         self.note_make(place, clock, why)
@@ -520,7 +541,7 @@ impl<'a> ScriptBuilder<'a> {
         }
     }
 
-    fn note_make(&mut self, index: u32, clock: u64, why: Why) -> Result<(), Stuck>
+    fn note_make(&mut self, index: u32, clock: u64, why: Why) -> Result<(), Halt>
         ensures ok { OnOk result (self.new ≡ Built.note (Entry.Make index clock why) (record self.old { clock = clock })) }
         ensures err { IfErr result (λ stuck. stuck ≡ Stuck.NoMemory) }
     {

@@ -1,6 +1,6 @@
-//! Why a script can't go on.
+//! Whether a script can't go on for want of a step or of memory.
 ghost use Rattle.std.specs.Prelude.{◌≡◌};
-ghost use Rattle.rasta_build.specs.Choices.{fault_of_stuck, stuck_by};
+ghost use Rattle.rasta_build.specs.Choices.{stuck_by};
 
 use rasta_pdu::Fault;
 
@@ -22,18 +22,6 @@ impl From<Fault> for Stuck {
             Stuck::NoMemory
         } else {
             Stuck::Unexplained
-        }
-    }
-}
-
-impl Stuck {
-    /// The fault at the packet of this place.
-    pub(crate) fn at(self, place: u32) -> Fault
-        ensures { result ≡ fault_of_stuck self place }
-    {
-        match self {
-            Stuck::Unexplained => Fault::at(Fault::NOT_FOUND, place.saturating_add(1)),
-            Stuck::NoMemory => Fault::at(Fault::NO_MEMORY, 0),
         }
     }
 }

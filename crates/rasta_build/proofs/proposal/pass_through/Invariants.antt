@@ -1,6 +1,6 @@
 use Rattle.std.proofs.Common.{◌≡◌, Ok}
 use Rattle.rasta_build.specs.Proposing.{passes}
-use Rattle.rasta_build.proofs.proposal.answer.Given as goal
+use Rattle.rasta_build.proofs.proposal.pass_through.Given as goal
 
 -- so many first copies are explained
 abbrev pub invariant-loop : goal.invariant-loop
