@@ -1,4 +1,5 @@
 pub mod Drafts
+pub mod Explained
 pub mod Failing
 pub mod FileKinds
 pub mod Watching

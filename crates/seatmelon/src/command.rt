@@ -2,15 +2,18 @@
 use clap::builder::ValueParser;
 use clap::error::ErrorKind;
 use clap::{Arg, ArgAction, ArgMatches, Command, Error, value_parser};
+use seatmelon_explain::Form;
 use std::alloc::{AllocError, Global};
 
-/// What is to be explained: the paths of the files, and the numbers of the records that are left out, rising.
+/// What is to be explained: the paths of the files, the numbers of the records that are left out, rising, and
+/// what is written.
 #[derive(Debug, Drop)]
 pub struct Explaining<'a> {
     pub capture: &'a str,
     pub parameters: &'a str,
     pub certificate: Option<&'a str>,
     pub without: Vec<u32>,
+    pub form: Form,
 }
 
 /// What the program is asked for.
@@ -22,7 +25,7 @@ pub enum Request<'a> {
     /// A parameter file for the connection of this number, from 1.
     Draft { capture: &'a str, number: u64 },
 
-    /// The verdict on a capture, in words.
+    /// The verdict on a capture, in words or as data.
     Explain(Explaining<'a>),
 }
 
@@ -84,6 +87,14 @@ fn without<'a>(alloc: Global) -> Arg<'a> {
         .value_parser(ValueParser::unsigned(1, 4_294_967_295))
 }
 
+// The option that asks for data in place of words.
+fn json<'a>(alloc: Global) -> Arg<'a> {
+    Arg::new(alloc, "json")
+        .long("json")
+        .help("Writes the same as one JSON object, for programs")
+        .action(ArgAction::SetTrue)
+}
+
 fn explain<'a>(alloc: Global) -> Result<Command<'a>, AllocError> {
     let capture = Arg::new(alloc, "capture")
         .value_name("CAPTURE")
@@ -104,7 +115,8 @@ fn explain<'a>(alloc: Global) -> Result<Command<'a>, AllocError> {
         .arg(capture)?
         .arg(parameters)?
         .arg(certificate)?
-        .arg(without(alloc))
+        .arg(without(alloc))?
+        .arg(json(alloc))
 }
 
 fn command<'a>(alloc: Global) -> Result<Command<'a>, AllocError> {
@@ -132,6 +144,15 @@ fn left_out(alloc: Global, matches: &ArgMatches<'_>) -> Result<Vec<u32>, AllocEr
     Ok(numbers)
 }
 
+// What is to be written.
+fn form_in(matches: &ArgMatches<'_>) -> Form {
+    if matches.get_flag("json") {
+        Form::Json
+    } else {
+        Form::Text
+    }
+}
+
 // What the words of `explain` ask for.
 fn explaining_in<'a>(
     alloc: Global,
@@ -146,6 +167,7 @@ fn explaining_in<'a>(
         parameters,
         certificate: matches.get_str("certificate"),
         without: left_out(alloc, matches)?,
+        form: form_in(matches),
     })))
 }
 

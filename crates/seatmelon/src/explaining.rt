@@ -1,6 +1,8 @@
 //! The command `explain`.
-ghost use Rattle.std.specs.Prelude.{◌≡◌, ◌≢◌, ◌≤◌, IfErr, IfOk};
+ghost use Rattle.std.specs.Prelude.{◌≡◌, ◌≢◌, ◌≤◌, IfErr, IfOk, Ok};
 ghost use Rattle.seatmelon_explain.specs.declared.explaining.Outcome.TheVariants.{Changed, Explained};
+ghost use Rattle.seatmelon_explain.specs.Outcomes;
+ghost use Rattle.seatmelon.specs.Explained.{certificate_in, IsCaptureExplained};
 ghost use Rattle.seatmelon.specs.Failing.{status_of, IsOfExplaining};
 
 use crate::answer::unwritten;
@@ -12,7 +14,7 @@ use crate::reading::{BUFFER, unread, whole_file};
 use crate::watched::Watched;
 use rasta_pcap::{Buffered, Counted, Fault, Sink, Source};
 use rasta_pdu::Params;
-use seatmelon_explain::{Names, Outcome, Texts, explain};
+use seatmelon_explain::{Choices, Names, Outcome, Texts, explain};
 use std::alloc::Global;
 use std::fs::File;
 use std::io::{BufWriter, Read, Write};
@@ -35,7 +37,9 @@ pub struct Explanation {
 }
 
 impl Inputs {
-    fn texts(&self) -> Texts<'_> {
+    fn texts(&self) -> Texts<'_>
+        ensures { Outcomes.certificate_in result ≡ certificate_in self.now }
+    {
         Texts {
             parameters: self.parameters.as_slice(),
             certificate: self.certificate.as_deref(),
@@ -51,11 +55,17 @@ fn write_explanation<R: Source, A: Source, W: Sink>(
     first: &mut R,
     again: &mut A,
     writer: &mut W,
-) -> Result<Outcome, Fault> {
+) -> Result<Outcome, Fault>
+    ensures { IfOk result (λ o. o ≡ Explained → IsCaptureExplained explaining.now inputs.now (R.remaining first.old)) }
+{
     let names = Names {
         capture: explaining.capture,
         parameters: explaining.parameters,
         certificate: explaining.certificate,
+    };
+    let choices = Choices {
+        without: explaining.without.as_slice(),
+        form: explaining.form,
     };
     let mut first = Buffered::new(alloc, first, BUFFER)?;
     let mut again = Buffered::new(alloc, again, BUFFER)?;
@@ -64,7 +74,7 @@ fn write_explanation<R: Source, A: Source, W: Sink>(
         &names,
         &inputs.texts(),
         &inputs.params,
-        &explaining.without,
+        &choices,
         &mut first,
         &mut again,
         writer,
@@ -72,7 +82,9 @@ fn write_explanation<R: Source, A: Source, W: Sink>(
 }
 
 // What was written came to this, once all of it is out.
-fn flushed<W: Write>(outcome: Result<Outcome, Fault>, writer: &mut W) -> Result<Outcome, Fault> {
+fn flushed<W: Write>(outcome: Result<Outcome, Fault>, writer: &mut W) -> Result<Outcome, Fault>
+    ensures { IfOk result (λ o. outcome ≡ Ok o) }
+{
     let outcome = outcome?;
     match writer.flush() {
         Ok(()) => Ok(outcome),
@@ -116,7 +128,9 @@ pub fn explain_of<A: Read + Drop, B: Read + Drop, W: Write + Drop>(
     again: B,
     device: W,
 ) -> Result<Explanation, Failure>
-    ensures ok { IfOk result (λ e. e.outcome ≢ Changed) }
+    // Where no record is left out, the capture has no fault, and the checker answers a report on what crossed by it.
+    ensures explained { IfOk result (λ e. e.outcome ≡ Explained → IsCaptureExplained explaining.now inputs.now (A.remaining first)) }
+    ensures changed { IfOk result (λ e. e.outcome ≢ Changed) }
     ensures err { IfErr result (λ failure. status_of failure ≡ 3) }
 {
     let Ok(buffered) = BufWriter::with_capacity(alloc, BUFFER, Watched::new(device)) else {

@@ -10,6 +10,7 @@ use crate::parameters::params_in;
 use crate::reading::whole_of;
 use crate::surveying::survey_of;
 use rasta_pcap::devices::{FailAt, Pieces};
+use seatmelon_explain::Form;
 use std::alloc::Global;
 use std::io;
 use std::io::{Read, Write};
@@ -33,9 +34,10 @@ fn explaining_text(alloc: Global, explaining: &Explaining<'_>) -> Result<String,
         parameters,
         certificate,
         without,
+        form,
     } = explaining;
     let certificate = certificate.unwrap_or("-");
-    Ok(format!(in alloc; "explain {capture} {parameters} {certificate} {without:?}")?)
+    Ok(format!(in alloc; "explain {capture} {parameters} {certificate} {without:?} {form:?}")?)
 }
 
 // The request as a text, or what is wrong with the words.
@@ -64,13 +66,15 @@ draft c 1 | draft 1 of c
 draft c 0 | draft 0 of c
 draft c 018446744073709551615 | draft 18446744073709551615 of c
 draft -- -c 7 | draft 7 of -c
-explain c p | explain c p - []
-explain c p z | explain c p z []
-explain -- -c -p -z | explain -c -p -z []
-explain c p --without 7 | explain c p - [7]
-explain --without=7 c p z | explain c p z [7]
-explain c --without 9 p --without 2 z --without 9 | explain c p z [2, 9]
-explain c p --without 1 --without 4294967295 | explain c p - [1, 4294967295]
+explain c p | explain c p - [] Text
+explain c p z | explain c p z [] Text
+explain -- -c -p -z | explain -c -p -z [] Text
+explain c p --without 7 | explain c p - [7] Text
+explain --without=7 c p z | explain c p z [7] Text
+explain c --without 9 p --without 2 z --without 9 | explain c p z [2, 9] Text
+explain c p --without 1 --without 4294967295 | explain c p - [1, 4294967295] Text
+explain c p --json | explain c p - [] Json
+explain --json c --without 7 p z | explain c p z [7] Json
 --help | DisplayHelp
 help | DisplayHelp
 survey --help | DisplayHelp
@@ -95,6 +99,10 @@ explain c p --without 0 | ValueValidation
 explain c p --without 4294967296 | ValueValidation
 explain c p --without x | ValueValidation
 explain c p --without | InvalidValue
+explain c p --json 1 2 | UnknownArgument
+explain c p --json=1 | TooManyValues
+explain c p --json --json | ArgumentConflict
+survey c --json | UnknownArgument
 survey c --without 7 | UnknownArgument
 ";
 
@@ -397,6 +405,7 @@ fn explained<A: Read + Drop, B: Read + Drop, W: Write + Drop>(
         parameters: "p",
         certificate: None,
         without: Vec::new(alloc),
+        form: Form::Text,
     };
     let inputs = Inputs {
         params,

@@ -5,7 +5,7 @@ use Rattle.rasta_pcap.specs.Stream.{ReadsSo}
 use Rattle.rasta_check.specs.Capture.Reading.{crossing_of}
 use Rattle.rasta_check.specs.Internals.Storing.{IsFailure, IsRefusedSo}
 use Rattle.rasta_pdu.specs.Params.{Parameters}
-use Rattle.seatmelon_explain.specs.Outcomes.{IsFileExplained, IsStoredExplained}
+use Rattle.seatmelon_explain.specs.Outcomes.{IsFileExplained, IsSomeExplained, IsStoredExplained}
 use Rattle.seatmelon_explain.specs.Reading.{IsRead, IsRefusal}
 use Rattle.seatmelon_explain.specs.declared.explaining.Outcome.{Outcome}
 use Rattle.seatmelon_explain.specs.declared.explaining.Outcome.TheVariants as outcomes
@@ -34,6 +34,13 @@ pub file_explained : (p : Parameters) (stored : Stored) (known text : Option (Li
 file_explained p stored None text read is_explained = tt
 file_explained p (Crossed k) (Some file) text read is_explained = (k, read, is_explained)
 file_explained p (Refused r) (Some file) text read is_explained = absurd is_explained
+
+-- where an outcome is that what crossed is explained, something is
+pub outcome_judged : (stored : Stored) (text : Option (List ℕ)) (r : Result Outcome Fault)
+    → IfOk r (λ o. o ≡ outcomes.Explained → IsStoredExplained stored text) → IfOk r (λ o. o ≡ outcomes.Explained → IsSomeExplained text)
+outcome_judged stored text (Err e) h = tt
+outcome_judged (Crossed k) text (Ok o) h = λ is. (k, h is)
+outcome_judged (Refused r) text (Ok o) h = λ is. absurd (h is)
 
 -- where an outcome is that what crossed is explained, the file is
 pub outcome_explained : (p : Parameters) (stored : Stored) (known text : Option (List ℕ)) (without : List ℕ) (r : Result Outcome Fault)

@@ -1,9 +1,12 @@
 -- What a verdict on what crossed says.
 use Rattle.std.specs.Prelude.{◌≡◌, ℕ, List, length, Option, None, Some, Ok, Err}
 use Rattle.rasta_pcap.specs.declared.fault.Fault.{Fault}
+use Rattle.rasta_pcap.specs.Fault.{not_found}
 use Rattle.rasta_cert.specs.Certificate.{Scripts, IsCertificate, certificate_text}
 use Rattle.rasta_cert.specs.Refusals.{IsRefused}
 use Rattle.rasta_build.specs.Completeness.{IsAnswer, IsComplete}
+use Rattle.rasta_build.specs.Stopping.{IsMet}
+use Rattle.rasta_build.specs.declared.obstacles.Obstacle.{Obstacle}
 use Rattle.rasta_check.specs.declared.report.Report.{Report}
 use Rattle.rasta_check.specs.Capture.Reading.{Crossing}
 use Rattle.rasta_check.specs.Verdict.Report.{IsScriptVerdict, explained}
@@ -31,13 +34,17 @@ IsExplainedBy k scripts report = IsScriptVerdict k.params (length k.packets) k.c
 
 -- the verdict of the checker on these scripts
 abbrev pub HasScripts : Crossing → Scripts → Verdict → Type 0
-HasScripts k scripts (Unscripted fault) = ⊥
+HasScripts k scripts (Unscripted fault met) = ⊥
 HasScripts k scripts (Refused fault certificate) = (certificate ≡ scripts) × IsRefusedBy k scripts fault
 HasScripts k scripts (Explained e) = (e.store.now ≡ k) × (e.certificate ≡ scripts) × IsExplainedBy k scripts e.report
 
+-- where nothing is found, this is what a walk over the same lists meets
+abbrev pub IsBehind : Crossing → Fault → Option Obstacle → Type 0
+IsBehind k fault met = fault.number ≡ not_found → IsMet k.params k.client k.server met
+
 -- the verdict on what crossed and a certificate's text, or on what is proposed where there is none
 abbrev pub IsJudged : Crossing → Option (List ℕ) → Verdict → Type 0
-IsJudged k text (Unscripted fault) = IsUnscripted k text fault
+IsJudged k text (Unscripted fault met) = IsUnscripted k text fault × IsBehind k fault met
 IsJudged k text (Refused fault scripts) = AreScripts k text scripts × IsRefusedBy k scripts fault
 IsJudged k text (Explained e) = (e.store.now ≡ k) × AreScripts k text e.certificate × IsExplainedBy k e.certificate e.report
 

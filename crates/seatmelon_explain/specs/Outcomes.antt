@@ -16,6 +16,10 @@ certificate_in texts = option_map (λ text. text.now) texts.certificate
 abbrev pub certificate_of : Page → Option (List ℕ)
 certificate_of page = certificate_in page.texts
 
+-- something that crossed is explained
+abbrev pub IsSomeExplained : Option (List ℕ) → Type 0
+IsSomeExplained text = (k : Crossing) × IsExplained k text
+
 -- something crossed, and it is explained
 abbrev pub IsStoredExplained : Stored → Option (List ℕ) → Type 0
 IsStoredExplained (Crossed k) text = IsExplained k text

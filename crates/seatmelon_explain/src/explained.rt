@@ -4,10 +4,11 @@ ghost use Rattle.rasta_pcap.specs.Fault.{write_failed};
 
 use crate::explanation::Explanation;
 use crate::page::{Page, write_offers, write_place, write_read, write_without};
+use crate::sent_messages::{SentMessage, SentMessages, list_of, sent_count};
 use crate::text::{Part, other, write_parts, write_words};
-use rasta_check::{SentList, SpanList, Taken};
+use rasta_check::{SpanList, Store, Taken};
 use rasta_pcap::{Fault, Side, Sink};
-use rasta_pdu::{Kind, Pdu, QuietEnd};
+use rasta_pdu::QuietEnd;
 
 const SAYS: &str = "\
 What this says:
@@ -19,12 +20,44 @@ What it doesn't say:
   that the ends kept the rules, or which of these runs took place.
   A message that is listed as not shown may have been taken all the same.
 What it rests on:
-  Whatever an end sent reached the tap, in the order in which it was sent, and the capture has all
-  of it, in that order.
 ";
 
-const RESTS_TOO: &str =
-    "  The parameters are right.\n  For 'surely taken': both ends kept the rules.\n";
+const REACHED: &str = "\
+Whatever an end sent reached the tap, in the order in which it was sent, and the capture has all
+  of it, in that order.";
+
+const NO_STRANGERS: &str = "Nobody else sent a packet between the recorded addresses.";
+
+const NO_VALID_STRANGERS: &str =
+    "Nobody else sent a packet with a valid safety code between the recorded addresses.";
+
+/// The premise of a capture without a quiet point.
+pub const WITH_OPENING: &str = "What is judged begins before the opening of the connection.";
+
+/// The premises of 'explained', but for where what is judged begins. Where there is no safety code, anybody can
+/// have sent a packet.
+pub fn premises(page: &Page<'_>) -> [&'static str; 4] {
+    let strangers = if page.params.code_length() > 0 {
+        NO_VALID_STRANGERS
+    } else {
+        NO_STRANGERS
+    };
+    [
+        REACHED,
+        strangers,
+        "The parameters are right.",
+        "For 'surely taken': both ends kept the rules.",
+    ]
+}
+
+/// The premise of a capture with a quiet point, but for its end.
+pub fn quiet_premise(page: &Page<'_>) -> [Part<'static>; 3] {
+    [
+        Part::Words("The quiet point before record "),
+        Part::Number(u64::from(page.params.first_record())),
+        Part::Words(" is true, and no copy of an earlier packet comes after it"),
+    ]
+}
 
 // Writes a number that may be missing.
 fn write_optional<W: Sink>(writer: &mut W, words: &str, number: Option<u64>) -> Result<(), Fault>
@@ -56,24 +89,26 @@ fn write_quiet_end<W: Sink>(writer: &mut W, side: Side, end: &QuietEnd) -> Resul
     write_words(writer, "\n")
 }
 
+// Writes a premise as a line.
+fn write_premise<W: Sink>(writer: &mut W, words: &str) -> Result<(), Fault>
+    ensures err { IfErr result (λ f. f ≡ write_failed) }
+{
+    write_parts(
+        writer,
+        &[Part::Words("  "), Part::Words(words), Part::Words("\n")],
+    )
+}
+
 // Writes where what is judged begins.
 fn write_start<W: Sink>(writer: &mut W, page: &Page<'_>) -> Result<(), Fault>
     ensures err { IfErr result (λ f. f ≡ write_failed) }
 {
     let Some(quiet) = page.params.quiet() else {
-        return write_words(
-            writer,
-            "  What is judged begins before the opening of the connection.\n",
-        );
+        return write_premise(writer, WITH_OPENING);
     };
-    write_parts(
-        writer,
-        &[
-            Part::Words("  The quiet point before record "),
-            Part::Number(u64::from(page.params.first_record())),
-            Part::Words(" is true, and no copy of an earlier packet comes after it:\n"),
-        ],
-    )?;
+    write_words(writer, "  ")?;
+    write_parts(writer, &quiet_premise(page))?;
+    write_words(writer, ":\n")?;
     write_quiet_end(writer, Side::Client, &quiet.client)?;
     write_quiet_end(writer, Side::Server, &quiet.server)
 }
@@ -128,79 +163,43 @@ fn write_taken_list<W: Sink>(
     Ok(())
 }
 
-// How many messages a PDU sends for the first time.
-fn message_count(pdu: &Pdu<'_>) -> u64 {
-    if pdu.kind() != Kind::Data {
-        return 0;
-    }
-    let mut count: u64 = 0;
-    for _ in pdu.messages() {
-        count = count.saturating_add(1);
-    }
-    count
-}
-
-// How many messages an end sent.
-fn sent_count(list: &SpanList<'_>) -> u64 {
-    let mut count: u64 = 0;
-    for position in 0..list.len() {
-        if let Some((_, pdu)) = list.get(position) {
-            count = count.saturating_add(message_count(&pdu));
-        }
-    }
-    count
-}
-
-// Writes the messages of a PDU that aren't listed: those from `listed` on, of which the PDU has its first at
-// `first`.
-fn write_rest_of<W: Sink>(
+// Writes a message that isn't listed.
+fn write_unlisted<W: Sink>(
     writer: &mut W,
     page: &Page<'_>,
-    place: u32,
-    pdu: &Pdu<'_>,
-    first: u64,
-    listed: u64,
+    sent: &SentMessage<'_>,
 ) -> Result<(), Fault>
     ensures err { IfErr result (λ f. f ≡ write_failed) }
 {
-    let mut number = first;
-    for message in pdu.messages() {
-        if number >= listed {
-            write_parts(
-                writer,
-                &[
-                    Part::Words("  message "),
-                    Part::Number(number),
-                    Part::Words(": not shown\n    data: "),
-                ],
-            )?;
-            write_place(writer, page, place)?;
-            write_bytes(writer, message)?;
-        }
-        number = number.saturating_add(1);
-    }
-    Ok(())
+    write_parts(
+        writer,
+        &[
+            Part::Words("  message "),
+            Part::Number(sent.message),
+            Part::Words(": not shown\n    data: "),
+        ],
+    )?;
+    write_place(writer, page, sent.data_index)?;
+    write_bytes(writer, sent.bytes)
 }
 
 // Writes the messages of an end that aren't listed: those after the first `listed`.
 fn write_rest<W: Sink>(
     writer: &mut W,
     page: &Page<'_>,
-    list: &SpanList<'_>,
+    list: SpanList<'_>,
     listed: u64,
 ) -> Result<(), Fault>
     ensures err { IfErr result (λ f. f ≡ write_failed) }
 {
-    let mut first: u64 = 0;
-    for position in 0..list.len() {
-        let Some((place, pdu)) = list.get(position) else {
-            continue;
+    let mut messages = SentMessages::new(list);
+    for _ in 0..u64::MAX {
+        let Some(sent) = messages.advance() else {
+            break;
         };
-        let count = message_count(&pdu);
-        if count > 0 {
-            write_rest_of(writer, page, place, &pdu, first, listed)?;
+        if sent.message >= listed {
+            write_unlisted(writer, page, &sent)?;
         }
-        first = first.saturating_add(count);
     }
     Ok(())
 }
@@ -209,8 +208,8 @@ fn write_rest<W: Sink>(
 fn write_direction<W: Sink>(
     writer: &mut W,
     page: &Page<'_>,
+    store: &Store,
     sender: Side,
-    list: &SpanList<'_>,
     taken: &[Taken<'_>],
 ) -> Result<(), Fault>
     ensures err { IfErr result (λ f. f ≡ write_failed) }
@@ -226,12 +225,12 @@ fn write_direction<W: Sink>(
             Part::Words(": "),
             Part::Number(listed),
             Part::Words(" of "),
-            Part::Number(sent_count(list)),
+            Part::Number(sent_count(list_of(store, sender))),
             Part::Words(" messages surely taken\n"),
         ],
     )?;
     write_taken_list(writer, page, taken)?;
-    write_rest(writer, page, list, listed)
+    write_rest(writer, page, list_of(store, sender), listed)
 }
 
 // Writes the verdict in one sentence.
@@ -250,24 +249,14 @@ fn write_sentence<W: Sink>(writer: &mut W, page: &Page<'_>, packets: u32) -> Res
     )
 }
 
-// Writes whose packets nobody else may have sent: where there is no safety code, anybody can.
-fn write_strangers<W: Sink>(writer: &mut W, page: &Page<'_>) -> Result<(), Fault>
-    ensures err { IfErr result (λ f. f ≡ write_failed) }
-{
-    write_words(writer, "  Nobody else sent a packet ")?;
-    if page.params.code_length() > 0 {
-        write_words(writer, "with a valid safety code ")?;
-    }
-    write_words(writer, "between the recorded addresses.\n")
-}
-
 // Writes what the verdict says, and what it rests on.
 fn write_meaning<W: Sink>(writer: &mut W, page: &Page<'_>) -> Result<(), Fault>
     ensures err { IfErr result (λ f. f ≡ write_failed) }
 {
     write_words(writer, SAYS)?;
-    write_strangers(writer, page)?;
-    write_words(writer, RESTS_TOO)?;
+    for words in premises(page) {
+        write_premise(writer, words)?;
+    }
     write_start(writer, page)
 }
 
@@ -288,15 +277,15 @@ pub fn write_explained<W: Sink>(
     write_direction(
         writer,
         page,
+        store,
         Side::Client,
-        &store.client(),
         report.server_taken.as_slice(),
     )?;
     write_direction(
         writer,
         page,
+        store,
         Side::Server,
-        &store.server(),
         report.client_taken.as_slice(),
     )
 }

@@ -2,14 +2,23 @@
 //! which messages were surely taken; or why it is refused. Nothing here is trusted: the checker judges.
 #![tactic(auto)]
 
+mod data;
 mod explained;
+mod explained_data;
 mod explaining;
 mod explanation;
+mod finding;
 mod first_reading;
 mod framing;
+mod json;
+mod layout;
 mod packet_text;
 mod page;
+mod page_data;
 mod refusal;
+mod refusal_data;
+mod rule;
+mod sent_messages;
 mod sifted;
 mod sightings;
 mod text;
@@ -17,4 +26,4 @@ mod verdict;
 mod words;
 
 pub use explaining::{Outcome, explain};
-pub use page::{Names, Texts};
+pub use page::{Choices, Form, Names, Texts};

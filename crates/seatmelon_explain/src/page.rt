@@ -24,6 +24,23 @@ pub struct Texts<'a> {
     pub certificate: Option<&'a [u8]>,
 }
 
+/// What an explanation is written as.
+#[derive(Clone, Copy, Debug, PartialEq, Eq)]
+pub enum Form {
+    /// Words, for people.
+    Text,
+
+    /// One JSON object with the same, for programs.
+    Json,
+}
+
+/// Which records are left out, by their rising numbers, and what is written.
+#[derive(Clone, Copy, Debug)]
+pub struct Choices<'a> {
+    pub without: &'a [u32],
+    pub form: Form,
+}
+
 /// What was read, of which a text tells.
 #[derive(Drop)]
 pub struct Page<'a> {
@@ -31,13 +48,13 @@ pub struct Page<'a> {
     pub texts: Texts<'a>,
     pub params: Params,
     pub without: &'a [u32],
+    pub form: Form,
     pub digest: [u8; 32],
     pub sightings: Sightings,
 }
 
-// The program, and what it was proved with.
-const PROGRAM: &str =
-    "program: seatmelon 0.1.0, proved with rattle-kit-13f logic dac8208d650f15bf\n";
+/// The program, and what it was proved with.
+pub const PROGRAM: &str = "seatmelon 0.1.0, proved with rattle-kit-13f logic dac8208d650f15bf";
 
 // Writes a file's name and its SHA-256.
 fn write_file<W: Sink>(writer: &mut W, what: &str, name: &str, digest: &[u8]) -> Result<(), Fault>
@@ -105,15 +122,25 @@ fn write_channel<W: Sink>(writer: &mut W, number: u64, count: ChannelCount) -> R
     )
 }
 
+/// The counts of the recorded channels.
+pub fn channel_counts<'p>(page: &'p Page<'_>) -> &'p [ChannelCount] {
+    let recorded = page.params.channel().len();
+    let counts = page.sightings.channels.as_slice();
+    &counts[..recorded.min(counts.len())]
+}
+
+/// How many records are no packets of the connection.
+pub fn passed_over(page: &Page<'_>) -> u64 {
+    let packets = page.sightings.packets.len() as u64;
+    u64::from(page.sightings.records).saturating_sub(packets)
+}
+
 // Writes how many packets each recorded channel has.
 fn write_channels<W: Sink>(writer: &mut W, page: &Page<'_>) -> Result<(), Fault>
     ensures err { IfErr result (λ f. f ≡ write_failed) }
 {
-    let recorded = page.params.channel().len();
-    for (place, count) in page.sightings.channels.iter().enumerate() {
-        if place < recorded {
-            write_channel(writer, (place as u64).saturating_add(1), *count)?;
-        }
+    for (place, count) in channel_counts(page).iter().enumerate() {
+        write_channel(writer, (place as u64).saturating_add(1), *count)?;
     }
     Ok(())
 }
@@ -122,13 +149,12 @@ fn write_channels<W: Sink>(writer: &mut W, page: &Page<'_>) -> Result<(), Fault>
 fn write_counts<W: Sink>(writer: &mut W, page: &Page<'_>) -> Result<(), Fault>
     ensures err { IfErr result (λ f. f ≡ write_failed) }
 {
-    let records = u64::from(page.sightings.records);
     let packets = page.sightings.packets.len() as u64;
     write_parts(
         writer,
         &[
             Part::Words("\nrecords read: "),
-            Part::Number(records),
+            Part::Number(u64::from(page.sightings.records)),
             Part::Words("\npackets of the connection: "),
             Part::Number(packets),
             Part::Words("\n"),
@@ -139,7 +165,7 @@ fn write_counts<W: Sink>(writer: &mut W, page: &Page<'_>) -> Result<(), Fault>
         writer,
         &[
             Part::Words("records passed over: "),
-            Part::Number(records.saturating_sub(packets)),
+            Part::Number(passed_over(page)),
             Part::Words("\n\n"),
         ],
     )
@@ -154,8 +180,24 @@ pub fn write_read<W: Sink>(writer: &mut W, page: &Page<'_>) -> Result<(), Fault>
     let parameters = Sha256::digest(page.texts.parameters);
     write_file(writer, "parameters", page.names.parameters, &parameters)?;
     write_certificate(writer, page)?;
-    write_words(writer, PROGRAM)?;
+    write_parts(
+        writer,
+        &[
+            Part::Words("program: "),
+            Part::Words(PROGRAM),
+            Part::Words("\n"),
+        ],
+    )?;
     write_counts(writer, page)
+}
+
+/// The N_sendmax that an end offers at the opening, where the parameters have another.
+pub fn other_offer(page: &Page<'_>, list: &SpanList<'_>) -> Option<u16> {
+    let (_, pdu) = list.get(0)?;
+    match pdu.body() {
+        Body::Opening { sendmax, .. } if sendmax != page.params.n_sendmax() => Some(sendmax),
+        _ => None,
+    }
 }
 
 // Writes what an end offers at the opening, where the parameters have something else.
@@ -167,17 +209,9 @@ fn write_offer<W: Sink>(
 ) -> Result<(), Fault>
     ensures err { IfErr result (λ f. f ≡ write_failed) }
 {
-    let recorded = page.params.n_sendmax();
-    let offered = match list.get(0) {
-        Some((_, pdu)) => match pdu.body() {
-            Body::Opening { sendmax, .. } => sendmax,
-            _ => recorded,
-        },
-        None => recorded,
-    };
-    if offered == recorded {
+    let Some(offered) = other_offer(page, list) else {
         return Ok(());
-    }
+    };
     write_parts(
         writer,
         &[
@@ -186,7 +220,7 @@ fn write_offer<W: Sink>(
             Part::Words("'s opening offers N_sendmax "),
             Part::Number(u64::from(offered)),
             Part::Words(", and the parameters have "),
-            Part::Number(u64::from(recorded)),
+            Part::Number(u64::from(page.params.n_sendmax())),
             Part::Words("\n\n"),
         ],
     )

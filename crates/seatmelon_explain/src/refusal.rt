@@ -3,13 +3,17 @@ ghost use Rattle.std.specs.Prelude.{◌≡◌, IfErr};
 ghost use Rattle.rasta_pcap.specs.Fault.{write_failed};
 
 use crate::first_reading::CaptureRefusal;
+use crate::layout::{write_payload_due, write_type_due};
 use crate::packet_text::{number_at, write_codes, write_datagram, write_differences, write_pdu};
 use crate::page::{
     Page, write_offers, write_place, write_read, write_sighting, write_time_if, write_without,
 };
+use crate::rule::write_rule;
+use crate::sent_messages::list_of;
 use crate::sightings::Wanted;
 use crate::text::{Part, other, write_parts, write_words};
 use crate::words::{cause_of, meaning_of, next_step_of};
+use rasta_build::Obstacle;
 use rasta_cert::{Certificate, Entry};
 use rasta_check::{SentList, SpanList, Store};
 use rasta_pcap::{Fault, Record, Side, Sink};
@@ -24,8 +28,8 @@ const SAFETY_AT: u64 = 8;
 // The bytes of a datagram without payload and codes.
 const LEAST_LENGTH: u64 = 36;
 
-// The datagram of a refused record, if it holds one of the connection.
-fn packet_in<'a>(params: &Params, frame: &'a [u8], number: u32) -> Option<Datagram<'a>> {
+/// The datagram of a refused record, if it holds one of the connection.
+pub fn packet_in<'a>(params: &Params, frame: &'a [u8], number: u32) -> Option<Datagram<'a>> {
     let record = Record {
         number,
         bytes: frame,
@@ -109,6 +113,11 @@ fn write_first_copy<W: Sink>(writer: &mut W, page: &Page<'_>, datagram: &[u8]) -
     write_differences(writer, datagram, &page.sightings.found_bytes)
 }
 
+/// The number of a packet after a gap.
+pub fn number_in(datagram: &[u8]) -> u32 {
+    number_at(datagram, NUMBER_AT, 4).unwrap_or(0)
+}
+
 // Writes which number was due, and where it crosses later.
 fn write_gap<W: Sink>(writer: &mut W, page: &Page<'_>, datagram: &[u8]) -> Result<(), Fault>
     ensures err { IfErr result (λ f. f ≡ write_failed) }
@@ -116,7 +125,7 @@ fn write_gap<W: Sink>(writer: &mut W, page: &Page<'_>, datagram: &[u8]) -> Resul
     let Some(due) = page.sightings.next_number else {
         return Ok(());
     };
-    let number = number_at(datagram, NUMBER_AT, 4).unwrap_or(0);
+    let number = number_in(datagram);
     write_parts(
         writer,
         &[
@@ -154,16 +163,32 @@ fn write_due<W: Sink>(writer: &mut W, what: &str, due: u64) -> Result<(), Fault>
     )
 }
 
+/// The ids that are recorded of a sender and of its receiver.
+pub fn ids_of(params: &Params, side: Side) -> (u32, u32) {
+    match side {
+        Side::Client => (params.client_id(), params.server_id()),
+        Side::Server => (params.server_id(), params.client_id()),
+    }
+}
+
 // Writes the ids that are recorded of a sender and of its receiver.
 fn write_ids<W: Sink>(writer: &mut W, params: &Params, side: Side) -> Result<(), Fault>
     ensures err { IfErr result (λ f. f ≡ write_failed) }
 {
-    let (sender, receiver) = match side {
-        Side::Client => (params.client_id(), params.server_id()),
-        Side::Server => (params.server_id(), params.client_id()),
-    };
+    let (sender, receiver) = ids_of(params, side);
     write_due(writer, "receiver", u64::from(receiver))?;
     write_due(writer, "sender", u64::from(sender))
+}
+
+/// The fewest bytes of a datagram with codes of these lengths.
+pub fn least_length(params: &Params) -> u64 {
+    LEAST_LENGTH + u64::from(params.code_length()) + u64::from(params.check_length())
+}
+
+/// The length of the safety layer in a datagram.
+pub fn safety_length(params: &Params, datagram: &[u8]) -> u64 {
+    let around = SAFETY_AT + u64::from(params.check_length());
+    (datagram.len() as u64).saturating_sub(around)
 }
 
 // Writes which length is due, or else what the fault means.
@@ -175,21 +200,18 @@ fn write_length<W: Sink>(
 ) -> Result<(), Fault>
     ensures err { IfErr result (λ f. f ≡ write_failed) }
 {
-    let bytes = datagram.len() as u64;
-    let check = u64::from(params.check_length());
-    let least = LEAST_LENGTH + u64::from(params.code_length()) + check;
     match fault.number {
-        Fault::REDUNDANCY_LENGTH => write_due(writer, "length field", bytes),
+        Fault::REDUNDANCY_LENGTH => write_due(writer, "length field", datagram.len() as u64),
         Fault::TOO_SHORT => write_parts(
             writer,
             &[
                 Part::Words("  bytes of the datagram due: "),
-                Part::Number(least),
+                Part::Number(least_length(params)),
                 Part::Words(" or more\n"),
             ],
         ),
         Fault::SAFETY_LENGTH => {
-            let due = bytes.saturating_sub(SAFETY_AT + check);
+            let due = safety_length(params, datagram);
             write_due(writer, "length field of the safety layer", due)
         }
         _ => {
@@ -218,6 +240,8 @@ fn write_trouble<W: Sink>(
         Fault::IDS => write_ids(writer, &page.params, packet.side),
         Fault::COPY_DIFFERS => write_first_copy(writer, page, datagram),
         Fault::NUMBER_GAP => write_gap(writer, page, datagram),
+        Fault::TYPE => write_type_due(writer, datagram),
+        Fault::PAYLOAD => write_payload_due(writer, &page.params, datagram),
         _ => write_length(writer, &page.params, fault, datagram),
     }
 }
@@ -267,49 +291,57 @@ pub fn write_capture_refusal<W: Sink>(
     write_advice(writer, fault)
 }
 
-// The PDU of an end at a place, if a first copy crossed there.
-fn pdu_at<'a>(list: &SpanList<'a>, place: u32) -> Option<Pdu<'a>> {
+/// The PDU of an end at a place, if a first copy crossed there.
+pub fn pdu_at<'a>(list: &SpanList<'a>, place: u32) -> Option<Pdu<'a>> {
     let position = list.at_place(place)?;
     let (_, pdu) = list.get(position)?;
     Some(pdu)
 }
 
-// The place and the PDU of an end with a redundancy number.
-fn pdu_with<'a>(list: &SpanList<'a>, number: u32) -> Option<(u32, Pdu<'a>)> {
+/// The place and the PDU of an end with a redundancy number.
+pub fn pdu_with<'a>(list: &SpanList<'a>, number: u32) -> Option<(u32, Pdu<'a>)> {
     let position = list.position_of(number)?;
     list.get(position)
 }
 
-fn list_of(store: &Store, side: Side) -> SpanList<'_> {
-    match side {
-        Side::Client => store.client(),
-        Side::Server => store.server(),
-    }
+/// A packet that crossed at a place, and its PDU where it is a first copy of this end.
+#[derive(Drop)]
+pub struct Crossed<'a> {
+    pub side: Side,
+    pub place: u32,
+    pub pdu: Option<Pdu<'a>>,
 }
 
-// Writes the packet at a place, whose bytes are those of a first copy of this end.
+// Writes a packet that crossed.
 fn write_crossed<W: Sink>(
     writer: &mut W,
     page: &Page<'_>,
-    side: Side,
-    place: u32,
-    pdu: Option<Pdu<'_>>,
+    crossed: &Crossed<'_>,
 ) -> Result<(), Fault>
     ensures err { IfErr result (λ f. f ≡ write_failed) }
 {
+    let Some(pdu) = &crossed.pdu else {
+        write_words(writer, "the packet that it names is in ")?;
+        return write_place(writer, page, crossed.place);
+    };
     write_parts(
         writer,
         &[
             Part::Words("the "),
-            Part::End(side),
+            Part::End(crossed.side),
             Part::Words("'s PDU in "),
         ],
     )?;
-    write_place(writer, page, place)?;
-    match pdu {
-        Some(pdu) => write_pdu(writer, &pdu),
-        None => Ok(()),
-    }
+    write_place(writer, page, crossed.place)?;
+    write_pdu(writer, pdu)
+}
+
+/// The packet that can't be explained, at this place from 1.
+pub fn unexplained_at(store: &Store, place: u32) -> Option<Crossed<'_>> {
+    let place = place.saturating_sub(1);
+    let (side, _) = store.packet(place)?;
+    let pdu = pdu_at(&list_of(store, side), place);
+    Some(Crossed { side, place, pdu })
 }
 
 // Writes the packet that can't be explained, at this place from 1.
@@ -321,13 +353,23 @@ fn write_unexplained<W: Sink>(
 ) -> Result<(), Fault>
     ensures err { IfErr result (λ f. f ≡ write_failed) }
 {
-    let place = place.saturating_sub(1);
-    match store.packet(place) {
-        Some((side, _)) => {
-            let list = list_of(store, side);
-            let pdu = pdu_at(&list, place);
-            write_crossed(writer, page, side, place, pdu)
-        }
+    match unexplained_at(store, place) {
+        Some(crossed) => write_crossed(writer, page, &crossed),
+        None => Ok(()),
+    }
+}
+
+// Writes the rule that refuses a PDU, if one was found.
+fn write_rule_if<W: Sink>(
+    writer: &mut W,
+    page: &Page<'_>,
+    store: &Store,
+    met: Option<Obstacle>,
+) -> Result<(), Fault>
+    ensures err { IfErr result (λ f. f ≡ write_failed) }
+{
+    match met {
+        Some(met) => write_rule(writer, page, store, &met),
         None => Ok(()),
     }
 }
@@ -338,6 +380,7 @@ pub fn write_unscripted<W: Sink>(
     page: &Page<'_>,
     store: &Store,
     fault: Fault,
+    met: Option<Obstacle>,
 ) -> Result<(), Fault>
     ensures err { IfErr result (λ f. f ≡ write_failed) }
 {
@@ -347,6 +390,7 @@ pub fn write_unscripted<W: Sink>(
     write_words(writer, "\n")?;
     if fault.number == Fault::NOT_FOUND {
         write_unexplained(writer, page, store, fault.place)?;
+        write_rule_if(writer, page, store, met)?;
     } else {
         write_parts(
             writer,
@@ -360,10 +404,51 @@ pub fn write_unscripted<W: Sink>(
     write_advice(writer, fault)
 }
 
-// The entry of that number in a script, from 1.
-fn entry_in(script: &[Entry], number: u32) -> Option<Entry> {
+// The script of an end.
+fn script_of(certificate: &Certificate, side: Side) -> &[Entry] {
+    match side {
+        Side::Client => certificate.client(),
+        Side::Server => certificate.server(),
+    }
+}
+
+/// The entry of that number in an end's script, from 1.
+pub fn entry_in(certificate: &Certificate, side: Side, number: u32) -> Option<Entry> {
     let place = number.checked_sub(1)?;
-    script.get(place as usize).copied()
+    script_of(certificate, side).get(place as usize).copied()
+}
+
+// How many makes a script has before its entry of that number, from 1.
+fn makes_before(script: &[Entry], number: u32) -> u32 {
+    let mut count: u32 = 0;
+    for entry in script.iter().take(number.saturating_sub(1) as usize) {
+        if matches!(entry, Entry::Make { .. }) {
+            count = count.saturating_add(1);
+        }
+    }
+    count
+}
+
+/// The first packet of an end that no entry before the one of that number makes.
+pub fn unmade_before<'a>(
+    store: &'a Store,
+    certificate: &Certificate,
+    side: Side,
+    number: u32,
+) -> Option<Crossed<'a>> {
+    let made = makes_before(script_of(certificate, side), number);
+    let (place, pdu) = list_of(store, side).get(made)?;
+    let pdu = Some(pdu);
+    Some(Crossed { side, place, pdu })
+}
+
+/// The line of the entry of that number in an end's script.
+pub fn line_of(certificate: &Certificate, side: Side, number: u32) -> u64 {
+    let before: u64 = match side {
+        Side::Client => 2,
+        Side::Server => (certificate.client().len() as u64).saturating_add(3),
+    };
+    u64::from(number).saturating_add(before)
 }
 
 // Writes an entry's number, script and line.
@@ -375,10 +460,7 @@ fn write_entry_place<W: Sink>(
 ) -> Result<(), Fault>
     ensures err { IfErr result (λ f. f ≡ write_failed) }
 {
-    let before: u64 = match side {
-        Side::Client => 2,
-        Side::Server => (certificate.client().len() as u64).saturating_add(3),
-    };
+    let line = line_of(certificate, side, number);
     write_parts(
         writer,
         &[
@@ -387,10 +469,27 @@ fn write_entry_place<W: Sink>(
             Part::Words(" of the "),
             Part::End(side),
             Part::Words("'s script, line "),
-            Part::Number(u64::from(number).saturating_add(before)),
+            Part::Number(line),
             Part::Words(" of the certificate\n"),
         ],
     )
+}
+
+/// The packet that an entry of this end names; none where no packet has the number that it takes.
+pub fn named_by(store: &Store, side: Side, entry: Entry) -> Option<Crossed<'_>> {
+    match entry {
+        Entry::Take { number, .. } => {
+            let side = other(side);
+            let (place, pdu) = pdu_with(&list_of(store, side), number)?;
+            let pdu = Some(pdu);
+            Some(Crossed { side, place, pdu })
+        }
+        Entry::Make { index, .. } => {
+            let pdu = pdu_at(&list_of(store, side), index);
+            let place = index;
+            Some(Crossed { side, place, pdu })
+        }
+    }
 }
 
 // Writes the PDU that an entry of this end names.
@@ -403,20 +502,26 @@ fn write_entry<W: Sink>(
 ) -> Result<(), Fault>
     ensures err { IfErr result (λ f. f ≡ write_failed) }
 {
-    match entry {
-        Entry::Take { number, .. } => {
-            let peer = other(side);
-            let list = list_of(store, peer);
-            match pdu_with(&list, number) {
-                Some((place, pdu)) => write_crossed(writer, page, peer, place, Some(pdu)),
-                None => write_words(writer, "no packet has the number that it takes\n"),
-            }
+    match named_by(store, side, entry) {
+        Some(crossed) => write_crossed(writer, page, &crossed),
+        None => write_words(writer, "no packet has the number that it takes\n"),
+    }
+}
+
+// Writes the first packet of an end that no entry before the one of that number makes.
+fn write_unmade<W: Sink>(
+    writer: &mut W,
+    page: &Page<'_>,
+    unmade: Option<Crossed<'_>>,
+) -> Result<(), Fault>
+    ensures err { IfErr result (λ f. f ≡ write_failed) }
+{
+    match unmade {
+        Some(crossed) => {
+            write_words(writer, "no entry before it makes ")?;
+            write_crossed(writer, page, &crossed)
         }
-        Entry::Make { index, .. } => {
-            let list = list_of(store, side);
-            let pdu = pdu_at(&list, index);
-            write_crossed(writer, page, side, index, pdu)
-        }
+        None => Ok(()),
     }
 }
 
@@ -436,11 +541,10 @@ pub fn write_refused<W: Sink>(
     write_words(writer, "\n")?;
     let side = fault.end.unwrap_or(Side::Client);
     write_entry_place(writer, certificate, side, fault.place)?;
-    let script = match side {
-        Side::Client => certificate.client(),
-        Side::Server => certificate.server(),
-    };
-    if let Some(entry) = entry_in(script, fault.place) {
+    if fault.number == Fault::MAKE_MISSING {
+        let unmade = unmade_before(store, certificate, side, fault.place);
+        write_unmade(writer, page, unmade)?;
+    } else if let Some(entry) = entry_in(certificate, side, fault.place) {
         write_entry(writer, page, store, side, entry)?;
     }
     write_advice(writer, fault)

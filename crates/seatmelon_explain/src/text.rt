@@ -1,10 +1,11 @@
 //! Lines of plain text.
 ghost use Rattle.std.specs.Prelude.{◌≡◌, IfErr};
-ghost use Rattle.rasta_pcap.specs.Fault.{write_failed};
+ghost use Rattle.rasta_pcap.specs.Fault.{no_memory, write_failed};
 
 use itoa::Buffer;
-use rasta_pcap::{CaptureTime, Fault, Side, Sink, write_all};
+use rasta_pcap::{CaptureTime, Counted, Fault, Side, Sink, write_all};
 use seatmelon_survey::write_time;
+use std::alloc::{AllocError, Global};
 
 // The digits of hexadecimal numbers.
 const DIGITS: [u8; 16] = *b"0123456789abcdef";
@@ -125,4 +126,49 @@ pub fn write_words<W: Sink>(writer: &mut W, words: &str) -> Result<(), Fault>
     ensures err { IfErr result (λ f. f ≡ write_failed) }
 {
     write_all(writer, words.as_bytes())
+}
+
+/// Parts, one after the other, as a text of its own. Refused by [`Fault::NO_MEMORY`] alone.
+pub fn text_of(alloc: Global, parts: &[Part<'_>]) -> Result<String, Fault>
+    ensures err { IfErr result (λ f. f ≡ no_memory) }
+{
+    let mut writer = Counted::new(Vec::new(alloc));
+    if write_parts(&mut writer, parts).is_err() {
+        return Err(Fault::at(Fault::NO_MEMORY, 0));
+    }
+    match String::from_utf8(writer.into_inner()) {
+        Ok(text) => Ok(text),
+        Err(_) => Err(Fault::at(Fault::NO_MEMORY, 0)),
+    }
+}
+
+// Adds a line to a sentence.
+fn add_line(sentence: &mut String, line: &str) -> Result<(), AllocError> {
+    if !sentence.is_empty() {
+        sentence.push(' ')?;
+    }
+    sentence.push_str(line.trim_start())
+}
+
+/// Words that go over several lines, in one line. Refused by [`Fault::NO_MEMORY`] alone.
+pub fn sentence_of(alloc: Global, words: &str) -> Result<String, Fault>
+    ensures err { IfErr result (λ f. f ≡ no_memory) }
+{
+    let mut sentence = String::new(alloc);
+    for line in words.lines() {
+        if add_line(&mut sentence, line).is_err() {
+            return Err(Fault::at(Fault::NO_MEMORY, 0));
+        }
+    }
+    Ok(sentence)
+}
+
+/// Adds an item to a list. Refused by [`Fault::NO_MEMORY`] alone.
+pub fn add<T: Drop>(list: &mut Vec<T>, item: T) -> Result<(), Fault>
+    ensures err { IfErr result (λ f. f ≡ no_memory) }
+{
+    match list.push(item) {
+        Ok(()) => Ok(()),
+        Err(_) => Err(Fault::at(Fault::NO_MEMORY, 0)),
+    }
 }

@@ -1,10 +1,11 @@
 //! The verdict on what crossed.
 ghost use Rattle.std.specs.Prelude.{◌≡◌, ◌≢◌, IfErr, IfOk, option_map};
-ghost use Rattle.rasta_pcap.specs.Fault.{no_memory};
+ghost use Rattle.rasta_pcap.specs.Fault.{no_memory, not_found};
+ghost use Rattle.rasta_build.specs.Stopping.{IsMet};
 ghost use Rattle.seatmelon_explain.specs.Judged.{AreScripts, HasScripts, IsJudged, IsUnscripted};
 
 use crate::explanation::Explanation;
-use rasta_build::propose_lists;
+use rasta_build::{Obstacle, find_obstacle, propose_lists};
 use rasta_cert::{Certificate, read};
 use rasta_check::{Store, check_store};
 use rasta_pcap::Fault;
@@ -13,8 +14,9 @@ use std::alloc::Global;
 /// What becomes of what crossed.
 #[derive(Drop)]
 pub enum Verdict<'a> {
-    /// A certificate's text isn't one, or none is found.
-    Unscripted(Fault),
+    /// A certificate's text isn't one, or none is found: then the rule that refuses a packet stands beside the
+    /// verdict, and is no part of it.
+    Unscripted(Fault, Option<Obstacle>),
     /// The checker refuses the scripts.
     Refused(Fault, Certificate),
     Explained(Explanation<'a>),
@@ -57,6 +59,23 @@ fn judge_scripts<'a>(
     }
 }
 
+// What the builder can't get over where it finds nothing.
+fn obstacle_behind(alloc: Global, store: &Store, fault: Fault) -> Result<Option<Obstacle>, Fault>
+    ensures met { fault.number ≡ not_found → IfOk result (IsMet store.now.params store.now.client store.now.server) }
+    ensures err { IfErr result (λ f. f ≡ no_memory) }
+{
+    if fault.number != Fault::NOT_FOUND {
+        return Ok(None);
+    }
+    find_obstacle(
+        alloc,
+        &store.params(),
+        store.len(),
+        &store.client(),
+        &store.server(),
+    )
+}
+
 /// The verdict on what crossed and a certificate's text; without one a certificate is proposed. It is
 /// explained only where the checker answers a report, which is then the explanation's.
 ///
@@ -72,6 +91,6 @@ pub fn judge<'a>(
     match scripts(alloc, store, certificate) {
         Ok(certificate) => judge_scripts(alloc, store, certificate),
         Err(fault) if fault.number == Fault::NO_MEMORY => Err(Fault::at(Fault::NO_MEMORY, 0)),
-        Err(fault) => Ok(Verdict::Unscripted(fault)),
+        Err(fault) => Ok(Verdict::Unscripted(fault, obstacle_behind(alloc, store, fault)?)),
     }
 }

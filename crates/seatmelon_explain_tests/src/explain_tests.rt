@@ -1,15 +1,22 @@
 //! The text of an explanation, and what is answered where a device goes wrong.
-use crate::cases::{CASES, Case, EXPLAINED, EXPLAINED_TEXT};
+use crate::cases::{Case, EXPLAINED, EXPLAINED_TEXT};
+use crate::file_cases::FILE_CASES;
+use crate::packet_cases::PACKET_CASES;
+use crate::rule_cases::{LAYOUTS, RULE, RULES, TROUBLE};
+use crate::script_cases::SCRIPT_CASES;
+use crate::step_cases::STEP_CASES;
 use rasta_pcap::devices::{FailAt, Pieces};
 use rasta_pcap::{Counted, Fault, Sink, Source};
+use rasta_pdu::Params;
 use rasta_rows::{file_of, params_of};
-use seatmelon_explain::{Names, Outcome, Texts, explain};
+use seatmelon_explain::{Choices, Form, Names, Outcome, Texts, explain};
 use std::alloc::Global;
+use std::process::Abort;
 use std::str;
 use std::test::Fail;
 
-// The file of a case.
-fn file_in(alloc: Global, case: &Case) -> Option<Vec<u8>> {
+/// The file of a case.
+pub fn file_in(alloc: Global, case: &Case) -> Option<Vec<u8>> {
     let (_, mut file) = file_of(alloc, case.settings, case.packets)?;
     for &(place, byte) in case.changes {
         *file.get_mut(place)? = byte;
@@ -25,15 +32,16 @@ fn certificate_in(case: &Case) -> Option<&'static [u8]> {
     }
 }
 
-// Explains a case by these two readers; none where its parameters have no name.
-fn explained<R: Source, A: Source, W: Sink>(
+/// Explains a case by these parameters and these two readers.
+pub fn written<R: Source, A: Source, W: Sink>(
     alloc: Global,
     case: &Case,
+    params: &Params,
+    form: Form,
     first: &mut R,
     again: &mut A,
     writer: &mut W,
-) -> Option<Result<Outcome, Fault>> {
-    let certificate = certificate_in(case);
+) -> Result<Outcome, Fault> {
     let names = Names {
         capture: "c",
         parameters: "p",
@@ -41,19 +49,27 @@ fn explained<R: Source, A: Source, W: Sink>(
     };
     let texts = Texts {
         parameters: b"client_id = 96",
-        certificate,
+        certificate: certificate_in(case),
     };
+    let choices = Choices {
+        without: case.without,
+        form,
+    };
+    explain(
+        alloc, &names, &texts, params, &choices, first, again, writer,
+    )
+}
+
+// Explains a case in words; none where its parameters have no name.
+fn explained<R: Source, A: Source, W: Sink>(
+    alloc: Global,
+    case: &Case,
+    first: &mut R,
+    again: &mut A,
+    writer: &mut W,
+) -> Option<Result<Outcome, Fault>> {
     let params = params_of(case.parameters)?;
-    Some(explain(
-        alloc,
-        &names,
-        &texts,
-        &params,
-        case.without,
-        first,
-        again,
-        writer,
-    ))
+    Some(written(alloc, case, &params, Form::Text, first, again, writer))
 }
 
 // The text on a file that comes in pieces of this size.
@@ -73,15 +89,60 @@ fn verdict_in(text: &[u8]) -> Option<&str> {
     Some(verdict)
 }
 
-#[test]
-fn texts(rt: HostRuntime) -> Result<(), Fail> {
-    for case in CASES {
-        let file = file_in(rt.alloc(), &case).ok_or(case.packets)?;
+// Compares the text on each case, read in pieces of one byte and of many, with the one that is wanted.
+fn compare<R: Abort + AllocGlobal>(rt: &R, cases: &[Case]) -> Result<(), Fail> {
+    for case in cases {
+        let file = file_in(rt.alloc(), case).ok_or(case.packets)?;
         for most in [1, 4096] {
-            let text = text_of(rt.alloc(), &case, &file, most).ok_or("a text")?;
+            let text = text_of(rt.alloc(), case, &file, most).ok_or("a text")?;
             let verdict = verdict_in(&text).ok_or("a verdict")?;
             assert_eq!(rt; verdict, case.want, "{}", case.packets);
         }
+    }
+    Ok(())
+}
+
+#[test]
+fn refused_files(rt: HostRuntime) -> Result<(), Fail> {
+    compare(&rt, &FILE_CASES)
+}
+
+#[test]
+fn refused_packets(rt: HostRuntime) -> Result<(), Fail> {
+    compare(&rt, &PACKET_CASES)
+}
+
+#[test]
+fn refused_scripts(rt: HostRuntime) -> Result<(), Fail> {
+    compare(&rt, &SCRIPT_CASES)?;
+    compare(&rt, &STEP_CASES)
+}
+
+// What is told after these words, up to the next empty line.
+fn part_after<'a>(text: &'a [u8], words: &str) -> Option<&'a str> {
+    let (_, rest) = str::from_utf8(text).ok()?.split_once(words)?;
+    let (part, _) = rest.split_once("\n\n")?;
+    Some(part)
+}
+
+#[test]
+fn rules(rt: HostRuntime) -> Result<(), Fail> {
+    for case in RULES {
+        let file = file_in(rt.alloc(), &case).ok_or(case.packets)?;
+        let text = text_of(rt.alloc(), &case, &file, 4096).ok_or("a text")?;
+        let part = part_after(&text, RULE).ok_or(case.packets)?;
+        assert_eq!(rt; part, case.want, "{}", case.packets);
+    }
+    Ok(())
+}
+
+#[test]
+fn layouts(rt: HostRuntime) -> Result<(), Fail> {
+    for case in LAYOUTS {
+        let file = file_in(rt.alloc(), &case).ok_or(case.packets)?;
+        let text = text_of(rt.alloc(), &case, &file, 4096).ok_or("a text")?;
+        let part = part_after(&text, TROUBLE).ok_or(case.packets)?;
+        assert_eq!(rt; part, case.want, "{}", case.packets);
     }
     Ok(())
 }

@@ -1,0 +1,326 @@
+//! Captures, and what is wanted of them as JSON. A JSON text stands here over several lines, each without the
+//! spaces before it; the line feeds between them are no part of it.
+use crate::cases::Case;
+
+/// The whole text on the explained case.
+pub const EXPLAINED_JSON: &str = r#"
+{"program":"seatmelon 0.1.0, proved with rattle-kit-13f logic dac8208d650f15bf",
+"capture":{"name":"c","sha256":"e56454b33ee136b1ec869d81d2ac3181b8675027c9d9a55fbeeda50c6825eb8c"},
+"parameters":{"name":"p","sha256":"690d7880e356248a4f526b2a78d7367e4412615a8a85f47eafa354a793430538"},
+"certificate":null,"without":[],"records_read":5,"packets":5,
+"channels":[{"channel":1,"from_client":3,"from_server":2},{"channel":2,"from_client":0,"from_server":0}],
+"records_passed_over":0,"offers":[],"verdict":"explained","packets_explained":5,
+"premises":[
+"Whatever an end sent reached the tap, in the order in which it was sent, and the capture has all of it, in that order.",
+"Nobody else sent a packet between the recorded addresses.",
+"The parameters are right.",
+"For 'surely taken': both ends kept the rules.",
+"What is judged begins before the opening of the connection."],
+"quiet_point":null,
+"messages":[{"from":"client","to":"server","surely_taken":2,"sent":2,"messages":[
+{"message":0,"surely_taken":true,
+"data":{"record":4,"time":"1970-01-01 00:00:00.000000 UTC","channel":1},
+"proof":{"record":5,"time":"1970-01-01 00:00:00.000000 UTC","channel":1},
+"hex":"ab01","text":"\\xab\\x01"},
+{"message":1,"surely_taken":true,
+"data":{"record":4,"time":"1970-01-01 00:00:00.000000 UTC","channel":1},
+"proof":{"record":5,"time":"1970-01-01 00:00:00.000000 UTC","channel":1},
+"hex":"","text":""}]},
+{"from":"server","to":"client","surely_taken":0,"sent":0,"messages":[]}]}
+"#;
+
+/// A number that was used twice.
+pub const COPY_DIFFERS: Case = Case {
+    parameters: "plain",
+    settings: "data plain",
+    packets: "0 1 2 3 4 5 6@2",
+    changes: &[],
+    certificate: "",
+    without: &[],
+    want: r#"
+{"program":"seatmelon 0.1.0, proved with rattle-kit-13f logic dac8208d650f15bf",
+"capture":{"name":"c","sha256":"258e24914ad231903b7d57519765f9685bb05da39d69920567de16b223b1ac71"},
+"parameters":{"name":"p","sha256":"690d7880e356248a4f526b2a78d7367e4412615a8a85f47eafa354a793430538"},
+"certificate":null,"without":[],"records_read":7,"packets":7,
+"channels":[{"channel":1,"from_client":4,"from_server":2},{"channel":2,"from_client":1,"from_server":0}],
+"records_passed_over":0,"offers":[],"verdict":"refused",
+"fault":{"number":27,"name":"CopyDiffers",
+"meaning":"this redundancy number has crossed before, with other bytes",
+"cause":"a bit flipped on the line; a stranger; or an end that used a number twice",
+"next_step":"how this packet differs from its first copy, and what --without with its record says"},
+"record":{"record":7,"time":"1970-01-01 00:00:00.000000 UTC"},
+"packet":{"end":"client","channel":2,"bytes":40,
+"fields":{"type":6216,"type_name":"disconnection request","length_field":40,"redundancy_number":10,
+"safety_length_field":32,"receiver":97,"sender":96,"sn":103,"cs":501,"ts":2815,"cts":9050},
+"payload_and_codes":"00000400"},
+"trouble":{"code_found":null,"code_due":null,
+"first_copy":{"record":6,"time":"1970-01-01 00:00:00.000000 UTC","channel":1},"first_copy_bytes":null,
+"differences":[{"at":28,"found":"ff","first_copy":"fe"}],"may_differ_further":false},
+"line":null,"entry":null,"pdu":null,"rule":null}
+"#,
+};
+
+/// No packet at all, with records left out.
+pub const NO_PACKETS: Case = Case {
+    parameters: "plain",
+    settings: "data plain",
+    packets: "-",
+    changes: &[],
+    certificate: "",
+    without: &[3, 5],
+    want: r#"
+{"program":"seatmelon 0.1.0, proved with rattle-kit-13f logic dac8208d650f15bf",
+"capture":{"name":"c","sha256":"704e5e5b3234433c01fcfd1b20a306e77e985038120492dc53965c3edd38a4ea"},
+"parameters":{"name":"p","sha256":"690d7880e356248a4f526b2a78d7367e4412615a8a85f47eafa354a793430538"},
+"certificate":null,"without":[3,5],"records_read":0,"packets":0,
+"channels":[{"channel":1,"from_client":0,"from_server":0},{"channel":2,"from_client":0,"from_server":0}],
+"records_passed_over":0,"offers":[],"verdict":"no_packets"}
+"#,
+};
+
+// A late copy with a flipped bit.
+const CODE: Case = Case {
+    parameters: "code16",
+    settings: "data code16",
+    packets: "0 1 2 2 flip",
+    changes: &[],
+    certificate: "",
+    without: &[],
+    want: r#"
+"trouble":{"code_found":"7a9bef200a8e93ad6ea9b769f0c39b06","code_due":"7a9bef200a8e93ad6ea9b769f0c39b07",
+"first_copy":{"record":3,"time":"1970-01-01 00:00:00.000000 UTC","channel":1},"first_copy_bytes":null,
+"differences":[{"at":51,"found":"06","first_copy":"07"}],"may_differ_further":false},
+"line":null,"entry":null,"pdu":null,"rule":null}
+"#,
+};
+
+// A heartbeat without a safety code, where one of 16 bytes is recorded.
+const TOO_SHORT: Case = Case {
+    parameters: "code16",
+    settings: "data plain",
+    packets: "2",
+    changes: &[],
+    certificate: "",
+    without: &[],
+    want: r#"
+"sn":101,"cs":500,"ts":1010,"cts":9000},"payload_and_codes":""},
+"trouble":{"least_bytes_due":52},"line":null,
+"#,
+};
+
+const SAFETY_LENGTH: Case = Case {
+    parameters: "plain",
+    settings: "data plain",
+    packets: "0",
+    changes: &[(90, 41)],
+    certificate: "",
+    without: &[],
+    want: r#""trouble":{"safety_length_field_due":42},"line":null,"#,
+};
+
+const REDUNDANCY_LENGTH: Case = Case {
+    parameters: "plain",
+    settings: "data plain",
+    packets: "0",
+    changes: &[(82, 51)],
+    certificate: "",
+    without: &[],
+    want: r#""trouble":{"length_field_due":50},"line":null,"#,
+};
+
+const IDS: Case = Case {
+    parameters: "plain",
+    settings: "data plain",
+    packets: "0",
+    changes: &[(94, 98)],
+    certificate: "",
+    without: &[],
+    want: r#""trouble":{"receiver_due":97,"sender_due":96},"line":null,"#,
+};
+
+// The missing packet crosses later.
+const NUMBER_GAP: Case = Case {
+    parameters: "plain",
+    settings: "data plain",
+    packets: "0 1 3 2",
+    changes: &[],
+    certificate: "",
+    without: &[],
+    want: r#"
+"trouble":{"number_due":8,"number_found":9,
+"crosses_later":{"record":4,"time":"1970-01-01 00:00:00.000000 UTC","channel":1}},
+"#,
+};
+
+// It ends inside its second record.
+const CUT_RECORD: Case = Case {
+    parameters: "plain",
+    settings: "data plain",
+    packets: "0 1 cut",
+    changes: &[],
+    certificate: "",
+    without: &[],
+    want: r#"
+"record":{"record":2,"time":null},"packet":null,"trouble":null,"line":null,"entry":null,"pdu":null,"rule":null}
+"#,
+};
+
+const OTHER_SENDMAX: Case = Case {
+    parameters: "narrow",
+    settings: "data plain",
+    packets: "0 1 2",
+    changes: &[],
+    certificate: "rasta-certificate 2\n",
+    without: &[],
+    want: r#"
+"offers":[{"end":"client","offered":20,"recorded":1},{"end":"server","offered":20,"recorded":1}],
+"verdict":"refused","fault":{"number":30,"name":"Syntax",
+"meaning":"this line isn't one that a certificate has there",
+"cause":"the certificate is wrong: another one may explain the same packets",
+"next_step":"this line of the certificate"},
+"record":null,"packet":null,"trouble":null,"line":1,"entry":null,"pdu":null,"rule":null}
+"#,
+};
+
+// An entry of the server.
+const NOT_ALLOWED: Case = Case {
+    parameters: "plain",
+    settings: "data plain",
+    packets: "0 1 2",
+    changes: &[],
+    certificate: "rasta-certificate 1\nclient\nmake 0 1000 open\ntake 2 40\nmake 2 1010 reply\nserver\ntake 1 7\nmake 1 9000 beat\nend\n",
+    without: &[],
+    want: r#"
+"line":null,"entry":{"number":2,"end":"server","line":8},
+"pdu":{"end":"server","packet":{"record":2,"time":"1970-01-01 00:00:00.000000 UTC","channel":1},
+"fields":{"type":6201,"type_name":"connection response","redundancy_number":40,
+"sn":500,"cs":100,"ts":9000,"cts":1000,"messages":[]}},"rule":null}
+"#,
+};
+
+const NEVER_CROSSES: Case = Case {
+    parameters: "plain",
+    settings: "data plain",
+    packets: "0 1 2",
+    changes: &[],
+    certificate: "rasta-certificate 1\nclient\nmake 0 1000 open\ntake 2 41\nmake 2 1010 reply\nserver\ntake 1 7\nmake 1 9000 reply\nend\n",
+    without: &[],
+    want: r#""entry":{"number":2,"end":"client","line":4},"pdu":null,"rule":null}"#,
+};
+
+// Data before any opening.
+const NOT_FOUND: Case = Case {
+    parameters: "plain",
+    settings: "data plain",
+    packets: "3",
+    changes: &[],
+    certificate: "",
+    without: &[],
+    want: r#"
+"cause":"an end broke the rules; a stranger; a wrong parameter or quiet point; or an honest end
+ repeated a retransmission request, both opened as client, or the connection was opened twice",
+"next_step":"this packet and those before it, with rasta_audit show; and what --without says"},
+"record":null,"packet":null,"trouble":null,"line":null,"entry":null,
+"pdu":{"end":"client","packet":{"record":1,"time":"1970-01-01 00:00:00.000000 UTC","channel":1},
+"fields":{"type":6240,"type_name":"data","redundancy_number":9,"sn":102,"cs":500,"ts":1020,"cts":9000,
+"messages":[{"hex":"ab01","text":"\\xab\\x01"},{"hex":"","text":""}]}},
+"rule":{"words":"CS 500 confirms a PDU of the server, and none crosses",
+"number_due":null,"number_found":null,"peer_pdu":null}}
+"#,
+};
+
+const TYPE: Case = Case {
+    parameters: "plain",
+    settings: "data plain",
+    packets: "0",
+    changes: &[(92, 0)],
+    certificate: "",
+    without: &[],
+    want: r#""trouble":{"type_found":6144},"line":null,"#,
+};
+
+// The version of an opening has a byte that is no digit.
+const VERSION: Case = Case {
+    parameters: "plain",
+    settings: "data plain",
+    packets: "0",
+    changes: &[(118, 255)],
+    certificate: "",
+    without: &[],
+    want: r#"
+"trouble":{"payload_due":"14 bytes, which begin with a version of four digits","payload_bytes":14,
+"version":{"hex":"ff333033","text":"\\xff303"},"cut_message":null},"line":null,
+"#,
+};
+
+const CUT_MESSAGE: Case = Case {
+    parameters: "plain",
+    settings: "data plain",
+    packets: "3",
+    changes: &[(118, 5)],
+    certificate: "",
+    without: &[],
+    want: r#"
+"payload_bytes":6,"version":null,"cut_message":{"at":0,"length":5,"left":4}},"line":null,
+"#,
+};
+
+// What the client confirms crosses later.
+const CONFIRMS_LATER: Case = Case {
+    parameters: "plain",
+    settings: "data plain",
+    packets: "0 2 1",
+    changes: &[],
+    certificate: "",
+    without: &[],
+    want: r#"
+"rule":{"words":"CS 500 confirms a PDU of the server that crosses later","number_due":null,"number_found":null,
+"peer_pdu":{"end":"server","packet":{"record":3,"time":"1970-01-01 00:00:00.000000 UTC","channel":1},
+"fields":{"type":6201,"type_name":"connection response","redundancy_number":40,
+"sn":500,"cs":100,"ts":9000,"cts":1000,"messages":[]}}}}
+"#,
+};
+
+const SEQUENCE_NUMBER: Case = Case {
+    parameters: "plain",
+    settings: "timed plain",
+    packets: "0 1 2 14",
+    changes: &[],
+    certificate: "",
+    without: &[],
+    want: r#"
+"rule":{"words":"SN isn't the next one of this end","number_due":102,"number_found":112,"peer_pdu":null}}
+"#,
+};
+
+/// A part of what is wanted of a capture from a quiet point, where one clock is the greatest that is a number.
+pub const QUIET_JSON: &str = r#"
+"The quiet point before record 1 is true, and no copy of an earlier packet comes after it."],
+"quiet_point":{"first_record":1,
+"client":{"next_sn":102,"clock":1010,"deadline":9007199254740992,"handed_ts":null},
+"server":{"next_sn":501,"clock":9000,"deadline":"9007199254740993","handed_ts":8950}},
+"messages":[{"from":"client","to":"server","surely_taken":0,"sent":2,"messages":[
+{"message":0,"surely_taken":false,
+"data":{"record":1,"time":"1970-01-01 00:00:00.000000 UTC","channel":1},"proof":null,
+"hex":"ab01","text":"\\xab\\x01"},
+"#;
+
+/// A part of what is wanted, of each kind.
+pub const PARTS: [Case; 16] = [
+    CODE,
+    TOO_SHORT,
+    SAFETY_LENGTH,
+    REDUNDANCY_LENGTH,
+    IDS,
+    NUMBER_GAP,
+    CUT_RECORD,
+    OTHER_SENDMAX,
+    NOT_ALLOWED,
+    NEVER_CROSSES,
+    NOT_FOUND,
+    TYPE,
+    VERSION,
+    CUT_MESSAGE,
+    CONFIRMS_LATER,
+    SEQUENCE_NUMBER,
+];

@@ -1,0 +1,451 @@
+//! Captures that are refused for a packet of the connection.
+use crate::cases::Case;
+
+const REDUNDANCY_LENGTH: Case = Case {
+    parameters: "plain",
+    settings: "data plain",
+    packets: "0",
+    changes: &[(82, 51)],
+    certificate: "",
+    without: &[],
+    want: "\
+refused by 20 RedundancyLength:
+  the length field isn't the datagram's length
+
+record 1, 1970-01-01 00:00:00.000000 UTC, channel 1, from the client
+  bytes of the datagram: 50
+  type: 6200, connection request
+  length field: 51
+  redundancy number: 7
+  length field of the safety layer: 42
+  receiver: 97
+  sender: 96
+  SN: 100
+  CS: 0
+  TS: 1000
+  CTS: 0
+  payload and codes: 3033303314000000000000000000
+what is wrong with it:
+  length field due: 50
+
+may be the cause:
+  a stranger on the recorded addresses; an end that broke the rules; a damaged packet; or,
+  at the first packet, a wrong length of a code in the parameters
+look next at:
+  the packet's sender, and what --without with its record says
+",
+};
+
+// A heartbeat without a safety code, where one of 16 bytes is recorded.
+const TOO_SHORT: Case = Case {
+    parameters: "code16",
+    settings: "data plain",
+    packets: "2",
+    changes: &[],
+    certificate: "",
+    without: &[],
+    want: "\
+refused by 21 TooShort:
+  the datagram is too short for a PDU with these code lengths
+
+record 1, 1970-01-01 00:00:00.000000 UTC, channel 1, from the client
+  bytes of the datagram: 36
+  type: 6220, heartbeat
+  length field: 36
+  redundancy number: 8
+  length field of the safety layer: 28
+  receiver: 97
+  sender: 96
+  SN: 101
+  CS: 500
+  TS: 1010
+  CTS: 9000
+what is wrong with it:
+  bytes of the datagram due: 52 or more
+
+may be the cause:
+  a stranger on the recorded addresses; an end that broke the rules; a damaged packet; or,
+  at the first packet, a wrong length of a code in the parameters
+look next at:
+  the packet's sender, and what --without with its record says
+",
+};
+
+const SAFETY_LENGTH: Case = Case {
+    parameters: "plain",
+    settings: "data plain",
+    packets: "0",
+    changes: &[(90, 41)],
+    certificate: "",
+    without: &[],
+    want: "\
+refused by 22 SafetyLength:
+  the length field of the safety layer is wrong
+
+record 1, 1970-01-01 00:00:00.000000 UTC, channel 1, from the client
+  bytes of the datagram: 50
+  type: 6200, connection request
+  length field: 50
+  redundancy number: 7
+  length field of the safety layer: 41
+  receiver: 97
+  sender: 96
+  SN: 100
+  CS: 0
+  TS: 1000
+  CTS: 0
+  payload and codes: 3033303314000000000000000000
+what is wrong with it:
+  length field of the safety layer due: 42
+
+may be the cause:
+  a stranger on the recorded addresses; an end that broke the rules; a damaged packet; or,
+  at the first packet, a wrong length of a code in the parameters
+look next at:
+  the packet's sender, and what --without with its record says
+",
+};
+
+const TYPE: Case = Case {
+    parameters: "plain",
+    settings: "data plain",
+    packets: "0",
+    changes: &[(92, 0)],
+    certificate: "",
+    without: &[],
+    want: "\
+refused by 23 Type:
+  this is none of the eight types of PDU
+
+record 1, 1970-01-01 00:00:00.000000 UTC, channel 1, from the client
+  bytes of the datagram: 50
+  type: 6144, none of the eight types
+  length field: 50
+  redundancy number: 7
+  length field of the safety layer: 42
+  receiver: 97
+  sender: 96
+  SN: 100
+  CS: 0
+  TS: 1000
+  CTS: 0
+  payload and codes: 3033303314000000000000000000
+what is wrong with it:
+  type due: 6200, 6201, 6212, 6213, 6216, 6220, 6240 or 6241
+  type found: 6144
+
+may be the cause:
+  a stranger on the recorded addresses; an end that broke the rules; a damaged packet; or,
+  at the first packet, a wrong length of a code in the parameters
+look next at:
+  the packet's sender, and what --without with its record says
+",
+};
+
+// A safety code where none is recorded.
+const PAYLOAD: Case = Case {
+    parameters: "plain",
+    settings: "data code16",
+    packets: "0",
+    changes: &[],
+    certificate: "",
+    without: &[],
+    want: "\
+refused by 24 Payload:
+  the payload doesn't have the layout of its type
+
+record 1, 1970-01-01 00:00:00.000000 UTC, channel 1, from the client
+  bytes of the datagram: 66
+  type: 6200, connection request
+  length field: 66
+  redundancy number: 7
+  length field of the safety layer: 58
+  receiver: 97
+  sender: 96
+  SN: 100
+  CS: 0
+  TS: 1000
+  CTS: 0
+  payload and codes: 3033303314000000000000000000aa52f7692e24d7945792518053f85026
+what is wrong with it:
+  payload due: 14 bytes, which begin with a version of four digits
+  bytes of the payload: 30
+
+may be the cause:
+  a stranger on the recorded addresses; an end that broke the rules; a damaged packet; or,
+  at the first packet, a wrong length of a code in the parameters
+look next at:
+  the packet's sender, and what --without with its record says
+",
+};
+
+// A late copy with a flipped bit.
+const CODE: Case = Case {
+    parameters: "code16",
+    settings: "data code16",
+    packets: "0 1 2 2 flip",
+    changes: &[],
+    certificate: "",
+    without: &[],
+    want: "\
+refused by 25 Code:
+  the safety code is wrong
+
+record 4, 1970-01-01 00:00:00.000000 UTC, channel 1, from the client
+  bytes of the datagram: 52
+  type: 6220, heartbeat
+  length field: 52
+  redundancy number: 8
+  length field of the safety layer: 44
+  receiver: 97
+  sender: 96
+  SN: 101
+  CS: 500
+  TS: 1010
+  CTS: 9000
+  payload and codes: 7a9bef200a8e93ad6ea9b769f0c39b06
+what is wrong with it:
+  safety code found: 7a9bef200a8e93ad6ea9b769f0c39b06
+  safety code due: 7a9bef200a8e93ad6ea9b769f0c39b07
+  another packet with its number: record 3, 1970-01-01 00:00:00.000000 UTC, channel 1
+  byte 51 of the datagram: 06, in the first copy 07
+
+may be the cause:
+  a bit flipped on the line, if it is a later copy; a stranger; an end that broke the rules;
+  or, at the first packet, wrong start words
+look next at:
+  how this packet differs from its first copy, and what --without with its record says
+",
+};
+
+const IDS: Case = Case {
+    parameters: "plain",
+    settings: "data plain",
+    packets: "0",
+    changes: &[(94, 98)],
+    certificate: "",
+    without: &[],
+    want: "\
+refused by 26 Ids:
+  sender or receiver isn't the recorded one
+
+record 1, 1970-01-01 00:00:00.000000 UTC, channel 1, from the client
+  bytes of the datagram: 50
+  type: 6200, connection request
+  length field: 50
+  redundancy number: 7
+  length field of the safety layer: 42
+  receiver: 98
+  sender: 96
+  SN: 100
+  CS: 0
+  TS: 1000
+  CTS: 0
+  payload and codes: 3033303314000000000000000000
+what is wrong with it:
+  receiver due: 97
+  sender due: 96
+
+may be the cause:
+  a stranger on the recorded addresses, or a wrong id in the parameters
+look next at:
+  the packet's sender, and what --without with its record says
+",
+};
+
+const COPY_DIFFERS: Case = Case {
+    parameters: "plain",
+    settings: "data plain",
+    packets: "0 1 2 3 4 5 6@2",
+    changes: &[],
+    certificate: "",
+    without: &[],
+    want: "\
+refused by 27 CopyDiffers:
+  this redundancy number has crossed before, with other bytes
+
+record 7, 1970-01-01 00:00:00.000000 UTC, channel 2, from the client
+  bytes of the datagram: 40
+  type: 6216, disconnection request
+  length field: 40
+  redundancy number: 10
+  length field of the safety layer: 32
+  receiver: 97
+  sender: 96
+  SN: 103
+  CS: 501
+  TS: 2815
+  CTS: 9050
+  payload and codes: 00000400
+what is wrong with it:
+  another packet with its number: record 6, 1970-01-01 00:00:00.000000 UTC, channel 1
+  byte 28 of the datagram: ff, in the first copy fe
+
+may be the cause:
+  a bit flipped on the line; a stranger; or an end that used a number twice
+look next at:
+  how this packet differs from its first copy, and what --without with its record says
+",
+};
+
+// The missing packet crosses later.
+const NUMBER_GAP: Case = Case {
+    parameters: "plain",
+    settings: "data plain",
+    packets: "0 1 3 2",
+    changes: &[],
+    certificate: "",
+    without: &[],
+    want: "\
+refused by 28 NumberGap:
+  this redundancy number has not crossed before, and isn't the next
+
+record 3, 1970-01-01 00:00:00.000000 UTC, channel 1, from the client
+  bytes of the datagram: 42
+  type: 6240, data
+  length field: 42
+  redundancy number: 9
+  length field of the safety layer: 34
+  receiver: 97
+  sender: 96
+  SN: 102
+  CS: 500
+  TS: 1020
+  CTS: 9000
+  payload and codes: 0200ab010000
+what is wrong with it:
+  redundancy number due: 8
+  redundancy number found: 9
+  8 crosses later: record 4, 1970-01-01 00:00:00.000000 UTC, channel 1
+
+may be the cause:
+  the tap missed a packet, or it was overtaken before the tap; an end left a number out; or,
+  at the first records, this is a late copy of a packet from before the capture
+look next at:
+  the packets of this end around the missing number; up to the gap the capture can be
+  explained with last_record, and after it from a quiet point
+",
+};
+
+const MISSING_PACKET: Case = Case {
+    parameters: "plain",
+    settings: "data plain",
+    packets: "0 1 3",
+    changes: &[],
+    certificate: "",
+    without: &[],
+    want: "\
+refused by 28 NumberGap:
+  this redundancy number has not crossed before, and isn't the next
+
+record 3, 1970-01-01 00:00:00.000000 UTC, channel 1, from the client
+  bytes of the datagram: 42
+  type: 6240, data
+  length field: 42
+  redundancy number: 9
+  length field of the safety layer: 34
+  receiver: 97
+  sender: 96
+  SN: 102
+  CS: 500
+  TS: 1020
+  CTS: 9000
+  payload and codes: 0200ab010000
+what is wrong with it:
+  redundancy number due: 8
+  redundancy number found: 9
+  8 doesn't cross later in the window
+
+may be the cause:
+  the tap missed a packet, or it was overtaken before the tap; an end left a number out; or,
+  at the first records, this is a late copy of a packet from before the capture
+look next at:
+  the packets of this end around the missing number; up to the gap the capture can be
+  explained with last_record, and after it from a quiet point
+",
+};
+
+// The same where the heartbeat of a whole capture is left out.
+const LEFT_OUT: Case = Case {
+    parameters: "plain",
+    settings: "data plain",
+    packets: "0 1 2 3",
+    changes: &[],
+    certificate: "",
+    without: &[3],
+    want: "\
+refused by 28 NumberGap without record 3:
+  this redundancy number has not crossed before, and isn't the next
+
+record 4, 1970-01-01 00:00:00.000000 UTC, channel 1, from the client
+  bytes of the datagram: 42
+  type: 6240, data
+  length field: 42
+  redundancy number: 9
+  length field of the safety layer: 34
+  receiver: 97
+  sender: 96
+  SN: 102
+  CS: 500
+  TS: 1020
+  CTS: 9000
+  payload and codes: 0200ab010000
+what is wrong with it:
+  redundancy number due: 8
+  redundancy number found: 9
+  8 doesn't cross later in the window
+
+may be the cause:
+  the tap missed a packet, or it was overtaken before the tap; an end left a number out; or,
+  at the first records, this is a late copy of a packet from before the capture
+look next at:
+  the packets of this end around the missing number; up to the gap the capture can be
+  explained with last_record, and after it from a quiet point
+",
+};
+
+// A heartbeat before any opening.
+const NOT_FOUND: Case = Case {
+    parameters: "plain",
+    settings: "data plain",
+    packets: "2",
+    changes: &[],
+    certificate: "",
+    without: &[],
+    want: "\
+refused by 60 NotFound:
+  no two ends that keep the rules send packets that begin with those up to this one
+
+the client's PDU in record 1, 1970-01-01 00:00:00.000000 UTC, channel 1
+  type: 6220, heartbeat
+  redundancy number: 8
+  SN: 101
+  CS: 500
+  TS: 1010
+  CTS: 9000
+the rule that refuses it, found by a walk beside the verdict and no part of it:
+  CS 500 confirms a PDU of the server, and none crosses
+
+may be the cause:
+  an end broke the rules; a stranger; a wrong parameter or quiet point; or an honest end
+  repeated a retransmission request, both opened as client, or the connection was opened twice
+look next at:
+  this packet and those before it, with rasta_audit show; and what --without says
+",
+};
+
+/// Each such refusal.
+pub const PACKET_CASES: [Case; 12] = [
+    REDUNDANCY_LENGTH,
+    TOO_SHORT,
+    SAFETY_LENGTH,
+    TYPE,
+    PAYLOAD,
+    CODE,
+    IDS,
+    COPY_DIFFERS,
+    NUMBER_GAP,
+    MISSING_PACKET,
+    LEFT_OUT,
+    NOT_FOUND,
+];

@@ -1,0 +1,221 @@
+#!/usr/bin/env python3
+"""Runs `seatmelon` as its user would, and compares what it prints with what docs/FORMATS.md says.
+
+    explanations.py [--program PATH] [PART..]
+
+The parts (all of them, if none is named):
+
+    samples    surveys, drafts and explains each sample, as text and as JSON
+    files      a pipe, standard input, a directory, a missing file, gzip, pcapng, a text, and swapped arguments
+    limits     one PDU more than can be judged, and one entry more
+
+What an explanation has to say of a sample is read from the texts of examples/expected, which `rasta_audit` has to
+print. Prints a line for each part. `rt run` in crates/seatmelon leaves the program.
+Plain Python 3, no other packages.
+"""
+
+import argparse
+import gzip
+import json
+import os
+import pathlib
+import re
+import subprocess
+import sys
+import tempfile
+import threading
+
+import extremes
+import rows
+
+TOP = pathlib.Path(__file__).resolve().parent.parent
+PROGRAM = TOP / "crates/seatmelon/out/seatmelon"
+SAMPLES = TOP / "examples"
+WHOLE = "two ends that keep the rules can have sent these"
+
+
+class Part:
+    """Calls of a part, and how many were answered wrongly."""
+
+    def __init__(self, program, folder):
+        self.program, self.folder, self.calls, self.wrong = program, folder, 0, 0
+
+    def call(self, *words, **options):
+        self.calls += 1
+        ran = subprocess.run([self.program, *words], capture_output=True, **options)
+        return ran.returncode, ran.stdout.decode(), ran.stderr.decode()
+
+    def judge(self, what, is_right, answer):
+        if not is_right:
+            self.wrong += 1
+            print(f"  {what}: {[str(it)[-300:] for it in answer]}")
+
+    def expect(self, what, status, written, error, *words, **options):
+        """A call with this status, in whose outputs these words stand."""
+        answer = self.call(*words, **options)
+        self.judge(what, answer[0] == status and written in answer[1] and error in answer[2], answer)
+
+
+# ---- samples
+
+
+def taken_in(text):
+    """The messages of each receiving end in the text of `check`, in hexadecimal."""
+    lists, current = {}, None
+    for line in text.splitlines():
+        begun = re.fullmatch(r"taken by (client|server) \d+", line)
+        if begun:
+            current = lists.setdefault(begun.group(1), [])
+        elif current is not None:
+            current.append(line.split(" ")[3].replace(".", ""))
+    return lists
+
+
+def explains(text, data, told):
+    """Whether text and data tell of an explained capture what `check` tells."""
+    lists = taken_in(told)
+    right = f"explained: {WHOLE} {told.split()[1]} packets" in text and data["packets_explained"] == int(told.split()[1])
+    for direction in data["messages"]:
+        messages = [it["hex"] for it in direction["messages"] if it["surely_taken"]]
+        right = right and messages == lists[direction["to"]] and direction["surely_taken"] == len(messages)
+        line = f"{direction['from']} to {direction['to']}: {len(messages)} of {direction['sent']} messages surely taken"
+        right = right and line in text
+    return right
+
+
+def refuses(text, data, told):
+    """Whether text and data tell the refusal that `audit` tells."""
+    _, number, name, _, _ = told.split()
+    fault = data["fault"]
+    return f"refused by {number} {name}:" in text and (fault["number"], fault["name"]) == (int(number), name)
+
+
+def samples(part):
+    for capture in sorted(SAMPLES.glob("*.pcap")):
+        name, parameters = capture.stem, capture.with_suffix(".toml")
+        part.expect(f"survey {name}", 0, "connection 1", "", "survey", capture)
+        part.expect(f"draft {name}", 0, "client_id", "", "draft", capture, "1")
+        checked = SAMPLES / "expected" / f"{name}.check.txt"
+        refused = SAMPLES / "expected" / f"{name}.audit.txt"
+        text = part.call("explain", capture, parameters)
+        data = part.call("explain", "--json", capture, parameters)
+        found = json.loads(data[1])
+        if checked.exists():
+            right = text[0] == data[0] == 0 and found["verdict"] == "explained"
+            right = right and explains(text[1], found, checked.read_text())
+        else:
+            right = text[0] == data[0] == 1 and found["verdict"] == "refused"
+            right = right and refuses(text[1], found, refused.read_text())
+        right = right and all(found[it]["sha256"] in text[1] for it in ("capture", "parameters"))
+        part.judge(f"explain {name}", right and text[2] == data[2] == "", text + data)
+
+
+# ---- files
+
+
+def through_a_pipe(part, command, capture, *more):
+    pipe = part.folder / "pipe"
+    os.mkfifo(pipe)
+    writer = threading.Thread(target=lambda: pipe.write_bytes(capture.read_bytes()), daemon=True)
+    writer.start()
+    answer = part.call(command, pipe, *more)
+    if writer.is_alive():
+        os.close(os.open(pipe, os.O_RDONLY | os.O_NONBLOCK))
+    pipe.unlink()
+    return answer
+
+
+def files(part):
+    capture, parameters = SAMPLES / "handshake.pcap", SAMPLES / "handshake.toml"
+    missing, packed, newer = part.folder / "missing", part.folder / "c.pcap.gz", part.folder / "c.pcapng"
+    packed.write_bytes(gzip.compress(capture.read_bytes()))
+    newer.write_bytes(b"\x0a\x0d\x0d\x0a" + bytes(60))
+    answer = through_a_pipe(part, "survey", capture)
+    part.judge("survey, a pipe", answer[0] == 0 and "connection 1" in answer[1], answer)
+    answer = through_a_pipe(part, "explain", capture, parameters)
+    part.judge("explain, a pipe", answer[0] == 2 and answer[1] == "" and "pipe" in answer[2], answer)
+    data = capture.read_bytes()
+    part.expect("survey, standard input", 0, "connection 1", "", "survey", "/dev/stdin", input=data)
+    part.expect("explain, standard input", 2, "", "pipe", "explain", "/dev/stdin", parameters, input=data)
+    for words in (("survey",), ("draft", "1"), ("explain", parameters)):
+        command, *more = words
+        part.expect(f"{command}, a directory", 3, "", "irectory", command, part.folder, *more)
+        part.expect(f"{command}, a missing file", 3, "", str(missing), command, missing, *more)
+        part.expect(f"{command}, gzip", 1, "", "gunzip", command, packed, *more)
+        part.expect(f"{command}, pcapng", 1, "", "editcap -F pcap", command, newer, *more)
+    part.expect("explain, parameters missing", 3, "", str(missing), "explain", capture, missing)
+    part.expect("explain, certificate missing", 3, "", str(missing), "explain", capture, parameters, missing)
+    part.expect("explain, swapped", 2, "", "swapped", "explain", parameters, capture)
+    part.expect("no command", 2, "", "Usage", )
+    part.expect("unknown command", 2, "", "explain", "explian", capture, parameters)
+    part.expect("help", 0, "--without", "", "explain", "--help")
+    part.expect("version", 0, "seatmelon", "", "--version")
+
+
+# ---- limits
+
+ADVICE = """
+may be the cause:
+  the window is too large
+look next at:
+  a smaller window
+"""
+TOO_MANY_PDUS = """refused by 17 TooMany:
+  this is one record, packet or PDU more than can be judged
+
+record 1000002, 1970-01-01 00:00:00.000000 UTC, channel 1, from the client
+  bytes of the datagram: 36
+  type: 6220, heartbeat
+  length field: 36
+  redundancy number: 1000007
+  length field of the safety layer: 28
+  receiver: 97
+  sender: 96
+  SN: 1000100
+  CS: 500
+  TS: 1010
+  CTS: 9000
+what is wrong with it:
+  this is one record, packet or PDU more than can be judged
+"""
+TOO_MANY_ENTRIES = """refused by 45 TooMany:
+  this is one entry more than can be judged
+
+line 4000003 of the certificate
+"""
+
+
+def limits(part):
+    capture, parameters, certificate = (part.folder / name for name in extremes.FILES)
+    parameters.write_bytes(rows.parameters_of())
+    opening = rows.capture_of(extremes.frames_of(extremes.HANDSHAKE))
+    capture.write_bytes(opening + extremes.records_of(extremes.heartbeats_of(1_000_001)))
+    part.expect("one PDU more", 1, TOO_MANY_PDUS + ADVICE, "", "explain", capture, parameters)
+    capture.write_bytes(opening)
+    entries = b"make 0 1000 open\n" * 4_000_001
+    certificate.write_bytes(b"rasta-certificate 1\nclient\n" + entries + b"server\nend\n")
+    part.expect("one entry more", 1, TOO_MANY_ENTRIES + ADVICE, "", "explain", capture, parameters, certificate)
+
+
+PARTS = (samples, files, limits)
+
+
+def try_part(run, program):
+    with tempfile.TemporaryDirectory() as folder:
+        part = Part(program, pathlib.Path(folder))
+        run(part)
+    print(f"{run.__name__}: {part.calls} calls, {part.wrong} wrong", flush=True)
+    return part
+
+
+def main():
+    asked = argparse.ArgumentParser(description="Runs seatmelon as its user would.")
+    asked.add_argument("--program", type=pathlib.Path, default=PROGRAM, help="seatmelon")
+    asked.add_argument("parts", nargs="*", metavar="PART", help=" ".join(run.__name__ for run in PARTS))
+    words = asked.parse_args()
+    named = [run for run in PARTS if run.__name__ in words.parts] if words.parts else PARTS
+    return any([try_part(run, words.program.resolve()).wrong for run in named])
+
+
+if __name__ == "__main__":
+    sys.exit(main())
