@@ -113,10 +113,17 @@ def samples(part):
 # ---- files
 
 
+def fill(pipe, data):
+    try:
+        pipe.write_bytes(data)
+    except BrokenPipeError:
+        pass
+
+
 def through_a_pipe(part, command, capture, *more):
     pipe = part.folder / "pipe"
     os.mkfifo(pipe)
-    writer = threading.Thread(target=lambda: pipe.write_bytes(capture.read_bytes()), daemon=True)
+    writer = threading.Thread(target=fill, args=(pipe, capture.read_bytes()), daemon=True)
     writer.start()
     answer = part.call(command, pipe, *more)
     if writer.is_alive():
