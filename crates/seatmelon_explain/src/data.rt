@@ -101,7 +101,7 @@ pub struct Explained {
 
 /// A fault, and what to do about it.
 #[derive(Drop, Serialize)]
-pub struct Cause {
+pub struct Advice {
     pub number: u8,
     pub name: &'static str,
     pub meaning: String,
@@ -111,7 +111,7 @@ pub struct Cause {
 
 /// The refused record.
 #[derive(Drop, Serialize)]
-pub struct Refused {
+pub struct RefusedRecord {
     pub record: u32,
     pub time: Option<String>,
 }
@@ -255,8 +255,8 @@ pub struct Behind {
 /// What is told of a refusal, as far as there is something to tell.
 #[derive(Drop, Serialize)]
 pub struct Refusal {
-    pub fault: Cause,
-    pub record: Option<Refused>,
+    pub fault: Advice,
+    pub record: Option<RefusedRecord>,
     pub packet: Option<Packet>,
     pub trouble: Option<Trouble>,
     pub line: Option<u32>,

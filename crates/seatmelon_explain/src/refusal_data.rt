@@ -3,8 +3,8 @@ ghost use Rattle.std.specs.Prelude.{◌≡◌, IfErr};
 ghost use Rattle.rasta_pcap.specs.Fault.{no_memory};
 
 use crate::data::{
-    Behind, Cause, Content, CrossedPdu, CutMessage, Difference, Number, Packet, PduFields, Refusal,
-    Refused, ScriptEntry, Trouble,
+    Advice, Behind, Content, CrossedPdu, CutMessage, Difference, Number, Packet, PduFields,
+    Refusal, RefusedRecord, ScriptEntry, Trouble,
 };
 use crate::first_reading::CaptureRefusal;
 use crate::layout::{layout_in, type_in};
@@ -33,7 +33,7 @@ use std::alloc::Global;
 fn plain_refusal(alloc: Global, fault: Fault) -> Result<Refusal, Fault>
     ensures err { IfErr result (λ f. f ≡ no_memory) }
 {
-    let fault = Cause {
+    let fault = Advice {
         number: fault.number,
         name: fault.name(),
         meaning: sentence_of(alloc, meaning_of(fault.number))?,
@@ -231,7 +231,7 @@ pub fn capture_refusal_data(
     if fault.place == 0 {
         return Ok(told);
     }
-    told.record = Some(Refused {
+    told.record = Some(RefusedRecord {
         record: fault.place,
         time: time_data(alloc, page.sightings.refused_time)?,
     });

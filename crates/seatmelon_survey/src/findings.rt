@@ -4,6 +4,7 @@ ghost use Rattle.rasta_pcap.specs.Fault.{no_memory, write_failed};
 ghost use Rattle.rasta_pcap.specs.Devices.{HasFailed};
 
 use crate::connection::Connection;
+use crate::lengths::Trials;
 use crate::packet::{Packet, packet_in};
 use crate::report::{write_connection, write_summary};
 use rasta_pcap::{CaptureTime, Fault, Record, Sink};
@@ -15,6 +16,7 @@ const MOST_CONNECTIONS: usize = 1024;
 /// The connections that a capture seems to hold.
 #[derive(Debug, Drop)]
 pub struct Survey {
+    trials: Trials,
     connections: Vec<Connection>,
     pub(crate) records: u32,
     pub(crate) packets: u64,
@@ -29,6 +31,7 @@ impl Survey {
         ensures { records_in result ≡ 0 }
     {
         Survey {
+            trials: Trials::new(),
             connections: Vec::new(alloc),
             records: 0,
             packets: 0,
@@ -53,7 +56,7 @@ impl Survey {
         ensures counted { OnOk result (records_in self.new ≡ found.now.number) }
         ensures err { IfErr result (λ f. f ≡ no_memory) }
     {
-        if let Some(packet) = packet_in(found, time) {
+        if let Some(packet) = packet_in(&self.trials, found, time) {
             self.add_packet(alloc, &packet)?;
         }
         self.records = found.number;

@@ -1,5 +1,6 @@
 //! The lengths of codes that fit.
 use rasta_pdu::{Channel, Fault, Params, Side, decode};
+use rasta_udp::Endpoint;
 
 // The registers that MD4 itself begins with.
 const MD4_START: [u32; 4] = [0x6745_2301, 0xefcd_ab89, 0x98ba_dcfe, 0x1032_5476];
@@ -33,18 +34,22 @@ impl Fits {
     }
 }
 
-/// The ids and the way of a PDU.
-#[derive(Clone, Copy, Debug, PartialEq, Eq)]
-pub struct Way {
-    pub sender: u32,
-    pub receiver: u32,
-    pub route: Channel,
-}
+// Reading a datagram asks for no channel, and for the ids only once its form and its safety code are right.
+const ANY_CHANNEL: Channel = Channel {
+    client: Endpoint {
+        address: [0; 4],
+        port: 1,
+    },
+    server: Endpoint {
+        address: [0; 4],
+        port: 2,
+    },
+};
 
-fn fit_of(way: &Way, datagram: &[u8], code_length: u8, check_length: u8) -> Fit {
-    let Some(params) = Params::new(
-        way.sender,
-        way.receiver,
+fn trial(code_length: u8, check_length: u8) -> Option<Params> {
+    Params::new(
+        1,
+        2,
         code_length,
         MD4_START,
         check_length,
@@ -53,25 +58,71 @@ fn fit_of(way: &Way, datagram: &[u8], code_length: u8, check_length: u8) -> Fit 
         0,
         1,
         1,
-        &[way.route],
+        &[ANY_CHANNEL],
         None,
-    ) else {
+    )
+}
+
+fn fit_of(params: &Option<Params>, datagram: &[u8]) -> Fit {
+    let Some(params) = params else {
         return Fit::None;
     };
-    match decode(&params, Side::Client, datagram) {
-        Ok(_) => Fit::StartWords,
+    match decode(params, Side::Client, datagram) {
         Err(fault) if fault.number == Fault::CODE => Fit::Form,
-        Err(_) => Fit::None,
+        Err(fault) if fault.number != Fault::IDS => Fit::None,
+        _ => Fit::StartWords,
     }
 }
 
-/// How a datagram fits each length of the safety code.
-pub fn fits_of(way: &Way, datagram: &[u8], check_length: u8) -> Fits {
-    Fits {
-        no_code: fit_of(way, datagram, 0, check_length),
-        short_code: fit_of(way, datagram, 8, check_length),
-        long_code: fit_of(way, datagram, 16, check_length),
-        check_length,
+// The parameters by which each length of the safety code is tried.
+#[derive(Clone, Copy, Debug)]
+struct CodeTrials {
+    no_code: Option<Params>,
+    short_code: Option<Params>,
+    long_code: Option<Params>,
+}
+
+impl CodeTrials {
+    fn new(check_length: u8) -> CodeTrials {
+        CodeTrials {
+            no_code: trial(0, check_length),
+            short_code: trial(8, check_length),
+            long_code: trial(16, check_length),
+        }
+    }
+}
+
+/// The parameters by which the lengths of the codes are tried.
+#[derive(Clone, Copy, Debug)]
+pub struct Trials {
+    no_check: CodeTrials,
+    short_check: CodeTrials,
+    long_check: CodeTrials,
+}
+
+impl Trials {
+    /// Of each length that the codes can have.
+    pub fn new() -> Trials {
+        Trials {
+            no_check: CodeTrials::new(0),
+            short_check: CodeTrials::new(2),
+            long_check: CodeTrials::new(4),
+        }
+    }
+
+    /// How a datagram fits each length of the safety code, whatever its ids.
+    pub fn fits_of(&self, datagram: &[u8], check_length: u8) -> Fits {
+        let trials = match check_length {
+            0 => &self.no_check,
+            2 => &self.short_check,
+            _ => &self.long_check,
+        };
+        Fits {
+            no_code: fit_of(&trials.no_code, datagram),
+            short_code: fit_of(&trials.short_code, datagram),
+            long_code: fit_of(&trials.long_code, datagram),
+            check_length,
+        }
     }
 }
 
@@ -188,6 +239,7 @@ impl Lengths {
             _ => self.long_check = self.long_check.saturating_add(1),
         }
     }
+
     /// The lengths of the safety code. A code is right if it is that of MD4's own start words.
     pub fn of_code(&self) -> [LengthFit; 3] {
         [

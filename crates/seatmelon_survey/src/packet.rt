@@ -2,13 +2,13 @@
 ghost use Rattle.std.specs.Prelude.{◌≡◌, ◌+◌, ◌≤◌, length, IfSome};
 ghost use Rattle.rasta_pdu.specs.Pdu.{type_of};
 
-use crate::lengths::{Fits, Way, fits_of};
+use crate::lengths::{Fits, Trials};
 use crate::route::route_in;
 use byteorder::{ByteOrder, LittleEndian};
-use rasta_md4::Md4;
+use rasta_md4::digest;
 use rasta_pcap::CaptureTime;
 use rasta_pdu::Kind;
-use rasta_udp::{Record, datagram};
+use rasta_udp::{Channel, Record, datagram};
 
 // Offsets and lengths in a datagram, in bytes.
 const NUMBER_AT: usize = 4;
@@ -39,12 +39,23 @@ const REASON_AT: usize = 38;
 
 const BYE_END: usize = 40;
 
+// The start words of the digest by which copies are compared. Any would do.
+const START_WORDS: [u32; 4] = [0; 4];
+
 /// What an end says of itself at the opening, in which record: its version, four digits, and its N_sendmax.
 #[derive(Clone, Copy, Debug, PartialEq, Eq)]
 pub struct Offer {
     pub record: u32,
     pub version: [u8; 4],
     pub sendmax: u16,
+}
+
+/// The ids and the way of a PDU.
+#[derive(Clone, Copy, Debug, PartialEq, Eq)]
+pub struct Way {
+    pub sender: u32,
+    pub receiver: u32,
+    pub route: Channel,
 }
 
 /// A packet that has the form of RaSTA.
@@ -128,14 +139,14 @@ fn reason_in(kind: Kind, datagram: &[u8]) -> Option<u16> {
     }
 }
 
-fn digest_of(datagram: &[u8]) -> [u8; 16] {
-    let mut digest = Md4::with_words([0; 4]);
-    digest.update(datagram);
-    digest.finish()
+// Whether the ids are those of two ends, and the addresses and ports those of two places.
+fn is_between_two_ends(way: &Way) -> bool {
+    let Channel { client, server } = way.route;
+    way.sender != way.receiver && client != server && client.port >= 1 && server.port >= 1
 }
 
 /// The packet that a record holds, if its datagram has the form of RaSTA for some lengths of the codes.
-pub fn packet_in(found: &Record<'_>, time: Option<CaptureTime>) -> Option<Packet> {
+pub fn packet_in(trials: &Trials, found: &Record<'_>, time: Option<CaptureTime>) -> Option<Packet> {
     let route = route_in(found.bytes)?;
     let bytes = datagram(found, &[route]).ok()??.payload;
     if bytes.len() < PAYLOAD_AT {
@@ -147,8 +158,8 @@ pub fn packet_in(found: &Record<'_>, time: Option<CaptureTime>) -> Option<Packet
         receiver: u32_at(bytes, RECEIVER_AT),
         route,
     };
-    let fits = fits_of(&way, bytes, check_length(bytes)?);
-    if !fits.any() {
+    let fits = trials.fits_of(bytes, check_length(bytes)?);
+    if !is_between_two_ends(&way) || !fits.any() {
         return None;
     }
     Some(Packet {
@@ -164,6 +175,6 @@ pub fn packet_in(found: &Record<'_>, time: Option<CaptureTime>) -> Option<Packet
         fits,
         offer: offer_in(found.number, kind, bytes),
         reason: reason_in(kind, bytes),
-        digest: digest_of(bytes),
+        digest: digest(START_WORDS, bytes),
     })
 }
