@@ -2,27 +2,14 @@
 //! `draft CAPTURE N`, and tells in words what the verdict on one is, `explain CAPTURE PARAMS [CERT]`.
 #![tactic(auto)]
 
-mod answer;
-mod command;
-mod drafting;
-mod explaining;
-mod failure;
-mod file_kind;
-mod key_lines;
-mod parameters;
-mod reading;
-mod surveying;
 #[cfg(test)]
 mod tests;
-mod watched;
 
-use crate::command::{Request, parse};
-use crate::drafting::draft_file;
-use crate::explaining::explain_files;
-use crate::failure::{Failure, reason_of, status};
-use crate::surveying::survey_file;
 use clap::Error;
 use clap::error::ErrorKind;
+use seatmelon_commands::{
+    Failure, Request, draft_file, explain_files, parse, reason_of, status, survey_file,
+};
 use std::io;
 use std::process::ExitCode;
 use std::rt::{Env, Files};

@@ -1,15 +1,11 @@
 //! The command line, refused captures and parameters, and devices that fail.
 ghost use Rattle.std.specs.Prelude.{None};
 
-use crate::answer::{Answer, write_answer};
-use crate::command::{Explaining, Request, parse};
-use crate::drafting::draft_in;
-use crate::explaining::{Inputs, explain_of, status_of_outcome};
-use crate::failure::status;
-use crate::parameters::params_in;
-use crate::reading::whole_of;
-use crate::surveying::survey_of;
 use rasta_pcap::devices::{FailAt, Pieces};
+use seatmelon_commands::{
+    Answer, Explaining, Inputs, Request, draft_in, explain_of, params_in, parse, status,
+    status_of_outcome, survey_of, whole_of, write_answer,
+};
 use seatmelon_explain::Form;
 use std::alloc::Global;
 use std::io;

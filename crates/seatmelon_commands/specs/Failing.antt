@@ -1,7 +1,7 @@
 -- The exit status of a failure.
 use Rattle.std.specs.Prelude.{◌≡◌, ◌⊎◌, ℕ, ◌==◌, ◌||◌, if◌then◌else◌}
-use Rattle.seatmelon.specs.declared.failure.Failure.{Failure}
-use Rattle.seatmelon.specs.declared.failure.Failure.TheVariants.{OutOfMemory, Arguments, Reading, Writing, Refused, NoConnection, Parameters, NoFile, Changed}
+use Rattle.seatmelon_commands.specs.declared.failure.Failure.{Failure}
+use Rattle.seatmelon_commands.specs.declared.failure.Failure.TheVariants.{OutOfMemory, Arguments, Reading, Writing, Refused, NoConnection, Parameters, NoFile, Changed}
 
 -- a capture; words and parameters; memory, devices and files that change
 abbrev pub status_of : Failure → ℕ

@@ -1,7 +1,7 @@
 //! Parameter files, and why they are refused, in words.
 ghost use Rattle.std.specs.Prelude.{◌≡◌, Ok, IfErr, IfOk};
 ghost use Rattle.rasta_params.specs.Keys.{ReadsParameters};
-ghost use Rattle.seatmelon.specs.Failing.{TellsWords};
+ghost use Rattle.seatmelon_commands.specs.Failing.{TellsWords};
 
 use crate::failure::Failure;
 use crate::file_kind::{FileKind, file_kind};

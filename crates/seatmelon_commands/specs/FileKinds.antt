@@ -1,8 +1,8 @@
 -- What the first bytes of a file tell of it.
 use Rattle.std.specs.Prelude.{ℕ, List, [], ◌∷◌, Bool, true, false, ◌==◌, ◌||◌, ◌&&◌, length, nat_le, nat_lt, if◌then◌else◌}
 use Rattle.std.specs.List.{list_all}
-use Rattle.seatmelon.specs.declared.file_kind.FileKind.{FileKind}
-use Rattle.seatmelon.specs.declared.file_kind.FileKind.TheVariants.{Capture, Gzip, Pcapng, Text, Other}
+use Rattle.seatmelon_commands.specs.declared.file_kind.FileKind.{FileKind}
+use Rattle.seatmelon_commands.specs.declared.file_kind.FileKind.TheVariants.{Capture, Gzip, Pcapng, Text, Other}
 
 -- the list begins with these bytes
 abbrev pub begins_with : List ℕ → List ℕ → Bool

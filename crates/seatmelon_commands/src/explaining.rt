@@ -2,8 +2,8 @@
 ghost use Rattle.std.specs.Prelude.{◌≡◌, ◌≢◌, ◌≤◌, IfErr, IfOk, Ok};
 ghost use Rattle.seatmelon_explain.specs.declared.explaining.Outcome.TheVariants.{Changed, Explained};
 ghost use Rattle.seatmelon_explain.specs.Outcomes;
-ghost use Rattle.seatmelon.specs.Explained.{certificate_in, IsCaptureExplained};
-ghost use Rattle.seatmelon.specs.Failing.{status_of, IsOfExplaining};
+ghost use Rattle.seatmelon_commands.specs.Explained.{certificate_in, IsCaptureExplained};
+ghost use Rattle.seatmelon_commands.specs.Failing.{status_of, IsOfExplaining};
 
 use crate::answer::unwritten;
 use crate::command::Explaining;

@@ -1,6 +1,6 @@
 //! Why the program gives up.
 ghost use Rattle.std.specs.Prelude.{◌≡◌};
-ghost use Rattle.seatmelon.specs.Failing.{status_of};
+ghost use Rattle.seatmelon_commands.specs.Failing.{status_of};
 
 use crate::file_kind::FileKind;
 use crate::parameters::ParameterRefusal;
@@ -57,7 +57,7 @@ pub struct Refusal {
 }
 
 impl From<AllocError> for Failure {
-    ghost use Rattle.seatmelon.specs.declared.failure.Failure.TheVariants.{OutOfMemory};
+    ghost use Rattle.seatmelon_commands.specs.declared.failure.Failure.TheVariants.{OutOfMemory};
 
     ghost from_gives = { λ _ failure. failure ≡ OutOfMemory };
 

@@ -18,7 +18,7 @@ pub struct Watched<D> {
 }
 
 impl<D> Watched<D> {
-    ghost use Rattle.seatmelon.specs.Watching.{device_of};
+    ghost use Rattle.seatmelon_commands.specs.Watching.{device_of};
 
     /// The device, of which nothing was read.
     pub fn new(device: D) -> Watched<D>
@@ -54,7 +54,7 @@ impl<D> Watched<D> {
 }
 
 impl<D: Read> Read for Watched<D> {
-    ghost use Rattle.seatmelon.specs.Watching.{device_of};
+    ghost use Rattle.seatmelon_commands.specs.Watching.{device_of};
 
     ghost remaining = { λ w. D.remaining (device_of w) };
 
@@ -69,7 +69,7 @@ impl<D: Read> Read for Watched<D> {
 }
 
 impl<D: Write> Write for Watched<D> {
-    ghost use Rattle.seatmelon.specs.Watching.{device_of};
+    ghost use Rattle.seatmelon_commands.specs.Watching.{device_of};
 
     ghost contents = { λ w. D.contents (device_of w) };
 

@@ -1,6 +1,6 @@
 -- A device that is watched, and a reader that is read whole.
 use Rattle.std.specs.Prelude.{◌≡◌, ℕ, List, ⊤, Option, None, Some}
-use Rattle.seatmelon.specs.declared.watched.Watched.{Watched}
+use Rattle.seatmelon_commands.specs.declared.watched.Watched.{Watched}
 
 abbrev pub device_of : {D : Type 0} → Watched D → D
 device_of w = w.device

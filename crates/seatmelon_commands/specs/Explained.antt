@@ -1,8 +1,8 @@
 -- What an explanation says of a capture.
 use Rattle.std.specs.Prelude.{◌≡◌, ℕ, List, [], Option, option_map}
 use Rattle.seatmelon_explain.specs.Outcomes.{IsFileExplained}
-use Rattle.seatmelon.specs.declared.command.Explaining.{Explaining}
-use Rattle.seatmelon.specs.declared.explaining.Inputs.{Inputs}
+use Rattle.seatmelon_commands.specs.declared.command.Explaining.{Explaining}
+use Rattle.seatmelon_commands.specs.declared.explaining.Inputs.{Inputs}
 
 -- the text of the certificate, where one is named
 abbrev pub certificate_in : Inputs → Option (List ℕ)

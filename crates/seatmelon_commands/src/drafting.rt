@@ -1,8 +1,8 @@
 //! The command `draft`.
 ghost use Rattle.std.specs.Prelude.{◌≤◌, IfErr, IfOk};
 ghost use Rattle.seatmelon_survey.specs.Survey.{connections_in};
-ghost use Rattle.seatmelon.specs.Drafts.{IsAnswer, IsOutside};
-ghost use Rattle.seatmelon.specs.Failing.{TellsWords};
+ghost use Rattle.seatmelon_commands.specs.Drafts.{IsAnswer, IsOutside};
+ghost use Rattle.seatmelon_commands.specs.Failing.{TellsWords};
 
 use crate::answer::{Answer, write_answer};
 use crate::failure::Failure;

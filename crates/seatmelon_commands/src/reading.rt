@@ -1,7 +1,7 @@
 //! Files that are read whole, and why a file can't be read.
 ghost use Rattle.std.specs.Prelude.{◌≡◌, IfErr, IfOk};
-ghost use Rattle.seatmelon.specs.Failing.{status_of};
-ghost use Rattle.seatmelon.specs.Watching.{HoldsAll};
+ghost use Rattle.seatmelon_commands.specs.Failing.{status_of};
+ghost use Rattle.seatmelon_commands.specs.Watching.{HoldsAll};
 
 use crate::failure::{Failure, reason_of};
 use crate::watched::Watched;

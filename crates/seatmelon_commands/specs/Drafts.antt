@@ -1,8 +1,8 @@
 -- Which connection is drafted.
 use Rattle.std.specs.Prelude.{◌≡◌, ◌⊎◌, ℕ, ◌-◌, ◌<◌, ◌≤◌, List, Some, length, slice_get}
 use Rattle.seatmelon_survey.specs.declared.connection.Connection.{Connection}
-use Rattle.seatmelon.specs.declared.answer.Answer.{Answer}
-use Rattle.seatmelon.specs.declared.answer.Answer.TheVariants.{Survey, Draft}
+use Rattle.seatmelon_commands.specs.declared.answer.Answer.{Answer}
+use Rattle.seatmelon_commands.specs.declared.answer.Answer.TheVariants.{Survey, Draft}
 
 -- the draft is that of the connection of this number, from 1; a survey stands where there is none at all
 abbrev pub IsAnswer : List Connection → ℕ → Answer → Type 0

@@ -1,7 +1,7 @@
 //! The command `survey`.
 ghost use Rattle.std.specs.Prelude.{◌≡◌, ◌<◌, ◌≤◌, length, IfErr, IfOk};
 ghost use Rattle.seatmelon_survey.specs.Survey.{connections_in};
-ghost use Rattle.seatmelon.specs.Failing.{status_of, TellsOf, IsOfFiles};
+ghost use Rattle.seatmelon_commands.specs.Failing.{status_of, TellsOf, IsOfFiles};
 
 use crate::answer::{Answer, write_answer};
 use crate::failure::{Failure, Refusal};

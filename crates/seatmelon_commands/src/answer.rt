@@ -1,6 +1,6 @@
 //! What the program writes.
 ghost use Rattle.std.specs.Prelude.{◌≡◌, IfErr};
-ghost use Rattle.seatmelon.specs.Failing.{status_of};
+ghost use Rattle.seatmelon_commands.specs.Failing.{status_of};
 
 use crate::failure::{Failure, reason_of};
 use crate::watched::Watched;

@@ -1,7 +1,7 @@
 //! What the first bytes of a file tell of it.
 ghost use Rattle.std.specs.Prelude.{◌≡◌};
 ghost use Rattle.std.specs.List.{list_all};
-ghost use Rattle.seatmelon.specs.FileKinds.{begins_capture, holds_text, is_text_character, kind_of_start};
+ghost use Rattle.seatmelon_commands.specs.FileKinds.{begins_capture, holds_text, is_text_character, kind_of_start};
 
 /// What kind a file seems to be.
 #[derive(Clone, Copy, Debug, PartialEq, Eq)]
