@@ -58,23 +58,15 @@ fn standing_of(number: u32, expected: u32) -> Standing
 struct Remembered {
     record: u32,
     number: u32,
-    digest: [u8; 16],
+    hash: u64,
 }
 
 fn remembered_of(packet: &Packet) -> Remembered {
-    let digest = packet.digest;
     Remembered {
         record: packet.record,
         number: packet.number,
-        digest,
+        hash: packet.hash,
     }
-}
-
-// Whether the packet has the bytes of the remembered one.
-fn is_copy(packet: &Packet, earlier: &Remembered) -> bool {
-    let digest = packet.digest;
-    let first = earlier.digest;
-    digest == first
 }
 
 /// A gap: the first number that is missing, and the record that shows it.
@@ -193,7 +185,7 @@ impl Numbers {
             return Sighting::TooOld;
         }
         match self.recall(packet.number) {
-            Some(earlier) if is_copy(packet, &earlier) => {
+            Some(earlier) if packet.hash == earlier.hash => {
                 self.counts.copies = self.counts.copies.saturating_add(1);
                 Sighting::Copy {
                     first: earlier.record,

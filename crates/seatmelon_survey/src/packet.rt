@@ -5,10 +5,10 @@ ghost use Rattle.rasta_pdu.specs.Pdu.{type_of};
 use crate::lengths::{Fits, Trials};
 use crate::route::route_in;
 use byteorder::{ByteOrder, LittleEndian};
-use rasta_md4::digest;
 use rasta_pcap::CaptureTime;
 use rasta_pdu::Kind;
 use rasta_udp::{Channel, Record, datagram};
+use std::hash::{DefaultHasher, Hasher};
 
 // Offsets and lengths in a datagram, in bytes.
 const NUMBER_AT: usize = 4;
@@ -38,9 +38,6 @@ const OPENING_END: usize = 42;
 const REASON_AT: usize = 38;
 
 const BYE_END: usize = 40;
-
-// The start words of the digest by which copies are compared. Any would do.
-const START_WORDS: [u32; 4] = [0; 4];
 
 /// What an end says of itself at the opening, in which record: its version, four digits, and its N_sendmax.
 #[derive(Clone, Copy, Debug, PartialEq, Eq)]
@@ -78,8 +75,8 @@ pub struct Packet {
     /// Of a disconnection request.
     pub reason: Option<u16>,
 
-    /// By which copies are compared.
-    pub digest: [u8; 16],
+    /// Of its bytes, by which copies are compared.
+    pub hash: u64,
 }
 
 fn kind_of(number: u16) -> Option<Kind>
@@ -139,6 +136,12 @@ fn reason_in(kind: Kind, datagram: &[u8]) -> Option<u16> {
     }
 }
 
+fn hash_of(bytes: &[u8]) -> u64 {
+    let mut hasher = DefaultHasher::new();
+    hasher.write(bytes);
+    hasher.finish()
+}
+
 // Whether the ids are those of two ends, and the addresses and ports those of two places.
 fn is_between_two_ends(way: &Way) -> bool {
     let Channel { client, server } = way.route;
@@ -175,6 +178,6 @@ pub fn packet_in(trials: &Trials, found: &Record<'_>, time: Option<CaptureTime>)
         fits,
         offer: offer_in(found.number, kind, bytes),
         reason: reason_in(kind, bytes),
-        digest: digest(START_WORDS, bytes),
+        hash: hash_of(bytes),
     })
 }
