@@ -6,9 +6,9 @@ use Rattle.std.proofs.lemmas.Option.{slice_get_within}
 use Rattle.rasta_pcap.specs.declared.fault.Side.{Side}
 use Rattle.rasta_pcap.specs.declared.fault.Side.TheVariants.{Client}
 use Rattle.rasta_pdu.specs.Params.{Parameters}
-use Rattle.rasta_pdu.specs.Pdu.{SafetyPdu}
+use Rattle.rasta_pdu.specs.Pdu.{SafetyPdu, is_kind}
 use Rattle.rasta_pdu.specs.declared.kind.Kind.{Kind}
-use Rattle.rasta_pdu.specs.declared.kind.Kind.TheVariants.{RetransmissionRequest, RetransmissionResponse}
+use Rattle.rasta_pdu.specs.declared.kind.Kind.TheVariants.{RetransmissionRequest, RetransmissionResponse, ConnectionRequest, DisconnectionRequest}
 use Rattle.rasta_end.specs.declared.owed.Owed.{Owed}
 use Rattle.rasta_end.specs.declared.phase.Phase.{Phase}
 use Rattle.rasta_end.specs.declared.phase.Phase.TheVariants.{Closed, Start, RetrReq}
@@ -19,8 +19,9 @@ use Rattle.rasta_end.specs.declared.why.Why.{Why}
 use Rattle.rasta_end.specs.declared.make_row.MakeRow.{MakeRow}
 use Rattle.rasta_end.specs.State.{Made, EndState, ahead_by, first_sn, is_owing, is_closed, is_client, is_start, is_active, is_retr_req}
 use Rattle.rasta_end.specs.Starts.{start_of}
-use Rattle.rasta_end.specs.MakeRule.{make_fault, has_ended, is_judged, confirms_last, confirms_a_time, is_past, is_early, is_expired, is_connection_request, is_disconnection_request, after_make}
-use Rattle.rasta_end.specs.TakeRule.{effect, take_row, is_ahead, is_retransmission_request}
+use Rattle.rasta_end.specs.MakeRule.{make_fault, has_ended, is_judged, confirms_last, confirms_a_time, is_past, is_early, is_expired, after_make}
+use Rattle.rasta_end.specs.TakeRule.{effect, take_row, is_ahead}
+use Rattle.rasta_end.proofs.MakeTests.{no_test}
 use Rattle.rasta_check.specs.Capture.Crossing.{FirstCopy}
 use Rattle.rasta_check.proofs.Model.PassedTests.{passed, cs_is}
 use Rattle.rasta_check.proofs.Model.MakeRows.{Making, opening, response, first_beat, answer, again, ask, beat, fresh, bye, expired, MadeBy, made_by}
@@ -101,7 +102,7 @@ active_open _ h = refl
 over_not : (b c : Bool) → b ≡ false → (b && c) ≡ false
 over_not b c h = rw h refl
 
-opens_only : (s : Side) (ph : Phase) (why : Why) (k : Kind) (os : List Owed) (row : MakeRow) → Making s ph why k os row → is_connection_request k ≡ true → (s ≡ Client) × (ph ≡ Closed)
+opens_only : (s : Side) (ph : Phase) (why : Why) (k : Kind) (os : List Owed) (row : MakeRow) → Making s ph why k os row → is_kind ConnectionRequest k ≡ true → (s ≡ Client) × (ph ≡ Closed)
 opens_only s ph why k os row opening h = (refl, refl)
 opens_only s ph why k os row response h = absurd (cc)
 opens_only s ph why k os row first_beat h = absurd (cc)
@@ -179,7 +180,7 @@ module _ (p : Parameters) (start : Option ℕ) (side : Side) (quiet_sn : Option 
       )
 
   -- from one that is ready for another end, which may also end the connection
-  from_leaving : (b2 : Built) (g : EndState) (mark : ℕ) → IsReady p start side quiet_sn g mark ms b2 → make_fault p g x k why ≡ None → g.offered ≤ 1000001 → is_disconnection_request x.kind ≡ true
+  from_leaving : (b2 : Built) (g : EndState) (mark : ℕ) → IsReady p start side quiet_sn g mark ms b2 → make_fault p g x k why ≡ None → g.offered ≤ 1000001 → is_kind DisconnectionRequest x.kind ≡ true
       → take_step_by (has_to_take b.side b.end.state x.kind) sent place x b ≡ Some b2 → Explains
   from_leaving b2 g mark r ok' few' d h =
       let m = makes_by p start side quiet_sn g mark ms b2 r place k x why ok' bounded waits from low_start few' in
@@ -189,7 +190,7 @@ module _ (p : Parameters) (start : Option ℕ) (side : Side) (quiet_sn : Option 
   all = tests p e x k why ok
 
   by : MadeBy e x why
-  by = made_by p e x k why (passed p e x k why ok)
+  by = made_by p e x k why (passed p e x k why (no_test p e x k why ok))
 
   b_side : b.side ≡ side
   b_side = (let o = org in o.itself.of_side)
@@ -221,7 +222,7 @@ module _ (p : Parameters) (start : Option ℕ) (side : Side) (quiet_sn : Option 
         (λ (q : Pending p lag.base lag.mark e taken ms). absurd (let z : is_owing lag.base.owed ≡ false = ap is_owing q.free in cc))
         lag.stage
 
-    opens : is_connection_request x.kind ≡ true → Explains
+    opens : is_kind ConnectionRequest x.kind ≡ true → Explains
     opens c =
         let m = by in
         let t = all in
@@ -235,7 +236,7 @@ module _ (p : Parameters) (start : Option ℕ) (side : Side) (quiet_sn : Option 
         (λ (q : Pending p lag.base lag.mark e taken ms). absurd (let l = left_is q in let z : Closed ≡ RetrReq = sym w.1 ∙ l.phase in cc))
         lag.stage
 
-    unanswered : is_disconnection_request x.kind ≡ true → is_unanswered b.side b.end.state ≡ true → Explains
+    unanswered : is_kind DisconnectionRequest x.kind ≡ true → is_unanswered b.side b.end.state ≡ true → Explains
     unanswered d u =
         let o = org in
         let t = all in
@@ -249,13 +250,13 @@ module _ (p : Parameters) (start : Option ℕ) (side : Side) (quiet_sn : Option 
         let past : (not (is_expired why) && is_past p o.origin.deadline k) ≡ false = ap (λ (z : Option ℕ). not (is_expired why) && is_past p z k) dl ∙ and_false (not (is_expired why)) in
         let early : (is_expired why && is_early p o.origin.deadline k) ≡ false = ap (λ (z : Option ℕ). is_expired why && is_early p z k) dl ∙ and_false (is_expired why) in
         let f = leave_fault p e o.origin x k why ok d (over_not (is_closed o.origin.phase) _ op.0) op.1 o.made o.clock past early
-        (unjudged (is_connection_request x.kind) (is_disconnection_request x.kind) (o.origin.accepted == 0) (is_client o.origin.side) (is_start o.origin.phase) _ d ac sd ph)
-        (unjudged (is_connection_request x.kind) (is_disconnection_request x.kind) (o.origin.accepted == 0) (is_client o.origin.side) (is_start o.origin.phase) _ d ac sd ph) in
+        (unjudged (is_kind ConnectionRequest x.kind) (is_kind DisconnectionRequest x.kind) (o.origin.accepted == 0) (is_client o.origin.side) (is_start o.origin.phase) _ d ac sd ph)
+        (unjudged (is_kind ConnectionRequest x.kind) (is_kind DisconnectionRequest x.kind) (o.origin.accepted == 0) (is_client o.origin.side) (is_start o.origin.phase) _ d ac sd ph) in
         from_leaving b o.origin o.mark r f o.few d stayed
 
     explains_staying : Explains
-    explains_staying = ⊎_elim (λ (o : is_owing b.end.state.owed ≡ true). owing o) (λ z. ⊎_elim (λ (c : (is_owing b.end.state.owed ≡ false) × (is_connection_request x.kind ≡ true)). opens c.1) (λ (c : (is_disconnection_request x.kind ≡ true) × (is_unanswered b.side b.end.state ≡ true)). unanswered c.0 c.1) z)
-        (tells_not (is_owing b.end.state.owed) (is_connection_request x.kind) (is_disconnection_request x.kind) (is_unanswered b.side b.end.state) stays)
+    explains_staying = ⊎_elim (λ (o : is_owing b.end.state.owed ≡ true). owing o) (λ z. ⊎_elim (λ (c : (is_owing b.end.state.owed ≡ false) × (is_kind ConnectionRequest x.kind ≡ true)). opens c.1) (λ (c : (is_kind DisconnectionRequest x.kind ≡ true) × (is_unanswered b.side b.end.state ≡ true)). unanswered c.0 c.1) z)
+        (tells_not (is_owing b.end.state.owed) (is_kind ConnectionRequest x.kind) (is_kind DisconnectionRequest x.kind) (is_unanswered b.side b.end.state) stays)
 
   -- ---- where something may have to be taken
   module _ (takes : has_to_take b.side b.end.state x.kind ≡ true) where
@@ -273,13 +274,13 @@ module _ (p : Parameters) (start : Option ℕ) (side : Side) (quiet_sn : Option 
 
     judged : is_judged e x.kind ≡ true
     judged =
-        let w = tells (is_owing b.end.state.owed) (is_connection_request x.kind) (is_disconnection_request x.kind) (is_unanswered b.side b.end.state) takes in
-        judges (is_connection_request x.kind) (is_disconnection_request x.kind) (e.accepted == 0) (is_client e.side) (is_start e.phase) w.1 (λ d a s ph. w.2 d (answered a s ph))
+        let w = tells (is_owing b.end.state.owed) (is_kind ConnectionRequest x.kind) (is_kind DisconnectionRequest x.kind) (is_unanswered b.side b.end.state) takes in
+        judges (is_kind ConnectionRequest x.kind) (is_kind DisconnectionRequest x.kind) (e.accepted == 0) (is_client e.side) (is_start e.phase) w.1 (λ d a s ph. w.2 d (answered a s ph))
 
     -- its CS names the position that was accepted last
     cs_names : (i : ℕ) × (e.accepted ≡ suc i) × SnIs ms i x.cs
     cs_names =
-        let pass = passed p e x k why ok in
+        let pass = passed p e x k why (no_test p e x k why ok) in
         let c = cs_is e x.kind x.cs judged pass.cs in
         let i = one_less e.accepted c.0 in
         (i.0, i.1, subst (λ sn. SnIs ms i.0 sn) (sym c.1) (last i.0 i.1))
@@ -308,7 +309,7 @@ module _ (p : Parameters) (start : Option ℕ) (side : Side) (quiet_sn : Option 
     untried : (b1 : Built) → (is_owing b1.end.state.owed || not (wants_trigger x.kind)) ≡ true → take_trigger sent place x.kind b1 ≡ Some b1
     untried b1 h = rw h refl
 
-    untried_leaving : (b1 : Built) → is_disconnection_request x.kind ≡ true → take_trigger sent place x.kind b1 ≡ Some b1
+    untried_leaving : (b1 : Built) → is_kind DisconnectionRequest x.kind ≡ true → take_trigger sent place x.kind b1 ≡ Some b1
     untried_leaving b1 d = untried b1 (let w = disc_plain x.kind d in rw w (or_true (is_owing b1.end.state.owed)))
 
     -- nothing is pending
@@ -322,7 +323,7 @@ module _ (p : Parameters) (start : Option ℕ) (side : Side) (quiet_sn : Option 
 
     module _ (q : Pending p lag.base lag.mark e taken ms) where
       -- what is pending needn't be taken by an end that says goodbye
-      leaves : is_disconnection_request x.kind ≡ true → Explains
+      leaves : is_kind DisconnectionRequest x.kind ≡ true → Explains
       leaves d =
           let c = caught_up in
           let l = left_is q in
@@ -360,10 +361,10 @@ module _ (p : Parameters) (start : Option ℕ) (side : Side) (quiet_sn : Option 
           (λ (kd : x.kind ≡ RetransmissionRequest).
           (let t = gap_found p start side quiet_sn lag.base lag.mark ms c.0 c.2 sent base0 n place one copies late few_ms q.free q.fault q.more q.position q.m q.row q.there q.above q.ahead q.is q.names g (gap_ahead p lag.base q.m.pdu q.row (inl g) q.is) in
           found c.0 t.0 c.1 (ap (λ (y : Kind). take_trigger sent place y c.0) kd ∙ t.1) t.2))
-          (λ (d : is_disconnection_request x.kind ≡ true). leaves d)
+          (λ (d : is_kind DisconnectionRequest x.kind ≡ true). leaves d)
           (asks_first e.side e.phase why x.kind e.owed os.0 m.row m.how os' (waits_open e.phase l.phase))
 
-      request_pending : (is_request_ahead q.row ≡ true) × (number is_retransmission_request (take q.position ms) ≡ length lag.base.asks) × (length (effect p q.row lag.base q.m.pdu).asks ≤ number is_retransmission_request (take (suc q.position) ms)) → Explains
+      request_pending : (is_request_ahead q.row ≡ true) × (number (is_kind RetransmissionRequest) (take q.position ms) ≡ length lag.base.asks) × (length (effect p q.row lag.base q.m.pdu).asks ≤ number (is_kind RetransmissionRequest) (take (suc q.position) ms)) → Explains
       request_pending g =
           let c = caught_up in
           let l = left_is q in
@@ -375,7 +376,7 @@ module _ (p : Parameters) (start : Option ℕ) (side : Side) (quiet_sn : Option 
           (λ (kd : x.kind ≡ RetransmissionResponse).
           (let t = request_found p start side quiet_sn lag.base lag.mark ms c.0 c.2 sent base0 n place one copies late few_ms q.free q.fault q.more q.position q.m q.row q.there q.above q.ahead q.is q.names g.1 g.0 g.2 (gap_ahead p lag.base q.m.pdu q.row (inr g.0) q.is) in
           found c.0 t.0 c.1 (ap (λ (y : Kind). take_trigger sent place y c.0) kd ∙ t.1) t.2))
-          (λ (d : is_disconnection_request x.kind ≡ true). leaves d)
+          (λ (d : is_kind DisconnectionRequest x.kind ≡ true). leaves d)
           (answers_first e.side e.phase why x.kind e.owed os.0 m.row m.how os' (waits_open e.phase l.phase))
 
     explains_taking : Explains

@@ -6,7 +6,7 @@ use Rattle.rasta_pcap.specs.declared.fault.Side.{Side}
 use Rattle.rasta_pdu.specs.Params.{Parameters}
 use Rattle.rasta_pdu.specs.declared.kind.Kind.{Kind}
 use Rattle.rasta_end.specs.State.{Made, EndState}
-use Rattle.rasta_end.specs.TakeRule.{is_retransmission_request, effect}
+use Rattle.rasta_end.specs.TakeRule.{effect}
 use Rattle.rasta_check.specs.Capture.Crossing.{FirstCopy}
 use Rattle.rasta_check.proofs.Model.ListGrowth.{get_front, get_front_within}
 use Rattle.rasta_check.proofs.Model.Counts.{number, tally}
@@ -15,6 +15,8 @@ use Rattle.rasta_build.proofs.Readiness.{IsReady}
 use Rattle.rasta_build.proofs.Scans.{is_gap, is_request_ahead}
 use Rattle.rasta_build.proofs.Lags.{Pending, IsLag}
 use Rattle.rasta_build.proofs.Explanations.{IsOrigin}
+use Rattle.rasta_pdu.specs.Pdu.{is_kind}
+use Rattle.rasta_pdu.specs.declared.kind.Kind.TheVariants.{RetransmissionRequest}
 
 tally_most : (b : Bool) (m n : ℕ) → m ≤ n → tally b m ≤ tally b n
 tally_most true m n h = omega arith
@@ -38,7 +40,7 @@ module _ (p : Parameters) (start : Option ℕ) (side : Side) (quiet_sn : Option 
     quiet = r.quiet;
     next = r.next;
     trail = r.trail;
-    asked = (let z = number_front is_retransmission_request b.next_take ms ys in let y = r.asked in omega (arith, z, y));
+    asked = (let z = number_front (is_kind RetransmissionRequest) b.next_take ms ys in let y = r.asked in omega (arith, z, y));
   }
 
   pending_grows : (base : EndState) (mark : ℕ) (e : EndState) (taken : ℕ) → Pending p base mark e taken ms → Pending p base mark e taken (ms ++ ys)
@@ -60,8 +62,8 @@ module _ (p : Parameters) (start : Option ℕ) (side : Side) (quiet_sn : Option 
         names = λ j n g a k. q.names j n (sym (get_front_within ms ys j (omega (arith, k, l))) ∙ g) a k;
         is = q.is;
         kind = ⊎_elim (λ (g : is_gap q.row ≡ true). inl g)
-            (λ (g : (is_request_ahead q.row ≡ true) × (number is_retransmission_request (take q.position ms) ≡ length base.asks) × (length (effect p q.row base q.m.pdu).asks ≤ number is_retransmission_request (take (suc q.position) ms))).
-            inr (g.0, ap (number is_retransmission_request) t ∙ g.1, subst (λ (l : List Made). length (effect p q.row base q.m.pdu).asks ≤ number is_retransmission_request l) (sym t') g.2)) q.kind;
+            (λ (g : (is_request_ahead q.row ≡ true) × (number (is_kind RetransmissionRequest) (take q.position ms) ≡ length base.asks) × (length (effect p q.row base q.m.pdu).asks ≤ number (is_kind RetransmissionRequest) (take (suc q.position) ms))).
+            inr (g.0, ap (number (is_kind RetransmissionRequest)) t ∙ g.1, subst (λ (l : List Made). length (effect p q.row base q.m.pdu).asks ≤ number (is_kind RetransmissionRequest) l) (sym t') g.2)) q.kind;
         after = q.after;
       }
 

@@ -4,7 +4,7 @@ use Rattle.std.specs.Prelude.{nat_lt, not, ◌&&◌, ◌||◌, ◌==◌}
 use Rattle.std.proofs.lemmas.Option.{slice_get_within}
 use Rattle.rasta_pcap.specs.declared.fault.Side.{Side}
 use Rattle.rasta_pdu.specs.Params.{Parameters}
-use Rattle.rasta_pdu.specs.Pdu.{SafetyPdu}
+use Rattle.rasta_pdu.specs.Pdu.{SafetyPdu, is_kind}
 use Rattle.rasta_pdu.specs.declared.kind.Kind.{Kind}
 use Rattle.rasta_pdu.specs.declared.kind.Kind.TheVariants.{RetransmissionRequest, RetransmissionResponse, DisconnectionRequest}
 use Rattle.rasta_end.specs.declared.owed.Owed.{Owed}
@@ -18,8 +18,9 @@ use Rattle.rasta_end.specs.declared.why.Why.TheVariants.{Bye, Expired}
 use Rattle.rasta_end.specs.declared.make_row.MakeRow.{MakeRow}
 use Rattle.rasta_end.specs.declared.make_row.MakeRow.TheVariants.{Leaves, TimesOut}
 use Rattle.rasta_end.specs.State.{Made, EndState, ahead_by, first_sn, is_owing, is_closed, is_active, is_connected, is_flowing, wrapped, reason_of, content_of}
-use Rattle.rasta_end.specs.MakeRule.{make_fault, has_ended, row_of, make_row, is_refused_row, is_owing_else, is_next_sn, differs, is_judged, confirms_last, confirms_a_time, is_past, is_early, is_expired, is_disconnection_request, after_make, phase_after}
+use Rattle.rasta_end.specs.MakeRule.{make_fault, has_ended, row_of, make_row, is_refused_row, is_owing_else, is_next_sn, differs, is_judged, confirms_last, confirms_a_time, is_past, is_early, is_expired, after_make, phase_after}
 use Rattle.rasta_end.specs.TakeRule.{effect, take_row}
+use Rattle.rasta_end.proofs.MakeTests.{no_test}
 use Rattle.rasta_check.specs.Capture.Crossing.{FirstCopy}
 use Rattle.rasta_check.proofs.Model.PassedTests.{passed}
 use Rattle.rasta_check.proofs.Model.MakeRows.{Making, opening, response, first_beat, answer, again, ask, beat, fresh, bye, expired, made_by, after_row, new_made}
@@ -37,7 +38,7 @@ use Rattle.rasta_build.proofs.Comparisons.{was_same, was_other, not_lt}
 
 -- ---- the end of a connection
 
-ending : (s : Side) (ph : Phase) (why : Why) (k : Kind) (os : List Owed) (row : MakeRow) → Making s ph why k os row → (is_expired why ≡ true) ⊎ (is_disconnection_request k ≡ true) → phase_after row ph ≡ Closed
+ending : (s : Side) (ph : Phase) (why : Why) (k : Kind) (os : List Owed) (row : MakeRow) → Making s ph why k os row → (is_expired why ≡ true) ⊎ (is_kind DisconnectionRequest k ≡ true) → phase_after row ph ≡ Closed
 ending s ph why k os row opening h = ⊎_elim (λ (a : false ≡ true). absurd (cc)) (λ (a : false ≡ true). absurd (cc)) h
 ending s ph why k os row response h = ⊎_elim (λ (a : false ≡ true). absurd (cc)) (λ (a : false ≡ true). absurd (cc)) h
 ending s ph why k os row first_beat h = ⊎_elim (λ (a : false ≡ true). absurd (cc)) (λ (a : false ≡ true). absurd (cc)) h
@@ -49,9 +50,9 @@ ending s ph why k os row (fresh c) h = ⊎_elim (λ (a : false ≡ true). absurd
 ending s ph why k os row (bye c) h = refl
 ending s ph why k os row (expired c) h = refl
 
-pub ended_by : (p : Parameters) (e : EndState) (x : SafetyPdu) (k : ℕ) (why : Why) → make_fault p e x k why ≡ None → (is_expired why ≡ true) ⊎ (is_disconnection_request x.kind ≡ true) → has_ended (after_make e x k why) ≡ true
+pub ended_by : (p : Parameters) (e : EndState) (x : SafetyPdu) (k : ℕ) (why : Why) → make_fault p e x k why ≡ None → (is_expired why ≡ true) ⊎ (is_kind DisconnectionRequest x.kind ≡ true) → has_ended (after_make e x k why) ≡ true
 ended_by p e x k why ok h =
-    let m = made_by p e x k why (passed p e x k why ok) in
+    let m = made_by p e x k why (passed p e x k why (no_test p e x k why ok)) in
     let closes = ending e.side e.phase why x.kind e.owed m.row m.how h in
     subst (λ (z : EndState). has_ended z ≡ true) (after_row e x k why m) (over_after e.side (phase_after m.row e.phase) e.made (new_made m.row e x) closes)
 
@@ -74,7 +75,7 @@ owes_wanted s ph why k os row (bye c) = or_true (is_owing os)
 owes_wanted s ph why k os row (expired c) = or_true (is_owing os)
 
 -- where a request is owed first, an end that is connected makes it, or ends
-pub asks_first : (s : Side) (ph : Phase) (why : Why) (k : Kind) (os rest : List Owed) (row : MakeRow) → Making s ph why k os row → os ≡ OweRetransmissionRequest ∷ rest → is_closed ph ≡ false → (k ≡ RetransmissionRequest) ⊎ (is_disconnection_request k ≡ true)
+pub asks_first : (s : Side) (ph : Phase) (why : Why) (k : Kind) (os rest : List Owed) (row : MakeRow) → Making s ph why k os row → os ≡ OweRetransmissionRequest ∷ rest → is_closed ph ≡ false → (k ≡ RetransmissionRequest) ⊎ (is_kind DisconnectionRequest k ≡ true)
 asks_first s ph why k os rest row opening h c = absurd (cc)
 asks_first s ph why k os rest row response h c = absurd (cc)
 asks_first s ph why k os rest row first_beat h c = absurd (cc)
@@ -86,7 +87,7 @@ asks_first s ph why k os rest row (fresh d) h c = absurd (cc)
 asks_first s ph why k os rest row (bye d) h c = inr refl
 asks_first s ph why k os rest row (expired d) h c = inr refl
 
-pub answers_first : (s : Side) (ph : Phase) (why : Why) (k : Kind) (os rest : List Owed) (row : MakeRow) → Making s ph why k os row → os ≡ OweRetransmissionResponse ∷ rest → is_closed ph ≡ false → (k ≡ RetransmissionResponse) ⊎ (is_disconnection_request k ≡ true)
+pub answers_first : (s : Side) (ph : Phase) (why : Why) (k : Kind) (os rest : List Owed) (row : MakeRow) → Making s ph why k os row → os ≡ OweRetransmissionResponse ∷ rest → is_closed ph ≡ false → (k ≡ RetransmissionResponse) ⊎ (is_kind DisconnectionRequest k ≡ true)
 answers_first s ph why k os rest row opening h c = absurd (cc)
 answers_first s ph why k os rest row response h c = absurd (cc)
 answers_first s ph why k os rest row first_beat h c = absurd (cc)
@@ -130,15 +131,15 @@ through sent place i b b1 h l front = by (suc i == b.end.state.accepted) refl
 
 -- ---- a disconnection request
 
-pub disc_plain : (k : Kind) → is_disconnection_request k ≡ true → wants_trigger k ≡ false
+pub disc_plain : (k : Kind) → is_kind DisconnectionRequest k ≡ true → wants_trigger k ≡ false
 disc_plain DisconnectionRequest h = refl
 disc_plain _ h = absurd (cc)
 
-pub disc_is : (k : Kind) → is_disconnection_request k ≡ true → k ≡ DisconnectionRequest
+pub disc_is : (k : Kind) → is_kind DisconnectionRequest k ≡ true → k ≡ DisconnectionRequest
 disc_is DisconnectionRequest h = refl
 disc_is _ h = absurd (cc)
 
-leaving_why : (s : Side) (ph : Phase) (why : Why) (k : Kind) (os : List Owed) (row : MakeRow) → Making s ph why k os row → is_disconnection_request k ≡ true → (why ≡ Bye) ⊎ (why ≡ Expired)
+leaving_why : (s : Side) (ph : Phase) (why : Why) (k : Kind) (os : List Owed) (row : MakeRow) → Making s ph why k os row → is_kind DisconnectionRequest k ≡ true → (why ≡ Bye) ⊎ (why ≡ Expired)
 leaving_why s ph why k os row opening h = absurd (cc)
 leaving_why s ph why k os row response h = absurd (cc)
 leaving_why s ph why k os row first_beat h = absurd (cc)
@@ -168,12 +169,12 @@ leaving_tests row o os ms content h w = ⊎_elim
     w
 
 -- an end may make it which has made the same as one that makes it, and whose times and confirmed numbers allow it
-pub leave_fault : (p : Parameters) (e g : EndState) (x : SafetyPdu) (k : ℕ) (why : Why) → make_fault p e x k why ≡ None → is_disconnection_request x.kind ≡ true → has_ended g ≡ false → is_active g.phase ≡ true
+pub leave_fault : (p : Parameters) (e g : EndState) (x : SafetyPdu) (k : ℕ) (why : Why) → make_fault p e x k why ≡ None → is_kind DisconnectionRequest x.kind ≡ true → has_ended g ≡ false → is_active g.phase ≡ true
     → g.made ≡ e.made → g.clock ≡ e.clock → (not (is_expired why) && is_past p g.deadline k) ≡ false → (is_expired why && is_early p g.deadline k) ≡ false
     → (is_judged g x.kind && not (confirms_last g x.cs)) ≡ false → (is_judged g x.kind && not (confirms_a_time g x.cts)) ≡ false → make_fault p g x k why ≡ None
 leave_fault p e g x k why ok disc over active made clock past early cs cts =
     let t = tests p e x k why ok in
-    let m = made_by p e x k why (passed p e x k why ok) in
+    let m = made_by p e x k why (passed p e x k why (no_test p e x k why ok)) in
     let w = leaving_why e.side e.phase why x.kind e.owed m.row m.how disc in
     let r = reason_is e.side e.phase (reason_of x.body) why x.kind e.owed t.row in
     let l = leaving_row g.side g.phase (reason_of x.body) why x.kind (disc_is x.kind disc) active r w in

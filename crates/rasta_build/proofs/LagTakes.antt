@@ -5,15 +5,15 @@ use Rattle.std.proofs.lemmas.Bool.Decides.{nat_tests}
 use Rattle.rasta_pcap.specs.declared.fault.Side.{Side}
 use Rattle.rasta_pcap.specs.declared.fault.Side.TheVariants.{Client, Server}
 use Rattle.rasta_pdu.specs.Params.{Parameters}
-use Rattle.rasta_pdu.specs.Pdu.{SafetyPdu}
+use Rattle.rasta_pdu.specs.Pdu.{SafetyPdu, is_kind}
 use Rattle.rasta_pdu.specs.declared.kind.Kind.{Kind}
-use Rattle.rasta_pdu.specs.declared.kind.Kind.TheVariants.{Heartbeat, Data}
+use Rattle.rasta_pdu.specs.declared.kind.Kind.TheVariants.{Heartbeat, Data, RetransmissionRequest, RetransmissionResponse}
 use Rattle.rasta_end.specs.declared.phase.Phase.{Phase}
 use Rattle.rasta_end.specs.declared.phase.Phase.TheVariants.{Start, Up, RetrRun}
 use Rattle.rasta_end.specs.declared.take_row.TakeRow.{TakeRow}
 use Rattle.rasta_end.specs.declared.take_row.TakeRow.TheVariants.{Opened, Answered, FirstHeartbeat, InSequence, ResentInSequence, Gap, GapInRetransmission, Resumed, Requested, RequestedAhead, RequestedAgain, Disconnected}
 use Rattle.rasta_end.specs.State.{Made, EndState, is_owing, is_closed, is_active, is_retr_req, is_flowing, carries_unit}
-use Rattle.rasta_end.specs.TakeRule.{effect, effect_by, after_take, take_row, take_fault, is_retransmission_request, is_retransmission_response, is_heartbeat_or_data, steps_past_next, is_in, is_ahead, accept, enter, hand_up}
+use Rattle.rasta_end.specs.TakeRule.{effect, effect_by, after_take, take_row, take_fault, is_heartbeat_or_data, steps_past_next, is_in, is_ahead, accept, enter, hand_up}
 use Rattle.rasta_check.specs.Capture.Crossing.{FirstCopy}
 use Rattle.rasta_check.proofs.Model.TakeRows.{row_known}
 use Rattle.rasta_check.proofs.Model.Counts.{number}
@@ -56,7 +56,7 @@ flowing_waits Up h = refl
 flowing_waits RetrRun h = refl
 flowing_waits _ h = absurd (cc)
 
-fresh_plain : (k : Kind) → is_heartbeat_or_data k ≡ true → is_retransmission_response k ≡ false
+fresh_plain : (k : Kind) → is_heartbeat_or_data k ≡ true → is_kind RetransmissionResponse k ≡ false
 fresh_plain Heartbeat h = refl
 fresh_plain Data h = refl
 fresh_plain _ h = absurd (cc)
@@ -86,20 +86,20 @@ module _ (p : Parameters) (e f : EndState) (t u : ℕ) (m : Made) (q : ℕ) (k :
       let w = row_known p e m.pdu Opened is in
       let z = k.theirs.openers q m k.there (ap is_opener w.1) in
       let a = (k.mine.down w.0).2 in
-      record { accepted = omega (arith, z); calm = refl; how = inl (omega (arith, z, a), ap is_retransmission_response w.1, ap is_retr_req w.0) }
+      record { accepted = omega (arith, z); calm = refl; how = inl (omega (arith, z, a), ap (is_kind RetransmissionResponse) w.1, ap is_retr_req w.0) }
 
   pub answered_accepts : take_row p e m.pdu ≡ Some Answered → Accepting p e m.pdu Answered q
   answered_accepts is =
       let w = row_known p e m.pdu Answered is in
       let z = k.theirs.openers q m k.there (ap is_opener w.2) in
       let a = k.mine.starting w.0 w.1 in
-      record { accepted = omega (arith, z); calm = refl; how = inl (omega (arith, z, a), ap is_retransmission_response w.2, ap is_retr_req w.1) }
+      record { accepted = omega (arith, z); calm = refl; how = inl (omega (arith, z, a), ap (is_kind RetransmissionResponse) w.2, ap is_retr_req w.1) }
 
   pub beat_accepts : take_row p e m.pdu ≡ Some FirstHeartbeat → Accepting p e m.pdu FirstHeartbeat q
   beat_accepts is =
       let w = row_known p e m.pdu FirstHeartbeat is in
       let z = in_place (starting_peer e.side e.phase w.0 w.1) w.4 in
-      record { accepted = z.1; calm = refl; how = inl (z.0, ap is_retransmission_response w.2, ap is_retr_req w.1) }
+      record { accepted = z.1; calm = refl; how = inl (z.0, ap (is_kind RetransmissionResponse) w.2, ap is_retr_req w.1) }
 
   pub sequence_accepts : take_row p e m.pdu ≡ Some InSequence → Accepting p e m.pdu InSequence q
   sequence_accepts is =
@@ -119,21 +119,21 @@ module _ (p : Parameters) (e f : EndState) (t u : ℕ) (m : Made) (q : ℕ) (k :
       record {
         accepted = unit_accepted (carries_unit m.pdu.kind) e.accepted (accept p e m.pdu) m.pdu ∙ z.1;
         calm = ap is_retr_req (unit_phase (carries_unit m.pdu.kind) e.accepted (accept p e m.pdu) m.pdu) ∙ flowing_waits e.phase fl;
-        how = inl (z.0, ap is_retransmission_response w.1, flowing_waits e.phase fl);
+        how = inl (z.0, ap (is_kind RetransmissionResponse) w.1, flowing_waits e.phase fl);
       }
 
   pub requested_accepts : take_row p e m.pdu ≡ Some Requested → Accepting p e m.pdu Requested q
   requested_accepts is =
       let w = row_known p e m.pdu Requested is in
       let z = in_place (flowing_peer e.side e.phase w.0) w.3 in
-      record { accepted = z.1; calm = flowing_waits e.phase w.0; how = inl (z.0, ap is_retransmission_response w.1, flowing_waits e.phase w.0) }
+      record { accepted = z.1; calm = flowing_waits e.phase w.0; how = inl (z.0, ap (is_kind RetransmissionResponse) w.1, flowing_waits e.phase w.0) }
 
   pub resumed_accepts : take_row p e m.pdu ≡ Some Resumed → Accepting p e m.pdu Resumed q
   resumed_accepts is =
       let w = row_known p e m.pdu Resumed is in
       let c = k.mine.connected (ap (has_peer e.side) w.0) in
       let s = place p e f t u m q k c.0 c.1 in
-      record { accepted = omega (arith, s); calm = refl; how = inr (omega (arith, s), ap is_retransmission_response w.1, ap is_retr_req w.0) }
+      record { accepted = omega (arith, s); calm = refl; how = inr (omega (arith, s), ap (is_kind RetransmissionResponse) w.1, ap is_retr_req w.0) }
 
   -- ---- the lag
 
@@ -145,16 +145,16 @@ module _ (p : Parameters) (e f : EndState) (t u : ℕ) (m : Made) (q : ℕ) (k :
     abbrev Lags : EndState → Type 0
     Lags e' = IsLag p start side quiet_sn e' (suc q) f.made sent b
 
-    asks_of : (row : TakeRow) → take_row p e m.pdu ≡ Some row → length (effect p row e m.pdu).asks ≤ number is_retransmission_request (take (suc q) f.made)
+    asks_of : (row : TakeRow) → take_row p e m.pdu ≡ Some row → length (effect p row e m.pdu).asks ≤ number (is_kind RetransmissionRequest) (take (suc q) f.made)
     asks_of row is = (let h = own_take p e f t u m q k (λ c. free) in let same : after_take p e m.pdu ≡ effect p row e m.pdu = ap (λ (r : Option TakeRow). effect_by p r e m.pdu) is in
-        subst (λ (z : EndState). length z.asks ≤ number is_retransmission_request (take (suc q) f.made)) same h.asks_taken)
+        subst (λ (z : EndState). length z.asks ≤ number (is_kind RetransmissionRequest) (take (suc q) f.made)) same h.asks_taken)
 
     by_accepting : (row : TakeRow) → take_row p e m.pdu ≡ Some row → Accepting p e m.pdu row q → Lags (effect p row e m.pdu)
     by_accepting row is a = lag_accepts p start side quiet_sn e t f.made sent b base n copies k.few_theirs free fault (conveys e values_of) q m k.there k.above based row is (asks_of row is)
         mark marked low caught calm still quiet a
 
     by_pending : (row : TakeRow) → take_row p e m.pdu ≡ Some row → has_peer e.side e.phase ≡ true → is_ahead p e m.pdu ≡ true
-        → ((is_gap row ≡ true) ⊎ (is_request_ahead row ≡ true) × (is_retransmission_request m.pdu.kind ≡ true)) → Lags (effect p row e m.pdu)
+        → ((is_gap row ≡ true) ⊎ (is_request_ahead row ≡ true) × (is_kind RetransmissionRequest m.pdu.kind ≡ true)) → Lags (effect p row e m.pdu)
     by_pending row is h a kind =
         let c = k.mine.connected h in
         let s = place p e f t u m q k c.0 c.1 in
@@ -180,7 +180,7 @@ module _ (p : Parameters) (e f : EndState) (t u : ℕ) (m : Made) (q : ℕ) (k :
             more = conveys e values_of;
             names = all_named c.0 c.1;
             is = is;
-            kind = ⊎_elim (λ (g : is_gap row ≡ true). inl g) (λ (g : (is_request_ahead row ≡ true) × (is_retransmission_request m.pdu.kind ≡ true)). inr (g.0, index p e f t u m q k g.1, asks_of row is)) kind;
+            kind = ⊎_elim (λ (g : is_gap row ≡ true). inl g) (λ (g : (is_request_ahead row ≡ true) × (is_kind RetransmissionRequest m.pdu.kind ≡ true)). inr (g.0, index p e f t u m q k g.1, asks_of row is)) kind;
             after = refl;
           });
         }
@@ -195,8 +195,8 @@ module _ (p : Parameters) (e f : EndState) (t u : ℕ) (m : Made) (q : ℕ) (k :
     by_row GapInRetransmission is = (let w = row_known p e m.pdu GapInRetransmission is in inl (by_pending GapInRetransmission is (ap (has_peer e.side) w.0) w.3 (inl refl)))
     by_row Resumed is = inl (by_accepting Resumed is (resumed_accepts is))
     by_row Requested is = inl (by_accepting Requested is (requested_accepts is))
-    by_row RequestedAhead is = (let w = row_known p e m.pdu RequestedAhead is in inl (by_pending RequestedAhead is (flowing_peer e.side e.phase w.0) w.3 (inr (refl, ap is_retransmission_request w.1))))
-    by_row RequestedAgain is = (let w = row_known p e m.pdu RequestedAgain is in inl (by_pending RequestedAgain is (ap (has_peer e.side) w.0) w.3 (inr (refl, ap is_retransmission_request w.1))))
+    by_row RequestedAhead is = (let w = row_known p e m.pdu RequestedAhead is in inl (by_pending RequestedAhead is (flowing_peer e.side e.phase w.0) w.3 (inr (refl, ap (is_kind RetransmissionRequest) w.1))))
+    by_row RequestedAgain is = (let w = row_known p e m.pdu RequestedAgain is in inl (by_pending RequestedAgain is (ap (has_peer e.side) w.0) w.3 (inr (refl, ap (is_kind RetransmissionRequest) w.1))))
     by_row Disconnected is = (let w = row_known p e m.pdu Disconnected is in inr (refl, w.0))
 
     -- the take by a row keeps the lag, or ends the connection

@@ -4,11 +4,11 @@ use Rattle.std.specs.Prelude.{if◌then◌else◌, ◌==◌}
 use Rattle.std.proofs.lemmas.Option.{slice_get_within}
 use Rattle.rasta_pcap.specs.declared.fault.Side.{Side}
 use Rattle.rasta_pdu.specs.Params.{Parameters}
-use Rattle.rasta_pdu.specs.Pdu.{SafetyPdu}
+use Rattle.rasta_pdu.specs.Pdu.{SafetyPdu, is_kind}
 use Rattle.rasta_end.specs.declared.take_row.TakeRow.{TakeRow}
 use Rattle.rasta_end.specs.declared.take_row.TakeRow.TheVariants.{Opened, Answered, FirstHeartbeat, InSequence, ResentInSequence, Resumed, Requested}
 use Rattle.rasta_end.specs.State.{Made, EndState, is_owing, is_retr_req}
-use Rattle.rasta_end.specs.TakeRule.{effect, take_row, take_fault, is_retransmission_request, is_retransmission_response}
+use Rattle.rasta_end.specs.TakeRule.{effect, take_row, take_fault}
 use Rattle.rasta_check.specs.Capture.Crossing.{FirstCopy}
 use Rattle.rasta_check.proofs.Model.Counts.{number}
 use Rattle.rasta_build.specs.Built.{Built}
@@ -17,6 +17,7 @@ use Rattle.rasta_build.specs.Explaining.{taken_by, take_step, accept_there, acce
 use Rattle.rasta_build.proofs.Readiness.{IsReady, ConveysNoMore, ready_step, ready_effect}
 use Rattle.rasta_build.proofs.Scans.{AreCopies, Names, is_gap, is_request_ahead}
 use Rattle.rasta_build.proofs.Comparisons.{is_same, is_other, was_same}
+use Rattle.rasta_pdu.specs.declared.kind.Kind.TheVariants.{RetransmissionRequest, RetransmissionResponse}
 
 -- ---- catching up by one position more
 
@@ -107,8 +108,8 @@ pub record Pending (p : Parameters) (base : EndState) (mark : ℕ) (e : EndState
   pub more : ConveysNoMore base
   pub names : Names base ms position
   pub is : take_row p base m.pdu ≡ Some row
-  pub kind : (is_gap row ≡ true) ⊎ ((is_request_ahead row ≡ true) × (number is_retransmission_request (take position ms) ≡ length base.asks)
-      × (length (effect p row base m.pdu).asks ≤ number is_retransmission_request (take (suc position) ms)))
+  pub kind : (is_gap row ≡ true) ⊎ ((is_request_ahead row ≡ true) × (number (is_kind RetransmissionRequest) (take position ms) ≡ length base.asks)
+      × (length (effect p row base m.pdu).asks ≤ number (is_kind RetransmissionRequest) (take (suc position) ms)))
   pub after : e ≡ effect p row base m.pdu
 
 -- the builder stands at the last make of the run's end, and can catch up with a base, which the run's end is, or was before something ahead
@@ -140,8 +141,8 @@ accepts_by _ = false
 pub record Accepting (p : Parameters) (e : EndState) (x : SafetyPdu) (row : TakeRow) (q : ℕ) : Type 0 where
   pub accepted : (effect p row e x).accepted ≡ suc q
   pub calm : is_retr_req (effect p row e x).phase ≡ false
-  pub how : ((q ≡ e.accepted) × (is_retransmission_response x.kind ≡ false) × (is_retr_req e.phase ≡ false))
-      ⊎ ((e.accepted ≤ q) × (is_retransmission_response x.kind ≡ true) × (is_retr_req e.phase ≡ true))
+  pub how : ((q ≡ e.accepted) × (is_kind RetransmissionResponse x.kind ≡ false) × (is_retr_req e.phase ≡ false))
+      ⊎ ((e.accepted ≤ q) × (is_kind RetransmissionResponse x.kind ≡ true) × (is_retr_req e.phase ≡ true))
 
 accept_there_is : (slot q : ℕ) (c : FirstCopy) (b b2 : Built) → take_step slot q c.pdu b ≡ Some b2 → b2.end.state.accepted ≡ suc q → accept_there slot q (Some c) b ≡ Some b2
 accept_there_is slot q c b b2 h k = (let z : (b2.end.state.accepted == suc q) ≡ true = is_same b2.end.state.accepted (suc q) k in rw h (rw z refl))
@@ -150,7 +151,7 @@ module _ (p : Parameters) (start : Option ℕ) (side : Side) (quiet_sn : Option 
     (copies : AreCopies quiet_sn sent ms base n) (few : length ms ≤ 1000001)
     (free : e.owed ≡ []) (fault : take_fault p e e.clock ≡ None) (more : ConveysNoMore e)
     (q : ℕ) (m : Made) (there : slice_get ms q ≡ Some m) (above : taken ≤ q) (based : base ≤ q) (row : TakeRow) (is : take_row p e m.pdu ≡ Some row)
-    (asks : length (effect p row e m.pdu).asks ≤ number is_retransmission_request (take (suc q) ms)) where
+    (asks : length (effect p row e m.pdu).asks ≤ number (is_kind RetransmissionRequest) (take (suc q) ms)) where
   -- the copy at the position
   copy : FirstCopy
   copy = (copies q m there based).0
@@ -163,8 +164,8 @@ module _ (p : Parameters) (start : Option ℕ) (side : Side) (quiet_sn : Option 
   unfolding copy
   copy_there b1 h = ap (λ (z : Option ℕ). copy_at z sent q) h ∙ (copies q m there based).1
 
-  response_is : (k : Option ℕ) → k ≡ quiet_sn → is_response (copy_at k sent q) ≡ is_retransmission_response m.pdu.kind
-  response_is k h = ap (λ (z : Option FirstCopy). is_response z) (ap (λ (z : Option ℕ). copy_at z sent q) h ∙ (copies q m there based).1) ∙ ap (λ (z : SafetyPdu). is_retransmission_response z.kind) copy_is'
+  response_is : (k : Option ℕ) → k ≡ quiet_sn → is_response (copy_at k sent q) ≡ is_kind RetransmissionResponse m.pdu.kind
+  response_is k h = ap (λ (z : Option FirstCopy). is_response z) (ap (λ (z : Option ℕ). copy_at z sent q) h ∙ (copies q m there based).1) ∙ ap (λ (z : SafetyPdu). is_kind RetransmissionResponse z.kind) copy_is'
     where
       copy_is' : (copies q m there based).0.pdu.safety ≡ m.pdu
       copy_is' = (copies q m there based).2
@@ -175,7 +176,7 @@ module _ (p : Parameters) (start : Option ℕ) (side : Side) (quiet_sn : Option 
   step_there mark slot b1 l r acc =
       let is' : take_row p e copy.pdu.safety ≡ Some row = ap (λ (z : SafetyPdu). take_row p e z) copy_is ∙ is in
       let same : effect p row e copy.pdu.safety ≡ effect p row e m.pdu = ap (λ (z : SafetyPdu). effect p row e z) copy_is in
-      let asks' : length (effect p row e copy.pdu.safety).asks ≤ number is_retransmission_request (take (suc q) ms) = subst (λ (z : EndState). length z.asks ≤ number is_retransmission_request (take (suc q) ms)) (sym same) asks in
+      let asks' : length (effect p row e copy.pdu.safety).asks ≤ number (is_kind RetransmissionRequest) (take (suc q) ms) = subst (λ (z : EndState). length z.asks ≤ number (is_kind RetransmissionRequest) (take (suc q) ms)) (sym same) asks in
       let b2 : Built = taken_by (Some row) slot q copy.pdu b1 in
       let x = ready_effect p start side quiet_sn e mark ms b1 r slot q copy.pdu row (let z = slice_get_within ms q m there in omega (arith, z)) free more is' asks' in
       let y : IsReady p start side quiet_sn (effect p row e m.pdu) (suc q) ms b2 = subst (λ (z : EndState). IsReady p start side quiet_sn z (suc q) ms b2) same x in
@@ -192,7 +193,7 @@ module _ (p : Parameters) (start : Option ℕ) (side : Side) (quiet_sn : Option 
     base = effect p row e m.pdu;
     mark = suc q;
     marked = omega arith;
-    low = (let z = a.accepted in let y = ⊎_elim (λ (w : (q ≡ e.accepted) × (is_retransmission_response m.pdu.kind ≡ false) × (is_retr_req e.phase ≡ false)). (let v = w.0 in let u : e.accepted ≤ q = omega arith in u)) (λ (w : (e.accepted ≤ q) × (is_retransmission_response m.pdu.kind ≡ true) × (is_retr_req e.phase ≡ true)). w.0) a.how in omega (arith, z, y, low));
+    low = (let z = a.accepted in let y = ⊎_elim (λ (w : (q ≡ e.accepted) × (is_kind RetransmissionResponse m.pdu.kind ≡ false) × (is_retr_req e.phase ≡ false)). (let v = w.0 in let u : e.accepted ≤ q = omega arith in u)) (λ (w : (e.accepted ≤ q) × (is_kind RetransmissionResponse m.pdu.kind ≡ true) × (is_retr_req e.phase ≡ true)). w.0) a.how in omega (arith, z, y, low));
     caught = λ slot. at slot (caught slot);
     calm = λ l. a.calm;
     still = λ o. absurd (unowing o);
@@ -210,10 +211,10 @@ module _ (p : Parameters) (start : Option ℕ) (side : Side) (quiet_sn : Option 
       at slot c =
           let s = step_there mark slot c.0 (omega (arith, ml, above)) c.2 a.accepted in
           let to : catch_up sent slot (suc q) b ≡ accept_step sent slot q c.0 = ⊎_elim
-          (λ (w : (q ≡ e.accepted) × (is_retransmission_response m.pdu.kind ≡ false) × (is_retr_req e.phase ≡ false)).
+          (λ (w : (q ≡ e.accepted) × (is_kind RetransmissionResponse m.pdu.kind ≡ false) × (is_retr_req e.phase ≡ false)).
           (let h : catch_up sent slot q b ≡ Some c.0 = subst (λ z. catch_up sent slot z b ≡ Some c.0) (sym w.0) c.1 in
           flows slot c.0 (is_retr_req b.end.state.phase) refl h w.0 w.1 w.2))
-          (λ (w : (e.accepted ≤ q) × (is_retransmission_response m.pdu.kind ≡ true) × (is_retr_req e.phase ≡ true)).
+          (λ (w : (e.accepted ≤ q) × (is_kind RetransmissionResponse m.pdu.kind ≡ true) × (is_retr_req e.phase ≡ true)).
           (let same : e.accepted ≡ b.end.state.accepted = (let n : b.end.state.accepted < e.accepted → ⊥ = λ l. (let z = calm l in let y = w.2 in cc) in omega (arith, n, low)) in
           let r = itself same in
           let ph : is_retr_req b.end.state.phase ≡ true = ap (λ (s : EndState). is_retr_req s.phase) r.state ∙ w.2 in
@@ -222,7 +223,7 @@ module _ (p : Parameters) (start : Option ℕ) (side : Side) (quiet_sn : Option 
           a.how in
           (s.0, ap (λ z. catch_up sent slot z b) a.accepted ∙ (to ∙ s.1), s.2)
         where
-          flows : (slot : ℕ) (b1 : Built) (rr : Bool) → is_retr_req b.end.state.phase ≡ rr → catch_up sent slot q b ≡ Some b1 → q ≡ e.accepted → is_retransmission_response m.pdu.kind ≡ false → is_retr_req e.phase ≡ false
+          flows : (slot : ℕ) (b1 : Built) (rr : Bool) → is_retr_req b.end.state.phase ≡ rr → catch_up sent slot q b ≡ Some b1 → q ≡ e.accepted → is_kind RetransmissionResponse m.pdu.kind ≡ false → is_retr_req e.phase ≡ false
               → catch_up sent slot (suc q) b ≡ accept_step sent slot q b1
           flows slot b1 false ph h v plain away = catch_flowing sent slot q b b1 ph (omega (arith, low, v)) h
           flows slot b1 true ph h v plain away =

@@ -1,6 +1,6 @@
 -- A step of a station keeps the builder's ends with both stations; where it makes a PDU, the builder explains that.
 use Rattle.std.proofs.Common.{◌≡◌, ℕ, suc, ◌+◌, ◌-◌, ◌^◌, ◌<◌, ◌≤◌, ◌⊎◌, true, List, [], ◌∷◌, ◌++◌, length, Option, Some, None, refl, ap, sym, ◌∙◌, arith, inl, inr, subst, ⊎_elim}
-use Rattle.std.specs.Prelude.{IfSome}
+use Rattle.std.specs.Prelude.{IfSome, option_map}
 use Rattle.std.proofs.lemmas.List.{length_push}
 use Rattle.rasta_pcap.specs.declared.fault.Side.{Side}
 use Rattle.rasta_pcap.specs.declared.fault.Side.TheVariants.{Client, Server}
@@ -9,8 +9,9 @@ use Rattle.rasta_pdu.specs.Params.{Parameters, AreParameters, IsQuiet, most_cloc
 use Rattle.rasta_pdu.specs.Pdu.{RedundancyPdu}
 use Rattle.rasta_pdu.specs.declared.quiet_point.Quiet.{Quiet}
 use Rattle.rasta_end.specs.State.{Made, EndState, wrapped}
-use Rattle.rasta_end.specs.Starts.{start_by, start_of, moved_deadline}
+use Rattle.rasta_end.specs.Starts.{start_by, start_of}
 use Rattle.rasta_end.specs.MakeRule.{has_ended, after_make}
+use Rattle.rasta_end.proofs.MakeTests.{no_fault}
 use Rattle.rasta_check.specs.Capture.Crossing.{FirstCopy, Spells}
 use Rattle.rasta_check.specs.Model.World.{Station, Move, Moves, makes, repeats, arrives, takes, waits}
 use Rattle.rasta_check.specs.Model.Theorem.{other_side}
@@ -31,7 +32,7 @@ use Rattle.rasta_build.proofs.SentLists.{Begins, found_there, first_there}
 
 -- ---- the start's deadline
 
-low_by : (p : Parameters) (d : Option ℕ) → IfSome d (λ n. n ≤ most_clock) → earliest_by p (moved_deadline d) ≤ 2 ^ 63
+low_by : (p : Parameters) (d : Option ℕ) → IfSome d (λ n. n ≤ most_clock) → earliest_by p (option_map (λ n. n + 2 ^ 32) d) ≤ 2 ^ 63
 low_by p None h = omega arith
 low_by p (Some d) h = low d p.slack h
   where
@@ -114,7 +115,7 @@ moved p s r xs ys a a' b own peer big_own big_peer ba bb valid turned apart (mak
     let l' : length (after_make e x a.clock why).made ≤ 1000001 = subst (λ (z : EndState). length z.made ≤ 1000001) back few' in
     let th = h.their_held in
     let copies = found_there p s r xs peer big_peer b.state b.first_number h.their_sends begun in
-    let f = follows_make p (start_of p s).deadline s (peer_quiet_sn p.quiet s) (base p) e a.taken b.state.made a.clock x why mk.0 (omega (arith, now, bounded)) lim.waits_most refl (low_quiet p p.quiet s valid.quiet)
+    let f = follows_make p (start_of p s).deadline s (peer_quiet_sn p.quiet s) (base p) e a.taken b.state.made a.clock x why (no_fault p e x a.clock why mk.0) (omega (arith, now, bounded)) lim.waits_most refl (low_quiet p p.quiet s valid.quiet)
     h.held th.numbered h.their_few (offered_few e h.values h.few) (offered_few (after_make e x a.clock why) v' l') big_peer ba (length xs) (length xs) copies (omega arith) (base_small p.quiet)
     (λ l. first_there p s r xs peer big_peer b.state b.first_number turned h.their_sends begun l) fa in
     inr (record {

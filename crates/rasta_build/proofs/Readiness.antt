@@ -5,7 +5,7 @@ use Rattle.std.proofs.lemmas.Bool.Decides.{nat_tests}
 use Rattle.rasta_pcap.specs.declared.fault.Side.{Side}
 use Rattle.rasta_pcap.specs.Fault.{reply_owed, past_deadline}
 use Rattle.rasta_pdu.specs.Params.{Parameters}
-use Rattle.rasta_pdu.specs.Pdu.{SafetyPdu, RedundancyPdu}
+use Rattle.rasta_pdu.specs.Pdu.{SafetyPdu, RedundancyPdu, is_kind}
 use Rattle.rasta_end.specs.declared.owed.Owed.{Owed}
 use Rattle.rasta_end.specs.declared.owed.Owed.TheVariants.{ConnectionResponse as OweConnectionResponse, FirstHeartbeat as OweFirstHeartbeat, RetransmissionResponse as OweRetransmissionResponse, Resend as OweResend, RetransmissionRequest as OweRetransmissionRequest}
 use Rattle.rasta_end.specs.declared.phase.Phase.{Phase}
@@ -15,7 +15,7 @@ use Rattle.rasta_end.specs.declared.take_row.TakeRow.TheVariants.{Opened, Answer
 use Rattle.rasta_end.specs.State.{Made, EndState, is_owing, is_closed, is_flowing, carries_unit, kinds}
 use Rattle.rasta_end.specs.Units.{units_conveyed}
 use Rattle.rasta_end.specs.MakeRule.{is_past, first_that_holds}
-use Rattle.rasta_end.specs.TakeRule.{hand_up, effect, take_row, take_fault, accept, enter, resends, burst, position_confirmed, is_retransmission_request}
+use Rattle.rasta_end.specs.TakeRule.{hand_up, effect, take_row, take_fault, accept, enter, resends, burst, position_confirmed}
 use Rattle.rasta_check.proofs.Model.TakeRows.{row_known}
 use Rattle.rasta_check.proofs.Model.Counts.{number}
 use Rattle.rasta_build.specs.Built.{Built, progress_of, trail_after}
@@ -24,6 +24,7 @@ use Rattle.rasta_build.specs.Explaining.{taken_by, unless, take_step}
 use Rattle.rasta_build.proofs.Times.{timed, deadline_by, effect_timed, IsNear, near_effect, not_past}
 use Rattle.std.proofs.lemmas.List.{append-nil}
 use Rattle.rasta_build.proofs.Comparisons.{not_lt}
+use Rattle.rasta_pdu.specs.declared.kind.Kind.TheVariants.{RetransmissionRequest}
 
 -- ---- what is owed after the units
 
@@ -72,7 +73,7 @@ pub record IsReady (p : Parameters) (start : Option ℕ) (side : Side) (quiet_sn
   pub quiet : b.peer.quiet_sn ≡ quiet_sn
   pub next : b.next_take ≤ taken
   pub trail : IsTrail e.offered b.trail e.owed
-  pub asked : length e.asks ≤ number is_retransmission_request (take b.next_take ms)
+  pub asked : length e.asks ≤ number (is_kind RetransmissionRequest) (take b.next_take ms)
 
 -- ---- what the run's end may take, the builder's end may take
 
@@ -152,15 +153,15 @@ trail_row p e x Gap few free is = tt
 trail_row p e x GapInRetransmission few free is = tt
 trail_row p e x Resumed few free is = rw free tt
 trail_row p e x Requested few free is =
-    let z : trail_after (progress_of e) (progress_of (effect p Requested e x)) x ≡ 0 = trail_unset (is_retransmission_request x.kind) (is_flowing e.phase) _ (later_than e.accepted _) in
+    let z : trail_after (progress_of e) (progress_of (effect p Requested e x)) x ≡ 0 = trail_unset (is_kind RetransmissionRequest x.kind) (is_flowing e.phase) _ (later_than e.accepted _) in
     subst (λ n. IsTrail e.offered n (burst e (position_confirmed e x))) (sym z) (trail_burst e (position_confirmed e x) (few _))
 trail_row p e x RequestedAhead few free is =
     let w = row_known p e x RequestedAhead is in
-    let z : trail_after (progress_of e) (progress_of (effect p RequestedAhead e x)) x ≡ 1 = trail_set (is_retransmission_request x.kind) (is_flowing e.phase) _ (ap is_retransmission_request w.1) (same_as e.accepted) w.0 in
+    let z : trail_after (progress_of e) (progress_of (effect p RequestedAhead e x)) x ≡ 1 = trail_set (is_kind RetransmissionRequest x.kind) (is_flowing e.phase) _ (ap (is_kind RetransmissionRequest) w.1) (same_as e.accepted) w.0 in
     subst (λ n. IsTrail e.offered n (burst e (position_confirmed e x) ++ OweRetransmissionRequest ∷ [])) (sym z) (trail_more e (position_confirmed e x) (few _))
 trail_row p e x RequestedAgain few free is =
     let w = row_known p e x RequestedAgain is in
-    let z : trail_after (progress_of e) (progress_of (effect p RequestedAgain e x)) x ≡ 0 = trail_waiting (is_retransmission_request x.kind) _ e.phase w.0 in
+    let z : trail_after (progress_of e) (progress_of (effect p RequestedAgain e x)) x ≡ 0 = trail_waiting (is_kind RetransmissionRequest x.kind) _ e.phase w.0 in
     subst (λ n. IsTrail e.offered n (burst e (position_confirmed e x))) (sym z) (trail_burst e (position_confirmed e x) (few _))
 trail_row p e x Disconnected few free is = rw free tt
 
@@ -173,7 +174,7 @@ next_is q l = omega arith
 -- and is ready after it
 pub ready_effect : (p : Parameters) (start : Option ℕ) (side : Side) (quiet_sn : Option ℕ) (e : EndState) (taken : ℕ) (ms : List Made) (b : Built) → IsReady p start side quiet_sn e taken ms b
     → (slot q : ℕ) (x : RedundancyPdu) (row : TakeRow) → q < 1000001 → e.owed ≡ [] → ConveysNoMore e → take_row p e x.safety ≡ Some row
-    → length (effect p row e x.safety).asks ≤ number is_retransmission_request (take (suc q) ms)
+    → length (effect p row e x.safety).asks ≤ number (is_kind RetransmissionRequest) (take (suc q) ms)
     → IsReady p start side quiet_sn (effect p row e x.safety) (suc q) ms (taken_by (Some row) slot q x b)
 ready_effect p start side quiet_sn e taken ms b r slot q x row l free few is asked =
     let d : Option ℕ = deadline_by p row r.clock r.deadline x.safety in
@@ -195,5 +196,5 @@ ready_effect p start side quiet_sn e taken ms b r slot q x row l free few is ask
       quiet = r.quiet;
       next = omega (arith, n);
       trail = subst (λ k. IsTrail (effect p row e x.safety).offered k (effect p row e x.safety).owed) (sym tr) (trail_row p e x.safety row few free is);
-      asked = subst (λ k. length (effect p row e x.safety).asks ≤ number is_retransmission_request (take k ms)) (sym n) asked;
+      asked = subst (λ k. length (effect p row e x.safety).asks ≤ number (is_kind RetransmissionRequest) (take k ms)) (sym n) asked;
     }

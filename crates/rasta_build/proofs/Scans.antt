@@ -5,7 +5,7 @@ use Rattle.std.proofs.lemmas.Bool.Decides.{nat_tests}
 use Rattle.std.proofs.lemmas.Option.{slice_get_within}
 use Rattle.rasta_pcap.specs.declared.fault.Side.{Side}
 use Rattle.rasta_pdu.specs.Params.{Parameters}
-use Rattle.rasta_pdu.specs.Pdu.{SafetyPdu}
+use Rattle.rasta_pdu.specs.Pdu.{SafetyPdu, is_kind}
 use Rattle.rasta_pdu.specs.declared.kind.Kind.{Kind}
 use Rattle.rasta_pdu.specs.declared.kind.Kind.TheVariants.{RetransmissionRequest, RetransmissionResponse, Heartbeat, Data}
 use Rattle.rasta_end.specs.declared.owed.Owed.TheVariants.{RetransmissionRequest as OweRetransmissionRequest}
@@ -13,7 +13,7 @@ use Rattle.rasta_end.specs.declared.phase.Phase.TheVariants.{RetrReq}
 use Rattle.rasta_end.specs.declared.take_row.TakeRow.{TakeRow}
 use Rattle.rasta_end.specs.declared.take_row.TakeRow.TheVariants.{Opened, Answered, FirstHeartbeat, InSequence, ResentInSequence, Gap, GapInRetransmission, Resumed, Requested, RequestedAhead, RequestedAgain, Disconnected}
 use Rattle.rasta_end.specs.State.{Made, EndState, is_timed, is_owing}
-use Rattle.rasta_end.specs.TakeRule.{effect, take_row, take_fault, is_retransmission_request, is_heartbeat_or_data, steps_past_next, is_in, is_ahead}
+use Rattle.rasta_end.specs.TakeRule.{effect, take_row, take_fault, is_heartbeat_or_data, steps_past_next, is_in, is_ahead}
 use Rattle.rasta_check.specs.Capture.Crossing.{FirstCopy}
 use Rattle.rasta_check.proofs.Model.TakeRows.{row_known}
 use Rattle.rasta_check.proofs.Model.Counts.{number, number_take_more, number_take_at}
@@ -149,8 +149,8 @@ module _ (p : Parameters) (start : Option ℕ) (side : Side) (quiet_sn : Option 
     same_there : (j : ℕ) (m' : Made) → slice_get ms j ≡ Some m' → j ≡ q → m' ≡ m
     same_there j m' g h = (let g' : slice_get ms q ≡ Some m' = subst (λ k. slice_get ms k ≡ Some m') h g in cc)
 
-    asks_more : (j : ℕ) → first_tried b ≤ j → length e.asks ≤ number is_retransmission_request (take (suc j) ms)
-    asks_more j l = (let z = number_take_more is_retransmission_request ms b.next_take (suc j) (omega (arith, l)) in let y = r.asked in omega (arith, z, y))
+    asks_more : (j : ℕ) → first_tried b ≤ j → length e.asks ≤ number (is_kind RetransmissionRequest) (take (suc j) ms)
+    asks_more j l = (let z = number_take_more (is_kind RetransmissionRequest) ms b.next_take (suc j) (omega (arith, l)) in let y = r.asked in omega (arith, z, y))
 
     accepted_same : b.end.state.accepted ≡ e.accepted
     accepted_same = ap (λ (z : EndState). z.accepted) r.state
@@ -160,9 +160,9 @@ module _ (p : Parameters) (start : Option ℕ) (side : Side) (quiet_sn : Option 
 
     -- the position is taken by a row with the same effect
     by_row : (j : ℕ) → first_tried b ≤ j → j ≤ q → (c : FirstCopy) (row' : TakeRow) → take_row p e c.pdu.safety ≡ Some row' → effect p row' e c.pdu.safety ≡ effect p row e m.pdu
-        → length (effect p row e m.pdu).asks ≤ number is_retransmission_request (take (suc j) ms) → is_owing (effect p row e m.pdu).owed ≡ true → Outcome j c true
+        → length (effect p row e m.pdu).asks ≤ number (is_kind RetransmissionRequest) (take (suc j) ms) → is_owing (effect p row e m.pdu).owed ≡ true → Outcome j c true
     by_row j l k c row' w same asks owing =
-        let a : length (effect p row' e c.pdu.safety).asks ≤ number is_retransmission_request (take (suc j) ms) = subst (λ (z : EndState). length z.asks ≤ number is_retransmission_request (take (suc j) ms)) (sym same) asks in
+        let a : length (effect p row' e c.pdu.safety).asks ≤ number (is_kind RetransmissionRequest) (take (suc j) ms) = subst (λ (z : EndState). length z.asks ≤ number (is_kind RetransmissionRequest) (take (suc j) ms)) (sym same) asks in
         let x = ready_effect p start side quiet_sn e b.next_take ms b low slot j c.pdu row' (let z = slice_get_within ms q m there in omega (arith, z)) free more w a in
         let y : Found (taken_by (Some row') slot j c.pdu b) = subst (λ (z : EndState). IsReady p start side quiet_sn z (suc q) ms (taken_by (Some row') slot j c.pdu b)) same (later (suc j) (suc q) (effect p row' e c.pdu.safety) (taken_by (Some row') slot j c.pdu b) (omega arith) x) in
         inr (taken_by (Some row') slot j c.pdu b, ready_step p start side quiet_sn e b.next_take ms b low slot j c.pdu (Some row') (omega (arith, l)) fault w, ap (λ (z : EndState). is_owing z.owed) y.state ∙ owing, y)
@@ -187,7 +187,7 @@ module _ (p : Parameters) (start : Option ℕ) (side : Side) (quiet_sn : Option 
         let g' = timed_rows p e c.pdu.safety h nin row' w in
         let eff : effect p row e m.pdu ≡ gapped e = gap_effect p row e m.pdu g in
         by_row j l k c row' w (gap_effect p row' e c.pdu.safety g' ∙ sym eff)
-        (subst (λ (z : EndState). length z.asks ≤ number is_retransmission_request (take (suc j) ms)) (sym eff) (asks_more j l)) (ap (λ (z : EndState). is_owing z.owed) eff)
+        (subst (λ (z : EndState). length z.asks ≤ number (is_kind RetransmissionRequest) (take (suc j) ms)) (sym eff) (asks_more j l)) (ap (λ (z : EndState). is_owing z.owed) eff)
 
     here : (j : ℕ) → j ≤ q → (m' : Made) × (slice_get ms j ≡ Some m')
     here j k = slice_get_some ms j (let z = slice_get_within ms q m there in omega (arith, z))
@@ -199,34 +199,34 @@ module _ (p : Parameters) (start : Option ℕ) (side : Side) (quiet_sn : Option 
         (f.0, f.1, f.3, gap_by g j l k h.0 h.1 f.0 f.2 (is_timed f.0.pdu.safety.kind) refl (take_row p e f.0.pdu.safety) refl)
 
     -- no request stands between what the builder's end took and the one that the run's end answers
-    module _ (answered : number is_retransmission_request (take q ms) ≡ length e.asks) where
-      pub only_request : (j : ℕ) → first_tried b ≤ j → j < q → (m' : Made) → slice_get ms j ≡ Some m' → is_retransmission_request m'.pdu.kind ≡ true → ⊥
+    module _ (answered : number (is_kind RetransmissionRequest) (take q ms) ≡ length e.asks) where
+      pub only_request : (j : ℕ) → first_tried b ≤ j → j < q → (m' : Made) → slice_get ms j ≡ Some m' → is_kind RetransmissionRequest m'.pdu.kind ≡ true → ⊥
       only_request j l k m' at is_a =
-          let x = number_take_at is_retransmission_request ms j m' at is_a in
-          let y = number_take_more is_retransmission_request ms b.next_take j (omega (arith, l)) in
-          let z = number_take_more is_retransmission_request ms (suc j) q k in
+          let x = number_take_at (is_kind RetransmissionRequest) ms j m' at is_a in
+          let y = number_take_more (is_kind RetransmissionRequest) ms b.next_take j (omega (arith, l)) in
+          let z = number_take_more (is_kind RetransmissionRequest) ms (suc j) q k in
           let w = r.asked in
           omega (arith, x, y, z, w, answered)
 
-      request_by : is_request_ahead row ≡ true → length (effect p row e m.pdu).asks ≤ number is_retransmission_request (take (suc q) ms) → (j : ℕ) → first_tried b ≤ j → j ≤ q → (m' : Made) → slice_get ms j ≡ Some m' → (c : FirstCopy) → c.pdu.safety ≡ m'.pdu
-          → (t : Bool) → is_retransmission_request c.pdu.safety.kind ≡ t → Outcome j c t
+      request_by : is_request_ahead row ≡ true → length (effect p row e m.pdu).asks ≤ number (is_kind RetransmissionRequest) (take (suc q) ms) → (j : ℕ) → first_tried b ≤ j → j ≤ q → (m' : Made) → slice_get ms j ≡ Some m' → (c : FirstCopy) → c.pdu.safety ≡ m'.pdu
+          → (t : Bool) → is_kind RetransmissionRequest c.pdu.safety.kind ≡ t → Outcome j c t
       request_by g asks j l k m' at c s false h = inl (
         refl,
         λ z. (let y = same_there j m' at z in
-            let i : is_retransmission_request c.pdu.safety.kind ≡ true = ap (λ (v : SafetyPdu). is_retransmission_request v.kind) s ∙ (ap (λ (v : Made). is_retransmission_request v.pdu.kind) y ∙ ap is_retransmission_request (ahead_request p e m.pdu row g is)) in off (sym h ∙ i)),
+            let i : is_kind RetransmissionRequest c.pdu.safety.kind ≡ true = ap (λ (v : SafetyPdu). is_kind RetransmissionRequest v.kind) s ∙ (ap (λ (v : Made). is_kind RetransmissionRequest v.pdu.kind) y ∙ ap (is_kind RetransmissionRequest) (ahead_request p e m.pdu row g is)) in off (sym h ∙ i)),
       )
       request_by g asks j l k m' at c s true h =
-          let not_less : j < q → ⊥ = λ z. only_request j l z m' at (ap (λ (v : SafetyPdu). is_retransmission_request v.kind) (sym s) ∙ h) in
+          let not_less : j < q → ⊥ = λ z. only_request j l z m' at (ap (λ (v : SafetyPdu). is_kind RetransmissionRequest v.kind) (sym s) ∙ h) in
           let z : j ≡ q = omega (arith, not_less, k) in
           let x : c.pdu.safety ≡ m.pdu = s ∙ ap (λ (v : Made). v.pdu) (same_there j m' at z) in
           by_row j l k c row (ap (λ (v : SafetyPdu). take_row p e v) x ∙ is) (ap (λ (v : SafetyPdu). effect p row e v) x)
-          (subst (λ n. length (effect p row e m.pdu).asks ≤ number is_retransmission_request (take (suc n) ms)) (sym z) asks) (owing_ahead p e m.pdu row g)
+          (subst (λ n. length (effect p row e m.pdu).asks ≤ number (is_kind RetransmissionRequest) (take (suc n) ms)) (sym z) asks) (owing_ahead p e m.pdu row g)
 
-      request_tried : is_request_ahead row ≡ true → length (effect p row e m.pdu).asks ≤ number is_retransmission_request (take (suc q) ms) → (j : ℕ) → first_tried b ≤ j → j ≤ q → Tries Found sent slot RetransmissionResponse q b j
+      request_tried : is_request_ahead row ≡ true → length (effect p row e m.pdu).asks ≤ number (is_kind RetransmissionRequest) (take (suc q) ms) → (j : ℕ) → first_tried b ≤ j → j ≤ q → Tries Found sent slot RetransmissionResponse q b j
       request_tried g asks j l k =
           let h = here j k in
           let f = found j h.0 h.1 (omega (arith, l, one)) in
-          (f.0, f.1, f.3, request_by g asks j l k h.0 h.1 f.0 f.2 (is_retransmission_request f.0.pdu.safety.kind) refl)
+          (f.0, f.1, f.3, request_by g asks j l k h.0 h.1 f.0 f.2 (is_kind RetransmissionRequest f.0.pdu.safety.kind) refl)
 
     within : is_ahead p e m.pdu ≡ true → q < first_tried b + positions_tried b
     within h =
@@ -247,7 +247,7 @@ module _ (p : Parameters) (start : Option ℕ) (side : Side) (quiet_sn : Option 
         (s.0, rw unowing s.1, s.2)
 
     -- the builder takes the request that is answered
-    pub request_found : number is_retransmission_request (take q ms) ≡ length e.asks → is_request_ahead row ≡ true → length (effect p row e m.pdu).asks ≤ number is_retransmission_request (take (suc q) ms) → is_ahead p e m.pdu ≡ true
+    pub request_found : number (is_kind RetransmissionRequest) (take q ms) ≡ length e.asks → is_request_ahead row ≡ true → length (effect p row e m.pdu).asks ≤ number (is_kind RetransmissionRequest) (take (suc q) ms) → is_ahead p e m.pdu ≡ true
         → (b2 : Built) × (take_trigger sent slot RetransmissionResponse b ≡ Some b2) × Found b2
     request_found answered g asks h =
         let s = scan_finds Found sent slot RetransmissionResponse q b unowing (positions_tried b) (first_tried b) first_low (within h) (request_tried answered g asks) in

@@ -22,6 +22,7 @@ use Rattle.rasta_end.specs.Starts.{start_of, start_by}
 use Rattle.rasta_end.specs.MakeRule.{make_fault, row_of, after_make_by, after_make}
 use Rattle.rasta_end.specs.declared.make_row.MakeRow.{MakeRow}
 use Rattle.rasta_end.specs.TakeRule.{effect, effect_by, after_take, take_row, take_fault}
+use Rattle.rasta_end.proofs.MakeTests.{no_test}
 use Rattle.rasta_check.specs.Capture.Crossing.{FirstCopy}
 use Rattle.rasta_check.specs.Script.Following.{Cursor, Advances, takes_next, makes_next, Leads, at_start}
 use Rattle.rasta_check.proofs.Model.Steps.{base, base_by, base_small, start_base}
@@ -285,7 +286,7 @@ module _ (p : Parameters) (side : Side) (n : ℕ) (own peer : List FirstCopy) (f
         let ok' : make_fault p r.at.state c.pdu.safety clock why ≡ None = subst (λ (z : EndState). make_fault p z c.pdu.safety clock why ≡ None) (sym st) (subst (λ (z : Parameters). make_fault z b.end.state c.pdu.safety clock why ≡ None) pa ok) in
         let eff : after ≡ after_make r.at.state c.pdu.safety clock why = ap (λ (z : EndState). after_make z c.pdu.safety clock why) (sym st) in
         let step : Advances p n own peer r.at (Make c.place clock why) (record { level = suc c.place; made = suc r.at.made; taken = r.at.taken; state = after }) =
-        makes_next c clock why after (omega (arith, lo, here)) (ap (slice_get own) r.made ∙ next) (ok', eff) in
+        makes_next c clock why after (omega (arith, lo, here)) (ap (slice_get own) r.made ∙ next) (no_test p r.at.state c.pdu.safety clock why ok', eff) in
         record {
           at = record { level = suc c.place; made = suc r.at.made; taken = r.at.taken; state = after };
           leads = subst (λ (pl : ℕ). Leads p n own peer (at_start (start_of p side)) (b.script ++ Make pl clock why ∷ []) (record { level = suc c.place; made = suc r.at.made; taken = r.at.taken; state = after })) here

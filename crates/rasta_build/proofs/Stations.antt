@@ -1,12 +1,12 @@
 -- A builder's end follows a station of a run.
 use Rattle.std.proofs.Common.{◌≡◌, ℕ, suc, ◌^◌, ◌<◌, ◌≤◌, ◌⊎◌, Bool, true, false, List, [], ◌∷◌, length, Option, Some, None, refl, ap, sym, ◌∙◌, arith, inl, inr, subst, ⊎_elim, cond}
-use Rattle.std.specs.Prelude.{if◌then◌else◌, not, ◌&&◌, ◌||◌, ◌==◌, map, filter}
+use Rattle.std.specs.Prelude.{if◌then◌else◌, not, ◌&&◌, ◌||◌, ◌==◌, map, filter, is_some, slice_get}
 use Rattle.std.proofs.lemmas.Bool.Decides.{nat_tests}
 use Rattle.rasta_pcap.specs.declared.fault.Side.{Side}
 use Rattle.rasta_pcap.specs.declared.fault.Side.TheVariants.{Client, Server}
 use Rattle.rasta_pcap.specs.Fault.{reply_owed, past_deadline}
 use Rattle.rasta_pdu.specs.Params.{Parameters}
-use Rattle.rasta_pdu.specs.Pdu.{SafetyPdu}
+use Rattle.rasta_pdu.specs.Pdu.{SafetyPdu, is_kind}
 use Rattle.rasta_pdu.specs.declared.kind.Kind.{Kind}
 use Rattle.rasta_end.specs.declared.owed.Owed.{Owed}
 use Rattle.rasta_end.specs.declared.phase.Phase.{Phase}
@@ -14,10 +14,11 @@ use Rattle.rasta_end.specs.declared.phase.Phase.TheVariants.{Closed, Start}
 use Rattle.rasta_end.specs.declared.take_row.TakeRow.{TakeRow}
 use Rattle.rasta_end.specs.declared.why.Why.{Why}
 use Rattle.rasta_end.specs.declared.make_row.MakeRow.{MakeRow}
-use Rattle.rasta_end.specs.State.{Made, EndState, first_sn, has_made, is_owing, is_closed, is_client, is_start, is_active, is_connected, is_retr_req, content_of}
+use Rattle.rasta_end.specs.State.{Made, EndState, first_sn, is_owing, is_closed, is_client, is_start, is_active, is_connected, is_retr_req, content_of}
 use Rattle.rasta_end.specs.Starts.{start_of}
-use Rattle.rasta_end.specs.MakeRule.{first_that_holds, make_fault, has_ended, is_past, is_data, contents, after_make, phase_after}
+use Rattle.rasta_end.specs.MakeRule.{first_that_holds, make_fault, has_ended, is_past, contents, after_make, phase_after}
 use Rattle.rasta_end.specs.TakeRule.{effect_by, take_row, after_take, take_fault, is_in, is_ahead, is_valid}
+use Rattle.rasta_end.proofs.MakeTests.{no_test}
 use Rattle.rasta_check.specs.Capture.Crossing.{FirstCopy}
 use Rattle.rasta_check.proofs.Model.PassedTests.{passed}
 use Rattle.rasta_check.proofs.Model.MakeRows.{Making, opening, response, first_beat, answer, again, ask, beat, fresh, bye, expired, made_by, after_row, new_made}
@@ -37,6 +38,7 @@ use Rattle.rasta_build.proofs.Lags.{Pending, IsLag}
 use Rattle.rasta_build.proofs.LagTakes.{lag_row}
 use Rattle.rasta_build.proofs.Explanations.{IsOrigin, base_accepted, explains, gap_owes, ahead_owes}
 use Rattle.rasta_build.proofs.Comparisons.{is_same}
+use Rattle.rasta_pdu.specs.declared.kind.Kind.TheVariants.{Data}
 
 -- the builder's end lags behind a run's end, and was the same, but for its times, at the last make
 pub record Live (p : Parameters) (start : Option ℕ) (side : Side) (quiet_sn : Option ℕ) (base0 : ℕ) (e : EndState) (taken : ℕ) (ms : List Made) (sent : List FirstCopy) (b : Built) : Type 0 where
@@ -54,7 +56,7 @@ pub record Follows (p : Parameters) (start : Option ℕ) (side : Side) (quiet_sn
 
 number_few : (ms : List Made) → length (contents ms) ≤ length ms
 number_few [] = omega arith
-number_few (m ∷ ms) = by (is_data m.pdu.kind) (filter (λ (n : Made). is_data n.pdu.kind) ms) (number_few ms)
+number_few (m ∷ ms) = by (is_kind Data m.pdu.kind) (filter (λ (n : Made). is_kind Data n.pdu.kind) ms) (number_few ms)
   where
     by : (c : Bool) (rest : List Made) → length (map (λ (n : Made). content_of n.pdu.body) rest) ≤ length ms → length (map (λ (n : Made). content_of n.pdu.body) (cond c (m ∷ rest) rest)) ≤ suc (length ms)
     by true rest h = omega (arith, h)
@@ -65,7 +67,7 @@ offered_few e v l = (let c = v.counted in let n = number_few e.made in omega (ar
 
 -- ---- phases
 
-ended_if : (s : Side) (ph : Phase) (ms : List Made) → is_closed ph ≡ true → (s ≡ Client → ms ≡ [] → ⊥) → (is_closed ph && (not (is_client s) || has_made ms)) ≡ true
+ended_if : (s : Side) (ph : Phase) (ms : List Made) → is_closed ph ≡ true → (s ≡ Client → ms ≡ [] → ⊥) → (is_closed ph && (not (is_client s) || is_some (slice_get ms 0))) ≡ true
 ended_if Server ph ms c h = rw c refl
 ended_if Client ph [] c h = absurd (h refl refl)
 ended_if Client ph (m ∷ ms) c h = rw c refl
@@ -214,17 +216,17 @@ module _ (p : Parameters) (start : Option ℕ) (side : Side) (quiet_sn : Option 
     (sent : List FirstCopy) (b : Built) (n place : ℕ) (copies : AreCopies quiet_sn sent ms base0 n) (late : n ≤ place) (one : base0 ≤ 1)
     (firsts : 0 < length ms → first_sn_of quiet_sn sent ≡ Some (first_sn ms)) where
   accepted_same : (after_make e x k why).accepted ≡ e.accepted
-  accepted_same = (let m = made_by p e x k why (passed p e x k why ok) in ap (λ (z : EndState). z.accepted) (sym (after_row e x k why m)))
+  accepted_same = (let m = made_by p e x k why (passed p e x k why (no_test p e x k why ok)) in ap (λ (z : EndState). z.accepted) (sym (after_row e x k why m)))
 
   side_same : (after_make e x k why).side ≡ e.side
-  side_same = (let m = made_by p e x k why (passed p e x k why ok) in ap (λ (z : EndState). z.side) (sym (after_row e x k why m)))
+  side_same = (let m = made_by p e x k why (passed p e x k why (no_test p e x k why ok)) in ap (λ (z : EndState). z.side) (sym (after_row e x k why m)))
 
   grown : (after_make e x k why).made ≡ [] → ⊥
-  grown h = (let m = made_by p e x k why (passed p e x k why ok) in push_some e.made (new_made m.row e x) (ap (λ (z : EndState). z.made) (after_row e x k why m) ∙ h))
+  grown h = (let m = made_by p e x k why (passed p e x k why (no_test p e x k why ok)) in push_some e.made (new_made m.row e x) (ap (λ (z : EndState). z.made) (after_row e x k why m) ∙ h))
 
   young_after : (e.side ≡ Client → e.made ≡ [] → (is_closed e.phase ≡ true) × (e.deadline ≡ None)) → is_client (after_make e x k why).side ≡ true → is_start (after_make e x k why).phase ≡ true → (after_make e x k why).deadline ≡ None
   young_after unopened c s =
-      let ps = passed p e x k why ok in
+      let ps = passed p e x k why (no_test p e x k why ok) in
       let m = made_by p e x k why ps in
       let c' : is_client e.side ≡ true = ap is_client (sym side_same) ∙ c in
       let s' : is_start (phase_after m.row e.phase) ≡ true = ap (λ (z : EndState). is_start z.phase) (after_row e x k why m) ∙ s in
@@ -257,7 +259,7 @@ module _ (p : Parameters) (start : Option ℕ) (side : Side) (quiet_sn : Option 
   -- a make keeps it, after what explains it
   pub follows_make : Follows p start side quiet_sn base0 e t ms sent b → (b' : Built) × (explain sent place x b ≡ Some b') × Follows p start side quiet_sn base0 (after_make e x k why) t ms sent b'
   follows_make h = ⊎_elim
-      (λ (over : has_ended e ≡ true). absurd (let ps = passed p e x k why ok in let z = ps.open_yet in cc))
+      (λ (over : has_ended e ≡ true). absurd (let ps = passed p e x k why (no_test p e x k why ok) in let z = ps.open_yet in cc))
       (λ (l : Live p start side quiet_sn base0 e t ms sent b). by l (explains p start side quiet_sn e t ms sent b base0 n place k x why ok bounded waits from low_start few_theirs theirs few (λ i g. mine.last i g) mine.unmade copies late one l.low firsts h.of_side l.lag l.org))
       h.stage
     where

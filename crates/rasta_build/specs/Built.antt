@@ -2,16 +2,16 @@
 use Rattle.std.specs.Prelude.{ℕ, ◌+◌, List, [], ◌∷◌, ◌++◌, length, ◌&&◌, ◌==◌, if◌then◌else◌, min}
 use Rattle.rasta_pcap.specs.declared.fault.Side.{Side}
 use Rattle.rasta_pdu.specs.Params.{Parameters}
-use Rattle.rasta_pdu.specs.Pdu.{SafetyPdu, RedundancyPdu}
+use Rattle.rasta_pdu.specs.Pdu.{SafetyPdu, RedundancyPdu, is_kind}
 use Rattle.rasta_end.specs.State.{EndState, is_flowing}
 use Rattle.rasta_end.specs.Starts.{start_of}
-use Rattle.rasta_end.specs.TakeRule.{is_retransmission_request}
 use Rattle.rasta_end.specs.Judged.{JudgedEnd}
 use Rattle.rasta_cert.specs.declared.entry.Entry.{Entry}
 use Rattle.rasta_cert.specs.declared.entry.Entry.TheVariants.{Take}
 use Rattle.rasta_build.specs.Choices.{peer_quiet_sn}
 use Rattle.rasta_build.specs.declared.peer.Peer.{Peer}
 use Rattle.rasta_build.specs.declared.script_builder.Progress.{Progress}
+use Rattle.rasta_pdu.specs.declared.kind.Kind.TheVariants.{RetransmissionRequest}
 
 -- an end with the entries that led it so far, the clock of its last make, the least position that may still be taken, and how many requests
 -- are owed after the burst that is owed
@@ -50,7 +50,7 @@ progress_of e = record { accepted = e.accepted; owed = length e.owed; phase = e.
 
 -- how many requests are owed after the burst that the take of this PDU started, which led from here to there
 abbrev pub trail_after : Progress → Progress → SafetyPdu → ℕ
-trail_after before after x = if is_retransmission_request x.kind && (after.accepted == before.accepted && is_flowing before.phase) then 1 else 0
+trail_after before after x = if is_kind RetransmissionRequest x.kind && (after.accepted == before.accepted && is_flowing before.phase) then 1 else 0
 
 -- the take of this PDU at this position stands in the script
 abbrev pub note_take : Progress → ℕ → ℕ → RedundancyPdu → Built → Built

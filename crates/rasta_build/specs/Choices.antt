@@ -5,15 +5,13 @@ use Rattle.rasta_pcap.specs.Fault.{fault_at, no_memory, not_found}
 use Rattle.rasta_pcap.specs.declared.fault.Fault.{Fault}
 use Rattle.rasta_pcap.specs.declared.fault.Side.{Side}
 use Rattle.rasta_pcap.specs.declared.fault.Side.TheVariants.{Client, Server}
-use Rattle.rasta_pdu.specs.Pdu.{SafetyPdu}
+use Rattle.rasta_pdu.specs.Pdu.{SafetyPdu, is_kind}
 use Rattle.rasta_pdu.specs.declared.pdu.Pdu.{Pdu}
 use Rattle.rasta_pdu.specs.declared.kind.Kind.{Kind}
 use Rattle.rasta_pdu.specs.declared.kind.Kind.TheVariants.{ConnectionRequest, ConnectionResponse, RetransmissionRequest, RetransmissionResponse, DisconnectionRequest, Heartbeat, Data, RetransmittedData}
 use Rattle.rasta_pdu.specs.declared.quiet_point.Quiet.{Quiet}
 use Rattle.rasta_end.specs.State.{EndState, ahead_by, is_owing, is_timed, is_client, is_start, reason_of}
 use Rattle.rasta_end.specs.Starts.{sn_before}
-use Rattle.rasta_end.specs.MakeRule.{is_connection_request, is_disconnection_request}
-use Rattle.rasta_end.specs.TakeRule.{is_retransmission_request, is_retransmission_response}
 use Rattle.rasta_end.specs.declared.why.Why.{Why}
 use Rattle.rasta_end.specs.declared.why.Why.TheVariants.{Open, Reply, Beat, Fresh, Again, Ask, Bye, Expired}
 use Rattle.rasta_check.specs.Capture.Crossing.{FirstCopy}
@@ -61,13 +59,13 @@ is_before (Some copy) place = nat_lt copy.place place
 -- a retransmission response crossed
 abbrev pub is_response : Option FirstCopy → Bool
 is_response None = false
-is_response (Some copy) = is_retransmission_response copy.pdu.safety.kind
+is_response (Some copy) = is_kind RetransmissionResponse copy.pdu.safety.kind
 
 -- ---- what must have been taken
 
 -- a PDU of the second type, ahead of what was accepted, can make an end owe one of the first type
 abbrev pub is_trigger : Kind → Kind → Bool
-is_trigger RetransmissionResponse taken = is_retransmission_request taken
+is_trigger RetransmissionResponse taken = is_kind RetransmissionRequest taken
 is_trigger RetransmissionRequest taken = is_timed taken
 is_trigger _ taken = false
 
@@ -84,7 +82,7 @@ is_unanswered side e = is_client side && (is_start e.phase && e.accepted == 0)
 -- the next PDU of this side's end tells by its CS what was accepted before it: nothing is owed, it opens no connection, and it isn't the
 -- disconnection request of a client that was never answered
 abbrev pub has_to_take : Side → EndState → Kind → Bool
-has_to_take side e kind = not (is_owing e.owed) && (not (is_connection_request kind) && not (is_disconnection_request kind && is_unanswered side e))
+has_to_take side e kind = not (is_owing e.owed) && (not (is_kind ConnectionRequest kind) && not (is_kind DisconnectionRequest kind && is_unanswered side e))
 
 -- ---- the reason
 

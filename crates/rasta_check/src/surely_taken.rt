@@ -1,7 +1,6 @@
 //! Working out what a report lists: the messages that an end surely took of its peer.
 ghost use Rattle.std.specs.Prelude.{◌≡◌, ◌++◌, ◌∷◌, [], List, length, map, slice_get, IfOk, OnOk};
 ghost use Rattle.rasta_pdu.specs.Pdu.{value_of, messages_in};
-ghost use Rattle.rasta_end.specs.MakeRule;
 ghost use Rattle.rasta_check.specs.Capture.Crossing.{FirstCopy};
 ghost use Rattle.rasta_check.specs.Capture.Lists.{copy_of};
 ghost use Rattle.rasta_check.specs.Verdict.Taken.{messages_of_unit, messages_taken};
@@ -13,12 +12,6 @@ use crate::sent_list::SentList;
 use rasta_end::End;
 use rasta_pdu::{Kind, Pdu};
 use std::alloc::{AllocError, Global};
-
-fn is_data(kind: Kind) -> bool
-    ensures { result ≡ MakeRule.is_data kind }
-{
-    matches!(kind, Kind::Data)
-}
 
 // How many units a PDU of the peer shows; a connection request shows none.
 fn units_shown(end: &End, pdu: &Pdu) -> usize
@@ -98,7 +91,7 @@ fn add_unit<'a>(
         → map listed_of items.new.items ++ numbered_from (length items.new.items) (messages_taken (proved_units proofs.now next copies))
         ≡ map listed_of items.old.items ++ numbered_from (length items.old.items) (messages_taken (proved_units proofs.now unit (copy_of (place, pdu.now) ∷ copies)))) }
 {
-    if !is_data(pdu.kind()) {
+    if !pdu.kind().is(Kind::Data) {
         return Ok(unit);
     }
     match proof_at(proofs, unit) {

@@ -2,4 +2,5 @@ pub mod Lists
 pub mod Conveying
 pub mod Pushing
 pub mod Owing
+pub mod MakeTests
 pub mod Meant

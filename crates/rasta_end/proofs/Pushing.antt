@@ -3,15 +3,14 @@ use Rattle.std.proofs.lemmas.List.{length_push}
 use Rattle.std.proofs.Common.{◌≡◌, ℕ, suc, ◌+◌, ◌≤◌, Bool, true, false, List, [], ◌∷◌, ◌++◌, length, ◌<◌, Option, Some, None, slice_get, get_or, refl, ap, sym, ◌∙◌, arith, subst, zero-add}
 use Rattle.std.proofs.lemmas.Option.{slice_get-map, slice_get-get_or, slice_get_past}
 use Rattle.std.specs.Prelude.{map, option_map}
-use Rattle.rasta_pdu.specs.Pdu.{value_of}
+use Rattle.rasta_pdu.specs.Pdu.{value_of, is_kind}
 use Rattle.std.specs.Borrow.{Bor}
 use Rattle.rasta_pdu.specs.declared.kind.Kind.{Kind}
 use Rattle.rasta_pdu.specs.declared.kind.Kind.TheVariants.{ConnectionRequest, ConnectionResponse, RetransmissionRequest, RetransmissionResponse, DisconnectionRequest, Heartbeat, Data, RetransmittedData}
-use Rattle.rasta_end.specs.TakeRule.{is_retransmission_response}
 use Rattle.rasta_end.specs.declared.own.MadePdu.{MadePdu}
 use Rattle.rasta_end.specs.declared.own.QuietPdu.{QuietPdu}
 use Rattle.rasta_end.specs.State.{Made, kinds, content_of}
-use Rattle.rasta_end.specs.MakeRule.{contents, is_data}
+use Rattle.rasta_end.specs.MakeRule.{contents}
 use Rattle.rasta_end.specs.Units.{all_units_conveyed, conveyed, units_after, responses_in, responses_after}
 use Rattle.rasta_end.specs.Kept.{made_of, conveyed_of, quiet_made, quiet_count, quiet_units, OwnPdus}
 use Rattle.rasta_end.proofs.Conveying.{all_units-push, responses_in-push, more_asks}
@@ -49,25 +48,25 @@ responses-pushed q ms m =
     ap (λ ns. responses_in (kinds ns)) (made-push q ms m)
     ∙ (ap responses_in (kinds-push (quiet_made q ++ map made_of ms) (made_of m)) ∙ responses_in-push (kinds (quiet_made q ++ map made_of ms)) (made_of m).pdu.kind)
 
-contents-data : (ms : List Made) (m : Made) → is_data m.pdu.kind ≡ true → contents (ms ++ m ∷ []) ≡ contents ms ++ content_of m.pdu.body ∷ []
+contents-data : (ms : List Made) (m : Made) → is_kind Data m.pdu.kind ≡ true → contents (ms ++ m ∷ []) ≡ contents ms ++ content_of m.pdu.body ∷ []
 contents-data [] m e = rw e refl
-contents-data (n ∷ ms) m e = by (is_data n.pdu.kind) refl (contents-data ms m e)
+contents-data (n ∷ ms) m e = by (is_kind Data n.pdu.kind) refl (contents-data ms m e)
   where
-    by : (b : Bool) → is_data n.pdu.kind ≡ b → contents (ms ++ m ∷ []) ≡ contents ms ++ content_of m.pdu.body ∷ []
+    by : (b : Bool) → is_kind Data n.pdu.kind ≡ b → contents (ms ++ m ∷ []) ≡ contents ms ++ content_of m.pdu.body ∷ []
         → contents (n ∷ (ms ++ m ∷ [])) ≡ contents (n ∷ ms) ++ content_of m.pdu.body ∷ []
     by true h r = rw h (ap (λ ws. content_of n.pdu.body ∷ ws) r)
     by false h r = rw h r
 
-contents-other : (ms : List Made) (m : Made) → is_data m.pdu.kind ≡ false → contents (ms ++ m ∷ []) ≡ contents ms
+contents-other : (ms : List Made) (m : Made) → is_kind Data m.pdu.kind ≡ false → contents (ms ++ m ∷ []) ≡ contents ms
 contents-other [] m e = rw e refl
-contents-other (n ∷ ms) m e = by (is_data n.pdu.kind) refl (contents-other ms m e)
+contents-other (n ∷ ms) m e = by (is_kind Data n.pdu.kind) refl (contents-other ms m e)
   where
-    by : (b : Bool) → is_data n.pdu.kind ≡ b → contents (ms ++ m ∷ []) ≡ contents ms → contents (n ∷ (ms ++ m ∷ [])) ≡ contents (n ∷ ms)
+    by : (b : Bool) → is_kind Data n.pdu.kind ≡ b → contents (ms ++ m ∷ []) ≡ contents ms → contents (n ∷ (ms ++ m ∷ [])) ≡ contents (n ∷ ms)
     by true h r = rw h (ap (λ ws. content_of n.pdu.body ∷ ws) r)
     by false h r = rw h r
 
 contents-pushed : (q : Option QuietPdu) (ms : List MadePdu) (m : MadePdu) (cs : List (Bor (List ℕ))) (c : Bor (List ℕ))
-    → is_data (made_of m).pdu.kind ≡ true → c.now ≡ content_of (made_of m).pdu.body
+    → is_kind Data (made_of m).pdu.kind ≡ true → c.now ≡ content_of (made_of m).pdu.body
     → map (λ (b : Bor (List ℕ)). b.now) cs ≡ contents (quiet_made q ++ map made_of ms)
     → map (λ (b : Bor (List ℕ)). b.now) (cs ++ c ∷ []) ≡ contents (quiet_made q ++ map made_of (ms ++ m ∷ []))
 contents-pushed q ms m cs c e d h =
@@ -76,11 +75,11 @@ contents-pushed q ms m cs c e d h =
     ∙ (ap (λ w. contents (quiet_made q ++ map made_of ms) ++ w ∷ []) d
     ∙ (sym (contents-data (quiet_made q ++ map made_of ms) (made_of m) e) ∙ ap contents (sym (made-push q ms m)))))
 
-pub not-response : (n : ℕ) (k : Kind) → is_retransmission_response k ≡ false → responses_after n k ≡ n
+pub not-response : (n : ℕ) (k : Kind) → is_kind RetransmissionResponse k ≡ false → responses_after n k ≡ n
 not-response n RetransmissionResponse e = absurd (cc)
 not-response n _ e = refl
 
-pub one-response : (n : ℕ) (k : Kind) → is_retransmission_response k ≡ true → responses_after n k ≡ suc n
+pub one-response : (n : ℕ) (k : Kind) → is_kind RetransmissionResponse k ≡ true → responses_after n k ≡ suc n
 one-response n RetransmissionResponse e = refl
 one-response n ConnectionRequest e = absurd (cc)
 one-response n ConnectionResponse e = absurd (cc)
@@ -90,7 +89,7 @@ one-response n Heartbeat e = absurd (cc)
 one-response n Data e = absurd (cc)
 one-response n RetransmittedData e = absurd (cc)
 
-pub data-not-response : (k : Kind) → is_data k ≡ true → is_retransmission_response k ≡ false
+pub data-not-response : (k : Kind) → is_kind Data k ≡ true → is_kind RetransmissionResponse k ≡ false
 data-not-response Data e = refl
 data-not-response RetransmissionResponse e = absurd (cc)
 data-not-response ConnectionRequest e = absurd (cc)
@@ -100,7 +99,7 @@ data-not-response DisconnectionRequest e = absurd (cc)
 data-not-response Heartbeat e = absurd (cc)
 data-not-response RetransmittedData e = absurd (cc)
 
-pub response-not-data : (k : Kind) → is_retransmission_response k ≡ true → is_data k ≡ false
+pub response-not-data : (k : Kind) → is_kind RetransmissionResponse k ≡ true → is_kind Data k ≡ false
 response-not-data RetransmissionResponse e = refl
 response-not-data Data e = absurd (cc)
 response-not-data ConnectionRequest e = absurd (cc)
@@ -111,7 +110,7 @@ response-not-data Heartbeat e = absurd (cc)
 response-not-data RetransmittedData e = absurd (cc)
 
 contents-stay : (q : Option QuietPdu) (ms : List MadePdu) (m : MadePdu) (cs : List (Bor (List ℕ)))
-    → is_data (made_of m).pdu.kind ≡ false
+    → is_kind Data (made_of m).pdu.kind ≡ false
     → map (λ (b : Bor (List ℕ)). b.now) cs ≡ contents (quiet_made q ++ map made_of ms)
     → map (λ (b : Bor (List ℕ)). b.now) cs ≡ contents (quiet_made q ++ map made_of (ms ++ m ∷ []))
 contents-stay q ms m cs e h = h ∙ (sym (contents-other (quiet_made q ++ map made_of ms) (made_of m) e) ∙ ap contents (sym (made-push q ms m)))
@@ -138,22 +137,22 @@ units-push q ms ns m o asks items view h k kind e =
     now = subst (λ (j : Kind). m.conveyed ≡ units_after asks (all_units_conveyed asks (kinds (quiet_made q ++ map made_of ms))) (conveyed asks (kinds (quiet_made q ++ map made_of ms))).responses j) (sym kind) there
 
 pub contents-push : (q : Option QuietPdu) (ms ns : List MadePdu) (m : MadePdu) (cs ds : List (Bor (List ℕ))) (c : Bor (List ℕ)) → ns ≡ ms ++ m ∷ [] → ds ≡ cs ++ c ∷ []
-    → is_data (made_of m).pdu.kind ≡ true → c.now ≡ content_of (made_of m).pdu.body → contents_in_step q ms cs → contents_in_step q ns ds
+    → is_kind Data (made_of m).pdu.kind ≡ true → c.now ≡ content_of (made_of m).pdu.body → contents_in_step q ms cs → contents_in_step q ns ds
 contents-push q ms ns m cs ds c items stored e d h =
     subst (λ (l : List MadePdu). contents_in_step q l ds) (sym items) (subst (λ (l : List (Bor (List ℕ))). contents_in_step q (ms ++ m ∷ []) l) (sym stored) (contents-pushed q ms m cs c e d h))
 
 pub contents-kept : (q : Option QuietPdu) (ms ns : List MadePdu) (m : MadePdu) (cs : List (Bor (List ℕ))) → ns ≡ ms ++ m ∷ []
-    → is_data (made_of m).pdu.kind ≡ false → contents_in_step q ms cs → contents_in_step q ns cs
+    → is_kind Data (made_of m).pdu.kind ≡ false → contents_in_step q ms cs → contents_in_step q ns cs
 contents-kept q ms ns m cs items e h = subst (λ (l : List MadePdu). contents_in_step q l cs) (sym items) (contents-stay q ms m cs e h)
 
 pub responses-kept : (q : Option QuietPdu) (ms ns : List MadePdu) (m : MadePdu) (n : ℕ) → ns ≡ ms ++ m ∷ []
-    → is_retransmission_response (made_of m).pdu.kind ≡ false → n ≡ responses_in (kinds (quiet_made q ++ map made_of ms)) → n ≡ responses_in (kinds (quiet_made q ++ map made_of ns))
+    → is_kind RetransmissionResponse (made_of m).pdu.kind ≡ false → n ≡ responses_in (kinds (quiet_made q ++ map made_of ms)) → n ≡ responses_in (kinds (quiet_made q ++ map made_of ns))
 responses-kept q ms ns m n items e h =
     subst (λ (l : List MadePdu). n ≡ responses_in (kinds (quiet_made q ++ map made_of l))) (sym items)
     (h ∙ sym (responses-pushed q ms m ∙ not-response (responses_in (kinds (quiet_made q ++ map made_of ms))) (made_of m).pdu.kind e))
 
 pub responses-push : (q : Option QuietPdu) (ms ns : List MadePdu) (m : MadePdu) (n : ℕ) → ns ≡ ms ++ m ∷ []
-    → is_retransmission_response (made_of m).pdu.kind ≡ true → n ≡ responses_in (kinds (quiet_made q ++ map made_of ms)) → n + 1 ≡ responses_in (kinds (quiet_made q ++ map made_of ns))
+    → is_kind RetransmissionResponse (made_of m).pdu.kind ≡ true → n ≡ responses_in (kinds (quiet_made q ++ map made_of ms)) → n + 1 ≡ responses_in (kinds (quiet_made q ++ map made_of ns))
 responses-push q ms ns m n items e h =
     subst (λ (l : List MadePdu). n + 1 ≡ responses_in (kinds (quiet_made q ++ map made_of l))) (sym items)
     (more ∙ sym (responses-pushed q ms m ∙ one-response (responses_in (kinds (quiet_made q ++ map made_of ms))) (made_of m).pdu.kind e))

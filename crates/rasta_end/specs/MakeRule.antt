@@ -1,5 +1,6 @@
 -- The make rule: which PDU an end may make, why, and what it is afterwards.
-use Rattle.std.specs.Prelude.{◌≡◌, ◌⊎◌, ℕ, suc, ◌+◌, ◌^◌, Bool, true, false, ◌&&◌, ◌||◌, not, if◌then◌else◌, nat_lt, ◌==◌, List, [], ◌∷◌, ◌++◌, length, Option, Some, None, slice_get, map, filter}
+use Rattle.std.specs.Prelude.{◌≡◌, ◌⊎◌, ℕ, suc, ◌+◌, ◌^◌, Bool, true, false, ◌&&◌, ◌||◌, not, if◌then◌else◌, nat_lt, ◌==◌, List, [], ◌∷◌, ◌++◌, length, Option, Some, None, slice_get, map, filter, drop, is_some, All, IsFalse, zip}
+use Rattle.std.specs.Option.{option_map_or}
 use Rattle.std.specs.Str.{bytes_eq}
 use Rattle.rasta_pcap.specs.declared.fault.Fault.{Fault}
 use Rattle.rasta_pcap.specs.Fault.{fault_of_end, no_memory, closed, not_allowed, reply_owed, sequence_number, clock_differs, clock_falls, past_deadline, too_early_timeout, confirmed_number, confirmed_time, resend_differs}
@@ -7,7 +8,7 @@ use Rattle.rasta_pcap.specs.declared.fault.Side.{Side}
 use Rattle.rasta_pdu.specs.declared.kind.Kind.{Kind}
 use Rattle.rasta_pdu.specs.declared.kind.Kind.TheVariants.{ConnectionRequest, ConnectionResponse, RetransmissionRequest, RetransmissionResponse, DisconnectionRequest, Heartbeat, Data, RetransmittedData}
 use Rattle.rasta_pdu.specs.Params.{Parameters}
-use Rattle.rasta_pdu.specs.Pdu.{SafetyPdu}
+use Rattle.rasta_pdu.specs.Pdu.{SafetyPdu, is_kind}
 use Rattle.rasta_end.specs.declared.phase.Phase.{Phase}
 use Rattle.rasta_end.specs.declared.phase.Phase.TheVariants.{Closed, Start}
 use Rattle.rasta_end.specs.declared.why.Why.{Why}
@@ -18,7 +19,7 @@ use Rattle.rasta_end.specs.declared.owed.Owed.{Owed}
 use Rattle.rasta_end.specs.declared.owed.Owed.TheVariants.{ConnectionResponse as OweConnectionResponse, FirstHeartbeat as OweFirstHeartbeat, RetransmissionResponse as OweRetransmissionResponse, Resend as OweResend, RetransmissionRequest as OweRetransmissionRequest}
 use Rattle.rasta_end.specs.declared.owed.Demand.{Demand}
 use Rattle.rasta_end.specs.declared.owed.Demand.TheVariants.{First, Nothing, Anything}
-use Rattle.rasta_end.specs.State.{Made, EndState, wrapped, sn_at, has_made, is_client, is_closed, is_start, is_up, is_connected, is_active, reason_of, content_of}
+use Rattle.rasta_end.specs.State.{Made, EndState, wrapped, sn_at, is_client, is_closed, is_start, is_up, is_connected, is_active, reason_of, content_of}
 
 abbrev pub row_where : Bool → MakeRow → Option MakeRow
 row_where true row = Some row
@@ -80,7 +81,7 @@ is_owing_else (Some row) owed = owes_else (demand_of row) owed
 
 -- the connection of this end is over
 abbrev pub has_ended : EndState → Bool
-has_ended e = is_closed e.phase && (not (is_client e.side) || has_made e.made)
+has_ended e = is_closed e.phase && (not (is_client e.side) || is_some (slice_get e.made 0))
 
 -- the next SN; the first is free
 abbrev pub is_next_sn : List Made → ℕ → Bool
@@ -101,21 +102,13 @@ abbrev pub is_expired : Why → Bool
 is_expired Expired = true
 is_expired _ = false
 
-abbrev pub is_connection_request : Kind → Bool
-is_connection_request ConnectionRequest = true
-is_connection_request _ = false
-
-abbrev pub is_disconnection_request : Kind → Bool
-is_disconnection_request DisconnectionRequest = true
-is_disconnection_request _ = false
-
 -- a client that was never answered gives up
 abbrev pub gives_up : EndState → Kind → Bool
-gives_up e kind = is_disconnection_request kind && (e.accepted == 0 && (is_client e.side && is_start e.phase))
+gives_up e kind = is_kind DisconnectionRequest kind && (e.accepted == 0 && (is_client e.side && is_start e.phase))
 
 -- CS and CTS are judged: of all but a connection request and the disconnection request of a client that gives up
 abbrev pub is_judged : EndState → Kind → Bool
-is_judged e kind = not (is_connection_request kind) && not (gives_up e kind)
+is_judged e kind = not (is_kind ConnectionRequest kind) && not (gives_up e kind)
 
 -- CS is the SN of the last accepted PDU
 abbrev pub confirms_last : EndState → ℕ → Bool
@@ -129,53 +122,38 @@ is_there (Some m) n = m == n
 abbrev pub confirms_a_time : EndState → ℕ → Bool
 confirms_a_time e cts = (not (e.accepted == 0) && cts == e.last_ts) || (is_there e.timed_ts cts || is_there e.handed_ts cts)
 
-abbrev pub is_data : Kind → Bool
-is_data Data = true
-is_data _ = false
-
 -- the contents of the units offered, in order
 abbrev pub contents : List Made → List (List ℕ)
-contents ms = map (λ (m : Made). content_of m.pdu.body) (filter (λ (m : Made). is_data m.pdu.kind) ms)
-
-abbrev pub is_content : Option (List ℕ) → List ℕ → Bool
-is_content None content = false
-is_content (Some unit) content = bytes_eq unit content
+contents ms = map (λ (m : Made). content_of m.pdu.body) (filter (λ (m : Made). is_kind Data m.pdu.kind) ms)
 
 -- retransmitted data with other messages than those of its unit
 abbrev pub differs : List Made → Option MakeRow → List ℕ → Bool
-differs made (Some (Resends unit)) content = not (is_content (slice_get (contents made) unit) content)
+differs made (Some (Resends unit)) content = not (option_map_or (λ (own : List ℕ). bytes_eq own content) (slice_get (contents made) unit) false)
 differs made _ content = false
 
 abbrev pub row_of : EndState → SafetyPdu → Why → Option MakeRow
 row_of e x why = make_row e.side e.phase (reason_of x.body) why x.kind
 
--- why an end may not make this PDU, in the order in which it is judged
-abbrev pub make_faults : Parameters → EndState → SafetyPdu → ℕ → Why → List (Bool × ℕ)
-make_faults p e x clock why =
-    (has_ended e, closed)
-    ∷ (is_refused_row (row_of e x why) e.owed, not_allowed)
-    ∷ (is_owing_else (row_of e x why) e.owed, reply_owed)
-    ∷ (not (is_next_sn e.made x.sn), sequence_number)
-    ∷ (not (x.ts == wrapped clock), clock_differs)
-    ∷ (nat_lt clock e.clock, clock_falls)
-    ∷ (not (is_expired why) && is_past p e.deadline clock, past_deadline)
-    ∷ (is_expired why && is_early p e.deadline clock, too_early_timeout)
-    ∷ (is_judged e x.kind && not (confirms_last e x.cs), confirmed_number)
-    ∷ (is_judged e x.kind && not (confirms_a_time e x.cts), confirmed_time)
-    ∷ (differs e.made (row_of e x why) (content_of x.body), resend_differs)
+-- what keeps an end from making this PDU, in the order in which it is judged
+abbrev pub make_tests : Parameters → EndState → SafetyPdu → ℕ → Why → List Bool
+make_tests p e x clock why =
+    has_ended e
+    ∷ is_refused_row (row_of e x why) e.owed
+    ∷ is_owing_else (row_of e x why) e.owed
+    ∷ not (is_next_sn e.made x.sn)
+    ∷ not (x.ts == wrapped clock)
+    ∷ nat_lt clock e.clock
+    ∷ (not (is_expired why) && is_past p e.deadline clock)
+    ∷ (is_expired why && is_early p e.deadline clock)
+    ∷ (is_judged e x.kind && not (confirms_last e x.cs))
+    ∷ (is_judged e x.kind && not (confirms_a_time e x.cts))
+    ∷ differs e.made (row_of e x why) (content_of x.body)
     ∷ []
 
 -- what stands beside the first test that holds
 abbrev pub first_that_holds : {A : Type 0} → List (Bool × A) → Option A
 first_that_holds [] = None
 first_that_holds (t ∷ ts) = if t.0 then Some t.1 else first_that_holds ts
-
-abbrev pub make_fault : Parameters → EndState → SafetyPdu → ℕ → Why → Option ℕ
-make_fault p e x clock why = first_that_holds (make_faults p e x clock why)
-
-abbrev pub without_first : List Owed → List Owed
-without_first [] = []
-without_first (o ∷ os) = os
 
 -- the make table: phase afterwards
 abbrev pub phase_after : MakeRow → Phase → Phase
@@ -186,11 +164,11 @@ phase_after _ phase = phase
 
 -- the make table: what is owed afterwards; what was made is taken off
 abbrev pub owed_after : MakeRow → List Owed → List Owed
-owed_after Answers owed = without_first owed
-owed_after StartsBeating owed = without_first owed
-owed_after Returns owed = without_first owed
-owed_after (Resends unit) owed = without_first owed
-owed_after Requests owed = without_first owed
+owed_after Answers owed = drop 1 owed
+owed_after StartsBeating owed = drop 1 owed
+owed_after Returns owed = drop 1 owed
+owed_after (Resends unit) owed = drop 1 owed
+owed_after Requests owed = drop 1 owed
 owed_after Leaves owed = []
 owed_after TimesOut owed = []
 owed_after _ owed = owed
@@ -221,7 +199,16 @@ after_make e x clock why = after_make_by (row_of e x why) e x clock
 
 -- the make rule: this end makes this PDU at this clock for this reason, and is that end afterwards
 abbrev pub Makes : Parameters → EndState → SafetyPdu → ℕ → Why → EndState → Type 0
-Makes p e x clock why e' = (make_fault p e x clock why ≡ None) × (e' ≡ after_make e x clock why)
+Makes p e x clock why e' = All IsFalse (make_tests p e x clock why) × (e' ≡ after_make e x clock why)
+
+-- the number of each of these tests
+abbrev pub make_numbers : List ℕ
+make_numbers =
+    closed ∷ not_allowed ∷ reply_owed ∷ sequence_number ∷ clock_differs ∷ clock_falls ∷ past_deadline ∷ too_early_timeout ∷ confirmed_number ∷ confirmed_time ∷ resend_differs ∷ []
+
+-- the first fault of a make
+abbrev pub make_fault : Parameters → EndState → SafetyPdu → ℕ → Why → Option ℕ
+make_fault p e x clock why = first_that_holds (zip (make_tests p e x clock why) make_numbers)
 
 -- what a refused make answers: the first fault, else out of memory
 abbrev pub IsMakeRefusal : Parameters → EndState → SafetyPdu → ℕ → Why → Fault → Type 0

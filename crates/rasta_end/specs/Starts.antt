@@ -1,5 +1,5 @@
 -- Where an end begins: before the opening of the connection, or at a recorded quiet point.
-use Rattle.std.specs.Prelude.{ℕ, ◌+◌, ◌%◌, ◌^◌, [], ◌∷◌, Option, Some, None}
+use Rattle.std.specs.Prelude.{ℕ, ◌+◌, ◌%◌, ◌^◌, [], ◌∷◌, Option, Some, None, option_map}
 use Rattle.rasta_pcap.specs.declared.fault.Side.{Side}
 use Rattle.rasta_pcap.specs.declared.fault.Side.TheVariants.{Client, Server}
 use Rattle.rasta_pdu.specs.declared.kind.Kind.TheVariants.{Heartbeat}
@@ -42,10 +42,6 @@ sn_before sn = (sn + 4294967295) % 2 ^ 32
 abbrev pub quiet_pdu : QuietEnd → QuietEnd → SafetyPdu
 quiet_pdu own other = record { kind = Heartbeat; sn = sn_before own.next_sn; cs = sn_before other.next_sn; ts = wrapped own.clock; cts = wrapped other.clock; body = Empty }
 
-abbrev pub moved_deadline : Option ℕ → Option ℕ
-moved_deadline None = None
-moved_deadline (Some deadline) = Some (deadline + 2 ^ 32)
-
 -- an end at the quiet point: connected, with its quiet PDU made and confirmed and that of its peer accepted
 abbrev pub quiet_end : Side → QuietEnd → QuietEnd → EndState
 quiet_end side own other = record (fresh_end side Up) {
@@ -57,7 +53,7 @@ quiet_end side own other = record (fresh_end side Up) {
   timed_ts = Some (wrapped other.clock);
   handed_ts = other.handed_ts;
   clock = own.clock;
-  deadline = moved_deadline own.deadline;
+  deadline = option_map (λ n. n + 2 ^ 32) own.deadline;
 }
 
 abbrev pub start_by : Option Quiet → Side → EndState

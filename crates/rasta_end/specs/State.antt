@@ -54,10 +54,6 @@ sn_at made position = wrapped (first_sn made + position)
 abbrev pub kinds : List Made → List Kind
 kinds ms = map (λ (m : Made). m.pdu.kind) ms
 
-abbrev pub has_made : List Made → Bool
-has_made [] = false
-has_made (m ∷ ms) = true
-
 abbrev pub is_owing : List Owed → Bool
 is_owing [] = false
 is_owing (o ∷ os) = true

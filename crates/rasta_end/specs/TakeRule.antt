@@ -4,9 +4,9 @@ use Rattle.rasta_pcap.specs.Fault.{fault_of_end, no_memory, reply_owed, past_dea
 use Rattle.rasta_pcap.specs.declared.fault.Fault.{Fault}
 use Rattle.rasta_pcap.specs.declared.fault.Side.{Side}
 use Rattle.rasta_pdu.specs.declared.kind.Kind.{Kind}
-use Rattle.rasta_pdu.specs.declared.kind.Kind.TheVariants.{ConnectionResponse, RetransmissionRequest, RetransmissionResponse, Heartbeat, Data, RetransmittedData}
+use Rattle.rasta_pdu.specs.declared.kind.Kind.TheVariants.{ConnectionResponse, RetransmissionRequest, RetransmissionResponse, Heartbeat, Data, RetransmittedData, ConnectionRequest, DisconnectionRequest}
 use Rattle.rasta_pdu.specs.Params.{Parameters}
-use Rattle.rasta_pdu.specs.Pdu.{SafetyPdu}
+use Rattle.rasta_pdu.specs.Pdu.{SafetyPdu, is_kind}
 use Rattle.rasta_end.specs.declared.phase.Phase.{Phase}
 use Rattle.rasta_end.specs.declared.phase.Phase.TheVariants.{Closed, Start, Up, RetrReq, RetrRun}
 use Rattle.rasta_end.specs.declared.take_row.TakeRow.{TakeRow}
@@ -15,7 +15,7 @@ use Rattle.rasta_end.specs.declared.owed.Owed.{Owed}
 use Rattle.rasta_end.specs.declared.owed.Owed.TheVariants.{ConnectionResponse as OweConnectionResponse, FirstHeartbeat as OweFirstHeartbeat, RetransmissionResponse as OweRetransmissionResponse, Resend as OweResend, RetransmissionRequest as OweRetransmissionRequest}
 use Rattle.rasta_end.specs.Units.{units_conveyed}
 use Rattle.rasta_end.specs.State.{EndState, ahead_by, sn_at, kinds, is_owing, is_client, is_closed, is_down, is_start, is_up, is_retr_req, is_retr_run, is_flowing, is_active, is_timed, carries_unit}
-use Rattle.rasta_end.specs.MakeRule.{first_that_holds, is_past, is_connection_request, is_disconnection_request}
+use Rattle.rasta_end.specs.MakeRule.{first_that_holds, is_past}
 
 -- how many steps after the next position of the peer the PDU stands, modulo 2^32
 abbrev pub steps_past_next : EndState → SafetyPdu → ℕ
@@ -35,46 +35,26 @@ steps_past_confirmed e x = ahead_by x.cs (sn_at e.made e.confirmed)
 abbrev pub is_valid : EndState → SafetyPdu → Bool
 is_valid e x = nat_lt (steps_past_confirmed e x) (ahead_by (sn_at e.made (length e.made)) (sn_at e.made e.confirmed))
 
-abbrev pub is_connection_response : Kind → Bool
-is_connection_response ConnectionResponse = true
-is_connection_response _ = false
-
-abbrev pub is_heartbeat : Kind → Bool
-is_heartbeat Heartbeat = true
-is_heartbeat _ = false
-
 abbrev pub is_heartbeat_or_data : Kind → Bool
 is_heartbeat_or_data Heartbeat = true
 is_heartbeat_or_data Data = true
 is_heartbeat_or_data _ = false
 
-abbrev pub is_retransmitted_data : Kind → Bool
-is_retransmitted_data RetransmittedData = true
-is_retransmitted_data _ = false
-
-abbrev pub is_retransmission_request : Kind → Bool
-is_retransmission_request RetransmissionRequest = true
-is_retransmission_request _ = false
-
-abbrev pub is_retransmission_response : Kind → Bool
-is_retransmission_response RetransmissionResponse = true
-is_retransmission_response _ = false
-
 -- the take table: phase and PDU of each row; next: the PDU is in sequence, ahead: it stands ahead, valid: its CS is valid
 abbrev pub take_rows : Side → Phase → Kind → Bool → Bool → Bool → List (Bool × TakeRow)
 take_rows side phase kind next ahead valid =
-    (is_down phase && is_connection_request kind, Opened)
-    ∷ (is_start phase && (is_client side && (is_connection_response kind && valid)), Answered)
-    ∷ (is_start phase && (not (is_client side) && (is_heartbeat kind && (next && valid))), FirstHeartbeat)
+    (is_down phase && is_kind ConnectionRequest kind, Opened)
+    ∷ (is_start phase && (is_client side && (is_kind ConnectionResponse kind && valid)), Answered)
+    ∷ (is_start phase && (not (is_client side) && (is_kind Heartbeat kind && (next && valid))), FirstHeartbeat)
     ∷ (is_flowing phase && (is_heartbeat_or_data kind && (next && valid)), InSequence)
-    ∷ (is_retr_run phase && (is_retransmitted_data kind && (next && valid)), ResentInSequence)
+    ∷ (is_retr_run phase && (is_kind RetransmittedData kind && (next && valid)), ResentInSequence)
     ∷ (is_up phase && (is_heartbeat_or_data kind && (ahead && valid)), Gap)
     ∷ (is_retr_run phase && (is_timed kind && (ahead && valid)), GapInRetransmission)
-    ∷ (is_retr_req phase && (is_retransmission_response kind && valid), Resumed)
-    ∷ (is_flowing phase && (is_retransmission_request kind && (next && valid)), Requested)
-    ∷ (is_flowing phase && (is_retransmission_request kind && (ahead && valid)), RequestedAhead)
-    ∷ (is_retr_req phase && (is_retransmission_request kind && (ahead && valid)), RequestedAgain)
-    ∷ (is_active phase && is_disconnection_request kind, Disconnected)
+    ∷ (is_retr_req phase && (is_kind RetransmissionResponse kind && valid), Resumed)
+    ∷ (is_flowing phase && (is_kind RetransmissionRequest kind && (next && valid)), Requested)
+    ∷ (is_flowing phase && (is_kind RetransmissionRequest kind && (ahead && valid)), RequestedAhead)
+    ∷ (is_retr_req phase && (is_kind RetransmissionRequest kind && (ahead && valid)), RequestedAgain)
+    ∷ (is_active phase && is_kind DisconnectionRequest kind, Disconnected)
     ∷ []
 
 -- the deadline that a confirmed time sets: T_max after the greatest number that is not above the clock and congruent

@@ -63,7 +63,7 @@ fn sn_before(sn: u32) -> u32
 }
 
 fn moved_deadline(deadline: Option<u64>) -> Option<u128>
-    ensures value { result ≡ Starts.moved_deadline deadline }
+    ensures value { result ≡ option_map (λ n. n + 2 ^ 32) deadline }
     ensures bound { IfSome result (λ d. d < 2 ^ 66) }
 {
     match deadline {

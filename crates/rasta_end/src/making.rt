@@ -14,7 +14,6 @@ use crate::make_row::{MakeRow, is_client};
 use crate::owed::{Demand, Owes};
 use crate::own::content;
 use crate::phase::Phase;
-use crate::take_row::{is_connection_request, is_disconnection_request};
 use crate::why::Why;
 use rasta_pdu::{Body, Fault, Kind, Pdu};
 use std::alloc::AllocError;
@@ -133,9 +132,9 @@ impl<'a> End<'a> {
     fn is_judged(&self, kind: Kind) -> bool
         ensures { result ≡ MakeRule.is_judged self.now.state kind }
     {
-        let gives_up = is_disconnection_request(kind)
+        let gives_up = kind.is(Kind::DisconnectionRequest)
             & ((self.accepted == 0) & (is_client(self.side) & self.phase.is_start()));
-        !is_connection_request(kind) & !gives_up
+        !kind.is(Kind::ConnectionRequest) & !gives_up
     }
 
     fn confirms_last(&self, cs: u32) -> bool

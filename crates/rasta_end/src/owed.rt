@@ -1,8 +1,8 @@
 //! What an end owes.
-ghost use Rattle.std.specs.Prelude.{◌≡◌, ◌<◌, ◌+◌, ◌^◌, ◌≤◌, not, length, [], ◌∷◌, None, Some};
+ghost use Rattle.std.specs.Prelude.{◌≡◌, ◌<◌, ◌+◌, ◌^◌, ◌≤◌, not, length, drop, [], ◌∷◌, None, Some};
 ghost use Rattle.rasta_end.specs.State.{is_owing};
 ghost use Rattle.rasta_end.specs.MakeRule;
-ghost use Rattle.rasta_end.specs.MakeRule.{demand_of, without_first};
+ghost use Rattle.rasta_end.specs.MakeRule.{demand_of};
 ghost use Rattle.rasta_end.specs.Kept.{owed_list, owed_reply, owed_request, first_owed};
 
 use crate::make_row::MakeRow;
@@ -178,7 +178,7 @@ impl Owes {
     /// What is left once the first was made.
     pub fn without_first(self) -> Owes
         requires { self.unit + self.units < 2 ^ 64 }
-        ensures list { owed_list result ≡ without_first (owed_list self) }
+        ensures list { owed_list result ≡ drop 1 (owed_list self) }
         ensures reply { result.reply ≡ None }
         ensures units { result.unit + result.units ≤ self.unit + self.units }
     {

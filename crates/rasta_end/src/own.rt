@@ -1,12 +1,11 @@
 //! The PDUs that an end made, and the asks that it answers.
 ghost use Rattle.std.specs.Prelude.{true, false, ◌≡◌, ◌≤◌, ◌<◌, ◌+◌, ◌^◌, length, [], ◌∷◌, ◌++◌, slice_get, option_map, OnOk, OnErr, if◌then◌else◌};
 ghost use Rattle.std.specs.Borrow.{Bor};
-ghost use Rattle.rasta_pdu.specs.Pdu.{value_of};
+ghost use Rattle.rasta_pdu.specs.Pdu.{value_of, is_kind};
+ghost use Rattle.rasta_pdu.specs.declared.kind.Kind.TheVariants.{RetransmissionResponse, Data};
 ghost use Rattle.rasta_end.specs.State;
-ghost use Rattle.rasta_end.specs.State.{kinds, has_made};
-ghost use Rattle.rasta_end.specs.MakeRule;
+ghost use Rattle.rasta_end.specs.State.{kinds};
 ghost use Rattle.rasta_end.specs.MakeRule.{contents};
-ghost use Rattle.rasta_end.specs.TakeRule;
 ghost use Rattle.rasta_end.specs.Units;
 ghost use Rattle.rasta_end.specs.Units.{units_conveyed, all_units_conveyed, conveyed, last_of, responses_in};
 ghost use Rattle.rasta_end.specs.Kept.{made_of, quiet_made, quiet_count, OwnPdus};
@@ -61,18 +60,6 @@ pub fn content<'a>(pdu: &Pdu<'a>) -> &'a [u8]
         Body::Messages(payload) => payload,
         _ => &[],
     }
-}
-
-fn is_data(kind: Kind) -> bool
-    ensures { result ≡ MakeRule.is_data kind }
-{
-    matches!(kind, Kind::Data)
-}
-
-fn is_retransmission_response(kind: Kind) -> bool
-    ensures { result ≡ TakeRule.is_retransmission_response kind }
-{
-    matches!(kind, Kind::RetransmissionResponse)
 }
 
 impl<'a> Own<'a> {
@@ -209,7 +196,7 @@ impl<'a> Own<'a> {
     }
 
     fn push_data(&mut self, pdu: &Pdu<'a>, unit: Option<usize>) -> Result<(), AllocError>
-        requires { MakeRule.is_data (value_of pdu.now).safety.kind ≡ true }
+        requires { is_kind Data (value_of pdu.now).safety.kind ≡ true }
         ensures room { length self.old.made + 2 ^ 33 < 2 ^ 64 }
         ensures ok { OnOk result (self.new ≡ record self.old { made = self.old.made ++ record { pdu = (value_of pdu.now).safety; unit = unit } ∷ [] }) }
         ensures err { OnErr result (self.new ≡ self.old) }
@@ -224,7 +211,7 @@ impl<'a> Own<'a> {
     }
 
     fn push_response(&mut self, pdu: &Pdu<'a>, unit: Option<usize>) -> Result<(), AllocError>
-        requires { TakeRule.is_retransmission_response (value_of pdu.now).safety.kind ≡ true }
+        requires { is_kind RetransmissionResponse (value_of pdu.now).safety.kind ≡ true }
         ensures room { length self.old.made + 2 ^ 33 < 2 ^ 64 }
         ensures ok { OnOk result (self.new ≡ record self.old { made = self.old.made ++ record { pdu = (value_of pdu.now).safety; unit = unit } ∷ [] }) }
         ensures err { OnErr result (self.new ≡ self.old) }
@@ -238,8 +225,8 @@ impl<'a> Own<'a> {
     }
 
     fn push_other(&mut self, pdu: &Pdu<'a>, unit: Option<usize>) -> Result<(), AllocError>
-        requires data { MakeRule.is_data (value_of pdu.now).safety.kind ≡ false }
-        requires response { TakeRule.is_retransmission_response (value_of pdu.now).safety.kind ≡ false }
+        requires data { is_kind Data (value_of pdu.now).safety.kind ≡ false }
+        requires response { is_kind RetransmissionResponse (value_of pdu.now).safety.kind ≡ false }
         ensures room { length self.old.made + 2 ^ 33 < 2 ^ 64 }
         ensures ok { OnOk result (self.new ≡ record self.old { made = self.old.made ++ record { pdu = (value_of pdu.now).safety; unit = unit } ∷ [] }) }
         ensures err { OnErr result (self.new ≡ self.old) }
@@ -258,9 +245,9 @@ impl<'a> Own<'a> {
         ensures err { OnErr result (self.new ≡ self.old) }
     {
         let kind = pdu.kind();
-        if is_data(kind) {
+        if kind.is(Kind::Data) {
             self.push_data(pdu, unit)
-        } else if is_retransmission_response(kind) {
+        } else if kind.is(Kind::RetransmissionResponse) {
             self.push_response(pdu, unit)
         } else {
             self.push_other(pdu, unit)

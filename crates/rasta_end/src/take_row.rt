@@ -37,60 +37,11 @@ pub enum TakeRow {
     Disconnected,
 }
 
-/// Whether this is the type of a connection request.
-pub fn is_connection_request(kind: Kind) -> bool
-    ensures { result ≡ MakeRule.is_connection_request kind }
-{
-    matches!(kind, Kind::ConnectionRequest)
-}
-
-/// Whether this is the type of a connection response.
-pub fn is_connection_response(kind: Kind) -> bool
-    ensures { result ≡ TakeRule.is_connection_response kind }
-{
-    matches!(kind, Kind::ConnectionResponse)
-}
-
-/// Whether this is the type of a disconnection request.
-pub fn is_disconnection_request(kind: Kind) -> bool
-    ensures { result ≡ MakeRule.is_disconnection_request kind }
-{
-    matches!(kind, Kind::DisconnectionRequest)
-}
-
-/// Whether this is the type of a heartbeat.
-pub fn is_heartbeat(kind: Kind) -> bool
-    ensures { result ≡ TakeRule.is_heartbeat kind }
-{
-    matches!(kind, Kind::Heartbeat)
-}
-
 /// Whether this is the type of a heartbeat or of data that is sent for the first time.
 pub fn is_heartbeat_or_data(kind: Kind) -> bool
     ensures { result ≡ TakeRule.is_heartbeat_or_data kind }
 {
     matches!(kind, Kind::Heartbeat | Kind::Data)
-}
-
-/// Whether this is the type of data that is sent again.
-pub fn is_retransmitted_data(kind: Kind) -> bool
-    ensures { result ≡ TakeRule.is_retransmitted_data kind }
-{
-    matches!(kind, Kind::RetransmittedData)
-}
-
-/// Whether this is the type of a retransmission request.
-pub fn is_retransmission_request(kind: Kind) -> bool
-    ensures { result ≡ TakeRule.is_retransmission_request kind }
-{
-    matches!(kind, Kind::RetransmissionRequest)
-}
-
-/// Whether this is the type of a retransmission response.
-pub fn is_retransmission_response(kind: Kind) -> bool
-    ensures { result ≡ TakeRule.is_retransmission_response kind }
-{
-    matches!(kind, Kind::RetransmissionResponse)
 }
 
 /// Whether PDUs of this type are time-relevant.
@@ -122,29 +73,29 @@ impl TakeRow {
         ensures valid { IfSome result (λ row. TakeRule.wants_valid row ≡ true → standing.valid ≡ true) }
     {
         let Standing { next, ahead, valid } = standing;
-        if phase.is_down() & is_connection_request(kind) {
+        if phase.is_down() & kind.is(Kind::ConnectionRequest) {
             Some(TakeRow::Opened)
-        } else if phase.is_start() & (is_client(side) & (is_connection_response(kind) & valid)) {
+        } else if phase.is_start() & (is_client(side) & (kind.is(Kind::ConnectionResponse) & valid)) {
             Some(TakeRow::Answered)
-        } else if phase.is_start() & (!is_client(side) & (is_heartbeat(kind) & (next & valid))) {
+        } else if phase.is_start() & (!is_client(side) & (kind.is(Kind::Heartbeat) & (next & valid))) {
             Some(TakeRow::FirstHeartbeat)
         } else if phase.is_flowing() & (is_heartbeat_or_data(kind) & (next & valid)) {
             Some(TakeRow::InSequence)
-        } else if phase.is_retr_run() & (is_retransmitted_data(kind) & (next & valid)) {
+        } else if phase.is_retr_run() & (kind.is(Kind::RetransmittedData) & (next & valid)) {
             Some(TakeRow::ResentInSequence)
         } else if phase.is_up() & (is_heartbeat_or_data(kind) & (ahead & valid)) {
             Some(TakeRow::Gap)
         } else if phase.is_retr_run() & (is_timed(kind) & (ahead & valid)) {
             Some(TakeRow::GapInRetransmission)
-        } else if phase.is_retr_req() & (is_retransmission_response(kind) & valid) {
+        } else if phase.is_retr_req() & (kind.is(Kind::RetransmissionResponse) & valid) {
             Some(TakeRow::Resumed)
-        } else if phase.is_flowing() & (is_retransmission_request(kind) & (next & valid)) {
+        } else if phase.is_flowing() & (kind.is(Kind::RetransmissionRequest) & (next & valid)) {
             Some(TakeRow::Requested)
-        } else if phase.is_flowing() & (is_retransmission_request(kind) & (ahead & valid)) {
+        } else if phase.is_flowing() & (kind.is(Kind::RetransmissionRequest) & (ahead & valid)) {
             Some(TakeRow::RequestedAhead)
-        } else if phase.is_retr_req() & (is_retransmission_request(kind) & (ahead & valid)) {
+        } else if phase.is_retr_req() & (kind.is(Kind::RetransmissionRequest) & (ahead & valid)) {
             Some(TakeRow::RequestedAgain)
-        } else if phase.is_active() & is_disconnection_request(kind) {
+        } else if phase.is_active() & kind.is(Kind::DisconnectionRequest) {
             Some(TakeRow::Disconnected)
         } else {
             None

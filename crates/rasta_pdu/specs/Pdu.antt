@@ -57,6 +57,10 @@ type_of Heartbeat = 6220
 type_of Data = 6240
 type_of RetransmittedData = 6241
 
+-- the kind is the wanted one
+abbrev pub is_kind : Kind → Kind → Bool
+is_kind wanted kind = type_of kind == type_of wanted
+
 -- the kind that has a type number
 abbrev pub kind_of : ℕ → Option Kind
 kind_of number =

@@ -1,6 +1,6 @@
 //! The types of safety PDUs.
 ghost use Rattle.std.specs.Prelude.{◌≡◌};
-ghost use Rattle.rasta_pdu.specs.Pdu.{type_of, kind_of};
+ghost use Rattle.rasta_pdu.specs.Pdu.{type_of, is_kind, kind_of};
 
 /// The type of a PDU of the safety and retransmission layer.
 #[derive(Clone, Copy, Debug, PartialEq, Eq)]
@@ -47,5 +47,12 @@ impl Kind {
             Kind::Data => 6240,
             Kind::RetransmittedData => 6241,
         }
+    }
+
+    /// Whether it is the wanted kind.
+    pub fn is(self, wanted: Kind) -> bool
+        ensures { result ≡ is_kind wanted self }
+    {
+        self.number() == wanted.number()
     }
 }

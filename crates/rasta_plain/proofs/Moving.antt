@@ -23,6 +23,7 @@ use Rattle.rasta_plain.specs.declared.world.Move.{Move}
 use Rattle.rasta_plain.specs.declared.world.Move.TheVariants.{Make, Repeat, Arrive, Take, Wait}
 use Rattle.rasta_plain.specs.declared.world.PlainStation.TheInside.{Inside}
 use Rattle.rasta_end.specs.Judged.{JudgedEnd}
+use Rattle.rasta_end.proofs.MakeTests.{no_fault, no_test}
 use Rattle.rasta_check.specs.Capture.Crossing.{Spells}
 use Rattle.rasta_check.specs.Capture.Crossing.{IsRecorded}
 use Rattle.rasta_check.specs.Model.World.{Station, World, Move as Label, making, repeating, arriving, taking, waiting, Moves, makes, repeats, arrives, takes, waits, Step, client_moves, server_moves}
@@ -131,7 +132,7 @@ make_needs p b xs a a' ys (makes x because e on reserve check bytes mk sp rec) c
       subst (λ (zs : List ℕ). Spells p a.state.side r zs) (sym is.1) sp,
       refl,
       subst (λ (n : ℕ). IsRecorded p n) (sym is.0) rec,
-      subst (λ (w : Why). make_fault p a.state x a.clock w ≡ None) (sym is.2) mk.0,
+      subst (λ (w : Why). make_fault p a.state x a.clock w ≡ None) (sym is.2) (no_fault p a.state x a.clock because mk.0),
     )
 make_needs p b xs a a' ys (repeats at on old there side rec) channel payload why is = absurd is
 make_needs p b xs a a' ys (arrives at low within) channel payload why is = absurd is
@@ -148,7 +149,7 @@ pub make_made : (p : Parameters) (b a : Station) (xs : List Packet) (channel : �
     → Answers p b xs a (Make channel payload why) true (record a { state = after_make a.state r.safety a.clock why }) (xs ++ record { channel = channel; side = a.state.side; payload = payload.now } ∷ [])
 make_made p b a xs channel payload why r sp number rec calm = (
   making r.safety why channel r.reserve r.check_bytes,
-  makes r.safety why (after_make a.state r.safety a.clock why) channel r.reserve r.check_bytes payload.now (calm, refl)
+  makes r.safety why (after_make a.state r.safety a.clock why) channel r.reserve r.check_bytes payload.now (no_test p a.state r.safety a.clock why calm, refl)
       (subst (λ (n : ℕ). Spells p a.state.side (record { reserve = r.reserve; number = n; safety = r.safety; check_bytes = r.check_bytes }) payload.now) number sp) rec,
   (refl, refl, refl),
 )

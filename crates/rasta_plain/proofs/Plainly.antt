@@ -6,15 +6,13 @@ use mir.Val.{bool_byte}
 use Rattle.std.proofs.Math.Seq.{drop-cons}
 use Rattle.std.proofs.lemmas.List.{append-nil, take_min}
 use Rattle.rasta_pdu.specs.declared.kind.Kind.{Kind}
-use Rattle.rasta_pdu.specs.declared.kind.Kind.TheVariants.{RetransmissionResponse, Data, RetransmittedData}
-use Rattle.rasta_pdu.specs.Pdu.{SafetyPdu, value_of}
+use Rattle.rasta_pdu.specs.declared.kind.Kind.TheVariants.{RetransmissionResponse, Data, RetransmittedData, ConnectionRequest}
+use Rattle.rasta_pdu.specs.Pdu.{SafetyPdu, value_of, is_kind}
 use Rattle.rasta_pcap.specs.declared.fault.Side.{Side}
 use Rattle.rasta_pcap.specs.declared.fault.Side.TheVariants.{Client, Server}
 use Rattle.rasta_pdu.specs.Params.{Parameters}
 use Rattle.rasta_pdu.specs.declared.quiet_point.Quiet.{Quiet}
 use Rattle.rasta_end.specs.Starts.{start_of, start_by, quiet_pdu}
-use Rattle.rasta_end.specs.MakeRule.{is_data, is_connection_request}
-use Rattle.rasta_end.specs.TakeRule.{is_retransmission_response}
 use Rattle.rasta_end.specs.Units.{Conveyed, convey, units_after, units_at, last_of, responses_after}
 use Rattle.rasta_plain.specs.declared.taken.FirstCopy.{FirstCopy as PlainCopy}
 use Rattle.rasta_plain.specs.declared.taken.MadePdu.{MadePdu}
@@ -78,7 +76,7 @@ pub not_empty : (units : List ℕ) (b : Bool) → b ≡ (length units == 0) → 
 not_empty [] b is no_more = (let e : true ≡ false = sym is ∙ no_more in cc)
 not_empty (u ∷ us) b is no_more = omega arith
 
-pub responses-next : (n : ℕ) (kind : Kind) → responses_after n kind ≡ n + (if is_retransmission_response kind then 1 else 0)
+pub responses-next : (n : ℕ) (kind : Kind) → responses_after n kind ≡ n + (if is_kind RetransmissionResponse kind then 1 else 0)
 responses-next n RetransmissionResponse = omega arith
 responses-next n _ = omega arith
 
@@ -95,7 +93,7 @@ kinds_made own = map (λ (x : SafetyPdu). x.kind) (pdus own)
 
 -- one PDU more is conveyed
 pub conveyed-more : (asks units more : List ℕ) (own : List MadePdu) (i n responses after : ℕ) (d m : MadePdu) → i < length own → m ≡ get_or own i d
-    → n ≡ units_after asks units responses m.kind → more ≡ units ++ n ∷ [] → after ≡ responses + (if is_retransmission_response m.kind then 1 else 0)
+    → n ≡ units_after asks units responses m.kind → more ≡ units ++ n ∷ [] → after ≡ responses + (if is_kind RetransmissionResponse m.kind then 1 else 0)
     → fold (convey asks) (record { units = more; responses = after }) (kinds_made (drop (i + 1) own)) ≡ fold (convey asks) (record { units = units; responses = responses }) (kinds_made (drop i own))
 conveyed-more asks units more own i n responses after d m below is conveys pushed counted =
     ap (λ (ns : List ℕ). from ns after) (pushed ∙ ap (λ k. units ++ k ∷ []) conveys)
@@ -129,7 +127,7 @@ proof-here own peer unit copies i n d c below is shown test =
     ∙ ap (λ (cs : List PlainCopy). proof_place own peer unit (copies_of cs)) (sym (next_of copies i d c below is))
 
 data-apart : (c : FirstCopy) (cs : List FirstCopy) → data_copies (c ∷ cs) ≡ data_copies (c ∷ []) ++ data_copies cs
-data-apart c cs = by (is_data c.pdu.safety.kind)
+data-apart c cs = by (is_kind Data c.pdu.safety.kind)
   where
     by : (b : Bool) → cond b (c ∷ data_copies cs) (data_copies cs) ≡ cond b (c ∷ []) [] ++ data_copies cs
     by true = refl
@@ -171,9 +169,9 @@ ok_more (Err e) f h = tt
 -- ---- what is shown
 
 pub shown-at : (own peer : List SafetyPdu) (units : List ℕ) (x : SafetyPdu) (n : ℕ) (o : Option ℕ) → units ≡ units_along own peer → n ≡ units_at units o
-    → o ≡ cond (is_connection_request x.kind) None (position_with own x.cs) → n ≡ units_shown own peer x
+    → o ≡ cond (is_kind ConnectionRequest x.kind) None (position_with own x.cs) → n ≡ units_shown own peer x
 shown-at own peer units x n o same at position =
-    at ∙ ap (λ us. units_at us o) same ∙ ap (units_at (units_along own peer)) position ∙ by (is_connection_request x.kind)
+    at ∙ ap (λ us. units_at us o) same ∙ ap (units_at (units_along own peer)) position ∙ by (is_kind ConnectionRequest x.kind)
   where
     by : (b : Bool) → units_at (units_along own peer) (cond b None (position_with own x.cs)) ≡ (if b then 0 else units_at (units_along own peer) (position_with own x.cs))
     by true = refl
@@ -190,5 +188,5 @@ quiet-server p side q x e s is =
     ap (λ (y : SafetyPdu). y ∷ []) is ∙ sym (ap (λ (o : Option Quiet). pdus_made (start_by o side).made) e ∙ ap (λ (t : Side). pdus_made (start_by (Some q) t).made) s)
 
 -- a PDU that is no data leaves the data PDUs as they are
-pub not_pushed : (before : List PlainCopy) (c : PlainCopy) → is_data (value_of c.pdu).safety.kind ≡ false → copies_of before ≡ copies_of before ++ data_copies (copy_of c ∷ [])
+pub not_pushed : (before : List PlainCopy) (c : PlainCopy) → is_kind Data (value_of c.pdu).safety.kind ≡ false → copies_of before ≡ copies_of before ++ data_copies (copy_of c ∷ [])
 not_pushed before c none = sym (append-nil (copies_of before)) ∙ ap (λ (b : Bool). copies_of before ++ cond b (copy_of c ∷ []) []) (sym none)

@@ -20,6 +20,7 @@ use Rattle.rasta_end.specs.State.{EndState, wrapped}
 use Rattle.rasta_end.specs.MakeRule.{make_fault, after_make}
 use Rattle.rasta_end.specs.TakeRule.{after_take}
 use Rattle.rasta_end.specs.Starts.{start_of}
+use Rattle.rasta_end.proofs.MakeTests.{no_fault}
 use Rattle.rasta_check.specs.Capture.Crossing.{FirstCopy, Spells, Sent, CrossRecorded, packet_fault}
 use Rattle.rasta_check.specs.Model.World.{World, Reaches}
 use Rattle.rasta_check.specs.Verdict.Taken.{TakenUnit, pdus_made, all_made, surely_taken}
@@ -329,7 +330,7 @@ not_late u w x (makes_next c clock why after level get mk) none start is =
     let at : clock ≡ 1021 = cc in
     let fresh : why ≡ Fresh = cc in
     let here : offered ≡ c = (let g = ap (slice_get from_client) (sym none) ∙ get in cc) in
-    some_none 36 ((λ i. make_fault connection (sym start i) (here i).pdu.safety (sym at i) (sym fresh i)) ∙ mk.0)
+    some_none 36 ((λ i. make_fault connection (sym start i) (here i).pdu.safety (sym at i) (sym fresh i)) ∙ no_fault connection u.state c.pdu.safety clock why mk.0)
 
 -- at another clock than the data's nothing can be made, and no script begins so
 pub tried_stuck : Stuck connection → (rest : List Entry) (e : EndState) → Fits connection Client 2 from_client from_server (Make 0 1021 Fresh ∷ rest) e → ⊥

@@ -1,8 +1,7 @@
 //! What two sent lists show, worked out as it is defined: plainly, and slowly.
 ghost use Rattle.std.specs.Prelude.{◌≡◌, ◌≤◌, ◌+◌, ◌++◌, ◌∷◌, [], List, length, map, cond, None, IfOk, OnOk, option_to_list, slice_get, take};
-ghost use Rattle.rasta_pdu.specs.Pdu.{SafetyPdu, value_of};
-ghost use Rattle.rasta_end.specs.MakeRule;
-ghost use Rattle.rasta_end.specs.TakeRule;
+ghost use Rattle.rasta_pdu.specs.Pdu.{SafetyPdu, value_of, is_kind};
+ghost use Rattle.rasta_pdu.specs.declared.kind.Kind.TheVariants.{ConnectionRequest, RetransmissionRequest};
 ghost use Rattle.rasta_end.specs.State;
 ghost use Rattle.rasta_end.specs.Starts;
 ghost use Rattle.rasta_end.specs.Starts.{start_of};
@@ -39,30 +38,6 @@ struct MadePdu<'a> {
     ts: u32,
     cts: u32,
     body: Body<&'a [u8]>,
-}
-
-fn is_data(kind: Kind) -> bool
-    ensures { result ≡ MakeRule.is_data kind }
-{
-    matches!(kind, Kind::Data)
-}
-
-fn is_connection_request(kind: Kind) -> bool
-    ensures { result ≡ MakeRule.is_connection_request kind }
-{
-    matches!(kind, Kind::ConnectionRequest)
-}
-
-fn is_retransmission_request(kind: Kind) -> bool
-    ensures { result ≡ TakeRule.is_retransmission_request kind }
-{
-    matches!(kind, Kind::RetransmissionRequest)
-}
-
-fn is_retransmission_response(kind: Kind) -> bool
-    ensures { result ≡ TakeRule.is_retransmission_response kind }
-{
-    matches!(kind, Kind::RetransmissionResponse)
 }
 
 // ---- what a side made
@@ -161,9 +136,9 @@ fn position_with(own: &[MadePdu], sn: u32) -> Option<usize>
 
 // The position that a PDU of the peer asks for.
 fn asked_position(own: &[MadePdu], pdu: &Pdu) -> Option<usize>
-    ensures { result ≡ cond (TakeRule.is_retransmission_request (value_of pdu.now).safety.kind) (Taken.position_with (pdus own.now) (value_of pdu.now).safety.cs) None }
+    ensures { result ≡ cond (is_kind RetransmissionRequest (value_of pdu.now).safety.kind) (Taken.position_with (pdus own.now) (value_of pdu.now).safety.cs) None }
 {
-    if is_retransmission_request(pdu.kind()) {
+    if pdu.kind().is(Kind::RetransmissionRequest) {
         position_with(own, pdu.cs())
     } else {
         None
@@ -244,16 +219,16 @@ fn units_along(alloc: Global, own: &[MadePdu], peer: &[FirstCopy]) -> Result<Vec
     let mut responses = 0;
     for pdu in own {
         units.push(units_after(asks.as_slice(), units.as_slice(), responses, pdu.kind))?;
-        responses += usize::from(is_retransmission_response(pdu.kind));
+        responses += usize::from(pdu.kind.is(Kind::RetransmissionResponse));
     }
     Ok(units)
 }
 
 // The position that a PDU of the peer confirms; a connection request confirms none.
 fn confirmed_position(own: &[MadePdu], pdu: &Pdu) -> Option<usize>
-    ensures { result ≡ cond (MakeRule.is_connection_request (value_of pdu.now).safety.kind) None (Taken.position_with (pdus own.now) (value_of pdu.now).safety.cs) }
+    ensures { result ≡ cond (is_kind ConnectionRequest (value_of pdu.now).safety.kind) None (Taken.position_with (pdus own.now) (value_of pdu.now).safety.cs) }
 {
-    if is_connection_request(pdu.kind()) {
+    if pdu.kind().is(Kind::ConnectionRequest) {
         None
     } else {
         position_with(own, pdu.cs())
@@ -296,7 +271,7 @@ fn proof_place(own: &[MadePdu], units: &[usize], peer: &[FirstCopy], unit: usize
 fn push_data<'a>(copies: &mut Vec<FirstCopy<'a>>, copy: &FirstCopy<'a>) -> Result<(), AllocError>
     ensures { OnOk result (copies_of copies.new.items ≡ copies_of copies.old.items ++ Taken.data_copies (copy_of copy.now ∷ [])) }
 {
-    if is_data(copy.pdu.kind()) {
+    if copy.pdu.kind().is(Kind::Data) {
         copies.push(*copy)?;
     }
     Ok(())

@@ -5,10 +5,10 @@ use Rattle.std.proofs.lemmas.Option.{slice_get-get_or, get_or_from_slice_get}
 use Rattle.rasta_pdu.specs.declared.kind.Kind.{Kind}
 use Rattle.rasta_pdu.specs.declared.kind.Kind.TheVariants.{Data, RetransmittedData, RetransmissionResponse}
 use Rattle.rasta_end.specs.State.{Made, EndState, kinds, carries_unit}
-use Rattle.rasta_end.specs.TakeRule.{is_retransmission_response}
 use Rattle.rasta_end.specs.Units.{all_units_conveyed, conveyed, units_after, units_at, last_of, responses_after, responses_in}
 use Rattle.rasta_end.proofs.Conveying.{all_units-push, conveyed-responses, length-all_units, length-kinds, more_asks}
 use Rattle.rasta_check.proofs.Model.Counts.{number, tally}
+use Rattle.rasta_pdu.specs.Pdu.{is_kind}
 
 -- neither a unit nor a retransmission response
 abbrev pub is_plain : Kind → Bool
@@ -23,7 +23,7 @@ values e = all_units_conveyed e.asks (kinds e.made)
 
 -- the units at the position that the next retransmission response goes back to
 abbrev pub jump : EndState → ℕ
-jump e = units_at (values e) (slice_get e.asks (number is_retransmission_response e.made))
+jump e = units_at (values e) (slice_get e.asks (number (is_kind RetransmissionResponse) e.made))
 
 -- The last member.
 
@@ -54,29 +54,29 @@ get_or_none (v ∷ vs) (suc c) g = get_or_none vs c g
 
 -- One more PDU appends one value; one more ask changes none.
 
-answers_tally : (n : ℕ) (k : Kind) → responses_after n k ≡ tally (is_retransmission_response k) n
+answers_tally : (n : ℕ) (k : Kind) → responses_after n k ≡ tally (is_kind RetransmissionResponse k) n
 answers_tally n RetransmissionResponse = refl
 answers_tally n _ = refl
 
-pub answers_number : (ms : List Made) → responses_in (kinds ms) ≡ number is_retransmission_response ms
+pub answers_number : (ms : List Made) → responses_in (kinds ms) ≡ number (is_kind RetransmissionResponse) ms
 answers_number [] = refl
-answers_number (m ∷ ms) = answers_tally (responses_in (kinds ms)) m.pdu.kind ∙ ap (tally (is_retransmission_response m.pdu.kind)) (answers_number ms)
+answers_number (m ∷ ms) = answers_tally (responses_in (kinds ms)) m.pdu.kind ∙ ap (tally (is_kind RetransmissionResponse m.pdu.kind)) (answers_number ms)
 
 pub kinds_push : (ms : List Made) (m : Made) → kinds (ms ++ m ∷ []) ≡ kinds ms ++ m.pdu.kind ∷ []
 kinds_push [] m = refl
 kinds_push (x ∷ ms) m = ap (λ ks. x.pdu.kind ∷ ks) (kinds_push ms m)
 
 pub values_push : (asks : List ℕ) (ms : List Made) (m : Made)
-    → all_units_conveyed asks (kinds (ms ++ m ∷ [])) ≡ all_units_conveyed asks (kinds ms) ++ units_after asks (all_units_conveyed asks (kinds ms)) (number is_retransmission_response ms) m.pdu.kind ∷ []
+    → all_units_conveyed asks (kinds (ms ++ m ∷ [])) ≡ all_units_conveyed asks (kinds ms) ++ units_after asks (all_units_conveyed asks (kinds ms)) (number (is_kind RetransmissionResponse) ms) m.pdu.kind ∷ []
 values_push asks ms m =
-    let n : (conveyed asks (kinds ms)).responses ≡ number is_retransmission_response ms = conveyed-responses asks (kinds ms) ∙ answers_number ms in
+    let n : (conveyed asks (kinds ms)).responses ≡ number (is_kind RetransmissionResponse) ms = conveyed-responses asks (kinds ms) ∙ answers_number ms in
     ap (all_units_conveyed asks) (kinds_push ms m)
     ∙ (all_units-push asks (kinds ms) m.pdu.kind ∙ ap (λ a. all_units_conveyed asks (kinds ms) ++ units_after asks (all_units_conveyed asks (kinds ms)) a m.pdu.kind ∷ []) n)
 
 pub length-values : (asks : List ℕ) (ms : List Made) → length (all_units_conveyed asks (kinds ms)) ≡ length ms
 length-values asks ms = length-all_units asks (kinds ms) ∙ length-kinds ms
 
-pub values_asks : (asks : List ℕ) (c : ℕ) (ms : List Made) → number is_retransmission_response ms ≤ length asks → all_units_conveyed (asks ++ c ∷ []) (kinds ms) ≡ all_units_conveyed asks (kinds ms)
+pub values_asks : (asks : List ℕ) (c : ℕ) (ms : List Made) → number (is_kind RetransmissionResponse) ms ≤ length asks → all_units_conveyed (asks ++ c ∷ []) (kinds ms) ≡ all_units_conveyed asks (kinds ms)
 values_asks asks c ms h = more_asks asks (c ∷ []) (kinds ms) (omega (arith, answers_number ms, h))
 
 -- What the next position conveys, by its type.

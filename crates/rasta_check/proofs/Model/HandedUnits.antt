@@ -10,7 +10,7 @@ use Rattle.rasta_pdu.specs.declared.kind.Kind.{Kind}
 use Rattle.rasta_pdu.specs.declared.kind.Kind.TheVariants.{RetransmissionRequest, RetransmissionResponse, Heartbeat, Data}
 use Rattle.rasta_pdu.specs.Params.{Parameters}
 use Rattle.rasta_pdu.specs.Messages.{messages_of}
-use Rattle.rasta_pdu.specs.Pdu.{SafetyPdu, SafetyBody, Opening, Bye, Messages, Empty, messages_in}
+use Rattle.rasta_pdu.specs.Pdu.{SafetyPdu, SafetyBody, Opening, Bye, Messages, Empty, messages_in, is_kind}
 use Rattle.rasta_end.specs.declared.phase.Phase.{Phase}
 use Rattle.rasta_end.specs.declared.phase.Phase.TheVariants.{Start, Up, RetrReq, RetrRun}
 use Rattle.rasta_end.specs.declared.why.Why.{Why}
@@ -19,8 +19,8 @@ use Rattle.rasta_end.specs.declared.take_row.TakeRow.{TakeRow}
 use Rattle.rasta_end.specs.declared.take_row.TakeRow.TheVariants.{Opened, Answered, FirstHeartbeat, InSequence, ResentInSequence, Gap, GapInRetransmission, Resumed, Requested, RequestedAhead, RequestedAgain, Disconnected}
 use Rattle.rasta_end.specs.declared.owed.Owed.TheVariants.{RetransmissionRequest as OweRetransmissionRequest}
 use Rattle.rasta_end.specs.State.{Made, EndState, is_closed, is_flowing, carries_unit, content_of}
-use Rattle.rasta_end.specs.MakeRule.{is_data, row_of, phase_after, owed_after, after_make, after_make_by}
-use Rattle.rasta_end.specs.TakeRule.{is_retransmission_request, is_retransmission_response, is_heartbeat_or_data, is_in, steps_past_next, position_confirmed, accept, enter, hand_up, burst, take_row, effect, effect_by, after_take}
+use Rattle.rasta_end.specs.MakeRule.{row_of, phase_after, owed_after, after_make, after_make_by}
+use Rattle.rasta_end.specs.TakeRule.{is_heartbeat_or_data, is_in, steps_past_next, position_confirmed, accept, enter, hand_up, burst, take_row, effect, effect_by, after_take}
 use Rattle.rasta_check.specs.Model.Laws.{conveyed_before, HandsUp}
 use Rattle.rasta_check.specs.Model.Theorem.{HandsUpUnits}
 use Rattle.rasta_check.proofs.Model.ListGrowth.{get_push_cases, get_front, get_push}
@@ -47,8 +47,8 @@ AreUnits positions pdus made = (i position : ℕ) → slice_get positions i ≡ 
 
 -- the last request that this end made has this CS
 abbrev pub LastRequest : List Made → ℕ → Type 0
-LastRequest made cs = (p : ℕ) × (n : Made) × (slice_get made p ≡ Some n) × (is_retransmission_request n.pdu.kind ≡ true) × (n.pdu.cs ≡ cs)
-    × (suc (number is_retransmission_request (take p made)) ≡ number is_retransmission_request made)
+LastRequest made cs = (p : ℕ) × (n : Made) × (slice_get made p ≡ Some n) × (is_kind RetransmissionRequest n.pdu.kind ≡ true) × (n.pdu.cs ≡ cs)
+    × (suc (number (is_kind RetransmissionRequest) (take p made)) ≡ number (is_kind RetransmissionRequest) made)
 
 pub record Handed (e f : EndState) : Type 0 where
   pub count : length e.handed ≡ worth (values f) e.accepted
@@ -92,7 +92,7 @@ handed_peer_take e f f' same vals h =
 
 -- The end itself makes.
 
-ask_named : (k : Kind) → is_retransmission_request k ≡ true → is_named k ≡ true
+ask_named : (k : Kind) → is_kind RetransmissionRequest k ≡ true → is_named k ≡ true
 ask_named RetransmissionRequest h = refl
 ask_named _ h = absurd (cc)
 
@@ -100,26 +100,26 @@ module _ (p : Parameters) (e f : EndState) (x : SafetyPdu) (clock : ℕ) (why : 
   abbrev new : Made
   new = new_made b.row e x
 
-  new_ask : (c : Bool) → is_retransmission_request x.kind ≡ c → e.phase ≡ RetrReq
+  new_ask : (c : Bool) → is_kind RetransmissionRequest x.kind ≡ c → e.phase ≡ RetrReq
       → tally c (owes is_request_owed (owed_after b.row e.owed)) ≡ owes is_request_owed e.owed → owes is_request_owed (owed_after b.row e.owed) ≡ 0 → LastRequest (e.made ++ new ∷ []) e.last_sn
   new_ask true c ph d none =
       let all : take (length e.made) (e.made ++ new ∷ []) ≡ e.made = take-append-le (length e.made) e.made (new ∷ []) (omega arith) ∙ take_all (length e.made) e.made (omega arith) in
-      let num = number_push is_retransmission_request e.made new in
-      let bit = ap (λ v. tally v (number is_retransmission_request e.made)) c in
-      let here = ap (number is_retransmission_request) all in
+      let num = number_push (is_kind RetransmissionRequest) e.made new in
+      let bit = ap (λ v. tally v (number (is_kind RetransmissionRequest) e.made)) c in
+      let here = ap (number (is_kind RetransmissionRequest)) all in
       (length e.made, new, get_push e.made new, c, (cs_is e x.kind x.cs (named_judged e x.kind (ask_named x.kind c)) pass.cs).1, omega (arith, num, bit, here))
   new_ask false c ph d none =
       let r = w.awaited ph (sym d ∙ none) in
       let l = slice_get_within e.made r.0 r.1 r.2 in
       let same : take r.0 (e.made ++ new ∷ []) ≡ take r.0 e.made = take-append-le r.0 e.made (new ∷ []) (omega (arith, l)) in
-      let num = number_push is_retransmission_request e.made new in
-      let bit = ap (λ v. tally v (number is_retransmission_request e.made)) c in
-      (r.0, r.1, get_front e.made (new ∷ []) r.0 r.1 r.2, r.3, r.4, ap (λ ms. suc (number is_retransmission_request ms)) same ∙ (r.5 ∙ sym (num ∙ bit)))
+      let num = number_push (is_kind RetransmissionRequest) e.made new in
+      let bit = ap (λ v. tally v (number (is_kind RetransmissionRequest) e.made)) c in
+      (r.0, r.1, get_front e.made (new ∷ []) r.0 r.1 r.2, r.3, r.4, ap (λ ms. suc (number (is_kind RetransmissionRequest) ms)) same ∙ (r.5 ∙ sym (num ∙ bit)))
 
   await_by : Changed e.side e.phase x.kind e.owed b.row → phase_after b.row e.phase ≡ RetrReq → owes is_request_owed (owed_after b.row e.owed) ≡ 0 → LastRequest (e.made ++ new ∷ []) e.last_sn
   await_by (over a c d g j) ph none = absurd (cc)
   await_by (opened a s c o j) ph none = absurd (cc)
-  await_by (goes_on a c d g j k l) ph none = new_ask (is_retransmission_request x.kind) refl (sym a ∙ ph) g none
+  await_by (goes_on a c d g j k l) ph none = new_ask (is_kind RetransmissionRequest x.kind) refl (sym a ∙ ph) g none
 
   handed_row : Handed (after_make_by (Some b.row) e x clock) f
   handed_row = record { count = w.count; labels = w.labels; as_many = w.as_many; awaited = await_by (changed e.side e.phase why x.kind e.owed b.row b.how) }
@@ -211,20 +211,20 @@ module _ (q : Parameters) (e f : EndState) (t u : ℕ) (m : Made) (p : ℕ) (k :
   resumed : e.phase ≡ RetrReq → e.owed ≡ [] → m.pdu.kind ≡ RetransmissionResponse → (i : ℕ) → e.accepted ≡ suc i → slice_get (values f) p ≡ slice_get (values f) i
   resumed ph free ki i a =
       let aw = w.awaited ph (ap (owes is_request_owed) free) in
-      let is_a : is_retransmission_response m.pdu.kind ≡ true = ap is_retransmission_response ki in
-      let low = number_take_more is_retransmission_response f.made t p k.above in
-      let next = number_take_at is_retransmission_response f.made p m k.there is_a in
-      let all = number_take_all is_retransmission_response f.made (suc p) in
-      let req : number is_retransmission_request e.made ≤ number is_retransmission_response (take t f.made) + 1 = omega (arith, k.mine.open_requests, ap open_bit ph) in
-      let most = number_take_all is_retransmission_request e.made u in
-      let idx : number is_retransmission_response (take p f.made) ≡ number is_retransmission_request (take aw.0 e.made) = omega (arith, low, next, all, req, most, aw.5, k.theirs.asked, k.theirs.asks_taken) in
-      let inside : number is_retransmission_response (take p f.made) < length f.asks = omega (arith, next, all, k.theirs.asked) in
-      let c : slice_get f.asks (number is_retransmission_response (take p f.made)) ≡ Some (slice_index_or f.asks (number is_retransmission_response (take p f.made)) 0) = slice_get-get_or f.asks _ 0 inside in
+      let is_a : is_kind RetransmissionResponse m.pdu.kind ≡ true = ap (is_kind RetransmissionResponse) ki in
+      let low = number_take_more (is_kind RetransmissionResponse) f.made t p k.above in
+      let next = number_take_at (is_kind RetransmissionResponse) f.made p m k.there is_a in
+      let all = number_take_all (is_kind RetransmissionResponse) f.made (suc p) in
+      let req : number (is_kind RetransmissionRequest) e.made ≤ number (is_kind RetransmissionResponse) (take t f.made) + 1 = omega (arith, k.mine.open_requests, ap open_bit ph) in
+      let most = number_take_all (is_kind RetransmissionRequest) e.made u in
+      let idx : number (is_kind RetransmissionResponse) (take p f.made) ≡ number (is_kind RetransmissionRequest) (take aw.0 e.made) = omega (arith, low, next, all, req, most, aw.5, k.theirs.asked, k.theirs.asks_taken) in
+      let inside : number (is_kind RetransmissionResponse) (take p f.made) < length f.asks = omega (arith, next, all, k.theirs.asked) in
+      let c : slice_get f.asks (number (is_kind RetransmissionResponse) (take p f.made)) ≡ Some (slice_index_or f.asks (number (is_kind RetransmissionResponse) (take p f.made)) 0) = slice_get-get_or f.asks _ 0 inside in
       let j = vf.jumps p m _ k.there is_a c in
-      let named = k.theirs.answered aw.0 aw.1 _ aw.2 aw.3 (subst (λ n. slice_get f.asks n ≡ Some (slice_index_or f.asks (number is_retransmission_response (take p f.made)) 0)) idx c) in
+      let named = k.theirs.answered aw.0 aw.1 _ aw.2 aw.3 (subst (λ n. slice_get f.asks n ≡ Some (slice_index_or f.asks (number (is_kind RetransmissionResponse) (take p f.made)) 0)) idx c) in
       let mine = k.mine.last i a in
       let sns : named.m.pdu.sn ≡ mine.m.pdu.sn = named.same ∙ (aw.4 ∙ sym mine.same) in
-      let same : slice_index_or f.asks (number is_retransmission_response (take p f.made)) 0 ≡ i = numbered_once f.made k.few_theirs k.theirs.numbered _ i named.m mine.m named.there mine.there sns in
+      let same : slice_index_or f.asks (number (is_kind RetransmissionResponse) (take p f.made)) 0 ≡ i = numbered_once f.made k.few_theirs k.theirs.numbered _ i named.m mine.m named.there mine.there sns in
       j.1 ∙ ap (slice_get (values f)) same
 
   first_worth : p ≡ 0 → worth (values f) 1 ≡ 0
@@ -327,13 +327,13 @@ data_with (m ∷ ms) (suc i) content g = data_with ms i content g
 
 -- the i-th PDU handed up carries the messages of the i-th data PDU
 handed_messages : (e f : EndState) → Valued f → Handed e f → (i : ℕ) (x : SafetyPdu) → slice_get e.handed_pdus i ≡ Some x
-    → (m : Made) × (slice_get (filter (λ (n : Made). is_data n.pdu.kind) f.made) i ≡ Some m) × (messages_in x.body ≡ messages_in m.pdu.body)
+    → (m : Made) × (slice_get (filter (λ (n : Made). is_kind Data n.pdu.kind) f.made) i ≡ Some m) × (messages_in x.body ≡ messages_in m.pdu.body)
 handed_messages e f vf w i x g =
     let l : i < length e.handed = omega (arith, slice_get_within e.handed_pdus i x g, w.as_many) in
     let r = w.labels i _ (slice_get-get_or e.handed i 0 l) in
     let same : r.0.pdu ≡ x = (let z : Some r.0.pdu ≡ Some x = sym r.4 ∙ g in cc) in
     let content = (vf.carried _ r.0 i r.1 r.3).1 in
-    let d = data_with (filter (λ (n : Made). is_data n.pdu.kind) f.made) i (content_of r.0.pdu.body) content in
+    let d = data_with (filter (λ (n : Made). is_kind Data n.pdu.kind) f.made) i (content_of r.0.pdu.body) content in
     (d.0, d.1, ap (λ (y : SafetyPdu). messages_in y.body) (sym same) ∙ (messages_by_content r.0.pdu.body ∙ (ap messages_of (sym d.2) ∙ sym (messages_by_content d.0.pdu.body))))
 
 pub hands_up_units : (e f : EndState) → Valued f → Handed e f → HandsUpUnits e f

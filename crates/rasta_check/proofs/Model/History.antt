@@ -12,7 +12,7 @@ use Rattle.rasta_pdu.specs.Params.{Parameters, AreParameters}
 use Rattle.rasta_end.specs.declared.take_row.TakeRow.{TakeRow}
 use Rattle.rasta_end.specs.State.{Made, EndState, is_closed}
 use Rattle.rasta_end.specs.MakeRule.{has_ended}
-use Rattle.rasta_end.specs.TakeRule.{is_retransmission_response, is_valid, is_in, is_ahead, effect_by}
+use Rattle.rasta_end.specs.TakeRule.{is_valid, is_in, is_ahead, effect_by}
 use Rattle.rasta_check.specs.Capture.Crossing.{FirstCopy}
 use Rattle.rasta_check.specs.Model.World.{Station, World, Move, Moves, makes, repeats, arrives, takes, waits, Step, client_moves, server_moves, Reaches, begins, goes_on, first_world, IsWithin}
 use Rattle.rasta_check.specs.Model.Theorem.{Appends}
@@ -26,6 +26,8 @@ use Rattle.rasta_check.proofs.Model.ConveyedUnits.{values, values_push}
 use Rattle.rasta_check.proofs.Model.OfferedUnitsAtTake.{values_take}
 use Rattle.rasta_check.proofs.Model.InvariantOfRuns.{All, all_held}
 use Rattle.rasta_check.proofs.Script.ScriptsOfRuns.{Both, Sends, told_first, told_step, step_copies, step_front, sends_count, copy_at}
+use Rattle.rasta_pdu.specs.Pdu.{is_kind}
+use Rattle.rasta_pdu.specs.declared.kind.Kind.TheVariants.{RetransmissionResponse}
 
 -- what of an end stays
 pub record Grown (e e' : EndState) : Type 0 where
@@ -43,7 +45,7 @@ over_closed : (b c : Bool) → (b && c) ≡ true → b ≡ true
 over_closed true c h = refl
 over_closed false c h = h
 
-grown_move : (p : Parameters) (b a a' : Station) (xs ys : List Packet) {move : Move} → Moves p b xs a move a' ys → number is_retransmission_response a.state.made ≤ length a.state.asks → Grown a.state a'.state
+grown_move : (p : Parameters) (b a a' : Station) (xs ys : List Packet) {move : Move} → Moves p b xs a move a' ys → number (is_kind RetransmissionResponse) a.state.made ≤ length a.state.asks → Grown a.state a'.state
 grown_move p b a a' xs ys (makes x why e' ch res chk bs mk sp rec) l =
     let ok = passed p a.state x a.clock why mk.0 in
     let by = made_by p a.state x a.clock why ok in

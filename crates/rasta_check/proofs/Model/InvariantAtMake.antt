@@ -1,13 +1,13 @@
 -- A make keeps what holds, at both ends.
 use Rattle.std.proofs.Common.{◌≡◌, ℕ, suc, ◌+◌, ◌≤◌, ◌⊎◌, Bool, true, false, List, [], ◌∷◌, ◌++◌, length, Some, None, slice_get, take, refl, ap, sym, ◌∙◌, arith, inl, ⊎_elim, subst}
-use Rattle.std.specs.Prelude.{not, ◌&&◌, ◌||◌}
+use Rattle.std.specs.Prelude.{not, ◌&&◌, ◌||◌, drop, is_some}
 use Rattle.std.proofs.lemmas.List.{take-append-le, length_push}
 use Rattle.std.proofs.lemmas.Option.{slice_get_within, slice_get_past}
 use Rattle.rasta_pcap.specs.declared.fault.Side.{Side}
 use Rattle.rasta_pcap.specs.declared.fault.Side.TheVariants.{Client, Server}
 use Rattle.rasta_pdu.specs.declared.kind.Kind.{Kind}
-use Rattle.rasta_pdu.specs.declared.kind.Kind.TheVariants.{ConnectionRequest, DisconnectionRequest}
-use Rattle.rasta_pdu.specs.Pdu.{SafetyPdu}
+use Rattle.rasta_pdu.specs.declared.kind.Kind.TheVariants.{ConnectionRequest, DisconnectionRequest, RetransmissionRequest, RetransmissionResponse}
+use Rattle.rasta_pdu.specs.Pdu.{SafetyPdu, is_kind}
 use Rattle.rasta_pdu.specs.Params.{Parameters}
 use Rattle.rasta_end.specs.declared.phase.Phase.{Phase}
 use Rattle.rasta_end.specs.declared.phase.Phase.TheVariants.{Closed, Down, Start, Up, RetrReq, RetrRun}
@@ -15,9 +15,8 @@ use Rattle.rasta_end.specs.declared.why.Why.{Why}
 use Rattle.rasta_end.specs.declared.make_row.MakeRow.{MakeRow}
 use Rattle.rasta_end.specs.declared.owed.Owed.{Owed}
 use Rattle.rasta_end.specs.declared.owed.Owed.TheVariants.{ConnectionResponse as OweConnectionResponse}
-use Rattle.rasta_end.specs.State.{Made, EndState, has_made, is_closed, is_client, is_connected, is_active}
-use Rattle.rasta_end.specs.MakeRule.{has_ended, is_judged, after_make, after_make_by, phase_after, owed_after, without_first}
-use Rattle.rasta_end.specs.TakeRule.{is_retransmission_request, is_retransmission_response}
+use Rattle.rasta_end.specs.State.{Made, EndState, is_closed, is_client, is_connected, is_active}
+use Rattle.rasta_end.specs.MakeRule.{has_ended, is_judged, after_make, after_make_by, phase_after, owed_after}
 use Rattle.rasta_check.proofs.Model.ListGrowth.{get_push_cases, get_front}
 use Rattle.rasta_check.proofs.Model.SequenceNumbers.{numbered_push}
 use Rattle.rasta_check.proofs.Model.PassedTests.{Passed, un_not, cs_is}
@@ -28,14 +27,14 @@ use Rattle.rasta_check.proofs.Model.Invariant.{Held, is_response_owed, is_opener
 
 -- how a make changes the phase and what is owed: it ends the connection, opens it, or goes on
 pub data Changed (s : Side) (ph : Phase) (k : Kind) (os : List Owed) (row : MakeRow) : Type 0 where
-  over : phase_after row ph ≡ Closed → owed_after row os ≡ [] → is_retransmission_request k ≡ false → is_retransmission_response k ≡ false → is_opener k ≡ false → Changed s ph k os row
+  over : phase_after row ph ≡ Closed → owed_after row os ≡ [] → is_kind RetransmissionRequest k ≡ false → is_kind RetransmissionResponse k ≡ false → is_opener k ≡ false → Changed s ph k os row
   opened : ph ≡ Closed → s ≡ Client → k ≡ ConnectionRequest → phase_after row ph ≡ Start → owed_after row os ≡ os → Changed s ph k os row
   goes_on : phase_after row ph ≡ ph → is_active ph ≡ true
-      → tally (is_retransmission_response k) (owes is_answer_owed (owed_after row os)) ≡ owes is_answer_owed os
-      → tally (is_retransmission_request k) (owes is_request_owed (owed_after row os)) ≡ owes is_request_owed os
+      → tally (is_kind RetransmissionResponse k) (owes is_answer_owed (owed_after row os)) ≡ owes is_answer_owed os
+      → tally (is_kind RetransmissionRequest k) (owes is_request_owed (owed_after row os)) ≡ owes is_request_owed os
       → (is_opener k ≡ true → (rest : List Owed) × (os ≡ OweConnectionResponse ∷ rest))
       → owes is_response_owed (owed_after row os) ≤ owes is_response_owed os
-      → owed_after row os ≡ without_first os
+      → owed_after row os ≡ drop 1 os
       → Changed s ph k os row
 
 -- ---- the rows
@@ -69,18 +68,18 @@ changed s ph why k os row (expired r) = over refl refl refl refl refl
 
 -- ---- the parts of an end
 
-closed_over : (s : Side) (ms : List Made) (m : Made) → (not (is_client s) || has_made (ms ++ m ∷ [])) ≡ true
+closed_over : (s : Side) (ms : List Made) (m : Made) → (not (is_client s) || is_some (slice_get (ms ++ m ∷ []) 0)) ≡ true
 closed_over Server ms m = refl
 closed_over Client [] m = refl
 closed_over Client (x ∷ ms) m = refl
 
 -- an end that closes by a make has ended
-pub over_after : (s : Side) (ph : Phase) (ms : List Made) (m : Made) → ph ≡ Closed → (is_closed ph && (not (is_client s) || has_made (ms ++ m ∷ []))) ≡ true
+pub over_after : (s : Side) (ph : Phase) (ms : List Made) (m : Made) → ph ≡ Closed → (is_closed ph && (not (is_client s) || is_some (slice_get (ms ++ m ∷ []) 0))) ≡ true
 over_after s Closed ms m e = closed_over s ms m
 over_after s _ ms m e = absurd (cc)
 
 -- an end that is Closed and hasn't ended has made nothing
-pub nothing_made : (s : Side) (ph : Phase) (ms : List Made) → ph ≡ Closed → (is_closed ph && (not (is_client s) || has_made ms)) ≡ false → ms ≡ []
+pub nothing_made : (s : Side) (ph : Phase) (ms : List Made) → ph ≡ Closed → (is_closed ph && (not (is_client s) || is_some (slice_get ms 0))) ≡ false → ms ≡ []
 nothing_made s Closed [] e h = refl
 nothing_made Client Closed (m ∷ ms) e h = absurd (cc)
 nothing_made Server Closed (m ∷ ms) e h = absurd (cc)
@@ -108,8 +107,8 @@ push_some (x ∷ ms) m e = cc
 pub peer_make : (f : EndState) (u : ℕ) (ms : List Made) (m : Made) → Held f u ms → Held f u (ms ++ m ∷ [])
 peer_make f u ms m h =
     let same : take u (ms ++ m ∷ []) ≡ take u ms = take-append-le u ms (m ∷ []) h.within in
-    let same_asks = ap (number is_retransmission_request) same in
-    let same_answers = ap (number is_retransmission_response) same in
+    let same_asks = ap (number (is_kind RetransmissionRequest)) same in
+    let same_answers = ap (number (is_kind RetransmissionResponse)) same in
     record {
       numbered = h.numbered;
       confirmed = h.confirmed;
@@ -128,12 +127,12 @@ peer_make f u ms m h =
           (λ (old : slice_get ms p ≡ Some n).
           let w : p ≤ length ms = omega (arith, slice_get_within ms p n old) in
           let t : take p (ms ++ m ∷ []) ≡ take p ms = take-append-le p ms (m ∷ []) w in
-          h.answered p n c old k (subst (λ (l : List Made). slice_get f.asks (number is_retransmission_request l) ≡ Some c) t a))
+          h.answered p n c old k (subst (λ (l : List Made). slice_get f.asks (number (is_kind RetransmissionRequest) l) ≡ Some c) t a))
           (λ (new : (p ≡ length ms) × (m ≡ n)).
           let t : take p (ms ++ m ∷ []) ≡ take p ms = take-append-le p ms (m ∷ []) (omega arith) in
-          let all = number_take_more is_retransmission_request ms u p (omega (arith, h.within)) in
-          let past : slice_get f.asks (number is_retransmission_request (take p ms)) ≡ None = slice_get_past f.asks _ (omega (arith, all, h.asks_taken)) in
-          absurd (let here : slice_get f.asks (number is_retransmission_request (take p ms)) ≡ Some c = subst (λ (l : List Made). slice_get f.asks (number is_retransmission_request l) ≡ Some c) t a in cc))
+          let all = number_take_more (is_kind RetransmissionRequest) ms u p (omega (arith, h.within)) in
+          let past : slice_get f.asks (number (is_kind RetransmissionRequest) (take p ms)) ≡ None = slice_get_past f.asks _ (omega (arith, all, h.asks_taken)) in
+          absurd (let here : slice_get f.asks (number (is_kind RetransmissionRequest) (take p ms)) ≡ Some c = subst (λ (l : List Made). slice_get f.asks (number (is_kind RetransmissionRequest) l) ≡ Some c) t a in cc))
           (get_push_cases ms m p n e);
       asks_taken = omega (arith, same_asks, h.asks_taken);
       open_requests = omega (arith, same_answers, h.open_requests);
@@ -157,33 +156,33 @@ moved_le false n o o' l h t = omega arith
 -- a make by a row: what the end was, and what the row changes
 module _ (e : EndState) (x : SafetyPdu) (clock : ℕ) (row : MakeRow) (t : ℕ) (peer : List Made) (open_yet : has_ended e ≡ false) (h : Held e t peer) where
   make_owing : Changed e.side e.phase x.kind e.owed row → has_ended (after_make_by (Some row) e x clock) ≡ false
-      → number is_retransmission_response (e.made ++ new_made row e x ∷ []) + owes is_answer_owed (owed_after row e.owed) ≡ length e.asks
+      → number (is_kind RetransmissionResponse) (e.made ++ new_made row e x ∷ []) + owes is_answer_owed (owed_after row e.owed) ≡ length e.asks
   make_owing (over a b c d f) v = absurd (let w = over_after e.side (phase_after row e.phase) e.made (new_made row e x) a in cc)
   make_owing (opened a s c ph o) v =
-      let more = number_push is_retransmission_response e.made (new_made row e x) in
-      let k : is_retransmission_response x.kind ≡ false = ap is_retransmission_response c in
-      let same : number is_retransmission_response (e.made ++ new_made row e x ∷ []) ≡ number is_retransmission_response e.made = more ∙ ap (λ q. tally q (number is_retransmission_response e.made)) k in
+      let more = number_push (is_kind RetransmissionResponse) e.made (new_made row e x) in
+      let k : is_kind RetransmissionResponse x.kind ≡ false = ap (is_kind RetransmissionResponse) c in
+      let same : number (is_kind RetransmissionResponse) (e.made ++ new_made row e x ∷ []) ≡ number (is_kind RetransmissionResponse) e.made = more ∙ ap (λ q. tally q (number (is_kind RetransmissionResponse) e.made)) k in
       let o' = ap (owes is_answer_owed) o in
       let w = h.owing open_yet in
       omega (arith, same, o', w)
   make_owing (goes_on a b c d f g i) v =
-      let more = number_push is_retransmission_response e.made (new_made row e x) in
-      let all = moved (is_retransmission_response x.kind) _ _ _ _ (h.owing open_yet) c in
+      let more = number_push (is_kind RetransmissionResponse) e.made (new_made row e x) in
+      let all = moved (is_kind RetransmissionResponse x.kind) _ _ _ _ (h.owing open_yet) c in
       omega (arith, more, all)
 
-  make_asked : Changed e.side e.phase x.kind e.owed row → number is_retransmission_response (e.made ++ new_made row e x ∷ []) ≤ length e.asks
+  make_asked : Changed e.side e.phase x.kind e.owed row → number (is_kind RetransmissionResponse) (e.made ++ new_made row e x ∷ []) ≤ length e.asks
   make_asked (over a b c d f) =
-      let more = number_push is_retransmission_response e.made (new_made row e x) in
-      let same : number is_retransmission_response (e.made ++ new_made row e x ∷ []) ≡ number is_retransmission_response e.made = more ∙ ap (λ q. tally q (number is_retransmission_response e.made)) d in
+      let more = number_push (is_kind RetransmissionResponse) e.made (new_made row e x) in
+      let same : number (is_kind RetransmissionResponse) (e.made ++ new_made row e x ∷ []) ≡ number (is_kind RetransmissionResponse) e.made = more ∙ ap (λ q. tally q (number (is_kind RetransmissionResponse) e.made)) d in
       omega (arith, same, h.asked)
   make_asked (opened a s c ph o) =
-      let more = number_push is_retransmission_response e.made (new_made row e x) in
-      let k : is_retransmission_response x.kind ≡ false = ap is_retransmission_response c in
-      let same : number is_retransmission_response (e.made ++ new_made row e x ∷ []) ≡ number is_retransmission_response e.made = more ∙ ap (λ q. tally q (number is_retransmission_response e.made)) k in
+      let more = number_push (is_kind RetransmissionResponse) e.made (new_made row e x) in
+      let k : is_kind RetransmissionResponse x.kind ≡ false = ap (is_kind RetransmissionResponse) c in
+      let same : number (is_kind RetransmissionResponse) (e.made ++ new_made row e x ∷ []) ≡ number (is_kind RetransmissionResponse) e.made = more ∙ ap (λ q. tally q (number (is_kind RetransmissionResponse) e.made)) k in
       omega (arith, same, h.asked)
   make_asked (goes_on a b c d f g i) =
-      let more = number_push is_retransmission_response e.made (new_made row e x) in
-      let all = moved (is_retransmission_response x.kind) _ _ _ _ (h.owing open_yet) c in
+      let more = number_push (is_kind RetransmissionResponse) e.made (new_made row e x) in
+      let all = moved (is_kind RetransmissionResponse x.kind) _ _ _ _ (h.owing open_yet) c in
       omega (arith, more, all)
 
   make_down : Changed e.side e.phase x.kind e.owed row → phase_after row e.phase ≡ Down → (e.made ++ new_made row e x ∷ [] ≡ []) × (e.side ≡ Server) × (e.accepted ≡ 0)
@@ -206,7 +205,7 @@ module _ (e : EndState) (x : SafetyPdu) (clock : ℕ) (row : MakeRow) (t : ℕ) 
   make_response (goes_on a b c d f g i) =
       ⊎_elim
       (λ (none : owes is_response_owed e.owed ≡ 0). inl (omega arith))
-      (λ (one : (e.made ≡ []) × (e.owed ≡ OweConnectionResponse ∷ [])). inl (ap (owes is_response_owed) (i ∙ ap without_first one.1)))
+      (λ (one : (e.made ≡ []) × (e.owed ≡ OweConnectionResponse ∷ [])). inl (ap (owes is_response_owed) (i ∙ ap (drop 1) one.1)))
       h.response_due
 
   make_connected : Changed e.side e.phase x.kind e.owed row → has_peer e.side (phase_after row e.phase) ≡ true → (i : ℕ) × (e.accepted ≡ suc i)
@@ -215,25 +214,25 @@ module _ (e : EndState) (x : SafetyPdu) (clock : ℕ) (row : MakeRow) (t : ℕ) 
   make_connected (goes_on a b c d f g i) v = h.connected (subst (λ (q : Phase). has_peer e.side q ≡ true) a v)
 
   make_requests : Changed e.side e.phase x.kind e.owed row
-      → number is_retransmission_request (e.made ++ new_made row e x ∷ []) + owes is_request_owed (owed_after row e.owed) ≤ number is_retransmission_response (take t peer) + open_bit (phase_after row e.phase)
+      → number (is_kind RetransmissionRequest) (e.made ++ new_made row e x ∷ []) + owes is_request_owed (owed_after row e.owed) ≤ number (is_kind RetransmissionResponse) (take t peer) + open_bit (phase_after row e.phase)
   make_requests (over a b c d f) =
-      let more = number_push is_retransmission_request e.made (new_made row e x) in
-      let same : number is_retransmission_request (e.made ++ new_made row e x ∷ []) ≡ number is_retransmission_request e.made = more ∙ ap (λ q. tally q (number is_retransmission_request e.made)) c in
+      let more = number_push (is_kind RetransmissionRequest) e.made (new_made row e x) in
+      let same : number (is_kind RetransmissionRequest) (e.made ++ new_made row e x ∷ []) ≡ number (is_kind RetransmissionRequest) e.made = more ∙ ap (λ q. tally q (number (is_kind RetransmissionRequest) e.made)) c in
       let none = ap (owes is_request_owed) b in
       let bit = ap open_bit a in
       let most = open_bit_most e.phase in
       omega (arith, same, none, bit, most, h.open_requests)
   make_requests (opened a s c ph o) =
-      let more = number_push is_retransmission_request e.made (new_made row e x) in
-      let k : is_retransmission_request x.kind ≡ false = ap is_retransmission_request c in
-      let same : number is_retransmission_request (e.made ++ new_made row e x ∷ []) ≡ number is_retransmission_request e.made = more ∙ ap (λ q. tally q (number is_retransmission_request e.made)) k in
-      let zero_made = ap (number is_retransmission_request) (nothing_made e.side e.phase e.made a open_yet) in
+      let more = number_push (is_kind RetransmissionRequest) e.made (new_made row e x) in
+      let k : is_kind RetransmissionRequest x.kind ≡ false = ap (is_kind RetransmissionRequest) c in
+      let same : number (is_kind RetransmissionRequest) (e.made ++ new_made row e x ∷ []) ≡ number (is_kind RetransmissionRequest) e.made = more ∙ ap (λ q. tally q (number (is_kind RetransmissionRequest) e.made)) k in
+      let zero_made = ap (number (is_kind RetransmissionRequest)) (nothing_made e.side e.phase e.made a open_yet) in
       let o' = ap (owes is_request_owed) (o ∙ (unmade_yet a s).1) in
       omega (arith, same, zero_made, o')
   make_requests (goes_on a b c d f g i) =
-      let more = number_push is_retransmission_request e.made (new_made row e x) in
+      let more = number_push (is_kind RetransmissionRequest) e.made (new_made row e x) in
       let bit = ap open_bit a in
-      let all = moved_le (is_retransmission_request x.kind) _ _ _ _ h.open_requests d in
+      let all = moved_le (is_kind RetransmissionRequest x.kind) _ _ _ _ h.open_requests d in
       omega (arith, more, all, bit)
 
   make_opener : Changed e.side e.phase x.kind e.owed row → is_opener x.kind ≡ true → e.made ≡ []

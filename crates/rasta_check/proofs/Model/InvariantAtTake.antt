@@ -6,8 +6,8 @@ use Rattle.std.proofs.lemmas.Option.{slice_get_within}
 use Rattle.rasta_pcap.specs.declared.fault.Side.{Side}
 use Rattle.rasta_pcap.specs.declared.fault.Side.TheVariants.{Client, Server}
 use Rattle.rasta_pdu.specs.declared.kind.Kind.{Kind}
-use Rattle.rasta_pdu.specs.declared.kind.Kind.TheVariants.{ConnectionRequest, ConnectionResponse, RetransmissionRequest, Heartbeat, Data}
-use Rattle.rasta_pdu.specs.Pdu.{SafetyPdu}
+use Rattle.rasta_pdu.specs.declared.kind.Kind.TheVariants.{ConnectionRequest, ConnectionResponse, RetransmissionRequest, Heartbeat, Data, RetransmissionResponse}
+use Rattle.rasta_pdu.specs.Pdu.{SafetyPdu, is_kind}
 use Rattle.rasta_pdu.specs.Params.{Parameters}
 use Rattle.rasta_end.specs.declared.phase.Phase.{Phase}
 use Rattle.rasta_end.specs.declared.phase.Phase.TheVariants.{Closed, Down, Start, Up, RetrReq, RetrRun}
@@ -17,7 +17,7 @@ use Rattle.rasta_end.specs.declared.owed.Owed.{Owed}
 use Rattle.rasta_end.specs.declared.owed.Owed.TheVariants.{RetransmissionRequest as OweRetransmissionRequest}
 use Rattle.rasta_end.specs.State.{Made, EndState, kinds, is_closed, is_flowing, carries_unit}
 use Rattle.rasta_end.specs.Units.{units_conveyed}
-use Rattle.rasta_end.specs.TakeRule.{is_heartbeat_or_data, is_retransmission_request, is_retransmission_response, steps_past_next, is_valid, position_confirmed, accept, hand_up, resends, burst, effect, effect_by, take_row, after_take}
+use Rattle.rasta_end.specs.TakeRule.{is_heartbeat_or_data, steps_past_next, is_valid, position_confirmed, accept, hand_up, resends, burst, effect, effect_by, take_row, after_take}
 use Rattle.rasta_check.proofs.Model.ListGrowth.{get_push_cases}
 use Rattle.rasta_check.proofs.Model.TakeRows.{Knows, row_known, not_closed}
 use Rattle.rasta_check.proofs.Model.Counts.{number, owes, number_take_all, number_take_more, number_take_at, is_answer_owed, is_request_owed, owes-append, answers-resends, requests-resends}
@@ -78,13 +78,13 @@ pub record Taken (e f : EndState) (t u : ℕ) (m : Made) (p : ℕ) : Type 0 wher
 
 -- what is owed and asked after the take, in a phase
 record Settled (e f : EndState) (p : ℕ) (ph : Phase) (os : List Owed) (asks : List ℕ) : Type 0 where
-  pub asked : number is_retransmission_response e.made ≤ length asks
-  pub owing : number is_retransmission_response e.made + owes is_answer_owed os ≡ length asks
+  pub asked : number (is_kind RetransmissionResponse) e.made ≤ length asks
+  pub owing : number (is_kind RetransmissionResponse) e.made + owes is_answer_owed os ≡ length asks
   pub response_due : owes is_response_owed os ≡ 0
-  pub answered : (p' : ℕ) (n : Made) (d : ℕ) → slice_get f.made p' ≡ Some n → is_retransmission_request n.pdu.kind ≡ true
-      → slice_get asks (number is_retransmission_request (take p' f.made)) ≡ Some d → SnIs e.made d n.pdu.cs
-  pub asks_taken : length asks ≤ number is_retransmission_request (take (suc p) f.made)
-  pub open_requests : number is_retransmission_request e.made + owes is_request_owed os ≤ number is_retransmission_response (take (suc p) f.made) + open_bit ph
+  pub answered : (p' : ℕ) (n : Made) (d : ℕ) → slice_get f.made p' ≡ Some n → is_kind RetransmissionRequest n.pdu.kind ≡ true
+      → slice_get asks (number (is_kind RetransmissionRequest) (take p' f.made)) ≡ Some d → SnIs e.made d n.pdu.cs
+  pub asks_taken : length asks ≤ number (is_kind RetransmissionRequest) (take (suc p) f.made)
+  pub open_requests : number (is_kind RetransmissionRequest) e.made + owes is_request_owed os ≤ number (is_kind RetransmissionResponse) (take (suc p) f.made) + open_bit ph
 
 module _ (q : Parameters) (e f : EndState) (t u : ℕ) (m : Made) (p : ℕ) (k : Taken e f t u m p) where
   pub here : SnIs f.made p m.pdu.sn
@@ -107,48 +107,48 @@ module _ (q : Parameters) (e f : EndState) (t u : ℕ) (m : Made) (p : ℕ) (k :
       let s : SnIs e.made r.0 m.pdu.cs = r.2 in
       (r.0, s, confirms_is e m.pdu r.0 k.mine.numbered k.few k.mine.confirmed s v, slice_get_within e.made r.0 s.m s.there)
 
-  more_asks : length e.asks ≤ number is_retransmission_request (take (suc p) f.made)
-  more_asks = omega (arith, k.mine.asks_taken, number_take_more is_retransmission_request f.made t (suc p) (omega (arith, k.above)))
+  more_asks : length e.asks ≤ number (is_kind RetransmissionRequest) (take (suc p) f.made)
+  more_asks = omega (arith, k.mine.asks_taken, number_take_more (is_kind RetransmissionRequest) f.made t (suc p) (omega (arith, k.above)))
 
-  more_answers : number is_retransmission_response (take t f.made) ≤ number is_retransmission_response (take (suc p) f.made)
-  more_answers = number_take_more is_retransmission_response f.made t (suc p) (omega (arith, k.above))
+  more_answers : number (is_kind RetransmissionResponse) (take t f.made) ≤ number (is_kind RetransmissionResponse) (take (suc p) f.made)
+  more_answers = number_take_more (is_kind RetransmissionResponse) f.made t (suc p) (omega (arith, k.above))
 
   -- a request that is answered is the one after those that were
-  pub index : is_retransmission_request m.pdu.kind ≡ true → number is_retransmission_request (take p f.made) ≡ length e.asks
+  pub index : is_kind RetransmissionRequest m.pdu.kind ≡ true → number (is_kind RetransmissionRequest) (take p f.made) ≡ length e.asks
   index a =
-      let low = number_take_more is_retransmission_request f.made t p k.above in
-      let next = number_take_at is_retransmission_request f.made p m k.there a in
-      let all = number_take_all is_retransmission_request f.made (suc p) in
-      let answers = number_take_all is_retransmission_response e.made u in
+      let low = number_take_more (is_kind RetransmissionRequest) f.made t p k.above in
+      let next = number_take_at (is_kind RetransmissionRequest) f.made p m k.there a in
+      let all = number_take_all (is_kind RetransmissionRequest) f.made (suc p) in
+      let answers = number_take_all (is_kind RetransmissionResponse) e.made u in
       let bit = bit_most f.phase in
       omega (arith, low, next, all, answers, bit, k.theirs.open_requests, k.mine.asked, k.mine.asks_taken)
 
   -- the list of asks with one more
-  answered_more : (c : ℕ) → is_retransmission_request m.pdu.kind ≡ true → SnIs e.made c m.pdu.cs
-      → (p' : ℕ) (n : Made) (d : ℕ) → slice_get f.made p' ≡ Some n → is_retransmission_request n.pdu.kind ≡ true
-      → slice_get (e.asks ++ c ∷ []) (number is_retransmission_request (take p' f.made)) ≡ Some d → SnIs e.made d n.pdu.cs
+  answered_more : (c : ℕ) → is_kind RetransmissionRequest m.pdu.kind ≡ true → SnIs e.made c m.pdu.cs
+      → (p' : ℕ) (n : Made) (d : ℕ) → slice_get f.made p' ≡ Some n → is_kind RetransmissionRequest n.pdu.kind ≡ true
+      → slice_get (e.asks ++ c ∷ []) (number (is_kind RetransmissionRequest) (take p' f.made)) ≡ Some d → SnIs e.made d n.pdu.cs
   answered_more c a s p' n d g b x =
       ⊎_elim
-      (λ (old : slice_get e.asks (number is_retransmission_request (take p' f.made)) ≡ Some d). k.mine.answered p' n d g b old)
-      (λ (new : (number is_retransmission_request (take p' f.made) ≡ length e.asks) × (c ≡ d)).
+      (λ (old : slice_get e.asks (number (is_kind RetransmissionRequest) (take p' f.made)) ≡ Some d). k.mine.answered p' n d g b old)
+      (λ (new : (number (is_kind RetransmissionRequest) (take p' f.made) ≡ length e.asks) × (c ≡ d)).
       let i = index a in
-      let next = number_take_at is_retransmission_request f.made p m k.there a in
-      let next' = number_take_at is_retransmission_request f.made p' n g b in
-      let one : p ≤ p' → suc p ≤ p' → ⊥ = λ l r. (let o = number_take_more is_retransmission_request f.made (suc p) p' r in omega arith) in
-      let two : suc p' ≤ p → ⊥ = λ r. (let o = number_take_more is_retransmission_request f.made (suc p') p r in omega arith) in
+      let next = number_take_at (is_kind RetransmissionRequest) f.made p m k.there a in
+      let next' = number_take_at (is_kind RetransmissionRequest) f.made p' n g b in
+      let one : p ≤ p' → suc p ≤ p' → ⊥ = λ l r. (let o = number_take_more (is_kind RetransmissionRequest) f.made (suc p) p' r in omega arith) in
+      let two : suc p' ≤ p → ⊥ = λ r. (let o = number_take_more (is_kind RetransmissionRequest) f.made (suc p') p r in omega arith) in
       let same : p' ≡ p = omega (arith, one, two) in
       let same_m : n ≡ m = (let g' : slice_get f.made p ≡ Some n = subst (λ (z : ℕ). slice_get f.made z ≡ Some n) same g in let h = k.there in cc) in
       subst (λ (z : ℕ). SnIs e.made z n.pdu.cs) new.1 (record { m = s.m; there = s.there; same = s.same ∙ ap (λ (z : Made). z.pdu.cs) (sym same_m) }))
-      (get_push_cases e.asks c (number is_retransmission_request (take p' f.made)) d x)
+      (get_push_cases e.asks c (number (is_kind RetransmissionRequest) (take p' f.made)) d x)
 
   -- where nothing is owed, each request was answered
-  pub no_answers : e.owed ≡ [] → is_closed e.phase ≡ false → number is_retransmission_response e.made ≡ length e.asks
+  pub no_answers : e.owed ≡ [] → is_closed e.phase ≡ false → number (is_kind RetransmissionResponse) e.made ≡ length e.asks
   no_answers free away =
       let b = k.mine.owing (over_not e.phase _ away) in
       let o = ap (owes is_answer_owed) free in
       omega (arith, b, o)
 
-  before : e.owed ≡ [] → number is_retransmission_request e.made ≤ number is_retransmission_response (take t f.made) + open_bit e.phase
+  before : e.owed ≡ [] → number (is_kind RetransmissionRequest) e.made ≤ number (is_kind RetransmissionResponse) (take t f.made) + open_bit e.phase
   before free =
       let o = ap (owes is_request_owed) free in
       omega (arith, o, k.mine.open_requests)
@@ -290,7 +290,7 @@ module _ (q : Parameters) (e f : EndState) (t u : ℕ) (m : Made) (p : ℕ) (k :
       }
 
   -- a response ends the wait for it
-  resumed_settled : e.phase ≡ RetrReq → is_retransmission_response m.pdu.kind ≡ true → e.owed ≡ [] → is_closed e.phase ≡ false → Settled e f p RetrRun e.owed e.asks
+  resumed_settled : e.phase ≡ RetrReq → is_kind RetransmissionResponse m.pdu.kind ≡ true → e.owed ≡ [] → is_closed e.phase ≡ false → Settled e f p RetrRun e.owed e.asks
   resumed_settled ph response free away =
       record {
         asked = k.mine.asked;
@@ -301,8 +301,8 @@ module _ (q : Parameters) (e f : EndState) (t u : ℕ) (m : Made) (p : ℕ) (k :
         open_requests = (
             let b = before free in
             let z = ap open_bit ph in
-            let n = number_take_at is_retransmission_response f.made p m k.there response in
-            let l = number_take_more is_retransmission_response f.made t p k.above in
+            let n = number_take_at (is_kind RetransmissionResponse) f.made p m k.there response in
+            let l = number_take_more (is_kind RetransmissionResponse) f.made t p k.above in
             let o = ap (owes is_request_owed) free in
             omega (arith, b, z, n, l, o));
       }
@@ -326,14 +326,14 @@ module _ (q : Parameters) (e f : EndState) (t u : ℕ) (m : Made) (p : ℕ) (k :
   burst_settled ph os ki vd answers responses bit free away =
       let c = position_confirmed e m.pdu in
       let at = mark (ap is_named ki) vd in
-      let is_a : is_retransmission_request m.pdu.kind ≡ true = ap is_retransmission_request ki in
+      let is_a : is_kind RetransmissionRequest m.pdu.kind ≡ true = ap (is_kind RetransmissionRequest) ki in
       let l = length_push e.asks c in
       record {
         asked = omega (arith, k.mine.asked, l);
         owing = (let b = no_answers free away in omega (arith, b, l, answers));
         response_due = responses;
         answered = answered_more c is_a (subst (λ (z : ℕ). SnIs e.made z m.pdu.cs) (sym at.2) at.1);
-        asks_taken = (let i = index is_a in let n = number_take_at is_retransmission_request f.made p m k.there is_a in omega (arith, i, n, l));
+        asks_taken = (let i = index is_a in let n = number_take_at (is_kind RetransmissionRequest) f.made p m k.there is_a in omega (arith, i, n, l));
         open_requests = (let b = before free in let r = more_answers in omega (arith, b, r, bit));
       }
 
@@ -410,7 +410,7 @@ module _ (q : Parameters) (e f : EndState) (t u : ℕ) (m : Made) (p : ℕ) (k :
   by_row c Gap w = in_gap (ap is_flowing w.0) c
   by_row c GapInRetransmission w = in_gap (ap is_flowing w.0) c
   by_row c Resumed w =
-      accepts q e f t u m p k RetrRun e.owed e.asks (ap (has_peer e.side) w.0) (ap is_named w.1) w.2 (λ v. cc) (λ v. cc) (resumed_settled q e f t u m p k w.0 (ap is_retransmission_response w.1) (free c) c)
+      accepts q e f t u m p k RetrRun e.owed e.asks (ap (has_peer e.side) w.0) (ap is_named w.1) w.2 (λ v. cc) (λ v. cc) (resumed_settled q e f t u m p k w.0 (ap (is_kind RetransmissionResponse) w.1) (free c) c)
   by_row c Requested w =
       let at = position_confirmed e m.pdu in
       let bit = flowing_bit e.phase w.0 in

@@ -12,7 +12,7 @@ use Rattle.rasta_end.specs.declared.phase.Phase.{Phase}
 use Rattle.rasta_end.specs.declared.phase.Phase.TheVariants.{Closed, Down, RetrReq}
 use Rattle.rasta_end.specs.declared.owed.Owed.{Owed}
 use Rattle.rasta_end.specs.State.{Made, EndState, is_owing, is_closed, is_connected, carries_unit}
-use Rattle.rasta_end.specs.MakeRule.{is_data, first_that_holds, is_past, after_make}
+use Rattle.rasta_end.specs.MakeRule.{first_that_holds, is_past, after_make}
 use Rattle.rasta_end.specs.TakeRule.{take_fault, after_take}
 use Rattle.rasta_end.specs.Starts.{fresh_end, sn_before, quiet_pdu, quiet_end, start_by}
 use Rattle.rasta_check.specs.Model.World.{Station, World, Move, Moves, makes, repeats, arrives, takes, waits, Reaches, IsWithin}
@@ -30,6 +30,8 @@ use Rattle.rasta_check.proofs.Model.HandedUnits.{Handed, handed_make, handed_pee
 use Rattle.rasta_check.proofs.Model.ShownUnits.{Shown, shown_make, shown_peer_make, shown_take, shown_peer_take}
 use Rattle.rasta_check.proofs.Model.SequenceNumbers.{numbered_once}
 use Rattle.rasta_check.proofs.Model.Induction.{always}
+use Rattle.rasta_pdu.specs.Pdu.{is_kind}
+use Rattle.rasta_pdu.specs.declared.kind.Kind.TheVariants.{Data}
 
 -- ---- the start: a fresh end, or one at a quiet point
 
@@ -126,7 +128,7 @@ quiet_valued side own other =
       asks_within = λ i d e. nothing_at i d e;
       grown = λ v. (record { pdu = quiet_pdu own other; unit = None }, [], refl);
       counted = refl;
-      fresh = λ i m e k. absurd (let z = ap (λ (n : Made). is_data n.pdu.kind) (only_at _ m i e).1 in cc);
+      fresh = λ i m e k. absurd (let z = ap (λ (n : Made). is_kind Data n.pdu.kind) (only_at _ m i e).1 in cc);
       carried = λ i m k e u. absurd (let z = ap (λ (n : Made). n.unit) (only_at _ m i e).1 in cc);
     }
 

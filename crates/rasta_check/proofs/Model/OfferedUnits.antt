@@ -4,10 +4,12 @@ use Rattle.rasta_end.specs.declared.owed.Owed.{Owed}
 use Rattle.rasta_end.specs.declared.owed.Owed.TheVariants.{ConnectionResponse as OweConnectionResponse, FirstHeartbeat as OweFirstHeartbeat, RetransmissionResponse as OweRetransmissionResponse, Resend as OweResend, RetransmissionRequest as OweRetransmissionRequest}
 use Rattle.rasta_end.specs.State.{Made, EndState, is_connected, carries_unit, content_of}
 use Rattle.rasta_end.specs.Units.{last_of}
-use Rattle.rasta_end.specs.MakeRule.{has_ended, contents, is_data}
-use Rattle.rasta_end.specs.TakeRule.{is_retransmission_response, resends}
+use Rattle.rasta_end.specs.MakeRule.{has_ended, contents}
+use Rattle.rasta_end.specs.TakeRule.{resends}
 use Rattle.rasta_check.proofs.Model.Counts.{number}
 use Rattle.rasta_check.proofs.Model.ConveyedUnits.{values, jump, is_plain}
+use Rattle.rasta_pdu.specs.Pdu.{is_kind}
+use Rattle.rasta_pdu.specs.declared.kind.Kind.TheVariants.{Data, RetransmissionResponse}
 
 -- from v units conveyed, what is owed leads to n
 abbrev pub DueRest : ℕ → ℕ → List Owed → Type 0
@@ -33,15 +35,15 @@ pub record Valued (e : EndState) : Type 0 where
   pub units : (p : ℕ) (n : Made) → slice_get e.made p ≡ Some n → carries_unit n.pdu.kind ≡ true
       → (q : ℕ) × (k : ℕ) × (p ≡ suc q) × (n.unit ≡ Some k) × (slice_get (values e) q ≡ Some k) × (slice_get (values e) p ≡ Some (suc k))
   pub others : (q : ℕ) (n : Made) → slice_get e.made (suc q) ≡ Some n → is_plain n.pdu.kind ≡ true → slice_get (values e) (suc q) ≡ slice_get (values e) q
-  pub jumps : (p : ℕ) (n : Made) (c : ℕ) → slice_get e.made p ≡ Some n → is_retransmission_response n.pdu.kind ≡ true
-      → slice_get e.asks (number is_retransmission_response (take p e.made)) ≡ Some c → (c < p) × (slice_get (values e) p ≡ slice_get (values e) c)
+  pub jumps : (p : ℕ) (n : Made) (c : ℕ) → slice_get e.made p ≡ Some n → is_kind RetransmissionResponse n.pdu.kind ≡ true
+      → slice_get e.asks (number (is_kind RetransmissionResponse) (take p e.made)) ≡ Some c → (c < p) × (slice_get (values e) p ≡ slice_get (values e) c)
   pub zeroth : (v : ℕ) → slice_get (values e) 0 ≡ Some v → v ≡ 0
   -- asks are own positions
   pub asks_within : (i c : ℕ) → slice_get e.asks i ≡ Some c → c < length e.made
   pub grown : is_connected e.phase ≡ true → (m : Made) × (ms : List Made) × (e.made ≡ m ∷ ms)
   -- the k-th data PDU carries unit k, and whatever carries unit k has its content
   pub counted : length (contents e.made) ≡ e.offered
-  pub fresh : (p : ℕ) (n : Made) → slice_get e.made p ≡ Some n → is_data n.pdu.kind ≡ true → n.unit ≡ Some (length (contents (take p e.made)))
+  pub fresh : (p : ℕ) (n : Made) → slice_get e.made p ≡ Some n → is_kind Data n.pdu.kind ≡ true → n.unit ≡ Some (length (contents (take p e.made)))
   pub carried : (p : ℕ) (n : Made) (k : ℕ) → slice_get e.made p ≡ Some n → n.unit ≡ Some k
       → (carries_unit n.pdu.kind ≡ true) × (slice_get (contents e.made) k ≡ Some (content_of n.pdu.body))
 

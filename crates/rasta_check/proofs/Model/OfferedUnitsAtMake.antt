@@ -5,12 +5,14 @@ use Rattle.std.proofs.lemmas.List.{take-append-le, append-nil, take_all, length_
 use Rattle.std.proofs.lemmas.List.Elements.{filter-append}
 use Rattle.std.proofs.lemmas.Option.{slice_get_within}
 use Rattle.std.proofs.lemmas.Slice.Eq.{bytes_eq-Decides}
+use Rattle.std.specs.Option.{option_map_or}
+use Rattle.std.specs.Str.{bytes_eq}
 use Rattle.rasta_pcap.specs.declared.fault.Side.{Side}
 use Rattle.rasta_pcap.specs.declared.fault.Side.TheVariants.{Client}
 use Rattle.rasta_pdu.specs.declared.kind.Kind.{Kind}
 use Rattle.rasta_pdu.specs.declared.kind.Kind.TheVariants.{ConnectionRequest, ConnectionResponse, RetransmissionRequest, RetransmissionResponse, DisconnectionRequest, Heartbeat, Data, RetransmittedData}
 use Rattle.rasta_pdu.specs.Params.{Parameters}
-use Rattle.rasta_pdu.specs.Pdu.{SafetyPdu}
+use Rattle.rasta_pdu.specs.Pdu.{SafetyPdu, is_kind}
 use Rattle.rasta_end.specs.declared.phase.Phase.{Phase}
 use Rattle.rasta_end.specs.declared.phase.Phase.TheVariants.{Closed}
 use Rattle.rasta_end.specs.declared.why.Why.{Why}
@@ -19,8 +21,7 @@ use Rattle.rasta_end.specs.declared.make_row.MakeRow.TheVariants.{Resends, Offer
 use Rattle.rasta_end.specs.declared.owed.Owed.{Owed}
 use Rattle.rasta_end.specs.State.{Made, EndState, is_connected, is_active, carries_unit, content_of}
 use Rattle.rasta_end.specs.Units.{units_after, units_at, last_of}
-use Rattle.rasta_end.specs.MakeRule.{has_ended, contents, is_data, is_content, differs, unit_of, phase_after, owed_after, offered_after, after_make, after_make_by}
-use Rattle.rasta_end.specs.TakeRule.{is_retransmission_response}
+use Rattle.rasta_end.specs.MakeRule.{has_ended, contents, differs, unit_of, phase_after, owed_after, offered_after, after_make, after_make_by}
 use Rattle.rasta_check.proofs.Model.ListGrowth.{get_push_cases, get_front, get_push}
 use Rattle.rasta_check.proofs.Model.Counts.{number}
 use Rattle.rasta_check.proofs.Model.PassedTests.{Passed, un_not}
@@ -36,11 +37,11 @@ push_cons (x ∷ ms) m = (x, ms ++ m ∷ [], refl)
 
 -- Types.
 
-plain_not : (k : Kind) → is_plain k ≡ true → is_retransmission_response k ≡ true → ⊥
+plain_not : (k : Kind) → is_plain k ≡ true → is_kind RetransmissionResponse k ≡ true → ⊥
 plain_not RetransmissionResponse h g = cc
 plain_not _ h g = cc
 
-unit_not_answer : (k : Kind) → carries_unit k ≡ true → is_retransmission_response k ≡ true → ⊥
+unit_not_answer : (k : Kind) → carries_unit k ≡ true → is_kind RetransmissionResponse k ≡ true → ⊥
 unit_not_answer RetransmissionResponse h g = cc
 unit_not_answer _ h g = cc
 
@@ -54,7 +55,7 @@ not_plain Data h = refl
 not_plain RetransmittedData h = refl
 not_plain _ h = absurd (cc)
 
-data_carries : (k : Kind) → is_data k ≡ true → carries_unit k ≡ true
+data_carries : (k : Kind) → is_kind Data k ≡ true → carries_unit k ≡ true
 data_carries Data h = refl
 data_carries _ h = absurd (cc)
 
@@ -135,8 +136,8 @@ offered_least _ n = omega arith
 -- What a row adds to the contents of the units offered.
 
 data Carries (row : MakeRow) (k : Kind) : Type 0 where
-  neither : is_data k ≡ false → ((n : ℕ) → unit_of row n ≡ None) → ((n : ℕ) → offered_after row n ≡ n) → Carries row k
-  anew : row ≡ Offers → is_data k ≡ true → Carries row k
+  neither : is_kind Data k ≡ false → ((n : ℕ) → unit_of row n ≡ None) → ((n : ℕ) → offered_after row n ≡ n) → Carries row k
+  anew : row ≡ Offers → is_kind Data k ≡ true → Carries row k
   once_more : (j : ℕ) → row ≡ Resends j → k ≡ RetransmittedData → Carries row k
 
 carries_by : (s : Side) (ph : Phase) (why : Why) (k : Kind) (os : List Owed) (row : MakeRow) → Making s ph why k os row → Carries row k
@@ -153,16 +154,16 @@ carries_by s ph why k os row (expired r) = neither refl (λ n. refl) (λ n. refl
 
 contents_push : (ms : List Made) (m : Made) → contents (ms ++ m ∷ []) ≡ contents ms ++ contents (m ∷ [])
 contents_push ms m =
-    ap (map (λ (n : Made). content_of n.pdu.body)) (filter-append (λ (n : Made). is_data n.pdu.kind) ms (m ∷ []))
-    ∙ map-append (λ (n : Made). content_of n.pdu.body) (filter (λ (n : Made). is_data n.pdu.kind) ms) (filter (λ (n : Made). is_data n.pdu.kind) (m ∷ []))
+    ap (map (λ (n : Made). content_of n.pdu.body)) (filter-append (λ (n : Made). is_kind Data n.pdu.kind) ms (m ∷ []))
+    ∙ map-append (λ (n : Made). content_of n.pdu.body) (filter (λ (n : Made). is_kind Data n.pdu.kind) ms) (filter (λ (n : Made). is_kind Data n.pdu.kind) (m ∷ []))
 
-contents_of_data : (m : Made) → is_data m.pdu.kind ≡ true → contents (m ∷ []) ≡ content_of m.pdu.body ∷ []
+contents_of_data : (m : Made) → is_kind Data m.pdu.kind ≡ true → contents (m ∷ []) ≡ content_of m.pdu.body ∷ []
 contents_of_data m e = rw e refl
 
-contents_of_other : (m : Made) → is_data m.pdu.kind ≡ false → contents (m ∷ []) ≡ []
+contents_of_other : (m : Made) → is_kind Data m.pdu.kind ≡ false → contents (m ∷ []) ≡ []
 contents_of_other m e = rw e refl
 
-the_content : (unit : Option (List ℕ)) (content : List ℕ) → is_content unit content ≡ true → unit ≡ Some content
+the_content : (unit : Option (List ℕ)) (content : List ℕ) → option_map_or (λ (own : List ℕ). bytes_eq own content) unit false ≡ true → unit ≡ Some content
 the_content None content h = absurd (cc)
 the_content (Some unit) content h = ap Some ((bytes_eq-Decides unit content).0 h)
 
@@ -174,7 +175,7 @@ module _ (p : Parameters) (e : EndState) (x : SafetyPdu) (clock : ℕ) (why : Wh
   new = new_made b.row e x
 
   abbrev value : ℕ
-  value = units_after e.asks (values e) (number is_retransmission_response e.made) x.kind
+  value = units_after e.asks (values e) (number (is_kind RetransmissionResponse) e.made) x.kind
 
   pushed : values after ≡ values e ++ value ∷ []
   pushed = values_push e.asks e.made new
@@ -193,7 +194,7 @@ module _ (p : Parameters) (e : EndState) (x : SafetyPdu) (clock : ℕ) (why : Wh
   nothing_owed c = (h.unmade (closed_client e.side e.phase why x.kind e.owed b.row b.how c) (nothing_made e.side e.phase e.made c pass.open_yet)).1
 
   step : Stepped (jump e) (last_of (values e)) e.offered value x.kind b.row e.owed
-  step = stepped e.side e.phase why x.kind e.owed b.row (jump e) (last_of (values e)) e.offered value nothing_owed b.how (w.due pass.open_yet) (next_by e.asks (values e) (number is_retransmission_response e.made) x.kind some_made)
+  step = stepped e.side e.phase why x.kind e.owed b.row (jump e) (last_of (values e)) e.offered value nothing_owed b.how (w.due pass.open_yet) (next_by e.asks (values e) (number (is_kind RetransmissionResponse) e.made) x.kind some_made)
 
   last_le : last_of (values e) ≤ e.offered
   last_le = last_le_by (values e) w.bounded
@@ -237,20 +238,20 @@ module _ (p : Parameters) (e : EndState) (x : SafetyPdu) (clock : ℕ) (why : Wh
       by : Stepped (jump e) (last_of (values e)) e.offered value x.kind b.row e.owed → (value ≡ suc (last_of (values e))) × (new.unit ≡ Some (last_of (values e)))
       by (over a c d) = absurd (unit_not_plain x.kind u a)
       by (plainly a c d) = absurd (unit_not_plain x.kind u a)
-      by (back a c d) = absurd (unit_not_answer x.kind u (ap is_retransmission_response a))
+      by (back a c d) = absurd (unit_not_answer x.kind u (ap (is_kind RetransmissionResponse) a))
       by (onward a c d f) = (c, d)
 
   plain_is : is_plain x.kind ≡ true → value ≡ last_of (values e)
-  plain_is u = after_plain e.asks (values e) (number is_retransmission_response e.made) x.kind u
+  plain_is u = after_plain e.asks (values e) (number (is_kind RetransmissionResponse) e.made) x.kind u
 
-  back_is : is_retransmission_response x.kind ≡ true → (c : ℕ) → slice_get e.asks (number is_retransmission_response e.made) ≡ Some c → slice_get (values e) c ≡ Some value
+  back_is : is_kind RetransmissionResponse x.kind ≡ true → (c : ℕ) → slice_get e.asks (number (is_kind RetransmissionResponse) e.made) ≡ Some c → slice_get (values e) c ≡ Some value
   back_is u c g = by step
     where
       by : Stepped (jump e) (last_of (values e)) e.offered value x.kind b.row e.owed → slice_get (values e) c ≡ Some value
       by (over a d f) = absurd (plain_not x.kind a u)
       by (plainly a d f) = absurd (plain_not x.kind a u)
       by (back a d f) =
-          let l : c < length (values e) = omega (arith, long, w.asks_within (number is_retransmission_response e.made) c g) in
+          let l : c < length (values e) = omega (arith, long, w.asks_within (number (is_kind RetransmissionResponse) e.made) c g) in
           let j : jump e ≡ slice_index_or (values e) c 0 = ap (units_at (values e)) g in
           get_within (values e) c l ∙ ap Some (sym (d ∙ j))
       by (onward a d f g') = absurd (unit_not_answer x.kind a u)
@@ -266,7 +267,7 @@ module _ (p : Parameters) (e : EndState) (x : SafetyPdu) (clock : ℕ) (why : Wh
   more_contents : (k : ℕ) (content : List ℕ) → slice_get (contents e.made) k ≡ Some content → slice_get (contents after.made) k ≡ Some content
   more_contents k content g = subst (λ (cs : List (List ℕ)). slice_get cs k ≡ Some content) (sym (contents_push e.made new)) (get_front (contents e.made) (contents (new ∷ [])) k content g)
 
-  same_count : is_data x.kind ≡ false → length (contents after.made) ≡ e.offered
+  same_count : is_kind Data x.kind ≡ false → length (contents after.made) ≡ e.offered
   same_count d =
       let none : contents (new ∷ []) ≡ [] = contents_of_other new d in
       ap length (contents_push e.made new ∙ (ap (λ (cs : List (List ℕ)). contents e.made ++ cs) none ∙ append-nil (contents e.made))) ∙ w.counted
@@ -283,15 +284,15 @@ module _ (p : Parameters) (e : EndState) (x : SafetyPdu) (clock : ℕ) (why : Wh
           let k = length_push (contents e.made) (content_of x.body) in
           let c = w.counted in
           omega (arith, l, k, more, c)
-      by (once_more j r k) = same_count (ap is_data k) ∙ sym (ap (λ (row : MakeRow). offered_after row e.offered) r)
+      by (once_more j r k) = same_count (ap (is_kind Data) k) ∙ sym (ap (λ (row : MakeRow). offered_after row e.offered) r)
 
-  new_fresh : is_data x.kind ≡ true → new.unit ≡ Some (length (contents e.made))
+  new_fresh : is_kind Data x.kind ≡ true → new.unit ≡ Some (length (contents e.made))
   new_fresh d = by carries
     where
       by : Carries b.row x.kind → new.unit ≡ Some (length (contents e.made))
       by (neither f u o) = absurd (cc)
       by (anew r f) = ap (λ (row : MakeRow). unit_of row e.offered) r ∙ ap Some (sym w.counted)
-      by (once_more j r k) = absurd (let z = ap is_data k in cc)
+      by (once_more j r k) = absurd (let z = ap (is_kind Data) k in cc)
 
   new_carried : (k : ℕ) → new.unit ≡ Some k → (carries_unit x.kind ≡ true) × (slice_get (contents after.made) k ≡ Some (content_of x.body))
   new_carried k g = by carries
@@ -331,12 +332,12 @@ module _ (p : Parameters) (e : EndState) (x : SafetyPdu) (clock : ℕ) (why : Wh
   new_plain : (q : ℕ) → suc q ≡ length e.made → is_plain x.kind ≡ true → slice_get (values after) (suc q) ≡ slice_get (values after) q
   new_plain q s u = at_new (suc q) s ∙ (ap Some (plain_is u) ∙ sym (get_old q _ (previous q (sym s))))
 
-  new_back : (i c : ℕ) → i ≡ length e.made → is_retransmission_response x.kind ≡ true → slice_get e.asks (number is_retransmission_response (take i e.made)) ≡ Some c
+  new_back : (i c : ℕ) → i ≡ length e.made → is_kind RetransmissionResponse x.kind ≡ true → slice_get e.asks (number (is_kind RetransmissionResponse) (take i e.made)) ≡ Some c
       → (c < i) × (slice_get (values after) i ≡ slice_get (values after) c)
   new_back i c s u a =
       let all : take i e.made ≡ e.made = take_all i e.made (omega arith) in
-      let a' : slice_get e.asks (number is_retransmission_response e.made) ≡ Some c = subst (λ (ms : List Made). slice_get e.asks (number is_retransmission_response ms) ≡ Some c) all a in
-      (omega (arith, w.asks_within (number is_retransmission_response e.made) c a'), at_new i s ∙ sym (get_old c value (back_is u c a')))
+      let a' : slice_get e.asks (number (is_kind RetransmissionResponse) e.made) ≡ Some c = subst (λ (ms : List Made). slice_get e.asks (number (is_kind RetransmissionResponse) ms) ≡ Some c) all a in
+      (omega (arith, w.asks_within (number (is_kind RetransmissionResponse) e.made) c a'), at_new i s ∙ sym (get_old c value (back_is u c a')))
 
   front : (i : ℕ) → i ≤ length e.made → take i (e.made ++ new ∷ []) ≡ take i e.made
   front i l = take-append-le i e.made (new ∷ []) l
@@ -364,14 +365,14 @@ module _ (p : Parameters) (e : EndState) (x : SafetyPdu) (clock : ℕ) (why : Wh
         jumps = λ i n c g u a. ⊎_elim
             (λ (old : slice_get e.made i ≡ Some n).
             let l = slice_get_within e.made i n old in
-            let r = w.jumps i n c old u (subst (λ (ms : List Made). slice_get e.asks (number is_retransmission_response ms) ≡ Some c) (front i (omega (arith, l))) a) in
+            let r = w.jumps i n c old u (subst (λ (ms : List Made). slice_get e.asks (number (is_kind RetransmissionResponse) ms) ≡ Some c) (front i (omega (arith, l))) a) in
             (r.0, both_old c i r.1 l))
             (λ (now : (i ≡ length e.made) × (new ≡ n)).
-            new_back i c now.0 (ap (λ (y : Made). is_retransmission_response y.pdu.kind) now.1 ∙ u) (subst (λ (ms : List Made). slice_get e.asks (number is_retransmission_response ms) ≡ Some c) (front i (omega arith)) a))
+            new_back i c now.0 (ap (λ (y : Made). is_kind RetransmissionResponse y.pdu.kind) now.1 ∙ u) (subst (λ (ms : List Made). slice_get e.asks (number (is_kind RetransmissionResponse) ms) ≡ Some c) (front i (omega arith)) a))
             (get_push_cases e.made new i n g);
         zeroth = λ v g. ⊎_elim
             (λ (old : slice_get (values e) 0 ≡ Some v). w.zeroth v old)
-            (λ (now : (0 ≡ length (values e)) × (value ≡ v)). sym now.1 ∙ first_zero e.asks (values e) (number is_retransmission_response e.made) x.kind (sym now.0))
+            (λ (now : (0 ≡ length (values e)) × (value ≡ v)). sym now.1 ∙ first_zero e.asks (values e) (number (is_kind RetransmissionResponse) e.made) x.kind (sym now.0))
             (get_push_cases (values e) value 0 v (subst (λ vs. slice_get vs 0 ≡ Some v) pushed g));
         asks_within = λ i c g. (let l = w.asks_within i c g in omega (arith, l, length_push e.made new));
         grown = λ _. push_cons e.made new;
@@ -383,7 +384,7 @@ module _ (p : Parameters) (e : EndState) (x : SafetyPdu) (clock : ℕ) (why : Wh
             (λ (now : (i ≡ length e.made) × (new ≡ n)).
             let all : take i (e.made ++ new ∷ []) ≡ e.made = front i (omega arith) ∙ take_all i e.made (omega arith) in
             ap (λ (y : Made). y.unit) (sym now.1)
-            ∙ (new_fresh (ap (λ (y : Made). is_data y.pdu.kind) now.1 ∙ d) ∙ ap (λ (ms : List Made). Some (length (contents ms))) (sym all)))
+            ∙ (new_fresh (ap (λ (y : Made). is_kind Data y.pdu.kind) now.1 ∙ d) ∙ ap (λ (ms : List Made). Some (length (contents ms))) (sym all)))
             (get_push_cases e.made new i n g);
         carried = λ i n k g c. ⊎_elim
             (λ (old : slice_get e.made i ≡ Some n). (let r = w.carried i n k old c in (r.0, more_contents k (content_of n.pdu.body) r.1)))

@@ -3,7 +3,7 @@ use Rattle.std.proofs.Common.{◌≡◌, ℕ, suc, ◌-◌, ◌<◌, ◌≤◌, 
 use Rattle.std.specs.Prelude.{slice_index_or, if◌then◌else◌}
 use Rattle.std.proofs.lemmas.List.{append-nil}
 use Rattle.rasta_pdu.specs.Params.{Parameters}
-use Rattle.rasta_pdu.specs.Pdu.{SafetyPdu}
+use Rattle.rasta_pdu.specs.Pdu.{SafetyPdu, is_kind}
 use Rattle.rasta_end.specs.declared.phase.Phase.{Phase}
 use Rattle.rasta_end.specs.declared.phase.Phase.TheVariants.{Up, RetrRun}
 use Rattle.rasta_end.specs.declared.take_row.TakeRow.{TakeRow}
@@ -13,7 +13,7 @@ use Rattle.rasta_end.specs.declared.owed.Owed.TheVariants.{RetransmissionRespons
 use Rattle.rasta_end.specs.State.{Made, EndState, kinds, is_closed, is_flowing, is_connected, carries_unit}
 use Rattle.rasta_end.specs.Units.{units_conveyed, units_at, last_of}
 use Rattle.rasta_end.specs.MakeRule.{has_ended}
-use Rattle.rasta_end.specs.TakeRule.{is_retransmission_response, is_valid, position_confirmed, accept, enter, hand_up, note_ask, resends, take_row, effect, effect_by, after_take}
+use Rattle.rasta_end.specs.TakeRule.{is_valid, position_confirmed, accept, enter, hand_up, note_ask, resends, take_row, effect, effect_by, after_take}
 use Rattle.rasta_check.proofs.Model.ListGrowth.{get_push_cases, get_push}
 use Rattle.rasta_check.proofs.Model.Counts.{number, number_take_all, number_take_at}
 use Rattle.rasta_check.proofs.Model.TakeRows.{Knows, row_known, not_closed}
@@ -21,6 +21,7 @@ use Rattle.rasta_check.proofs.Model.Invariant.{is_named}
 use Rattle.rasta_check.proofs.Model.InvariantAtTake.{Taken, mark, no_answers, over_not, fresh_named}
 use Rattle.rasta_check.proofs.Model.ConveyedUnits.{values, jump, values_asks, get_or_is, get_or_none}
 use Rattle.rasta_check.proofs.Model.OfferedUnits.{Valued, Due, DueRest, resends_due}
+use Rattle.rasta_pdu.specs.declared.kind.Kind.TheVariants.{RetransmissionResponse}
 
 pub calm_runs : (ph : Phase) → is_flowing ph ≡ true → is_connected ph ≡ true
 calm_runs Up h = refl
@@ -86,17 +87,17 @@ module _ (q : Parameters) (e f : EndState) (t u : ℕ) (m : Made) (p : ℕ) (k :
   on_same : (c i j : ℕ) → slice_get (values e) i ≡ slice_get (values e) j → slice_get (values (asked c)) i ≡ slice_get (values (asked c)) j
   on_same c i j g = subst (λ vs. slice_get vs i ≡ slice_get vs j) (sym (same_values c)) g
 
-  old_ask : (c i : ℕ) (n : Made) (d : ℕ) → slice_get e.made i ≡ Some n → is_retransmission_response n.pdu.kind ≡ true
-      → slice_get (e.asks ++ c ∷ []) (number is_retransmission_response (take i e.made)) ≡ Some d → slice_get e.asks (number is_retransmission_response (take i e.made)) ≡ Some d
+  old_ask : (c i : ℕ) (n : Made) (d : ℕ) → slice_get e.made i ≡ Some n → is_kind RetransmissionResponse n.pdu.kind ≡ true
+      → slice_get (e.asks ++ c ∷ []) (number (is_kind RetransmissionResponse) (take i e.made)) ≡ Some d → slice_get e.asks (number (is_kind RetransmissionResponse) (take i e.made)) ≡ Some d
   old_ask c i n d g b a =
       ⊎_elim
-      (λ (old : slice_get e.asks (number is_retransmission_response (take i e.made)) ≡ Some d). old)
-      (λ (now : (number is_retransmission_response (take i e.made) ≡ length e.asks) × (c ≡ d)).
-      let next = number_take_at is_retransmission_response e.made i n g b in
-      let all = number_take_all is_retransmission_response e.made (suc i) in
+      (λ (old : slice_get e.asks (number (is_kind RetransmissionResponse) (take i e.made)) ≡ Some d). old)
+      (λ (now : (number (is_kind RetransmissionResponse) (take i e.made) ≡ length e.asks) × (c ≡ d)).
+      let next = number_take_at (is_kind RetransmissionResponse) e.made i n g b in
+      let all = number_take_all (is_kind RetransmissionResponse) e.made (suc i) in
       let len = no_answers q e f t u m p k free away in
       absurd (omega arith))
-      (get_push_cases e.asks c (number is_retransmission_response (take i e.made)) d a)
+      (get_push_cases e.asks c (number (is_kind RetransmissionResponse) (take i e.made)) d a)
 
   upto_le : (c : ℕ) → units_conveyed e.asks (kinds e.made) c ≤ e.offered
   upto_le c = at_c (slice_get (values e) c) refl
@@ -108,7 +109,7 @@ module _ (q : Parameters) (e f : EndState) (t u : ℕ) (m : Made) (p : ℕ) (k :
   burst_jump : (c : ℕ) → jump (asked c) ≡ units_conveyed e.asks (kinds e.made) c
   burst_jump c =
       let len = no_answers q e f t u m p k free away in
-      let at : slice_get (e.asks ++ c ∷ []) (number is_retransmission_response e.made) ≡ Some c = subst (λ i. slice_get (e.asks ++ c ∷ []) i ≡ Some c) (sym len) (get_push e.asks c) in
+      let at : slice_get (e.asks ++ c ∷ []) (number (is_kind RetransmissionResponse) e.made) ≡ Some c = subst (λ i. slice_get (e.asks ++ c ∷ []) i ≡ Some c) (sym len) (get_push e.asks c) in
       ap (units_at (values (asked c))) at ∙ ap (λ vs. slice_index_or vs c 0) (same_values c)
 
   -- the resends of the burst that answers this ask
@@ -171,7 +172,7 @@ module _ (q : Parameters) (e f : EndState) (t u : ℕ) (m : Made) (p : ℕ) (k :
   valued_take = v_by (take_row q e m.pdu) refl
 
 -- a take leaves the units conveyed through each position
-pub values_take : (q : Parameters) (e : EndState) (x : SafetyPdu) → number is_retransmission_response e.made ≤ length e.asks → values (after_take q e x) ≡ values e
+pub values_take : (q : Parameters) (e : EndState) (x : SafetyPdu) → number (is_kind RetransmissionResponse) e.made ≤ length e.asks → values (after_take q e x) ≡ values e
 values_take q e x h = by_option (take_row q e x)
   where
     handed_same : (b : Bool) (i : ℕ) (g : EndState) → values (if b then hand_up i g x else g) ≡ values g

@@ -7,11 +7,10 @@ use Rattle.std.proofs.Math.Seq.{take-append_seam}
 use Rattle.std.proofs.lemmas.Bool.Decides.{nat_tests}
 use Rattle.std.proofs.lemmas.Option.{slice_get_within}
 use Rattle.rasta_pdu.specs.declared.kind.Kind.{Kind}
-use Rattle.rasta_pdu.specs.declared.kind.Kind.TheVariants.{RetransmissionRequest}
-use Rattle.rasta_pdu.specs.Pdu.{SafetyPdu}
+use Rattle.rasta_pdu.specs.declared.kind.Kind.TheVariants.{RetransmissionRequest, RetransmissionResponse}
+use Rattle.rasta_pdu.specs.Pdu.{SafetyPdu, is_kind}
 use Rattle.rasta_end.specs.State.{Made, EndState, kinds}
 use Rattle.rasta_end.specs.Units.{responses_in}
-use Rattle.rasta_end.specs.TakeRule.{is_retransmission_request, is_retransmission_response}
 use Rattle.rasta_check.specs.Verdict.Taken.{pdus_made, position_with, asked_positions}
 use Rattle.rasta_check.specs.Model.Laws.{NamesOne, requests_of, AnswersInOrder}
 use Rattle.rasta_check.proofs.Model.Counts.{number, tally, number_take_all, number_take_at}
@@ -72,14 +71,14 @@ more_of true x a xs k e = e
 more_of false x a xs k e = e
 
 -- the k-th request, by its position
-pub request_at : (ms : List Made) (p : ℕ) (m : Made) → slice_get ms p ≡ Some m → is_retransmission_request m.pdu.kind ≡ true
-    → slice_get (requests_of ms) (number is_retransmission_request (take p ms)) ≡ Some m
+pub request_at : (ms : List Made) (p : ℕ) (m : Made) → slice_get ms p ≡ Some m → is_kind RetransmissionRequest m.pdu.kind ≡ true
+    → slice_get (requests_of ms) (number (is_kind RetransmissionRequest) (take p ms)) ≡ Some m
 request_at [] p m e r = absurd (cc)
 request_at (x ∷ ms) zero m e r =
     let same : x ≡ m = cc in
-    let b : is_retransmission_request x.pdu.kind ≡ true = ap (λ (n : Made). is_retransmission_request n.pdu.kind) same ∙ r in
+    let b : is_kind RetransmissionRequest x.pdu.kind ≡ true = ap (λ (n : Made). is_kind RetransmissionRequest n.pdu.kind) same ∙ r in
     ap (λ c. slice_get (cond c (x ∷ requests_of ms) (requests_of ms)) 0) b ∙ ap Some same
-request_at (x ∷ ms) (suc p) m e r = more_of (is_retransmission_request x.pdu.kind) x m (requests_of ms) (number is_retransmission_request (take p ms)) (request_at ms p m e r)
+request_at (x ∷ ms) (suc p) m e r = more_of (is_kind RetransmissionRequest x.pdu.kind) x m (requests_of ms) (number (is_kind RetransmissionRequest) (take p ms)) (request_at ms p m e r)
 
 more_asked : (own : List SafetyPdu) (b : Bool) (x : SafetyPdu) (xs : List SafetyPdu) (k c : ℕ) → (b ≡ true → (d : ℕ) × (position_with own x.cs ≡ Some d))
     → slice_get (filter_map (λ (y : SafetyPdu). position_with own y.cs) xs) k ≡ Some c
@@ -91,21 +90,21 @@ more_asked own false x xs k c h e = e
 
 -- each request confirms a position
 abbrev pub AllNamed : List SafetyPdu → List Made → Type 0
-AllNamed own ms = (p : ℕ) (m : Made) → slice_get ms p ≡ Some m → is_retransmission_request m.pdu.kind ≡ true → (d : ℕ) × (position_with own m.pdu.cs ≡ Some d)
+AllNamed own ms = (p : ℕ) (m : Made) → slice_get ms p ≡ Some m → is_kind RetransmissionRequest m.pdu.kind ≡ true → (d : ℕ) × (position_with own m.pdu.cs ≡ Some d)
 
 -- the position that the k-th request confirms, by the position of the request
-pub asked_at : (own : List SafetyPdu) (ms : List Made) → AllNamed own ms → (p : ℕ) (m : Made) (c : ℕ) → slice_get ms p ≡ Some m → is_retransmission_request m.pdu.kind ≡ true
-    → position_with own m.pdu.cs ≡ Some c → slice_get (asked_positions own (pdus_made ms)) (number is_retransmission_request (take p ms)) ≡ Some c
+pub asked_at : (own : List SafetyPdu) (ms : List Made) → AllNamed own ms → (p : ℕ) (m : Made) (c : ℕ) → slice_get ms p ≡ Some m → is_kind RetransmissionRequest m.pdu.kind ≡ true
+    → position_with own m.pdu.cs ≡ Some c → slice_get (asked_positions own (pdus_made ms)) (number (is_kind RetransmissionRequest) (take p ms)) ≡ Some c
 asked_at own [] all p m c e r h = absurd (cc)
 asked_at own (x ∷ ms) all zero m c e r h =
     let same : x ≡ m = cc in
-    let b : is_retransmission_request x.pdu.kind ≡ true = ap (λ (n : Made). is_retransmission_request n.pdu.kind) same ∙ r in
+    let b : is_kind RetransmissionRequest x.pdu.kind ≡ true = ap (λ (n : Made). is_kind RetransmissionRequest n.pdu.kind) same ∙ r in
     let at : position_with own x.pdu.cs ≡ Some c = ap (λ (n : Made). position_with own n.pdu.cs) same ∙ h in
-    let rest = filter (λ (y : SafetyPdu). is_retransmission_request y.kind) (pdus_made ms) in
+    let rest = filter (λ (y : SafetyPdu). is_kind RetransmissionRequest y.kind) (pdus_made ms) in
     ap (λ d. slice_get (filter_map (λ (y : SafetyPdu). position_with own y.cs) (cond d (x.pdu ∷ rest) rest)) 0) b
     ∙ ap (λ o. slice_get (cons_option o (filter_map (λ (y : SafetyPdu). position_with own y.cs) rest)) 0) at
 asked_at own (x ∷ ms) all (suc p) m c e r h =
-    more_asked own (is_retransmission_request x.pdu.kind) x.pdu (filter (λ (y : SafetyPdu). is_retransmission_request y.kind) (pdus_made ms)) (number is_retransmission_request (take p ms)) c
+    more_asked own (is_kind RetransmissionRequest x.pdu.kind) x.pdu (filter (λ (y : SafetyPdu). is_kind RetransmissionRequest y.kind) (pdus_made ms)) (number (is_kind RetransmissionRequest) (take p ms)) c
     (all 0 x refl) (asked_at own ms (λ q n g. all (suc q) n g) p m c e r h)
 
 pub begins_with : {A : Type 0} (xs ys : List A) → ((k : ℕ) (a : A) → slice_get xs k ≡ Some a → slice_get ys k ≡ Some a) → (rest : List A) × (ys ≡ xs ++ rest)
@@ -117,7 +116,7 @@ begins_with (x ∷ xs) (y ∷ ys) h =
     let r = begins_with xs ys (λ k a e. h (suc k) a e) in
     (r.0, ap (λ a. a ∷ ys) same ∙ ap (λ zs. x ∷ zs) r.1)
 
-request_named : (k : Kind) → is_retransmission_request k ≡ true → is_named k ≡ true
+request_named : (k : Kind) → is_kind RetransmissionRequest k ≡ true → is_named k ≡ true
 request_named RetransmissionRequest h = refl
 request_named _ h = absurd (cc)
 
@@ -132,7 +131,7 @@ module _ (e f : EndState) (t u : ℕ) (h : Held e t f.made) (peer : Held f u e.m
       → (m : Made) × (slice_get (requests_of f.made) k ≡ Some m) × (position_with (pdus_made e.made) m.pdu.cs ≡ Some c) × (slice_get (asked_positions (pdus_made e.made) (pdus_made f.made)) k ≡ Some c)
   ask_at k c g =
       let few = slice_get_within e.asks k c g in
-      let r = found is_retransmission_request f.made k (omega (arith, few, h.asks_taken, number_take_all is_retransmission_request f.made t)) in
+      let r = found (is_kind RetransmissionRequest) f.made k (omega (arith, few, h.asks_taken, number_take_all (is_kind RetransmissionRequest) f.made t)) in
       let g' = subst (λ n. slice_get e.asks n ≡ Some c) (sym r.before) g in
       let at = named_position e.made c r.m.pdu.cs once (h.answered r.at r.m c r.there r.is g') in (
         r.m,
@@ -141,16 +140,16 @@ module _ (e f : EndState) (t u : ℕ) (h : Held e t f.made) (peer : Held f u e.m
         subst (λ n. slice_get (asked_positions (pdus_made e.made) (pdus_made f.made)) n ≡ Some c) r.before (asked_at (pdus_made e.made) f.made all_named r.at r.m c r.there r.is at),
       )
 
-  answer_at : (before after : List Made) (m : Made) → e.made ≡ before ++ m ∷ after → is_retransmission_response m.pdu.kind ≡ true
+  answer_at : (before after : List Made) (m : Made) → e.made ≡ before ++ m ∷ after → is_kind RetransmissionResponse m.pdu.kind ≡ true
       → (ask : ℕ) × (request : Made) × (slice_get e.asks (responses_in (kinds before)) ≡ Some ask) × (ask < length before)
       × (slice_get (requests_of f.made) (responses_in (kinds before)) ≡ Some request) × (position_with (pdus_made e.made) request.pdu.cs ≡ Some ask)
   answer_at before after m is r =
       let there : slice_get e.made (length before) ≡ Some m = subst (λ (ms : List Made). slice_get ms (length before) ≡ Some m) (sym is) (get_after before) in
       let front : take (length before) e.made ≡ before = ap (take (length before)) is ∙ take-append_seam before (m ∷ after) in
       let n = responses_in (kinds before) in
-      let n_is : n ≡ number is_retransmission_response (take (length before) e.made) = answers_number before ∙ ap (number is_retransmission_response) (sym front) in
-      let one = number_take_at is_retransmission_response e.made (length before) m there r in
-      let all = number_take_all is_retransmission_response e.made (suc (length before)) in
+      let n_is : n ≡ number (is_kind RetransmissionResponse) (take (length before) e.made) = answers_number before ∙ ap (number (is_kind RetransmissionResponse)) (sym front) in
+      let one = number_take_at (is_kind RetransmissionResponse) e.made (length before) m there r in
+      let all = number_take_all (is_kind RetransmissionResponse) e.made (suc (length before)) in
       let ask = slice_index_or e.asks n 0 in
       let asked = get_within e.asks n (omega (arith, n_is, one, all, h.asked)) in
       let request = ask_at n ask asked in

@@ -7,7 +7,7 @@ use Rattle.std.proofs.lemmas.Option.{slice_get_within}
 use Rattle.rasta_pcap.specs.declared.fault.Side.{Side}
 use Rattle.rasta_pdu.specs.declared.kind.Kind.{Kind}
 use Rattle.rasta_pdu.specs.Params.{Parameters}
-use Rattle.rasta_pdu.specs.Pdu.{SafetyPdu}
+use Rattle.rasta_pdu.specs.Pdu.{SafetyPdu, is_kind}
 use Rattle.rasta_end.specs.declared.phase.Phase.{Phase}
 use Rattle.rasta_end.specs.declared.phase.Phase.TheVariants.{Up}
 use Rattle.rasta_end.specs.declared.why.Why.{Why}
@@ -16,7 +16,7 @@ use Rattle.rasta_end.specs.declared.take_row.TakeRow.{TakeRow}
 use Rattle.rasta_end.specs.declared.take_row.TakeRow.TheVariants.{Opened, Answered, FirstHeartbeat, InSequence, ResentInSequence, Gap, GapInRetransmission, Resumed, Requested, RequestedAhead, RequestedAgain, Disconnected}
 use Rattle.rasta_end.specs.declared.owed.Owed.{Owed}
 use Rattle.rasta_end.specs.State.{Made, EndState, is_client, is_start, is_closed, is_connected, carries_unit}
-use Rattle.rasta_end.specs.MakeRule.{is_connection_request, is_disconnection_request, is_judged, phase_after, offered_after, after_make, after_make_by}
+use Rattle.rasta_end.specs.MakeRule.{is_judged, phase_after, offered_after, after_make, after_make_by}
 use Rattle.rasta_end.specs.TakeRule.{accept, enter, hand_up, take_row, effect, effect_by, after_take}
 use Rattle.rasta_check.proofs.Model.ListGrowth.{get_push_cases}
 use Rattle.rasta_check.proofs.Model.PassedTests.{Passed, cs_is}
@@ -30,13 +30,14 @@ use Rattle.rasta_check.proofs.Model.ConveyedUnits.{values, values_push, length-v
 use Rattle.rasta_check.proofs.Model.OfferedUnits.{Valued}
 use Rattle.rasta_check.proofs.Model.Requests.{OnceIn}
 use Rattle.rasta_check.proofs.Model.HandedUnits.{Handed, worth_at}
+use Rattle.rasta_pdu.specs.declared.kind.Kind.TheVariants.{ConnectionRequest, DisconnectionRequest}
 
 -- e: the end whose PDUs show units; f: its peer, which offers them
 pub record Shown (e f : EndState) : Type 0 where
-  pub shown : (p j v : ℕ) (m : Made) → slice_get e.made p ≡ Some m → is_connection_request m.pdu.kind ≡ false → SnIs f.made j m.pdu.cs → slice_get (values f) j ≡ Some v → v ≤ length e.handed
-  pub judged : (p : ℕ) (m : Made) → slice_get e.made p ≡ Some m → is_connection_request m.pdu.kind ≡ false → (e.accepted ≡ 0) ⊎ ((i : ℕ) × (i < e.accepted) × SnIs f.made i m.pdu.cs)
+  pub shown : (p j v : ℕ) (m : Made) → slice_get e.made p ≡ Some m → is_kind ConnectionRequest m.pdu.kind ≡ false → SnIs f.made j m.pdu.cs → slice_get (values f) j ≡ Some v → v ≤ length e.handed
+  pub judged : (p : ℕ) (m : Made) → slice_get e.made p ≡ Some m → is_kind ConnectionRequest m.pdu.kind ≡ false → (e.accepted ≡ 0) ⊎ ((i : ℕ) × (i < e.accepted) × SnIs f.made i m.pdu.cs)
   -- an end that has accepted nothing and isn't over has made a connection request at most
-  pub first_words : e.accepted ≡ 0 → is_closed e.phase ≡ false → (p : ℕ) (m : Made) → slice_get e.made p ≡ Some m → is_connection_request m.pdu.kind ≡ true
+  pub first_words : e.accepted ≡ 0 → is_closed e.phase ≡ false → (p : ℕ) (m : Made) → slice_get e.made p ≡ Some m → is_kind ConnectionRequest m.pdu.kind ≡ true
   -- the peer is connected, or has offered a unit, only where this end has accepted something
   pub ready_run : is_connected f.phase ≡ true → 0 < e.accepted
   pub ready_offer : 0 < f.offered → 0 < e.accepted
@@ -50,14 +51,14 @@ judges false true false c e g = refl
 judges false false z c e g = refl
 
 -- once something is accepted, every CS is judged but that of a connection request
-pub judged_after : (e : EndState) (k : Kind) (i : ℕ) → e.accepted ≡ suc i → is_connection_request k ≡ false → is_judged e k ≡ true
+pub judged_after : (e : EndState) (k : Kind) (i : ℕ) → e.accepted ≡ suc i → is_kind ConnectionRequest k ≡ false → is_judged e k ≡ true
 judged_after e k i a c =
     let z : (e.accepted == 0) ≡ false = grind (arith, nat_tests) in
-    judges (is_connection_request k) (is_disconnection_request k) (e.accepted == 0) (is_client e.side && is_start e.phase) c z
+    judges (is_kind ConnectionRequest k) (is_kind DisconnectionRequest k) (e.accepted == 0) (is_client e.side && is_start e.phase) c z
 
 -- an end makes a connection request, or is over then, or has accepted something
 first_word : (s : Side) (ph : Phase) (why : Why) (k : Kind) (os : List Owed) (row : MakeRow) → Making s ph why k os row
-    → is_closed (phase_after row ph) ≡ false → (is_named k ≡ true → ⊥) → is_connection_request k ≡ true
+    → is_closed (phase_after row ph) ≡ false → (is_named k ≡ true → ⊥) → is_kind ConnectionRequest k ≡ true
 first_word s ph why k os row opening c named = refl
 first_word s ph why k os row response c named = absurd (named refl)
 first_word s ph why k os row first_beat c named = absurd (named refl)
@@ -73,10 +74,10 @@ module _ (p : Parameters) (e f : EndState) (x : SafetyPdu) (clock : ℕ) (why : 
   abbrev new : Made
   new = new_made b.row e x
 
-  cs_last : (i : ℕ) → e.accepted ≡ suc i → is_connection_request x.kind ≡ false → x.cs ≡ e.last_sn
+  cs_last : (i : ℕ) → e.accepted ≡ suc i → is_kind ConnectionRequest x.kind ≡ false → x.cs ≡ e.last_sn
   cs_last i a k = (cs_is e x.kind x.cs (judged_after e x.kind i a k) pass.cs).1
 
-  new_shown : (a : ℕ) → e.accepted ≡ a → is_connection_request x.kind ≡ false → (j v : ℕ) → SnIs f.made j x.cs → slice_get (values f) j ≡ Some v → v ≤ length e.handed
+  new_shown : (a : ℕ) → e.accepted ≡ a → is_kind ConnectionRequest x.kind ≡ false → (j v : ℕ) → SnIs f.made j x.cs → slice_get (values f) j ≡ Some v → v ≤ length e.handed
   new_shown zero a k j v s g =
       let none : 0 < f.offered → ⊥ = λ l. (let z = w.ready_offer l in omega arith) in
       let b = vf.bounded j v g in
@@ -87,18 +88,18 @@ module _ (p : Parameters) (e f : EndState) (x : SafetyPdu) (clock : ℕ) (why : 
       let worth_v = worth_at (values f) e.accepted i v a (subst (λ z. slice_get (values f) z ≡ Some v) same g) in
       omega (arith, hd.count, worth_v)
 
-  new_judged : (a : ℕ) → e.accepted ≡ a → is_connection_request x.kind ≡ false → (e.accepted ≡ 0) ⊎ ((i : ℕ) × (i < e.accepted) × SnIs f.made i x.cs)
+  new_judged : (a : ℕ) → e.accepted ≡ a → is_kind ConnectionRequest x.kind ≡ false → (e.accepted ≡ 0) ⊎ ((i : ℕ) × (i < e.accepted) × SnIs f.made i x.cs)
   new_judged zero a k = inl a
   new_judged (suc i) a k =
       let l = h.last i a in
       inr (i, omega arith, record { m = l.m; there = l.there; same = l.same ∙ sym (cs_last i a k) })
 
-  new_first : e.accepted ≡ 0 → is_closed (phase_after b.row e.phase) ≡ false → is_connection_request x.kind ≡ true
+  new_first : e.accepted ≡ 0 → is_closed (phase_after b.row e.phase) ≡ false → is_kind ConnectionRequest x.kind ≡ true
   new_first a c =
       first_word e.side e.phase why x.kind e.owed b.row b.how c
       (λ n. (let z = h.connected (named_connected e.side e.phase why x.kind e.owed b.row b.how n) in omega (arith, a, z.1)))
 
-  old_first : Changed e.side e.phase x.kind e.owed b.row → e.accepted ≡ 0 → is_closed (phase_after b.row e.phase) ≡ false → (i : ℕ) (m : Made) → slice_get e.made i ≡ Some m → is_connection_request m.pdu.kind ≡ true
+  old_first : Changed e.side e.phase x.kind e.owed b.row → e.accepted ≡ 0 → is_closed (phase_after b.row e.phase) ≡ false → (i : ℕ) (m : Made) → slice_get e.made i ≡ Some m → is_kind ConnectionRequest m.pdu.kind ≡ true
   old_first (over a c d g j) z cl i m u = absurd (let y = ap is_closed a in cc)
   old_first (opened a s c o j) z cl i m u =
       absurd (let y = nothing_made e.side e.phase e.made a pass.open_yet in let u' : slice_get [] i ≡ Some m = subst (λ (ms : List Made). slice_get ms i ≡ Some m) y u in cc)
@@ -110,7 +111,7 @@ module _ (p : Parameters) (e f : EndState) (x : SafetyPdu) (clock : ℕ) (why : 
         shown = λ i j v m g k s u. ⊎_elim
             (λ (old : slice_get e.made i ≡ Some m). w.shown i j v m old k s u)
             (λ (now : (i ≡ length e.made) × (new ≡ m)).
-            new_shown e.accepted refl (ap (λ (z : Made). is_connection_request z.pdu.kind) now.1 ∙ k) j v (record { m = s.m; there = s.there; same = s.same ∙ ap (λ (z : Made). z.pdu.cs) (sym now.1) }) u)
+            new_shown e.accepted refl (ap (λ (z : Made). is_kind ConnectionRequest z.pdu.kind) now.1 ∙ k) j v (record { m = s.m; there = s.there; same = s.same ∙ ap (λ (z : Made). z.pdu.cs) (sym now.1) }) u)
             (get_push_cases e.made new i m g);
         judged = λ i m g k. ⊎_elim
             (λ (old : slice_get e.made i ≡ Some m). w.judged i m old k)
@@ -118,11 +119,11 @@ module _ (p : Parameters) (e f : EndState) (x : SafetyPdu) (clock : ℕ) (why : 
             subst
             (λ (z : Made). (e.accepted ≡ 0) ⊎ ((i : ℕ) × (i < e.accepted) × SnIs f.made i z.pdu.cs))
             now.1
-            (new_judged e.accepted refl (ap (λ (z : Made). is_connection_request z.pdu.kind) now.1 ∙ k)))
+            (new_judged e.accepted refl (ap (λ (z : Made). is_kind ConnectionRequest z.pdu.kind) now.1 ∙ k)))
             (get_push_cases e.made new i m g);
         first_words = λ a c i m g. ⊎_elim
             (λ (old : slice_get e.made i ≡ Some m). old_first (changed e.side e.phase why x.kind e.owed b.row b.how) a c i m old)
-            (λ (now : (i ≡ length e.made) × (new ≡ m)). sym (ap (λ (z : Made). is_connection_request z.pdu.kind) now.1) ∙ new_first a c)
+            (λ (now : (i ≡ length e.made) × (new ≡ m)). sym (ap (λ (z : Made). is_kind ConnectionRequest z.pdu.kind) now.1) ∙ new_first a c)
             (get_push_cases e.made new i m g);
         ready_run = w.ready_run;
         ready_offer = w.ready_offer;
@@ -167,7 +168,7 @@ module _ (e f : EndState) (x : SafetyPdu) (clock : ℕ) (why : Why) (b : MadeBy 
   f_runs (opened a s c o j) r = absurd (let z = ap is_connected o in cc)
   f_runs (goes_on a c d g j k l) r = w.ready_run (subst (λ (ph : Phase). is_connected ph ≡ true) a r)
 
-  new_position : (a : ℕ) → e.accepted ≡ a → (i j v : ℕ) (m : Made) → slice_get e.made i ≡ Some m → is_connection_request m.pdu.kind ≡ false
+  new_position : (a : ℕ) → e.accepted ≡ a → (i j v : ℕ) (m : Made) → slice_get e.made i ≡ Some m → is_kind ConnectionRequest m.pdu.kind ≡ false
       → SnIs after.made j m.pdu.cs → j ≡ length f.made → slice_get (values after) j ≡ Some v → v ≤ length e.handed
   new_position zero a i j v m g k s q u =
       let none : 0 < after.offered → ⊥ = λ l. (let z = f_offer l in omega arith) in

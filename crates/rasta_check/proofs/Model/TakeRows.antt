@@ -5,15 +5,15 @@ use Rattle.rasta_pcap.specs.declared.fault.Side.{Side}
 use Rattle.rasta_pcap.specs.declared.fault.Side.TheVariants.{Client, Server}
 use Rattle.rasta_pdu.specs.declared.kind.Kind.{Kind}
 use Rattle.rasta_pdu.specs.declared.kind.Kind.TheVariants.{ConnectionRequest, ConnectionResponse, RetransmissionRequest, RetransmissionResponse, DisconnectionRequest, Heartbeat, RetransmittedData}
-use Rattle.rasta_pdu.specs.Pdu.{SafetyPdu}
+use Rattle.rasta_pdu.specs.Pdu.{SafetyPdu, is_kind}
 use Rattle.rasta_pdu.specs.Params.{Parameters}
 use Rattle.rasta_end.specs.declared.phase.Phase.{Phase}
 use Rattle.rasta_end.specs.declared.phase.Phase.TheVariants.{Closed, Down, Start, Up, RetrReq, RetrRun}
 use Rattle.rasta_end.specs.declared.take_row.TakeRow.{TakeRow}
 use Rattle.rasta_end.specs.declared.take_row.TakeRow.TheVariants.{Opened, Answered, FirstHeartbeat, InSequence, ResentInSequence, Gap, GapInRetransmission, Resumed, Requested, RequestedAhead, RequestedAgain, Disconnected}
 use Rattle.rasta_end.specs.State.{EndState, is_client, is_closed, is_down, is_start, is_up, is_retr_req, is_retr_run, is_flowing, is_active, is_timed, carries_unit}
-use Rattle.rasta_end.specs.MakeRule.{first_that_holds, is_connection_request, is_disconnection_request}
-use Rattle.rasta_end.specs.TakeRule.{is_connection_response, is_heartbeat, is_heartbeat_or_data, is_retransmitted_data, is_retransmission_request, is_retransmission_response, take_rows, is_in, is_ahead, is_valid, take_row, effect, effect_by, accept, enter, hand_up, after_take}
+use Rattle.rasta_end.specs.MakeRule.{first_that_holds}
+use Rattle.rasta_end.specs.TakeRule.{is_heartbeat_or_data, take_rows, is_in, is_ahead, is_valid, take_row, effect, effect_by, accept, enter, hand_up, after_take}
 
 -- what a row knows of side, phase and type, and of the tests: next in sequence, ahead, a valid CS
 abbrev pub Premise : TakeRow → Side → Phase → Kind → Bool → Bool → Bool → Type 0
@@ -79,31 +79,31 @@ retr_run_is : (ph : Phase) → is_retr_run ph ≡ true → ph ≡ RetrRun
 retr_run_is RetrRun e = refl
 retr_run_is _ e = absurd (cc)
 
-connection_request_is : (k : Kind) → is_connection_request k ≡ true → k ≡ ConnectionRequest
+connection_request_is : (k : Kind) → is_kind ConnectionRequest k ≡ true → k ≡ ConnectionRequest
 connection_request_is ConnectionRequest e = refl
 connection_request_is _ e = absurd (cc)
 
-connection_response_is : (k : Kind) → is_connection_response k ≡ true → k ≡ ConnectionResponse
+connection_response_is : (k : Kind) → is_kind ConnectionResponse k ≡ true → k ≡ ConnectionResponse
 connection_response_is ConnectionResponse e = refl
 connection_response_is _ e = absurd (cc)
 
-heartbeat_is : (k : Kind) → is_heartbeat k ≡ true → k ≡ Heartbeat
+heartbeat_is : (k : Kind) → is_kind Heartbeat k ≡ true → k ≡ Heartbeat
 heartbeat_is Heartbeat e = refl
 heartbeat_is _ e = absurd (cc)
 
-retransmitted_data_is : (k : Kind) → is_retransmitted_data k ≡ true → k ≡ RetransmittedData
+retransmitted_data_is : (k : Kind) → is_kind RetransmittedData k ≡ true → k ≡ RetransmittedData
 retransmitted_data_is RetransmittedData e = refl
 retransmitted_data_is _ e = absurd (cc)
 
-request_is : (k : Kind) → is_retransmission_request k ≡ true → k ≡ RetransmissionRequest
+request_is : (k : Kind) → is_kind RetransmissionRequest k ≡ true → k ≡ RetransmissionRequest
 request_is RetransmissionRequest e = refl
 request_is _ e = absurd (cc)
 
-response_is : (k : Kind) → is_retransmission_response k ≡ true → k ≡ RetransmissionResponse
+response_is : (k : Kind) → is_kind RetransmissionResponse k ≡ true → k ≡ RetransmissionResponse
 response_is RetransmissionResponse e = refl
 response_is _ e = absurd (cc)
 
-disconnection_is : (k : Kind) → is_disconnection_request k ≡ true → k ≡ DisconnectionRequest
+disconnection_is : (k : Kind) → is_kind DisconnectionRequest k ≡ true → k ≡ DisconnectionRequest
 disconnection_is DisconnectionRequest e = refl
 disconnection_is _ e = absurd (cc)
 
@@ -122,20 +122,20 @@ five _ _ _ _ _ e = absurd (cc)
 -- ---- each row in turn
 
 module _ (s : Side) (ph : Phase) (k : Kind) (n a v : Bool) where
-  opened : (is_down ph && is_connection_request k) ≡ true → Premise Opened s ph k n a v
-  opened t = let w = both (is_down ph) (is_connection_request k) t in (down_is ph w.0, connection_request_is k w.1)
+  opened : (is_down ph && is_kind ConnectionRequest k) ≡ true → Premise Opened s ph k n a v
+  opened t = let w = both (is_down ph) (is_kind ConnectionRequest k) t in (down_is ph w.0, connection_request_is k w.1)
 
-  answered : (is_start ph && (is_client s && (is_connection_response k && v))) ≡ true → Premise Answered s ph k n a v
-  answered t = let w = four (is_start ph) (is_client s) (is_connection_response k) v t in (client_is s w.1, start_is ph w.0, connection_response_is k w.2, w.3)
+  answered : (is_start ph && (is_client s && (is_kind ConnectionResponse k && v))) ≡ true → Premise Answered s ph k n a v
+  answered t = let w = four (is_start ph) (is_client s) (is_kind ConnectionResponse k) v t in (client_is s w.1, start_is ph w.0, connection_response_is k w.2, w.3)
 
-  first_heartbeat : (is_start ph && (not (is_client s) && (is_heartbeat k && (n && v)))) ≡ true → Premise FirstHeartbeat s ph k n a v
-  first_heartbeat t = let w = five (is_start ph) (not (is_client s)) (is_heartbeat k) n v t in (server_is s w.1, start_is ph w.0, heartbeat_is k w.2, w.4, w.3)
+  first_heartbeat : (is_start ph && (not (is_client s) && (is_kind Heartbeat k && (n && v)))) ≡ true → Premise FirstHeartbeat s ph k n a v
+  first_heartbeat t = let w = five (is_start ph) (not (is_client s)) (is_kind Heartbeat k) n v t in (server_is s w.1, start_is ph w.0, heartbeat_is k w.2, w.4, w.3)
 
   in_sequence : (is_flowing ph && (is_heartbeat_or_data k && (n && v))) ≡ true → Premise InSequence s ph k n a v
   in_sequence t = let w = four (is_flowing ph) (is_heartbeat_or_data k) n v t in (w.0, w.1, w.3, w.2)
 
-  resent : (is_retr_run ph && (is_retransmitted_data k && (n && v))) ≡ true → Premise ResentInSequence s ph k n a v
-  resent t = let w = four (is_retr_run ph) (is_retransmitted_data k) n v t in (retr_run_is ph w.0, retransmitted_data_is k w.1, w.3, w.2)
+  resent : (is_retr_run ph && (is_kind RetransmittedData k && (n && v))) ≡ true → Premise ResentInSequence s ph k n a v
+  resent t = let w = four (is_retr_run ph) (is_kind RetransmittedData k) n v t in (retr_run_is ph w.0, retransmitted_data_is k w.1, w.3, w.2)
 
   gap : (is_up ph && (is_heartbeat_or_data k && (a && v))) ≡ true → Premise Gap s ph k n a v
   gap t = let w = four (is_up ph) (is_heartbeat_or_data k) a v t in (up_is ph w.0, w.1, w.3, w.2)
@@ -143,20 +143,20 @@ module _ (s : Side) (ph : Phase) (k : Kind) (n a v : Bool) where
   gap_again : (is_retr_run ph && (is_timed k && (a && v))) ≡ true → Premise GapInRetransmission s ph k n a v
   gap_again t = let w = four (is_retr_run ph) (is_timed k) a v t in (retr_run_is ph w.0, w.1, w.3, w.2)
 
-  resumed : (is_retr_req ph && (is_retransmission_response k && v)) ≡ true → Premise Resumed s ph k n a v
-  resumed t = let w = three (is_retr_req ph) (is_retransmission_response k) v t in (retr_req_is ph w.0, response_is k w.1, w.2)
+  resumed : (is_retr_req ph && (is_kind RetransmissionResponse k && v)) ≡ true → Premise Resumed s ph k n a v
+  resumed t = let w = three (is_retr_req ph) (is_kind RetransmissionResponse k) v t in (retr_req_is ph w.0, response_is k w.1, w.2)
 
-  asked : (is_flowing ph && (is_retransmission_request k && (n && v))) ≡ true → Premise Requested s ph k n a v
-  asked t = let w = four (is_flowing ph) (is_retransmission_request k) n v t in (w.0, request_is k w.1, w.3, w.2)
+  asked : (is_flowing ph && (is_kind RetransmissionRequest k && (n && v))) ≡ true → Premise Requested s ph k n a v
+  asked t = let w = four (is_flowing ph) (is_kind RetransmissionRequest k) n v t in (w.0, request_is k w.1, w.3, w.2)
 
-  asked_ahead : (is_flowing ph && (is_retransmission_request k && (a && v))) ≡ true → Premise RequestedAhead s ph k n a v
-  asked_ahead t = let w = four (is_flowing ph) (is_retransmission_request k) a v t in (w.0, request_is k w.1, w.3, w.2)
+  asked_ahead : (is_flowing ph && (is_kind RetransmissionRequest k && (a && v))) ≡ true → Premise RequestedAhead s ph k n a v
+  asked_ahead t = let w = four (is_flowing ph) (is_kind RetransmissionRequest k) a v t in (w.0, request_is k w.1, w.3, w.2)
 
-  asked_again : (is_retr_req ph && (is_retransmission_request k && (a && v))) ≡ true → Premise RequestedAgain s ph k n a v
-  asked_again t = let w = four (is_retr_req ph) (is_retransmission_request k) a v t in (retr_req_is ph w.0, request_is k w.1, w.3, w.2)
+  asked_again : (is_retr_req ph && (is_kind RetransmissionRequest k && (a && v))) ≡ true → Premise RequestedAgain s ph k n a v
+  asked_again t = let w = four (is_retr_req ph) (is_kind RetransmissionRequest k) a v t in (retr_req_is ph w.0, request_is k w.1, w.3, w.2)
 
-  disconnected : (is_active ph && is_disconnection_request k) ≡ true → Premise Disconnected s ph k n a v
-  disconnected t = let w = both (is_active ph) (is_disconnection_request k) t in (w.0, disconnection_is k w.1)
+  disconnected : (is_active ph && is_kind DisconnectionRequest k) ≡ true → Premise Disconnected s ph k n a v
+  disconnected t = let w = both (is_active ph) (is_kind DisconnectionRequest k) t in (w.0, disconnection_is k w.1)
 
   all_rows : Each (λ (row : TakeRow). Premise row s ph k n a v) (take_rows s ph k n a v)
   unfolding Each

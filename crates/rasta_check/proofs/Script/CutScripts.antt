@@ -8,7 +8,7 @@ use Rattle.rasta_pdu.specs.declared.kind.Kind.{Kind}
 use Rattle.rasta_pdu.specs.declared.kind.Kind.TheVariants.{ConnectionRequest}
 use Rattle.rasta_pdu.specs.declared.quiet_point.Quiet.{Quiet}
 use Rattle.rasta_pdu.specs.Params.{Parameters}
-use Rattle.rasta_pdu.specs.Pdu.{SafetyPdu}
+use Rattle.rasta_pdu.specs.Pdu.{SafetyPdu, is_kind}
 use Rattle.rasta_cert.specs.declared.entry.Entry.{Entry}
 use Rattle.rasta_cert.specs.declared.entry.Entry.TheVariants.{Take, Make}
 use Rattle.rasta_end.specs.declared.phase.Phase.{Phase}
@@ -18,7 +18,7 @@ use Rattle.rasta_end.specs.declared.why.Why.{Why}
 use Rattle.rasta_end.specs.declared.make_row.MakeRow.{MakeRow}
 use Rattle.rasta_end.specs.State.{EndState}
 use Rattle.rasta_end.specs.Units.{units_at}
-use Rattle.rasta_end.specs.MakeRule.{Makes, is_connection_request, phase_after, after_make_by}
+use Rattle.rasta_end.specs.MakeRule.{Makes, phase_after, after_make_by}
 use Rattle.rasta_end.specs.Starts.{start_of, start_by}
 use Rattle.rasta_check.specs.Capture.Crossing.{FirstCopy, CrossRecorded}
 use Rattle.rasta_check.specs.Model.World.{World, Reaches}
@@ -112,7 +112,7 @@ cut_fits p s n own peer es e f = by (has_make es) refl
 module _ (p : Parameters) (s : Side) (e f : EndState) (t u : ℕ) (own : List FirstCopy) (M : List SafetyPdu) (h : Held e t f.made) (once : NamesOne f e) (hd : Handed e f)
     (told_f : pdus_made f.made ≡ M) (along : units_along M (pdus_of own) ≡ values f) where
   -- the end after a make, by its row
-  no_opening : (m : JustMade p own e) → (k : Kind) → m.c.pdu.safety.kind ≡ k → 0 < e.accepted → is_connection_request k ≡ false
+  no_opening : (m : JustMade p own e) → (k : Kind) → m.c.pdu.safety.kind ≡ k → 0 < e.accepted → is_kind ConnectionRequest k ≡ false
   no_opening m ConnectionRequest q l =
       let x = m.c.pdu.safety in
       let b = made_by p m.e x m.clock m.why (passed p m.e x m.clock m.why m.makes.0) in
@@ -139,7 +139,7 @@ module _ (p : Parameters) (s : Side) (e f : EndState) (t u : ℕ) (own : List Fi
       let b = made_by p m.e x m.clock m.why ok in
       let after : e ≡ after_make_by (Some b.row) m.e x m.clock = m.makes.1 ∙ sym (after_row m.e x m.clock m.why b) in
       let acc : m.e.accepted ≡ suc i = sym (ap (λ (z : EndState). z.accepted) after) ∙ a in
-      let k : is_connection_request x.kind ≡ false = no_opening m x.kind refl (omega arith) in
+      let k : is_kind ConnectionRequest x.kind ≡ false = no_opening m x.kind refl (omega arith) in
       let cs : x.cs ≡ m.e.last_sn = (cs_is m.e x.kind x.cs (judged_after m.e x.kind i acc k) ok.cs).1 in
       let cs' : x.cs ≡ e.last_sn = cs ∙ sym (ap (λ (z : EndState). z.last_sn) after) in
       let l = h.last i a in

@@ -18,6 +18,7 @@ use Rattle.rasta_end.specs.State.{EndState}
 use Rattle.rasta_end.specs.MakeRule.{Makes, make_fault, after_make, first_that_holds, is_there}
 use Rattle.rasta_end.specs.TakeRule.{Takes, take_fault, after_take}
 use Rattle.rasta_end.specs.Starts.{start_of}
+use Rattle.rasta_end.proofs.MakeTests.{no_fault, no_test}
 use Rattle.rasta_check.specs.Capture.Crossing.{FirstCopy, copy_with}
 use Rattle.rasta_check.specs.Capture.Lists.{IsOrdered, places_of, position_of_number, position_of_place}
 use Rattle.rasta_check.specs.Script.Following.{Cursor, at_start, Follows}
@@ -100,7 +101,7 @@ module _ (p : Parameters) (packets : ℕ) (own peer : List FirstCopy) where
       let at : make_of p u place clock why (Some f.0) ≡ Ok v = ap (make_of p u place clock why) (sym f.1) ∙ h.1 in
       let d = allowed (make_fault p u.state f.0.pdu.safety clock why) _ v at in
       let step : Goes u (Make place clock why) (record { level = suc place; made = suc u.made; taken = u.taken; state = after_make u.state f.0.pdu.safety clock why })
-      = makes place clock why f.0 (after_make u.state f.0.pdu.safety clock why) low (e ∙ ap Some same) there f.2 (d.0, refl) in
+      = makes place clock why f.0 (after_make u.state f.0.pdu.safety clock why) low (e ∙ ap Some same) there f.2 (no_test p u.state f.0.pdu.safety clock why d.0, refl) in
       subst (λ (w : Cursor). Goes u (Make place clock why) w) d.1 step
 
   goes : (u v : Cursor) (x : Entry) → next_cursor p packets own peer u x ≡ Ok v → Goes u x v
@@ -125,7 +126,7 @@ module _ (p : Parameters) (packets : ℕ) (own peer : List FirstCopy) where
       passed (nat_lt place u.level) slot_order _ (above place u.level low)
       ∙ (ap (make_found p own u place clock why) at ∙ (held (u.made == u.made) make_missing _ (same_equal u.made u.made refl)
       ∙ (ap (make_of p u place clock why) g
-      ∙ (ap (λ o. unless o (record { level = suc place; made = suc u.made; taken = u.taken; state = after_make u.state c.pdu.safety clock why })) m.0
+      ∙ (ap (λ o. unless o (record { level = suc place; made = suc u.made; taken = u.taken; state = after_make u.state c.pdu.safety clock why })) (no_fault p u.state c.pdu.safety clock why m.0)
       ∙ ap (λ (z : EndState). Ok (record { level = suc place; made = suc u.made; taken = u.taken; state = z })) (sym m.1)))))
 
   -- ---- entries from a cursor on

@@ -17,6 +17,7 @@ use Rattle.rasta_end.specs.MakeRule.{make_fault, after_make}
 use Rattle.rasta_end.specs.TakeRule.{take_fault, after_take}
 use Rattle.rasta_end.specs.Starts.{start_of}
 use Rattle.rasta_end.specs.Judged.{JudgedEnd}
+use Rattle.rasta_end.proofs.MakeTests.{no_fault, no_test}
 use Rattle.rasta_check.specs.Capture.Crossing.{FirstCopy}
 use Rattle.rasta_check.specs.Capture.Lists.{IsOrdered, places_of, numbers_of, position_of_number, position_of_place}
 use Rattle.rasta_check.specs.Script.Following.{Cursor, Advances, takes_next, makes_next, Leads, at_start, Follows}
@@ -96,7 +97,7 @@ module _ (p : Parameters) (packets : ℕ) (own peer : List FirstCopy) where
   make_leads u v clock why c low g e =
       let d = allowed (make_fault p u.state c.pdu.safety clock why) _ v e in
       let step : Advances p packets own peer u (Make c.place clock why) (record { level = suc c.place; made = suc u.made; taken = u.taken; state = after_make u.state c.pdu.safety clock why })
-      = makes_next c clock why (after_make u.state c.pdu.safety clock why) low g (d.0, refl) in
+      = makes_next c clock why (after_make u.state c.pdu.safety clock why) low g (no_test p u.state c.pdu.safety clock why d.0, refl) in
       subst (λ (w : Cursor). Advances p packets own peer u (Make c.place clock why) w) d.1 step
 
   take_by : (u v : Cursor) (slot number : ℕ) → u.level ≤ slot → slot ≤ packets → (o : Option ℕ) → position_of_number peer number ≡ o
@@ -209,7 +210,7 @@ module _ (p : Parameters) (packets : ℕ) (own peer : List FirstCopy) (mine : Is
       passed (nat_lt c.place u.level) slot_order _ (above c.place u.level low)
       ∙ (ap (make_found p own u c.place clock why) at ∙ (held (u.made == u.made) make_missing _ (same_equal u.made u.made refl)
       ∙ (ap (make_of p u c.place clock why) g
-      ∙ (ap (λ o. unless o (record { level = suc c.place; made = suc u.made; taken = u.taken; state = after_make u.state c.pdu.safety clock why })) m.0
+      ∙ (ap (λ o. unless o (record { level = suc c.place; made = suc u.made; taken = u.taken; state = after_make u.state c.pdu.safety clock why })) (no_fault p u.state c.pdu.safety clock why m.0)
       ∙ ap (λ (z : EndState). Ok (record { level = suc c.place; made = suc u.made; taken = u.taken; state = z })) (sym m.1)))))
 
   follows_from : (side : Side) (entry : ℕ) (u v : Cursor) (es : List Entry) → Leads p packets own peer u es v → v.made ≡ length own → follow_from p side packets own peer entry u es ≡ Ok v.state

@@ -3,11 +3,13 @@ use Rattle.std.proofs.Common.{◌≡◌, ℕ, suc, ◌+◌, ◌<◌, ◌≤◌, 
 use Rattle.std.specs.Prelude.{not, map, filter}
 use Rattle.std.proofs.lemmas.List.{length_push}
 use Rattle.std.proofs.lemmas.Option.{slice_get_within}
+use Rattle.std.specs.Option.{option_map_or}
+use Rattle.std.specs.Str.{bytes_eq}
 use Rattle.rasta_pcap.specs.declared.fault.Side.{Side}
 use Rattle.rasta_udp.specs.Frame.{Packet}
 use Rattle.rasta_pdu.specs.declared.kind.Kind.{Kind}
 use Rattle.rasta_pdu.specs.Params.{Parameters}
-use Rattle.rasta_pdu.specs.Pdu.{SafetyPdu}
+use Rattle.rasta_pdu.specs.Pdu.{SafetyPdu, is_kind}
 use Rattle.rasta_cert.specs.declared.entry.Entry.{Entry}
 use Rattle.rasta_cert.specs.declared.entry.Entry.TheVariants.{Take, Make}
 use Rattle.rasta_end.specs.declared.phase.Phase.{Phase}
@@ -17,7 +19,7 @@ use Rattle.rasta_end.specs.declared.why.Why.TheVariants.{Open, Reply, Beat, Fres
 use Rattle.rasta_end.specs.declared.make_row.MakeRow.{MakeRow}
 use Rattle.rasta_end.specs.declared.make_row.MakeRow.TheVariants.{Resends}
 use Rattle.rasta_end.specs.State.{Made, EndState, content_of}
-use Rattle.rasta_end.specs.MakeRule.{Makes, contents, is_content, differs, is_data, row_of}
+use Rattle.rasta_end.specs.MakeRule.{Makes, contents, differs, row_of}
 use Rattle.rasta_end.specs.Starts.{start_of}
 use Rattle.rasta_check.specs.Capture.Crossing.{FirstCopy}
 use Rattle.rasta_check.specs.Script.Following.{Cursor, Advances, takes_next, makes_next, Leads, at_start}
@@ -28,19 +30,20 @@ use Rattle.rasta_check.proofs.Model.MakeRows.{made_by, Making, again}
 use Rattle.rasta_check.proofs.Model.TakeRows.{take_leaves}
 use Rattle.rasta_check.proofs.Model.Steps.{base, base_small, start_made, made_more}
 use Rattle.rasta_check.proofs.Script.ScriptsOfRuns.{ClocksWithin}
+use Rattle.rasta_pdu.specs.declared.kind.Kind.TheVariants.{Data}
 
 -- ---- units of resends
 
 length_contents : (made : List Made) → length (contents made) ≤ length made
 length_contents [] = omega arith
-length_contents (m ∷ made) = by (is_data m.pdu.kind) (length_contents made)
+length_contents (m ∷ made) = by (is_kind Data m.pdu.kind) (length_contents made)
   where
     by : (b : Bool) → length (contents made) ≤ length made
-        → length (map (λ (n : Made). content_of n.pdu.body) (cond b (m ∷ filter (λ (n : Made). is_data n.pdu.kind) made) (filter (λ (n : Made). is_data n.pdu.kind) made))) ≤ suc (length made)
+        → length (map (λ (n : Made). content_of n.pdu.body) (cond b (m ∷ filter (λ (n : Made). is_kind Data n.pdu.kind) made) (filter (λ (n : Made). is_kind Data n.pdu.kind) made))) ≤ suc (length made)
     by true l = omega arith
     by false l = omega arith
 
-unit_there : (made : List Made) (unit : ℕ) (content : List ℕ) (o : Option (List ℕ)) → slice_get (contents made) unit ≡ o → not (is_content o content) ≡ false → unit < length made
+unit_there : (made : List Made) (unit : ℕ) (content : List ℕ) (o : Option (List ℕ)) → slice_get (contents made) unit ≡ o → not (option_map_or (λ (own : List ℕ). bytes_eq own content) o false) ≡ false → unit < length made
 unit_there made unit content None e d = absurd (cc)
 unit_there made unit content (Some c) e d = (let a = slice_get_within (contents made) unit c e in let b = length_contents made in omega arith)
 
@@ -56,7 +59,7 @@ reason_fits p e e' x clock (Again unit) mk l =
     let pass = passed p e x clock (Again unit) mk.0 in
     let m = made_by p e x clock (Again unit) pass in
     let row : row_of e x (Again unit) ≡ Some (Resends unit) = m.is ∙ ap Some (again_row e.side e.phase unit x.kind e.owed m.row m.how) in
-    let same : not (is_content (slice_get (contents e.made) unit) (content_of x.body)) ≡ false = subst (λ (r : Option MakeRow). differs e.made r (content_of x.body) ≡ false) row pass.same in
+    let same : not (option_map_or (λ (own : List ℕ). bytes_eq own (content_of x.body)) (slice_get (contents e.made) unit) false) ≡ false = subst (λ (r : Option MakeRow). differs e.made r (content_of x.body) ≡ false) row pass.same in
     let w = unit_there e.made unit (content_of x.body) (slice_get (contents e.made) unit) refl same in
     omega arith
 reason_fits p e e' x clock Ask mk l = tt

@@ -1,10 +1,10 @@
 -- The units that an end handed up are the first that its peer offered.
 use Rattle.std.proofs.Common.{◌≡◌, ℕ, suc, List, [], ◌∷◌, ◌++◌, map, filter, Some, slice_get, refl, ap, sym, ◌∙◌}
-use Rattle.rasta_pdu.specs.Pdu.{SafetyPdu, messages_in}
+use Rattle.rasta_pdu.specs.Pdu.{SafetyPdu, messages_in, is_kind}
 use Rattle.rasta_end.specs.State.{EndState, Made}
-use Rattle.rasta_end.specs.MakeRule.{is_data}
 use Rattle.rasta_check.specs.Model.Theorem.{HandsUpUnits, units_handed}
 use Rattle.rasta_check.specs.Verdict.Headline.{units_offered}
+use Rattle.rasta_pdu.specs.declared.kind.Kind.TheVariants.{Data}
 
 -- these PDUs have the messages of the first of those
 begin_with : (xs : List SafetyPdu) (ms : List Made)
@@ -20,4 +20,4 @@ begin_with (x ∷ xs) (m ∷ ms) h =
     (r.0, (λ i. same i ∷ r.1 i))
 
 pub offered_first : (e f : EndState) → HandsUpUnits e f → (later : List (List (List ℕ))) × (units_offered f ≡ units_handed e ++ later)
-offered_first e f h = begin_with e.handed_pdus (filter (λ (n : Made). is_data n.pdu.kind) f.made) h.messages
+offered_first e f h = begin_with e.handed_pdus (filter (λ (n : Made). is_kind Data n.pdu.kind) f.made) h.messages

@@ -7,9 +7,8 @@ use Rattle.rasta_pcap.specs.declared.fault.Side.{Side}
 use Rattle.rasta_pcap.specs.declared.fault.Side.TheVariants.{Client, Server}
 use Rattle.rasta_pdu.specs.declared.quiet_point.Quiet.{Quiet}
 use Rattle.rasta_pdu.specs.Params.{Parameters}
-use Rattle.rasta_pdu.specs.Pdu.{SafetyPdu, messages_in}
+use Rattle.rasta_pdu.specs.Pdu.{SafetyPdu, messages_in, is_kind}
 use Rattle.rasta_end.specs.State.{Made, EndState}
-use Rattle.rasta_end.specs.MakeRule.{is_data}
 use Rattle.rasta_end.specs.Starts.{start_by}
 use Rattle.rasta_check.specs.Capture.Crossing.{FirstCopy}
 use Rattle.rasta_check.specs.Verdict.Taken.{pdus_made, pdus_of, all_made, units_shown, units_taken, TakenUnit, proof_place, units_from, data_copies, surely_taken}
@@ -18,6 +17,7 @@ use Rattle.std.proofs.lemmas.List.Elements.{filter-append}
 use Rattle.rasta_check.proofs.Script.Simulation.{slice_get_some}
 use Rattle.rasta_check.proofs.Model.ListGrowth.{get_front}
 use Rattle.rasta_check.proofs.Model.Requests.{begins_with}
+use Rattle.rasta_pdu.specs.declared.kind.Kind.TheVariants.{Data}
 
 -- ---- members
 
@@ -91,28 +91,28 @@ proof_of own peer k l = ⊎_elim (λ (z : k < 0). absurd (omega arith)) (λ (z :
 -- ---- the data PDUs of a list, of what was made, and of first copies
 
 data_in : List SafetyPdu → List SafetyPdu
-data_in xs = filter (λ (x : SafetyPdu). is_data x.kind) xs
+data_in xs = filter (λ (x : SafetyPdu). is_kind Data x.kind) xs
 
 abbrev pub data_made : List Made → List Made
-data_made made = filter (λ (m : Made). is_data m.pdu.kind) made
+data_made made = filter (λ (m : Made). is_kind Data m.pdu.kind) made
 
 pdus-data_made : (ms : List Made) → pdus_made (data_made ms) ≡ data_in (pdus_made ms)
 unfolding data_in
 pdus-data_made [] = refl
-pdus-data_made (m ∷ ms) = by (is_data m.pdu.kind) (pdus-data_made ms)
+pdus-data_made (m ∷ ms) = by (is_kind Data m.pdu.kind) (pdus-data_made ms)
   where
-    by : (b : Bool) → pdus_made (data_made ms) ≡ filter (λ (x : SafetyPdu). is_data x.kind) (pdus_made ms)
-        → pdus_made (cond b (m ∷ data_made ms) (data_made ms)) ≡ cond b (m.pdu ∷ filter (λ (x : SafetyPdu). is_data x.kind) (pdus_made ms)) (filter (λ (x : SafetyPdu). is_data x.kind) (pdus_made ms))
+    by : (b : Bool) → pdus_made (data_made ms) ≡ filter (λ (x : SafetyPdu). is_kind Data x.kind) (pdus_made ms)
+        → pdus_made (cond b (m ∷ data_made ms) (data_made ms)) ≡ cond b (m.pdu ∷ filter (λ (x : SafetyPdu). is_kind Data x.kind) (pdus_made ms)) (filter (λ (x : SafetyPdu). is_kind Data x.kind) (pdus_made ms))
     by true e = ap (λ xs. m.pdu ∷ xs) e
     by false e = e
 
 pdus-data_copies : (cs : List FirstCopy) → pdus_of (data_copies cs) ≡ data_in (pdus_of cs)
 unfolding data_in
 pdus-data_copies [] = refl
-pdus-data_copies (c ∷ cs) = by (is_data c.pdu.safety.kind) (pdus-data_copies cs)
+pdus-data_copies (c ∷ cs) = by (is_kind Data c.pdu.safety.kind) (pdus-data_copies cs)
   where
-    by : (b : Bool) → pdus_of (data_copies cs) ≡ filter (λ (x : SafetyPdu). is_data x.kind) (pdus_of cs)
-        → pdus_of (cond b (c ∷ data_copies cs) (data_copies cs)) ≡ cond b (c.pdu.safety ∷ filter (λ (x : SafetyPdu). is_data x.kind) (pdus_of cs)) (filter (λ (x : SafetyPdu). is_data x.kind) (pdus_of cs))
+    by : (b : Bool) → pdus_of (data_copies cs) ≡ filter (λ (x : SafetyPdu). is_kind Data x.kind) (pdus_of cs)
+        → pdus_of (cond b (c ∷ data_copies cs) (data_copies cs)) ≡ cond b (c.pdu.safety ∷ filter (λ (x : SafetyPdu). is_kind Data x.kind) (pdus_of cs)) (filter (λ (x : SafetyPdu). is_kind Data x.kind) (pdus_of cs))
     by true e = ap (λ xs. c.pdu.safety ∷ xs) e
     by false e = e
 
@@ -188,7 +188,7 @@ of_units e f h = record { same_count = h.labels.same_count; messages = h.message
 data_later : (ms ns : List Made) → ((i : ℕ) (m : Made) → slice_get ms i ≡ Some m → slice_get ns i ≡ Some m) → (i : ℕ) (m : Made) → slice_get (data_made ms) i ≡ Some m → slice_get (data_made ns) i ≡ Some m
 data_later ms ns h i m g =
     let r = begins_with ms ns h in
-    let split = ap data_made r.1 ∙ filter-append (λ (x : Made). is_data x.pdu.kind) ms r.0 in
+    let split = ap data_made r.1 ∙ filter-append (λ (x : Made). is_kind Data x.pdu.kind) ms r.0 in
     subst (λ (xs : List Made). slice_get xs i ≡ Some m) (sym split) (get_front (data_made ms) (data_made r.0) i m g)
 
 -- data PDUs stay what they are

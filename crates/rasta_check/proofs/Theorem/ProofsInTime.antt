@@ -1,14 +1,13 @@
 -- What a PDU shows was handed up before it crossed.
 use Rattle.std.proofs.Common.{◌≡◌, ℕ, zero, suc, ◌+◌, ◌<◌, ◌≤◌, Bool, true, false, List, [], ◌∷◌, ◌++◌, length, Some, slice_get, refl, ap, sym, ◌∙◌, arith, ⊎_elim, subst}
-use Rattle.std.specs.Prelude.{slice_index_or, not, ◌&&◌, ◌||◌}
+use Rattle.std.specs.Prelude.{slice_index_or, is_some, not, ◌&&◌, ◌||◌}
 use Rattle.std.proofs.lemmas.Option.{slice_get_within}
 use Rattle.rasta_pcap.specs.declared.fault.Side.{Side}
 use Rattle.rasta_pcap.specs.declared.fault.Side.TheVariants.{Client, Server}
 use Rattle.rasta_pdu.specs.Params.{Parameters}
 use Rattle.rasta_end.specs.declared.phase.Phase.{Phase}
 use Rattle.rasta_end.specs.declared.phase.Phase.TheVariants.{Closed}
-use Rattle.rasta_end.specs.State.{Made, EndState, is_client, is_closed, has_made}
-use Rattle.rasta_end.specs.MakeRule.{is_connection_request}
+use Rattle.rasta_end.specs.State.{Made, EndState, is_client, is_closed}
 use Rattle.rasta_check.specs.Capture.Crossing.{FirstCopy}
 use Rattle.rasta_check.specs.Model.World.{World, Reaches}
 use Rattle.rasta_check.specs.Verdict.Taken.{pdus_of, all_made, units_shown}
@@ -26,8 +25,10 @@ use Rattle.rasta_check.proofs.Theorem.ShowingPdus.{shows_most}
 use Rattle.rasta_check.proofs.Model.InvariantOfRuns.{All, all_held}
 use Rattle.rasta_check.proofs.Model.History.{Grown, history, stepped, joined, made_at}
 use Rattle.rasta_check.proofs.Theorem.SentRuns.{known}
+use Rattle.rasta_pdu.specs.Pdu.{is_kind}
+use Rattle.rasta_pdu.specs.declared.kind.Kind.TheVariants.{ConnectionRequest}
 
-made_over : (s : Side) (ph : Phase) (ms : List Made) (i : ℕ) (m : Made) → slice_get ms i ≡ Some m → is_closed ph ≡ true → (is_closed ph && (not (is_client s) || has_made ms)) ≡ true
+made_over : (s : Side) (ph : Phase) (ms : List Made) (i : ℕ) (m : Made) → slice_get ms i ≡ Some m → is_closed ph ≡ true → (is_closed ph && (not (is_client s) || is_some (slice_get ms 0))) ≡ true
 made_over s Closed [] i m g h = absurd (cc)
 made_over Client Closed (x ∷ ms) i m g h = refl
 made_over Server Closed (x ∷ ms) i m g h = refl
@@ -36,7 +37,7 @@ made_over s _ ms i m g h = absurd (cc)
 -- e0 and f0 in the world after the make, e and f at the end
 module _ (e0 f0 e f : EndState) (t : ℕ) (w0 : Shown e0 f0) (w : Shown e f) (g : Held f t e.made) (vf : Valued f) (few : length f.made ≤ 1000001) (ge : Grown e0 e) (gf : Grown f0 f)
     (q : ℕ) (m : Made) (there : slice_get e0.made q ≡ Some m) where
-  unheard : is_connection_request m.pdu.kind ≡ false → e0.accepted ≡ 0 → (b : Bool) → is_closed e0.phase ≡ b → f.offered ≡ 0
+  unheard : is_kind ConnectionRequest m.pdu.kind ≡ false → e0.accepted ≡ 0 → (b : Bool) → is_closed e0.phase ≡ b → f.offered ≡ 0
   unheard k a true c =
       let s : e ≡ e0 = ge.over (made_over e0.side e0.phase e0.made q m there c) in
       let n : e.accepted ≡ 0 = ap (λ (z : EndState). z.accepted) s ∙ a in
@@ -47,7 +48,7 @@ module _ (e0 f0 e f : EndState) (t : ℕ) (w0 : Shown e0 f0) (w : Shown e f) (g 
       none a (suc o) h n = absurd (let z = h (omega arith) in omega arith)
   unheard k a false c = absurd (let z = w0.first_words a c q m there in cc)
 
-  in_time_at : is_connection_request m.pdu.kind ≡ false → (c v : ℕ) → SnIs f.made c m.pdu.cs → slice_get (values f) c ≡ Some v → v ≤ length e0.handed
+  in_time_at : is_kind ConnectionRequest m.pdu.kind ≡ false → (c v : ℕ) → SnIs f.made c m.pdu.cs → slice_get (values f) c ≡ Some v → v ≤ length e0.handed
   in_time_at k c v s h = ⊎_elim
       (λ (a : e0.accepted ≡ 0). (let z = unheard k a (is_closed e0.phase) refl in let b = vf.bounded c v h in omega arith))
       (λ (z : (i : ℕ) × (i < e0.accepted) × SnIs f0.made i m.pdu.cs).

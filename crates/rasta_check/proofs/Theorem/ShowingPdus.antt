@@ -5,15 +5,15 @@ use Rattle.std.proofs.lemmas.Option.{slice_get_within}
 use Rattle.rasta_pcap.specs.declared.fault.Side.{Side}
 use Rattle.rasta_pcap.specs.declared.fault.Side.TheVariants.{Client, Server}
 use Rattle.rasta_pdu.specs.declared.quiet_point.Quiet.{Quiet}
-use Rattle.rasta_pdu.specs.Pdu.{SafetyPdu}
+use Rattle.rasta_pdu.specs.Pdu.{SafetyPdu, is_kind}
 use Rattle.rasta_end.specs.State.{EndState}
 use Rattle.rasta_end.specs.Units.{units_at}
-use Rattle.rasta_end.specs.MakeRule.{is_connection_request}
 use Rattle.rasta_end.specs.Starts.{start_by}
 use Rattle.rasta_check.specs.Verdict.Taken.{position_with, asked_positions, units_along, units_shown, pdus_made}
 use Rattle.rasta_check.proofs.Model.NamedPositions.{SnIs}
 use Rattle.rasta_check.proofs.Model.ConveyedUnits.{values, length-values, get_within}
 use Rattle.rasta_check.proofs.Theorem.ShownByLists.{found_position}
+use Rattle.rasta_pdu.specs.declared.kind.Kind.TheVariants.{ConnectionRequest}
 
 -- a quiet PDU asks for nothing
 pub quiet_asks : (q : Option Quiet) (s : Side) (own : List SafetyPdu) → asked_positions own (pdus_made (start_by q s).made) ≡ []
@@ -24,8 +24,8 @@ quiet_asks (Some q) Server own = refl
 
 -- f's units, by lists that tell what f made and what its peer did
 module _ (f : EndState) (own peer : List SafetyPdu) (told : pdus_made f.made ≡ own) (along : units_along own peer ≡ values f) (n : ℕ) (x : SafetyPdu)
-    (most : is_connection_request x.kind ≡ false → (c v : ℕ) → SnIs f.made c x.cs → slice_get (values f) c ≡ Some v → v ≤ n) where
-  at_position : is_connection_request x.kind ≡ false → (o : Option ℕ) → position_with own x.cs ≡ o → units_at (units_along own peer) o ≤ n
+    (most : is_kind ConnectionRequest x.kind ≡ false → (c v : ℕ) → SnIs f.made c x.cs → slice_get (values f) c ≡ Some v → v ≤ n) where
+  at_position : is_kind ConnectionRequest x.kind ≡ false → (o : Option ℕ) → position_with own x.cs ≡ o → units_at (units_along own peer) o ≤ n
   at_position k None e = omega arith
   at_position k (Some c) e =
       let s = found_position f.made x.cs c (ap (λ (ms : List SafetyPdu). position_with ms x.cs) told ∙ e) in
@@ -36,13 +36,13 @@ module _ (f : EndState) (own peer : List SafetyPdu) (told : pdus_made f.made ≡
       let same : units_at (units_along own peer) (Some c) ≡ v = ap (λ (vs : List ℕ). slice_index_or vs c 0) along in
       omega (arith, b, same)
 
-  by_kind : (b : Bool) → is_connection_request x.kind ≡ b → (if b then 0 else units_at (units_along own peer) (position_with own x.cs)) ≤ n
+  by_kind : (b : Bool) → is_kind ConnectionRequest x.kind ≡ b → (if b then 0 else units_at (units_along own peer) (position_with own x.cs)) ≤ n
   by_kind true e = omega arith
   by_kind false e = at_position e (position_with own x.cs) refl
 
   -- a PDU shows at most n units where each position that it confirms conveys at most n
   pub shows_most : units_shown own peer x ≤ n
-  shows_most = by_kind (is_connection_request x.kind) refl
+  shows_most = by_kind (is_kind ConnectionRequest x.kind) refl
 
 -- ---- the most that any of them shows
 

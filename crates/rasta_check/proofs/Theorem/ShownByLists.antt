@@ -5,11 +5,9 @@ use Rattle.std.specs.Option.{option_map}
 use Rattle.std.proofs.lemmas.Bool.Decides.{nat_tests}
 use Rattle.std.proofs.lemmas.List.Elements.{filter-append, filter_map-append}
 use Rattle.std.proofs.lemmas.Option.{slice_get_within}
-use Rattle.rasta_pdu.specs.Pdu.{SafetyPdu}
+use Rattle.rasta_pdu.specs.Pdu.{SafetyPdu, is_kind}
 use Rattle.rasta_end.specs.State.{Made, EndState, kinds}
 use Rattle.rasta_end.specs.Units.{all_units_conveyed, units_at}
-use Rattle.rasta_end.specs.MakeRule.{is_connection_request}
-use Rattle.rasta_end.specs.TakeRule.{is_retransmission_request}
 use Rattle.rasta_end.proofs.Conveying.{more_asks}
 use Rattle.rasta_check.specs.Verdict.Taken.{pdus_made, position_with, asked_positions, units_along, units_shown, units_taken}
 use Rattle.rasta_check.specs.Model.Laws.{NamesOne}
@@ -19,6 +17,7 @@ use Rattle.rasta_check.proofs.Model.ConveyedUnits.{values, get_within, answers_n
 use Rattle.rasta_check.proofs.Model.OfferedUnits.{Valued}
 use Rattle.rasta_check.proofs.Model.ShownUnits.{Shown}
 use Rattle.rasta_check.proofs.Model.Requests.{in_order}
+use Rattle.rasta_pdu.specs.declared.kind.Kind.TheVariants.{ConnectionRequest, RetransmissionRequest}
 
 -- The position that a CS confirms has this SN.
 
@@ -67,8 +66,8 @@ get_after (x ∷ xs) ys i y g = (let r = get_after xs ys i y g in (suc r.0, r.1)
 
 asked-append : (own xs ys : List SafetyPdu) → asked_positions own (xs ++ ys) ≡ asked_positions own xs ++ asked_positions own ys
 asked-append own xs ys =
-    ap (filter_map (λ (x : SafetyPdu). position_with own x.cs)) (filter-append (λ (x : SafetyPdu). is_retransmission_request x.kind) xs ys)
-    ∙ filter_map-append (λ (x : SafetyPdu). position_with own x.cs) (filter (λ (x : SafetyPdu). is_retransmission_request x.kind) xs) (filter (λ (x : SafetyPdu). is_retransmission_request x.kind) ys)
+    ap (filter_map (λ (x : SafetyPdu). position_with own x.cs)) (filter-append (λ (x : SafetyPdu). is_kind RetransmissionRequest x.kind) xs ys)
+    ∙ filter_map-append (λ (x : SafetyPdu). position_with own x.cs) (filter (λ (x : SafetyPdu). is_kind RetransmissionRequest x.kind) xs) (filter (λ (x : SafetyPdu). is_kind RetransmissionRequest x.kind) ys)
 
 -- e made the units, f took them. The list of f may leave out first PDUs that ask for nothing
 module _ (e f : EndState) (t u : ℕ) (h : Held e t f.made) (peer : Held f u e.made) (w : Valued e) (once : NamesOne e f) (first ps : List SafetyPdu)
@@ -82,7 +81,7 @@ module _ (e f : EndState) (t u : ℕ) (h : Held e t f.made) (peer : Held f u e.m
       ap (λ asks. all_units_conveyed asks (map (λ (x : SafetyPdu). x.kind) (pdus_made e.made))) (all ∙ b.1)
       ∙ (ap (all_units_conveyed (e.asks ++ b.0)) (kinds_of e.made) ∙ more_asks e.asks b.0 (kinds e.made) (omega (arith, answers_number e.made, h.asked)))
 
-  shown_by : (s : Shown f e) (i : ℕ) (m : Made) → slice_get f.made i ≡ Some m → is_connection_request m.pdu.kind ≡ false
+  shown_by : (s : Shown f e) (i : ℕ) (m : Made) → slice_get f.made i ≡ Some m → is_kind ConnectionRequest m.pdu.kind ≡ false
       → (o : Option ℕ) → position_with (pdus_made e.made) m.pdu.cs ≡ o → units_at (values e) o ≤ length f.handed
   shown_by s i m g k None is = omega arith
   shown_by s i m g k (Some c) is =
@@ -95,9 +94,9 @@ module _ (e f : EndState) (t u : ℕ) (h : Held e t f.made) (peer : Held f u e.m
   shows_handed s i x g =
       let r = get_after first ps i x g in
       let m = made_at f.made r.0 x (subst (λ (xs : List SafetyPdu). slice_get xs r.0 ≡ Some x) (sym made) r.1) in
-      subst (λ (y : SafetyPdu). units_shown (pdus_made e.made) ps y ≤ length f.handed) m.2 (by r.0 m.0 m.1 (is_connection_request m.0.pdu.kind) refl)
+      subst (λ (y : SafetyPdu). units_shown (pdus_made e.made) ps y ≤ length f.handed) m.2 (by r.0 m.0 m.1 (is_kind ConnectionRequest m.0.pdu.kind) refl)
     where
-      by : (j : ℕ) (m : Made) → slice_get f.made j ≡ Some m → (b : Bool) → is_connection_request m.pdu.kind ≡ b → units_shown (pdus_made e.made) ps m.pdu ≤ length f.handed
+      by : (j : ℕ) (m : Made) → slice_get f.made j ≡ Some m → (b : Bool) → is_kind ConnectionRequest m.pdu.kind ≡ b → units_shown (pdus_made e.made) ps m.pdu ≤ length f.handed
       by j m there true k = (let z = ap (λ b. if b then 0 else units_at (units_along (pdus_made e.made) ps) (position_with (pdus_made e.made) m.pdu.cs)) k in omega (arith, z))
       by j m there false k =
           let z = ap (λ b. if b then 0 else units_at (units_along (pdus_made e.made) ps) (position_with (pdus_made e.made) m.pdu.cs)) k in

@@ -10,7 +10,6 @@ use Rattle.rasta_cert.specs.Certificate.{Scripts}
 use Rattle.rasta_cert.specs.declared.entry.Entry.{Entry}
 use Rattle.rasta_end.specs.State.{EndState}
 use Rattle.rasta_end.specs.Units.{units_at}
-use Rattle.rasta_end.specs.MakeRule.{is_connection_request}
 use Rattle.rasta_check.specs.Capture.Crossing.{FirstCopy}
 use Rattle.rasta_check.specs.Model.World.{World, Reaches}
 use Rattle.rasta_check.specs.Verdict.Taken.{surely_taken, messages_taken, position_with, pdus_of, all_made, units_shown, units_taken, units_from, data_copies}
@@ -34,6 +33,8 @@ use Rattle.rasta_check.proofs.Theorem.Necessity.{server_hands_up, server_first, 
 use Rattle.rasta_check.proofs.Theorem.FirstUnits.{offered_first}
 use Rattle.rasta_check.proofs.Theorem.JoinedMessages.{joined, joined-append, up_joined, listed_joined, of_listed, of_message}
 use Rattle.rasta_check.proofs.Verdict.Reports.{units_named, first_small, are_proofs, units_are}
+use Rattle.rasta_pdu.specs.Pdu.{is_kind}
+use Rattle.rasta_pdu.specs.declared.kind.Kind.TheVariants.{ConnectionRequest}
 
 -- ---- verdicts and scripts that fit
 
@@ -73,7 +74,7 @@ module _ (p : Parameters) (packets : List Packet) (c s : List FirstCopy) (h : Is
     by_server i d g =
         let e = w.client.state in
         let first = first_small p.quiet Client e.made c kn.sends.same (λ j x y. (sent_c.firsts j x y).3.fits.sn) in
-        ap (λ n. if is_connection_request d.pdu.safety.kind then 0 else n)
+        ap (λ n. if is_kind ConnectionRequest d.pdu.safety.kind then 0 else n)
         (units_named e.made (values e) d.pdu.safety.cs kn.all.mine.numbered kn.few (length-values e.asks e.made) first (sent_s.firsts i d g).3.fits.cs
         ∙ (λ j. units_at (sym kn.along j) (position_with (kn.sends.same j) d.pdu.safety.cs)))
 
@@ -81,7 +82,7 @@ module _ (p : Parameters) (packets : List Packet) (c s : List FirstCopy) (h : Is
     by_client i d g =
         let e = w.server.state in
         let first = first_small p.quiet Server e.made s kn.their_sends.same (λ j x y. (sent_s.firsts j x y).3.fits.sn) in
-        ap (λ n. if is_connection_request d.pdu.safety.kind then 0 else n)
+        ap (λ n. if is_kind ConnectionRequest d.pdu.safety.kind then 0 else n)
         (units_named e.made (values e) d.pdu.safety.cs kn.all.theirs.numbered kn.few_theirs (length-values e.asks e.made) first (sent_c.firsts i d g).3.fits.cs
         ∙ (λ j. units_at (sym kn.their_along j) (position_with (kn.their_sends.same j) d.pdu.safety.cs)))
 

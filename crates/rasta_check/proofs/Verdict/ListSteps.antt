@@ -3,12 +3,13 @@ use Rattle.std.proofs.Common.{◌≡◌, ℕ, zero, suc, ◌+◌, ◌≤◌, Boo
 use Rattle.std.specs.Prelude.{if◌then◌else◌}
 use Rattle.std.proofs.lemmas.List.{append-nil, length-append, length-map}
 use Rattle.rasta_end.specs.State.{EndState}
-use Rattle.rasta_end.specs.MakeRule.{is_data}
 use Rattle.rasta_check.specs.Capture.Crossing.{FirstCopy}
 use Rattle.rasta_check.specs.declared.report.Taken.{Taken}
 use Rattle.rasta_check.specs.Verdict.Taken.{TakenMessage, TakenUnit, messages_taken}
 use Rattle.rasta_check.specs.Verdict.Listed.{ListedMessage, listed_of, numbered_from}
 use Rattle.rasta_check.specs.Internals.Listing.{shown_by, with_proofs, proofs_from, proved_unit, with_unit, proved_units}
+use Rattle.rasta_pdu.specs.Pdu.{is_kind}
+use Rattle.rasta_pdu.specs.declared.kind.Kind.TheVariants.{Data}
 
 -- ---- what is left of a list
 
@@ -40,20 +41,20 @@ proofs_end e xs i places l = ap (proofs_from e places) (none_left xs i l)
 unproved : (places : List ℕ) (unit : ℕ) (copies : List FirstCopy) → slice_get places unit ≡ None → proved_units places unit copies ≡ []
 unfolding proved_units
 unproved places unit [] g = refl
-unproved places unit (c ∷ copies) g = by (is_data c.pdu.safety.kind) (unproved places unit copies g)
+unproved places unit (c ∷ copies) g = by (is_kind Data c.pdu.safety.kind) (unproved places unit copies g)
   where
     by : (b : Bool) → proved_units places unit copies ≡ [] → (if b then with_unit c (slice_get places unit) (proved_units places (suc unit) copies) else proved_units places unit copies) ≡ []
     by true e = ap (λ o. with_unit c o (proved_units places (suc unit) copies)) g
     by false e = e
 
-pub other_copy : (places : List ℕ) (unit : ℕ) (c : FirstCopy) (copies : List FirstCopy) → is_data c.pdu.safety.kind ≡ false → proved_units places unit (c ∷ copies) ≡ proved_units places unit copies
+pub other_copy : (places : List ℕ) (unit : ℕ) (c : FirstCopy) (copies : List FirstCopy) → is_kind Data c.pdu.safety.kind ≡ false → proved_units places unit (c ∷ copies) ≡ proved_units places unit copies
 unfolding proved_units
 other_copy places unit c copies k = ap (λ b. if b then with_unit c (slice_get places unit) (proved_units places (suc unit) copies) else proved_units places unit copies) k
 
 pub unproved_copy : (places : List ℕ) (unit : ℕ) (c : FirstCopy) (copies : List FirstCopy) → slice_get places unit ≡ None → proved_units places unit (c ∷ copies) ≡ proved_units places unit copies
 unproved_copy places unit c copies g = unproved places unit (c ∷ copies) g ∙ sym (unproved places unit copies g)
 
-pub proved_copy : (places : List ℕ) (unit place : ℕ) (c : FirstCopy) (copies : List FirstCopy) → is_data c.pdu.safety.kind ≡ true → slice_get places unit ≡ Some place
+pub proved_copy : (places : List ℕ) (unit place : ℕ) (c : FirstCopy) (copies : List FirstCopy) → is_kind Data c.pdu.safety.kind ≡ true → slice_get places unit ≡ Some place
     → proved_units places unit (c ∷ copies) ≡ proved_unit c place ∷ proved_units places (unit + 1) copies
 unfolding proved_units
 proved_copy places unit place c copies k g =

@@ -8,11 +8,10 @@ use Rattle.std.proofs.lemmas.Option.{slice_get_within}
 use Rattle.rasta_pcap.specs.declared.fault.Side.{Side}
 use Rattle.rasta_pcap.specs.declared.fault.Side.TheVariants.{Client, Server}
 use Rattle.rasta_pdu.specs.declared.quiet_point.Quiet.{Quiet}
-use Rattle.rasta_pdu.specs.Pdu.{SafetyPdu}
+use Rattle.rasta_pdu.specs.Pdu.{SafetyPdu, is_kind}
 use Rattle.rasta_end.specs.State.{Made, EndState, ahead_by, first_sn}
 use Rattle.rasta_end.specs.Units.{units_at}
 use Rattle.rasta_end.specs.Starts.{start_by}
-use Rattle.rasta_end.specs.MakeRule.{is_data}
 use Rattle.rasta_check.specs.Capture.Crossing.{FirstCopy}
 use Rattle.rasta_check.specs.Verdict.Taken.{position_with, pdus_of, pdus_made, units_shown, units_taken, proof_place, units_from, data_copies}
 use Rattle.rasta_check.specs.Internals.Listing.{shown_by, with_proofs, proofs_from, proved_unit, with_unit, proved_units}
@@ -21,6 +20,7 @@ use Rattle.rasta_check.proofs.Model.SequenceNumbers.{Numbered}
 use Rattle.rasta_check.proofs.Model.NamedPositions.{SnIs}
 use Rattle.rasta_check.proofs.Script.Simulation.{slice_get_some}
 use Rattle.rasta_check.proofs.Model.ConveyedUnits.{get_or_none}
+use Rattle.rasta_pdu.specs.declared.kind.Kind.TheVariants.{Data}
 
 -- ---- the position that a CS names
 
@@ -230,7 +230,7 @@ module _ (own : List SafetyPdu) (peer : List FirstCopy) (places : List ℕ) (h :
       nothing : (n : ℕ) → [] ≡ units_from own peer unit (take n [])
       nothing zero = refl
       nothing (suc n) = refl
-  units_are unit (c ∷ copies) = by (is_data c.pdu.safety.kind) (units_are (suc unit) copies) (units_are unit copies)
+  units_are unit (c ∷ copies) = by (is_kind Data c.pdu.safety.kind) (units_are (suc unit) copies) (units_are unit copies)
     where
       listed : proved_units places (suc unit) copies ≡ units_from own peer (suc unit) (take (length places - suc unit) (data_copies copies)) → (b : Bool) → nat_lt unit (length places) ≡ b
           → with_unit c (slice_get places unit) (proved_units places (suc unit) copies) ≡ units_from own peer unit (take (length places - unit) (c ∷ data_copies copies))

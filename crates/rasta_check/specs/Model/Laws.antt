@@ -1,14 +1,14 @@
 -- Laws on every run: what the headline stands on. Each holds at every world in which no end has sent more than 1,000,000 PDUs.
 use Rattle.std.specs.Prelude.{◌≡◌, ℕ, zero, suc, ◌<◌, List, [], ◌∷◌, ◌++◌, length, Some, slice_get, filter, true, false}
 use Rattle.rasta_pdu.specs.Params.{Parameters}
-use Rattle.rasta_pdu.specs.Pdu.{SafetyPdu}
+use Rattle.rasta_pdu.specs.Pdu.{SafetyPdu, is_kind}
 use Rattle.rasta_end.specs.declared.why.Why.{Why}
 use Rattle.rasta_end.specs.State.{Made, EndState, kinds}
 use Rattle.rasta_end.specs.Units.{all_units_conveyed, units_conveyed, last_of, responses_in}
 use Rattle.rasta_end.specs.MakeRule.{Makes, has_ended}
-use Rattle.rasta_end.specs.TakeRule.{is_retransmission_request, is_retransmission_response}
 use Rattle.rasta_check.specs.Model.World.{World, Reaches, IsWithin}
 use Rattle.rasta_check.specs.Verdict.Taken.{pdus_made, asked_positions, position_with}
+use Rattle.rasta_pdu.specs.declared.kind.Kind.TheVariants.{RetransmissionRequest, RetransmissionResponse}
 
 -- what holds of each end and its peer, at every world of a run
 abbrev pub Always : (EndState → EndState → Type 0) → Parameters → Type 0
@@ -28,15 +28,15 @@ SnOnce = (p : Parameters) → Always NamesOne p
 
 -- the retransmission requests among these PDUs
 abbrev pub requests_of : List Made → List Made
-requests_of made = filter (λ (m : Made). is_retransmission_request m.pdu.kind) made
+requests_of made = filter (λ (m : Made). is_kind RetransmissionRequest m.pdu.kind) made
 
 -- each request of the peer confirms a position; the asks of an end are a beginning of the list of these, and its i-th retransmission response
 -- answers its peer's i-th request: the position that this confirms is the i-th ask, and lies before the response
 pub record AnswersInOrder (e peer : EndState) : Type 0 where
   pub beginning : (rest : List ℕ) × (asked_positions (pdus_made e.made) (pdus_made peer.made) ≡ e.asks ++ rest)
-  pub named : (position : ℕ) (request : Made) → slice_get peer.made position ≡ Some request → is_retransmission_request request.pdu.kind ≡ true
+  pub named : (position : ℕ) (request : Made) → slice_get peer.made position ≡ Some request → is_kind RetransmissionRequest request.pdu.kind ≡ true
       → (c : ℕ) × (position_with (pdus_made e.made) request.pdu.cs ≡ Some c)
-  pub answers : (before after : List Made) (m : Made) → e.made ≡ before ++ m ∷ after → is_retransmission_response m.pdu.kind ≡ true
+  pub answers : (before after : List Made) (m : Made) → e.made ≡ before ++ m ∷ after → is_kind RetransmissionResponse m.pdu.kind ≡ true
       → (ask : ℕ) × (request : Made)
       × (slice_get e.asks (responses_in (kinds before)) ≡ Some ask) × (ask < length before)
       × (slice_get (requests_of peer.made) (responses_in (kinds before)) ≡ Some request)

@@ -5,14 +5,14 @@ use Rattle.rasta_pcap.specs.declared.fault.Side.TheVariants.{Client, Server}
 use Rattle.rasta_udp.specs.Frame.{Packet}
 use Rattle.rasta_pdu.specs.Params.{Parameters, AreParameters}
 use Rattle.rasta_pdu.specs.Messages.{AreBytes}
-use Rattle.rasta_pdu.specs.Pdu.{SafetyPdu, messages_in}
+use Rattle.rasta_pdu.specs.Pdu.{SafetyPdu, messages_in, is_kind}
 use Rattle.rasta_end.specs.State.{Made, EndState}
-use Rattle.rasta_end.specs.MakeRule.{is_data}
 use Rattle.rasta_end.specs.Starts.{start_of}
 use Rattle.rasta_check.specs.Capture.Crossing.{FirstCopy, Sent, packet_fault}
 use Rattle.rasta_check.specs.Model.World.{Station, World, Reaches, most_sent, IsWithin}
 use Rattle.rasta_check.specs.Verdict.Taken.{pdus_made, all_made, TakenUnit, surely_taken}
 use Rattle.rasta_check.specs.Model.Laws.{HandsUp}
+use Rattle.rasta_pdu.specs.declared.kind.Kind.TheVariants.{Data}
 
 -- parameters that a connection can have; its ids have 32 bits
 pub record OfConnection (p : Parameters) : Type 0 where
@@ -83,7 +83,7 @@ Definite p =
 pub record HandsUpUnits (e peer : EndState) : Type 0 where
   pub labels : HandsUp e peer
   pub messages : (i : ℕ) (x : SafetyPdu) → slice_get e.handed_pdus i ≡ Some x
-      → (m : Made) × (slice_get (filter (λ (n : Made). is_data n.pdu.kind) peer.made) i ≡ Some m) × (messages_in x.body ≡ messages_in m.pdu.body)
+      → (m : Made) × (slice_get (filter (λ (n : Made). is_kind Data n.pdu.kind) peer.made) i ≡ Some m) × (messages_in x.body ≡ messages_in m.pdu.body)
 
 -- the units that an end handed up, in order: the messages of each
 abbrev pub units_handed : EndState → List (List (List ℕ))

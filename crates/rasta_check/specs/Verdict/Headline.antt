@@ -5,14 +5,14 @@ use Rattle.rasta_pcap.specs.declared.fault.Side.{Side}
 use Rattle.rasta_pcap.specs.declared.fault.Side.TheVariants.{Client, Server}
 use Rattle.rasta_udp.specs.Frame.{Packet}
 use Rattle.rasta_pdu.specs.Params.{Parameters}
-use Rattle.rasta_pdu.specs.Pdu.{SafetyPdu, messages_in}
+use Rattle.rasta_pdu.specs.Pdu.{SafetyPdu, messages_in, is_kind}
 use Rattle.rasta_end.specs.State.{EndState, Made}
-use Rattle.rasta_end.specs.MakeRule.{is_data}
 use Rattle.rasta_check.specs.Model.World.{World, Reaches}
 use Rattle.rasta_check.specs.Model.Laws.{HandsUp}
 use Rattle.rasta_check.specs.Model.Theorem.{other_side, end_of, Appends, units_handed}
 use Rattle.rasta_check.specs.Verdict.Listed.{ListedMessage}
 use Rattle.rasta_check.specs.Verdict.Report.{Explained}
+use Rattle.rasta_pdu.specs.declared.kind.Kind.TheVariants.{Data}
 
 -- the messages that an end handed up, in order
 abbrev pub messages_up : EndState → List (List ℕ)
@@ -24,7 +24,7 @@ messages_in_list listed = map (λ (m : ListedMessage). m.message) listed
 
 -- the units that an end offered, in order: the messages of each of its data PDUs
 abbrev pub units_offered : EndState → List (List (List ℕ))
-units_offered e = map (λ (m : Made). messages_in m.pdu.body) (filter (λ (m : Made). is_data m.pdu.kind) e.made)
+units_offered e = map (λ (m : Made). messages_in m.pdu.body) (filter (λ (m : Made). is_kind Data m.pdu.kind) e.made)
 
 -- in this run this side handed up the units 0, 1, .. of its peer, once each and in order, which are the first that its peer offered, and
 -- their messages begin with those of the list; and the packet at the proof place of each message of the list is appended to a world of

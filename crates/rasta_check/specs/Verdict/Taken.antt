@@ -4,13 +4,12 @@ use Rattle.std.specs.List.{flat_map}
 use Rattle.std.specs.Option.{option_map}
 use Rattle.rasta_pcap.specs.declared.fault.Side.{Side}
 use Rattle.rasta_pdu.specs.Params.{Parameters}
-use Rattle.rasta_pdu.specs.Pdu.{SafetyPdu, messages_in}
+use Rattle.rasta_pdu.specs.Pdu.{SafetyPdu, messages_in, is_kind}
 use Rattle.rasta_end.specs.State.{Made}
 use Rattle.rasta_end.specs.Units.{all_units_conveyed, units_at}
-use Rattle.rasta_end.specs.MakeRule.{is_data, is_connection_request}
-use Rattle.rasta_end.specs.TakeRule.{is_retransmission_request}
 use Rattle.rasta_end.specs.Starts.{start_of}
 use Rattle.rasta_check.specs.Capture.Crossing.{FirstCopy}
+use Rattle.rasta_pdu.specs.declared.kind.Kind.TheVariants.{ConnectionRequest, Data, RetransmissionRequest}
 
 -- ---- over lists of PDUs: those that an end made, and those of its peer
 
@@ -21,7 +20,7 @@ position_with (x ∷ xs) sn = if x.sn == sn then Some 0 else option_map suc (pos
 
 -- the positions that the peer's retransmission requests confirm, in order
 abbrev pub asked_positions : List SafetyPdu → List SafetyPdu → List ℕ
-asked_positions own peer = filter_map (λ (x : SafetyPdu). position_with own x.cs) (filter (λ (x : SafetyPdu). is_retransmission_request x.kind) peer)
+asked_positions own peer = filter_map (λ (x : SafetyPdu). position_with own x.cs) (filter (λ (x : SafetyPdu). is_kind RetransmissionRequest x.kind) peer)
 
 -- the units conveyed through each position
 abbrev pub units_along : List SafetyPdu → List SafetyPdu → List ℕ
@@ -29,7 +28,7 @@ units_along own peer = all_units_conveyed (asked_positions own peer) (map (λ (x
 
 -- the units conveyed through the position that a PDU of the peer confirms; a connection request confirms none
 abbrev pub units_shown : List SafetyPdu → List SafetyPdu → SafetyPdu → ℕ
-units_shown own peer x = if is_connection_request x.kind then 0 else units_at (units_along own peer) (position_with own x.cs)
+units_shown own peer x = if is_kind ConnectionRequest x.kind then 0 else units_at (units_along own peer) (position_with own x.cs)
 
 -- how many units the peer surely took: the most that one of its PDUs shows
 abbrev pub units_taken : List SafetyPdu → List SafetyPdu → ℕ
@@ -68,7 +67,7 @@ units_from own peer unit (c ∷ data_pdus) =
 
 -- the data PDUs of a sent list
 abbrev pub data_copies : List FirstCopy → List FirstCopy
-data_copies sent = filter (λ (c : FirstCopy). is_data c.pdu.safety.kind) sent
+data_copies sent = filter (λ (c : FirstCopy). is_kind Data c.pdu.safety.kind) sent
 
 -- the units of this side that its peer surely took, by both sent lists
 abbrev pub surely_taken : Parameters → Side → List FirstCopy → List FirstCopy → List TakenUnit

@@ -4,7 +4,7 @@ use Rattle.std.proofs.lemmas.Bool.Decides.{nat_tests}
 use Rattle.rasta_pcap.specs.declared.fault.Side.{Side}
 use Rattle.rasta_pcap.specs.declared.fault.Side.TheVariants.{Client}
 use Rattle.rasta_pdu.specs.declared.kind.Kind.{Kind}
-use Rattle.rasta_pdu.specs.Pdu.{SafetyPdu}
+use Rattle.rasta_pdu.specs.Pdu.{SafetyPdu, is_kind}
 use Rattle.rasta_pdu.specs.Params.{Parameters}
 use Rattle.rasta_end.specs.declared.phase.Phase.{Phase}
 use Rattle.rasta_end.specs.declared.phase.Phase.TheVariants.{Closed}
@@ -12,7 +12,7 @@ use Rattle.rasta_end.specs.declared.why.Why.{Why}
 use Rattle.rasta_end.specs.declared.owed.Owed.{Owed}
 use Rattle.rasta_end.specs.declared.make_row.MakeRow.{MakeRow}
 use Rattle.rasta_end.specs.State.{Made, EndState, is_client, is_start}
-use Rattle.rasta_end.specs.MakeRule.{is_judged, is_connection_request, is_disconnection_request}
+use Rattle.rasta_end.specs.MakeRule.{is_judged}
 use Rattle.rasta_check.specs.Model.Laws.{NamesOne, ConfirmsAccepted}
 use Rattle.rasta_check.proofs.Model.PassedTests.{Passed, passed, cs_is}
 use Rattle.rasta_check.proofs.Model.MakeRows.{Making, opening, made_by}
@@ -21,15 +21,16 @@ use Rattle.rasta_check.proofs.Model.Invariant.{Held}
 use Rattle.rasta_check.proofs.Model.InvariantAtMake.{nothing_made}
 use Rattle.rasta_check.proofs.Model.InvariantOfRuns.{all_held, few_made}
 use Rattle.rasta_check.proofs.laws.confirmed.Goals as goal
+use Rattle.rasta_pdu.specs.declared.kind.Kind.TheVariants.{ConnectionRequest, DisconnectionRequest}
 
 -- a connection request is made by a closed client
-opening_is : (s : Side) (ph : Phase) (why : Why) (k : Kind) (os : List Owed) (row : MakeRow) → Making s ph why k os row → is_connection_request k ≡ true → (s ≡ Client) × (ph ≡ Closed)
+opening_is : (s : Side) (ph : Phase) (why : Why) (k : Kind) (os : List Owed) (row : MakeRow) → Making s ph why k os row → is_kind ConnectionRequest k ≡ true → (s ≡ Client) × (ph ≡ Closed)
 opening_is s ph why k os row opening h = (refl, refl)
 opening_is s ph why k os row _ h = absurd (cc)
 
 -- an end that has accepted something makes no connection request
 not_opening : (p : Parameters) (e : EndState) (x : SafetyPdu) (clock : ℕ) (why : Why) (t i : ℕ) (peer : List Made) → Passed p e x clock why → Held e t peer → e.accepted ≡ suc i
-    → (b : Bool) → is_connection_request x.kind ≡ b → is_connection_request x.kind ≡ false
+    → (b : Bool) → is_kind ConnectionRequest x.kind ≡ b → is_kind ConnectionRequest x.kind ≡ false
 not_opening p e x clock why t i peer pass h a false b = b
 not_opening p e x clock why t i peer pass h a true b =
     let by = made_by p e x clock why pass in
@@ -45,8 +46,8 @@ judged_by _ _ _ more o n = absurd (cc)
 confirms : (p : Parameters) (e peer : EndState) (t : ℕ) → Held e t peer.made → NamesOne peer e → ConfirmsAccepted p e peer
 confirms p e peer t h once x clock why after i mk a =
     let pass = passed p e x clock why mk.0 in
-    let opens = not_opening p e x clock why t i peer.made pass h a (is_connection_request x.kind) refl in
-    let judged : is_judged e x.kind ≡ true = judged_by (is_connection_request x.kind) (is_disconnection_request x.kind) (e.accepted == 0) (is_client e.side && is_start e.phase) opens (grind (arith, nat_tests, a)) in
+    let opens = not_opening p e x clock why t i peer.made pass h a (is_kind ConnectionRequest x.kind) refl in
+    let judged : is_judged e x.kind ≡ true = judged_by (is_kind ConnectionRequest x.kind) (is_kind DisconnectionRequest x.kind) (e.accepted == 0) (is_client e.side && is_start e.phase) opens (grind (arith, nat_tests, a)) in
     let cs = (cs_is e x.kind x.cs judged pass.cs).1 in
     let last = h.last i a in
     ((last.m, last.there, last.same ∙ sym cs), λ j n there same. once j i n last.m there last.there (same ∙ (cs ∙ sym last.same)))

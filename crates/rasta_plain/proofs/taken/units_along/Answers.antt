@@ -12,8 +12,8 @@ loop-pdu-preserved c =
     record {
       conveyed =
           conveyed-more c.in_ok-asks.asks.items before c.push.new.self.items c.args.own.now c.loop-pdu.pdu-index c.units_after.result c.loop-pdu.responses _ _ _ c.loop-pdu-test.true refl
-          search rules pushed (ap (λ n. c.loop-pdu.responses + n) (c.from-responses.ensures ∙ one_or_none _ _ c.is_retransmission_response.ensures))
+          search rules pushed (ap (λ n. c.loop-pdu.responses + n) (c.from-responses.ensures ∙ one_or_none _ _ c.is.ensures))
           ∙ c.loop-pdu.invariant.conveyed;
       few = rw long (rw pushed (at_most-push (length before + 1) before c.units_after.result fits (at_most-more (length before) (length before + 1) before (omega arith) c.loop-pdu.invariant.few)));
-      responses = (let one = one_at_most c.is_retransmission_response.result in omega (arith, one, c.from-responses.ensures, c.loop-pdu.invariant.responses));
+      responses = (let one = one_at_most c.is.result in omega (arith, one, c.from-responses.ensures, c.loop-pdu.invariant.responses));
     }
