@@ -12,12 +12,12 @@ use crate::rule::write_rule;
 use crate::sent_messages::list_of;
 use crate::sightings::Wanted;
 use crate::text::{Part, other, write_parts, write_words};
-use crate::words::{cause_of, meaning_of, next_step_of};
+use crate::words::{Hint, WITHOUT_OPENING, hint_on, meaning_of};
 use rasta_build::Obstacle;
 use rasta_cert::{Certificate, Entry};
 use rasta_check::{SentList, SpanList, Store};
 use rasta_pcap::{Fault, Record, Side, Sink};
-use rasta_pdu::{Params, Pdu};
+use rasta_pdu::{Kind, Params, Pdu};
 use rasta_udp::{Datagram, datagram};
 
 // Where the redundancy number stands in a datagram, and where the safety PDU begins.
@@ -74,16 +74,16 @@ fn write_fault<W: Sink>(writer: &mut W, page: &Page<'_>, fault: Fault) -> Result
 }
 
 // Writes what may be the cause of a fault, and what to look at next.
-fn write_advice<W: Sink>(writer: &mut W, fault: Fault) -> Result<(), Fault>
+fn write_hint<W: Sink>(writer: &mut W, hint: Hint) -> Result<(), Fault>
     ensures err { IfErr result (λ f. f ≡ write_failed) }
 {
     write_parts(
         writer,
         &[
             Part::Words("\nmay be the cause:\n  "),
-            Part::Words(cause_of(fault.number)),
+            Part::Words(hint.cause),
             Part::Words("\nlook next at:\n  "),
-            Part::Words(next_step_of(fault.number)),
+            Part::Words(hint.next_step),
             Part::Words("\n"),
         ],
     )
@@ -288,7 +288,7 @@ pub fn write_capture_refusal<W: Sink>(
             None => write_words(writer, "\n")?,
         }
     }
-    write_advice(writer, fault)
+    write_hint(writer, hint_on(fault.number))
 }
 
 /// The PDU of an end at a place, if a first copy crossed there.
@@ -374,6 +374,24 @@ fn write_rule_if<W: Sink>(
     }
 }
 
+// Whether no quiet point is recorded, and the first packet opens no connection.
+fn lacks_opening(page: &Page<'_>, store: &Store) -> bool {
+    let first = unexplained_at(store, 1).and_then(|crossed| crossed.pdu);
+    match first {
+        Some(pdu) => page.params.quiet().is_none() && !pdu.kind().is(Kind::ConnectionRequest),
+        None => false,
+    }
+}
+
+/// The hint on packets for which there are no scripts.
+pub fn unscripted_hint(page: &Page<'_>, store: &Store, fault: Fault) -> Hint {
+    if fault.number == Fault::NOT_FOUND && lacks_opening(page, store) {
+        WITHOUT_OPENING
+    } else {
+        hint_on(fault.number)
+    }
+}
+
 /// Writes the text on packets for which there are no scripts.
 pub fn write_unscripted<W: Sink>(
     writer: &mut W,
@@ -401,7 +419,7 @@ pub fn write_unscripted<W: Sink>(
             ],
         )?;
     }
-    write_advice(writer, fault)
+    write_hint(writer, unscripted_hint(page, store, fault))
 }
 
 // The script of an end.
@@ -547,5 +565,5 @@ pub fn write_refused<W: Sink>(
     } else if let Some(entry) = entry_in(certificate, side, fault.place) {
         write_entry(writer, page, store, side, entry)?;
     }
-    write_advice(writer, fault)
+    write_hint(writer, hint_on(fault.number))
 }

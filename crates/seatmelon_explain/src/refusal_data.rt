@@ -15,12 +15,12 @@ use crate::page::Page;
 use crate::page_data::{found_data, place_data, time_data};
 use crate::refusal::{
     Crossed, entry_in, ids_of, least_length, line_of, named_by, number_in, packet_in, pdu_at,
-    safety_length, unexplained_at, unmade_before,
+    safety_length, unexplained_at, unmade_before, unscripted_hint,
 };
 use crate::rule::{found_in, named_in, sentence, sn_due};
 use crate::sent_messages::list_of;
 use crate::text::{Part, add, name_of_end, other, sentence_of, text_of};
-use crate::words::{cause_of, meaning_of, next_step_of};
+use crate::words::{Hint, hint_on, meaning_of};
 use rasta_build::Obstacle;
 use rasta_cert::Certificate;
 use rasta_check::Store;
@@ -30,15 +30,15 @@ use rasta_udp::Datagram;
 use std::alloc::Global;
 
 // A refusal by a fault, with nothing else told of it.
-fn plain_refusal(alloc: Global, fault: Fault) -> Result<Refusal, Fault>
+fn plain_refusal(alloc: Global, fault: Fault, hint: Hint) -> Result<Refusal, Fault>
     ensures err { IfErr result (λ f. f ≡ no_memory) }
 {
     let fault = Advice {
         number: fault.number,
         name: fault.name(),
         meaning: sentence_of(alloc, meaning_of(fault.number))?,
-        cause: sentence_of(alloc, cause_of(fault.number))?,
-        next_step: sentence_of(alloc, next_step_of(fault.number))?,
+        cause: sentence_of(alloc, hint.cause)?,
+        next_step: sentence_of(alloc, hint.next_step)?,
     };
     Ok(Refusal {
         fault,
@@ -227,7 +227,7 @@ pub fn capture_refusal_data(
     ensures err { IfErr result (λ f. f ≡ no_memory) }
 {
     let fault = refusal.fault;
-    let mut told = plain_refusal(alloc, fault)?;
+    let mut told = plain_refusal(alloc, fault, hint_on(fault.number))?;
     if fault.place == 0 {
         return Ok(told);
     }
@@ -344,7 +344,7 @@ pub fn unscripted_data(
 ) -> Result<Refusal, Fault>
     ensures err { IfErr result (λ f. f ≡ no_memory) }
 {
-    let mut told = plain_refusal(alloc, fault)?;
+    let mut told = plain_refusal(alloc, fault, unscripted_hint(page, store, fault))?;
     if fault.number == Fault::NOT_FOUND {
         told.pdu = crossed_data(alloc, page, unexplained_at(store, fault.place))?;
         told.rule = rule_data(alloc, page, store, met)?;
@@ -365,7 +365,7 @@ pub fn refused_data(
     ensures err { IfErr result (λ f. f ≡ no_memory) }
 {
     let side = fault.end.unwrap_or(Side::Client);
-    let mut told = plain_refusal(alloc, fault)?;
+    let mut told = plain_refusal(alloc, fault, hint_on(fault.number))?;
     told.entry = Some(ScriptEntry {
         number: fault.place,
         end: name_of_end(side),

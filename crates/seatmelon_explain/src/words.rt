@@ -75,8 +75,30 @@ fn meaning_of_step(number: u8) -> &'static str {
     }
 }
 
-/// What may be the cause of a fault.
-pub fn cause_of(number: u8) -> &'static str {
+/// What may be the cause of a fault, and what to look at next.
+#[derive(Clone, Copy, Debug)]
+pub struct Hint {
+    pub cause: &'static str,
+    pub next_step: &'static str,
+}
+
+/// The hint on packets that begin in the middle of a connection, where no quiet point is recorded.
+pub const WITHOUT_OPENING: Hint = Hint {
+    cause: "the capture begins in the middle of the connection, and the parameters record no quiet point;
+  or the opening is there, but outside the window or on a channel that isn't recorded",
+    next_step: "the quiet points that seatmelon draft proposes, one of which the engineering data or a log
+  has to confirm; or the window and the channels in the parameters",
+};
+
+/// The hint on a fault.
+pub fn hint_on(number: u8) -> Hint {
+    Hint {
+        cause: cause_of(number),
+        next_step: next_step_of(number),
+    }
+}
+
+fn cause_of(number: u8) -> &'static str {
     match number {
         Fault::NOT_PCAP | Fault::VERSION | Fault::LINK_TYPE => {
             "the file has another format, or is compressed"
@@ -116,8 +138,7 @@ fn cause_in_packet(number: u8) -> &'static str {
     }
 }
 
-/// What to look at next.
-pub fn next_step_of(number: u8) -> &'static str {
+fn next_step_of(number: u8) -> &'static str {
     match number {
         Fault::NOT_PCAP | Fault::VERSION | Fault::LINK_TYPE => {
             "editcap -F pcap IN OUT, which converts a capture (gunzip it first, if it is compressed)"

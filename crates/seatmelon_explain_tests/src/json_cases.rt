@@ -208,8 +208,8 @@ const NEVER_CROSSES: Case = Case {
     want: r#""entry":{"number":2,"end":"client","line":4},"pdu":null,"rule":null}"#,
 };
 
-// Data before any opening.
-const NOT_FOUND: Case = Case {
+// Data, and no opening before it.
+const WITHOUT_OPENING: Case = Case {
     parameters: "plain",
     settings: "data plain",
     packets: "3",
@@ -217,9 +217,10 @@ const NOT_FOUND: Case = Case {
     certificate: "",
     without: &[],
     want: r#"
-"cause":"an end broke the rules; a stranger; a wrong parameter or quiet point; or an honest end
- repeated a retransmission request, both opened as client, or the connection was opened twice",
-"next_step":"this packet and those before it, with rasta_audit show; and what --without says"},
+"cause":"the capture begins in the middle of the connection, and the parameters record no quiet point;
+ or the opening is there, but outside the window or on a channel that isn't recorded",
+"next_step":"the quiet points that seatmelon draft proposes, one of which the engineering data or a log
+ has to confirm; or the window and the channels in the parameters"},
 "record":null,"packet":null,"trouble":null,"line":null,"entry":null,
 "pdu":{"end":"client","packet":{"record":1,"time":"1970-01-01 00:00:00.000000 UTC","channel":1},
 "fields":{"type":6240,"type_name":"data","redundancy_number":9,"sn":102,"cs":500,"ts":1020,"cts":9000,
@@ -317,7 +318,7 @@ pub const PARTS: [Case; 16] = [
     OTHER_SENDMAX,
     NOT_ALLOWED,
     NEVER_CROSSES,
-    NOT_FOUND,
+    WITHOUT_OPENING,
     TYPE,
     VERSION,
     CUT_MESSAGE,

@@ -404,8 +404,8 @@ look next at:
 ",
 };
 
-// A heartbeat before any opening.
-const NOT_FOUND: Case = Case {
+// A heartbeat, and no opening before it.
+const WITHOUT_OPENING: Case = Case {
     parameters: "plain",
     settings: "data plain",
     packets: "2",
@@ -427,6 +427,37 @@ the rule that refuses it, found by a walk beside the verdict and no part of it:
   CS 500 confirms a PDU of the server, and none crosses
 
 may be the cause:
+  the capture begins in the middle of the connection, and the parameters record no quiet point;
+  or the opening is there, but outside the window or on a channel that isn't recorded
+look next at:
+  the quiet points that seatmelon draft proposes, one of which the engineering data or a log
+  has to confirm; or the window and the channels in the parameters
+",
+};
+
+// A heartbeat of a client that nobody answered.
+const NOT_FOUND: Case = Case {
+    parameters: "plain",
+    settings: "data plain",
+    packets: "0 2",
+    changes: &[],
+    certificate: "",
+    without: &[],
+    want: "\
+refused by 60 NotFound:
+  no two ends that keep the rules send packets that begin with those up to this one
+
+the client's PDU in record 2, 1970-01-01 00:00:00.000000 UTC, channel 1
+  type: 6220, heartbeat
+  redundancy number: 8
+  SN: 101
+  CS: 500
+  TS: 1010
+  CTS: 9000
+the rule that refuses it, found by a walk beside the verdict and no part of it:
+  CS 500 confirms a PDU of the server, and none crosses
+
+may be the cause:
   an end broke the rules; a stranger; a wrong parameter or quiet point; or an honest end
   repeated a retransmission request, both opened as client, or the connection was opened twice
 look next at:
@@ -435,7 +466,7 @@ look next at:
 };
 
 /// Each such refusal.
-pub const PACKET_CASES: [Case; 12] = [
+pub const PACKET_CASES: [Case; 13] = [
     REDUNDANCY_LENGTH,
     TOO_SHORT,
     SAFETY_LENGTH,
@@ -447,5 +478,6 @@ pub const PACKET_CASES: [Case; 12] = [
     NUMBER_GAP,
     MISSING_PACKET,
     LEFT_OUT,
+    WITHOUT_OPENING,
     NOT_FOUND,
 ];
