@@ -16,9 +16,9 @@ use Rattle.rasta_end.specs.declared.make_row.MakeRow.{MakeRow}
 use Rattle.rasta_end.specs.declared.make_row.MakeRow.TheVariants.{Leaves, TimesOut}
 use Rattle.rasta_end.specs.State.{Made, EndState, wrapped, ahead_by, is_active, reason_of, content_of}
 use Rattle.rasta_end.specs.Starts.{start_of}
-use Rattle.rasta_end.specs.MakeRule.{first_that_holds, make_faults, make_fault, has_ended, row_of, row_where, make_row, is_refused_row, is_owing_else, is_next_sn, is_judged, confirms_last, confirms_a_time, differs, is_past, is_early, is_expired, after_make, after_make_by, offered_after, owed_after}
+use Rattle.rasta_end.specs.MakeRule.{first_that_holds, make_fault, has_ended, row_of, row_where, make_row, is_refused_row, is_owing_else, is_next_sn, is_judged, confirms_last, confirms_a_time, differs, is_past, is_early, is_expired, after_make, after_make_by, offered_after, owed_after}
 use Rattle.rasta_end.proofs.MakeTests.{no_test}
-use Rattle.rasta_check.proofs.Model.PassedTests.{Passed, passed, fails}
+use Rattle.rasta_check.proofs.Model.PassedTests.{Passed, passed}
 use Rattle.rasta_check.proofs.Model.MakeRows.{Making, opening, response, first_beat, answer, again, ask, beat, fresh, bye, expired, MadeBy, made_by, after_row}
 use Rattle.rasta_build.specs.Built.{Built}
 use Rattle.rasta_build.specs.Choices.{why_by, why_of, next_unit}

@@ -20,7 +20,7 @@ use Rattle.rasta_end.specs.State.{EndState, wrapped}
 use Rattle.rasta_end.specs.MakeRule.{make_fault, after_make}
 use Rattle.rasta_end.specs.TakeRule.{after_take}
 use Rattle.rasta_end.specs.Starts.{start_of}
-use Rattle.rasta_end.proofs.MakeTests.{no_fault}
+use Rattle.rasta_end.proofs.MakeTests.{no_fault, no_test}
 use Rattle.rasta_check.specs.Capture.Crossing.{FirstCopy, Spells, Sent, CrossRecorded, packet_fault}
 use Rattle.rasta_check.specs.Model.World.{World, Reaches}
 use Rattle.rasta_check.specs.Verdict.Taken.{TakenUnit, pdus_made, all_made, surely_taken}
@@ -207,7 +207,7 @@ client_fits = record {
   slots = (omega arith, tt);
   taken = [];
   takes = tt;
-  ends = (client_end, (refl, refl), refl);
+  ends = (client_end, (no_test connection (start_of connection Client) offered.pdu.safety 1020 Fresh refl, refl), refl);
 }
 
 pub server_fits : Fits connection Server 2 from_server from_client server_script server_end
@@ -216,7 +216,7 @@ server_fits = record {
   slots = (omega arith, omega arith, (omega arith, tt));
   taken = 0 ∷ [];
   takes = (omega arith, refl, (offered, refl, omega arith), tt);
-  ends = (offered, server_taken, refl, (refl, refl), (server_end, (refl, refl), refl));
+  ends = (offered, server_taken, refl, (refl, refl), (server_end, (no_test connection server_taken beaten.pdu.safety 9050 Beat refl, refl), refl));
 }
 
 -- ---- the first fault of others
@@ -316,7 +316,7 @@ tried_complete law ws w r e a b =
 
 -- the client's script leads to one end
 client_leads : (v : Cursor) × Leads connection 2 from_client from_server (at_start (start_of connection Client)) client_script v × (v.state ≡ client_end)
-client_leads = (let v : Cursor = record { level = 1; made = 1; taken = 0; state = client_end } in (v, (v, makes_next offered 1020 Fresh client_end (omega arith) refl (refl, refl), refl), refl))
+client_leads = (let v : Cursor = record { level = 1; made = 1; taken = 0; state = client_end } in (v, (v, makes_next offered 1020 Fresh client_end (omega arith) refl (no_test connection (start_of connection Client) offered.pdu.safety 1020 Fresh refl, refl), refl), refl))
 
 pub tried_once : Stuck connection → (v : Cursor) → Leads connection 2 from_client from_server (at_start (start_of connection Client)) client_script v → v.state ≡ client_end
 tried_once law v leads = ap (λ (u : Cursor). u.state) ((law packets Client from_client from_server server_sent (omega arith)).0 (at_start (start_of connection Client)) v client_leads.0 client_script leads client_leads.1) ∙ client_leads.2
