@@ -66,9 +66,7 @@ fn read_script<'a>(
             let line = first + entries.len();
             return Err(Fault::at(Fault::TOO_MANY_ENTRIES, line as u32));
         }
-        if entries.push(entry).is_err() {
-            return Err(Fault::at(Fault::NO_MEMORY, 0));
-        }
+        entries.push(entry)?;
         rest = after;
     }
     let line = first + entries.len();

@@ -42,10 +42,8 @@ fn script_proofs<'a, S: SentList<'a>>(
         (λ f. (Checking.follow p.now side packets (S.content own.now) (S.content peer.now) script.now ≡ Err f) ⊎ (f ≡ no_memory)) }
 {
     let end = follow(alloc, p, side, packets, own, peer, script)?;
-    match proof_places(alloc, &end, peer) {
-        Ok(places) => Ok(places),
-        Err(_) => Err(Fault::at(Fault::NO_MEMORY, 0)),
-    }
+    let places = proof_places(alloc, &end, peer)?;
+    Ok(places)
 }
 
 // The report on both sent lists, by the places of the proofs of their units.
@@ -102,15 +100,13 @@ fn verdict<'a, S: SentList<'a>>(
         client,
         certificate.server(),
     )?;
-    match report(
+    let report = report(
         alloc,
         packets,
         (client, &client_proofs),
         (server, &server_proofs),
-    ) {
-        Ok(report) => Ok(report),
-        Err(_) => Err(Fault::at(Fault::NO_MEMORY, 0)),
-    }
+    )?;
+    Ok(report)
 }
 
 /// The report on two sent lists, where the certificate's scripts explain them; else the first fault: the

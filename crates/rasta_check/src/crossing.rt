@@ -234,10 +234,8 @@ impl<'a> Sent<'a> {
         if !self.has_room(found.side, new.is_some()) {
             return Err(Fault::at(Fault::TOO_MANY, number));
         }
-        match self.push(found, new) {
-            Ok(()) => Ok(()),
-            Err(_) => Err(Fault::at(Fault::NO_MEMORY, 0)),
-        }
+        self.push(found, new)?;
+        Ok(())
     }
 
     // Adds what a record of the window holds.

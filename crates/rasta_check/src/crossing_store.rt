@@ -281,10 +281,8 @@ impl Store {
         if !self.has_room(found.side, known.is_none()) {
             return Err(Fault::at(Fault::TOO_MANY, number));
         }
-        match self.push(found, known) {
-            Ok(()) => Ok(()),
-            Err(_) => Err(Fault::at(Fault::NO_MEMORY, 0)),
-        }
+        self.push(found, known)?;
+        Ok(())
     }
 
     // Adds what a record of the window holds.

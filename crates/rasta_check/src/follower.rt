@@ -244,10 +244,7 @@ pub(crate) fn follow<'a, S: SentList<'a>>(
         (λ e. (e.params ≡ params.now) × (Checking.follow params.now side packets (S.content own.now) (S.content peer.now) script.now ≡ Ok e.state))
         (λ f. (Checking.follow params.now side packets (S.content own.now) (S.content peer.now) script.now ≡ Err f) ⊎ (f ≡ no_memory)) }
 {
-    let mut follower = match Follower::start(alloc, params, side, own.len(), peer.len()) {
-        Ok(follower) => follower,
-        Err(_) => return Err(Fault::at(Fault::NO_MEMORY, 0)),
-    };
+    let mut follower = Follower::start(alloc, params, side, own.len(), peer.len())?;
     for entry in script {
         follower.next(packets, own, peer, *entry)?;
     }

@@ -7,8 +7,8 @@ use Rattle.rasta_pdu.specs.Pdu.{value_of, is_kind}
 use Rattle.std.specs.Borrow.{Bor}
 use Rattle.rasta_pdu.specs.declared.kind.Kind.{Kind}
 use Rattle.rasta_pdu.specs.declared.kind.Kind.TheVariants.{ConnectionRequest, ConnectionResponse, RetransmissionRequest, RetransmissionResponse, DisconnectionRequest, Heartbeat, Data, RetransmittedData}
-use Rattle.rasta_end.specs.declared.own.MadePdu.{MadePdu}
-use Rattle.rasta_end.specs.declared.own.QuietPdu.{QuietPdu}
+use Rattle.rasta_end.specs.declared.made_pdus.MadePdu.{MadePdu}
+use Rattle.rasta_end.specs.declared.made_pdus.QuietPdu.{QuietPdu}
 use Rattle.rasta_end.specs.State.{Made, kinds, content_of}
 use Rattle.rasta_end.specs.MakeRule.{contents}
 use Rattle.rasta_end.specs.Units.{all_units_conveyed, conveyed, units_after, responses_in, responses_after}

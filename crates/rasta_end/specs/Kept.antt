@@ -3,9 +3,9 @@ use Rattle.std.specs.Prelude.{◌≡◌, ℕ, Bool, true, false, List, [], ◌�
 use Rattle.std.specs.Borrow.{Bor}
 use Rattle.rasta_pdu.specs.declared.kind.Kind.TheVariants.{Heartbeat}
 use Rattle.rasta_pdu.specs.Pdu.{Empty, value_of}
-use Rattle.rasta_end.specs.declared.own.MadePdu.{MadePdu}
-use Rattle.rasta_end.specs.declared.own.QuietPdu.{QuietPdu}
-use Rattle.rasta_end.specs.declared.own.Own.TheInside.{Inside}
+use Rattle.rasta_end.specs.declared.made_pdus.MadePdu.{MadePdu}
+use Rattle.rasta_end.specs.declared.made_pdus.QuietPdu.{QuietPdu}
+use Rattle.rasta_end.specs.declared.made_pdus.MadePdus.TheInside.{Inside}
 use Rattle.rasta_end.specs.declared.owed.Owed.{Owed}
 use Rattle.rasta_end.specs.declared.owed.Owed.TheVariants.{RetransmissionRequest as OweRetransmissionRequest}
 use Rattle.rasta_end.specs.declared.owed.Owes.{Owes}

@@ -11,8 +11,8 @@ ghost use Rattle.rasta_end.specs.Kept.{quiet_made};
 ghost use Rattle.rasta_end.specs.Judged.{safety_of, JudgedEnd};
 
 use crate::deadline::ahead_by;
+use crate::made_pdus::{MadePdus, QuietPdu};
 use crate::owed::Owes;
-use crate::own::{Own, QuietPdu};
 use crate::phase::Phase;
 use rasta_pdu::{Params, Pdu, QuietEnd, Side};
 use std::alloc::{AllocError, Global};
@@ -24,7 +24,7 @@ pub struct End<'a> {
     pub(crate) params: Params,
     pub(crate) side: Side,
     pub(crate) phase: Phase,
-    pub(crate) own: Own<'a>,
+    pub(crate) own: MadePdus<'a>,
     pub(crate) accepted: u64,
     pub(crate) last_sn: u32,
     pub(crate) last_ts: u32,
@@ -92,7 +92,7 @@ impl<'a> End<'a> {
             params: *params,
             side,
             phase,
-            own: Own::new(alloc, None),
+            own: MadePdus::new(alloc, None),
             accepted: 0,
             last_sn: 0,
             last_ts: 0,
@@ -115,7 +115,7 @@ impl<'a> End<'a> {
             params: *params,
             side,
             phase: Phase::Up,
-            own: Own::new(alloc, Some(quiet_pdu(own, other))),
+            own: MadePdus::new(alloc, Some(quiet_pdu(own, other))),
             accepted: 1,
             last_sn: sn_before(other.next_sn),
             last_ts: wrapped(other.clock),

@@ -5,15 +5,15 @@
 mod deadline;
 mod end;
 pub mod laws;
+mod made_pdus;
 mod make_row;
 mod making;
 mod owed;
-mod own;
 mod phase;
-mod seen;
+mod sequence_checks;
+mod take_effects;
 mod take_row;
 mod taking;
-mod verbs;
 mod why;
 
 pub use end::End;

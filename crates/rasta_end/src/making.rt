@@ -10,9 +10,9 @@ ghost use Rattle.rasta_end.specs.Judged.{responses_owed, responses_paid};
 
 use crate::deadline::{is_early, is_past};
 use crate::end::End;
+use crate::made_pdus::content;
 use crate::make_row::{MakeRow, is_client};
 use crate::owed::{Demand, Owes};
-use crate::own::content;
 use crate::phase::Phase;
 use crate::why::Why;
 use rasta_pdu::{Body, Fault, Kind, Pdu};
@@ -222,9 +222,7 @@ impl<'a> End<'a> {
         let Some(row) = self.make_row(pdu, why) else {
             return Err(Fault::of_end(Fault::NOT_ALLOWED, 0, self.side));
         };
-        if self.record_make(row, pdu, clock).is_err() {
-            return Err(Fault::at(Fault::NO_MEMORY, 0));
-        }
+        self.record_make(row, pdu, clock)?;
         Ok(())
     }
 

@@ -75,9 +75,13 @@ impl TakeRow {
         let Standing { next, ahead, valid } = standing;
         if phase.is_down() & kind.is(Kind::ConnectionRequest) {
             Some(TakeRow::Opened)
-        } else if phase.is_start() & (is_client(side) & (kind.is(Kind::ConnectionResponse) & valid)) {
+        } else if phase.is_start()
+            & (is_client(side) & (kind.is(Kind::ConnectionResponse) & valid))
+        {
             Some(TakeRow::Answered)
-        } else if phase.is_start() & (!is_client(side) & (kind.is(Kind::Heartbeat) & (next & valid))) {
+        } else if phase.is_start()
+            & (!is_client(side) & (kind.is(Kind::Heartbeat) & (next & valid)))
+        {
             Some(TakeRow::FirstHeartbeat)
         } else if phase.is_flowing() & (is_heartbeat_or_data(kind) & (next & valid)) {
             Some(TakeRow::InSequence)

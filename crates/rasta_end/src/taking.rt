@@ -217,9 +217,7 @@ impl<'a> End<'a> {
         let Some(row) = self.take_row(pdu) else {
             return Ok(());
         };
-        if self.follow(row, pdu).is_err() {
-            return Err(Fault::at(Fault::NO_MEMORY, 0));
-        }
+        self.follow(row, pdu)?;
         Ok(())
     }
 

@@ -8,7 +8,7 @@ ghost use Rattle.toml.specs.View.{items_view, table_view, view};
 ghost use Rattle.rasta_params.specs.Keys.{ReadsParameters, are_among, are_few_tables, channel_in, channel_of, channels_at, channels_in, check_length, check_length_at, code_length, code_length_at, endpoint_at, few_tables, ids_of, known_keys, known_of, layout_of, limits_of, md4_start_at, number_at, parameters_of, parameters_with, window_of};
 
 use crate::endpoint::endpoint_in;
-use crate::key::{has_keys_among, number, optional, value_at};
+use crate::key_values::{has_keys_among, number, optional, value_at};
 use crate::quiet_table::quiet_of;
 use crate::start_words::start_words_in;
 use rasta_pdu::{Channel, Endpoint, Fault, Params, Quiet, are_distinct_routes};
@@ -250,14 +250,8 @@ fn read_channels(alloc: Global, values: &[Value]) -> Result<Vec<Channel>, Fault>
 {
     let mut channels = Vec::new(alloc);
     for value in values {
-        match channel_in_value(value) {
-            Ok(channel) => {
-                if channels.push(channel).is_err() {
-                    return Err(Fault::at(Fault::NO_MEMORY, 0));
-                }
-            }
-            Err(fault) => return Err(fault),
-        }
+        let channel = channel_in_value(value)?;
+        channels.push(channel)?;
     }
     Ok(channels)
 }

@@ -3,7 +3,7 @@
 
 mod document;
 mod endpoint;
-mod key;
+mod key_values;
 mod quiet_table;
 mod start_words;
 

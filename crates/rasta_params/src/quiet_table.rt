@@ -5,7 +5,7 @@ ghost use Rattle.toml.specs.View.{table_view, view};
 ghost use Rattle.rasta_pdu.specs.Params.{IsQuiet, most_clock};
 ghost use Rattle.rasta_params.specs.Keys.{HasClocks, are_in_time, ends_of, has_keys_among, have_quiet_keys, is_in_time, quiet_at, quiet_end_in, quiet_end_of, quiet_in, quiet_keys, quiet_of_table};
 
-use crate::key::{clock, clock_if_any, has_keys_among, number, number_if_any, value_at};
+use crate::key_values::{clock, clock_if_any, has_keys_among, number, number_if_any, value_at};
 use rasta_pdu::{Fault, Quiet, QuietEnd};
 use toml::{Table, Value};
 

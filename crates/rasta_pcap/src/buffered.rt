@@ -31,14 +31,12 @@ impl Held {
         ensures err { IfErr result (λ f. f ≡ no_memory) }
     {
         let mut memory = Vec::new(alloc);
-        match memory.resize(capacity, 0) {
-            Ok(()) => Ok(Held {
-                memory,
-                start: 0,
-                end: 0,
-            }),
-            Err(_) => Err(Fault::at(Fault::NO_MEMORY, 0)),
-        }
+        memory.resize(capacity, 0)?;
+        Ok(Held {
+            memory,
+            start: 0,
+            end: 0,
+        })
     }
 
     #[inline(always)]

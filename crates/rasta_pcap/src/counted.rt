@@ -160,9 +160,7 @@ pub fn read_all<S: Source>(alloc: Global, reader: &mut S) -> Result<Vec<u8>, Fau
         if n == 0 {
             return Ok(bytes);
         }
-        if bytes.extend_from_slice(&buffer[..n]).is_err() {
-            return Err(Fault::at(Fault::NO_MEMORY, 0));
-        }
+        bytes.extend_from_slice(&buffer[..n])?;
     }
     unreachable!()
 }

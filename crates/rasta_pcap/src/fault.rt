@@ -2,6 +2,8 @@
 ghost use Rattle.std.specs.Prelude.{◌≡◌, ◌≤◌, ◌<◌, length, Option, None};
 ghost use Rattle.rasta_pcap.specs.Fault.{fault_at, fault_of_end, name_of};
 
+use std::alloc::AllocError;
+
 /// One of the two ends of the connection.
 #[derive(Clone, Copy, Debug, PartialEq, Eq)]
 pub enum Side {
@@ -16,6 +18,16 @@ pub struct Fault {
     pub number: u8,
     pub place: u32,
     pub end: Option<Side>,
+}
+
+impl From<AllocError> for Fault {
+    ghost use Rattle.rasta_pcap.specs.Fault.{no_memory};
+
+    ghost from_gives = { λ _ fault. fault ≡ no_memory };
+
+    fn from(_error: AllocError) -> Fault {
+        Fault::at(Fault::NO_MEMORY, 0)
+    }
 }
 
 impl Fault {

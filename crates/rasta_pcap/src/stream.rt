@@ -83,9 +83,8 @@ fn make_room(memory: &mut Vec<u8>, len: usize) -> Result<(), Fault>
     if memory.len() >= len {
         return Ok(());
     }
-    memory
-        .resize(len, 0)
-        .map_err(|_| Fault::at(Fault::NO_MEMORY, 0))
+    memory.resize(len, 0)?;
+    Ok(())
 }
 
 // Reads so many bytes into the front of the memory, or all up to the end of input, and says how many

@@ -248,9 +248,7 @@ pub fn encode(params: &Params, side: Side, parts: &PduParts, out: &mut Vec<u8>) 
     let Some(len) = datagram_len(params, *parts) else {
         return Err(Fault::at(Fault::TOO_LONG, 0));
     };
-    if out.try_reserve(len).is_err() {
-        return Err(Fault::at(Fault::NO_MEMORY, 0));
-    }
+    out.try_reserve(len)?;
     append(out, params, side, parts, len);
     Ok(())
 }

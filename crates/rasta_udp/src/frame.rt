@@ -3,6 +3,10 @@ ghost use Rattle.std.specs.Prelude.{◌≡◌, ◌+◌, ◌≤◌, [], ◌∷◌
 ghost use Rattle.rasta_udp.specs.Frame.{Direction, address_of, number_at, header_length_of, fields_of, has_addresses, has_known_addresses, goes, direction_of, map_found, packet_of, packet_at, untagged_of, packet_in};
 
 use crate::channel::{Channel, Datagram, Endpoint};
+use crate::layout::{
+    DESTINATION_AT, DESTINATION_PORT_AT, FRAGMENT_AT, PROTOCOL_AT, SOURCE_AT, SOURCE_PORT_AT,
+    TOTAL_LENGTH_AT, TYPE_AT, UDP_LENGTH_AT, VERSION_AT,
+};
 use byteorder::{BigEndian, ByteOrder};
 use rasta_pcap::{Fault, Record, Side};
 
@@ -53,14 +57,14 @@ fn header_length(frame: &[u8]) -> usize
     requires { 15 ≤ length frame.now }
     ensures { result ≡ header_length_of frame.now }
 {
-    4 * (frame[14] & 0x0f) as usize
+    4 * (frame[VERSION_AT] & 0x0f) as usize
 }
 
 fn is_fragment(frame: &[u8]) -> bool
     requires { 22 ≤ length frame.now }
     ensures { let x = fields_of frame.now in result ≡ (x.more_fragments == 1 || nat_lt 0 x.fragment_offset) }
 {
-    u16_at(frame, 20) & FRAGMENT_BITS != 0
+    u16_at(frame, FRAGMENT_AT) & FRAGMENT_BITS != 0
 }
 
 // Whether the frame goes from one end to the other, by its addresses.
@@ -69,7 +73,8 @@ fn has_addresses(frame: &[u8], source: &Endpoint, destination: &Endpoint) -> boo
     requires { 34 ≤ length frame.now }
     ensures { result ≡ has_addresses (fields_of frame.now) source.now destination.now }
 {
-    u32_at(frame, 26) == address(source) && u32_at(frame, 30) == address(destination)
+    u32_at(frame, SOURCE_AT) == address(source)
+        && u32_at(frame, DESTINATION_AT) == address(destination)
 }
 
 // Whether the frame goes from one end to the other, by its addresses and ports.
@@ -81,8 +86,8 @@ fn goes(frame: &[u8], source: &Endpoint, destination: &Endpoint) -> bool
 {
     let udp = ETHERNET_HEADER + header_length(frame);
     has_addresses(frame, source, destination)
-        && u16_at(frame, udp) == source.port
-        && u16_at(frame, udp + 2) == destination.port
+        && u16_at(frame, udp + SOURCE_PORT_AT) == source.port
+        && u16_at(frame, udp + DESTINATION_PORT_AT) == destination.port
 }
 
 // Whether the frame goes between the ends of the channel, by its addresses.
@@ -144,11 +149,11 @@ fn untagged<'a>(frame: &'a [u8], channels: &[Channel]) -> Result<Option<Datagram
     requires { length channels.now ≤ 255 }
     ensures { map_found packet_of result ≡ map_found (packet_at frame.now) (untagged_of channels.now frame.now) }
 {
-    if frame.len() < ETHERNET_HEADER + LEAST_IPV4_HEADER || u16_at(frame, 12) != IPV4 {
+    if frame.len() < ETHERNET_HEADER + LEAST_IPV4_HEADER || u16_at(frame, TYPE_AT) != IPV4 {
         return Ok(None);
     }
     let header = header_length(frame);
-    if frame[14] >> 4 != 4 || header < LEAST_IPV4_HEADER || frame[23] != UDP {
+    if frame[VERSION_AT] >> 4 != 4 || header < LEAST_IPV4_HEADER || frame[PROTOCOL_AT] != UDP {
         return Ok(None);
     }
     if !has_known_addresses(frame, channels) {
@@ -157,7 +162,7 @@ fn untagged<'a>(frame: &'a [u8], channels: &[Channel]) -> Result<Option<Datagram
     if is_fragment(frame) {
         return Err(Fault::at(Fault::FRAGMENT, 0));
     }
-    let total = u16_at(frame, 16) as usize;
+    let total = u16_at(frame, TOTAL_LENGTH_AT) as usize;
     if total < header + UDP_HEADER {
         return Err(Fault::at(Fault::BAD_UDP, 0));
     }
@@ -168,7 +173,7 @@ fn untagged<'a>(frame: &'a [u8], channels: &[Channel]) -> Result<Option<Datagram
     let Some((channel, side)) = direction(frame, channels) else {
         return Ok(None);
     };
-    let length = u16_at(frame, udp + 4) as usize;
+    let length = u16_at(frame, udp + UDP_LENGTH_AT) as usize;
     if length < UDP_HEADER || length > total - header {
         return Err(Fault::at(Fault::BAD_UDP, 0));
     }
@@ -198,7 +203,7 @@ pub fn datagram<'a>(
     ensures { map_found packet_of result ≡ packet_in channels.now «record».now.bytes.now }
 {
     let frame = record.bytes;
-    if frame.len() >= 16 && u16_at(frame, 12) == TAGGED {
+    if frame.len() >= 16 && u16_at(frame, TYPE_AT) == TAGGED {
         // Nothing of the first 12 bytes is read.
         untagged(&frame[TAG..], channels)
     } else {

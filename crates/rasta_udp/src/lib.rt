@@ -3,6 +3,7 @@
 
 mod channel;
 mod frame;
+mod layout;
 
 pub use channel::{Channel, Datagram, Endpoint};
 pub use frame::datagram;

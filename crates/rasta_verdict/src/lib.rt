@@ -6,7 +6,7 @@ mod check;
 mod proposed;
 mod run_lines;
 mod run_text;
-mod script;
+mod script_front;
 mod taken_text;
 mod verdict;
 

@@ -8,7 +8,7 @@ ghost use Rattle.rasta_verdict.specs.Told.{IsAfter, IsAfterTakes, IsOrderedFrom,
 ghost use Rattle.rasta_verdict.specs.Passed.{makes_of, scripts_of};
 
 use crate::run_lines::{Made, put_copy, put_make, put_take};
-use crate::script::{next_take, pass_make};
+use crate::script_front::{next_take, pass_make};
 use rasta_cert::{Certificate, Entry};
 use rasta_check::Store;
 use rasta_pcap::write_all;

@@ -29,10 +29,8 @@ fn copied(alloc: Global, bytes: &[u8]) -> Result<Vec<u8>, Fault>
     ensures err { IfErr result (λ f. f ≡ no_memory) }
 {
     let mut copy = Vec::new(alloc);
-    match copy.extend_from_slice(bytes) {
-        Ok(()) => Ok(copy),
-        Err(_) => Err(Fault::at(Fault::NO_MEMORY, 0)),
-    }
+    copy.extend_from_slice(bytes)?;
+    Ok(copy)
 }
 
 // What a capture's fault is: running out of memory and a failed read are errors.

@@ -33,9 +33,7 @@ impl Tracker {
         ensures err { IfErr result (λ f. f ≡ no_memory) }
     {
         let mut frame = Vec::new(alloc);
-        if frame.resize(MOST_CAPTURED, 0).is_err() {
-            return Err(Fault::at(Fault::NO_MEMORY, 0));
-        }
+        frame.resize(MOST_CAPTURED, 0)?;
         Ok(Tracker {
             digest: Sha256::new(),
             framing: Framing::new(),

@@ -135,9 +135,7 @@ impl Sightings {
         }
         if self.is_wanted(wanted, sighting.record, pdu.number()) {
             self.found = Some(sighting);
-            if self.found_bytes.extend_from_slice(packet.payload).is_err() {
-                return Err(Fault::at(Fault::NO_MEMORY, 0));
-            }
+            self.found_bytes.extend_from_slice(packet.payload)?;
         }
         self.follow(sighting.record, pdu.number());
         Ok(())
@@ -154,9 +152,7 @@ impl Sightings {
     {
         self.count(packet.channel, packet.side);
         self.search(params, sighting, packet)?;
-        if self.packets.push(sighting).is_err() {
-            return Err(Fault::at(Fault::NO_MEMORY, 0));
-        }
+        self.packets.push(sighting)?;
         Ok(())
     }
 

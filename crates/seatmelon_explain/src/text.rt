@@ -156,9 +156,7 @@ pub fn sentence_of(alloc: Global, words: &str) -> Result<String, Fault>
 {
     let mut sentence = String::new(alloc);
     for line in words.lines() {
-        if add_line(&mut sentence, line).is_err() {
-            return Err(Fault::at(Fault::NO_MEMORY, 0));
-        }
+        add_line(&mut sentence, line)?;
     }
     Ok(sentence)
 }
@@ -167,8 +165,6 @@ pub fn sentence_of(alloc: Global, words: &str) -> Result<String, Fault>
 pub fn add<T: Drop>(list: &mut Vec<T>, item: T) -> Result<(), Fault>
     ensures err { IfErr result (λ f. f ≡ no_memory) }
 {
-    match list.push(item) {
-        Ok(()) => Ok(()),
-        Err(_) => Err(Fault::at(Fault::NO_MEMORY, 0)),
-    }
+    list.push(item)?;
+    Ok(())
 }

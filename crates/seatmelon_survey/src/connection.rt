@@ -187,9 +187,7 @@ impl Connection {
         }
         let mut counts = ChannelCounts::new(channel, packet.record);
         counts.add(sender);
-        if self.channels.push(counts).is_err() {
-            return Err(Fault::at(Fault::NO_MEMORY, 0));
-        }
+        self.channels.push(counts)?;
         Ok(())
     }
 }

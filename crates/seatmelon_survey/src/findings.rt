@@ -97,9 +97,7 @@ impl Survey {
         }
         let mut connection = Connection::new(alloc, packet)?;
         connection.add(packet)?;
-        if self.connections.push(connection).is_err() {
-            return Err(Fault::at(Fault::NO_MEMORY, 0));
-        }
+        self.connections.push(connection)?;
         Ok(())
     }
 

@@ -118,9 +118,7 @@ impl Numbers {
         ensures err { IfErr result (λ f. f ≡ no_memory) }
     {
         let mut remembered = Vec::new(alloc);
-        if remembered.resize(REMEMBERED as usize, None).is_err() {
-            return Err(Fault::at(Fault::NO_MEMORY, 0));
-        }
+        remembered.resize(REMEMBERED as usize, None)?;
         Ok(Numbers {
             expected: None,
             remembered,

@@ -288,9 +288,7 @@ impl QuietPoints {
             awaits_first: true,
             awaits_second: true,
         };
-        if self.candidates.push(candidate).is_err() {
-            return Err(Fault::at(Fault::NO_MEMORY, 0));
-        }
+        self.candidates.push(candidate)?;
         Ok(())
     }
 }

@@ -1,6 +1,6 @@
 use Rattle.std.proofs.Common.{sym}
 use Rattle.rasta_verdict.proofs.Ordered.{goes_up_in, no_makes_empty, no_makes_in, one_make, same_makes, same_takes}
-use Rattle.rasta_verdict.proofs.script.pass_make.Goals as goal
+use Rattle.rasta_verdict.proofs.script_front.pass_make.Goals as goal
 
 pub returns-in_default-clause-made : goal.returns-in_default-clause-made
 returns-in_default-clause-made c = sym (no_makes_empty c.args.place c.args.script.now c.in_default.ensures.cases)

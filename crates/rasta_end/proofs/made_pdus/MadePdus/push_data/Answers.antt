@@ -3,7 +3,7 @@ use Rattle.rasta_end.specs.State.{Made, content_of}
 use Rattle.rasta_pdu.specs.Pdu.{value_of, is_kind}
 use Rattle.rasta_end.specs.Kept.{made_of}
 use Rattle.rasta_end.proofs.Pushing.{units-push, contents-push, responses-kept, data-not-response}
-use Rattle.rasta_end.proofs.own.Own.push_data.Goals as goal
+use Rattle.rasta_end.proofs.made_pdus.MadePdus.push_data.Goals as goal
 use Rattle.rasta_pdu.specs.declared.kind.Kind.TheVariants.{Data}
 
 pub invariant_of-self-2 : goal.invariant_of-self-2

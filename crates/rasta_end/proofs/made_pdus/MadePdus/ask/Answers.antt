@@ -1,6 +1,6 @@
 use Rattle.std.proofs.Common.{rules, ◌≡◌, [], ◌∷◌, ◌++◌}
 use Rattle.rasta_end.proofs.Pushing.{asks-more}
-use Rattle.rasta_end.proofs.own.Own.ask.Goals as goal
+use Rattle.rasta_end.proofs.made_pdus.MadePdus.ask.Goals as goal
 
 pub invariant_of-self-2 : goal.invariant_of-self-2
 invariant_of-self-2 c =

@@ -5,7 +5,7 @@ use Rattle.rasta_pdu.specs.Pdu.{value_of, is_kind}
 use Rattle.rasta_end.specs.Kept.{OwnPdus, made_of}
 use Rattle.rasta_end.proofs.Pushing.{units-push, responses-push, contents-kept, response-not-data}
 use Rattle.rasta_end.proofs.Conveying.{responses_in-few, length-kinds}
-use Rattle.rasta_end.proofs.own.Own.push_response.Goals as goal
+use Rattle.rasta_end.proofs.made_pdus.MadePdus.push_response.Goals as goal
 use Rattle.rasta_pdu.specs.declared.kind.Kind.TheVariants.{RetransmissionResponse}
 
 pub overflow_add-self : goal.overflow_add-self

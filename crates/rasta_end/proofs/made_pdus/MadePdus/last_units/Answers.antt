@@ -1,7 +1,7 @@
 use Rattle.std.proofs.Common.{◌-◌, arith, ◌∙◌}
 use Rattle.rasta_end.proofs.Conveying.{last_units, length-kinds}
 use Rattle.rasta_end.specs.State.{kinds}
-use Rattle.rasta_end.proofs.own.Own.last_units.Goals as goal
+use Rattle.rasta_end.proofs.made_pdus.MadePdus.last_units.Goals as goal
 
 pub returns-in_default : goal.returns-in_default
 returns-in_default c =

@@ -34,7 +34,7 @@ pub struct MadePdu<'a> {
 /// The PDUs that an end made, from a quiet point on after the quiet PDU; the contents of the units
 /// among them; and the own positions that the peer's retransmission requests confirm.
 #[derive(Drop)]
-pub struct Own<'a> {
+pub struct MadePdus<'a> {
     quiet: Option<QuietPdu>,
     made: Vec<MadePdu<'a>>,
     contents: Vec<&'a [u8]>,
@@ -42,7 +42,7 @@ pub struct Own<'a> {
     asks: Vec<usize>,
 }
 
-impl<'a> Model for Own<'a> {
+impl<'a> Model for MadePdus<'a> {
     ghost use Rattle.rasta_end.specs.Kept.{OwnPdus, all_made, AreOwn};
 
     ghost Value = { OwnPdus };
@@ -62,12 +62,12 @@ pub fn content<'a>(pdu: &Pdu<'a>) -> &'a [u8]
     }
 }
 
-impl<'a> Own<'a> {
+impl<'a> MadePdus<'a> {
     /// Before the first make: the quiet point's PDU, where one is recorded.
-    pub fn new(alloc: Global, quiet: Option<QuietPdu>) -> Own<'a>
+    pub fn new(alloc: Global, quiet: Option<QuietPdu>) -> MadePdus<'a>
         ensures { result ≡ record { quiet = quiet; made = quiet_made quiet; asks = [] } }
     {
-        Own {
+        MadePdus {
             quiet,
             made: Vec::new(alloc),
             contents: Vec::new(alloc),

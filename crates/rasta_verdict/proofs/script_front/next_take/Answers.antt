@@ -1,6 +1,6 @@
 use Rattle.std.proofs.Common.{sym}
 use Rattle.rasta_verdict.proofs.Ordered.{no_takes_empty, no_takes_in, where_none}
-use Rattle.rasta_verdict.proofs.script.next_take.Goals as goal
+use Rattle.rasta_verdict.proofs.script_front.next_take.Goals as goal
 
 pub returns-in_err-entry-clause-none : goal.returns-in_err-entry-clause-none
 returns-in_err-entry-clause-none c =

@@ -1,7 +1,7 @@
 use Rattle.std.proofs.Common.{◌-◌, arith}
 use Rattle.rasta_end.specs.State.{kinds}
 use Rattle.rasta_end.proofs.Conveying.{last_units-few, length-kinds, after-response, after-data, after-retransmitted}
-use Rattle.rasta_end.proofs.own.Own.units_after.Goals as goal
+use Rattle.rasta_end.proofs.made_pdus.MadePdus.units_after.Goals as goal
 
 pub overflow_add-result : goal.overflow_add-result
 overflow_add-result c =

@@ -1,5 +1,5 @@
 use Rattle.std.proofs.Common.{length}
-use Rattle.rasta_params.proofs.key.+is_among.Given as goal
+use Rattle.rasta_params.proofs.key_values.+is_among.Given as goal
 
 abbrev pub decreases-is_among : goal.decreases-is_among
 decreases-is_among l = length l.names.now

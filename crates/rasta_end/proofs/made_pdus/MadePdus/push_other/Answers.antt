@@ -3,7 +3,7 @@ use Rattle.rasta_end.specs.State.{Made}
 use Rattle.rasta_pdu.specs.Pdu.{value_of, is_kind}
 use Rattle.rasta_end.specs.Kept.{made_of}
 use Rattle.rasta_end.proofs.Pushing.{units-push, contents-kept, responses-kept}
-use Rattle.rasta_end.proofs.own.Own.push_other.Goals as goal
+use Rattle.rasta_end.proofs.made_pdus.MadePdus.push_other.Goals as goal
 use Rattle.rasta_pdu.specs.declared.kind.Kind.TheVariants.{Data, RetransmissionResponse}
 
 pub invariant_of-self-2 : goal.invariant_of-self-2
