@@ -66,7 +66,9 @@ fn read_script<'a>(
             let line = first + entries.len();
             return Err(Fault::at(Fault::TOO_MANY_ENTRIES, line as u32));
         }
-        entries.push(entry)?;
+        if entries.push(entry).is_err() {
+            return Err(Fault::at(Fault::NO_MEMORY, 0));
+        }
         rest = after;
     }
     let line = first + entries.len();

@@ -251,7 +251,9 @@ fn read_channels(alloc: Global, values: &[Value]) -> Result<Vec<Channel>, Fault>
     let mut channels = Vec::new(alloc);
     for value in values {
         let channel = channel_in_value(value)?;
-        channels.push(channel)?;
+        if channels.push(channel).is_err() {
+            return Err(Fault::at(Fault::NO_MEMORY, 0));
+        }
     }
     Ok(channels)
 }

@@ -152,7 +152,9 @@ impl Sightings {
     {
         self.count(packet.channel, packet.side);
         self.search(params, sighting, packet)?;
-        self.packets.push(sighting)?;
+        if self.packets.push(sighting).is_err() {
+            return Err(Fault::at(Fault::NO_MEMORY, 0));
+        }
         Ok(())
     }
 

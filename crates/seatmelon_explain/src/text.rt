@@ -165,6 +165,8 @@ pub fn sentence_of(alloc: Global, words: &str) -> Result<String, Fault>
 pub fn add<T: Drop>(list: &mut Vec<T>, item: T) -> Result<(), Fault>
     ensures err { IfErr result (λ f. f ≡ no_memory) }
 {
-    list.push(item)?;
-    Ok(())
+    match list.push(item) {
+        Ok(()) => Ok(()),
+        Err(_) => Err(Fault::at(Fault::NO_MEMORY, 0)),
+    }
 }

@@ -187,7 +187,9 @@ impl Connection {
         }
         let mut counts = ChannelCounts::new(channel, packet.record);
         counts.add(sender);
-        self.channels.push(counts)?;
+        if self.channels.push(counts).is_err() {
+            return Err(Fault::at(Fault::NO_MEMORY, 0));
+        }
         Ok(())
     }
 }

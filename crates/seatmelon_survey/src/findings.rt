@@ -97,7 +97,9 @@ impl Survey {
         }
         let mut connection = Connection::new(alloc, packet)?;
         connection.add(packet)?;
-        self.connections.push(connection)?;
+        if self.connections.push(connection).is_err() {
+            return Err(Fault::at(Fault::NO_MEMORY, 0));
+        }
         Ok(())
     }
 

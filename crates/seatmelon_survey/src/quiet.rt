@@ -288,7 +288,9 @@ impl QuietPoints {
             awaits_first: true,
             awaits_second: true,
         };
-        self.candidates.push(candidate)?;
+        if self.candidates.push(candidate).is_err() {
+            return Err(Fault::at(Fault::NO_MEMORY, 0));
+        }
         Ok(())
     }
 }

@@ -17,8 +17,8 @@ push-requires c =
     may_push c.args.self.now (packet_of c.args.found) c.in-Ok.new c.has_room.ensures.crossing c.in-Ok.ensures.value.1
     c.is_some.result c.has_room.result c.is_some.ensures c.has_room.ensures.value c.if-not-has_room.false c.requires c.in-Ok.ensures.spelled c.in-Ok.ensures.value.0
 
-pub returns-in-Ok-push : goal.returns-in-Ok-push
-returns-in-Ok-push c =
+pub returns : goal.returns
+returns c =
     pushed_all c.args.self.now (packet_of c.args.found) c.in-Ok.new c.has_room.ensures.crossing c.in-Ok.ensures.value.1
     c.is_some.result c.has_room.result c.args.number c.is_some.ensures c.has_room.ensures.value c.in-Ok.ensures.value.0 c.if-not-has_room.false
-    ∙ ap Ok (sym c.in-Ok-push.ensures.ok)
+    ∙ ap Ok (sym c.in_ok-push.ensures.ok)
