@@ -199,12 +199,6 @@ pub record LeftBy (base e : EndState) : Type 0 where
   pub active : is_active base.phase ≡ true
   pub owes : ((rest : List Owed) × (e.owed ≡ OweRetransmissionRequest ∷ rest)) ⊎ ((rest : List Owed) × (e.owed ≡ OweRetransmissionResponse ∷ rest))
 
-up_active : (ph : Phase) → (is_connected ph ≡ true) → is_active ph ≡ true
-up_active Up h = refl
-up_active RetrReq h = refl
-up_active RetrRun h = refl
-up_active _ h = absurd (cc)
-
 flowing_active : (ph : Phase) → is_flowing ph ≡ true → is_active ph ≡ true
 flowing_active Up h = refl
 flowing_active RetrRun h = refl

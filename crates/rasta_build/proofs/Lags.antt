@@ -126,17 +126,6 @@ pub record IsLag (p : Parameters) (start : Option ℕ) (side : Side) (quiet_sn :
 
 -- ---- a take by a row
 
--- the row accepts
-abbrev pub accepts_by : TakeRow → Bool
-accepts_by Opened = true
-accepts_by Answered = true
-accepts_by FirstHeartbeat = true
-accepts_by InSequence = true
-accepts_by ResentInSequence = true
-accepts_by Requested = true
-accepts_by Resumed = true
-accepts_by _ = false
-
 -- what holds of a take that accepts, at position q
 pub record Accepting (p : Parameters) (e : EndState) (x : SafetyPdu) (row : TakeRow) (q : ℕ) : Type 0 where
   pub accepted : (effect p row e x).accepted ≡ suc q

@@ -107,11 +107,6 @@ ready_step p start side quiet_sn e taken ms b r slot q x row l free is =
     let w' : take_row b.end.params b.end.state x.safety ≡ row = ap (λ (z : Parameters). take_row z b.end.state x.safety) r.params ∙ w in
     step_is (nat_lt q b.next_take) (take_fault b.end.params b.end.state b.end.state.clock) (take_row b.end.params b.end.state x.safety) row slot q x b (not_lt q b.next_take (let z = r.next in omega (arith, z))) t'' w'
 
--- how many things come after the units that a row owes
-abbrev pub trail_of : TakeRow → ℕ
-trail_of RequestedAhead = 1
-trail_of _ = 0
-
 later_than : (a s : ℕ) → (suc (a + s) == a) ≡ false
 later_than a s = grind (arith, nat_tests)
 
@@ -164,9 +159,6 @@ trail_row p e x RequestedAgain few free is =
     let z : trail_after (progress_of e) (progress_of (effect p RequestedAgain e x)) x ≡ 0 = trail_waiting (is_kind RetransmissionRequest x.kind) _ e.phase w.0 in
     subst (λ n. IsTrail e.offered n (burst e (position_confirmed e x))) (sym z) (trail_burst e (position_confirmed e x) (few _))
 trail_row p e x Disconnected few free is = rw free tt
-
-least_next : (q : ℕ) → min (q + 1) 18446744073709551615 ≤ suc q
-least_next q = omega arith
 
 next_is : (q : ℕ) → q < 1000001 → min (q + 1) 18446744073709551615 ≡ suc q
 next_is q l = omega arith

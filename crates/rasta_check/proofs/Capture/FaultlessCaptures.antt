@@ -39,10 +39,6 @@ records_kept k last (r ∷ rs) fault h are e =
     let w = then_by (after_record k r) (λ (next : Crossing). after_records next rs fault) last e in
     records_kept w.0 last rs fault (record_kept k w.0 r h are.0 w.1) are.1 w.2
 
-pub file_kept : (p : Parameters) (file : List ℕ) (k : Crossing) → OfConnection p → AreBytes file → crossing_of p file ≡ Ok k → IsCrossing k
-file_kept p file k h are e =
-    records_kept (nothing_crossed p) k (reading_of p.last_record file).records (reading_of p.last_record file).fault (nothing_is p h) (file_bytes p.last_record file are) e
-
 -- ---- frames without a fault
 
 -- a record before the window, or whose frame holds a packet or none

@@ -57,9 +57,6 @@ sent_copy p xs k s own j b h there side same =
           (get_push_cases xs k i a g);
     }
 
-wrapped_from : (f i : ℕ) → (f + (0 + i)) % 2 ^ 32 ≡ ((f + (0 + 0)) % 2 ^ 32 + i) % 2 ^ 32
-wrapped_from f i = omega arith
-
 abbrev pub Counts_from : ℕ → List FirstCopy → Type 0
 Counts_from f own = (i : ℕ) (c : FirstCopy) → slice_get own i ≡ Some c → c.pdu.number ≡ wrapped (f + i)
 

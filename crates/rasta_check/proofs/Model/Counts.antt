@@ -39,10 +39,6 @@ tally_swap true true n = refl
 tally_swap true false n = refl
 tally_swap false b n = refl
 
-pub tally_least : (b : Bool) (n : ℕ) → n ≤ tally b n
-tally_least true n = omega arith
-tally_least false n = omega arith
-
 tally_most : (b : Bool) (m n : ℕ) → m ≤ n → tally b m ≤ tally b n
 tally_most true m n h = omega arith
 tally_most false m n h = h

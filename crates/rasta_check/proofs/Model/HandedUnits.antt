@@ -131,11 +131,6 @@ handed_make p e f x clock why t pass h w =
 
 -- The end itself takes.
 
-flowing_cases : (ph : Phase) → is_flowing ph ≡ true → (ph ≡ Up) ⊎ (ph ≡ RetrRun)
-flowing_cases Up h = inl refl
-flowing_cases RetrRun h = inr refl
-flowing_cases _ h = absurd (cc)
-
 heartbeat_or_data : (k : Kind) → is_heartbeat_or_data k ≡ true → (k ≡ Heartbeat) ⊎ (k ≡ Data)
 heartbeat_or_data Heartbeat h = inl refl
 heartbeat_or_data Data h = inr refl

@@ -23,11 +23,6 @@ use Rattle.rasta_check.proofs.Model.ConveyedUnits.{values, jump, values_asks, ge
 use Rattle.rasta_check.proofs.Model.OfferedUnits.{Valued, Due, DueRest, resends_due}
 use Rattle.rasta_pdu.specs.declared.kind.Kind.TheVariants.{RetransmissionResponse}
 
-pub calm_runs : (ph : Phase) → is_flowing ph ≡ true → is_connected ph ≡ true
-calm_runs Up h = refl
-calm_runs RetrRun h = refl
-calm_runs _ h = absurd (cc)
-
 cons_of : (ms : List Made) (j : ℕ) → j < length ms → (n : Made) × (ns : List Made) × (ms ≡ n ∷ ns)
 cons_of [] j l = absurd (omega arith)
 cons_of (n ∷ ns) j l = (n, ns, refl)
