@@ -104,15 +104,7 @@ over_not b c h = rw h refl
 
 opens_only : (s : Side) (ph : Phase) (why : Why) (k : Kind) (os : List Owed) (row : MakeRow) → Making s ph why k os row → is_kind ConnectionRequest k ≡ true → (s ≡ Client) × (ph ≡ Closed)
 opens_only s ph why k os row opening h = (refl, refl)
-opens_only s ph why k os row response h = absurd (cc)
-opens_only s ph why k os row first_beat h = absurd (cc)
-opens_only s ph why k os row (answer c) h = absurd (cc)
-opens_only s ph why k os row (again c) h = absurd (cc)
-opens_only s ph why k os row (ask c) h = absurd (cc)
-opens_only s ph why k os row (beat c) h = absurd (cc)
-opens_only s ph why k os row (fresh c) h = absurd (cc)
-opens_only s ph why k os row (bye c) h = absurd (cc)
-opens_only s ph why k os row (expired c) h = absurd (cc)
+opens_only s ph why k os row _ h = absurd (cc)
 
 same_zero : (n : ℕ) → n ≡ 0 → (n == 0) ≡ true
 same_zero n h = grind (arith, nat_tests)

@@ -64,40 +64,22 @@ or_true false = refl
 
 pub owes_wanted : (s : Side) (ph : Phase) (why : Why) (k : Kind) (os : List Owed) (row : MakeRow) → Making s ph why k os row → (is_owing os || not (wants_trigger k)) ≡ true
 owes_wanted s ph why k os row opening = or_true (is_owing os)
-owes_wanted s ph why k os row response = refl
-owes_wanted s ph why k os row first_beat = refl
-owes_wanted s ph why k os row (answer c) = refl
-owes_wanted s ph why k os row (again c) = refl
-owes_wanted s ph why k os row (ask c) = refl
-owes_wanted s ph why k os row (beat c) = refl
-owes_wanted s ph why k os row (fresh c) = refl
 owes_wanted s ph why k os row (bye c) = or_true (is_owing os)
 owes_wanted s ph why k os row (expired c) = or_true (is_owing os)
+owes_wanted s ph why k os row _ = refl
 
 -- where a request is owed first, an end that is connected makes it, or ends
 pub asks_first : (s : Side) (ph : Phase) (why : Why) (k : Kind) (os rest : List Owed) (row : MakeRow) → Making s ph why k os row → os ≡ OweRetransmissionRequest ∷ rest → is_closed ph ≡ false → (k ≡ RetransmissionRequest) ⊎ (is_kind DisconnectionRequest k ≡ true)
-asks_first s ph why k os rest row opening h c = absurd (cc)
-asks_first s ph why k os rest row response h c = absurd (cc)
-asks_first s ph why k os rest row first_beat h c = absurd (cc)
-asks_first s ph why k os rest row (answer d) h c = absurd (cc)
-asks_first s ph why k os rest row (again d) h c = absurd (cc)
 asks_first s ph why k os rest row (ask d) h c = inl refl
-asks_first s ph why k os rest row (beat d) h c = absurd (cc)
-asks_first s ph why k os rest row (fresh d) h c = absurd (cc)
 asks_first s ph why k os rest row (bye d) h c = inr refl
 asks_first s ph why k os rest row (expired d) h c = inr refl
+asks_first s ph why k os rest row _ h c = absurd (cc)
 
 pub answers_first : (s : Side) (ph : Phase) (why : Why) (k : Kind) (os rest : List Owed) (row : MakeRow) → Making s ph why k os row → os ≡ OweRetransmissionResponse ∷ rest → is_closed ph ≡ false → (k ≡ RetransmissionResponse) ⊎ (is_kind DisconnectionRequest k ≡ true)
-answers_first s ph why k os rest row opening h c = absurd (cc)
-answers_first s ph why k os rest row response h c = absurd (cc)
-answers_first s ph why k os rest row first_beat h c = absurd (cc)
 answers_first s ph why k os rest row (answer d) h c = inl refl
-answers_first s ph why k os rest row (again d) h c = absurd (cc)
-answers_first s ph why k os rest row (ask d) h c = absurd (cc)
-answers_first s ph why k os rest row (beat d) h c = absurd (cc)
-answers_first s ph why k os rest row (fresh d) h c = absurd (cc)
 answers_first s ph why k os rest row (bye d) h c = inr refl
 answers_first s ph why k os rest row (expired d) h c = inr refl
+answers_first s ph why k os rest row _ h c = absurd (cc)
 
 -- ---- what CS names
 
@@ -140,16 +122,9 @@ disc_is DisconnectionRequest h = refl
 disc_is _ h = absurd (cc)
 
 leaving_why : (s : Side) (ph : Phase) (why : Why) (k : Kind) (os : List Owed) (row : MakeRow) → Making s ph why k os row → is_kind DisconnectionRequest k ≡ true → (why ≡ Bye) ⊎ (why ≡ Expired)
-leaving_why s ph why k os row opening h = absurd (cc)
-leaving_why s ph why k os row response h = absurd (cc)
-leaving_why s ph why k os row first_beat h = absurd (cc)
-leaving_why s ph why k os row (answer c) h = absurd (cc)
-leaving_why s ph why k os row (again c) h = absurd (cc)
-leaving_why s ph why k os row (ask c) h = absurd (cc)
-leaving_why s ph why k os row (beat c) h = absurd (cc)
-leaving_why s ph why k os row (fresh c) h = absurd (cc)
 leaving_why s ph why k os row (bye c) h = inl refl
 leaving_why s ph why k os row (expired c) h = inr refl
+leaving_why s ph why k os row _ h = absurd (cc)
 
 -- the row of one
 abbrev pub IsLeaving : Side → Phase → ℕ → Why → Kind → Type 0

@@ -200,10 +200,7 @@ trail_make s ph why k os row offered trail first_beat t = t
 trail_make s ph why k os row offered trail (answer c) t = t
 trail_make s ph why k os row offered trail (again c) t = t.2
 trail_make s ph why k os row offered trail (ask c) t = t
-trail_make s ph why k os row offered trail (beat c) t = tt
-trail_make s ph why k os row offered trail (fresh c) t = tt
-trail_make s ph why k os row offered trail (bye c) t = tt
-trail_make s ph why k os row offered trail (expired c) t = tt
+trail_make s ph why k os row offered trail _ t = tt
 
 module _ (p : Parameters) (start : Option ℕ) (side : Side) (quiet_sn : Option ℕ) (e : EndState) (taken : ℕ) (ms : List Made) (b : Built) (r : IsReady p start side quiet_sn e taken ms b)
     (place k : ℕ) (x : SafetyPdu) (why : Why) (ok : make_fault p e x k why ≡ None) (bounded : k < 2 ^ 64) (waits : p.t_max ≤ 60000) (from : start ≡ (start_of p side).deadline) (low_start : earliest_by p start ≤ 2 ^ 63)

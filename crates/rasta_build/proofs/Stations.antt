@@ -91,15 +91,12 @@ no_start _ r h = cc
 -- a client that is in Start after a make was Closed
 start_by_opening : (s : Side) (ph : Phase) (why : Why) (k : Kind) (os : List Owed) (row : MakeRow) → Making s ph why k os row → is_client s ≡ true → is_start (phase_after row ph) ≡ true → ph ≡ Closed
 start_by_opening s ph why k os row opening c h = refl
-start_by_opening s ph why k os row response c h = absurd (cc)
-start_by_opening s ph why k os row first_beat c h = absurd (cc)
 start_by_opening s ph why k os row (answer r) c h = absurd (no_start ph r h)
 start_by_opening s ph why k os row (again r) c h = absurd (no_start ph r h)
 start_by_opening s ph why k os row (ask r) c h = absurd (no_start ph r h)
 start_by_opening s ph why k os row (beat r) c h = absurd (no_start ph r h)
 start_by_opening s ph why k os row (fresh r) c h = absurd (no_start ph r h)
-start_by_opening s ph why k os row (bye r) c h = absurd (cc)
-start_by_opening s ph why k os row (expired r) c h = absurd (cc)
+start_by_opening s ph why k os row _ c h = absurd (cc)
 
 -- ---- a take
 

@@ -54,13 +54,9 @@ effect_timed p InSequence clock deadline e x =
 effect_timed p ResentInSequence clock deadline e x =
     ap (λ d. if carries_unit x.kind then hand_up e.accepted (timed clock d (accept p e x)) x else timed clock d (accept p e x)) (if_next p (is_timed x.kind) clock deadline x.cts)
     ∙ hand_timed (carries_unit x.kind) e.accepted clock (next_deadline p true (is_timed x.kind) clock deadline x.cts) (accept p e x) x
-effect_timed p Gap clock deadline e x = refl
-effect_timed p GapInRetransmission clock deadline e x = refl
 effect_timed p Resumed clock deadline e x = ap (λ d. timed clock d (effect p Resumed e x)) (if_next p (is_timed x.kind) clock deadline x.cts)
 effect_timed p Requested clock deadline e x = ap (λ d. timed clock d (effect p Requested e x)) (if_next p (is_timed x.kind) clock deadline x.cts)
-effect_timed p RequestedAhead clock deadline e x = refl
-effect_timed p RequestedAgain clock deadline e x = refl
-effect_timed p Disconnected clock deadline e x = refl
+effect_timed p _ clock deadline e x = refl
 
 pub effect_deadline : (p : Parameters) (row : TakeRow) (e : EndState) (x : SafetyPdu) → (effect p row e x).deadline ≡ deadline_by p row e.clock e.deadline x
 effect_deadline p row e x = ap (λ (z : EndState). z.deadline) (effect_timed p row e.clock e.deadline e x)

@@ -153,14 +153,8 @@ entry_words (Take slot number) = codes "take" ++ (32 ∷ (decimal slot ++ (32 �
 entry_words (Make index clock why) = codes "make" ++ (32 ∷ (decimal index ++ (32 ∷ (decimal clock ++ (32 ∷ why_words why)))))
 
 why_line-words : (why : Why) → why_line why ≡ line (why_words why)
-why_line-words Open = refl
-why_line-words Reply = refl
-why_line-words Beat = refl
-why_line-words Fresh = refl
 why_line-words (Again unit) = sym (append_assoc (codes "again") (32 ∷ decimal unit) (10 ∷ []))
-why_line-words Ask = refl
-why_line-words Bye = refl
-why_line-words Expired = refl
+why_line-words _ = refl
 
 -- an entry's line is its words and the end of the line
 pub entry_line-words : (e : Entry) → entry_line e ≡ line (entry_words e)
@@ -201,14 +195,8 @@ again_of-words unit h =
 
 why_of-words : (why : Why) → IsReason why → why_of (why_words why) ≡ Some why
 unfolding why_of word_of
-why_of-words Open h = refl
-why_of-words Reply h = refl
-why_of-words Beat h = refl
-why_of-words Fresh h = refl
 why_of-words (Again unit) h = again_of-words unit h
-why_of-words Ask h = refl
-why_of-words Bye h = refl
-why_of-words Expired h = refl
+why_of-words _ h = refl
 
 make_of-words : (index clock : ℕ) (why : Why) → index < 2 ^ 32 → clock < 2 ^ 64 → IsReason why
     → make_of (decimal index ++ (32 ∷ (decimal clock ++ (32 ∷ why_words why)))) ≡ Some (Make index clock why)

@@ -81,33 +81,15 @@ not-response n _ e = refl
 
 pub one-response : (n : ℕ) (k : Kind) → is_kind RetransmissionResponse k ≡ true → responses_after n k ≡ suc n
 one-response n RetransmissionResponse e = refl
-one-response n ConnectionRequest e = absurd (cc)
-one-response n ConnectionResponse e = absurd (cc)
-one-response n RetransmissionRequest e = absurd (cc)
-one-response n DisconnectionRequest e = absurd (cc)
-one-response n Heartbeat e = absurd (cc)
-one-response n Data e = absurd (cc)
-one-response n RetransmittedData e = absurd (cc)
+one-response n _ e = absurd (cc)
 
 pub data-not-response : (k : Kind) → is_kind Data k ≡ true → is_kind RetransmissionResponse k ≡ false
 data-not-response Data e = refl
-data-not-response RetransmissionResponse e = absurd (cc)
-data-not-response ConnectionRequest e = absurd (cc)
-data-not-response ConnectionResponse e = absurd (cc)
-data-not-response RetransmissionRequest e = absurd (cc)
-data-not-response DisconnectionRequest e = absurd (cc)
-data-not-response Heartbeat e = absurd (cc)
-data-not-response RetransmittedData e = absurd (cc)
+data-not-response _ e = absurd (cc)
 
 pub response-not-data : (k : Kind) → is_kind RetransmissionResponse k ≡ true → is_kind Data k ≡ false
 response-not-data RetransmissionResponse e = refl
-response-not-data Data e = absurd (cc)
-response-not-data ConnectionRequest e = absurd (cc)
-response-not-data ConnectionResponse e = absurd (cc)
-response-not-data RetransmissionRequest e = absurd (cc)
-response-not-data DisconnectionRequest e = absurd (cc)
-response-not-data Heartbeat e = absurd (cc)
-response-not-data RetransmittedData e = absurd (cc)
+response-not-data _ e = absurd (cc)
 
 contents-stay : (q : Option QuietPdu) (ms : List MadePdu) (m : MadePdu) (cs : List (Bor (List ℕ)))
     → is_kind Data (made_of m).pdu.kind ≡ false

@@ -304,10 +304,8 @@ module _ (s : Inside) (v : JudgedStation) (b : Station) (e : JudgedEnd) (channel
 
 moves_base : (p : Parameters) (b : Station) (xs : List Packet) (a a' : Station) (ys : List Packet) {label : Label} → Moves p b xs a label a' ys → a'.state.base ≡ a.state.base
 moves_base p b xs a a' ys (makes x why e channel reserve check bytes mk sp rec) = (made_more p a.state x a.clock why e mk).base
-moves_base p b xs a a' ys (repeats place channel old there side rec) = refl
-moves_base p b xs a a' ys (arrives position low within) = refl
 moves_base p b xs a a' ys (takes position m e there above get tk) = ap (λ (f : EndState). f.base) tk.1 ∙ (take_leaves p a.state m.pdu).base
-moves_base p b xs a a' ys (waits clock rises) = refl
+moves_base p b xs a a' ys _ = refl
 
 answered_base : (p : Parameters) (b : Station) (xs : List Packet) (a : Station) (move : Move) (moved : Bool) (a' : Station) (ys : List Packet) → Answers p b xs a move moved a' ys → a'.state.base ≡ a.state.base
 answered_base p b xs a move true a' ys h = moves_base p b xs a a' ys h.1

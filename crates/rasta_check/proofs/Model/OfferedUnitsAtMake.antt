@@ -96,16 +96,10 @@ stepped s ph why k os row u v n v' free (bye r) d x = over refl (λ q. refl) x
 stepped s ph why k os row u v n v' free (expired r) d x = over refl (λ q. refl) x
 
 unit_runs : (s : Side) (ph : Phase) (why : Why) (k : Kind) (os : List Owed) (row : MakeRow) → Making s ph why k os row → is_plain k ≡ false → is_connected ph ≡ true
-unit_runs s ph why k os row opening h = absurd (cc)
-unit_runs s ph why k os row response h = absurd (cc)
-unit_runs s ph why k os row first_beat h = absurd (cc)
 unit_runs s ph why k os row (answer r) h = r
 unit_runs s ph why k os row (again r) h = r
-unit_runs s ph why k os row (ask r) h = absurd (cc)
-unit_runs s ph why k os row (beat r) h = absurd (cc)
 unit_runs s ph why k os row (fresh r) h = r
-unit_runs s ph why k os row (bye r) h = absurd (cc)
-unit_runs s ph why k os row (expired r) h = absurd (cc)
+unit_runs s ph why k os row _ h = absurd (cc)
 
 closed_client : (s : Side) (ph : Phase) (why : Why) (k : Kind) (os : List Owed) (row : MakeRow) → Making s ph why k os row → ph ≡ Closed → s ≡ Client
 closed_client s ph why k os row opening c = refl
