@@ -2,6 +2,7 @@
 use Rattle.std.proofs.Common.{◌≡◌, ℕ, zero, suc, ◌+◌, ◌-◌, ◌<◌, ◌^◌, ◌⊎◌, Bool, true, false, List, length, Option, Some, None, Result, Ok, Err, slice_get, refl, ap, sym, ◌∙◌, arith, inl, inr, subst}
 use Rattle.std.specs.Prelude.{nat_lt, if◌then◌else◌, option_map}
 use Rattle.rasta_pdu.specs.declared.pdu.Pdu.{Pdu}
+use Rattle.rasta_check.proofs.Script.ScriptsOfRuns.{taken_within}
 use Rattle.rasta_check.specs.Capture.Lists.{copy_of}
 use Rattle.rasta_pcap.specs.Fault.{fault_at, no_memory, not_found, too_many_entries}
 use Rattle.rasta_pcap.specs.declared.fault.Fault.{Fault}
@@ -28,7 +29,7 @@ use Rattle.rasta_build.specs.declared.stuck.Stuck.{Stuck}
 use Rattle.rasta_build.specs.declared.stuck.Stuck.TheVariants.{Unexplained, NoMemory}
 use Rattle.rasta_build.proofs.SentLists.{sent_rises, sent_numbers, sent_within}
 use Rattle.rasta_build.proofs.Soundness.{passes_read}
-use Rattle.rasta_build.proofs.Proposals.{proposal_fits, taken_within}
+use Rattle.rasta_build.proofs.Proposals.{proposal_fits}
 
 -- ---- a step
 

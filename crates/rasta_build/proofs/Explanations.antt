@@ -23,7 +23,7 @@ use Rattle.rasta_end.specs.MakeRule.{make_fault, has_ended, is_judged, confirms_
 use Rattle.rasta_end.specs.TakeRule.{effect, take_row, is_ahead}
 use Rattle.rasta_end.proofs.MakeTests.{no_test}
 use Rattle.rasta_check.specs.Capture.Crossing.{FirstCopy}
-use Rattle.rasta_check.proofs.Model.PassedTests.{passed, cs_is}
+use Rattle.rasta_check.proofs.Model.PassedTests.{passed, cs_is, Passed}
 use Rattle.rasta_check.proofs.Model.MakeRows.{Making, opening, response, first_beat, answer, again, ask, beat, fresh, bye, expired, MadeBy, made_by}
 use Rattle.rasta_check.proofs.Model.TakeRows.{row_known}
 use Rattle.rasta_check.proofs.Model.Counts.{number}
@@ -36,7 +36,7 @@ use Rattle.rasta_build.specs.Explaining.{and_then, catch_up, accept_through, tak
 use Rattle.rasta_build.proofs.Readiness.{IsReady}
 use Rattle.rasta_build.proofs.Scans.{AreCopies, is_gap, is_request_ahead, gap_found, request_found}
 use Rattle.rasta_build.proofs.Lags.{Pending, IsLag, caught_itself}
-use Rattle.rasta_build.proofs.Makes.{Tests, tests, makes_by, ready_make}
+use Rattle.rasta_build.proofs.Makes.{makes_by, ready_make}
 use Rattle.rasta_build.proofs.LagMakes.{ended_by, owes_wanted, or_true, asks_first, answers_first, sn_near, through, disc_plain, leave_fault, LeftBy, left_by}
 use Rattle.rasta_build.proofs.Comparisons.{lt_is, was_same}
 
@@ -178,8 +178,8 @@ module _ (p : Parameters) (start : Option ℕ) (side : Side) (quiet_sn : Option 
       let m = makes_by p start side quiet_sn g mark ms b2 r place k x why ok' bounded waits from low_start few' in
       (made_at place x why m.0 b2, ap (λ (o : Option Built). and_then o (make_step place x)) h ∙ m.1, inr (ended_by p e x k why ok (inr d)))
 
-  all : Tests p e x k why
-  all = tests p e x k why ok
+  all : Passed p e x k why
+  all = passed p e x k why (no_test p e x k why ok)
 
   by : MadeBy e x why
   by = made_by p e x k why (passed p e x k why (no_test p e x k why ok))

@@ -22,7 +22,7 @@ use Rattle.rasta_end.specs.MakeRule.{make_fault, has_ended, row_of, make_row, is
 use Rattle.rasta_end.specs.TakeRule.{effect, take_row}
 use Rattle.rasta_end.proofs.MakeTests.{no_test}
 use Rattle.rasta_check.specs.Capture.Crossing.{FirstCopy}
-use Rattle.rasta_check.proofs.Model.PassedTests.{passed}
+use Rattle.rasta_check.proofs.Model.PassedTests.{passed, Passed}
 use Rattle.rasta_check.proofs.Model.MakeRows.{Making, opening, response, first_beat, answer, again, ask, beat, fresh, bye, expired, made_by, after_row, new_made}
 use Rattle.rasta_check.proofs.Model.TakeRows.{row_known}
 use Rattle.rasta_check.proofs.Model.SequenceNumbers.{Numbered}
@@ -33,7 +33,7 @@ use Rattle.rasta_build.specs.Choices.{copy_at, is_before, wants_trigger}
 use Rattle.rasta_build.specs.Explaining.{catch_up, accept_through}
 use Rattle.rasta_build.proofs.Scans.{is_gap, is_request_ahead}
 use Rattle.rasta_build.proofs.Lags.{caught_itself}
-use Rattle.rasta_build.proofs.Makes.{tests, none_of, reason_is, ReasonIs}
+use Rattle.rasta_build.proofs.Makes.{none_of, reason_is, ReasonIs}
 use Rattle.rasta_build.proofs.Comparisons.{was_same, was_other, not_lt}
 
 -- ---- the end of a connection
@@ -148,7 +148,7 @@ pub leave_fault : (p : Parameters) (e g : EndState) (x : SafetyPdu) (k : ℕ) (w
     → g.made ≡ e.made → g.clock ≡ e.clock → (not (is_expired why) && is_past p g.deadline k) ≡ false → (is_expired why && is_early p g.deadline k) ≡ false
     → (is_judged g x.kind && not (confirms_last g x.cs)) ≡ false → (is_judged g x.kind && not (confirms_a_time g x.cts)) ≡ false → make_fault p g x k why ≡ None
 leave_fault p e g x k why ok disc over active made clock past early cs cts =
-    let t = tests p e x k why ok in
+    let t = passed p e x k why (no_test p e x k why ok) in
     let m = made_by p e x k why (passed p e x k why (no_test p e x k why ok)) in
     let w = leaving_why e.side e.phase why x.kind e.owed m.row m.how disc in
     let r = reason_is e.side e.phase (reason_of x.body) why x.kind e.owed t.row in

@@ -88,37 +88,6 @@ early_of : (a b c d f g h i j k l : Bool) → a ≡ false → b ≡ false → c 
     → first_that_holds ((a, closed) ∷ (b, not_allowed) ∷ (c, reply_owed) ∷ (d, sequence_number) ∷ (f, clock_differs) ∷ (g, clock_falls) ∷ (h, past_deadline) ∷ (i, too_early_timeout) ∷ (j, confirmed_number) ∷ (k, confirmed_time) ∷ (l, resend_differs) ∷ []) ≡ Some too_early_timeout
 early_of a b c d f g h i j k l a' b' c' d' f' g' h' i' = rw a' (rw b' (rw c' (rw d' (rw f' (rw g' (rw h' (rw i' refl)))))))
 
--- all tests of an allowed make
-pub record Tests (p : Parameters) (e : EndState) (x : SafetyPdu) (clock : ℕ) (why : Why) : Type 0 where
-  pub open_yet : has_ended e ≡ false
-  pub row : is_refused_row (row_of e x why) e.owed ≡ false
-  pub owed : is_owing_else (row_of e x why) e.owed ≡ false
-  pub sn : not (is_next_sn e.made x.sn) ≡ false
-  pub stamp : not (x.ts == wrapped clock) ≡ false
-  pub rises : nat_lt clock e.clock ≡ false
-  pub in_time : (not (is_expired why) && is_past p e.deadline clock) ≡ false
-  pub late : (is_expired why && is_early p e.deadline clock) ≡ false
-  pub cs : (is_judged e x.kind && not (confirms_last e x.cs)) ≡ false
-  pub cts : (is_judged e x.kind && not (confirms_a_time e x.cts)) ≡ false
-  pub same : differs e.made (row_of e x why) (content_of x.body) ≡ false
-
-pub tests : (p : Parameters) (e : EndState) (x : SafetyPdu) (clock : ℕ) (why : Why) → make_fault p e x clock why ≡ None → Tests p e x clock why
-tests p e x clock why h =
-    let f = no_test p e x clock why h in
-    record {
-      open_yet = f 0 true (omega arith);
-      row = f 1 true (omega arith);
-      owed = f 2 true (omega arith);
-      sn = f 3 true (omega arith);
-      stamp = f 4 true (omega arith);
-      rises = f 5 true (omega arith);
-      in_time = f 6 true (omega arith);
-      late = f 7 true (omega arith);
-      cs = f 8 true (omega arith);
-      cts = f 9 true (omega arith);
-      same = f 10 true (omega arith);
-    }
-
 -- ---- clocks
 
 -- the builder's clock: not later, by a multiple of 2^32
@@ -205,8 +174,8 @@ trail_make s ph why k os row offered trail _ t = tt
 module _ (p : Parameters) (start : Option ℕ) (side : Side) (quiet_sn : Option ℕ) (e : EndState) (taken : ℕ) (ms : List Made) (b : Built) (r : IsReady p start side quiet_sn e taken ms b)
     (place k : ℕ) (x : SafetyPdu) (why : Why) (ok : make_fault p e x k why ≡ None) (bounded : k < 2 ^ 64) (waits : p.t_max ≤ 60000) (from : start ≡ (start_of p side).deadline) (low_start : earliest_by p start ≤ 2 ^ 63)
     (few : e.offered ≤ 1000001) where
-  all : Tests p e x k why
-  all = tests p e x k why ok
+  all : Passed p e x k why
+  all = passed p e x k why (no_test p e x k why ok)
 
   pass : Passed p e x k why
   pass = passed p e x k why (no_test p e x k why ok)

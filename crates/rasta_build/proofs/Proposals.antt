@@ -10,6 +10,7 @@ use Rattle.rasta_udp.specs.Frame.{Packet}
 use Rattle.rasta_pdu.specs.Params.{Parameters}
 use Rattle.rasta_cert.specs.declared.entry.Entry.{Entry}
 use Rattle.rasta_cert.specs.Certificate.{Scripts, IsCertificate, most_entries}
+use Rattle.rasta_check.proofs.Script.ScriptsOfRuns.{leads_count, taken_within}
 use Rattle.rasta_check.specs.Capture.Crossing.{FirstCopy}
 use Rattle.rasta_check.specs.Capture.Reading.{AreSentLists}
 use Rattle.rasta_check.specs.Verdict.Report.{BothFit}
@@ -29,22 +30,6 @@ use Rattle.rasta_build.proofs.Soundness.{passes_read}
 use Rattle.rasta_build.proofs.Place.{passes_front}
 
 -- ---- entries are few
-
-leads_count : (p : Parameters) (n : ℕ) (own peer : List FirstCopy) (u v : Cursor) (es : List Entry) → Leads p n own peer u es v → length es + u.made + u.taken ≤ v.made + v.taken
-leads_count p n own peer u v [] f = (let a = ap (λ (z : Cursor). z.made) f in let b = ap (λ (z : Cursor). z.taken) f in omega arith)
-leads_count p n own peer u v (x ∷ es) f = by x f.0 f.1 (leads_count p n own peer f.0 v es f.2)
-  where
-    by : (x : Entry) (m : Cursor) → Advances p n own peer u x m → length es + m.made + m.taken ≤ v.made + v.taken → suc (length es) + u.made + u.taken ≤ v.made + v.taken
-    by x m (takes_next slot position c e' a b g d f t) l = omega arith
-    by x m (makes_next c clock why e' a g k) l = omega arith
-
-pub taken_within : (p : Parameters) (n : ℕ) (own peer : List FirstCopy) (u v : Cursor) (es : List Entry) → Leads p n own peer u es v → u.taken ≤ length peer → v.taken ≤ length peer
-taken_within p n own peer u v [] f l = (let b = ap (λ (z : Cursor). z.taken) f in omega arith)
-taken_within p n own peer u v (x ∷ es) f l = taken_within p n own peer f.0 v es f.2 (by x f.0 f.1)
-  where
-    by : (x : Entry) (m : Cursor) → Advances p n own peer u x m → m.taken ≤ length peer
-    by x m (takes_next slot position c e' a b g d f t) = (let z = slice_get_within peer position c g in omega arith)
-    by x m (makes_next c clock why e' a g k) = l
 
 -- ---- a pass that has gone through both lists
 

@@ -16,6 +16,7 @@ use Rattle.rasta_end.specs.State.{Made, EndState, is_owing, is_closed, is_flowin
 use Rattle.rasta_end.specs.Units.{units_conveyed}
 use Rattle.rasta_end.specs.MakeRule.{is_past, first_that_holds}
 use Rattle.rasta_end.specs.TakeRule.{hand_up, effect, take_row, take_fault, accept, enter, resends, burst, position_confirmed}
+use Rattle.rasta_check.proofs.Script.ScriptsOfRuns.{fault_by}
 use Rattle.rasta_check.proofs.Model.TakeRows.{row_known}
 use Rattle.rasta_check.proofs.Model.Counts.{number}
 use Rattle.rasta_build.specs.Built.{Built, progress_of, trail_after}
@@ -76,11 +77,6 @@ pub record IsReady (p : Parameters) (start : Option ℕ) (side : Side) (quiet_sn
   pub asked : length e.asks ≤ number (is_kind RetransmissionRequest) (take b.next_take ms)
 
 -- ---- what the run's end may take, the builder's end may take
-
-fault_by : (os : List Owed) (a b : Bool) → (a ≡ false → b ≡ false) → first_that_holds ((is_owing os, reply_owed) ∷ (a, past_deadline) ∷ []) ≡ None → first_that_holds ((is_owing os, reply_owed) ∷ (b, past_deadline) ∷ []) ≡ None
-fault_by [] false b i h = ap (λ c. first_that_holds ((false, reply_owed) ∷ (c, past_deadline) ∷ [])) (i refl)
-fault_by [] true b i h = absurd (cc)
-fault_by (o ∷ os) a b i h = absurd (cc)
 
 fault_if : (k : Bool) (os : List Owed) (a b : Bool) → (a ≡ false → b ≡ false) → (if k then None else first_that_holds ((is_owing os, reply_owed) ∷ (a, past_deadline) ∷ [])) ≡ None
     → (if k then None else first_that_holds ((is_owing os, reply_owed) ∷ (b, past_deadline) ∷ [])) ≡ None

@@ -19,6 +19,7 @@ use Rattle.rasta_end.specs.Starts.{start_of}
 use Rattle.rasta_end.specs.MakeRule.{first_that_holds, make_fault, has_ended, is_past, contents, after_make, phase_after}
 use Rattle.rasta_end.specs.TakeRule.{effect_by, take_row, after_take, take_fault, is_in, is_ahead, is_valid}
 use Rattle.rasta_end.proofs.MakeTests.{no_test}
+use Rattle.rasta_check.proofs.Script.ScriptsOfRuns.{earlier}
 use Rattle.rasta_check.specs.Capture.Crossing.{FirstCopy}
 use Rattle.rasta_check.proofs.Model.PassedTests.{passed}
 use Rattle.rasta_check.proofs.Model.MakeRows.{Making, opening, response, first_beat, answer, again, ask, beat, fresh, bye, expired, made_by, after_row, new_made}
@@ -101,23 +102,6 @@ start_by_opening s ph why k os row _ c h = absurd (cc)
 -- ---- a take
 
 -- the deadline test at an earlier moment
-past_before : (p : Parameters) (d : Option ℕ) (m n : ℕ) → m ≤ n → is_past p d n ≡ false → is_past p d m ≡ false
-past_before p None m n l h = refl
-past_before p (Some d) m n l h = grind (arith, nat_tests)
-
-fault_by : (os : List Owed) (a b : Bool) → (a ≡ false → b ≡ false) → first_that_holds ((is_owing os, reply_owed) ∷ (a, past_deadline) ∷ []) ≡ None → first_that_holds ((is_owing os, reply_owed) ∷ (b, past_deadline) ∷ []) ≡ None
-fault_by [] false b i h = ap (λ c. first_that_holds ((false, reply_owed) ∷ (c, past_deadline) ∷ [])) (i refl)
-fault_by [] true b i h = absurd (cc)
-fault_by (o ∷ os) a b i h = absurd (cc)
-
-earlier : (p : Parameters) (e : EndState) (m n : ℕ) → m ≤ n → take_fault p e n ≡ None → take_fault p e m ≡ None
-earlier p e m n l h = by (is_closed e.phase) h
-  where
-    by : (b : Bool) → (if b then None else first_that_holds ((is_owing e.owed, reply_owed) ∷ (is_past p e.deadline n, past_deadline) ∷ [])) ≡ None
-        → (if b then None else first_that_holds ((is_owing e.owed, reply_owed) ∷ (is_past p e.deadline m, past_deadline) ∷ [])) ≡ None
-    by true h = refl
-    by false h = fault_by e.owed _ _ (past_before p e.deadline m n l) h
-
 owing_not : (os rest : List Owed) (o : Owed) → os ≡ o ∷ rest → os ≡ [] → ⊥
 owing_not os rest o h k = cc
 

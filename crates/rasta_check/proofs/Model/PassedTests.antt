@@ -6,16 +6,20 @@ use Rattle.rasta_pdu.specs.declared.kind.Kind.{Kind}
 use Rattle.rasta_pdu.specs.Pdu.{SafetyPdu}
 use Rattle.rasta_pdu.specs.Params.{Parameters}
 use Rattle.rasta_end.specs.declared.why.Why.{Why}
-use Rattle.rasta_end.specs.State.{EndState, content_of}
-use Rattle.rasta_end.specs.MakeRule.{make_tests, has_ended, row_of, is_refused_row, is_owing_else, is_next_sn, is_judged, confirms_last, differs}
+use Rattle.rasta_end.specs.State.{EndState, content_of, wrapped}
+use Rattle.rasta_end.specs.MakeRule.{make_tests, has_ended, row_of, is_refused_row, is_owing_else, is_next_sn, is_judged, confirms_last, differs, is_expired, is_past, is_early, confirms_a_time}
 
 pub record Passed (p : Parameters) (e : EndState) (x : SafetyPdu) (clock : ℕ) (why : Why) : Type 0 where
   pub open_yet : has_ended e ≡ false
   pub row : is_refused_row (row_of e x why) e.owed ≡ false
   pub owed : is_owing_else (row_of e x why) e.owed ≡ false
   pub sn : not (is_next_sn e.made x.sn) ≡ false
-  pub clock_rises : nat_lt clock e.clock ≡ false
+  pub stamp : not (x.ts == wrapped clock) ≡ false
+  pub rises : nat_lt clock e.clock ≡ false
+  pub in_time : (not (is_expired why) && is_past p e.deadline clock) ≡ false
+  pub late : (is_expired why && is_early p e.deadline clock) ≡ false
   pub cs : (is_judged e x.kind && not (confirms_last e x.cs)) ≡ false
+  pub cts : (is_judged e x.kind && not (confirms_a_time e x.cts)) ≡ false
   pub same : differs e.made (row_of e x why) (content_of x.body) ≡ false
 
 pub passed : (p : Parameters) (e : EndState) (x : SafetyPdu) (clock : ℕ) (why : Why) → All IsFalse (make_tests p e x clock why) → Passed p e x clock why
@@ -25,8 +29,12 @@ passed p e x clock why h =
       row = h 1 true (omega arith);
       owed = h 2 true (omega arith);
       sn = h 3 true (omega arith);
-      clock_rises = h 5 true (omega arith);
+      stamp = h 4 true (omega arith);
+      rises = h 5 true (omega arith);
+      in_time = h 6 true (omega arith);
+      late = h 7 true (omega arith);
       cs = h 8 true (omega arith);
+      cts = h 9 true (omega arith);
       same = h 10 true (omega arith);
     }
 

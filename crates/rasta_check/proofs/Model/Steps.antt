@@ -43,7 +43,7 @@ made_more p e x clock why e' mk =
       pdu = refl;
       made = ap (λ (z : EndState). z.made) after;
       now = ap (λ (z : EndState). z.clock) after;
-      rises = clock_le clock e.clock pass.clock_rises;
+      rises = clock_le clock e.clock pass.rises;
       side = ap (λ (z : EndState). z.side) after;
       base = ap (λ (z : EndState). z.base) after;
       same = record { positions = ap (λ (z : EndState). z.handed) after; pdus = ap (λ (z : EndState). z.handed_pdus) after };

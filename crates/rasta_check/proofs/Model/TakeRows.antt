@@ -1,12 +1,14 @@
 -- The rows of the take table: what each of them knows, and what a take leaves alone.
-use Rattle.std.proofs.Common.{◌≡◌, ℕ, Bool, true, false, List, [], ◌∷◌, Option, Some, None, refl, subst}
+use Rattle.std.proofs.Common.{◌≡◌, ℕ, Bool, true, false, List, [], ◌∷◌, Option, Some, None, refl, ap, sym, ◌∙◌, arith, subst}
 use Rattle.std.specs.Prelude.{not, ◌&&◌, if◌then◌else◌}
+use Rattle.std.proofs.lemmas.Bool.Decides.{nat_tests}
 use Rattle.rasta_pcap.specs.declared.fault.Side.{Side}
 use Rattle.rasta_pcap.specs.declared.fault.Side.TheVariants.{Client, Server}
 use Rattle.rasta_pdu.specs.declared.kind.Kind.{Kind}
 use Rattle.rasta_pdu.specs.declared.kind.Kind.TheVariants.{ConnectionRequest, ConnectionResponse, RetransmissionRequest, RetransmissionResponse, DisconnectionRequest, Heartbeat, RetransmittedData}
-use Rattle.rasta_pdu.specs.Pdu.{SafetyPdu, is_kind}
+use Rattle.rasta_pdu.specs.Pdu.{SafetyPdu, is_kind, type_of, kind_of}
 use Rattle.rasta_pdu.specs.Params.{Parameters}
+use Rattle.rasta_pdu.proofs.Bodies.{kind_of-type_of}
 use Rattle.rasta_end.specs.declared.phase.Phase.{Phase}
 use Rattle.rasta_end.specs.declared.phase.Phase.TheVariants.{Closed, Down, Start, Up, RetrReq, RetrRun}
 use Rattle.rasta_end.specs.declared.take_row.TakeRow.{TakeRow}
@@ -79,33 +81,11 @@ retr_run_is : (ph : Phase) → is_retr_run ph ≡ true → ph ≡ RetrRun
 retr_run_is RetrRun e = refl
 retr_run_is _ e = absurd (cc)
 
-connection_request_is : (k : Kind) → is_kind ConnectionRequest k ≡ true → k ≡ ConnectionRequest
-connection_request_is ConnectionRequest e = refl
-connection_request_is _ e = absurd (cc)
-
-connection_response_is : (k : Kind) → is_kind ConnectionResponse k ≡ true → k ≡ ConnectionResponse
-connection_response_is ConnectionResponse e = refl
-connection_response_is _ e = absurd (cc)
-
-heartbeat_is : (k : Kind) → is_kind Heartbeat k ≡ true → k ≡ Heartbeat
-heartbeat_is Heartbeat e = refl
-heartbeat_is _ e = absurd (cc)
-
-retransmitted_data_is : (k : Kind) → is_kind RetransmittedData k ≡ true → k ≡ RetransmittedData
-retransmitted_data_is RetransmittedData e = refl
-retransmitted_data_is _ e = absurd (cc)
-
-request_is : (k : Kind) → is_kind RetransmissionRequest k ≡ true → k ≡ RetransmissionRequest
-request_is RetransmissionRequest e = refl
-request_is _ e = absurd (cc)
-
-response_is : (k : Kind) → is_kind RetransmissionResponse k ≡ true → k ≡ RetransmissionResponse
-response_is RetransmissionResponse e = refl
-response_is _ e = absurd (cc)
-
-disconnection_is : (k : Kind) → is_kind DisconnectionRequest k ≡ true → k ≡ DisconnectionRequest
-disconnection_is DisconnectionRequest e = refl
-disconnection_is _ e = absurd (cc)
+pub kind_is : (wanted k : Kind) → is_kind wanted k ≡ true → k ≡ wanted
+kind_is wanted k h =
+    let same : type_of k ≡ type_of wanted = grind (arith, nat_tests, h) in
+    let both : Some k ≡ Some wanted = sym (kind_of-type_of k) ∙ (ap kind_of same ∙ kind_of-type_of wanted) in
+    cc
 
 four : (a b c d : Bool) → (a && (b && (c && d))) ≡ true → (a ≡ true) × (b ≡ true) × (c ≡ true) × (d ≡ true)
 four true true true true e = (refl, refl, refl, refl)
@@ -123,19 +103,19 @@ five _ _ _ _ _ e = absurd (cc)
 
 module _ (s : Side) (ph : Phase) (k : Kind) (n a v : Bool) where
   opened : (is_down ph && is_kind ConnectionRequest k) ≡ true → Premise Opened s ph k n a v
-  opened t = let w = both (is_down ph) (is_kind ConnectionRequest k) t in (down_is ph w.0, connection_request_is k w.1)
+  opened t = let w = both (is_down ph) (is_kind ConnectionRequest k) t in (down_is ph w.0, kind_is ConnectionRequest k w.1)
 
   answered : (is_start ph && (is_client s && (is_kind ConnectionResponse k && v))) ≡ true → Premise Answered s ph k n a v
-  answered t = let w = four (is_start ph) (is_client s) (is_kind ConnectionResponse k) v t in (client_is s w.1, start_is ph w.0, connection_response_is k w.2, w.3)
+  answered t = let w = four (is_start ph) (is_client s) (is_kind ConnectionResponse k) v t in (client_is s w.1, start_is ph w.0, kind_is ConnectionResponse k w.2, w.3)
 
   first_heartbeat : (is_start ph && (not (is_client s) && (is_kind Heartbeat k && (n && v)))) ≡ true → Premise FirstHeartbeat s ph k n a v
-  first_heartbeat t = let w = five (is_start ph) (not (is_client s)) (is_kind Heartbeat k) n v t in (server_is s w.1, start_is ph w.0, heartbeat_is k w.2, w.4, w.3)
+  first_heartbeat t = let w = five (is_start ph) (not (is_client s)) (is_kind Heartbeat k) n v t in (server_is s w.1, start_is ph w.0, kind_is Heartbeat k w.2, w.4, w.3)
 
   in_sequence : (is_flowing ph && (is_heartbeat_or_data k && (n && v))) ≡ true → Premise InSequence s ph k n a v
   in_sequence t = let w = four (is_flowing ph) (is_heartbeat_or_data k) n v t in (w.0, w.1, w.3, w.2)
 
   resent : (is_retr_run ph && (is_kind RetransmittedData k && (n && v))) ≡ true → Premise ResentInSequence s ph k n a v
-  resent t = let w = four (is_retr_run ph) (is_kind RetransmittedData k) n v t in (retr_run_is ph w.0, retransmitted_data_is k w.1, w.3, w.2)
+  resent t = let w = four (is_retr_run ph) (is_kind RetransmittedData k) n v t in (retr_run_is ph w.0, kind_is RetransmittedData k w.1, w.3, w.2)
 
   gap : (is_up ph && (is_heartbeat_or_data k && (a && v))) ≡ true → Premise Gap s ph k n a v
   gap t = let w = four (is_up ph) (is_heartbeat_or_data k) a v t in (up_is ph w.0, w.1, w.3, w.2)
@@ -144,19 +124,19 @@ module _ (s : Side) (ph : Phase) (k : Kind) (n a v : Bool) where
   gap_again t = let w = four (is_retr_run ph) (is_timed k) a v t in (retr_run_is ph w.0, w.1, w.3, w.2)
 
   resumed : (is_retr_req ph && (is_kind RetransmissionResponse k && v)) ≡ true → Premise Resumed s ph k n a v
-  resumed t = let w = three (is_retr_req ph) (is_kind RetransmissionResponse k) v t in (retr_req_is ph w.0, response_is k w.1, w.2)
+  resumed t = let w = three (is_retr_req ph) (is_kind RetransmissionResponse k) v t in (retr_req_is ph w.0, kind_is RetransmissionResponse k w.1, w.2)
 
   asked : (is_flowing ph && (is_kind RetransmissionRequest k && (n && v))) ≡ true → Premise Requested s ph k n a v
-  asked t = let w = four (is_flowing ph) (is_kind RetransmissionRequest k) n v t in (w.0, request_is k w.1, w.3, w.2)
+  asked t = let w = four (is_flowing ph) (is_kind RetransmissionRequest k) n v t in (w.0, kind_is RetransmissionRequest k w.1, w.3, w.2)
 
   asked_ahead : (is_flowing ph && (is_kind RetransmissionRequest k && (a && v))) ≡ true → Premise RequestedAhead s ph k n a v
-  asked_ahead t = let w = four (is_flowing ph) (is_kind RetransmissionRequest k) a v t in (w.0, request_is k w.1, w.3, w.2)
+  asked_ahead t = let w = four (is_flowing ph) (is_kind RetransmissionRequest k) a v t in (w.0, kind_is RetransmissionRequest k w.1, w.3, w.2)
 
   asked_again : (is_retr_req ph && (is_kind RetransmissionRequest k && (a && v))) ≡ true → Premise RequestedAgain s ph k n a v
-  asked_again t = let w = four (is_retr_req ph) (is_kind RetransmissionRequest k) a v t in (retr_req_is ph w.0, request_is k w.1, w.3, w.2)
+  asked_again t = let w = four (is_retr_req ph) (is_kind RetransmissionRequest k) a v t in (retr_req_is ph w.0, kind_is RetransmissionRequest k w.1, w.3, w.2)
 
   disconnected : (is_active ph && is_kind DisconnectionRequest k) ≡ true → Premise Disconnected s ph k n a v
-  disconnected t = let w = both (is_active ph) (is_kind DisconnectionRequest k) t in (w.0, disconnection_is k w.1)
+  disconnected t = let w = both (is_active ph) (is_kind DisconnectionRequest k) t in (w.0, kind_is DisconnectionRequest k w.1)
 
   all_rows : Each (λ (row : TakeRow). Premise row s ph k n a v) (take_rows s ph k n a v)
   unfolding Each

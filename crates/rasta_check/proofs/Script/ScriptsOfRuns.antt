@@ -64,7 +64,7 @@ clocks_make n place clock why (Take s m ∷ es) l h = clocks_make n place clock 
 clocks_make n place clock why (Make q c y ∷ es) l h = (h.0, clocks_make n place clock why es l h.1)
 
 -- each entry raises one of the two marks
-leads_count : (p : Parameters) (n : ℕ) (own peer : List FirstCopy) (u v : Cursor) (es : List Entry) → Leads p n own peer u es v → length es + u.made + u.taken ≤ v.made + v.taken
+pub leads_count : (p : Parameters) (n : ℕ) (own peer : List FirstCopy) (u v : Cursor) (es : List Entry) → Leads p n own peer u es v → length es + u.made + u.taken ≤ v.made + v.taken
 leads_count p n own peer u v [] f = (let a = ap (λ (z : Cursor). z.made) f in let b = ap (λ (z : Cursor). z.taken) f in omega arith)
 leads_count p n own peer u v (x ∷ es) f = by x f.0 f.1 (leads_count p n own peer f.0 v es f.2)
   where
@@ -72,7 +72,7 @@ leads_count p n own peer u v (x ∷ es) f = by x f.0 f.1 (leads_count p n own pe
     by x m (takes_next slot position c e' a b g d f t) l = omega arith
     by x m (makes_next c clock why e' a g k) l = omega arith
 
-taken_within : (p : Parameters) (n : ℕ) (own peer : List FirstCopy) (u v : Cursor) (es : List Entry) → Leads p n own peer u es v → u.taken ≤ length peer → v.taken ≤ length peer
+pub taken_within : (p : Parameters) (n : ℕ) (own peer : List FirstCopy) (u v : Cursor) (es : List Entry) → Leads p n own peer u es v → u.taken ≤ length peer → v.taken ≤ length peer
 taken_within p n own peer u v [] f l = (let b = ap (λ (z : Cursor). z.taken) f in omega arith)
 taken_within p n own peer u v (x ∷ es) f l = taken_within p n own peer f.0 v es f.2 (by x f.0 f.1)
   where
@@ -85,12 +85,12 @@ past_before : (p : Parameters) (d : Option ℕ) (m n : ℕ) → m ≤ n → is_p
 past_before p None m n l h = refl
 past_before p (Some d) m n l h = grind (arith, nat_tests)
 
-fault_by : (os : List Owed) (b c : Bool) → (b ≡ false → c ≡ false) → first_that_holds ((is_owing os, reply_owed) ∷ (b, past_deadline) ∷ []) ≡ None → first_that_holds ((is_owing os, reply_owed) ∷ (c, past_deadline) ∷ []) ≡ None
+pub fault_by : (os : List Owed) (b c : Bool) → (b ≡ false → c ≡ false) → first_that_holds ((is_owing os, reply_owed) ∷ (b, past_deadline) ∷ []) ≡ None → first_that_holds ((is_owing os, reply_owed) ∷ (c, past_deadline) ∷ []) ≡ None
 fault_by [] false c i h = ap (λ b. first_that_holds ((false, reply_owed) ∷ (b, past_deadline) ∷ [])) (i refl)
 fault_by [] true c i h = absurd (cc)
 fault_by (o ∷ os) b c i h = absurd (cc)
 
-earlier : (p : Parameters) (e : EndState) (m n : ℕ) → m ≤ n → take_fault p e n ≡ None → take_fault p e m ≡ None
+pub earlier : (p : Parameters) (e : EndState) (m n : ℕ) → m ≤ n → take_fault p e n ≡ None → take_fault p e m ≡ None
 earlier p e m n l h = by (is_closed e.phase) h
   where
     by : (b : Bool) → (if b then None else first_that_holds ((is_owing e.owed, reply_owed) ∷ (is_past p e.deadline n, past_deadline) ∷ [])) ≡ None
