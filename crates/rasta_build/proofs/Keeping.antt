@@ -137,18 +137,12 @@ no_response _ RetransmissionResponse t h = absurd (cc)
 no_response _ _ t h = absurd (cc)
 
 row_next : (p : Parameters) (e : EndState) (x : SafetyPdu) (made : Kind) → is_trigger made x.kind ≡ true → (row : TakeRow) → take_row p e x ≡ Some row → (effect p row e x).accepted ≤ suc e.accepted
-row_next p e x made t Opened w = omega arith
-row_next p e x made t Answered w = omega arith
 row_next p e x made t FirstHeartbeat w = (let k = row_known p e x FirstHeartbeat w in next_accepted p e x k.4)
 row_next p e x made t InSequence w = (let k = row_known p e x InSequence w in handed (carries_unit x.kind) e.accepted (enter _ (accept p e x)) x (suc e.accepted) (next_accepted p e x k.3))
 row_next p e x made t ResentInSequence w = (let k = row_known p e x ResentInSequence w in handed (carries_unit x.kind) e.accepted (accept p e x) x (suc e.accepted) (next_accepted p e x k.3))
-row_next p e x made t Gap w = omega arith
-row_next p e x made t GapInRetransmission w = omega arith
 row_next p e x made t Resumed w = (let k = row_known p e x Resumed w in absurd (no_response made x.kind t k.1))
 row_next p e x made t Requested w = (let k = row_known p e x Requested w in next_accepted p e x k.3)
-row_next p e x made t RequestedAhead w = omega arith
-row_next p e x made t RequestedAgain w = omega arith
-row_next p e x made t Disconnected w = omega arith
+row_next p e x made t _ w = omega arith
 
 pub trigger_next : (made : Kind) (slot q : ℕ) (x : RedundancyPdu) (b b' : Built) → is_trigger made x.safety.kind ≡ true → take_step slot q x b ≡ Some b' → b'.end.state.accepted ≤ suc b.end.state.accepted
 trigger_next made slot q x b b' t h = by (nat_lt q b.next_take) (take_fault b.end.params b.end.state b.end.state.clock) (take_row b.end.params b.end.state x.safety) refl h

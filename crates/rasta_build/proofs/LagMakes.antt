@@ -39,16 +39,9 @@ use Rattle.rasta_build.proofs.Comparisons.{was_same, was_other, not_lt}
 -- ---- the end of a connection
 
 ending : (s : Side) (ph : Phase) (why : Why) (k : Kind) (os : List Owed) (row : MakeRow) → Making s ph why k os row → (is_expired why ≡ true) ⊎ (is_kind DisconnectionRequest k ≡ true) → phase_after row ph ≡ Closed
-ending s ph why k os row opening h = ⊎_elim (λ (a : false ≡ true). absurd (cc)) (λ (a : false ≡ true). absurd (cc)) h
-ending s ph why k os row response h = ⊎_elim (λ (a : false ≡ true). absurd (cc)) (λ (a : false ≡ true). absurd (cc)) h
-ending s ph why k os row first_beat h = ⊎_elim (λ (a : false ≡ true). absurd (cc)) (λ (a : false ≡ true). absurd (cc)) h
-ending s ph why k os row (answer c) h = ⊎_elim (λ (a : false ≡ true). absurd (cc)) (λ (a : false ≡ true). absurd (cc)) h
-ending s ph why k os row (again c) h = ⊎_elim (λ (a : false ≡ true). absurd (cc)) (λ (a : false ≡ true). absurd (cc)) h
-ending s ph why k os row (ask c) h = ⊎_elim (λ (a : false ≡ true). absurd (cc)) (λ (a : false ≡ true). absurd (cc)) h
-ending s ph why k os row (beat c) h = ⊎_elim (λ (a : false ≡ true). absurd (cc)) (λ (a : false ≡ true). absurd (cc)) h
-ending s ph why k os row (fresh c) h = ⊎_elim (λ (a : false ≡ true). absurd (cc)) (λ (a : false ≡ true). absurd (cc)) h
 ending s ph why k os row (bye c) h = refl
 ending s ph why k os row (expired c) h = refl
+ending s ph why k os row _ h = ⊎_elim (λ (a : false ≡ true). absurd (cc)) (λ (a : false ≡ true). absurd (cc)) h
 
 pub ended_by : (p : Parameters) (e : EndState) (x : SafetyPdu) (k : ℕ) (why : Why) → make_fault p e x k why ≡ None → (is_expired why ≡ true) ⊎ (is_kind DisconnectionRequest x.kind ≡ true) → has_ended (after_make e x k why) ≡ true
 ended_by p e x k why ok h =

@@ -19,18 +19,12 @@ accepts : (p : Parameters) (e : EndState) (x : SafetyPdu) → (accept p e x).acc
 accepts p e x = (let z = ahead_most x.sn (e.last_sn + 1) in omega arith)
 
 by_row : (p : Parameters) (row : TakeRow) (e : EndState) (x : SafetyPdu) → (effect p row e x).accepted ≤ e.accepted + 2 ^ 32
-by_row p Opened e x = omega arith
-by_row p Answered e x = omega arith
 by_row p FirstHeartbeat e x = accepts p e x
 by_row p InSequence e x = handed (carries_unit x.kind) e.accepted (enter _ (accept p e x)) x (e.accepted + 2 ^ 32) (accepts p e x)
 by_row p ResentInSequence e x = handed (carries_unit x.kind) e.accepted (accept p e x) x (e.accepted + 2 ^ 32) (accepts p e x)
-by_row p Gap e x = omega arith
-by_row p GapInRetransmission e x = omega arith
 by_row p Resumed e x = accepts p e x
 by_row p Requested e x = accepts p e x
-by_row p RequestedAhead e x = omega arith
-by_row p RequestedAgain e x = omega arith
-by_row p Disconnected e x = omega arith
+by_row p _ e x = omega arith
 
 by_option : (p : Parameters) (row : Option TakeRow) (e : EndState) (x : SafetyPdu) → (effect_by p row e x).accepted ≤ e.accepted + 2 ^ 32
 by_option p None e x = omega arith

@@ -71,10 +71,8 @@ made_longer p b a a' xs ys (makes x why e' ch res chk bs mk sp rec) =
     let n : Made = m.new in
     let e = ap length m.made in
     (omega (arith, e, length_push a.state.made n), omega (arith, e, length_push a.state.made n))
-made_longer p b a a' xs ys (repeats place ch old c s rec) = (omega arith, omega arith)
-made_longer p b a a' xs ys (arrives q low i) = (omega arith, omega arith)
 made_longer p b a a' xs ys (takes q m e' c i s t) = (let e = ap (λ (e : EndState). length e.made) t.1 in let f = ap length (take_made p a.state m.pdu) in (omega arith, omega arith))
-made_longer p b a a' xs ys (waits c i) = (omega arith, omega arith)
+made_longer p b a a' xs ys _ = (omega arith, omega arith)
 
 crossed_by : (p : Parameters) (b a a' : Station) (xs ys : List Packet) {move : Move} → Moves p b xs a move a' ys → (length xs ≤ length ys) × (length ys ≤ suc (length xs)) × (length ys ≡ suc (length xs) → SameHanded a.state a'.state)
 crossed_by p b a a' xs ys (makes x why e' ch res chk bs mk sp rec) = (let z = length_push xs (record { channel = ch; side = a.state.side; payload = bs }) in (omega arith, omega arith, λ h. (made_more p a.state x a.clock why e' mk).same))

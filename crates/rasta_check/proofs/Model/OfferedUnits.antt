@@ -50,12 +50,8 @@ pub record Valued (e : EndState) : Type 0 where
 -- What is owed.
 
 pub rest_due : (u v n : ℕ) (os : List Owed) → DueRest v n os → Due u v n os
-rest_due u v n [] h = h
-rest_due u v n (OweConnectionResponse ∷ os) h = h
-rest_due u v n (OweFirstHeartbeat ∷ os) h = h
-rest_due u v n (OweRetransmissionRequest ∷ os) h = h
-rest_due u v n (OweResend k ∷ os) h = h
 rest_due u v n (OweRetransmissionResponse ∷ os) h = absurd h
+rest_due u v n _ h = h
 
 pub due_le : (v n : ℕ) (os : List Owed) → DueRest v n os → v ≤ n
 due_le v n [] h = omega arith

@@ -135,16 +135,9 @@ data Carries (row : MakeRow) (k : Kind) : Type 0 where
   once_more : (j : ℕ) → row ≡ Resends j → k ≡ RetransmittedData → Carries row k
 
 carries_by : (s : Side) (ph : Phase) (why : Why) (k : Kind) (os : List Owed) (row : MakeRow) → Making s ph why k os row → Carries row k
-carries_by s ph why k os row opening = neither refl (λ n. refl) (λ n. refl)
-carries_by s ph why k os row response = neither refl (λ n. refl) (λ n. refl)
-carries_by s ph why k os row first_beat = neither refl (λ n. refl) (λ n. refl)
-carries_by s ph why k os row (answer r) = neither refl (λ n. refl) (λ n. refl)
 carries_by s ph why k os row (again {k = j} r) = once_more j refl refl
-carries_by s ph why k os row (ask r) = neither refl (λ n. refl) (λ n. refl)
-carries_by s ph why k os row (beat r) = neither refl (λ n. refl) (λ n. refl)
 carries_by s ph why k os row (fresh r) = anew refl refl
-carries_by s ph why k os row (bye r) = neither refl (λ n. refl) (λ n. refl)
-carries_by s ph why k os row (expired r) = neither refl (λ n. refl) (λ n. refl)
+carries_by s ph why k os row _ = neither refl (λ n. refl) (λ n. refl)
 
 contents_push : (ms : List Made) (m : Made) → contents (ms ++ m ∷ []) ≡ contents ms ++ contents (m ∷ [])
 contents_push ms m =

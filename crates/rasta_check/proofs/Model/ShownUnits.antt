@@ -60,15 +60,9 @@ judged_after e k i a c =
 first_word : (s : Side) (ph : Phase) (why : Why) (k : Kind) (os : List Owed) (row : MakeRow) → Making s ph why k os row
     → is_closed (phase_after row ph) ≡ false → (is_named k ≡ true → ⊥) → is_kind ConnectionRequest k ≡ true
 first_word s ph why k os row opening c named = refl
-first_word s ph why k os row response c named = absurd (named refl)
-first_word s ph why k os row first_beat c named = absurd (named refl)
-first_word s ph why k os row (answer r) c named = absurd (named refl)
-first_word s ph why k os row (again r) c named = absurd (named refl)
-first_word s ph why k os row (ask r) c named = absurd (named refl)
-first_word s ph why k os row (beat r) c named = absurd (named refl)
-first_word s ph why k os row (fresh r) c named = absurd (named refl)
 first_word s ph why k os row (bye r) c named = absurd (cc)
 first_word s ph why k os row (expired r) c named = absurd (cc)
+first_word s ph why k os row _ c named = absurd (named refl)
 
 module _ (p : Parameters) (e f : EndState) (x : SafetyPdu) (clock : ℕ) (why : Why) (t : ℕ) (pass : Passed p e x clock why) (h : Held e t f.made) (fnum : OnceIn f.made) (vf : Valued f) (hd : Handed e f) (w : Shown e f) (b : MadeBy e x why) where
   abbrev new : Made
@@ -137,16 +131,8 @@ shown_make p e f x clock why t pass h fnum vf hd w =
 -- The peer makes.
 
 offers_by : (s : Side) (ph : Phase) (why : Why) (k : Kind) (os : List Owed) (row : MakeRow) (n : ℕ) → Making s ph why k os row → 0 < offered_after row n → (0 < n) ⊎ (is_connected ph ≡ true)
-offers_by s ph why k os row n opening l = inl l
-offers_by s ph why k os row n response l = inl l
-offers_by s ph why k os row n first_beat l = inl l
-offers_by s ph why k os row n (answer r) l = inl l
-offers_by s ph why k os row n (again r) l = inl l
-offers_by s ph why k os row n (ask r) l = inl l
-offers_by s ph why k os row n (beat r) l = inl l
 offers_by s ph why k os row n (fresh r) l = inr r
-offers_by s ph why k os row n (bye r) l = inl l
-offers_by s ph why k os row n (expired r) l = inl l
+offers_by s ph why k os row n _ l = inl l
 
 module _ (e f : EndState) (x : SafetyPdu) (clock : ℕ) (why : Why) (b : MadeBy f x why) (vf' : Valued (after_make_by (Some b.row) f x clock))
     (fnum' : OnceIn (f.made ++ new_made b.row f x ∷ [])) (w : Shown e f) where
@@ -277,14 +263,10 @@ module _ (q : Parameters) (e f : EndState) (t : ℕ) (m : Made) (p : ℕ) (h : H
   run_by Answered x r = by_name (ap is_named x.2)
   run_by FirstHeartbeat x r = by_name (ap is_named x.2)
   run_by InSequence x r = by_name (fresh_named m.pdu.kind x.1)
-  run_by ResentInSequence x r = by_name (ap is_named x.1)
   run_by Gap x r = w.ready_run (ap is_connected x.0)
   run_by GapInRetransmission x r = w.ready_run (ap is_connected x.0)
-  run_by Resumed x r = by_name (ap is_named x.1)
-  run_by Requested x r = by_name (ap is_named x.1)
-  run_by RequestedAhead x r = by_name (ap is_named x.1)
-  run_by RequestedAgain x r = by_name (ap is_named x.1)
   run_by Disconnected x r = absurd (cc)
+  run_by _ x r = by_name (ap is_named x.1)
 
   run_by_option : (o : Option TakeRow) → take_row q f m.pdu ≡ o → is_connected (effect_by q o f m.pdu).phase ≡ true → 0 < e.accepted
   run_by_option None is r = w.ready_run r

@@ -372,10 +372,7 @@ kept_front : (p : Parameters) (s r : Side) (xs ys : List Packet) (a a' b : Stati
     → slice_get g.own j ≡ Some d → slice_get (both_kept p s r xs ys a a' b apart m g).own j ≡ Some d
 unfolding both_kept copy
 kept_front p s r xs ys a a' b apart (makes x why e' ch res chk bs mk sp rec) g j d at = get_front g.own _ j d at
-kept_front p s r xs ys a a' b apart (repeats place ch old there sd rec) g j d at = at
-kept_front p s r xs ys a a' b apart (arrives q low i) g j d at = at
-kept_front p s r xs ys a a' b apart (takes q m e' c i t tk) g j d at = at
-kept_front p s r xs ys a a' b apart (waits c i) g j d at = at
+kept_front p s r xs ys a a' b apart _ g j d at = at
 
 same_peer : (p : Parameters) (s r : Side) (xs ys : List Packet) (a a' b : Station) (apart : s ≡ r → ⊥) {move : Move} (m : Moves p b xs a move a' ys) (g : Both p s r xs a b) → (both_kept p s r xs ys a a' b apart m g).peer ≡ g.peer
 unfolding both_kept
