@@ -250,9 +250,13 @@ fn read_channels(alloc: Global, values: &[Value]) -> Result<Vec<Channel>, Fault>
 {
     let mut channels = Vec::new(alloc);
     for value in values {
-        let channel = channel_in_value(value)?;
-        if channels.push(channel).is_err() {
-            return Err(Fault::at(Fault::NO_MEMORY, 0));
+        match channel_in_value(value) {
+            Ok(channel) => {
+                if channels.push(channel).is_err() {
+                    return Err(Fault::at(Fault::NO_MEMORY, 0));
+                }
+            }
+            Err(fault) => return Err(fault),
         }
     }
     Ok(channels)
