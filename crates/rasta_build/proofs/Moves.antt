@@ -13,8 +13,7 @@ use Rattle.rasta_end.specs.Starts.{start_by, start_of}
 use Rattle.rasta_end.specs.MakeRule.{has_ended, after_make}
 use Rattle.rasta_end.proofs.MakeTests.{no_fault}
 use Rattle.rasta_check.specs.Capture.Crossing.{FirstCopy, Spells}
-use Rattle.rasta_check.specs.Model.World.{Station, Move, Moves, makes, repeats, arrives, takes, waits}
-use Rattle.rasta_check.specs.Model.Theorem.{other_side}
+use Rattle.rasta_check.specs.Model.World.{Station, Move, Moves, makes, repeats, arrives, takes, waits, other_side}
 use Rattle.rasta_check.proofs.Capture.FaultlessLists.{IsSent}
 use Rattle.rasta_check.proofs.Model.Steps.{base, base_small, made_more}
 use Rattle.rasta_check.proofs.Model.TakeRows.{take_made}

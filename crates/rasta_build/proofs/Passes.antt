@@ -14,7 +14,7 @@ use Rattle.rasta_pdu.specs.Params.{Parameters, AreParameters}
 use Rattle.rasta_cert.specs.Certificate.{Scripts, most_entries}
 use Rattle.rasta_check.specs.Capture.Crossing.{FirstCopy, Sent}
 use Rattle.rasta_check.specs.Model.Theorem.{OfConnection}
-use Rattle.rasta_check.specs.Model.World.{Station, World, Move, Moves, makes, repeats, arrives, takes, waits, Step, client_moves, server_moves, Reaches, begins, goes_on, first_world, IsWithin}
+use Rattle.rasta_check.specs.Model.World.{Station, World, Move, Moves, makes, repeats, arrives, takes, waits, Step, side_moves, end_of, Reaches, begins, goes_on, first_world, IsWithin}
 use Rattle.rasta_check.proofs.Capture.FaultlessLists.{IsSent}
 use Rattle.rasta_check.proofs.Capture.ListForms.{to_record}
 use Rattle.rasta_check.proofs.Capture.FirstCopies.{sent_once, sent_none}
@@ -50,15 +50,15 @@ move_on p b a a' xs ys (takes q m e' c i s t) = (let l = take_leaves p a.state m
 move_on p b a a' xs ys (waits c i) = ([], sym (append-nil xs), omega arith)
 
 onward : (p : Parameters) (v w : World) → Step p v w → Onward v w
-onward p v w (client_moves {a = a} {after = ys} m) = (let h = move_on p v.server v.client a v.crossed ys m in record { tail = h.0; crossed = h.1; client = h.2; server = omega arith })
-onward p v w (server_moves {a = a} {after = ys} m) = (let h = move_on p v.client v.server a v.crossed ys m in record { tail = h.0; crossed = h.1; client = omega arith; server = h.2 })
+onward p v w (side_moves {a = a} {after = ys} Client m) = (let h = move_on p v.server v.client a v.crossed ys m in record { tail = h.0; crossed = h.1; client = h.2; server = omega arith })
+onward p v w (side_moves {a = a} {after = ys} Server m) = (let h = move_on p v.client v.server a v.crossed ys m in record { tail = h.0; crossed = h.1; client = omega arith; server = h.2 })
 
 -- the clocks of both ends are within the limit
 abbrev Clocks : World → Type 0
 Clocks w = (w.client.state.clock < 2 ^ 64) × (w.server.state.clock < 2 ^ 64)
 
-within_before : (p : Parameters) (v w : World) → Step p v w → IsWithin p w → IsWithin p v
-within_before p v w st b = (let s = stepped p v w st in let x = s.client_made in let y = s.server_made in let c = b.client in let d = b.server in record { client = omega (arith, x, c); server = omega (arith, y, d) })
+within_before : (p : Parameters) (v w : World) → Step p v w → IsWithin p w → (side : Side) → length (end_of v side).made ≤ (start_of p side).base + 1000000
+within_before p v w st b side = (let x = ((stepped p v w st).ends side).longer in let y = b side in omega (arith, x, y))
 
 clocks_before : (p : Parameters) (v w : World) → Step p v w → Clocks w → Clocks v
 clocks_before p v w st c = (let o = onward p v w st in let x = o.client in let y = o.server in let z = c.0 in let u = c.1 in (omega (arith, x, z), omega (arith, y, u)))
@@ -76,8 +76,8 @@ module _ (p : Parameters) (valid : AreParameters p) (packets : List Packet) (c s
   simulated ws w (begins m n) rest e b k =
       let g = told p valid [] (first_world p m n) (begins m n) in
       let few = few_made p (first_world p m n) b in
-      let mine : g.own ≡ [] = sent_once p [] Client g.own [] g.sends.sent (sent_none p Client valid) (few_list p Client [] g.own w.client g.sends few.0) in
-      let theirs : g.peer ≡ [] = sent_once p [] Server g.peer [] g.their_sends.sent (sent_none p Server valid) (few_list p Server [] g.peer w.server g.their_sends few.1) in
+      let mine : g.own ≡ [] = sent_once p [] Client g.own [] g.sends.sent (sent_none p Client valid) (few_list p Client [] g.own w.client g.sends (few Client)) in
+      let theirs : g.peer ≡ [] = sent_once p [] Server g.peer [] g.their_sends.sent (sent_none p Server valid) (few_list p Server [] g.peer w.server g.their_sends (few Server)) in
       let start : Keeps p c s [] [] (first_world p m n) = record {
         pass = first_pass p;
         done = refl;
@@ -96,9 +96,9 @@ module _ (p : Parameters) (valid : AreParameters p) (packets : List Packet) (c s
       let gw = told p valid (us ++ v ∷ []) w (goes_on r st) in
       let fv = few_made p v bv in
       let fw = few_made p w b in
-      step_keeps p valid c s v w st gv gw (all_held p us v r bv) (all_held p (us ++ v ∷ []) w (goes_on r st) b) bv b k
-      (begun Client c gv.own v v.client (o.tail ++ rest) hc ev gv.sends fv.0) (begun Server s gv.peer v v.server (o.tail ++ rest) hs ev gv.their_sends fv.1)
-      (begun Client c gw.own w w.client rest hc e gw.sends fw.0) (begun Server s gw.peer w w.server rest hs e gw.their_sends fw.1)
+      step_keeps p valid c s v w st gv gw (all_held p us v Client r bv) (all_held p (us ++ v ∷ []) w Client (goes_on r st) b) bv b k
+      (begun Client c gv.own v v.client (o.tail ++ rest) hc ev gv.sends (fv Client)) (begun Server s gv.peer v v.server (o.tail ++ rest) hs ev gv.their_sends (fv Server))
+      (begun Client c gw.own w w.client rest hc e gw.sends (fw Client)) (begun Server s gw.peer w w.server rest hs e gw.their_sends (fw Server))
       (simulated us v r (o.tail ++ rest) ev bv kv)
 
   few_sent : (side : Side) (xs : List Packet) (big own : List FirstCopy) (a : Station) → Sends p side xs own a.state a.first_number → own ≡ big → length a.state.made ≤ (start_of p side).base + 1000000 → length big ≤ 1000000
@@ -111,14 +111,14 @@ module _ (p : Parameters) (valid : AreParameters p) (packets : List Packet) (c s
       let g = told p valid ws w r in
       let few = few_made p w b in
       let h = simulated ws w r [] (sym e ∙ sym (append-nil w.crossed)) b k in
-      let same_c : g.own ≡ c = sent_once p w.crossed Client g.own c g.sends.sent (subst (λ (x : List Packet). IsSent p x Client c) (sym e) hc) (few_list p Client w.crossed g.own w.client g.sends few.0) in
-      let same_s : g.peer ≡ s = sent_once p w.crossed Server g.peer s g.their_sends.sent (subst (λ (x : List Packet). IsSent p x Server s) (sym e) hs) (few_list p Server w.crossed g.peer w.server g.their_sends few.1) in (
+      let same_c : g.own ≡ c = sent_once p w.crossed Client g.own c g.sends.sent (subst (λ (x : List Packet). IsSent p x Client c) (sym e) hc) (few_list p Client w.crossed g.own w.client g.sends (few Client)) in
+      let same_s : g.peer ≡ s = sent_once p w.crossed Server g.peer s g.their_sends.sent (subst (λ (x : List Packet). IsSent p x Server s) (sym e) hs) (few_list p Server w.crossed g.peer w.server g.their_sends (few Server)) in (
         h.pass,
         ap (λ (o : List FirstCopy). passes p c s (length o + length s)) (sym same_c) ∙ (ap (λ (q : List FirstCopy). passes p c s (length g.own + length q)) (sym same_s) ∙ h.done),
         h.made ∙ ap (λ (o : List FirstCopy). length o) same_c,
         h.answered ∙ ap (λ (o : List FirstCopy). length o) same_s,
-        few_sent Client w.crossed c g.own w.client g.sends same_c b.client,
-        few_sent Server w.crossed s g.peer w.server g.their_sends same_s b.server,
+        few_sent Client w.crossed c g.own w.client g.sends same_c (b Client),
+        few_sent Server w.crossed s g.peer w.server g.their_sends same_s (b Server),
       )
 
 -- ---- earlier worlds
@@ -262,8 +262,8 @@ module _ (p : Parameters) (valid : AreParameters p) (packets : List Packet) (c s
       let few = few_made p u b in
       let h = simulated p valid packets c s hc hs us u r rest e b k in
       let m : ℕ = length g.own + length g.peer in
-      let bc = begun p valid packets c s hc hs Client c g.own u u.client rest hc e g.sends few.0 in
-      let bs = begun p valid packets c s hc hs Server s g.peer u u.server rest hs e g.their_sends few.1 in
+      let bc = begun p valid packets c s hc hs Client c g.own u u.client rest hc e g.sends (few Client) in
+      let bs = begun p valid packets c s hc hs Server s g.peer u u.server rest hs e g.their_sends (few Server) in
       let wrong : passes p c s (suc f.k) ≡ Err place = ap (λ (z : Result Pass ℕ). pass_on z (one_more c s)) f.before ∙ f.here in
       elim (dec_lt f.k m) [
         | yes y ↦ (let z : (m - suc f.k) + suc f.k ≡ m = omega arith in

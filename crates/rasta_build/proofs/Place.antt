@@ -275,7 +275,7 @@ module _ (p : Parameters) (valid : AreParameters p) (packets : List Packet) (c s
       let r = simulated p front kc.0 ks.0 t.own.script t.other.script rc.at.state rs.at.state (recorded_front p front (drop q packets) packets whole recorded) kc.1 ks.1 fits_c fits_s in
       let few_c = fr.most in
       let few_s = fr.their_most in
-      let kn = known p r.0 r.1 kc.0 ks.0 r.2 (subst (λ (k : List Packet). IsSent p k Client kc.0) (sym r.3) kc.1) (subst (λ (k : List Packet). IsSent p k Server ks.0) (sym r.3) ks.1)
+      let kn = known p r.0 r.1 Client kc.0 ks.0 r.2 (subst (λ (k : List Packet). IsSent p k Client kc.0) (sym r.3) kc.1) (subst (λ (k : List Packet). IsSent p k Server ks.0) (sym r.3) ks.1)
       (omega (arith, mc, few_c, lc)) (omega (arith, ms, few_s, ls)) in
       let length_all = ap (λ (k : List Packet). length k) r.3 in
       let clock_c = leads_clock p (length packets) c s (at_start (start_of p Client)) rc.at t.own.script rc.leads rc.entries (start_clock p.slack p.quiet valid.quiet Client) in

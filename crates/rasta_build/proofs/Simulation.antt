@@ -6,7 +6,7 @@ use Rattle.rasta_pcap.specs.declared.fault.Side.TheVariants.{Client, Server}
 use Rattle.rasta_udp.specs.Frame.{Packet}
 use Rattle.rasta_pdu.specs.Params.{Parameters, AreParameters}
 use Rattle.rasta_check.specs.Capture.Crossing.{FirstCopy}
-use Rattle.rasta_check.specs.Model.World.{Station, World, Step, client_moves, server_moves, IsWithin}
+use Rattle.rasta_check.specs.Model.World.{Station, World, Step, side_moves, IsWithin}
 use Rattle.rasta_check.proofs.Model.ListGrowth.{get_push}
 use Rattle.rasta_check.proofs.Capture.FaultlessLists.{IsSent}
 use Rattle.rasta_check.proofs.Capture.FirstCopies.{sent_once}
@@ -60,8 +60,8 @@ stands_client p w h b g = (let few = few_made p w b in record {
   held = h.mine;
   their_held = h.theirs;
   values = h.values;
-  few = few.0;
-  their_few = few.1;
+  few = few Client;
+  their_few = few Server;
 })
 
 stands_server : (p : Parameters) (w : World) → All w.client w.server → IsWithin p w → (g : Both p Client Server w.crossed w.client w.server) → Stands p Server Client w.crossed w.server w.client g.peer g.own
@@ -73,8 +73,8 @@ stands_server p w h b g = (let few = few_made p w b in record {
   held = h.theirs;
   their_held = h.mine;
   values = h.their_values;
-  few = few.1;
-  their_few = few.0;
+  few = few Server;
+  their_few = few Client;
 })
 
 pub few_list : (p : Parameters) (s : Side) (xs : List Packet) (own : List FirstCopy) (w : Station) → Sends p s xs own w.state w.first_number → length w.state.made ≤ 1000001 → length own < 4294967296
@@ -87,8 +87,8 @@ module _ (p : Parameters) (valid : AreParameters p) (c s : List FirstCopy) (v w 
   same_lists : (own peer : List FirstCopy) → IsSent p w.crossed Client own → IsSent p w.crossed Server peer → (gw.own ≡ own) × (gw.peer ≡ peer)
   same_lists own peer ho hp =
       let few = few_made p w bw in (
-        sent_once p w.crossed Client gw.own own gw.sends.sent ho (few_list p Client w.crossed gw.own w.client gw.sends few.0),
-        sent_once p w.crossed Server gw.peer peer gw.their_sends.sent hp (few_list p Server w.crossed gw.peer w.server gw.their_sends few.1),
+        sent_once p w.crossed Client gw.own own gw.sends.sent ho (few_list p Client w.crossed gw.own w.client gw.sends (few Client)),
+        sent_once p w.crossed Server gw.peer peer gw.their_sends.sent hp (few_list p Server w.crossed gw.peer w.server gw.their_sends (few Server)),
       )
 
   moved_lists : (own peer : List FirstCopy) → (gw.own ≡ own) × (gw.peer ≡ peer) → Keeps p c s own peer w → Keeps p c s gw.own gw.peer w
@@ -174,17 +174,17 @@ module _ (p : Parameters) (valid : AreParameters p) (c s : List FirstCopy) (v w 
 pub step_keeps : (p : Parameters) (valid : AreParameters p) (c s : List FirstCopy) (v w : World) → Step p v w → (gv : Both p Client Server v.crossed v.client v.server) (gw : Both p Client Server w.crossed w.client w.server)
     → All v.client v.server → All w.client w.server → IsWithin p v → IsWithin p w → (w.client.state.clock < 2 ^ 64) × (w.server.state.clock < 2 ^ 64)
     → Begins c gv.own (length v.crossed) → Begins s gv.peer (length v.crossed) → Begins c gw.own (length w.crossed) → Begins s gw.peer (length w.crossed) → Keeps p c s gv.own gv.peer v → Keeps p c s gw.own gw.peer w
-step_keeps p valid c s v w (client_moves {a = a} {after = ys} m) gv gw hv hw bv bw clocks cv sv cw sw k =
+step_keeps p valid c s v w (side_moves {a = a} {after = ys} Client m) gv gw hv hw bv bw clocks cv sv cw sw k =
     let few = few_made p w bw in
     let st = stands_client p v hv bv gv in
     ⊎_elim
     (λ (y : Stays p Client Server ys a v.server gv.own gv.peer c s k.pass.own k.pass.other). client_stays p valid c s v w gv gw hv hw bv bw clocks cv sv cw sw k refl y)
     (λ (y : MadeOne p Client Server v.crossed ys a v.server gv.own gv.peer c s k.pass.own k.pass.other). client_made p valid c s v w gv gw hv hw bv bw clocks cv sv cw sw k refl y)
-    (moved p Client Server v.crossed ys v.client a v.server gv.own gv.peer c s k.pass.own k.pass.other valid refl (λ e. cc (e)) m st few.0 hw.values clocks.0 sv k.client k.server)
-step_keeps p valid c s v w (server_moves {a = a} {after = ys} m) gv gw hv hw bv bw clocks cv sv cw sw k =
+    (moved p Client Server v.crossed ys v.client a v.server gv.own gv.peer c s k.pass.own k.pass.other valid refl (λ e. cc (e)) m st (few Client) hw.values clocks.0 sv k.client k.server)
+step_keeps p valid c s v w (side_moves {a = a} {after = ys} Server m) gv gw hv hw bv bw clocks cv sv cw sw k =
     let few = few_made p w bw in
     let st = stands_server p v hv bv gv in
     ⊎_elim
     (λ (y : Stays p Server Client ys a v.client gv.peer gv.own s c k.pass.other k.pass.own). server_stays p valid c s v w gv gw hv hw bv bw clocks cv sv cw sw k refl y)
     (λ (y : MadeOne p Server Client v.crossed ys a v.client gv.peer gv.own s c k.pass.other k.pass.own). server_made p valid c s v w gv gw hv hw bv bw clocks cv sv cw sw k refl y)
-    (moved p Server Client v.crossed ys v.server a v.client gv.peer gv.own s c k.pass.other k.pass.own valid refl (λ e. cc (e)) m st few.1 hw.their_values clocks.1 cv k.server k.client)
+    (moved p Server Client v.crossed ys v.server a v.client gv.peer gv.own s c k.pass.other k.pass.own valid refl (λ e. cc (e)) m st (few Server) hw.their_values clocks.1 cv k.server k.client)

@@ -1,14 +1,15 @@
 -- What completeness asks of an answer, tried on one that gives up, and on two that name a place.
-use Rattle.std.proofs.Common.{◌≡◌, ℕ, ◌<◌, ◌≤◌, List, [], length, Err, None, refl, ap, arith}
+use Rattle.std.proofs.Common.{◌≡◌, ℕ, ◌+◌, ◌<◌, ◌≤◌, List, [], length, Err, None, refl, ap, arith}
 use Rattle.rasta_pcap.specs.Fault.{fault_at, no_memory, not_found}
 use Rattle.rasta_pcap.specs.declared.fault.Fault.{Fault}
 use Rattle.rasta_pcap.specs.declared.fault.Side.{Side}
 use Rattle.rasta_pcap.specs.declared.fault.Side.TheVariants.{Client, Server}
 use Rattle.rasta_pdu.specs.Params.{Parameters}
 use Rattle.rasta_udp.specs.Frame.{Packet}
+use Rattle.rasta_end.specs.Starts.{start_of}
 use Rattle.rasta_check.specs.Capture.Crossing.{CrossRecorded, FirstCopy, Sent}
 use Rattle.rasta_check.specs.Model.Theorem.{most_packets}
-use Rattle.rasta_check.specs.Model.World.{first_world, begins, most_sent}
+use Rattle.rasta_check.specs.Model.World.{first_world, end_of, begins, most_sent}
 use Rattle.rasta_build.specs.Completeness.{IsBounded, CanCross, IsComplete}
 
 -- where nothing crossed, nothing was sent
@@ -27,10 +28,14 @@ nothing_sent p side = record {
 }
 
 -- the run that sends nothing is within the limits
+starts_few : (p : Parameters) → p.quiet ≡ None → (side : Side) → length (end_of (first_world p 0 0) side).made ≤ (start_of p side).base + most_sent
+starts_few p none Client = rw none (omega arith)
+starts_few p none Server = rw none (omega arith)
+
 starts_within : (p : Parameters) → p.quiet ≡ None → IsBounded p (first_world p 0 0)
 starts_within p none = record {
   packets = omega arith;
-  pdus = record { client = rw none (omega arith); server = rw none (omega arith) };
+  pdus = starts_few p none;
   client_clock = rw none (omega arith);
   server_clock = rw none (omega arith);
 }

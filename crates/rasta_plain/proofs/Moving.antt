@@ -26,7 +26,7 @@ use Rattle.rasta_end.specs.Judged.{JudgedEnd}
 use Rattle.rasta_end.proofs.MakeTests.{no_fault, no_test}
 use Rattle.rasta_check.specs.Capture.Crossing.{Spells}
 use Rattle.rasta_check.specs.Capture.Crossing.{IsRecorded}
-use Rattle.rasta_check.specs.Model.World.{Station, World, Move as Label, making, repeating, arriving, taking, waiting, Moves, makes, repeats, arrives, takes, waits, Step, client_moves, server_moves}
+use Rattle.rasta_check.specs.Model.World.{Station, World, Move as Label, making, repeating, arriving, taking, waiting, Moves, makes, repeats, arrives, takes, waits, Step, station_of, other_side, moved, side_moves}
 use Rattle.rasta_plain.specs.Moving.{IsMove, Answers, JudgedStation, judged_station, IsPlainStation}
 use Rattle.rasta_check.proofs.Model.Acceptance.{accepted_after}
 use Rattle.rasta_check.proofs.Model.TakeRows.{take_leaves}
@@ -316,17 +316,10 @@ module _ {E : Type 0} (p : Parameters) (b : Station) (xs : List Packet) (v w : J
   base_kept (Ok moved) h k = answered_base p b xs v.station move moved w.station ys h
   base_kept (Err e) h k = ap (λ (s : JudgedStation). s.station.state.base) k
 
-module _ (p : Parameters) (w : World) (move : Move) (a : Station) (ys : List Packet) where
-  client_answer : (moved : Bool) → Answers p w.server w.crossed w.client move moved a ys → IsTrue moved → Step p w (record w { client = a; crossed = ys })
-  client_answer true h t = client_moves h.1
-  client_answer false h t = absurd (let e : false ≡ true = t in cc)
+module _ (p : Parameters) (w : World) (side : Side) (move : Move) (a : Station) (ys : List Packet) where
+  answer : (moves : Bool) → Answers p (station_of w (other_side side)) w.crossed (station_of w side) move moves a ys → IsTrue moves → Step p w (moved w side a ys)
+  answer true h t = side_moves side h.1
+  answer false h t = absurd (let e : false ≡ true = t in cc)
 
-  pub client_steps : {E : Type 0} (r : Result Bool E) → IfOk r (λ moved. Answers p w.server w.crossed w.client move moved a ys) → IfOk r (λ moved. IsTrue moved → Step p w (record w { client = a; crossed = ys }))
-  client_steps r h = if_ok r _ _ h client_answer
-
-  server_answer : (moved : Bool) → Answers p w.client w.crossed w.server move moved a ys → IsTrue moved → Step p w (record w { server = a; crossed = ys })
-  server_answer true h t = server_moves h.1
-  server_answer false h t = absurd (let e : false ≡ true = t in cc)
-
-  pub server_steps : {E : Type 0} (r : Result Bool E) → IfOk r (λ moved. Answers p w.client w.crossed w.server move moved a ys) → IfOk r (λ moved. IsTrue moved → Step p w (record w { server = a; crossed = ys }))
-  server_steps r h = if_ok r _ _ h server_answer
+  pub steps : {E : Type 0} (r : Result Bool E) → IfOk r (λ moves. Answers p (station_of w (other_side side)) w.crossed (station_of w side) move moves a ys) → IfOk r (λ moves. IsTrue moves → Step p w (moved w side a ys))
+  steps r h = if_ok r _ _ h answer

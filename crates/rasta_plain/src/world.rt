@@ -7,8 +7,7 @@ ghost use Rattle.rasta_end.specs.TakeRule.{take_fault};
 ghost use Rattle.rasta_end.specs.Starts.{start_of};
 ghost use Rattle.rasta_check.specs.Capture.Crossing.{Spells};
 ghost use Rattle.rasta_check.specs.Capture.Crossing.{IsRecorded};
-ghost use Rattle.rasta_check.specs.Model.World.{Station, Step, first_station, first_world};
-ghost use Rattle.rasta_check.specs.Model.Theorem.{other_side, station_of};
+ghost use Rattle.rasta_check.specs.Model.World.{Station, Step, first_station, first_world, other_side, station_of};
 ghost use Rattle.rasta_plain.specs.Moving.{Answers, IsBelow};
 
 use rasta_end::{End, Why};

@@ -2,11 +2,10 @@
 use Rattle.std.proofs.Common.{◌≡◌, ℕ, ◌+◌, List, [], ◌∷◌, ◌++◌, Option, length, refl, ap, sym, ◌∙◌, arith}
 use Rattle.std.proofs.lemmas.List.{length_push, length-append}
 use Rattle.rasta_pcap.specs.declared.fault.Side.{Side}
-use Rattle.rasta_pcap.specs.declared.fault.Side.TheVariants.{Client, Server}
 use Rattle.rasta_udp.specs.Frame.{Packet}
 use Rattle.rasta_pdu.specs.Params.{Parameters}
 use Rattle.rasta_check.specs.Model.World.{Station, World, Move, Moves, makes, repeats, arrives, takes, waits}
-use Rattle.rasta_runs.specs.Runs.{Happened, Runs, starts, client_does, server_does}
+use Rattle.rasta_runs.specs.Runs.{Happened, Runs, starts, does}
 use Rattle.rasta_runs.specs.Lines.{Line, copy_lines, lines_in, lines_of_move, told}
 use Rattle.rasta_runs.proofs.Moving.{told_push}
 
@@ -25,7 +24,4 @@ one_more hs h e f =
 
 pub one_line_each : (p : Parameters) (happened : List Happened) (w : World) → Runs p happened w → length (told happened) ≡ length happened
 one_line_each p hs w (starts m n) = refl
-one_line_each p hs w (client_does {happened = gs} {w = v} move r d) =
-    one_more gs (record { world = v; side = Client; move = move }) (one_line_each p gs v r) (one_line Client d)
-one_line_each p hs w (server_does {happened = gs} {w = v} move r d) =
-    one_more gs (record { world = v; side = Server; move = move }) (one_line_each p gs v r) (one_line Server d)
+one_line_each p hs w (does {happened = gs} {w = v} side move r d) = one_more gs (record { world = v; side = side; move = move }) (one_line_each p gs v r) (one_line side d)

@@ -6,7 +6,7 @@ use Rattle.rasta_pcap.specs.declared.fault.Side.TheVariants.{Client, Server}
 use Rattle.rasta_udp.specs.Frame.{Packet}
 use Rattle.rasta_pdu.specs.Params.{Parameters}
 use Rattle.rasta_check.specs.Model.World.{Station, Move, Moves}
-use Rattle.rasta_runs.specs.Runs.{Happened, Runs, client_does, server_does}
+use Rattle.rasta_runs.specs.Runs.{Happened, Runs, does}
 use Rattle.rasta_runs.specs.Lines.{Line, lines_of_move, lines_in, told}
 
 -- ---- lists of lines
@@ -33,7 +33,7 @@ pub client_many : {p : Parameters} {b : Station} {xs ys : List Packet} {a a' : S
 client_many hs stays r = (hs, r, sym (append-nil (told hs)))
 client_many {b = b} hs (moves {xs = xs} {a = a} {ls = ls} m d k) r =
     let h : Happened = record { world = record { client = a; server = b; crossed = xs }; side = Client; move = m } in
-    let z = client_many (hs ++ h ∷ []) k (client_does m r d) in
+    let z = client_many (hs ++ h ∷ []) k (does Client m r d) in
     (z.0, z.1, shown_more hs h (lines_of_move Client a b xs m) ls (told z.0) refl z.2)
 
 pub server_many : {p : Parameters} {b : Station} {xs ys : List Packet} {a a' : Station} {ls : List Line} (hs : List Happened) → Many p b Server xs a ls a' ys
@@ -41,7 +41,7 @@ pub server_many : {p : Parameters} {b : Station} {xs ys : List Packet} {a a' : S
 server_many hs stays r = (hs, r, sym (append-nil (told hs)))
 server_many {b = b} hs (moves {xs = xs} {a = a} {ls = ls} m d k) r =
     let h : Happened = record { world = record { client = b; server = a; crossed = xs }; side = Server; move = m } in
-    let z = server_many (hs ++ h ∷ []) k (server_does m r d) in
+    let z = server_many (hs ++ h ∷ []) k (does Server m r d) in
     (z.0, z.1, shown_more hs h (lines_of_move Server a b xs m) ls (told z.0) refl z.2)
 
 pub append_many : {p : Parameters} {b : Station} {s : Side} {xs ys zs : List Packet} {a a' a'' : Station} {ls ms : List Line} → Many p b s xs a ls a' ys → Many p b s ys a' ms a'' zs → Many p b s xs a (ls ++ ms) a'' zs

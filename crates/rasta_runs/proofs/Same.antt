@@ -1,9 +1,8 @@
 -- Runs with what happened in them and runs of two ends go through the same worlds.
 use Rattle.std.proofs.Common.{◌≡◌, List, [], ◌∷◌, ◌++◌, refl, ap, sym, ◌∙◌, subst}
-use Rattle.rasta_pcap.specs.declared.fault.Side.TheVariants.{Client, Server}
 use Rattle.rasta_pdu.specs.Params.{Parameters}
-use Rattle.rasta_check.specs.Model.World.{World, Step, client_moves, server_moves, Reaches, begins, goes_on}
-use Rattle.rasta_runs.specs.Runs.{Happened, Runs, starts, client_does, server_does, worlds_of}
+use Rattle.rasta_check.specs.Model.World.{World, Step, side_moves, moved, Reaches, begins, goes_on}
+use Rattle.rasta_runs.specs.Runs.{Happened, Runs, starts, does, worlds_of}
 
 worlds_push : (hs : List Happened) (h : Happened) → worlds_of (hs ++ h ∷ []) ≡ worlds_of hs ++ h.world ∷ []
 worlds_push [] h = refl
@@ -12,10 +11,8 @@ worlds_push (x ∷ hs) h = ap (λ (ws : List World). x.world ∷ ws) (worlds_pus
 -- what happened leads through its worlds
 pub reaches_of : (p : Parameters) (hs : List Happened) (w : World) → Runs p hs w → Reaches p (worlds_of hs) w
 reaches_of p hs w (starts m n) = begins m n
-reaches_of p hs w (client_does {happened = gs} {w = v} {a = a} {after = ys} move r d) =
-    subst (λ (ws : List World). Reaches p ws (record v { client = a; crossed = ys })) (sym (worlds_push gs (record { world = v; side = Client; move = move }))) (goes_on (reaches_of p gs v r) (client_moves d))
-reaches_of p hs w (server_does {happened = gs} {w = v} {a = a} {after = ys} move r d) =
-    subst (λ (ws : List World). Reaches p ws (record v { server = a; crossed = ys })) (sym (worlds_push gs (record { world = v; side = Server; move = move }))) (goes_on (reaches_of p gs v r) (server_moves d))
+reaches_of p hs w (does {happened = gs} {w = v} {a = a} {after = ys} side move r d) =
+    subst (λ (ws : List World). Reaches p ws (moved v side a ys)) (sym (worlds_push gs (record { world = v; side = side; move = move }))) (goes_on (reaches_of p gs v r) (side_moves side d))
 
 -- and where a run leads through worlds, something happened in each of them
 pub runs_of : (p : Parameters) (ws : List World) (w : World) → Reaches p ws w → (hs : List Happened) × Runs p hs w × (worlds_of hs ≡ ws)
@@ -23,9 +20,6 @@ runs_of p ws w (begins m n) = ([], starts m n, refl)
 runs_of p ws w (goes_on {ws = vs} {w = v} r s) = by s (runs_of p vs v r)
   where
     by : {w' : World} → Step p v w' → ((hs : List Happened) × Runs p hs v × (worlds_of hs ≡ vs)) → (hs : List Happened) × Runs p hs w' × (worlds_of hs ≡ vs ++ v ∷ [])
-    by (client_moves {move = move} m) z =
-        let h : Happened = record { world = v; side = Client; move = move } in
-        (z.0 ++ h ∷ [], client_does move z.1 m, worlds_push z.0 h ∙ ap (λ (us : List World). us ++ v ∷ []) z.2)
-    by (server_moves {move = move} m) z =
-        let h : Happened = record { world = v; side = Server; move = move } in
-        (z.0 ++ h ∷ [], server_does move z.1 m, worlds_push z.0 h ∙ ap (λ (us : List World). us ++ v ∷ []) z.2)
+    by (side_moves {move = move} side m) z =
+        let h : Happened = record { world = v; side = side; move = move } in
+        (z.0 ++ h ∷ [], does side move z.1 m, worlds_push z.0 h ∙ ap (λ (us : List World). us ++ v ∷ []) z.2)

@@ -1,12 +1,11 @@
 -- The lines of a run: one for each move, in order.
 use Rattle.std.specs.Prelude.{ℕ, ◌+◌, List, [], ◌∷◌, ◌++◌, length, Option, Some, None, slice_get}
 use Rattle.rasta_pcap.specs.declared.fault.Side.{Side}
-use Rattle.rasta_pcap.specs.declared.fault.Side.TheVariants.{Client, Server}
 use Rattle.rasta_udp.specs.Frame.{Packet}
 use Rattle.rasta_end.specs.declared.why.Why.{Why}
 use Rattle.rasta_end.specs.State.{wrapped}
 use Rattle.rasta_check.specs.Internals.Packets.{number_in_bytes}
-use Rattle.rasta_check.specs.Model.World.{Station, World, Move, making, repeating, arriving, taking, waiting}
+use Rattle.rasta_check.specs.Model.World.{Station, World, Move, making, repeating, arriving, taking, waiting, station_of, other_side}
 use Rattle.rasta_runs.specs.Runs.{Happened}
 
 -- what a line tells, by redundancy numbers
@@ -44,8 +43,7 @@ lines_of_move side a peer crossed (waiting clock) = record { level = length cros
 
 -- the line of what a side does in a world
 abbrev pub lines_in : World → Side → Move → List Line
-lines_in w Client move = lines_of_move Client w.client w.server w.crossed move
-lines_in w Server move = lines_of_move Server w.server w.client w.crossed move
+lines_in w side move = lines_of_move side (station_of w side) (station_of w (other_side side)) w.crossed move
 
 -- the lines of what happened
 abbrev pub told : List Happened → List Line

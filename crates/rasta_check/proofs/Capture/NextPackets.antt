@@ -5,7 +5,6 @@ use Rattle.std.proofs.lemmas.Option.{slice_get_within}
 use native.Mathlib.Decide.{dec_lt}
 use Prim.{yes, no}
 use Rattle.rasta_pcap.specs.declared.fault.Side.{Side}
-use Rattle.rasta_pcap.specs.declared.fault.Side.TheVariants.{Client, Server}
 use Rattle.rasta_pdu.specs.Params.{Parameters, AreParameters}
 use Rattle.rasta_end.specs.State.{wrapped}
 use Rattle.rasta_pdu.specs.Pdu.{RedundancyPdu}
@@ -16,7 +15,7 @@ use Rattle.rasta_check.proofs.Capture.FaultlessLists.{IsSent}
 use Rattle.rasta_check.proofs.Model.ListGrowth.{get_push_cases, get_front, get_push}
 use Rattle.rasta_check.proofs.Capture.FirstCopies.{sent_copy, sent_first, sent_once, earliest, First, Again, Counts_from}
 use Rattle.rasta_check.proofs.Script.Simulation.{places_rise}
-use Rattle.rasta_check.proofs.Script.ScriptsOfRuns.{told}
+use Rattle.rasta_check.proofs.Script.ScriptsOfRuns.{told_by}
 
 -- it says something, and its number has crossed with the same bytes, or is the next, or is the first
 abbrev pub CanFollow : Parameters → List Packet → Side → List FirstCopy → Packet → Type 0
@@ -191,8 +190,4 @@ grows p xs s own a h sd f = ⊎_elim
     f.2
 
 pub definite : (p : Parameters) (valid : AreParameters p) (ws : List World) (w : World) (xs rest : List Packet) (a : Packet) (own : List FirstCopy) → Reaches p ws w → w.crossed ≡ xs ++ a ∷ rest → IsSent p xs a.side own → length own < 2 ^ 32 → CanFollow p xs a.side own a
-definite p valid ws w xs rest a own r e h l = by a.side refl h
-  where
-    by : (s : Side) → a.side ≡ s → IsSent p xs s own → CanFollow p xs s own a
-    by Client q h = (let g = told p valid ws w r in can_follow p xs rest Client own a h l q g.own (subst (λ zs. IsSent p zs Client g.own) e g.sends.sent))
-    by Server q h = (let g = told p valid ws w r in can_follow p xs rest Server own a h l q g.peer (subst (λ zs. IsSent p zs Server g.peer) e g.their_sends.sent))
+definite p valid ws w xs rest a own r e h l = (let g = told_by p valid ws w a.side r in can_follow p xs rest a.side own a h l refl g.own (subst (λ zs. IsSent p zs a.side g.own) e g.sends.sent))

@@ -13,8 +13,9 @@ use Rattle.rasta_end.specs.declared.take_row.TakeRow.{TakeRow}
 use Rattle.rasta_end.specs.State.{Made, EndState, is_closed}
 use Rattle.rasta_end.specs.MakeRule.{has_ended}
 use Rattle.rasta_end.specs.TakeRule.{is_valid, is_in, is_ahead, effect_by}
+use Rattle.rasta_end.specs.Starts.{start_of}
 use Rattle.rasta_check.specs.Capture.Crossing.{FirstCopy}
-use Rattle.rasta_check.specs.Model.World.{Station, World, Move, Moves, makes, repeats, arrives, takes, waits, Step, client_moves, server_moves, Reaches, begins, goes_on, first_world, IsWithin}
+use Rattle.rasta_check.specs.Model.World.{Station, World, Move, Moves, makes, repeats, arrives, takes, waits, Step, side_moves, station_of, end_of, other_side, Reaches, begins, goes_on, first_world, IsWithin}
 use Rattle.rasta_check.specs.Model.Theorem.{Appends}
 use Rattle.rasta_check.proofs.Model.ListGrowth.{get_push_cases, get_front, get_push}
 use Rattle.rasta_check.proofs.Model.PassedTests.{passed}
@@ -25,7 +26,7 @@ use Rattle.rasta_check.proofs.Model.Counts.{number}
 use Rattle.rasta_check.proofs.Model.ConveyedUnits.{values, values_push}
 use Rattle.rasta_check.proofs.Model.OfferedUnitsAtTake.{values_take}
 use Rattle.rasta_check.proofs.Model.InvariantOfRuns.{All, all_held}
-use Rattle.rasta_check.proofs.Script.ScriptsOfRuns.{Both, Sends, told_first, told_step, step_copies, step_front, sends_count, copy_at}
+use Rattle.rasta_check.proofs.Script.ScriptsOfRuns.{Both, Sends, turn, told_first, told_step, step_copies, step_front, sends_count, copy_at}
 use Rattle.rasta_pdu.specs.Pdu.{is_kind}
 use Rattle.rasta_pdu.specs.declared.kind.Kind.TheVariants.{RetransmissionResponse}
 
@@ -81,86 +82,112 @@ crossed_by p b a a' xs ys (arrives q low i) = (omega arith, omega arith, λ h. r
 crossed_by p b a a' xs ys (takes q m e' c i s t) = (omega arith, omega arith, λ h. absurd (omega arith))
 crossed_by p b a a' xs ys (waits c i) = (omega arith, omega arith, λ h. record { positions = refl; pdus = refl })
 
+-- what a step does to an end: it hands nothing up as a packet crosses, and makes at most one PDU
+pub record EndStep (crossing : Type 0) (e e' : EndState) : Type 0 where
+  pub same : crossing → SameHanded e e'
+  pub longer : length e.made ≤ length e'.made
+  pub most : length e'.made ≤ suc (length e.made)
+
+stands_still : (crossing : Type 0) (e : EndState) → EndStep crossing e e
+stands_still crossing e = record { same = λ h. record { positions = refl; pdus = refl }; longer = omega arith; most = omega arith }
+
 pub record Stepped (v w : World) : Type 0 where
   pub less : length v.crossed ≤ length w.crossed
   pub more : length w.crossed ≤ suc (length v.crossed)
-  pub client : length w.crossed ≡ suc (length v.crossed) → SameHanded v.client.state w.client.state
-  pub server : length w.crossed ≡ suc (length v.crossed) → SameHanded v.server.state w.server.state
-  pub client_made : length v.client.state.made ≤ length w.client.state.made
-  pub server_made : length v.server.state.made ≤ length w.server.state.made
-  pub client_most : length w.client.state.made ≤ suc (length v.client.state.made)
-  pub server_most : length w.server.state.made ≤ suc (length v.server.state.made)
+  pub ends : (side : Side) → EndStep (length w.crossed ≡ suc (length v.crossed)) (end_of v side) (end_of w side)
+
+end_moves : (p : Parameters) (b a a' : Station) (xs ys : List Packet) {move : Move} → Moves p b xs a move a' ys → EndStep (length ys ≡ suc (length xs)) a.state a'.state
+end_moves p b a a' xs ys m = (let n = made_longer p b a a' xs ys m in record { same = (crossed_by p b a a' xs ys m).2; longer = n.0; most = n.1 })
 
 pub stepped : (p : Parameters) (v w : World) → Step p v w → Stepped v w
-stepped p v w (client_moves {a = a} {after = ys} m) =
-    let c = crossed_by p v.server v.client a v.crossed ys m in
-    record { less = c.0; more = c.1; client = c.2; server = λ h. record { positions = refl; pdus = refl }; client_made = (made_longer p v.server v.client a v.crossed ys m).0; server_made = omega arith; client_most = (made_longer p v.server v.client a v.crossed ys m).1; server_most = omega arith }
-stepped p v w (server_moves {a = a} {after = ys} m) =
-    let c = crossed_by p v.client v.server a v.crossed ys m in
-    record { less = c.0; more = c.1; client = λ h. record { positions = refl; pdus = refl }; server = c.2; client_made = omega arith; server_made = (made_longer p v.client v.server a v.crossed ys m).0; client_most = omega arith; server_most = (made_longer p v.client v.server a v.crossed ys m).1 }
+stepped p v w (side_moves {a = a} {after = ys} Client m) = record { less = (crossed_by p v.server v.client a v.crossed ys m).0; more = (crossed_by p v.server v.client a v.crossed ys m).1; ends = ends }
+  where
+    ends : (side : Side) → EndStep (length ys ≡ suc (length v.crossed)) (end_of v side) (end_of w side)
+    ends Client = end_moves p v.server v.client a v.crossed ys m
+    ends Server = stands_still _ v.server.state
+stepped p v w (side_moves {a = a} {after = ys} Server m) = record { less = (crossed_by p v.client v.server a v.crossed ys m).0; more = (crossed_by p v.client v.server a v.crossed ys m).1; ends = ends }
+  where
+    ends : (side : Side) → EndStep (length ys ≡ suc (length v.crossed)) (end_of v side) (end_of w side)
+    ends Client = stands_still _ v.client.state
+    ends Server = end_moves p v.client v.server a v.crossed ys m
 
-grown_step : (p : Parameters) (v w : World) → Step p v w → All v.client v.server → Grown v.client.state w.client.state × Grown v.server.state w.server.state
-grown_step p v w (client_moves {a = a} {after = ys} m) g = (grown_move p v.server v.client a v.crossed ys m g.mine.asked, same_grown v.server.state)
-grown_step p v w (server_moves {a = a} {after = ys} m) g = (same_grown v.client.state, grown_move p v.client v.server a v.crossed ys m g.theirs.asked)
+grown_step : (p : Parameters) (v w : World) → Step p v w → All v.client v.server → (side : Side) → Grown (end_of v side) (end_of w side)
+grown_step p v w (side_moves {a = a} {after = ys} Client m) g Client = grown_move p v.server v.client a v.crossed ys m g.mine.asked
+grown_step p v w (side_moves {a = a} {after = ys} Client m) g Server = same_grown v.server.state
+grown_step p v w (side_moves {a = a} {after = ys} Server m) g Client = same_grown v.client.state
+grown_step p v w (side_moves {a = a} {after = ys} Server m) g Server = grown_move p v.client v.server a v.crossed ys m g.theirs.asked
+
+-- of the copies of a list, these are those that had crossed
+pub record HadCrossed (packets : ℕ) (list copies : List FirstCopy) : Type 0 where
+  pub kept : (j : ℕ) (d : FirstCopy) → slice_get list j ≡ Some d → d.place < packets → slice_get copies j ≡ Some d
+  pub listed : (j : ℕ) (d : FirstCopy) → slice_get copies j ≡ Some d → slice_get list j ≡ Some d
 
 -- an earlier world of the run
-pub record After (p : Parameters) (v w : World) (own peer : List FirstCopy) : Type 0 where
+pub record After (p : Parameters) (v w : World) (side : Side) (own peer : List FirstCopy) : Type 0 where
   pub us : List World
   pub reached : Reaches p us v
   pub few : IsWithin p v
-  pub client : Grown v.client.state w.client.state
-  pub server : Grown v.server.state w.server.state
+  pub grown : (s : Side) → Grown (end_of v s) (end_of w s)
   pub less : length v.crossed ≤ length w.crossed
-  pub told : Both p Client Server v.crossed v.client v.server
-  pub own_copies : (j : ℕ) (d : FirstCopy) → slice_get own j ≡ Some d → d.place < length v.crossed → slice_get told.own j ≡ Some d
-  pub peer_copies : (j : ℕ) (d : FirstCopy) → slice_get peer j ≡ Some d → d.place < length v.crossed → slice_get told.peer j ≡ Some d
-  pub own_front : (j : ℕ) (d : FirstCopy) → slice_get told.own j ≡ Some d → slice_get own j ≡ Some d
-  pub peer_front : (j : ℕ) (d : FirstCopy) → slice_get told.peer j ≡ Some d → slice_get peer j ≡ Some d
+  pub told : Both p side (other_side side) v.crossed (station_of v side) (station_of v (other_side side))
+  pub mine : HadCrossed (length v.crossed) own told.own
+  pub theirs : HadCrossed (length v.crossed) peer told.peer
 
-after_itself : (p : Parameters) (ws : List World) (w : World) → Reaches p ws w → IsWithin p w → (g : Both p Client Server w.crossed w.client w.server) → After p w w g.own g.peer
-after_itself p ws w r b g = record { us = ws; reached = r; few = b; client = same_grown _; server = same_grown _; less = omega arith; told = g; own_copies = λ j d h l. h; peer_copies = λ j d h l. h; own_front = λ j d h. h; peer_front = λ j d h. h }
+-- what is said of each earlier world
+abbrev History : Parameters → List World → World → Type 0
+History p ws w = (g : Both p Client Server w.crossed w.client w.server) × ((i : ℕ) (v : World) → slice_get (ws ++ w ∷ []) i ≡ Some v → After p v w Client g.own g.peer)
 
-pub history : (p : Parameters) (valid : AreParameters p) (ws : List World) (w : World) → Reaches p ws w → IsWithin p w
-    → (g : Both p Client Server w.crossed w.client w.server) × ((i : ℕ) (v : World) → slice_get (ws ++ w ∷ []) i ≡ Some v → After p v w g.own g.peer)
-history p valid ws w (begins m n) b = (told_first p m n valid, λ i v g. only i v g)
+after_itself : (p : Parameters) (ws : List World) (w : World) → Reaches p ws w → IsWithin p w → (g : Both p Client Server w.crossed w.client w.server) → After p w w Client g.own g.peer
+after_itself p ws w r b g =
+    let all : (list : List FirstCopy) → HadCrossed (length w.crossed) list list = λ list. record { kept = λ j d h l. h; listed = λ j d h. h } in
+    record { us = ws; reached = r; few = b; grown = λ side. same_grown (end_of w side); less = omega arith; told = g; mine = all g.own; theirs = all g.peer }
+
+of_both : (p : Parameters) (valid : AreParameters p) (ws : List World) (w : World) → Reaches p ws w → IsWithin p w → History p ws w
+of_both p valid ws w (begins m n) b = (told_first p m n valid, λ i v g. only i v g)
   where
-    only : (i : ℕ) (v : World) → slice_get (first_world p m n ∷ []) i ≡ Some v → After p v (first_world p m n) (told_first p m n valid).own (told_first p m n valid).peer
-    only zero v g = subst (λ (z : World). After p z (first_world p m n) (told_first p m n valid).own (told_first p m n valid).peer) (let e : first_world p m n ≡ v = cc in e) (after_itself p [] (first_world p m n) (begins m n) b (told_first p m n valid))
+    only : (i : ℕ) (v : World) → slice_get (first_world p m n ∷ []) i ≡ Some v → After p v (first_world p m n) Client (told_first p m n valid).own (told_first p m n valid).peer
+    only zero v g = subst (λ (z : World). After p z (first_world p m n) Client (told_first p m n valid).own (told_first p m n valid).peer) (let e : first_world p m n ≡ v = cc in e) (after_itself p [] (first_world p m n) (begins m n) b (told_first p m n valid))
     only (suc i) v g = absurd (cc)
-history p valid ws w (goes_on {ws = us} {w = u} r st) b = step (history p valid us u r few)
+of_both p valid ws w (goes_on {ws = us} {w = u} r st) b = step (of_both p valid us u r few)
   where
     sd : Stepped u w
     sd = stepped p u w st
 
-    few : IsWithin p u
-    few = (let s = stepped p u w st in record { client = (let z = s.client_made in let y = b.client in omega arith); server = (let z = s.server_made in let y = b.server in omega arith) })
+    few : (side : Side) → length (end_of u side).made ≤ (start_of p side).base + 1000000
+    few side = (let z = (sd.ends side).longer in let y = b side in omega arith)
 
-    step : ((g : Both p Client Server u.crossed u.client u.server) × ((i : ℕ) (v : World) → slice_get (us ++ u ∷ []) i ≡ Some v → After p v u g.own g.peer))
-        → (g : Both p Client Server w.crossed w.client w.server) × ((i : ℕ) (v : World) → slice_get ((us ++ u ∷ []) ++ w ∷ []) i ≡ Some v → After p v w g.own g.peer)
+    step : History p us u → History p (us ++ u ∷ []) w
     step h =
         let g = told_step p u w st h.0 in
         let cp = step_copies p u w st h.0 in
         let fr = step_front p u w st h.0 in
-        let gr = grown_step p u w st (all_held p us u r few) in
-        let l = (stepped p u w st).less in (
+        let gr = grown_step p u w st (all_held p us u Client r few) in
+        let l = sd.less in (
           g,
           λ i v x. ⊎_elim
               (λ (old : slice_get (us ++ u ∷ []) i ≡ Some v). (let k = h.1 i v old in record {
                 us = k.us;
                 reached = k.reached;
                 few = k.few;
-                client = both_grown v.client.state u.client.state w.client.state k.client gr.0;
-                server = both_grown v.server.state u.server.state w.server.state k.server gr.1;
+                grown = λ side. both_grown (end_of v side) (end_of u side) (end_of w side) (k.grown side) (gr side);
                 less = (let z = k.less in omega arith);
                 told = k.told;
-                own_copies = λ j d y z. k.own_copies j d (cp.0 j d y (let q = k.less in omega arith)) z;
-                peer_copies = λ j d y z. k.peer_copies j d (cp.1 j d y (let q = k.less in omega arith)) z;
-                own_front = λ j d y. fr.0 j d (k.own_front j d y);
-                peer_front = λ j d y. fr.1 j d (k.peer_front j d y);
+                mine = record { kept = λ j d y z. k.mine.kept j d (cp.0 j d y (let q = k.less in omega arith)) z; listed = λ j d y. fr.0 j d (k.mine.listed j d y) };
+                theirs = record { kept = λ j d y z. k.theirs.kept j d (cp.1 j d y (let q = k.less in omega arith)) z; listed = λ j d y. fr.1 j d (k.theirs.listed j d y) };
               }))
-              (λ (new : (i ≡ length (us ++ u ∷ [])) × (w ≡ v)). subst (λ (z : World). After p z w g.own g.peer) new.1 (after_itself p (us ++ u ∷ []) w (goes_on r st) b g))
+              (λ (new : (i ≡ length (us ++ u ∷ [])) × (w ≡ v)). subst (λ (z : World). After p z w Client g.own g.peer) new.1 (after_itself p (us ++ u ∷ []) w (goes_on r st) b g))
               (get_push_cases (us ++ u ∷ []) w i v x),
         )
+
+-- for a side and its peer
+pub history : (p : Parameters) (valid : AreParameters p) (ws : List World) (w : World) (side : Side) → Reaches p ws w → IsWithin p w
+    → (g : Both p side (other_side side) w.crossed (station_of w side) (station_of w (other_side side))) × ((i : ℕ) (v : World) → slice_get (ws ++ w ∷ []) i ≡ Some v → After p v w side g.own g.peer)
+history p valid ws w Client r b = of_both p valid ws w r b
+history p valid ws w Server r b =
+    let h = of_both p valid ws w r b in (
+      turn p Client Server w.crossed w.client w.server h.0,
+      λ i v x. (let k = h.1 i v x in record { us = k.us; reached = k.reached; few = k.few; grown = k.grown; less = k.less; told = turn p Client Server v.crossed v.client v.server k.told; mine = k.theirs; theirs = k.mine }),
+    )
 
 -- two worlds one after the other in a run are joined by a step
 pub joined : (p : Parameters) (ws : List World) (w : World) → Reaches p ws w → (i : ℕ) (u v : World) → slice_get (ws ++ w ∷ []) i ≡ Some u → slice_get (ws ++ w ∷ []) (suc i) ≡ Some v → Step p u v

@@ -15,7 +15,7 @@ use Rattle.rasta_end.specs.State.{Made, EndState, is_owing, is_closed, is_connec
 use Rattle.rasta_end.specs.MakeRule.{first_that_holds, is_past, after_make}
 use Rattle.rasta_end.specs.TakeRule.{take_fault, after_take}
 use Rattle.rasta_end.specs.Starts.{fresh_end, sn_before, quiet_pdu, quiet_end, start_by}
-use Rattle.rasta_check.specs.Model.World.{Station, World, Move, Moves, makes, repeats, arrives, takes, waits, Reaches, IsWithin}
+use Rattle.rasta_check.specs.Model.World.{Station, World, Move, Moves, makes, repeats, arrives, takes, waits, station_of, end_of, other_side, Reaches, IsWithin}
 use Rattle.rasta_check.proofs.Model.PassedTests.{passed}
 use Rattle.rasta_check.proofs.Model.MakeRows.{made_by, after_row, new_made}
 use Rattle.rasta_check.proofs.Model.TakeRows.{take_made}
@@ -263,16 +263,13 @@ base_by (Some quiet) Client = omega arith
 base_by (Some quiet) Server = omega arith
 
 -- no end has made more than 1,000,001 PDUs
-pub few_made : (p : Parameters) (w : World) → IsWithin p w → (length w.client.state.made ≤ 1000001) × (length w.server.state.made ≤ 1000001)
-few_made p w b =
-    let c = base_by p.quiet Client in
-    let s = base_by p.quiet Server in
-    (omega (arith, c, b.client), omega (arith, s, b.server))
+pub few_made : (p : Parameters) (w : World) → IsWithin p w → (side : Side) → length (end_of w side).made ≤ 1000001
+few_made p w within side = (let l = within side in let b = base_by p.quiet side in omega (arith, l, b))
 
-pub all_held : (p : Parameters) (ws : List World) (w : World) → Reaches p ws w → IsWithin p w → All w.client w.server
+turned : (a b : Station) → Whole a b → Whole b a
+turned a b g l m = (let h = g m l in record { mine = h.theirs; theirs = h.mine; values = h.their_values; their_values = h.values; up = h.their_up; their_up = h.up; shows = h.their_shows; their_shows = h.shows })
+
+pub all_held : (p : Parameters) (ws : List World) (w : World) (side : Side) → Reaches p ws w → IsWithin p w → All (station_of w side) (station_of w (other_side side))
 unfolding station_by
-all_held p ws w r b =
-    let few = few_made p w b in
-    always p Whole
-    (λ x y g l m. (let h = g m l in record { mine = h.theirs; theirs = h.mine; values = h.their_values; their_values = h.values; up = h.their_up; their_up = h.up; shows = h.their_shows; their_shows = h.shows }))
-    (λ m n l k. first_all p.quiet m n) (all_kept p) ws w r few.0 few.1
+all_held p ws w side r within =
+    always p Whole turned (λ m n l k. first_all p.quiet m n) (all_kept p) ws w side r (few_made p w within side) (few_made p w within (other_side side))

@@ -178,15 +178,16 @@ sharp p packets c s cs ss a b recorded hc hs lc ls fc fs =
     let w = r.1 in
     let sc = subst (λ (xs : List Packet). IsSent p xs Client c) (sym r.3) hc in
     let sv = subst (λ (xs : List Packet). IsSent p xs Server s) (sym r.3) hs in
-    let k = known p r.0 w c s r.2 sc sv lc ls in
+    let k = known p r.0 w Client c s r.2 sc sv lc ls in
+    let l = known p r.0 w Server s c r.2 sv sc ls lc in
     let rc : (w.client.state ≡ start_of p Client) ⊎ JustMade p c w.client.state = subst (λ (z : EndState). (z ≡ start_of p Client) ⊎ JustMade p c z) (sym r.4) kc.2 in
     let rs : (w.server.state ≡ start_of p Server) ⊎ JustMade p s w.server.state = subst (λ (z : EndState). (z ≡ start_of p Server) ⊎ JustMade p s z) (sym r.5) ks.2 in
     let up_s = no_more p Server w.server.state w.client.state w.server.taken w.client.taken s (all_made p Client c) k.all.theirs k.once k.all.their_up k.sends.same k.along rs in
-    let up_c = no_more p Client w.client.state w.server.state w.client.taken w.server.taken c (all_made p Server s) k.all.mine k.their_once k.all.up k.their_sends.same k.their_along rc in (
+    let up_c = no_more p Client w.client.state w.server.state w.client.taken w.server.taken c (all_made p Server s) l.all.theirs l.once l.all.their_up l.sends.same l.along rc in (
       r.0,
       w,
       r.2,
       r.3,
       exactly_listed p Client w.server.state w.client.state c s k.sends.same (of_units w.server.state w.client.state (hands_up_units w.server.state w.client.state k.all.values k.all.their_up)) k.taken up_s,
-      exactly_listed p Server w.client.state w.server.state s c k.their_sends.same (of_units w.client.state w.server.state (hands_up_units w.client.state w.server.state k.all.their_values k.all.up)) k.their_taken up_c,
+      exactly_listed p Server w.client.state w.server.state s c l.sends.same (of_units w.client.state w.server.state (hands_up_units w.client.state w.server.state l.all.values l.all.their_up)) l.taken up_c,
     )

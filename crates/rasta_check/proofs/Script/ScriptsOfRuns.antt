@@ -18,7 +18,7 @@ use Rattle.rasta_end.specs.Starts.{start_of}
 use Rattle.rasta_check.proofs.Model.Steps.{base, start_base, start_made, start_side, made_more}
 use Rattle.rasta_check.specs.Capture.Crossing.{Spells, FirstCopy}
 use Rattle.rasta_udp.specs.Frame.{Packet}
-use Rattle.rasta_check.specs.Model.World.{Station, World, Move, Moves, makes, repeats, arrives, takes, waits, Step, client_moves, server_moves, Reaches, begins, goes_on, first_station}
+use Rattle.rasta_check.specs.Model.World.{Station, World, Move, Moves, makes, repeats, arrives, takes, waits, Step, side_moves, station_of, other_side, Reaches, begins, goes_on, first_station}
 use Rattle.rasta_cert.specs.declared.entry.Entry.{Entry}
 use Rattle.rasta_cert.specs.declared.entry.Entry.TheVariants.{Take, Make}
 use Rattle.rasta_cert.specs.Certificate.{most_entries}
@@ -331,7 +331,7 @@ both_kept p s r xs ys a a' b apart (waits c l) g =
       told = (let t = g.told in record { es = t.es; at = t.at; leads = t.leads; made = t.made; mark = t.mark; level = t.level; state = t.state; clock = (let z = t.clock in omega arith); clocks = t.clocks });
     }
 
-turn : (p : Parameters) (s r : Side) (xs : List Packet) (a b : Station) → Both p s r xs a b → Both p r s xs b a
+abbrev pub turn : (p : Parameters) (s r : Side) (xs : List Packet) (a b : Station) → Both p s r xs a b → Both p r s xs b a
 turn p s r xs a b g = record { own = g.peer; peer = g.own; sends = g.their_sends; their_sends = g.sends; told = g.their_told; their_told = g.told }
 
 first_sends : (p : Parameters) (s : Side) (n : ℕ) → AreParameters p → Sends p s [] [] (start_of p s) n
@@ -345,8 +345,8 @@ first_told : (p : Parameters) (s : Side) → Told p s 0 [] [] (start_of p s) (st
 first_told p s = record { es = []; at = at_start (start_of p s); leads = refl; made = refl; mark = (let z = start_base p.quiet s in omega arith); level = omega arith; state = refl; clock = omega arith; clocks = tt }
 
 pub told_step : (p : Parameters) (v w : World) → Step p v w → Both p Client Server v.crossed v.client v.server → Both p Client Server w.crossed w.client w.server
-told_step p v w (client_moves {a = a} {after = ys} m) g = both_kept p Client Server v.crossed ys v.client a v.server (λ e. cc (e)) m g
-told_step p v w (server_moves {a = a} {after = ys} m) g = turn p Server Client ys a v.client (both_kept p Server Client v.crossed ys v.server a v.client (λ e. cc (e)) m (turn p Client Server v.crossed v.client v.server g))
+told_step p v w (side_moves {a = a} {after = ys} Client m) g = both_kept p Client Server v.crossed ys v.client a v.server (λ e. cc (e)) m g
+told_step p v w (side_moves {a = a} {after = ys} Server m) g = turn p Server Client ys a v.client (both_kept p Server Client v.crossed ys v.server a v.client (λ e. cc (e)) m (turn p Client Server v.crossed v.client v.server g))
 
 pub told_first : (p : Parameters) (m n : ℕ) → AreParameters p → Both p Client Server [] (first_station p Client m) (first_station p Server n)
 told_first p m n valid = record { own = []; peer = []; sends = first_sends p Client m valid; their_sends = first_sends p Server n valid; told = first_told p Client; their_told = first_told p Server }
@@ -354,6 +354,11 @@ told_first p m n valid = record { own = []; peer = []; sends = first_sends p Cli
 pub told : (p : Parameters) → AreParameters p → (ws : List World) (w : World) → Reaches p ws w → Both p Client Server w.crossed w.client w.server
 told p valid ws w (begins m n) = told_first p m n valid
 told p valid ws w (goes_on {ws = vs} {w = v} r st) = told_step p v w st (told p valid vs v r)
+
+-- of a side and its peer
+pub told_by : (p : Parameters) → AreParameters p → (ws : List World) (w : World) (side : Side) → Reaches p ws w → Both p side (other_side side) w.crossed (station_of w side) (station_of w (other_side side))
+told_by p valid ws w Client r = told p valid ws w r
+told_by p valid ws w Server r = turn p Client Server w.crossed w.client w.server (told p valid ws w r)
 
 -- the copies below the packets so far stay where they are
 kept_copies : (p : Parameters) (s r : Side) (xs ys : List Packet) (a a' b : Station) (apart : s ≡ r → ⊥) {move : Move} (m : Moves p b xs a move a' ys) (g : Both p s r xs a b) (j : ℕ) (d : FirstCopy)
@@ -385,12 +390,12 @@ same_peer p s r xs ys a a' b apart (waits c i) g = refl
 pub step_copies : (p : Parameters) (v w : World) (st : Step p v w) (g : Both p Client Server v.crossed v.client v.server)
     → ((j : ℕ) (d : FirstCopy) → slice_get (told_step p v w st g).own j ≡ Some d → d.place < length v.crossed → slice_get g.own j ≡ Some d)
     × ((j : ℕ) (d : FirstCopy) → slice_get (told_step p v w st g).peer j ≡ Some d → d.place < length v.crossed → slice_get g.peer j ≡ Some d)
-unfolding told_step turn
-step_copies p v w (client_moves {a = a} {after = ys} m) g = (
+unfolding told_step
+step_copies p v w (side_moves {a = a} {after = ys} Client m) g = (
   λ j d at l. kept_copies p Client Server v.crossed ys v.client a v.server (λ e. cc (e)) m g j d at l,
   λ j d at l. subst (λ (cs : List FirstCopy). slice_get cs j ≡ Some d) (same_peer p Client Server v.crossed ys v.client a v.server (λ e. cc (e)) m g) at,
 )
-step_copies p v w (server_moves {a = a} {after = ys} m) g =
+step_copies p v w (side_moves {a = a} {after = ys} Server m) g =
     let h = turn p Client Server v.crossed v.client v.server g in (
       λ j d at l. subst (λ (cs : List FirstCopy). slice_get cs j ≡ Some d) (same_peer p Server Client v.crossed ys v.server a v.client (λ e. cc (e)) m h) at,
       λ j d at l. kept_copies p Server Client v.crossed ys v.server a v.client (λ e. cc (e)) m h j d at l,
@@ -399,23 +404,23 @@ step_copies p v w (server_moves {a = a} {after = ys} m) g =
 pub step_front : (p : Parameters) (v w : World) (st : Step p v w) (g : Both p Client Server v.crossed v.client v.server)
     → ((j : ℕ) (d : FirstCopy) → slice_get g.own j ≡ Some d → slice_get (told_step p v w st g).own j ≡ Some d)
     × ((j : ℕ) (d : FirstCopy) → slice_get g.peer j ≡ Some d → slice_get (told_step p v w st g).peer j ≡ Some d)
-unfolding told_step turn
-step_front p v w (client_moves {a = a} {after = ys} m) g = (
+unfolding told_step
+step_front p v w (side_moves {a = a} {after = ys} Client m) g = (
   λ j d at. kept_front p Client Server v.crossed ys v.client a v.server (λ e. cc (e)) m g j d at,
   λ j d at. subst (λ (cs : List FirstCopy). slice_get cs j ≡ Some d) (sym (same_peer p Client Server v.crossed ys v.client a v.server (λ e. cc (e)) m g)) at,
 )
-step_front p v w (server_moves {a = a} {after = ys} m) g =
+step_front p v w (side_moves {a = a} {after = ys} Server m) g =
     let h = turn p Client Server v.crossed v.client v.server g in (
       λ j d at. subst (λ (cs : List FirstCopy). slice_get cs j ≡ Some d) (sym (same_peer p Server Client v.crossed ys v.server a v.client (λ e. cc (e)) m h)) at,
       λ j d at. kept_front p Server Client v.crossed ys v.server a v.client (λ e. cc (e)) m h j d at,
     )
 
 -- the same for given lists of first copies
-pub told_of : (p : Parameters) (ws : List World) (w : World) (c s : List FirstCopy) → Reaches p ws w → IsSent p w.crossed Client c → IsSent p w.crossed Server s → length c ≤ 1000000 → length s ≤ 1000000
-    → (g : Both p Client Server w.crossed w.client w.server) × (g.own ≡ c) × (g.peer ≡ s)
-told_of p ws w c s r hc hs lc ls =
-    let g = told p hc.valid ws w r in
-    (g, sym (sent_once p w.crossed Client c g.own hc g.sends.sent (omega arith)), sym (sent_once p w.crossed Server s g.peer hs g.their_sends.sent (omega arith)))
+pub told_of : (p : Parameters) (ws : List World) (w : World) (side : Side) (own peer : List FirstCopy) → Reaches p ws w → IsSent p w.crossed side own → IsSent p w.crossed (other_side side) peer
+    → length own ≤ 1000000 → length peer ≤ 1000000 → (g : Both p side (other_side side) w.crossed (station_of w side) (station_of w (other_side side))) × (g.own ≡ own) × (g.peer ≡ peer)
+told_of p ws w side own peer r mine theirs few few_theirs =
+    let g = told_by p mine.valid ws w side r in
+    (g, sym (sent_once p w.crossed side own g.own mine g.sends.sent (omega arith)), sym (sent_once p w.crossed (other_side side) peer g.peer theirs g.their_sends.sent (omega arith)))
 
 told_fits : (p : Parameters) (s : Side) (n : ℕ) (own peer : List FirstCopy) (e : EndState) (clock taken : ℕ) (t : Told p s n own peer e clock taken) → Follows p s n own peer t.es e
 told_fits p s n own peer e clock taken t = (t.at, t.leads, t.made, t.state)
@@ -434,7 +439,7 @@ pub complete : (p : Parameters) (ws : List World) (w : World) (c s : List FirstC
     × Follows p Client (length w.crossed) c s cs w.client.state × Follows p Server (length w.crossed) s c ss w.server.state
     × (length cs + length ss ≤ most_entries) × ClocksWithin n cs × ClocksWithin n ss
 complete p ws w c s r hc hs lc ls n bc bs =
-    let g = told_of p ws w c s r hc hs lc ls in
+    let g = told_of p ws w Client c s r hc hs lc ls in
     let h = g.0 in
     let fc : Follows p Client (length w.crossed) c s h.told.es w.client.state =
     subst (λ (o : List FirstCopy). Follows p Client (length w.crossed) o s h.told.es w.client.state) g.1 (subst (λ (q : List FirstCopy). Follows p Client (length w.crossed) h.own q h.told.es w.client.state) g.2 (told_fits p Client _ h.own h.peer _ _ _ h.told)) in

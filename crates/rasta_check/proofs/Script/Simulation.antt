@@ -13,7 +13,7 @@ use Rattle.rasta_pdu.specs.Pdu.{SafetyPdu}
 use Rattle.rasta_end.specs.State.{Made, EndState, wrapped}
 use Rattle.rasta_end.specs.TakeRule.{Takes}
 use Rattle.rasta_udp.specs.Frame.{Packet}
-use Rattle.rasta_check.specs.Model.World.{Station, World, Move, Moves, makes, repeats, arrives, takes, waits, client_moves, server_moves, Reaches, begins, goes_on, first_station}
+use Rattle.rasta_check.specs.Model.World.{Station, World, Move, Moves, makes, repeats, arrives, takes, waits, side_moves, Reaches, begins, goes_on, first_station}
 use Rattle.rasta_end.specs.Starts.{start_of}
 use Rattle.rasta_check.proofs.Model.Steps.{base, base_small, start_base, start_made, start_side, made_more}
 use Rattle.rasta_check.specs.Capture.Crossing.{Spells, FirstCopy, CrossRecorded}
@@ -32,12 +32,12 @@ pub data Many (p : Parameters) (b : Station) : List Packet → Station → Stati
 pub client_many : {p : Parameters} {b : Station} {xs ys : List Packet} {a a' : Station} (ws : List World) → Many p b xs a a' ys
     → Reaches p ws (record { client = a; server = b; crossed = xs }) → (vs : List World) × Reaches p vs (record { client = a'; server = b; crossed = ys })
 client_many ws stays r = (ws, r)
-client_many {b = b} ws (moves {xs = xs} {a = a} m k) r = client_many (ws ++ record { client = a; server = b; crossed = xs } ∷ []) k (goes_on r (client_moves m))
+client_many {b = b} ws (moves {xs = xs} {a = a} m k) r = client_many (ws ++ record { client = a; server = b; crossed = xs } ∷ []) k (goes_on r (side_moves Client m))
 
 pub server_many : {p : Parameters} {b : Station} {xs ys : List Packet} {a a' : Station} (ws : List World) → Many p b xs a a' ys
     → Reaches p ws (record { client = b; server = a; crossed = xs }) → (vs : List World) × Reaches p vs (record { client = b; server = a'; crossed = ys })
 server_many ws stays r = (ws, r)
-server_many {b = b} ws (moves {xs = xs} {a = a} m k) r = server_many (ws ++ record { client = b; server = a; crossed = xs } ∷ []) k (goes_on r (server_moves m))
+server_many {b = b} ws (moves {xs = xs} {a = a} m k) r = server_many (ws ++ record { client = b; server = a; crossed = xs } ∷ []) k (goes_on r (side_moves Server m))
 
 -- one side at a level: what is left of its script leads to its last cursor, and it has made what crossed
 pub record Tracks (p : Parameters) (n k : ℕ) (s : Side) (own peer : List FirstCopy) (es : List Entry) (last : Cursor) (a : Station) : Type 0 where

@@ -9,12 +9,11 @@ use Rattle.rasta_end.specs.declared.phase.Phase.{Phase}
 use Rattle.rasta_end.specs.declared.phase.Phase.TheVariants.{Closed}
 use Rattle.rasta_end.specs.State.{Made, EndState, is_client, is_closed}
 use Rattle.rasta_check.specs.Capture.Crossing.{FirstCopy}
-use Rattle.rasta_check.specs.Model.World.{World, Reaches}
+use Rattle.rasta_check.specs.Model.World.{World, station_of, end_of, other_side, Reaches}
 use Rattle.rasta_check.specs.Verdict.Taken.{pdus_of, all_made, units_shown}
 use Rattle.rasta_check.specs.Model.Theorem.{Appends}
 use Rattle.rasta_check.proofs.Capture.FaultlessLists.{IsSent}
 use Rattle.rasta_check.proofs.Model.Steps.{base}
-use Rattle.rasta_check.proofs.Capture.FirstCopies.{sent_once}
 use Rattle.rasta_check.proofs.Model.NamedPositions.{SnIs}
 use Rattle.rasta_check.proofs.Model.SequenceNumbers.{numbered_once}
 use Rattle.rasta_check.proofs.Model.Invariant.{Held}
@@ -22,9 +21,9 @@ use Rattle.rasta_check.proofs.Model.ConveyedUnits.{values, length-values, get_wi
 use Rattle.rasta_check.proofs.Model.OfferedUnits.{Valued}
 use Rattle.rasta_check.proofs.Model.ShownUnits.{Shown}
 use Rattle.rasta_check.proofs.Theorem.ShowingPdus.{shows_most}
-use Rattle.rasta_check.proofs.Model.InvariantOfRuns.{All, all_held}
-use Rattle.rasta_check.proofs.Model.History.{Grown, history, stepped, joined, made_at}
-use Rattle.rasta_check.proofs.Theorem.SentRuns.{known}
+use Rattle.rasta_check.proofs.Model.InvariantOfRuns.{all_held}
+use Rattle.rasta_check.proofs.Model.History.{Grown, stepped, joined, made_at}
+use Rattle.rasta_check.proofs.Theorem.SentRuns.{known, before}
 use Rattle.rasta_pdu.specs.Pdu.{is_kind}
 use Rattle.rasta_pdu.specs.declared.kind.Kind.TheVariants.{ConnectionRequest}
 
@@ -63,49 +62,22 @@ module _ (e0 f0 e f : EndState) (t : ℕ) (w0 : Shown e0 f0) (w : Shown e f) (g 
       omega (arith, low, eq))
       (w0.judged q m there k)
 
--- an earlier world of the run, in which what a PDU shows had been handed up
-pub record Earlier (v w : World) : Type 0 where
-  pub all : All v.client v.server
-  pub client : Grown v.client.state w.client.state
-  pub server : Grown v.server.state w.server.state
-
-pub earlier : (p : Parameters) (ws : List World) (w : World) (c s : List FirstCopy) → Reaches p ws w → IsSent p w.crossed Client c → IsSent p w.crossed Server s → length c ≤ 1000000 → length s ≤ 1000000
-    → (i : ℕ) (v : World) → slice_get (ws ++ w ∷ []) i ≡ Some v → Earlier v w
-earlier p ws w c s r hc hs lc ls i v g =
-    let kn = known p ws w c s r hc hs lc ls in
-    let b = (history p hc.valid ws w r kn.within).1 i v g in
-    record { all = all_held p b.us v b.reached b.few; client = b.client; server = b.server }
-
--- what a PDU shows had been handed up in the world to which its packet is appended
-pub timed : (p : Parameters) (ws : List World) (w : World) (c s : List FirstCopy) → Reaches p ws w
-    → IsSent p w.crossed Client c → IsSent p w.crossed Server s → length c ≤ 1000000 → length s ≤ 1000000
-    → (j : ℕ) (d : FirstCopy) (v next : World) → Appends ws w d.place v next
-    → (slice_get s j ≡ Some d → units_shown (all_made p Client c) (pdus_of s) d.pdu.safety ≤ length v.server.state.handed)
-    × (slice_get c j ≡ Some d → units_shown (all_made p Server s) (pdus_of c) d.pdu.safety ≤ length v.client.state.handed)
-timed p ws w c s r hc hs lc ls j d v next a =
-    let kn = known p ws w c s r hc hs lc ls in
-    let hist = history p hc.valid ws w r kn.within in
-    let same_c : c ≡ hist.0.own = sent_once p w.crossed Client c hist.0.own hc hist.0.sends.sent (omega arith) in
-    let same_s : s ≡ hist.0.peer = sent_once p w.crossed Server s hist.0.peer hs hist.0.their_sends.sent (omega arith) in
-    let b = hist.1 (suc a.i) next a.there in
-    let all0 = all_held p b.us next b.reached b.few in
-    let sd = stepped p v next (joined p ws w r a.i v next a.here a.there) in
-    let more : length next.crossed ≡ suc (length v.crossed) = (let x = a.before in let y = a.after in omega arith) in
-    let crossing : d.place < length next.crossed = (let y = a.after in omega arith) in (
-      λ x.
-          let g = b.peer_copies j d (subst (λ (cs : List FirstCopy). slice_get cs j ≡ Some d) same_s x) crossing in
-          let m = made_at p Server next.crossed b.told.peer next.server.state _ j d b.told.their_sends g in
-          let t = shows_most w.client.state (all_made p Client c) (pdus_of s) kn.sends.same kn.along (length next.server.state.handed) m.0.pdu
-          (in_time_at next.server.state next.client.state w.server.state w.client.state w.client.taken all0.their_shows kn.all.their_shows kn.all.mine kn.all.values kn.few b.server b.client (base p + j) m.0 m.1) in
-          let e : units_shown (all_made p Client c) (pdus_of s) m.0.pdu ≡ units_shown (all_made p Client c) (pdus_of s) d.pdu.safety = ap (units_shown (all_made p Client c) (pdus_of s)) m.2 in
-          let h = ap length (sd.server more).positions in
-          omega (arith, t, e, h),
-      λ x.
-          let g = b.own_copies j d (subst (λ (cs : List FirstCopy). slice_get cs j ≡ Some d) same_c x) crossing in
-          let m = made_at p Client next.crossed b.told.own next.client.state _ j d b.told.sends g in
-          let t = shows_most w.server.state (all_made p Server s) (pdus_of c) kn.their_sends.same kn.their_along (length next.client.state.handed) m.0.pdu
-          (in_time_at next.client.state next.server.state w.client.state w.server.state w.server.taken all0.shows kn.all.shows kn.all.theirs kn.all.their_values kn.few_theirs b.client b.server (base p + j) m.0 m.1) in
-          let e : units_shown (all_made p Server s) (pdus_of c) m.0.pdu ≡ units_shown (all_made p Server s) (pdus_of c) d.pdu.safety = ap (units_shown (all_made p Server s) (pdus_of c)) m.2 in
-          let h = ap length (sd.client more).positions in
-          omega (arith, t, e, h),
-    )
+-- what a PDU of the peer shows had been handed up in the world to which its packet is appended
+pub timed : (p : Parameters) (ws : List World) (w : World) (side : Side) (own peer : List FirstCopy) → Reaches p ws w
+    → IsSent p w.crossed side own → IsSent p w.crossed (other_side side) peer → length own ≤ 1000000 → length peer ≤ 1000000
+    → (j : ℕ) (d : FirstCopy) (v next : World) → Appends ws w d.place v next → slice_get peer j ≡ Some d
+    → units_shown (all_made p side own) (pdus_of peer) d.pdu.safety ≤ length (end_of v (other_side side)).handed
+timed p ws w side own peer r mine theirs few few_theirs j d v next a there =
+    let e = end_of next side in
+    let f = end_of next (other_side side) in
+    let kn = known p ws w side own peer r mine theirs few few_theirs in
+    let b = before p ws w side own peer r mine theirs few few_theirs (suc a.i) next a.there in
+    let all = all_held p b.us next side b.reached b.few in
+    let crossing : length next.crossed ≡ suc (length v.crossed) = (let x = a.before in let y = a.after in omega arith) in
+    let g = b.theirs.kept j d there (let y = a.after in omega arith) in
+    let m = made_at p (other_side side) next.crossed b.told.peer f _ j d b.told.their_sends g in
+    let t = shows_most (end_of w side) (all_made p side own) (pdus_of peer) kn.sends.same kn.along (length f.handed) m.0.pdu
+    (in_time_at f e (end_of w (other_side side)) (end_of w side) (station_of w side).taken all.their_shows kn.all.their_shows kn.all.mine kn.all.values kn.few (b.grown (other_side side)) (b.grown side) (base p + j) m.0 m.1) in
+    let same : units_shown (all_made p side own) (pdus_of peer) m.0.pdu ≡ units_shown (all_made p side own) (pdus_of peer) d.pdu.safety = ap (units_shown (all_made p side own) (pdus_of peer)) m.2 in
+    let h = ap length (((stepped p v next (joined p ws w r a.i v next a.here a.there)).ends (other_side side)).same crossing).positions in
+    omega (arith, t, same, h)

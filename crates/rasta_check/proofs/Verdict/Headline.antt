@@ -1,6 +1,6 @@
 -- The headline of a verdict, from the theorem over runs.
 use Rattle.std.specs.Prelude.{if◌then◌else◌, take}
-use Rattle.std.proofs.Common.{◌≡◌, ℕ, ◌-◌, List, [], ◌++◌, length, Result, Ok, Err, Some, slice_get, refl, ap, sym, ◌∙◌, arith, subst}
+use Rattle.std.proofs.Common.{◌≡◌, ℕ, ◌-◌, ◌≤◌, List, [], ◌++◌, length, Result, Ok, Err, Some, slice_get, refl, ap, sym, ◌∙◌, arith, subst}
 use Rattle.rasta_pcap.specs.declared.fault.Fault.{Fault}
 use Rattle.rasta_pcap.specs.declared.fault.Side.{Side}
 use Rattle.rasta_pcap.specs.declared.fault.Side.TheVariants.{Client, Server}
@@ -11,8 +11,9 @@ use Rattle.rasta_cert.specs.declared.entry.Entry.{Entry}
 use Rattle.rasta_end.specs.State.{EndState}
 use Rattle.rasta_end.specs.Units.{units_at}
 use Rattle.rasta_check.specs.Capture.Crossing.{FirstCopy}
-use Rattle.rasta_check.specs.Model.World.{World, Reaches}
+use Rattle.rasta_check.specs.Model.World.{World, end_of, other_side, Reaches}
 use Rattle.rasta_check.specs.Verdict.Taken.{surely_taken, messages_taken, position_with, pdus_of, all_made, units_shown, units_taken, units_from, data_copies}
+use Rattle.rasta_check.specs.Model.Laws.{HandsUp}
 use Rattle.rasta_check.specs.Script.Following.{Follows}
 use Rattle.rasta_check.specs.Internals.Checking.{follow, where_followed, verdict_of}
 use Rattle.rasta_check.specs.Model.Theorem.{Appends, units_handed, units_listed}
@@ -20,7 +21,7 @@ use Rattle.rasta_check.specs.Capture.Reading.{Crossing, IsCrossing}
 use Rattle.rasta_check.specs.Verdict.Listed.{ListedMessage, listed, numbered_from}
 use Rattle.rasta_check.specs.Verdict.Report.{Explained, report_of, BothFit}
 use Rattle.rasta_check.specs.Internals.Listing.{listed_by, shown_by, proofs_from}
-use Rattle.rasta_check.specs.Verdict.Headline.{messages_in_list, HandsUpListed, Headline, IsSharp}
+use Rattle.rasta_check.specs.Verdict.Headline.{messages_in_list, units_offered, HandsUpListed, Headline, IsSharp}
 use Rattle.rasta_check.proofs.Capture.FaultlessLists.{IsSent}
 use Rattle.rasta_check.proofs.Capture.ListForms.{to_record}
 use Rattle.rasta_check.proofs.Script.FollowedScripts.{follow_fits}
@@ -29,7 +30,7 @@ use Rattle.rasta_check.proofs.Script.Simulation.{simulated}
 use Rattle.rasta_check.proofs.Model.ConveyedUnits.{values, length-values}
 use Rattle.rasta_check.proofs.Theorem.SentRuns.{Known, known}
 use Rattle.rasta_check.proofs.Script.CutScripts.{sharp}
-use Rattle.rasta_check.proofs.Theorem.Necessity.{server_hands_up, server_first, server_appended, server_in_time_through, client_hands_up, client_first, client_appended, client_in_time_through}
+use Rattle.rasta_check.proofs.Theorem.Necessity.{hands_up, first, proof_appended, in_time_through}
 use Rattle.rasta_check.proofs.Theorem.FirstUnits.{offered_first}
 use Rattle.rasta_check.proofs.Theorem.JoinedMessages.{joined, joined-append, up_joined, listed_joined, of_listed, of_message}
 use Rattle.rasta_check.proofs.Verdict.Reports.{units_named, first_small, are_proofs, units_are}
@@ -55,52 +56,96 @@ ends p packets c s scripts report h = by (follow p Client packets c s scripts.cl
     by (Ok a) e (Err fault) f g = absurd (cc)
     by (Err fault) e y f g = absurd (cc)
 
+twice : (side : Side) → other_side (other_side side) ≡ side
+twice Client = refl
+twice Server = refl
+
 -- these are the sent lists of these packets
 module _ (p : Parameters) (packets : List Packet) (c s : List FirstCopy) (h : IsCrossing (record { params = p; packets = packets; client = c; server = s })) where
-  sent_c : IsSent p packets Client c
-  sent_c = to_record p packets Client c h.valid.valid h.client
+  -- the sent list of a side
+  abbrev sent : Side → List FirstCopy
+  sent Client = c
+  sent Server = s
 
-  sent_s : IsSent p packets Server s
-  sent_s = to_record p packets Server s h.valid.valid h.server
+  is_sent : (side : Side) → IsSent p packets side (sent side)
+  is_sent Client = to_record p packets Client c h.valid.valid h.client
+  is_sent Server = to_record p packets Server s h.valid.valid h.server
 
-  -- ---- the lists of the report
+  few : (side : Side) → length (sent side) ≤ 1000000
+  few Client = h.few_client
+  few Server = h.few_server
 
-  -- the ends of a run that sends the packets show what the lists show
-  module _ (ws : List World) (w : World) (r : Reaches p ws w) (same : w.crossed ≡ packets) where
-    kn : Known p w c s
-    kn = known p ws w c s r (subst (λ (xs : List Packet). IsSent p xs Client c) (sym same) sent_c) (subst (λ (xs : List Packet). IsSent p xs Server s) (sym same) sent_s) h.few_client h.few_server
+  -- ---- a run that sends the packets
 
-    by_server : (i : ℕ) (d : FirstCopy) → slice_get s i ≡ Some d → shown_by w.client.state d.pdu.safety ≡ units_shown (all_made p Client c) (pdus_of s) d.pdu.safety
-    by_server i d g =
-        let e = w.client.state in
-        let first = first_small p.quiet Client e.made c kn.sends.same (λ j x y. (sent_c.firsts j x y).3.fits.sn) in
+  module _ (ws : List World) (w : World) (r : Reaches p ws w) (same : w.crossed ≡ packets) (side : Side) where
+    abbrev own : List FirstCopy
+    own = sent side
+
+    abbrev peer : List FirstCopy
+    peer = sent (other_side side)
+
+    run_sent : (side : Side) → IsSent p w.crossed side (sent side)
+    run_sent side = subst (λ (xs : List Packet). IsSent p xs side (sent side)) (sym same) (is_sent side)
+
+    kn : Known p w side own peer
+    kn = known p ws w side own peer r (run_sent side) (run_sent (other_side side)) (few side) (few (other_side side))
+
+    -- what a PDU of the peer shows by the end that this side reached, and by the lists
+    shown : (i : ℕ) (d : FirstCopy) → slice_get peer i ≡ Some d → shown_by (end_of w side) d.pdu.safety ≡ units_shown (all_made p side own) (pdus_of peer) d.pdu.safety
+    shown i d g =
+        let e = end_of w side in
+        let first = first_small p.quiet side e.made own kn.sends.same (λ j x y. ((is_sent side).firsts j x y).3.fits.sn) in
         ap (λ n. if is_kind ConnectionRequest d.pdu.safety.kind then 0 else n)
-        (units_named e.made (values e) d.pdu.safety.cs kn.all.mine.numbered kn.few (length-values e.asks e.made) first (sent_s.firsts i d g).3.fits.cs
+        (units_named e.made (values e) d.pdu.safety.cs kn.all.mine.numbered kn.few (length-values e.asks e.made) first ((is_sent (other_side side)).firsts i d g).3.fits.cs
         ∙ (λ j. units_at (sym kn.along j) (position_with (kn.sends.same j) d.pdu.safety.cs)))
 
-    by_client : (i : ℕ) (d : FirstCopy) → slice_get c i ≡ Some d → shown_by w.server.state d.pdu.safety ≡ units_shown (all_made p Server s) (pdus_of c) d.pdu.safety
-    by_client i d g =
-        let e = w.server.state in
-        let first = first_small p.quiet Server e.made s kn.their_sends.same (λ j x y. (sent_s.firsts j x y).3.fits.sn) in
-        ap (λ n. if is_kind ConnectionRequest d.pdu.safety.kind then 0 else n)
-        (units_named e.made (values e) d.pdu.safety.cs kn.all.theirs.numbered kn.few_theirs (length-values e.asks e.made) first (sent_c.firsts i d g).3.fits.cs
-        ∙ (λ j. units_at (sym kn.their_along j) (position_with (kn.their_sends.same j) d.pdu.safety.cs)))
-
-    list_by : (side : Side) (own peer : List FirstCopy) (e : EndState)
-        → ((i : ℕ) (d : FirstCopy) → slice_get peer i ≡ Some d → shown_by e d.pdu.safety ≡ units_shown (all_made p side own) (pdus_of peer) d.pdu.safety) → listed_by e own peer ≡ listed p side own peer
-    list_by side own peer e shown =
+    list_is : listed_by (end_of w side) own peer ≡ listed p side own peer
+    list_is =
+        let e = end_of w side in
         let proofs = are_proofs e (all_made p side own) peer shown in
         let count : length (proofs_from e [] peer) - 0 ≡ units_taken (all_made p side own) (pdus_of peer) = (let z = proofs.count in omega (arith, z)) in
         ap (λ us. numbered_from 0 (messages_taken us))
         (units_are (all_made p side own) peer (proofs_from e [] peer) proofs 0 own ∙ ap (λ n. units_from (all_made p side own) peer 0 (take n (data_copies own))) count)
 
+    -- what the peer of this side handed up
+    peer_up : (list : List ListedMessage) → list ≡ listed p side own peer → HandsUpListed ws w (other_side side) list
+    peer_up list is =
+        let us = surely_taken p side own peer in
+        let e = end_of w side in
+        let f = end_of w (other_side side) in
+        let up = hands_up p ws w side own peer r (run_sent side) (run_sent (other_side side)) (few side) (few (other_side side)) in
+        let offered = offered_first f e up in
+        let first = first p ws w side own peer r (run_sent side) (run_sent (other_side side)) (few side) (few (other_side side)) in
+        record {
+          labels = subst (λ (x : Side). HandsUp f (end_of w x)) (sym (twice side)) up.labels;
+          units = (offered.0, subst (λ (x : Side). units_offered (end_of w x) ≡ units_handed f ++ offered.0) (sym (twice side)) offered.1);
+          first = (
+            joined first.0,
+            up_joined f.handed_pdus ∙ (ap joined first.1 ∙ (joined-append (units_listed us) first.0 ∙ ap (λ ms. ms ++ joined first.0) (sym (listed_joined us) ∙ ap messages_in_list (sym is)))),
+          );
+          appended = λ i m g.
+              (let l = of_listed 0 (messages_taken us) i m (subst (λ (xs : List ListedMessage). slice_get xs i ≡ Some m) is g) in
+              let o = of_message us i l.0 l.1 in
+              subst (λ k. (v next : World) × Appends ws w k v next) (sym (l.3 ∙ o.place))
+              (proof_appended p ws w side own peer r (run_sent side) (run_sent (other_side side)) (few side) (few (other_side side)) o.i o.u o.there));
+          in_time = λ i m v next g a.
+              (let l = of_listed 0 (messages_taken us) i m (subst (λ (xs : List ListedMessage). slice_get xs i ≡ Some m) is g) in
+              let o = of_message us i l.0 l.1 in
+              let at : Appends ws w o.u.proof_place v next = subst (λ k. Appends ws w k v next) (l.3 ∙ o.place) a in
+              ap (λ (xs : List (List ℕ)). slice_get xs i) (up_joined (end_of v (other_side side)).handed_pdus)
+              ∙ (o.up (units_handed (end_of v (other_side side))) (λ j t low gt.
+              in_time_through p ws w side own peer r (run_sent side) (run_sent (other_side side)) (few side) (few (other_side side)) o.i j o.u t v next low o.there gt at) ∙ ap Some (sym l.2)));
+        }
+
+  -- ---- the lists of the report
+
   -- what is worked out from the ends of two scripts that fit is what is surely taken
   pub lists_are : (cs ss : List Entry) (a b : EndState) → follow p Client (length packets) c s cs ≡ Ok a → follow p Server (length packets) s c ss ≡ Ok b
       → (listed_by b s c ≡ listed p Server s c) × (listed_by a c s ≡ listed p Client c s)
   lists_are cs ss a b e f =
-      let r = simulated p packets c s cs ss a b h.recorded sent_c sent_s (follow_fits p (length packets) c s Client cs a e) (follow_fits p (length packets) s c Server ss b f) in (
-        ap (λ (x : EndState). listed_by x s c) (sym r.5) ∙ list_by r.0 r.1 r.2 r.3 Server s c r.1.server.state (by_client r.0 r.1 r.2 r.3),
-        ap (λ (x : EndState). listed_by x c s) (sym r.4) ∙ list_by r.0 r.1 r.2 r.3 Client c s r.1.client.state (by_server r.0 r.1 r.2 r.3),
+      let r = simulated p packets c s cs ss a b h.recorded (is_sent Client) (is_sent Server) (follow_fits p (length packets) c s Client cs a e) (follow_fits p (length packets) s c Server ss b f) in (
+        ap (λ (x : EndState). listed_by x s c) (sym r.5) ∙ list_is r.0 r.1 r.2 r.3 Server,
+        ap (λ (x : EndState). listed_by x c s) (sym r.4) ∙ list_is r.0 r.1 r.2 r.3 Client,
       )
 
   -- the report that is worked out from both ends is the verdict
@@ -139,75 +184,20 @@ module _ (p : Parameters) (packets : List Packet) (c s : List FirstCopy) (h : Is
       fits_s = follow_fits p (length packets) s c Server scripts.server ended.b ended.server
 
       some_run : (ws : List World) × (w : World) × Reaches p ws w × (w.crossed ≡ packets)
-      some_run = (let r = simulated p packets c s scripts.client scripts.server ended.a ended.b h.recorded sent_c sent_s fits_c fits_s in (r.0, r.1, r.2, r.3))
+      some_run = (let r = simulated p packets c s scripts.client scripts.server ended.a ended.b h.recorded (is_sent Client) (is_sent Server) fits_c fits_s in (r.0, r.1, r.2, r.3))
 
-      module _ (ws : List World) (w : World) (r : Reaches p ws w) (same : w.crossed ≡ packets) where
-        run_c : IsSent p w.crossed Client c
-        run_c = subst (λ (xs : List Packet). IsSent p xs Client c) (sym same) sent_c
+      to_server : report.server_taken ≡ listed p Client c s
+      to_server = ap (λ (x : Explained). x.server_taken) ended.says
 
-        run_s : IsSent p w.crossed Server s
-        run_s = subst (λ (xs : List Packet). IsSent p xs Server s) (sym same) sent_s
-
-        server_up : HandsUpListed ws w Server report.server_taken
-        server_up =
-            let us = surely_taken p Client c s in
-            let up = server_hands_up p ws w c s r run_c run_s h.few_client h.few_server in
-            let offered = offered_first w.server.state w.client.state up in
-            let first = server_first p ws w c s r run_c run_s h.few_client h.few_server in
-            let list : report.server_taken ≡ numbered_from 0 (messages_taken us) = ap (λ (x : Explained). x.server_taken) ended.says in
-            record {
-              labels = up.labels;
-              later = offered.0;
-              units = offered.1;
-              rest = joined first.0;
-              first = up_joined w.server.state.handed_pdus ∙ (ap joined first.1 ∙ (joined-append (units_listed us) first.0
-                  ∙ ap (λ ms. ms ++ joined first.0) (sym (listed_joined us) ∙ ap messages_in_list (sym list))));
-              appended = λ i m g.
-                  (let l = of_listed 0 (messages_taken us) i m (subst (λ (xs : List ListedMessage). slice_get xs i ≡ Some m) list g) in
-                  let o = of_message us i l.0 l.1 in
-                  subst (λ k. (v next : World) × Appends ws w k v next) (sym (l.3 ∙ o.place)) (server_appended p ws w c s r run_c run_s h.few_client h.few_server o.i o.u o.there));
-              in_time = λ i m v next g a.
-                  (let l = of_listed 0 (messages_taken us) i m (subst (λ (xs : List ListedMessage). slice_get xs i ≡ Some m) list g) in
-                  let o = of_message us i l.0 l.1 in
-                  let at : Appends ws w o.u.proof_place v next = subst (λ k. Appends ws w k v next) (l.3 ∙ o.place) a in
-                  ap (λ (xs : List (List ℕ)). slice_get xs i) (up_joined v.server.state.handed_pdus)
-                  ∙ (o.up (units_handed v.server.state) (λ j t low gt. server_in_time_through p ws w c s r run_c run_s h.few_client h.few_server o.i j o.u t v next low o.there gt at) ∙ ap Some (sym l.2)));
-            }
-
-        client_up : HandsUpListed ws w Client report.client_taken
-        client_up =
-            let us = surely_taken p Server s c in
-            let up = client_hands_up p ws w c s r run_c run_s h.few_client h.few_server in
-            let offered = offered_first w.client.state w.server.state up in
-            let first = client_first p ws w c s r run_c run_s h.few_client h.few_server in
-            let list : report.client_taken ≡ numbered_from 0 (messages_taken us) = ap (λ (x : Explained). x.client_taken) ended.says in
-            record {
-              labels = up.labels;
-              later = offered.0;
-              units = offered.1;
-              rest = joined first.0;
-              first = up_joined w.client.state.handed_pdus ∙ (ap joined first.1 ∙ (joined-append (units_listed us) first.0
-                  ∙ ap (λ ms. ms ++ joined first.0) (sym (listed_joined us) ∙ ap messages_in_list (sym list))));
-              appended = λ i m g.
-                  (let l = of_listed 0 (messages_taken us) i m (subst (λ (xs : List ListedMessage). slice_get xs i ≡ Some m) list g) in
-                  let o = of_message us i l.0 l.1 in
-                  subst (λ k. (v next : World) × Appends ws w k v next) (sym (l.3 ∙ o.place)) (client_appended p ws w c s r run_c run_s h.few_client h.few_server o.i o.u o.there));
-              in_time = λ i m v next g a.
-                  (let l = of_listed 0 (messages_taken us) i m (subst (λ (xs : List ListedMessage). slice_get xs i ≡ Some m) list g) in
-                  let o = of_message us i l.0 l.1 in
-                  let at : Appends ws w o.u.proof_place v next = subst (λ k. Appends ws w k v next) (l.3 ∙ o.place) a in
-                  ap (λ (xs : List (List ℕ)). slice_get xs i) (up_joined v.client.state.handed_pdus)
-                  ∙ (o.up (units_handed v.client.state) (λ j t low gt. client_in_time_through p ws w c s r run_c run_s h.few_client h.few_server o.i j o.u t v next low o.there gt at) ∙ ap Some (sym l.2)));
-            }
+      to_client : report.client_taken ≡ listed p Server s c
+      to_client = ap (λ (x : Explained). x.client_taken) ended.says
 
       pub headline : Headline p packets report
-      headline = record { some_run = some_run; every_run = λ ws w r same. (server_up ws w r same, client_up ws w r same) }
+      headline = record { some_run = some_run; every_run = λ ws w r same. (peer_up ws w r same Client report.server_taken to_server, peer_up ws w r same Server report.client_taken to_client) }
 
       pub is_sharp : IsSharp p packets report
       is_sharp =
-          let r = sharp p packets c s scripts.client scripts.server ended.a ended.b h.recorded sent_c sent_s h.few_client h.few_server fits_c fits_s in
-          let to_server : report.server_taken ≡ listed p Client c s = ap (λ (x : Explained). x.server_taken) ended.says in
-          let to_client : report.client_taken ≡ listed p Server s c = ap (λ (x : Explained). x.client_taken) ended.says in (
+          let r = sharp p packets c s scripts.client scripts.server ended.a ended.b h.recorded (is_sent Client) (is_sent Server) h.few_client h.few_server fits_c fits_s in (
             r.0,
             r.1,
             r.2,

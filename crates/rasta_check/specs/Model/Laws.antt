@@ -1,18 +1,19 @@
 -- Laws on every run: what the headline stands on. Each holds at every world in which no end has sent more than 1,000,000 PDUs.
 use Rattle.std.specs.Prelude.{◌≡◌, ℕ, zero, suc, ◌<◌, List, [], ◌∷◌, ◌++◌, length, Some, slice_get, filter, true, false}
+use Rattle.rasta_pcap.specs.declared.fault.Side.{Side}
 use Rattle.rasta_pdu.specs.Params.{Parameters}
 use Rattle.rasta_pdu.specs.Pdu.{SafetyPdu, is_kind}
 use Rattle.rasta_end.specs.declared.why.Why.{Why}
 use Rattle.rasta_end.specs.State.{Made, EndState, kinds}
 use Rattle.rasta_end.specs.Units.{all_units_conveyed, units_conveyed, last_of, responses_in}
 use Rattle.rasta_end.specs.MakeRule.{Makes, has_ended}
-use Rattle.rasta_check.specs.Model.World.{World, Reaches, IsWithin}
+use Rattle.rasta_check.specs.Model.World.{World, other_side, end_of, Reaches, IsWithin}
 use Rattle.rasta_check.specs.Verdict.Taken.{pdus_made, asked_positions, position_with}
 use Rattle.rasta_pdu.specs.declared.kind.Kind.TheVariants.{RetransmissionRequest, RetransmissionResponse}
 
 -- what holds of each end and its peer, at every world of a run
 abbrev pub Always : (EndState → EndState → Type 0) → Parameters → Type 0
-Always Holds p = (ws : List World) (w : World) → Reaches p ws w → IsWithin p w → Holds w.client.state w.server.state × Holds w.server.state w.client.state
+Always Holds p = (ws : List World) (w : World) (side : Side) → Reaches p ws w → IsWithin p w → Holds (end_of w side) (end_of w (other_side side))
 
 -- ---- an SN names one position
 

@@ -9,7 +9,7 @@ use Rattle.rasta_pdu.specs.Pdu.{SafetyPdu, messages_in, is_kind}
 use Rattle.rasta_end.specs.State.{Made, EndState}
 use Rattle.rasta_end.specs.Starts.{start_of}
 use Rattle.rasta_check.specs.Capture.Crossing.{FirstCopy, Sent, packet_fault}
-use Rattle.rasta_check.specs.Model.World.{Station, World, Reaches, most_sent, IsWithin}
+use Rattle.rasta_check.specs.Model.World.{World, other_side, end_of, Reaches, most_sent, IsWithin}
 use Rattle.rasta_check.specs.Verdict.Taken.{pdus_made, all_made, TakenUnit, surely_taken}
 use Rattle.rasta_check.specs.Model.Laws.{HandsUp}
 use Rattle.rasta_pdu.specs.declared.kind.Kind.TheVariants.{Data}
@@ -23,19 +23,6 @@ pub record OfConnection (p : Parameters) : Type 0 where
 -- the most packets of a connection that are judged
 abbrev pub most_packets : ℕ
 most_packets = 16000000
-
--- the peer's side
-abbrev pub other_side : Side → Side
-other_side Client = Server
-other_side Server = Client
-
--- the station of a side, and its end
-abbrev pub station_of : World → Side → Station
-station_of w Client = w.client
-station_of w Server = w.server
-
-abbrev pub end_of : World → Side → EndState
-end_of w side = (station_of w side).state
 
 -- v is the world of a run to which the packet at this place is appended, and `next` the world then
 pub record Appends (ws : List World) (w : World) (place : ℕ) (v next : World) : Type 0 where

@@ -61,10 +61,27 @@ pub data Moves (p : Parameters) (peer : Station) (crossed : List Packet) : Stati
       → a.clock ≤ clock
       → Moves p peer crossed a (waiting clock) (record a { clock = clock }) crossed
 
--- one of the two stations moves
+-- the peer's side
+abbrev pub other_side : Side → Side
+other_side Client = Server
+other_side Server = Client
+
+-- the station of a side, and its end
+abbrev pub station_of : World → Side → Station
+station_of w Client = w.client
+station_of w Server = w.server
+
+abbrev pub end_of : World → Side → EndState
+end_of w side = (station_of w side).state
+
+-- the world where the station of this side has become this one, and this has crossed
+abbrev pub moved : World → Side → Station → List Packet → World
+moved w Client a crossed = record w { client = a; crossed = crossed }
+moved w Server a crossed = record w { server = a; crossed = crossed }
+
+-- the station of one side moves, while that of the other stands still
 pub data Step (p : Parameters) : World → World → Type 0 where
-  client_moves : {w : World} {a : Station} {after : List Packet} {move : Move} → Moves p w.server w.crossed w.client move a after → Step p w (record w { client = a; crossed = after })
-  server_moves : {w : World} {a : Station} {after : List Packet} {move : Move} → Moves p w.client w.crossed w.server move a after → Step p w (record w { server = a; crossed = after })
+  side_moves : {w : World} {a : Station} {after : List Packet} {move : Move} (side : Side) → Moves p (station_of w (other_side side)) w.crossed (station_of w side) move a after → Step p w (moved w side a after)
 
 -- a station at the start: nothing has arrived, and from a quiet point the peer's quiet PDU was taken
 abbrev pub first_station : Parameters → Side → ℕ → Station
@@ -84,6 +101,5 @@ abbrev pub most_sent : ℕ
 most_sent = 1000000
 
 -- no end has sent more than that
-pub record IsWithin (p : Parameters) (w : World) : Type 0 where
-  pub client : length w.client.state.made ≤ (start_of p Client).base + most_sent
-  pub server : length w.server.state.made ≤ (start_of p Server).base + most_sent
+abbrev pub IsWithin : Parameters → World → Type 0
+IsWithin p w = (side : Side) → length (end_of w side).made ≤ (start_of p side).base + most_sent

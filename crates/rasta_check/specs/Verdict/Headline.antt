@@ -7,9 +7,9 @@ use Rattle.rasta_udp.specs.Frame.{Packet}
 use Rattle.rasta_pdu.specs.Params.{Parameters}
 use Rattle.rasta_pdu.specs.Pdu.{SafetyPdu, messages_in, is_kind}
 use Rattle.rasta_end.specs.State.{EndState, Made}
-use Rattle.rasta_check.specs.Model.World.{World, Reaches}
+use Rattle.rasta_check.specs.Model.World.{World, Reaches, other_side, end_of}
 use Rattle.rasta_check.specs.Model.Laws.{HandsUp}
-use Rattle.rasta_check.specs.Model.Theorem.{other_side, end_of, Appends, units_handed}
+use Rattle.rasta_check.specs.Model.Theorem.{Appends, units_handed}
 use Rattle.rasta_check.specs.Verdict.Listed.{ListedMessage}
 use Rattle.rasta_check.specs.Verdict.Report.{Explained}
 use Rattle.rasta_pdu.specs.declared.kind.Kind.TheVariants.{Data}
@@ -31,10 +31,8 @@ units_offered e = map (λ (m : Made). messages_in m.pdu.body) (filter (λ (m : M
 -- the run, and to each such world the message had been handed up
 pub record HandsUpListed (ws : List World) (w : World) (side : Side) (listed : List ListedMessage) : Type 0 where
   pub labels : HandsUp (end_of w side) (end_of w (other_side side))
-  pub later : List (List (List ℕ))
-  pub units : units_offered (end_of w (other_side side)) ≡ units_handed (end_of w side) ++ later
-  pub rest : List (List ℕ)
-  pub first : messages_up (end_of w side) ≡ messages_in_list listed ++ rest
+  pub units : (later : List (List (List ℕ))) × (units_offered (end_of w (other_side side)) ≡ units_handed (end_of w side) ++ later)
+  pub first : (rest : List (List ℕ)) × (messages_up (end_of w side) ≡ messages_in_list listed ++ rest)
   pub appended : (i : ℕ) (m : ListedMessage) → slice_get listed i ≡ Some m → (v next : World) × Appends ws w m.proof_place v next
   pub in_time : (i : ℕ) (m : ListedMessage) (v next : World) → slice_get listed i ≡ Some m → Appends ws w m.proof_place v next
       → slice_get (messages_up (end_of v side)) i ≡ Some m.message

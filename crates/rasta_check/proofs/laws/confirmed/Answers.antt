@@ -13,6 +13,7 @@ use Rattle.rasta_end.specs.declared.owed.Owed.{Owed}
 use Rattle.rasta_end.specs.declared.make_row.MakeRow.{MakeRow}
 use Rattle.rasta_end.specs.State.{Made, EndState, is_client, is_start}
 use Rattle.rasta_end.specs.MakeRule.{is_judged}
+use Rattle.rasta_check.specs.Model.World.{station_of, end_of, other_side}
 use Rattle.rasta_check.specs.Model.Laws.{NamesOne, ConfirmsAccepted}
 use Rattle.rasta_check.proofs.Model.PassedTests.{Passed, passed, cs_is}
 use Rattle.rasta_check.proofs.Model.MakeRows.{Making, opening, made_by}
@@ -53,9 +54,7 @@ confirms p e peer t h once x clock why after i mk a =
     ((last.m, last.there, last.same ∙ sym cs), λ j n there same. once j i n last.m there last.there (same ∙ (cs ∙ sym last.same)))
 
 pub returns : goal.returns
-returns c p ws w r b =
-    let g = all_held p ws w r b in
-    let few = few_made p w b in (
-      confirms p w.client.state w.server.state w.client.taken g.mine (numbered_once w.server.state.made few.1 g.theirs.numbered),
-      confirms p w.server.state w.client.state w.server.taken g.theirs (numbered_once w.client.state.made few.0 g.mine.numbered),
-    )
+returns c p ws w side r within =
+    let g = all_held p ws w side r within in
+    let peer = end_of w (other_side side) in
+    confirms p (end_of w side) peer (station_of w side).taken g.mine (numbered_once peer.made (few_made p w within (other_side side)) g.theirs.numbered)

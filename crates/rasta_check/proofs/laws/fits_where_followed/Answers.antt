@@ -4,7 +4,7 @@ use Rattle.rasta_udp.specs.Frame.{Packet}
 use Rattle.rasta_pdu.specs.Params.{Parameters}
 use Rattle.rasta_check.specs.Capture.Crossing.{FirstCopy, Sent}
 use Rattle.rasta_check.specs.Capture.Lists.{IsOrdered}
-use Rattle.rasta_check.specs.Model.Theorem.{other_side}
+use Rattle.rasta_check.specs.Model.World.{other_side}
 use Rattle.rasta_check.proofs.Script.Fits.{fits_follows, follows_fits}
 use Rattle.rasta_check.proofs.laws.fits_where_followed.Goals as goal
 

@@ -10,6 +10,6 @@ pub returns : goal.returns
 returns z p h = (
   λ ws w side r within. made_list p h.valid ws w side r within,
   λ ws w place r l. appended p ws w r place l,
-  λ ws w c s r hc hs lc ls. (known p ws w c s r (to_record p w.crossed Client c h.valid hc) (to_record p w.crossed Server s h.valid hs) lc ls).within,
+  λ ws w c s r hc hs lc ls. (known p ws w Client c s r (to_record p w.crossed Client c h.valid hc) (to_record p w.crossed Server s h.valid hs) lc ls).within,
   λ packets side sent others a b few. sent_once p packets side sent others (to_record p packets side sent h.valid a) (to_record p packets side others h.valid b) few,
 )

@@ -1,5 +1,6 @@
 use Rattle.rasta_end.specs.State.{EndState}
 use Rattle.rasta_end.specs.Units.{last_of}
+use Rattle.rasta_check.specs.Model.World.{end_of, other_side}
 use Rattle.rasta_check.specs.Model.Laws.{ConveysAll}
 use Rattle.rasta_check.proofs.Model.ConveyedUnits.{values, jump}
 use Rattle.rasta_check.proofs.Model.OfferedUnits.{Valued}
@@ -11,6 +12,4 @@ conveys : (e peer : EndState) → Valued e → ConveysAll e peer
 conveys e peer h ended owed = bare_rest (jump e) (last_of (values e)) e.offered e.owed owed (h.due ended)
 
 pub returns : goal.returns
-returns c p ws w r b =
-    let g = all_held p ws w r b in
-    (conveys w.client.state w.server.state g.values, conveys w.server.state w.client.state g.their_values)
+returns c p ws w side r within = conveys (end_of w side) (end_of w (other_side side)) (all_held p ws w side r within).values

@@ -1,8 +1,9 @@
 use Rattle.std.proofs.Common.{◌∙◌, map, sym, subst, IfOk, IsTrue}
+use Rattle.rasta_pcap.specs.declared.fault.Side.TheVariants.{Client, Server}
 use Rattle.rasta_udp.specs.Frame.{packet_of}
 use Rattle.rasta_check.specs.Model.World.{World, Step}
 use Rattle.rasta_plain.specs.Moving.{JudgedWorld}
-use Rattle.rasta_plain.proofs.Moving.{base_kept, client_steps, server_steps}
+use Rattle.rasta_plain.proofs.Moving.{base_kept, steps}
 use Rattle.rasta_plain.proofs.world.PlainWorld.moves.Goals as goal
 
 pub invariant_of-self : goal.invariant_of-self
@@ -25,7 +26,7 @@ returns-in-Client-clause-step c =
     let w : World = record { client = s.client.station; server = s.server.station; crossed = map packet_of s.crossed.items } in
     let next : World = record { client = m.new.self.station; server = s.server.station; crossed = map packet_of m.new.crossed.items } in
     subst (λ (v : JudgedWorld). IfOk m.result (λ moved. IsTrue moved → Step v.params v.world next)) c.self.view_is
-    (client_steps s.client.params w c.args.what m.new.self.station (map packet_of m.new.crossed.items) m.result m.ensures.answer)
+    (steps s.client.params w Client c.args.what m.new.self.station (map packet_of m.new.crossed.items) m.result m.ensures.answer)
 
 pub returns-in-Server-clause-step : goal.returns-in-Server-clause-step
 returns-in-Server-clause-step c =
@@ -35,4 +36,4 @@ returns-in-Server-clause-step c =
     let next : World = record { client = s.client.station; server = m.new.self.station; crossed = map packet_of m.new.crossed.items } in
     subst (λ (v : JudgedWorld). IfOk m.result (λ moved. IsTrue moved → Step v.params v.world next)) c.self.view_is
     (subst (λ p. IfOk m.result (λ moved. IsTrue moved → Step p w next)) c.self.invariant.0
-    (server_steps s.server.params w c.args.what m.new.self.station (map packet_of m.new.crossed.items) m.result m.ensures.answer))
+    (steps s.server.params w Server c.args.what m.new.self.station (map packet_of m.new.crossed.items) m.result m.ensures.answer))
