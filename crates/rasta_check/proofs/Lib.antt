@@ -2,5 +2,6 @@ pub mod Model
 pub mod Theorem
 pub mod Capture
 pub mod Script
+pub mod Run
 pub mod Verdict
 pub mod Internals

@@ -2,7 +2,7 @@
 ghost use Rattle.std.specs.Prelude.{◌≡◌, [], ◌∷◌, ◌++◌, List, map, length, option_map, slice_get, None, Some, Ok, Err, MatchOption, MatchResult, OnOk, OnErr, IfOk, ◌⊎◌};
 ghost use Rattle.rasta_pcap.specs.Fault.{no_memory};
 ghost use Rattle.rasta_udp.specs.Frame.{Packet, packet_in, packet_of};
-ghost use Rattle.rasta_check.specs.Capture.Crossing.{FirstCopy, Spells, packet_fault};
+ghost use Rattle.rasta_check.specs.Capture.Crossing.{FirstCopy, Spells, number_in_bytes, packet_fault};
 ghost use Rattle.rasta_pdu.specs.Pdu.{RedundancyPdu, decode_of};
 ghost use Rattle.rasta_check.specs.Capture.Lists.{copy_of};
 ghost use Rattle.rasta_check.specs.Capture.Reading.{Crossing, IsCrossing, crossing_with, sent_by, sent_after, nothing_crossed, after_packet, after_frame, after_record};
@@ -11,7 +11,7 @@ ghost use Rattle.rasta_check.specs.Capture.Crossing.{is_next_number};
 ghost use Rattle.rasta_check.specs.Capture.Crossing.{IsRecorded};
 ghost use Rattle.rasta_check.specs.Model.World.{most_sent};
 ghost use Rattle.rasta_check.specs.Model.Theorem.{most_packets};
-ghost use Rattle.rasta_check.specs.Internals.Packets.{number_in_bytes, with_new};
+ghost use Rattle.rasta_check.specs.Internals.Packets.{with_new};
 
 use crate::map_list::MapList;
 use crate::sent_list::SentList;

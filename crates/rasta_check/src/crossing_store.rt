@@ -3,10 +3,9 @@ ghost use Rattle.std.specs.Prelude.{◌≡◌, ◌∷◌, ◌++◌, [], ◌<◌,
 ghost use Rattle.rasta_pcap.specs.Fault.{no_memory};
 ghost use Rattle.rasta_udp.specs.Frame.{Packet, packet_in, packet_of};
 ghost use Rattle.rasta_pdu.specs.Pdu.{RedundancyPdu, decode_of, redundancy_bytes};
-ghost use Rattle.rasta_check.specs.Capture.Crossing.{FirstCopy, Spells, is_next_number, packet_fault};
+ghost use Rattle.rasta_check.specs.Capture.Crossing.{FirstCopy, Spells, is_next_number, number_in_bytes, packet_fault};
 ghost use Rattle.rasta_check.specs.Internals.Datagrams.{kept_by};
 ghost use Rattle.rasta_check.specs.Capture.Lists.{copy_of, position_of_number, position_of_place};
-ghost use Rattle.rasta_check.specs.Internals.Packets.{number_in_bytes};
 ghost use Rattle.rasta_check.specs.Capture.Reading.{Crossing, IsCrossing, sent_by, with_packet, nothing_crossed, after_packet, after_frame, after_record};
 ghost use Rattle.rasta_check.specs.Internals.Stored.{IsJudged, IsStore, crossing_by, first_copy_bytes};
 ghost use Rattle.rasta_check.specs.Model.Theorem.{most_packets};

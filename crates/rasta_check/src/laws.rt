@@ -11,7 +11,8 @@ ghost use Rattle.rasta_check.specs.Capture.Reading.{AreSentLists, Crossing, cros
 ghost use Rattle.rasta_check.specs.Capture.Faults.{Impossible, packets_through, IsFaultlessCapture, IsRefusedCapture};
 ghost use Rattle.rasta_check.specs.Model.Laws;
 ghost use Rattle.rasta_check.specs.Model.Theorem.{OfConnection, SentLists, Definite, Necessity};
-ghost use Rattle.rasta_check.specs.Script.Laws.{Simulation, Sharpness, Complete, Stuck, Agree, OneAnswer, OneVerdict};
+ghost use Rattle.rasta_check.specs.Run.Laws.{OneLineEach, SameRuns, Simulation};
+ghost use Rattle.rasta_check.specs.Script.Laws.{Sharpness, Complete, Stuck, Agree, OneAnswer, OneVerdict};
 
 /// The SN of a PDU names one position of its end.
 pub fn sn_once()
@@ -50,7 +51,17 @@ pub fn definite()
     ensures { (p : Parameters) → OfConnection p → Definite p }
 {}
 
-/// Two scripts that fit, each without the other, give one run that sends exactly the packets.
+/// Runs with what happened in them are the runs of two ends.
+pub fn same_runs()
+    ensures { (p : Parameters) → SameRuns p }
+{}
+
+/// Each move of a run has one line.
+pub fn one_line_each()
+    ensures { (p : Parameters) → OneLineEach p }
+{}
+
+/// Two scripts that fit, each without the other, tell one run that sends exactly the packets, move by move.
 pub fn simulation()
     ensures { (p : Parameters) → OfConnection p → Simulation p }
 {}

@@ -27,7 +27,11 @@ use Rattle.rasta_check.specs.Verdict.Taken.{TakenUnit, pdus_made, all_made, sure
 use Rattle.rasta_check.specs.Script.Fitting.{Fits, FirstFault, at_entry, after_last}
 use Rattle.rasta_check.specs.Script.Following.{Cursor, Advances, takes_next, makes_next, Leads, at_start}
 use Rattle.rasta_check.specs.Model.Theorem.{OfConnection, SentLists, Definite, Necessity, Appends, HasHandedUp, units_handed, units_listed}
-use Rattle.rasta_check.specs.Script.Laws.{Simulation, Sharpness, Complete, Stuck}
+use Rattle.rasta_check.specs.Run.Moves.{Happened, Runs}
+use Rattle.rasta_check.specs.Run.Lines.{took, made, brought, waited, told}
+use Rattle.rasta_check.specs.Run.Levels.{takes_at, makes_at}
+use Rattle.rasta_check.specs.Run.Laws.{Simulation}
+use Rattle.rasta_check.specs.Script.Laws.{Sharpness, Complete, Stuck}
 use Rattle.rasta_check.proofs.Capture.ListForms.{of_record}
 
 -- ---- the example
@@ -284,8 +288,12 @@ tried_definite law ws w r e = law.0 ws w (first ∷ []) [] second [] r e nothing
 pub tried_goes_on : Definite connection → packet_fault connection [] second ≡ None → (more : List FirstCopy) × Sent connection packets Server more
 tried_goes_on law none = (law.1 (first ∷ []) second [] (record { fits = all_bytes beat_bytes refl }) nothing_sent (omega arith)).0 none
 
--- the scripts give a run that sends the packets
-pub tried_simulation : Simulation connection → (ws : List World) × (w : World) × Reaches connection ws w × (w.crossed ≡ packets) × (w.client.state ≡ client_end) × (w.server.state ≡ server_end)
+-- the scripts tell a run that sends the packets, in six lines: the data is made, arrives and is taken, and then the heartbeat is made
+pub tried_simulation : Simulation connection → (happened : List Happened) × (w : World) × Runs connection happened w × (w.crossed ≡ packets) × (w.client.state ≡ client_end) × (w.server.state ≡ server_end)
+    × (told happened ≡ record { level = 0; side = Client; what = waited 1020 } ∷ record { level = 0; side = Client; what = made 9 1020 Fresh }
+    ∷ record { level = 1; side = Server; what = brought 9 } ∷ record { level = 1; side = Server; what = took 9 }
+    ∷ record { level = 1; side = Server; what = waited 9050 } ∷ record { level = 1; side = Server; what = made 41 9050 Beat } ∷ [])
+unfolding takes_at makes_at
 tried_simulation law = law packets from_client from_server client_script server_script client_end server_end recorded client_sent server_sent client_fits server_fits
 
 -- the server handed up both messages, before the heartbeat crossed

@@ -15,8 +15,8 @@ use Rattle.rasta_check.proofs.Verdict.FileVerdicts.{same_params}
 use Rattle.rasta_verdict.specs.Claims.{ClaimsHeadline}
 use Rattle.rasta_verdict.specs.Judged.{IsChecked, IsJudged, IsRefusedBy, status_of_verdict, text_of_verdict}
 use Rattle.std.specs.List.{flat_map}
-use Rattle.rasta_runs.specs.Lines.{Line}
-use Rattle.rasta_runs.proofs.Simulated.{simulation}
+use Rattle.rasta_check.specs.Run.Lines.{Line}
+use Rattle.rasta_check.proofs.Run.Simulation.{simulation}
 use Rattle.rasta_verdict.specs.RunText.{line_text, run_text}
 use Rattle.rasta_verdict.specs.ToldRun.{IsToldRun}
 use Rattle.rasta_verdict.specs.Verdict as verdict

@@ -6,8 +6,8 @@ use Rattle.std.proofs.lemmas.Bool.Decides.{nat_tests}
 use Rattle.rasta_end.specs.declared.why.Why.{Why}
 use Rattle.rasta_cert.specs.declared.entry.Entry.{Entry}
 use Rattle.rasta_cert.specs.declared.entry.Entry.TheVariants.{Take, Make}
-use Rattle.rasta_runs.specs.Levels.{made_in, makes_at, taken_in, takes_at}
-use Rattle.rasta_runs.proofs.Entries.{above, below, makes_here, makes_none, makes_other, makes_past, takes_none, takes_other, takes_past}
+use Rattle.rasta_check.specs.Run.Levels.{made_in, makes_at, taken_in, takes_at}
+use Rattle.rasta_check.proofs.Run.Entries.{above, below, makes_here, makes_none, makes_other, makes_past, takes_none, takes_other, takes_past}
 use Rattle.rasta_verdict.specs.Told.{IsOrderedFrom}
 
 -- ---- below its level a script says nothing

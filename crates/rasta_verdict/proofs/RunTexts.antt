@@ -11,12 +11,12 @@ use Rattle.rasta_cert.specs.declared.entry.Entry.{Entry}
 use Rattle.rasta_cert.specs.declared.entry.Entry.TheVariants.{Take}
 use Rattle.rasta_cert.specs.Certificate.{Scripts}
 use Rattle.rasta_check.specs.Capture.Crossing.{Spells}
-use Rattle.rasta_runs.specs.Lines.{number_of}
-use Rattle.rasta_runs.specs.Levels.{makes_at, takes_at}
+use Rattle.rasta_check.specs.Run.Lines.{number_of}
+use Rattle.rasta_check.specs.Run.Levels.{makes_at, takes_at}
 use Rattle.rasta_verdict.specs.RunText.{take_line}
 use Rattle.rasta_verdict.specs.Told.{IsAfter, IsAfterTakes, IsOrderedFrom, of_side, takes_text, told_crossing, told_level, told_levels, told_packet}
 use Rattle.rasta_check.proofs.Capture.Crossings.{number_spelled}
-use Rattle.rasta_runs.proofs.Entries.{below, makes_past, takes_here, takes_other}
+use Rattle.rasta_check.proofs.Run.Entries.{below, makes_past, takes_here, takes_other}
 
 -- ---- the takes of a level
 

@@ -19,11 +19,11 @@ use Rattle.rasta_check.specs.Capture.Crossing.{FirstCopy}
 use Rattle.rasta_check.specs.Capture.Lists.{places_of, position_of_place}
 use Rattle.rasta_check.specs.Capture.Reading.{Crossing}
 use Rattle.rasta_check.specs.Script.Fitting.{AreInOrder, Fits, places_made}
-use Rattle.rasta_runs.specs.Lines.{Line, number_of}
-use Rattle.rasta_runs.specs.Levels.{makes_at, takes_at, by_side_lines, crossed_lines, each_make, each_take, level_lines, levels_lines, packet_lines, takes_lines}
+use Rattle.rasta_check.specs.Run.Lines.{Line, number_of}
+use Rattle.rasta_check.specs.Run.Levels.{makes_at, takes_at, by_side_lines, crossed_lines, each_make, each_take, level_lines, levels_lines, packet_lines, takes_lines}
 use Rattle.rasta_verdict.specs.RunText.{copy_line, line_text, make_line, run_text, take_line, what_text}
 use Rattle.rasta_verdict.specs.Told.{IsOrderedFrom, IsTold, of_side, takes_text, told_crossing, told_level, told_levels, told_packet}
-use Rattle.rasta_runs.proofs.Entries.{makes_here, makes_none, makes_other, makes_past}
+use Rattle.rasta_check.proofs.Run.Entries.{makes_here, makes_none, makes_other, makes_past}
 
 -- ---- where a place stands among the places of a list
 

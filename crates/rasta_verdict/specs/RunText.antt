@@ -6,8 +6,8 @@ use Rattle.rasta_pcap.specs.declared.fault.Side.{Side}
 use Rattle.rasta_end.specs.declared.why.Why.{Why}
 use Rattle.rasta_cert.specs.Certificate.{Scripts, why_line}
 use Rattle.rasta_check.specs.Capture.Reading.{Crossing}
-use Rattle.rasta_runs.specs.Lines.{What, took, made, copied, brought, waited, Line}
-use Rattle.rasta_runs.specs.Levels.{run_lines}
+use Rattle.rasta_check.specs.Run.Lines.{What, took, made, copied, brought, waited, Line}
+use Rattle.rasta_check.specs.Run.Levels.{run_lines}
 use Rattle.rasta_show.specs.Lines.{words_before, line_of, side_text}
 
 -- `LEVEL SIDE take NUMBER`

@@ -11,8 +11,8 @@ use Rattle.rasta_cert.specs.Certificate.{Scripts}
 use Rattle.rasta_check.specs.Capture.Lists.{places_of}
 use Rattle.rasta_check.specs.Capture.Reading.{Crossing}
 use Rattle.rasta_check.specs.Script.Fitting.{places_made}
-use Rattle.rasta_runs.specs.Lines.{number_of}
-use Rattle.rasta_runs.specs.Levels.{makes_at, takes_at}
+use Rattle.rasta_check.specs.Run.Lines.{number_of}
+use Rattle.rasta_check.specs.Run.Levels.{makes_at, takes_at}
 use Rattle.rasta_verdict.specs.RunText.{copy_line, make_line, take_line}
 
 -- ---- the order of a script

@@ -4,8 +4,8 @@ use Rattle.std.specs.List.{flat_map}
 use Rattle.rasta_udp.specs.Frame.{Packet}
 use Rattle.rasta_pdu.specs.Params.{Parameters}
 use Rattle.rasta_check.specs.Model.World.{World}
-use Rattle.rasta_runs.specs.Runs.{Happened, Runs}
-use Rattle.rasta_runs.specs.Lines.{told}
+use Rattle.rasta_check.specs.Run.Moves.{Happened, Runs}
+use Rattle.rasta_check.specs.Run.Lines.{told}
 use Rattle.rasta_verdict.specs.RunText.{line_text}
 
 -- the text tells a run: some run of two ends sends exactly these packets, and its takes, makes and copies, in its order, are the

@@ -1,7 +1,7 @@
 //! What a script begins with.
 ghost use Rattle.std.specs.Prelude.{◌≡◌, ◌<◌, ℕ, suc, [], ◌∷◌, IfNone, IfSome, option_map};
 ghost use Rattle.rasta_cert.specs.declared.entry.Entry.TheVariants.{Take};
-ghost use Rattle.rasta_runs.specs.Levels.{made_in, makes_at, taken_in, takes_at};
+ghost use Rattle.rasta_check.specs.Run.Levels.{made_in, makes_at, taken_in, takes_at};
 ghost use Rattle.rasta_verdict.specs.Told.{IsOrderedFrom};
 ghost use Rattle.rasta_verdict.specs.Passed.{clock_and_why, makes_of};
 

@@ -1,5 +1,6 @@
 -- What crossed past the tap, and the list of PDUs that each side sent.
-use Rattle.std.specs.Prelude.{◌≡◌, ◌⊎◌, ℕ, suc, ◌+◌, ◌-◌, ◌≤◌, ◌<◌, Bool, true, List, [], ◌∷◌, length, drop, Option, Some, None, Result, Ok, Err, slice_get, filter_map, if◌then◌else◌, ◌==◌}
+use Rattle.std.specs.Prelude.{◌≡◌, ◌⊎◌, ℕ, suc, ◌+◌, ◌-◌, ◌≤◌, ◌<◌, Bool, true, List, [], ◌∷◌, length, drop, Option, Some, None, Result, Ok, Err, slice_get, slice_index, filter_map, if◌then◌else◌, ◌==◌}
+use Rattle.std.specs.Int.{from_le_bytes, w32}
 use Rattle.std.specs.Str.{bytes_eq}
 use Rattle.rasta_pcap.specs.declared.fault.Fault.{Fault}
 use Rattle.rasta_pcap.specs.declared.fault.Side.{Side}
@@ -34,6 +35,10 @@ CrossRecorded p packets = (place : ℕ) (packet : Packet) → slice_get packets 
 pub record Spells (p : Parameters) (side : Side) (pdu : RedundancyPdu) (bytes : List ℕ) : Type 0 where
   pub fits : IsRedundancyPdu p pdu
   pub same : bytes ≡ redundancy_bytes p side pdu
+
+-- the number in the bytes of a redundancy number
+abbrev pub number_in_bytes : List ℕ → ℕ
+number_in_bytes bytes = from_le_bytes w32 (slice_index bytes 4 ∷ slice_index bytes 5 ∷ slice_index bytes 6 ∷ slice_index bytes 7 ∷ [])
 
 -- the first packet of a redundancy number: its place among the packets, counted from 0, and its PDU
 pub record FirstCopy : Type 0 where

@@ -1,6 +1,5 @@
--- Packets and lists as the code adds to them.
-use Rattle.std.specs.Prelude.{ℕ, List, [], ◌∷◌, ◌++◌, Option, Some, None, Result, Ok, Bool, true, false, slice_index}
-use Rattle.std.specs.Int.{from_le_bytes, w32}
+-- Lists as the code adds to them.
+use Rattle.std.specs.Prelude.{ℕ, List, [], ◌∷◌, ◌++◌, Option, Some, None, Result, Ok, Bool, true, false}
 use Rattle.rasta_pcap.specs.declared.fault.Fault.{Fault}
 use Rattle.rasta_pcap.specs.Capture.{Reading}
 use Rattle.rasta_pdu.specs.declared.pdu.Pdu.{Pdu}
@@ -17,7 +16,3 @@ with_new sent place (Some pdu) = sent ++ copy_of (place, pdu) ∷ []
 abbrev pub after_next : Bool → Crossing → Reading → Result Crossing Fault
 after_next true k rest = after_reading k rest
 after_next false k rest = Ok k
-
--- the number in the bytes of a redundancy number
-abbrev pub number_in_bytes : List ℕ → ℕ
-number_in_bytes bytes = from_le_bytes w32 (slice_index bytes 4 ∷ slice_index bytes 5 ∷ slice_index bytes 6 ∷ slice_index bytes 7 ∷ [])

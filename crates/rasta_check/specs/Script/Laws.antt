@@ -17,16 +17,6 @@ use Rattle.rasta_check.specs.Script.Following.{Cursor, Advances, Leads, Follows,
 use Rattle.rasta_check.specs.Verdict.Report.{Explained, IsScriptVerdict}
 use Rattle.rasta_check.specs.Model.Theorem.{most_packets, units_handed, units_listed}
 
--- ---- 4. simulation
-
--- two scripts that fit, each without the other, give one run that sends exactly these packets and ends in the ends that they reach
-abbrev pub Simulation : Parameters → Type 0
-Simulation p =
-    (packets : List Packet) (c s : List FirstCopy) (cs ss : List Entry) (a b : EndState) → CrossRecorded p packets
-    → Sent p packets Client c → Sent p packets Server s
-    → Fits p Client (length packets) c s cs a → Fits p Server (length packets) s c ss b
-    → (ws : List World) × (w : World) × Reaches p ws w × (w.crossed ≡ packets) × (w.client.state ≡ a) × (w.server.state ≡ b)
-
 -- ---- 5. sharpness
 
 -- where both scripts fit, and the lists are within the limits, some run that sends the packets has both ends handing up exactly what is listed

@@ -1,11 +1,5 @@
-use Rattle.std.proofs.Common.{length}
-use Rattle.rasta_pcap.specs.declared.fault.Side.TheVariants.{Client, Server}
-use Rattle.rasta_check.proofs.Script.Fits.{fits_follows}
-use Rattle.rasta_check.proofs.Capture.ListForms.{to_record}
-use Rattle.rasta_check.proofs.Script.Simulation.{simulated}
+use Rattle.rasta_check.proofs.Run.Simulation.{simulation}
 use Rattle.rasta_check.proofs.laws.simulation.Goals as goal
 
 pub returns : goal.returns
-returns z p h packets c s cs ss a b recorded hc hs fc fs =
-    simulated p packets c s cs ss a b recorded (to_record p packets Client c h.valid hc) (to_record p packets Server s h.valid hs)
-    (fits_follows p (length packets) c s Client cs a fc) (fits_follows p (length packets) s c Server ss b fs)
+returns z p h = simulation p h.valid

@@ -8,9 +8,9 @@ use Rattle.rasta_end.specs.State.{EndState}
 use Rattle.rasta_check.specs.Capture.Crossing.{CrossRecorded, FirstCopy, Sent}
 use Rattle.rasta_check.specs.Model.World.{World, Reaches}
 use Rattle.rasta_check.specs.Script.Fitting.{Fits}
-use Rattle.rasta_runs.specs.Runs.{Happened, Runs, worlds_of}
-use Rattle.rasta_runs.specs.Lines.{told}
-use Rattle.rasta_runs.specs.Levels.{run_lines}
+use Rattle.rasta_check.specs.Run.Moves.{Happened, Runs, worlds_of}
+use Rattle.rasta_check.specs.Run.Lines.{told}
+use Rattle.rasta_check.specs.Run.Levels.{run_lines}
 
 -- what happens in a run leads through the run's worlds, in their order; and in each run something happens in each of its worlds
 abbrev pub SameRuns : Parameters → Type 0

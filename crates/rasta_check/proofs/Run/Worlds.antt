@@ -2,7 +2,7 @@
 use Rattle.std.proofs.Common.{◌≡◌, List, [], ◌∷◌, ◌++◌, refl, ap, sym, ◌∙◌, subst}
 use Rattle.rasta_pdu.specs.Params.{Parameters}
 use Rattle.rasta_check.specs.Model.World.{World, Step, side_moves, moved, Reaches, begins, goes_on}
-use Rattle.rasta_runs.specs.Runs.{Happened, Runs, starts, does, worlds_of}
+use Rattle.rasta_check.specs.Run.Moves.{Happened, Runs, starts, does, worlds_of}
 
 worlds_push : (hs : List Happened) (h : Happened) → worlds_of (hs ++ h ∷ []) ≡ worlds_of hs ++ h.world ∷ []
 worlds_push [] h = refl

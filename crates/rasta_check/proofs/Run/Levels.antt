@@ -18,13 +18,13 @@ use Rattle.rasta_check.specs.Model.World.{Station, World, first_station}
 use Rattle.rasta_check.proofs.Capture.FaultlessLists.{IsSent}
 use Rattle.rasta_check.proofs.Script.Simulation.{Tracks, Drained, apart_sides, first_number_of, first_tracks, nothing_left, other_side, slice_get_some}
 use Rattle.rasta_check.proofs.Model.Steps.{base}
-use Rattle.rasta_runs.specs.Runs.{Happened, Runs, starts}
-use Rattle.rasta_runs.specs.Lines.{Line, told, number_of}
-use Rattle.rasta_runs.specs.Levels.{takes_at, makes_at, each_take, takes_lines, side_lines, crossed_lines, by_side_lines, packet_lines, level_lines}
-use Rattle.rasta_runs.proofs.Rests.{Above, lead_above, Says}
-use Rattle.rasta_runs.proofs.Moving.{client_many, server_many}
-use Rattle.rasta_runs.proofs.Takes.{drain, above_next}
-use Rattle.rasta_runs.proofs.Packets.{Next, made_now, copied_now, next_is}
+use Rattle.rasta_check.specs.Run.Moves.{Happened, Runs, starts}
+use Rattle.rasta_check.specs.Run.Lines.{Line, told, number_of}
+use Rattle.rasta_check.specs.Run.Levels.{takes_at, makes_at, each_take, takes_lines, side_lines, crossed_lines, by_side_lines, packet_lines, level_lines}
+use Rattle.rasta_check.proofs.Run.Rests.{Above, lead_above, Says}
+use Rattle.rasta_check.proofs.Run.Moves.{client_many, server_many}
+use Rattle.rasta_check.proofs.Run.Takes.{drain, above_next}
+use Rattle.rasta_check.proofs.Run.Packets.{Next, made_now, copied_now, next_is}
 
 -- ---- lines before a level
 

@@ -8,7 +8,7 @@ use Rattle.rasta_cert.specs.declared.entry.Entry.{Entry}
 use Rattle.rasta_cert.specs.declared.entry.Entry.TheVariants.{Take, Make}
 use Rattle.rasta_check.specs.Capture.Crossing.{FirstCopy}
 use Rattle.rasta_check.specs.Capture.Lists.{position_of_place}
-use Rattle.rasta_runs.specs.Lines.{Line, took, made, copied, brought, waited, number_of}
+use Rattle.rasta_check.specs.Run.Lines.{Line, took, made, copied, brought, waited, number_of}
 
 -- ---- what a script says of a level
 

@@ -5,9 +5,9 @@ use Rattle.rasta_pcap.specs.declared.fault.Side.{Side}
 use Rattle.rasta_udp.specs.Frame.{Packet}
 use Rattle.rasta_pdu.specs.Params.{Parameters}
 use Rattle.rasta_check.specs.Model.World.{Station, World, Move, Moves, makes, repeats, arrives, takes, waits}
-use Rattle.rasta_runs.specs.Runs.{Happened, Runs, starts, does}
-use Rattle.rasta_runs.specs.Lines.{Line, copy_lines, lines_in, lines_of_move, told}
-use Rattle.rasta_runs.proofs.Moving.{told_push}
+use Rattle.rasta_check.specs.Run.Moves.{Happened, Runs, starts, does}
+use Rattle.rasta_check.specs.Run.Lines.{Line, copy_lines, lines_in, lines_of_move, told}
+use Rattle.rasta_check.proofs.Run.Moves.{told_push}
 
 one_line : {p : Parameters} {b a a' : Station} {xs ys : List Packet} {m : Move} (s : Side) → Moves p b xs a m a' ys → length (lines_of_move s a b xs m) ≡ 1
 one_line s (makes x why after channel reserve check bytes mk sp rec) = refl

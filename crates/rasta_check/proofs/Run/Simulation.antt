@@ -8,9 +8,9 @@ use Rattle.rasta_cert.specs.declared.entry.Entry.{Entry}
 use Rattle.rasta_check.specs.Capture.Crossing.{FirstCopy}
 use Rattle.rasta_check.proofs.Script.Fits.{fits_follows}
 use Rattle.rasta_check.proofs.Capture.ListForms.{to_record}
-use Rattle.rasta_runs.specs.Levels.{level_lines, levels_lines, run_lines}
-use Rattle.rasta_runs.specs.Theorem.{Simulation}
-use Rattle.rasta_runs.proofs.AllLevels.{lines_before, simulated}
+use Rattle.rasta_check.specs.Run.Levels.{level_lines, levels_lines, run_lines}
+use Rattle.rasta_check.specs.Run.Laws.{Simulation}
+use Rattle.rasta_check.proofs.Run.Levels.{lines_before, simulated}
 
 module _ (packets : List Packet) (c s : List FirstCopy) (cs ss : List Entry) where
   -- the levels before this one, and so many from there on

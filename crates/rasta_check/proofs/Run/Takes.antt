@@ -18,11 +18,11 @@ use Rattle.rasta_check.proofs.Capture.FaultlessLists.{IsSent}
 use Rattle.rasta_check.proofs.Script.Simulation.{Tracks, Drained, lt_of, moved_made, next_number, slice_get_some}
 use Rattle.rasta_check.proofs.Model.Steps.{base}
 use Rattle.rasta_check.proofs.Model.TakeRows.{take_leaves}
-use Rattle.rasta_runs.specs.Lines.{Line}
-use Rattle.rasta_runs.specs.Levels.{takes_at, makes_at, take_line, brought_line, each_take, takes_lines}
-use Rattle.rasta_runs.proofs.Entries.{takes_here, takes_other, takes_past, makes_past, below, takes_none}
-use Rattle.rasta_runs.proofs.Rests.{Above, lead_above, no_takes}
-use Rattle.rasta_runs.proofs.Moving.{Many, stays, moves, append_many}
+use Rattle.rasta_check.specs.Run.Lines.{Line}
+use Rattle.rasta_check.specs.Run.Levels.{takes_at, makes_at, take_line, brought_line, each_take, takes_lines}
+use Rattle.rasta_check.proofs.Run.Entries.{takes_here, takes_other, takes_past, makes_past, below, takes_none}
+use Rattle.rasta_check.proofs.Run.Rests.{Above, lead_above, no_takes}
+use Rattle.rasta_check.proofs.Run.Moves.{Many, stays, moves, append_many}
 
 -- what the takes of a level leave: the lines are those of the level, and of later levels the rest says what the script says
 pub record Drain (p : Parameters) (n k : ℕ) (s : Side) (own peer : List FirstCopy) (from : List Entry) (last : Cursor) (a b : Station) (xs : List Packet) : Type 0 where

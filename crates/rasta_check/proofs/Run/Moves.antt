@@ -6,8 +6,8 @@ use Rattle.rasta_pcap.specs.declared.fault.Side.TheVariants.{Client, Server}
 use Rattle.rasta_udp.specs.Frame.{Packet}
 use Rattle.rasta_pdu.specs.Params.{Parameters}
 use Rattle.rasta_check.specs.Model.World.{Station, Move, Moves}
-use Rattle.rasta_runs.specs.Runs.{Happened, Runs, does}
-use Rattle.rasta_runs.specs.Lines.{Line, lines_of_move, lines_in, told}
+use Rattle.rasta_check.specs.Run.Moves.{Happened, Runs, does}
+use Rattle.rasta_check.specs.Run.Lines.{Line, lines_of_move, lines_in, told}
 
 -- ---- lists of lines
 

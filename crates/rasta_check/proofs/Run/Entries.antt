@@ -6,7 +6,7 @@ use Rattle.std.proofs.lemmas.Bool.Decides.{nat_tests}
 use Rattle.rasta_end.specs.declared.why.Why.{Why}
 use Rattle.rasta_cert.specs.declared.entry.Entry.{Entry}
 use Rattle.rasta_cert.specs.declared.entry.Entry.TheVariants.{Take, Make}
-use Rattle.rasta_runs.specs.Levels.{takes_at, makes_at}
+use Rattle.rasta_check.specs.Run.Levels.{takes_at, makes_at}
 
 -- an item is kept where the test holds, and else not
 kept : {A : Type 0} (b : Bool) (x : A) (xs : List A) → b ≡ true → cons_option (if b then Some x else None) xs ≡ x ∷ xs

@@ -13,8 +13,8 @@ use Rattle.rasta_check.specs.Script.Following.{Cursor, Advances, takes_next, mak
 use Rattle.rasta_check.proofs.Capture.FaultlessLists.{IsSent}
 use Rattle.rasta_check.proofs.Capture.Positions.{position_at, position_none}
 use Rattle.rasta_check.proofs.Script.Simulation.{slice_get_some, places_once}
-use Rattle.rasta_runs.specs.Levels.{takes_at, makes_at}
-use Rattle.rasta_runs.proofs.Entries.{above, makes_none, makes_other, makes_past, takes_none, takes_other, takes_past}
+use Rattle.rasta_check.specs.Run.Levels.{takes_at, makes_at}
+use Rattle.rasta_check.proofs.Run.Entries.{above, makes_none, makes_other, makes_past, takes_none, takes_other, takes_past}
 
 -- no entry lies below this level
 abbrev pub Above : ℕ → List Entry → Type 0

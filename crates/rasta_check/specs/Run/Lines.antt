@@ -4,9 +4,9 @@ use Rattle.rasta_pcap.specs.declared.fault.Side.{Side}
 use Rattle.rasta_udp.specs.Frame.{Packet}
 use Rattle.rasta_end.specs.declared.why.Why.{Why}
 use Rattle.rasta_end.specs.State.{wrapped}
-use Rattle.rasta_check.specs.Internals.Packets.{number_in_bytes}
+use Rattle.rasta_check.specs.Capture.Crossing.{number_in_bytes}
 use Rattle.rasta_check.specs.Model.World.{Station, World, Move, making, repeating, arriving, taking, waiting, station_of, other_side}
-use Rattle.rasta_runs.specs.Runs.{Happened}
+use Rattle.rasta_check.specs.Run.Moves.{Happened}
 
 -- what a line tells, by redundancy numbers
 pub data What : Type 0 where

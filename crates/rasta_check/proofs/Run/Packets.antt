@@ -12,9 +12,8 @@ use Rattle.rasta_end.specs.declared.why.Why.{Why}
 use Rattle.rasta_end.specs.State.{Made, wrapped}
 use Rattle.rasta_cert.specs.declared.entry.Entry.{Entry}
 use Rattle.rasta_cert.specs.declared.entry.Entry.TheVariants.{Take, Make}
-use Rattle.rasta_check.specs.Capture.Crossing.{Spells, FirstCopy, CrossRecorded}
+use Rattle.rasta_check.specs.Capture.Crossing.{Spells, FirstCopy, CrossRecorded, number_in_bytes}
 use Rattle.rasta_check.specs.Capture.Lists.{position_of_place}
-use Rattle.rasta_check.specs.Internals.Packets.{number_in_bytes}
 use Rattle.rasta_check.specs.Script.Following.{Cursor, Advances, takes_next, makes_next, Leads}
 use Rattle.rasta_check.specs.Model.World.{Station, making, repeating, waiting, makes, repeats, waits}
 use Rattle.rasta_check.proofs.Capture.FaultlessLists.{IsSent}
@@ -22,11 +21,11 @@ use Rattle.rasta_check.proofs.Capture.Crossings.{number_spelled}
 use Rattle.rasta_check.proofs.Model.ListGrowth.{get_front, get_push}
 use Rattle.rasta_check.proofs.Script.Simulation.{Tracks, Drained, Later, later_by, next_number, next_packet, next_place, places_once, slice_get_some, untouched}
 use Rattle.rasta_check.proofs.Model.Steps.{base, made_more}
-use Rattle.rasta_runs.specs.Lines.{Line, lines_of_move, copy_lines, number_of}
-use Rattle.rasta_runs.specs.Levels.{takes_at, makes_at, make_line, waited_line, each_make, side_lines, crossed_lines}
-use Rattle.rasta_runs.proofs.Entries.{takes_past, makes_here, makes_other, below}
-use Rattle.rasta_runs.proofs.Rests.{Above, lead_above, no_makes, place_found, place_missing}
-use Rattle.rasta_runs.proofs.Moving.{Many, stays, moves}
+use Rattle.rasta_check.specs.Run.Lines.{Line, lines_of_move, copy_lines, number_of}
+use Rattle.rasta_check.specs.Run.Levels.{takes_at, makes_at, make_line, waited_line, each_make, side_lines, crossed_lines}
+use Rattle.rasta_check.proofs.Run.Entries.{takes_past, makes_here, makes_other, below}
+use Rattle.rasta_check.proofs.Run.Rests.{Above, lead_above, no_makes, place_found, place_missing}
+use Rattle.rasta_check.proofs.Run.Moves.{Many, stays, moves}
 
 -- what the make of a packet leaves: its lines are those of the packet, and of later levels the rest says what the script says
 pub record Made_step (p : Parameters) (n k : ℕ) (s : Side) (own peer : List FirstCopy) (number : ℕ) (from es : List Entry) (last : Cursor) (a b : Station) (xs ys : List Packet) : Type 0 where

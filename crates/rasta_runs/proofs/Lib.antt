@@ -1,9 +1,0 @@
-pub mod Same
-pub mod Entries
-pub mod Rests
-pub mod Moving
-pub mod Counting
-pub mod Takes
-pub mod Packets
-pub mod AllLevels
-pub mod Simulated

@@ -1,5 +1,0 @@
-use Rattle.rasta_runs.proofs.Counting.{one_line_each}
-use Rattle.rasta_runs.proofs.laws.one_line_each.Goals as goal
-
-pub returns : goal.returns
-returns z p = one_line_each p

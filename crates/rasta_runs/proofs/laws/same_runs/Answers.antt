@@ -1,5 +1,0 @@
-use Rattle.rasta_runs.proofs.Same.{reaches_of, runs_of}
-use Rattle.rasta_runs.proofs.laws.same_runs.Goals as goal
-
-pub returns : goal.returns
-returns z p = (reaches_of p, runs_of p)
