@@ -1,5 +1,5 @@
 -- All levels: two scripts that fit tell a run.
-use Rattle.std.proofs.Common.{◌≡◌, ℕ, zero, suc, ◌+◌, ◌<◌, ◌≤◌, List, [], ◌++◌, length, Some, slice_get, take, refl, ap, sym, ◌∙◌, arith, subst}
+use Rattle.std.proofs.Common.{◌≡◌, ℕ, zero, suc, ◌+◌, ◌≤◌, List, [], ◌++◌, length, Some, slice_get, take, refl, ap, sym, ◌∙◌, arith, subst}
 use Rattle.std.specs.Prelude.{Option, None}
 use Rattle.std.proofs.lemmas.List.{append-nil, append_assoc, take_all, length-take-le}
 use Rattle.std.proofs.lemmas.Option.{slice_get_within}
@@ -7,244 +7,201 @@ use Rattle.rasta_pcap.specs.declared.fault.Side.{Side}
 use Rattle.rasta_pcap.specs.declared.fault.Side.TheVariants.{Client, Server}
 use Rattle.rasta_udp.specs.Frame.{Packet}
 use Rattle.rasta_pdu.specs.Params.{Parameters}
-use Rattle.rasta_end.specs.declared.why.Why.{Why}
 use Rattle.rasta_end.specs.State.{EndState}
 use Rattle.rasta_end.specs.Starts.{start_of}
+use Rattle.rasta_end.specs.declared.why.Why.{Why}
 use Rattle.rasta_cert.specs.declared.entry.Entry.{Entry}
 use Rattle.rasta_check.specs.Capture.Crossing.{FirstCopy, CrossRecorded}
 use Rattle.rasta_check.specs.Capture.Lists.{position_of_place}
-use Rattle.rasta_check.specs.Script.Following.{Cursor, Follows, at_start}
-use Rattle.rasta_check.specs.Model.World.{Station, World, first_station}
-use Rattle.rasta_check.proofs.Capture.FaultlessLists.{IsSent}
-use Rattle.rasta_check.proofs.Script.Simulation.{Tracks, Drained, apart_sides, first_number_of, first_tracks, nothing_left, other_side, slice_get_some}
-use Rattle.rasta_check.proofs.Model.Steps.{base}
+use Rattle.rasta_check.specs.Model.World.{Station, World, station_of, end_of, other_side, moved, first_station, first_world}
+use Rattle.rasta_check.specs.Script.Following.{Cursor, Leads, Follows, at_start}
 use Rattle.rasta_check.specs.Run.Moves.{Happened, Runs, starts}
 use Rattle.rasta_check.specs.Run.Lines.{Line, told, number_of}
-use Rattle.rasta_check.specs.Run.Levels.{takes_at, makes_at, each_take, takes_lines, side_lines, crossed_lines, by_side_lines, packet_lines, level_lines}
-use Rattle.rasta_check.proofs.Run.Rests.{Above, lead_above, Says}
-use Rattle.rasta_check.proofs.Run.Moves.{client_many, server_many}
+use Rattle.rasta_check.specs.Run.Levels.{takes_at, makes_at, each_take, takes_lines, side_lines, crossed_lines, by_side_lines, packet_lines, level_lines, levels_lines, run_lines}
+use Rattle.rasta_check.proofs.Capture.FaultlessLists.{IsSent}
+use Rattle.rasta_check.proofs.Model.Steps.{base}
+use Rattle.rasta_check.proofs.Script.Simulation.{Tracks, Drained, first_number_of, first_tracks, nothing_left, passed_by, slice_get_some}
+use Rattle.rasta_check.proofs.Run.Rests.{Above, Says, says_all, says_on, lead_above}
+use Rattle.rasta_check.proofs.Run.Moves.{Many, many_moves}
 use Rattle.rasta_check.proofs.Run.Takes.{drain, above_next}
-use Rattle.rasta_check.proofs.Run.Packets.{Next, made_now, copied_now, next_is}
+use Rattle.rasta_check.proofs.Run.Packets.{next_is}
 
--- ---- lines before a level
+-- ---- sides
 
--- the levels before this one
-abbrev pub lines_before : List Packet → List FirstCopy → List FirstCopy → List Entry → List Entry → ℕ → List Line
-lines_before packets c s cs ss zero = []
-lines_before packets c s cs ss (suc level) = lines_before packets c s cs ss level ++ level_lines packets c s cs ss level
+-- what belongs to each side
+abbrev pub sided : (P : Side → Type 0) → P Client → P Server → (x : Side) → P x
+sided P c s Client = c
+sided P c s Server = s
 
--- lines, with what a level adds
-takes_in_place : (before v xs bs tc ts : List Line) → v ≡ (before ++ xs) ++ bs → xs ≡ tc → bs ≡ ts → v ≡ before ++ (tc ++ ts)
-takes_in_place before v xs bs tc ts q e h = q ∙ (append_assoc before xs bs ∙ (λ i. before ++ (e i ++ h i)))
+apart : (x : Side) → x ≡ other_side x → ⊥
+apart Client e = absurd (cc)
+apart Server e = absurd (cc)
 
-packet_in_place : (before v w tc ts m ps : List Line) → v ≡ before ++ (tc ++ ts) → w ≡ v ++ m → m ≡ ps → w ≡ before ++ (tc ++ (ts ++ ps))
-packet_in_place before v w tc ts m ps e q h =
-    q ∙ ((λ i. e i ++ h i) ∙ (append_assoc before (tc ++ ts) ps ∙ ap (λ (l : List Line). before ++ l) (append_assoc tc ts ps)))
+unmoved : (w : World) (x : Side) → w ≡ moved w x (station_of w x) w.crossed
+unmoved w Client = refl
+unmoved w Server = refl
 
-module _ (p : Parameters) (packets : List Packet) (c s : List FirstCopy) (sc : IsSent p packets Client c) (ss : IsSent p packets Server s) (rec : CrossRecorded p packets) (lc ls : Cursor) (wc : lc.made ≡ length c) (ws : ls.made ≡ length s) (cs es : List Entry) where
-  pub record At (k : ℕ) : Type 0 where
-    pub client : Station
-    pub server : Station
-    pub client_script : List Entry
-    pub server_script : List Entry
-    pub tracks_client : Tracks p (length packets) k Client c s client_script lc client
-    pub tracks_server : Tracks p (length packets) k Server s c server_script ls server
-    pub above_client : Above k client_script
-    pub above_server : Above k server_script
-    pub says_client : Says k cs client_script
-    pub says_server : Says k es server_script
+crossed_then : (w : World) (x : Side) (a : Station) (ys : List Packet) → (moved w x a ys).crossed ≡ ys
+crossed_then w Client a ys = refl
+crossed_then w Server a ys = refl
+
+-- what holds of the station that moved and of that which stood still holds of both
+both : (P : Side → Station → Type 0) (w : World) (x : Side) (a : Station) (ys : List Packet) → P x a → P (other_side x) (station_of w (other_side x)) → (y : Side) → P y (station_of (moved w x a ys) y)
+both P w Client a ys h g = sided (λ y. P y (station_of (moved w Client a ys) y)) h g
+both P w Server a ys h g = sided (λ y. P y (station_of (moved w Server a ys) y)) g h
+
+-- ---- a run up to a level
+
+module _ (p : Parameters) (packets : List Packet) where
+  -- a run whose lines are these, with what holds of both stations
+  record Stage (k : ℕ) (P : Side → Station → Type 0) (lines : List Line) : Type 0 where
+    pub world : World
     pub happened : List Happened
-    pub reached : Runs p happened (record { client = client; server = server; crossed = take k packets })
-    pub shown : told happened ≡ lines_before packets c s cs es k
+    pub reached : Runs p happened world
+    pub crossed : world.crossed ≡ take k packets
+    pub shown : told happened ≡ lines
+    pub sides : (x : Side) → P x (station_of world x)
 
-  -- the takes that are due at both ends
-  pub record Ready (k : ℕ) : Type 0 where
-    pub client : Station
-    pub server : Station
-    pub client_script : List Entry
-    pub server_script : List Entry
-    pub tracks_client : Tracks p (length packets) k Client c s client_script lc client
-    pub tracks_server : Tracks p (length packets) k Server s c server_script ls server
-    pub client_drained : Drained k client_script
-    pub server_drained : Drained k server_script
-    pub client_takes : (j : ℕ) → k < j → takes_at j cs ≡ takes_at j client_script
-    pub server_takes : (j : ℕ) → k < j → takes_at j es ≡ takes_at j server_script
-    pub client_makes : (j : ℕ) → k ≤ j → makes_at j cs ≡ makes_at j client_script
-    pub server_makes : (j : ℕ) → k ≤ j → makes_at j es ≡ makes_at j server_script
-    pub happened : List Happened
-    pub reached : Runs p happened (record { client = client; server = server; crossed = take k packets })
-    pub shown : told happened ≡ lines_before packets c s cs es k ++ (takes_lines k Client cs ++ takes_lines k Server es)
-
-  readied : (k : ℕ) → k ≤ length packets → At k → Ready k
-  readied k l w =
-      let long : length (take k packets) ≡ k = length-take-le k packets l in
-      let d = drain p packets (length packets) k Client c s w.client_script w.client w.server (take k packets) w.server_script Server lc ls ss long w.above_client w.tracks_server w.tracks_client in
-      let r = client_many w.happened d.many w.reached in
-      let e = drain p packets (length packets) k Server s c w.server_script w.server d.station (take k packets) d.es Client ls lc sc long w.above_server d.tracks w.tracks_server in
-      let q = server_many r.0 e.many r.1 in
+  goes_on : {j k : ℕ} {P : Side → Station → Type 0} {lines ls : List Line} {a : Station} {ys : List Packet} (Q : Side → Station → Type 0) (w : Stage j P lines) (x : Side)
+      → Many p (station_of w.world (other_side x)) x w.world.crossed (station_of w.world x) ls a ys → ys ≡ take k packets
+      → Q x a → Q (other_side x) (station_of w.world (other_side x)) → Stage k Q (lines ++ ls)
+  goes_on {ls = ls} {a = a} {ys = ys} Q w x m e h g =
+      let z = many_moves x w.world w.happened m (subst (λ (v : World). Runs p w.happened v) (unmoved w.world x) w.reached) in
       record {
-        client = d.station;
-        server = e.station;
-        client_script = d.es;
-        server_script = e.es;
-        tracks_client = d.tracks;
-        tracks_server = e.tracks;
-        client_drained = d.drained;
-        server_drained = e.drained;
-        client_takes = λ j m. w.says_client.takes j (omega (arith, m)) ∙ d.takes j m;
-        server_takes = λ j m. w.says_server.takes j (omega (arith, m)) ∙ e.takes j m;
-        client_makes = λ j m. w.says_client.makes j m ∙ d.makes j;
-        server_makes = λ j m. w.says_server.makes j m ∙ e.makes j;
-        happened = q.0;
-        reached = q.1;
-        shown = takes_in_place (lines_before packets c s cs es k) (told q.0) (takes_lines k Client w.client_script) (takes_lines k Server w.server_script) (takes_lines k Client cs) (takes_lines k Server es)
-            (q.2 ∙ ap (λ (x : List Line). x ++ takes_lines k Server w.server_script) (r.2 ∙ ap (λ (x : List Line). x ++ takes_lines k Client w.client_script) w.shown))
-            (ap (λ (x : List ℕ). each_take k Client x) (sym (w.says_client.takes k (omega arith))))
-            (ap (λ (x : List ℕ). each_take k Server x) (sym (w.says_server.takes k (omega arith))));
+        world = moved w.world x a ys;
+        happened = z.0;
+        reached = z.1;
+        crossed = crossed_then w.world x a ys ∙ e;
+        shown = z.2 ∙ ap (λ (l : List Line). l ++ ls) w.shown;
+        sides = both Q w.world x a ys h g;
       }
 
-  -- what the next packet shows
-  client_packet : (k : ℕ) (here : Packet) (script : List Entry) → slice_get packets k ≡ Some here → here.side ≡ Client → makes_at k cs ≡ makes_at k script
-      → side_lines k Client (number_of here) c script ≡ packet_lines k c s cs es (slice_get packets k)
-  client_packet k here script at hs m =
-      ap (λ (x : List (ℕ × Why)). crossed_lines k Client (number_of here) (position_of_place c k) x) (sym m)
-      ∙ (ap (λ (x : Side). by_side_lines k (number_of here) c s cs es x) (sym hs) ∙ ap (λ (x : Option Packet). packet_lines k c s cs es x) (sym at))
+  module _ (recorded : CrossRecorded p packets) (lists : Side → List FirstCopy) (scripts : Side → List Entry) (ends : Side → EndState)
+      (sent : (x : Side) → IsSent p packets x (lists x)) (follows : (x : Side) → Follows p x (length packets) (lists x) (lists (other_side x)) (scripts x) (ends x)) where
+    abbrev Tracked : ℕ → Side → List Entry → Station → Type 0
+    Tracked k x rest a = Tracks p (length packets) k x (lists x) (lists (other_side x)) rest (follows x).0 a
 
-  server_packet : (k : ℕ) (here : Packet) (script : List Entry) → slice_get packets k ≡ Some here → here.side ≡ Server → makes_at k es ≡ makes_at k script
-      → side_lines k Server (number_of here) s script ≡ packet_lines k c s cs es (slice_get packets k)
-  server_packet k here script at hs m =
-      ap (λ (x : List (ℕ × Why)). crossed_lines k Server (number_of here) (position_of_place s k) x) (sym m)
-      ∙ (ap (λ (x : Side). by_side_lines k (number_of here) c s cs es x) (sym hs) ∙ ap (λ (x : Option Packet). packet_lines k c s cs es x) (sym at))
+    -- a side before the takes of a level
+    record Before (k : ℕ) (x : Side) (a : Station) : Type 0 where
+      pub rest : List Entry
+      pub tracks : Tracked k x rest a
+      pub above : Above k rest
+      pub says : Says k k (scripts x) rest
 
-  says_on : (k : ℕ) (whole mid rest : List Entry) → ((j : ℕ) → k < j → takes_at j whole ≡ takes_at j mid) → ((j : ℕ) → k ≤ j → makes_at j whole ≡ makes_at j mid)
-      → ((j : ℕ) → takes_at j mid ≡ takes_at j rest) → ((j : ℕ) → k < j → makes_at j mid ≡ makes_at j rest) → Says (suc k) whole rest
-  says_on k whole mid rest t m u n = record { takes = λ j l. t j (omega (arith, l)) ∙ u j; makes = λ j l. m j (omega (arith, l)) ∙ n j (omega (arith, l)) }
+    -- and after them
+    record After (k : ℕ) (x : Side) (a : Station) : Type 0 where
+      pub rest : List Entry
+      pub tracks : Tracked k x rest a
+      pub drained : Drained k rest
+      pub says : Says (suc k) k (scripts x) rest
 
-  packet_at : (k : ℕ) (w : At k) (here : Packet) → slice_get packets k ≡ Some here → At (suc k)
-  packet_at k w here at = by_side here.side refl (readied k (let z = slice_get_within packets k here at in omega (arith, z)) w)
-    where
-      by_side : (sd : Side) → here.side ≡ sd → Ready k → At (suc k)
-      by_side Client hs d = of_client (next_is p packets k Client c s sc rec lc wc d.client_script d.client d.server here at hs d.client_drained d.tracks_client)
-        where
-          still : Tracks p (length packets) (suc k) Server s c d.server_script ls d.server
-          still = other_side p packets k Server s c ss rec ls ws d.server_script d.server here at (λ x. apart_sides (sym hs ∙ x)) d.tracks_server
+    takes_done : {k : ℕ} {P : Side → Station → Type 0} {lines : List Line} {bs : List Entry} (Q : Side → Station → Type 0) (w : Stage k P lines) (x : Side) → k ≤ length packets → Before k x (station_of w.world x)
+        → Tracks p (length packets) k (other_side x) (lists (other_side x)) (lists x) bs (follows (other_side x)).0 (station_of w.world (other_side x))
+        → ((a : Station) → After k x a → Q x a) → Q (other_side x) (station_of w.world (other_side x)) → Stage k Q (lines ++ takes_lines k x (scripts x))
+    takes_done {k = k} {lines = lines} {bs = bs} Q w x l h g q still =
+        let long : length w.world.crossed ≡ k = ap length w.crossed ∙ length-take-le k packets l in
+        let d = drain p packets (length packets) k x (other_side x) (lists x) (lists (other_side x)) (sent (other_side x)) (follows x).0 (follows (other_side x)).0 (station_of w.world (other_side x)) bs g w.world.crossed long
+        h.rest (station_of w.world x) h.above h.tracks in
+        subst (λ (l : List ℕ). Stage k Q (lines ++ each_take k x l)) (sym (h.says.takes k (omega arith)))
+        (goes_on Q w x d.many w.crossed (q d.station (record { rest = d.rest; tracks = d.tracks; drained = d.drained; says = says_on h.says d.says (omega arith) (omega arith) })) still)
 
-          shows : (v : List Line) → v ≡ told d.happened ++ side_lines k Client (number_of here) c d.client_script → v ≡ lines_before packets c s cs es (suc k)
-          shows v e = packet_in_place (lines_before packets c s cs es k) (told d.happened) v (takes_lines k Client cs) (takes_lines k Server es) (side_lines k Client (number_of here) c d.client_script) (packet_lines k c s cs es (slice_get packets k)) d.shown e (client_packet k here d.client_script at hs (d.client_makes k (omega arith)))
+    -- the client took what is due, and the server hasn't yet
+    abbrev Between : ℕ → Side → Station → Type 0
+    Between k Client a = After k Client a
+    Between k Server a = Before k Server a
 
-          of_client : Next p packets k Client c s sc rec lc wc d.client_script d.client d.server here → At (suc k)
-          of_client (made_now rest m) = (let r = client_many d.happened m.many d.reached in record {
-            client = m.station;
-            server = d.server;
-            client_script = rest;
-            server_script = d.server_script;
-            tracks_client = m.tracks;
-            tracks_server = still;
-            above_client = m.above;
-            above_server = above_next p (length packets) k Server s c d.server_script ls d.server still d.server_drained;
-            says_client = says_on k cs d.client_script rest d.client_takes d.client_makes m.takes m.makes;
-            says_server = says_on k es d.server_script d.server_script d.server_takes d.server_makes (λ j. refl) (λ j l. refl);
-            happened = r.0;
-            reached = r.1;
-            shown = shows (told r.0) r.2;
-          })
-          of_client (copied_now m t) = (let r = client_many d.happened m d.reached in record {
-            client = d.client;
-            server = d.server;
-            client_script = d.client_script;
-            server_script = d.server_script;
-            tracks_client = t;
-            tracks_server = still;
-            above_client = above_next p (length packets) k Client c s d.client_script lc d.client t d.client_drained;
-            above_server = above_next p (length packets) k Server s c d.server_script ls d.server still d.server_drained;
-            says_client = says_on k cs d.client_script d.client_script d.client_takes d.client_makes (λ j. refl) (λ j l. refl);
-            says_server = says_on k es d.server_script d.server_script d.server_takes d.server_makes (λ j. refl) (λ j l. refl);
-            happened = r.0;
-            reached = r.1;
-            shown = shows (told r.0) r.2;
-          })
-      by_side Server hs d = of_server (next_is p packets k Server s c ss rec ls ws d.server_script d.server d.client here at hs d.server_drained d.tracks_server)
-        where
-          still : Tracks p (length packets) (suc k) Client c s d.client_script lc d.client
-          still = other_side p packets k Client c s sc rec lc wc d.client_script d.client here at (λ x. apart_sides (sym x ∙ hs)) d.tracks_client
+    readied : {k : ℕ} {lines : List Line} → k ≤ length packets → Stage k (Before k) lines → Stage k (After k) ((lines ++ takes_lines k Client (scripts Client)) ++ takes_lines k Server (scripts Server))
+    readied {k = k} l w =
+        let d = takes_done (Between k) w Client l (w.sides Client) (w.sides Server).tracks (λ a h. h) (w.sides Server) in
+        takes_done (After k) d Server l (d.sides Server) (d.sides Client).tracks (λ a h. h) (d.sides Client)
 
-          shows : (v : List Line) → v ≡ told d.happened ++ side_lines k Server (number_of here) s d.server_script → v ≡ lines_before packets c s cs es (suc k)
-          shows v e = packet_in_place (lines_before packets c s cs es k) (told d.happened) v (takes_lines k Client cs) (takes_lines k Server es) (side_lines k Server (number_of here) s d.server_script) (packet_lines k c s cs es (slice_get packets k)) d.shown e (server_packet k here d.server_script at hs (d.server_makes k (omega arith)))
+    -- the lines of a side's packet are those of the packet at this place
+    here_lines : (k : ℕ) (here : Packet) (rest : List Entry) → slice_get packets k ≡ Some here → makes_at k (scripts here.side) ≡ makes_at k rest
+        → side_lines k here.side (number_of here) (lists here.side) rest ≡ packet_lines k (lists Client) (lists Server) (scripts Client) (scripts Server) (slice_get packets k)
+    here_lines k here rest at m =
+        ap (λ (x : List (ℕ × Why)). crossed_lines k here.side (number_of here) (position_of_place (lists here.side) k) x) (sym m)
+        ∙ (by here.side ∙ ap (λ (x : Option Packet). packet_lines k (lists Client) (lists Server) (scripts Client) (scripts Server) x) (sym at))
+      where
+        by : (x : Side) → side_lines k x (number_of here) (lists x) (scripts x) ≡ by_side_lines k (number_of here) (lists Client) (lists Server) (scripts Client) (scripts Server) x
+        by Client = refl
+        by Server = refl
 
-          of_server : Next p packets k Server s c ss rec ls ws d.server_script d.server d.client here → At (suc k)
-          of_server (made_now rest m) = (let r = server_many d.happened m.many d.reached in record {
-            client = d.client;
-            server = m.station;
-            client_script = d.client_script;
-            server_script = rest;
-            tracks_client = still;
-            tracks_server = m.tracks;
-            above_client = above_next p (length packets) k Client c s d.client_script lc d.client still d.client_drained;
-            above_server = m.above;
-            says_client = says_on k cs d.client_script d.client_script d.client_takes d.client_makes (λ j. refl) (λ j l. refl);
-            says_server = says_on k es d.server_script rest d.server_takes d.server_makes m.takes m.makes;
-            happened = r.0;
-            reached = r.1;
-            shown = shows (told r.0) r.2;
-          })
-          of_server (copied_now m t) = (let r = server_many d.happened m d.reached in record {
-            client = d.client;
-            server = d.server;
-            client_script = d.client_script;
-            server_script = d.server_script;
-            tracks_client = still;
-            tracks_server = t;
-            above_client = above_next p (length packets) k Client c s d.client_script lc d.client still d.client_drained;
-            above_server = above_next p (length packets) k Server s c d.server_script ls d.server t d.server_drained;
-            says_client = says_on k cs d.client_script d.client_script d.client_takes d.client_makes (λ j. refl) (λ j l. refl);
-            says_server = says_on k es d.server_script d.server_script d.server_takes d.server_makes (λ j. refl) (λ j l. refl);
-            happened = r.0;
-            reached = r.1;
-            shown = shows (told r.0) r.2;
-          })
+    abbrev level_at : ℕ → List Line
+    level_at k = level_lines packets (lists Client) (lists Server) (scripts Client) (scripts Server) k
 
-  all_packets : (n k : ℕ) → k + n ≡ length packets → At k → At (length packets)
-  all_packets zero k e w = (let z : k ≡ length packets = omega (arith, e) in subst At z w)
-  all_packets (suc n) k e w =
-      let l : k < length packets = omega (arith, e) in
-      let g = slice_get_some packets k l in
-      all_packets n (suc k) (omega (arith, e)) (packet_at k w g.0 g.1)
+    -- a packet more
+    packet_at : {k : ℕ} {lines : List Line} (here : Packet) → slice_get packets k ≡ Some here → Stage k (Before k) lines → Stage (suc k) (Before (suc k)) (lines ++ level_at k)
+    packet_at {k = k} {lines = lines} here at w =
+        let x : Side = here.side in
+        let d = readied (let l = slice_get_within packets k here at in omega (arith, l)) w in
+        let h = d.sides x in
+        let g = d.sides (other_side x) in
+        let own = follows x in
+        let other = follows (other_side x) in
+        let m = next_is p packets k x (lists x) (lists (other_side x)) (sent x) recorded own.0 own.2 (station_of d.world (other_side x)) here at h.rest (station_of d.world x) refl h.drained h.tracks in
+        let still = passed_by p packets k (other_side x) (lists (other_side x)) (lists (other_side (other_side x))) (sent (other_side x)) other.0 other.2 g.rest (station_of d.world (other_side x)) here at (apart x) g.tracks in
+        let tc : List Line = takes_lines k Client (scripts Client) in
+        let ts : List Line = takes_lines k Server (scripts Server) in
+        let ps : List Line = packet_lines k (lists Client) (lists Server) (scripts Client) (scripts Server) (slice_get packets k) in
+        let many = subst (λ (xs : List Packet). Many p (station_of d.world (other_side x)) x xs (station_of d.world x) (side_lines k x (number_of here) (lists x) h.rest) m.station (take (suc k) packets)) (sym d.crossed) m.many in
+        let made = goes_on (Before (suc k)) d x many refl
+        (record { rest = m.rest; tracks = m.tracks; above = m.above; says = says_on h.says m.says (omega arith) (omega arith) })
+        (record {
+          rest = g.rest;
+          tracks = still;
+          above = above_next p (length packets) (other_side x) (lists (other_side x)) (lists (other_side (other_side x))) other.0 k g.rest (station_of d.world (other_side x)) still g.drained;
+          says = says_on g.says (says_all (suc k) (suc k) g.rest) (omega arith) (omega arith);
+        }) in
+        subst (Stage (suc k) (Before (suc k)))
+        (ap (λ (l : List Line). ((lines ++ tc) ++ ts) ++ l) (here_lines k here h.rest at (h.says.makes k (omega arith))) ∙ (append_assoc (lines ++ tc) ts ps ∙ append_assoc lines tc (ts ++ ps))) made
 
-  no_packet : (o : Option Packet) → slice_get packets (length packets) ≡ o → packet_lines (length packets) c s cs es o ≡ []
-  no_packet None e = refl
-  no_packet (Some x) e = absurd (let z = slice_get_within packets (length packets) x e in omega (arith, z))
+    abbrev all_lines : List Line
+    all_lines = run_lines packets (lists Client) (lists Server) (scripts Client) (scripts Server)
 
-  pub at_last : At 0 → (hs : List Happened) × (w : World) × Runs p hs w × (w.crossed ≡ packets) × (w.client.state ≡ lc.state) × (w.server.state ≡ ls.state) × (told hs ≡ lines_before packets c s cs es (suc (length packets)))
-  at_last w =
-      let n : ℕ = length packets in
-      let d = readied n (omega arith) (all_packets n 0 (omega arith) w) in (
-        d.happened,
-        record { client = d.client; server = d.server; crossed = take n packets },
-        d.reached,
-        take_all n packets (omega arith),
-        nothing_left p packets n Client c s sc rec lc wc d.client d.client_script refl d.client_drained d.tracks_client,
-        nothing_left p packets n Server s c ss rec ls ws d.server d.server_script refl d.server_drained d.tracks_server,
-        d.shown ∙ sym (ap (λ (x : List Line). lines_before packets c s cs es n ++ (takes_lines n Client cs ++ (takes_lines n Server es ++ x))) (no_packet (slice_get packets n) refl)
-            ∙ ap (λ (x : List Line). lines_before packets c s cs es n ++ (takes_lines n Client cs ++ x)) (append-nil (takes_lines n Server es))),
-      )
+    no_packet : (k : ℕ) (o : Option Packet) → k ≡ length packets → slice_get packets k ≡ o → packet_lines k (lists Client) (lists Server) (scripts Client) (scripts Server) o ≡ []
+    no_packet k None l e = refl
+    no_packet k (Some x) l e = absurd (let z = slice_get_within packets k x e in omega (arith, z))
 
-pub simulated : (p : Parameters) (packets : List Packet) (c s : List FirstCopy) (cs ss : List Entry) (a b : EndState) → CrossRecorded p packets → IsSent p packets Client c → IsSent p packets Server s
-    → Follows p Client (length packets) c s cs a → Follows p Server (length packets) s c ss b
-    → (hs : List Happened) × (w : World) × Runs p hs w × (w.crossed ≡ packets) × (w.client.state ≡ a) × (w.server.state ≡ b) × (told hs ≡ lines_before packets c s cs ss (suc (length packets)))
-simulated p packets c s cs ss a b rec hc hs fc fs =
-    let r = at_last p packets c s hc hs rec fc.0 fs.0 fc.2 fs.2 cs ss (record {
-      client = first_station p Client (first_number_of (base p) c);
-      server = first_station p Server (first_number_of (base p) s);
-      client_script = cs;
-      server_script = ss;
-      tracks_client = first_tracks p packets Client c s cs fc.0 hc fc.1;
-      tracks_server = first_tracks p packets Server s c ss fs.0 hs fs.1;
-      above_client = lead_above p (length packets) 0 c s (at_start (start_of p Client)) fc.0 cs fc.1 (omega arith);
-      above_server = lead_above p (length packets) 0 s c (at_start (start_of p Server)) fs.0 ss fs.1 (omega arith);
-      says_client = record { takes = λ j l. refl; makes = λ j l. refl };
-      says_server = record { takes = λ j l. refl; makes = λ j l. refl };
-      happened = [];
-      reached = starts (first_number_of (base p) c) (first_number_of (base p) s);
-      shown = refl;
-    }) in
-    (r.0, r.1, r.2, r.3, r.4 ∙ fc.3, r.5 ∙ fs.3, r.6)
+    -- the levels that are left: this one, and so many more
+    all_packets : (left k : ℕ) (lines : List Line) → k + left ≡ length packets → Stage k (Before k) lines
+        → lines ++ levels_lines packets (lists Client) (lists Server) (scripts Client) (scripts Server) k (suc left) ≡ all_lines
+        → (hs : List Happened) × (w : World) × Runs p hs w × (w.crossed ≡ packets) × ((x : Side) → end_of w x ≡ ends x) × (told hs ≡ all_lines)
+    all_packets zero k lines e w q =
+        let last : k ≡ length packets = omega (arith, e) in
+        let d = readied (omega (arith, last)) w in
+        let tc : List Line = takes_lines k Client (scripts Client) in
+        let ts : List Line = takes_lines k Server (scripts Server) in (
+          d.happened,
+          d.world,
+          d.reached,
+          d.crossed ∙ take_all k packets (omega (arith, last)),
+          λ x. nothing_left p packets k x (lists x) (lists (other_side x)) (sent x) (follows x).0 (follows x).2 (station_of d.world x) (d.sides x).rest (sym last) (d.sides x).drained (d.sides x).tracks ∙ (follows x).3,
+          d.shown ∙ (append_assoc lines tc ts ∙ (ap (λ (l : List Line). lines ++ l)
+              (sym (append-nil (level_at k) ∙ ap (λ (l : List Line). tc ++ l) (ap (λ (l : List Line). ts ++ l) (no_packet k (slice_get packets k) last refl) ∙ append-nil ts))) ∙ q)),
+        )
+    all_packets (suc left) k lines e w q =
+        let g = slice_get_some packets k (omega (arith, e)) in
+        all_packets left (suc k) (lines ++ level_at k) (omega (arith, e)) (packet_at g.0 g.1 w)
+        (append_assoc lines (level_at k) (levels_lines packets (lists Client) (lists Server) (scripts Client) (scripts Server) (suc k) (suc left)) ∙ q)
+
+    -- two scripts that are followed tell a run
+    pub told_run : (hs : List Happened) × (w : World) × Runs p hs w × (w.crossed ≡ packets) × ((x : Side) → end_of w x ≡ ends x) × (told hs ≡ all_lines)
+    told_run = all_packets (length packets) 0 [] (omega arith) first refl
+      where
+        at : (x : Side) → Before 0 x (first_station p x (first_number_of (base p) (lists x)))
+        at x = (let f = follows x in record {
+          rest = scripts x;
+          tracks = first_tracks p packets x (lists x) (lists (other_side x)) (scripts x) f.0 (sent x) f.1;
+          above = lead_above p (length packets) 0 (lists x) (lists (other_side x)) (at_start (start_of p x)) f.0 (scripts x) f.1 (omega arith);
+          says = says_all 0 0 (scripts x);
+        })
+
+        first : Stage 0 (Before 0) []
+        first = (let m = first_number_of (base p) (lists Client) in let n = first_number_of (base p) (lists Server) in record {
+          world = first_world p m n;
+          happened = [];
+          reached = starts m n;
+          crossed = refl;
+          shown = refl;
+          sides = sided (λ x. Before 0 x (station_of (first_world p m n) x)) (at Client) (at Server);
+        })

@@ -5,7 +5,7 @@ use Rattle.rasta_pcap.specs.declared.fault.Side.{Side}
 use Rattle.rasta_pcap.specs.declared.fault.Side.TheVariants.{Client, Server}
 use Rattle.rasta_udp.specs.Frame.{Packet}
 use Rattle.rasta_pdu.specs.Params.{Parameters}
-use Rattle.rasta_check.specs.Model.World.{Station, Move, Moves}
+use Rattle.rasta_check.specs.Model.World.{Station, World, Move, Moves, station_of, other_side, moved}
 use Rattle.rasta_check.specs.Run.Moves.{Happened, Runs, does}
 use Rattle.rasta_check.specs.Run.Lines.{Line, lines_of_move, lines_in, told}
 
@@ -24,25 +24,19 @@ pub data Many (p : Parameters) (b : Station) (s : Side) : List Packet → Statio
   stays : {xs : List Packet} {a : Station} → Many p b s xs a [] a xs
   moves : {xs ys zs : List Packet} {a a' a'' : Station} {ls : List Line} (m : Move) → Moves p b xs a m a' ys → Many p b s ys a' ls a'' zs → Many p b s xs a (lines_of_move s a b xs m ++ ls) a'' zs
 
-shown_more : (hs : List Happened) (h : Happened) (ms ls : List Line) (v : List Line) → ms ≡ lines_in h.world h.side h.move → v ≡ told (hs ++ h ∷ []) ++ ls → v ≡ told hs ++ (ms ++ ls)
-shown_more hs h ms ls v e q =
-    q ∙ (ap (λ (l : List Line). l ++ ls) (told_push hs h ∙ ap (λ (l : List Line). told hs ++ l) (sym e)) ∙ append_assoc (told hs) ms ls)
+-- one move of a side, from the world where its station is this one and that of its peer is w's
+one_move : {p : Parameters} {hs : List Happened} {a a' : Station} {xs ys : List Packet} {m : Move} (side : Side) (w : World) → Runs p hs (moved w side a xs) → Moves p (station_of w (other_side side)) xs a m a' ys
+    → (h : Happened) × Runs p (hs ++ h ∷ []) (moved w side a' ys) × (told (hs ++ h ∷ []) ≡ told hs ++ lines_of_move side a (station_of w (other_side side)) xs m)
+one_move {hs = hs} {a = a} {xs = xs} {m = m} Client w r d = (let h : Happened = record { world = moved w Client a xs; side = Client; move = m } in (h, does Client m r d, told_push hs h))
+one_move {hs = hs} {a = a} {xs = xs} {m = m} Server w r d = (let h : Happened = record { world = moved w Server a xs; side = Server; move = m } in (h, does Server m r d, told_push hs h))
 
-pub client_many : {p : Parameters} {b : Station} {xs ys : List Packet} {a a' : Station} {ls : List Line} (hs : List Happened) → Many p b Client xs a ls a' ys
-    → Runs p hs (record { client = a; server = b; crossed = xs }) → (gs : List Happened) × Runs p gs (record { client = a'; server = b; crossed = ys }) × (told gs ≡ told hs ++ ls)
-client_many hs stays r = (hs, r, sym (append-nil (told hs)))
-client_many {b = b} hs (moves {xs = xs} {a = a} {ls = ls} m d k) r =
-    let h : Happened = record { world = record { client = a; server = b; crossed = xs }; side = Client; move = m } in
-    let z = client_many (hs ++ h ∷ []) k (does Client m r d) in
-    (z.0, z.1, shown_more hs h (lines_of_move Client a b xs m) ls (told z.0) refl z.2)
-
-pub server_many : {p : Parameters} {b : Station} {xs ys : List Packet} {a a' : Station} {ls : List Line} (hs : List Happened) → Many p b Server xs a ls a' ys
-    → Runs p hs (record { client = b; server = a; crossed = xs }) → (gs : List Happened) × Runs p gs (record { client = b; server = a'; crossed = ys }) × (told gs ≡ told hs ++ ls)
-server_many hs stays r = (hs, r, sym (append-nil (told hs)))
-server_many {b = b} hs (moves {xs = xs} {a = a} {ls = ls} m d k) r =
-    let h : Happened = record { world = record { client = b; server = a; crossed = xs }; side = Server; move = m } in
-    let z = server_many (hs ++ h ∷ []) k (does Server m r d) in
-    (z.0, z.1, shown_more hs h (lines_of_move Server a b xs m) ls (told z.0) refl z.2)
+pub many_moves : {p : Parameters} (side : Side) (w : World) {xs ys : List Packet} {a a' : Station} {ls : List Line} (hs : List Happened) → Many p (station_of w (other_side side)) side xs a ls a' ys
+    → Runs p hs (moved w side a xs) → (gs : List Happened) × Runs p gs (moved w side a' ys) × (told gs ≡ told hs ++ ls)
+many_moves side w hs stays r = (hs, r, sym (append-nil (told hs)))
+many_moves side w hs (moves {xs = xs} {a = a} {ls = ls} m d k) r =
+    let o = one_move side w r d in
+    let z = many_moves side w (hs ++ o.0 ∷ []) k o.1 in
+    (z.0, z.1, z.2 ∙ (ap (λ (l : List Line). l ++ ls) o.2 ∙ append_assoc (told hs) (lines_of_move side a (station_of w (other_side side)) xs m) ls))
 
 pub append_many : {p : Parameters} {b : Station} {s : Side} {xs ys zs : List Packet} {a a' a'' : Station} {ls ms : List Line} → Many p b s xs a ls a' ys → Many p b s ys a' ms a'' zs → Many p b s xs a (ls ++ ms) a'' zs
 append_many stays k = k

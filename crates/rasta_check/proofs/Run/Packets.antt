@@ -24,24 +24,29 @@ use Rattle.rasta_check.proofs.Model.Steps.{base, made_more}
 use Rattle.rasta_check.specs.Run.Lines.{Line, lines_of_move, copy_lines, number_of}
 use Rattle.rasta_check.specs.Run.Levels.{takes_at, makes_at, make_line, waited_line, each_make, side_lines, crossed_lines}
 use Rattle.rasta_check.proofs.Run.Entries.{takes_past, makes_here, makes_other, below}
-use Rattle.rasta_check.proofs.Run.Rests.{Above, lead_above, no_makes, place_found, place_missing}
+use Rattle.rasta_check.proofs.Run.Rests.{Above, Says, says_all, lead_above, no_makes, place_found, place_missing}
 use Rattle.rasta_check.proofs.Run.Moves.{Many, stays, moves}
+use Rattle.rasta_check.proofs.Run.Takes.{ahead, above_next}
 
--- what the make of a packet leaves: its lines are those of the packet, and of later levels the rest says what the script says
-pub record Made_step (p : Parameters) (n k : ℕ) (s : Side) (own peer : List FirstCopy) (number : ℕ) (from es : List Entry) (last : Cursor) (a b : Station) (xs ys : List Packet) : Type 0 where
-  pub station : Station
-  pub many : Many p b s xs a (side_lines k s number own from) station ys
-  pub tracks : Tracks p n (suc k) s own peer es last station
-  pub above : Above (suc k) es
-  pub takes : (j : ℕ) → takes_at j from ≡ takes_at j es
-  pub makes : (j : ℕ) → k < j → makes_at j from ≡ makes_at j es
+module _ (p : Parameters) (packets : List Packet) (k : ℕ) (s : Side) (own peer : List FirstCopy) (sent : IsSent p packets s own) (recorded : CrossRecorded p packets) (last : Cursor) (whole : last.made ≡ length own)
+    (b : Station) (here : Packet) (at : slice_get packets k ≡ Some here) where
+  -- what the packet of a side leaves, made or copied: its lines are those of the packet, and of later levels the rest says what the script says
+  pub record Crossed (from : List Entry) (a : Station) : Type 0 where
+    pub rest : List Entry
+    pub station : Station
+    pub many : Many p b s (take k packets) a (side_lines k s (number_of here) own from) station (take (suc k) packets)
+    pub tracks : Tracks p (length packets) (suc k) s own peer rest last station
+    pub above : Above (suc k) rest
+    pub says : Says (suc k) (suc k) from rest
 
-module _ (p : Parameters) (packets : List Packet) (k : ℕ) (s : Side) (own peer : List FirstCopy) (sent : IsSent p packets s own) (recorded : CrossRecorded p packets) where
-  make_one : (place clock : ℕ) (why : Why) (es : List Entry) (a b : Station) (here : Packet) (last m : Cursor) → slice_get packets k ≡ Some here → place ≡ k
+  long : length (take k packets) ≡ k
+  long = length-take-le k packets (let l = slice_get_within packets k here at in omega (arith, l))
+
+  make_one : (place clock : ℕ) (why : Why) (es : List Entry) (a : Station) (m : Cursor) → place ≡ k
       → (f : Tracks p (length packets) k s own peer (Make place clock why ∷ es) last a)
       → Advances p (length packets) own peer (record { level = f.level; made = f.made; taken = f.taken; state = a.state }) (Make place clock why) m → Leads p (length packets) own peer m es last
-      → Made_step p (length packets) k s own peer (number_of here) (Make place clock why ∷ es) es last a b (take k packets) (take (suc k) packets)
-  make_one place clock why es a b here last m at pl f (makes_next c clock' why' e' lv mine mk) rest =
+      → Crossed (Make place clock why ∷ es) a
+  make_one place clock why es a m pl f (makes_next c clock' why' e' lv mine mk) rest =
       let made = made_more p a.state c.pdu.safety clock why e' mk in
       let first = sent.firsts f.made c mine in
       let l0 = slice_get_within own f.made c mine in
@@ -60,8 +65,6 @@ module _ (p : Parameters) (packets : List Packet) (k : ℕ) (s : Side) (own peer
       let same_packet : first.0 ≡ here = cc in
       let shown : wrapped (a.first_number + length a.state.made) ≡ number_of here =
       sym numbered ∙ (sym (number_spelled p s c.pdu first.0.payload first.3) ∙ ap (λ (x : Packet). number_of x) same_packet) in
-      let k_within : k < length packets = slice_get_within packets k here at in
-      let long : length (take k packets) ≡ k = length-take-le k packets (omega arith) in
       let found : position_of_place own k ≡ Some f.made = ap (position_of_place own) (sym pl) ∙ place_found p packets s own sent f.made c mine in
       let makes_now : makes_at k (Make c.place clock why ∷ es) ≡ (clock, why) ∷ [] =
       ap (λ (j : ℕ). makes_at k (Make j clock why ∷ es)) pl ∙ (makes_here k clock why es ∙ ap (λ (l : List (ℕ × Why)). (clock, why) ∷ l) (no_makes k (suc k) es (omega arith) after)) in
@@ -72,13 +75,13 @@ module _ (p : Parameters) (packets : List Packet) (k : ℕ) (s : Side) (own peer
       moves (waiting clock) (waits clock (let z = f.clock in omega (arith, z, made.rises)))
       (moves (making c.pdu.safety why first.0.channel c.pdu.reserve c.pdu.check_bytes) (makes {a = waited} c.pdu.safety why e' first.0.channel c.pdu.reserve c.pdu.check_bytes first.0.payload mk said (recorded c.place first.0 first.1)) stays) in
       record {
+        rest = es;
         station = record waited { state = e' };
         many = subst (λ (ls : List Line). Many p b s (take k packets) a ls (record waited { state = e' }) (take (suc k) packets)) line
             (subst (λ (ys : List Packet). Many p b s (take k packets) a (waited_line (length (take k packets)) s clock ∷ make_line (length (take k packets)) s (wrapped (a.first_number + length a.state.made)) (clock, why) ∷ []) (record waited { state = e' }) ys)
             (next_packet packets k first.0 a.state.side (f.side ∙ sym first.2) there) step);
         above = after;
-        takes = λ j. takes_past j c.place clock why es;
-        makes = λ j l. makes_other j c.place clock why es (below c.place j (omega (arith, pl, l)));
+        says = record { takes = λ j l. takes_past j c.place clock why es; makes = λ j l. makes_other j c.place clock why es (below c.place j (omega (arith, pl, l))) };
         tracks = record {
           level = suc c.place;
           made = suc f.made;
@@ -102,22 +105,15 @@ module _ (p : Parameters) (packets : List Packet) (k : ℕ) (s : Side) (own peer
         };
       }
 
-module _ (p : Parameters) (packets : List Packet) (k : ℕ) (s : Side) (own peer : List FirstCopy) (sent : IsSent p packets s own) (recorded : CrossRecorded p packets) (last : Cursor) (whole : last.made ≡ length own) where
-  -- what the next packet is, for a station whose takes are done
-  pub data Next (es : List Entry) (a b : Station) (here : Packet) : Type 0 where
-    made_now : (rest : List Entry) → Made_step p (length packets) k s own peer (number_of here) es rest last a b (take k packets) (take (suc k) packets) → Next es a b here
-    copied_now : Many p b s (take k packets) a (side_lines k s (number_of here) own es) a (take (suc k) packets) → Tracks p (length packets) (suc k) s own peer es last a → Next es a b here
-
-  copy_moves : (es : List Entry) (a b : Station) (here : Packet) → position_of_place own k ≡ None → slice_get packets k ≡ Some here → here.side ≡ a.state.side
+  copy_moves : (es : List Entry) (a : Station) → position_of_place own k ≡ None → here.side ≡ a.state.side
       → (j : ℕ) (old : Packet) → j < k → slice_get packets j ≡ Some old → old.side ≡ here.side → old.payload ≡ here.payload → Many p b s (take k packets) a (side_lines k s (number_of here) own es) a (take (suc k) packets)
-  copy_moves es a b here no_first at sd j old l g os ob =
+  copy_moves es a no_first sd j old l g os ob =
       let n : k < length packets = slice_get_within packets k here at in
       let lt : j < length (take k packets) = omega (arith, length-take-le k packets (omega arith)) in
       let get : slice_index_or (take k packets) j old ≡ old = get_or-take k packets j old l ∙ get_or_from_slice_get packets j old old g in
       let whole : record old { channel = here.channel } ≡ here = (λ i. record { channel = here.channel; side = os i; payload = ob i }) in
       let next : take k packets ++ record old { channel = here.channel } ∷ [] ≡ take (suc k) packets = ap (λ (x : Packet). take k packets ++ x ∷ []) whole ∙ next_packet packets k here here.side refl at in
       let there : slice_get (take k packets) j ≡ Some old = slice_get-get_or (take k packets) j old lt ∙ ap Some get in
-      let long : length (take k packets) ≡ k = length-take-le k packets (omega arith) in
       let line : lines_of_move s a b (take k packets) (repeating j here.channel) ++ [] ≡ side_lines k s (number_of here) own es =
       append-nil (lines_of_move s a b (take k packets) (repeating j here.channel))
       ∙ (ap (λ (o : Option Packet). copy_lines (length (take k packets)) s o) there
@@ -127,38 +123,41 @@ module _ (p : Parameters) (packets : List Packet) (k : ℕ) (s : Side) (own peer
       (subst (λ (ys : List Packet). Many p b s (take k packets) a (lines_of_move s a b (take k packets) (repeating j here.channel) ++ []) a ys) next
       (moves (repeating j here.channel) (repeats {a = a} j here.channel old there (os ∙ sd) (recorded k here at)) stays))
 
-  copied : (es : List Entry) (a b : Station) (here : Packet) → slice_get packets k ≡ Some here → here.side ≡ s → (f : Tracks p (length packets) k s own peer es last a) → Later k own f.made → Next es a b here
+  copied : (es : List Entry) (a : Station) → here.side ≡ s → Drained k es → (f : Tracks p (length packets) k s own peer es last a) → Later k own f.made → Crossed es a
   unfolding Later
-  copied es a b here at hs f l =
+  copied es a hs dr f l =
+      let t : Tracks p (length packets) (suc k) s own peer es last a = untouched p packets k s own peer sent last whole es a f l in
+      let not_first : (i : ℕ) (c : FirstCopy) → slice_get own i ≡ Some c → c.place ≡ k → ⊥ =
+      λ i c g e. elim (dec_lt i f.made) [ yes m ↦ (let z = f.after i c g m in omega (arith, z)) | no m ↦ (let z = l i c g (omega arith) in omega (arith, z)) ] in
       ⊎_elim
-      (λ (w : (i : ℕ) × (c : FirstCopy) × (slice_get own i ≡ Some c) × (c.place ≡ k)). absurd (not_first es a f l w.0 w.1 w.2 w.3))
-      (λ (w : (j : ℕ) × (o : Packet) × (j < k) × (slice_get packets j ≡ Some o) × (o.side ≡ s) × (o.payload ≡ here.payload)).
-      copied_now (copy_moves es a b here (place_missing own k (not_first es a f l)) at (hs ∙ sym f.side) w.0 w.1 w.2 w.3 (w.4 ∙ sym hs) w.5) (untouched p packets k s own peer sent recorded last whole es a f l))
+      (λ (w : (i : ℕ) × (c : FirstCopy) × (slice_get own i ≡ Some c) × (c.place ≡ k)). absurd (not_first w.0 w.1 w.2 w.3))
+      (λ (w : (j : ℕ) × (o : Packet) × (j < k) × (slice_get packets j ≡ Some o) × (o.side ≡ s) × (o.payload ≡ here.payload)). record {
+        rest = es;
+        station = a;
+        many = copy_moves es a (place_missing own k not_first) (hs ∙ sym f.side) w.0 w.1 w.2 w.3 (w.4 ∙ sym hs) w.5;
+        tracks = t;
+        above = above_next p (length packets) s own peer last k es a t dr;
+        says = says_all (suc k) (suc k) es;
+      })
       (sent.others k here at hs)
-    where
-      not_first : (es : List Entry) (a : Station) → (f : Tracks p (length packets) k s own peer es last a) → Later k own f.made → (i : ℕ) (c : FirstCopy) → slice_get own i ≡ Some c → c.place ≡ k → ⊥
-      not_first es a f l i c g e = elim (dec_lt i f.made) [ yes m ↦ (let z = f.after i c g m in omega (arith, z)) | no m ↦ (let z = l i c g (omega arith) in omega (arith, z)) ]
 
   -- the next entry is a take that is not yet due
-  undue : (a b : Station) (here : Packet) (slot number : ℕ) (es : List Entry) → slice_get packets k ≡ Some here → here.side ≡ s → k < slot
+  undue : (a : Station) (slot number : ℕ) (es : List Entry) → here.side ≡ s → k < slot
       → (f : Tracks p (length packets) k s own peer (Take slot number ∷ es) last a) (m : Cursor) → Advances p (length packets) own peer (record { level = f.level; made = f.made; taken = f.taken; state = a.state }) (Take slot number) m → Leads p (length packets) own peer m es last
-      → Next (Take slot number ∷ es) a b here
-  undue a b here slot number es at hs dr f m (takes_next slot' position d e' lv le there below above t) rest =
-      copied (Take slot d.pdu.number ∷ es) a b here at hs f (later_by p packets k s own peer sent recorded last whole f.made (λ c g. (let l = next_place p (length packets) own peer _ last es rest whole c g in omega (arith, l))))
+      → Crossed (Take slot number ∷ es) a
+  undue a slot number es hs dr f m (takes_next slot' position d e' lv le there below above t) rest =
+      copied (Take slot d.pdu.number ∷ es) a hs dr f (later_by p packets k s own peer sent last whole f.made (λ c g. (let l = next_place p (length packets) own peer _ last es rest whole c g in omega (arith, l))))
 
-  next_make : (a b : Station) (here : Packet) (place clock : ℕ) (why : Why) (es : List Entry) → slice_get packets k ≡ Some here → here.side ≡ s
+  next_make : (a : Station) (place clock : ℕ) (why : Why) (es : List Entry) → here.side ≡ s
       → (f : Tracks p (length packets) k s own peer (Make place clock why ∷ es) last a) (m : Cursor) → Advances p (length packets) own peer (record { level = f.level; made = f.made; taken = f.taken; state = a.state }) (Make place clock why) m → Leads p (length packets) own peer m es last
-      → Next (Make place clock why ∷ es) a b here
-  next_make a b here place clock why es at hs f m (makes_next c clock' why' e' lv mine mk) rest =
+      → k ≤ place → Crossed (Make place clock why ∷ es) a
+  next_make a place clock why es hs f m (makes_next c clock' why' e' lv mine mk) rest low =
       elim (dec_lt k c.place) [
-        | yes l ↦ copied (Make c.place clock why ∷ es) a b here at hs f (later_by p packets k s own peer sent recorded last whole f.made (λ d g. (let same : c ≡ d = cc in let q = ap (λ (x : FirstCopy). x.place) same in omega (arith, q))))
-        | no l ↦ (let low : k ≤ c.place = not_before f.made c mine (f.before f.made c mine) in made_now es (make_one p packets k s own peer sent recorded c.place clock why es a b here last m at (omega arith) f (makes_next c clock why e' lv mine mk) rest))
+        | yes l ↦ copied (Make c.place clock why ∷ es) a hs tt f (later_by p packets k s own peer sent last whole f.made (λ d g. (let same : c ≡ d = cc in let q = ap (λ (x : FirstCopy). x.place) same in omega (arith, q))))
+        | no l ↦ make_one c.place clock why es a m (omega arith) f (makes_next c clock why e' lv mine mk) rest
       ]
-    where
-      not_before : (made : ℕ) (c : FirstCopy) → slice_get own made ≡ Some c → (c.place < k → made < made) → k ≤ c.place
-      not_before made c g h = elim (dec_lt c.place k) [ yes l ↦ (let z = h l in absurd (omega (arith, z))) | no l ↦ omega arith ]
 
-  pub next_is : (es : List Entry) (a b : Station) (here : Packet) → slice_get packets k ≡ Some here → here.side ≡ s → Drained k es → Tracks p (length packets) k s own peer es last a → Next es a b here
-  next_is [] a b here at hs dr f = copied [] a b here at hs f (later_by p packets k s own peer sent recorded last whole f.made (λ c g. absurd (let l = slice_get_within own f.made c g in let z = ap (λ (u : Cursor). u.made) f.fits in omega (arith, z, l, whole))))
-  next_is (Take slot number ∷ es) a b here at hs dr f = undue a b here slot number es at hs dr f f.fits.0 f.fits.1 f.fits.2
-  next_is (Make place clock why ∷ es) a b here at hs dr f = next_make a b here place clock why es at hs f f.fits.0 f.fits.1 f.fits.2
+  pub next_is : (es : List Entry) (a : Station) → here.side ≡ s → Drained k es → Tracks p (length packets) k s own peer es last a → Crossed es a
+  next_is [] a hs dr f = copied [] a hs dr f (later_by p packets k s own peer sent last whole f.made (λ c g. absurd (let l = slice_get_within own f.made c g in let z = ap (λ (u : Cursor). u.made) f.fits in omega (arith, z, l, whole))))
+  next_is (Take slot number ∷ es) a hs dr f = undue a slot number es hs dr f f.fits.0 f.fits.1 f.fits.2
+  next_is (Make place clock why ∷ es) a hs dr f = next_make a place clock why es hs f f.fits.0 f.fits.1 f.fits.2 (ahead p (length packets) s own peer last k k (Make place clock why) es a (omega arith) (omega arith) f tt).0.0

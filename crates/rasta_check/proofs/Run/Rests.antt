@@ -40,10 +40,16 @@ no_makes at level [] l o = makes_none at
 no_makes at level (Take slot number ∷ es) l o = makes_past at slot number es ∙ no_makes at level es l o.1
 no_makes at level (Make index clock why ∷ es) l o = makes_other at index clock why es (above at index (let z = o.0 in omega arith)) ∙ no_makes at level es l o.1
 
--- from this level on the script says what its rest says
-pub record Says (k : ℕ) (whole es : List Entry) : Type 0 where
-  pub takes : (j : ℕ) → k ≤ j → takes_at j whole ≡ takes_at j es
-  pub makes : (j : ℕ) → k ≤ j → makes_at j whole ≡ makes_at j es
+-- a script says what its rest says: of takes from this level on, and of makes from this place on
+pub record Says (level place : ℕ) (whole es : List Entry) : Type 0 where
+  pub takes : (j : ℕ) → level ≤ j → takes_at j whole ≡ takes_at j es
+  pub makes : (j : ℕ) → place ≤ j → makes_at j whole ≡ makes_at j es
+
+pub says_all : (level place : ℕ) (es : List Entry) → Says level place es es
+says_all level place es = record { takes = λ j l. refl; makes = λ j l. refl }
+
+pub says_on : {level place level' place' : ℕ} {whole mid es : List Entry} → Says level place whole mid → Says level' place' mid es → level ≤ level' → place ≤ place' → Says level' place' whole es
+says_on a b l m = record { takes = λ j n. a.takes j (omega (arith, l, n)) ∙ b.takes j n; makes = λ j n. a.makes j (omega (arith, m, n)) ∙ b.makes j n }
 
 -- ---- places
 

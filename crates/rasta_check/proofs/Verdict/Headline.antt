@@ -26,7 +26,7 @@ use Rattle.rasta_check.proofs.Capture.FaultlessLists.{IsSent}
 use Rattle.rasta_check.proofs.Capture.ListForms.{to_record}
 use Rattle.rasta_check.proofs.Script.FollowedScripts.{follow_fits}
 use Rattle.rasta_check.proofs.Script.Fits.{fits_is, is_fits}
-use Rattle.rasta_check.proofs.Script.Simulation.{simulated}
+use Rattle.rasta_check.proofs.Run.Simulation.{simulated}
 use Rattle.rasta_check.proofs.Model.ConveyedUnits.{values, length-values}
 use Rattle.rasta_check.proofs.Theorem.SentRuns.{Known, known}
 use Rattle.rasta_check.proofs.Script.CutScripts.{sharp}
