@@ -139,7 +139,7 @@ module _ (p : Parameters) (packets : List Packet) where
         let own = follows x in
         let other = follows (other_side x) in
         let m = next_is p packets k x (lists x) (lists (other_side x)) (sent x) recorded own.0 own.2 (station_of d.world (other_side x)) here at h.rest (station_of d.world x) refl h.drained h.tracks in
-        let still = passed_by p packets k (other_side x) (lists (other_side x)) (lists (other_side (other_side x))) (sent (other_side x)) other.0 other.2 g.rest (station_of d.world (other_side x)) here at (apart x) g.tracks in
+        let still = passed_by p packets k (other_side x) (lists (other_side x)) (lists (other_side (other_side x))) (sent (other_side x)) other.0 g.rest (station_of d.world (other_side x)) here at (apart x) g.tracks in
         let tc : List Line = takes_lines k Client (scripts Client) in
         let ts : List Line = takes_lines k Server (scripts Server) in
         let ps : List Line = packet_lines k (lists Client) (lists Server) (scripts Client) (scripts Server) (slice_get packets k) in
@@ -175,7 +175,7 @@ module _ (p : Parameters) (packets : List Packet) where
           d.world,
           d.reached,
           d.crossed ∙ take_all k packets (omega (arith, last)),
-          λ x. nothing_left p packets k x (lists x) (lists (other_side x)) (sent x) (follows x).0 (follows x).2 (station_of d.world x) (d.sides x).rest (sym last) (d.sides x).drained (d.sides x).tracks ∙ (follows x).3,
+          λ x. nothing_left p packets k x (lists x) (lists (other_side x)) (sent x) (follows x).0 (station_of d.world x) (d.sides x).rest (sym last) (d.sides x).drained (d.sides x).tracks ∙ (follows x).3,
           d.shown ∙ (append_assoc lines tc ts ∙ (ap (λ (l : List Line). lines ++ l)
               (sym (append-nil (level_at k) ∙ ap (λ (l : List Line). tc ++ l) (ap (λ (l : List Line). ts ++ l) (no_packet k (slice_get packets k) last refl) ∙ append-nil ts))) ∙ q)),
         )

@@ -19,14 +19,14 @@ use Rattle.rasta_check.specs.Model.World.{Station, making, repeating, waiting, m
 use Rattle.rasta_check.proofs.Capture.FaultlessLists.{IsSent}
 use Rattle.rasta_check.proofs.Capture.Crossings.{number_spelled}
 use Rattle.rasta_check.proofs.Model.ListGrowth.{get_front, get_push}
-use Rattle.rasta_check.proofs.Script.Simulation.{Tracks, Drained, Later, later_by, next_number, next_packet, next_place, places_once, slice_get_some, untouched}
+use Rattle.rasta_check.proofs.Script.Simulation.{Tracks, Drained, next_number, next_packet, places_once, slice_get_some, untouched}
 use Rattle.rasta_check.proofs.Model.Steps.{base, made_more}
 use Rattle.rasta_check.specs.Run.Lines.{Line, lines_of_move, copy_lines, number_of}
 use Rattle.rasta_check.specs.Run.Levels.{takes_at, makes_at, make_line, waited_line, each_make, side_lines, crossed_lines}
 use Rattle.rasta_check.proofs.Run.Entries.{takes_past, makes_here, makes_other, below}
-use Rattle.rasta_check.proofs.Run.Rests.{Above, Says, says_all, lead_above, no_makes, place_found, place_missing}
+use Rattle.rasta_check.proofs.Run.Rests.{Above, Says, says_all, lead_above, places_above, no_makes, place_found, place_missing}
 use Rattle.rasta_check.proofs.Run.Moves.{Many, stays, moves}
-use Rattle.rasta_check.proofs.Run.Takes.{ahead, above_next}
+use Rattle.rasta_check.proofs.Run.Takes.{ahead}
 
 module _ (p : Parameters) (packets : List Packet) (k : ℕ) (s : Side) (own peer : List FirstCopy) (sent : IsSent p packets s own) (recorded : CrossRecorded p packets) (last : Cursor) (whole : last.made ≡ length own)
     (b : Station) (here : Packet) (at : slice_get packets k ≡ Some here) where
@@ -123,41 +123,31 @@ module _ (p : Parameters) (packets : List Packet) (k : ℕ) (s : Side) (own peer
       (subst (λ (ys : List Packet). Many p b s (take k packets) a (lines_of_move s a b (take k packets) (repeating j here.channel) ++ []) a ys) next
       (moves (repeating j here.channel) (repeats {a = a} j here.channel old there (os ∙ sd) (recorded k here at)) stays))
 
-  copied : (es : List Entry) (a : Station) → here.side ≡ s → Drained k es → (f : Tracks p (length packets) k s own peer es last a) → Later k own f.made → Crossed es a
-  unfolding Later
-  copied es a hs dr f l =
-      let t : Tracks p (length packets) (suc k) s own peer es last a = untouched p packets k s own peer sent last whole es a f l in
-      let not_first : (i : ℕ) (c : FirstCopy) → slice_get own i ≡ Some c → c.place ≡ k → ⊥ =
-      λ i c g e. elim (dec_lt i f.made) [ yes m ↦ (let z = f.after i c g m in omega (arith, z)) | no m ↦ (let z = l i c g (omega arith) in omega (arith, z)) ] in
+  copied : (es : List Entry) (a : Station) → here.side ≡ s → Above (suc k) es → Tracks p (length packets) k s own peer es last a → Crossed es a
+  copied es a hs above f =
+      let no_first : (i : ℕ) (c : FirstCopy) → slice_get own i ≡ Some c → c.place ≡ k → ⊥ =
+      λ i c g e. elim (dec_lt i f.made) [
+        | yes m ↦ (let z = f.after i c g m in omega (arith, z))
+        | no m ↦ (let z = places_above p (length packets) (suc k) own peer _ last es f.fits whole above i c g (omega arith) in omega (arith, z))
+      ] in
       ⊎_elim
-      (λ (w : (i : ℕ) × (c : FirstCopy) × (slice_get own i ≡ Some c) × (c.place ≡ k)). absurd (not_first w.0 w.1 w.2 w.3))
+      (λ (w : (i : ℕ) × (c : FirstCopy) × (slice_get own i ≡ Some c) × (c.place ≡ k)). absurd (no_first w.0 w.1 w.2 w.3))
       (λ (w : (j : ℕ) × (o : Packet) × (j < k) × (slice_get packets j ≡ Some o) × (o.side ≡ s) × (o.payload ≡ here.payload)). record {
         rest = es;
         station = a;
-        many = copy_moves es a (place_missing own k not_first) (hs ∙ sym f.side) w.0 w.1 w.2 w.3 (w.4 ∙ sym hs) w.5;
-        tracks = t;
-        above = above_next p (length packets) s own peer last k es a t dr;
+        many = copy_moves es a (place_missing own k no_first) (hs ∙ sym f.side) w.0 w.1 w.2 w.3 (w.4 ∙ sym hs) w.5;
+        tracks = untouched p (length packets) k s own peer es last a f no_first;
+        above = above;
         says = says_all (suc k) (suc k) es;
       })
       (sent.others k here at hs)
 
-  -- the next entry is a take that is not yet due
-  undue : (a : Station) (slot number : ℕ) (es : List Entry) → here.side ≡ s → k < slot
-      → (f : Tracks p (length packets) k s own peer (Take slot number ∷ es) last a) (m : Cursor) → Advances p (length packets) own peer (record { level = f.level; made = f.made; taken = f.taken; state = a.state }) (Take slot number) m → Leads p (length packets) own peer m es last
-      → Crossed (Take slot number ∷ es) a
-  undue a slot number es hs dr f m (takes_next slot' position d e' lv le there below above t) rest =
-      copied (Take slot d.pdu.number ∷ es) a hs dr f (later_by p packets k s own peer sent last whole f.made (λ c g. (let l = next_place p (length packets) own peer _ last es rest whole c g in omega (arith, l))))
-
-  next_make : (a : Station) (place clock : ℕ) (why : Why) (es : List Entry) → here.side ≡ s
-      → (f : Tracks p (length packets) k s own peer (Make place clock why ∷ es) last a) (m : Cursor) → Advances p (length packets) own peer (record { level = f.level; made = f.made; taken = f.taken; state = a.state }) (Make place clock why) m → Leads p (length packets) own peer m es last
-      → k ≤ place → Crossed (Make place clock why ∷ es) a
-  next_make a place clock why es hs f m (makes_next c clock' why' e' lv mine mk) rest low =
-      elim (dec_lt k c.place) [
-        | yes l ↦ copied (Make c.place clock why ∷ es) a hs tt f (later_by p packets k s own peer sent last whole f.made (λ d g. (let same : c ≡ d = cc in let q = ap (λ (x : FirstCopy). x.place) same in omega (arith, q))))
-        | no l ↦ make_one c.place clock why es a m (omega arith) f (makes_next c clock why e' lv mine mk) rest
-      ]
-
   pub next_is : (es : List Entry) (a : Station) → here.side ≡ s → Drained k es → Tracks p (length packets) k s own peer es last a → Crossed es a
-  next_is [] a hs dr f = copied [] a hs dr f (later_by p packets k s own peer sent last whole f.made (λ c g. absurd (let l = slice_get_within own f.made c g in let z = ap (λ (u : Cursor). u.made) f.fits in omega (arith, z, l, whole))))
-  next_is (Take slot number ∷ es) a hs dr f = undue a slot number es hs dr f f.fits.0 f.fits.1 f.fits.2
-  next_is (Make place clock why ∷ es) a hs dr f = next_make a place clock why es hs f f.fits.0 f.fits.1 f.fits.2 (ahead p (length packets) s own peer last k k (Make place clock why) es a (omega arith) (omega arith) f tt).0.0
+  next_is [] a hs dr f = copied [] a hs tt f
+  next_is (Take slot number ∷ es) a hs dr f = copied (Take slot number ∷ es) a hs (dr, (ahead p (length packets) s own peer last k k (Take slot number) es a (omega arith) (omega arith) f dr).1) f
+  next_is (Make place clock why ∷ es) a hs dr f =
+      let z = ahead p (length packets) s own peer last k k (Make place clock why) es a (omega arith) (omega arith) f tt in
+      elim (dec_lt k place) [
+        | yes l ↦ copied (Make place clock why ∷ es) a hs (l, z.1) f
+        | no l ↦ make_one place clock why es a f.fits.0 (omega (arith, z.0.0)) f f.fits.1 f.fits.2
+      ]

@@ -88,66 +88,35 @@ next_packet packets k a sd e g =
 pub next_number : (f b m n c : ℕ) → n ≡ b + m → (f + b) % 2 ^ 32 ≡ c → (f + n) % 2 ^ 32 ≡ (c + m) % 2 ^ 32
 next_number f b m n c e h = omega arith
 
--- the next PDU of a script does not lie below its level
-pub next_place : (p : Parameters) (n : ℕ) (own peer : List FirstCopy) (u v : Cursor) (es : List Entry) → Leads p n own peer u es v → v.made ≡ length own → (c : FirstCopy) → slice_get own u.made ≡ Some c → u.level ≤ c.place
-next_place p n own peer u v [] f w c g = absurd (let l = slice_get_within own u.made c g in let e = ap (λ (z : Cursor). z.made) f in omega arith)
-next_place p n own peer u v (x ∷ es) f w c g = by x f.0 f.1 (next_place p n own peer f.0 v es f.2 w) g
-  where
-    by : (x : Entry) (m : Cursor) → Advances p n own peer u x m → ((c : FirstCopy) → slice_get own m.made ≡ Some c → m.level ≤ c.place) → slice_get own u.made ≡ Some c → u.level ≤ c.place
-    by x m (takes_next slot' position d e' lv le there below above t) r g = (let z = r c g in omega (arith, z, lv))
-    by x m (makes_next d clock why e' lv mine mk) r g =
-        let same : d ≡ c = cc in
-        let q = ap (λ (x : FirstCopy). x.place) same in
-        omega (arith, q, lv)
+-- a packet that is no first copy of this side leaves the station as it is
+pub untouched : (p : Parameters) (n k : ℕ) (s : Side) (own peer : List FirstCopy) (es : List Entry) (last : Cursor) (a : Station) → Tracks p n k s own peer es last a
+    → ((i : ℕ) (c : FirstCopy) → slice_get own i ≡ Some c → c.place ≡ k → ⊥) → Tracks p n (suc k) s own peer es last a
+untouched p n k s own peer es last a f no_first =
+    record {
+      level = f.level;
+      made = f.made;
+      taken = f.taken;
+      low = omega (arith, f.low);
+      fits = f.fits;
+      based = f.based;
+      count = f.count;
+      mark = f.mark;
+      clock = f.clock;
+      number = f.number;
+      before = λ i c g v. f.before i c g (let z = no_first i c g in omega (arith, z, v));
+      after = λ i c g v. (let z = f.after i c g v in omega (arith, z));
+      same = f.same;
+      side = f.side;
+    }
 
--- no PDU that is still to be made crosses at k
-unfoldable pub Later : ℕ → List FirstCopy → ℕ → Type 0
-Later k own made = (i : ℕ) (c : FirstCopy) → slice_get own i ≡ Some c → made ≤ i → k < c.place
-
-module _ (p : Parameters) (packets : List Packet) (k : ℕ) (s : Side) (own peer : List FirstCopy) (sent : IsSent p packets s own) (last : Cursor) (whole : last.made ≡ length own) where
-  pub later_by : (made : ℕ) → ((c : FirstCopy) → slice_get own made ≡ Some c → k < c.place) → Later k own made
-  unfolding Later
-  later_by made h i c g l =
-      let in_own : i < length own = slice_get_within own i c g in
-      let first : FirstCopy = slice_index_or own made c in
-      let at : slice_get own made ≡ Some first = slice_get-get_or own made c (omega arith) in
-      let low = h first at in
-      elim (dec_lt made i) [
-        | yes m ↦ (let z = places_rise p packets s own sent (i - suc made) made first c at (subst (λ (t : ℕ). slice_get own t ≡ Some c) (omega arith) g) in omega (arith, low, z))
-        | no m ↦ (let e : i ≡ made = omega arith in let e' : first ≡ c = (let g' : slice_get own made ≡ Some c = subst (λ (t : ℕ). slice_get own t ≡ Some c) e g in cc) in let q = ap (λ (x : FirstCopy). x.place) e' in omega (arith, q, low))
-      ]
-
-  -- a packet of the other side, or a copy, leaves the station as it is
-  pub untouched : (es : List Entry) (a : Station) → (f : Tracks p (length packets) k s own peer es last a) → Later k own f.made → Tracks p (length packets) (suc k) s own peer es last a
-  unfolding Later
-  untouched es a f l =
-      record {
-        level = f.level;
-        made = f.made;
-        taken = f.taken;
-        low = omega (arith, f.low);
-        fits = f.fits;
-        based = f.based;
-        count = f.count;
-        mark = f.mark;
-        clock = f.clock;
-        number = f.number;
-        before = λ i c g v. elim (dec_lt i f.made) [ yes m ↦ m | no m ↦ (let z = l i c g (omega arith) in absurd (omega (arith, z))) ];
-        after = λ i c g v. (let z = f.after i c g v in omega (arith, z));
-        same = f.same;
-        side = f.side;
-      }
-
-  -- a packet of the other side leaves this side as it is
+module _ (p : Parameters) (packets : List Packet) (k : ℕ) (s : Side) (own peer : List FirstCopy) (sent : IsSent p packets s own) (last : Cursor) where
+  -- so does a packet of the other side
   pub passed_by : (es : List Entry) (a : Station) (here : Packet) → slice_get packets k ≡ Some here → (here.side ≡ s → ⊥) → Tracks p (length packets) k s own peer es last a → Tracks p (length packets) (suc k) s own peer es last a
-  unfolding Later
   passed_by es a here at no_side f =
-      untouched es a f
-      (λ i c g l.
-      let f1 = sent.firsts i c g in
-      let low : k ≤ c.place = elim (dec_lt c.place k) [ yes m ↦ (let z = f.before i c g m in absurd (omega (arith, z))) | no m ↦ omega arith ] in
-      let not_here : c.place ≡ k → ⊥ = λ e. no_side (let g' : slice_get packets k ≡ Some f1.0 = subst (λ (j : ℕ). slice_get packets j ≡ Some f1.0) e f1.1 in let q : f1.0 ≡ here = cc in sym (ap (λ (x : Packet). x.side) q) ∙ f1.2) in
-      omega arith)
+      untouched p (length packets) k s own peer es last a f (λ i c g e.
+      let first = sent.firsts i c g in
+      let same : first.0 ≡ here = (let there : slice_get packets k ≡ Some first.0 = subst (λ (j : ℕ). slice_get packets j ≡ Some first.0) e first.1 in cc) in
+      no_side (sym (ap (λ (x : Packet). x.side) same) ∙ first.2))
 
   -- when all packets have crossed and all takes that are due are done, nothing is left
   pub nothing_left : (a : Station) (es : List Entry) → length packets ≡ k → Drained k es → Tracks p (length packets) k s own peer es last a → a.state ≡ last.state
