@@ -1,7 +1,6 @@
 -- What the rest of a script that fits says of later levels.
 use Rattle.std.proofs.Common.{◌≡◌, ℕ, ◌<◌, ◌≤◌, List, [], ◌∷◌, length, Option, Some, None, slice_get, refl, ap, sym, ◌∙◌, arith, subst}
-use Rattle.std.specs.Option.{option_map}
-use Rattle.std.proofs.lemmas.Option.{slice_get_within, slice_get-map}
+use Rattle.std.proofs.lemmas.Option.{slice_get_within}
 use native.Mathlib.Decide.{dec_lt}
 use Prim.{yes, no}
 use Rattle.rasta_pcap.specs.declared.fault.Side.{Side}
@@ -13,8 +12,9 @@ use Rattle.rasta_check.specs.Capture.Crossing.{FirstCopy}
 use Rattle.rasta_check.specs.Capture.Lists.{places_of, position_of_place}
 use Rattle.rasta_check.specs.Script.Following.{Cursor, Advances, takes_next, makes_next, Leads}
 use Rattle.rasta_check.proofs.Capture.FaultlessLists.{IsSent}
-use Rattle.rasta_check.proofs.Capture.Positions.{position_at, position_none}
-use Rattle.rasta_check.proofs.Script.Simulation.{slice_get_some, places_once}
+use Rattle.rasta_check.proofs.Capture.Positions.{position_none}
+use Rattle.rasta_check.proofs.Script.Simulation.{places_once}
+use Rattle.rasta_check.proofs.Script.FollowedScripts.{get_place, place_named}
 use Rattle.rasta_check.specs.Run.Levels.{takes_at, makes_at}
 use Rattle.rasta_check.proofs.Run.Entries.{above, makes_none, makes_other, makes_past, takes_none, takes_other, takes_past}
 
@@ -70,17 +70,7 @@ says_on a b l m = record { takes = λ j n. a.takes j (omega (arith, l, n)) ∙ b
 -- ---- places
 
 pub place_found : (p : Parameters) (packets : List Packet) (s : Side) (own : List FirstCopy) → IsSent p packets s own → (i : ℕ) (c : FirstCopy) → slice_get own i ≡ Some c → position_of_place own c.place ≡ Some i
-place_found p packets s own h i c g =
-    position_at c.place (places_of own) i (slice_get-map (λ (x : FirstCopy). x.place) own i ∙ ap (option_map (λ (x : FirstCopy). x.place)) g)
-    (λ j y l k e. (let w = slice_get_within own i c g in
-    let d = slice_get_some own j (omega (arith, l, w)) in
-    let same : Some d.0.place ≡ Some y = sym (slice_get-map (λ (x : FirstCopy). x.place) own j ∙ ap (option_map (λ (x : FirstCopy). x.place)) d.1) ∙ k in
-    let q : d.0.place ≡ c.place = cc in
-    let z = places_once p packets s own h j i d.0 c d.1 g q in omega (arith, z, l)))
+place_found p packets s own h i c g = place_named own i c g (λ j d l k e. (let z = places_once p packets s own h j i d c k g e in omega (arith, z, l)))
 
 pub place_missing : (own : List FirstCopy) (k : ℕ) → ((i : ℕ) (c : FirstCopy) → slice_get own i ≡ Some c → c.place ≡ k → ⊥) → position_of_place own k ≡ None
-place_missing own k none = position_none k (places_of own) (λ j y g e. by j y (slice_get own j) refl (sym (slice_get-map (λ (x : FirstCopy). x.place) own j) ∙ g) e)
-  where
-    by : (j y : ℕ) (o : Option FirstCopy) → slice_get own j ≡ o → option_map (λ (x : FirstCopy). x.place) o ≡ Some y → y ≡ k → ⊥
-    by j y None h g e = absurd (cc)
-    by j y (Some c) h g e = none j c h (let q : c.place ≡ y = cc in q ∙ e)
+place_missing own k none = position_none k (places_of own) (λ j y g e. (let d = get_place own j y g in none j d.0 d.1 (d.2 ∙ e)))

@@ -26,7 +26,7 @@ use Rattle.rasta_check.specs.Script.Fitting.{places_made, AreInOrder, AreNamed, 
 use Rattle.rasta_check.specs.Internals.Checking.{unless, take_at, take_found, make_of, make_found, next_cursor, then_follow, follow_from, follow, where_followed, verdict_of}
 use Rattle.rasta_check.specs.Verdict.Report.{Explained, IsScriptVerdict, both_fit, client_refused, server_refused, report_of}
 use Rattle.rasta_check.proofs.Capture.Positions.{position_at}
-use Rattle.rasta_check.proofs.Script.FollowedScripts.{number_found, place_found, less, not_less, passes, holds, allowed, neither, above, below, both, passed, held, same_equal, follow_fits, fits_follow}
+use Rattle.rasta_check.proofs.Script.FollowedScripts.{number_found, place_found, place_named, less, not_less, passes, holds, allowed, neither, above, below, both, passed, held, same_equal, follow_fits, fits_follow}
 use Rattle.rasta_check.proofs.Script.Simulation.{slice_get_some}
 use Rattle.rasta_check.proofs.Internals.StoreLists.{copy_of_position, no_copy}
 
@@ -52,16 +52,6 @@ counted_is : {A : Type 0} (n : ℕ) (xs : List A) → counted n xs ≡ n + lengt
 unfolding counted
 counted_is n [] = omega arith
 counted_is n (x ∷ xs) = (let z = counted_is (suc n) xs in omega (arith, z))
-
-get_place : (cs : List FirstCopy) (i : ℕ) (c : FirstCopy) → slice_get cs i ≡ Some c → slice_get (places_of cs) i ≡ Some c.place
-get_place [] i c g = absurd (cc)
-get_place (d ∷ cs) zero c g = (let same : d ≡ c = cc in ap (λ (x : FirstCopy). Some x.place) same)
-get_place (d ∷ cs) (suc i) c g = get_place cs i c g
-
-place_back : (cs : List FirstCopy) (i n : ℕ) → slice_get (places_of cs) i ≡ Some n → (c : FirstCopy) × (slice_get cs i ≡ Some c) × (c.place ≡ n)
-place_back [] i n g = absurd (cc)
-place_back (c ∷ cs) zero n g = (c, refl, cc)
-place_back (c ∷ cs) (suc i) n g = place_back cs i n g
 
 module _ (p : Parameters) (packets : ℕ) (own peer : List FirstCopy) where
   -- ---- one entry
@@ -158,14 +148,7 @@ module _ (p : Parameters) (packets : ℕ) (own peer : List FirstCopy) where
 
   -- the next own PDU is found by its place
   found_at : (u : Cursor) (c : FirstCopy) → Behind u → u.level ≤ c.place → slice_get own u.made ≡ Some c → position_of_place own c.place ≡ Some u.made
-  found_at u c low l g = position_at c.place (places_of own) u.made (get_place own u.made c g) (λ j y b k e. earlier j y b k e)
-    where
-      earlier : (j y : ℕ) → j < u.made → slice_get (places_of own) j ≡ Some y → y ≡ c.place → ⊥
-      earlier j y b k e =
-          let d = place_back own j y k in
-          let q = low j d.0 b d.1 in
-          let z = d.2 in
-          omega arith
+  found_at u c low l g = place_named own u.made c g (λ j d b k e. (let q = low j d b k in omega (arith, e, q, l)))
 
   behind_on : (u v : Cursor) (c : FirstCopy) → v.made ≡ suc u.made → v.level ≡ suc c.place → u.level ≤ c.place → slice_get own u.made ≡ Some c → Behind u → Behind v
   behind_on u v c m l low g h j d b k = by (cases (nat_lt j u.made) refl)

@@ -39,7 +39,7 @@ get_number [] i n g = absurd (cc)
 get_number (c ∷ cs) zero n g = (c, refl, cc)
 get_number (c ∷ cs) (suc i) n g = get_number cs i n g
 
-get_place : (cs : List FirstCopy) (i n : ℕ) → slice_get (places_of cs) i ≡ Some n → (c : FirstCopy) × (slice_get cs i ≡ Some c) × (c.place ≡ n)
+pub get_place : (cs : List FirstCopy) (i n : ℕ) → slice_get (places_of cs) i ≡ Some n → (c : FirstCopy) × (slice_get cs i ≡ Some c) × (c.place ≡ n)
 get_place [] i n g = absurd (cc)
 get_place (c ∷ cs) zero n g = (c, refl, cc)
 get_place (c ∷ cs) (suc i) n g = get_place cs i n g
@@ -161,16 +161,12 @@ number_at cs h few i c g = position_at c.pdu.number (numbers_of cs) i (slice_get
         let head = slice_get_some cs 0 (omega arith) in
         not_again head.0.pdu.number j i d.0.pdu.number c.pdu.number (h.numbers j head.0 d.0 head.1 d.1) (h.numbers i head.0 c head.1 g) l (omega arith) (d.2 ∙ e)
 
--- the place of a member names its position
+-- the place of a member names its position, where none before it has that place
+pub place_named : (cs : List FirstCopy) (i : ℕ) (c : FirstCopy) → slice_get cs i ≡ Some c → ((j : ℕ) (d : FirstCopy) → j < i → slice_get cs j ≡ Some d → d.place ≡ c.place → ⊥) → position_of_place cs c.place ≡ Some i
+place_named cs i c g none = position_at c.place (places_of cs) i (slice_get-map (λ (x : FirstCopy). x.place) cs i ∙ ap (option_map (λ (x : FirstCopy). x.place)) g) (λ j y l k e. (let d = get_place cs j y k in none j d.0 l d.1 (d.2 ∙ e)))
+
 place_at : (cs : List FirstCopy) → IsOrdered cs → (i : ℕ) (c : FirstCopy) → slice_get cs i ≡ Some c → position_of_place cs c.place ≡ Some i
-place_at cs h i c g = position_at c.place (places_of cs) i (slice_get-map (λ (x : FirstCopy). x.place) cs i ∙ ap (option_map (λ (x : FirstCopy). x.place)) g) (λ j y l k e. earlier j y l k e)
-  where
-    earlier : (j y : ℕ) → j < i → slice_get (places_of cs) j ≡ Some y → y ≡ c.place → ⊥
-    earlier j y l k e =
-        let d = get_place cs j y k in
-        let low = places_below cs h (i - suc j) j d.0 c d.1 (subst (λ n. slice_get cs n ≡ Some c) (omega arith) g) in
-        let z = d.2 in
-        omega arith
+place_at cs h i c g = place_named cs i c g (λ j d l k e. (let low = places_below cs h (i - suc j) j d c k (subst (λ n. slice_get cs n ≡ Some c) (omega arith) g) in omega (arith, low, e)))
 
 pub above : (a b : ℕ) → b ≤ a → nat_lt a b ≡ false
 above a b l = grind (arith, nat_tests)
