@@ -1,25 +1,24 @@
 -- What an end has handed up: the units conveyed through the last position of its peer that it accepted.
 use Rattle.std.proofs.Common.{◌≡◌, ℕ, zero, suc, ◌+◌, ◌<◌, ◌≤◌, ◌⊎◌, Bool, true, false, List, [], ◌∷◌, ◌++◌, length, Option, Some, None, slice_get, take, refl, ap, sym, ◌∙◌, arith, inl, inr, ⊎_elim, subst}
-use Rattle.std.specs.Prelude.{◌==◌, slice_index_or, if◌then◌else◌, map, filter}
+use Rattle.std.specs.Prelude.{◌==◌, slice_index_or, if◌then◌else◌, map, filter, drop}
 use Rattle.std.proofs.lemmas.Bool.Decides.{nat_tests}
 use Rattle.std.proofs.lemmas.List.{take-append-le, take_all, length_push}
 use Rattle.std.proofs.lemmas.Option.{slice_get_within, slice_get-get_or, get_or_from_slice_get}
-use Rattle.rasta_pcap.specs.declared.fault.Side.{Side}
-use Rattle.rasta_pcap.specs.declared.fault.Side.TheVariants.{Server}
 use Rattle.rasta_pdu.specs.declared.kind.Kind.{Kind}
 use Rattle.rasta_pdu.specs.declared.kind.Kind.TheVariants.{RetransmissionRequest, RetransmissionResponse, Heartbeat, Data}
 use Rattle.rasta_pdu.specs.Params.{Parameters}
 use Rattle.rasta_pdu.specs.Messages.{messages_of}
 use Rattle.rasta_pdu.specs.Pdu.{SafetyPdu, SafetyBody, Opening, Bye, Messages, Empty, messages_in, is_kind}
 use Rattle.rasta_end.specs.declared.phase.Phase.{Phase}
-use Rattle.rasta_end.specs.declared.phase.Phase.TheVariants.{Start, Up, RetrReq, RetrRun}
+use Rattle.rasta_end.specs.declared.phase.Phase.TheVariants.{Up, RetrReq}
 use Rattle.rasta_end.specs.declared.why.Why.{Why}
 use Rattle.rasta_end.specs.declared.make_row.MakeRow.{MakeRow}
 use Rattle.rasta_end.specs.declared.take_row.TakeRow.{TakeRow}
 use Rattle.rasta_end.specs.declared.take_row.TakeRow.TheVariants.{Opened, Answered, FirstHeartbeat, InSequence, ResentInSequence, Gap, GapInRetransmission, Resumed, Requested, RequestedAhead, RequestedAgain, Disconnected}
+use Rattle.rasta_end.specs.declared.owed.Owed.{Owed}
 use Rattle.rasta_end.specs.declared.owed.Owed.TheVariants.{RetransmissionRequest as OweRetransmissionRequest}
 use Rattle.rasta_end.specs.State.{Made, EndState, is_closed, is_flowing, carries_unit, content_of}
-use Rattle.rasta_end.specs.MakeRule.{row_of, phase_after, owed_after, after_make, after_make_by}
+use Rattle.rasta_end.specs.MakeRule.{row_of, after_make, after_make_by}
 use Rattle.rasta_end.specs.TakeRule.{is_heartbeat_or_data, is_in, steps_past_next, position_confirmed, accept, enter, hand_up, burst, take_row, effect, effect_by, after_take}
 use Rattle.rasta_check.specs.Model.Laws.{conveyed_before, HandsUp}
 use Rattle.rasta_check.specs.Model.Theorem.{HandsUpUnits}
@@ -31,7 +30,7 @@ use Rattle.rasta_check.proofs.Model.Counts.{number, owes, tally, number_push, nu
 use Rattle.rasta_check.proofs.Model.SequenceNumbers.{numbered_once}
 use Rattle.rasta_check.proofs.Model.Invariant.{Held, has_peer, is_named, is_opener, open_bit}
 use Rattle.rasta_check.proofs.Model.InvariantAtMake.{Changed, changed, over, opened, goes_on, named_judged}
-use Rattle.rasta_check.proofs.Model.InvariantAtTake.{Taken, place, flowing_peer}
+use Rattle.rasta_check.proofs.Model.InvariantAtTake.{Taken, place, flowing_peer, starting_peer}
 use Rattle.rasta_check.proofs.Model.ConveyedUnits.{values, is_plain, length-values, values_push}
 use Rattle.rasta_check.proofs.Model.OfferedUnits.{Valued}
 
@@ -101,7 +100,7 @@ module _ (p : Parameters) (e f : EndState) (x : SafetyPdu) (clock : ℕ) (why : 
   new = new_made b.row e x
 
   new_ask : (c : Bool) → is_kind RetransmissionRequest x.kind ≡ c → e.phase ≡ RetrReq
-      → tally c (owes is_request_owed (owed_after b.row e.owed)) ≡ owes is_request_owed e.owed → owes is_request_owed (owed_after b.row e.owed) ≡ 0 → LastRequest (e.made ++ new ∷ []) e.last_sn
+      → tally c (owes is_request_owed (drop 1 e.owed)) ≡ owes is_request_owed e.owed → owes is_request_owed (drop 1 e.owed) ≡ 0 → LastRequest (e.made ++ new ∷ []) e.last_sn
   new_ask true c ph d none =
       let all : take (length e.made) (e.made ++ new ∷ []) ≡ e.made = take-append-le (length e.made) e.made (new ∷ []) (omega arith) ∙ take_all (length e.made) e.made (omega arith) in
       let num = number_push (is_kind RetransmissionRequest) e.made new in
@@ -116,10 +115,10 @@ module _ (p : Parameters) (e f : EndState) (x : SafetyPdu) (clock : ℕ) (why : 
       let bit = ap (λ v. tally v (number (is_kind RetransmissionRequest) e.made)) c in
       (r.0, r.1, get_front e.made (new ∷ []) r.0 r.1 r.2, r.3, r.4, ap (λ ms. suc (number (is_kind RetransmissionRequest) ms)) same ∙ (r.5 ∙ sym (num ∙ bit)))
 
-  await_by : Changed e.side e.phase x.kind e.owed b.row → phase_after b.row e.phase ≡ RetrReq → owes is_request_owed (owed_after b.row e.owed) ≡ 0 → LastRequest (e.made ++ new ∷ []) e.last_sn
-  await_by (over a c d g j) ph none = absurd (cc)
-  await_by (opened a s c o j) ph none = absurd (cc)
-  await_by (goes_on a c d g j k l) ph none = new_ask (is_kind RetransmissionRequest x.kind) refl (sym a ∙ ph) g none
+  await_by : {ph : Phase} {os : List Owed} → Changed e.side e.phase x.kind e.owed ph os → ph ≡ RetrReq → owes is_request_owed os ≡ 0 → LastRequest (e.made ++ new ∷ []) e.last_sn
+  await_by (over a c d) ph none = absurd (cc)
+  await_by (opened a s c) ph none = absurd (cc)
+  await_by (goes_on a c d g j) ph none = new_ask (is_kind RetransmissionRequest x.kind) refl ph d none
 
   handed_row : Handed (after_make_by (Some b.row) e x clock) f
   handed_row = record { count = w.count; labels = w.labels; as_many = w.as_many; awaited = await_by (changed e.side e.phase why x.kind e.owed b.row b.how) }
@@ -139,10 +138,6 @@ heartbeat_or_data _ h = absurd (cc)
 flowing_not : (ph : Phase) → is_flowing ph ≡ true → ph ≡ RetrReq → ⊥
 flowing_not RetrReq h g = cc
 flowing_not _ h g = cc
-
--- a server in Start has accepted the connection request
-peer_of : {s : Side} {ph : Phase} → s ≡ Server → ph ≡ Start → has_peer s ph ≡ true
-peer_of {s = s} a b = ap (has_peer s) b ∙ ap (λ side. has_peer side Start) a
 
 in_zero : (n : ℕ) → (n == 0) ≡ true → n ≡ 0
 in_zero n h = grind (arith, nat_tests)
@@ -210,16 +205,16 @@ module _ (q : Parameters) (e f : EndState) (t u : ℕ) (m : Made) (p : ℕ) (k :
       let low = number_take_more (is_kind RetransmissionResponse) f.made t p k.above in
       let next = number_take_at (is_kind RetransmissionResponse) f.made p m k.there is_a in
       let all = number_take_all (is_kind RetransmissionResponse) f.made (suc p) in
-      let req : number (is_kind RetransmissionRequest) e.made ≤ number (is_kind RetransmissionResponse) (take t f.made) + 1 = omega (arith, k.mine.open_requests, ap open_bit ph) in
+      let req : number (is_kind RetransmissionRequest) e.made ≤ number (is_kind RetransmissionResponse) (take t f.made) + 1 = omega (arith, k.mine.asks.open_requests, ap open_bit ph) in
       let most = number_take_all (is_kind RetransmissionRequest) e.made u in
-      let idx : number (is_kind RetransmissionResponse) (take p f.made) ≡ number (is_kind RetransmissionRequest) (take aw.0 e.made) = omega (arith, low, next, all, req, most, aw.5, k.theirs.asked, k.theirs.asks_taken) in
-      let inside : number (is_kind RetransmissionResponse) (take p f.made) < length f.asks = omega (arith, next, all, k.theirs.asked) in
+      let idx : number (is_kind RetransmissionResponse) (take p f.made) ≡ number (is_kind RetransmissionRequest) (take aw.0 e.made) = omega (arith, low, next, all, req, most, aw.5, k.theirs.asks.asked, k.theirs.asks.asks_taken) in
+      let inside : number (is_kind RetransmissionResponse) (take p f.made) < length f.asks = omega (arith, next, all, k.theirs.asks.asked) in
       let c : slice_get f.asks (number (is_kind RetransmissionResponse) (take p f.made)) ≡ Some (slice_index_or f.asks (number (is_kind RetransmissionResponse) (take p f.made)) 0) = slice_get-get_or f.asks _ 0 inside in
       let j = vf.jumps p m _ k.there is_a c in
-      let named = k.theirs.answered aw.0 aw.1 _ aw.2 aw.3 (subst (λ n. slice_get f.asks n ≡ Some (slice_index_or f.asks (number (is_kind RetransmissionResponse) (take p f.made)) 0)) idx c) in
-      let mine = k.mine.last i a in
+      let named = k.theirs.asks.answered aw.0 aw.1 aw.2 aw.3 _ (subst (λ n. slice_get f.asks n ≡ Some (slice_index_or f.asks (number (is_kind RetransmissionResponse) (take p f.made)) 0)) idx c) in
+      let mine = k.mine.accepts.last i a in
       let sns : named.m.pdu.sn ≡ mine.m.pdu.sn = named.same ∙ (aw.4 ∙ sym mine.same) in
-      let same : slice_index_or f.asks (number (is_kind RetransmissionResponse) (take p f.made)) 0 ≡ i = numbered_once f.made k.few_theirs k.theirs.numbered _ i named.m mine.m named.there mine.there sns in
+      let same : slice_index_or f.asks (number (is_kind RetransmissionResponse) (take p f.made)) 0 ≡ i = numbered_once f.made k.few_theirs k.theirs.list.numbered _ i named.m mine.m named.there mine.there sns in
       j.1 ∙ ap (slice_get (values f)) same
 
   first_worth : p ≡ 0 → worth (values f) 1 ≡ 0
@@ -255,19 +250,19 @@ module _ (q : Parameters) (e f : EndState) (t u : ℕ) (m : Made) (p : ℕ) (k :
 
   h_row : e.owed ≡ [] → (r : TakeRow) → Knows q r e m.pdu → Handed (effect q r e m.pdu) f
   h_row free Opened x =
-      let zp = k.theirs.openers p m k.there (ap is_opener x.1) in
-      first_by (effect q Opened e m.pdu) refl refl refl (λ r. cc (r)) (k.mine.down x.0).2 zp
+      let zp = k.theirs.list.openers p m k.there (ap is_opener x.1) in
+      first_by (effect q Opened e m.pdu) refl refl refl (λ r. cc (r)) (k.mine.opening.down x.0).2 zp
   h_row free Answered x =
-      let zp = k.theirs.openers p m k.there (ap is_opener x.2) in
-      first_by (effect q Answered e m.pdu) refl refl refl (λ r. cc (r)) (k.mine.starting x.0 x.1) zp
+      let zp = k.theirs.list.openers p m k.there (ap is_opener x.2) in
+      first_by (effect q Answered e m.pdu) refl refl refl (λ r. cc (r)) (k.mine.opening.starting x.0 x.1) zp
   h_row free FirstHeartbeat x =
-      let a = k.mine.connected (peer_of x.0 x.1) in
+      let a = k.mine.opening.connected (starting_peer x.0 x.1) in
       keeps (effect q FirstHeartbeat e m.pdu) refl refl (same_worth a.0 a.1 (plain_next a.0 (in_place x.4 a.0 a.1) (ap is_plain x.2))) (λ r n. cc (r))
   h_row free InSequence x =
-      let a = k.mine.connected (flowing_peer e.side e.phase x.0) in
+      let a = k.mine.opening.connected (flowing_peer e.side e.phase x.0) in
       in_sequence_by a.0 a.1 (in_place x.3 a.0 a.1) (heartbeat_or_data m.pdu.kind x.1)
   h_row free ResentInSequence x =
-      let a = k.mine.connected (ap (has_peer e.side) x.0) in
+      let a = k.mine.opening.connected (ap (has_peer e.side) x.0) in
       let pl : e.accepted + steps_past_next e m.pdu ≡ p = place q e f t u m p k a.0 a.1 in
       subst
       (λ (b : Bool). Handed (if b then hand_up e.accepted (accept q e m.pdu) m.pdu else accept q e m.pdu) f)
@@ -276,10 +271,10 @@ module _ (q : Parameters) (e f : EndState) (t u : ℕ) (m : Made) (p : ℕ) (k :
   h_row free Gap x = passes (effect q Gap e m.pdu) refl refl refl (λ r n. cc (n))
   h_row free GapInRetransmission x = passes (effect q GapInRetransmission e m.pdu) refl refl refl (λ r n. cc (n))
   h_row free Resumed x =
-      let a = k.mine.connected (ap (has_peer e.side) x.0) in
+      let a = k.mine.opening.connected (ap (has_peer e.side) x.0) in
       keeps (effect q Resumed e m.pdu) refl refl (same_worth a.0 a.1 (resumed x.0 free x.1 a.0 a.1)) (λ r n. cc (r))
   h_row free Requested x =
-      let a = k.mine.connected (flowing_peer e.side e.phase x.0) in
+      let a = k.mine.opening.connected (flowing_peer e.side e.phase x.0) in
       keeps (effect q Requested e m.pdu) refl refl (same_worth a.0 a.1 (plain_next a.0 (in_place x.3 a.0 a.1) (ap is_plain x.1))) (λ r n. flowing_not e.phase x.0 r)
   h_row free RequestedAhead x =
       passes (effect q RequestedAhead e m.pdu) refl refl refl (λ r n. (let a = owes-append is_request_owed (burst e (position_confirmed e m.pdu)) (OweRetransmissionRequest ∷ []) in omega arith))

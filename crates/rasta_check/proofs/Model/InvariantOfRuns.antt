@@ -41,23 +41,11 @@ nothing_at i x e = absurd (cc)
 fresh_held : (side : Side) (phase : Phase) → (phase ≡ Down → side ≡ Server) → has_peer side phase ≡ false → Held (fresh_end side phase) 0 []
 fresh_held side phase down peer =
     record {
-      numbered = λ i m e. nothing_at (suc i) m e;
+      list = record { numbered = λ i m e. nothing_at (suc i) m e; openers = λ i m e. nothing_at i m e };
+      opening = record { down = λ e. (refl, down e, refl); starting = λ _ _. refl; unmade = λ _ _. (refl, refl); response_due = inl refl; connected = λ v. absurd (cc) };
+      asks = record { asked = omega arith; owing = λ _. refl; answered = λ i m e. nothing_at i m e; asks_taken = omega arith; open_requests = omega arith };
+      accepts = record { reached = omega arith; within = omega arith; last = λ i v. absurd (cc); named = λ i m e. nothing_at i m e };
       confirmed = omega arith;
-      asked = omega arith;
-      owing = λ _. refl;
-      openers = λ i m e. nothing_at i m e;
-      down = λ e. (refl, down e, refl);
-      starting = λ _ _. refl;
-      unmade = λ _ _. (refl, refl);
-      response_due = inl refl;
-      connected = λ v. absurd (cc);
-      reached = omega arith;
-      within = omega arith;
-      last = λ i v. absurd (cc);
-      answered = λ i m d e. nothing_at i m e;
-      asks_taken = omega arith;
-      open_requests = omega arith;
-      named = λ i m e. nothing_at i m e;
     }
 
 -- the only one of a list of one
@@ -77,23 +65,16 @@ quiet_cs own other m e = ap (λ (n : Made). n.pdu.cs) (sym e)
 quiet_held : (side peer : Side) (own other : QuietEnd) → Held (quiet_end side own other) 1 (quiet_end peer other own).made
 quiet_held side peer own other =
     record {
-      numbered = λ i m e. nothing_at i m e;
+      list = record { numbered = λ i m e. nothing_at i m e; openers = λ i m e k. (only_at _ m i e).0 };
+      opening = record { down = λ e. absurd (cc); starting = λ _ v. absurd (cc); unmade = λ _ v. absurd (cc); response_due = inl refl; connected = λ v. (0, refl) };
+      asks = record { asked = omega arith; owing = λ _. refl; answered = λ i m e k c g. absurd (cc); asks_taken = omega arith; open_requests = omega arith };
+      accepts = record {
+        reached = omega arith;
+        within = omega arith;
+        last = λ i v. quiet_sn peer other own i _ (omega arith) refl;
+        named = λ i m e k. (0, omega arith, quiet_sn peer other own 0 m.pdu.cs refl (quiet_cs own other m (only_at _ m i e).1));
+      };
       confirmed = omega arith;
-      asked = omega arith;
-      owing = λ _. refl;
-      openers = λ i m e k. (only_at _ m i e).0;
-      down = λ e. absurd (cc);
-      starting = λ _ v. absurd (cc);
-      unmade = λ _ v. absurd (cc);
-      response_due = inl refl;
-      connected = λ v. (0, refl);
-      reached = omega arith;
-      within = omega arith;
-      last = λ i v. quiet_sn peer other own i _ (omega arith) refl;
-      answered = λ i m d e k g. absurd (cc);
-      asks_taken = omega arith;
-      open_requests = omega arith;
-      named = λ i m e k. (0, omega arith, quiet_sn peer other own 0 m.pdu.cs refl (quiet_cs own other m (only_at _ m i e).1));
     }
 
 fresh_valued : (side : Side) (phase : Phase) → is_connected phase ≡ false → Valued (fresh_end side phase)
@@ -200,9 +181,9 @@ all_kept p b a a' xs ys move (makes x why after channel reserve check bytes mk s
       values = values;
       their_values = h.their_values;
       up = handed_make p a.state b.state x a.clock why a.taken ok h.mine h.up;
-      their_up = handed_peer_make b.state a.state x a.clock why (let z = h.theirs in omega (arith, z.reached, z.within)) h.their_up;
-      shows = shown_make p a.state b.state x a.clock why a.taken ok h.mine (numbered_once b.state.made r h.theirs.numbered) h.their_values h.up h.shows;
-      their_shows = shown_peer_make p b.state a.state x a.clock why ok values (numbered_once (after_make a.state x a.clock why).made few mine.numbered) h.their_shows;
+      their_up = handed_peer_make b.state a.state x a.clock why (let z = h.theirs.accepts in omega (arith, z.reached, z.within)) h.their_up;
+      shows = shown_make p a.state b.state x a.clock why a.taken ok h.mine (numbered_once b.state.made r h.theirs.list.numbered) h.their_values h.up h.shows;
+      their_shows = shown_peer_make p b.state a.state x a.clock why ok values (numbered_once (after_make a.state x a.clock why).made few mine.list.numbered) h.their_shows;
     }))
 all_kept p b a a' xs ys move (repeats place channel old there s rec) g = g
 all_kept p b a a' xs ys move (arrives position i j) g = λ l r. (let h = g l r in record { mine = h.mine; theirs = h.theirs; values = h.values; their_values = h.their_values; up = h.up; their_up = h.their_up; shows = h.shows; their_shows = h.their_shows })
@@ -220,9 +201,9 @@ all_kept p b a a' xs ys move (takes position m after c i s t) g = λ l r. (
       values = valued_take p a.state b.state a.taken b.taken m position k h.values fr;
       their_values = h.their_values;
       up = handed_take p a.state b.state a.taken b.taken m position k h.up h.their_values fr;
-      their_up = handed_peer_take b.state a.state (after_take p a.state m.pdu) (take_made p a.state m.pdu) (values_take p a.state m.pdu h.mine.asked) h.their_up;
+      their_up = handed_peer_take b.state a.state (after_take p a.state m.pdu) (take_made p a.state m.pdu) (values_take p a.state m.pdu h.mine.asks.asked) h.their_up;
       shows = shown_take p a.state b.state m.pdu a.taken h.mine h.shows;
-      their_shows = shown_peer_take p b.state a.state b.taken m position h.theirs s (values_take p a.state m.pdu h.mine.asked) h.their_shows;
+      their_shows = shown_peer_take p b.state a.state b.taken m position h.theirs s (values_take p a.state m.pdu h.mine.asks.asked) h.their_shows;
     }))
 all_kept p b a a' xs ys move (waits clock i) g = λ l r. (let h = g l r in record { mine = h.mine; theirs = h.theirs; values = h.values; their_values = h.their_values; up = h.up; their_up = h.their_up; shows = h.shows; their_shows = h.their_shows })
 

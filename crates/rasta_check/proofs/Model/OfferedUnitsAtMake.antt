@@ -178,7 +178,7 @@ module _ (p : Parameters) (e : EndState) (x : SafetyPdu) (clock : ℕ) (why : Wh
 
   -- a client that has made nothing owes nothing
   nothing_owed : e.phase ≡ Closed → e.owed ≡ []
-  nothing_owed c = (h.unmade (closed_client e.side e.phase why x.kind e.owed b.row b.how c) (nothing_made e.side e.phase e.made c pass.open_yet)).1
+  nothing_owed c = (h.opening.unmade (closed_client e.side e.phase why x.kind e.owed b.row b.how c) (nothing_made e.side e.phase e.made c pass.open_yet)).1
 
   step : Stepped (jump e) (last_of (values e)) e.offered value x.kind b.row e.owed
   step = stepped e.side e.phase why x.kind e.owed b.row (jump e) (last_of (values e)) e.offered value nothing_owed b.how (w.due pass.open_yet) (next_by e.asks (values e) (number (is_kind RetransmissionResponse) e.made) x.kind some_made)

@@ -5,12 +5,12 @@ use Rattle.std.proofs.lemmas.List.{append-nil}
 use Rattle.rasta_pdu.specs.Params.{Parameters}
 use Rattle.rasta_pdu.specs.Pdu.{SafetyPdu, is_kind}
 use Rattle.rasta_end.specs.declared.phase.Phase.{Phase}
-use Rattle.rasta_end.specs.declared.phase.Phase.TheVariants.{Up, RetrRun}
+use Rattle.rasta_end.specs.declared.phase.Phase.TheVariants.{Up}
 use Rattle.rasta_end.specs.declared.take_row.TakeRow.{TakeRow}
 use Rattle.rasta_end.specs.declared.take_row.TakeRow.TheVariants.{Opened, Answered, FirstHeartbeat, InSequence, ResentInSequence, Gap, GapInRetransmission, Resumed, Requested, RequestedAhead, RequestedAgain, Disconnected}
 use Rattle.rasta_end.specs.declared.owed.Owed.{Owed}
 use Rattle.rasta_end.specs.declared.owed.Owed.TheVariants.{RetransmissionResponse as OweRetransmissionResponse, RetransmissionRequest as OweRetransmissionRequest}
-use Rattle.rasta_end.specs.State.{Made, EndState, kinds, is_closed, is_flowing, is_connected, carries_unit}
+use Rattle.rasta_end.specs.State.{Made, EndState, kinds, is_closed, is_connected, carries_unit}
 use Rattle.rasta_end.specs.Units.{units_conveyed, units_at, last_of}
 use Rattle.rasta_end.specs.MakeRule.{has_ended}
 use Rattle.rasta_end.specs.TakeRule.{is_valid, position_confirmed, accept, enter, hand_up, note_ask, resends, take_row, effect, effect_by, after_take}
@@ -71,7 +71,7 @@ module _ (q : Parameters) (e f : EndState) (t u : ℕ) (m : Made) (p : ℕ) (k :
   asked c = note_ask c e
 
   same_values : (c : ℕ) → values (asked c) ≡ values e
-  same_values c = values_asks e.asks c e.made k.mine.asked
+  same_values c = values_asks e.asks c e.made k.mine.asks.asked
 
   back_get : (c i v : ℕ) → slice_get (values (asked c)) i ≡ Some v → slice_get (values e) i ≡ Some v
   back_get c i v g = subst (λ vs. slice_get vs i ≡ Some v) (same_values c) g
