@@ -18,8 +18,8 @@ use Rattle.rasta_check.specs.Capture.Crossing.{FirstCopy}
 use Rattle.rasta_check.proofs.Model.TakeRows.{row_known}
 use Rattle.rasta_check.proofs.Model.Counts.{number}
 use Rattle.rasta_check.proofs.Model.NamedPositions.{position_is}
-use Rattle.rasta_check.proofs.Model.ConveyedUnits.{values, get_or_is, get_or_none}
-use Rattle.rasta_check.proofs.Model.OfferedUnits.{Valued}
+use Rattle.rasta_check.proofs.Model.ConveyedUnits.{values}
+use Rattle.rasta_check.proofs.Model.OfferedUnits.{Valued, conveyed_most}
 use Rattle.rasta_check.proofs.Model.Invariant.{is_opener, has_peer}
 use Rattle.rasta_check.proofs.Model.InvariantAtTake.{Taken, place, index, flowing_peer, own_take}
 use Rattle.rasta_build.specs.Built.{Built}
@@ -31,11 +31,7 @@ use Rattle.rasta_build.proofs.Lags.{IsLag, Accepting, lag_accepts}
 -- ---- what holds of the run's end
 
 pub conveys : (e : EndState) → Valued e → ConveysNoMore e
-conveys e v c = by (slice_get (values e) c) refl
-  where
-    by : (o : Option ℕ) → slice_get (values e) c ≡ o → slice_index_or (values e) c 0 ≤ e.offered
-    by None h = (let z = get_or_none (values e) c h in omega arith)
-    by (Some u) h = (let z = get_or_is (values e) c u h in let y = v.bounded c u h in omega arith)
+conveys e v c = conveyed_most (values e) e.offered c v.positions.bounded
 
 in_steps : (s : ℕ) → (s == 0) ≡ true → s ≡ 0
 in_steps s h = grind (arith, nat_tests)

@@ -64,7 +64,7 @@ number_few (m ∷ ms) = by (is_kind Data m.pdu.kind) (filter (λ (n : Made). is_
     by false rest h = omega (arith, h)
 
 pub offered_few : (e : EndState) → Valued e → length e.made ≤ 1000001 → e.offered ≤ 1000001
-offered_few e v l = (let c = v.counted in let n = number_few e.made in omega (arith, c, n, l))
+offered_few e v l = (let c = v.contents.counted in let n = number_few e.made in omega (arith, c, n, l))
 
 -- ---- phases
 

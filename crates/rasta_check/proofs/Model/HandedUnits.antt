@@ -166,7 +166,7 @@ module _ (q : Parameters) (e f : EndState) (t u : ℕ) (m : Made) (p : ℕ) (k :
   hands : (e' : EndState) (i : ℕ) → e.accepted ≡ suc i → p ≡ suc i → carries_unit m.pdu.kind ≡ true
       → e'.handed ≡ e.handed ++ e.accepted ∷ [] → e'.handed_pdus ≡ e.handed_pdus ++ m.pdu ∷ [] → e'.accepted ≡ suc p → (e'.phase ≡ RetrReq → ⊥) → Handed e' f
   hands e' i a s c hd hp ac ph =
-      let un = vf.units p m k.there c in
+      let un = vf.positions.units p m k.there c in
       let z : un.0 ≡ i = omega (arith, s, un.2) in
       let lab : slice_get (values f) i ≡ Some un.1 = subst (λ j. slice_get (values f) j ≡ Some un.1) z un.4 in
       let old : length e.handed ≡ un.1 = w.count ∙ worth_at (values f) e.accepted i un.1 a lab in
@@ -194,8 +194,7 @@ module _ (q : Parameters) (e f : EndState) (t u : ℕ) (m : Made) (p : ℕ) (k :
 
   plain_next : (i : ℕ) → p ≡ suc i → is_plain m.pdu.kind ≡ true → slice_get (values f) p ≡ slice_get (values f) i
   plain_next i s c =
-      let r = vf.others i m (subst (λ z. slice_get f.made z ≡ Some m) s k.there) c in
-      ap (slice_get (values f)) s ∙ r
+      vf.positions.others p m k.there c i s
 
   -- the retransmission response goes back to the last accepted position
   resumed : e.phase ≡ RetrReq → e.owed ≡ [] → m.pdu.kind ≡ RetransmissionResponse → (i : ℕ) → e.accepted ≡ suc i → slice_get (values f) p ≡ slice_get (values f) i
@@ -210,23 +209,17 @@ module _ (q : Parameters) (e f : EndState) (t u : ℕ) (m : Made) (p : ℕ) (k :
       let idx : number (is_kind RetransmissionResponse) (take p f.made) ≡ number (is_kind RetransmissionRequest) (take aw.0 e.made) = omega (arith, low, next, all, req, most, aw.5, k.theirs.asks.asked, k.theirs.asks.asks_taken) in
       let inside : number (is_kind RetransmissionResponse) (take p f.made) < length f.asks = omega (arith, next, all, k.theirs.asks.asked) in
       let c : slice_get f.asks (number (is_kind RetransmissionResponse) (take p f.made)) ≡ Some (slice_index_or f.asks (number (is_kind RetransmissionResponse) (take p f.made)) 0) = slice_get-get_or f.asks _ 0 inside in
-      let j = vf.jumps p m _ k.there is_a c in
+      let j = vf.returns.jumps p m k.there is_a _ c in
       let named = k.theirs.asks.answered aw.0 aw.1 aw.2 aw.3 _ (subst (λ n. slice_get f.asks n ≡ Some (slice_index_or f.asks (number (is_kind RetransmissionResponse) (take p f.made)) 0)) idx c) in
       let mine = k.mine.accepts.last i a in
       let sns : named.m.pdu.sn ≡ mine.m.pdu.sn = named.same ∙ (aw.4 ∙ sym mine.same) in
       let same : slice_index_or f.asks (number (is_kind RetransmissionResponse) (take p f.made)) 0 ≡ i = numbered_once f.made k.few_theirs k.theirs.list.numbered _ i named.m mine.m named.there mine.there sns in
       j.1 ∙ ap (slice_get (values f)) same
 
-  first_worth : p ≡ 0 → worth (values f) 1 ≡ 0
-  first_worth s =
-      let l : p < length (values f) = omega (arith, length-values f.asks f.made, slice_get_within f.made p m k.there) in
-      let g : slice_get (values f) 0 ≡ Some (slice_index_or (values f) 0 0) = slice_get-get_or (values f) 0 0 (omega arith) in
-      vf.zeroth _ g
-
   -- the first PDU is accepted
-  first_by : (e' : EndState) → e'.handed ≡ e.handed → e'.handed_pdus ≡ e.handed_pdus → e'.accepted ≡ 1 → (e'.phase ≡ RetrReq → ⊥) → e.accepted ≡ 0 → p ≡ 0 → Handed e' f
-  first_by e' s x a ph z zp =
-      keeps e' s x (ap (worth (values f)) a ∙ (first_worth zp ∙ sym (ap (worth (values f)) z))) (λ r n. ph r)
+  first_by : (e' : EndState) → e'.handed ≡ e.handed → e'.handed_pdus ≡ e.handed_pdus → e'.accepted ≡ 1 → (e'.phase ≡ RetrReq → ⊥) → e.accepted ≡ 0 → Handed e' f
+  first_by e' s x a ph z =
+      keeps e' s x (ap (worth (values f)) a ∙ (vf.positions.zeroth ∙ sym (ap (worth (values f)) z))) (λ r n. ph r)
 
   -- nothing is accepted
   passes : (e' : EndState) → e'.handed ≡ e.handed → e'.handed_pdus ≡ e.handed_pdus → e'.accepted ≡ e.accepted → (e'.phase ≡ RetrReq → owes is_request_owed e'.owed ≡ 0 → ⊥) → Handed e' f
@@ -249,12 +242,8 @@ module _ (q : Parameters) (e f : EndState) (t u : ℕ) (m : Made) (p : ℕ) (k :
       c
 
   h_row : e.owed ≡ [] → (r : TakeRow) → Knows q r e m.pdu → Handed (effect q r e m.pdu) f
-  h_row free Opened x =
-      let zp = k.theirs.list.openers p m k.there (ap is_opener x.1) in
-      first_by (effect q Opened e m.pdu) refl refl refl (λ r. cc (r)) (k.mine.opening.down x.0).2 zp
-  h_row free Answered x =
-      let zp = k.theirs.list.openers p m k.there (ap is_opener x.2) in
-      first_by (effect q Answered e m.pdu) refl refl refl (λ r. cc (r)) (k.mine.opening.starting x.0 x.1) zp
+  h_row free Opened x = first_by (effect q Opened e m.pdu) refl refl refl (λ r. cc (r)) (k.mine.opening.down x.0).2
+  h_row free Answered x = first_by (effect q Answered e m.pdu) refl refl refl (λ r. cc (r)) (k.mine.opening.starting x.0 x.1)
   h_row free FirstHeartbeat x =
       let a = k.mine.opening.connected (starting_peer x.0 x.1) in
       keeps (effect q FirstHeartbeat e m.pdu) refl refl (same_worth a.0 a.1 (plain_next a.0 (in_place x.4 a.0 a.1) (ap is_plain x.2))) (λ r n. cc (r))
@@ -322,7 +311,7 @@ handed_messages e f vf w i x g =
     let l : i < length e.handed = omega (arith, slice_get_within e.handed_pdus i x g, w.as_many) in
     let r = w.labels i _ (slice_get-get_or e.handed i 0 l) in
     let same : r.0.pdu ≡ x = (let z : Some r.0.pdu ≡ Some x = sym r.4 ∙ g in cc) in
-    let content = (vf.carried _ r.0 i r.1 r.3).1 in
+    let content = (vf.contents.carried _ r.0 r.1 i r.3).1 in
     let d = data_with (filter (λ (n : Made). is_kind Data n.pdu.kind) f.made) i (content_of r.0.pdu.body) content in
     (d.0, d.1, ap (λ (y : SafetyPdu). messages_in y.body) (sym same) ∙ (messages_by_content r.0.pdu.body ∙ (ap messages_of (sym d.2) ∙ sym (messages_by_content d.0.pdu.body))))
 

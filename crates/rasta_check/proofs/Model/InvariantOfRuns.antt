@@ -81,16 +81,10 @@ fresh_valued : (side : Side) (phase : Phase) → is_connected phase ≡ false �
 fresh_valued side phase c =
     record {
       due = λ _. refl;
-      bounded = λ i v e. nothing_at i v e;
-      units = λ i m e. nothing_at i m e;
-      others = λ i m e. nothing_at (suc i) m e;
-      jumps = λ i m d e. nothing_at i m e;
-      zeroth = λ v e. nothing_at 0 v e;
-      asks_within = λ i d e. nothing_at i d e;
       grown = λ v. absurd (cc);
-      counted = refl;
-      fresh = λ i m e. nothing_at i m e;
-      carried = λ i m k e. nothing_at i m e;
+      positions = record { bounded = λ i v e. nothing_at i v e; units = λ i m e. nothing_at i m e; others = λ i m e. nothing_at i m e; zeroth = refl };
+      returns = record { jumps = λ i m e. nothing_at i m e; asks_within = λ i d e. nothing_at i d e };
+      contents = record { counted = refl; fresh = λ i m e. nothing_at i m e; carried = λ i m e. nothing_at i m e };
     }
 
 zero_at : (i v : ℕ) → slice_get (0 ∷ []) i ≡ Some v → v ≤ 0
@@ -101,16 +95,19 @@ quiet_valued : (side : Side) (own other : QuietEnd) → Valued (quiet_end side o
 quiet_valued side own other =
     record {
       due = λ _. refl;
-      bounded = λ i v e. zero_at i v e;
-      units = λ i m e k. absurd (let z = ap (λ (n : Made). carries_unit n.pdu.kind) (only_at _ m i e).1 in cc);
-      others = λ i m e. nothing_at i m e;
-      jumps = λ i m d e k g. absurd (cc);
-      zeroth = λ v e. cc;
-      asks_within = λ i d e. nothing_at i d e;
-      grown = λ v. (record { pdu = quiet_pdu own other; unit = None }, [], refl);
-      counted = refl;
-      fresh = λ i m e k. absurd (let z = ap (λ (n : Made). is_kind Data n.pdu.kind) (only_at _ m i e).1 in cc);
-      carried = λ i m k e u. absurd (let z = ap (λ (n : Made). n.unit) (only_at _ m i e).1 in cc);
+      grown = λ v. omega arith;
+      positions = record {
+        bounded = λ i v e. zero_at i v e;
+        units = λ i m e k. absurd (let z = ap (λ (n : Made). carries_unit n.pdu.kind) (only_at _ m i e).1 in cc);
+        others = λ i m e k j s. absurd (let z = (only_at _ m i e).0 in omega arith);
+        zeroth = refl;
+      };
+      returns = record { jumps = λ i m e k d g. absurd (cc); asks_within = λ i d e. nothing_at i d e };
+      contents = record {
+        counted = refl;
+        fresh = λ i m e k. absurd (let z = ap (λ (n : Made). is_kind Data n.pdu.kind) (only_at _ m i e).1 in cc);
+        carried = λ i m e k u. absurd (let z = ap (λ (n : Made). n.unit) (only_at _ m i e).1 in cc);
+      };
     }
 
 fresh_handed : (side : Side) (phase : Phase) (e : EndState) → (phase ≡ RetrReq → ⊥) → Handed (fresh_end side phase) e

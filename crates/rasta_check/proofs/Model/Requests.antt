@@ -153,7 +153,7 @@ module _ (e f : EndState) (t u : ℕ) (h : Held e t f.made) (peer : Held f u e.m
       let ask = slice_index_or e.asks n 0 in
       let asked = get_within e.asks n (omega (arith, n_is, one, all, h.asks.asked)) in
       let request = ask_at n ask asked in
-      let jump = w.jumps (length before) m ask there r (subst (λ k. slice_get e.asks k ≡ Some ask) n_is asked) in
+      let jump = w.returns.jumps (length before) m there r ask (subst (λ k. slice_get e.asks k ≡ Some ask) n_is asked) in
       (ask, request.0, asked, jump.0, request.1, request.2)
     where
       get_after : (xs : List Made) → slice_get (xs ++ m ∷ after) (length xs) ≡ Some m

@@ -74,7 +74,7 @@ module _ (p : Parameters) (e f : EndState) (x : SafetyPdu) (clock : ℕ) (why : 
   new_shown : (a : ℕ) → e.accepted ≡ a → is_kind ConnectionRequest x.kind ≡ false → (j v : ℕ) → SnIs f.made j x.cs → slice_get (values f) j ≡ Some v → v ≤ length e.handed
   new_shown zero a k j v s g =
       let none : 0 < f.offered → ⊥ = λ l. (let z = w.ready_offer l in omega arith) in
-      let b = vf.bounded j v g in
+      let b = vf.positions.bounded j v g in
       omega (arith, none, b)
   new_shown (suc i) a k j v s g =
       let l = h.accepts.last i a in
@@ -158,7 +158,7 @@ module _ (e f : EndState) (x : SafetyPdu) (clock : ℕ) (why : Why) (b : MadeBy 
       → SnIs after.made j m.pdu.cs → j ≡ length f.made → slice_get (values after) j ≡ Some v → v ≤ length e.handed
   new_position zero a i j v m g k s q u =
       let none : 0 < after.offered → ⊥ = λ l. (let z = f_offer l in omega arith) in
-      let b = vf'.bounded j v u in
+      let b = vf'.positions.bounded j v u in
       omega (arith, none, b)
   new_position (suc n) a i j v m g k s q u =
       ⊎_elim

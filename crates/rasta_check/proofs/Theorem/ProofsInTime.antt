@@ -49,7 +49,7 @@ module _ (e0 f0 e f : EndState) (t : ℕ) (w0 : Shown e0 f0) (w : Shown e f) (g 
 
   in_time_at : is_kind ConnectionRequest m.pdu.kind ≡ false → (c v : ℕ) → SnIs f.made c m.pdu.cs → slice_get (values f) c ≡ Some v → v ≤ length e0.handed
   in_time_at k c v s h = ⊎_elim
-      (λ (a : e0.accepted ≡ 0). (let z = unheard k a (is_closed e0.phase) refl in let b = vf.bounded c v h in omega arith))
+      (λ (a : e0.accepted ≡ 0). (let z = unheard k a (is_closed e0.phase) refl in let b = vf.positions.bounded c v h in omega arith))
       (λ (z : (i : ℕ) × (i < e0.accepted) × SnIs f0.made i m.pdu.cs).
       let old = z.2 in
       let same : c ≡ z.0 = numbered_once f.made few g.numbered c z.0 s.m old.m s.there (gf.made z.0 old.m old.there) (s.same ∙ sym old.same) in
