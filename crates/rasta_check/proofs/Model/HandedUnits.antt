@@ -1,5 +1,5 @@
 -- What an end has handed up: the units conveyed through the last position of its peer that it accepted.
-use Rattle.std.proofs.Common.{◌≡◌, ℕ, zero, suc, ◌+◌, ◌<◌, ◌≤◌, ◌⊎◌, Bool, true, false, List, [], ◌∷◌, ◌++◌, length, Option, Some, None, slice_get, take, refl, ap, sym, ◌∙◌, arith, inl, inr, ⊎_elim, subst}
+use Rattle.std.proofs.Common.{◌≡◌, ℕ, zero, suc, ◌+◌, ◌<◌, ◌≤◌, Bool, true, false, List, [], ◌∷◌, ◌++◌, length, Option, Some, None, slice_get, take, refl, ap, sym, ◌∙◌, arith, subst}
 use Rattle.std.specs.Prelude.{◌==◌, slice_index_or, if◌then◌else◌, map, filter, drop}
 use Rattle.std.proofs.lemmas.Bool.Decides.{nat_tests}
 use Rattle.std.proofs.lemmas.List.{take-append-le, take_all, length_push}
@@ -22,13 +22,13 @@ use Rattle.rasta_end.specs.MakeRule.{row_of, after_make, after_make_by}
 use Rattle.rasta_end.specs.TakeRule.{is_heartbeat_or_data, is_in, steps_past_next, position_confirmed, accept, enter, hand_up, burst, take_row, effect, effect_by, after_take}
 use Rattle.rasta_check.specs.Model.Laws.{conveyed_before, HandsUp}
 use Rattle.rasta_check.specs.Model.Theorem.{HandsUpUnits}
-use Rattle.rasta_check.proofs.Model.ListGrowth.{get_push_cases, get_front, get_push}
+use Rattle.rasta_check.proofs.Model.ListGrowth.{all_push, get_front, get_push}
 use Rattle.rasta_check.proofs.Model.PassedTests.{Passed, cs_is}
 use Rattle.rasta_check.proofs.Model.MakeRows.{MadeBy, made_by, after_row, new_made}
 use Rattle.rasta_check.proofs.Model.TakeRows.{Knows, row_known, not_closed}
 use Rattle.rasta_check.proofs.Model.Counts.{number, owes, tally, number_push, number_take_all, number_take_more, number_take_at, is_request_owed, owes-append}
 use Rattle.rasta_check.proofs.Model.SequenceNumbers.{numbered_once}
-use Rattle.rasta_check.proofs.Model.Invariant.{Held, has_peer, is_named, is_opener, open_bit}
+use Rattle.rasta_check.proofs.Model.Invariant.{Held, has_peer, is_named, open_bit}
 use Rattle.rasta_check.proofs.Model.InvariantAtMake.{Changed, changed, over, opened, goes_on, named_judged}
 use Rattle.rasta_check.proofs.Model.InvariantAtTake.{Taken, place, flowing_peer, starting_peer}
 use Rattle.rasta_check.proofs.Model.ConveyedUnits.{values, is_plain, length-values, values_push}
@@ -49,11 +49,15 @@ abbrev pub LastRequest : List Made → ℕ → Type 0
 LastRequest made cs = (p : ℕ) × (n : Made) × (slice_get made p ≡ Some n) × (is_kind RetransmissionRequest n.pdu.kind ≡ true) × (n.pdu.cs ≡ cs)
     × (suc (number (is_kind RetransmissionRequest) (take p made)) ≡ number (is_kind RetransmissionRequest) made)
 
-pub record Handed (e f : EndState) : Type 0 where
-  pub count : length e.handed ≡ worth (values f) e.accepted
-  pub labels : AreUnits e.handed e.handed_pdus f.made
-  pub as_many : length e.handed_pdus ≡ length e.handed
-  pub awaited : e.phase ≡ RetrReq → owes is_request_owed e.owed ≡ 0 → LastRequest e.made e.last_sn
+-- of an end in phase ph that made ms, owes os and accepted up to a, the last with SN sn, and of a peer that made peer and conveys vs
+pub record HandsOver (positions : List ℕ) (pdus : List SafetyPdu) (a sn : ℕ) (ph : Phase) (os : List Owed) (ms peer : List Made) (vs : List ℕ) : Type 0 where
+  pub count : length positions ≡ worth vs a
+  pub labels : AreUnits positions pdus peer
+  pub as_many : length pdus ≡ length positions
+  pub awaited : ph ≡ RetrReq → owes is_request_owed os ≡ 0 → LastRequest ms sn
+
+abbrev pub Handed : EndState → EndState → Type 0
+Handed e f = HandsOver e.handed e.handed_pdus e.accepted e.last_sn e.phase e.owed e.made f.made (values f)
 
 worth_front : (vs ws : List ℕ) (a : ℕ) → a ≤ length vs → worth (vs ++ ws) a ≡ worth vs a
 worth_front vs ws zero l = refl
@@ -82,12 +86,10 @@ handed_peer_make e f x clock why l h = peer_row e f x clock (row_of f x why) l h
 
 pub handed_peer_take : (e f f' : EndState) → f'.made ≡ f.made → values f' ≡ values f → Handed e f → Handed e f'
 handed_peer_take e f f' same vals h =
-    record {
-      count = h.count ∙ ap (λ vs. worth vs e.accepted) (sym vals);
-      labels = subst (AreUnits e.handed e.handed_pdus) (sym same) h.labels;
-      as_many = h.as_many;
-      awaited = h.awaited;
-    }
+    subst
+    (λ (ms : List Made). HandsOver e.handed e.handed_pdus e.accepted e.last_sn e.phase e.owed e.made ms (values f'))
+    (sym same)
+    (subst (λ vs. HandsOver e.handed e.handed_pdus e.accepted e.last_sn e.phase e.owed e.made f.made vs) (sym vals) h)
 
 -- The end itself makes.
 
@@ -130,10 +132,9 @@ handed_make p e f x clock why t pass h w =
 
 -- The end itself takes.
 
-heartbeat_or_data : (k : Kind) → is_heartbeat_or_data k ≡ true → (k ≡ Heartbeat) ⊎ (k ≡ Data)
-heartbeat_or_data Heartbeat h = inl refl
-heartbeat_or_data Data h = inr refl
-heartbeat_or_data _ h = absurd (cc)
+beat_plain : (k : Kind) → is_heartbeat_or_data k ≡ true → carries_unit k ≡ false → is_plain k ≡ true
+beat_plain Heartbeat h g = refl
+beat_plain _ h g = absurd (cc)
 
 flowing_not : (ph : Phase) → is_flowing ph ≡ true → ph ≡ RetrReq → ⊥
 flowing_not RetrReq h g = cc
@@ -152,38 +153,31 @@ module _ (q : Parameters) (e f : EndState) (t u : ℕ) (m : Made) (p : ℕ) (k :
       worth_at (values f) (suc (e.accepted + steps_past_next e m.pdu)) p _ (ap suc pl) g ∙ sym (worth_at (values f) e.accepted i _ a (sym s ∙ g))
 
   -- nothing is handed up
-  keeps : (e' : EndState) → e'.handed ≡ e.handed → e'.handed_pdus ≡ e.handed_pdus → worth (values f) e'.accepted ≡ worth (values f) e.accepted
-      → (e'.phase ≡ RetrReq → owes is_request_owed e'.owed ≡ 0 → ⊥) → Handed e' f
-  keeps e' s x v never =
-      record {
-        count = ap length s ∙ (w.count ∙ sym v);
-        labels = λ i pos g. (let r = w.labels i pos (subst (λ (hs : List ℕ). slice_get hs i ≡ Some pos) s g) in (r.0, r.1, r.2, r.3, ap (λ (xs : List SafetyPdu). slice_get xs i) x ∙ r.4));
-        as_many = ap length x ∙ (w.as_many ∙ sym (ap length s));
-        awaited = λ r n. absurd (never r n);
-      }
+  keeps : {a sn : ℕ} {ph : Phase} {os : List Owed} → worth (values f) a ≡ worth (values f) e.accepted → (ph ≡ RetrReq → owes is_request_owed os ≡ 0 → ⊥) → HandsOver e.handed e.handed_pdus a sn ph os e.made f.made (values f)
+  keeps v never = record { count = w.count ∙ sym v; labels = w.labels; as_many = w.as_many; awaited = λ r n. absurd (never r n) }
 
   -- a unit in sequence is handed up
-  hands : (e' : EndState) (i : ℕ) → e.accepted ≡ suc i → p ≡ suc i → carries_unit m.pdu.kind ≡ true
-      → e'.handed ≡ e.handed ++ e.accepted ∷ [] → e'.handed_pdus ≡ e.handed_pdus ++ m.pdu ∷ [] → e'.accepted ≡ suc p → (e'.phase ≡ RetrReq → ⊥) → Handed e' f
-  hands e' i a s c hd hp ac ph =
+  hands : {a sn : ℕ} {ph : Phase} {os : List Owed} (i : ℕ) → e.accepted ≡ suc i → p ≡ suc i → carries_unit m.pdu.kind ≡ true → a ≡ suc p → (ph ≡ RetrReq → ⊥)
+      → HandsOver (e.handed ++ e.accepted ∷ []) (e.handed_pdus ++ m.pdu ∷ []) a sn ph os e.made f.made (values f)
+  hands {a = a} i last s c at never =
       let un = vf.positions.units p m k.there c in
       let z : un.0 ≡ i = omega (arith, s, un.2) in
       let lab : slice_get (values f) i ≡ Some un.1 = subst (λ j. slice_get (values f) j ≡ Some un.1) z un.4 in
-      let old : length e.handed ≡ un.1 = w.count ∙ worth_at (values f) e.accepted i un.1 a lab in
+      let old : length e.handed ≡ un.1 = w.count ∙ worth_at (values f) e.accepted i un.1 last lab in
+      let new = worth_at (values f) a p (suc un.1) at un.5 in
       record {
-        count = ap length hd ∙ (length_push e.handed e.accepted ∙ (ap (λ n. n + 1) old ∙ (omega arith ∙ sym (worth_at (values f) e'.accepted p (suc un.1) ac un.5))));
-        labels = λ j pos g. ⊎_elim
-            (λ (o : slice_get e.handed j ≡ Some pos).
-            let r = w.labels j pos o in
-            (r.0, r.1, r.2, r.3, subst (λ (xs : List SafetyPdu). slice_get xs j ≡ Some r.0.pdu) (sym hp) (get_front e.handed_pdus (m.pdu ∷ []) j r.0.pdu r.4)))
-            (λ (n : (j ≡ length e.handed) × (e.accepted ≡ pos)).
-            let there : slice_get f.made pos ≡ Some m = subst (λ x. slice_get f.made x ≡ Some m) (s ∙ (sym a ∙ n.1)) k.there in
-            let unit : m.unit ≡ Some j = un.3 ∙ ap Some (sym old ∙ sym n.0) in
-            let last : slice_get (e.handed_pdus ++ m.pdu ∷ []) j ≡ Some m.pdu = subst (λ x. slice_get (e.handed_pdus ++ m.pdu ∷ []) x ≡ Some m.pdu) (w.as_many ∙ sym n.0) (get_push e.handed_pdus m.pdu) in
-            (m, there, c, unit, subst (λ (xs : List SafetyPdu). slice_get xs j ≡ Some m.pdu) (sym hp) last))
-            (get_push_cases e.handed e.accepted j pos (subst (λ (hs : List ℕ). slice_get hs j ≡ Some pos) hd g));
-        as_many = ap length hp ∙ (length_push e.handed_pdus m.pdu ∙ (ap (λ n. n + 1) w.as_many ∙ (sym (length_push e.handed e.accepted) ∙ sym (ap length hd))));
-        awaited = λ r n. absurd (ph r);
+        count = omega (arith, length_push e.handed e.accepted, old, new);
+        labels = all_push e.handed e.accepted
+            (λ j pos g. (let r = w.labels j pos g in (r.0, r.1, r.2, r.3, get_front e.handed_pdus (m.pdu ∷ []) j r.0.pdu r.4)))
+            (
+              m,
+              subst (λ x. slice_get f.made x ≡ Some m) (s ∙ sym last) k.there,
+              c,
+              un.3 ∙ ap Some (sym old),
+              subst (λ x. slice_get (e.handed_pdus ++ m.pdu ∷ []) x ≡ Some m.pdu) w.as_many (get_push e.handed_pdus m.pdu),
+            );
+        as_many = omega (arith, length_push e.handed_pdus m.pdu, length_push e.handed e.accepted, w.as_many);
+        awaited = λ r n. absurd (never r);
       }
 
   in_place : is_in e m.pdu ≡ true → (i : ℕ) → e.accepted ≡ suc i → p ≡ suc i
@@ -217,58 +211,41 @@ module _ (q : Parameters) (e f : EndState) (t u : ℕ) (m : Made) (p : ℕ) (k :
       j.1 ∙ ap (slice_get (values f)) same
 
   -- the first PDU is accepted
-  first_by : (e' : EndState) → e'.handed ≡ e.handed → e'.handed_pdus ≡ e.handed_pdus → e'.accepted ≡ 1 → (e'.phase ≡ RetrReq → ⊥) → e.accepted ≡ 0 → Handed e' f
-  first_by e' s x a ph z =
-      keeps e' s x (ap (worth (values f)) a ∙ (vf.positions.zeroth ∙ sym (ap (worth (values f)) z))) (λ r n. ph r)
+  first_by : {sn : ℕ} {ph : Phase} {os : List Owed} → (ph ≡ RetrReq → ⊥) → e.accepted ≡ 0 → HandsOver e.handed e.handed_pdus 1 sn ph os e.made f.made (values f)
+  first_by never z = keeps (vf.positions.zeroth ∙ sym (ap (worth (values f)) z)) (λ r n. never r)
 
-  -- nothing is accepted
-  passes : (e' : EndState) → e'.handed ≡ e.handed → e'.handed_pdus ≡ e.handed_pdus → e'.accepted ≡ e.accepted → (e'.phase ≡ RetrReq → owes is_request_owed e'.owed ≡ 0 → ⊥) → Handed e' f
-  passes e' s x a never = keeps e' s x (ap (worth (values f)) a) never
-
-  in_sequence_by : (i : ℕ) → e.accepted ≡ suc i → p ≡ suc i → (m.pdu.kind ≡ Heartbeat) ⊎ (m.pdu.kind ≡ Data) → Handed (effect q InSequence e m.pdu) f
-  in_sequence_by i a s c =
-      let pl : e.accepted + steps_past_next e m.pdu ≡ p = place q e f t u m p k i a in
-      ⊎_elim
-      (λ (beat : m.pdu.kind ≡ Heartbeat).
-      subst
-      (λ (b : Bool). Handed (if b then hand_up e.accepted (enter Up (accept q e m.pdu)) m.pdu else enter Up (accept q e m.pdu)) f)
-      (sym (ap carries_unit beat))
-      (keeps (enter Up (accept q e m.pdu)) refl refl (same_worth i a (plain_next i s (ap is_plain beat))) (λ r n. cc (r))))
-      (λ (unit : m.pdu.kind ≡ Data).
-      subst
-      (λ (b : Bool). Handed (if b then hand_up e.accepted (enter Up (accept q e m.pdu)) m.pdu else enter Up (accept q e m.pdu)) f)
-      (sym (ap carries_unit unit))
-      (hands (hand_up e.accepted (enter Up (accept q e m.pdu)) m.pdu) i a s (ap carries_unit unit) refl refl (ap suc pl) (λ r. cc (r))))
-      c
+  -- a unit is handed up, a plain PDU isn't
+  by_unit : (b : Bool) (g : EndState) → (b ≡ true → Handed (hand_up e.accepted g m.pdu) f) → (b ≡ false → Handed g f) → Handed (if b then hand_up e.accepted g m.pdu else g) f
+  by_unit true g h l = h refl
+  by_unit false g h l = l refl
 
   h_row : e.owed ≡ [] → (r : TakeRow) → Knows q r e m.pdu → Handed (effect q r e m.pdu) f
-  h_row free Opened x = first_by (effect q Opened e m.pdu) refl refl refl (λ r. cc (r)) (k.mine.opening.down x.0).2
-  h_row free Answered x = first_by (effect q Answered e m.pdu) refl refl refl (λ r. cc (r)) (k.mine.opening.starting x.0 x.1)
+  h_row free Opened x = first_by (λ r. cc (r)) (k.mine.opening.down x.0).2
+  h_row free Answered x = first_by (λ r. cc (r)) (k.mine.opening.starting x.0 x.1)
   h_row free FirstHeartbeat x =
       let a = k.mine.opening.connected (starting_peer x.0 x.1) in
-      keeps (effect q FirstHeartbeat e m.pdu) refl refl (same_worth a.0 a.1 (plain_next a.0 (in_place x.4 a.0 a.1) (ap is_plain x.2))) (λ r n. cc (r))
+      keeps (same_worth a.0 a.1 (plain_next a.0 (in_place x.4 a.0 a.1) (ap is_plain x.2))) (λ r n. cc (r))
   h_row free InSequence x =
       let a = k.mine.opening.connected (flowing_peer e.side e.phase x.0) in
-      in_sequence_by a.0 a.1 (in_place x.3 a.0 a.1) (heartbeat_or_data m.pdu.kind x.1)
+      let s = in_place x.3 a.0 a.1 in
+      by_unit (carries_unit m.pdu.kind) (enter Up (accept q e m.pdu))
+      (λ c. hands a.0 a.1 s c (ap suc (place q e f t u m p k a.0 a.1)) (λ r. cc (r)))
+      (λ c. keeps (same_worth a.0 a.1 (plain_next a.0 s (beat_plain m.pdu.kind x.1 c))) (λ r n. cc (r)))
   h_row free ResentInSequence x =
       let a = k.mine.opening.connected (ap (has_peer e.side) x.0) in
-      let pl : e.accepted + steps_past_next e m.pdu ≡ p = place q e f t u m p k a.0 a.1 in
-      subst
-      (λ (b : Bool). Handed (if b then hand_up e.accepted (accept q e m.pdu) m.pdu else accept q e m.pdu) f)
-      (sym (ap carries_unit x.1))
-      (hands (hand_up e.accepted (accept q e m.pdu) m.pdu) a.0 a.1 (in_place x.3 a.0 a.1) (ap carries_unit x.1) refl refl (ap suc pl) (λ r. cc (x.0, r)))
-  h_row free Gap x = passes (effect q Gap e m.pdu) refl refl refl (λ r n. cc (n))
-  h_row free GapInRetransmission x = passes (effect q GapInRetransmission e m.pdu) refl refl refl (λ r n. cc (n))
+      let unit = ap carries_unit x.1 in
+      by_unit (carries_unit m.pdu.kind) (accept q e m.pdu) (λ c. hands a.0 a.1 (in_place x.3 a.0 a.1) c (ap suc (place q e f t u m p k a.0 a.1)) (λ r. cc (x.0, r))) (λ c. absurd (cc))
+  h_row free Gap x = keeps refl (λ r n. cc (n))
+  h_row free GapInRetransmission x = keeps refl (λ r n. cc (n))
   h_row free Resumed x =
       let a = k.mine.opening.connected (ap (has_peer e.side) x.0) in
-      keeps (effect q Resumed e m.pdu) refl refl (same_worth a.0 a.1 (resumed x.0 free x.1 a.0 a.1)) (λ r n. cc (r))
+      keeps (same_worth a.0 a.1 (resumed x.0 free x.1 a.0 a.1)) (λ r n. cc (r))
   h_row free Requested x =
       let a = k.mine.opening.connected (flowing_peer e.side e.phase x.0) in
-      keeps (effect q Requested e m.pdu) refl refl (same_worth a.0 a.1 (plain_next a.0 (in_place x.3 a.0 a.1) (ap is_plain x.1))) (λ r n. flowing_not e.phase x.0 r)
-  h_row free RequestedAhead x =
-      passes (effect q RequestedAhead e m.pdu) refl refl refl (λ r n. (let a = owes-append is_request_owed (burst e (position_confirmed e m.pdu)) (OweRetransmissionRequest ∷ []) in omega arith))
+      keeps (same_worth a.0 a.1 (plain_next a.0 (in_place x.3 a.0 a.1) (ap is_plain x.1))) (λ r n. flowing_not e.phase x.0 r)
+  h_row free RequestedAhead x = keeps refl (λ r n. (let a = owes-append is_request_owed (burst e (position_confirmed e m.pdu)) (OweRetransmissionRequest ∷ []) in omega arith))
   h_row free RequestedAgain x = record { count = w.count; labels = w.labels; as_many = w.as_many; awaited = λ r n. w.awaited x.0 (ap (owes is_request_owed) free) }
-  h_row free Disconnected x = passes (effect q Disconnected e m.pdu) refl refl refl (λ r n. cc (r))
+  h_row free Disconnected x = keeps refl (λ r n. cc (r))
 
 module _ (q : Parameters) (e f : EndState) (t u : ℕ) (m : Made) (p : ℕ) (k : Taken e f t u m p) (w : Handed e f) (vf : Valued f) (free : is_closed e.phase ≡ false → e.owed ≡ []) where
   h_by : (o : Option TakeRow) → take_row q e m.pdu ≡ o → Handed (effect_by q o e m.pdu) f

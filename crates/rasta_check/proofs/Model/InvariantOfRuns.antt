@@ -119,7 +119,7 @@ quiet_handed side peer own other = record { count = refl; labels = λ i m g. not
 fresh_shown : (side : Side) (phase : Phase) (e : EndState) → is_connected e.phase ≡ false → (0 < e.offered → 0 < 0) → Shown (fresh_end side phase) e
 fresh_shown side phase e c offer =
     record {
-      shown = λ i j v m g. nothing_at i m g;
+      shown = λ i m g. nothing_at i m g;
       judged = λ i m g. nothing_at i m g;
       first_words = λ _ _ i m g. nothing_at i m g;
       ready_run = λ r. absurd (cc);
@@ -129,7 +129,7 @@ fresh_shown side phase e c offer =
 quiet_shown : (side peer : Side) (own other : QuietEnd) → Shown (quiet_end side own other) (quiet_end peer other own)
 quiet_shown side peer own other =
     record {
-      shown = λ i j v m g k t u. zero_at j v u;
+      shown = λ i m g k j v t u. zero_at j v u;
       judged = λ i m g k. inr (0, omega arith, quiet_sn peer other own 0 m.pdu.cs refl (quiet_cs own other m (only_at _ m i g).1));
       first_words = λ z. absurd (omega arith);
       ready_run = λ _. omega arith;
@@ -217,8 +217,8 @@ first_all None m n =
       theirs = fresh_held Server Down (λ _. refl) refl;
       values = fresh_valued Client Closed refl;
       their_values = fresh_valued Server Down refl;
-      up = fresh_handed Client Closed _ (λ e. cc (e));
-      their_up = fresh_handed Server Down _ (λ e. cc (e));
+      up = fresh_handed Client Closed (fresh_end Server Down) (λ e. cc (e));
+      their_up = fresh_handed Server Down (fresh_end Client Closed) (λ e. cc (e));
       shows = fresh_shown Client Closed (fresh_end Server Down) refl (λ l. omega arith);
       their_shows = fresh_shown Server Down (fresh_end Client Closed) refl (λ l. omega arith);
     }

@@ -10,7 +10,7 @@ use Rattle.std.specs.Str.{bytes_eq}
 use Rattle.rasta_pcap.specs.declared.fault.Side.{Side}
 use Rattle.rasta_pcap.specs.declared.fault.Side.TheVariants.{Client}
 use Rattle.rasta_pdu.specs.declared.kind.Kind.{Kind}
-use Rattle.rasta_pdu.specs.declared.kind.Kind.TheVariants.{ConnectionRequest, ConnectionResponse, RetransmissionRequest, RetransmissionResponse, DisconnectionRequest, Heartbeat, Data, RetransmittedData}
+use Rattle.rasta_pdu.specs.declared.kind.Kind.TheVariants.{RetransmissionResponse, Data, RetransmittedData}
 use Rattle.rasta_pdu.specs.Params.{Parameters}
 use Rattle.rasta_pdu.specs.Pdu.{SafetyPdu, is_kind}
 use Rattle.rasta_end.specs.declared.phase.Phase.{Phase}
@@ -19,7 +19,7 @@ use Rattle.rasta_end.specs.declared.why.Why.{Why}
 use Rattle.rasta_end.specs.declared.make_row.MakeRow.{MakeRow}
 use Rattle.rasta_end.specs.declared.make_row.MakeRow.TheVariants.{Offers}
 use Rattle.rasta_end.specs.declared.owed.Owed.{Owed}
-use Rattle.rasta_end.specs.State.{Made, EndState, is_connected, is_active, carries_unit, content_of}
+use Rattle.rasta_end.specs.State.{Made, EndState, is_connected, carries_unit, content_of}
 use Rattle.rasta_end.specs.Units.{units_after, units_at, last_of}
 use Rattle.rasta_end.specs.MakeRule.{has_ended, contents, differs, unit_of, phase_after, owed_after, offered_after, after_make, after_make_by}
 use Rattle.rasta_check.proofs.Model.ListGrowth.{all_push, get_front, get_front_within, get_push}

@@ -1,5 +1,5 @@
 -- A take keeps what holds of the units offered.
-use Rattle.std.proofs.Common.{◌≡◌, ℕ, suc, ◌-◌, ◌<◌, ◌≤◌, Bool, true, false, List, [], ◌∷◌, ◌++◌, length, Option, Some, None, slice_get, take, refl, ap, sym, ◌∙◌, arith, ⊎_elim, subst}
+use Rattle.std.proofs.Common.{◌≡◌, ℕ, suc, ◌-◌, ◌<◌, ◌≤◌, Bool, true, false, List, [], ◌∷◌, ◌++◌, length, Option, Some, None, slice_get, refl, ap, sym, ◌∙◌, arith, subst}
 use Rattle.std.specs.Prelude.{slice_index_or, if◌then◌else◌}
 use Rattle.std.proofs.lemmas.List.{append-nil}
 use Rattle.rasta_pdu.specs.Params.{Parameters}
@@ -12,14 +12,13 @@ use Rattle.rasta_end.specs.declared.owed.Owed.{Owed}
 use Rattle.rasta_end.specs.declared.owed.Owed.TheVariants.{RetransmissionResponse as OweRetransmissionResponse, RetransmissionRequest as OweRetransmissionRequest}
 use Rattle.rasta_end.specs.State.{Made, EndState, kinds, is_closed, is_connected, carries_unit}
 use Rattle.rasta_end.specs.Units.{units_conveyed, units_at, last_of}
-use Rattle.rasta_end.specs.MakeRule.{has_ended}
 use Rattle.rasta_end.specs.TakeRule.{is_valid, position_confirmed, accept, enter, hand_up, note_ask, resends, take_row, effect, effect_by, after_take}
 use Rattle.rasta_check.proofs.Model.ListGrowth.{all_push, get_push, get_front_within}
 use Rattle.rasta_check.proofs.Model.Counts.{number, number_take_all, number_take_at}
 use Rattle.rasta_check.proofs.Model.TakeRows.{Knows, row_known, not_closed}
 use Rattle.rasta_check.proofs.Model.Invariant.{is_named}
 use Rattle.rasta_check.proofs.Model.InvariantAtTake.{Taken, mark, no_answers, over_not, fresh_named}
-use Rattle.rasta_check.proofs.Model.ConveyedUnits.{values, jump, values_asks, get_or_is, get_or_none}
+use Rattle.rasta_check.proofs.Model.ConveyedUnits.{values, jump, values_asks}
 use Rattle.rasta_check.proofs.Model.OfferedUnits.{Valued, Offers, Conveying, Returning, Due, DueRest, resends_due, bare_rest, conveyed_most}
 use Rattle.rasta_pdu.specs.declared.kind.Kind.TheVariants.{RetransmissionResponse}
 

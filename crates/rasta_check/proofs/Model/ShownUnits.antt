@@ -18,7 +18,7 @@ use Rattle.rasta_end.specs.declared.owed.Owed.{Owed}
 use Rattle.rasta_end.specs.State.{Made, EndState, is_client, is_start, is_closed, is_connected, carries_unit}
 use Rattle.rasta_end.specs.MakeRule.{is_judged, phase_after, offered_after, after_make, after_make_by}
 use Rattle.rasta_end.specs.TakeRule.{accept, enter, hand_up, take_row, effect, effect_by, after_take}
-use Rattle.rasta_check.proofs.Model.ListGrowth.{get_push_cases}
+use Rattle.rasta_check.proofs.Model.ListGrowth.{get_push_cases, all_push}
 use Rattle.rasta_check.proofs.Model.PassedTests.{Passed, cs_is}
 use Rattle.rasta_check.proofs.Model.MakeRows.{Making, opening, fresh, bye, expired, MadeBy, made_by, after_row, new_made}
 use Rattle.rasta_check.proofs.Model.TakeRows.{Knows, row_known, not_closed, take_made, take_leaves}
@@ -34,7 +34,7 @@ use Rattle.rasta_pdu.specs.declared.kind.Kind.TheVariants.{ConnectionRequest, Di
 
 -- e: the end whose PDUs show units; f: its peer, which offers them
 pub record Shown (e f : EndState) : Type 0 where
-  pub shown : (p j v : ℕ) (m : Made) → slice_get e.made p ≡ Some m → is_kind ConnectionRequest m.pdu.kind ≡ false → SnIs f.made j m.pdu.cs → slice_get (values f) j ≡ Some v → v ≤ length e.handed
+  pub shown : (p : ℕ) (m : Made) → slice_get e.made p ≡ Some m → is_kind ConnectionRequest m.pdu.kind ≡ false → (j v : ℕ) → SnIs f.made j m.pdu.cs → slice_get (values f) j ≡ Some v → v ≤ length e.handed
   pub judged : (p : ℕ) (m : Made) → slice_get e.made p ≡ Some m → is_kind ConnectionRequest m.pdu.kind ≡ false → (e.accepted ≡ 0) ⊎ ((i : ℕ) × (i < e.accepted) × SnIs f.made i m.pdu.cs)
   -- an end that has accepted nothing and isn't over has made a connection request at most
   pub first_words : e.accepted ≡ 0 → is_closed e.phase ≡ false → (p : ℕ) (m : Made) → slice_get e.made p ≡ Some m → is_kind ConnectionRequest m.pdu.kind ≡ true
@@ -102,23 +102,9 @@ module _ (p : Parameters) (e f : EndState) (x : SafetyPdu) (clock : ℕ) (why : 
   shown_row : Shown (after_make_by (Some b.row) e x clock) f
   shown_row =
       record {
-        shown = λ i j v m g k s u. ⊎_elim
-            (λ (old : slice_get e.made i ≡ Some m). w.shown i j v m old k s u)
-            (λ (now : (i ≡ length e.made) × (new ≡ m)).
-            new_shown e.accepted refl (ap (λ (z : Made). is_kind ConnectionRequest z.pdu.kind) now.1 ∙ k) j v (record { m = s.m; there = s.there; same = s.same ∙ ap (λ (z : Made). z.pdu.cs) (sym now.1) }) u)
-            (get_push_cases e.made new i m g);
-        judged = λ i m g k. ⊎_elim
-            (λ (old : slice_get e.made i ≡ Some m). w.judged i m old k)
-            (λ (now : (i ≡ length e.made) × (new ≡ m)).
-            subst
-            (λ (z : Made). (e.accepted ≡ 0) ⊎ ((i : ℕ) × (i < e.accepted) × SnIs f.made i z.pdu.cs))
-            now.1
-            (new_judged e.accepted refl (ap (λ (z : Made). is_kind ConnectionRequest z.pdu.kind) now.1 ∙ k)))
-            (get_push_cases e.made new i m g);
-        first_words = λ a c i m g. ⊎_elim
-            (λ (old : slice_get e.made i ≡ Some m). old_first (changed e.side e.phase why x.kind e.owed b.row b.how) a c i m old)
-            (λ (now : (i ≡ length e.made) × (new ≡ m)). sym (ap (λ (z : Made). is_kind ConnectionRequest z.pdu.kind) now.1) ∙ new_first a c)
-            (get_push_cases e.made new i m g);
+        shown = all_push e.made new w.shown (λ k j v s u. new_shown e.accepted refl k j v s u);
+        judged = all_push e.made new w.judged (new_judged e.accepted refl);
+        first_words = λ a c. all_push e.made new (old_first (changed e.side e.phase why x.kind e.owed b.row b.how) a c) (new_first a c);
         ready_run = w.ready_run;
         ready_offer = w.ready_offer;
       }
@@ -175,12 +161,12 @@ module _ (e f : EndState) (x : SafetyPdu) (clock : ℕ) (why : Why) (b : MadeBy 
       let more = values_push f.asks f.made added in
       let len = length-values f.asks f.made in
       record {
-        shown = λ i j v m g k s u. ⊎_elim
+        shown = λ i m g k j v s u. ⊎_elim
             (λ (old : slice_get f.made j ≡ Some s.m).
             let l = slice_get_within f.made j s.m old in
             let u' = subst (λ vs. slice_get vs j ≡ Some v) more u in
             ⊎_elim
-            (λ (o : slice_get (values f) j ≡ Some v). w.shown i j v m g k (record { m = s.m; there = old; same = s.same }) o)
+            (λ (o : slice_get (values f) j ≡ Some v). w.shown i m g k j v (record { m = s.m; there = old; same = s.same }) o)
             (λ (z : (j ≡ length (values f)) × (_ ≡ v)). absurd (omega (arith, z.0, len, l)))
             (get_push_cases (values f) _ j v u'))
             (λ (now : (j ≡ length f.made) × (added ≡ s.m)). new_position e.accepted refl i j v m g k s now.0 u)
@@ -239,7 +225,7 @@ module _ (q : Parameters) (e f : EndState) (x : SafetyPdu) (t : ℕ) (h : Held e
       let more = accepted_more q e x t f.made h r (row_known q e x r is) in
       let back : (i : ℕ) (m : Made) → slice_get (effect q r e x).made i ≡ Some m → slice_get e.made i ≡ Some m = λ i m g. subst (λ (ms : List Made). slice_get ms i ≡ Some m) made g in
       record {
-        shown = λ i j v m g k s u. (let z = w.shown i j v m (back i m g) k s u in omega (arith, z, handed_more q e x (Some r)));
+        shown = λ i m g k j v s u. (let z = w.shown i m (back i m g) k j v s u in omega (arith, z, handed_more q e x (Some r)));
         judged = λ i m g k. ⊎_elim
             (λ (z : e.accepted ≡ 0). absurd (let y = w.first_words z (not_closed q e x r is) i m (back i m g) in cc))
             (λ (z : (o : ℕ) × (o < e.accepted) × SnIs f.made o m.pdu.cs). inr (z.0, omega (arith, z.1, more), z.2))
@@ -276,8 +262,8 @@ module _ (q : Parameters) (e f : EndState) (t : ℕ) (m : Made) (p : ℕ) (h : H
   shown_peer_take =
       let alone = take_leaves q f m.pdu in
       record {
-        shown = λ i j v n g k s u.
-            w.shown i j v n g k
+        shown = λ i n g k j v s u.
+            w.shown i n g k j v
             (record { m = s.m; there = subst (λ (ms : List Made). slice_get ms j ≡ Some s.m) alone.made s.there; same = s.same })
             (subst (λ vs. slice_get vs j ≡ Some v) same_values u);
         judged = λ i n g k. ⊎_elim

@@ -87,7 +87,7 @@ module _ (e f : EndState) (t u : ℕ) (h : Held e t f.made) (peer : Held f u e.m
   shown_by s i m g k (Some c) is =
       let at = found_position e.made m.pdu.cs c is in
       let l = slice_get_within e.made c at.m at.there in
-      s.shown i c _ m g k at (get_within (values e) c (omega (arith, l, length-values e.asks e.made)))
+      s.shown i m g k c _ at (get_within (values e) c (omega (arith, l, length-values e.asks e.made)))
 
   -- a PDU of f shows no more units than f has handed up
   pub shows_handed : Shown f e → (i : ℕ) (x : SafetyPdu) → slice_get ps i ≡ Some x → units_shown (pdus_made e.made) ps x ≤ length f.handed
