@@ -18,8 +18,8 @@ use Rattle.rasta_check.specs.Capture.Crossing.{FirstCopy}
 use Rattle.rasta_check.proofs.Model.TakeRows.{row_known}
 use Rattle.rasta_check.proofs.Model.Counts.{number}
 use Rattle.rasta_check.proofs.Model.NamedPositions.{position_is}
-use Rattle.rasta_check.proofs.Model.ConveyedUnits.{values, get_or_is, get_or_none}
-use Rattle.rasta_check.proofs.Model.OfferedUnits.{Valued}
+use Rattle.rasta_check.proofs.Model.ConveyedUnits.{values}
+use Rattle.rasta_check.proofs.Model.OfferedUnits.{Valued, conveyed_most}
 use Rattle.rasta_check.proofs.Model.Invariant.{is_opener, has_peer}
 use Rattle.rasta_check.proofs.Model.InvariantAtTake.{Taken, place, index, flowing_peer, own_take}
 use Rattle.rasta_build.specs.Built.{Built}
@@ -31,11 +31,7 @@ use Rattle.rasta_build.proofs.Lags.{IsLag, Accepting, lag_accepts}
 -- ---- what holds of the run's end
 
 pub conveys : (e : EndState) → Valued e → ConveysNoMore e
-conveys e v c = by (slice_get (values e) c) refl
-  where
-    by : (o : Option ℕ) → slice_get (values e) c ≡ o → slice_index_or (values e) c 0 ≤ e.offered
-    by None h = (let z = get_or_none (values e) c h in omega arith)
-    by (Some u) h = (let z = get_or_is (values e) c u h in let y = v.bounded c u h in omega arith)
+conveys e v c = conveyed_most (values e) e.offered c v.positions.bounded
 
 in_steps : (s : ℕ) → (s == 0) ≡ true → s ≡ 0
 in_steps s h = grind (arith, nat_tests)
@@ -70,12 +66,12 @@ module _ (p : Parameters) (e f : EndState) (t u : ℕ) (m : Made) (q : ℕ) (k :
   -- an end that has accepted something finds the positions of its peer
   pub all_named : (i : ℕ) → e.accepted ≡ suc i → Names e f.made q
   all_named i a j n g l up =
-      let s = position_is f.made i j n.pdu.sn e.last_sn k.theirs.numbered k.few_theirs (record { m = n; there = g; same = refl }) (k.mine.last i a) (omega (arith, l, a)) in
+      let s = position_is f.made i j n.pdu.sn e.last_sn k.theirs.list.numbered k.few_theirs (record { m = n; there = g; same = refl }) (k.mine.accepts.last i a) (omega (arith, l, a)) in
       omega (arith, s, a)
 
   in_place : has_peer e.side e.phase ≡ true → is_in e m.pdu ≡ true → (q ≡ e.accepted) × (suc (e.accepted + steps_past_next e m.pdu) ≡ suc q)
   in_place h n =
-      let c = k.mine.connected h in
+      let c = k.mine.opening.connected h in
       let s = place p e f t u m q k c.0 c.1 in
       let z = in_steps (steps_past_next e m.pdu) n in
       (omega (arith, s, z), omega (arith, s))
@@ -84,15 +80,15 @@ module _ (p : Parameters) (e f : EndState) (t u : ℕ) (m : Made) (q : ℕ) (k :
   pub opened_accepts : take_row p e m.pdu ≡ Some Opened → Accepting p e m.pdu Opened q
   opened_accepts is =
       let w = row_known p e m.pdu Opened is in
-      let z = k.theirs.openers q m k.there (ap is_opener w.1) in
-      let a = (k.mine.down w.0).2 in
+      let z = k.theirs.list.openers q m k.there (ap is_opener w.1) in
+      let a = (k.mine.opening.down w.0).2 in
       record { accepted = omega (arith, z); calm = refl; how = inl (omega (arith, z, a), ap (is_kind RetransmissionResponse) w.1, ap is_retr_req w.0) }
 
   pub answered_accepts : take_row p e m.pdu ≡ Some Answered → Accepting p e m.pdu Answered q
   answered_accepts is =
       let w = row_known p e m.pdu Answered is in
-      let z = k.theirs.openers q m k.there (ap is_opener w.2) in
-      let a = k.mine.starting w.0 w.1 in
+      let z = k.theirs.list.openers q m k.there (ap is_opener w.2) in
+      let a = k.mine.opening.starting w.0 w.1 in
       record { accepted = omega (arith, z); calm = refl; how = inl (omega (arith, z, a), ap (is_kind RetransmissionResponse) w.2, ap is_retr_req w.1) }
 
   pub beat_accepts : take_row p e m.pdu ≡ Some FirstHeartbeat → Accepting p e m.pdu FirstHeartbeat q
@@ -131,7 +127,7 @@ module _ (p : Parameters) (e f : EndState) (t u : ℕ) (m : Made) (q : ℕ) (k :
   pub resumed_accepts : take_row p e m.pdu ≡ Some Resumed → Accepting p e m.pdu Resumed q
   resumed_accepts is =
       let w = row_known p e m.pdu Resumed is in
-      let c = k.mine.connected (ap (has_peer e.side) w.0) in
+      let c = k.mine.opening.connected (ap (has_peer e.side) w.0) in
       let s = place p e f t u m q k c.0 c.1 in
       record { accepted = omega (arith, s); calm = refl; how = inr (omega (arith, s), ap (is_kind RetransmissionResponse) w.1, ap is_retr_req w.0) }
 
@@ -147,7 +143,7 @@ module _ (p : Parameters) (e f : EndState) (t u : ℕ) (m : Made) (q : ℕ) (k :
 
     asks_of : (row : TakeRow) → take_row p e m.pdu ≡ Some row → length (effect p row e m.pdu).asks ≤ number (is_kind RetransmissionRequest) (take (suc q) f.made)
     asks_of row is = (let h = own_take p e f t u m q k (λ c. free) in let same : after_take p e m.pdu ≡ effect p row e m.pdu = ap (λ (r : Option TakeRow). effect_by p r e m.pdu) is in
-        subst (λ (z : EndState). length z.asks ≤ number (is_kind RetransmissionRequest) (take (suc q) f.made)) same h.asks_taken)
+        subst (λ (z : EndState). length z.asks ≤ number (is_kind RetransmissionRequest) (take (suc q) f.made)) same h.asks.asks_taken)
 
     by_accepting : (row : TakeRow) → take_row p e m.pdu ≡ Some row → Accepting p e m.pdu row q → Lags (effect p row e m.pdu)
     by_accepting row is a = lag_accepts p start side quiet_sn e t f.made sent b base n copies k.few_theirs free fault (conveys e values_of) q m k.there k.above based row is (asks_of row is)
@@ -156,7 +152,7 @@ module _ (p : Parameters) (e f : EndState) (t u : ℕ) (m : Made) (q : ℕ) (k :
     by_pending : (row : TakeRow) → take_row p e m.pdu ≡ Some row → has_peer e.side e.phase ≡ true → is_ahead p e m.pdu ≡ true
         → ((is_gap row ≡ true) ⊎ (is_request_ahead row ≡ true) × (is_kind RetransmissionRequest m.pdu.kind ≡ true)) → Lags (effect p row e m.pdu)
     by_pending row is h a kind =
-        let c = k.mine.connected h in
+        let c = k.mine.opening.connected h in
         let s = place p e f t u m q k c.0 c.1 in
         let st = ahead_steps (steps_past_next e m.pdu) (10 * p.n_sendmax) a in
         record {

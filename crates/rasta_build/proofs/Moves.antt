@@ -115,7 +115,7 @@ moved p s r xs ys a a' b own peer big_own big_peer ba bb valid turned apart (mak
     let th = h.their_held in
     let copies = found_there p s r xs peer big_peer b.state b.first_number h.their_sends begun in
     let f = follows_make p (start_of p s).deadline s (peer_quiet_sn p.quiet s) (base p) e a.taken b.state.made a.clock x why (no_fault p e x a.clock why mk.0) (omega (arith, now, bounded)) lim.waits_most refl (low_quiet p p.quiet s valid.quiet)
-    h.held th.numbered h.their_few (offered_few e h.values h.few) (offered_few (after_make e x a.clock why) v' l') big_peer ba (length xs) (length xs) copies (omega arith) (base_small p.quiet)
+    h.held th.list.numbered h.their_few (offered_few e h.values h.few) (offered_few (after_make e x a.clock why) v' l') big_peer ba (length xs) (length xs) copies (omega arith) (base_small p.quiet)
     (λ l. first_there p s r xs peer big_peer b.state b.first_number turned h.their_sends begun l) fa in
     inr (record {
       copy = copy;

@@ -64,7 +64,7 @@ number_few (m ∷ ms) = by (is_kind Data m.pdu.kind) (filter (λ (n : Made). is_
     by false rest h = omega (arith, h)
 
 pub offered_few : (e : EndState) → Valued e → length e.made ≤ 1000001 → e.offered ≤ 1000001
-offered_few e v l = (let c = v.counted in let n = number_few e.made in omega (arith, c, n, l))
+offered_few e v l = (let c = v.contents.counted in let n = number_few e.made in omega (arith, c, n, l))
 
 -- ---- phases
 
@@ -241,13 +241,13 @@ module _ (p : Parameters) (start : Option ℕ) (side : Side) (quiet_sn : Option 
   pub follows_make : Follows p start side quiet_sn base0 e t ms sent b → (b' : Built) × (explain sent place x b ≡ Some b') × Follows p start side quiet_sn base0 (after_make e x k why) t ms sent b'
   follows_make h = ⊎_elim
       (λ (over : has_ended e ≡ true). absurd (let ps = passed p e x k why (no_test p e x k why ok) in let z = ps.open_yet in cc))
-      (λ (l : Live p start side quiet_sn base0 e t ms sent b). by l (explains p start side quiet_sn e t ms sent b base0 n place k x why ok bounded waits from low_start few_theirs theirs few (λ i g. mine.last i g) mine.unmade copies late one l.low firsts h.of_side l.lag l.org))
+      (λ (l : Live p start side quiet_sn base0 e t ms sent b). by l (explains p start side quiet_sn e t ms sent b base0 n place k x why ok bounded waits from low_start few_theirs theirs few (λ i g. mine.accepts.last i g) mine.opening.unmade copies late one l.low firsts h.of_side l.lag l.org))
       h.stage
     where
       by : Live p start side quiet_sn base0 e t ms sent b → (b' : Built) × (explain sent place x b ≡ Some b') × (IsReady p start side quiet_sn (after_make e x k why) t ms b' ⊎ (has_ended (after_make e x k why) ≡ true))
           → (b' : Built) × (explain sent place x b ≡ Some b') × Follows p start side quiet_sn base0 (after_make e x k why) t ms sent b'
       by l g =
-          let ba = base_accepted p start side quiet_sn e t ms sent b base0 n place k x why ok bounded waits from low_start few_theirs theirs few (λ i z. mine.last i z) mine.unmade copies late one l.low firsts h.of_side l.lag l.org in
+          let ba = base_accepted p start side quiet_sn e t ms sent b base0 n place k x why ok bounded waits from low_start few_theirs theirs few (λ i z. mine.accepts.last i z) mine.opening.unmade copies late one l.low firsts h.of_side l.lag l.org in
           let least : base0 ≤ e.accepted = (let la = l.lag in let z = la.low in let y = l.low in omega (arith, z, y, ba)) in (
             g.0,
             g.1,

@@ -79,25 +79,36 @@ length-values asks ms = length-all_units asks (kinds ms) ∙ length-kinds ms
 pub values_asks : (asks : List ℕ) (c : ℕ) (ms : List Made) → number (is_kind RetransmissionResponse) ms ≤ length asks → all_units_conveyed (asks ++ c ∷ []) (kinds ms) ≡ all_units_conveyed asks (kinds ms)
 values_asks asks c ms h = more_asks asks (c ∷ []) (kinds ms) (omega (arith, answers_number ms, h))
 
--- What the next position conveys, by its type.
+-- What the next position conveys, by its type: u are the units at the ask that is answered next, v those conveyed so far.
 
-pub first_zero : (asks vs : List ℕ) (a : ℕ) (k : Kind) → length vs ≡ 0 → units_after asks vs a k ≡ 0
-first_zero asks [] a k e = refl
-first_zero asks (v ∷ vs) a k e = absurd (omega arith)
+abbrev pub units_next : ℕ → ℕ → Kind → ℕ
+units_next u v Data = suc v
+units_next u v RetransmittedData = suc v
+units_next u v RetransmissionResponse = u
+units_next u v _ = v
 
-pub after_plain : (asks vs : List ℕ) (n : ℕ) (k : Kind) → is_plain k ≡ true → units_after asks vs n k ≡ last_of vs
-after_plain asks [] n k h = refl
-after_plain asks (v ∷ vs) n Data h = absurd (cc)
-after_plain asks (v ∷ vs) n RetransmittedData h = absurd (cc)
-after_plain asks (v ∷ vs) n RetransmissionResponse h = absurd (cc)
-after_plain asks (v ∷ vs) n _ h = refl
+pub after_is : (asks vs : List ℕ) (a : ℕ) (k : Kind) → (is_plain k ≡ false → 0 < length vs) → units_after asks vs a k ≡ units_next (units_at vs (slice_get asks a)) (last_of vs) k
+after_is asks [] a Data l = absurd (let z = l refl in omega arith)
+after_is asks [] a RetransmittedData l = absurd (let z = l refl in omega arith)
+after_is asks [] a RetransmissionResponse l = absurd (let z = l refl in omega arith)
+after_is asks [] a _ l = refl
+after_is asks (v ∷ vs) a _ l = refl
 
-pub after_unit : (asks vs : List ℕ) (n : ℕ) (k : Kind) → 0 < length vs → carries_unit k ≡ true → units_after asks vs n k ≡ suc (last_of vs)
-after_unit asks [] n k l h = absurd (omega arith)
-after_unit asks (v ∷ vs) n Data l h = refl
-after_unit asks (v ∷ vs) n RetransmittedData l h = refl
-after_unit asks (v ∷ vs) n _ l h = absurd (cc)
+pub next_plain : (u v : ℕ) (k : Kind) → is_plain k ≡ true → units_next u v k ≡ v
+next_plain u v Data h = absurd (cc)
+next_plain u v RetransmittedData h = absurd (cc)
+next_plain u v RetransmissionResponse h = absurd (cc)
+next_plain u v _ h = refl
 
-pub after_answer : (asks vs : List ℕ) (n : ℕ) → 0 < length vs → units_after asks vs n RetransmissionResponse ≡ units_at vs (slice_get asks n)
-after_answer asks [] n l = absurd (omega arith)
-after_answer asks (v ∷ vs) n l = refl
+pub next_unit : (u v : ℕ) (k : Kind) → carries_unit k ≡ true → units_next u v k ≡ suc v
+next_unit u v Data h = refl
+next_unit u v RetransmittedData h = refl
+next_unit u v _ h = absurd (cc)
+
+pub next_back : (u v : ℕ) (k : Kind) → is_kind RetransmissionResponse k ≡ true → units_next u v k ≡ u
+next_back u v RetransmissionResponse h = refl
+next_back u v _ h = absurd (cc)
+
+pub first_kept : (asks vs : List ℕ) (a : ℕ) (k : Kind) → slice_index_or vs 0 0 ≡ 0 → slice_index_or (vs ++ units_after asks vs a k ∷ []) 0 0 ≡ 0
+first_kept asks [] a k h = refl
+first_kept asks (v ∷ vs) a k h = h

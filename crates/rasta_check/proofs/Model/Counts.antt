@@ -5,7 +5,6 @@ use Rattle.rasta_pdu.specs.declared.kind.Kind.{Kind}
 use Rattle.rasta_end.specs.declared.owed.Owed.{Owed}
 use Rattle.rasta_end.specs.declared.owed.Owed.TheVariants.{RetransmissionResponse as OweRetransmissionResponse, RetransmissionRequest as OweRetransmissionRequest}
 use Rattle.rasta_end.specs.State.{Made}
-use Rattle.rasta_end.specs.TakeRule.{resends}
 
 -- one more where the test holds
 abbrev pub tally : Bool → ℕ → ℕ
@@ -80,14 +79,6 @@ owes-append f (o ∷ os) ps = ap (tally (f o)) (owes-append f os ps) ∙ tally_a
     tally_add : (b : Bool) (m n : ℕ) → tally b (m + n) ≡ tally b m + n
     tally_add true m n = omega arith
     tally_add false m n = refl
-
-pub answers-resends : (k n : ℕ) → owes is_answer_owed (resends k n) ≡ 0
-answers-resends k zero = refl
-answers-resends k (suc n) = answers-resends (suc k) n
-
-pub requests-resends : (k n : ℕ) → owes is_request_owed (resends k n) ≡ 0
-requests-resends k zero = refl
-requests-resends k (suc n) = requests-resends (suc k) n
 
 -- the count is the length of the list of those of the type
 pub number-filter : (f : Kind → Bool) (ms : List Made) → number f ms ≡ length (filter (λ (m : Made). f m.pdu.kind) ms)

@@ -1,37 +1,36 @@
 -- What an end has handed up: the units conveyed through the last position of its peer that it accepted.
-use Rattle.std.proofs.Common.{◌≡◌, ℕ, zero, suc, ◌+◌, ◌<◌, ◌≤◌, ◌⊎◌, Bool, true, false, List, [], ◌∷◌, ◌++◌, length, Option, Some, None, slice_get, take, refl, ap, sym, ◌∙◌, arith, inl, inr, ⊎_elim, subst}
-use Rattle.std.specs.Prelude.{◌==◌, slice_index_or, if◌then◌else◌, map, filter}
+use Rattle.std.proofs.Common.{◌≡◌, ℕ, zero, suc, ◌+◌, ◌<◌, ◌≤◌, Bool, true, false, List, [], ◌∷◌, ◌++◌, length, Option, Some, None, slice_get, take, refl, ap, sym, ◌∙◌, arith, subst}
+use Rattle.std.specs.Prelude.{◌==◌, slice_index_or, if◌then◌else◌, map, filter, drop}
 use Rattle.std.proofs.lemmas.Bool.Decides.{nat_tests}
 use Rattle.std.proofs.lemmas.List.{take-append-le, take_all, length_push}
 use Rattle.std.proofs.lemmas.Option.{slice_get_within, slice_get-get_or, get_or_from_slice_get}
-use Rattle.rasta_pcap.specs.declared.fault.Side.{Side}
-use Rattle.rasta_pcap.specs.declared.fault.Side.TheVariants.{Server}
 use Rattle.rasta_pdu.specs.declared.kind.Kind.{Kind}
 use Rattle.rasta_pdu.specs.declared.kind.Kind.TheVariants.{RetransmissionRequest, RetransmissionResponse, Heartbeat, Data}
 use Rattle.rasta_pdu.specs.Params.{Parameters}
 use Rattle.rasta_pdu.specs.Messages.{messages_of}
 use Rattle.rasta_pdu.specs.Pdu.{SafetyPdu, SafetyBody, Opening, Bye, Messages, Empty, messages_in, is_kind}
 use Rattle.rasta_end.specs.declared.phase.Phase.{Phase}
-use Rattle.rasta_end.specs.declared.phase.Phase.TheVariants.{Start, Up, RetrReq, RetrRun}
+use Rattle.rasta_end.specs.declared.phase.Phase.TheVariants.{Up, RetrReq}
 use Rattle.rasta_end.specs.declared.why.Why.{Why}
 use Rattle.rasta_end.specs.declared.make_row.MakeRow.{MakeRow}
 use Rattle.rasta_end.specs.declared.take_row.TakeRow.{TakeRow}
 use Rattle.rasta_end.specs.declared.take_row.TakeRow.TheVariants.{Opened, Answered, FirstHeartbeat, InSequence, ResentInSequence, Gap, GapInRetransmission, Resumed, Requested, RequestedAhead, RequestedAgain, Disconnected}
+use Rattle.rasta_end.specs.declared.owed.Owed.{Owed}
 use Rattle.rasta_end.specs.declared.owed.Owed.TheVariants.{RetransmissionRequest as OweRetransmissionRequest}
 use Rattle.rasta_end.specs.State.{Made, EndState, is_closed, is_flowing, carries_unit, content_of}
-use Rattle.rasta_end.specs.MakeRule.{row_of, phase_after, owed_after, after_make, after_make_by}
+use Rattle.rasta_end.specs.MakeRule.{row_of, after_make, after_make_by}
 use Rattle.rasta_end.specs.TakeRule.{is_heartbeat_or_data, is_in, steps_past_next, position_confirmed, accept, enter, hand_up, burst, take_row, effect, effect_by, after_take}
 use Rattle.rasta_check.specs.Model.Laws.{conveyed_before, HandsUp}
 use Rattle.rasta_check.specs.Model.Theorem.{HandsUpUnits}
-use Rattle.rasta_check.proofs.Model.ListGrowth.{get_push_cases, get_front, get_push}
+use Rattle.rasta_check.proofs.Model.ListGrowth.{all_push, get_front, get_push}
 use Rattle.rasta_check.proofs.Model.PassedTests.{Passed, cs_is}
 use Rattle.rasta_check.proofs.Model.MakeRows.{MadeBy, made_by, after_row, new_made}
 use Rattle.rasta_check.proofs.Model.TakeRows.{Knows, row_known, not_closed}
 use Rattle.rasta_check.proofs.Model.Counts.{number, owes, tally, number_push, number_take_all, number_take_more, number_take_at, is_request_owed, owes-append}
 use Rattle.rasta_check.proofs.Model.SequenceNumbers.{numbered_once}
-use Rattle.rasta_check.proofs.Model.Invariant.{Held, has_peer, is_named, is_opener, open_bit}
+use Rattle.rasta_check.proofs.Model.Invariant.{Held, has_peer, is_named, open_bit}
 use Rattle.rasta_check.proofs.Model.InvariantAtMake.{Changed, changed, over, opened, goes_on, named_judged}
-use Rattle.rasta_check.proofs.Model.InvariantAtTake.{Taken, place, flowing_peer}
+use Rattle.rasta_check.proofs.Model.InvariantAtTake.{Taken, place, flowing_peer, starting_peer}
 use Rattle.rasta_check.proofs.Model.ConveyedUnits.{values, is_plain, length-values, values_push}
 use Rattle.rasta_check.proofs.Model.OfferedUnits.{Valued}
 
@@ -50,11 +49,15 @@ abbrev pub LastRequest : List Made → ℕ → Type 0
 LastRequest made cs = (p : ℕ) × (n : Made) × (slice_get made p ≡ Some n) × (is_kind RetransmissionRequest n.pdu.kind ≡ true) × (n.pdu.cs ≡ cs)
     × (suc (number (is_kind RetransmissionRequest) (take p made)) ≡ number (is_kind RetransmissionRequest) made)
 
-pub record Handed (e f : EndState) : Type 0 where
-  pub count : length e.handed ≡ worth (values f) e.accepted
-  pub labels : AreUnits e.handed e.handed_pdus f.made
-  pub as_many : length e.handed_pdus ≡ length e.handed
-  pub awaited : e.phase ≡ RetrReq → owes is_request_owed e.owed ≡ 0 → LastRequest e.made e.last_sn
+-- of an end in phase ph that made ms, owes os and accepted up to a, the last with SN sn, and of a peer that made peer and conveys vs
+pub record HandsOver (positions : List ℕ) (pdus : List SafetyPdu) (a sn : ℕ) (ph : Phase) (os : List Owed) (ms peer : List Made) (vs : List ℕ) : Type 0 where
+  pub count : length positions ≡ worth vs a
+  pub labels : AreUnits positions pdus peer
+  pub as_many : length pdus ≡ length positions
+  pub awaited : ph ≡ RetrReq → owes is_request_owed os ≡ 0 → LastRequest ms sn
+
+abbrev pub Handed : EndState → EndState → Type 0
+Handed e f = HandsOver e.handed e.handed_pdus e.accepted e.last_sn e.phase e.owed e.made f.made (values f)
 
 worth_front : (vs ws : List ℕ) (a : ℕ) → a ≤ length vs → worth (vs ++ ws) a ≡ worth vs a
 worth_front vs ws zero l = refl
@@ -83,12 +86,10 @@ handed_peer_make e f x clock why l h = peer_row e f x clock (row_of f x why) l h
 
 pub handed_peer_take : (e f f' : EndState) → f'.made ≡ f.made → values f' ≡ values f → Handed e f → Handed e f'
 handed_peer_take e f f' same vals h =
-    record {
-      count = h.count ∙ ap (λ vs. worth vs e.accepted) (sym vals);
-      labels = subst (AreUnits e.handed e.handed_pdus) (sym same) h.labels;
-      as_many = h.as_many;
-      awaited = h.awaited;
-    }
+    subst
+    (λ (ms : List Made). HandsOver e.handed e.handed_pdus e.accepted e.last_sn e.phase e.owed e.made ms (values f'))
+    (sym same)
+    (subst (λ vs. HandsOver e.handed e.handed_pdus e.accepted e.last_sn e.phase e.owed e.made f.made vs) (sym vals) h)
 
 -- The end itself makes.
 
@@ -101,7 +102,7 @@ module _ (p : Parameters) (e f : EndState) (x : SafetyPdu) (clock : ℕ) (why : 
   new = new_made b.row e x
 
   new_ask : (c : Bool) → is_kind RetransmissionRequest x.kind ≡ c → e.phase ≡ RetrReq
-      → tally c (owes is_request_owed (owed_after b.row e.owed)) ≡ owes is_request_owed e.owed → owes is_request_owed (owed_after b.row e.owed) ≡ 0 → LastRequest (e.made ++ new ∷ []) e.last_sn
+      → tally c (owes is_request_owed (drop 1 e.owed)) ≡ owes is_request_owed e.owed → owes is_request_owed (drop 1 e.owed) ≡ 0 → LastRequest (e.made ++ new ∷ []) e.last_sn
   new_ask true c ph d none =
       let all : take (length e.made) (e.made ++ new ∷ []) ≡ e.made = take-append-le (length e.made) e.made (new ∷ []) (omega arith) ∙ take_all (length e.made) e.made (omega arith) in
       let num = number_push (is_kind RetransmissionRequest) e.made new in
@@ -116,10 +117,10 @@ module _ (p : Parameters) (e f : EndState) (x : SafetyPdu) (clock : ℕ) (why : 
       let bit = ap (λ v. tally v (number (is_kind RetransmissionRequest) e.made)) c in
       (r.0, r.1, get_front e.made (new ∷ []) r.0 r.1 r.2, r.3, r.4, ap (λ ms. suc (number (is_kind RetransmissionRequest) ms)) same ∙ (r.5 ∙ sym (num ∙ bit)))
 
-  await_by : Changed e.side e.phase x.kind e.owed b.row → phase_after b.row e.phase ≡ RetrReq → owes is_request_owed (owed_after b.row e.owed) ≡ 0 → LastRequest (e.made ++ new ∷ []) e.last_sn
-  await_by (over a c d g j) ph none = absurd (cc)
-  await_by (opened a s c o j) ph none = absurd (cc)
-  await_by (goes_on a c d g j k l) ph none = new_ask (is_kind RetransmissionRequest x.kind) refl (sym a ∙ ph) g none
+  await_by : {ph : Phase} {os : List Owed} → Changed e.side e.phase x.kind e.owed ph os → ph ≡ RetrReq → owes is_request_owed os ≡ 0 → LastRequest (e.made ++ new ∷ []) e.last_sn
+  await_by (over a c d) ph none = absurd (cc)
+  await_by (opened a s c) ph none = absurd (cc)
+  await_by (goes_on a c d g j) ph none = new_ask (is_kind RetransmissionRequest x.kind) refl ph d none
 
   handed_row : Handed (after_make_by (Some b.row) e x clock) f
   handed_row = record { count = w.count; labels = w.labels; as_many = w.as_many; awaited = await_by (changed e.side e.phase why x.kind e.owed b.row b.how) }
@@ -131,18 +132,13 @@ handed_make p e f x clock why t pass h w =
 
 -- The end itself takes.
 
-heartbeat_or_data : (k : Kind) → is_heartbeat_or_data k ≡ true → (k ≡ Heartbeat) ⊎ (k ≡ Data)
-heartbeat_or_data Heartbeat h = inl refl
-heartbeat_or_data Data h = inr refl
-heartbeat_or_data _ h = absurd (cc)
+beat_plain : (k : Kind) → is_heartbeat_or_data k ≡ true → carries_unit k ≡ false → is_plain k ≡ true
+beat_plain Heartbeat h g = refl
+beat_plain _ h g = absurd (cc)
 
 flowing_not : (ph : Phase) → is_flowing ph ≡ true → ph ≡ RetrReq → ⊥
 flowing_not RetrReq h g = cc
 flowing_not _ h g = cc
-
--- a server in Start has accepted the connection request
-peer_of : {s : Side} {ph : Phase} → s ≡ Server → ph ≡ Start → has_peer s ph ≡ true
-peer_of {s = s} a b = ap (has_peer s) b ∙ ap (λ side. has_peer side Start) a
 
 in_zero : (n : ℕ) → (n == 0) ≡ true → n ≡ 0
 in_zero n h = grind (arith, nat_tests)
@@ -157,38 +153,31 @@ module _ (q : Parameters) (e f : EndState) (t u : ℕ) (m : Made) (p : ℕ) (k :
       worth_at (values f) (suc (e.accepted + steps_past_next e m.pdu)) p _ (ap suc pl) g ∙ sym (worth_at (values f) e.accepted i _ a (sym s ∙ g))
 
   -- nothing is handed up
-  keeps : (e' : EndState) → e'.handed ≡ e.handed → e'.handed_pdus ≡ e.handed_pdus → worth (values f) e'.accepted ≡ worth (values f) e.accepted
-      → (e'.phase ≡ RetrReq → owes is_request_owed e'.owed ≡ 0 → ⊥) → Handed e' f
-  keeps e' s x v never =
-      record {
-        count = ap length s ∙ (w.count ∙ sym v);
-        labels = λ i pos g. (let r = w.labels i pos (subst (λ (hs : List ℕ). slice_get hs i ≡ Some pos) s g) in (r.0, r.1, r.2, r.3, ap (λ (xs : List SafetyPdu). slice_get xs i) x ∙ r.4));
-        as_many = ap length x ∙ (w.as_many ∙ sym (ap length s));
-        awaited = λ r n. absurd (never r n);
-      }
+  keeps : {a sn : ℕ} {ph : Phase} {os : List Owed} → worth (values f) a ≡ worth (values f) e.accepted → (ph ≡ RetrReq → owes is_request_owed os ≡ 0 → ⊥) → HandsOver e.handed e.handed_pdus a sn ph os e.made f.made (values f)
+  keeps v never = record { count = w.count ∙ sym v; labels = w.labels; as_many = w.as_many; awaited = λ r n. absurd (never r n) }
 
   -- a unit in sequence is handed up
-  hands : (e' : EndState) (i : ℕ) → e.accepted ≡ suc i → p ≡ suc i → carries_unit m.pdu.kind ≡ true
-      → e'.handed ≡ e.handed ++ e.accepted ∷ [] → e'.handed_pdus ≡ e.handed_pdus ++ m.pdu ∷ [] → e'.accepted ≡ suc p → (e'.phase ≡ RetrReq → ⊥) → Handed e' f
-  hands e' i a s c hd hp ac ph =
-      let un = vf.units p m k.there c in
+  hands : {a sn : ℕ} {ph : Phase} {os : List Owed} (i : ℕ) → e.accepted ≡ suc i → p ≡ suc i → carries_unit m.pdu.kind ≡ true → a ≡ suc p → (ph ≡ RetrReq → ⊥)
+      → HandsOver (e.handed ++ e.accepted ∷ []) (e.handed_pdus ++ m.pdu ∷ []) a sn ph os e.made f.made (values f)
+  hands {a = a} i last s c at never =
+      let un = vf.positions.units p m k.there c in
       let z : un.0 ≡ i = omega (arith, s, un.2) in
       let lab : slice_get (values f) i ≡ Some un.1 = subst (λ j. slice_get (values f) j ≡ Some un.1) z un.4 in
-      let old : length e.handed ≡ un.1 = w.count ∙ worth_at (values f) e.accepted i un.1 a lab in
+      let old : length e.handed ≡ un.1 = w.count ∙ worth_at (values f) e.accepted i un.1 last lab in
+      let new = worth_at (values f) a p (suc un.1) at un.5 in
       record {
-        count = ap length hd ∙ (length_push e.handed e.accepted ∙ (ap (λ n. n + 1) old ∙ (omega arith ∙ sym (worth_at (values f) e'.accepted p (suc un.1) ac un.5))));
-        labels = λ j pos g. ⊎_elim
-            (λ (o : slice_get e.handed j ≡ Some pos).
-            let r = w.labels j pos o in
-            (r.0, r.1, r.2, r.3, subst (λ (xs : List SafetyPdu). slice_get xs j ≡ Some r.0.pdu) (sym hp) (get_front e.handed_pdus (m.pdu ∷ []) j r.0.pdu r.4)))
-            (λ (n : (j ≡ length e.handed) × (e.accepted ≡ pos)).
-            let there : slice_get f.made pos ≡ Some m = subst (λ x. slice_get f.made x ≡ Some m) (s ∙ (sym a ∙ n.1)) k.there in
-            let unit : m.unit ≡ Some j = un.3 ∙ ap Some (sym old ∙ sym n.0) in
-            let last : slice_get (e.handed_pdus ++ m.pdu ∷ []) j ≡ Some m.pdu = subst (λ x. slice_get (e.handed_pdus ++ m.pdu ∷ []) x ≡ Some m.pdu) (w.as_many ∙ sym n.0) (get_push e.handed_pdus m.pdu) in
-            (m, there, c, unit, subst (λ (xs : List SafetyPdu). slice_get xs j ≡ Some m.pdu) (sym hp) last))
-            (get_push_cases e.handed e.accepted j pos (subst (λ (hs : List ℕ). slice_get hs j ≡ Some pos) hd g));
-        as_many = ap length hp ∙ (length_push e.handed_pdus m.pdu ∙ (ap (λ n. n + 1) w.as_many ∙ (sym (length_push e.handed e.accepted) ∙ sym (ap length hd))));
-        awaited = λ r n. absurd (ph r);
+        count = omega (arith, length_push e.handed e.accepted, old, new);
+        labels = all_push e.handed e.accepted
+            (λ j pos g. (let r = w.labels j pos g in (r.0, r.1, r.2, r.3, get_front e.handed_pdus (m.pdu ∷ []) j r.0.pdu r.4)))
+            (
+              m,
+              subst (λ x. slice_get f.made x ≡ Some m) (s ∙ sym last) k.there,
+              c,
+              un.3 ∙ ap Some (sym old),
+              subst (λ x. slice_get (e.handed_pdus ++ m.pdu ∷ []) x ≡ Some m.pdu) w.as_many (get_push e.handed_pdus m.pdu),
+            );
+        as_many = omega (arith, length_push e.handed_pdus m.pdu, length_push e.handed e.accepted, w.as_many);
+        awaited = λ r n. absurd (never r);
       }
 
   in_place : is_in e m.pdu ≡ true → (i : ℕ) → e.accepted ≡ suc i → p ≡ suc i
@@ -199,8 +188,7 @@ module _ (q : Parameters) (e f : EndState) (t u : ℕ) (m : Made) (p : ℕ) (k :
 
   plain_next : (i : ℕ) → p ≡ suc i → is_plain m.pdu.kind ≡ true → slice_get (values f) p ≡ slice_get (values f) i
   plain_next i s c =
-      let r = vf.others i m (subst (λ z. slice_get f.made z ≡ Some m) s k.there) c in
-      ap (slice_get (values f)) s ∙ r
+      vf.positions.others p m k.there c i s
 
   -- the retransmission response goes back to the last accepted position
   resumed : e.phase ≡ RetrReq → e.owed ≡ [] → m.pdu.kind ≡ RetransmissionResponse → (i : ℕ) → e.accepted ≡ suc i → slice_get (values f) p ≡ slice_get (values f) i
@@ -210,81 +198,54 @@ module _ (q : Parameters) (e f : EndState) (t u : ℕ) (m : Made) (p : ℕ) (k :
       let low = number_take_more (is_kind RetransmissionResponse) f.made t p k.above in
       let next = number_take_at (is_kind RetransmissionResponse) f.made p m k.there is_a in
       let all = number_take_all (is_kind RetransmissionResponse) f.made (suc p) in
-      let req : number (is_kind RetransmissionRequest) e.made ≤ number (is_kind RetransmissionResponse) (take t f.made) + 1 = omega (arith, k.mine.open_requests, ap open_bit ph) in
+      let req : number (is_kind RetransmissionRequest) e.made ≤ number (is_kind RetransmissionResponse) (take t f.made) + 1 = omega (arith, k.mine.asks.open_requests, ap open_bit ph) in
       let most = number_take_all (is_kind RetransmissionRequest) e.made u in
-      let idx : number (is_kind RetransmissionResponse) (take p f.made) ≡ number (is_kind RetransmissionRequest) (take aw.0 e.made) = omega (arith, low, next, all, req, most, aw.5, k.theirs.asked, k.theirs.asks_taken) in
-      let inside : number (is_kind RetransmissionResponse) (take p f.made) < length f.asks = omega (arith, next, all, k.theirs.asked) in
+      let idx : number (is_kind RetransmissionResponse) (take p f.made) ≡ number (is_kind RetransmissionRequest) (take aw.0 e.made) = omega (arith, low, next, all, req, most, aw.5, k.theirs.asks.asked, k.theirs.asks.asks_taken) in
+      let inside : number (is_kind RetransmissionResponse) (take p f.made) < length f.asks = omega (arith, next, all, k.theirs.asks.asked) in
       let c : slice_get f.asks (number (is_kind RetransmissionResponse) (take p f.made)) ≡ Some (slice_index_or f.asks (number (is_kind RetransmissionResponse) (take p f.made)) 0) = slice_get-get_or f.asks _ 0 inside in
-      let j = vf.jumps p m _ k.there is_a c in
-      let named = k.theirs.answered aw.0 aw.1 _ aw.2 aw.3 (subst (λ n. slice_get f.asks n ≡ Some (slice_index_or f.asks (number (is_kind RetransmissionResponse) (take p f.made)) 0)) idx c) in
-      let mine = k.mine.last i a in
+      let j = vf.returns.jumps p m k.there is_a _ c in
+      let named = k.theirs.asks.answered aw.0 aw.1 aw.2 aw.3 _ (subst (λ n. slice_get f.asks n ≡ Some (slice_index_or f.asks (number (is_kind RetransmissionResponse) (take p f.made)) 0)) idx c) in
+      let mine = k.mine.accepts.last i a in
       let sns : named.m.pdu.sn ≡ mine.m.pdu.sn = named.same ∙ (aw.4 ∙ sym mine.same) in
-      let same : slice_index_or f.asks (number (is_kind RetransmissionResponse) (take p f.made)) 0 ≡ i = numbered_once f.made k.few_theirs k.theirs.numbered _ i named.m mine.m named.there mine.there sns in
+      let same : slice_index_or f.asks (number (is_kind RetransmissionResponse) (take p f.made)) 0 ≡ i = numbered_once f.made k.few_theirs k.theirs.list.numbered _ i named.m mine.m named.there mine.there sns in
       j.1 ∙ ap (slice_get (values f)) same
 
-  first_worth : p ≡ 0 → worth (values f) 1 ≡ 0
-  first_worth s =
-      let l : p < length (values f) = omega (arith, length-values f.asks f.made, slice_get_within f.made p m k.there) in
-      let g : slice_get (values f) 0 ≡ Some (slice_index_or (values f) 0 0) = slice_get-get_or (values f) 0 0 (omega arith) in
-      vf.zeroth _ g
-
   -- the first PDU is accepted
-  first_by : (e' : EndState) → e'.handed ≡ e.handed → e'.handed_pdus ≡ e.handed_pdus → e'.accepted ≡ 1 → (e'.phase ≡ RetrReq → ⊥) → e.accepted ≡ 0 → p ≡ 0 → Handed e' f
-  first_by e' s x a ph z zp =
-      keeps e' s x (ap (worth (values f)) a ∙ (first_worth zp ∙ sym (ap (worth (values f)) z))) (λ r n. ph r)
+  first_by : {sn : ℕ} {ph : Phase} {os : List Owed} → (ph ≡ RetrReq → ⊥) → e.accepted ≡ 0 → HandsOver e.handed e.handed_pdus 1 sn ph os e.made f.made (values f)
+  first_by never z = keeps (vf.positions.zeroth ∙ sym (ap (worth (values f)) z)) (λ r n. never r)
 
-  -- nothing is accepted
-  passes : (e' : EndState) → e'.handed ≡ e.handed → e'.handed_pdus ≡ e.handed_pdus → e'.accepted ≡ e.accepted → (e'.phase ≡ RetrReq → owes is_request_owed e'.owed ≡ 0 → ⊥) → Handed e' f
-  passes e' s x a never = keeps e' s x (ap (worth (values f)) a) never
-
-  in_sequence_by : (i : ℕ) → e.accepted ≡ suc i → p ≡ suc i → (m.pdu.kind ≡ Heartbeat) ⊎ (m.pdu.kind ≡ Data) → Handed (effect q InSequence e m.pdu) f
-  in_sequence_by i a s c =
-      let pl : e.accepted + steps_past_next e m.pdu ≡ p = place q e f t u m p k i a in
-      ⊎_elim
-      (λ (beat : m.pdu.kind ≡ Heartbeat).
-      subst
-      (λ (b : Bool). Handed (if b then hand_up e.accepted (enter Up (accept q e m.pdu)) m.pdu else enter Up (accept q e m.pdu)) f)
-      (sym (ap carries_unit beat))
-      (keeps (enter Up (accept q e m.pdu)) refl refl (same_worth i a (plain_next i s (ap is_plain beat))) (λ r n. cc (r))))
-      (λ (unit : m.pdu.kind ≡ Data).
-      subst
-      (λ (b : Bool). Handed (if b then hand_up e.accepted (enter Up (accept q e m.pdu)) m.pdu else enter Up (accept q e m.pdu)) f)
-      (sym (ap carries_unit unit))
-      (hands (hand_up e.accepted (enter Up (accept q e m.pdu)) m.pdu) i a s (ap carries_unit unit) refl refl (ap suc pl) (λ r. cc (r))))
-      c
+  -- a unit is handed up, a plain PDU isn't
+  by_unit : (b : Bool) (g : EndState) → (b ≡ true → Handed (hand_up e.accepted g m.pdu) f) → (b ≡ false → Handed g f) → Handed (if b then hand_up e.accepted g m.pdu else g) f
+  by_unit true g h l = h refl
+  by_unit false g h l = l refl
 
   h_row : e.owed ≡ [] → (r : TakeRow) → Knows q r e m.pdu → Handed (effect q r e m.pdu) f
-  h_row free Opened x =
-      let zp = k.theirs.openers p m k.there (ap is_opener x.1) in
-      first_by (effect q Opened e m.pdu) refl refl refl (λ r. cc (r)) (k.mine.down x.0).2 zp
-  h_row free Answered x =
-      let zp = k.theirs.openers p m k.there (ap is_opener x.2) in
-      first_by (effect q Answered e m.pdu) refl refl refl (λ r. cc (r)) (k.mine.starting x.0 x.1) zp
+  h_row free Opened x = first_by (λ r. cc (r)) (k.mine.opening.down x.0).2
+  h_row free Answered x = first_by (λ r. cc (r)) (k.mine.opening.starting x.0 x.1)
   h_row free FirstHeartbeat x =
-      let a = k.mine.connected (peer_of x.0 x.1) in
-      keeps (effect q FirstHeartbeat e m.pdu) refl refl (same_worth a.0 a.1 (plain_next a.0 (in_place x.4 a.0 a.1) (ap is_plain x.2))) (λ r n. cc (r))
+      let a = k.mine.opening.connected (starting_peer x.0 x.1) in
+      keeps (same_worth a.0 a.1 (plain_next a.0 (in_place x.4 a.0 a.1) (ap is_plain x.2))) (λ r n. cc (r))
   h_row free InSequence x =
-      let a = k.mine.connected (flowing_peer e.side e.phase x.0) in
-      in_sequence_by a.0 a.1 (in_place x.3 a.0 a.1) (heartbeat_or_data m.pdu.kind x.1)
+      let a = k.mine.opening.connected (flowing_peer e.side e.phase x.0) in
+      let s = in_place x.3 a.0 a.1 in
+      by_unit (carries_unit m.pdu.kind) (enter Up (accept q e m.pdu))
+      (λ c. hands a.0 a.1 s c (ap suc (place q e f t u m p k a.0 a.1)) (λ r. cc (r)))
+      (λ c. keeps (same_worth a.0 a.1 (plain_next a.0 s (beat_plain m.pdu.kind x.1 c))) (λ r n. cc (r)))
   h_row free ResentInSequence x =
-      let a = k.mine.connected (ap (has_peer e.side) x.0) in
-      let pl : e.accepted + steps_past_next e m.pdu ≡ p = place q e f t u m p k a.0 a.1 in
-      subst
-      (λ (b : Bool). Handed (if b then hand_up e.accepted (accept q e m.pdu) m.pdu else accept q e m.pdu) f)
-      (sym (ap carries_unit x.1))
-      (hands (hand_up e.accepted (accept q e m.pdu) m.pdu) a.0 a.1 (in_place x.3 a.0 a.1) (ap carries_unit x.1) refl refl (ap suc pl) (λ r. cc (x.0, r)))
-  h_row free Gap x = passes (effect q Gap e m.pdu) refl refl refl (λ r n. cc (n))
-  h_row free GapInRetransmission x = passes (effect q GapInRetransmission e m.pdu) refl refl refl (λ r n. cc (n))
+      let a = k.mine.opening.connected (ap (has_peer e.side) x.0) in
+      let unit = ap carries_unit x.1 in
+      by_unit (carries_unit m.pdu.kind) (accept q e m.pdu) (λ c. hands a.0 a.1 (in_place x.3 a.0 a.1) c (ap suc (place q e f t u m p k a.0 a.1)) (λ r. cc (x.0, r))) (λ c. absurd (cc))
+  h_row free Gap x = keeps refl (λ r n. cc (n))
+  h_row free GapInRetransmission x = keeps refl (λ r n. cc (n))
   h_row free Resumed x =
-      let a = k.mine.connected (ap (has_peer e.side) x.0) in
-      keeps (effect q Resumed e m.pdu) refl refl (same_worth a.0 a.1 (resumed x.0 free x.1 a.0 a.1)) (λ r n. cc (r))
+      let a = k.mine.opening.connected (ap (has_peer e.side) x.0) in
+      keeps (same_worth a.0 a.1 (resumed x.0 free x.1 a.0 a.1)) (λ r n. cc (r))
   h_row free Requested x =
-      let a = k.mine.connected (flowing_peer e.side e.phase x.0) in
-      keeps (effect q Requested e m.pdu) refl refl (same_worth a.0 a.1 (plain_next a.0 (in_place x.3 a.0 a.1) (ap is_plain x.1))) (λ r n. flowing_not e.phase x.0 r)
-  h_row free RequestedAhead x =
-      passes (effect q RequestedAhead e m.pdu) refl refl refl (λ r n. (let a = owes-append is_request_owed (burst e (position_confirmed e m.pdu)) (OweRetransmissionRequest ∷ []) in omega arith))
+      let a = k.mine.opening.connected (flowing_peer e.side e.phase x.0) in
+      keeps (same_worth a.0 a.1 (plain_next a.0 (in_place x.3 a.0 a.1) (ap is_plain x.1))) (λ r n. flowing_not e.phase x.0 r)
+  h_row free RequestedAhead x = keeps refl (λ r n. (let a = owes-append is_request_owed (burst e (position_confirmed e m.pdu)) (OweRetransmissionRequest ∷ []) in omega arith))
   h_row free RequestedAgain x = record { count = w.count; labels = w.labels; as_many = w.as_many; awaited = λ r n. w.awaited x.0 (ap (owes is_request_owed) free) }
-  h_row free Disconnected x = passes (effect q Disconnected e m.pdu) refl refl refl (λ r n. cc (r))
+  h_row free Disconnected x = keeps refl (λ r n. cc (r))
 
 module _ (q : Parameters) (e f : EndState) (t u : ℕ) (m : Made) (p : ℕ) (k : Taken e f t u m p) (w : Handed e f) (vf : Valued f) (free : is_closed e.phase ≡ false → e.owed ≡ []) where
   h_by : (o : Option TakeRow) → take_row q e m.pdu ≡ o → Handed (effect_by q o e m.pdu) f
@@ -327,7 +288,7 @@ handed_messages e f vf w i x g =
     let l : i < length e.handed = omega (arith, slice_get_within e.handed_pdus i x g, w.as_many) in
     let r = w.labels i _ (slice_get-get_or e.handed i 0 l) in
     let same : r.0.pdu ≡ x = (let z : Some r.0.pdu ≡ Some x = sym r.4 ∙ g in cc) in
-    let content = (vf.carried _ r.0 i r.1 r.3).1 in
+    let content = (vf.contents.carried _ r.0 r.1 i r.3).1 in
     let d = data_with (filter (λ (n : Made). is_kind Data n.pdu.kind) f.made) i (content_of r.0.pdu.body) content in
     (d.0, d.1, ap (λ (y : SafetyPdu). messages_in y.body) (sym same) ∙ (messages_by_content r.0.pdu.body ∙ (ap messages_of (sym d.2) ∙ sym (messages_by_content d.0.pdu.body))))
 

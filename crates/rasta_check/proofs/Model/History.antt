@@ -112,10 +112,10 @@ stepped p v w (side_moves {a = a} {after = ys} Server m) = record { less = (cros
     ends Server = end_moves p v.client v.server a v.crossed ys m
 
 grown_step : (p : Parameters) (v w : World) → Step p v w → All v.client v.server → (side : Side) → Grown (end_of v side) (end_of w side)
-grown_step p v w (side_moves {a = a} {after = ys} Client m) g Client = grown_move p v.server v.client a v.crossed ys m g.mine.asked
+grown_step p v w (side_moves {a = a} {after = ys} Client m) g Client = grown_move p v.server v.client a v.crossed ys m g.mine.asks.asked
 grown_step p v w (side_moves {a = a} {after = ys} Client m) g Server = same_grown v.server.state
 grown_step p v w (side_moves {a = a} {after = ys} Server m) g Client = same_grown v.client.state
-grown_step p v w (side_moves {a = a} {after = ys} Server m) g Server = grown_move p v.client v.server a v.crossed ys m g.theirs.asked
+grown_step p v w (side_moves {a = a} {after = ys} Server m) g Server = grown_move p v.client v.server a v.crossed ys m g.theirs.asks.asked
 
 -- of the copies of a list, these are those that had crossed
 pub record HadCrossed (packets : ℕ) (list copies : List FirstCopy) : Type 0 where

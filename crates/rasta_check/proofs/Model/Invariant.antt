@@ -1,5 +1,6 @@
 -- What holds of an end and of what its peer has made, in every run.
-use Rattle.std.proofs.Common.{◌≡◌, ℕ, suc, ◌+◌, ◌<◌, ◌≤◌, ◌⊎◌, Bool, true, false, List, [], ◌∷◌, length, Some, slice_get, take}
+use Rattle.std.proofs.Common.{◌≡◌, ℕ, suc, ◌+◌, ◌<◌, ◌≤◌, ◌⊎◌, Bool, true, false, List, [], ◌∷◌, length, Some, slice_get, take, arith}
+use Rattle.std.specs.Prelude.{not, ◌&&◌, ◌||◌, is_some}
 use Rattle.rasta_pcap.specs.declared.fault.Side.{Side}
 use Rattle.rasta_pcap.specs.declared.fault.Side.TheVariants.{Client, Server}
 use Rattle.rasta_pdu.specs.declared.kind.Kind.{Kind}
@@ -8,8 +9,7 @@ use Rattle.rasta_end.specs.declared.phase.Phase.{Phase}
 use Rattle.rasta_end.specs.declared.phase.Phase.TheVariants.{Closed, Down, Start, Up, RetrReq, RetrRun}
 use Rattle.rasta_end.specs.declared.owed.Owed.{Owed}
 use Rattle.rasta_end.specs.declared.owed.Owed.TheVariants.{ConnectionResponse as OweConnectionResponse}
-use Rattle.rasta_end.specs.State.{Made, EndState}
-use Rattle.rasta_end.specs.MakeRule.{has_ended}
+use Rattle.rasta_end.specs.State.{Made, EndState, is_closed, is_client}
 use Rattle.rasta_check.proofs.Model.SequenceNumbers.{Numbered}
 use Rattle.rasta_check.proofs.Model.Counts.{number, owes, is_answer_owed, is_request_owed}
 use Rattle.rasta_check.proofs.Model.NamedPositions.{SnIs}
@@ -45,29 +45,61 @@ open_bit RetrReq = 1
 open_bit Closed = 1
 open_bit _ = 0
 
--- taken: one more than the last position of the peer that was taken; peer: what the peer made
-pub record Held (e : EndState) (taken : ℕ) (peer : List Made) : Type 0 where
-  pub numbered : Numbered e.made
-  pub confirmed : e.confirmed ≤ length e.made
+pub bit_most : (ph : Phase) → open_bit ph ≤ 1
+bit_most Closed = omega arith
+bit_most RetrReq = omega arith
+bit_most _ = omega arith
+
+pub no_peer : (s : Side) → has_peer s Closed ≡ true → ⊥
+no_peer Client h = cc
+no_peer Server h = cc
+
+-- the connection of such an end is over
+abbrev pub ended : Side → Phase → List Made → Bool
+ended s ph ms = is_closed ph && (not (is_client s) || is_some (slice_get ms 0))
+
+-- What holds comes in slices, each over what it reads of the end; a step passes on those that it doesn't touch. ms: what
+-- the end made, a: one more than the position of the peer that it accepted last, os: what it owes, qs: its asks, t: one
+-- more than the last position of the peer that was taken, peer: what the peer made
+
+-- SNs rise by one; openings come first, and only once
+pub record Listing (ms : List Made) : Type 0 where
+  pub numbered : Numbered ms
+  pub openers : (p : ℕ) (m : Made) → slice_get ms p ≡ Some m → is_opener m.pdu.kind ≡ true → p ≡ 0
+
+-- how the connection opens
+pub record Opening (s : Side) (ph : Phase) (ms : List Made) (a : ℕ) (os : List Owed) : Type 0 where
+  pub down : ph ≡ Down → (ms ≡ []) × (s ≡ Server) × (a ≡ 0)
+  pub starting : s ≡ Client → ph ≡ Start → a ≡ 0
+  pub unmade : s ≡ Client → ms ≡ [] → (a ≡ 0) × (os ≡ [])
+  pub response_due : (owes is_response_owed os ≡ 0) ⊎ ((ms ≡ []) × (os ≡ OweConnectionResponse ∷ []))
+  pub connected : has_peer s ph ≡ true → (i : ℕ) × (a ≡ suc i)
+
+-- requests and responses
+pub record Asking (s : Side) (ph : Phase) (ms : List Made) (qs : List ℕ) (os : List Owed) (t : ℕ) (peer : List Made) : Type 0 where
   -- a retransmission response answers a request that was taken, and one is owed for each that isn't answered yet
-  pub asked : number (is_kind RetransmissionResponse) e.made ≤ length e.asks
-  pub owing : has_ended e ≡ false → number (is_kind RetransmissionResponse) e.made + owes is_answer_owed e.owed ≡ length e.asks
-  -- openings come first, and only once
-  pub openers : (p : ℕ) (m : Made) → slice_get e.made p ≡ Some m → is_opener m.pdu.kind ≡ true → p ≡ 0
-  pub down : e.phase ≡ Down → (e.made ≡ []) × (e.side ≡ Server) × (e.accepted ≡ 0)
-  pub starting : e.side ≡ Client → e.phase ≡ Start → e.accepted ≡ 0
-  pub unmade : e.side ≡ Client → e.made ≡ [] → (e.accepted ≡ 0) × (e.owed ≡ [])
-  pub response_due : (owes is_response_owed e.owed ≡ 0) ⊎ ((e.made ≡ []) × (e.owed ≡ OweConnectionResponse ∷ []))
-  pub connected : has_peer e.side e.phase ≡ true → (i : ℕ) × (e.accepted ≡ suc i)
-  -- the last accepted PDU is one of the peer's that was taken
-  pub reached : e.accepted ≤ taken
-  pub within : taken ≤ length peer
-  pub last : (i : ℕ) → e.accepted ≡ suc i → SnIs peer i e.last_sn
+  pub asked : number (is_kind RetransmissionResponse) ms ≤ length qs
+  pub owing : ended s ph ms ≡ false → number (is_kind RetransmissionResponse) ms + owes is_answer_owed os ≡ length qs
   -- the asks are what the requests of the peer confirm, in order
-  pub answered : (p : ℕ) (m : Made) (c : ℕ) → slice_get peer p ≡ Some m → is_kind RetransmissionRequest m.pdu.kind ≡ true
-      → slice_get e.asks (number (is_kind RetransmissionRequest) (take p peer)) ≡ Some c → SnIs e.made c m.pdu.cs
-  pub asks_taken : length e.asks ≤ number (is_kind RetransmissionRequest) (take taken peer)
+  pub answered : (p : ℕ) (m : Made) → slice_get peer p ≡ Some m → is_kind RetransmissionRequest m.pdu.kind ≡ true
+      → (c : ℕ) → slice_get qs (number (is_kind RetransmissionRequest) (take p peer)) ≡ Some c → SnIs ms c m.pdu.cs
+  pub asks_taken : length qs ≤ number (is_kind RetransmissionRequest) (take t peer)
   -- at most one request is unanswered
-  pub open_requests : number (is_kind RetransmissionRequest) e.made + owes is_request_owed e.owed ≤ number (is_kind RetransmissionResponse) (take taken peer) + open_bit e.phase
-  -- a CS names a PDU that was accepted
-  pub named : (p : ℕ) (m : Made) → slice_get e.made p ≡ Some m → is_named m.pdu.kind ≡ true → (i : ℕ) × (i < e.accepted) × SnIs peer i m.pdu.cs
+  pub open_requests : number (is_kind RetransmissionRequest) ms + owes is_request_owed os ≤ number (is_kind RetransmissionResponse) (take t peer) + open_bit ph
+
+-- the last accepted PDU, whose SN is sn, is one of the peer's that was taken; a CS names a PDU that was accepted
+pub record Accepting (ms : List Made) (a sn t : ℕ) (peer : List Made) : Type 0 where
+  pub reached : a ≤ t
+  pub within : t ≤ length peer
+  pub last : (i : ℕ) → a ≡ suc i → SnIs peer i sn
+  pub named : (p : ℕ) (m : Made) → slice_get ms p ≡ Some m → is_named m.pdu.kind ≡ true → (i : ℕ) × (i < a) × SnIs peer i m.pdu.cs
+
+pub record Holds (s : Side) (ph : Phase) (ms : List Made) (a sn c : ℕ) (qs : List ℕ) (os : List Owed) (t : ℕ) (peer : List Made) : Type 0 where
+  pub list : Listing ms
+  pub opening : Opening s ph ms a os
+  pub asks : Asking s ph ms qs os t peer
+  pub accepts : Accepting ms a sn t peer
+  pub confirmed : c ≤ length ms
+
+abbrev pub Held : EndState → ℕ → List Made → Type 0
+Held e t peer = Holds e.side e.phase e.made e.accepted e.last_sn e.confirmed e.asks e.owed t peer

@@ -4,25 +4,25 @@ use Rattle.std.specs.Prelude.{◌&&◌, if◌then◌else◌}
 use Rattle.std.proofs.lemmas.List.{length_push}
 use Rattle.std.proofs.lemmas.Option.{slice_get_within}
 use Rattle.rasta_pcap.specs.declared.fault.Side.{Side}
-use Rattle.rasta_pcap.specs.declared.fault.Side.TheVariants.{Client, Server}
+use Rattle.rasta_pcap.specs.declared.fault.Side.TheVariants.{Server}
 use Rattle.rasta_pdu.specs.declared.kind.Kind.{Kind}
-use Rattle.rasta_pdu.specs.declared.kind.Kind.TheVariants.{ConnectionRequest, ConnectionResponse, RetransmissionRequest, Heartbeat, Data, RetransmissionResponse}
+use Rattle.rasta_pdu.specs.declared.kind.Kind.TheVariants.{RetransmissionRequest, Heartbeat, Data, RetransmittedData, RetransmissionResponse}
 use Rattle.rasta_pdu.specs.Pdu.{SafetyPdu, is_kind}
 use Rattle.rasta_pdu.specs.Params.{Parameters}
 use Rattle.rasta_end.specs.declared.phase.Phase.{Phase}
-use Rattle.rasta_end.specs.declared.phase.Phase.TheVariants.{Closed, Down, Start, Up, RetrReq, RetrRun}
+use Rattle.rasta_end.specs.declared.phase.Phase.TheVariants.{Closed, Start, Up, RetrReq, RetrRun}
 use Rattle.rasta_end.specs.declared.take_row.TakeRow.{TakeRow}
 use Rattle.rasta_end.specs.declared.take_row.TakeRow.TheVariants.{Opened, Answered, FirstHeartbeat, InSequence, ResentInSequence, Gap, GapInRetransmission, Resumed, Requested, RequestedAhead, RequestedAgain, Disconnected}
 use Rattle.rasta_end.specs.declared.owed.Owed.{Owed}
-use Rattle.rasta_end.specs.declared.owed.Owed.TheVariants.{RetransmissionRequest as OweRetransmissionRequest}
-use Rattle.rasta_end.specs.State.{Made, EndState, kinds, is_closed, is_flowing, carries_unit}
+use Rattle.rasta_end.specs.declared.owed.Owed.TheVariants.{RetransmissionRequest as OweRetransmissionRequest, RetransmissionResponse as OweRetransmissionResponse, Resend as OweResend}
+use Rattle.rasta_end.specs.State.{Made, EndState, kinds, is_closed, is_flowing, is_connected, is_timed, carries_unit}
 use Rattle.rasta_end.specs.Units.{units_conveyed}
 use Rattle.rasta_end.specs.TakeRule.{is_heartbeat_or_data, steps_past_next, is_valid, position_confirmed, accept, hand_up, resends, burst, effect, effect_by, take_row, after_take}
 use Rattle.rasta_check.proofs.Model.ListGrowth.{get_push_cases}
 use Rattle.rasta_check.proofs.Model.TakeRows.{Knows, row_known, not_closed}
-use Rattle.rasta_check.proofs.Model.Counts.{number, owes, number_take_all, number_take_more, number_take_at, is_answer_owed, is_request_owed, owes-append, answers-resends, requests-resends}
+use Rattle.rasta_check.proofs.Model.Counts.{number, owes, tally, number_take_all, number_take_more, number_take_at, is_answer_owed, is_request_owed, owes-append}
 use Rattle.rasta_check.proofs.Model.NamedPositions.{SnIs, position_is, confirms_is}
-use Rattle.rasta_check.proofs.Model.Invariant.{Held, is_response_owed, is_opener, has_peer, is_named, open_bit}
+use Rattle.rasta_check.proofs.Model.Invariant.{Held, Opening, Asking, Accepting, is_response_owed, is_opener, has_peer, no_peer, is_named, open_bit, bit_most}
 
 -- ---- phases and types
 
@@ -44,26 +44,36 @@ fresh_named _ h = absurd (cc)
 pub over_not : (ph : Phase) (b : Bool) → is_closed ph ≡ false → (is_closed ph && b) ≡ false
 over_not ph b e = ap (λ c. c && b) e
 
-bit_most : (ph : Phase) → open_bit ph ≤ 1
-bit_most Closed = omega arith
-bit_most RetrReq = omega arith
-bit_most _ = omega arith
+timed_named : (k : Kind) → is_timed k ≡ true → is_named k ≡ true
+timed_named Heartbeat h = refl
+timed_named Data h = refl
+timed_named RetransmittedData h = refl
+timed_named _ h = absurd (cc)
+
+flowing_connected : (ph : Phase) → is_flowing ph ≡ true → is_connected ph ≡ true
+flowing_connected Up h = refl
+flowing_connected RetrRun h = refl
+flowing_connected _ h = absurd (cc)
+
+-- a server in Start has accepted the connection request
+pub starting_peer : {s : Side} {ph : Phase} → s ≡ Server → ph ≡ Start → has_peer s ph ≡ true
+starting_peer {s = s} a b = ap (has_peer s) b ∙ ap (λ side. has_peer side Start) a
+
+-- handing up changes nothing of this
+Held_hand_up : (b : Bool) (i : ℕ) (e : EndState) (x : SafetyPdu) (t : ℕ) (peer : List Made) → Held e t peer → Held (if b then hand_up i e x else e) t peer
+Held_hand_up true i e x t peer h = h
+Held_hand_up false i e x t peer h = h
 
 -- ---- bursts
 
-responses-resends : (k n : ℕ) → owes is_response_owed (resends k n) ≡ 0
-responses-resends k zero = refl
-responses-resends k (suc n) = responses-resends (suc k) n
+-- resends are neither requests nor responses
+owes-resends : (f : Owed → Bool) → ((k : ℕ) → f (OweResend k) ≡ false) → (k n : ℕ) → owes f (resends k n) ≡ 0
+owes-resends f none k zero = refl
+owes-resends f none k (suc n) = ap (λ b. tally b (owes f (resends (suc k) n))) (none k) ∙ owes-resends f none (suc k) n
 
--- a burst owes one retransmission response, no retransmission request and no connection response
-burst_answers : (e : EndState) (c : ℕ) → owes is_answer_owed (burst e c) ≡ 1
-burst_answers e c = let u = units_conveyed e.asks (kinds e.made) c in ap suc (answers-resends u (e.offered - u))
-
-burst_requests : (e : EndState) (c : ℕ) → owes is_request_owed (burst e c) ≡ 0
-burst_requests e c = let u = units_conveyed e.asks (kinds e.made) c in requests-resends u (e.offered - u)
-
-burst_responses : (e : EndState) (c : ℕ) → owes is_response_owed (burst e c) ≡ 0
-burst_responses e c = let u = units_conveyed e.asks (kinds e.made) c in responses-resends u (e.offered - u)
+-- beside resends a burst owes a retransmission response
+burst_owes : (f : Owed → Bool) → ((k : ℕ) → f (OweResend k) ≡ false) → (e : EndState) (c : ℕ) → owes f (burst e c) ≡ tally (f OweRetransmissionResponse) 0
+burst_owes f none e c = let u = units_conveyed e.asks (kinds e.made) c in ap (tally (f OweRetransmissionResponse)) (owes-resends f none u (e.offered - u))
 
 -- ---- a take
 
@@ -76,16 +86,6 @@ pub record Taken (e f : EndState) (t u : ℕ) (m : Made) (p : ℕ) : Type 0 wher
   pub few : length e.made ≤ 1000001
   pub few_theirs : length f.made ≤ 1000001
 
--- what is owed and asked after the take, in a phase
-record Settled (e f : EndState) (p : ℕ) (ph : Phase) (os : List Owed) (asks : List ℕ) : Type 0 where
-  pub asked : number (is_kind RetransmissionResponse) e.made ≤ length asks
-  pub owing : number (is_kind RetransmissionResponse) e.made + owes is_answer_owed os ≡ length asks
-  pub response_due : owes is_response_owed os ≡ 0
-  pub answered : (p' : ℕ) (n : Made) (d : ℕ) → slice_get f.made p' ≡ Some n → is_kind RetransmissionRequest n.pdu.kind ≡ true
-      → slice_get asks (number (is_kind RetransmissionRequest) (take p' f.made)) ≡ Some d → SnIs e.made d n.pdu.cs
-  pub asks_taken : length asks ≤ number (is_kind RetransmissionRequest) (take (suc p) f.made)
-  pub open_requests : number (is_kind RetransmissionRequest) e.made + owes is_request_owed os ≤ number (is_kind RetransmissionResponse) (take (suc p) f.made) + open_bit ph
-
 module _ (q : Parameters) (e f : EndState) (t u : ℕ) (m : Made) (p : ℕ) (k : Taken e f t u m p) where
   pub here : SnIs f.made p m.pdu.sn
   here = record { m = m; there = k.there; same = refl }
@@ -96,19 +96,19 @@ module _ (q : Parameters) (e f : EndState) (t u : ℕ) (m : Made) (p : ℕ) (k :
   -- the position that an end that has accepted something computes
   pub place : (i : ℕ) → e.accepted ≡ suc i → e.accepted + steps_past_next e m.pdu ≡ p
   place i a =
-      let w : i < p = omega (arith, k.mine.reached, k.above) in
-      let s = position_is f.made i p m.pdu.sn e.last_sn k.theirs.numbered k.few_theirs here (k.mine.last i a) w in
+      let w : i < p = omega (arith, k.mine.accepts.reached, k.above) in
+      let s = position_is f.made i p m.pdu.sn e.last_sn k.theirs.list.numbered k.few_theirs here (k.mine.accepts.last i a) w in
       omega (arith, s, a)
 
   -- the position that its CS confirms
   pub mark : is_named m.pdu.kind ≡ true → is_valid e m.pdu ≡ true → (j : ℕ) × (SnIs e.made j m.pdu.cs) × (position_confirmed e m.pdu ≡ j) × (j < length e.made)
   mark n v =
-      let r = k.theirs.named p m k.there n in
+      let r = k.theirs.accepts.named p m k.there n in
       let s : SnIs e.made r.0 m.pdu.cs = r.2 in
-      (r.0, s, confirms_is e m.pdu r.0 k.mine.numbered k.few k.mine.confirmed s v, slice_get_within e.made r.0 s.m s.there)
+      (r.0, s, confirms_is e m.pdu r.0 k.mine.list.numbered k.few k.mine.confirmed s v, slice_get_within e.made r.0 s.m s.there)
 
   more_asks : length e.asks ≤ number (is_kind RetransmissionRequest) (take (suc p) f.made)
-  more_asks = omega (arith, k.mine.asks_taken, number_take_more (is_kind RetransmissionRequest) f.made t (suc p) (omega (arith, k.above)))
+  more_asks = omega (arith, k.mine.asks.asks_taken, number_take_more (is_kind RetransmissionRequest) f.made t (suc p) (omega (arith, k.above)))
 
   more_answers : number (is_kind RetransmissionResponse) (take t f.made) ≤ number (is_kind RetransmissionResponse) (take (suc p) f.made)
   more_answers = number_take_more (is_kind RetransmissionResponse) f.made t (suc p) (omega (arith, k.above))
@@ -121,15 +121,15 @@ module _ (q : Parameters) (e f : EndState) (t u : ℕ) (m : Made) (p : ℕ) (k :
       let all = number_take_all (is_kind RetransmissionRequest) f.made (suc p) in
       let answers = number_take_all (is_kind RetransmissionResponse) e.made u in
       let bit = bit_most f.phase in
-      omega (arith, low, next, all, answers, bit, k.theirs.open_requests, k.mine.asked, k.mine.asks_taken)
+      omega (arith, low, next, all, answers, bit, k.theirs.asks.open_requests, k.mine.asks.asked, k.mine.asks.asks_taken)
 
   -- the list of asks with one more
   answered_more : (c : ℕ) → is_kind RetransmissionRequest m.pdu.kind ≡ true → SnIs e.made c m.pdu.cs
-      → (p' : ℕ) (n : Made) (d : ℕ) → slice_get f.made p' ≡ Some n → is_kind RetransmissionRequest n.pdu.kind ≡ true
-      → slice_get (e.asks ++ c ∷ []) (number (is_kind RetransmissionRequest) (take p' f.made)) ≡ Some d → SnIs e.made d n.pdu.cs
-  answered_more c a s p' n d g b x =
+      → (p' : ℕ) (n : Made) → slice_get f.made p' ≡ Some n → is_kind RetransmissionRequest n.pdu.kind ≡ true
+      → (d : ℕ) → slice_get (e.asks ++ c ∷ []) (number (is_kind RetransmissionRequest) (take p' f.made)) ≡ Some d → SnIs e.made d n.pdu.cs
+  answered_more c a s p' n g b d x =
       ⊎_elim
-      (λ (old : slice_get e.asks (number (is_kind RetransmissionRequest) (take p' f.made)) ≡ Some d). k.mine.answered p' n d g b old)
+      (λ (old : slice_get e.asks (number (is_kind RetransmissionRequest) (take p' f.made)) ≡ Some d). k.mine.asks.answered p' n g b d old)
       (λ (new : (number (is_kind RetransmissionRequest) (take p' f.made) ≡ length e.asks) × (c ≡ d)).
       let i = index a in
       let next = number_take_at (is_kind RetransmissionRequest) f.made p m k.there a in
@@ -141,308 +141,176 @@ module _ (q : Parameters) (e f : EndState) (t u : ℕ) (m : Made) (p : ℕ) (k :
       subst (λ (z : ℕ). SnIs e.made z n.pdu.cs) new.1 (record { m = s.m; there = s.there; same = s.same ∙ ap (λ (z : Made). z.pdu.cs) (sym same_m) }))
       (get_push_cases e.asks c (number (is_kind RetransmissionRequest) (take p' f.made)) d x)
 
-  -- where nothing is owed, each request was answered
-  pub no_answers : e.owed ≡ [] → is_closed e.phase ≡ false → number (is_kind RetransmissionResponse) e.made ≡ length e.asks
-  no_answers free away =
-      let b = k.mine.owing (over_not e.phase _ away) in
-      let o = ap (owes is_answer_owed) free in
-      omega (arith, b, o)
-
-  before : e.owed ≡ [] → number (is_kind RetransmissionRequest) e.made ≤ number (is_kind RetransmissionResponse) (take t f.made) + open_bit e.phase
-  before free =
-      let o = ap (owes is_request_owed) free in
-      omega (arith, o, k.mine.open_requests)
-
-  -- a take that changes nothing
-  ignored : Held e (suc p) f.made
-  ignored =
-      record {
-        numbered = k.mine.numbered;
-        confirmed = k.mine.confirmed;
-        asked = k.mine.asked;
-        owing = k.mine.owing;
-        openers = k.mine.openers;
-        down = k.mine.down;
-        starting = k.mine.starting;
-        unmade = k.mine.unmade;
-        response_due = k.mine.response_due;
-        connected = k.mine.connected;
-        reached = omega (arith, k.mine.reached, k.above);
-        within = omega (arith, inside);
-        last = k.mine.last;
-        answered = k.mine.answered;
-        asks_taken = more_asks;
-        open_requests = omega (arith, more_answers, k.mine.open_requests);
-        named = k.mine.named;
-      }
-
-  -- the connection request
-  opens : e.phase ≡ Down → m.pdu.kind ≡ ConnectionRequest → e.owed ≡ [] → is_closed e.phase ≡ false → Held (effect q Opened e m.pdu) (suc p) f.made
-  opens ph ki free away =
-      let first : p ≡ 0 = k.theirs.openers p m k.there (ap is_opener ki) in
-      let none = no_answers free away in
-      record {
-        numbered = k.mine.numbered;
-        confirmed = k.mine.confirmed;
-        asked = k.mine.asked;
-        owing = λ v. omega (arith, none);
-        openers = k.mine.openers;
-        down = λ v. absurd (cc);
-        starting = λ s v. absurd (let w = (k.mine.down ph).1 in cc (s, w));
-        unmade = λ s v. absurd (let w = (k.mine.down ph).1 in cc (s, w));
-        response_due = inr ((k.mine.down ph).0, refl);
-        connected = λ v. (0, refl);
-        reached = omega arith;
-        within = omega (arith, inside);
-        last = λ i g. (let j : i ≡ p = omega (arith, first, g) in subst (λ (z : ℕ). SnIs f.made z m.pdu.sn) (sym j) here);
-        answered = k.mine.answered;
-        asks_taken = more_asks;
-        open_requests = (let b = before free in let r = more_answers in let z = ap open_bit ph in omega (arith, b, r, z));
-        named = λ i n g b. absurd (let z : slice_get [] i ≡ Some n = subst (λ (l : List Made). slice_get l i ≡ Some n) (k.mine.down ph).0 g in cc);
-      }
-
-  -- the connection response
-  answers : e.phase ≡ Start → e.accepted ≡ 0 → m.pdu.kind ≡ ConnectionResponse → is_valid e m.pdu ≡ true → e.owed ≡ [] → is_closed e.phase ≡ false → Held (effect q Answered e m.pdu) (suc p) f.made
-  answers ph zeroed ki vd free away =
-      let first : p ≡ 0 = k.theirs.openers p m k.there (ap is_opener ki) in
-      let nm : is_named m.pdu.kind ≡ true = ap is_named ki in
-      let none = no_answers free away in
-      record {
-        numbered = k.mine.numbered;
-        confirmed = (let c = mark nm vd in omega (arith, c.2, c.3));
-        asked = k.mine.asked;
-        owing = λ v. omega (arith, none);
-        openers = k.mine.openers;
-        down = λ v. absurd (cc);
-        starting = λ s v. absurd (cc);
-        unmade = λ s v. absurd (let c = mark nm vd in let z : length e.made ≡ 0 = ap length v in omega (arith, c.3, z));
-        response_due = inl refl;
-        connected = λ v. (0, refl);
-        reached = omega arith;
-        within = omega (arith, inside);
-        last = λ i g. (let j : i ≡ p = omega (arith, first, g) in subst (λ (z : ℕ). SnIs f.made z m.pdu.sn) (sym j) here);
-        answered = k.mine.answered;
-        asks_taken = more_asks;
-        open_requests = (let b = before free in let r = more_answers in let z = ap open_bit ph in omega (arith, b, r, z));
-        named = λ i n g b. absurd (let r = k.mine.named i n g b in omega (arith, r.1, zeroed));
-      }
-
-  -- the PDU is accepted
-  accepts : (ph : Phase) (os : List Owed) (asks : List ℕ) → has_peer e.side e.phase ≡ true → is_named m.pdu.kind ≡ true → is_valid e m.pdu ≡ true
-      → (ph ≡ Down → ⊥) → (ph ≡ Start → ⊥) → Settled e f p ph os asks → Held (record (accept q e m.pdu) { phase = ph; owed = os; asks = asks }) (suc p) f.made
-  accepts ph os asks peer nm vd not_down not_start s =
-      let at_connected = k.mine.connected peer in
-      record {
-        numbered = k.mine.numbered;
-        confirmed = (let c = mark nm vd in omega (arith, c.2, c.3));
-        asked = s.asked;
-        owing = λ v. s.owing;
-        openers = k.mine.openers;
-        down = λ v. absurd (not_down v);
-        starting = λ c v. absurd (not_start v);
-        unmade = λ c v. absurd (let d = mark nm vd in let z : length e.made ≡ 0 = ap length v in omega (arith, d.3, z));
-        response_due = inl s.response_due;
-        connected = λ v. (e.accepted + steps_past_next e m.pdu, refl);
-        reached = (let w = place at_connected.0 at_connected.1 in omega (arith, w));
-        within = omega (arith, inside);
-        last = λ i g. (let w = place at_connected.0 at_connected.1 in let j : i ≡ p = omega (arith, w, g) in subst (λ (z : ℕ). SnIs f.made z m.pdu.sn) (sym j) here);
-        answered = s.answered;
-        asks_taken = s.asks_taken;
-        open_requests = s.open_requests;
-        named = λ i n g b. (let r = k.mine.named i n g b in let w = place at_connected.0 at_connected.1 in (r.0, omega (arith, w, r.1, k.mine.reached, k.above), r.2));
-      }
-
   -- the PDU isn't accepted
-  stays : (ph : Phase) (c : ℕ) (os : List Owed) (asks : List ℕ) → c ≤ length e.made → (ph ≡ Down → ⊥) → (ph ≡ Start → ⊥)
-      → (e.side ≡ Client → e.made ≡ [] → (e.accepted ≡ 0) × (os ≡ [])) → (has_peer e.side ph ≡ true → (i : ℕ) × (e.accepted ≡ suc i))
-      → Settled e f p ph os asks → Held (record e { phase = ph; confirmed = c; owed = os; asks = asks }) (suc p) f.made
-  stays ph c os asks confirmed not_down not_start unmade connected s =
+  skipped : Accepting e.made e.accepted e.last_sn (suc p) f.made
+  skipped = record { reached = omega (arith, k.mine.accepts.reached, k.above); within = omega (arith, inside); last = k.mine.accepts.last; named = k.mine.accepts.named }
+
+  -- it is accepted
+  noted : (a : ℕ) → a ≡ p → Accepting e.made (suc a) m.pdu.sn (suc p) f.made
+  noted a at =
       record {
-        numbered = k.mine.numbered;
-        confirmed = confirmed;
-        asked = s.asked;
-        owing = λ v. s.owing;
-        openers = k.mine.openers;
-        down = λ v. absurd (not_down v);
-        starting = λ d v. absurd (not_start v);
-        unmade = unmade;
-        response_due = inl s.response_due;
-        connected = connected;
-        reached = omega (arith, k.mine.reached, k.above);
+        reached = omega arith;
         within = omega (arith, inside);
-        last = k.mine.last;
-        answered = s.answered;
-        asks_taken = s.asks_taken;
-        open_requests = s.open_requests;
-        named = k.mine.named;
+        last = λ i g. (let j : i ≡ p = omega (arith, at, g) in subst (λ (z : ℕ). SnIs f.made z m.pdu.sn) (sym j) here);
+        named = λ i n g b. (let r = k.mine.accepts.named i n g b in (r.0, omega (arith, at, r.1, k.mine.accepts.reached, k.above), r.2));
       }
 
-  -- nothing more is owed or asked
-  same_settled : (ph : Phase) → open_bit e.phase ≤ open_bit ph → e.owed ≡ [] → is_closed e.phase ≡ false → Settled e f p ph e.owed e.asks
-  same_settled ph bit free away =
+  -- it shows that the end has made something, and the connection runs
+  runs : (ph : Phase) (a : ℕ) (os : List Owed) → is_connected ph ≡ true → is_named m.pdu.kind ≡ true → is_valid e m.pdu ≡ true → (i : ℕ) × (a ≡ suc i) → owes is_response_owed os ≡ 0 → Opening e.side ph e.made a os
+  runs ph a os on nm vd peer none =
       record {
-        asked = k.mine.asked;
-        owing = k.mine.owing (over_not e.phase _ away);
-        response_due = ap (owes is_response_owed) free;
-        answered = k.mine.answered;
-        asks_taken = more_asks;
-        open_requests = (let b = before free in let r = more_answers in let o = ap (owes is_request_owed) free in omega (arith, b, r, o, bit));
+        down = λ v. absurd (let w = ap is_connected v in cc);
+        starting = λ s v. absurd (let w = ap is_connected v in cc);
+        unmade = λ s v. absurd (let d = mark nm vd in let z : length e.made ≡ 0 = ap length v in omega (arith, d.3, z));
+        response_due = inl none;
+        connected = λ v. peer;
       }
-
-  -- a response ends the wait for it
-  resumed_settled : e.phase ≡ RetrReq → is_kind RetransmissionResponse m.pdu.kind ≡ true → e.owed ≡ [] → is_closed e.phase ≡ false → Settled e f p RetrRun e.owed e.asks
-  resumed_settled ph response free away =
-      record {
-        asked = k.mine.asked;
-        owing = k.mine.owing (over_not e.phase _ away);
-        response_due = ap (owes is_response_owed) free;
-        answered = k.mine.answered;
-        asks_taken = more_asks;
-        open_requests = (
-            let b = before free in
-            let z = ap open_bit ph in
-            let n = number_take_at (is_kind RetransmissionResponse) f.made p m k.there response in
-            let l = number_take_more (is_kind RetransmissionResponse) f.made t p k.above in
-            let o = ap (owes is_request_owed) free in
-            omega (arith, b, z, n, l, o));
-      }
-
-  -- a request is owed
-  gap_settled : open_bit e.phase ≡ 0 → e.owed ≡ [] → is_closed e.phase ≡ false → Settled e f p RetrReq (OweRetransmissionRequest ∷ []) e.asks
-  gap_settled bit free away =
-      record {
-        asked = k.mine.asked;
-        owing = (let none = no_answers free away in omega (arith, none));
-        response_due = refl;
-        answered = k.mine.answered;
-        asks_taken = more_asks;
-        open_requests = (let b = before free in let r = more_answers in omega (arith, b, r, bit));
-      }
-
-  -- a burst is owed, with a request after it or without
-  burst_settled : (ph : Phase) (os : List Owed) → m.pdu.kind ≡ RetransmissionRequest → is_valid e m.pdu ≡ true
-      → owes is_answer_owed os ≡ 1 → owes is_response_owed os ≡ 0 → open_bit e.phase + owes is_request_owed os ≤ open_bit ph → e.owed ≡ [] → is_closed e.phase ≡ false
-      → Settled e f p ph os (e.asks ++ position_confirmed e m.pdu ∷ [])
-  burst_settled ph os ki vd answers responses bit free away =
-      let c = position_confirmed e m.pdu in
-      let at = mark (ap is_named ki) vd in
-      let is_a : is_kind RetransmissionRequest m.pdu.kind ≡ true = ap (is_kind RetransmissionRequest) ki in
-      let l = length_push e.asks c in
-      record {
-        asked = omega (arith, k.mine.asked, l);
-        owing = (let b = no_answers free away in omega (arith, b, l, answers));
-        response_due = responses;
-        answered = answered_more c is_a (subst (λ (z : ℕ). SnIs e.made z m.pdu.cs) (sym at.2) at.1);
-        asks_taken = (let i = index is_a in let n = number_take_at (is_kind RetransmissionRequest) f.made p m k.there is_a in omega (arith, i, n, l));
-        open_requests = (let b = before free in let r = more_answers in omega (arith, b, r, bit));
-      }
-
-  -- a client that has accepted something has made something
-  peer_made : has_peer e.side e.phase ≡ true → {P : Type 0} → e.side ≡ Client → e.made ≡ [] → P
-  peer_made peer s v = absurd (let a = k.mine.connected peer in let z = (k.mine.unmade s v).0 in omega (arith, a.1, z))
 
 -- ---- the rows
 
-no_peer : (s : Side) → has_peer s Closed ≡ true → ⊥
-no_peer Client h = cc
-no_peer Server h = cc
+-- an end that takes by a row owes nothing
+module _ (q : Parameters) (e f : EndState) (t u : ℕ) (m : Made) (p : ℕ) (k : Taken e f t u m p) (free : e.owed ≡ []) (away : is_closed e.phase ≡ false) where
+  -- each request was answered
+  pub no_answers : number (is_kind RetransmissionResponse) e.made ≡ length e.asks
+  no_answers = (let o = ap (owes is_answer_owed) free in omega (arith, o, k.mine.asks.owing (over_not e.phase _ away)))
 
-starting_peer : (s : Side) (ph : Phase) → s ≡ Server → ph ≡ Start → has_peer s ph ≡ true
-starting_peer Server Start d e = refl
-starting_peer Server _ d e = absurd (cc)
-starting_peer Client ph d e = absurd (cc)
+  -- no ask joins
+  unasked : (ph : Phase) (os : List Owed) → owes is_answer_owed os ≡ 0
+      → number (is_kind RetransmissionResponse) (take t f.made) + open_bit e.phase + owes is_request_owed os ≤ number (is_kind RetransmissionResponse) (take (suc p) f.made) + open_bit ph
+      → Asking e.side ph e.made e.asks os (suc p) f.made
+  unasked ph os none room =
+      record {
+        asked = k.mine.asks.asked;
+        owing = λ _. omega (arith, no_answers, none);
+        answered = k.mine.asks.answered;
+        asks_taken = more_asks q e f t u m p k;
+        open_requests = (let o = ap (owes is_request_owed) free in omega (arith, o, room, k.mine.asks.open_requests));
+      }
 
-no_down : (ph : Phase) → is_flowing ph ≡ true → ph ≡ Down → ⊥
-no_down Down e h = cc
-no_down _ e h = cc
+  -- nothing more is owed
+  unchanged : (ph : Phase) → open_bit e.phase ≤ open_bit ph → Asking e.side ph e.made e.asks e.owed (suc p) f.made
+  unchanged ph bit = unasked ph e.owed (ap (owes is_answer_owed) free) (let o = ap (owes is_request_owed) free in omega (arith, o, bit, more_answers q e f t u m p k))
 
-no_start : (ph : Phase) → is_flowing ph ≡ true → ph ≡ Start → ⊥
-no_start Start e h = cc
-no_start _ e h = cc
+  -- a burst is owed, with a request after it or without
+  burdened : (ph : Phase) (os : List Owed) → m.pdu.kind ≡ RetransmissionRequest → is_valid e m.pdu ≡ true → owes is_answer_owed os ≡ 1 → open_bit e.phase + owes is_request_owed os ≤ open_bit ph
+      → Asking e.side ph e.made (e.asks ++ position_confirmed e m.pdu ∷ []) os (suc p) f.made
+  burdened ph os ki vd answers bit =
+      let c = position_confirmed e m.pdu in
+      let at = mark q e f t u m p k (ap is_named ki) vd in
+      let is_a : is_kind RetransmissionRequest m.pdu.kind ≡ true = ap (is_kind RetransmissionRequest) ki in
+      let i = index q e f t u m p k is_a in
+      let l = length_push e.asks c in
+      record {
+        asked = omega (arith, k.mine.asks.asked, l);
+        owing = λ _. omega (arith, no_answers, l, answers);
+        answered = answered_more q e f t u m p k c is_a (subst (λ (z : ℕ). SnIs e.made z m.pdu.cs) (sym at.2) at.1);
+        asks_taken = (let n = number_take_at (is_kind RetransmissionRequest) f.made p m k.there is_a in omega (arith, i, n, l));
+        open_requests = (let o = ap (owes is_request_owed) free in omega (arith, o, more_answers q e f t u m p k, bit, k.mine.asks.open_requests));
+      }
 
--- handing up changes nothing of this
-Held_hand_up : (b : Bool) (i : ℕ) (e : EndState) (x : SafetyPdu) (t : ℕ) (peer : List Made) → Held e t peer → Held (if b then hand_up i e x else e) t peer
-Held_hand_up false i e x t peer h = h
-Held_hand_up true i e x t peer h =
-    record {
-      numbered = h.numbered;
-      confirmed = h.confirmed;
-      asked = h.asked;
-      owing = h.owing;
-      openers = h.openers;
-      down = h.down;
-      starting = h.starting;
-      unmade = h.unmade;
-      response_due = h.response_due;
-      connected = h.connected;
-      reached = h.reached;
-      within = h.within;
-      last = h.last;
-      answered = h.answered;
-      asks_taken = h.asks_taken;
-      open_requests = h.open_requests;
-      named = h.named;
-    }
+  -- the PDU is accepted
+  accepts : (ph : Phase) (os : List Owed) (qs : List ℕ) → has_peer e.side e.phase ≡ true → is_named m.pdu.kind ≡ true → is_valid e m.pdu ≡ true → is_connected ph ≡ true → owes is_response_owed os ≡ 0
+      → Asking e.side ph e.made qs os (suc p) f.made → Held (record (accept q e m.pdu) { phase = ph; owed = os; asks = qs }) (suc p) f.made
+  accepts ph os qs peer nm vd on none asks =
+      let i = k.mine.opening.connected peer in
+      record {
+        list = k.mine.list;
+        opening = runs q e f t u m p k ph _ os on nm vd (_, refl) none;
+        asks = asks;
+        accepts = noted q e f t u m p k _ (place q e f t u m p k i.0 i.1);
+        confirmed = (let c = mark q e f t u m p k nm vd in omega (arith, c.2, c.3));
+      }
 
-module _ (q : Parameters) (e f : EndState) (t u : ℕ) (m : Made) (p : ℕ) (k : Taken e f t u m p) (free : is_closed e.phase ≡ false → e.owed ≡ []) where
-  -- the PDU stands ahead, so that a request is owed
-  in_gap : is_flowing e.phase ≡ true → is_closed e.phase ≡ false → Held (record e { phase = RetrReq; owed = OweRetransmissionRequest ∷ [] }) (suc p) f.made
-  in_gap ph c =
-      let peer = flowing_peer e.side e.phase ph in
-      stays q e f t u m p k RetrReq e.confirmed (OweRetransmissionRequest ∷ []) e.asks k.mine.confirmed (λ v. cc) (λ v. cc)
-      (λ s v. peer_made q e f t u m p k peer s v) (λ v. k.mine.connected peer) (gap_settled q e f t u m p k (flowing_bit e.phase ph) (free c) c)
+  -- it isn't accepted
+  waits : (ph : Phase) (c : ℕ) (os : List Owed) (qs : List ℕ) → has_peer e.side e.phase ≡ true → is_named m.pdu.kind ≡ true → is_valid e m.pdu ≡ true → is_connected ph ≡ true → c ≤ length e.made
+      → owes is_response_owed os ≡ 0 → Asking e.side ph e.made qs os (suc p) f.made → Held (record e { phase = ph; confirmed = c; owed = os; asks = qs }) (suc p) f.made
+  waits ph c os qs peer nm vd on confirmed none asks =
+      let i = k.mine.opening.connected peer in
+      record { list = k.mine.list; opening = runs q e f t u m p k ph e.accepted os on nm vd i none; asks = asks; accepts = skipped q e f t u m p k; confirmed = confirmed }
 
-  by_row : is_closed e.phase ≡ false → (row : TakeRow) → Knows q row e m.pdu → Held (effect q row e m.pdu) (suc p) f.made
-  by_row c Opened w = opens q e f t u m p k w.0 w.1 (free c) c
-  by_row c Answered w = answers q e f t u m p k w.1 (k.mine.starting w.0 w.1) w.2 w.3 (free c) c
-  by_row c FirstHeartbeat w =
-      let bit = ap open_bit w.1 in
-      accepts q e f t u m p k Up e.owed e.asks (starting_peer e.side e.phase w.0 w.1) (ap is_named w.2) w.3 (λ v. cc) (λ v. cc) (same_settled q e f t u m p k Up (omega (arith, bit)) (free c) c)
-  by_row c InSequence w =
-      let bit = flowing_bit e.phase w.0 in
+  -- a request is owed
+  gap : is_flowing e.phase ≡ true → is_named m.pdu.kind ≡ true → is_valid e m.pdu ≡ true → Held (record e { phase = RetrReq; owed = OweRetransmissionRequest ∷ [] }) (suc p) f.made
+  gap ph nm vd =
+      waits RetrReq e.confirmed (OweRetransmissionRequest ∷ []) e.asks (flowing_peer e.side e.phase ph) nm vd refl k.mine.confirmed refl
+      (unasked RetrReq (OweRetransmissionRequest ∷ []) refl (omega (arith, flowing_bit e.phase ph, more_answers q e f t u m p k)))
+
+  -- what it owes is owed before the PDU is judged again
+  quiet : owes is_response_owed e.owed ≡ 0
+  quiet = ap (owes is_response_owed) free
+
+  by_row : (row : TakeRow) → Knows q row e m.pdu → Held (effect q row e m.pdu) (suc p) f.made
+  by_row Opened w =
+      let d = k.mine.opening.down w.0 in
+      record {
+        list = k.mine.list;
+        opening = record { down = λ v. absurd (cc); starting = λ s v. absurd (cc (s, d.1)); unmade = λ s v. absurd (cc (s, d.1)); response_due = inr (d.0, refl); connected = λ v. (0, refl) };
+        asks = unasked Start _ refl (omega (arith, ap open_bit w.0, more_answers q e f t u m p k));
+        accepts = noted q e f t u m p k 0 (sym (k.theirs.list.openers p m k.there (ap is_opener w.1)));
+        confirmed = k.mine.confirmed;
+      }
+  by_row Answered w =
+      record {
+        list = k.mine.list;
+        opening = runs q e f t u m p k Up 1 _ refl (ap is_named w.2) w.3 (0, refl) refl;
+        asks = unasked Up _ refl (omega (arith, ap open_bit w.1, more_answers q e f t u m p k));
+        accepts = noted q e f t u m p k 0 (sym (k.theirs.list.openers p m k.there (ap is_opener w.2)));
+        confirmed = (let c = mark q e f t u m p k (ap is_named w.2) w.3 in omega (arith, c.2, c.3));
+      }
+  by_row FirstHeartbeat w =
+      accepts Up e.owed e.asks (starting_peer w.0 w.1) (ap is_named w.2) w.3 refl quiet (unchanged Up (omega (arith, ap open_bit w.1)))
+  by_row InSequence w =
       Held_hand_up (carries_unit m.pdu.kind) e.accepted _ m.pdu (suc p) f.made
-      (accepts q e f t u m p k Up e.owed e.asks (flowing_peer e.side e.phase w.0) (fresh_named m.pdu.kind w.1) w.2 (λ v. cc) (λ v. cc) (same_settled q e f t u m p k Up (omega (arith, bit)) (free c) c))
-  by_row c ResentInSequence w =
-      let flowing : is_flowing e.phase ≡ true = ap is_flowing w.0 in
+      (accepts Up e.owed e.asks (flowing_peer e.side e.phase w.0) (fresh_named m.pdu.kind w.1) w.2 refl quiet (unchanged Up (omega (arith, flowing_bit e.phase w.0))))
+  by_row ResentInSequence w =
       Held_hand_up (carries_unit m.pdu.kind) e.accepted _ m.pdu (suc p) f.made
-      (accepts q e f t u m p k e.phase e.owed e.asks (flowing_peer e.side e.phase flowing) (ap is_named w.1) w.2 (no_down e.phase flowing) (no_start e.phase flowing)
-      (same_settled q e f t u m p k e.phase (omega arith) (free c) c))
-  by_row c Gap w = in_gap (ap is_flowing w.0) c
-  by_row c GapInRetransmission w = in_gap (ap is_flowing w.0) c
-  by_row c Resumed w =
-      accepts q e f t u m p k RetrRun e.owed e.asks (ap (has_peer e.side) w.0) (ap is_named w.1) w.2 (λ v. cc) (λ v. cc) (resumed_settled q e f t u m p k w.0 (ap (is_kind RetransmissionResponse) w.1) (free c) c)
-  by_row c Requested w =
+      (accepts e.phase e.owed e.asks (ap (has_peer e.side) w.0) (ap is_named w.1) w.2 (ap is_connected w.0) quiet (unchanged e.phase (omega arith)))
+  by_row Gap w = gap (ap is_flowing w.0) (fresh_named m.pdu.kind w.1) w.2
+  by_row GapInRetransmission w = gap (ap is_flowing w.0) (timed_named m.pdu.kind w.1) w.2
+  by_row Resumed w =
+      let next = number_take_at (is_kind RetransmissionResponse) f.made p m k.there (ap (is_kind RetransmissionResponse) w.1) in
+      let low = number_take_more (is_kind RetransmissionResponse) f.made t p k.above in
+      let o = ap (owes is_request_owed) free in
+      accepts RetrRun e.owed e.asks (ap (has_peer e.side) w.0) (ap is_named w.1) w.2 refl quiet (unasked RetrRun e.owed (ap (owes is_answer_owed) free) (omega (arith, ap open_bit w.0, next, low, o)))
+  by_row Requested w =
       let at = position_confirmed e m.pdu in
-      let bit = flowing_bit e.phase w.0 in
-      let requests = burst_requests e at in
-      accepts q e f t u m p k e.phase (burst e at) (e.asks ++ at ∷ []) (flowing_peer e.side e.phase w.0) (ap is_named w.1) w.2 (no_down e.phase w.0) (no_start e.phase w.0)
-      (burst_settled q e f t u m p k e.phase (burst e at) w.1 w.2 (burst_answers e at) (burst_responses e at) (omega (arith, requests)) (free c) c)
-  by_row c RequestedAhead w =
+      accepts e.phase (burst e at) (e.asks ++ at ∷ []) (flowing_peer e.side e.phase w.0) (ap is_named w.1) w.2 (flowing_connected e.phase w.0) (burst_owes is_response_owed (λ j. refl) e at)
+      (burdened e.phase (burst e at) w.1 w.2 (burst_owes is_answer_owed (λ j. refl) e at) (omega (arith, burst_owes is_request_owed (λ j. refl) e at)))
+  by_row RequestedAhead w =
       let at = position_confirmed e m.pdu in
       let os = burst e at ++ OweRetransmissionRequest ∷ [] in
       let r = mark q e f t u m p k (ap is_named w.1) w.2 in
-      let peer = flowing_peer e.side e.phase w.0 in
-      let bit = flowing_bit e.phase w.0 in
-      let answers : owes is_answer_owed os ≡ 1 = (let a = owes-append is_answer_owed (burst e at) (OweRetransmissionRequest ∷ []) in let b = burst_answers e at in omega (arith, a, b)) in
-      let responses : owes is_response_owed os ≡ 0 = (let a = owes-append is_response_owed (burst e at) (OweRetransmissionRequest ∷ []) in let b = burst_responses e at in omega (arith, a, b)) in
-      let requests : open_bit e.phase + owes is_request_owed os ≤ 1 = (let a = owes-append is_request_owed (burst e at) (OweRetransmissionRequest ∷ []) in let b = burst_requests e at in omega (arith, a, b, bit)) in
-      stays q e f t u m p k RetrReq at os (e.asks ++ at ∷ []) (omega (arith, r.2, r.3)) (λ v. cc) (λ v. cc)
-      (λ s v. peer_made q e f t u m p k peer s v) (λ v. k.mine.connected peer) (burst_settled q e f t u m p k RetrReq os w.1 w.2 answers responses requests (free c) c)
-  by_row c RequestedAgain w =
+      let more : (f : Owed → Bool) → ((j : ℕ) → f (OweResend j) ≡ false) → owes f os ≡ tally (f OweRetransmissionResponse) 0 + owes f (OweRetransmissionRequest ∷ [])
+          = λ f none. owes-append f (burst e at) (OweRetransmissionRequest ∷ []) ∙ ap (λ n. n + owes f (OweRetransmissionRequest ∷ [])) (burst_owes f none e at) in
+      waits RetrReq at os (e.asks ++ at ∷ []) (flowing_peer e.side e.phase w.0) (ap is_named w.1) w.2 refl (omega (arith, r.2, r.3)) (more is_response_owed (λ j. refl))
+      (burdened RetrReq os w.1 w.2 (more is_answer_owed (λ j. refl)) (omega (arith, more is_request_owed (λ j. refl), flowing_bit e.phase w.0)))
+  by_row RequestedAgain w =
       let at = position_confirmed e m.pdu in
       let r = mark q e f t u m p k (ap is_named w.1) w.2 in
-      let peer : has_peer e.side e.phase ≡ true = ap (has_peer e.side) w.0 in
-      let requests = burst_requests e at in
-      stays q e f t u m p k e.phase at (burst e at) (e.asks ++ at ∷ []) (omega (arith, r.2, r.3)) (λ v. cc (w.0, v)) (λ v. cc (w.0, v))
-      (λ s v. peer_made q e f t u m p k peer s v) (λ v. k.mine.connected peer)
-      (burst_settled q e f t u m p k e.phase (burst e at) w.1 w.2 (burst_answers e at) (burst_responses e at) (omega (arith, requests)) (free c) c)
-  by_row c Disconnected w =
-      stays q e f t u m p k Closed e.confirmed e.owed e.asks k.mine.confirmed (λ v. cc) (λ v. cc) k.mine.unmade (λ v. absurd (no_peer e.side v)) (same_settled q e f t u m p k Closed (bit_most e.phase) (free c) c)
+      waits e.phase at (burst e at) (e.asks ++ at ∷ []) (ap (has_peer e.side) w.0) (ap is_named w.1) w.2 (ap is_connected w.0) (omega (arith, r.2, r.3)) (burst_owes is_response_owed (λ j. refl) e at)
+      (burdened e.phase (burst e at) w.1 w.2 (burst_owes is_answer_owed (λ j. refl) e at) (omega (arith, burst_owes is_request_owed (λ j. refl) e at)))
+  by_row Disconnected w =
+      record {
+        list = k.mine.list;
+        opening = record { down = λ v. absurd (cc); starting = λ s v. absurd (cc); unmade = k.mine.opening.unmade; response_due = inl quiet; connected = λ v. absurd (no_peer e.side v) };
+        asks = unchanged Closed (bit_most e.phase);
+        accepts = skipped q e f t u m p k;
+        confirmed = k.mine.confirmed;
+      }
 
+module _ (q : Parameters) (e f : EndState) (t u : ℕ) (m : Made) (p : ℕ) (k : Taken e f t u m p) (free : is_closed e.phase ≡ false → e.owed ≡ []) where
   -- by a row, or by none
   by_rows : (r : Option TakeRow) → take_row q e m.pdu ≡ r → Held (effect_by q r e m.pdu) (suc p) f.made
-  by_rows None h = ignored q e f t u m p k
-  by_rows (Some row) h = by_row (not_closed q e m.pdu row h) row (row_known q e m.pdu row h)
+  by_rows None h =
+      let old = k.mine.asks in
+      let asks : Asking e.side e.phase e.made e.asks e.owed (suc p) f.made = record {
+        asked = old.asked;
+        owing = old.owing;
+        answered = old.answered;
+        asks_taken = more_asks q e f t u m p k;
+        open_requests = omega (arith, old.open_requests, more_answers q e f t u m p k);
+      } in
+      record { list = k.mine.list; opening = k.mine.opening; asks = asks; accepts = skipped q e f t u m p k; confirmed = k.mine.confirmed }
+  by_rows (Some row) h = (let away = not_closed q e m.pdu row h in by_row q e f t u m p k (free away) away row (row_known q e m.pdu row h))
 
   pub own_take : Held (after_take q e m.pdu) (suc p) f.made
   own_take = by_rows (take_row q e m.pdu) refl

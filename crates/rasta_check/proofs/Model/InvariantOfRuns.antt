@@ -41,23 +41,11 @@ nothing_at i x e = absurd (cc)
 fresh_held : (side : Side) (phase : Phase) → (phase ≡ Down → side ≡ Server) → has_peer side phase ≡ false → Held (fresh_end side phase) 0 []
 fresh_held side phase down peer =
     record {
-      numbered = λ i m e. nothing_at (suc i) m e;
+      list = record { numbered = λ i m e. nothing_at (suc i) m e; openers = λ i m e. nothing_at i m e };
+      opening = record { down = λ e. (refl, down e, refl); starting = λ _ _. refl; unmade = λ _ _. (refl, refl); response_due = inl refl; connected = λ v. absurd (cc) };
+      asks = record { asked = omega arith; owing = λ _. refl; answered = λ i m e. nothing_at i m e; asks_taken = omega arith; open_requests = omega arith };
+      accepts = record { reached = omega arith; within = omega arith; last = λ i v. absurd (cc); named = λ i m e. nothing_at i m e };
       confirmed = omega arith;
-      asked = omega arith;
-      owing = λ _. refl;
-      openers = λ i m e. nothing_at i m e;
-      down = λ e. (refl, down e, refl);
-      starting = λ _ _. refl;
-      unmade = λ _ _. (refl, refl);
-      response_due = inl refl;
-      connected = λ v. absurd (cc);
-      reached = omega arith;
-      within = omega arith;
-      last = λ i v. absurd (cc);
-      answered = λ i m d e. nothing_at i m e;
-      asks_taken = omega arith;
-      open_requests = omega arith;
-      named = λ i m e. nothing_at i m e;
     }
 
 -- the only one of a list of one
@@ -77,39 +65,26 @@ quiet_cs own other m e = ap (λ (n : Made). n.pdu.cs) (sym e)
 quiet_held : (side peer : Side) (own other : QuietEnd) → Held (quiet_end side own other) 1 (quiet_end peer other own).made
 quiet_held side peer own other =
     record {
-      numbered = λ i m e. nothing_at i m e;
+      list = record { numbered = λ i m e. nothing_at i m e; openers = λ i m e k. (only_at _ m i e).0 };
+      opening = record { down = λ e. absurd (cc); starting = λ _ v. absurd (cc); unmade = λ _ v. absurd (cc); response_due = inl refl; connected = λ v. (0, refl) };
+      asks = record { asked = omega arith; owing = λ _. refl; answered = λ i m e k c g. absurd (cc); asks_taken = omega arith; open_requests = omega arith };
+      accepts = record {
+        reached = omega arith;
+        within = omega arith;
+        last = λ i v. quiet_sn peer other own i _ (omega arith) refl;
+        named = λ i m e k. (0, omega arith, quiet_sn peer other own 0 m.pdu.cs refl (quiet_cs own other m (only_at _ m i e).1));
+      };
       confirmed = omega arith;
-      asked = omega arith;
-      owing = λ _. refl;
-      openers = λ i m e k. (only_at _ m i e).0;
-      down = λ e. absurd (cc);
-      starting = λ _ v. absurd (cc);
-      unmade = λ _ v. absurd (cc);
-      response_due = inl refl;
-      connected = λ v. (0, refl);
-      reached = omega arith;
-      within = omega arith;
-      last = λ i v. quiet_sn peer other own i _ (omega arith) refl;
-      answered = λ i m d e k g. absurd (cc);
-      asks_taken = omega arith;
-      open_requests = omega arith;
-      named = λ i m e k. (0, omega arith, quiet_sn peer other own 0 m.pdu.cs refl (quiet_cs own other m (only_at _ m i e).1));
     }
 
 fresh_valued : (side : Side) (phase : Phase) → is_connected phase ≡ false → Valued (fresh_end side phase)
 fresh_valued side phase c =
     record {
       due = λ _. refl;
-      bounded = λ i v e. nothing_at i v e;
-      units = λ i m e. nothing_at i m e;
-      others = λ i m e. nothing_at (suc i) m e;
-      jumps = λ i m d e. nothing_at i m e;
-      zeroth = λ v e. nothing_at 0 v e;
-      asks_within = λ i d e. nothing_at i d e;
       grown = λ v. absurd (cc);
-      counted = refl;
-      fresh = λ i m e. nothing_at i m e;
-      carried = λ i m k e. nothing_at i m e;
+      positions = record { bounded = λ i v e. nothing_at i v e; units = λ i m e. nothing_at i m e; others = λ i m e. nothing_at i m e; zeroth = refl };
+      returns = record { jumps = λ i m e. nothing_at i m e; asks_within = λ i d e. nothing_at i d e };
+      contents = record { counted = refl; fresh = λ i m e. nothing_at i m e; carried = λ i m e. nothing_at i m e };
     }
 
 zero_at : (i v : ℕ) → slice_get (0 ∷ []) i ≡ Some v → v ≤ 0
@@ -120,16 +95,19 @@ quiet_valued : (side : Side) (own other : QuietEnd) → Valued (quiet_end side o
 quiet_valued side own other =
     record {
       due = λ _. refl;
-      bounded = λ i v e. zero_at i v e;
-      units = λ i m e k. absurd (let z = ap (λ (n : Made). carries_unit n.pdu.kind) (only_at _ m i e).1 in cc);
-      others = λ i m e. nothing_at i m e;
-      jumps = λ i m d e k g. absurd (cc);
-      zeroth = λ v e. cc;
-      asks_within = λ i d e. nothing_at i d e;
-      grown = λ v. (record { pdu = quiet_pdu own other; unit = None }, [], refl);
-      counted = refl;
-      fresh = λ i m e k. absurd (let z = ap (λ (n : Made). is_kind Data n.pdu.kind) (only_at _ m i e).1 in cc);
-      carried = λ i m k e u. absurd (let z = ap (λ (n : Made). n.unit) (only_at _ m i e).1 in cc);
+      grown = λ v. omega arith;
+      positions = record {
+        bounded = λ i v e. zero_at i v e;
+        units = λ i m e k. absurd (let z = ap (λ (n : Made). carries_unit n.pdu.kind) (only_at _ m i e).1 in cc);
+        others = λ i m e k j s. absurd (let z = (only_at _ m i e).0 in omega arith);
+        zeroth = refl;
+      };
+      returns = record { jumps = λ i m e k d g. absurd (cc); asks_within = λ i d e. nothing_at i d e };
+      contents = record {
+        counted = refl;
+        fresh = λ i m e k. absurd (let z = ap (λ (n : Made). is_kind Data n.pdu.kind) (only_at _ m i e).1 in cc);
+        carried = λ i m e k u. absurd (let z = ap (λ (n : Made). n.unit) (only_at _ m i e).1 in cc);
+      };
     }
 
 fresh_handed : (side : Side) (phase : Phase) (e : EndState) → (phase ≡ RetrReq → ⊥) → Handed (fresh_end side phase) e
@@ -141,7 +119,7 @@ quiet_handed side peer own other = record { count = refl; labels = λ i m g. not
 fresh_shown : (side : Side) (phase : Phase) (e : EndState) → is_connected e.phase ≡ false → (0 < e.offered → 0 < 0) → Shown (fresh_end side phase) e
 fresh_shown side phase e c offer =
     record {
-      shown = λ i j v m g. nothing_at i m g;
+      shown = λ i m g. nothing_at i m g;
       judged = λ i m g. nothing_at i m g;
       first_words = λ _ _ i m g. nothing_at i m g;
       ready_run = λ r. absurd (cc);
@@ -151,7 +129,7 @@ fresh_shown side phase e c offer =
 quiet_shown : (side peer : Side) (own other : QuietEnd) → Shown (quiet_end side own other) (quiet_end peer other own)
 quiet_shown side peer own other =
     record {
-      shown = λ i j v m g k t u. zero_at j v u;
+      shown = λ i m g k j v t u. zero_at j v u;
       judged = λ i m g k. inr (0, omega arith, quiet_sn peer other own 0 m.pdu.cs refl (quiet_cs own other m (only_at _ m i g).1));
       first_words = λ z. absurd (omega arith);
       ready_run = λ _. omega arith;
@@ -200,9 +178,9 @@ all_kept p b a a' xs ys move (makes x why after channel reserve check bytes mk s
       values = values;
       their_values = h.their_values;
       up = handed_make p a.state b.state x a.clock why a.taken ok h.mine h.up;
-      their_up = handed_peer_make b.state a.state x a.clock why (let z = h.theirs in omega (arith, z.reached, z.within)) h.their_up;
-      shows = shown_make p a.state b.state x a.clock why a.taken ok h.mine (numbered_once b.state.made r h.theirs.numbered) h.their_values h.up h.shows;
-      their_shows = shown_peer_make p b.state a.state x a.clock why ok values (numbered_once (after_make a.state x a.clock why).made few mine.numbered) h.their_shows;
+      their_up = handed_peer_make b.state a.state x a.clock why (let z = h.theirs.accepts in omega (arith, z.reached, z.within)) h.their_up;
+      shows = shown_make p a.state b.state x a.clock why a.taken ok h.mine (numbered_once b.state.made r h.theirs.list.numbered) h.their_values h.up h.shows;
+      their_shows = shown_peer_make p b.state a.state x a.clock why ok values (numbered_once (after_make a.state x a.clock why).made few mine.list.numbered) h.their_shows;
     }))
 all_kept p b a a' xs ys move (repeats place channel old there s rec) g = g
 all_kept p b a a' xs ys move (arrives position i j) g = λ l r. (let h = g l r in record { mine = h.mine; theirs = h.theirs; values = h.values; their_values = h.their_values; up = h.up; their_up = h.their_up; shows = h.shows; their_shows = h.their_shows })
@@ -220,9 +198,9 @@ all_kept p b a a' xs ys move (takes position m after c i s t) g = λ l r. (
       values = valued_take p a.state b.state a.taken b.taken m position k h.values fr;
       their_values = h.their_values;
       up = handed_take p a.state b.state a.taken b.taken m position k h.up h.their_values fr;
-      their_up = handed_peer_take b.state a.state (after_take p a.state m.pdu) (take_made p a.state m.pdu) (values_take p a.state m.pdu h.mine.asked) h.their_up;
+      their_up = handed_peer_take b.state a.state (after_take p a.state m.pdu) (take_made p a.state m.pdu) (values_take p a.state m.pdu h.mine.asks.asked) h.their_up;
       shows = shown_take p a.state b.state m.pdu a.taken h.mine h.shows;
-      their_shows = shown_peer_take p b.state a.state b.taken m position h.theirs s (values_take p a.state m.pdu h.mine.asked) h.their_shows;
+      their_shows = shown_peer_take p b.state a.state b.taken m position h.theirs s (values_take p a.state m.pdu h.mine.asks.asked) h.their_shows;
     }))
 all_kept p b a a' xs ys move (waits clock i) g = λ l r. (let h = g l r in record { mine = h.mine; theirs = h.theirs; values = h.values; their_values = h.their_values; up = h.up; their_up = h.their_up; shows = h.shows; their_shows = h.their_shows })
 
@@ -239,8 +217,8 @@ first_all None m n =
       theirs = fresh_held Server Down (λ _. refl) refl;
       values = fresh_valued Client Closed refl;
       their_values = fresh_valued Server Down refl;
-      up = fresh_handed Client Closed _ (λ e. cc (e));
-      their_up = fresh_handed Server Down _ (λ e. cc (e));
+      up = fresh_handed Client Closed (fresh_end Server Down) (λ e. cc (e));
+      their_up = fresh_handed Server Down (fresh_end Client Closed) (λ e. cc (e));
       shows = fresh_shown Client Closed (fresh_end Server Down) refl (λ l. omega arith);
       their_shows = fresh_shown Server Down (fresh_end Client Closed) refl (λ l. omega arith);
     }

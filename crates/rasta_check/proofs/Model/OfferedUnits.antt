@@ -1,13 +1,17 @@
 -- The units that an end offered: what it owes leads to them, its positions convey them, its PDUs carry them.
 use Rattle.std.proofs.Common.{◌≡◌, ℕ, zero, suc, ◌+◌, ◌-◌, ◌<◌, ◌≤◌, true, false, List, [], ◌∷◌, ◌++◌, length, Some, slice_get, take, refl, arith, subst}
+use Rattle.std.specs.Prelude.{slice_index_or}
+use Rattle.rasta_pcap.specs.declared.fault.Side.{Side}
+use Rattle.rasta_end.specs.declared.phase.Phase.{Phase}
 use Rattle.rasta_end.specs.declared.owed.Owed.{Owed}
 use Rattle.rasta_end.specs.declared.owed.Owed.TheVariants.{ConnectionResponse as OweConnectionResponse, FirstHeartbeat as OweFirstHeartbeat, RetransmissionResponse as OweRetransmissionResponse, Resend as OweResend, RetransmissionRequest as OweRetransmissionRequest}
-use Rattle.rasta_end.specs.State.{Made, EndState, is_connected, carries_unit, content_of}
-use Rattle.rasta_end.specs.Units.{last_of}
-use Rattle.rasta_end.specs.MakeRule.{has_ended, contents}
+use Rattle.rasta_end.specs.State.{Made, EndState, kinds, is_connected, carries_unit, content_of}
+use Rattle.rasta_end.specs.Units.{last_of, units_at, all_units_conveyed}
+use Rattle.rasta_end.specs.MakeRule.{contents}
 use Rattle.rasta_end.specs.TakeRule.{resends}
 use Rattle.rasta_check.proofs.Model.Counts.{number}
-use Rattle.rasta_check.proofs.Model.ConveyedUnits.{values, jump, is_plain}
+use Rattle.rasta_check.proofs.Model.ConveyedUnits.{is_plain}
+use Rattle.rasta_check.proofs.Model.Invariant.{ended}
 use Rattle.rasta_pdu.specs.Pdu.{is_kind}
 use Rattle.rasta_pdu.specs.declared.kind.Kind.TheVariants.{Data, RetransmissionResponse}
 
@@ -27,27 +31,50 @@ Due u v n (OweFirstHeartbeat ∷ os) = DueRest v n os
 Due u v n (OweRetransmissionRequest ∷ os) = DueRest v n os
 Due u v n (OweResend k ∷ os) = DueRest v n (OweResend k ∷ os)
 
-pub record Valued (e : EndState) : Type 0 where
+-- What holds comes in slices, each over what it reads of the end. vs: the units conveyed through each position, ms: what
+-- the end made, qs: its asks, n: how many units it offered, os: what it owes
+
+-- a position that carries unit k conveys k + 1, and the one before it k; a plain one conveys no more than the one before it
+pub record Conveying (vs : List ℕ) (ms : List Made) (n : ℕ) : Type 0 where
+  pub bounded : (p v : ℕ) → slice_get vs p ≡ Some v → v ≤ n
+  pub units : (p : ℕ) (m : Made) → slice_get ms p ≡ Some m → carries_unit m.pdu.kind ≡ true
+      → (q : ℕ) × (k : ℕ) × (p ≡ suc q) × (m.unit ≡ Some k) × (slice_get vs q ≡ Some k) × (slice_get vs p ≡ Some (suc k))
+  pub others : (p : ℕ) (m : Made) → slice_get ms p ≡ Some m → is_plain m.pdu.kind ≡ true → (q : ℕ) → p ≡ suc q → slice_get vs p ≡ slice_get vs q
+  pub zeroth : slice_index_or vs 0 0 ≡ 0
+
+-- a retransmission response goes back to its ask; asks are own positions
+pub record Returning (vs : List ℕ) (ms : List Made) (qs : List ℕ) : Type 0 where
+  pub jumps : (p : ℕ) (m : Made) → slice_get ms p ≡ Some m → is_kind RetransmissionResponse m.pdu.kind ≡ true
+      → (c : ℕ) → slice_get qs (number (is_kind RetransmissionResponse) (take p ms)) ≡ Some c → (c < p) × (slice_get vs p ≡ slice_get vs c)
+  pub asks_within : (i c : ℕ) → slice_get qs i ≡ Some c → c < length ms
+
+-- the k-th data PDU carries unit k, and whatever carries unit k has its content
+pub record Carrying (ms : List Made) (n : ℕ) : Type 0 where
+  pub counted : length (contents ms) ≡ n
+  pub fresh : (p : ℕ) (m : Made) → slice_get ms p ≡ Some m → is_kind Data m.pdu.kind ≡ true → m.unit ≡ Some (length (contents (take p ms)))
+  pub carried : (p : ℕ) (m : Made) → slice_get ms p ≡ Some m → (k : ℕ) → m.unit ≡ Some k → (carries_unit m.pdu.kind ≡ true) × (slice_get (contents ms) k ≡ Some (content_of m.pdu.body))
+
+pub record Offers (s : Side) (ph : Phase) (ms : List Made) (qs : List ℕ) (n : ℕ) (os : List Owed) : Type 0 where
   -- what is owed leads from the units conveyed to those offered
-  pub due : has_ended e ≡ false → Due (jump e) (last_of (values e)) e.offered e.owed
-  pub bounded : (p v : ℕ) → slice_get (values e) p ≡ Some v → v ≤ e.offered
-  -- a position that carries unit k conveys k + 1, and the one before it k; a plain one conveys no more than that; a response goes back to its ask
-  pub units : (p : ℕ) (n : Made) → slice_get e.made p ≡ Some n → carries_unit n.pdu.kind ≡ true
-      → (q : ℕ) × (k : ℕ) × (p ≡ suc q) × (n.unit ≡ Some k) × (slice_get (values e) q ≡ Some k) × (slice_get (values e) p ≡ Some (suc k))
-  pub others : (q : ℕ) (n : Made) → slice_get e.made (suc q) ≡ Some n → is_plain n.pdu.kind ≡ true → slice_get (values e) (suc q) ≡ slice_get (values e) q
-  pub jumps : (p : ℕ) (n : Made) (c : ℕ) → slice_get e.made p ≡ Some n → is_kind RetransmissionResponse n.pdu.kind ≡ true
-      → slice_get e.asks (number (is_kind RetransmissionResponse) (take p e.made)) ≡ Some c → (c < p) × (slice_get (values e) p ≡ slice_get (values e) c)
-  pub zeroth : (v : ℕ) → slice_get (values e) 0 ≡ Some v → v ≡ 0
-  -- asks are own positions
-  pub asks_within : (i c : ℕ) → slice_get e.asks i ≡ Some c → c < length e.made
-  pub grown : is_connected e.phase ≡ true → (m : Made) × (ms : List Made) × (e.made ≡ m ∷ ms)
-  -- the k-th data PDU carries unit k, and whatever carries unit k has its content
-  pub counted : length (contents e.made) ≡ e.offered
-  pub fresh : (p : ℕ) (n : Made) → slice_get e.made p ≡ Some n → is_kind Data n.pdu.kind ≡ true → n.unit ≡ Some (length (contents (take p e.made)))
-  pub carried : (p : ℕ) (n : Made) (k : ℕ) → slice_get e.made p ≡ Some n → n.unit ≡ Some k
-      → (carries_unit n.pdu.kind ≡ true) × (slice_get (contents e.made) k ≡ Some (content_of n.pdu.body))
+  pub due : ended s ph ms ≡ false → Due (units_at (all_units_conveyed qs (kinds ms)) (slice_get qs (number (is_kind RetransmissionResponse) ms))) (last_of (all_units_conveyed qs (kinds ms))) n os
+  pub grown : is_connected ph ≡ true → 0 < length ms
+  pub positions : Conveying (all_units_conveyed qs (kinds ms)) ms n
+  pub returns : Returning (all_units_conveyed qs (kinds ms)) ms qs
+  pub contents : Carrying ms n
+
+abbrev pub Valued : EndState → Type 0
+Valued e = Offers e.side e.phase e.made e.asks e.offered e.owed
+
+pub conveyed_most : (vs : List ℕ) (n c : ℕ) → ((p v : ℕ) → slice_get vs p ≡ Some v → v ≤ n) → slice_index_or vs c 0 ≤ n
+conveyed_most [] n c h = omega arith
+conveyed_most (v ∷ vs) n zero h = h 0 v refl
+conveyed_most (v ∷ vs) n (suc c) h = conveyed_most vs n c (λ p w g. h (suc p) w g)
 
 -- What is owed.
+
+pub bare_rest : (u v n : ℕ) (os : List Owed) → os ≡ [] → Due u v n os → v ≡ n
+bare_rest u v n [] e d = d
+bare_rest u v n (o ∷ os) e d = absurd (cc)
 
 pub rest_due : (u v n : ℕ) (os : List Owed) → DueRest v n os → Due u v n os
 rest_due u v n (OweRetransmissionResponse ∷ os) h = absurd h

@@ -124,16 +124,16 @@ request_named _ h = absurd (cc)
 
 module _ (e f : EndState) (t u : ℕ) (h : Held e t f.made) (peer : Held f u e.made) (w : Valued e) (once : NamesOne e f) where
   all_named : AllNamed (pdus_made e.made) f.made
-  all_named p m g r = (let n = peer.named p m g (request_named m.pdu.kind r) in (n.0, named_position e.made n.0 m.pdu.cs once n.2))
+  all_named p m g r = (let n = peer.accepts.named p m g (request_named m.pdu.kind r) in (n.0, named_position e.made n.0 m.pdu.cs once n.2))
 
   -- the k-th ask is that of the k-th request
   pub ask_at : (k c : ℕ) → slice_get e.asks k ≡ Some c
       → (m : Made) × (slice_get (requests_of f.made) k ≡ Some m) × (position_with (pdus_made e.made) m.pdu.cs ≡ Some c) × (slice_get (asked_positions (pdus_made e.made) (pdus_made f.made)) k ≡ Some c)
   ask_at k c g =
       let few = slice_get_within e.asks k c g in
-      let r = found (is_kind RetransmissionRequest) f.made k (omega (arith, few, h.asks_taken, number_take_all (is_kind RetransmissionRequest) f.made t)) in
+      let r = found (is_kind RetransmissionRequest) f.made k (omega (arith, few, h.asks.asks_taken, number_take_all (is_kind RetransmissionRequest) f.made t)) in
       let g' = subst (λ n. slice_get e.asks n ≡ Some c) (sym r.before) g in
-      let at = named_position e.made c r.m.pdu.cs once (h.answered r.at r.m c r.there r.is g') in (
+      let at = named_position e.made c r.m.pdu.cs once (h.asks.answered r.at r.m r.there r.is c g') in (
         r.m,
         subst (λ n. slice_get (requests_of f.made) n ≡ Some r.m) r.before (request_at f.made r.at r.m r.there r.is),
         at,
@@ -151,9 +151,9 @@ module _ (e f : EndState) (t u : ℕ) (h : Held e t f.made) (peer : Held f u e.m
       let one = number_take_at (is_kind RetransmissionResponse) e.made (length before) m there r in
       let all = number_take_all (is_kind RetransmissionResponse) e.made (suc (length before)) in
       let ask = slice_index_or e.asks n 0 in
-      let asked = get_within e.asks n (omega (arith, n_is, one, all, h.asked)) in
+      let asked = get_within e.asks n (omega (arith, n_is, one, all, h.asks.asked)) in
       let request = ask_at n ask asked in
-      let jump = w.jumps (length before) m ask there r (subst (λ k. slice_get e.asks k ≡ Some ask) n_is asked) in
+      let jump = w.returns.jumps (length before) m there r ask (subst (λ k. slice_get e.asks k ≡ Some ask) n_is asked) in
       (ask, request.0, asked, jump.0, request.1, request.2)
     where
       get_after : (xs : List Made) → slice_get (xs ++ m ∷ after) (length xs) ≡ Some m

@@ -13,14 +13,14 @@ use Rattle.rasta_end.specs.declared.phase.Phase.TheVariants.{Up}
 use Rattle.rasta_end.specs.declared.why.Why.{Why}
 use Rattle.rasta_end.specs.declared.make_row.MakeRow.{MakeRow}
 use Rattle.rasta_end.specs.declared.take_row.TakeRow.{TakeRow}
-use Rattle.rasta_end.specs.declared.take_row.TakeRow.TheVariants.{Opened, Answered, FirstHeartbeat, InSequence, ResentInSequence, Gap, GapInRetransmission, Resumed, Requested, RequestedAhead, RequestedAgain, Disconnected}
+use Rattle.rasta_end.specs.declared.take_row.TakeRow.TheVariants.{Opened, Answered, FirstHeartbeat, InSequence, ResentInSequence, Gap, GapInRetransmission, Resumed, Requested, Disconnected}
 use Rattle.rasta_end.specs.declared.owed.Owed.{Owed}
 use Rattle.rasta_end.specs.State.{Made, EndState, is_client, is_start, is_closed, is_connected, carries_unit}
 use Rattle.rasta_end.specs.MakeRule.{is_judged, phase_after, offered_after, after_make, after_make_by}
 use Rattle.rasta_end.specs.TakeRule.{accept, enter, hand_up, take_row, effect, effect_by, after_take}
-use Rattle.rasta_check.proofs.Model.ListGrowth.{get_push_cases}
+use Rattle.rasta_check.proofs.Model.ListGrowth.{get_push_cases, all_push}
 use Rattle.rasta_check.proofs.Model.PassedTests.{Passed, cs_is}
-use Rattle.rasta_check.proofs.Model.MakeRows.{Making, opening, response, first_beat, answer, again, ask, beat, fresh, bye, expired, MadeBy, made_by, after_row, new_made}
+use Rattle.rasta_check.proofs.Model.MakeRows.{Making, opening, fresh, bye, expired, MadeBy, made_by, after_row, new_made}
 use Rattle.rasta_check.proofs.Model.TakeRows.{Knows, row_known, not_closed, take_made, take_leaves}
 use Rattle.rasta_check.proofs.Model.NamedPositions.{SnIs}
 use Rattle.rasta_check.proofs.Model.Invariant.{Held, is_named}
@@ -34,7 +34,7 @@ use Rattle.rasta_pdu.specs.declared.kind.Kind.TheVariants.{ConnectionRequest, Di
 
 -- e: the end whose PDUs show units; f: its peer, which offers them
 pub record Shown (e f : EndState) : Type 0 where
-  pub shown : (p j v : ℕ) (m : Made) → slice_get e.made p ≡ Some m → is_kind ConnectionRequest m.pdu.kind ≡ false → SnIs f.made j m.pdu.cs → slice_get (values f) j ≡ Some v → v ≤ length e.handed
+  pub shown : (p : ℕ) (m : Made) → slice_get e.made p ≡ Some m → is_kind ConnectionRequest m.pdu.kind ≡ false → (j v : ℕ) → SnIs f.made j m.pdu.cs → slice_get (values f) j ≡ Some v → v ≤ length e.handed
   pub judged : (p : ℕ) (m : Made) → slice_get e.made p ≡ Some m → is_kind ConnectionRequest m.pdu.kind ≡ false → (e.accepted ≡ 0) ⊎ ((i : ℕ) × (i < e.accepted) × SnIs f.made i m.pdu.cs)
   -- an end that has accepted nothing and isn't over has made a connection request at most
   pub first_words : e.accepted ≡ 0 → is_closed e.phase ≡ false → (p : ℕ) (m : Made) → slice_get e.made p ≡ Some m → is_kind ConnectionRequest m.pdu.kind ≡ true
@@ -74,10 +74,10 @@ module _ (p : Parameters) (e f : EndState) (x : SafetyPdu) (clock : ℕ) (why : 
   new_shown : (a : ℕ) → e.accepted ≡ a → is_kind ConnectionRequest x.kind ≡ false → (j v : ℕ) → SnIs f.made j x.cs → slice_get (values f) j ≡ Some v → v ≤ length e.handed
   new_shown zero a k j v s g =
       let none : 0 < f.offered → ⊥ = λ l. (let z = w.ready_offer l in omega arith) in
-      let b = vf.bounded j v g in
+      let b = vf.positions.bounded j v g in
       omega (arith, none, b)
   new_shown (suc i) a k j v s g =
-      let l = h.last i a in
+      let l = h.accepts.last i a in
       let same : j ≡ i = fnum j i s.m l.m s.there l.there (s.same ∙ (cs_last i a k ∙ sym l.same)) in
       let worth_v = worth_at (values f) e.accepted i v a (subst (λ z. slice_get (values f) z ≡ Some v) same g) in
       omega (arith, hd.count, worth_v)
@@ -85,40 +85,26 @@ module _ (p : Parameters) (e f : EndState) (x : SafetyPdu) (clock : ℕ) (why : 
   new_judged : (a : ℕ) → e.accepted ≡ a → is_kind ConnectionRequest x.kind ≡ false → (e.accepted ≡ 0) ⊎ ((i : ℕ) × (i < e.accepted) × SnIs f.made i x.cs)
   new_judged zero a k = inl a
   new_judged (suc i) a k =
-      let l = h.last i a in
+      let l = h.accepts.last i a in
       inr (i, omega arith, record { m = l.m; there = l.there; same = l.same ∙ sym (cs_last i a k) })
 
   new_first : e.accepted ≡ 0 → is_closed (phase_after b.row e.phase) ≡ false → is_kind ConnectionRequest x.kind ≡ true
   new_first a c =
       first_word e.side e.phase why x.kind e.owed b.row b.how c
-      (λ n. (let z = h.connected (named_connected e.side e.phase why x.kind e.owed b.row b.how n) in omega (arith, a, z.1)))
+      (λ n. (let z = h.opening.connected (named_connected e.side e.phase why x.kind e.owed b.row b.how n) in omega (arith, a, z.1)))
 
-  old_first : Changed e.side e.phase x.kind e.owed b.row → e.accepted ≡ 0 → is_closed (phase_after b.row e.phase) ≡ false → (i : ℕ) (m : Made) → slice_get e.made i ≡ Some m → is_kind ConnectionRequest m.pdu.kind ≡ true
-  old_first (over a c d g j) z cl i m u = absurd (let y = ap is_closed a in cc)
-  old_first (opened a s c o j) z cl i m u =
+  old_first : {ph : Phase} {os : List Owed} → Changed e.side e.phase x.kind e.owed ph os → e.accepted ≡ 0 → is_closed ph ≡ false → (i : ℕ) (m : Made) → slice_get e.made i ≡ Some m → is_kind ConnectionRequest m.pdu.kind ≡ true
+  old_first (over a c d) z cl i m u = absurd (cc)
+  old_first (opened a s c) z cl i m u =
       absurd (let y = nothing_made e.side e.phase e.made a pass.open_yet in let u' : slice_get [] i ≡ Some m = subst (λ (ms : List Made). slice_get ms i ≡ Some m) y u in cc)
-  old_first (goes_on a c d g j k l) z cl i m u = w.first_words z (subst (λ (ph : Phase). is_closed ph ≡ false) a cl) i m u
+  old_first (goes_on a c d g j) z cl i m u = w.first_words z cl i m u
 
   shown_row : Shown (after_make_by (Some b.row) e x clock) f
   shown_row =
       record {
-        shown = λ i j v m g k s u. ⊎_elim
-            (λ (old : slice_get e.made i ≡ Some m). w.shown i j v m old k s u)
-            (λ (now : (i ≡ length e.made) × (new ≡ m)).
-            new_shown e.accepted refl (ap (λ (z : Made). is_kind ConnectionRequest z.pdu.kind) now.1 ∙ k) j v (record { m = s.m; there = s.there; same = s.same ∙ ap (λ (z : Made). z.pdu.cs) (sym now.1) }) u)
-            (get_push_cases e.made new i m g);
-        judged = λ i m g k. ⊎_elim
-            (λ (old : slice_get e.made i ≡ Some m). w.judged i m old k)
-            (λ (now : (i ≡ length e.made) × (new ≡ m)).
-            subst
-            (λ (z : Made). (e.accepted ≡ 0) ⊎ ((i : ℕ) × (i < e.accepted) × SnIs f.made i z.pdu.cs))
-            now.1
-            (new_judged e.accepted refl (ap (λ (z : Made). is_kind ConnectionRequest z.pdu.kind) now.1 ∙ k)))
-            (get_push_cases e.made new i m g);
-        first_words = λ a c i m g. ⊎_elim
-            (λ (old : slice_get e.made i ≡ Some m). old_first (changed e.side e.phase why x.kind e.owed b.row b.how) a c i m old)
-            (λ (now : (i ≡ length e.made) × (new ≡ m)). sym (ap (λ (z : Made). is_kind ConnectionRequest z.pdu.kind) now.1) ∙ new_first a c)
-            (get_push_cases e.made new i m g);
+        shown = all_push e.made new w.shown (λ k j v s u. new_shown e.accepted refl k j v s u);
+        judged = all_push e.made new w.judged (new_judged e.accepted refl);
+        first_words = λ a c. all_push e.made new (old_first (changed e.side e.phase why x.kind e.owed b.row b.how) a c) (new_first a c);
         ready_run = w.ready_run;
         ready_offer = w.ready_offer;
       }
@@ -149,16 +135,16 @@ module _ (e f : EndState) (x : SafetyPdu) (clock : ℕ) (why : Why) (b : MadeBy 
       (λ (r : is_connected f.phase ≡ true). w.ready_run r)
       (offers_by f.side f.phase why x.kind f.owed b.row f.offered b.how l)
 
-  f_runs : Changed f.side f.phase x.kind f.owed b.row → is_connected (phase_after b.row f.phase) ≡ true → 0 < e.accepted
-  f_runs (over a c d g j) r = absurd (let z = ap is_connected a in cc)
-  f_runs (opened a s c o j) r = absurd (let z = ap is_connected o in cc)
-  f_runs (goes_on a c d g j k l) r = w.ready_run (subst (λ (ph : Phase). is_connected ph ≡ true) a r)
+  f_runs : {ph : Phase} {os : List Owed} → Changed f.side f.phase x.kind f.owed ph os → is_connected ph ≡ true → 0 < e.accepted
+  f_runs (over a c d) r = absurd (cc)
+  f_runs (opened a s c) r = absurd (cc)
+  f_runs (goes_on a c d g j) r = w.ready_run r
 
   new_position : (a : ℕ) → e.accepted ≡ a → (i j v : ℕ) (m : Made) → slice_get e.made i ≡ Some m → is_kind ConnectionRequest m.pdu.kind ≡ false
       → SnIs after.made j m.pdu.cs → j ≡ length f.made → slice_get (values after) j ≡ Some v → v ≤ length e.handed
   new_position zero a i j v m g k s q u =
       let none : 0 < after.offered → ⊥ = λ l. (let z = f_offer l in omega arith) in
-      let b = vf'.bounded j v u in
+      let b = vf'.positions.bounded j v u in
       omega (arith, none, b)
   new_position (suc n) a i j v m g k s q u =
       ⊎_elim
@@ -175,12 +161,12 @@ module _ (e f : EndState) (x : SafetyPdu) (clock : ℕ) (why : Why) (b : MadeBy 
       let more = values_push f.asks f.made added in
       let len = length-values f.asks f.made in
       record {
-        shown = λ i j v m g k s u. ⊎_elim
+        shown = λ i m g k j v s u. ⊎_elim
             (λ (old : slice_get f.made j ≡ Some s.m).
             let l = slice_get_within f.made j s.m old in
             let u' = subst (λ vs. slice_get vs j ≡ Some v) more u in
             ⊎_elim
-            (λ (o : slice_get (values f) j ≡ Some v). w.shown i j v m g k (record { m = s.m; there = old; same = s.same }) o)
+            (λ (o : slice_get (values f) j ≡ Some v). w.shown i m g k j v (record { m = s.m; there = old; same = s.same }) o)
             (λ (z : (j ≡ length (values f)) × (_ ≡ v)). absurd (omega (arith, z.0, len, l)))
             (get_push_cases (values f) _ j v u'))
             (λ (now : (j ≡ length f.made) × (added ≡ s.m)). new_position e.accepted refl i j v m g k s now.0 u)
@@ -223,8 +209,8 @@ handed_more q e x (Some r) = by r
 
 -- a take accepts more, if anything
 accepted_more : (q : Parameters) (e : EndState) (x : SafetyPdu) (t : ℕ) (peer : List Made) → Held e t peer → (r : TakeRow) → Knows q r e x → e.accepted ≤ (effect q r e x).accepted
-accepted_more q e x t peer h Opened w = (let z = (h.down w.0).2 in omega (arith, z))
-accepted_more q e x t peer h Answered w = (let z = h.starting w.0 w.1 in omega (arith, z))
+accepted_more q e x t peer h Opened w = (let z = (h.opening.down w.0).2 in omega (arith, z))
+accepted_more q e x t peer h Answered w = (let z = h.opening.starting w.0 w.1 in omega (arith, z))
 accepted_more q e x t peer h FirstHeartbeat w = omega arith
 accepted_more q e x t peer h InSequence w = (let z = accepted_if (carries_unit x.kind) e.accepted (enter Up (accept q e x)) x in omega (arith, z))
 accepted_more q e x t peer h ResentInSequence w = (let z = accepted_if (carries_unit x.kind) e.accepted (accept q e x) x in omega (arith, z))
@@ -239,7 +225,7 @@ module _ (q : Parameters) (e f : EndState) (x : SafetyPdu) (t : ℕ) (h : Held e
       let more = accepted_more q e x t f.made h r (row_known q e x r is) in
       let back : (i : ℕ) (m : Made) → slice_get (effect q r e x).made i ≡ Some m → slice_get e.made i ≡ Some m = λ i m g. subst (λ (ms : List Made). slice_get ms i ≡ Some m) made g in
       record {
-        shown = λ i j v m g k s u. (let z = w.shown i j v m (back i m g) k s u in omega (arith, z, handed_more q e x (Some r)));
+        shown = λ i m g k j v s u. (let z = w.shown i m (back i m g) k j v s u in omega (arith, z, handed_more q e x (Some r)));
         judged = λ i m g k. ⊎_elim
             (λ (z : e.accepted ≡ 0). absurd (let y = w.first_words z (not_closed q e x r is) i m (back i m g) in cc))
             (λ (z : (o : ℕ) × (o < e.accepted) × SnIs f.made o m.pdu.cs). inr (z.0, omega (arith, z.1, more), z.2))
@@ -256,7 +242,7 @@ module _ (q : Parameters) (e f : EndState) (x : SafetyPdu) (t : ℕ) (h : Held e
 
 module _ (q : Parameters) (e f : EndState) (t : ℕ) (m : Made) (p : ℕ) (h : Held e t f.made) (there : slice_get e.made p ≡ Some m) (same_values : values (after_take q f m.pdu) ≡ values f) (w : Shown e f) where
   by_name : is_named m.pdu.kind ≡ true → 0 < e.accepted
-  by_name k = (let r = h.named p m there k in omega (arith, r.1))
+  by_name k = (let r = h.accepts.named p m there k in omega (arith, r.1))
 
   run_by : (r : TakeRow) → Knows q r f m.pdu → is_connected (effect q r f m.pdu).phase ≡ true → 0 < e.accepted
   run_by Opened x r = absurd (cc)
@@ -276,8 +262,8 @@ module _ (q : Parameters) (e f : EndState) (t : ℕ) (m : Made) (p : ℕ) (h : H
   shown_peer_take =
       let alone = take_leaves q f m.pdu in
       record {
-        shown = λ i j v n g k s u.
-            w.shown i j v n g k
+        shown = λ i n g k j v s u.
+            w.shown i n g k j v
             (record { m = s.m; there = subst (λ (ms : List Made). slice_get ms j ≡ Some s.m) alone.made s.there; same = s.same })
             (subst (λ vs. slice_get vs j ≡ Some v) same_values u);
         judged = λ i n g k. ⊎_elim

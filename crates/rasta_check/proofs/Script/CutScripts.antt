@@ -120,7 +120,7 @@ module _ (p : Parameters) (s : Side) (e f : EndState) (t u : ℕ) (own : List Fi
       let row = opens m.e.side m.e.phase m.why m.e.owed b.row (subst (λ (z : Kind). Making m.e.side m.e.phase m.why z m.e.owed b.row) q b.how) in
       let es : e.side ≡ Client = ap (λ (z : EndState). z.side) after ∙ row.0 in
       let ph : e.phase ≡ Start = ap (λ (z : EndState). z.phase) after ∙ row.1 in
-      absurd (let z = h.starting es ph in omega arith)
+      absurd (let z = h.opening.starting es ph in omega arith)
     where
       opens : (s : Side) (ph : Phase) (y : Why) (os : List Owed) (row : MakeRow) → Making s ph y ConnectionRequest os row → (s ≡ Client) × (phase_after row ph ≡ Start)
       opens s ph y os row opening = (refl, refl)
@@ -142,7 +142,7 @@ module _ (p : Parameters) (s : Side) (e f : EndState) (t u : ℕ) (own : List Fi
       let k : is_kind ConnectionRequest x.kind ≡ false = no_opening m x.kind refl (omega arith) in
       let cs : x.cs ≡ m.e.last_sn = (cs_is m.e x.kind x.cs (judged_after m.e x.kind i acc k) ok.cs).1 in
       let cs' : x.cs ≡ e.last_sn = cs ∙ sym (ap (λ (z : EndState). z.last_sn) after) in
-      let l = h.last i a in
+      let l = h.accepts.last i a in
       let at : position_with (pdus_made f.made) x.cs ≡ Some i = named_position f.made i x.cs once (record { m = l.m; there = l.there; same = l.same ∙ sym cs' }) in
       let at' : position_with M x.cs ≡ Some i = ap (λ (ms : List SafetyPdu). position_with ms x.cs) (sym told_f) ∙ at in
       let v : units_shown M (pdus_of own) x ≡ units_at (values f) (Some i) = ap (λ b. if b then 0 else units_at (units_along M (pdus_of own)) (position_with M x.cs)) k

@@ -1,5 +1,5 @@
 -- What a PDU shows was handed up before it crossed.
-use Rattle.std.proofs.Common.{◌≡◌, ℕ, zero, suc, ◌+◌, ◌<◌, ◌≤◌, Bool, true, false, List, [], ◌∷◌, ◌++◌, length, Some, slice_get, refl, ap, sym, ◌∙◌, arith, ⊎_elim, subst}
+use Rattle.std.proofs.Common.{◌≡◌, ℕ, zero, suc, ◌+◌, ◌<◌, ◌≤◌, Bool, true, false, List, [], ◌∷◌, length, Some, slice_get, refl, ap, sym, ◌∙◌, arith, ⊎_elim, subst}
 use Rattle.std.specs.Prelude.{slice_index_or, is_some, not, ◌&&◌, ◌||◌}
 use Rattle.std.proofs.lemmas.Option.{slice_get_within}
 use Rattle.rasta_pcap.specs.declared.fault.Side.{Side}
@@ -49,16 +49,16 @@ module _ (e0 f0 e f : EndState) (t : ℕ) (w0 : Shown e0 f0) (w : Shown e f) (g 
 
   in_time_at : is_kind ConnectionRequest m.pdu.kind ≡ false → (c v : ℕ) → SnIs f.made c m.pdu.cs → slice_get (values f) c ≡ Some v → v ≤ length e0.handed
   in_time_at k c v s h = ⊎_elim
-      (λ (a : e0.accepted ≡ 0). (let z = unheard k a (is_closed e0.phase) refl in let b = vf.bounded c v h in omega arith))
+      (λ (a : e0.accepted ≡ 0). (let z = unheard k a (is_closed e0.phase) refl in let b = vf.positions.bounded c v h in omega arith))
       (λ (z : (i : ℕ) × (i < e0.accepted) × SnIs f0.made i m.pdu.cs).
       let old = z.2 in
-      let same : c ≡ z.0 = numbered_once f.made few g.numbered c z.0 s.m old.m s.there (gf.made z.0 old.m old.there) (s.same ∙ sym old.same) in
+      let same : c ≡ z.0 = numbered_once f.made few g.list.numbered c z.0 s.m old.m s.there (gf.made z.0 old.m old.there) (s.same ∙ sym old.same) in
       let l = slice_get_within f0.made z.0 old.m old.there in
       let len = length-values f0.asks f0.made in
       let at : slice_get (values f0) z.0 ≡ Some (slice_index_or (values f0) z.0 0) = get_within (values f0) z.0 (omega arith) in
       let now = gf.kept z.0 _ at in
       let eq : slice_index_or (values f0) z.0 0 ≡ v = (let h' : slice_get (values f) z.0 ≡ Some v = subst (λ j. slice_get (values f) j ≡ Some v) same h in cc) in
-      let low = w0.shown q z.0 (slice_index_or (values f0) z.0 0) m there k old at in
+      let low = w0.shown q m there k z.0 (slice_index_or (values f0) z.0 0) old at in
       omega (arith, low, eq))
       (w0.judged q m there k)
 

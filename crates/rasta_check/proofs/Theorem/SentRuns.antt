@@ -53,7 +53,7 @@ module _ (p : Parameters) (ws : List World) (w : World) (side : Side) (own peer 
       subst (λ (o : List FirstCopy). Sends p (other_side side) w.crossed o f (station_of w (other_side side)).first_number) g.2 g.0.their_sends in
       let within : IsWithin p w = both_within p w side (within_by p w side own sends few) (within_by p w (other_side side) peer their_sends few_theirs) in
       let all = all_held p ws w side r within in
-      let once = numbered_once e.made (few_made p w within side) all.mine.numbered in
+      let once = numbered_once e.made (few_made p w within side) all.mine.list.numbered in
       record {
         within = within;
         all = all;

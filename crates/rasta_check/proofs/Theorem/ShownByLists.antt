@@ -79,7 +79,7 @@ module _ (e f : EndState) (t u : ℕ) (h : Held e t f.made) (peer : Held f u e.m
       let all : asked_positions (pdus_made e.made) ps ≡ asked_positions (pdus_made e.made) (pdus_made f.made) =
       sym (ap (asked_positions (pdus_made e.made)) made ∙ (asked-append (pdus_made e.made) first ps ∙ ap (λ ns. ns ++ asked_positions (pdus_made e.made) ps) none)) in
       ap (λ asks. all_units_conveyed asks (map (λ (x : SafetyPdu). x.kind) (pdus_made e.made))) (all ∙ b.1)
-      ∙ (ap (all_units_conveyed (e.asks ++ b.0)) (kinds_of e.made) ∙ more_asks e.asks b.0 (kinds e.made) (omega (arith, answers_number e.made, h.asked)))
+      ∙ (ap (all_units_conveyed (e.asks ++ b.0)) (kinds_of e.made) ∙ more_asks e.asks b.0 (kinds e.made) (omega (arith, answers_number e.made, h.asks.asked)))
 
   shown_by : (s : Shown f e) (i : ℕ) (m : Made) → slice_get f.made i ≡ Some m → is_kind ConnectionRequest m.pdu.kind ≡ false
       → (o : Option ℕ) → position_with (pdus_made e.made) m.pdu.cs ≡ o → units_at (values e) o ≤ length f.handed
@@ -87,7 +87,7 @@ module _ (e f : EndState) (t u : ℕ) (h : Held e t f.made) (peer : Held f u e.m
   shown_by s i m g k (Some c) is =
       let at = found_position e.made m.pdu.cs c is in
       let l = slice_get_within e.made c at.m at.there in
-      s.shown i c _ m g k at (get_within (values e) c (omega (arith, l, length-values e.asks e.made)))
+      s.shown i m g k c _ at (get_within (values e) c (omega (arith, l, length-values e.asks e.made)))
 
   -- a PDU of f shows no more units than f has handed up
   pub shows_handed : Shown f e → (i : ℕ) (x : SafetyPdu) → slice_get ps i ≡ Some x → units_shown (pdus_made e.made) ps x ≤ length f.handed

@@ -36,7 +36,7 @@ not_opening p e x clock why t i peer pass h a false b = b
 not_opening p e x clock why t i peer pass h a true b =
     let by = made_by p e x clock why pass in
     let o = opening_is e.side e.phase why x.kind e.owed by.row by.how b in
-    let none = h.unmade o.0 (nothing_made e.side e.phase e.made o.1 pass.open_yet) in
+    let none = h.opening.unmade o.0 (nothing_made e.side e.phase e.made o.1 pass.open_yet) in
     absurd (omega (arith, a, none.0))
 
 judged_by : (opens leaves none more : Bool) → opens ≡ false → none ≡ false → (not opens && not (leaves && (none && more))) ≡ true
@@ -50,11 +50,11 @@ confirms p e peer t h once x clock why after i mk a =
     let opens = not_opening p e x clock why t i peer.made pass h a (is_kind ConnectionRequest x.kind) refl in
     let judged : is_judged e x.kind ≡ true = judged_by (is_kind ConnectionRequest x.kind) (is_kind DisconnectionRequest x.kind) (e.accepted == 0) (is_client e.side && is_start e.phase) opens (grind (arith, nat_tests, a)) in
     let cs = (cs_is e x.kind x.cs judged pass.cs).1 in
-    let last = h.last i a in
+    let last = h.accepts.last i a in
     ((last.m, last.there, last.same ∙ sym cs), λ j n there same. once j i n last.m there last.there (same ∙ (cs ∙ sym last.same)))
 
 pub returns : goal.returns
 returns c p ws w side r within =
     let g = all_held p ws w side r within in
     let peer = end_of w (other_side side) in
-    confirms p (end_of w side) peer (station_of w side).taken g.mine (numbered_once peer.made (few_made p w within (other_side side)) g.theirs.numbered)
+    confirms p (end_of w side) peer (station_of w side).taken g.mine (numbered_once peer.made (few_made p w within (other_side side)) g.theirs.list.numbered)

@@ -3,8 +3,7 @@ use Rattle.rasta_end.specs.Units.{last_of}
 use Rattle.rasta_check.specs.Model.World.{end_of, other_side}
 use Rattle.rasta_check.specs.Model.Laws.{ConveysAll}
 use Rattle.rasta_check.proofs.Model.ConveyedUnits.{values, jump}
-use Rattle.rasta_check.proofs.Model.OfferedUnits.{Valued}
-use Rattle.rasta_check.proofs.Model.OfferedUnitsAtTake.{bare_rest}
+use Rattle.rasta_check.proofs.Model.OfferedUnits.{Valued, bare_rest}
 use Rattle.rasta_check.proofs.Model.InvariantOfRuns.{all_held}
 use Rattle.rasta_check.proofs.laws.units.Goals as goal
 
