@@ -8,6 +8,5 @@ mod shown_packet;
 mod texts;
 
 pub use messages::write_message;
-pub use rasta_line::Line;
 pub use show::{is_refusal, run_show, write_refusal};
 pub use texts::{end_name, refusal_line};

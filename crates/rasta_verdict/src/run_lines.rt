@@ -4,8 +4,9 @@ ghost use Rattle.rasta_verdict.specs.RunText.{copy_line, make_line, take_line};
 
 use rasta_cert::begin_with_why;
 use rasta_end::Why;
+use rasta_line::Line;
 use rasta_pdu::Side;
-use rasta_show::{Line, end_name};
+use rasta_show::end_name;
 
 /// When and why an end made a packet.
 #[derive(Clone, Copy, Debug)]
