@@ -42,7 +42,7 @@ class Room:
         self.crate, self.module, self.imports, self.blocks = crate, module, {}, {}
         current = None
         for line in without_comments(path.read_text(), "--"):
-            imported = IMPORT.match(line)
+            imported = IMPORT.match(line.removeprefix("pub "))
             if line.startswith(("use ", "pub use ")):
                 if imported:
                     self.take(imported)
@@ -141,6 +141,9 @@ class Library:
             return Definition(crate, path, f"model of {name}", "\n".join(body), len(body)), self.cited("\n".join(body), room)
         _, crate, module, name = key
         room = self.rooms.get((crate, module))
+        if room and name not in room.blocks and name in room.imports:  # a name that the file hands on
+            at, inside, original = room.imports[name]
+            return self.definition(("spec", at, inside, original or name)) if not inside.startswith("declared") else None
         if not room or name not in room.blocks:
             return None
         found = []
@@ -217,7 +220,7 @@ def closure(library, keys):
             told = library.definition(key)
             found[key] = told and told[0]
             waiting += told[1] if told else []
-    return [it for it in found.values() if it]
+    return list({(it.crate, it.file, it.name): it for it in found.values() if it}.values())
 
 
 def keys_of(library, asked):

@@ -2,6 +2,7 @@
 use Rattle.std.proofs.Common.{◌≡◌, ℕ, zero, suc, ◌+◌, ◌-◌, ◌*◌, ◌%◌, ◌/◌, ◌^◌, ◌<◌, ◌≤◌, ◌⊎◌, Bool, true, false, List, [], ◌∷◌, length, Option, Some, None, refl, ap, sym, ◌∙◌, arith, inl, inr, subst, ⊎_elim}
 use Rattle.std.specs.Prelude.{nat_lt, nat_le, not, ◌&&◌, ◌==◌}
 use Rattle.std.proofs.lemmas.Bool.Decides.{nat_tests}
+use Rattle.std.specs.Bool.{then_some}
 use Rattle.rasta_pcap.specs.declared.fault.Side.{Side}
 use Rattle.rasta_pcap.specs.Fault.{closed, not_allowed, reply_owed, sequence_number, clock_differs, clock_falls, past_deadline, too_early_timeout, confirmed_number, confirmed_time, resend_differs}
 use Rattle.rasta_pdu.specs.Params.{Parameters}
@@ -16,7 +17,7 @@ use Rattle.rasta_end.specs.declared.make_row.MakeRow.{MakeRow}
 use Rattle.rasta_end.specs.declared.make_row.MakeRow.TheVariants.{Leaves, TimesOut}
 use Rattle.rasta_end.specs.State.{Made, EndState, wrapped, ahead_by, is_active, reason_of, content_of}
 use Rattle.rasta_end.specs.Starts.{start_of}
-use Rattle.rasta_end.specs.MakeRule.{first_that_holds, make_fault, has_ended, row_of, row_where, make_row, is_refused_row, is_owing_else, is_next_sn, is_judged, confirms_last, confirms_a_time, differs, is_past, is_early, is_expired, after_make, after_make_by, offered_after, owed_after}
+use Rattle.rasta_end.specs.MakeRule.{first_that_holds, make_fault, has_ended, row_of, make_row, is_refused_row, is_owing_else, is_next_sn, is_judged, confirms_last, confirms_a_time, differs, is_past, is_early, is_expired, after_make, after_make_by, offered_after, owed_after}
 use Rattle.rasta_end.proofs.MakeTests.{no_test}
 use Rattle.rasta_check.proofs.Model.PassedTests.{Passed, passed}
 use Rattle.rasta_check.proofs.Model.MakeRows.{Making, opening, response, first_beat, answer, again, ask, beat, fresh, bye, expired, MadeBy, made_by, after_row}
@@ -62,7 +63,7 @@ why_is x e trail s ph why k os row (fresh c) h t b r = refl
 why_is x e trail s ph why k os row (bye c) h t b r = rw r refl
 why_is x e trail s ph why k os row (expired c) h t b r = rw r refl
 
-second : (a b : Bool) (row : MakeRow) (os : List Owed) → is_refused_row (row_where (a && b) row) os ≡ false → b ≡ true
+second : (a b : Bool) (row : MakeRow) (os : List Owed) → is_refused_row (then_some (a && b) row) os ≡ false → b ≡ true
 second true true row os h = refl
 second true false row os h = absurd (cc)
 second false b row os h = absurd (cc)

@@ -20,11 +20,9 @@ impl Peer {
     pub(crate) fn of(params: &Params, side: Side) -> Peer
         ensures { result.quiet_sn ≡ peer_quiet_sn params.now.quiet side }
     {
-        let quiet_sn = match (params.quiet(), side) {
-            (None, _) => None,
-            (Some(quiet), Side::Client) => Some(quiet.server.next_sn.wrapping_sub(1)),
-            (Some(quiet), Side::Server) => Some(quiet.client.next_sn.wrapping_sub(1)),
-        };
+        let quiet_sn = params
+            .quiet()
+            .map(|quiet| quiet.of(side.other()).next_sn.wrapping_sub(1));
         Peer { quiet_sn }
     }
 

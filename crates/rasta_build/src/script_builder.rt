@@ -108,10 +108,9 @@ impl<'a> ScriptBuilder<'a> {
     pub(crate) fn new(alloc: Global, params: &Params, side: Side) -> ScriptBuilder<'a>
         ensures { result ≡ built_at_start params.now side }
     {
-        let (clock, next_take) = match (params.quiet(), side) {
-            (Some(quiet), Side::Client) => (quiet.client.clock, 1),
-            (Some(quiet), Side::Server) => (quiet.server.clock, 1),
-            (None, _) => (0, 0),
+        let (clock, next_take) = match params.quiet() {
+            Some(quiet) => (quiet.of(side).clock, 1),
+            None => (0, 0),
         };
         ScriptBuilder {
             side,
@@ -530,10 +529,9 @@ impl<'a> ScriptBuilder<'a> {
         requires { self.now.end.params ≡ params.now }
         ensures { result ≡ Explaining.earliest_timeout self.now }
     {
-        let deadline = match (params.quiet(), self.side) {
-            (Some(quiet), Side::Client) => quiet.client.deadline,
-            (Some(quiet), Side::Server) => quiet.server.deadline,
-            (None, _) => None,
+        let deadline = match params.quiet() {
+            Some(quiet) => quiet.of(self.side).deadline,
+            None => None,
         };
         match deadline {
             Some(deadline) => deadline.saturating_sub(u64::from(params.slack())),

@@ -18,123 +18,10 @@ use Rattle.rasta_end.specs.declared.why.Why.TheVariants.{Open, Reply, Beat, Fres
 use Rattle.rasta_cert.specs.declared.entry.Entry.{Entry}
 use Rattle.rasta_cert.specs.declared.entry.Entry.TheVariants.{Take, Make}
 use Rattle.rasta_cert.specs.Certificate.{IsEntry, IsReason, entry_line, line, why_line}
-use Rattle.rasta_cert.specs.Fields.{again_of, and_then, cut, entry_of, make_of, most_32, most_64, number_of, or_else, take_of, why_of, word_of}
-use Rattle.rasta_cert.proofs.Numbers.{number_of-Some, number_of-decimal}
-
--- the byte stands nowhere in the text
-pub record Lacks (byte : ℕ) (text : List ℕ) : Type 0 where
-  pub at : (k : ℕ) → k < length text → nat_eq (get_or text k 0) byte ≡ false
-
--- a number's text has digits alone
-pub Lacks-decimal : (byte n : ℕ) → n < 2 ^ 64 → (byte < 48) ⊎ (57 < byte) → Lacks byte (decimal n)
-Lacks-decimal byte n small other = record {
-  at = λ k below.
-      let range = digit_at (decimal n) k (decimal_is_IsNumeral n small).0.1 below in
-      elim other [ inl h ↦ grind (arith, nat_tests) | inr h ↦ grind (arith, nat_tests) ];
-}
-
-pub Lacks-append : (byte : ℕ) (xs ys : List ℕ) → Lacks byte xs → Lacks byte ys → Lacks byte (xs ++ ys)
-Lacks-append byte xs ys a b = record {
-  at = λ k below. elim (cases_lt k (length xs)) [
-    | inl h ↦ ap (λ (c : ℕ). nat_eq c byte) (get_or-append xs ys 0 k h) ∙ a.at k h
-    | inr h ↦
-        let long : length (xs ++ ys) ≡ length xs + length ys = length-append xs ys in
-        ap (λ (c : ℕ). nat_eq c byte) (get_or-append_right xs ys k 0 (omega arith)) ∙ b.at (k - length xs) (omega arith)
-  ];
-}
-
-pub Lacks-none : (byte : ℕ) → Lacks byte []
-Lacks-none byte = record { at = λ k below. absurd (let h : k < 0 = below in omega arith) }
-
-pub Lacks-cons : (byte c : ℕ) (cs : List ℕ) → nat_eq c byte ≡ false → Lacks byte cs → Lacks byte (c ∷ cs)
-Lacks-cons byte c cs head tail = Lacks-append byte (c ∷ []) cs one tail
-  where
-    one : Lacks byte (c ∷ [])
-    one = record { at = λ k below. let first : k ≡ 0 = omega arith in rw first head }
-
--- by a test that computes
-pub Lacks-word : (byte : ℕ) (text : List ℕ) → list_all (λ c. not (nat_eq c byte)) text ≡ true → Lacks byte text
-Lacks-word byte [] h = Lacks-none byte
-Lacks-word byte (c ∷ cs) h =
-    let both = and_parts (not (nat_eq c byte)) (list_all (λ d. not (nat_eq d byte)) cs) h in
-    Lacks-cons byte c cs (not_true (nat_eq c byte) both.0) (Lacks-word byte cs both.1)
-  where
-    not_true : (b : Bool) → not b ≡ true → b ≡ false
-    not_true true e = sym e
-    not_true false e = refl
-
--- a text is cut around the first separator
-pub cut-first : (byte : ℕ) (xs ys : List ℕ) → Lacks byte xs → cut byte (xs ++ byte ∷ ys) ≡ Some (xs, ys)
-unfolding cut
-cut-first byte xs ys lacks =
-    let all = xs ++ byte ∷ ys in
-    let p : ℕ → Bool = λ b. nat_eq b byte in
-    let long : length all ≡ length xs + length (byte ∷ ys) = length-append xs (byte ∷ ys) in
-    let same : nat_eq byte byte ≡ true = grind (arith, nat_tests) in
-    let at : position_or_len p all ≡ length xs = position_or_len_is p all (length xs) 0 (omega arith)
-    (λ k below. ap (λ (c : ℕ). nat_eq c byte) (get_or-append xs (byte ∷ ys) 0 k below) ∙ lacks.at k below)
-    (λ h. ap (λ (c : ℕ). nat_eq c byte) (get_or-append_seam xs byte ys 0) ∙ same) in
-    let within : nat_lt (length xs) (length all) ≡ true = grind (arith, nat_tests) in
-    let rest : drop (length xs + 1) all ≡ ys = sym (drop-drop 1 (length xs) all) ∙ ap (drop 1) (drop-append_seam xs (byte ∷ ys)) in
-    ap (λ (n : ℕ). cond (nat_lt n (length all)) (Some (take n all, drop (n + 1) all)) None) at
-    ∙ ap (λ (b : Bool). cond b (Some (take (length xs) all, drop (length xs + 1) all)) None) within
-    ∙ ap (λ (l : List ℕ). Some (l, drop (length xs + 1) all)) (take-append_seam xs (byte ∷ ys))
-    ∙ ap (λ (l : List ℕ). Some (xs, l)) rest
-
--- a step that gave a value
-pub record Gave {A B : Type 0} (o : Option A) (f : A → Option B) (y : B) : Type 0 where
-  pub value : A
-  pub is : o ≡ Some value
-  pub then_is : f value ≡ Some y
-
-pub gave : {A B : Type 0} (o : Option A) (f : A → Option B) (y : B) → and_then o f ≡ Some y → Gave o f y
-gave None f y h = absurd (cc)
-gave (Some x) f y h = record { value = x; is = refl; then_is = h }
-
-pub chosen : {A : Type 0} (b : Bool) (x y : A) → cond b (Some x) None ≡ Some y → (b ≡ true) × (x ≡ y)
-chosen true x y h = (refl, cc)
-chosen false x y h = absurd (cc)
-
--- no separator stands before the first
-Lacks-before_first : (byte : ℕ) (text : List ℕ) → Lacks byte (before_first (λ b. nat_eq b byte) text)
-Lacks-before_first byte text = record {
-  at = λ k below.
-      let p : ℕ → Bool = λ b. nat_eq b byte in
-      let n = position_or_len p text in
-      let few : n ≤ length text = prefix_len-le-length (λ b. not (p b)) text in
-      let long : length (take n text) ≡ n = length-take-le n text few in
-      let inside : k < n = omega (arith, below, long) in
-      ap p (get_or-take n text k 0 inside) ∙ fails_before_first p text k 0 inside;
-}
-
--- the parts of a text stand around the first separator
-pub cut-Some : (byte : ℕ) (text : List ℕ) (parts : List ℕ × List ℕ) → cut byte text ≡ Some parts
-    → (text ≡ parts.0 ++ byte ∷ parts.1) × Lacks byte parts.0
-unfolding cut
-cut-Some byte text parts h =
-    let p : ℕ → Bool = λ b. nat_eq b byte in
-    let c = chosen _ (before_first p text, after_first p text) parts h in
-    let test : nat_lt (position_or_len p text) (length text) ≡ true = c.0 in
-    let within : position_or_len p text < length text = grind (arith, nat_tests) in
-    let here : get_or text (position_or_len p text) 0 ≡ byte = eqb-true _ _ (passes_at_first p text 0 within) in
-    let front : before_first p text ≡ parts.0 = ap (λ (q : List ℕ × List ℕ). q.0) c.1 in (
-      split_at_first p text 0 within
-          ∙ ap (λ (n : ℕ). before_first p text ++ (n ∷ after_first p text)) here
-          ∙ ap (λ (q : List ℕ × List ℕ). q.0 ++ byte ∷ q.1) c.1,
-      subst (Lacks byte) front (Lacks-before_first byte text),
-    )
-
-neither : {A : Type 0} (b : Bool) (x : A) → cond b (Some x) None ≡ None → b ≡ false
-neither true x h = absurd (let e : Some x ≡ None = h in cc)
-neither false x h = refl
-
--- a text that isn't cut has no separator
-pub cut-None : (byte : ℕ) (text : List ℕ) → cut byte text ≡ None → Lacks byte text
-unfolding cut
-cut-None byte text h =
-    let p : ℕ → Bool = λ b. nat_eq b byte in
-    let test : nat_lt (position_or_len p text) (length text) ≡ false = neither _ (before_first p text, after_first p text) h in
-    record { at = λ k below. let inside : k < position_or_len p text = grind (arith, nat_tests) in fails_before_first p text k 0 inside }
+use Rattle.rasta_line.specs.Words.{and_then, cut, decimal_of}
+use Rattle.rasta_line.proofs.Numbers.{decimal_of-Some, decimal_of-decimal}
+use Rattle.rasta_line.proofs.Cuts.{Lacks, Lacks-decimal, Lacks-word, cut-Some, cut-first, gave}
+use Rattle.rasta_cert.specs.Fields.{again_of, entry_of, make_of, most_32, most_64, or_else, take_of, why_of, word_of}
 
 -- the words of a reason
 abbrev pub why_words : Why → List ℕ
@@ -181,17 +68,17 @@ Parts = List ℕ × List ℕ
 take_of-words : (slot number : ℕ) → slot < 2 ^ 32 → number < 2 ^ 32 → take_of (decimal slot ++ (32 ∷ decimal number)) ≡ Some (Take slot number)
 unfolding take_of
 take_of-words slot number hs hn =
-    let after : Parts → Option Entry = λ fields. and_then (number_of most_32 fields.0) (λ s. and_then (number_of most_32 fields.1) (λ n. Some (Take s n))) in
+    let after : Parts → Option Entry = λ fields. and_then (decimal_of most_32 fields.0) (λ s. and_then (decimal_of most_32 fields.1) (λ n. Some (Take s n))) in
     ap (λ (o : Option Parts). and_then o after) (cut-first 32 (decimal slot) (decimal number) (no_space slot (omega arith)))
-    ∙ ap (λ (o : Option ℕ). and_then o (λ s. and_then (number_of most_32 (decimal number)) (λ n. Some (Take s n)))) (number_of-decimal most_32 slot (decimal slot) (omega arith) (omega arith) refl)
-    ∙ ap (λ (o : Option ℕ). and_then o (λ n. Some (Take slot n))) (number_of-decimal most_32 number (decimal number) (omega arith) (omega arith) refl)
+    ∙ ap (λ (o : Option ℕ). and_then o (λ s. and_then (decimal_of most_32 (decimal number)) (λ n. Some (Take s n)))) (decimal_of-decimal most_32 slot (decimal slot) (omega arith) (omega arith) refl)
+    ∙ ap (λ (o : Option ℕ). and_then o (λ n. Some (Take slot n))) (decimal_of-decimal most_32 number (decimal number) (omega arith) (omega arith) refl)
 
 again_of-words : (unit : ℕ) → unit < 2 ^ 32 → again_of (codes "again" ++ (32 ∷ decimal unit)) ≡ Some (Again unit)
 unfolding again_of
 again_of-words unit h =
-    let after : Parts → Option Why = λ fields. cond (bytes_eq fields.0 (codes "again")) (and_then (number_of most_32 fields.1) (λ u. Some (Again u))) None in
+    let after : Parts → Option Why = λ fields. cond (bytes_eq fields.0 (codes "again")) (and_then (decimal_of most_32 fields.1) (λ u. Some (Again u))) None in
     ap (λ (o : Option Parts). and_then o after) (cut-first 32 (codes "again") (decimal unit) (Lacks-word 32 (codes "again") refl))
-    ∙ ap (λ (o : Option ℕ). and_then o (λ u. Some (Again u))) (number_of-decimal most_32 unit (decimal unit) (omega arith) (omega arith) refl)
+    ∙ ap (λ (o : Option ℕ). and_then o (λ u. Some (Again u))) (decimal_of-decimal most_32 unit (decimal unit) (omega arith) (omega arith) refl)
 
 why_of-words : (why : Why) → IsReason why → why_of (why_words why) ≡ Some why
 unfolding why_of word_of
@@ -206,12 +93,12 @@ make_of-words index clock why hi hc hw =
     let I = decimal index in
     let C = decimal clock in
     let made : ℕ → ℕ → Why → Option Entry = λ i c w. Some (Make i c w) in
-    let last : ℕ → Parts → Option Entry = λ i second. and_then (number_of most_64 second.0) (λ c. and_then (why_of second.1) (made i c)) in
-    ap (λ (o : Option Parts). and_then o (λ first. and_then (cut 32 first.1) (λ second. and_then (number_of most_32 first.0) (λ i. last i second))))
+    let last : ℕ → Parts → Option Entry = λ i second. and_then (decimal_of most_64 second.0) (λ c. and_then (why_of second.1) (made i c)) in
+    ap (λ (o : Option Parts). and_then o (λ first. and_then (cut 32 first.1) (λ second. and_then (decimal_of most_32 first.0) (λ i. last i second))))
     (cut-first 32 I (C ++ (32 ∷ W)) (no_space index (omega arith)))
-    ∙ ap (λ (o : Option Parts). and_then o (λ second. and_then (number_of most_32 I) (λ i. last i second))) (cut-first 32 C W (no_space clock hc))
-    ∙ ap (λ (o : Option ℕ). and_then o (λ i. last i (C, W))) (number_of-decimal most_32 index I (omega arith) (omega arith) refl)
-    ∙ ap (λ (o : Option ℕ). and_then o (λ c. and_then (why_of W) (made index c))) (number_of-decimal most_64 clock C (omega arith) (omega arith) refl)
+    ∙ ap (λ (o : Option Parts). and_then o (λ second. and_then (decimal_of most_32 I) (λ i. last i second))) (cut-first 32 C W (no_space clock hc))
+    ∙ ap (λ (o : Option ℕ). and_then o (λ i. last i (C, W))) (decimal_of-decimal most_32 index I (omega arith) (omega arith) refl)
+    ∙ ap (λ (o : Option ℕ). and_then o (λ c. and_then (why_of W) (made index c))) (decimal_of-decimal most_64 clock C (omega arith) (omega arith) refl)
     ∙ ap (λ (o : Option Why). and_then o (made index clock)) (why_of-words why hw)
 
 -- the words of an entry are read as that entry
@@ -263,8 +150,8 @@ again_of-Some text why h =
     let fields = gave (cut 32 text) _ why h in
     let split = cut-Some 32 text fields.value fields.is in
     let word = branch (bytes_eq fields.value.0 (codes "again")) _ why fields.then_is in
-    let unit = gave (number_of most_32 fields.value.1) _ why word.1 in
-    let n = number_of-Some most_32 unit.value fields.value.1 unit.is in
+    let unit = gave (decimal_of most_32 fields.value.1) _ why word.1 in
+    let n = decimal_of-Some most_32 unit.value fields.value.1 unit.is in
     let is : Again unit.value ≡ why = cc in
     let small : unit.value ≤ 4294967295 = n.1 in
     subst (IsWhy text) is record {
@@ -295,10 +182,10 @@ take_of-Some : (text : List ℕ) (e : Entry) → take_of text ≡ Some e → Has
 unfolding take_of
 take_of-Some text e h =
     let fields = gave (cut 32 text) _ e h in
-    let slot = gave (number_of most_32 fields.value.0) _ e fields.then_is in
-    let number = gave (number_of most_32 fields.value.1) _ e slot.then_is in
-    let s = number_of-Some most_32 slot.value fields.value.0 slot.is in
-    let n = number_of-Some most_32 number.value fields.value.1 number.is in
+    let slot = gave (decimal_of most_32 fields.value.0) _ e fields.then_is in
+    let number = gave (decimal_of most_32 fields.value.1) _ e slot.then_is in
+    let s = decimal_of-Some most_32 slot.value fields.value.0 slot.is in
+    let n = decimal_of-Some most_32 number.value fields.value.1 number.is in
     let is : Take slot.value number.value ≡ e = cc in
     let fits_s : slot.value ≤ 4294967295 = s.1 in
     let fits_n : number.value ≤ 4294967295 = n.1 in
@@ -316,11 +203,11 @@ unfolding make_of
 make_of-Some text e h =
     let one = gave (cut 32 text) _ e h in
     let two = gave (cut 32 one.value.1) _ e one.then_is in
-    let index = gave (number_of most_32 one.value.0) _ e two.then_is in
-    let clock = gave (number_of most_64 two.value.0) _ e index.then_is in
+    let index = gave (decimal_of most_32 one.value.0) _ e two.then_is in
+    let clock = gave (decimal_of most_64 two.value.0) _ e index.then_is in
     let why = gave (why_of two.value.1) _ e clock.then_is in
-    let i = number_of-Some most_32 index.value one.value.0 index.is in
-    let c = number_of-Some most_64 clock.value two.value.0 clock.is in
+    let i = decimal_of-Some most_32 index.value one.value.0 index.is in
+    let c = decimal_of-Some most_64 clock.value two.value.0 clock.is in
     let w = why_of-Some two.value.1 why.value why.is in
     let is : Make index.value clock.value why.value ≡ e = cc in
     let fits_i : index.value ≤ 4294967295 = i.1 in

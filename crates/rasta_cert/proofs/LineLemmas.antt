@@ -12,8 +12,9 @@ use Rattle.rasta_cert.specs.declared.entry.Entry.{Entry}
 use Rattle.rasta_cert.specs.declared.entry.Entry.TheVariants.{Take, Make}
 use Rattle.rasta_cert.specs.Certificate.{AreEntries, AreScripts, IsEntry, IsReason, Scripts, entry_line, line}
 use Rattle.rasta_cert.specs.Refusals.{first_line, lines_of}
-use Rattle.rasta_cert.specs.Fields.{cut}
-use Rattle.rasta_cert.proofs.FieldLemmas.{Lacks, Lacks-append, Lacks-cons, Lacks-decimal, Lacks-word, cut-None, cut-Some, entry_line-words, entry_words, why_words}
+use Rattle.rasta_line.specs.Words.{cut}
+use Rattle.rasta_line.proofs.Cuts.{Lacks, Lacks-append, Lacks-cons, Lacks-decimal, Lacks-word, cut-None, cut-Some}
+use Rattle.rasta_cert.proofs.FieldLemmas.{entry_line-words, entry_words, why_words}
 
 Lacks-tail : (byte c : ℕ) (cs : List ℕ) → Lacks byte (c ∷ cs) → Lacks byte cs
 Lacks-tail byte c cs h = record { at = λ k below. h.at (suc k) (let more : k < length cs = below in omega arith) }

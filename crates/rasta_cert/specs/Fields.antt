@@ -1,30 +1,12 @@
 -- The words of a line: how an entry is read from them. Private to the crate, and joined to the lines of
 -- entries by the contract of `entry_in`.
-use Rattle.std.specs.Prelude.{ℕ, List, ◌&&◌, ◌==◌, nat_le, nat_lt, length, codes, if◌then◌else◌, Option, Some, None}
-use Rattle.std.specs.Fmt.{decimal}
-use Rattle.std.specs.List.{position_or_len, before_first, after_first}
+use Rattle.std.specs.Prelude.{ℕ, List, codes, if◌then◌else◌, Option, Some, None}
 use Rattle.std.specs.Str.{bytes_eq}
-use Rattle.std.specs.Str.Parse.{digits_value}
+use Rattle.rasta_line.specs.Words.{and_then, cut, decimal_of}
 use Rattle.rasta_end.specs.declared.why.Why.{Why}
 use Rattle.rasta_end.specs.declared.why.Why.TheVariants.{Open, Reply, Beat, Fresh, Again, Ask, Bye, Expired}
 use Rattle.rasta_cert.specs.declared.entry.Entry.{Entry}
 use Rattle.rasta_cert.specs.declared.entry.Entry.TheVariants.{Take, Make}
-
-abbrev pub and_then : {A B : Type 0} → Option A → (A → Option B) → Option B
-and_then None f = None
-and_then (Some x) f = f x
-
--- the parts of a text around the first of this byte
-unfoldable pub cut : ℕ → List ℕ → Option (List ℕ × List ℕ)
-cut byte text =
-    if nat_lt (position_or_len (λ b. b == byte) text) (length text)
-    then Some (before_first (λ b. b == byte) text, after_first (λ b. b == byte) text) else None
-
--- the number, not above the bound, whose decimal text this is
-unfoldable pub number_of : ℕ → List ℕ → Option ℕ
-number_of most text =
-    let n = digits_value 10 text in
-    if bytes_eq text (decimal n) && nat_le n most then Some n else None
 
 abbrev pub most_32 : ℕ
 most_32 = 4294967295
@@ -34,8 +16,8 @@ most_64 = 18446744073709551615
 
 unfoldable pub take_of : List ℕ → Option Entry
 take_of text =
-    and_then (cut 32 text) (λ fields. and_then (number_of most_32 fields.0)
-    (λ slot. and_then (number_of most_32 fields.1) (λ number. Some (Take slot number))))
+    and_then (cut 32 text) (λ fields. and_then (decimal_of most_32 fields.0)
+    (λ slot. and_then (decimal_of most_32 fields.1) (λ number. Some (Take slot number))))
 
 -- a reason of one word
 unfoldable pub word_of : List ℕ → Option Why
@@ -53,7 +35,7 @@ unfoldable pub again_of : List ℕ → Option Why
 again_of text =
     and_then (cut 32 text) (λ fields.
     if bytes_eq fields.0 (codes "again")
-    then and_then (number_of most_32 fields.1) (λ unit. Some (Again unit)) else None)
+    then and_then (decimal_of most_32 fields.1) (λ unit. Some (Again unit)) else None)
 
 abbrev pub or_else : {A : Type 0} → Option A → Option A → Option A
 or_else None other = other
@@ -65,7 +47,7 @@ why_of text = or_else (word_of text) (again_of text)
 unfoldable pub make_of : List ℕ → Option Entry
 make_of text =
     and_then (cut 32 text) (λ first. and_then (cut 32 first.1)
-    (λ second. and_then (number_of most_32 first.0) (λ index. and_then (number_of most_64 second.0)
+    (λ second. and_then (decimal_of most_32 first.0) (λ index. and_then (decimal_of most_64 second.0)
     (λ clock. and_then (why_of second.1) (λ why. Some (Make index clock why))))))
 
 unfoldable pub entry_of : List ℕ → Option Entry

@@ -6,7 +6,8 @@ ghost use Rattle.std.specs.Str.Parse.{AllDigits, digits_value};
 ghost use Rattle.rasta_end.specs.declared.why.Why.{Why};
 ghost use Rattle.rasta_cert.specs.declared.entry.Entry.{Entry};
 ghost use Rattle.rasta_cert.specs.Certificate.{IsEntry, entry_line, line};
-ghost use Rattle.rasta_cert.specs.Fields.{again_of, cut, entry_of, make_of, most_32, number_of, take_of, why_of, word_of};
+ghost use Rattle.rasta_line.specs.Words.{cut, decimal_of};
+ghost use Rattle.rasta_cert.specs.Fields.{again_of, entry_of, make_of, most_32, take_of, why_of, word_of};
 
 use crate::entry::Entry;
 use rasta_end::Why;
@@ -18,7 +19,7 @@ fn position_of(text: &[u8], byte: u8) -> Option<usize>
 }
 
 /// The parts around the first of this byte.
-#[tactic(auto, unfolding(crate::specs::Fields::cut))]
+#[tactic(auto, unfolding(rasta_line::specs::Words::cut))]
 pub fn parts(text: &[u8], byte: u8) -> Option<(&[u8], &[u8])>
     ensures { option_map (λ p. (p.0.now, p.1.now)) result ≡ cut byte text.entry.now }
 {
@@ -64,7 +65,7 @@ fn has_no_leading_zero(text: &[u8]) -> bool
 
 // The number, not above the bound, whose decimal text this is.
 fn number(text: &[u8], most: u64) -> Option<u64>
-    ensures value { result ≡ number_of most text.now }
+    ensures value { result ≡ decimal_of most text.now }
     ensures bound { IfSome result (λ n. n ≤ most) }
 {
     if !has_no_leading_zero(text) {
@@ -75,7 +76,7 @@ fn number(text: &[u8], most: u64) -> Option<u64>
 }
 
 fn number_32(text: &[u8]) -> Option<u32>
-    ensures { result ≡ number_of most_32 text.now }
+    ensures { result ≡ decimal_of most_32 text.now }
 {
     match number(text, 4294967295) {
         Some(n) => Some(n as u32),

@@ -11,6 +11,7 @@ mod writing;
 
 pub use certificate::Certificate;
 pub use entry::Entry;
+pub use line::begin_with_why;
 pub use rasta_pcap::{Fault, Side, Sink, Source};
 pub use reading::read;
 pub use writing::write;

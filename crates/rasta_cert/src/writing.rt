@@ -7,7 +7,8 @@ ghost use Rattle.rasta_cert.specs.Certificate.{AreEntries, IsCertificate, certif
 
 use crate::certificate::Certificate;
 use crate::entry::Entry;
-use crate::line::Line;
+use crate::line::put_entry;
+use rasta_line::Line;
 use rasta_pcap::{Fault, Sink, write_all};
 
 // Writes a line for each entry.
@@ -19,8 +20,10 @@ fn write_entries<W: Sink>(entries: &[Entry], writer: &mut W) -> Result<(), Fault
         × HasFailed (W.failure_count writer.old) (W.failure_count writer.new)) }
     ensures begun { OnErr result (AppendsBeginning (W.contents writer.old) (W.contents writer.new) (entries_text entries.now)) }
 {
+    let mut line = Line::new();
     for entry in entries {
-        write_all(writer, Line::of_entry(*entry).as_bytes())?;
+        put_entry(&mut line, *entry);
+        write_all(writer, line.as_bytes())?;
     }
     Ok(())
 }

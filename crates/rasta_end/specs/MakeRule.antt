@@ -1,5 +1,6 @@
 -- The make rule: which PDU an end may make, why, and what it is afterwards.
 use Rattle.std.specs.Prelude.{◌≡◌, ◌⊎◌, ℕ, suc, ◌+◌, ◌^◌, Bool, true, false, ◌&&◌, ◌||◌, not, if◌then◌else◌, nat_lt, ◌==◌, List, [], ◌∷◌, ◌++◌, length, Option, Some, None, slice_get, map, filter, drop, is_some, All, IsFalse, zip}
+use Rattle.std.specs.Bool.{then_some}
 use Rattle.std.specs.Option.{option_map_or}
 use Rattle.std.specs.Str.{bytes_eq}
 use Rattle.rasta_pcap.specs.declared.fault.Fault.{Fault}
@@ -21,22 +22,18 @@ use Rattle.rasta_end.specs.declared.owed.Demand.{Demand}
 use Rattle.rasta_end.specs.declared.owed.Demand.TheVariants.{First, Nothing, Anything}
 use Rattle.rasta_end.specs.State.{Made, EndState, wrapped, sn_at, is_client, is_closed, is_start, is_up, is_connected, is_active, reason_of, content_of}
 
-abbrev pub row_where : Bool → MakeRow → Option MakeRow
-row_where true row = Some row
-row_where false row = None
-
 -- the make table: why, type, and who may follow the row in which phase
 abbrev pub make_row : Side → Phase → ℕ → Why → Kind → Option MakeRow
-make_row side phase reason Open ConnectionRequest = row_where (is_client side && is_closed phase) Opens
-make_row side phase reason Reply ConnectionResponse = row_where (not (is_client side) && is_start phase) Answers
-make_row side phase reason Reply Heartbeat = row_where (is_client side && is_up phase) StartsBeating
-make_row side phase reason Reply RetransmissionResponse = row_where (is_connected phase) Returns
-make_row side phase reason (Again unit) RetransmittedData = row_where (is_connected phase) (Resends unit)
-make_row side phase reason Ask RetransmissionRequest = row_where (is_connected phase) Requests
-make_row side phase reason Beat Heartbeat = row_where (is_connected phase) Beats
-make_row side phase reason Fresh Data = row_where (is_connected phase) Offers
-make_row side phase reason Bye DisconnectionRequest = row_where (is_active phase && not (reason == 4)) Leaves
-make_row side phase reason Expired DisconnectionRequest = row_where (is_active phase && reason == 4) TimesOut
+make_row side phase reason Open ConnectionRequest = then_some (is_client side && is_closed phase) Opens
+make_row side phase reason Reply ConnectionResponse = then_some (not (is_client side) && is_start phase) Answers
+make_row side phase reason Reply Heartbeat = then_some (is_client side && is_up phase) StartsBeating
+make_row side phase reason Reply RetransmissionResponse = then_some (is_connected phase) Returns
+make_row side phase reason (Again unit) RetransmittedData = then_some (is_connected phase) (Resends unit)
+make_row side phase reason Ask RetransmissionRequest = then_some (is_connected phase) Requests
+make_row side phase reason Beat Heartbeat = then_some (is_connected phase) Beats
+make_row side phase reason Fresh Data = then_some (is_connected phase) Offers
+make_row side phase reason Bye DisconnectionRequest = then_some (is_active phase && not (reason == 4)) Leaves
+make_row side phase reason Expired DisconnectionRequest = then_some (is_active phase && reason == 4) TimesOut
 make_row side phase reason _ _ = None
 
 -- the make table: what a row wants of the owed list

@@ -153,20 +153,9 @@ impl<'a> End<'a> {
         match (params.quiet(), side) {
             (None, Side::Client) => End::client(alloc, params),
             (None, Side::Server) => End::server(alloc, params),
-            (Some(quiet), Side::Client) => End::quiet(
-                alloc,
-                params,
-                side,
-                quiet.client,
-                quiet.server,
-            ),
-            (Some(quiet), Side::Server) => End::quiet(
-                alloc,
-                params,
-                side,
-                quiet.server,
-                quiet.client,
-            ),
+            (Some(quiet), _) => {
+                End::quiet(alloc, params, side, quiet.of(side), quiet.of(side.other()))
+            }
         }
     }
 

@@ -35,12 +35,6 @@ pub enum MakeRow {
     TimesOut,
 }
 
-fn row_where(test: bool, row: MakeRow) -> Option<MakeRow>
-    ensures { result ≡ MakeRule.row_where test row }
-{
-    if test { Some(row) } else { None }
-}
-
 /// Whether this is the client.
 pub fn is_client(side: Side) -> bool
     ensures { result ≡ State.is_client side }
@@ -56,30 +50,30 @@ impl MakeRow {
     {
         match (why, kind) {
             (Why::Open, Kind::ConnectionRequest) => {
-                row_where(is_client(side) && phase.is_closed(), MakeRow::Opens)
+                (is_client(side) && phase.is_closed()).then_some(MakeRow::Opens)
             }
             (Why::Reply, Kind::ConnectionResponse) => {
-                row_where(!is_client(side) && phase.is_start(), MakeRow::Answers)
+                (!is_client(side) && phase.is_start()).then_some(MakeRow::Answers)
             }
             (Why::Reply, Kind::Heartbeat) => {
-                row_where(is_client(side) && phase.is_up(), MakeRow::StartsBeating)
+                (is_client(side) && phase.is_up()).then_some(MakeRow::StartsBeating)
             }
             (Why::Reply, Kind::RetransmissionResponse) => {
-                row_where(phase.is_connected(), MakeRow::Returns)
+                phase.is_connected().then_some(MakeRow::Returns)
             }
             (Why::Again(unit), Kind::RetransmittedData) => {
-                row_where(phase.is_connected(), MakeRow::Resends(unit))
+                phase.is_connected().then_some(MakeRow::Resends(unit))
             }
             (Why::Ask, Kind::RetransmissionRequest) => {
-                row_where(phase.is_connected(), MakeRow::Requests)
+                phase.is_connected().then_some(MakeRow::Requests)
             }
-            (Why::Beat, Kind::Heartbeat) => row_where(phase.is_connected(), MakeRow::Beats),
-            (Why::Fresh, Kind::Data) => row_where(phase.is_connected(), MakeRow::Offers),
+            (Why::Beat, Kind::Heartbeat) => phase.is_connected().then_some(MakeRow::Beats),
+            (Why::Fresh, Kind::Data) => phase.is_connected().then_some(MakeRow::Offers),
             (Why::Bye, Kind::DisconnectionRequest) => {
-                row_where(phase.is_active() && reason != 4, MakeRow::Leaves)
+                (phase.is_active() && reason != 4).then_some(MakeRow::Leaves)
             }
             (Why::Expired, Kind::DisconnectionRequest) => {
-                row_where(phase.is_active() && reason == 4, MakeRow::TimesOut)
+                (phase.is_active() && reason == 4).then_some(MakeRow::TimesOut)
             }
             _ => None,
         }

@@ -21,12 +21,6 @@ impl Phase {
         matches!(self, Phase::Closed)
     }
 
-    pub(crate) fn is_down(self) -> bool
-        ensures { result ≡ State.is_down self }
-    {
-        matches!(self, Phase::Down)
-    }
-
     pub(crate) fn is_start(self) -> bool
         ensures { result ≡ State.is_start self }
     {
@@ -49,12 +43,6 @@ impl Phase {
         ensures { result ≡ State.is_retr_run self }
     {
         matches!(self, Phase::RetrRun)
-    }
-
-    pub(crate) fn is_flowing(self) -> bool
-        ensures { result ≡ State.is_flowing self }
-    {
-        self.is_up() || self.is_retr_run()
     }
 
     pub(crate) fn is_connected(self) -> bool

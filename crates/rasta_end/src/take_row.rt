@@ -1,5 +1,5 @@
 //! The take table.
-ghost use Rattle.std.specs.Prelude.{◌≡◌, true, IfSome};
+ghost use Rattle.std.specs.Prelude.{◌≡◌, ◌&&◌, ◌∷◌, [], true, IfSome};
 ghost use Rattle.rasta_end.specs.State;
 ghost use Rattle.rasta_end.specs.MakeRule;
 ghost use Rattle.rasta_end.specs.TakeRule;
@@ -37,13 +37,6 @@ pub enum TakeRow {
     Disconnected,
 }
 
-/// Whether this is the type of a heartbeat or of data that is sent for the first time.
-pub fn is_heartbeat_or_data(kind: Kind) -> bool
-    ensures { result ≡ TakeRule.is_heartbeat_or_data kind }
-{
-    matches!(kind, Kind::Heartbeat | Kind::Data)
-}
-
 /// Whether PDUs of this type are time-relevant.
 pub fn is_timed(kind: Kind) -> bool
     ensures { result ≡ State.is_timed kind }
@@ -66,6 +59,19 @@ pub struct Standing {
     pub valid: bool,
 }
 
+impl Standing {
+    // This row for a PDU in sequence, that one for a PDU ahead, where its CS is valid.
+    fn row(self, in_sequence: TakeRow, ahead: TakeRow) -> Option<TakeRow>
+        ensures { result ≡ MakeRule.first_that_holds ((self.next && self.valid, in_sequence) ∷ (self.ahead && self.valid, ahead) ∷ []) }
+    {
+        if self.next && self.valid {
+            Some(in_sequence)
+        } else {
+            (self.ahead && self.valid).then_some(ahead)
+        }
+    }
+}
+
 impl TakeRow {
     /// The row of this side and phase and of a PDU of this type.
     pub fn of(side: Side, phase: Phase, kind: Kind, standing: Standing) -> Option<TakeRow>
@@ -73,36 +79,35 @@ impl TakeRow {
         ensures valid { IfSome result (λ row. TakeRule.wants_valid row ≡ true → standing.valid ≡ true) }
     {
         let Standing { next, ahead, valid } = standing;
-        if phase.is_down() & kind.is(Kind::ConnectionRequest) {
-            Some(TakeRow::Opened)
-        } else if phase.is_start()
-            & (is_client(side) & (kind.is(Kind::ConnectionResponse) & valid))
-        {
-            Some(TakeRow::Answered)
-        } else if phase.is_start()
-            & (!is_client(side) & (kind.is(Kind::Heartbeat) & (next & valid)))
-        {
-            Some(TakeRow::FirstHeartbeat)
-        } else if phase.is_flowing() & (is_heartbeat_or_data(kind) & (next & valid)) {
-            Some(TakeRow::InSequence)
-        } else if phase.is_retr_run() & (kind.is(Kind::RetransmittedData) & (next & valid)) {
-            Some(TakeRow::ResentInSequence)
-        } else if phase.is_up() & (is_heartbeat_or_data(kind) & (ahead & valid)) {
-            Some(TakeRow::Gap)
-        } else if phase.is_retr_run() & (is_timed(kind) & (ahead & valid)) {
-            Some(TakeRow::GapInRetransmission)
-        } else if phase.is_retr_req() & (kind.is(Kind::RetransmissionResponse) & valid) {
-            Some(TakeRow::Resumed)
-        } else if phase.is_flowing() & (kind.is(Kind::RetransmissionRequest) & (next & valid)) {
-            Some(TakeRow::Requested)
-        } else if phase.is_flowing() & (kind.is(Kind::RetransmissionRequest) & (ahead & valid)) {
-            Some(TakeRow::RequestedAhead)
-        } else if phase.is_retr_req() & (kind.is(Kind::RetransmissionRequest) & (ahead & valid)) {
-            Some(TakeRow::RequestedAgain)
-        } else if phase.is_active() & kind.is(Kind::DisconnectionRequest) {
-            Some(TakeRow::Disconnected)
-        } else {
-            None
+        match (phase, kind) {
+            (Phase::Down, Kind::ConnectionRequest) => Some(TakeRow::Opened),
+            (Phase::Start, Kind::ConnectionResponse) => {
+                (is_client(side) && valid).then_some(TakeRow::Answered)
+            }
+            (Phase::Start, Kind::Heartbeat) => {
+                (!is_client(side) && next && valid).then_some(TakeRow::FirstHeartbeat)
+            }
+            (Phase::Up, Kind::Heartbeat | Kind::Data) => {
+                standing.row(TakeRow::InSequence, TakeRow::Gap)
+            }
+            (Phase::RetrRun, Kind::Heartbeat | Kind::Data) => {
+                standing.row(TakeRow::InSequence, TakeRow::GapInRetransmission)
+            }
+            (Phase::RetrRun, Kind::RetransmittedData) => {
+                standing.row(TakeRow::ResentInSequence, TakeRow::GapInRetransmission)
+            }
+            (Phase::RetrReq, Kind::RetransmissionResponse) => valid.then_some(TakeRow::Resumed),
+            (Phase::Up | Phase::RetrRun, Kind::RetransmissionRequest) => {
+                standing.row(TakeRow::Requested, TakeRow::RequestedAhead)
+            }
+            (Phase::RetrReq, Kind::RetransmissionRequest) => {
+                (ahead && valid).then_some(TakeRow::RequestedAgain)
+            }
+            (
+                Phase::Start | Phase::Up | Phase::RetrReq | Phase::RetrRun,
+                Kind::DisconnectionRequest,
+            ) => Some(TakeRow::Disconnected),
+            _ => None,
         }
     }
 }

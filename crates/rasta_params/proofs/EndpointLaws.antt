@@ -11,51 +11,10 @@ use Rattle.std.proofs.lemmas.Str.Parse.{digit_at}
 use Rattle.std.specs.Fmt.{decimal}
 use Rattle.std.specs.List.{position_or_len, before_first, after_first}
 use Rattle.rasta_udp.specs.declared.channel.Endpoint.{Endpoint}
-use Rattle.rasta_params.specs.Endpoints.{Four, HasText, IsEndpointText, address_in, and_then, cut, decimal_of, endpoint_of, endpoint_text, four_of, octet_of, port_of}
-use Rattle.rasta_params.proofs.EndpointTexts.{decimal_of-Some, decimal_of-decimal}
-
--- the byte stands nowhere in the text
-record Lacks (byte : ℕ) (text : List ℕ) : Type 0 where
-  at : (k : ℕ) → k < length text → nat_eq (get_or text k 0) byte ≡ false
-
--- a number's text has digits alone
-Lacks-decimal : (byte n : ℕ) → n < 2 ^ 64 → (byte < 48) ⊎ (57 < byte) → Lacks byte (decimal n)
-Lacks-decimal byte n small other = record {
-  at = λ k below.
-      let range = digit_at (decimal n) k (decimal_is_IsNumeral n small).0.1 below in
-      elim other [ inl h ↦ grind (arith, nat_tests) | inr h ↦ grind (arith, nat_tests) ];
-}
-
-Lacks-append : (byte : ℕ) (xs ys : List ℕ) → Lacks byte xs → Lacks byte ys → Lacks byte (xs ++ ys)
-Lacks-append byte xs ys a b = record {
-  at = λ k below. elim (cases_lt k (length xs)) [
-    | inl h ↦ ap (λ (c : ℕ). nat_eq c byte) (get_or-append xs ys 0 k h) ∙ a.at k h
-    | inr h ↦
-        let long : length (xs ++ ys) ≡ length xs + length ys = length-append xs ys in
-        ap (λ (c : ℕ). nat_eq c byte) (get_or-append_right xs ys k 0 (omega arith)) ∙ b.at (k - length xs) (omega arith)
-  ];
-}
-
-Lacks-one : (byte c : ℕ) → nat_eq c byte ≡ false → Lacks byte (c ∷ [])
-Lacks-one byte c h = record { at = λ k below. let first : k ≡ 0 = omega arith in rw first h }
-
--- a text is cut around the first separator
-cut-first : (byte : ℕ) (xs ys : List ℕ) → Lacks byte xs → cut byte (xs ++ byte ∷ ys) ≡ Some (xs, ys)
-unfolding cut
-cut-first byte xs ys lacks =
-    let all = xs ++ byte ∷ ys in
-    let p : ℕ → Bool = λ b. nat_eq b byte in
-    let long : length all ≡ length xs + length (byte ∷ ys) = length-append xs (byte ∷ ys) in
-    let same : nat_eq byte byte ≡ true = grind (arith, nat_tests) in
-    let at : position_or_len p all ≡ length xs = position_or_len_is p all (length xs) 0 (omega arith)
-    (λ k below. ap (λ (c : ℕ). nat_eq c byte) (get_or-append xs (byte ∷ ys) 0 k below) ∙ lacks.at k below)
-    (λ h. ap (λ (c : ℕ). nat_eq c byte) (get_or-append_seam xs byte ys 0) ∙ same) in
-    let within : nat_lt (length xs) (length all) ≡ true = grind (arith, nat_tests) in
-    let rest : drop (length xs + 1) all ≡ ys = sym (drop-drop 1 (length xs) all) ∙ ap (drop 1) (drop-append_seam xs (byte ∷ ys)) in
-    ap (λ (n : ℕ). cond (nat_lt n (length all)) (Some (take n all, drop (n + 1) all)) None) at
-    ∙ ap (λ (b : Bool). cond b (Some (take (length xs) all, drop (length xs + 1) all)) None) within
-    ∙ ap (λ (l : List ℕ). Some (l, drop (length xs + 1) all)) (take-append_seam xs (byte ∷ ys))
-    ∙ ap (λ (l : List ℕ). Some (xs, l)) rest
+use Rattle.rasta_line.specs.Words.{and_then, cut, decimal_of}
+use Rattle.rasta_line.proofs.Numbers.{decimal_of-Some, decimal_of-decimal}
+use Rattle.rasta_line.proofs.Cuts.{Lacks, Lacks-append, Lacks-cons, Lacks-decimal, cut-Some, cut-first, gave}
+use Rattle.rasta_params.specs.Endpoints.{Four, HasText, IsEndpointText, address_in, endpoint_of, endpoint_text, four_of, octet_of, port_of}
 
 -- four texts with points between them
 four_of-texts : (a b c d : List ℕ) → Lacks 46 a → Lacks 46 b → Lacks 46 c
@@ -112,7 +71,7 @@ endpoint_of-text text a b c d port h =
     let host = host_text a b c d in
     let lacks : (n : ℕ) → n < 256 → Lacks 58 (decimal n) = λ n small. Lacks-decimal 58 n (omega arith) (inr (omega arith)) in
     let point : (xs ys : List ℕ) → Lacks 58 xs → Lacks 58 ys → Lacks 58 (xs ++ (46 ∷ ys)) =
-    λ xs ys lx ly. Lacks-append 58 xs (46 ∷ ys) lx (Lacks-append 58 (46 ∷ []) ys (Lacks-one 58 46 refl) ly) in
+    λ xs ys lx ly. Lacks-append 58 xs (46 ∷ ys) lx (Lacks-cons 58 46 ys refl ly) in
     let no_colon : Lacks 58 host = point A _ (lacks a ha) (point B _ (lacks b hb) (point C D (lacks c hc) (lacks d hd))) in
     let dots : (n : ℕ) → n < 256 → Lacks 46 (decimal n) = λ n small. Lacks-decimal 46 n (omega arith) (inl (omega arith)) in
     let address : and_then (four_of host) address_in ≡ Some (a ∷ b ∷ c ∷ d ∷ []) =
@@ -123,33 +82,6 @@ endpoint_of-text text a b c d port h =
     ∙ ap (λ (o : Option Parts). and_then o (λ parts. and_then (and_then (four_of parts.0) address_in) (λ address. and_then (port_of parts.1) (made address)))) (cut-first 58 host P no_colon)
     ∙ ap (λ (o : Option (List ℕ)). and_then o (λ address. and_then (port_of P) (made address))) address
     ∙ ap (λ (o : Option ℕ). and_then o (made (a ∷ b ∷ c ∷ d ∷ []))) (port_of-text port h.from_one most)
-
--- a step that gave a value
-record Gave {A B : Type 0} (o : Option A) (f : A → Option B) (y : B) : Type 0 where
-  value : A
-  is : o ≡ Some value
-  then_is : f value ≡ Some y
-
-gave : {A B : Type 0} (o : Option A) (f : A → Option B) (y : B) → and_then o f ≡ Some y → Gave o f y
-gave None f y h = absurd (cc)
-gave (Some x) f y h = record { value = x; is = refl; then_is = h }
-
-chosen : {A : Type 0} (b : Bool) (x y : A) → cond b (Some x) None ≡ Some y → (b ≡ true) × (x ≡ y)
-chosen true x y h = (refl, cc)
-chosen false x y h = absurd (cc)
-
--- the parts of a text stand around a separator
-cut-Some : (byte : ℕ) (text : List ℕ) (parts : List ℕ × List ℕ) → cut byte text ≡ Some parts → text ≡ parts.0 ++ byte ∷ parts.1
-unfolding cut
-cut-Some byte text parts h =
-    let p : ℕ → Bool = λ b. nat_eq b byte in
-    let c = chosen _ (before_first p text, after_first p text) parts h in
-    let test : nat_lt (position_or_len p text) (length text) ≡ true = c.0 in
-    let within : position_or_len p text < length text = grind (arith, nat_tests) in
-    let here : get_or text (position_or_len p text) 0 ≡ byte = eqb-true _ _ (passes_at_first p text 0 within) in
-    split_at_first p text 0 within
-    ∙ ap (λ (n : ℕ). before_first p text ++ (n ∷ after_first p text)) here
-    ∙ ap (λ (q : List ℕ × List ℕ). q.0 ++ byte ∷ q.1) c.1
 
 some_is : {A : Type 0} {x y : A} → ◌≡◌ {A = Option A} (Some x) (Some y) → x ≡ y
 some_is {A} {x} {y} h = cc
@@ -192,16 +124,16 @@ endpoint_of-Some text e h =
     let d = decimal_of-Some 255 z.value four.value.fourth z.is in
     let t = decimal_of-Some 65535 n.value parts.value.1 n.is in
     let host : parts.value.0 ≡ host_text w.value x.value y.value z.value =
-    cut-Some 46 parts.value.0 one.value one.is
-    ∙ ap (λ (l : List ℕ). one.value.0 ++ (46 ∷ l)) (cut-Some 46 one.value.1 two.value two.is
-    ∙ ap (λ (l : List ℕ). two.value.0 ++ (46 ∷ l)) (cut-Some 46 two.value.1 three.value three.is))
+    (cut-Some 46 parts.value.0 one.value one.is).0
+    ∙ ap (λ (l : List ℕ). one.value.0 ++ (46 ∷ l)) ((cut-Some 46 one.value.1 two.value two.is).0
+    ∙ ap (λ (l : List ℕ). two.value.0 ++ (46 ∷ l)) ((cut-Some 46 two.value.1 three.value three.is).0))
     ∙ ap (λ (q : Four). q.first ++ (46 ∷ (q.second ++ (46 ∷ (q.third ++ (46 ∷ q.fourth)))))) quarters
     ∙ ap (λ (l : List ℕ). l ++ (46 ∷ (four.value.second ++ (46 ∷ (four.value.third ++ (46 ∷ four.value.fourth)))))) a.0
     ∙ ap (λ (l : List ℕ). decimal w.value ++ (46 ∷ (l ++ (46 ∷ (four.value.third ++ (46 ∷ four.value.fourth)))))) b.0
     ∙ ap (λ (l : List ℕ). decimal w.value ++ (46 ∷ (decimal x.value ++ (46 ∷ (l ++ (46 ∷ four.value.fourth)))))) c.0
     ∙ ap (λ (l : List ℕ). decimal w.value ++ (46 ∷ (decimal x.value ++ (46 ∷ (decimal y.value ++ (46 ∷ l)))))) d.0 in
     let whole : text ≡ endpoint_text w.value x.value y.value z.value e.port =
-    cut-Some 58 text parts.value parts.is
+    (cut-Some 58 text parts.value parts.is).0
     ∙ ap (λ (l : List ℕ). l ++ (58 ∷ parts.value.1)) host
     ∙ ap (λ (l : List ℕ). host_text w.value x.value y.value z.value ++ (58 ∷ l)) (t.0 ∙ ap decimal port_is)
     ∙ sym (endpoint_text-host w.value x.value y.value z.value e.port) in

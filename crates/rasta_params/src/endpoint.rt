@@ -1,7 +1,8 @@
 //! Endpoints as texts.
 ghost use Rattle.std.specs.Prelude.{◌≡◌, ◌≢◌, ◌≤◌, ◌<◌, ℕ, ◌↔◌, IsTrue, IfNone, IfSome, option_map};
 ghost use Rattle.std.specs.Fmt.{decimal};
-ghost use Rattle.rasta_params.specs.Endpoints.{Four, HasText, IsEndpointText, address_in, cut, decimal_of, endpoint_of, four_of, octet_of, port_of};
+ghost use Rattle.rasta_line.specs.Words.{cut, decimal_of};
+ghost use Rattle.rasta_params.specs.Endpoints.{Four, HasText, IsEndpointText, address_in, endpoint_of, four_of, octet_of, port_of};
 ghost use Rattle.rasta_params.specs.Stored.{four_texts};
 
 use itoa::Buffer;
@@ -40,7 +41,7 @@ fn number(text: &str, most: u32) -> Option<u32>
 }
 
 // The parts around the first separator, which is ASCII.
-#[tactic(auto, unfolding(crate::specs::Endpoints::cut))]
+#[tactic(auto, unfolding(rasta_line::specs::Words::cut))]
 fn parts<'a>(text: &'a str, separator: char) -> Option<(&'a str, &'a str)>
     requires { separator < 128 }
     ensures { option_map (λ p. (p.0.now, p.1.now)) result ≡ cut separator text.entry.now }

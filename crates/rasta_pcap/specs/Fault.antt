@@ -2,6 +2,12 @@
 use Rattle.std.specs.Prelude.{ℕ, List, [], ◌∷◌, ◌==◌, if◌then◌else◌, codes, Some, None}
 use Rattle.rasta_pcap.specs.declared.fault.Fault.{Fault}
 use Rattle.rasta_pcap.specs.declared.fault.Side.{Side}
+use Rattle.rasta_pcap.specs.declared.fault.Side.TheVariants.{Client, Server}
+
+-- the peer's side
+abbrev pub other_side : Side → Side
+other_side Client = Server
+other_side Server = Client
 
 -- the fault of this number at this place, which speaks of no end
 abbrev pub fault_at : ℕ → ℕ → Fault

@@ -1,6 +1,6 @@
 //! Faults and their names.
 ghost use Rattle.std.specs.Prelude.{◌≡◌, ◌≤◌, ◌<◌, length, Option, None};
-ghost use Rattle.rasta_pcap.specs.Fault.{fault_at, fault_of_end, name_of};
+ghost use Rattle.rasta_pcap.specs.Fault.{fault_at, fault_of_end, name_of, other_side};
 
 use std::alloc::AllocError;
 
@@ -9,6 +9,18 @@ use std::alloc::AllocError;
 pub enum Side {
     Client,
     Server,
+}
+
+impl Side {
+    /// The peer's side.
+    pub const fn other(self) -> Side
+        ensures { result ≡ other_side self }
+    {
+        match self {
+            Side::Client => Side::Server,
+            Side::Server => Side::Client,
+        }
+    }
 }
 
 /// Why something was refused: the fault's number, the place it names (0 where it names none), and

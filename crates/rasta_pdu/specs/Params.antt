@@ -2,6 +2,8 @@
 use Rattle.std.specs.Prelude.{◌≡◌, ◌≢◌, ◌⊎◌, ℕ, ◌+◌, ◌≤◌, List, [], ◌∷◌, length, Bool, true, not, ◌&&◌, ◌==◌, nat_le, IsTrue, Option, IfSome}
 use Rattle.std.specs.List.{list_all, list_any}
 use Rattle.std.specs.Str.{bytes_eq}
+use Rattle.rasta_pcap.specs.declared.fault.Side.{Side}
+use Rattle.rasta_pcap.specs.declared.fault.Side.TheVariants.{Client, Server}
 use Rattle.rasta_udp.specs.declared.channel.Channel.{Channel}
 use Rattle.rasta_udp.specs.declared.channel.Endpoint.{Endpoint}
 use Rattle.rasta_pdu.specs.declared.quiet_point.QuietEnd.{QuietEnd}
@@ -77,6 +79,11 @@ pub record IsQuietEnd (slack : ℕ) (e : QuietEnd) : Type 0 where
   pub clock_most : e.clock ≤ most_clock
   pub deadline_most : IfSome e.deadline (λ d. d ≤ most_clock)
   pub in_time : IfSome e.deadline (λ d. e.clock ≤ d + slack)
+
+-- the end of this side at a quiet point
+abbrev pub quiet_of : Quiet → Side → QuietEnd
+quiet_of q Client = q.client
+quiet_of q Server = q.server
 
 pub record IsQuiet (slack : ℕ) (q : Quiet) : Type 0 where
   pub client : IsQuietEnd slack q.client

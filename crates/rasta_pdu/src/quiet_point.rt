@@ -1,6 +1,8 @@
 //! A recorded point of a connection at which both ends are up and owe each other nothing.
-ghost use Rattle.std.specs.Prelude.{◌↔◌, ◌+◌, ◌≤◌, IsTrue};
-ghost use Rattle.rasta_pdu.specs.Params.{IsQuiet, IsQuietEnd, most_clock};
+ghost use Rattle.std.specs.Prelude.{◌≡◌, ◌↔◌, ◌+◌, ◌≤◌, IsTrue};
+ghost use Rattle.rasta_pdu.specs.Params.{IsQuiet, IsQuietEnd, most_clock, quiet_of};
+
+use rasta_pcap::Side;
 
 /// One end at a quiet point.
 #[derive(Clone, Copy, Debug, PartialEq, Eq)]
@@ -47,6 +49,16 @@ impl QuietEnd {
 }
 
 impl Quiet {
+    /// The end of this side.
+    pub const fn of(self, side: Side) -> QuietEnd
+        ensures { result ≡ quiet_of self side }
+    {
+        match side {
+            Side::Client => self.client,
+            Side::Server => self.server,
+        }
+    }
+
     /// Whether clocks and deadlines are in their ranges, and no clock has passed its deadline by more
     /// than the slack, which is in milliseconds.
     pub fn is_valid(self, slack: u16) -> bool

@@ -10,7 +10,8 @@ use Rattle.rasta_pdu.specs.declared.kind.Kind.TheVariants.{RetransmissionRespons
 use Rattle.rasta_pdu.specs.Pdu.{SafetyPdu, value_of, is_kind}
 use Rattle.rasta_pcap.specs.declared.fault.Side.{Side}
 use Rattle.rasta_pcap.specs.declared.fault.Side.TheVariants.{Client, Server}
-use Rattle.rasta_pdu.specs.Params.{Parameters}
+use Rattle.rasta_pcap.specs.Fault.{other_side}
+use Rattle.rasta_pdu.specs.Params.{Parameters, quiet_of}
 use Rattle.rasta_pdu.specs.declared.quiet_point.Quiet.{Quiet}
 use Rattle.rasta_end.specs.Starts.{start_of, start_by, quiet_pdu}
 use Rattle.rasta_end.specs.Units.{Conveyed, convey, units_after, units_at, last_of, responses_after}
@@ -179,13 +180,13 @@ shown-at own peer units x n o same at position =
 
 -- ---- the quiet PDU
 
-pub quiet-client : (p : Parameters) (side : Side) (q : Quiet) (x : SafetyPdu) → p.quiet ≡ Some q → side ≡ Client → x ≡ quiet_pdu q.client q.server → x ∷ [] ≡ pdus_made (start_of p side).made
-quiet-client p side q x e s is =
-    ap (λ (y : SafetyPdu). y ∷ []) is ∙ sym (ap (λ (o : Option Quiet). pdus_made (start_by o side).made) e ∙ ap (λ (t : Side). pdus_made (start_by (Some q) t).made) s)
-
-pub quiet-server : (p : Parameters) (side : Side) (q : Quiet) (x : SafetyPdu) → p.quiet ≡ Some q → side ≡ Server → x ≡ quiet_pdu q.server q.client → x ∷ [] ≡ pdus_made (start_of p side).made
-quiet-server p side q x e s is =
-    ap (λ (y : SafetyPdu). y ∷ []) is ∙ sym (ap (λ (o : Option Quiet). pdus_made (start_by o side).made) e ∙ ap (λ (t : Side). pdus_made (start_by (Some q) t).made) s)
+pub quiet-made : (p : Parameters) (side : Side) (q : Quiet) (x : SafetyPdu) → p.quiet ≡ Some q → x ≡ quiet_pdu (quiet_of q side) (quiet_of q (other_side side)) → x ∷ [] ≡ pdus_made (start_of p side).made
+quiet-made p side q x e is =
+    ap (λ (y : SafetyPdu). y ∷ []) is ∙ (by side ∙ sym (ap (λ (o : Option Quiet). pdus_made (start_by o side).made) e))
+  where
+    by : (s : Side) → quiet_pdu (quiet_of q s) (quiet_of q (other_side s)) ∷ [] ≡ pdus_made (start_by (Some q) s).made
+    by Client = refl
+    by Server = refl
 
 -- a PDU that is no data leaves the data PDUs as they are
 pub not_pushed : (before : List PlainCopy) (c : PlainCopy) → is_kind Data (value_of c.pdu).safety.kind ≡ false → copies_of before ≡ copies_of before ++ data_copies (copy_of c ∷ [])

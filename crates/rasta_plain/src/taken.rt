@@ -70,10 +70,9 @@ fn quiet_pdu(own: QuietEnd, other: QuietEnd) -> MadePdu<'static>
 fn quiet_of(params: &Params, side: Side) -> Option<MadePdu<'static>>
     ensures { pdus (option_to_list result) ≡ pdus_made (start_of params.now side).made }
 {
-    match (params.quiet(), side) {
-        (None, _) => None,
-        (Some(quiet), Side::Client) => Some(quiet_pdu(quiet.client, quiet.server)),
-        (Some(quiet), Side::Server) => Some(quiet_pdu(quiet.server, quiet.client)),
+    match params.quiet() {
+        None => None,
+        Some(quiet) => Some(quiet_pdu(quiet.of(side), quiet.of(side.other()))),
     }
 }
 

@@ -72,10 +72,9 @@ impl<'a> Model for PlainStation<'a> {
 fn clock_at_start(params: &Params, side: Side) -> u64
     ensures { result ≡ (start_of params.now side).clock }
 {
-    match (params.quiet(), side) {
-        (None, _) => 0,
-        (Some(quiet), Side::Client) => quiet.client.clock,
-        (Some(quiet), Side::Server) => quiet.server.clock,
+    match params.quiet() {
+        None => 0,
+        Some(quiet) => quiet.of(side).clock,
     }
 }
 
@@ -86,8 +85,7 @@ fn base(params: &Params, side: Side) -> u32
 {
     match (params.quiet(), side) {
         (None, _) => 0,
-        (Some(_), Side::Client) => 1,
-        (Some(_), Side::Server) => 1,
+        (Some(_), _) => 1,
     }
 }
 

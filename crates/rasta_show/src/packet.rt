@@ -1,19 +1,46 @@
 //! The line of a packet.
-ghost use Rattle.std.specs.Prelude.{◌≡◌, ◌≤◌, [], ◌∷◌, length, IfErr, OnErr, OnOk};
+ghost use Rattle.std.specs.Prelude.{◌≡◌, ◌+◌, ◌*◌, ◌≤◌, ◌++◌, [], ◌∷◌, length, IfErr, OnErr, OnOk};
 ghost use Rattle.std.specs.Io.KnownBytes.{Appends};
 ghost use Rattle.rasta_pcap.specs.Fault.{write_failed};
 ghost use Rattle.rasta_pcap.specs.Devices.{AppendsBeginning, HasFailed};
 ghost use Rattle.rasta_pdu.specs.Pdu.{Bye, Empty, Opening, read_code, value_of};
 ghost use Rattle.rasta_show.specs.Codes.{HasShortCodes};
-ghost use Rattle.rasta_show.specs.Lines.{body_words, codes_line, front_words, words_before, packet_line};
+ghost use Rattle.rasta_show.specs.Lines.{body_words, code_text, codes_line, front_words, words_before, packet_line};
 ghost use Rattle.rasta_show.specs.Shown.{data_front, data_line, packet_of};
 
-use crate::line::Line;
 use crate::messages::write_messages;
 use crate::shown_packet::ShownPacket;
 use crate::texts::end_name;
+use rasta_line::Line;
 use rasta_pcap::write_all;
 use rasta_pdu::{Body, Fault, Pdu, Sink};
+
+// Begins the line with this last code.
+fn begin_with_code(line: &mut Line, code: &[u8])
+    requires { length code.now ≤ 16 }
+    ensures line { line.new ≡ code_text code.now ++ 10 ∷ [] }
+    ensures short { length line.new ≤ 2 + 2 * length code.now }
+{
+    if code.is_empty() {
+        line.begin_with_word(b"-");
+    } else {
+        line.begin_with_hex(code);
+    }
+}
+
+// Prepends a code.
+fn put_code(line: &mut Line, code: &[u8])
+    requires short { length code.now ≤ 16 }
+    requires fits { length line.old ≤ 160 }
+    ensures line { line.new ≡ code_text code.now ++ 32 ∷ line.old }
+    ensures short { length line.new ≤ length line.old + (2 + 2 * length code.now) }
+{
+    if code.is_empty() {
+        line.word(b"-");
+    } else {
+        line.hex(code);
+    }
+}
 
 // Begins the line with safety code and check code.
 fn put_codes(line: &mut Line, pdu: &Pdu<'_>)
@@ -21,8 +48,8 @@ fn put_codes(line: &mut Line, pdu: &Pdu<'_>)
     ensures line { line.new ≡ codes_line (read_code pdu.now) (value_of pdu.now).check_bytes }
     ensures short { length line.new ≤ 44 }
 {
-    line.begin_with_code(pdu.check_bytes());
-    line.code(pdu.code());
+    begin_with_code(line, pdu.check_bytes());
+    put_code(line, pdu.code());
 }
 
 // Prepends the body of a connection request or response.

@@ -14,10 +14,10 @@ ghost use Rattle.rasta_show.specs.Shown.{sight_in, status_left, text_left};
 ghost use Rattle.rasta_udp.specs.Frame.{packet_in, packet_of};
 ghost use Rattle.rasta_show.specs.Runs.{GoesUpToRecord, IsRunFault, WritesBeginning, WritesText};
 
-use crate::line::Line;
 use crate::packet::write_packet;
 use crate::shown_packet::ShownPacket;
 use crate::texts::{count_line, refusal_line};
+use rasta_line::Line;
 use rasta_pcap::stream::RecordReader;
 use rasta_pcap::{Record, write_all};
 use rasta_pdu::{Fault, Params, Sink, Source, decode};

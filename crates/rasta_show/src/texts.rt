@@ -2,7 +2,7 @@
 ghost use Rattle.std.specs.Prelude.{◌≡◌, ◌≤◌, length};
 ghost use Rattle.rasta_show.specs.Lines.{end_text, packets_line, refused_line};
 
-use crate::line::Line;
+use rasta_line::Line;
 use rasta_pdu::{Fault, Side};
 
 /// The name of an end, `-` where there is none.
@@ -22,7 +22,8 @@ pub fn end_name(end: Option<Side>) -> &'static str
 pub fn refusal_line(fault: Fault) -> Line
     ensures { result ≡ refused_line fault }
 {
-    let mut line = Line::of_last(end_name(fault.end).as_bytes());
+    let mut line = Line::new();
+    line.begin_with_word(end_name(fault.end).as_bytes());
     line.number(fault.place);
     line.word(fault.name().as_bytes());
     line.number(u32::from(fault.number));
@@ -35,7 +36,8 @@ pub fn refusal_line(fault: Fault) -> Line
 pub fn count_line(packets: u32) -> Line
     ensures { result ≡ packets_line packets }
 {
-    let mut line = Line::of_last_number(packets);
+    let mut line = Line::new();
+    line.begin_with_number(u64::from(packets));
     line.word(b"packets");
     line
 }

@@ -45,13 +45,6 @@ fn may_take(world: &mut PlainWorld, side: Side, position: u32) -> Option<bool> {
     }
 }
 
-fn peer(side: Side) -> Side {
-    match side {
-        Side::Client => Side::Server,
-        Side::Server => Side::Client,
-    }
-}
-
 // The line of a packet, and its channel.
 fn line_of(packet: &str) -> Option<(usize, u8)> {
     let mut parts = packet.split('@');
@@ -113,7 +106,7 @@ impl<'a> Row<'a> {
             if let Entry::Take { slot, number } = *entry
                 && slot == packets
             {
-                let position = self.position(peer(side), number)?;
+                let position = self.position(side.other(), number)?;
                 let arrives = may(world, side, Move::Arrive { position })?;
                 if !arrives || !may_take(world, side, position)? {
                     return Some(false);

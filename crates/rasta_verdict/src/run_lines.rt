@@ -1,11 +1,12 @@
 //! The lines of a run.
-ghost use Rattle.std.specs.Prelude.{◌≡◌, ◌≤◌, length};
-ghost use Rattle.rasta_cert.specs.Certificate.{why_line};
+ghost use Rattle.std.specs.Prelude.{◌≡◌};
 ghost use Rattle.rasta_verdict.specs.RunText.{copy_line, make_line, take_line};
 
+use rasta_cert::begin_with_why;
 use rasta_end::Why;
+use rasta_line::Line;
 use rasta_pdu::Side;
-use rasta_show::{Line, end_name};
+use rasta_show::end_name;
 
 /// When and why an end made a packet.
 #[derive(Clone, Copy, Debug)]
@@ -13,26 +14,6 @@ pub struct Made {
     /// In milliseconds.
     pub clock: u64,
     pub why: Why,
-}
-
-// Begins a line with the reason of a make.
-fn begin_with_why(line: &mut Line, why: Why)
-    ensures line { line.new ≡ why_line why }
-    ensures short { length line.new ≤ 27 }
-{
-    match why {
-        Why::Open => line.begin_with_word(b"open"),
-        Why::Reply => line.begin_with_word(b"reply"),
-        Why::Beat => line.begin_with_word(b"beat"),
-        Why::Fresh => line.begin_with_word(b"fresh"),
-        Why::Again(unit) => {
-            line.begin_with_number(u64::from(unit));
-            line.word(b"again");
-        }
-        Why::Ask => line.begin_with_word(b"ask"),
-        Why::Bye => line.begin_with_word(b"bye"),
-        Why::Expired => line.begin_with_word(b"expired"),
-    }
 }
 
 /// Makes the line of a take: the slot, the end that takes, and the redundancy number.

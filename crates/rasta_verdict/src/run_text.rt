@@ -11,9 +11,9 @@ use crate::run_lines::{Made, put_copy, put_make, put_take};
 use crate::script_front::{next_take, pass_make};
 use rasta_cert::{Certificate, Entry};
 use rasta_check::Store;
+use rasta_line::Line;
 use rasta_pcap::write_all;
 use rasta_pdu::{Fault, Side, Sink};
-use rasta_show::Line;
 
 /// What is left of both scripts.
 #[derive(Clone, Copy, Debug)]

@@ -5,7 +5,7 @@ ghost use Rattle.rasta_pcap.specs.Fault.{write_failed};
 use crate::explanation::Explanation;
 use crate::page::{Page, write_offers, write_place, write_read, write_without};
 use crate::sent_messages::{SentMessage, SentMessages, list_of, sent_count};
-use crate::text::{Part, other, write_parts, write_words};
+use crate::text::{Part, write_parts, write_words};
 use rasta_check::{SpanList, Store, Taken};
 use rasta_pcap::{Fault, Side, Sink};
 use rasta_pdu::QuietEnd;
@@ -221,7 +221,7 @@ fn write_direction<W: Sink>(
             Part::Words("\n"),
             Part::End(sender),
             Part::Words(" to "),
-            Part::End(other(sender)),
+            Part::End(sender.other()),
             Part::Words(": "),
             Part::Number(listed),
             Part::Words(" of "),

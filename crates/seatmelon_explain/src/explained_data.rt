@@ -8,7 +8,7 @@ use crate::explanation::Explanation;
 use crate::page::Page;
 use crate::page_data::place_data;
 use crate::sent_messages::{SentMessage, SentMessages, list_of, sent_count};
-use crate::text::{Part, add, name_of_end, other, sentence_of, text_of};
+use crate::text::{Part, add, name_of_end, sentence_of, text_of};
 use rasta_check::{Store, Taken};
 use rasta_pcap::{Fault, Side};
 use std::alloc::Global;
@@ -135,7 +135,7 @@ fn direction_data(
     add_rest(alloc, page, sent, listed, &mut messages)?;
     Ok(Direction {
         from: name_of_end(sender),
-        to: name_of_end(other(sender)),
+        to: name_of_end(sender.other()),
         surely_taken: Number(listed),
         sent: Number(sent_count(list_of(store, sender))),
         messages,

@@ -11,7 +11,7 @@ use crate::page::{
 use crate::rule::write_rule;
 use crate::sent_messages::list_of;
 use crate::sightings::Wanted;
-use crate::text::{Part, other, write_parts, write_words};
+use crate::text::{Part, write_parts, write_words};
 use crate::words::{Hint, WITHOUT_OPENING, hint_on, meaning_of};
 use rasta_build::Obstacle;
 use rasta_cert::{Certificate, Entry};
@@ -497,7 +497,7 @@ fn write_entry_place<W: Sink>(
 pub fn named_by(store: &Store, side: Side, entry: Entry) -> Option<Crossed<'_>> {
     match entry {
         Entry::Take { number, .. } => {
-            let side = other(side);
+            let side = side.other();
             let (place, pdu) = pdu_with(&list_of(store, side), number)?;
             let pdu = Some(pdu);
             Some(Crossed { side, place, pdu })

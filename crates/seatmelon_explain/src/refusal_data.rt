@@ -19,7 +19,7 @@ use crate::refusal::{
 };
 use crate::rule::{found_in, named_in, sentence, sn_due};
 use crate::sent_messages::list_of;
-use crate::text::{Part, add, name_of_end, other, sentence_of, text_of};
+use crate::text::{Part, add, name_of_end, sentence_of, text_of};
 use crate::words::{Hint, hint_on, meaning_of};
 use rasta_build::Obstacle;
 use rasta_cert::Certificate;
@@ -301,7 +301,7 @@ fn peer_data(
 ) -> Result<Option<CrossedPdu>, Fault>
     ensures err { IfErr result (λ f. f ≡ no_memory) }
 {
-    let side = other(met.side);
+    let side = met.side.other();
     match named_in(store, side, met.rule) {
         Some((place, pdu)) => {
             let pdu = Some(pdu);
@@ -327,7 +327,7 @@ fn rule_data(
         return Ok(None);
     };
     Ok(Some(Behind {
-        words: text_of(alloc, &sentence(met.rule, &pdu, other(met.side)))?,
+        words: text_of(alloc, &sentence(met.rule, &pdu, met.side.other()))?,
         number_due: sn_due(page, store, &met),
         number_found: found_in(met.rule, &pdu).map(|(_, number)| number),
         peer_pdu: peer_data(alloc, page, store, &met)?,

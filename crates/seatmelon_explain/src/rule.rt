@@ -5,7 +5,7 @@ ghost use Rattle.rasta_pcap.specs.Fault.{write_failed};
 use crate::page::{Page, write_place};
 use crate::refusal::{pdu_at, pdu_with};
 use crate::sent_messages::list_of;
-use crate::text::{Part, other, write_parts, write_words};
+use crate::text::{Part, write_parts, write_words};
 use crate::words::meaning_of;
 use rasta_build::{Obstacle, Rule};
 use rasta_check::{SentList, SpanList, Store};
@@ -219,7 +219,7 @@ pub fn write_rule<W: Sink>(
     let Some(pdu) = pdu_at(&list, met.place) else {
         return Ok(());
     };
-    let peer = other(met.side);
+    let peer = met.side.other();
     write_words(
         writer,
         "the rule that refuses it, found by a walk beside the verdict and no part of it:\n  ",

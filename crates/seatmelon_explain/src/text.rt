@@ -89,14 +89,6 @@ pub fn name_of_end(side: Side) -> &'static str {
     }
 }
 
-/// The other end.
-pub fn other(side: Side) -> Side {
-    match side {
-        Side::Client => Side::Server,
-        Side::Server => Side::Client,
-    }
-}
-
 fn write_part<W: Sink>(writer: &mut W, part: Part<'_>) -> Result<(), Fault>
     ensures err { IfErr result (λ f. f ≡ write_failed) }
 {

@@ -2,6 +2,7 @@
 use Rattle.std.proofs.Common.{◌≡◌, ℕ, Bool, true, false, List, [], ◌∷◌, Some, refl, ap, sym, arith}
 use Rattle.std.specs.Prelude.{not, ◌&&◌, ◌==◌}
 use Rattle.std.proofs.lemmas.Bool.Decides.{nat_tests}
+use Rattle.std.specs.Bool.{then_some}
 use Rattle.rasta_pcap.specs.declared.fault.Side.{Side}
 use Rattle.rasta_pcap.specs.declared.fault.Side.TheVariants.{Client, Server}
 use Rattle.rasta_pdu.specs.declared.kind.Kind.{Kind}
@@ -19,7 +20,7 @@ use Rattle.rasta_end.specs.declared.owed.Owed.TheVariants.{ConnectionResponse as
 use Rattle.rasta_end.specs.declared.owed.Demand.{Demand}
 use Rattle.rasta_end.specs.declared.owed.Demand.TheVariants.{First, Nothing, Anything}
 use Rattle.rasta_end.specs.State.{Made, EndState, is_client, is_closed, is_start, is_up, is_connected, is_active, reason_of}
-use Rattle.rasta_end.specs.MakeRule.{row_where, make_row, demand_of, same_owed, lacks, owes_else, is_refused_row, is_owing_else, row_of, unit_of, after_make, after_make_by}
+use Rattle.rasta_end.specs.MakeRule.{make_row, demand_of, same_owed, lacks, owes_else, is_refused_row, is_owing_else, row_of, unit_of, after_make, after_make_by}
 use Rattle.rasta_check.proofs.Model.PassedTests.{Passed, un_not}
 
 -- which row allows a make: side, phase, why, type, what is owed, and the row
@@ -59,7 +60,7 @@ meets Nothing [] e f = refl
 meets Nothing (q ∷ os) e f = absurd (cc)
 meets Anything os e f = tt
 
-met : (row : MakeRow) (b : Bool) (os : List Owed) → is_refused_row (row_where b row) os ≡ false → is_owing_else (row_where b row) os ≡ false → (b ≡ true) × Met (demand_of row) os
+met : (row : MakeRow) (b : Bool) (os : List Owed) → is_refused_row (then_some b row) os ≡ false → is_owing_else (then_some b row) os ≡ false → (b ≡ true) × Met (demand_of row) os
 met row false os e f = absurd (cc)
 met row true os e f = (refl, meets (demand_of row) os e f)
 
@@ -87,16 +88,16 @@ pub making : (s : Side) (ph : Phase) (reason : ℕ) (why : Why) (k : Kind) (os :
     → is_refused_row (make_row s ph reason why k) os ≡ false → is_owing_else (make_row s ph reason why k) os ≡ false
     → (row : MakeRow) × (make_row s ph reason why k ≡ Some row) × Making s ph why k os row
 unfolding Met
-making s ph reason Open ConnectionRequest os e f = let m = met Opens _ os e f in (Opens, ap (λ b. row_where b Opens) m.0, open_row s ph os m.0)
-making s ph reason Reply ConnectionResponse os e f = let m = met Answers _ os e f in (Answers, ap (λ b. row_where b Answers) m.0, rw (m.1.1) (response_row s ph m.1.0 m.0))
-making s ph reason Reply Heartbeat os e f = let m = met StartsBeating _ os e f in (StartsBeating, ap (λ b. row_where b StartsBeating) m.0, rw (m.1.1) (first_beat_row s ph m.1.0 m.0))
-making s ph reason Reply RetransmissionResponse os e f = let m = met Returns (is_connected ph) os e f in (Returns, ap (λ b. row_where b Returns) m.0, rw (m.1.1) (answer m.0))
-making s ph reason (Again j) RetransmittedData os e f = let m = met (Resends j) (is_connected ph) os e f in (Resends j, ap (λ b. row_where b (Resends j)) m.0, rw (m.1.1) (again m.0))
-making s ph reason Ask RetransmissionRequest os e f = let m = met Requests (is_connected ph) os e f in (Requests, ap (λ b. row_where b Requests) m.0, rw (m.1.1) (ask m.0))
-making s ph reason Beat Heartbeat os e f = let m = met Beats (is_connected ph) os e f in (Beats, ap (λ b. row_where b Beats) m.0, rw (m.1) (beat m.0))
-making s ph reason Fresh Data os e f = let m = met Offers (is_connected ph) os e f in (Offers, ap (λ b. row_where b Offers) m.0, rw (m.1) (fresh m.0))
-making s ph reason Bye DisconnectionRequest os e f = let m = met Leaves (is_active ph && not (reason == 4)) os e f in (Leaves, ap (λ b. row_where b Leaves) m.0, bye (both _ _ m.0).0)
-making s ph reason Expired DisconnectionRequest os e f = let m = met TimesOut (is_active ph && (reason == 4)) os e f in (TimesOut, ap (λ b. row_where b TimesOut) m.0, expired (both _ _ m.0).0)
+making s ph reason Open ConnectionRequest os e f = let m = met Opens _ os e f in (Opens, ap (λ b. then_some b Opens) m.0, open_row s ph os m.0)
+making s ph reason Reply ConnectionResponse os e f = let m = met Answers _ os e f in (Answers, ap (λ b. then_some b Answers) m.0, rw (m.1.1) (response_row s ph m.1.0 m.0))
+making s ph reason Reply Heartbeat os e f = let m = met StartsBeating _ os e f in (StartsBeating, ap (λ b. then_some b StartsBeating) m.0, rw (m.1.1) (first_beat_row s ph m.1.0 m.0))
+making s ph reason Reply RetransmissionResponse os e f = let m = met Returns (is_connected ph) os e f in (Returns, ap (λ b. then_some b Returns) m.0, rw (m.1.1) (answer m.0))
+making s ph reason (Again j) RetransmittedData os e f = let m = met (Resends j) (is_connected ph) os e f in (Resends j, ap (λ b. then_some b (Resends j)) m.0, rw (m.1.1) (again m.0))
+making s ph reason Ask RetransmissionRequest os e f = let m = met Requests (is_connected ph) os e f in (Requests, ap (λ b. then_some b Requests) m.0, rw (m.1.1) (ask m.0))
+making s ph reason Beat Heartbeat os e f = let m = met Beats (is_connected ph) os e f in (Beats, ap (λ b. then_some b Beats) m.0, rw (m.1) (beat m.0))
+making s ph reason Fresh Data os e f = let m = met Offers (is_connected ph) os e f in (Offers, ap (λ b. then_some b Offers) m.0, rw (m.1) (fresh m.0))
+making s ph reason Bye DisconnectionRequest os e f = let m = met Leaves (is_active ph && not (reason == 4)) os e f in (Leaves, ap (λ b. then_some b Leaves) m.0, bye (both _ _ m.0).0)
+making s ph reason Expired DisconnectionRequest os e f = let m = met TimesOut (is_active ph && (reason == 4)) os e f in (TimesOut, ap (λ b. then_some b TimesOut) m.0, expired (both _ _ m.0).0)
 making s ph reason _ _ os e f = absurd (cc)
 
 -- ---- the row of a make

@@ -2,6 +2,7 @@
 use Rattle.std.specs.Prelude.{◌≡◌, ℕ, suc, ◌+◌, ◌<◌, ◌≤◌, List, [], ◌∷◌, ◌++◌, length, Some, slice_get, Contains}
 use Rattle.rasta_pcap.specs.declared.fault.Side.{Side}
 use Rattle.rasta_pcap.specs.declared.fault.Side.TheVariants.{Client, Server}
+pub use Rattle.rasta_pcap.specs.Fault.{other_side}
 use Rattle.rasta_udp.specs.Frame.{Packet}
 use Rattle.rasta_pdu.specs.Params.{Parameters}
 use Rattle.rasta_pdu.specs.Pdu.{SafetyPdu}
@@ -60,11 +61,6 @@ pub data Moves (p : Parameters) (peer : Station) (crossed : List Packet) : Stati
   waits : {a : Station} (clock : ℕ)
       → a.clock ≤ clock
       → Moves p peer crossed a (waiting clock) (record a { clock = clock }) crossed
-
--- the peer's side
-abbrev pub other_side : Side → Side
-other_side Client = Server
-other_side Server = Client
 
 -- the station of a side, and its end
 abbrev pub station_of : World → Side → Station

@@ -1,6 +1,6 @@
 use Rattle.std.proofs.Common.{◌≡◌, ◌≢◌, List, ℕ, Bor, Option, Some, None, IfSome, IfNone, option_map, ◌++◌, sym}
 use Rattle.rasta_cert.specs.Certificate.{line}
-use Rattle.rasta_cert.specs.Fields.{cut}
+use Rattle.rasta_line.specs.Words.{cut}
 use Rattle.rasta_cert.specs.Refusals.{first_line}
 use Rattle.rasta_cert.proofs.LineLemmas.{first_line-cut, first_line-whole}
 use Rattle.rasta_cert.proofs.reading.next_line.Goals as goal

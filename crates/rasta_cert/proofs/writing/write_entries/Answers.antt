@@ -8,16 +8,16 @@ use Rattle.rasta_cert.proofs.writing.write_entries.Goals as goal
 pub returns-in_err-write_all-clause-begun : goal.returns-in_err-write_all-clause-begun
 returns-in_err-write_all-clause-begun g c =
     where_failed c.from_residual.result (Sent-begun _ _ _ _ _ _ _ c.loop-entry.invariant.sent
-    (entries_text-next c.args.entries.now c.loop-entry.entry-index _ c.loop-entry-test.true ∙ ap (λ l. l ++ entries_text (drop (c.loop-entry.entry-index + 1) c.args.entries.now)) (sym (c.as_bytes.ensures ∙ c.of_entry.ensures.line)))
+    (entries_text-next c.args.entries.now c.loop-entry.entry-index _ c.loop-entry-test.true ∙ ap (λ l. l ++ entries_text (drop (c.loop-entry.entry-index + 1) c.args.entries.now)) (sym (c.as_bytes.ensures ∙ c.put_entry.ensures.line)))
     c.in_err-write_all.ensures.begun)
 
 pub loop-entry-preserved : goal.loop-entry-preserved
 loop-entry-preserved g c = record {
   sent = Sent-more _ _ _ _ _ _ _ c.loop-entry.invariant.sent
-      (entries_text-next c.args.entries.now c.loop-entry.entry-index _ c.loop-entry-test.true ∙ ap (λ l. l ++ entries_text (drop (c.loop-entry.entry-index + 1) c.args.entries.now)) (sym (c.as_bytes.ensures ∙ c.of_entry.ensures.line)))
+      (entries_text-next c.args.entries.now c.loop-entry.entry-index _ c.loop-entry-test.true ∙ ap (λ l. l ++ entries_text (drop (c.loop-entry.entry-index + 1) c.args.entries.now)) (sym (c.as_bytes.ensures ∙ c.put_entry.ensures.line)))
       c.in_ok-write_all.ensures.ok;
   valid = subst AreEntries (sym (take_more c.args.entries.now c.loop-entry.entry-index _ c.loop-entry-test.true))
-      (AreEntries_push _ _ c.loop-entry.invariant.valid c.of_entry.ensures.valid);
+      (AreEntries_push _ _ c.loop-entry.invariant.valid c.put_entry.ensures.valid);
   steady = c.in_ok-write_all.ensures.steady ∙ c.loop-entry.invariant.steady;
 }
 

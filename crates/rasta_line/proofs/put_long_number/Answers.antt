@@ -1,6 +1,6 @@
 use Rattle.std.proofs.Common.{rules}
 use Rattle.std.proofs.lemmas.Fmt.{length-decimal-le}
-use Rattle.rasta_cert.proofs.line.put_number.Goals as goal
+use Rattle.rasta_line.proofs.put_long_number.Goals as goal
 
 pub write_digits-requires : goal.write_digits-requires
 write_digits-requires c = search (rules, length-decimal-le 20)
