@@ -1,10 +1,11 @@
-use Rattle.std.proofs.Common.{◌∙◌, sym}
-use Rattle.rasta_plain.proofs.Plainly.{quiet-client, quiet-server}
+use Rattle.std.proofs.Common.{◌∙◌, ap, sym}
+use Rattle.rasta_pdu.specs.Params.{quiet_of}
+use Rattle.rasta_end.specs.Starts.{quiet_pdu}
+use Rattle.rasta_plain.proofs.Plainly.{quiet-made}
 use Rattle.rasta_plain.proofs.taken.quiet_of.Goals as goal
 
-pub returns-in-Some-Client : goal.returns-in-Some-Client
-returns-in-Some-Client c = quiet-client c.args.params.now c.args.side c.in-Some-Client.quiet _ (sym c.quiet.ensures.value ∙ c.in-Some-Client.is-0) c.in-Some-Client.is-1 c.quiet_pdu.ensures
-
-pub returns-in-Some-Server : goal.returns-in-Some-Server
-returns-in-Some-Server c =
-    quiet-server c.args.params.now c.args.side c.in-Some-Server.quiet _ (sym c.quiet.ensures.value ∙ c.in-Some-Server.is-0) c.in-Some-Server.is-1 c.quiet_pdu-in-Some-Server.ensures
+pub returns-in-Some : goal.returns-in-Some
+returns-in-Some c =
+    let other = c.of-in-Some.ensures ∙ ap (quiet_of c.in-Some.quiet) c.other.ensures in
+    quiet-made c.args.params.now c.args.side c.in-Some.quiet _ (sym c.quiet.ensures.value ∙ c.in-Some.is)
+    (c.quiet_pdu.ensures ∙ (λ i. quiet_pdu (c.of.ensures i) (other i)))
