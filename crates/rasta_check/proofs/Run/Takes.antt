@@ -81,7 +81,7 @@ module _ (p : Parameters) (packets : List Packet) (n k : ℕ) (s r : Side) (own 
       next_number b.first_number (base p) position q head.0.pdu.number refl (g.number head.0 head.1) ∙ sym (sent.numbers position head.0 c head.1 there) in (
         record arrived { state = e'; taken = suc q },
         subst (λ (ls : List Line). Many p b s xs a ls (record arrived { state = e'; taken = suc q }) xs) (λ i. brought_line (long i) s (numbered i) ∷ take_line (long i) s (numbered i) ∷ [])
-        (moves (arriving q) (arrives q low within) (moves (taking q) (takes q x.0 e' (0, omega arith, refl) passed_mark x.1 t) stays)),
+            (moves (arriving q) (arrives q low within) (moves (taking q) (takes q x.0 e' (0, omega arith, refl) passed_mark x.1 t) stays)),
         record {
           level = slot;
           made = f.made;

@@ -25,7 +25,6 @@ use Rattle.rasta_check.specs.Script.Following.{Cursor, at_start, Follows}
 use Rattle.rasta_check.specs.Script.Fitting.{places_made, AreInOrder, AreNamed, Joins, Fits, level_after, position_after, entry_tests, end_fault, FirstFault, at_entry, after_last}
 use Rattle.rasta_check.specs.Internals.Checking.{unless, take_at, take_found, make_of, make_found, next_cursor, then_follow, follow_from, follow, where_followed, verdict_of}
 use Rattle.rasta_check.specs.Verdict.Report.{Explained, IsScriptVerdict, both_fit, client_refused, server_refused, report_of}
-use Rattle.rasta_check.proofs.Capture.Positions.{position_at}
 use Rattle.rasta_check.proofs.Script.FollowedScripts.{number_found, place_found, place_named, less, not_less, passes, holds, allowed, neither, above, below, both, passed, held, same_equal, follow_fits, fits_follow}
 use Rattle.rasta_check.proofs.Script.Simulation.{slice_get_some}
 use Rattle.rasta_check.proofs.Internals.StoreLists.{copy_of_position, no_copy}
