@@ -1,5 +1,5 @@
 -- Scripts that fit, and the runs that they tell.
-pub mod MappedLists
+pub mod ListItems
 pub mod FollowedScripts
 pub mod CutScripts
 pub mod Fits

@@ -15,7 +15,7 @@ use Rattle.rasta_check.proofs.Capture.FaultlessLists.{IsSent}
 use Rattle.rasta_check.proofs.Capture.Positions.{position_none}
 use Rattle.rasta_check.proofs.Script.Simulation.{places_once}
 use Rattle.rasta_check.proofs.Script.FollowedScripts.{place_named}
-use Rattle.rasta_check.proofs.Script.MappedLists.{mapped_at}
+use Rattle.rasta_check.proofs.Script.ListItems.{mapped_at}
 use Rattle.rasta_check.specs.Run.Levels.{takes_at, makes_at}
 use Rattle.rasta_check.proofs.Run.Entries.{above, makes_none, makes_other, makes_past, takes_none, takes_other, takes_past}
 

@@ -25,14 +25,10 @@ use Rattle.rasta_check.specs.Script.Following.{Cursor, at_start, Follows}
 use Rattle.rasta_check.specs.Script.Fitting.{places_made, AreInOrder, AreNamed, Joins, Fits, level_after, position_after, entry_tests, end_fault, FirstFault, at_entry, after_last}
 use Rattle.rasta_check.specs.Internals.Checking.{unless, take_at, take_found, make_of, make_found, next_cursor, then_follow, follow_from, follow, where_followed, verdict_of}
 use Rattle.rasta_check.specs.Verdict.Report.{Explained, IsScriptVerdict, both_fit, client_refused, server_refused, report_of}
+use Rattle.rasta_check.proofs.Script.ListItems.{get_behind}
 use Rattle.rasta_check.proofs.Script.FollowedScripts.{Goes, takes, makes, goes, gone, number_found, place_found, place_named, not_less, holds, held, failed, same_equal, follow_fits, fits_follow}
 use Rattle.rasta_check.proofs.Script.Simulation.{slice_get_some}
 use Rattle.rasta_check.proofs.Internals.StoreLists.{copy_of_position, no_copy}
-
-get_behind : (made left : List FirstCopy) (j n : ℕ) → n ≡ length made + j → slice_get (made ++ left) n ≡ slice_get left j
-get_behind [] left j n e = (let z : n ≡ j = omega (arith, e) in ap (slice_get left) z)
-get_behind (c ∷ made) left j zero e = absurd (omega (arith, e))
-get_behind (c ∷ made) left j (suc n) e = get_behind made left j n (omega (arith, e))
 
 -- so many and those of a list
 counted : {A : Type 0} → ℕ → List A → ℕ
@@ -344,7 +340,7 @@ module _ (p : Parameters) (packets : ℕ) (own peer : List FirstCopy) where
 
   -- what was made is left behind
   rests_behind : (w : Cursor) (made left : List FirstCopy) → own ≡ made ++ left → w.made ≡ length made → Rests w left
-  rests_behind w made left parts m j = ap (λ (cs : List FirstCopy). slice_get cs (w.made + j)) parts ∙ get_behind made left j (w.made + j) (let z = m in omega (arith, z))
+  rests_behind w made left parts m j = ap (λ (cs : List FirstCopy). slice_get cs (w.made + j)) parts ∙ (ap (λ n. slice_get (made ++ left) (n + j)) m ∙ get_behind made left j)
 
   -- a script that fits is followed
   pub fits_is : (side : Side) (es : List Entry) (e : EndState) → Fits p side packets own peer es e → follow p side packets own peer es ≡ Ok e

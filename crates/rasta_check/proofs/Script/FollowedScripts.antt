@@ -4,7 +4,9 @@ use Rattle.std.specs.Option.{option_map}
 use Rattle.std.specs.Prelude.{◌-◌, not, nat_lt, ◌==◌, ◌||◌, if◌then◌else◌}
 use Rattle.std.proofs.lemmas.Bool.Decides.{nat_tests}
 use Rattle.std.proofs.lemmas.List.Quantifiers.{position-Some}
-use Rattle.std.proofs.lemmas.Option.{slice_get_within, slice_get-map, slice_get-get_or}
+use Rattle.std.proofs.Math.Seq.{drop-cons}
+use Rattle.std.proofs.lemmas.List.{drop_all}
+use Rattle.std.proofs.lemmas.Option.{get_or_from_slice_get, slice_get_within, slice_get-map, slice_get-get_or}
 use Rattle.rasta_pcap.specs.declared.fault.Fault.{Fault}
 use Rattle.rasta_pcap.specs.declared.fault.Side.{Side}
 use Rattle.rasta_pcap.specs.Fault.{fault_of_end, no_memory, slot_order, make_missing, not_yet_crossed, not_rising}
@@ -24,7 +26,7 @@ use Rattle.rasta_check.specs.Script.Following.{Cursor, Advances, takes_next, mak
 use Rattle.rasta_check.specs.Internals.Checking.{unless, take_at, take_found, make_of, make_found, next_cursor, then_follow, follow_from, follow, Followed, moved_to, IsRefused}
 use Rattle.rasta_check.proofs.Capture.Positions.{position_at, places_below}
 use Rattle.rasta_check.proofs.Capture.FirstCopies.{not_again}
-use Rattle.rasta_check.proofs.Script.MappedLists.{map_at, mapped_at}
+use Rattle.rasta_check.proofs.Script.ListItems.{map_at, mapped_at}
 use Rattle.rasta_check.proofs.Script.Simulation.{slice_get_some}
 
 -- ---- positions
@@ -230,9 +232,7 @@ module _ (p : Parameters) (packets : ℕ) (own peer : List FirstCopy) (mine : Is
 
 module _ (p : Parameters) (packets : ℕ) (own peer : List FirstCopy) (side : Side) where
   next_of : (es : List Entry) (i : ℕ) (x : Entry) → slice_get es i ≡ Some x → drop i es ≡ x ∷ drop (suc i) es
-  next_of [] i x g = absurd (cc)
-  next_of (y ∷ es) zero x g = (let same : y ≡ x = cc in ap (λ (z : Entry). z ∷ es) same)
-  next_of (y ∷ es) (suc i) x g = next_of es i x g
+  next_of es i x g = drop-cons es i x (slice_get_within es i x g) ∙ ap (λ (z : Entry). z ∷ drop (suc i) es) (get_or_from_slice_get es i x x g)
 
   -- an entry that is followed leads on
   pub step_on : (entry : ℕ) (u v : Cursor) (es : List Entry) (i : ℕ) (x : Entry) → slice_get es i ≡ Some x → next_cursor p packets own peer u x ≡ Ok v
@@ -252,13 +252,7 @@ module _ (p : Parameters) (packets : ℕ) (own peer : List FirstCopy) (side : Si
   pub step_end : (entry : ℕ) (u : Cursor) (es : List Entry) (i : ℕ) → length es ≤ i
       → follow_from p side packets own peer entry u (drop i es) ≡ (if u.made == length own then Ok u.state else Err (fault_of_end make_missing entry side))
   unfolding follow_from
-  step_end entry u es i l = ap (follow_from p side packets own peer entry u) (none_of es i l)
-    where
-      none_of : (es : List Entry) (i : ℕ) → length es ≤ i → drop i es ≡ []
-      none_of [] zero l = refl
-      none_of [] (suc i) l = refl
-      none_of (y ∷ es) zero l = absurd (omega arith)
-      none_of (y ∷ es) (suc i) l = none_of es i (omega arith)
+  step_end entry u es i l = ap (follow_from p side packets own peer entry u) (drop_all i es l)
 
   -- the same for a follower
   pub loop_on : (f f' : Followed) (es : List Entry) (i : ℕ) (d : Entry) → i < length es → f.params ≡ p → f.side ≡ side

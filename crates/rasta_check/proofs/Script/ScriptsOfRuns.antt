@@ -27,7 +27,7 @@ use Rattle.rasta_check.specs.Script.Following.{Cursor, Advances, takes_next, mak
 use Rattle.rasta_check.specs.Verdict.Taken.{pdus_of, pdus_made}
 use Rattle.rasta_check.proofs.Model.ListGrowth.{get_push_cases, get_front, get_push}
 use Rattle.rasta_check.proofs.Model.TakeRows.{take_leaves}
-use Rattle.rasta_check.proofs.Script.MappedLists.{map_at, mapped_at}
+use Rattle.rasta_check.proofs.Script.ListItems.{get_behind, map_at, mapped_at}
 use Rattle.rasta_check.proofs.Capture.FirstCopies.{Counts_from, sent_other, sent_copy, sent_first, sent_none, sent_once}
 
 -- scripts in a wider setting, and one entry more
@@ -94,10 +94,6 @@ earlier p e m n l h = by (is_closed e.phase) h
     by true h = refl
     by false h = fault_by e.owed _ _ (past_before p e.deadline m n l) h
 
-get_after : (xs ys : List SafetyPdu) (i : ℕ) → slice_get (xs ++ ys) (length xs + i) ≡ slice_get ys i
-get_after [] ys i = (let e : 0 + i ≡ i = omega arith in ap (slice_get ys) e)
-get_after (x ∷ xs) ys i = (let e : suc (length xs) + i ≡ suc (length xs + i) = omega arith in ap (λ n. slice_get (x ∷ (xs ++ ys)) n) e ∙ get_after xs ys i)
-
 -- what a station sends: its first copies so far are what it has made since the start_of
 pub record Sends (p : Parameters) (s : Side) (xs : List Packet) (own : List FirstCopy) (e : EndState) (first : ℕ) : Type 0 where
   pub sent : IsSent p xs s own
@@ -141,7 +137,7 @@ copy_at p s xs own e f i m h g =
     let a = map_at (λ (x : Made). x.pdu) e.made (base p + i) m g in
     let l : length (pdus_made (start_of p s).made) ≡ base p = length-map (start_of p s).made (λ (x : Made). x.pdu) ∙ start_made p.quiet s in
     let b : slice_get (pdus_made (start_of p s).made ++ pdus_of own) (length (pdus_made (start_of p s).made) + i) ≡ Some m.pdu = subst (λ n. slice_get (pdus_made (start_of p s).made ++ pdus_of own) (n + i) ≡ Some m.pdu) (sym l) (subst (λ (ps : List SafetyPdu). slice_get ps (base p + i) ≡ Some m.pdu) h.same a) in
-    mapped_at (λ (c : FirstCopy). c.pdu.safety) own i m.pdu (sym (get_after (pdus_made (start_of p s).made) (pdus_of own) i) ∙ b)
+    mapped_at (λ (c : FirstCopy). c.pdu.safety) own i m.pdu (sym (get_behind (pdus_made (start_of p s).made) (pdus_of own) i) ∙ b)
 
 -- a packet of the other side leaves what an end sends
 sends_other : (p : Parameters) (s : Side) (xs : List Packet) (k : Packet) (own : List FirstCopy) (e : EndState) (f : ℕ) → Sends p s xs own e f → (k.side ≡ s → ⊥) → Sends p s (xs ++ k ∷ []) own e f
