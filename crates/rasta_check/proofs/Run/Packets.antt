@@ -21,7 +21,7 @@ use Rattle.rasta_check.proofs.Capture.Crossings.{number_spelled}
 use Rattle.rasta_check.proofs.Model.ListGrowth.{get_front, get_push}
 use Rattle.rasta_check.proofs.Script.Simulation.{Tracks, Drained, next_number, next_packet, places_once, slice_get_some, untouched}
 use Rattle.rasta_check.proofs.Model.Steps.{base, made_more}
-use Rattle.rasta_check.specs.Run.Lines.{Line, lines_of_move, copy_lines, number_of}
+use Rattle.rasta_check.specs.Run.Lines.{lines_of_move, copy_lines, number_of}
 use Rattle.rasta_check.specs.Run.Levels.{makes_at, make_line, waited_line, each_make, side_lines, crossed_lines}
 use Rattle.rasta_check.proofs.Run.Entries.{takes_past, makes_here, makes_other, below}
 use Rattle.rasta_check.proofs.Run.Rests.{Above, Says, says_all, lead_above, places_above, no_makes, place_found, place_missing}

@@ -14,10 +14,9 @@ use Rattle.rasta_cert.specs.declared.entry.Entry.TheVariants.{Take, Make}
 use Rattle.rasta_check.specs.Capture.Crossing.{FirstCopy}
 use Rattle.rasta_check.specs.Script.Following.{Cursor, Advances, takes_next, makes_next, Leads}
 use Rattle.rasta_check.specs.Model.World.{Station, arriving, taking, arrives, takes}
-use Rattle.rasta_check.specs.Run.Lines.{Line}
 use Rattle.rasta_check.specs.Run.Levels.{takes_at, take_line, brought_line, each_take, takes_lines}
 use Rattle.rasta_check.proofs.Capture.FaultlessLists.{IsSent}
-use Rattle.rasta_check.proofs.Script.Simulation.{Tracks, Drained, lt_of, moved_made, next_number, slice_get_some}
+use Rattle.rasta_check.proofs.Script.Simulation.{Tracks, Drained, moved_made, next_number, slice_get_some}
 use Rattle.rasta_check.proofs.Model.Steps.{base}
 use Rattle.rasta_check.proofs.Model.TakeRows.{take_leaves}
 use Rattle.rasta_check.proofs.Run.Entries.{takes_here, takes_other, takes_past, makes_past, below, above, takes_none}
@@ -132,5 +131,5 @@ module _ (p : Parameters) (packets : List Packet) (n k : ℕ) (s r : Side) (own 
         | yes l ↦ (let same : slot ≡ k = (let z = ab.0 in omega (arith, l, z)) in
             let o = one_take slot number es a f.fits.0 f same f.fits.1 f.fits.2 in
             prepend slot number es a o.0 same o.1 (drain es o.0 ab.1 o.2))
-        | no l ↦ rests (Take slot number ∷ es) a f (let z = l in lt_of z)
+        | no l ↦ rests (Take slot number ∷ es) a f (omega (arith, l))
       ]

@@ -1,5 +1,5 @@
 -- The script that fits is the one that the code follows to its end, and the first fault of another is the one that the code answers.
-use Rattle.std.proofs.Common.{◌≡◌, ℕ, zero, suc, ◌+◌, ◌<◌, ◌≤◌, Bool, true, false, List, [], ◌∷◌, ◌++◌, length, Option, Some, None, Result, Ok, Err, slice_get, ◌⊎◌, inl, inr, refl, ap, sym, ◌∙◌, arith, subst}
+use Rattle.std.proofs.Common.{◌≡◌, ℕ, suc, ◌+◌, ◌<◌, ◌≤◌, Bool, true, false, List, [], ◌∷◌, ◌++◌, length, Option, Some, None, Result, Ok, Err, slice_get, ◌⊎◌, inl, inr, refl, ap, sym, ◌∙◌, arith, subst}
 use Rattle.std.specs.Prelude.{not, nat_lt, ◌==◌, ◌||◌, if◌then◌else◌, is_none}
 use Rattle.std.specs.Option.{option_map_or, option_or}
 use Rattle.std.proofs.lemmas.Bool.Decides.{nat_tests}
@@ -15,10 +15,9 @@ use Rattle.rasta_cert.specs.declared.entry.Entry.{Entry}
 use Rattle.rasta_cert.specs.declared.entry.Entry.TheVariants.{Take, Make}
 use Rattle.rasta_end.specs.declared.why.Why.{Why}
 use Rattle.rasta_end.specs.State.{EndState}
-use Rattle.rasta_end.specs.MakeRule.{Makes, make_fault, after_make, first_that_holds, is_there}
-use Rattle.rasta_end.specs.TakeRule.{Takes, take_fault, after_take}
+use Rattle.rasta_end.specs.MakeRule.{Makes, make_fault, first_that_holds, is_there}
+use Rattle.rasta_end.specs.TakeRule.{take_fault}
 use Rattle.rasta_end.specs.Starts.{start_of}
-use Rattle.rasta_end.proofs.MakeTests.{no_fault, no_test}
 use Rattle.rasta_check.specs.Capture.Crossing.{FirstCopy, copy_with}
 use Rattle.rasta_check.specs.Capture.Lists.{IsOrdered, places_of, position_of_number, position_of_place}
 use Rattle.rasta_check.specs.Script.Following.{Cursor, at_start, Follows}

@@ -43,9 +43,6 @@ Drained k (Make place clock why ∷ es) = Unit {0}
 pub moved_made : (ms ns : List Made) (i : ℕ) (P : Made → Type 0) → ns ≡ ms → ((m : Made) × (slice_get ms i ≡ Some m) × P m) → (m : Made) × (slice_get ns i ≡ Some m) × P m
 moved_made ms ns i P e z = (z.0, subst (λ (xs : List Made). slice_get xs i ≡ Some z.0) (sym e) z.1, z.2)
 
-pub lt_of : {i j : ℕ} → (i ≤ j → ⊥) → j < i
-lt_of h = omega arith
-
 pub slice_get_some : {A : Type 0} (xs : List A) (k : ℕ) → k < length xs → (x : A) × (slice_get xs k ≡ Some x)
 slice_get_some [] k l = absurd (omega arith)
 slice_get_some (x ∷ xs) zero l = (x, refl)
