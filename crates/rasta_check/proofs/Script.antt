@@ -1,4 +1,5 @@
 -- Scripts that fit, and the runs that they tell.
+pub mod ListItems
 pub mod FollowedScripts
 pub mod CutScripts
 pub mod Fits

@@ -14,10 +14,10 @@ use Rattle.rasta_cert.specs.declared.entry.Entry.{Entry}
 use Rattle.rasta_check.specs.Capture.Crossing.{FirstCopy, CrossRecorded}
 use Rattle.rasta_check.specs.Capture.Lists.{position_of_place}
 use Rattle.rasta_check.specs.Model.World.{Station, World, station_of, end_of, other_side, moved, first_station, first_world}
-use Rattle.rasta_check.specs.Script.Following.{Cursor, Leads, Follows, at_start}
+use Rattle.rasta_check.specs.Script.Following.{Follows, at_start}
 use Rattle.rasta_check.specs.Run.Moves.{Happened, Runs, starts}
 use Rattle.rasta_check.specs.Run.Lines.{Line, told, number_of}
-use Rattle.rasta_check.specs.Run.Levels.{takes_at, makes_at, each_take, takes_lines, side_lines, crossed_lines, by_side_lines, packet_lines, level_lines, levels_lines, run_lines}
+use Rattle.rasta_check.specs.Run.Levels.{makes_at, each_take, takes_lines, side_lines, crossed_lines, by_side_lines, packet_lines, level_lines, levels_lines, run_lines}
 use Rattle.rasta_check.proofs.Capture.FaultlessLists.{IsSent}
 use Rattle.rasta_check.proofs.Model.Steps.{base}
 use Rattle.rasta_check.proofs.Script.Simulation.{Tracks, Drained, first_number_of, first_tracks, nothing_left, passed_by, slice_get_some}

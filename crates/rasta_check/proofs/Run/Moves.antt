@@ -1,5 +1,5 @@
 -- Several moves of one station, one after the other, and their lines.
-use Rattle.std.proofs.Common.{◌≡◌, List, [], ◌∷◌, ◌++◌, refl, ap, sym, ◌∙◌, subst}
+use Rattle.std.proofs.Common.{◌≡◌, List, [], ◌∷◌, ◌++◌, ap, sym, ◌∙◌, subst}
 use Rattle.std.proofs.lemmas.List.{append-nil, append_assoc}
 use Rattle.rasta_pcap.specs.declared.fault.Side.{Side}
 use Rattle.rasta_pcap.specs.declared.fault.Side.TheVariants.{Client, Server}
@@ -42,3 +42,7 @@ pub append_many : {p : Parameters} {b : Station} {s : Side} {xs ys zs : List Pac
 append_many stays k = k
 append_many {p = p} {b = b} {s = s} {xs = xs} {zs = zs} {a = a} {a'' = a''} {ms = ms} (moves {ls = ls} m d r) k =
     subst (λ (l : List Line). Many p b s xs a l a'' zs) (sym (append_assoc (lines_of_move s a b xs m) ls ms)) (moves m d (append_many r k))
+
+-- the same moves, with their lines and what has crossed then in another form
+pub recast : {p : Parameters} {b : Station} {s : Side} {xs ys zs : List Packet} {a a' : Station} {ls ms : List Line} → ls ≡ ms → ys ≡ zs → Many p b s xs a ls a' ys → Many p b s xs a ms a' zs
+recast {p = p} {b = b} {s = s} {xs = xs} {a = a} {a' = a'} e f m = subst (λ (w : List Line × List Packet). Many p b s xs a w.0 a' w.1) (λ i. (e i, f i)) m

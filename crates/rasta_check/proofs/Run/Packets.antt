@@ -1,5 +1,5 @@
 -- The packet of a level: its end makes it, or it is a copy, with its lines.
-use Rattle.std.proofs.Common.{◌≡◌, ℕ, suc, ◌+◌, ◌<◌, ◌≤◌, List, [], ◌∷◌, ◌++◌, length, Some, slice_get, take, refl, ap, sym, ◌∙◌, arith, ⊎_elim, subst}
+use Rattle.std.proofs.Common.{◌≡◌, ℕ, suc, ◌+◌, ◌<◌, List, [], ◌∷◌, ◌++◌, length, Some, slice_get, take, refl, ap, sym, ◌∙◌, arith, ⊎_elim, subst}
 use Rattle.std.specs.Prelude.{slice_index_or, Option, None}
 use Rattle.std.proofs.lemmas.List.{append-nil, length_push, length-take-le, get_or-take}
 use Rattle.std.proofs.lemmas.Option.{slice_get_within, slice_get-get_or, get_or_from_slice_get}
@@ -14,18 +14,18 @@ use Rattle.rasta_cert.specs.declared.entry.Entry.{Entry}
 use Rattle.rasta_cert.specs.declared.entry.Entry.TheVariants.{Take, Make}
 use Rattle.rasta_check.specs.Capture.Crossing.{Spells, FirstCopy, CrossRecorded, number_in_bytes}
 use Rattle.rasta_check.specs.Capture.Lists.{position_of_place}
-use Rattle.rasta_check.specs.Script.Following.{Cursor, Advances, takes_next, makes_next, Leads}
+use Rattle.rasta_check.specs.Script.Following.{Cursor, Advances, makes_next, Leads}
 use Rattle.rasta_check.specs.Model.World.{Station, making, repeating, waiting, makes, repeats, waits}
 use Rattle.rasta_check.proofs.Capture.FaultlessLists.{IsSent}
 use Rattle.rasta_check.proofs.Capture.Crossings.{number_spelled}
 use Rattle.rasta_check.proofs.Model.ListGrowth.{get_front, get_push}
 use Rattle.rasta_check.proofs.Script.Simulation.{Tracks, Drained, next_number, next_packet, places_once, slice_get_some, untouched}
 use Rattle.rasta_check.proofs.Model.Steps.{base, made_more}
-use Rattle.rasta_check.specs.Run.Lines.{Line, lines_of_move, copy_lines, number_of}
-use Rattle.rasta_check.specs.Run.Levels.{takes_at, makes_at, make_line, waited_line, each_make, side_lines, crossed_lines}
+use Rattle.rasta_check.specs.Run.Lines.{lines_of_move, copy_lines, number_of}
+use Rattle.rasta_check.specs.Run.Levels.{makes_at, make_line, waited_line, each_make, side_lines, crossed_lines}
 use Rattle.rasta_check.proofs.Run.Entries.{takes_past, makes_here, makes_other, below}
 use Rattle.rasta_check.proofs.Run.Rests.{Above, Says, says_all, lead_above, places_above, no_makes, place_found, place_missing}
-use Rattle.rasta_check.proofs.Run.Moves.{Many, stays, moves}
+use Rattle.rasta_check.proofs.Run.Moves.{Many, stays, moves, recast}
 use Rattle.rasta_check.proofs.Run.Takes.{ahead}
 
 module _ (p : Parameters) (packets : List Packet) (k : ℕ) (s : Side) (own peer : List FirstCopy) (sent : IsSent p packets s own) (recorded : CrossRecorded p packets) (last : Cursor) (whole : last.made ≡ length own)
@@ -70,16 +70,12 @@ module _ (p : Parameters) (packets : List Packet) (k : ℕ) (s : Side) (own peer
       ap (λ (j : ℕ). makes_at k (Make j clock why ∷ es)) pl ∙ (makes_here k clock why es ∙ ap (λ (l : List (ℕ × Why)). (clock, why) ∷ l) (no_makes k (suc k) es (omega arith) after)) in
       let line : waited_line (length (take k packets)) s clock ∷ make_line (length (take k packets)) s (wrapped (a.first_number + length a.state.made)) (clock, why) ∷ [] ≡ side_lines k s (number_of here) own (Make c.place clock why ∷ es) =
       (λ i. waited_line (long i) s clock ∷ make_line (long i) s (shown i) (clock, why) ∷ []) ∙ sym (ap (λ (o : Option ℕ). crossed_lines k s (number_of here) o (makes_at k (Make c.place clock why ∷ es))) found ∙ ap (each_make k s (number_of here)) makes_now) in
-      let step : Many p b s (take k packets) a (waited_line (length (take k packets)) s clock ∷ make_line (length (take k packets)) s (wrapped (a.first_number + length a.state.made)) (clock, why) ∷ []) (record waited { state = e' })
-      (take k packets ++ record { channel = first.0.channel; side = a.state.side; payload = first.0.payload } ∷ []) =
-      moves (waiting clock) (waits clock (let z = f.clock in omega (arith, z, made.rises)))
-      (moves (making c.pdu.safety why first.0.channel c.pdu.reserve c.pdu.check_bytes) (makes {a = waited} c.pdu.safety why e' first.0.channel c.pdu.reserve c.pdu.check_bytes first.0.payload mk said (recorded c.place first.0 first.1)) stays) in
       record {
         rest = es;
         station = record waited { state = e' };
-        many = subst (λ (ls : List Line). Many p b s (take k packets) a ls (record waited { state = e' }) (take (suc k) packets)) line
-            (subst (λ (ys : List Packet). Many p b s (take k packets) a (waited_line (length (take k packets)) s clock ∷ make_line (length (take k packets)) s (wrapped (a.first_number + length a.state.made)) (clock, why) ∷ []) (record waited { state = e' }) ys)
-            (next_packet packets k first.0 a.state.side (f.side ∙ sym first.2) there) step);
+        many = recast line (next_packet packets k first.0 a.state.side (f.side ∙ sym first.2) there)
+            (moves (waiting clock) (waits clock (let z = f.clock in omega (arith, z, made.rises)))
+            (moves (making c.pdu.safety why first.0.channel c.pdu.reserve c.pdu.check_bytes) (makes {a = waited} c.pdu.safety why e' first.0.channel c.pdu.reserve c.pdu.check_bytes first.0.payload mk said (recorded c.place first.0 first.1)) stays));
         above = after;
         says = record { takes = λ j l. takes_past j c.place clock why es; makes = λ j l. makes_other j c.place clock why es (below c.place j (omega (arith, pl, l))) };
         tracks = record {
@@ -119,9 +115,7 @@ module _ (p : Parameters) (packets : List Packet) (k : ℕ) (s : Side) (own peer
       ∙ (ap (λ (o : Option Packet). copy_lines (length (take k packets)) s o) there
       ∙ ((λ i. crossed_lines (long i) s (number_in_bytes (ob i)) None [])
       ∙ sym (ap (λ (o : Option ℕ). crossed_lines k s (number_of here) o (makes_at k es)) no_first))) in
-      subst (λ (ls : List Line). Many p b s (take k packets) a ls a (take (suc k) packets)) line
-      (subst (λ (ys : List Packet). Many p b s (take k packets) a (lines_of_move s a b (take k packets) (repeating j here.channel) ++ []) a ys) next
-      (moves (repeating j here.channel) (repeats {a = a} j here.channel old there (os ∙ sd) (recorded k here at)) stays))
+      recast line next (moves (repeating j here.channel) (repeats {a = a} j here.channel old there (os ∙ sd) (recorded k here at)) stays)
 
   copied : (es : List Entry) (a : Station) → here.side ≡ s → Above (suc k) es → Tracks p (length packets) k s own peer es last a → Crossed es a
   copied es a hs above f =

@@ -1,5 +1,5 @@
 -- What the rest of a script that fits says of later levels.
-use Rattle.std.proofs.Common.{◌≡◌, ℕ, ◌<◌, ◌≤◌, List, [], ◌∷◌, length, Option, Some, None, slice_get, refl, ap, sym, ◌∙◌, arith, subst}
+use Rattle.std.proofs.Common.{◌≡◌, ℕ, ◌<◌, ◌≤◌, List, [], ◌∷◌, length, Some, None, slice_get, refl, ap, ◌∙◌, arith, subst}
 use Rattle.std.proofs.lemmas.Option.{slice_get_within}
 use native.Mathlib.Decide.{dec_lt}
 use Prim.{yes, no}
@@ -14,7 +14,8 @@ use Rattle.rasta_check.specs.Script.Following.{Cursor, Advances, takes_next, mak
 use Rattle.rasta_check.proofs.Capture.FaultlessLists.{IsSent}
 use Rattle.rasta_check.proofs.Capture.Positions.{position_none}
 use Rattle.rasta_check.proofs.Script.Simulation.{places_once}
-use Rattle.rasta_check.proofs.Script.FollowedScripts.{get_place, place_named}
+use Rattle.rasta_check.proofs.Script.FollowedScripts.{place_named}
+use Rattle.rasta_check.proofs.Script.ListItems.{mapped_at}
 use Rattle.rasta_check.specs.Run.Levels.{takes_at, makes_at}
 use Rattle.rasta_check.proofs.Run.Entries.{above, makes_none, makes_other, makes_past, takes_none, takes_other, takes_past}
 
@@ -73,4 +74,4 @@ pub place_found : (p : Parameters) (packets : List Packet) (s : Side) (own : Lis
 place_found p packets s own h i c g = place_named own i c g (λ j d l k e. (let z = places_once p packets s own h j i d c k g e in omega (arith, z, l)))
 
 pub place_missing : (own : List FirstCopy) (k : ℕ) → ((i : ℕ) (c : FirstCopy) → slice_get own i ≡ Some c → c.place ≡ k → ⊥) → position_of_place own k ≡ None
-place_missing own k none = position_none k (places_of own) (λ j y g e. (let d = get_place own j y g in none j d.0 d.1 (d.2 ∙ e)))
+place_missing own k none = position_none k (places_of own) (λ j y g e. (let d = mapped_at (λ (x : FirstCopy). x.place) own j y g in none j d.0 d.1 (d.2 ∙ e)))

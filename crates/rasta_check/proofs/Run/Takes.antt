@@ -14,15 +14,14 @@ use Rattle.rasta_cert.specs.declared.entry.Entry.TheVariants.{Take, Make}
 use Rattle.rasta_check.specs.Capture.Crossing.{FirstCopy}
 use Rattle.rasta_check.specs.Script.Following.{Cursor, Advances, takes_next, makes_next, Leads}
 use Rattle.rasta_check.specs.Model.World.{Station, arriving, taking, arrives, takes}
-use Rattle.rasta_check.specs.Run.Lines.{Line}
 use Rattle.rasta_check.specs.Run.Levels.{takes_at, take_line, brought_line, each_take, takes_lines}
 use Rattle.rasta_check.proofs.Capture.FaultlessLists.{IsSent}
-use Rattle.rasta_check.proofs.Script.Simulation.{Tracks, Drained, lt_of, moved_made, next_number, slice_get_some}
+use Rattle.rasta_check.proofs.Script.Simulation.{Tracks, Drained, moved_made, next_number, slice_get_some}
 use Rattle.rasta_check.proofs.Model.Steps.{base}
 use Rattle.rasta_check.proofs.Model.TakeRows.{take_leaves}
 use Rattle.rasta_check.proofs.Run.Entries.{takes_here, takes_other, takes_past, makes_past, below, above, takes_none}
 use Rattle.rasta_check.proofs.Run.Rests.{Above, Says, says_all, lead_above, no_takes}
-use Rattle.rasta_check.proofs.Run.Moves.{Many, stays, moves, append_many}
+use Rattle.rasta_check.proofs.Run.Moves.{Many, stays, moves, append_many, recast}
 
 module _ (p : Parameters) (n : ℕ) (s : Side) (own peer : List FirstCopy) (last : Cursor) (k : ℕ) where
   -- where no take is due, the next entry lies at this level or above, and all after it above
@@ -80,8 +79,8 @@ module _ (p : Parameters) (packets : List Packet) (n k : ℕ) (s r : Side) (own 
       let numbered : wrapped (b.first_number + q) ≡ c.pdu.number =
       next_number b.first_number (base p) position q head.0.pdu.number refl (g.number head.0 head.1) ∙ sym (sent.numbers position head.0 c head.1 there) in (
         record arrived { state = e'; taken = suc q },
-        subst (λ (ls : List Line). Many p b s xs a ls (record arrived { state = e'; taken = suc q }) xs) (λ i. brought_line (long i) s (numbered i) ∷ take_line (long i) s (numbered i) ∷ [])
-        (moves (arriving q) (arrives q low within) (moves (taking q) (takes q x.0 e' (0, omega arith, refl) passed_mark x.1 t) stays)),
+        recast (λ i. brought_line (long i) s (numbered i) ∷ take_line (long i) s (numbered i) ∷ []) refl
+            (moves (arriving q) (arrives q low within) (moves (taking q) (takes q x.0 e' (0, omega arith, refl) passed_mark x.1 t) stays)),
         record {
           level = slot;
           made = f.made;
@@ -105,7 +104,7 @@ module _ (p : Parameters) (packets : List Packet) (n k : ℕ) (s r : Side) (own 
       record {
         rest = d.rest;
         station = d.station;
-        many = subst (λ (l : List ℕ). Many p b s xs a (each_take k s l) d.station xs) (sym (ap (λ (j : ℕ). takes_at k (Take j number ∷ es)) e ∙ takes_here k number es)) (append_many m d.many);
+        many = recast (ap (λ (l : List ℕ). each_take k s l) (sym (ap (λ (j : ℕ). takes_at k (Take j number ∷ es)) e ∙ takes_here k number es))) refl (append_many m d.many);
         tracks = d.tracks;
         drained = d.drained;
         says = record { takes = λ j l. takes_other j slot number es (below slot j (omega (arith, e, l))) ∙ d.says.takes j l; makes = λ j l. makes_past j slot number es ∙ d.says.makes j l };
@@ -117,7 +116,7 @@ module _ (p : Parameters) (packets : List Packet) (n k : ℕ) (s r : Side) (own 
       record {
         rest = es;
         station = a;
-        many = subst (λ (l : List ℕ). Many p b s xs a (each_take k s l) a xs) (sym (none_due p n s own peer last k es a f dr)) stays;
+        many = recast (ap (λ (l : List ℕ). each_take k s l) (sym (none_due p n s own peer last k es a f dr))) refl stays;
         tracks = f;
         drained = dr;
         says = says_all (suc k) k es;
@@ -132,5 +131,5 @@ module _ (p : Parameters) (packets : List Packet) (n k : ℕ) (s r : Side) (own 
         | yes l ↦ (let same : slot ≡ k = (let z = ab.0 in omega (arith, l, z)) in
             let o = one_take slot number es a f.fits.0 f same f.fits.1 f.fits.2 in
             prepend slot number es a o.0 same o.1 (drain es o.0 ab.1 o.2))
-        | no l ↦ rests (Take slot number ∷ es) a f (let z = l in lt_of z)
+        | no l ↦ rests (Take slot number ∷ es) a f (omega (arith, l))
       ]

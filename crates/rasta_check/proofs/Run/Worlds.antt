@@ -1,12 +1,12 @@
 -- Runs with what happened in them and runs of two ends go through the same worlds.
 use Rattle.std.proofs.Common.{◌≡◌, List, [], ◌∷◌, ◌++◌, refl, ap, sym, ◌∙◌, subst}
+use Rattle.std.proofs.lemmas.List.{map-append}
 use Rattle.rasta_pdu.specs.Params.{Parameters}
 use Rattle.rasta_check.specs.Model.World.{World, Step, side_moves, moved, Reaches, begins, goes_on}
 use Rattle.rasta_check.specs.Run.Moves.{Happened, Runs, starts, does, worlds_of}
 
 worlds_push : (hs : List Happened) (h : Happened) → worlds_of (hs ++ h ∷ []) ≡ worlds_of hs ++ h.world ∷ []
-worlds_push [] h = refl
-worlds_push (x ∷ hs) h = ap (λ (ws : List World). x.world ∷ ws) (worlds_push hs h)
+worlds_push hs h = map-append (λ (x : Happened). x.world) hs (h ∷ [])
 
 -- what happened leads through its worlds
 pub reaches_of : (p : Parameters) (hs : List Happened) (w : World) → Runs p hs w → Reaches p (worlds_of hs) w

@@ -37,6 +37,7 @@ use Rattle.rasta_check.proofs.Model.Requests.{named_position}
 use Rattle.rasta_check.proofs.Theorem.ShowingPdus.{fold_member}
 use Rattle.rasta_check.proofs.Theorem.SentRuns.{known}
 use Rattle.rasta_check.proofs.Theorem.ListedUnits.{of_units, exactly_listed}
+use Rattle.rasta_check.proofs.Script.ListItems.{map_at}
 use Rattle.rasta_check.proofs.Run.Simulation.{simulated}
 
 -- ---- cut scripts
@@ -126,11 +127,6 @@ module _ (p : Parameters) (s : Side) (e f : EndState) (t u : ℕ) (own : List Fi
       opens s ph y os row opening = (refl, refl)
   no_opening m _ q l = refl
 
-  get_pdu : (cs : List FirstCopy) (i : ℕ) (c : FirstCopy) → slice_get cs i ≡ Some c → slice_get (pdus_of cs) i ≡ Some c.pdu.safety
-  get_pdu [] i c g = absurd (cc)
-  get_pdu (x ∷ cs) zero c g = (let e : x ≡ c = cc in ap (λ (z : FirstCopy). Some z.pdu.safety) e)
-  get_pdu (x ∷ cs) (suc i) c g = get_pdu cs i c g
-
   shows_by : (m : JustMade p own e) → (a : ℕ) → e.accepted ≡ a → length e.handed ≤ units_taken M (pdus_of own)
   shows_by m zero a = (let z = hd.count ∙ ap (worth (values f)) a in omega arith)
   shows_by m (suc i) a =
@@ -147,7 +143,7 @@ module _ (p : Parameters) (s : Side) (e f : EndState) (t u : ℕ) (own : List Fi
       let at' : position_with M x.cs ≡ Some i = ap (λ (ms : List SafetyPdu). position_with ms x.cs) (sym told_f) ∙ at in
       let v : units_shown M (pdus_of own) x ≡ units_at (values f) (Some i) = ap (λ b. if b then 0 else units_at (units_along M (pdus_of own)) (position_with M x.cs)) k
       ∙ (ap (units_at (units_along M (pdus_of own))) at' ∙ ap (λ vs. units_at vs (Some i)) along) in
-      let big = fold_member (units_shown M (pdus_of own)) 0 (pdus_of own) m.i x (get_pdu own m.i m.c m.there) in
+      let big = fold_member (units_shown M (pdus_of own)) 0 (pdus_of own) m.i x (map_at (λ (c : FirstCopy). c.pdu.safety) own m.i m.c m.there) in
       let c = hd.count ∙ ap (worth (values f)) a in
       omega (arith, big, v, c)
 

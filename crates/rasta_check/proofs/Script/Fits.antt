@@ -1,9 +1,9 @@
 -- The script that fits is the one that the code follows to its end, and the first fault of another is the one that the code answers.
-use Rattle.std.proofs.Common.{◌≡◌, ℕ, zero, suc, ◌+◌, ◌<◌, ◌≤◌, Bool, true, false, List, [], ◌∷◌, ◌++◌, length, Option, Some, None, Result, Ok, Err, slice_get, ◌⊎◌, inl, inr, refl, ap, sym, ◌∙◌, arith, subst}
+use Rattle.std.proofs.Common.{◌≡◌, ℕ, suc, ◌+◌, ◌<◌, ◌≤◌, Bool, true, false, List, [], ◌∷◌, ◌++◌, length, Option, Some, None, Result, Ok, Err, slice_get, ◌⊎◌, inl, inr, refl, ap, sym, ◌∙◌, arith, subst}
 use Rattle.std.specs.Prelude.{not, nat_lt, ◌==◌, ◌||◌, if◌then◌else◌, is_none}
 use Rattle.std.specs.Option.{option_map_or, option_or}
 use Rattle.std.proofs.lemmas.Bool.Decides.{nat_tests}
-use Rattle.std.proofs.lemmas.List.{length-append}
+use Rattle.std.proofs.lemmas.List.{append-nil, append_assoc, length-append}
 use Rattle.std.proofs.lemmas.Option.{slice_get_within}
 use Rattle.rasta_pcap.specs.declared.fault.Fault.{Fault}
 use Rattle.rasta_pcap.specs.declared.fault.Side.{Side}
@@ -15,33 +15,19 @@ use Rattle.rasta_cert.specs.declared.entry.Entry.{Entry}
 use Rattle.rasta_cert.specs.declared.entry.Entry.TheVariants.{Take, Make}
 use Rattle.rasta_end.specs.declared.why.Why.{Why}
 use Rattle.rasta_end.specs.State.{EndState}
-use Rattle.rasta_end.specs.MakeRule.{Makes, make_fault, after_make, first_that_holds, is_there}
-use Rattle.rasta_end.specs.TakeRule.{Takes, take_fault, after_take}
+use Rattle.rasta_end.specs.MakeRule.{Makes, make_fault, first_that_holds, is_there}
+use Rattle.rasta_end.specs.TakeRule.{take_fault}
 use Rattle.rasta_end.specs.Starts.{start_of}
-use Rattle.rasta_end.proofs.MakeTests.{no_fault, no_test}
 use Rattle.rasta_check.specs.Capture.Crossing.{FirstCopy, copy_with}
 use Rattle.rasta_check.specs.Capture.Lists.{IsOrdered, places_of, position_of_number, position_of_place}
 use Rattle.rasta_check.specs.Script.Following.{Cursor, at_start, Follows}
 use Rattle.rasta_check.specs.Script.Fitting.{places_made, AreInOrder, AreNamed, Joins, Fits, level_after, position_after, entry_tests, end_fault, FirstFault, at_entry, after_last}
 use Rattle.rasta_check.specs.Internals.Checking.{unless, take_at, take_found, make_of, make_found, next_cursor, then_follow, follow_from, follow, where_followed, verdict_of}
 use Rattle.rasta_check.specs.Verdict.Report.{Explained, IsScriptVerdict, both_fit, client_refused, server_refused, report_of}
-use Rattle.rasta_check.proofs.Capture.Positions.{position_at}
-use Rattle.rasta_check.proofs.Script.FollowedScripts.{number_found, place_found, place_named, less, not_less, passes, holds, allowed, neither, above, below, both, passed, held, same_equal, follow_fits, fits_follow}
+use Rattle.rasta_check.proofs.Script.ListItems.{get_behind}
+use Rattle.rasta_check.proofs.Script.FollowedScripts.{Goes, takes, makes, goes, gone, number_found, place_found, place_named, not_less, holds, held, failed, same_equal, follow_fits, fits_follow}
 use Rattle.rasta_check.proofs.Script.Simulation.{slice_get_some}
 use Rattle.rasta_check.proofs.Internals.StoreLists.{copy_of_position, no_copy}
-
-append_none : {A : Type 0} (xs : List A) → xs ++ [] ≡ xs
-append_none [] = refl
-append_none (x ∷ xs) = ap (λ ys. x ∷ ys) (append_none xs)
-
-append_more : {A : Type 0} (xs ys zs : List A) → (xs ++ ys) ++ zs ≡ xs ++ (ys ++ zs)
-append_more [] ys zs = refl
-append_more (x ∷ xs) ys zs = ap (λ (l : List _). x ∷ l) (append_more xs ys zs)
-
-get_behind : (made left : List FirstCopy) (j n : ℕ) → n ≡ length made + j → slice_get (made ++ left) n ≡ slice_get left j
-get_behind [] left j n e = (let z : n ≡ j = omega (arith, e) in ap (slice_get left) z)
-get_behind (c ∷ made) left j zero e = absurd (omega (arith, e))
-get_behind (c ∷ made) left j (suc n) e = get_behind made left j n (omega (arith, e))
 
 -- so many and those of a list
 counted : {A : Type 0} → ℕ → List A → ℕ
@@ -54,71 +40,6 @@ counted_is n [] = omega arith
 counted_is n (x ∷ xs) = (let z = counted_is (suc n) xs in omega (arith, z))
 
 module _ (p : Parameters) (packets : ℕ) (own peer : List FirstCopy) where
-  -- ---- one entry
-
-  -- the code goes on with an entry: from here to there
-  data Goes : Cursor → Entry → Cursor → Type 0 where
-    takes : {u : Cursor} (slot number position : ℕ) (c : FirstCopy) (after : EndState) → u.level ≤ slot → slot ≤ packets
-        → position_of_number peer number ≡ Some position → slice_get peer position ≡ Some c → c.place < slot → u.taken ≤ position
-        → Takes p u.state c.pdu.safety u.state.clock after
-        → Goes u (Take slot number) (record { level = slot; made = u.made; taken = suc position; state = after })
-    makes : {u : Cursor} (place clock : ℕ) (why : Why) (c : FirstCopy) (after : EndState) → u.level ≤ place
-        → position_of_place own place ≡ Some u.made → slice_get own u.made ≡ Some c → c.place ≡ place
-        → Makes p u.state c.pdu.safety clock why after
-        → Goes u (Make place clock why) (record { level = suc place; made = suc u.made; taken = u.taken; state = after })
-
-  take_goes : (u v : Cursor) (slot number : ℕ) → u.level ≤ slot → slot ≤ packets → (o : Option ℕ) → position_of_number peer number ≡ o
-      → take_found p peer u slot o ≡ Ok v → Goes u (Take slot number) v
-  take_goes u v slot number low high None e g = absurd (cc)
-  take_goes u v slot number low high (Some position) e g =
-      let f = number_found peer number position e in
-      let at : take_at p u slot position (Some f.0) ≡ Ok v = ap (take_at p u slot position) (sym f.1) ∙ g in
-      let a = passes (not (nat_lt f.0.place slot)) not_yet_crossed _ v at in
-      let b = passes (nat_lt position u.taken) not_rising _ v a.1 in
-      let d = allowed (take_fault p u.state u.state.clock) _ v b.1 in
-      let step : Goes u (Take slot number) (record { level = slot; made = u.made; taken = suc position; state = after_take p u.state f.0.pdu.safety })
-      = takes slot number position f.0 (after_take p u.state f.0.pdu.safety) low high e f.1 (less f.0.place slot a.0) (not_less position u.taken b.0) (d.0, refl) in
-      subst (λ (w : Cursor). Goes u (Take slot number) w) d.1 step
-
-  make_goes : (u v : Cursor) (place clock : ℕ) (why : Why) → u.level ≤ place → (o : Option ℕ) → position_of_place own place ≡ o
-      → make_found p own u place clock why o ≡ Ok v → Goes u (Make place clock why) v
-  make_goes u v place clock why low None e g = absurd (cc)
-  make_goes u v place clock why low (Some position) e g =
-      let f = place_found own place position e in
-      let h = holds (position == u.made) make_missing _ v g in
-      let same : position ≡ u.made = (let t = h.0 in grind (arith, nat_tests)) in
-      let there : slice_get own u.made ≡ Some f.0 = subst (λ i. slice_get own i ≡ Some f.0) same f.1 in
-      let at : make_of p u place clock why (Some f.0) ≡ Ok v = ap (make_of p u place clock why) (sym f.1) ∙ h.1 in
-      let d = allowed (make_fault p u.state f.0.pdu.safety clock why) _ v at in
-      let step : Goes u (Make place clock why) (record { level = suc place; made = suc u.made; taken = u.taken; state = after_make u.state f.0.pdu.safety clock why })
-      = makes place clock why f.0 (after_make u.state f.0.pdu.safety clock why) low (e ∙ ap Some same) there f.2 (no_test p u.state f.0.pdu.safety clock why d.0, refl) in
-      subst (λ (w : Cursor). Goes u (Make place clock why) w) d.1 step
-
-  goes : (u v : Cursor) (x : Entry) → next_cursor p packets own peer u x ≡ Ok v → Goes u x v
-  unfolding next_cursor
-  goes u v (Take slot number) e =
-      let a = passes (nat_lt slot u.level || nat_lt packets slot) slot_order _ v e in
-      let b = neither (nat_lt slot u.level) (nat_lt packets slot) a.0 in
-      take_goes u v slot number (not_less slot u.level b.0) (not_less packets slot b.1) (position_of_number peer number) refl a.1
-  goes u v (Make place clock why) e =
-      let a = passes (nat_lt place u.level) slot_order _ v e in
-      make_goes u v place clock why (not_less place u.level a.0) (position_of_place own place) refl a.1
-
-  gone : (u v : Cursor) (x : Entry) → Goes u x v → next_cursor p packets own peer u x ≡ Ok v
-  unfolding next_cursor
-  gone u v x (takes slot number position c after low high at g front up t) =
-      passed (nat_lt slot u.level || nat_lt packets slot) slot_order _ (both _ _ (above slot u.level low) (above packets slot high))
-      ∙ (ap (take_found p peer u slot) at ∙ (ap (take_at p u slot position) g
-      ∙ (passed (not (nat_lt c.place slot)) not_yet_crossed _ (below c.place slot front) ∙ (passed (nat_lt position u.taken) not_rising _ (above position u.taken up)
-      ∙ (ap (λ o. unless o (record { level = slot; made = u.made; taken = suc position; state = after_take p u.state c.pdu.safety })) t.0
-      ∙ ap (λ (z : EndState). Ok (record { level = slot; made = u.made; taken = suc position; state = z })) (sym t.1))))))
-  gone u v x (makes place clock why c after low at g same m) =
-      passed (nat_lt place u.level) slot_order _ (above place u.level low)
-      ∙ (ap (make_found p own u place clock why) at ∙ (held (u.made == u.made) make_missing _ (same_equal u.made u.made refl)
-      ∙ (ap (make_of p u place clock why) g
-      ∙ (ap (λ o. unless o (record { level = suc place; made = suc u.made; taken = u.taken; state = after_make u.state c.pdu.safety clock why })) (no_fault p u.state c.pdu.safety clock why m.0)
-      ∙ ap (λ (z : EndState). Ok (record { level = suc place; made = suc u.made; taken = u.taken; state = z })) (sym m.1)))))
-
   -- ---- entries from a cursor on
 
   -- these entries fit from here on
@@ -179,7 +100,7 @@ module _ (p : Parameters) (packets : ℕ) (own peer : List FirstCopy) where
       let same : f.takes.2.0 ≡ c = (let x = f.takes.2.1 in let y = f.ends.2 in cc) in
       let front : c.place < slot = subst (λ (d : FirstCopy). d.place < slot) same f.takes.2.2 in
       let v : Cursor = record { level = slot; made = u.made; taken = suc position; state = after } in
-      let step = gone u v (Take slot number) (takes slot number position c after f.slots.0 f.slots.1 at there front f.takes.0 f.ends.3) in
+      let step = gone p packets own peer u v (Take slot number) (takes slot number position c after f.slots.0 f.slots.1 at there front f.takes.0 f.ends.3) in
       ap (then_follow (λ w. follow_from p side packets own peer (suc entry) w (xs ++ rest)) entry side) step
       ∙ runs side (suc entry) v xs rest made left taken e r (λ j d l k. let q = b j d l k in let z = f.slots.0 in omega arith)
       (record { makes = f.makes; slots = f.slots.2; takes = f.takes.3; ends = f.ends.4 })
@@ -191,7 +112,7 @@ module _ (p : Parameters) (packets : ℕ) (own peer : List FirstCopy) where
       let there = head_rests u c (made ++ left) r in
       let at : position_of_place own place ≡ Some u.made = subst (λ n. position_of_place own n ≡ Some u.made) (sym same) (found_at u c b low there) in
       let v : Cursor = record { level = suc place; made = suc u.made; taken = u.taken; state = f.ends.0 } in
-      let step = gone u v (Make place clock why) (makes place clock why c f.ends.0 f.slots.0 at there (sym same) f.ends.1) in
+      let step = gone p packets own peer u v (Make place clock why) (makes place clock why c f.ends.0 f.slots.0 at there (sym same) f.ends.1) in
       ap (then_follow (λ w. follow_from p side packets own peer (suc entry) w (xs ++ rest)) entry side) step
       ∙ runs side (suc entry) v xs rest made left taken e (rests_on u v c (made ++ left) refl r) (behind_on u v c refl (ap suc same) low there b)
       (record { makes = tail; slots = f.slots.1; takes = f.takes; ends = f.ends.2 })
@@ -210,7 +131,7 @@ module _ (p : Parameters) (packets : ℕ) (own peer : List FirstCopy) where
   none_there : (u : Cursor) (c : FirstCopy) → Rests u [] → slice_get own u.made ≡ Some c → ⊥
   none_there u c r g = absurd (let z : slice_get own u.made ≡ None = subst (λ n. slice_get own n ≡ None) (omega arith) (r 0) in cc)
 
-  consed : (u v : Cursor) (x : Entry) (left : List FirstCopy) → Goes u x v → Rests u left → Consed u v x left
+  consed : (u v : Cursor) (x : Entry) (left : List FirstCopy) → Goes p packets own peer u x v → Rests u left → Consed u v x left
   unfolding counted
   consed u v x left (takes slot number position c after low high at g front up t) r =
       let named : copy_with peer number ≡ Some c = copy_of_position peer number position at ∙ g in
@@ -258,7 +179,7 @@ module _ (p : Parameters) (packets : ℕ) (own peer : List FirstCopy) where
           → (taken : List ℕ) × FitsFrom u (x ∷ xs) left taken e
       by (Err f) k g rest = absurd (cc)
       by (Ok v) k g rest =
-          let z = consed u v x left (goes u v x k) r in
+          let z = consed u v x left (goes p packets own peer u v x k) r in
           let w = rest v z.others z.rests g in
           let y = z.fits xs z.others w.0 e w.1 in
           (y.0, subst (λ (cs : List FirstCopy). FitsFrom u (x ∷ xs) cs y.0 e) (sym z.is) y.1)
@@ -366,11 +287,11 @@ module _ (p : Parameters) (packets : ℕ) (own peer : List FirstCopy) where
   fault_after side entry u v x xs left f z (one_of front behind y made rest taken e number is parts fits says) =
       let w = z.fits front made taken e fits in
       one_of (x ∷ front) behind y (z.one ++ made) rest w.0 e number (ap (λ (l : List Entry). x ∷ l) is)
-      (z.is ∙ (ap (λ (l : List FirstCopy). z.one ++ l) parts ∙ sym (append_more z.one made rest))) w.1
+      (z.is ∙ (ap (λ (l : List FirstCopy). z.one ++ l) parts ∙ sym (append_assoc z.one made rest))) w.1
       (subst (λ (q : Cursor). entry_fault q rest y ≡ Some number) (sym w.2) says)
   fault_after side entry u v x xs left f z (none_left made rest c taken e fits parts) =
       let w = z.fits xs made taken e fits in
-      none_left (z.one ++ made) rest c w.0 e w.1 (z.is ∙ (ap (λ (l : List FirstCopy). z.one ++ l) parts ∙ sym (append_more z.one made (c ∷ rest))))
+      none_left (z.one ++ made) rest c w.0 e w.1 (z.is ∙ (ap (λ (l : List FirstCopy). z.one ++ l) parts ∙ sym (append_assoc z.one made (c ∷ rest))))
 
   some_left : (u : Cursor) → u.made < length own → Rests u [] → ⊥
   some_left u l r = (let f = slice_get_some own u.made l in none_there u f.0 r f.1)
@@ -399,7 +320,7 @@ module _ (p : Parameters) (packets : ℕ) (own peer : List FirstCopy) where
           let is : fault_of_end n entry side ≡ f = cc in
           subst (FaultFrom side entry u (x ∷ xs) left) is (one_of [] xs x [] left [] u.state n refl refl (here u) (is_refused u left x n r k))
       by (Ok v) k g rest =
-          let z = consed u v x left (goes u v x k) r in
+          let z = consed u v x left (goes p packets own peer u v x k) r in
           fault_after side entry u v x xs left f z (rest v z.others z.rests (z.within l) g)
 
   -- ---- a whole script
@@ -418,7 +339,7 @@ module _ (p : Parameters) (packets : ℕ) (own peer : List FirstCopy) where
 
   -- what was made is left behind
   rests_behind : (w : Cursor) (made left : List FirstCopy) → own ≡ made ++ left → w.made ≡ length made → Rests w left
-  rests_behind w made left parts m j = ap (λ (cs : List FirstCopy). slice_get cs (w.made + j)) parts ∙ get_behind made left j (w.made + j) (let z = m in omega (arith, z))
+  rests_behind w made left parts m j = ap (λ (cs : List FirstCopy). slice_get cs (w.made + j)) parts ∙ (ap (λ n. slice_get (made ++ left) (n + j)) m ∙ get_behind made left j)
 
   -- a script that fits is followed
   pub fits_is : (side : Side) (es : List Entry) (e : EndState) → Fits p side packets own peer es e → follow p side packets own peer es ≡ Ok e
@@ -426,8 +347,8 @@ module _ (p : Parameters) (packets : ℕ) (own peer : List FirstCopy) where
   fits_is side es e f =
       let w = reached (at_start (start_of p side)) es own f.taken e in
       let all : w.made ≡ length own = (let z = counted_is 0 own in omega (arith, z)) in
-      ap (λ (xs : List Entry). follow_from p side packets own peer 1 (at_start (start_of p side)) xs) (sym (append_none es))
-      ∙ (runs side 1 (at_start (start_of p side)) es [] own [] f.taken e (start_rests (start_of p side) own [] (sym (append_none own))) (start_behind (start_of p side)) (from_start side own es e f)
+      ap (λ (xs : List Entry). follow_from p side packets own peer 1 (at_start (start_of p side)) xs) (sym (append-nil es))
+      ∙ (runs side 1 (at_start (start_of p side)) es [] own [] f.taken e (start_rests (start_of p side) own [] (sym (append-nil own))) (start_behind (start_of p side)) (from_start side own es e f)
       ∙ held (w.made == length own) (fault_of_end make_missing (counted 1 es) side) _ (same_equal w.made (length own) all))
 
   -- and what is followed fits
@@ -441,17 +362,10 @@ module _ (p : Parameters) (packets : ℕ) (own peer : List FirstCopy) where
   first_made : (cs : List FirstCopy) → counted 0 cs ≡ length cs
   first_made cs = (let z = counted_is 0 cs in omega (arith, z))
 
-  at_length : (u : Cursor) (made left : List FirstCopy) (x : Entry) (number : ℕ) (n : ℕ) → n ≡ length made
-      → option_or (first_that_holds (entry_tests packets own peer u.level (length made) u.taken x)) (end_fault p u.state left x) ≡ Some number
-      → entry_fault (record { level = u.level; made = n; taken = u.taken; state = u.state }) left x ≡ Some number
+  by_count : (u : Cursor) (made left : List FirstCopy) (x : Entry) (n : ℕ) → n ≡ length made
+      → entry_fault (record { level = u.level; made = n; taken = u.taken; state = u.state }) left x ≡ option_or (first_that_holds (entry_tests packets own peer u.level (length made) u.taken x)) (end_fault p u.state left x)
   unfolding entry_fault
-  at_length u made left x number n e h = subst (λ k. option_or (first_that_holds (entry_tests packets own peer u.level k u.taken x)) (end_fault p u.state left x) ≡ Some number) (sym e) h
-
-  by_length : (u : Cursor) (made left : List FirstCopy) (x : Entry) (number : ℕ) (n : ℕ) → n ≡ length made
-      → entry_fault (record { level = u.level; made = n; taken = u.taken; state = u.state }) left x ≡ Some number
-      → option_or (first_that_holds (entry_tests packets own peer u.level (length made) u.taken x)) (end_fault p u.state left x) ≡ Some number
-  unfolding entry_fault
-  by_length u made left x number n e h = subst (λ k. option_or (first_that_holds (entry_tests packets own peer u.level k u.taken x)) (end_fault p u.state left x) ≡ Some number) e h
+  by_count u made left x n e = ap (λ k. option_or (first_that_holds (entry_tests packets own peer u.level k u.taken x)) (end_fault p u.state left x)) e
 
   pub is_fault : (side : Side) (es : List Entry) (f : Fault) → follow p side packets own peer es ≡ Err f → FirstFault p side packets own peer es f
   unfolding to_start
@@ -461,7 +375,7 @@ module _ (p : Parameters) (packets : ℕ) (own peer : List FirstCopy) where
       by f (one_of front behind x made left taken e number is parts fits says) =
           subst (λ k. FirstFault p side packets own peer es (fault_of_end number k side)) (sym (first_entry front))
           (at_entry front behind x made left e (to_start side made front taken e fits) number is parts
-          (by_length (record { level = level_after 0 front; made = 0; taken = position_after 0 taken; state = e }) made left x number (counted 0 made) (first_made made) says))
+          (sym (by_count (record { level = level_after 0 front; made = 0; taken = position_after 0 taken; state = e }) made left x (counted 0 made) (first_made made)) ∙ says))
       by f (none_left made left c taken e fits parts) =
           subst (λ k. FirstFault p side packets own peer es (fault_of_end make_missing k side)) (sym (first_entry es))
           (after_last made left c e (to_start side made es taken e fits) parts)
@@ -471,7 +385,7 @@ module _ (p : Parameters) (packets : ℕ) (own peer : List FirstCopy) where
   fault_is side es f (at_entry front behind x made left e before number is parts says) =
       let u = at_start (start_of p side) in
       let w = reached u front made before.taken e in
-      let at = at_length (record { level = level_after 0 front; made = 0; taken = position_after 0 before.taken; state = e }) made left x number (counted 0 made) (first_made made) says in
+      let at = by_count (record { level = level_after 0 front; made = 0; taken = position_after 0 before.taken; state = e }) made left x (counted 0 made) (first_made made) ∙ says in
       ap (λ (xs : List Entry). follow_from p side packets own peer 1 u xs) is
       ∙ (runs side 1 u front (x ∷ behind) made left before.taken e (start_rests (start_of p side) made left parts) (start_behind (start_of p side)) (from_start side made front e before)
       ∙ (ap (then_follow (λ v. follow_from p side packets own peer (suc (counted 1 front)) v behind) (counted 1 front) side) (refuses w left x number (rests_behind w made left parts (first_made made)) at)
@@ -480,13 +394,9 @@ module _ (p : Parameters) (packets : ℕ) (own peer : List FirstCopy) where
       let u = at_start (start_of p side) in
       let w = reached u es made before.taken e in
       let more : (w.made == length own) ≡ false = (let z = first_made made in let y = ap length parts in let q = length-append made (c ∷ left) in grind (arith, nat_tests, z, y, q)) in
-      ap (λ (xs : List Entry). follow_from p side packets own peer 1 u xs) (sym (append_none es))
+      ap (λ (xs : List Entry). follow_from p side packets own peer 1 u xs) (sym (append-nil es))
       ∙ (runs side 1 u es [] made (c ∷ left) before.taken e (start_rests (start_of p side) made (c ∷ left) parts) (start_behind (start_of p side)) (from_start side made es e before)
-      ∙ (missing (w.made == length own) w.state (fault_of_end make_missing (counted 1 es) side) more ∙ ap (λ k. Err (fault_of_end make_missing k side)) (first_entry es)))
-    where
-      missing : (b : Bool) (s : EndState) (g : Fault) → b ≡ false → ◌≡◌ {A = Result EndState Fault} (if b then Ok s else Err g) (Err g)
-      missing true s g h = absurd (cc)
-      missing false s g h = refl
+      ∙ (failed (w.made == length own) (fault_of_end make_missing (counted 1 es) side) _ more ∙ ap (λ k. Err (fault_of_end make_missing k side)) (first_entry es)))
 
   -- ---- one answer
 

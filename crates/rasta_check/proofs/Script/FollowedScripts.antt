@@ -1,10 +1,11 @@
 -- What the checker answers for a script is the end that it leads to, exactly where it fits.
-use Rattle.std.proofs.Common.{◌≡◌, ℕ, zero, suc, ◌+◌, ◌<◌, ◌≤◌, Bool, true, false, List, [], ◌∷◌, drop, length, get_or, Option, Some, None, Result, Ok, Err, slice_get, position, nat_eq, MatchResult, ◌⊎◌, inl, inr, ⊎_elim, refl, ap, sym, ◌∙◌, arith, subst}
-use Rattle.std.specs.Option.{option_map}
+use Rattle.std.proofs.Common.{◌≡◌, ℕ, suc, ◌+◌, ◌<◌, ◌≤◌, Bool, true, false, List, [], ◌∷◌, drop, length, get_or, Option, Some, None, Result, Ok, Err, slice_get, position, nat_eq, MatchResult, ◌⊎◌, inl, inr, ⊎_elim, refl, ap, sym, ◌∙◌, arith, subst}
 use Rattle.std.specs.Prelude.{◌-◌, not, nat_lt, ◌==◌, ◌||◌, if◌then◌else◌}
 use Rattle.std.proofs.lemmas.Bool.Decides.{nat_tests}
 use Rattle.std.proofs.lemmas.List.Quantifiers.{position-Some}
-use Rattle.std.proofs.lemmas.Option.{slice_get_within, slice_get-map, slice_get-get_or}
+use Rattle.std.proofs.Math.Seq.{drop-cons}
+use Rattle.std.proofs.lemmas.List.{drop_all}
+use Rattle.std.proofs.lemmas.Option.{get_or_from_slice_get, slice_get_within, slice_get-get_or}
 use Rattle.rasta_pcap.specs.declared.fault.Fault.{Fault}
 use Rattle.rasta_pcap.specs.declared.fault.Side.{Side}
 use Rattle.rasta_pcap.specs.Fault.{fault_of_end, no_memory, slot_order, make_missing, not_yet_crossed, not_rising}
@@ -13,8 +14,8 @@ use Rattle.rasta_cert.specs.declared.entry.Entry.{Entry}
 use Rattle.rasta_cert.specs.declared.entry.Entry.TheVariants.{Take, Make}
 use Rattle.rasta_end.specs.declared.why.Why.{Why}
 use Rattle.rasta_end.specs.State.{EndState}
-use Rattle.rasta_end.specs.MakeRule.{make_fault, after_make}
-use Rattle.rasta_end.specs.TakeRule.{take_fault, after_take}
+use Rattle.rasta_end.specs.MakeRule.{Makes, make_fault, after_make}
+use Rattle.rasta_end.specs.TakeRule.{Takes, take_fault, after_take}
 use Rattle.rasta_end.specs.Starts.{start_of}
 use Rattle.rasta_end.specs.Judged.{JudgedEnd}
 use Rattle.rasta_end.proofs.MakeTests.{no_fault, no_test}
@@ -24,6 +25,7 @@ use Rattle.rasta_check.specs.Script.Following.{Cursor, Advances, takes_next, mak
 use Rattle.rasta_check.specs.Internals.Checking.{unless, take_at, take_found, make_of, make_found, next_cursor, then_follow, follow_from, follow, Followed, moved_to, IsRefused}
 use Rattle.rasta_check.proofs.Capture.Positions.{position_at, places_below}
 use Rattle.rasta_check.proofs.Capture.FirstCopies.{not_again}
+use Rattle.rasta_check.proofs.Script.ListItems.{map_at, mapped_at}
 use Rattle.rasta_check.proofs.Script.Simulation.{slice_get_some}
 
 -- ---- positions
@@ -34,22 +36,12 @@ found_in n xs i e =
     let same : get_or xs i 0 ≡ n = (let t = f.1 in grind (arith, nat_tests)) in
     slice_get-get_or xs i 0 f.0 ∙ ap Some same
 
-get_number : (cs : List FirstCopy) (i n : ℕ) → slice_get (numbers_of cs) i ≡ Some n → (c : FirstCopy) × (slice_get cs i ≡ Some c) × (c.pdu.number ≡ n)
-get_number [] i n g = absurd (cc)
-get_number (c ∷ cs) zero n g = (c, refl, cc)
-get_number (c ∷ cs) (suc i) n g = get_number cs i n g
-
-pub get_place : (cs : List FirstCopy) (i n : ℕ) → slice_get (places_of cs) i ≡ Some n → (c : FirstCopy) × (slice_get cs i ≡ Some c) × (c.place ≡ n)
-get_place [] i n g = absurd (cc)
-get_place (c ∷ cs) zero n g = (c, refl, cc)
-get_place (c ∷ cs) (suc i) n g = get_place cs i n g
-
 -- the member that a number names
 pub number_found : (cs : List FirstCopy) (number i : ℕ) → position_of_number cs number ≡ Some i → (c : FirstCopy) × (slice_get cs i ≡ Some c) × (c.pdu.number ≡ number)
-number_found cs number i e = get_number cs i number (found_in number (numbers_of cs) i e)
+number_found cs number i e = mapped_at (λ (c : FirstCopy). c.pdu.number) cs i number (found_in number (numbers_of cs) i e)
 
 pub place_found : (cs : List FirstCopy) (place i : ℕ) → position_of_place cs place ≡ Some i → (c : FirstCopy) × (slice_get cs i ≡ Some c) × (c.place ≡ place)
-place_found cs place i e = get_place cs i place (found_in place (places_of cs) i e)
+place_found cs place i e = mapped_at (λ (c : FirstCopy). c.place) cs i place (found_in place (places_of cs) i e)
 
 -- ---- one entry that is allowed leads on
 
@@ -82,55 +74,62 @@ neither true b e = absurd (cc)
 neither false true e = absurd (cc)
 
 module _ (p : Parameters) (packets : ℕ) (own peer : List FirstCopy) where
-  take_leads : (u v : Cursor) (slot position : ℕ) (c : FirstCopy) → u.level ≤ slot → slot ≤ packets → slice_get peer position ≡ Some c
-      → take_at p u slot position (Some c) ≡ Ok v → Advances p packets own peer u (Take slot c.pdu.number) v
-  take_leads u v slot position c low high g e =
-      let a = passes (not (nat_lt c.place slot)) not_yet_crossed _ v e in
-      let b = passes (nat_lt position u.taken) not_rising _ v a.1 in
-      let d = allowed (take_fault p u.state u.state.clock) _ v b.1 in
-      let step : Advances p packets own peer u (Take slot c.pdu.number) (record { level = slot; made = u.made; taken = suc position; state = after_take p u.state c.pdu.safety })
-      = takes_next slot position c (after_take p u.state c.pdu.safety) low high g (less c.place slot a.0) (not_less position u.taken b.0) (d.0, refl) in
-      subst (λ (w : Cursor). Advances p packets own peer u (Take slot c.pdu.number) w) d.1 step
+  -- the code goes on with an entry: from here to there
+  pub data Goes : Cursor → Entry → Cursor → Type 0 where
+    takes : {u : Cursor} (slot number position : ℕ) (c : FirstCopy) (after : EndState) → u.level ≤ slot → slot ≤ packets
+        → position_of_number peer number ≡ Some position → slice_get peer position ≡ Some c → c.place < slot → u.taken ≤ position
+        → Takes p u.state c.pdu.safety u.state.clock after
+        → Goes u (Take slot number) (record { level = slot; made = u.made; taken = suc position; state = after })
+    makes : {u : Cursor} (place clock : ℕ) (why : Why) (c : FirstCopy) (after : EndState) → u.level ≤ place
+        → position_of_place own place ≡ Some u.made → slice_get own u.made ≡ Some c → c.place ≡ place
+        → Makes p u.state c.pdu.safety clock why after
+        → Goes u (Make place clock why) (record { level = suc place; made = suc u.made; taken = u.taken; state = after })
 
-  make_leads : (u v : Cursor) (clock : ℕ) (why : Why) (c : FirstCopy) → u.level ≤ c.place → slice_get own u.made ≡ Some c
-      → make_of p u c.place clock why (Some c) ≡ Ok v → Advances p packets own peer u (Make c.place clock why) v
-  make_leads u v clock why c low g e =
-      let d = allowed (make_fault p u.state c.pdu.safety clock why) _ v e in
-      let step : Advances p packets own peer u (Make c.place clock why) (record { level = suc c.place; made = suc u.made; taken = u.taken; state = after_make u.state c.pdu.safety clock why })
-      = makes_next c clock why (after_make u.state c.pdu.safety clock why) low g (no_test p u.state c.pdu.safety clock why d.0, refl) in
-      subst (λ (w : Cursor). Advances p packets own peer u (Make c.place clock why) w) d.1 step
-
-  take_by : (u v : Cursor) (slot number : ℕ) → u.level ≤ slot → slot ≤ packets → (o : Option ℕ) → position_of_number peer number ≡ o
-      → take_found p peer u slot o ≡ Ok v → Advances p packets own peer u (Take slot number) v
-  take_by u v slot number low high None e g = absurd (cc)
-  take_by u v slot number low high (Some position) e g =
+  take_goes : (u v : Cursor) (slot number : ℕ) → u.level ≤ slot → slot ≤ packets → (o : Option ℕ) → position_of_number peer number ≡ o
+      → take_found p peer u slot o ≡ Ok v → Goes u (Take slot number) v
+  take_goes u v slot number low high None e g = absurd (cc)
+  take_goes u v slot number low high (Some position) e g =
       let f = number_found peer number position e in
       let at : take_at p u slot position (Some f.0) ≡ Ok v = ap (take_at p u slot position) (sym f.1) ∙ g in
-      subst (λ n. Advances p packets own peer u (Take slot n) v) f.2 (take_leads u v slot position f.0 low high f.1 at)
+      let a = passes (not (nat_lt f.0.place slot)) not_yet_crossed _ v at in
+      let b = passes (nat_lt position u.taken) not_rising _ v a.1 in
+      let d = allowed (take_fault p u.state u.state.clock) _ v b.1 in
+      let step : Goes u (Take slot number) (record { level = slot; made = u.made; taken = suc position; state = after_take p u.state f.0.pdu.safety })
+      = takes slot number position f.0 (after_take p u.state f.0.pdu.safety) low high e f.1 (less f.0.place slot a.0) (not_less position u.taken b.0) (d.0, refl) in
+      subst (λ (w : Cursor). Goes u (Take slot number) w) d.1 step
 
-  make_by : (u v : Cursor) (index clock : ℕ) (why : Why) → u.level ≤ index → (o : Option ℕ) → position_of_place own index ≡ o
-      → make_found p own u index clock why o ≡ Ok v → Advances p packets own peer u (Make index clock why) v
-  make_by u v index clock why low None e g = absurd (cc)
-  make_by u v index clock why low (Some position) e g =
-      let f = place_found own index position e in
+  make_goes : (u v : Cursor) (place clock : ℕ) (why : Why) → u.level ≤ place → (o : Option ℕ) → position_of_place own place ≡ o
+      → make_found p own u place clock why o ≡ Ok v → Goes u (Make place clock why) v
+  make_goes u v place clock why low None e g = absurd (cc)
+  make_goes u v place clock why low (Some position) e g =
+      let f = place_found own place position e in
       let h = holds (position == u.made) make_missing _ v g in
       let same : position ≡ u.made = (let t = h.0 in grind (arith, nat_tests)) in
       let there : slice_get own u.made ≡ Some f.0 = subst (λ i. slice_get own i ≡ Some f.0) same f.1 in
-      let at : make_of p u index clock why (Some f.0) ≡ Ok v = ap (make_of p u index clock why) (sym f.1) ∙ h.1 in
-      let at' : make_of p u f.0.place clock why (Some f.0) ≡ Ok v = subst (λ n. make_of p u n clock why (Some f.0) ≡ Ok v) (sym f.2) at in
-      let low' : u.level ≤ f.0.place = (let z = f.2 in omega arith) in
-      subst (λ n. Advances p packets own peer u (Make n clock why) v) f.2 (make_leads u v clock why f.0 low' there at')
+      let at : make_of p u place clock why (Some f.0) ≡ Ok v = ap (make_of p u place clock why) (sym f.1) ∙ h.1 in
+      let d = allowed (make_fault p u.state f.0.pdu.safety clock why) _ v at in
+      let step : Goes u (Make place clock why) (record { level = suc place; made = suc u.made; taken = u.taken; state = after_make u.state f.0.pdu.safety clock why })
+      = makes place clock why f.0 (after_make u.state f.0.pdu.safety clock why) low (e ∙ ap Some same) there f.2 (no_test p u.state f.0.pdu.safety clock why d.0, refl) in
+      subst (λ (w : Cursor). Goes u (Make place clock why) w) d.1 step
 
-  -- what follows by one entry is where it leads
-  pub leads_on : (u v : Cursor) (x : Entry) → next_cursor p packets own peer u x ≡ Ok v → Advances p packets own peer u x v
+  pub goes : (u v : Cursor) (x : Entry) → next_cursor p packets own peer u x ≡ Ok v → Goes u x v
   unfolding next_cursor
-  leads_on u v (Take slot number) e =
+  goes u v (Take slot number) e =
       let a = passes (nat_lt slot u.level || nat_lt packets slot) slot_order _ v e in
       let b = neither (nat_lt slot u.level) (nat_lt packets slot) a.0 in
-      take_by u v slot number (not_less slot u.level b.0) (not_less packets slot b.1) (position_of_number peer number) refl a.1
-  leads_on u v (Make index clock why) e =
-      let a = passes (nat_lt index u.level) slot_order _ v e in
-      make_by u v index clock why (not_less index u.level a.0) (position_of_place own index) refl a.1
+      take_goes u v slot number (not_less slot u.level b.0) (not_less packets slot b.1) (position_of_number peer number) refl a.1
+  goes u v (Make place clock why) e =
+      let a = passes (nat_lt place u.level) slot_order _ v e in
+      make_goes u v place clock why (not_less place u.level a.0) (position_of_place own place) refl a.1
+
+  -- what follows by one entry is where it leads
+  leads_on : (u v : Cursor) (x : Entry) → Goes u x v → Advances p packets own peer u x v
+  leads_on u v x (takes slot number position c after low high at g front up t) =
+      let f = number_found peer number position at in
+      let named : c.pdu.number ≡ number = (let same : f.0 ≡ c = (let z = f.1 in cc) in ap (λ (d : FirstCopy). d.pdu.number) (sym same) ∙ f.2) in
+      subst (λ n. Advances p packets own peer u (Take slot n) (record { level = slot; made = u.made; taken = suc position; state = after })) named (takes_next slot position c after low high g front up t)
+  leads_on u v x (makes place clock why c after low at g same m) =
+      subst (λ n. Advances p packets own peer u (Make n clock why) (record { level = suc n; made = suc u.made; taken = u.taken; state = after })) same (makes_next c clock why after (subst (λ n. u.level ≤ n) (sym same) low) g m)
 
   leads_from : (side : Side) (entry : ℕ) (u : Cursor) (es : List Entry) (e : EndState) → follow_from p side packets own peer entry u es ≡ Ok e
       → (v : Cursor) × Leads p packets own peer u es v × (v.made ≡ length own) × (v.state ≡ e)
@@ -142,7 +141,7 @@ module _ (p : Parameters) (packets : ℕ) (own peer : List FirstCopy) where
           → ((v : Cursor) → follow_from p side packets own peer (suc entry) v xs ≡ Ok e → (w : Cursor) × Leads p packets own peer v xs w × (w.made ≡ length own) × (w.state ≡ e))
           → (w : Cursor) × Leads p packets own peer u (x ∷ xs) w × (w.made ≡ length own) × (w.state ≡ e)
       by (Err f) k g rest = absurd (cc)
-      by (Ok v) k g rest = (let r = rest v g in (r.0, (v, leads_on u v x k, r.1), r.2, r.3))
+      by (Ok v) k g rest = (let r = rest v g in (r.0, (v, leads_on u v x (goes u v x k), r.1), r.2, r.3))
 
   -- a script that the checker follows fits
   pub follow_fits : (side : Side) (es : List Entry) (e : EndState) → follow p side packets own peer es ≡ Ok e → Follows p side packets own peer es e
@@ -152,18 +151,18 @@ module _ (p : Parameters) (packets : ℕ) (own peer : List FirstCopy) where
 
 -- the number of a member of an ordered list names its position
 number_at : (cs : List FirstCopy) → IsOrdered cs → length cs < 4294967296 → (i : ℕ) (c : FirstCopy) → slice_get cs i ≡ Some c → position_of_number cs c.pdu.number ≡ Some i
-number_at cs h few i c g = position_at c.pdu.number (numbers_of cs) i (slice_get-map (λ (x : FirstCopy). x.pdu.number) cs i ∙ ap (option_map (λ (x : FirstCopy). x.pdu.number)) g) (λ j y l k e. earlier j y l k e)
+number_at cs h few i c g = position_at c.pdu.number (numbers_of cs) i (map_at (λ (x : FirstCopy). x.pdu.number) cs i c g) (λ j y l k e. earlier j y l k e)
   where
     earlier : (j y : ℕ) → j < i → slice_get (numbers_of cs) j ≡ Some y → y ≡ c.pdu.number → ⊥
     earlier j y l k e =
-        let d = get_number cs j y k in
+        let d = mapped_at (λ (x : FirstCopy). x.pdu.number) cs j y k in
         let w = slice_get_within cs i c g in
         let head = slice_get_some cs 0 (omega arith) in
         not_again head.0.pdu.number j i d.0.pdu.number c.pdu.number (h.numbers j head.0 d.0 head.1 d.1) (h.numbers i head.0 c head.1 g) l (omega arith) (d.2 ∙ e)
 
 -- the place of a member names its position, where none before it has that place
 pub place_named : (cs : List FirstCopy) (i : ℕ) (c : FirstCopy) → slice_get cs i ≡ Some c → ((j : ℕ) (d : FirstCopy) → j < i → slice_get cs j ≡ Some d → d.place ≡ c.place → ⊥) → position_of_place cs c.place ≡ Some i
-place_named cs i c g none = position_at c.place (places_of cs) i (slice_get-map (λ (x : FirstCopy). x.place) cs i ∙ ap (option_map (λ (x : FirstCopy). x.place)) g) (λ j y l k e. (let d = get_place cs j y k in none j d.0 l d.1 (d.2 ∙ e)))
+place_named cs i c g none = position_at c.place (places_of cs) i (map_at (λ (x : FirstCopy). x.place) cs i c g) (λ j y l k e. (let d = mapped_at (λ (x : FirstCopy). x.place) cs j y k in none j d.0 l d.1 (d.2 ∙ e)))
 
 place_at : (cs : List FirstCopy) → IsOrdered cs → (i : ℕ) (c : FirstCopy) → slice_get cs i ≡ Some c → position_of_place cs c.place ≡ Some i
 place_at cs h i c g = place_named cs i c g (λ j d l k e. (let low = places_below cs h (i - suc j) j d c k (subst (λ n. slice_get cs n ≡ Some c) (omega arith) g) in omega (arith, low, e)))
@@ -187,27 +186,35 @@ pub held : {A B : Type 0} (b : Bool) (f : B) (r : Result A B) → b ≡ true →
 held true f r e = refl
 held false f r e = absurd (cc)
 
+pub failed : {A B : Type 0} (b : Bool) (f : B) (r : Result A B) → b ≡ false → (if b then r else Err f) ≡ Err f
+failed true f r e = absurd (cc)
+failed false f r e = refl
+
 pub same_equal : (a b : ℕ) → a ≡ b → (a == b) ≡ true
 same_equal a b e = grind (arith, nat_tests)
 
-module _ (p : Parameters) (packets : ℕ) (own peer : List FirstCopy) (mine : IsOrdered own) (theirs : IsOrdered peer) (few : length peer < 4294967296) where
-  -- where an entry leads, the checker goes
-  pub goes_on : (u v : Cursor) (x : Entry) → Advances p packets own peer u x v → next_cursor p packets own peer u x ≡ Ok v
+module _ (p : Parameters) (packets : ℕ) (own peer : List FirstCopy) where
+  -- and where it goes on, the cursor is next
+  pub gone : (u v : Cursor) (x : Entry) → Goes p packets own peer u x v → next_cursor p packets own peer u x ≡ Ok v
   unfolding next_cursor
-  goes_on u v x (takes_next slot position c after low high g front up t) =
-      let at : position_of_number peer c.pdu.number ≡ Some position = number_at peer theirs few position c g in
+  gone u v x (takes slot number position c after low high at g front up t) =
       passed (nat_lt slot u.level || nat_lt packets slot) slot_order _ (both _ _ (above slot u.level low) (above packets slot high))
       ∙ (ap (take_found p peer u slot) at ∙ (ap (take_at p u slot position) g
       ∙ (passed (not (nat_lt c.place slot)) not_yet_crossed _ (below c.place slot front) ∙ (passed (nat_lt position u.taken) not_rising _ (above position u.taken up)
       ∙ (ap (λ o. unless o (record { level = slot; made = u.made; taken = suc position; state = after_take p u.state c.pdu.safety })) t.0
       ∙ ap (λ (z : EndState). Ok (record { level = slot; made = u.made; taken = suc position; state = z })) (sym t.1))))))
-  goes_on u v x (makes_next c clock why after low g m) =
-      let at : position_of_place own c.place ≡ Some u.made = place_at own mine u.made c g in
-      passed (nat_lt c.place u.level) slot_order _ (above c.place u.level low)
-      ∙ (ap (make_found p own u c.place clock why) at ∙ (held (u.made == u.made) make_missing _ (same_equal u.made u.made refl)
-      ∙ (ap (make_of p u c.place clock why) g
-      ∙ (ap (λ o. unless o (record { level = suc c.place; made = suc u.made; taken = u.taken; state = after_make u.state c.pdu.safety clock why })) (no_fault p u.state c.pdu.safety clock why m.0)
-      ∙ ap (λ (z : EndState). Ok (record { level = suc c.place; made = suc u.made; taken = u.taken; state = z })) (sym m.1)))))
+  gone u v x (makes place clock why c after low at g same m) =
+      passed (nat_lt place u.level) slot_order _ (above place u.level low)
+      ∙ (ap (make_found p own u place clock why) at ∙ (held (u.made == u.made) make_missing _ (same_equal u.made u.made refl)
+      ∙ (ap (make_of p u place clock why) g
+      ∙ (ap (λ o. unless o (record { level = suc place; made = suc u.made; taken = u.taken; state = after_make u.state c.pdu.safety clock why })) (no_fault p u.state c.pdu.safety clock why m.0)
+      ∙ ap (λ (z : EndState). Ok (record { level = suc place; made = suc u.made; taken = u.taken; state = z })) (sym m.1)))))
+
+module _ (p : Parameters) (packets : ℕ) (own peer : List FirstCopy) (mine : IsOrdered own) (theirs : IsOrdered peer) (few : length peer < 4294967296) where
+  -- where an entry leads, the checker goes
+  pub goes_on : (u v : Cursor) (x : Entry) → Advances p packets own peer u x v → next_cursor p packets own peer u x ≡ Ok v
+  goes_on u v x (takes_next slot position c after low high g front up t) = gone p packets own peer u v x (takes slot c.pdu.number position c after low high (number_at peer theirs few position c g) g front up t)
+  goes_on u v x (makes_next c clock why after low g m) = gone p packets own peer u v x (makes c.place clock why c after low (place_at own mine u.made c g) g refl m)
 
   follows_from : (side : Side) (entry : ℕ) (u v : Cursor) (es : List Entry) → Leads p packets own peer u es v → v.made ≡ length own → follow_from p side packets own peer entry u es ≡ Ok v.state
   unfolding follow_from
@@ -224,9 +231,7 @@ module _ (p : Parameters) (packets : ℕ) (own peer : List FirstCopy) (mine : Is
 
 module _ (p : Parameters) (packets : ℕ) (own peer : List FirstCopy) (side : Side) where
   next_of : (es : List Entry) (i : ℕ) (x : Entry) → slice_get es i ≡ Some x → drop i es ≡ x ∷ drop (suc i) es
-  next_of [] i x g = absurd (cc)
-  next_of (y ∷ es) zero x g = (let same : y ≡ x = cc in ap (λ (z : Entry). z ∷ es) same)
-  next_of (y ∷ es) (suc i) x g = next_of es i x g
+  next_of es i x g = drop-cons es i x (slice_get_within es i x g) ∙ ap (λ (z : Entry). z ∷ drop (suc i) es) (get_or_from_slice_get es i x x g)
 
   -- an entry that is followed leads on
   pub step_on : (entry : ℕ) (u v : Cursor) (es : List Entry) (i : ℕ) (x : Entry) → slice_get es i ≡ Some x → next_cursor p packets own peer u x ≡ Ok v
@@ -246,13 +251,7 @@ module _ (p : Parameters) (packets : ℕ) (own peer : List FirstCopy) (side : Si
   pub step_end : (entry : ℕ) (u : Cursor) (es : List Entry) (i : ℕ) → length es ≤ i
       → follow_from p side packets own peer entry u (drop i es) ≡ (if u.made == length own then Ok u.state else Err (fault_of_end make_missing entry side))
   unfolding follow_from
-  step_end entry u es i l = ap (follow_from p side packets own peer entry u) (none_of es i l)
-    where
-      none_of : (es : List Entry) (i : ℕ) → length es ≤ i → drop i es ≡ []
-      none_of [] zero l = refl
-      none_of [] (suc i) l = refl
-      none_of (y ∷ es) zero l = absurd (omega arith)
-      none_of (y ∷ es) (suc i) l = none_of es i (omega arith)
+  step_end entry u es i l = ap (follow_from p side packets own peer entry u) (drop_all i es l)
 
   -- the same for a follower
   pub loop_on : (f f' : Followed) (es : List Entry) (i : ℕ) (d : Entry) → i < length es → f.params ≡ p → f.side ≡ side
@@ -287,14 +286,6 @@ module _ (p : Parameters) (packets : ℕ) (own peer : List FirstCopy) (side : Si
       (λ (e : JudgedEnd). (e.params ≡ p) × (follow p side packets own peer es ≡ Ok e.state))
       (λ (f : Fault). (follow p side packets own peer es ≡ Err f) ⊎ (f ≡ no_memory))
 
-  if_true : {A B : Type 0} (b : Bool) (x y : Result A B) → b ≡ true → (if b then x else y) ≡ x
-  if_true true x y e = refl
-  if_true false x y e = absurd (cc)
-
-  if_false : {A B : Type 0} (b : Bool) (x y : Result A B) → b ≡ false → (if b then x else y) ≡ y
-  if_false true x y e = absurd (cc)
-  if_false false x y e = refl
-
   pub loop_end : (f : Followed) (es : List Entry) (i : ℕ) (result : Result JudgedEnd Fault) → length es ≤ i → f.params ≡ p → f.side ≡ side
       → follow_from p side packets own peer f.entry f.cursor (drop i es) ≡ follow p side packets own peer es
       → MatchResult result (λ (e : JudgedEnd). (e ≡ record { params = f.params; state = f.cursor.state }) × (f.cursor.made ≡ length own))
@@ -302,7 +293,7 @@ module _ (p : Parameters) (packets : ℕ) (own peer : List FirstCopy) (side : Si
       → Answers result es
   loop_end f es i (Ok e) l same_p same_s rest h = (
     ap (λ (x : JudgedEnd). x.params) h.0 ∙ same_p,
-    sym rest ∙ (step_end f.entry f.cursor es i l ∙ (if_true (f.cursor.made == length own) _ _ (same_equal f.cursor.made (length own) h.1) ∙ ap (λ (x : JudgedEnd). Ok x.state) (sym h.0))),
+    sym rest ∙ (step_end f.entry f.cursor es i l ∙ (held (f.cursor.made == length own) _ _ (same_equal f.cursor.made (length own) h.1) ∙ ap (λ (x : JudgedEnd). Ok x.state) (sym h.0))),
   )
   loop_end f es i (Err fault) l same_p same_s rest h =
-      inl (sym rest ∙ (step_end f.entry f.cursor es i l ∙ (if_false (f.cursor.made == length own) _ _ h.1 ∙ ap Err (ap (fault_of_end make_missing f.entry) (sym same_s) ∙ sym h.0))))
+      inl (sym rest ∙ (step_end f.entry f.cursor es i l ∙ (failed (f.cursor.made == length own) _ _ h.1 ∙ ap Err (ap (fault_of_end make_missing f.entry) (sym same_s) ∙ sym h.0))))

@@ -1,8 +1,7 @@
 -- Scripts are followed in one way, and first copies are the packets with a new number.
 use Rattle.std.proofs.Common.{◌≡◌, ℕ, suc, ◌<◌, ◌⊎◌, List, [], ◌∷◌, ◌++◌, length, Some, slice_get, refl, ap, sym, ◌∙◌, arith, inl, inr, ⊎_elim, subst}
+use Rattle.std.proofs.lemmas.List.{append-nil}
 use Rattle.std.proofs.lemmas.Option.{slice_get_within}
-use native.Mathlib.Decide.{dec_lt}
-use Prim.{yes, no}
 use Rattle.rasta_pcap.specs.declared.fault.Side.{Side}
 use Rattle.rasta_end.specs.declared.why.Why.{Why}
 use Rattle.rasta_pdu.specs.Params.{Parameters}
@@ -27,13 +26,9 @@ number_once p xs s own h l i j c d x y e =
     let head = slice_get_some own 0 (omega arith) in
     let ni = h.numbers i head.0 c head.1 x in
     let nj = h.numbers j head.0 d head.1 y in
-    elim (dec_lt i j) [
-      | yes z ↦ absurd (not_again head.0.pdu.number i j c.pdu.number d.pdu.number ni nj z (omega arith) e)
-      | no z ↦ elim (dec_lt j i) [
-        | yes w ↦ absurd (not_again head.0.pdu.number j i d.pdu.number c.pdu.number nj ni w (omega arith) (sym e))
-        | no w ↦ omega arith
-      ]
-    ]
+    let up : i < j → ⊥ = λ z. not_again head.0.pdu.number i j c.pdu.number d.pdu.number ni nj z (omega arith) e in
+    let down : j < i → ⊥ = λ z. not_again head.0.pdu.number j i d.pdu.number c.pdu.number nj ni z (omega arith) (sym e) in
+    omega (arith, up, down)
 
 pub firsts_new : (p : Parameters) (xs : List Packet) (s : Side) (own : List FirstCopy) → IsSent p xs s own → length own < 4294967296 → (i : ℕ) (c : FirstCopy) → slice_get own i ≡ Some c → IsKnown p xs s c.place c.pdu.number → ⊥
 firsts_new p xs s own h l i c g w =
@@ -93,10 +88,6 @@ module _ (p : Parameters) (n : ℕ) (packets : List Packet) (r : Side) (own peer
   pub stuck : (u v w : Cursor) (es rest : List Entry) (x : Entry) → Leads p n own peer u es v → ((z : Cursor) → Advances p n own peer v x z → ⊥) → Leads p n own peer u (es ++ x ∷ rest) w → ⊥
   stuck u v w es rest x f h g = (let r = leads_rest u v w es (x ∷ rest) f g in h r.0 r.1)
 
-  append_none : (es : List Entry) → es ++ [] ≡ es
-  append_none [] = refl
-  append_none (x ∷ es) = ap (λ xs. x ∷ xs) (append_none es)
-
   -- a script leads to one cursor
   pub leads_once : (u v w : Cursor) (es : List Entry) → Leads p n own peer u es v → Leads p n own peer u es w → v ≡ w
-  leads_once u v w es f g = leads_rest u v w es [] f (subst (λ (xs : List Entry). Leads p n own peer u xs w) (sym (append_none es)) g)
+  leads_once u v w es f g = leads_rest u v w es [] f (subst (λ (xs : List Entry). Leads p n own peer u xs w) (sym (append-nil es)) g)

@@ -1,8 +1,8 @@
 -- Along a run: the first copies so far, and a script for each end.
-use Rattle.std.proofs.Common.{◌≡◌, ℕ, zero, suc, ◌+◌, ◌-◌, ◌<◌, ◌≤◌, Bool, true, false, List, [], ◌∷◌, ◌++◌, length, Option, Some, None, slice_get, refl, ap, sym, ◌∙◌, arith, ⊎_elim, subst, length-append}
-use Rattle.std.specs.Prelude.{map, if◌then◌else◌}
+use Rattle.std.proofs.Common.{◌≡◌, ℕ, suc, ◌+◌, ◌-◌, ◌<◌, ◌≤◌, Bool, true, false, List, [], ◌∷◌, ◌++◌, length, Option, Some, None, slice_get, refl, ap, sym, ◌∙◌, arith, ⊎_elim, subst, length-append}
+use Rattle.std.specs.Prelude.{if◌then◌else◌}
 use Rattle.std.proofs.lemmas.Bool.Decides.{nat_tests}
-use Rattle.std.proofs.lemmas.List.{length_push}
+use Rattle.std.proofs.lemmas.List.{append-nil, append_assoc, length_push, length-map, map-append}
 use Rattle.std.proofs.lemmas.Option.{slice_get_within}
 use Rattle.rasta_pcap.specs.declared.fault.Side.{Side}
 use Rattle.rasta_pcap.specs.declared.fault.Side.TheVariants.{Client, Server}
@@ -27,6 +27,7 @@ use Rattle.rasta_check.specs.Script.Following.{Cursor, Advances, takes_next, mak
 use Rattle.rasta_check.specs.Verdict.Taken.{pdus_of, pdus_made}
 use Rattle.rasta_check.proofs.Model.ListGrowth.{get_push_cases, get_front, get_push}
 use Rattle.rasta_check.proofs.Model.TakeRows.{take_leaves}
+use Rattle.rasta_check.proofs.Script.ListItems.{get_behind, map_at, mapped_at}
 use Rattle.rasta_check.proofs.Capture.FirstCopies.{Counts_from, sent_other, sent_copy, sent_first, sent_none, sent_once}
 
 -- scripts in a wider setting, and one entry more
@@ -53,15 +54,10 @@ clocks_more m n [] l h = tt
 clocks_more m n (Take slot number ∷ es) l h = clocks_more m n es l h
 clocks_more m n (Make place clock why ∷ es) l h = ((let z = h.0 in omega arith), clocks_more m n es l h.1)
 
-clocks_take : (n slot number : ℕ) (es : List Entry) → ClocksWithin n es → ClocksWithin n (es ++ Take slot number ∷ [])
-clocks_take n slot number [] h = tt
-clocks_take n slot number (Take s m ∷ es) h = clocks_take n slot number es h
-clocks_take n slot number (Make place clock why ∷ es) h = (h.0, clocks_take n slot number es h.1)
-
-clocks_make : (n place clock : ℕ) (why : Why) (es : List Entry) → clock ≤ n → ClocksWithin n es → ClocksWithin n (es ++ Make place clock why ∷ [])
-clocks_make n place clock why [] l h = (l, tt)
-clocks_make n place clock why (Take s m ∷ es) l h = clocks_make n place clock why es l h
-clocks_make n place clock why (Make q c y ∷ es) l h = (h.0, clocks_make n place clock why es l h.1)
+clocks_on : (n : ℕ) (es more : List Entry) → ClocksWithin n es → ClocksWithin n more → ClocksWithin n (es ++ more)
+clocks_on n [] more h g = g
+clocks_on n (Take slot number ∷ es) more h g = clocks_on n es more h g
+clocks_on n (Make place clock why ∷ es) more h g = (h.0, clocks_on n es more h.1 g)
 
 -- each entry raises one of the two marks
 pub leads_count : (p : Parameters) (n : ℕ) (own peer : List FirstCopy) (u v : Cursor) (es : List Entry) → Leads p n own peer u es v → length es + u.made + u.taken ≤ v.made + v.taken
@@ -98,41 +94,6 @@ earlier p e m n l h = by (is_closed e.phase) h
     by true h = refl
     by false h = fault_by e.owed _ _ (past_before p e.deadline m n l) h
 
--- lists under a map
-map_push : (ms : List Made) (m : Made) → map (λ (x : Made). x.pdu) (ms ++ m ∷ []) ≡ map (λ (x : Made). x.pdu) ms ++ m.pdu ∷ []
-map_push [] m = refl
-map_push (x ∷ ms) m = ap (λ ps. x.pdu ∷ ps) (map_push ms m)
-
-pdus_push : (cs : List FirstCopy) (c : FirstCopy) → pdus_of (cs ++ c ∷ []) ≡ pdus_of cs ++ c.pdu.safety ∷ []
-pdus_push [] c = refl
-pdus_push (x ∷ cs) c = ap (λ ps. x.pdu.safety ∷ ps) (pdus_push cs c)
-
-length_made : (ms : List Made) → length (map (λ (x : Made). x.pdu) ms) ≡ length ms
-length_made [] = refl
-length_made (m ∷ ms) = ap suc (length_made ms)
-
-length_pdus : (cs : List FirstCopy) → length (pdus_of cs) ≡ length cs
-length_pdus [] = refl
-length_pdus (c ∷ cs) = ap suc (length_pdus cs)
-
-get_made : (ms : List Made) (i : ℕ) (m : Made) → slice_get ms i ≡ Some m → slice_get (map (λ (x : Made). x.pdu) ms) i ≡ Some m.pdu
-get_made [] i m g = absurd (cc)
-get_made (x ∷ ms) zero m g = (let e : x ≡ m = cc in ap (λ (z : Made). Some z.pdu) e)
-get_made (x ∷ ms) (suc i) m g = get_made ms i m g
-
-get_after : (xs ys : List SafetyPdu) (i : ℕ) → slice_get (xs ++ ys) (length xs + i) ≡ slice_get ys i
-get_after [] ys i = (let e : 0 + i ≡ i = omega arith in ap (slice_get ys) e)
-get_after (x ∷ xs) ys i = (let e : suc (length xs) + i ≡ suc (length xs + i) = omega arith in ap (λ n. slice_get (x ∷ (xs ++ ys)) n) e ∙ get_after xs ys i)
-
-get_copy : (cs : List FirstCopy) (i : ℕ) (x : SafetyPdu) → slice_get (pdus_of cs) i ≡ Some x → (c : FirstCopy) × (slice_get cs i ≡ Some c) × (c.pdu.safety ≡ x)
-get_copy [] i x g = absurd (cc)
-get_copy (c ∷ cs) zero x g = (c, refl, cc)
-get_copy (c ∷ cs) (suc i) x g = get_copy cs i x g
-
-assoc : (xs ys zs : List SafetyPdu) → (xs ++ ys) ++ zs ≡ xs ++ (ys ++ zs)
-assoc [] ys zs = refl
-assoc (x ∷ xs) ys zs = ap (λ ps. x ∷ ps) (assoc xs ys zs)
-
 -- what a station sends: its first copies so far are what it has made since the start_of
 pub record Sends (p : Parameters) (s : Side) (xs : List Packet) (own : List FirstCopy) (e : EndState) (first : ℕ) : Type 0 where
   pub sent : IsSent p xs s own
@@ -162,21 +123,21 @@ pub record Both (p : Parameters) (s r : Side) (xs : List Packet) (a b : Station)
 
 pub sends_count : (p : Parameters) (s : Side) (xs : List Packet) (own : List FirstCopy) (e : EndState) (f : ℕ) → Sends p s xs own e f → length e.made ≡ base p + length own
 sends_count p s xs own e f h =
-    let a = length_made e.made in
+    let a = length-map e.made (λ (x : Made). x.pdu) in
     let b = ap length h.same in
     let c = length-append (pdus_made (start_of p s).made) (pdus_of own) in
-    let d = length_made (start_of p s).made in
+    let d = length-map (start_of p s).made (λ (x : Made). x.pdu) in
     let g = start_made p.quiet s in
-    let k = length_pdus own in
+    let k = length-map own (λ (c : FirstCopy). c.pdu.safety) in
     omega (arith, a, b, c, d, g, k)
 
 -- the copy at a position of the peer
 pub copy_at : (p : Parameters) (s : Side) (xs : List Packet) (own : List FirstCopy) (e : EndState) (f i : ℕ) (m : Made) → Sends p s xs own e f → slice_get e.made (base p + i) ≡ Some m → (c : FirstCopy) × (slice_get own i ≡ Some c) × (c.pdu.safety ≡ m.pdu)
 copy_at p s xs own e f i m h g =
-    let a = get_made e.made (base p + i) m g in
-    let l : length (pdus_made (start_of p s).made) ≡ base p = length_made (start_of p s).made ∙ start_made p.quiet s in
+    let a = map_at (λ (x : Made). x.pdu) e.made (base p + i) m g in
+    let l : length (pdus_made (start_of p s).made) ≡ base p = length-map (start_of p s).made (λ (x : Made). x.pdu) ∙ start_made p.quiet s in
     let b : slice_get (pdus_made (start_of p s).made ++ pdus_of own) (length (pdus_made (start_of p s).made) + i) ≡ Some m.pdu = subst (λ n. slice_get (pdus_made (start_of p s).made ++ pdus_of own) (n + i) ≡ Some m.pdu) (sym l) (subst (λ (ps : List SafetyPdu). slice_get ps (base p + i) ≡ Some m.pdu) h.same a) in
-    get_copy own i m.pdu (sym (get_after (pdus_made (start_of p s).made) (pdus_of own) i) ∙ b)
+    mapped_at (λ (c : FirstCopy). c.pdu.safety) own i m.pdu (sym (get_behind (pdus_made (start_of p s).made) (pdus_of own) i) ∙ b)
 
 -- a packet of the other side leaves what an end sends
 sends_other : (p : Parameters) (s : Side) (xs : List Packet) (k : Packet) (own : List FirstCopy) (e : EndState) (f : ℕ) → Sends p s xs own e f → (k.side ≡ s → ⊥) → Sends p s (xs ++ k ∷ []) own e f
@@ -187,7 +148,7 @@ told_wider p s n n' own peer q e clock taken l h =
     record {
       es = h.es;
       at = h.at;
-      leads = subst (λ (os : List FirstCopy). Leads p n' os (peer ++ q) (at_start (start_of p s)) h.es h.at) (append_nil own) (leads_wider p n n' own [] peer q _ h.at h.es l h.leads);
+      leads = subst (λ (os : List FirstCopy). Leads p n' os (peer ++ q) (at_start (start_of p s)) h.es h.at) (append-nil own) (leads_wider p n n' own [] peer q _ h.at h.es l h.leads);
       made = h.made;
       mark = h.mark;
       level = omega (arith, h.level);
@@ -195,18 +156,10 @@ told_wider p s n n' own peer q e clock taken l h =
       clock = h.clock;
       clocks = h.clocks;
     }
-  where
-    append_nil : (cs : List FirstCopy) → cs ++ [] ≡ cs
-    append_nil [] = refl
-    append_nil (c ∷ cs) = ap (λ ds. c ∷ ds) (append_nil cs)
 
 told_longer : (p : Parameters) (s : Side) (n n' : ℕ) (own peer : List FirstCopy) (e : EndState) (clock taken : ℕ) → n ≤ n' → Told p s n own peer e clock taken → Told p s n' own peer e clock taken
 told_longer p s n n' own peer e clock taken l h =
-    subst (λ (qs : List FirstCopy). Told p s n' own qs e clock taken) (append_nil peer) (told_wider p s n n' own peer [] e clock taken l h)
-  where
-    append_nil : (cs : List FirstCopy) → cs ++ [] ≡ cs
-    append_nil [] = refl
-    append_nil (c ∷ cs) = ap (λ ds. c ∷ ds) (append_nil cs)
+    subst (λ (qs : List FirstCopy). Told p s n' own qs e clock taken) (append-nil peer) (told_wider p s n n' own peer [] e clock taken l h)
 
 -- a make
 module _ (p : Parameters) (s : Side) (xs : List Packet) (own peer : List FirstCopy) (e e' : EndState) (first clock taken channel reserve : ℕ) (check bytes : List ℕ) (x : SafetyPdu) (why : Why)
@@ -230,7 +183,7 @@ module _ (p : Parameters) (s : Side) (xs : List Packet) (own peer : List FirstCo
       let now : e'.made ≡ e.made ++ n ∷ [] = made.made in
       record {
         sent = r.0;
-        same = ap pdus_made now ∙ (map_push e.made n ∙ (ap (λ y. pdus_made e.made ++ y ∷ []) made.pdu ∙ (ap (λ ps. ps ++ x ∷ []) h.same ∙ (assoc (pdus_made (start_of p s).made) (pdus_of own) (x ∷ []) ∙ ap (λ ps. pdus_made (start_of p s).made ++ ps) (sym (pdus_push own copy))))));
+        same = ap pdus_made now ∙ (map-append (λ (x : Made). x.pdu) e.made (n ∷ []) ∙ (ap (λ y. pdus_made e.made ++ y ∷ []) made.pdu ∙ (ap (λ ps. ps ++ x ∷ []) h.same ∙ (append_assoc (pdus_made (start_of p s).made) (pdus_of own) (x ∷ []) ∙ ap (λ ps. pdus_made (start_of p s).made ++ ps) (sym (map-append (λ (c : FirstCopy). c.pdu.safety) own (copy ∷ [])))))));
         numbers = r.1;
         side = made.side ∙ h.side;
       }
@@ -248,18 +201,14 @@ module _ (p : Parameters) (s : Side) (xs : List Packet) (own peer : List FirstCo
       record {
         es = t.es ++ Make (length xs) clock why ∷ [];
         at = record { level = suc (length xs); made = suc t.at.made; taken = t.at.taken; state = e' };
-        leads = leads_more p (length (xs ++ packet ∷ [])) (own ++ copy ∷ []) peer _ t.at _ t.es _ (subst (λ (qs : List FirstCopy). Leads p (length (xs ++ packet ∷ [])) (own ++ copy ∷ []) qs (at_start (start_of p s)) t.es t.at) (append_nil peer) wide) step;
+        leads = leads_more p (length (xs ++ packet ∷ [])) (own ++ copy ∷ []) peer _ t.at _ t.es _ (subst (λ (qs : List FirstCopy). Leads p (length (xs ++ packet ∷ [])) (own ++ copy ∷ []) qs (at_start (start_of p s)) t.es t.at) (append-nil peer) wide) step;
         made = (let z = length_push own copy in let y = t.made in omega arith);
         mark = t.mark;
         level = omega arith;
         state = refl;
         clock = omega arith;
-        clocks = subst (λ n. ClocksWithin n (t.es ++ Make (length xs) clock why ∷ [])) (sym now) (clocks_make clock (length xs) clock why t.es (omega arith) (clocks_more e.clock clock t.es rises t.clocks));
+        clocks = subst (λ n. ClocksWithin n (t.es ++ Make (length xs) clock why ∷ [])) (sym now) (clocks_on clock t.es (Make (length xs) clock why ∷ []) (clocks_more e.clock clock t.es rises t.clocks) (omega arith, tt));
       }
-    where
-      append_nil : (cs : List FirstCopy) → cs ++ [] ≡ cs
-      append_nil [] = refl
-      append_nil (c ∷ cs) = ap (λ ds. c ∷ ds) (append_nil cs)
 
 -- a take
 took : (p : Parameters) (s r : Side) (xs : List Packet) (own peer : List FirstCopy) (e e' f : EndState) (clock taken position their : ℕ) (m : Made) → Takes p e m.pdu clock e' → taken ≤ position → slice_get f.made position ≡ Some m
@@ -283,13 +232,12 @@ took p s r xs own peer e e' f clock taken position their m tk above g hs t =
       level = omega arith;
       state = refl;
       clock = (let z = t.clock in omega arith);
-      clocks = subst (λ n. ClocksWithin n (t.es ++ Take (length xs) c.0.pdu.number ∷ [])) (sym same) (clocks_take e.clock (length xs) c.0.pdu.number t.es t.clocks);
+      clocks = subst (λ n. ClocksWithin n (t.es ++ Take (length xs) c.0.pdu.number ∷ [])) (sym same) (clocks_on e.clock t.es (Take (length xs) c.0.pdu.number ∷ []) t.clocks tt);
     }
 
 both_kept : (p : Parameters) (s r : Side) (xs ys : List Packet) (a a' b : Station) → (s ≡ r → ⊥) → {move : Move} → Moves p b xs a move a' ys → Both p s r xs a b → Both p s r ys a' b
 unfolding packet
 both_kept p s r xs ys a a' b apart (makes x why e' ch res chk bs mk sp rec) g =
-    let k = packet p s xs g.own g.peer a.state e' a.first_number a.clock a.taken ch res chk bs x why mk sp g.sends g.told in
     record {
       own = g.own ++ copy p s xs g.own g.peer a.state e' a.first_number a.clock a.taken ch res chk bs x why mk sp g.sends g.told ∷ [];
       peer = g.peer;
@@ -335,11 +283,7 @@ abbrev pub turn : (p : Parameters) (s r : Side) (xs : List Packet) (a b : Statio
 turn p s r xs a b g = record { own = g.peer; peer = g.own; sends = g.their_sends; their_sends = g.sends; told = g.their_told; their_told = g.told }
 
 first_sends : (p : Parameters) (s : Side) (n : ℕ) → AreParameters p → Sends p s [] [] (start_of p s) n
-first_sends p s n valid = record { sent = sent_none p s valid; same = sym (append_nil (pdus_made (start_of p s).made)); numbers = λ i c g. absurd (cc); side = start_side p.quiet s }
-  where
-    append_nil : (cs : List SafetyPdu) → cs ++ [] ≡ cs
-    append_nil [] = refl
-    append_nil (c ∷ cs) = ap (λ ds. c ∷ ds) (append_nil cs)
+first_sends p s n valid = record { sent = sent_none p s valid; same = sym (append-nil (pdus_made (start_of p s).made)); numbers = λ i c g. absurd (cc); side = start_side p.quiet s }
 
 first_told : (p : Parameters) (s : Side) → Told p s 0 [] [] (start_of p s) (start_of p s).clock (start_of p s).base
 first_told p s = record { es = []; at = at_start (start_of p s); leads = refl; made = refl; mark = (let z = start_base p.quiet s in omega arith); level = omega arith; state = refl; clock = omega arith; clocks = tt }
@@ -368,10 +312,7 @@ kept_copies p s r xs ys a a' b apart (makes x why e' ch res chk bs mk sp rec) g 
     (λ (old : slice_get g.own j ≡ Some d). old)
     (λ (new : (j ≡ length g.own) × (_ ≡ d)). absurd (let z = ap (λ (c : FirstCopy). c.place) new.1 in omega arith))
     (get_push_cases g.own _ j d at)
-kept_copies p s r xs ys a a' b apart (repeats place ch old there sd rec) g j d at l = at
-kept_copies p s r xs ys a a' b apart (arrives q low i) g j d at l = at
-kept_copies p s r xs ys a a' b apart (takes q m e' c i t tk) g j d at l = at
-kept_copies p s r xs ys a a' b apart (waits c i) g j d at l = at
+kept_copies p s r xs ys a a' b apart _ g j d at l = at
 
 kept_front : (p : Parameters) (s r : Side) (xs ys : List Packet) (a a' b : Station) (apart : s ≡ r → ⊥) {move : Move} (m : Moves p b xs a move a' ys) (g : Both p s r xs a b) (j : ℕ) (d : FirstCopy)
     → slice_get g.own j ≡ Some d → slice_get (both_kept p s r xs ys a a' b apart m g).own j ≡ Some d
@@ -382,10 +323,7 @@ kept_front p s r xs ys a a' b apart _ g j d at = at
 same_peer : (p : Parameters) (s r : Side) (xs ys : List Packet) (a a' b : Station) (apart : s ≡ r → ⊥) {move : Move} (m : Moves p b xs a move a' ys) (g : Both p s r xs a b) → (both_kept p s r xs ys a a' b apart m g).peer ≡ g.peer
 unfolding both_kept
 same_peer p s r xs ys a a' b apart (makes x why e' ch res chk bs mk sp rec) g = refl
-same_peer p s r xs ys a a' b apart (repeats place ch old at sd rec) g = refl
-same_peer p s r xs ys a a' b apart (arrives q low i) g = refl
-same_peer p s r xs ys a a' b apart (takes q m e' c i t tk) g = refl
-same_peer p s r xs ys a a' b apart (waits c i) g = refl
+same_peer p s r xs ys a a' b apart _ g = refl
 
 pub step_copies : (p : Parameters) (v w : World) (st : Step p v w) (g : Both p Client Server v.crossed v.client v.server)
     → ((j : ℕ) (d : FirstCopy) → slice_get (told_step p v w st g).own j ≡ Some d → d.place < length v.crossed → slice_get g.own j ≡ Some d)

@@ -1,28 +1,20 @@
 -- One side along the packets, as the run of two scripts is built: its script leads on, and it has made what crossed.
-use Rattle.std.proofs.Common.{◌≡◌, ℕ, zero, suc, ◌+◌, ◌-◌, ◌%◌, ◌^◌, ◌<◌, ◌≤◌, List, [], ◌∷◌, ◌++◌, length, Some, slice_get, take, refl, ap, sym, ◌∙◌, arith, ⊎_elim, subst, get_or, add-one}
+use Rattle.std.proofs.Common.{◌≡◌, ℕ, zero, suc, ◌+◌, ◌-◌, ◌%◌, ◌^◌, ◌<◌, ◌≤◌, List, [], ◌∷◌, ◌++◌, length, Some, slice_get, take, refl, ap, sym, ◌∙◌, arith, subst, get_or, add-one}
 use Rattle.std.specs.Prelude.{slice_index_or}
-use Rattle.std.proofs.lemmas.List.{length_push, take_all, take_more, length-take-le, get_or-take}
+use Rattle.std.proofs.lemmas.List.{take_more}
 use Rattle.std.proofs.lemmas.Option.{slice_get_within, slice_get-get_or, get_or_from_slice_get}
-use native.Mathlib.Decide.{dec_le, dec_lt}
-use Prim.{yes, no}
 use Rattle.rasta_pcap.specs.declared.fault.Side.{Side}
-use Rattle.rasta_pcap.specs.declared.fault.Side.TheVariants.{Client, Server}
-use Rattle.rasta_end.specs.declared.why.Why.{Why}
 use Rattle.rasta_pdu.specs.Params.{Parameters}
-use Rattle.rasta_pdu.specs.Pdu.{SafetyPdu}
-use Rattle.rasta_end.specs.State.{Made, EndState, wrapped}
-use Rattle.rasta_end.specs.TakeRule.{Takes}
+use Rattle.rasta_end.specs.State.{Made, wrapped}
 use Rattle.rasta_udp.specs.Frame.{Packet}
-use Rattle.rasta_check.specs.Model.World.{Station, World, Move, Moves, makes, repeats, arrives, takes, waits, side_moves, Reaches, begins, goes_on, first_station}
+use Rattle.rasta_check.specs.Model.World.{Station, first_station}
 use Rattle.rasta_end.specs.Starts.{start_of}
-use Rattle.rasta_check.proofs.Model.Steps.{base, base_small, start_base, start_made, start_side, made_more}
-use Rattle.rasta_check.specs.Capture.Crossing.{Spells, FirstCopy, CrossRecorded}
+use Rattle.rasta_check.proofs.Model.Steps.{base, base_small, start_base, start_made, start_side}
+use Rattle.rasta_check.specs.Capture.Crossing.{FirstCopy}
 use Rattle.rasta_cert.specs.declared.entry.Entry.{Entry}
 use Rattle.rasta_cert.specs.declared.entry.Entry.TheVariants.{Take, Make}
 use Rattle.rasta_check.proofs.Capture.FaultlessLists.{IsSent}
-use Rattle.rasta_check.specs.Script.Following.{Cursor, Advances, takes_next, makes_next, Leads, Follows, at_start}
-use Rattle.rasta_check.proofs.Model.ListGrowth.{get_front, get_push}
-use Rattle.rasta_check.proofs.Model.TakeRows.{take_leaves}
+use Rattle.rasta_check.specs.Script.Following.{Cursor, Advances, takes_next, makes_next, Leads, at_start}
 
 -- one side at a level: what is left of its script leads to its last cursor, and it has made what crossed
 pub record Tracks (p : Parameters) (n k : ℕ) (s : Side) (own peer : List FirstCopy) (es : List Entry) (last : Cursor) (a : Station) : Type 0 where
@@ -50,9 +42,6 @@ Drained k (Make place clock why ∷ es) = Unit {0}
 -- what a station has made, at another length
 pub moved_made : (ms ns : List Made) (i : ℕ) (P : Made → Type 0) → ns ≡ ms → ((m : Made) × (slice_get ms i ≡ Some m) × P m) → (m : Made) × (slice_get ns i ≡ Some m) × P m
 moved_made ms ns i P e z = (z.0, subst (λ (xs : List Made). slice_get xs i ≡ Some z.0) (sym e) z.1, z.2)
-
-pub lt_of : {i j : ℕ} → (i ≤ j → ⊥) → j < i
-lt_of h = omega arith
 
 pub slice_get_some : {A : Type 0} (xs : List A) (k : ℕ) → k < length xs → (x : A) × (slice_get xs k ≡ Some x)
 slice_get_some [] k l = absurd (omega arith)

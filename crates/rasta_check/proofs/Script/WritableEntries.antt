@@ -15,7 +15,7 @@ use Rattle.rasta_cert.specs.declared.entry.Entry.TheVariants.{Take, Make}
 use Rattle.rasta_end.specs.declared.phase.Phase.{Phase}
 use Rattle.rasta_end.specs.declared.owed.Owed.{Owed}
 use Rattle.rasta_end.specs.declared.why.Why.{Why}
-use Rattle.rasta_end.specs.declared.why.Why.TheVariants.{Open, Reply, Beat, Fresh, Again, Ask, Bye, Expired}
+use Rattle.rasta_end.specs.declared.why.Why.TheVariants.{Again}
 use Rattle.rasta_end.specs.declared.make_row.MakeRow.{MakeRow}
 use Rattle.rasta_end.specs.declared.make_row.MakeRow.TheVariants.{Resends}
 use Rattle.rasta_end.specs.State.{Made, EndState, content_of}
@@ -51,10 +51,6 @@ again_row : (s : Side) (ph : Phase) (unit : ℕ) (k : Kind) (os : List Owed) (ro
 again_row s ph unit k os row (again c) = refl
 
 reason_fits : (p : Parameters) (e e' : EndState) (x : SafetyPdu) (clock : ℕ) (why : Why) → Makes p e x clock why e' → length e.made < 2 ^ 32 → IsReason why
-reason_fits p e e' x clock Open mk l = tt
-reason_fits p e e' x clock Reply mk l = tt
-reason_fits p e e' x clock Beat mk l = tt
-reason_fits p e e' x clock Fresh mk l = tt
 reason_fits p e e' x clock (Again unit) mk l =
     let pass = passed p e x clock (Again unit) mk.0 in
     let m = made_by p e x clock (Again unit) pass in
@@ -62,9 +58,7 @@ reason_fits p e e' x clock (Again unit) mk l =
     let same : not (option_map_or (λ (own : List ℕ). bytes_eq own (content_of x.body)) (slice_get (contents e.made) unit) false) ≡ false = subst (λ (r : Option MakeRow). differs e.made r (content_of x.body) ≡ false) row pass.same in
     let w = unit_there e.made unit (content_of x.body) (slice_get (contents e.made) unit) refl same in
     omega arith
-reason_fits p e e' x clock Ask mk l = tt
-reason_fits p e e' x clock Bye mk l = tt
-reason_fits p e e' x clock Expired mk l = tt
+reason_fits p e e' x clock _ mk l = tt
 
 -- ---- entries
 
