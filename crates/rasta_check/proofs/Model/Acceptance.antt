@@ -4,7 +4,7 @@ use Rattle.std.specs.Prelude.{if◌then◌else◌}
 use Rattle.rasta_pdu.specs.Params.{Parameters}
 use Rattle.rasta_pdu.specs.Pdu.{SafetyPdu}
 use Rattle.rasta_end.specs.declared.take_row.TakeRow.{TakeRow}
-use Rattle.rasta_end.specs.declared.take_row.TakeRow.TheVariants.{Opened, Answered, FirstHeartbeat, InSequence, ResentInSequence, Gap, GapInRetransmission, Resumed, Requested, RequestedAhead, RequestedAgain, Disconnected}
+use Rattle.rasta_end.specs.declared.take_row.TakeRow.TheVariants.{FirstHeartbeat, InSequence, ResentInSequence, Resumed, Requested}
 use Rattle.rasta_end.specs.State.{EndState, carries_unit, ahead_by}
 use Rattle.rasta_end.specs.TakeRule.{accept, enter, hand_up, effect, effect_by, take_row, after_take}
 

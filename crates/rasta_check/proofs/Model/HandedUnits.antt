@@ -1,6 +1,6 @@
 -- What an end has handed up: the units conveyed through the last position of its peer that it accepted.
 use Rattle.std.proofs.Common.{◌≡◌, ℕ, zero, suc, ◌+◌, ◌<◌, ◌≤◌, Bool, true, false, List, [], ◌∷◌, ◌++◌, length, Option, Some, None, slice_get, take, refl, ap, sym, ◌∙◌, arith, subst}
-use Rattle.std.specs.Prelude.{◌==◌, slice_index_or, if◌then◌else◌, map, filter, drop}
+use Rattle.std.specs.Prelude.{◌==◌, slice_index_or, if◌then◌else◌, filter, drop}
 use Rattle.std.proofs.lemmas.Bool.Decides.{nat_tests}
 use Rattle.std.proofs.lemmas.List.{take-append-le, take_all, length_push}
 use Rattle.std.proofs.lemmas.Option.{slice_get_within, slice_get-get_or, get_or_from_slice_get}
@@ -22,7 +22,7 @@ use Rattle.rasta_end.specs.MakeRule.{row_of, after_make, after_make_by}
 use Rattle.rasta_end.specs.TakeRule.{is_heartbeat_or_data, is_in, steps_past_next, position_confirmed, accept, enter, hand_up, burst, take_row, effect, effect_by, after_take}
 use Rattle.rasta_check.specs.Model.Laws.{conveyed_before, HandsUp}
 use Rattle.rasta_check.specs.Model.Theorem.{HandsUpUnits}
-use Rattle.rasta_check.proofs.Model.ListGrowth.{all_push, get_front, get_push}
+use Rattle.rasta_check.proofs.Model.ListGrowth.{all_push, get_front, get_push, get_mapped}
 use Rattle.rasta_check.proofs.Model.PassedTests.{Passed, cs_is}
 use Rattle.rasta_check.proofs.Model.MakeRows.{MadeBy, made_by, after_row, new_made}
 use Rattle.rasta_check.proofs.Model.TakeRows.{Knows, row_known, not_closed}
@@ -275,12 +275,6 @@ messages_by_content (Opening version sendmax reserved) = refl
 messages_by_content (Bye detail reason) = refl
 messages_by_content Empty = refl
 
--- the data PDU with this content
-data_with : (ms : List Made) (i : ℕ) (content : List ℕ) → slice_get (map (λ (n : Made). content_of n.pdu.body) ms) i ≡ Some content → (m : Made) × (slice_get ms i ≡ Some m) × (content_of m.pdu.body ≡ content)
-data_with [] i content g = absurd (cc)
-data_with (m ∷ ms) zero content g = (m, refl, cc)
-data_with (m ∷ ms) (suc i) content g = data_with ms i content g
-
 -- the i-th PDU handed up carries the messages of the i-th data PDU
 handed_messages : (e f : EndState) → Valued f → Handed e f → (i : ℕ) (x : SafetyPdu) → slice_get e.handed_pdus i ≡ Some x
     → (m : Made) × (slice_get (filter (λ (n : Made). is_kind Data n.pdu.kind) f.made) i ≡ Some m) × (messages_in x.body ≡ messages_in m.pdu.body)
@@ -289,7 +283,7 @@ handed_messages e f vf w i x g =
     let r = w.labels i _ (slice_get-get_or e.handed i 0 l) in
     let same : r.0.pdu ≡ x = (let z : Some r.0.pdu ≡ Some x = sym r.4 ∙ g in cc) in
     let content = (vf.contents.carried _ r.0 r.1 i r.3).1 in
-    let d = data_with (filter (λ (n : Made). is_kind Data n.pdu.kind) f.made) i (content_of r.0.pdu.body) content in
+    let d = get_mapped (λ (n : Made). content_of n.pdu.body) (filter (λ (n : Made). is_kind Data n.pdu.kind) f.made) i (content_of r.0.pdu.body) content in
     (d.0, d.1, ap (λ (y : SafetyPdu). messages_in y.body) (sym same) ∙ (messages_by_content r.0.pdu.body ∙ (ap messages_of (sym d.2) ∙ sym (messages_by_content d.0.pdu.body))))
 
 pub hands_up_units : (e f : EndState) → Valued f → Handed e f → HandsUpUnits e f

@@ -1,6 +1,7 @@
 -- What the PDUs of an end show: no more units than it has handed up.
 use Rattle.std.proofs.Common.{◌≡◌, ℕ, zero, suc, ◌<◌, ◌≤◌, ◌⊎◌, Bool, true, false, List, [], ◌∷◌, ◌++◌, length, Option, Some, None, slice_get, refl, ap, sym, ◌∙◌, arith, inl, inr, ⊎_elim, subst}
 use Rattle.std.specs.Prelude.{not, ◌&&◌, ◌==◌, if◌then◌else◌}
+use Rattle.std.proofs.Math.Logic.{⊎_map}
 use Rattle.std.proofs.lemmas.Bool.Decides.{nat_tests}
 use Rattle.std.proofs.lemmas.List.{length_push}
 use Rattle.std.proofs.lemmas.Option.{slice_get_within}
@@ -13,7 +14,7 @@ use Rattle.rasta_end.specs.declared.phase.Phase.TheVariants.{Up}
 use Rattle.rasta_end.specs.declared.why.Why.{Why}
 use Rattle.rasta_end.specs.declared.make_row.MakeRow.{MakeRow}
 use Rattle.rasta_end.specs.declared.take_row.TakeRow.{TakeRow}
-use Rattle.rasta_end.specs.declared.take_row.TakeRow.TheVariants.{Opened, Answered, FirstHeartbeat, InSequence, ResentInSequence, Gap, GapInRetransmission, Resumed, Requested, Disconnected}
+use Rattle.rasta_end.specs.declared.take_row.TakeRow.TheVariants.{Opened, Answered, FirstHeartbeat, InSequence, ResentInSequence, Gap, GapInRetransmission, Disconnected}
 use Rattle.rasta_end.specs.declared.owed.Owed.{Owed}
 use Rattle.rasta_end.specs.State.{Made, EndState, is_client, is_start, is_closed, is_connected, carries_unit}
 use Rattle.rasta_end.specs.MakeRule.{is_judged, phase_after, offered_after, after_make, after_make_by}
@@ -130,10 +131,7 @@ module _ (e f : EndState) (x : SafetyPdu) (clock : ℕ) (why : Why) (b : MadeBy 
 
   f_offer : 0 < after.offered → 0 < e.accepted
   f_offer l =
-      ⊎_elim
-      (λ (n : 0 < f.offered). w.ready_offer n)
-      (λ (r : is_connected f.phase ≡ true). w.ready_run r)
-      (offers_by f.side f.phase why x.kind f.owed b.row f.offered b.how l)
+      ⊎_elim w.ready_offer w.ready_run (offers_by f.side f.phase why x.kind f.owed b.row f.offered b.how l)
 
   f_runs : {ph : Phase} {os : List Owed} → Changed f.side f.phase x.kind f.owed ph os → is_connected ph ≡ true → 0 < e.accepted
   f_runs (over a c d) r = absurd (cc)
@@ -171,10 +169,7 @@ module _ (e f : EndState) (x : SafetyPdu) (clock : ℕ) (why : Why) (b : MadeBy 
             (get_push_cases (values f) _ j v u'))
             (λ (now : (j ≡ length f.made) × (added ≡ s.m)). new_position e.accepted refl i j v m g k s now.0 u)
             (get_push_cases f.made added j s.m s.there);
-        judged = λ i m g k. ⊎_elim
-            (λ (z : e.accepted ≡ 0). inl z)
-            (λ (z : (o : ℕ) × (o < e.accepted) × SnIs f.made o m.pdu.cs). inr (z.0, z.1, SnIs_front f.made added z.0 m.pdu.cs z.2))
-            (w.judged i m g k);
+        judged = λ i m g k. ⊎_map (λ z. z) (λ (z : (o : ℕ) × (o < e.accepted) × SnIs f.made o m.pdu.cs). (z.0, z.1, SnIs_front f.made added z.0 m.pdu.cs z.2)) (w.judged i m g k);
         first_words = w.first_words;
         ready_run = f_runs (changed f.side f.phase why x.kind f.owed b.row b.how);
         ready_offer = f_offer;
@@ -211,11 +206,8 @@ handed_more q e x (Some r) = by r
 accepted_more : (q : Parameters) (e : EndState) (x : SafetyPdu) (t : ℕ) (peer : List Made) → Held e t peer → (r : TakeRow) → Knows q r e x → e.accepted ≤ (effect q r e x).accepted
 accepted_more q e x t peer h Opened w = (let z = (h.opening.down w.0).2 in omega (arith, z))
 accepted_more q e x t peer h Answered w = (let z = h.opening.starting w.0 w.1 in omega (arith, z))
-accepted_more q e x t peer h FirstHeartbeat w = omega arith
 accepted_more q e x t peer h InSequence w = (let z = accepted_if (carries_unit x.kind) e.accepted (enter Up (accept q e x)) x in omega (arith, z))
 accepted_more q e x t peer h ResentInSequence w = (let z = accepted_if (carries_unit x.kind) e.accepted (accept q e x) x in omega (arith, z))
-accepted_more q e x t peer h Resumed w = omega arith
-accepted_more q e x t peer h Requested w = omega arith
 accepted_more q e x t peer h _ w = omega arith
 
 module _ (q : Parameters) (e f : EndState) (x : SafetyPdu) (t : ℕ) (h : Held e t f.made) (w : Shown e f) where
@@ -262,15 +254,8 @@ module _ (q : Parameters) (e f : EndState) (t : ℕ) (m : Made) (p : ℕ) (h : H
   shown_peer_take =
       let alone = take_leaves q f m.pdu in
       record {
-        shown = λ i n g k j v s u.
-            w.shown i n g k j v
-            (record { m = s.m; there = subst (λ (ms : List Made). slice_get ms j ≡ Some s.m) alone.made s.there; same = s.same })
-            (subst (λ vs. slice_get vs j ≡ Some v) same_values u);
-        judged = λ i n g k. ⊎_elim
-            (λ (z : e.accepted ≡ 0). inl z)
-            (λ (z : (o : ℕ) × (o < e.accepted) × SnIs f.made o n.pdu.cs).
-            inr (z.0, z.1, record { m = z.2.m; there = subst (λ (ms : List Made). slice_get ms z.0 ≡ Some z.2.m) (sym alone.made) z.2.there; same = z.2.same }))
-            (w.judged i n g k);
+        shown = λ i n g k j v s u. w.shown i n g k j v (subst (λ (ms : List Made). SnIs ms j n.pdu.cs) alone.made s) (subst (λ vs. slice_get vs j ≡ Some v) same_values u);
+        judged = λ i n g k. ⊎_map (λ z. z) (λ (z : (o : ℕ) × (o < e.accepted) × SnIs f.made o n.pdu.cs). (z.0, z.1, subst (λ (ms : List Made). SnIs ms z.0 n.pdu.cs) (sym alone.made) z.2)) (w.judged i n g k);
         first_words = w.first_words;
         ready_run = run_by_option (take_row q f m.pdu) refl;
         ready_offer = λ l. w.ready_offer (let z = alone.offered in omega (arith, z, l));
