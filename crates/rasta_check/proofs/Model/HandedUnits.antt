@@ -25,7 +25,7 @@ use Rattle.rasta_check.specs.Model.Theorem.{HandsUpUnits}
 use Rattle.rasta_check.proofs.Model.ListGrowth.{all_push, get_front, get_push, get_mapped}
 use Rattle.rasta_check.proofs.Model.PassedTests.{Passed, cs_is}
 use Rattle.rasta_check.proofs.Model.MakeRows.{MadeBy, made_by, after_row, new_made}
-use Rattle.rasta_check.proofs.Model.TakeRows.{Knows, row_known, not_closed}
+use Rattle.rasta_check.proofs.Model.TakeRows.{Knows, take_by}
 use Rattle.rasta_check.proofs.Model.Counts.{number, owes, tally, number_push, number_take_all, number_take_more, number_take_at, is_request_owed, owes-append}
 use Rattle.rasta_check.proofs.Model.SequenceNumbers.{numbered_once}
 use Rattle.rasta_check.proofs.Model.Invariant.{Held, has_peer, is_named, open_bit}
@@ -118,7 +118,7 @@ module _ (p : Parameters) (e f : EndState) (x : SafetyPdu) (clock : ℕ) (why : 
       (r.0, r.1, get_front e.made (new ∷ []) r.0 r.1 r.2, r.3, r.4, ap (λ ms. suc (number (is_kind RetransmissionRequest) ms)) same ∙ (r.5 ∙ sym (num ∙ bit)))
 
   await_by : {ph : Phase} {os : List Owed} → Changed e.side e.phase x.kind e.owed ph os → ph ≡ RetrReq → owes is_request_owed os ≡ 0 → LastRequest (e.made ++ new ∷ []) e.last_sn
-  await_by (over a c d) ph none = absurd (cc)
+  await_by (over d) ph none = absurd (cc)
   await_by (opened a s c) ph none = absurd (cc)
   await_by (goes_on a c d g j) ph none = new_ask (is_kind RetransmissionRequest x.kind) refl ph d none
 
@@ -247,13 +247,8 @@ module _ (q : Parameters) (e f : EndState) (t u : ℕ) (m : Made) (p : ℕ) (k :
   h_row free RequestedAgain x = record { count = w.count; labels = w.labels; as_many = w.as_many; awaited = λ r n. w.awaited x.0 (ap (owes is_request_owed) free) }
   h_row free Disconnected x = keeps refl (λ r n. cc (r))
 
-module _ (q : Parameters) (e f : EndState) (t u : ℕ) (m : Made) (p : ℕ) (k : Taken e f t u m p) (w : Handed e f) (vf : Valued f) (free : is_closed e.phase ≡ false → e.owed ≡ []) where
-  h_by : (o : Option TakeRow) → take_row q e m.pdu ≡ o → Handed (effect_by q o e m.pdu) f
-  h_by None g = w
-  h_by (Some r) g = h_row q e f t u m p k w vf (free (not_closed q e m.pdu r g)) r (row_known q e m.pdu r g)
-
-  pub handed_take : Handed (after_take q e m.pdu) f
-  handed_take = h_by (take_row q e m.pdu) refl
+pub handed_take : (q : Parameters) (e f : EndState) (t u : ℕ) (m : Made) (p : ℕ) (k : Taken e f t u m p) (w : Handed e f) → Valued f → (is_closed e.phase ≡ false → e.owed ≡ []) → Handed (after_take q e m.pdu) f
+handed_take q e f t u m p k w vf free = take_by q e m.pdu (λ e'. Handed e' f) w (λ r away x. h_row q e f t u m p k w vf (free away) r x)
 
 -- What it handed up, unit by unit.
 

@@ -19,10 +19,10 @@ use Rattle.rasta_end.specs.State.{Made, EndState, kinds, is_closed, is_flowing, 
 use Rattle.rasta_end.specs.Units.{units_conveyed}
 use Rattle.rasta_end.specs.TakeRule.{is_heartbeat_or_data, steps_past_next, is_valid, position_confirmed, accept, hand_up, resends, burst, effect, effect_by, take_row, after_take}
 use Rattle.rasta_check.proofs.Model.ListGrowth.{get_push_cases}
-use Rattle.rasta_check.proofs.Model.TakeRows.{Knows, row_known, not_closed}
+use Rattle.rasta_check.proofs.Model.TakeRows.{Knows, take_by}
 use Rattle.rasta_check.proofs.Model.Counts.{number, owes, tally, number_take_all, number_take_more, number_take_at, is_answer_owed, is_request_owed, owes-append}
 use Rattle.rasta_check.proofs.Model.NamedPositions.{SnIs, position_is, confirms_is}
-use Rattle.rasta_check.proofs.Model.Invariant.{Held, Opening, Asking, Accepting, is_response_owed, is_opener, has_peer, no_peer, is_named, open_bit, bit_most}
+use Rattle.rasta_check.proofs.Model.Invariant.{Held, Opening, Asking, Accepting, is_response_owed, is_opener, has_peer, is_named, open_bit, bit_most}
 
 -- ---- phases and types
 
@@ -291,26 +291,22 @@ module _ (q : Parameters) (e f : EndState) (t u : ℕ) (m : Made) (p : ℕ) (k :
   by_row Disconnected w =
       record {
         list = k.mine.list;
-        opening = record { down = λ v. absurd (cc); starting = λ s v. absurd (cc); unmade = k.mine.opening.unmade; response_due = inl quiet; connected = λ v. absurd (no_peer e.side v) };
+        opening = record { down = λ v. absurd (cc); starting = λ s v. absurd (cc); unmade = k.mine.opening.unmade; response_due = inl quiet; connected = λ v. absurd (cc) };
         asks = unchanged Closed (bit_most e.phase);
         accepts = skipped q e f t u m p k;
         confirmed = k.mine.confirmed;
       }
 
-module _ (q : Parameters) (e f : EndState) (t u : ℕ) (m : Made) (p : ℕ) (k : Taken e f t u m p) (free : is_closed e.phase ≡ false → e.owed ≡ []) where
-  -- by a row, or by none
-  by_rows : (r : Option TakeRow) → take_row q e m.pdu ≡ r → Held (effect_by q r e m.pdu) (suc p) f.made
-  by_rows None h =
-      let old = k.mine.asks in
-      let asks : Asking e.side e.phase e.made e.asks e.owed (suc p) f.made = record {
-        asked = old.asked;
-        owing = old.owing;
-        answered = old.answered;
-        asks_taken = more_asks q e f t u m p k;
-        open_requests = omega (arith, old.open_requests, more_answers q e f t u m p k);
-      } in
-      record { list = k.mine.list; opening = k.mine.opening; asks = asks; accepts = skipped q e f t u m p k; confirmed = k.mine.confirmed }
-  by_rows (Some row) h = (let away = not_closed q e m.pdu row h in by_row q e f t u m p k (free away) away row (row_known q e m.pdu row h))
-
-  pub own_take : Held (after_take q e m.pdu) (suc p) f.made
-  own_take = by_rows (take_row q e m.pdu) refl
+pub own_take : (q : Parameters) (e f : EndState) (t u : ℕ) (m : Made) (p : ℕ) (k : Taken e f t u m p) → (is_closed e.phase ≡ false → e.owed ≡ []) → Held (after_take q e m.pdu) (suc p) f.made
+own_take q e f t u m p k free =
+    let old = k.mine.asks in
+    let asks : Asking e.side e.phase e.made e.asks e.owed (suc p) f.made = record {
+      asked = old.asked;
+      owing = old.owing;
+      answered = old.answered;
+      asks_taken = more_asks q e f t u m p k;
+      open_requests = omega (arith, old.open_requests, more_answers q e f t u m p k);
+    } in
+    take_by q e m.pdu (λ e'. Held e' (suc p) f.made)
+    (record { list = k.mine.list; opening = k.mine.opening; asks = asks; accepts = skipped q e f t u m p k; confirmed = k.mine.confirmed })
+    (λ row away x. by_row q e f t u m p k (free away) away row x)

@@ -15,7 +15,7 @@ use Rattle.rasta_end.specs.Units.{units_conveyed, units_at, last_of}
 use Rattle.rasta_end.specs.TakeRule.{is_valid, position_confirmed, accept, enter, hand_up, note_ask, resends, take_row, effect, effect_by, after_take}
 use Rattle.rasta_check.proofs.Model.ListGrowth.{all_push, get_push, get_front_within}
 use Rattle.rasta_check.proofs.Model.Counts.{number, number_take_all, number_take_at}
-use Rattle.rasta_check.proofs.Model.TakeRows.{Knows, row_known, not_closed}
+use Rattle.rasta_check.proofs.Model.TakeRows.{Knows, take_by}
 use Rattle.rasta_check.proofs.Model.Invariant.{is_named}
 use Rattle.rasta_check.proofs.Model.InvariantAtTake.{Taken, mark, no_answers, over_not, fresh_named}
 use Rattle.rasta_check.proofs.Model.ConveyedUnits.{values, jump, values_asks}
@@ -102,15 +102,8 @@ module _ (q : Parameters) (e f : EndState) (t u : ℕ) (m : Made) (p : ℕ) (k :
   v_row RequestedAgain x = burdened (position_confirmed e m.pdu) (ap is_named x.1) x.2 refl (burst_due_bare (position_confirmed e m.pdu))
   v_row Disconnected x = unchanged (λ g. absurd (cc))
 
-module _ (q : Parameters) (e f : EndState) (t u : ℕ) (m : Made) (p : ℕ) (k : Taken e f t u m p) (w : Valued e) (free : is_closed e.phase ≡ false → e.owed ≡ []) where
-  v_by : (o : Option TakeRow) → take_row q e m.pdu ≡ o → Valued (effect_by q o e m.pdu)
-  v_by None g = w
-  v_by (Some r) g =
-      let away = not_closed q e m.pdu r g in
-      v_row q e f t u m p k w (free away) away r (row_known q e m.pdu r g)
-
-  pub valued_take : Valued (after_take q e m.pdu)
-  valued_take = v_by (take_row q e m.pdu) refl
+pub valued_take : (q : Parameters) (e f : EndState) (t u : ℕ) (m : Made) (p : ℕ) (k : Taken e f t u m p) (w : Valued e) → (is_closed e.phase ≡ false → e.owed ≡ []) → Valued (after_take q e m.pdu)
+valued_take q e f t u m p k w free = take_by q e m.pdu Valued w (λ r away x. v_row q e f t u m p k w (free away) away r x)
 
 -- a take leaves the units conveyed through each position
 pub values_take : (q : Parameters) (e : EndState) (x : SafetyPdu) → number (is_kind RetransmissionResponse) e.made ≤ length e.asks → values (after_take q e x) ≡ values e

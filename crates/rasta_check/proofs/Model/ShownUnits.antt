@@ -22,10 +22,10 @@ use Rattle.rasta_end.specs.TakeRule.{accept, enter, hand_up, take_row, effect, e
 use Rattle.rasta_check.proofs.Model.ListGrowth.{get_push_cases, all_push}
 use Rattle.rasta_check.proofs.Model.PassedTests.{Passed, cs_is}
 use Rattle.rasta_check.proofs.Model.MakeRows.{Making, opening, fresh, bye, expired, MadeBy, made_by, after_row, new_made}
-use Rattle.rasta_check.proofs.Model.TakeRows.{Knows, row_known, not_closed, take_made, take_leaves}
+use Rattle.rasta_check.proofs.Model.TakeRows.{Knows, take_by, effect_made, take_leaves}
 use Rattle.rasta_check.proofs.Model.NamedPositions.{SnIs}
 use Rattle.rasta_check.proofs.Model.Invariant.{Held, is_named}
-use Rattle.rasta_check.proofs.Model.InvariantAtMake.{Changed, changed, over, opened, goes_on, named_connected, nothing_made, SnIs_front}
+use Rattle.rasta_check.proofs.Model.InvariantAtMake.{Changed, changed, over, opened, goes_on, nothing_made, SnIs_front}
 use Rattle.rasta_check.proofs.Model.InvariantAtTake.{fresh_named}
 use Rattle.rasta_check.proofs.Model.ConveyedUnits.{values, values_push, length-values}
 use Rattle.rasta_check.proofs.Model.OfferedUnits.{Valued}
@@ -57,14 +57,6 @@ judged_after e k i a c =
     let z : (e.accepted == 0) ≡ false = grind (arith, nat_tests) in
     judges (is_kind ConnectionRequest k) (is_kind DisconnectionRequest k) (e.accepted == 0) (is_client e.side && is_start e.phase) c z
 
--- an end makes a connection request, or is over then, or has accepted something
-first_word : (s : Side) (ph : Phase) (why : Why) (k : Kind) (os : List Owed) (row : MakeRow) → Making s ph why k os row
-    → is_closed (phase_after row ph) ≡ false → (is_named k ≡ true → ⊥) → is_kind ConnectionRequest k ≡ true
-first_word s ph why k os row opening c named = refl
-first_word s ph why k os row (bye r) c named = absurd (cc)
-first_word s ph why k os row (expired r) c named = absurd (cc)
-first_word s ph why k os row _ c named = absurd (named refl)
-
 module _ (p : Parameters) (e f : EndState) (x : SafetyPdu) (clock : ℕ) (why : Why) (t : ℕ) (pass : Passed p e x clock why) (h : Held e t f.made) (fnum : OnceIn f.made) (vf : Valued f) (hd : Handed e f) (w : Shown e f) (b : MadeBy e x why) where
   abbrev new : Made
   new = new_made b.row e x
@@ -89,13 +81,13 @@ module _ (p : Parameters) (e f : EndState) (x : SafetyPdu) (clock : ℕ) (why : 
       let l = h.accepts.last i a in
       inr (i, omega arith, record { m = l.m; there = l.there; same = l.same ∙ sym (cs_last i a k) })
 
-  new_first : e.accepted ≡ 0 → is_closed (phase_after b.row e.phase) ≡ false → is_kind ConnectionRequest x.kind ≡ true
-  new_first a c =
-      first_word e.side e.phase why x.kind e.owed b.row b.how c
-      (λ n. (let z = h.opening.connected (named_connected e.side e.phase why x.kind e.owed b.row b.how n) in omega (arith, a, z.1)))
+  new_first : {ph : Phase} {os : List Owed} → Changed e.side e.phase x.kind e.owed ph os → e.accepted ≡ 0 → is_closed ph ≡ false → is_kind ConnectionRequest x.kind ≡ true
+  new_first (over d) z cl = absurd (cc)
+  new_first (opened a s c) z cl = ap (is_kind ConnectionRequest) c
+  new_first (goes_on a c d g j) z cl = absurd (let y = h.opening.connected a in omega (arith, z, y.1))
 
   old_first : {ph : Phase} {os : List Owed} → Changed e.side e.phase x.kind e.owed ph os → e.accepted ≡ 0 → is_closed ph ≡ false → (i : ℕ) (m : Made) → slice_get e.made i ≡ Some m → is_kind ConnectionRequest m.pdu.kind ≡ true
-  old_first (over a c d) z cl i m u = absurd (cc)
+  old_first (over d) z cl i m u = absurd (cc)
   old_first (opened a s c) z cl i m u =
       absurd (let y = nothing_made e.side e.phase e.made a pass.open_yet in let u' : slice_get [] i ≡ Some m = subst (λ (ms : List Made). slice_get ms i ≡ Some m) y u in cc)
   old_first (goes_on a c d g j) z cl i m u = w.first_words z cl i m u
@@ -105,7 +97,7 @@ module _ (p : Parameters) (e f : EndState) (x : SafetyPdu) (clock : ℕ) (why : 
       record {
         shown = all_push e.made new w.shown (λ k j v s u. new_shown e.accepted refl k j v s u);
         judged = all_push e.made new w.judged (new_judged e.accepted refl);
-        first_words = λ a c. all_push e.made new (old_first (changed e.side e.phase why x.kind e.owed b.row b.how) a c) (new_first a c);
+        first_words = λ a c. all_push e.made new (old_first (changed e.side e.phase why x.kind e.owed b.row b.how) a c) (new_first (changed e.side e.phase why x.kind e.owed b.row b.how) a c);
         ready_run = w.ready_run;
         ready_offer = w.ready_offer;
       }
@@ -134,7 +126,7 @@ module _ (e f : EndState) (x : SafetyPdu) (clock : ℕ) (why : Why) (b : MadeBy 
       ⊎_elim w.ready_offer w.ready_run (offers_by f.side f.phase why x.kind f.owed b.row f.offered b.how l)
 
   f_runs : {ph : Phase} {os : List Owed} → Changed f.side f.phase x.kind f.owed ph os → is_connected ph ≡ true → 0 < e.accepted
-  f_runs (over a c d) r = absurd (cc)
+  f_runs (over d) r = absurd (cc)
   f_runs (opened a s c) r = absurd (cc)
   f_runs (goes_on a c d g j) r = w.ready_run r
 
@@ -193,14 +185,10 @@ accepted_if true i g x = refl
 accepted_if false i g x = refl
 
 -- a take hands up more, if anything
-handed_more : (q : Parameters) (e : EndState) (x : SafetyPdu) (o : Option TakeRow) → length e.handed ≤ length (effect_by q o e x).handed
-handed_more q e x None = omega arith
-handed_more q e x (Some r) = by r
-  where
-    by : (r : TakeRow) → length e.handed ≤ length (effect q r e x).handed
-    by InSequence = more_if (carries_unit x.kind) e.accepted (enter Up (accept q e x)) x
-    by ResentInSequence = more_if (carries_unit x.kind) e.accepted (accept q e x) x
-    by _ = omega arith
+handed_more : (q : Parameters) (e : EndState) (x : SafetyPdu) (r : TakeRow) → length e.handed ≤ length (effect q r e x).handed
+handed_more q e x InSequence = more_if (carries_unit x.kind) e.accepted (enter Up (accept q e x)) x
+handed_more q e x ResentInSequence = more_if (carries_unit x.kind) e.accepted (accept q e x) x
+handed_more q e x _ = omega arith
 
 -- a take accepts more, if anything
 accepted_more : (q : Parameters) (e : EndState) (x : SafetyPdu) (t : ℕ) (peer : List Made) → Held e t peer → (r : TakeRow) → Knows q r e x → e.accepted ≤ (effect q r e x).accepted
@@ -211,24 +199,23 @@ accepted_more q e x t peer h ResentInSequence w = (let z = accepted_if (carries_
 accepted_more q e x t peer h _ w = omega arith
 
 module _ (q : Parameters) (e f : EndState) (x : SafetyPdu) (t : ℕ) (h : Held e t f.made) (w : Shown e f) where
-  shown_by : (o : Option TakeRow) → take_row q e x ≡ o → (effect_by q o e x).made ≡ e.made → Shown (effect_by q o e x) f
-  shown_by None is made = w
-  shown_by (Some r) is made =
-      let more = accepted_more q e x t f.made h r (row_known q e x r is) in
-      let back : (i : ℕ) (m : Made) → slice_get (effect q r e x).made i ≡ Some m → slice_get e.made i ≡ Some m = λ i m g. subst (λ (ms : List Made). slice_get ms i ≡ Some m) made g in
+  shown_by : (r : TakeRow) → is_closed e.phase ≡ false → Knows q r e x → Shown (effect q r e x) f
+  shown_by r away knows =
+      let more = accepted_more q e x t f.made h r knows in
+      let back : (i : ℕ) (m : Made) → slice_get (effect q r e x).made i ≡ Some m → slice_get e.made i ≡ Some m = λ i m g. subst (λ (ms : List Made). slice_get ms i ≡ Some m) (effect_made q r e x) g in
       record {
-        shown = λ i m g k j v s u. (let z = w.shown i m (back i m g) k j v s u in omega (arith, z, handed_more q e x (Some r)));
+        shown = λ i m g k j v s u. (let z = w.shown i m (back i m g) k j v s u in omega (arith, z, handed_more q e x r));
         judged = λ i m g k. ⊎_elim
-            (λ (z : e.accepted ≡ 0). absurd (let y = w.first_words z (not_closed q e x r is) i m (back i m g) in cc))
+            (λ (z : e.accepted ≡ 0). absurd (let y = w.first_words z away i m (back i m g) in cc))
             (λ (z : (o : ℕ) × (o < e.accepted) × SnIs f.made o m.pdu.cs). inr (z.0, omega (arith, z.1, more), z.2))
             (w.judged i m (back i m g) k);
-        first_words = λ a d i m g. w.first_words (omega (arith, more, a)) (not_closed q e x r is) i m (back i m g);
+        first_words = λ a d i m g. w.first_words (omega (arith, more, a)) away i m (back i m g);
         ready_run = λ c. (let z = w.ready_run c in omega (arith, z, more));
         ready_offer = λ l. (let z = w.ready_offer l in omega (arith, z, more));
       }
 
   pub shown_take : Shown (after_take q e x) f
-  shown_take = shown_by (take_row q e x) refl (take_made q e x)
+  shown_take = take_by q e x (λ e'. Shown e' f) w shown_by
 
 -- The peer takes a PDU of the end.
 
@@ -246,10 +233,6 @@ module _ (q : Parameters) (e f : EndState) (t : ℕ) (m : Made) (p : ℕ) (h : H
   run_by Disconnected x r = absurd (cc)
   run_by _ x r = by_name (ap is_named x.1)
 
-  run_by_option : (o : Option TakeRow) → take_row q f m.pdu ≡ o → is_connected (effect_by q o f m.pdu).phase ≡ true → 0 < e.accepted
-  run_by_option None is r = w.ready_run r
-  run_by_option (Some row) is r = run_by row (row_known q f m.pdu row is) r
-
   pub shown_peer_take : Shown e (after_take q f m.pdu)
   shown_peer_take =
       let alone = take_leaves q f m.pdu in
@@ -257,6 +240,6 @@ module _ (q : Parameters) (e f : EndState) (t : ℕ) (m : Made) (p : ℕ) (h : H
         shown = λ i n g k j v s u. w.shown i n g k j v (subst (λ (ms : List Made). SnIs ms j n.pdu.cs) alone.made s) (subst (λ vs. slice_get vs j ≡ Some v) same_values u);
         judged = λ i n g k. ⊎_map (λ z. z) (λ (z : (o : ℕ) × (o < e.accepted) × SnIs f.made o n.pdu.cs). (z.0, z.1, subst (λ (ms : List Made). SnIs ms z.0 n.pdu.cs) (sym alone.made) z.2)) (w.judged i n g k);
         first_words = w.first_words;
-        ready_run = run_by_option (take_row q f m.pdu) refl;
+        ready_run = take_by q f m.pdu (λ f'. is_connected f'.phase ≡ true → 0 < e.accepted) w.ready_run (λ r away x. run_by r x);
         ready_offer = λ l. w.ready_offer (let z = alone.offered in omega (arith, z, l));
       }

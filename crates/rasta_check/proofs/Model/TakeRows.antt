@@ -16,7 +16,7 @@ use Rattle.rasta_end.specs.declared.take_row.TakeRow.{TakeRow}
 use Rattle.rasta_end.specs.declared.take_row.TakeRow.TheVariants.{Opened, Answered, FirstHeartbeat, InSequence, ResentInSequence, Gap, GapInRetransmission, Resumed, Requested, RequestedAhead, RequestedAgain, Disconnected}
 use Rattle.rasta_end.specs.State.{Made, EndState, is_client, is_closed, is_down, is_start, is_up, is_retr_req, is_retr_run, is_flowing, is_active, is_timed, carries_unit}
 use Rattle.rasta_end.specs.MakeRule.{first_that_holds}
-use Rattle.rasta_end.specs.TakeRule.{is_heartbeat_or_data, take_rows, is_in, is_ahead, is_valid, take_row, effect_by, accept, enter, hand_up, after_take}
+use Rattle.rasta_end.specs.TakeRule.{is_heartbeat_or_data, take_rows, is_in, is_ahead, is_valid, take_row, effect, effect_by, accept, enter, hand_up, after_take}
 
 -- what a row knows of side, phase and type, and of the tests: next in sequence, ahead, a valid CS
 abbrev pub Premise : TakeRow → Side → Phase → Kind → Bool → Bool → Bool → Type 0
@@ -159,6 +159,17 @@ leaves_by p _ e x = record { side = refl; base = refl; made = refl; offered = re
 
 pub take_leaves : (p : Parameters) (e : EndState) (x : SafetyPdu) → LeftAlone e (after_take p e x)
 take_leaves p e x = leaves_by p (take_row p e x) e x
+
+-- what holds where the end takes by no row, and by each row that it may take by, holds after a take
+pub take_by : (p : Parameters) (e : EndState) (x : SafetyPdu) (P : EndState → Type 0) → P e → ((row : TakeRow) → is_closed e.phase ≡ false → Knows p row e x → P (effect p row e x)) → P (after_take p e x)
+take_by p e x P none each = by (take_row p e x) refl
+  where
+    by : (o : Option TakeRow) → take_row p e x ≡ o → P (effect_by p o e x)
+    by None h = none
+    by (Some row) h = each row (not_closed p e x row h) (row_known p e x row h)
+
+pub effect_made : (p : Parameters) (row : TakeRow) (e : EndState) (x : SafetyPdu) → (effect p row e x).made ≡ e.made
+effect_made p row e x = (let h = leaves_by p (Some row) e x in h.made)
 
 pub take_made : (p : Parameters) (e : EndState) (x : SafetyPdu) → (after_take p e x).made ≡ e.made
 take_made p e x = (let h = take_leaves p e x in h.made)
