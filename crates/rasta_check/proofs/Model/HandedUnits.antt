@@ -19,7 +19,7 @@ use Rattle.rasta_end.specs.declared.owed.Owed.{Owed}
 use Rattle.rasta_end.specs.declared.owed.Owed.TheVariants.{RetransmissionRequest as OweRetransmissionRequest}
 use Rattle.rasta_end.specs.State.{Made, EndState, is_closed, is_flowing, carries_unit, content_of}
 use Rattle.rasta_end.specs.MakeRule.{row_of, after_make, after_make_by}
-use Rattle.rasta_end.specs.TakeRule.{is_heartbeat_or_data, is_in, steps_past_next, position_confirmed, accept, enter, hand_up, burst, take_row, effect, effect_by, after_take}
+use Rattle.rasta_end.specs.TakeRule.{is_heartbeat_or_data, is_in, steps_past_next, position_confirmed, accept, enter, hand_up, burst, effect, after_take}
 use Rattle.rasta_check.specs.Model.Laws.{conveyed_before, HandsUp}
 use Rattle.rasta_check.specs.Model.Theorem.{HandsUpUnits}
 use Rattle.rasta_check.proofs.Model.ListGrowth.{all_push, get_front, get_push, get_mapped}

@@ -15,7 +15,7 @@ use Rattle.rasta_end.specs.declared.why.Why.{Why}
 use Rattle.rasta_end.specs.declared.make_row.MakeRow.{MakeRow}
 use Rattle.rasta_end.specs.declared.owed.Owed.{Owed}
 use Rattle.rasta_end.specs.declared.owed.Owed.TheVariants.{ConnectionResponse as OweConnectionResponse}
-use Rattle.rasta_end.specs.State.{Made, EndState, is_client, is_connected, is_active}
+use Rattle.rasta_end.specs.State.{Made, EndState, is_client, is_connected}
 use Rattle.rasta_end.specs.MakeRule.{is_judged, after_make, after_make_by, phase_after, owed_after}
 use Rattle.rasta_check.proofs.Model.ListGrowth.{all_push, get_front}
 use Rattle.rasta_check.proofs.Model.SequenceNumbers.{numbered_push}

@@ -1,5 +1,5 @@
 -- What an end was asked, and what its retransmission responses answer.
-use Rattle.std.proofs.Common.{◌≡◌, ℕ, zero, suc, ◌<◌, Bool, true, false, List, [], ◌∷◌, ◌++◌, length, Some, slice_get, take, refl, ap, sym, ◌∙◌, arith, subst, cond}
+use Rattle.std.proofs.Common.{◌≡◌, ℕ, zero, suc, ◌<◌, Bool, true, false, List, [], ◌∷◌, ◌++◌, length, Option, Some, None, slice_get, take, refl, ap, sym, ◌∙◌, arith, subst, cond}
 use Rattle.std.specs.Prelude.{slice_index_or, filter, filter_map, if◌then◌else◌, ◌==◌}
 use Rattle.std.specs.Option.{option_map}
 use Rattle.std.specs.List.{cons_option}
@@ -40,6 +40,26 @@ named_position (x ∷ ms) (suc c) sn once s =
     by : position_with (pdus_made ms) sn ≡ Some c → (b : Bool) → (x.pdu.sn == sn) ≡ b → (if b then Some 0 else option_map suc (position_with (pdus_made ms) sn)) ≡ Some (suc c)
     by later true e = absurd (let here : x.pdu.sn ≡ sn = grind (arith, nat_tests, e) in let z = once 0 (suc c) x s.m refl s.there (here ∙ sym s.same) in omega (arith, z))
     by later false e = ap (option_map suc) later
+
+-- the position that a CS confirms has this SN
+next_found : (m : Made) (ms : List Made) (sn : ℕ) → ((c : ℕ) → position_with (pdus_made ms) sn ≡ Some c → SnIs ms c sn)
+    → (o : Option ℕ) → position_with (pdus_made ms) sn ≡ o → (c : ℕ) → option_map suc o ≡ Some c → SnIs (m ∷ ms) c sn
+next_found m ms sn rest None is c g = absurd (cc)
+next_found m ms sn rest (Some d) is c g =
+    let s = rest d is in
+    let next : suc d ≡ c = cc in
+    subst (λ i. SnIs (m ∷ ms) i sn) next (record { m = s.m; there = s.there; same = s.same })
+
+pub found_position : (ms : List Made) (sn c : ℕ) → position_with (pdus_made ms) sn ≡ Some c → SnIs ms c sn
+found_position [] sn c g = absurd (cc)
+found_position (m ∷ ms) sn c g = by (m.pdu.sn == sn) refl g (found_position ms sn)
+  where
+    by : (b : Bool) → (m.pdu.sn == sn) ≡ b → (if b then Some 0 else option_map suc (position_with (pdus_made ms) sn)) ≡ Some c
+        → ((d : ℕ) → position_with (pdus_made ms) sn ≡ Some d → SnIs ms d sn) → SnIs (m ∷ ms) c sn
+    by true e h rest =
+        let first : 0 ≡ c = cc in
+        subst (λ i. SnIs (m ∷ ms) i sn) first (record { m = m; there = refl; same = grind (arith, nat_tests) })
+    by false e h rest = next_found m ms sn rest (position_with (pdus_made ms) sn) refl c h
 
 -- ---- the k-th of a kind
 

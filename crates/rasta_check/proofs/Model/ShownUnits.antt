@@ -1,6 +1,6 @@
 -- What the PDUs of an end show: no more units than it has handed up.
-use Rattle.std.proofs.Common.{◌≡◌, ℕ, zero, suc, ◌<◌, ◌≤◌, ◌⊎◌, Bool, true, false, List, [], ◌∷◌, ◌++◌, length, Option, Some, None, slice_get, refl, ap, sym, ◌∙◌, arith, inl, inr, ⊎_elim, subst}
-use Rattle.std.specs.Prelude.{not, ◌&&◌, ◌==◌, if◌then◌else◌}
+use Rattle.std.proofs.Common.{◌≡◌, ℕ, zero, suc, ◌<◌, ◌≤◌, ◌⊎◌, Bool, true, false, List, [], ◌∷◌, ◌++◌, length, Some, slice_get, refl, ap, sym, ◌∙◌, arith, inl, inr, ⊎_elim, subst}
+use Rattle.std.specs.Prelude.{not, ◌&&◌, ◌==◌}
 use Rattle.std.proofs.Math.Logic.{⊎_map}
 use Rattle.std.proofs.lemmas.Bool.Decides.{nat_tests}
 use Rattle.std.proofs.lemmas.List.{length_push}
@@ -17,12 +17,12 @@ use Rattle.rasta_end.specs.declared.take_row.TakeRow.{TakeRow}
 use Rattle.rasta_end.specs.declared.take_row.TakeRow.TheVariants.{Opened, Answered, FirstHeartbeat, InSequence, ResentInSequence, Gap, GapInRetransmission, Disconnected}
 use Rattle.rasta_end.specs.declared.owed.Owed.{Owed}
 use Rattle.rasta_end.specs.State.{Made, EndState, is_client, is_start, is_closed, is_connected, carries_unit}
-use Rattle.rasta_end.specs.MakeRule.{is_judged, phase_after, offered_after, after_make, after_make_by}
-use Rattle.rasta_end.specs.TakeRule.{accept, enter, hand_up, take_row, effect, effect_by, after_take}
+use Rattle.rasta_end.specs.MakeRule.{is_judged, offered_after, after_make, after_make_by}
+use Rattle.rasta_end.specs.TakeRule.{accept, enter, effect, after_take}
 use Rattle.rasta_check.proofs.Model.ListGrowth.{get_push_cases, all_push}
 use Rattle.rasta_check.proofs.Model.PassedTests.{Passed, cs_is}
-use Rattle.rasta_check.proofs.Model.MakeRows.{Making, opening, fresh, bye, expired, MadeBy, made_by, after_row, new_made}
-use Rattle.rasta_check.proofs.Model.TakeRows.{Knows, take_by, effect_made, take_leaves}
+use Rattle.rasta_check.proofs.Model.MakeRows.{Making, fresh, MadeBy, made_by, after_row, new_made}
+use Rattle.rasta_check.proofs.Model.TakeRows.{Knows, take_by, handed_or, effect_made, take_leaves}
 use Rattle.rasta_check.proofs.Model.NamedPositions.{SnIs}
 use Rattle.rasta_check.proofs.Model.Invariant.{Held, is_named}
 use Rattle.rasta_check.proofs.Model.InvariantAtMake.{Changed, changed, over, opened, goes_on, nothing_made, SnIs_front}
@@ -176,26 +176,18 @@ shown_peer_make p e f x clock why pass vf' fnum' w =
 
 -- The end itself takes.
 
-more_if : (b : Bool) (i : ℕ) (g : EndState) (x : SafetyPdu) → length g.handed ≤ length (if b then hand_up i g x else g).handed
-more_if true i g x = omega (arith, length_push g.handed i)
-more_if false i g x = omega arith
-
-accepted_if : (b : Bool) (i : ℕ) (g : EndState) (x : SafetyPdu) → (if b then hand_up i g x else g).accepted ≡ g.accepted
-accepted_if true i g x = refl
-accepted_if false i g x = refl
-
 -- a take hands up more, if anything
 handed_more : (q : Parameters) (e : EndState) (x : SafetyPdu) (r : TakeRow) → length e.handed ≤ length (effect q r e x).handed
-handed_more q e x InSequence = more_if (carries_unit x.kind) e.accepted (enter Up (accept q e x)) x
-handed_more q e x ResentInSequence = more_if (carries_unit x.kind) e.accepted (accept q e x) x
+handed_more q e x InSequence = handed_or (λ g. length e.handed ≤ length g.handed) (carries_unit x.kind) e.accepted (enter Up (accept q e x)) x (omega arith) (λ l. omega (arith, length_push e.handed e.accepted))
+handed_more q e x ResentInSequence = handed_or (λ g. length e.handed ≤ length g.handed) (carries_unit x.kind) e.accepted (accept q e x) x (omega arith) (λ l. omega (arith, length_push e.handed e.accepted))
 handed_more q e x _ = omega arith
 
 -- a take accepts more, if anything
 accepted_more : (q : Parameters) (e : EndState) (x : SafetyPdu) (t : ℕ) (peer : List Made) → Held e t peer → (r : TakeRow) → Knows q r e x → e.accepted ≤ (effect q r e x).accepted
 accepted_more q e x t peer h Opened w = (let z = (h.opening.down w.0).2 in omega (arith, z))
 accepted_more q e x t peer h Answered w = (let z = h.opening.starting w.0 w.1 in omega (arith, z))
-accepted_more q e x t peer h InSequence w = (let z = accepted_if (carries_unit x.kind) e.accepted (enter Up (accept q e x)) x in omega (arith, z))
-accepted_more q e x t peer h ResentInSequence w = (let z = accepted_if (carries_unit x.kind) e.accepted (accept q e x) x in omega (arith, z))
+accepted_more q e x t peer h InSequence w = handed_or (λ g. e.accepted ≤ g.accepted) (carries_unit x.kind) e.accepted (enter Up (accept q e x)) x (omega arith) (λ l. l)
+accepted_more q e x t peer h ResentInSequence w = handed_or (λ g. e.accepted ≤ g.accepted) (carries_unit x.kind) e.accepted (accept q e x) x (omega arith) (λ l. l)
 accepted_more q e x t peer h _ w = omega arith
 
 module _ (q : Parameters) (e f : EndState) (x : SafetyPdu) (t : ℕ) (h : Held e t f.made) (w : Shown e f) where

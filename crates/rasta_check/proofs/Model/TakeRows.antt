@@ -148,13 +148,14 @@ pub record AreSame (s s' : Side) (b b' : ℕ) (ms ms' : List Made) (n n' now now
 abbrev pub LeftAlone : EndState → EndState → Type 0
 LeftAlone e e' = AreSame e.side e'.side e.base e'.base e.made e'.made e.offered e'.offered e.clock e'.clock
 
-hand_up_leaves : (b : Bool) (i : ℕ) (e : EndState) (x : SafetyPdu) → LeftAlone e (if b then hand_up i e x else e)
-hand_up_leaves true i e x = record { side = refl; base = refl; made = refl; offered = refl; clock = refl }
-hand_up_leaves false i e x = record { side = refl; base = refl; made = refl; offered = refl; clock = refl }
+-- what holds of an end, and still does once it has handed up a unit, holds where it may hand one up
+pub handed_or : (P : EndState → Type 0) (b : Bool) (i : ℕ) (e : EndState) (x : SafetyPdu) → P e → (P e → P (hand_up i e x)) → P (if b then hand_up i e x else e)
+handed_or P true i e x h more = more h
+handed_or P false i e x h more = h
 
 leaves_by : (p : Parameters) (row : Option TakeRow) (e : EndState) (x : SafetyPdu) → LeftAlone e (effect_by p row e x)
-leaves_by p (Some InSequence) e x = hand_up_leaves (carries_unit x.kind) e.accepted (enter Up (accept p e x)) x
-leaves_by p (Some ResentInSequence) e x = hand_up_leaves (carries_unit x.kind) e.accepted (accept p e x) x
+leaves_by p (Some InSequence) e x = handed_or (LeftAlone e) (carries_unit x.kind) e.accepted (enter Up (accept p e x)) x (record { side = refl; base = refl; made = refl; offered = refl; clock = refl }) (λ h. h)
+leaves_by p (Some ResentInSequence) e x = handed_or (LeftAlone e) (carries_unit x.kind) e.accepted (accept p e x) x (record { side = refl; base = refl; made = refl; offered = refl; clock = refl }) (λ h. h)
 leaves_by p _ e x = record { side = refl; base = refl; made = refl; offered = refl; clock = refl }
 
 pub take_leaves : (p : Parameters) (e : EndState) (x : SafetyPdu) → LeftAlone e (after_take p e x)
