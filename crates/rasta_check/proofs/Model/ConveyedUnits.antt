@@ -102,10 +102,6 @@ next_unit u v Data h = refl
 next_unit u v RetransmittedData h = refl
 next_unit u v _ h = absurd (cc)
 
-pub next_back : (u v : ℕ) (k : Kind) → is_kind RetransmissionResponse k ≡ true → units_next u v k ≡ u
-next_back u v RetransmissionResponse h = refl
-next_back u v _ h = absurd (cc)
-
 pub first_kept : (asks vs : List ℕ) (a : ℕ) (k : Kind) → slice_index_or vs 0 0 ≡ 0 → slice_index_or (vs ++ units_after asks vs a k ∷ []) 0 0 ≡ 0
 first_kept asks [] a k h = refl
 first_kept asks (v ∷ vs) a k h = h

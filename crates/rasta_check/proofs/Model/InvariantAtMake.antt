@@ -1,6 +1,6 @@
 -- A make keeps what holds, at both ends.
 use Rattle.std.proofs.Common.{◌≡◌, ℕ, ◌+◌, ◌≤◌, Bool, true, false, List, [], ◌∷◌, ◌++◌, length, Some, None, slice_get, take, refl, ap, sym, ◌∙◌, arith, inl, ⊎_elim, subst}
-use Rattle.std.specs.Prelude.{not, ◌||◌, drop, is_some}
+use Rattle.std.specs.Prelude.{drop}
 use Rattle.std.proofs.lemmas.List.{take-append-le, length_push}
 use Rattle.std.proofs.lemmas.Option.{slice_get_within, slice_get_past}
 use Rattle.rasta_pcap.specs.declared.fault.Side.{Side}
@@ -15,13 +15,13 @@ use Rattle.rasta_end.specs.declared.why.Why.{Why}
 use Rattle.rasta_end.specs.declared.make_row.MakeRow.{MakeRow}
 use Rattle.rasta_end.specs.declared.owed.Owed.{Owed}
 use Rattle.rasta_end.specs.declared.owed.Owed.TheVariants.{ConnectionResponse as OweConnectionResponse}
-use Rattle.rasta_end.specs.State.{Made, EndState, is_client, is_connected}
+use Rattle.rasta_end.specs.State.{Made, EndState, is_connected}
 use Rattle.rasta_end.specs.MakeRule.{is_judged, after_make, after_make_by, phase_after, owed_after}
 use Rattle.rasta_check.proofs.Model.ListGrowth.{all_push, get_front}
 use Rattle.rasta_check.proofs.Model.SequenceNumbers.{numbered_push}
 use Rattle.rasta_check.proofs.Model.PassedTests.{Passed, un_not, cs_is}
 use Rattle.rasta_check.proofs.Model.MakeRows.{Making, opening, response, first_beat, answer, again, ask, beat, fresh, bye, expired, made_by, after_row, new_made}
-use Rattle.rasta_check.proofs.Model.Counts.{number, owes, tally, number_push, number_take_more, is_answer_owed, is_request_owed}
+use Rattle.rasta_check.proofs.Model.Counts.{number, owes, tally, number_push, number_push_as, number_take_more, is_answer_owed, is_request_owed}
 use Rattle.rasta_check.proofs.Model.NamedPositions.{SnIs}
 use Rattle.rasta_check.proofs.Model.Invariant.{Held, Opening, Asking, ended, is_response_owed, is_opener, has_peer, is_named, open_bit, bit_most}
 
@@ -38,9 +38,6 @@ pub data Changed (s : Side) (ph : Phase) (k : Kind) (os : List Owed) : Phase →
 
 -- ---- the rows
 
-off : {P : Type 0} → false ≡ true → P
-off e = absurd (cc)
-
 pub connected_peer : (s : Side) (ph : Phase) → is_connected ph ≡ true → has_peer s ph ≡ true
 connected_peer s Up e = refl
 connected_peer s RetrReq e = refl
@@ -50,25 +47,22 @@ connected_peer s _ e = absurd (cc)
 pub changed : (s : Side) (ph : Phase) (why : Why) (k : Kind) (os : List Owed) (row : MakeRow) → Making s ph why k os row → Changed s ph k os (phase_after row ph) (owed_after row os)
 changed s ph why k os row opening = opened refl refl refl
 changed s ph why k os row (response {os = rest}) = goes_on refl refl refl (λ _. (rest, refl)) (omega arith)
-changed s ph why k os row first_beat = goes_on refl refl refl (λ e. off e) (omega arith)
-changed s ph why k os row (answer r) = goes_on (connected_peer s ph r) refl refl (λ e. off e) (omega arith)
-changed s ph why k os row (again r) = goes_on (connected_peer s ph r) refl refl (λ e. off e) (omega arith)
-changed s ph why k os row (ask r) = goes_on (connected_peer s ph r) refl refl (λ e. off e) (omega arith)
-changed s ph why k os row (beat r) = goes_on (connected_peer s ph r) refl refl (λ e. off e) (omega arith)
-changed s ph why k os row (fresh r) = goes_on (connected_peer s ph r) refl refl (λ e. off e) (omega arith)
+changed s ph why k os row first_beat = goes_on refl refl refl (λ e. absurd (cc)) (omega arith)
+changed s ph why k os row (answer r) = goes_on (connected_peer s ph r) refl refl (λ e. absurd (cc)) (omega arith)
+changed s ph why k os row (again r) = goes_on (connected_peer s ph r) refl refl (λ e. absurd (cc)) (omega arith)
+changed s ph why k os row (ask r) = goes_on (connected_peer s ph r) refl refl (λ e. absurd (cc)) (omega arith)
+changed s ph why k os row (beat r) = goes_on (connected_peer s ph r) refl refl (λ e. absurd (cc)) (omega arith)
+changed s ph why k os row (fresh r) = goes_on (connected_peer s ph r) refl refl (λ e. absurd (cc)) (omega arith)
 changed s ph why k os row (bye r) = over refl
 changed s ph why k os row (expired r) = over refl
 
 -- ---- the parts of an end
 
-closed_over : (s : Side) (ms : List Made) (m : Made) → (not (is_client s) || is_some (slice_get (ms ++ m ∷ []) 0)) ≡ true
-closed_over Server ms m = refl
-closed_over Client [] m = refl
-closed_over Client (x ∷ ms) m = refl
-
 -- an end that closes by a make has ended
 pub over_after : (s : Side) (ph : Phase) (ms : List Made) (m : Made) → ph ≡ Closed → ended s ph (ms ++ m ∷ []) ≡ true
-over_after s Closed ms m e = closed_over s ms m
+over_after Server Closed ms m e = refl
+over_after Client Closed [] m e = refl
+over_after Client Closed (x ∷ ms) m e = refl
 over_after s _ ms m e = absurd (cc)
 
 -- an end that is Closed and hasn't ended has made nothing
@@ -124,9 +118,6 @@ peer_make f u ms m h =
 moved : (b : Bool) (n o o' : ℕ) → tally b o' ≡ o → tally b n + o' ≡ n + o
 moved true n o o' t = omega arith
 moved false n o o' t = omega arith
-
-number_push_as : (f : Kind → Bool) (ms : List Made) (m : Made) (b : Bool) → f m.pdu.kind ≡ b → number f (ms ++ m ∷ []) ≡ tally b (number f ms)
-number_push_as f ms m b e = number_push f ms m ∙ ap (λ c. tally c (number f ms)) e
 
 module _ (s : Side) (ph : Phase) (ms : List Made) (m : Made) (a : ℕ) (os : List Owed) (open_yet : ended s ph ms ≡ false) (h : Opening s ph ms a os) where
   make_opening : (ph' : Phase) (os' : List Owed) → Changed s ph m.pdu.kind os ph' os' → Opening s ph' (ms ++ m ∷ []) a os'

@@ -14,6 +14,7 @@ use Rattle.rasta_end.specs.Units.{responses_in}
 use Rattle.rasta_check.specs.Verdict.Taken.{pdus_made, position_with, asked_positions}
 use Rattle.rasta_check.specs.Model.Laws.{NamesOne, requests_of, AnswersInOrder}
 use Rattle.rasta_check.proofs.Model.Counts.{number, tally, number_take_all, number_take_at}
+use Rattle.rasta_check.proofs.Model.TakeRows.{kind_is}
 use Rattle.rasta_check.proofs.Model.NamedPositions.{SnIs}
 use Rattle.rasta_check.proofs.Model.Invariant.{Held, is_named}
 use Rattle.rasta_check.proofs.Model.ConveyedUnits.{get_within, answers_number}
@@ -136,15 +137,11 @@ begins_with (x ∷ xs) (y ∷ ys) h =
     let r = begins_with xs ys (λ k a e. h (suc k) a e) in
     (r.0, ap (λ a. a ∷ ys) same ∙ ap (λ zs. x ∷ zs) r.1)
 
-request_named : (k : Kind) → is_kind RetransmissionRequest k ≡ true → is_named k ≡ true
-request_named RetransmissionRequest h = refl
-request_named _ h = absurd (cc)
-
 -- ---- asks and answers
 
 module _ (e f : EndState) (t u : ℕ) (h : Held e t f.made) (peer : Held f u e.made) (w : Valued e) (once : NamesOne e f) where
   all_named : AllNamed (pdus_made e.made) f.made
-  all_named p m g r = (let n = peer.accepts.named p m g (request_named m.pdu.kind r) in (n.0, named_position e.made n.0 m.pdu.cs once n.2))
+  all_named p m g r = (let n = peer.accepts.named p m g (ap is_named (kind_is RetransmissionRequest m.pdu.kind r)) in (n.0, named_position e.made n.0 m.pdu.cs once n.2))
 
   -- the k-th ask is that of the k-th request
   pub ask_at : (k c : ℕ) → slice_get e.asks k ≡ Some c

@@ -113,16 +113,13 @@ module _ (s : Side) (ph : Phase) (k : Kind) (n a v : Bool) where
       tt)))))))))))
   )
 
-  -- the first row whose test holds has its premise
-  pub premise : (row : TakeRow) → first_that_holds (take_rows s ph k n a v) ≡ Some row → Premise row s ph k n a v
-  premise row e = first_has (λ (r : TakeRow). Premise r s ph k n a v) (take_rows s ph k n a v) all_rows row e
-
 -- what an end knows of a PDU that it takes by a row
 abbrev pub Knows : Parameters → TakeRow → EndState → SafetyPdu → Type 0
 Knows p row e x = Premise row e.side e.phase x.kind (is_in e x) (is_ahead p e x) (is_valid e x)
 
 pub row_known : (p : Parameters) (e : EndState) (x : SafetyPdu) (row : TakeRow) → take_row p e x ≡ Some row → Knows p row e x
-row_known p e x row h = premise e.side e.phase x.kind (is_in e x) (is_ahead p e x) (is_valid e x) row h
+row_known p e x row h =
+    first_has (λ (r : TakeRow). Knows p r e x) (take_rows e.side e.phase x.kind (is_in e x) (is_ahead p e x) (is_valid e x)) (all_rows e.side e.phase x.kind (is_in e x) (is_ahead p e x) (is_valid e x)) row h
 
 -- a closed end takes by no row
 pub closed_row : (s : Side) (ph : Phase) (k : Kind) (n a v : Bool) → is_closed ph ≡ true → first_that_holds (take_rows s ph k n a v) ≡ None
