@@ -155,8 +155,7 @@ module _ (q : Parameters) (e f : EndState) (t u : ℕ) (m : Made) (p : ℕ) (k :
       record {
         count = omega (arith, length_push e.handed e.accepted, old, new);
         labels = all_push e.handed e.accepted
-            (λ j pos g. (let r = w.labels j pos g in (r.0, r.1, r.2, r.3, get_front e.handed_pdus (m.pdu ∷ []) j r.0.pdu r.4)))
-            (
+            (λ j pos g. (let r = w.labels j pos g in (r.0, r.1, r.2, r.3, get_front e.handed_pdus (m.pdu ∷ []) j r.0.pdu r.4))) (
               m,
               subst (λ x. slice_get f.made x ≡ Some m) (s ∙ sym last) k.there,
               c,

@@ -159,17 +159,17 @@ of_both p valid ws w (goes_on {ws = us} {w = u} r st) b = step (of_both p valid 
         let l = sd.less in (
           g,
           all_push {P = λ i v. After p v w Client g.own g.peer} (us ++ u ∷ []) w
-          (λ i v x. (let k = h.1 i v x in record {
-            us = k.us;
-            reached = k.reached;
-            few = k.few;
-            grown = λ side. both_grown (end_of v side) (end_of u side) (end_of w side) (k.grown side) (gr side);
-            less = (let z = k.less in omega arith);
-            told = k.told;
-            mine = record { kept = λ j d y z. k.mine.kept j d (cp.0 j d y (let q = k.less in omega arith)) z; listed = λ j d y. fr.0 j d (k.mine.listed j d y) };
-            theirs = record { kept = λ j d y z. k.theirs.kept j d (cp.1 j d y (let q = k.less in omega arith)) z; listed = λ j d y. fr.1 j d (k.theirs.listed j d y) };
-          }))
-          (after_itself p (us ++ u ∷ []) w (goes_on r st) b g),
+              (λ i v x. (let k = h.1 i v x in record {
+                us = k.us;
+                reached = k.reached;
+                few = k.few;
+                grown = λ side. both_grown (end_of v side) (end_of u side) (end_of w side) (k.grown side) (gr side);
+                less = (let z = k.less in omega arith);
+                told = k.told;
+                mine = record { kept = λ j d y z. k.mine.kept j d (cp.0 j d y (let q = k.less in omega arith)) z; listed = λ j d y. fr.0 j d (k.mine.listed j d y) };
+                theirs = record { kept = λ j d y z. k.theirs.kept j d (cp.1 j d y (let q = k.less in omega arith)) z; listed = λ j d y. fr.1 j d (k.theirs.listed j d y) };
+              }))
+              (after_itself p (us ++ u ∷ []) w (goes_on r st) b g),
         )
 
 -- for a side and its peer

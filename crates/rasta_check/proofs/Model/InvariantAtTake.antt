@@ -275,7 +275,7 @@ module _ (q : Parameters) (e f : EndState) (t u : ℕ) (m : Made) (p : ℕ) (k :
       let os = burst e at ++ OweRetransmissionRequest ∷ [] in
       let r = mark q e f t u m p k (ap is_named w.1) w.2 in
       let more : (f : Owed → Bool) → ((j : ℕ) → f (OweResend j) ≡ false) → owes f os ≡ tally (f OweRetransmissionResponse) 0 + owes f (OweRetransmissionRequest ∷ [])
-          = λ f none. owes-append f (burst e at) (OweRetransmissionRequest ∷ []) ∙ ap (λ n. n + owes f (OweRetransmissionRequest ∷ [])) (burst_owes f none e at) in
+      = λ f none. owes-append f (burst e at) (OweRetransmissionRequest ∷ []) ∙ ap (λ n. n + owes f (OweRetransmissionRequest ∷ [])) (burst_owes f none e at) in
       waits RetrReq at os (e.asks ++ at ∷ []) (flowing_peer e.side e.phase w.0) (ap is_named w.1) w.2 refl (omega (arith, r.2, r.3)) (more is_response_owed (λ j. refl))
       (burdened RetrReq os w.1 w.2 (more is_answer_owed (λ j. refl)) (omega (arith, more is_request_owed (λ j. refl), flowing_bit e.phase w.0)))
   by_row RequestedAgain w =

@@ -92,34 +92,55 @@ four : (a b c d : Bool) → (a && (b && (c && d))) ≡ true → (a ≡ true) × 
 four true b c d e = (let w = three b c d e in (refl, w.0, w.1, w.2))
 four false b c d e = absurd (cc)
 
+five : (a b c d f : Bool) → (a && (b && (c && (d && f)))) ≡ true → (a ≡ true) × (b ≡ true) × (c ≡ true) × (d ≡ true) × (f ≡ true)
+five true b c d f e = (let w = four b c d f e in (refl, w.0, w.1, w.2, w.3))
+five false b c d f e = absurd (cc)
+
 -- ---- each row in turn
 
 module _ (s : Side) (ph : Phase) (k : Kind) (n a v : Bool) where
-  all_rows : Each (λ (row : TakeRow). Premise row s ph k n a v) (take_rows s ph k n a v)
+  abbrev test : TakeRow → Bool
+  test Opened = is_down ph && is_kind ConnectionRequest k
+  test Answered = is_start ph && (is_client s && (is_kind ConnectionResponse k && v))
+  test FirstHeartbeat = is_start ph && (not (is_client s) && (is_kind Heartbeat k && (n && v)))
+  test InSequence = is_flowing ph && (is_heartbeat_or_data k && (n && v))
+  test ResentInSequence = is_retr_run ph && (is_kind RetransmittedData k && (n && v))
+  test Gap = is_up ph && (is_heartbeat_or_data k && (a && v))
+  test GapInRetransmission = is_retr_run ph && (is_timed k && (a && v))
+  test Resumed = is_retr_req ph && (is_kind RetransmissionResponse k && v)
+  test Requested = is_flowing ph && (is_kind RetransmissionRequest k && (n && v))
+  test RequestedAhead = is_flowing ph && (is_kind RetransmissionRequest k && (a && v))
+  test RequestedAgain = is_retr_req ph && (is_kind RetransmissionRequest k && (a && v))
+  test Disconnected = is_active ph && is_kind DisconnectionRequest k
+
+  tested : Each (λ (row : TakeRow). test row ≡ true) (take_rows s ph k n a v)
   unfolding Each
-  all_rows = (
-      λ t. (let w = and_parts (is_down ph) (is_kind ConnectionRequest k) t in (down_is ph w.0, kind_is ConnectionRequest k w.1)),
-      (λ t. (let w = four (is_start ph) (is_client s) (is_kind ConnectionResponse k) v t in (client_is s w.1, start_is ph w.0, kind_is ConnectionResponse k w.2, w.3)),
-      (λ t. (let w = four (is_start ph) (not (is_client s)) (is_kind Heartbeat k) (n && v) t in let z = and_parts n v w.3 in (server_is s w.1, start_is ph w.0, kind_is Heartbeat k w.2, z.1, z.0)),
-      (λ t. (let w = four (is_flowing ph) (is_heartbeat_or_data k) n v t in (w.0, w.1, w.3, w.2)),
-      (λ t. (let w = four (is_retr_run ph) (is_kind RetransmittedData k) n v t in (retr_run_is ph w.0, kind_is RetransmittedData k w.1, w.3, w.2)),
-      (λ t. (let w = four (is_up ph) (is_heartbeat_or_data k) a v t in (up_is ph w.0, w.1, w.3, w.2)),
-      (λ t. (let w = four (is_retr_run ph) (is_timed k) a v t in (retr_run_is ph w.0, w.1, w.3, w.2)),
-      (λ t. (let w = three (is_retr_req ph) (is_kind RetransmissionResponse k) v t in (retr_req_is ph w.0, kind_is RetransmissionResponse k w.1, w.2)),
-      (λ t. (let w = four (is_flowing ph) (is_kind RetransmissionRequest k) n v t in (w.0, kind_is RetransmissionRequest k w.1, w.3, w.2)),
-      (λ t. (let w = four (is_flowing ph) (is_kind RetransmissionRequest k) a v t in (w.0, kind_is RetransmissionRequest k w.1, w.3, w.2)),
-      (λ t. (let w = four (is_retr_req ph) (is_kind RetransmissionRequest k) a v t in (retr_req_is ph w.0, kind_is RetransmissionRequest k w.1, w.3, w.2)),
-      (λ t. (let w = and_parts (is_active ph) (is_kind DisconnectionRequest k) t in (w.0, kind_is DisconnectionRequest k w.1)),
-      tt)))))))))))
-  )
+  tested = (λ t. t, (λ t. t, (λ t. t, (λ t. t, (λ t. t, (λ t. t, (λ t. t, (λ t. t, (λ t. t, (λ t. t, (λ t. t, (λ t. t, tt))))))))))))
+
+  premise : (row : TakeRow) → test row ≡ true → Premise row s ph k n a v
+  premise Opened t = let w = and_parts (is_down ph) (is_kind ConnectionRequest k) t in (down_is ph w.0, kind_is ConnectionRequest k w.1)
+  premise Answered t = let w = four (is_start ph) (is_client s) (is_kind ConnectionResponse k) v t in (client_is s w.1, start_is ph w.0, kind_is ConnectionResponse k w.2, w.3)
+  premise FirstHeartbeat t = let w = five (is_start ph) (not (is_client s)) (is_kind Heartbeat k) n v t in (server_is s w.1, start_is ph w.0, kind_is Heartbeat k w.2, w.4, w.3)
+  premise InSequence t = let w = four (is_flowing ph) (is_heartbeat_or_data k) n v t in (w.0, w.1, w.3, w.2)
+  premise ResentInSequence t = let w = four (is_retr_run ph) (is_kind RetransmittedData k) n v t in (retr_run_is ph w.0, kind_is RetransmittedData k w.1, w.3, w.2)
+  premise Gap t = let w = four (is_up ph) (is_heartbeat_or_data k) a v t in (up_is ph w.0, w.1, w.3, w.2)
+  premise GapInRetransmission t = let w = four (is_retr_run ph) (is_timed k) a v t in (retr_run_is ph w.0, w.1, w.3, w.2)
+  premise Resumed t = let w = three (is_retr_req ph) (is_kind RetransmissionResponse k) v t in (retr_req_is ph w.0, kind_is RetransmissionResponse k w.1, w.2)
+  premise Requested t = let w = four (is_flowing ph) (is_kind RetransmissionRequest k) n v t in (w.0, kind_is RetransmissionRequest k w.1, w.3, w.2)
+  premise RequestedAhead t = let w = four (is_flowing ph) (is_kind RetransmissionRequest k) a v t in (w.0, kind_is RetransmissionRequest k w.1, w.3, w.2)
+  premise RequestedAgain t = let w = four (is_retr_req ph) (is_kind RetransmissionRequest k) a v t in (retr_req_is ph w.0, kind_is RetransmissionRequest k w.1, w.3, w.2)
+  premise Disconnected t = let w = and_parts (is_active ph) (is_kind DisconnectionRequest k) t in (w.0, kind_is DisconnectionRequest k w.1)
+
+  -- the first row whose test holds has its premise
+  first_premise : (row : TakeRow) → first_that_holds (take_rows s ph k n a v) ≡ Some row → Premise row s ph k n a v
+  first_premise row e = premise row (first_has (λ (r : TakeRow). test r ≡ true) (take_rows s ph k n a v) tested row e)
 
 -- what an end knows of a PDU that it takes by a row
 abbrev pub Knows : Parameters → TakeRow → EndState → SafetyPdu → Type 0
 Knows p row e x = Premise row e.side e.phase x.kind (is_in e x) (is_ahead p e x) (is_valid e x)
 
 pub row_known : (p : Parameters) (e : EndState) (x : SafetyPdu) (row : TakeRow) → take_row p e x ≡ Some row → Knows p row e x
-row_known p e x row h =
-    first_has (λ (r : TakeRow). Knows p r e x) (take_rows e.side e.phase x.kind (is_in e x) (is_ahead p e x) (is_valid e x)) (all_rows e.side e.phase x.kind (is_in e x) (is_ahead p e x) (is_valid e x)) row h
+row_known p e x row h = first_premise e.side e.phase x.kind (is_in e x) (is_ahead p e x) (is_valid e x) row h
 
 -- a closed end takes by no row
 pub closed_row : (s : Side) (ph : Phase) (k : Kind) (n a v : Bool) → is_closed ph ≡ true → first_that_holds (take_rows s ph k n a v) ≡ None
