@@ -1,7 +1,7 @@
 -- The units conveyed through the positions of an end, as what it made and the asks grow.
 use Rattle.std.proofs.Common.{◌≡◌, ℕ, zero, suc, ◌<◌, ◌≤◌, Bool, true, false, List, [], ◌∷◌, ◌++◌, length, Some, None, slice_get, refl, ap, ◌∙◌, arith}
 use Rattle.std.specs.Prelude.{slice_index_or}
-use Rattle.std.proofs.lemmas.Option.{slice_get-get_or, get_or_from_slice_get}
+use Rattle.std.proofs.lemmas.Option.{slice_get-get_or}
 use Rattle.rasta_pdu.specs.declared.kind.Kind.{Kind}
 use Rattle.rasta_pdu.specs.declared.kind.Kind.TheVariants.{Data, RetransmittedData, RetransmissionResponse}
 use Rattle.rasta_end.specs.State.{Made, EndState, kinds, carries_unit}
@@ -43,9 +43,6 @@ last_get (v ∷ w ∷ vs) (suc q) e = last_get (w ∷ vs) q (omega arith)
 
 pub get_within : (vs : List ℕ) (c : ℕ) → c < length vs → slice_get vs c ≡ Some (slice_index_or vs c 0)
 get_within vs c l = slice_get-get_or vs c 0 l
-
-pub get_or_is : (vs : List ℕ) (c v : ℕ) → slice_get vs c ≡ Some v → slice_index_or vs c 0 ≡ v
-get_or_is vs c v g = get_or_from_slice_get vs c v 0 g
 
 pub get_or_none : (vs : List ℕ) (c : ℕ) → slice_get vs c ≡ None → slice_index_or vs c 0 ≡ 0
 get_or_none [] c g = refl
@@ -104,10 +101,6 @@ pub next_unit : (u v : ℕ) (k : Kind) → carries_unit k ≡ true → units_nex
 next_unit u v Data h = refl
 next_unit u v RetransmittedData h = refl
 next_unit u v _ h = absurd (cc)
-
-pub next_back : (u v : ℕ) (k : Kind) → is_kind RetransmissionResponse k ≡ true → units_next u v k ≡ u
-next_back u v RetransmissionResponse h = refl
-next_back u v _ h = absurd (cc)
 
 pub first_kept : (asks vs : List ℕ) (a : ℕ) (k : Kind) → slice_index_or vs 0 0 ≡ 0 → slice_index_or (vs ++ units_after asks vs a k ∷ []) 0 0 ≡ 0
 first_kept asks [] a k h = refl

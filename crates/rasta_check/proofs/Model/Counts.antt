@@ -46,6 +46,9 @@ pub number_push : (f : Kind → Bool) (ms : List Made) (m : Made) → number f (
 number_push f [] m = refl
 number_push f (x ∷ ms) m = ap (tally (f x.pdu.kind)) (number_push f ms m) ∙ tally_swap (f x.pdu.kind) (f m.pdu.kind) (number f ms)
 
+pub number_push_as : (f : Kind → Bool) (ms : List Made) (m : Made) (b : Bool) → f m.pdu.kind ≡ b → number f (ms ++ m ∷ []) ≡ tally b (number f ms)
+number_push_as f ms m b e = number_push f ms m ∙ ap (λ c. tally c (number f ms)) e
+
 pub number_take_more : (f : Kind → Bool) (ms : List Made) (i j : ℕ) → i ≤ j → number f (take i ms) ≤ number f (take j ms)
 number_take_more f ms zero j h = omega arith
 number_take_more f ms (suc i) zero h = absurd (omega arith)

@@ -1,6 +1,6 @@
 -- What an end has handed up: the units conveyed through the last position of its peer that it accepted.
 use Rattle.std.proofs.Common.{◌≡◌, ℕ, zero, suc, ◌+◌, ◌<◌, ◌≤◌, Bool, true, false, List, [], ◌∷◌, ◌++◌, length, Option, Some, None, slice_get, take, refl, ap, sym, ◌∙◌, arith, subst}
-use Rattle.std.specs.Prelude.{◌==◌, slice_index_or, if◌then◌else◌, map, filter, drop}
+use Rattle.std.specs.Prelude.{slice_index_or, if◌then◌else◌, filter, drop}
 use Rattle.std.proofs.lemmas.Bool.Decides.{nat_tests}
 use Rattle.std.proofs.lemmas.List.{take-append-le, take_all, length_push}
 use Rattle.std.proofs.lemmas.Option.{slice_get_within, slice_get-get_or, get_or_from_slice_get}
@@ -19,14 +19,14 @@ use Rattle.rasta_end.specs.declared.owed.Owed.{Owed}
 use Rattle.rasta_end.specs.declared.owed.Owed.TheVariants.{RetransmissionRequest as OweRetransmissionRequest}
 use Rattle.rasta_end.specs.State.{Made, EndState, is_closed, is_flowing, carries_unit, content_of}
 use Rattle.rasta_end.specs.MakeRule.{row_of, after_make, after_make_by}
-use Rattle.rasta_end.specs.TakeRule.{is_heartbeat_or_data, is_in, steps_past_next, position_confirmed, accept, enter, hand_up, burst, take_row, effect, effect_by, after_take}
+use Rattle.rasta_end.specs.TakeRule.{is_heartbeat_or_data, is_in, steps_past_next, position_confirmed, accept, enter, hand_up, burst, effect, after_take}
 use Rattle.rasta_check.specs.Model.Laws.{conveyed_before, HandsUp}
 use Rattle.rasta_check.specs.Model.Theorem.{HandsUpUnits}
-use Rattle.rasta_check.proofs.Model.ListGrowth.{all_push, get_front, get_push}
+use Rattle.rasta_check.proofs.Model.ListGrowth.{all_push, get_front, get_push, get_mapped}
 use Rattle.rasta_check.proofs.Model.PassedTests.{Passed, cs_is}
 use Rattle.rasta_check.proofs.Model.MakeRows.{MadeBy, made_by, after_row, new_made}
-use Rattle.rasta_check.proofs.Model.TakeRows.{Knows, row_known, not_closed}
-use Rattle.rasta_check.proofs.Model.Counts.{number, owes, tally, number_push, number_take_all, number_take_more, number_take_at, is_request_owed, owes-append}
+use Rattle.rasta_check.proofs.Model.TakeRows.{Knows, take_by, kind_is}
+use Rattle.rasta_check.proofs.Model.Counts.{number, owes, tally, number_push_as, number_take_all, number_take_more, number_take_at, is_request_owed, owes-append}
 use Rattle.rasta_check.proofs.Model.SequenceNumbers.{numbered_once}
 use Rattle.rasta_check.proofs.Model.Invariant.{Held, has_peer, is_named, open_bit}
 use Rattle.rasta_check.proofs.Model.InvariantAtMake.{Changed, changed, over, opened, goes_on, named_judged}
@@ -93,10 +93,6 @@ handed_peer_take e f f' same vals h =
 
 -- The end itself makes.
 
-ask_named : (k : Kind) → is_kind RetransmissionRequest k ≡ true → is_named k ≡ true
-ask_named RetransmissionRequest h = refl
-ask_named _ h = absurd (cc)
-
 module _ (p : Parameters) (e f : EndState) (x : SafetyPdu) (clock : ℕ) (why : Why) (t : ℕ) (pass : Passed p e x clock why) (h : Held e t f.made) (w : Handed e f) (b : MadeBy e x why) where
   abbrev new : Made
   new = new_made b.row e x
@@ -105,20 +101,18 @@ module _ (p : Parameters) (e f : EndState) (x : SafetyPdu) (clock : ℕ) (why : 
       → tally c (owes is_request_owed (drop 1 e.owed)) ≡ owes is_request_owed e.owed → owes is_request_owed (drop 1 e.owed) ≡ 0 → LastRequest (e.made ++ new ∷ []) e.last_sn
   new_ask true c ph d none =
       let all : take (length e.made) (e.made ++ new ∷ []) ≡ e.made = take-append-le (length e.made) e.made (new ∷ []) (omega arith) ∙ take_all (length e.made) e.made (omega arith) in
-      let num = number_push (is_kind RetransmissionRequest) e.made new in
-      let bit = ap (λ v. tally v (number (is_kind RetransmissionRequest) e.made)) c in
+      let num = number_push_as (is_kind RetransmissionRequest) e.made new true c in
       let here = ap (number (is_kind RetransmissionRequest)) all in
-      (length e.made, new, get_push e.made new, c, (cs_is e x.kind x.cs (named_judged e x.kind (ask_named x.kind c)) pass.cs).1, omega (arith, num, bit, here))
+      (length e.made, new, get_push e.made new, c, (cs_is e x.kind x.cs (named_judged e x.kind (ap is_named (kind_is RetransmissionRequest x.kind c))) pass.cs).1, omega (arith, num, here))
   new_ask false c ph d none =
       let r = w.awaited ph (sym d ∙ none) in
       let l = slice_get_within e.made r.0 r.1 r.2 in
       let same : take r.0 (e.made ++ new ∷ []) ≡ take r.0 e.made = take-append-le r.0 e.made (new ∷ []) (omega (arith, l)) in
-      let num = number_push (is_kind RetransmissionRequest) e.made new in
-      let bit = ap (λ v. tally v (number (is_kind RetransmissionRequest) e.made)) c in
-      (r.0, r.1, get_front e.made (new ∷ []) r.0 r.1 r.2, r.3, r.4, ap (λ ms. suc (number (is_kind RetransmissionRequest) ms)) same ∙ (r.5 ∙ sym (num ∙ bit)))
+      let num = number_push_as (is_kind RetransmissionRequest) e.made new false c in
+      (r.0, r.1, get_front e.made (new ∷ []) r.0 r.1 r.2, r.3, r.4, ap (λ ms. suc (number (is_kind RetransmissionRequest) ms)) same ∙ (r.5 ∙ sym num))
 
   await_by : {ph : Phase} {os : List Owed} → Changed e.side e.phase x.kind e.owed ph os → ph ≡ RetrReq → owes is_request_owed os ≡ 0 → LastRequest (e.made ++ new ∷ []) e.last_sn
-  await_by (over a c d) ph none = absurd (cc)
+  await_by (over d) ph none = absurd (cc)
   await_by (opened a s c) ph none = absurd (cc)
   await_by (goes_on a c d g j) ph none = new_ask (is_kind RetransmissionRequest x.kind) refl ph d none
 
@@ -135,13 +129,6 @@ handed_make p e f x clock why t pass h w =
 beat_plain : (k : Kind) → is_heartbeat_or_data k ≡ true → carries_unit k ≡ false → is_plain k ≡ true
 beat_plain Heartbeat h g = refl
 beat_plain _ h g = absurd (cc)
-
-flowing_not : (ph : Phase) → is_flowing ph ≡ true → ph ≡ RetrReq → ⊥
-flowing_not RetrReq h g = cc
-flowing_not _ h g = cc
-
-in_zero : (n : ℕ) → (n == 0) ≡ true → n ≡ 0
-in_zero n h = grind (arith, nat_tests)
 
 module _ (q : Parameters) (e f : EndState) (t u : ℕ) (m : Made) (p : ℕ) (k : Taken e f t u m p) (w : Handed e f) (vf : Valued f) where
   -- the end accepts position p, through which as many are conveyed as through the last one
@@ -168,8 +155,7 @@ module _ (q : Parameters) (e f : EndState) (t u : ℕ) (m : Made) (p : ℕ) (k :
       record {
         count = omega (arith, length_push e.handed e.accepted, old, new);
         labels = all_push e.handed e.accepted
-            (λ j pos g. (let r = w.labels j pos g in (r.0, r.1, r.2, r.3, get_front e.handed_pdus (m.pdu ∷ []) j r.0.pdu r.4)))
-            (
+            (λ j pos g. (let r = w.labels j pos g in (r.0, r.1, r.2, r.3, get_front e.handed_pdus (m.pdu ∷ []) j r.0.pdu r.4))) (
               m,
               subst (λ x. slice_get f.made x ≡ Some m) (s ∙ sym last) k.there,
               c,
@@ -182,7 +168,7 @@ module _ (q : Parameters) (e f : EndState) (t u : ℕ) (m : Made) (p : ℕ) (k :
 
   in_place : is_in e m.pdu ≡ true → (i : ℕ) → e.accepted ≡ suc i → p ≡ suc i
   in_place b i a =
-      let d : steps_past_next e m.pdu ≡ 0 = in_zero (steps_past_next e m.pdu) b in
+      let d : steps_past_next e m.pdu ≡ 0 = grind (arith, nat_tests, b) in
       let pl : e.accepted + steps_past_next e m.pdu ≡ p = place q e f t u m p k i a in
       omega (arith, pl, d, a)
 
@@ -242,18 +228,13 @@ module _ (q : Parameters) (e f : EndState) (t u : ℕ) (m : Made) (p : ℕ) (k :
       keeps (same_worth a.0 a.1 (resumed x.0 free x.1 a.0 a.1)) (λ r n. cc (r))
   h_row free Requested x =
       let a = k.mine.opening.connected (flowing_peer e.side e.phase x.0) in
-      keeps (same_worth a.0 a.1 (plain_next a.0 (in_place x.3 a.0 a.1) (ap is_plain x.1))) (λ r n. flowing_not e.phase x.0 r)
+      keeps (same_worth a.0 a.1 (plain_next a.0 (in_place x.3 a.0 a.1) (ap is_plain x.1))) (λ r n. (let z = ap is_flowing r in cc))
   h_row free RequestedAhead x = keeps refl (λ r n. (let a = owes-append is_request_owed (burst e (position_confirmed e m.pdu)) (OweRetransmissionRequest ∷ []) in omega arith))
   h_row free RequestedAgain x = record { count = w.count; labels = w.labels; as_many = w.as_many; awaited = λ r n. w.awaited x.0 (ap (owes is_request_owed) free) }
   h_row free Disconnected x = keeps refl (λ r n. cc (r))
 
-module _ (q : Parameters) (e f : EndState) (t u : ℕ) (m : Made) (p : ℕ) (k : Taken e f t u m p) (w : Handed e f) (vf : Valued f) (free : is_closed e.phase ≡ false → e.owed ≡ []) where
-  h_by : (o : Option TakeRow) → take_row q e m.pdu ≡ o → Handed (effect_by q o e m.pdu) f
-  h_by None g = w
-  h_by (Some r) g = h_row q e f t u m p k w vf (free (not_closed q e m.pdu r g)) r (row_known q e m.pdu r g)
-
-  pub handed_take : Handed (after_take q e m.pdu) f
-  handed_take = h_by (take_row q e m.pdu) refl
+pub handed_take : (q : Parameters) (e f : EndState) (t u : ℕ) (m : Made) (p : ℕ) (k : Taken e f t u m p) (w : Handed e f) → Valued f → (is_closed e.phase ≡ false → e.owed ≡ []) → Handed (after_take q e m.pdu) f
+handed_take q e f t u m p k w vf free = take_by q e m.pdu (λ e'. Handed e' f) w (λ r away x. h_row q e f t u m p k w vf (free away) r x)
 
 -- What it handed up, unit by unit.
 
@@ -275,12 +256,6 @@ messages_by_content (Opening version sendmax reserved) = refl
 messages_by_content (Bye detail reason) = refl
 messages_by_content Empty = refl
 
--- the data PDU with this content
-data_with : (ms : List Made) (i : ℕ) (content : List ℕ) → slice_get (map (λ (n : Made). content_of n.pdu.body) ms) i ≡ Some content → (m : Made) × (slice_get ms i ≡ Some m) × (content_of m.pdu.body ≡ content)
-data_with [] i content g = absurd (cc)
-data_with (m ∷ ms) zero content g = (m, refl, cc)
-data_with (m ∷ ms) (suc i) content g = data_with ms i content g
-
 -- the i-th PDU handed up carries the messages of the i-th data PDU
 handed_messages : (e f : EndState) → Valued f → Handed e f → (i : ℕ) (x : SafetyPdu) → slice_get e.handed_pdus i ≡ Some x
     → (m : Made) × (slice_get (filter (λ (n : Made). is_kind Data n.pdu.kind) f.made) i ≡ Some m) × (messages_in x.body ≡ messages_in m.pdu.body)
@@ -289,7 +264,7 @@ handed_messages e f vf w i x g =
     let r = w.labels i _ (slice_get-get_or e.handed i 0 l) in
     let same : r.0.pdu ≡ x = (let z : Some r.0.pdu ≡ Some x = sym r.4 ∙ g in cc) in
     let content = (vf.contents.carried _ r.0 r.1 i r.3).1 in
-    let d = data_with (filter (λ (n : Made). is_kind Data n.pdu.kind) f.made) i (content_of r.0.pdu.body) content in
+    let d = get_mapped (λ (n : Made). content_of n.pdu.body) (filter (λ (n : Made). is_kind Data n.pdu.kind) f.made) i (content_of r.0.pdu.body) content in
     (d.0, d.1, ap (λ (y : SafetyPdu). messages_in y.body) (sym same) ∙ (messages_by_content r.0.pdu.body ∙ (ap messages_of (sym d.2) ∙ sym (messages_by_content d.0.pdu.body))))
 
 pub hands_up_units : (e f : EndState) → Valued f → Handed e f → HandsUpUnits e f

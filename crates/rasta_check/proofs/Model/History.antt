@@ -1,5 +1,5 @@
 -- What of an end stays along a run, and the worlds of a run.
-use Rattle.std.proofs.Common.{◌≡◌, ℕ, zero, suc, ◌+◌, ◌<◌, ◌≤◌, Bool, true, false, List, [], ◌∷◌, ◌++◌, length, Option, Some, slice_get, refl, ap, sym, ◌∙◌, arith, ⊎_elim, subst}
+use Rattle.std.proofs.Common.{◌≡◌, ℕ, suc, ◌+◌, ◌<◌, ◌≤◌, Bool, true, false, List, [], ◌∷◌, ◌++◌, length, Option, Some, slice_get, refl, ap, sym, ◌∙◌, arith, ⊎_elim, subst}
 use Rattle.std.specs.Prelude.{◌&&◌}
 use Rattle.std.proofs.lemmas.List.{length_push}
 use Rattle.std.proofs.lemmas.Option.{slice_get_within}
@@ -17,7 +17,7 @@ use Rattle.rasta_end.specs.Starts.{start_of}
 use Rattle.rasta_check.specs.Capture.Crossing.{FirstCopy}
 use Rattle.rasta_check.specs.Model.World.{Station, World, Move, Moves, makes, repeats, arrives, takes, waits, Step, side_moves, station_of, end_of, other_side, Reaches, begins, goes_on, first_world, IsWithin}
 use Rattle.rasta_check.specs.Model.Theorem.{Appends}
-use Rattle.rasta_check.proofs.Model.ListGrowth.{get_push_cases, get_front, get_push}
+use Rattle.rasta_check.proofs.Model.ListGrowth.{get_push_cases, all_push, get_front, get_push}
 use Rattle.rasta_check.proofs.Model.PassedTests.{passed}
 use Rattle.rasta_check.proofs.Model.MakeRows.{made_by, after_row, new_made}
 use Rattle.rasta_check.proofs.Model.TakeRows.{take_made, closed_row}
@@ -26,6 +26,7 @@ use Rattle.rasta_check.proofs.Model.Counts.{number}
 use Rattle.rasta_check.proofs.Model.ConveyedUnits.{values, values_push}
 use Rattle.rasta_check.proofs.Model.OfferedUnitsAtTake.{values_take}
 use Rattle.rasta_check.proofs.Model.InvariantOfRuns.{All, all_held}
+use Rattle.rasta_check.proofs.Script.Simulation.{slice_get_some}
 use Rattle.rasta_check.proofs.Script.ScriptsOfRuns.{Both, Sends, turn, told_first, told_step, step_copies, step_front, sends_count, copy_at}
 use Rattle.rasta_pdu.specs.Pdu.{is_kind}
 use Rattle.rasta_pdu.specs.declared.kind.Kind.TheVariants.{RetransmissionResponse}
@@ -66,22 +67,6 @@ grown_move p b a a' xs ys (takes q m e' c i s t) l =
     })
 grown_move p b a a' xs ys (waits c i) l = same_grown a.state
 
-made_longer : (p : Parameters) (b a a' : Station) (xs ys : List Packet) {move : Move} → Moves p b xs a move a' ys → (length a.state.made ≤ length a'.state.made) × (length a'.state.made ≤ suc (length a.state.made))
-made_longer p b a a' xs ys (makes x why e' ch res chk bs mk sp rec) =
-    let m = made_more p a.state x a.clock why e' mk in
-    let n : Made = m.new in
-    let e = ap length m.made in
-    (omega (arith, e, length_push a.state.made n), omega (arith, e, length_push a.state.made n))
-made_longer p b a a' xs ys (takes q m e' c i s t) = (let e = ap (λ (e : EndState). length e.made) t.1 in let f = ap length (take_made p a.state m.pdu) in (omega arith, omega arith))
-made_longer p b a a' xs ys _ = (omega arith, omega arith)
-
-crossed_by : (p : Parameters) (b a a' : Station) (xs ys : List Packet) {move : Move} → Moves p b xs a move a' ys → (length xs ≤ length ys) × (length ys ≤ suc (length xs)) × (length ys ≡ suc (length xs) → SameHanded a.state a'.state)
-crossed_by p b a a' xs ys (makes x why e' ch res chk bs mk sp rec) = (let z = length_push xs (record { channel = ch; side = a.state.side; payload = bs }) in (omega arith, omega arith, λ h. (made_more p a.state x a.clock why e' mk).same))
-crossed_by p b a a' xs ys (repeats place ch old c s rec) = (let z = length_push xs (record old { channel = ch }) in (omega arith, omega arith, λ h. record { positions = refl; pdus = refl }))
-crossed_by p b a a' xs ys (arrives q low i) = (omega arith, omega arith, λ h. record { positions = refl; pdus = refl })
-crossed_by p b a a' xs ys (takes q m e' c i s t) = (omega arith, omega arith, λ h. absurd (omega arith))
-crossed_by p b a a' xs ys (waits c i) = (omega arith, omega arith, λ h. record { positions = refl; pdus = refl })
-
 -- what a step does to an end: it hands nothing up as a packet crosses, and makes at most one PDU
 pub record EndStep (crossing : Type 0) (e e' : EndState) : Type 0 where
   pub same : crossing → SameHanded e e'
@@ -96,20 +81,31 @@ pub record Stepped (v w : World) : Type 0 where
   pub more : length w.crossed ≤ suc (length v.crossed)
   pub ends : (side : Side) → EndStep (length w.crossed ≡ suc (length v.crossed)) (end_of v side) (end_of w side)
 
-end_moves : (p : Parameters) (b a a' : Station) (xs ys : List Packet) {move : Move} → Moves p b xs a move a' ys → EndStep (length ys ≡ suc (length xs)) a.state a'.state
-end_moves p b a a' xs ys m = (let n = made_longer p b a a' xs ys m in record { same = (crossed_by p b a a' xs ys m).2; longer = n.0; most = n.1 })
+end_moves : (p : Parameters) (b a a' : Station) (xs ys : List Packet) {move : Move} → Moves p b xs a move a' ys
+    → (length xs ≤ length ys) × (length ys ≤ suc (length xs)) × EndStep (length ys ≡ suc (length xs)) a.state a'.state
+end_moves p b a a' xs ys (makes x why e' ch res chk bs mk sp rec) =
+    let m = made_more p a.state x a.clock why e' mk in
+    let e = ap length m.made in
+    let l = length_push a.state.made m.new in
+    let z = length_push xs (record { channel = ch; side = a.state.side; payload = bs }) in
+    (omega (arith, z), omega (arith, z), record { same = λ h. m.same; longer = omega (arith, e, l); most = omega (arith, e, l) })
+end_moves p b a a' xs ys (repeats place ch old c s rec) = (let z = length_push xs (record old { channel = ch }) in (omega (arith, z), omega (arith, z), stands_still _ a.state))
+end_moves p b a a' xs ys (takes q m e' c i s t) =
+    let e = ap (λ (e : EndState). length e.made) t.1 in
+    let f = ap length (take_made p a.state m.pdu) in
+    (omega arith, omega arith, record { same = λ h. absurd (omega arith); longer = omega (arith, e, f); most = omega (arith, e, f) })
+end_moves p b a a' xs ys (arrives q low i) = (omega arith, omega arith, stands_still _ a.state)
+end_moves p b a a' xs ys (waits c i) = (omega arith, omega arith, stands_still _ a.state)
+
+each_side : (P : Side → Type 0) → P Client → P Server → (side : Side) → P side
+each_side P c s Client = c
+each_side P c s Server = s
 
 pub stepped : (p : Parameters) (v w : World) → Step p v w → Stepped v w
-stepped p v w (side_moves {a = a} {after = ys} Client m) = record { less = (crossed_by p v.server v.client a v.crossed ys m).0; more = (crossed_by p v.server v.client a v.crossed ys m).1; ends = ends }
-  where
-    ends : (side : Side) → EndStep (length ys ≡ suc (length v.crossed)) (end_of v side) (end_of w side)
-    ends Client = end_moves p v.server v.client a v.crossed ys m
-    ends Server = stands_still _ v.server.state
-stepped p v w (side_moves {a = a} {after = ys} Server m) = record { less = (crossed_by p v.client v.server a v.crossed ys m).0; more = (crossed_by p v.client v.server a v.crossed ys m).1; ends = ends }
-  where
-    ends : (side : Side) → EndStep (length ys ≡ suc (length v.crossed)) (end_of v side) (end_of w side)
-    ends Client = stands_still _ v.client.state
-    ends Server = end_moves p v.client v.server a v.crossed ys m
+stepped p v w (side_moves {a = a} {after = ys} Client m) =
+    (let o = end_moves p v.server v.client a v.crossed ys m in record { less = o.0; more = o.1; ends = each_side _ o.2 (stands_still _ v.server.state) })
+stepped p v w (side_moves {a = a} {after = ys} Server m) =
+    (let o = end_moves p v.client v.server a v.crossed ys m in record { less = o.0; more = o.1; ends = each_side _ (stands_still _ v.client.state) o.2 })
 
 grown_step : (p : Parameters) (v w : World) → Step p v w → All v.client v.server → (side : Side) → Grown (end_of v side) (end_of w side)
 grown_step p v w (side_moves {a = a} {after = ys} Client m) g Client = grown_move p v.server v.client a v.crossed ys m g.mine.asks.asked
@@ -143,11 +139,9 @@ after_itself p ws w r b g =
     record { us = ws; reached = r; few = b; grown = λ side. same_grown (end_of w side); less = omega arith; told = g; mine = all g.own; theirs = all g.peer }
 
 of_both : (p : Parameters) (valid : AreParameters p) (ws : List World) (w : World) → Reaches p ws w → IsWithin p w → History p ws w
-of_both p valid ws w (begins m n) b = (told_first p m n valid, λ i v g. only i v g)
-  where
-    only : (i : ℕ) (v : World) → slice_get (first_world p m n ∷ []) i ≡ Some v → After p v (first_world p m n) Client (told_first p m n valid).own (told_first p m n valid).peer
-    only zero v g = subst (λ (z : World). After p z (first_world p m n) Client (told_first p m n valid).own (told_first p m n valid).peer) (let e : first_world p m n ≡ v = cc in e) (after_itself p [] (first_world p m n) (begins m n) b (told_first p m n valid))
-    only (suc i) v g = absurd (cc)
+of_both p valid ws w (begins m n) b =
+    let g = told_first p m n valid in
+    (g, all_push {P = λ i v. After p v (first_world p m n) Client g.own g.peer} [] (first_world p m n) (λ i v x. absurd (cc)) (after_itself p [] (first_world p m n) (begins m n) b g))
 of_both p valid ws w (goes_on {ws = us} {w = u} r st) b = step (of_both p valid us u r few)
   where
     sd : Stepped u w
@@ -164,8 +158,8 @@ of_both p valid ws w (goes_on {ws = us} {w = u} r st) b = step (of_both p valid 
         let gr = grown_step p u w st (all_held p us u Client r few) in
         let l = sd.less in (
           g,
-          λ i v x. ⊎_elim
-              (λ (old : slice_get (us ++ u ∷ []) i ≡ Some v). (let k = h.1 i v old in record {
+          all_push {P = λ i v. After p v w Client g.own g.peer} (us ++ u ∷ []) w
+              (λ i v x. (let k = h.1 i v x in record {
                 us = k.us;
                 reached = k.reached;
                 few = k.few;
@@ -175,8 +169,7 @@ of_both p valid ws w (goes_on {ws = us} {w = u} r st) b = step (of_both p valid 
                 mine = record { kept = λ j d y z. k.mine.kept j d (cp.0 j d y (let q = k.less in omega arith)) z; listed = λ j d y. fr.0 j d (k.mine.listed j d y) };
                 theirs = record { kept = λ j d y z. k.theirs.kept j d (cp.1 j d y (let q = k.less in omega arith)) z; listed = λ j d y. fr.1 j d (k.theirs.listed j d y) };
               }))
-              (λ (new : (i ≡ length (us ++ u ∷ [])) × (w ≡ v)). subst (λ (z : World). After p z w Client g.own g.peer) new.1 (after_itself p (us ++ u ∷ []) w (goes_on r st) b g))
-              (get_push_cases (us ++ u ∷ []) w i v x),
+              (after_itself p (us ++ u ∷ []) w (goes_on r st) b g),
         )
 
 -- for a side and its peer
@@ -225,12 +218,7 @@ pub made_at : (p : Parameters) (s : Side) (xs : List Packet) (own : List FirstCo
 made_at p s xs own e f j d h g =
     let l = slice_get_within own j d g in
     let n = sends_count p s xs own e f h in
-    let a = some e.made (base p + j) (omega arith) in
+    let a = slice_get_some e.made (base p + j) (omega arith) in
     let b = copy_at p s xs own e f j a.0 h a.1 in
     let same : b.0 ≡ d = (let z = b.1 in cc) in
     (a.0, a.1, sym b.2 ∙ ap (λ (c : FirstCopy). c.pdu.safety) same)
-  where
-    some : (ms : List Made) (i : ℕ) → i < length ms → (m : Made) × (slice_get ms i ≡ Some m)
-    some [] i l = absurd (omega arith)
-    some (m ∷ ms) zero l = (m, refl)
-    some (m ∷ ms) (suc i) l = some ms i (omega arith)

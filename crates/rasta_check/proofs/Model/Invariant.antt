@@ -50,10 +50,6 @@ bit_most Closed = omega arith
 bit_most RetrReq = omega arith
 bit_most _ = omega arith
 
-pub no_peer : (s : Side) → has_peer s Closed ≡ true → ⊥
-no_peer Client h = cc
-no_peer Server h = cc
-
 -- the connection of such an end is over
 abbrev pub ended : Side → Phase → List Made → Bool
 ended s ph ms = is_closed ph && (not (is_client s) || is_some (slice_get ms 0))

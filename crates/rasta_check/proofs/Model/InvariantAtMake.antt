@@ -1,6 +1,6 @@
 -- A make keeps what holds, at both ends.
 use Rattle.std.proofs.Common.{◌≡◌, ℕ, ◌+◌, ◌≤◌, Bool, true, false, List, [], ◌∷◌, ◌++◌, length, Some, None, slice_get, take, refl, ap, sym, ◌∙◌, arith, inl, ⊎_elim, subst}
-use Rattle.std.specs.Prelude.{not, ◌||◌, drop, is_some}
+use Rattle.std.specs.Prelude.{drop}
 use Rattle.std.proofs.lemmas.List.{take-append-le, length_push}
 use Rattle.std.proofs.lemmas.Option.{slice_get_within, slice_get_past}
 use Rattle.rasta_pcap.specs.declared.fault.Side.{Side}
@@ -15,21 +15,21 @@ use Rattle.rasta_end.specs.declared.why.Why.{Why}
 use Rattle.rasta_end.specs.declared.make_row.MakeRow.{MakeRow}
 use Rattle.rasta_end.specs.declared.owed.Owed.{Owed}
 use Rattle.rasta_end.specs.declared.owed.Owed.TheVariants.{ConnectionResponse as OweConnectionResponse}
-use Rattle.rasta_end.specs.State.{Made, EndState, is_client, is_connected, is_active}
+use Rattle.rasta_end.specs.State.{Made, EndState, is_connected}
 use Rattle.rasta_end.specs.MakeRule.{is_judged, after_make, after_make_by, phase_after, owed_after}
 use Rattle.rasta_check.proofs.Model.ListGrowth.{all_push, get_front}
 use Rattle.rasta_check.proofs.Model.SequenceNumbers.{numbered_push}
 use Rattle.rasta_check.proofs.Model.PassedTests.{Passed, un_not, cs_is}
 use Rattle.rasta_check.proofs.Model.MakeRows.{Making, opening, response, first_beat, answer, again, ask, beat, fresh, bye, expired, made_by, after_row, new_made}
-use Rattle.rasta_check.proofs.Model.Counts.{number, owes, tally, number_push, number_take_more, is_answer_owed, is_request_owed}
+use Rattle.rasta_check.proofs.Model.Counts.{number, owes, tally, number_push, number_push_as, number_take_more, is_answer_owed, is_request_owed}
 use Rattle.rasta_check.proofs.Model.NamedPositions.{SnIs}
-use Rattle.rasta_check.proofs.Model.Invariant.{Held, Opening, Asking, ended, is_response_owed, is_opener, has_peer, no_peer, is_named, open_bit, bit_most}
+use Rattle.rasta_check.proofs.Model.Invariant.{Held, Opening, Asking, ended, is_response_owed, is_opener, has_peer, is_named, open_bit, bit_most}
 
 -- how a make changes the phase and what is owed: it ends the connection, opens it, or goes on
 pub data Changed (s : Side) (ph : Phase) (k : Kind) (os : List Owed) : Phase → List Owed → Type 0 where
-  over : is_kind RetransmissionRequest k ≡ false → is_kind RetransmissionResponse k ≡ false → is_opener k ≡ false → Changed s ph k os Closed []
+  over : k ≡ DisconnectionRequest → Changed s ph k os Closed []
   opened : ph ≡ Closed → s ≡ Client → k ≡ ConnectionRequest → Changed s ph k os Start os
-  goes_on : is_active ph ≡ true
+  goes_on : has_peer s ph ≡ true
       → tally (is_kind RetransmissionResponse k) (owes is_answer_owed (drop 1 os)) ≡ owes is_answer_owed os
       → tally (is_kind RetransmissionRequest k) (owes is_request_owed (drop 1 os)) ≡ owes is_request_owed os
       → (is_opener k ≡ true → (rest : List Owed) × (os ≡ OweConnectionResponse ∷ rest))
@@ -37,15 +37,6 @@ pub data Changed (s : Side) (ph : Phase) (k : Kind) (os : List Owed) : Phase →
       → Changed s ph k os ph (drop 1 os)
 
 -- ---- the rows
-
-off : {P : Type 0} → false ≡ true → P
-off e = absurd (cc)
-
-connected_active : (ph : Phase) → is_connected ph ≡ true → is_active ph ≡ true
-connected_active Up e = refl
-connected_active RetrReq e = refl
-connected_active RetrRun e = refl
-connected_active _ e = absurd (cc)
 
 pub connected_peer : (s : Side) (ph : Phase) → is_connected ph ≡ true → has_peer s ph ≡ true
 connected_peer s Up e = refl
@@ -56,25 +47,22 @@ connected_peer s _ e = absurd (cc)
 pub changed : (s : Side) (ph : Phase) (why : Why) (k : Kind) (os : List Owed) (row : MakeRow) → Making s ph why k os row → Changed s ph k os (phase_after row ph) (owed_after row os)
 changed s ph why k os row opening = opened refl refl refl
 changed s ph why k os row (response {os = rest}) = goes_on refl refl refl (λ _. (rest, refl)) (omega arith)
-changed s ph why k os row first_beat = goes_on refl refl refl (λ e. off e) (omega arith)
-changed s ph why k os row (answer r) = goes_on (connected_active ph r) refl refl (λ e. off e) (omega arith)
-changed s ph why k os row (again r) = goes_on (connected_active ph r) refl refl (λ e. off e) (omega arith)
-changed s ph why k os row (ask r) = goes_on (connected_active ph r) refl refl (λ e. off e) (omega arith)
-changed s ph why k os row (beat r) = goes_on (connected_active ph r) refl refl (λ e. off e) (omega arith)
-changed s ph why k os row (fresh r) = goes_on (connected_active ph r) refl refl (λ e. off e) (omega arith)
-changed s ph why k os row (bye r) = over refl refl refl
-changed s ph why k os row (expired r) = over refl refl refl
+changed s ph why k os row first_beat = goes_on refl refl refl (λ e. absurd (cc)) (omega arith)
+changed s ph why k os row (answer r) = goes_on (connected_peer s ph r) refl refl (λ e. absurd (cc)) (omega arith)
+changed s ph why k os row (again r) = goes_on (connected_peer s ph r) refl refl (λ e. absurd (cc)) (omega arith)
+changed s ph why k os row (ask r) = goes_on (connected_peer s ph r) refl refl (λ e. absurd (cc)) (omega arith)
+changed s ph why k os row (beat r) = goes_on (connected_peer s ph r) refl refl (λ e. absurd (cc)) (omega arith)
+changed s ph why k os row (fresh r) = goes_on (connected_peer s ph r) refl refl (λ e. absurd (cc)) (omega arith)
+changed s ph why k os row (bye r) = over refl
+changed s ph why k os row (expired r) = over refl
 
 -- ---- the parts of an end
 
-closed_over : (s : Side) (ms : List Made) (m : Made) → (not (is_client s) || is_some (slice_get (ms ++ m ∷ []) 0)) ≡ true
-closed_over Server ms m = refl
-closed_over Client [] m = refl
-closed_over Client (x ∷ ms) m = refl
-
 -- an end that closes by a make has ended
 pub over_after : (s : Side) (ph : Phase) (ms : List Made) (m : Made) → ph ≡ Closed → ended s ph (ms ++ m ∷ []) ≡ true
-over_after s Closed ms m e = closed_over s ms m
+over_after Server Closed ms m e = refl
+over_after Client Closed [] m e = refl
+over_after Client Closed (x ∷ ms) m e = refl
 over_after s _ ms m e = absurd (cc)
 
 -- an end that is Closed and hasn't ended has made nothing
@@ -131,20 +119,17 @@ moved : (b : Bool) (n o o' : ℕ) → tally b o' ≡ o → tally b n + o' ≡ n 
 moved true n o o' t = omega arith
 moved false n o o' t = omega arith
 
-number_push_as : (f : Kind → Bool) (ms : List Made) (m : Made) (b : Bool) → f m.pdu.kind ≡ b → number f (ms ++ m ∷ []) ≡ tally b (number f ms)
-number_push_as f ms m b e = number_push f ms m ∙ ap (λ c. tally c (number f ms)) e
-
 module _ (s : Side) (ph : Phase) (ms : List Made) (m : Made) (a : ℕ) (os : List Owed) (open_yet : ended s ph ms ≡ false) (h : Opening s ph ms a os) where
   make_opening : (ph' : Phase) (os' : List Owed) → Changed s ph m.pdu.kind os ph' os' → Opening s ph' (ms ++ m ∷ []) a os'
-  make_opening ph' os' (over b c d) =
-      record { down = λ v. absurd (cc); starting = λ _ v. absurd (cc); unmade = λ _ v. absurd (push_some ms m v); response_due = inl refl; connected = λ v. absurd (no_peer s v) }
+  make_opening ph' os' (over d) =
+      record { down = λ v. absurd (cc); starting = λ _ v. absurd (cc); unmade = λ _ v. absurd (push_some ms m v); response_due = inl refl; connected = λ v. absurd (cc) }
   make_opening ph' os' (opened b c d) =
       let u = h.unmade c (nothing_made s ph ms b open_yet) in
       let off : has_peer s Start ≡ false = ap (λ z. has_peer z Start) c in
       record { down = λ v. absurd (cc); starting = λ _ _. u.0; unmade = λ _ v. absurd (push_some ms m v); response_due = inl (ap (owes is_response_owed) u.1); connected = λ v. absurd (cc) }
   make_opening ph' os' (goes_on on b c d r) =
       record {
-        down = λ v. absurd (let z = ap is_active v in cc);
+        down = λ v. absurd (let z = ap (has_peer s) v in cc);
         starting = h.starting;
         unmade = λ _ v. absurd (push_some ms m v);
         response_due = ⊎_elim
@@ -167,9 +152,9 @@ module _ (s : Side) (ph : Phase) (ms : List Made) (m : Made) (a : ℕ) (os : Lis
       counts : {ph' : Phase} {os' : List Owed} → Changed s ph m.pdu.kind os ph' os' → (number (is_kind RetransmissionResponse) (ms ++ m ∷ []) ≤ length qs)
           × (ended s ph' (ms ++ m ∷ []) ≡ false → number (is_kind RetransmissionResponse) (ms ++ m ∷ []) + owes is_answer_owed os' ≡ length qs)
           × (number (is_kind RetransmissionRequest) (ms ++ m ∷ []) + owes is_request_owed os' ≤ number (is_kind RetransmissionResponse) (take t peer) + open_bit ph')
-      counts (over b c d) =
-          let answers = number_push_as (is_kind RetransmissionResponse) ms m false c in
-          let requests = number_push_as (is_kind RetransmissionRequest) ms m false b in
+      counts (over d) =
+          let answers = number_push_as (is_kind RetransmissionResponse) ms m false (ap (is_kind RetransmissionResponse) d) in
+          let requests = number_push_as (is_kind RetransmissionRequest) ms m false (ap (is_kind RetransmissionRequest) d) in
           (omega (arith, answers, w.asked), λ v. absurd (let z = over_after s Closed ms m refl in cc), omega (arith, requests, w.open_requests, bit_most ph))
       counts (opened b c d) =
           let answers = number_push_as (is_kind RetransmissionResponse) ms m false (ap (is_kind RetransmissionResponse) d) in
@@ -179,14 +164,14 @@ module _ (s : Side) (ph : Phase) (ms : List Made) (m : Made) (a : ℕ) (os : Lis
           let owed = ap (owes is_request_owed) (h.unmade c none).1 in
           (omega (arith, answers, w.asked), λ v. omega (arith, answers, w.owing open_yet), omega (arith, requests, made, owed))
       counts (goes_on on b c d r) =
-          let answers = number_push (is_kind RetransmissionResponse) ms m ∙ refl in
+          let answers = number_push (is_kind RetransmissionResponse) ms m in
           let requests = number_push (is_kind RetransmissionRequest) ms m in
           let same = moved (is_kind RetransmissionResponse m.pdu.kind) (number (is_kind RetransmissionResponse) ms) _ _ b in
           let kept = moved (is_kind RetransmissionRequest m.pdu.kind) (number (is_kind RetransmissionRequest) ms) _ _ c in
           (omega (arith, answers, same, w.owing open_yet), λ v. omega (arith, answers, same, w.owing open_yet), omega (arith, requests, kept, w.open_requests))
 
   make_opener : (ph' : Phase) (os' : List Owed) → Changed s ph m.pdu.kind os ph' os' → is_opener m.pdu.kind ≡ true → ms ≡ []
-  make_opener ph' os' (over b c d) k = absurd (cc)
+  make_opener ph' os' (over d) k = absurd (let z = ap is_opener d in cc)
   make_opener ph' os' (opened b c d) k = nothing_made s ph ms b open_yet
   make_opener ph' os' (goes_on on b c d r) k =
       ⊎_elim
@@ -195,17 +180,10 @@ module _ (s : Side) (ph : Phase) (ms : List Made) (m : Made) (a : ℕ) (os : Lis
       h.response_due
 
 -- an end that makes a PDU whose CS names one of the peer's has accepted something
-pub named_connected : (s : Side) (ph : Phase) (why : Why) (k : Kind) (os : List Owed) (row : MakeRow) → Making s ph why k os row → is_named k ≡ true → has_peer s ph ≡ true
-named_connected s ph why k os row opening h = off h
-named_connected s ph why k os row response h = refl
-named_connected s ph why k os row first_beat h = refl
-named_connected s ph why k os row (answer r) h = connected_peer s ph r
-named_connected s ph why k os row (again r) h = connected_peer s ph r
-named_connected s ph why k os row (ask r) h = connected_peer s ph r
-named_connected s ph why k os row (beat r) h = connected_peer s ph r
-named_connected s ph why k os row (fresh r) h = connected_peer s ph r
-named_connected s ph why k os row (bye r) h = off h
-named_connected s ph why k os row (expired r) h = off h
+named_connected : {s : Side} {ph ph' : Phase} {k : Kind} {os os' : List Owed} → Changed s ph k os ph' os' → is_named k ≡ true → has_peer s ph ≡ true
+named_connected (over d) h = absurd (let z = ap is_named d in cc)
+named_connected (opened a s d) h = absurd (let z = ap is_named d in cc)
+named_connected (goes_on on b c d r) h = on
 
 pub named_judged : (e : EndState) (k : Kind) → is_named k ≡ true → is_judged e k ≡ true
 named_judged e ConnectionRequest h = absurd (cc)
@@ -231,7 +209,7 @@ row_make p e x clock why row t peer pass making h =
         last = h.accepts.last;
         named = all_push e.made n h.accepts.named
             (λ k.
-            let a = h.opening.connected (named_connected e.side e.phase why x.kind e.owed row making k) in
+            let a = h.opening.connected (named_connected how k) in
             let l = h.accepts.last a.0 a.1 in
             (a.0, omega (arith, a.1), record { m = l.m; there = l.there; same = l.same ∙ sym (cs_is e x.kind x.cs (named_judged e x.kind k) pass.cs).1 }));
       };

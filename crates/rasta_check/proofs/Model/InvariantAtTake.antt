@@ -1,13 +1,13 @@
 -- A take keeps what holds of the taker.
-use Rattle.std.proofs.Common.{◌≡◌, ℕ, zero, suc, ◌+◌, ◌-◌, ◌<◌, ◌≤◌, Bool, true, false, List, [], ◌∷◌, ◌++◌, length, Option, Some, None, slice_get, take, refl, ap, sym, ◌∙◌, arith, inl, inr, ⊎_elim, subst}
-use Rattle.std.specs.Prelude.{◌&&◌, if◌then◌else◌}
+use Rattle.std.proofs.Common.{◌≡◌, ℕ, zero, suc, ◌+◌, ◌-◌, ◌<◌, ◌≤◌, Bool, true, false, List, [], ◌∷◌, ◌++◌, length, Some, slice_get, take, refl, ap, sym, ◌∙◌, arith, inl, inr, ⊎_elim, subst}
+use Rattle.std.specs.Prelude.{◌&&◌}
 use Rattle.std.proofs.lemmas.List.{length_push}
 use Rattle.std.proofs.lemmas.Option.{slice_get_within}
 use Rattle.rasta_pcap.specs.declared.fault.Side.{Side}
 use Rattle.rasta_pcap.specs.declared.fault.Side.TheVariants.{Server}
 use Rattle.rasta_pdu.specs.declared.kind.Kind.{Kind}
 use Rattle.rasta_pdu.specs.declared.kind.Kind.TheVariants.{RetransmissionRequest, Heartbeat, Data, RetransmittedData, RetransmissionResponse}
-use Rattle.rasta_pdu.specs.Pdu.{SafetyPdu, is_kind}
+use Rattle.rasta_pdu.specs.Pdu.{is_kind}
 use Rattle.rasta_pdu.specs.Params.{Parameters}
 use Rattle.rasta_end.specs.declared.phase.Phase.{Phase}
 use Rattle.rasta_end.specs.declared.phase.Phase.TheVariants.{Closed, Start, Up, RetrReq, RetrRun}
@@ -17,12 +17,12 @@ use Rattle.rasta_end.specs.declared.owed.Owed.{Owed}
 use Rattle.rasta_end.specs.declared.owed.Owed.TheVariants.{RetransmissionRequest as OweRetransmissionRequest, RetransmissionResponse as OweRetransmissionResponse, Resend as OweResend}
 use Rattle.rasta_end.specs.State.{Made, EndState, kinds, is_closed, is_flowing, is_connected, is_timed, carries_unit}
 use Rattle.rasta_end.specs.Units.{units_conveyed}
-use Rattle.rasta_end.specs.TakeRule.{is_heartbeat_or_data, steps_past_next, is_valid, position_confirmed, accept, hand_up, resends, burst, effect, effect_by, take_row, after_take}
+use Rattle.rasta_end.specs.TakeRule.{is_heartbeat_or_data, steps_past_next, is_valid, position_confirmed, accept, enter, resends, burst, effect, after_take}
 use Rattle.rasta_check.proofs.Model.ListGrowth.{get_push_cases}
-use Rattle.rasta_check.proofs.Model.TakeRows.{Knows, row_known, not_closed}
+use Rattle.rasta_check.proofs.Model.TakeRows.{Knows, take_by, handed_or}
 use Rattle.rasta_check.proofs.Model.Counts.{number, owes, tally, number_take_all, number_take_more, number_take_at, is_answer_owed, is_request_owed, owes-append}
 use Rattle.rasta_check.proofs.Model.NamedPositions.{SnIs, position_is, confirms_is}
-use Rattle.rasta_check.proofs.Model.Invariant.{Held, Opening, Asking, Accepting, is_response_owed, is_opener, has_peer, no_peer, is_named, open_bit, bit_most}
+use Rattle.rasta_check.proofs.Model.Invariant.{Held, Opening, Asking, Accepting, is_response_owed, is_opener, has_peer, is_named, open_bit, bit_most}
 
 -- ---- phases and types
 
@@ -58,11 +58,6 @@ flowing_connected _ h = absurd (cc)
 -- a server in Start has accepted the connection request
 pub starting_peer : {s : Side} {ph : Phase} → s ≡ Server → ph ≡ Start → has_peer s ph ≡ true
 starting_peer {s = s} a b = ap (has_peer s) b ∙ ap (λ side. has_peer side Start) a
-
--- handing up changes nothing of this
-Held_hand_up : (b : Bool) (i : ℕ) (e : EndState) (x : SafetyPdu) (t : ℕ) (peer : List Made) → Held e t peer → Held (if b then hand_up i e x else e) t peer
-Held_hand_up true i e x t peer h = h
-Held_hand_up false i e x t peer h = h
 
 -- ---- bursts
 
@@ -259,11 +254,11 @@ module _ (q : Parameters) (e f : EndState) (t u : ℕ) (m : Made) (p : ℕ) (k :
   by_row FirstHeartbeat w =
       accepts Up e.owed e.asks (starting_peer w.0 w.1) (ap is_named w.2) w.3 refl quiet (unchanged Up (omega (arith, ap open_bit w.1)))
   by_row InSequence w =
-      Held_hand_up (carries_unit m.pdu.kind) e.accepted _ m.pdu (suc p) f.made
-      (accepts Up e.owed e.asks (flowing_peer e.side e.phase w.0) (fresh_named m.pdu.kind w.1) w.2 refl quiet (unchanged Up (omega (arith, flowing_bit e.phase w.0))))
+      handed_or (λ g. Held g (suc p) f.made) (carries_unit m.pdu.kind) e.accepted (enter Up (accept q e m.pdu)) m.pdu
+      (accepts Up e.owed e.asks (flowing_peer e.side e.phase w.0) (fresh_named m.pdu.kind w.1) w.2 refl quiet (unchanged Up (omega (arith, flowing_bit e.phase w.0)))) (λ h. h)
   by_row ResentInSequence w =
-      Held_hand_up (carries_unit m.pdu.kind) e.accepted _ m.pdu (suc p) f.made
-      (accepts e.phase e.owed e.asks (ap (has_peer e.side) w.0) (ap is_named w.1) w.2 (ap is_connected w.0) quiet (unchanged e.phase (omega arith)))
+      handed_or (λ g. Held g (suc p) f.made) (carries_unit m.pdu.kind) e.accepted (accept q e m.pdu) m.pdu
+      (accepts e.phase e.owed e.asks (ap (has_peer e.side) w.0) (ap is_named w.1) w.2 (ap is_connected w.0) quiet (unchanged e.phase (omega arith))) (λ h. h)
   by_row Gap w = gap (ap is_flowing w.0) (fresh_named m.pdu.kind w.1) w.2
   by_row GapInRetransmission w = gap (ap is_flowing w.0) (timed_named m.pdu.kind w.1) w.2
   by_row Resumed w =
@@ -280,7 +275,7 @@ module _ (q : Parameters) (e f : EndState) (t u : ℕ) (m : Made) (p : ℕ) (k :
       let os = burst e at ++ OweRetransmissionRequest ∷ [] in
       let r = mark q e f t u m p k (ap is_named w.1) w.2 in
       let more : (f : Owed → Bool) → ((j : ℕ) → f (OweResend j) ≡ false) → owes f os ≡ tally (f OweRetransmissionResponse) 0 + owes f (OweRetransmissionRequest ∷ [])
-          = λ f none. owes-append f (burst e at) (OweRetransmissionRequest ∷ []) ∙ ap (λ n. n + owes f (OweRetransmissionRequest ∷ [])) (burst_owes f none e at) in
+      = λ f none. owes-append f (burst e at) (OweRetransmissionRequest ∷ []) ∙ ap (λ n. n + owes f (OweRetransmissionRequest ∷ [])) (burst_owes f none e at) in
       waits RetrReq at os (e.asks ++ at ∷ []) (flowing_peer e.side e.phase w.0) (ap is_named w.1) w.2 refl (omega (arith, r.2, r.3)) (more is_response_owed (λ j. refl))
       (burdened RetrReq os w.1 w.2 (more is_answer_owed (λ j. refl)) (omega (arith, more is_request_owed (λ j. refl), flowing_bit e.phase w.0)))
   by_row RequestedAgain w =
@@ -291,26 +286,22 @@ module _ (q : Parameters) (e f : EndState) (t u : ℕ) (m : Made) (p : ℕ) (k :
   by_row Disconnected w =
       record {
         list = k.mine.list;
-        opening = record { down = λ v. absurd (cc); starting = λ s v. absurd (cc); unmade = k.mine.opening.unmade; response_due = inl quiet; connected = λ v. absurd (no_peer e.side v) };
+        opening = record { down = λ v. absurd (cc); starting = λ s v. absurd (cc); unmade = k.mine.opening.unmade; response_due = inl quiet; connected = λ v. absurd (cc) };
         asks = unchanged Closed (bit_most e.phase);
         accepts = skipped q e f t u m p k;
         confirmed = k.mine.confirmed;
       }
 
-module _ (q : Parameters) (e f : EndState) (t u : ℕ) (m : Made) (p : ℕ) (k : Taken e f t u m p) (free : is_closed e.phase ≡ false → e.owed ≡ []) where
-  -- by a row, or by none
-  by_rows : (r : Option TakeRow) → take_row q e m.pdu ≡ r → Held (effect_by q r e m.pdu) (suc p) f.made
-  by_rows None h =
-      let old = k.mine.asks in
-      let asks : Asking e.side e.phase e.made e.asks e.owed (suc p) f.made = record {
-        asked = old.asked;
-        owing = old.owing;
-        answered = old.answered;
-        asks_taken = more_asks q e f t u m p k;
-        open_requests = omega (arith, old.open_requests, more_answers q e f t u m p k);
-      } in
-      record { list = k.mine.list; opening = k.mine.opening; asks = asks; accepts = skipped q e f t u m p k; confirmed = k.mine.confirmed }
-  by_rows (Some row) h = (let away = not_closed q e m.pdu row h in by_row q e f t u m p k (free away) away row (row_known q e m.pdu row h))
-
-  pub own_take : Held (after_take q e m.pdu) (suc p) f.made
-  own_take = by_rows (take_row q e m.pdu) refl
+pub own_take : (q : Parameters) (e f : EndState) (t u : ℕ) (m : Made) (p : ℕ) (k : Taken e f t u m p) → (is_closed e.phase ≡ false → e.owed ≡ []) → Held (after_take q e m.pdu) (suc p) f.made
+own_take q e f t u m p k free =
+    let old = k.mine.asks in
+    let asks : Asking e.side e.phase e.made e.asks e.owed (suc p) f.made = record {
+      asked = old.asked;
+      owing = old.owing;
+      answered = old.answered;
+      asks_taken = more_asks q e f t u m p k;
+      open_requests = omega (arith, old.open_requests, more_answers q e f t u m p k);
+    } in
+    take_by q e m.pdu (λ e'. Held e' (suc p) f.made)
+    (record { list = k.mine.list; opening = k.mine.opening; asks = asks; accepts = skipped q e f t u m p k; confirmed = k.mine.confirmed })
+    (λ row away x. by_row q e f t u m p k (free away) away row x)

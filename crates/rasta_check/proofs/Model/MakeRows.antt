@@ -1,6 +1,7 @@
 -- The rows of the make table, one by one.
 use Rattle.std.proofs.Common.{◌≡◌, ℕ, Bool, true, false, List, [], ◌∷◌, Some, refl, ap, sym, arith}
 use Rattle.std.specs.Prelude.{not, ◌&&◌, ◌==◌}
+use Rattle.std.proofs.lemmas.Bool.{and_parts}
 use Rattle.std.proofs.lemmas.Bool.Decides.{nat_tests}
 use Rattle.std.specs.Bool.{then_some}
 use Rattle.rasta_pcap.specs.declared.fault.Side.{Side}
@@ -64,10 +65,6 @@ met : (row : MakeRow) (b : Bool) (os : List Owed) → is_refused_row (then_some 
 met row false os e f = absurd (cc)
 met row true os e f = (refl, meets (demand_of row) os e f)
 
-both : (a b : Bool) → (a && b) ≡ true → (a ≡ true) × (b ≡ true)
-both true b e = (refl, e)
-both false b e = absurd (cc)
-
 open_row : (s : Side) (ph : Phase) (os : List Owed) → (is_client s && is_closed ph) ≡ true → Making s ph Open ConnectionRequest os Opens
 open_row Client Closed os e = opening
 open_row Client _ os e = absurd (cc)
@@ -96,8 +93,8 @@ making s ph reason (Again j) RetransmittedData os e f = let m = met (Resends j) 
 making s ph reason Ask RetransmissionRequest os e f = let m = met Requests (is_connected ph) os e f in (Requests, ap (λ b. then_some b Requests) m.0, rw (m.1.1) (ask m.0))
 making s ph reason Beat Heartbeat os e f = let m = met Beats (is_connected ph) os e f in (Beats, ap (λ b. then_some b Beats) m.0, rw (m.1) (beat m.0))
 making s ph reason Fresh Data os e f = let m = met Offers (is_connected ph) os e f in (Offers, ap (λ b. then_some b Offers) m.0, rw (m.1) (fresh m.0))
-making s ph reason Bye DisconnectionRequest os e f = let m = met Leaves (is_active ph && not (reason == 4)) os e f in (Leaves, ap (λ b. then_some b Leaves) m.0, bye (both _ _ m.0).0)
-making s ph reason Expired DisconnectionRequest os e f = let m = met TimesOut (is_active ph && (reason == 4)) os e f in (TimesOut, ap (λ b. then_some b TimesOut) m.0, expired (both _ _ m.0).0)
+making s ph reason Bye DisconnectionRequest os e f = let m = met Leaves (is_active ph && not (reason == 4)) os e f in (Leaves, ap (λ b. then_some b Leaves) m.0, bye (and_parts _ _ m.0).0)
+making s ph reason Expired DisconnectionRequest os e f = let m = met TimesOut (is_active ph && (reason == 4)) os e f in (TimesOut, ap (λ b. then_some b TimesOut) m.0, expired (and_parts _ _ m.0).0)
 making s ph reason _ _ os e f = absurd (cc)
 
 -- ---- the row of a make

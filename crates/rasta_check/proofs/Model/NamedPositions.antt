@@ -1,12 +1,12 @@
 -- Which position an SN and a CS name.
-use Rattle.std.proofs.Common.{◌≡◌, ℕ, zero, suc, ◌+◌, ◌%◌, ◌^◌, ◌<◌, ◌≤◌, true, List, [], ◌∷◌, length, Some, slice_get, ap, ◌∙◌, arith}
+use Rattle.std.proofs.Common.{◌≡◌, ℕ, suc, ◌+◌, ◌%◌, ◌^◌, ◌<◌, ◌≤◌, true, List, [], ◌∷◌, length, Some, slice_get, ap, sym, ◌∙◌, arith}
 use Rattle.std.specs.Prelude.{nat_lt}
 use Rattle.std.proofs.lemmas.Bool.Decides.{nat_tests}
 use Rattle.std.proofs.lemmas.Option.{slice_get_within}
 use Rattle.rasta_pdu.specs.Pdu.{SafetyPdu}
 use Rattle.rasta_end.specs.State.{Made, EndState, ahead_by, first_sn, sn_at}
 use Rattle.rasta_end.specs.TakeRule.{is_valid, position_confirmed}
-use Rattle.rasta_check.proofs.Model.SequenceNumbers.{Numbered}
+use Rattle.rasta_check.proofs.Model.SequenceNumbers.{Numbered, sn_from_first}
 use Rattle.rasta_check.proofs.Model.Distances.{apart, confirmed_at}
 
 -- the PDU at this position has this SN
@@ -17,16 +17,7 @@ pub record SnIs (ms : List Made) (i sn : ℕ) : Type 0 where
 
 -- modulo 2^32 an SN is the first one and its position
 sn_mod : (ms : List Made) (i sn : ℕ) → Numbered ms → SnIs ms i sn → sn % 2 ^ 32 ≡ (first_sn ms + i) % 2 ^ 32
-sn_mod [] i sn h s = absurd (let e = s.there in cc)
-sn_mod (m ∷ ms) zero sn h s =
-    let e = s.there in
-    let a : m ≡ s.m = cc in
-    let b : m.pdu.sn ≡ sn = ap (λ (k : Made). k.pdu.sn) a ∙ s.same in
-    omega arith
-sn_mod (m ∷ ms) (suc i) sn h s =
-    let a : s.m.pdu.sn ≡ (m.pdu.sn + suc i) % 2 ^ 32 = h i s.m s.there in
-    let b = s.same in
-    omega arith
+sn_mod ms i sn h s = ap (λ n. n % 2 ^ 32) (sym s.same) ∙ sn_from_first ms i s.m h s.there
 
 -- an SN after that of position i names the position that is so far after it
 pub position_is : (ms : List Made) (i p u v : ℕ) → Numbered ms → length ms ≤ 1000001 → SnIs ms p u → SnIs ms i v → i < p → i + suc (ahead_by u (v + 1)) ≡ p

@@ -28,7 +28,8 @@ use Rattle.rasta_check.proofs.Model.PassedTests.{Passed, un_not}
 use Rattle.rasta_check.proofs.Model.MakeRows.{Making, opening, response, first_beat, answer, again, ask, beat, fresh, bye, expired, MadeBy, made_by, after_row, new_made}
 use Rattle.rasta_check.proofs.Model.Invariant.{Held}
 use Rattle.rasta_check.proofs.Model.InvariantAtMake.{over_after, nothing_made}
-use Rattle.rasta_check.proofs.Model.ConveyedUnits.{values, jump, is_plain, last_push, last_get, get_within, values_push, length-values, units_next, after_is, next_plain, next_unit, next_back, first_kept}
+use Rattle.rasta_check.proofs.Model.ConveyedUnits.{values, jump, is_plain, last_push, last_get, get_within, values_push, length-values, units_next, after_is, next_plain, next_unit, first_kept}
+use Rattle.rasta_check.proofs.Model.TakeRows.{kind_is}
 use Rattle.rasta_check.proofs.Model.OfferedUnits.{Valued, Conveying, Returning, Carrying, Due, DueRest, rest_due, due_le, bare_rest}
 
 not_plain : (k : Kind) → carries_unit k ≡ true → is_plain k ≡ false
@@ -226,7 +227,7 @@ module _ (p : Parameters) (e : EndState) (x : SafetyPdu) (clock : ℕ) (why : Wh
             (λ u c a.
             let a' : slice_get e.asks (number (is_kind RetransmissionResponse) e.made) ≡ Some c = subst (λ (ms : List Made). slice_get e.asks (number (is_kind RetransmissionResponse) ms) ≡ Some c) (whole e.made new e.offered w.contents) a in
             let l = w.returns.asks_within (number (is_kind RetransmissionResponse) e.made) c a' in
-            let back : value ≡ slice_index_or (values e) c 0 = value_is ∙ (next_back (jump e) (last_of (values e)) x.kind u ∙ ap (units_at (values e)) a') in
+            let back : value ≡ slice_index_or (values e) c 0 = value_is ∙ (ap (units_next (jump e) (last_of (values e))) (kind_is RetransmissionResponse x.kind u) ∙ ap (units_at (values e)) a') in
             (l, at_new ∙ (ap Some back ∙ sym (old c _ (get_within (values e) c (omega (arith, long, l)))))));
         asks_within = λ i c g. (let l = w.returns.asks_within i c g in omega (arith, l, length_push e.made new));
       }

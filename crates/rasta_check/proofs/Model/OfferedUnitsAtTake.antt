@@ -1,6 +1,6 @@
 -- A take keeps what holds of the units offered.
-use Rattle.std.proofs.Common.{◌≡◌, ℕ, suc, ◌-◌, ◌<◌, ◌≤◌, Bool, true, false, List, [], ◌∷◌, ◌++◌, length, Option, Some, None, slice_get, refl, ap, sym, ◌∙◌, arith, subst}
-use Rattle.std.specs.Prelude.{slice_index_or, if◌then◌else◌}
+use Rattle.std.proofs.Common.{◌≡◌, ℕ, suc, ◌-◌, ◌<◌, ◌≤◌, true, false, List, [], ◌∷◌, ◌++◌, length, Some, slice_get, refl, ap, sym, ◌∙◌, arith, subst}
+use Rattle.std.specs.Prelude.{slice_index_or}
 use Rattle.std.proofs.lemmas.List.{append-nil}
 use Rattle.rasta_pdu.specs.Params.{Parameters}
 use Rattle.rasta_pdu.specs.Pdu.{SafetyPdu, is_kind}
@@ -12,19 +12,15 @@ use Rattle.rasta_end.specs.declared.owed.Owed.{Owed}
 use Rattle.rasta_end.specs.declared.owed.Owed.TheVariants.{RetransmissionResponse as OweRetransmissionResponse, RetransmissionRequest as OweRetransmissionRequest}
 use Rattle.rasta_end.specs.State.{Made, EndState, kinds, is_closed, is_connected, carries_unit}
 use Rattle.rasta_end.specs.Units.{units_conveyed, units_at, last_of}
-use Rattle.rasta_end.specs.TakeRule.{is_valid, position_confirmed, accept, enter, hand_up, note_ask, resends, take_row, effect, effect_by, after_take}
+use Rattle.rasta_end.specs.TakeRule.{is_valid, position_confirmed, accept, enter, note_ask, resends, effect, after_take}
 use Rattle.rasta_check.proofs.Model.ListGrowth.{all_push, get_push, get_front_within}
 use Rattle.rasta_check.proofs.Model.Counts.{number, number_take_all, number_take_at}
-use Rattle.rasta_check.proofs.Model.TakeRows.{Knows, row_known, not_closed}
+use Rattle.rasta_check.proofs.Model.TakeRows.{Knows, take_by, handed_or}
 use Rattle.rasta_check.proofs.Model.Invariant.{is_named}
 use Rattle.rasta_check.proofs.Model.InvariantAtTake.{Taken, mark, no_answers, over_not, fresh_named}
 use Rattle.rasta_check.proofs.Model.ConveyedUnits.{values, jump, values_asks}
 use Rattle.rasta_check.proofs.Model.OfferedUnits.{Valued, Offers, Conveying, Returning, Due, DueRest, resends_due, bare_rest, conveyed_most}
 use Rattle.rasta_pdu.specs.declared.kind.Kind.TheVariants.{RetransmissionResponse}
-
-Valued_hand : (b : Bool) (i : ℕ) (e : EndState) (x : SafetyPdu) → Valued e → Valued (if b then hand_up i e x else e)
-Valued_hand true i e x w = w
-Valued_hand false i e x w = w
 
 module _ (q : Parameters) (e f : EndState) (t u : ℕ) (m : Made) (p : ℕ) (k : Taken e f t u m p) (w : Valued e) (free : e.owed ≡ []) (away : is_closed e.phase ≡ false) where
   bare_due : last_of (values e) ≡ e.offered
@@ -92,8 +88,8 @@ module _ (q : Parameters) (e f : EndState) (t u : ℕ) (m : Made) (p : ℕ) (k :
   v_row Opened x = unasked bare_due (λ g. absurd (cc))
   v_row Answered x = unasked bare_due (λ _. made_some (ap is_named x.2) x.3)
   v_row FirstHeartbeat x = unchanged (λ _. made_some (ap is_named x.2) x.3)
-  v_row InSequence x = Valued_hand (carries_unit m.pdu.kind) e.accepted (enter Up (accept q e m.pdu)) m.pdu (unchanged (λ _. made_some (fresh_named m.pdu.kind x.1) x.2))
-  v_row ResentInSequence x = Valued_hand (carries_unit m.pdu.kind) e.accepted (accept q e m.pdu) m.pdu (unchanged (λ _. made_some (ap is_named x.1) x.2))
+  v_row InSequence x = handed_or Valued (carries_unit m.pdu.kind) e.accepted (enter Up (accept q e m.pdu)) m.pdu (unchanged (λ _. made_some (fresh_named m.pdu.kind x.1) x.2)) (λ h. h)
+  v_row ResentInSequence x = handed_or Valued (carries_unit m.pdu.kind) e.accepted (accept q e m.pdu) m.pdu (unchanged (λ _. made_some (ap is_named x.1) x.2)) (λ h. h)
   v_row Gap x = unasked bare_due (λ _. w.grown (ap is_connected x.0))
   v_row GapInRetransmission x = unasked bare_due (λ _. w.grown (ap is_connected x.0))
   v_row Resumed x = unchanged (λ _. made_some (ap is_named x.1) x.2)
@@ -102,32 +98,17 @@ module _ (q : Parameters) (e f : EndState) (t u : ℕ) (m : Made) (p : ℕ) (k :
   v_row RequestedAgain x = burdened (position_confirmed e m.pdu) (ap is_named x.1) x.2 refl (burst_due_bare (position_confirmed e m.pdu))
   v_row Disconnected x = unchanged (λ g. absurd (cc))
 
-module _ (q : Parameters) (e f : EndState) (t u : ℕ) (m : Made) (p : ℕ) (k : Taken e f t u m p) (w : Valued e) (free : is_closed e.phase ≡ false → e.owed ≡ []) where
-  v_by : (o : Option TakeRow) → take_row q e m.pdu ≡ o → Valued (effect_by q o e m.pdu)
-  v_by None g = w
-  v_by (Some r) g =
-      let away = not_closed q e m.pdu r g in
-      v_row q e f t u m p k w (free away) away r (row_known q e m.pdu r g)
-
-  pub valued_take : Valued (after_take q e m.pdu)
-  valued_take = v_by (take_row q e m.pdu) refl
+pub valued_take : (q : Parameters) (e f : EndState) (t u : ℕ) (m : Made) (p : ℕ) (k : Taken e f t u m p) (w : Valued e) → (is_closed e.phase ≡ false → e.owed ≡ []) → Valued (after_take q e m.pdu)
+valued_take q e f t u m p k w free = take_by q e m.pdu Valued w (λ r away x. v_row q e f t u m p k w (free away) away r x)
 
 -- a take leaves the units conveyed through each position
 pub values_take : (q : Parameters) (e : EndState) (x : SafetyPdu) → number (is_kind RetransmissionResponse) e.made ≤ length e.asks → values (after_take q e x) ≡ values e
-values_take q e x h = by_option (take_row q e x)
+values_take q e x h = take_by q e x (λ g. values g ≡ values e) refl (λ r away knows. by r)
   where
-    handed_same : (b : Bool) (i : ℕ) (g : EndState) → values (if b then hand_up i g x else g) ≡ values g
-    handed_same true i g = refl
-    handed_same false i g = refl
-
     by : (r : TakeRow) → values (effect q r e x) ≡ values e
-    by InSequence = handed_same (carries_unit x.kind) e.accepted (enter Up (accept q e x))
-    by ResentInSequence = handed_same (carries_unit x.kind) e.accepted (accept q e x)
+    by InSequence = handed_or (λ g. values g ≡ values e) (carries_unit x.kind) e.accepted (enter Up (accept q e x)) x refl (λ s. s)
+    by ResentInSequence = handed_or (λ g. values g ≡ values e) (carries_unit x.kind) e.accepted (accept q e x) x refl (λ s. s)
     by Requested = values_asks e.asks (position_confirmed e x) e.made h
     by RequestedAhead = values_asks e.asks (position_confirmed e x) e.made h
     by RequestedAgain = values_asks e.asks (position_confirmed e x) e.made h
     by _ = refl
-
-    by_option : (o : Option TakeRow) → values (effect_by q o e x) ≡ values e
-    by_option None = refl
-    by_option (Some r) = by r

@@ -1,5 +1,5 @@
 -- What an end was asked, and what its retransmission responses answer.
-use Rattle.std.proofs.Common.{◌≡◌, ℕ, zero, suc, ◌<◌, Bool, true, false, List, [], ◌∷◌, ◌++◌, length, Some, slice_get, take, refl, ap, sym, ◌∙◌, arith, subst, cond}
+use Rattle.std.proofs.Common.{◌≡◌, ℕ, zero, suc, ◌<◌, Bool, true, false, List, [], ◌∷◌, ◌++◌, length, Option, Some, None, slice_get, take, refl, ap, sym, ◌∙◌, arith, subst, cond}
 use Rattle.std.specs.Prelude.{slice_index_or, filter, filter_map, if◌then◌else◌, ◌==◌}
 use Rattle.std.specs.Option.{option_map}
 use Rattle.std.specs.List.{cons_option}
@@ -14,6 +14,7 @@ use Rattle.rasta_end.specs.Units.{responses_in}
 use Rattle.rasta_check.specs.Verdict.Taken.{pdus_made, position_with, asked_positions}
 use Rattle.rasta_check.specs.Model.Laws.{NamesOne, requests_of, AnswersInOrder}
 use Rattle.rasta_check.proofs.Model.Counts.{number, tally, number_take_all, number_take_at}
+use Rattle.rasta_check.proofs.Model.TakeRows.{kind_is}
 use Rattle.rasta_check.proofs.Model.NamedPositions.{SnIs}
 use Rattle.rasta_check.proofs.Model.Invariant.{Held, is_named}
 use Rattle.rasta_check.proofs.Model.ConveyedUnits.{get_within, answers_number}
@@ -40,6 +41,26 @@ named_position (x ∷ ms) (suc c) sn once s =
     by : position_with (pdus_made ms) sn ≡ Some c → (b : Bool) → (x.pdu.sn == sn) ≡ b → (if b then Some 0 else option_map suc (position_with (pdus_made ms) sn)) ≡ Some (suc c)
     by later true e = absurd (let here : x.pdu.sn ≡ sn = grind (arith, nat_tests, e) in let z = once 0 (suc c) x s.m refl s.there (here ∙ sym s.same) in omega (arith, z))
     by later false e = ap (option_map suc) later
+
+-- the position that a CS confirms has this SN
+next_found : (m : Made) (ms : List Made) (sn : ℕ) → ((c : ℕ) → position_with (pdus_made ms) sn ≡ Some c → SnIs ms c sn)
+    → (o : Option ℕ) → position_with (pdus_made ms) sn ≡ o → (c : ℕ) → option_map suc o ≡ Some c → SnIs (m ∷ ms) c sn
+next_found m ms sn rest None is c g = absurd (cc)
+next_found m ms sn rest (Some d) is c g =
+    let s = rest d is in
+    let next : suc d ≡ c = cc in
+    subst (λ i. SnIs (m ∷ ms) i sn) next (record { m = s.m; there = s.there; same = s.same })
+
+pub found_position : (ms : List Made) (sn c : ℕ) → position_with (pdus_made ms) sn ≡ Some c → SnIs ms c sn
+found_position [] sn c g = absurd (cc)
+found_position (m ∷ ms) sn c g = by (m.pdu.sn == sn) refl g (found_position ms sn)
+  where
+    by : (b : Bool) → (m.pdu.sn == sn) ≡ b → (if b then Some 0 else option_map suc (position_with (pdus_made ms) sn)) ≡ Some c
+        → ((d : ℕ) → position_with (pdus_made ms) sn ≡ Some d → SnIs ms d sn) → SnIs (m ∷ ms) c sn
+    by true e h rest =
+        let first : 0 ≡ c = cc in
+        subst (λ i. SnIs (m ∷ ms) i sn) first (record { m = m; there = refl; same = grind (arith, nat_tests) })
+    by false e h rest = next_found m ms sn rest (position_with (pdus_made ms) sn) refl c h
 
 -- ---- the k-th of a kind
 
@@ -116,15 +137,11 @@ begins_with (x ∷ xs) (y ∷ ys) h =
     let r = begins_with xs ys (λ k a e. h (suc k) a e) in
     (r.0, ap (λ a. a ∷ ys) same ∙ ap (λ zs. x ∷ zs) r.1)
 
-request_named : (k : Kind) → is_kind RetransmissionRequest k ≡ true → is_named k ≡ true
-request_named RetransmissionRequest h = refl
-request_named _ h = absurd (cc)
-
 -- ---- asks and answers
 
 module _ (e f : EndState) (t u : ℕ) (h : Held e t f.made) (peer : Held f u e.made) (w : Valued e) (once : NamesOne e f) where
   all_named : AllNamed (pdus_made e.made) f.made
-  all_named p m g r = (let n = peer.accepts.named p m g (request_named m.pdu.kind r) in (n.0, named_position e.made n.0 m.pdu.cs once n.2))
+  all_named p m g r = (let n = peer.accepts.named p m g (ap is_named (kind_is RetransmissionRequest m.pdu.kind r)) in (n.0, named_position e.made n.0 m.pdu.cs once n.2))
 
   -- the k-th ask is that of the k-th request
   pub ask_at : (k c : ℕ) → slice_get e.asks k ≡ Some c

@@ -1,6 +1,7 @@
 -- What the PDUs of an end show: no more units than it has handed up.
-use Rattle.std.proofs.Common.{◌≡◌, ℕ, zero, suc, ◌<◌, ◌≤◌, ◌⊎◌, Bool, true, false, List, [], ◌∷◌, ◌++◌, length, Option, Some, None, slice_get, refl, ap, sym, ◌∙◌, arith, inl, inr, ⊎_elim, subst}
-use Rattle.std.specs.Prelude.{not, ◌&&◌, ◌==◌, if◌then◌else◌}
+use Rattle.std.proofs.Common.{◌≡◌, ℕ, zero, suc, ◌<◌, ◌≤◌, ◌⊎◌, Bool, true, false, List, [], ◌∷◌, ◌++◌, length, Some, slice_get, refl, ap, sym, ◌∙◌, arith, inl, inr, ⊎_elim, subst}
+use Rattle.std.specs.Prelude.{not, ◌&&◌, ◌==◌}
+use Rattle.std.proofs.Math.Logic.{⊎_map}
 use Rattle.std.proofs.lemmas.Bool.Decides.{nat_tests}
 use Rattle.std.proofs.lemmas.List.{length_push}
 use Rattle.std.proofs.lemmas.Option.{slice_get_within}
@@ -13,18 +14,18 @@ use Rattle.rasta_end.specs.declared.phase.Phase.TheVariants.{Up}
 use Rattle.rasta_end.specs.declared.why.Why.{Why}
 use Rattle.rasta_end.specs.declared.make_row.MakeRow.{MakeRow}
 use Rattle.rasta_end.specs.declared.take_row.TakeRow.{TakeRow}
-use Rattle.rasta_end.specs.declared.take_row.TakeRow.TheVariants.{Opened, Answered, FirstHeartbeat, InSequence, ResentInSequence, Gap, GapInRetransmission, Resumed, Requested, Disconnected}
+use Rattle.rasta_end.specs.declared.take_row.TakeRow.TheVariants.{Opened, Answered, FirstHeartbeat, InSequence, ResentInSequence, Gap, GapInRetransmission, Disconnected}
 use Rattle.rasta_end.specs.declared.owed.Owed.{Owed}
 use Rattle.rasta_end.specs.State.{Made, EndState, is_client, is_start, is_closed, is_connected, carries_unit}
-use Rattle.rasta_end.specs.MakeRule.{is_judged, phase_after, offered_after, after_make, after_make_by}
-use Rattle.rasta_end.specs.TakeRule.{accept, enter, hand_up, take_row, effect, effect_by, after_take}
+use Rattle.rasta_end.specs.MakeRule.{is_judged, offered_after, after_make, after_make_by}
+use Rattle.rasta_end.specs.TakeRule.{accept, enter, effect, after_take}
 use Rattle.rasta_check.proofs.Model.ListGrowth.{get_push_cases, all_push}
 use Rattle.rasta_check.proofs.Model.PassedTests.{Passed, cs_is}
-use Rattle.rasta_check.proofs.Model.MakeRows.{Making, opening, fresh, bye, expired, MadeBy, made_by, after_row, new_made}
-use Rattle.rasta_check.proofs.Model.TakeRows.{Knows, row_known, not_closed, take_made, take_leaves}
+use Rattle.rasta_check.proofs.Model.MakeRows.{Making, fresh, MadeBy, made_by, after_row, new_made}
+use Rattle.rasta_check.proofs.Model.TakeRows.{Knows, take_by, handed_or, effect_made, take_leaves}
 use Rattle.rasta_check.proofs.Model.NamedPositions.{SnIs}
 use Rattle.rasta_check.proofs.Model.Invariant.{Held, is_named}
-use Rattle.rasta_check.proofs.Model.InvariantAtMake.{Changed, changed, over, opened, goes_on, named_connected, nothing_made, SnIs_front}
+use Rattle.rasta_check.proofs.Model.InvariantAtMake.{Changed, changed, over, opened, goes_on, nothing_made, SnIs_front}
 use Rattle.rasta_check.proofs.Model.InvariantAtTake.{fresh_named}
 use Rattle.rasta_check.proofs.Model.ConveyedUnits.{values, values_push, length-values}
 use Rattle.rasta_check.proofs.Model.OfferedUnits.{Valued}
@@ -56,14 +57,6 @@ judged_after e k i a c =
     let z : (e.accepted == 0) ≡ false = grind (arith, nat_tests) in
     judges (is_kind ConnectionRequest k) (is_kind DisconnectionRequest k) (e.accepted == 0) (is_client e.side && is_start e.phase) c z
 
--- an end makes a connection request, or is over then, or has accepted something
-first_word : (s : Side) (ph : Phase) (why : Why) (k : Kind) (os : List Owed) (row : MakeRow) → Making s ph why k os row
-    → is_closed (phase_after row ph) ≡ false → (is_named k ≡ true → ⊥) → is_kind ConnectionRequest k ≡ true
-first_word s ph why k os row opening c named = refl
-first_word s ph why k os row (bye r) c named = absurd (cc)
-first_word s ph why k os row (expired r) c named = absurd (cc)
-first_word s ph why k os row _ c named = absurd (named refl)
-
 module _ (p : Parameters) (e f : EndState) (x : SafetyPdu) (clock : ℕ) (why : Why) (t : ℕ) (pass : Passed p e x clock why) (h : Held e t f.made) (fnum : OnceIn f.made) (vf : Valued f) (hd : Handed e f) (w : Shown e f) (b : MadeBy e x why) where
   abbrev new : Made
   new = new_made b.row e x
@@ -88,13 +81,13 @@ module _ (p : Parameters) (e f : EndState) (x : SafetyPdu) (clock : ℕ) (why : 
       let l = h.accepts.last i a in
       inr (i, omega arith, record { m = l.m; there = l.there; same = l.same ∙ sym (cs_last i a k) })
 
-  new_first : e.accepted ≡ 0 → is_closed (phase_after b.row e.phase) ≡ false → is_kind ConnectionRequest x.kind ≡ true
-  new_first a c =
-      first_word e.side e.phase why x.kind e.owed b.row b.how c
-      (λ n. (let z = h.opening.connected (named_connected e.side e.phase why x.kind e.owed b.row b.how n) in omega (arith, a, z.1)))
+  new_first : {ph : Phase} {os : List Owed} → Changed e.side e.phase x.kind e.owed ph os → e.accepted ≡ 0 → is_closed ph ≡ false → is_kind ConnectionRequest x.kind ≡ true
+  new_first (over d) z cl = absurd (cc)
+  new_first (opened a s c) z cl = ap (is_kind ConnectionRequest) c
+  new_first (goes_on a c d g j) z cl = absurd (let y = h.opening.connected a in omega (arith, z, y.1))
 
   old_first : {ph : Phase} {os : List Owed} → Changed e.side e.phase x.kind e.owed ph os → e.accepted ≡ 0 → is_closed ph ≡ false → (i : ℕ) (m : Made) → slice_get e.made i ≡ Some m → is_kind ConnectionRequest m.pdu.kind ≡ true
-  old_first (over a c d) z cl i m u = absurd (cc)
+  old_first (over d) z cl i m u = absurd (cc)
   old_first (opened a s c) z cl i m u =
       absurd (let y = nothing_made e.side e.phase e.made a pass.open_yet in let u' : slice_get [] i ≡ Some m = subst (λ (ms : List Made). slice_get ms i ≡ Some m) y u in cc)
   old_first (goes_on a c d g j) z cl i m u = w.first_words z cl i m u
@@ -104,7 +97,7 @@ module _ (p : Parameters) (e f : EndState) (x : SafetyPdu) (clock : ℕ) (why : 
       record {
         shown = all_push e.made new w.shown (λ k j v s u. new_shown e.accepted refl k j v s u);
         judged = all_push e.made new w.judged (new_judged e.accepted refl);
-        first_words = λ a c. all_push e.made new (old_first (changed e.side e.phase why x.kind e.owed b.row b.how) a c) (new_first a c);
+        first_words = λ a c. all_push e.made new (old_first (changed e.side e.phase why x.kind e.owed b.row b.how) a c) (new_first (changed e.side e.phase why x.kind e.owed b.row b.how) a c);
         ready_run = w.ready_run;
         ready_offer = w.ready_offer;
       }
@@ -130,13 +123,10 @@ module _ (e f : EndState) (x : SafetyPdu) (clock : ℕ) (why : Why) (b : MadeBy 
 
   f_offer : 0 < after.offered → 0 < e.accepted
   f_offer l =
-      ⊎_elim
-      (λ (n : 0 < f.offered). w.ready_offer n)
-      (λ (r : is_connected f.phase ≡ true). w.ready_run r)
-      (offers_by f.side f.phase why x.kind f.owed b.row f.offered b.how l)
+      ⊎_elim w.ready_offer w.ready_run (offers_by f.side f.phase why x.kind f.owed b.row f.offered b.how l)
 
   f_runs : {ph : Phase} {os : List Owed} → Changed f.side f.phase x.kind f.owed ph os → is_connected ph ≡ true → 0 < e.accepted
-  f_runs (over a c d) r = absurd (cc)
+  f_runs (over d) r = absurd (cc)
   f_runs (opened a s c) r = absurd (cc)
   f_runs (goes_on a c d g j) r = w.ready_run r
 
@@ -171,10 +161,7 @@ module _ (e f : EndState) (x : SafetyPdu) (clock : ℕ) (why : Why) (b : MadeBy 
             (get_push_cases (values f) _ j v u'))
             (λ (now : (j ≡ length f.made) × (added ≡ s.m)). new_position e.accepted refl i j v m g k s now.0 u)
             (get_push_cases f.made added j s.m s.there);
-        judged = λ i m g k. ⊎_elim
-            (λ (z : e.accepted ≡ 0). inl z)
-            (λ (z : (o : ℕ) × (o < e.accepted) × SnIs f.made o m.pdu.cs). inr (z.0, z.1, SnIs_front f.made added z.0 m.pdu.cs z.2))
-            (w.judged i m g k);
+        judged = λ i m g k. ⊎_map (λ z. z) (λ (z : (o : ℕ) × (o < e.accepted) × SnIs f.made o m.pdu.cs). (z.0, z.1, SnIs_front f.made added z.0 m.pdu.cs z.2)) (w.judged i m g k);
         first_words = w.first_words;
         ready_run = f_runs (changed f.side f.phase why x.kind f.owed b.row b.how);
         ready_offer = f_offer;
@@ -189,54 +176,38 @@ shown_peer_make p e f x clock why pass vf' fnum' w =
 
 -- The end itself takes.
 
-more_if : (b : Bool) (i : ℕ) (g : EndState) (x : SafetyPdu) → length g.handed ≤ length (if b then hand_up i g x else g).handed
-more_if true i g x = omega (arith, length_push g.handed i)
-more_if false i g x = omega arith
-
-accepted_if : (b : Bool) (i : ℕ) (g : EndState) (x : SafetyPdu) → (if b then hand_up i g x else g).accepted ≡ g.accepted
-accepted_if true i g x = refl
-accepted_if false i g x = refl
-
 -- a take hands up more, if anything
-handed_more : (q : Parameters) (e : EndState) (x : SafetyPdu) (o : Option TakeRow) → length e.handed ≤ length (effect_by q o e x).handed
-handed_more q e x None = omega arith
-handed_more q e x (Some r) = by r
-  where
-    by : (r : TakeRow) → length e.handed ≤ length (effect q r e x).handed
-    by InSequence = more_if (carries_unit x.kind) e.accepted (enter Up (accept q e x)) x
-    by ResentInSequence = more_if (carries_unit x.kind) e.accepted (accept q e x) x
-    by _ = omega arith
+handed_more : (q : Parameters) (e : EndState) (x : SafetyPdu) (r : TakeRow) → length e.handed ≤ length (effect q r e x).handed
+handed_more q e x InSequence = handed_or (λ g. length e.handed ≤ length g.handed) (carries_unit x.kind) e.accepted (enter Up (accept q e x)) x (omega arith) (λ l. omega (arith, length_push e.handed e.accepted))
+handed_more q e x ResentInSequence = handed_or (λ g. length e.handed ≤ length g.handed) (carries_unit x.kind) e.accepted (accept q e x) x (omega arith) (λ l. omega (arith, length_push e.handed e.accepted))
+handed_more q e x _ = omega arith
 
 -- a take accepts more, if anything
 accepted_more : (q : Parameters) (e : EndState) (x : SafetyPdu) (t : ℕ) (peer : List Made) → Held e t peer → (r : TakeRow) → Knows q r e x → e.accepted ≤ (effect q r e x).accepted
 accepted_more q e x t peer h Opened w = (let z = (h.opening.down w.0).2 in omega (arith, z))
 accepted_more q e x t peer h Answered w = (let z = h.opening.starting w.0 w.1 in omega (arith, z))
-accepted_more q e x t peer h FirstHeartbeat w = omega arith
-accepted_more q e x t peer h InSequence w = (let z = accepted_if (carries_unit x.kind) e.accepted (enter Up (accept q e x)) x in omega (arith, z))
-accepted_more q e x t peer h ResentInSequence w = (let z = accepted_if (carries_unit x.kind) e.accepted (accept q e x) x in omega (arith, z))
-accepted_more q e x t peer h Resumed w = omega arith
-accepted_more q e x t peer h Requested w = omega arith
+accepted_more q e x t peer h InSequence w = handed_or (λ g. e.accepted ≤ g.accepted) (carries_unit x.kind) e.accepted (enter Up (accept q e x)) x (omega arith) (λ l. l)
+accepted_more q e x t peer h ResentInSequence w = handed_or (λ g. e.accepted ≤ g.accepted) (carries_unit x.kind) e.accepted (accept q e x) x (omega arith) (λ l. l)
 accepted_more q e x t peer h _ w = omega arith
 
 module _ (q : Parameters) (e f : EndState) (x : SafetyPdu) (t : ℕ) (h : Held e t f.made) (w : Shown e f) where
-  shown_by : (o : Option TakeRow) → take_row q e x ≡ o → (effect_by q o e x).made ≡ e.made → Shown (effect_by q o e x) f
-  shown_by None is made = w
-  shown_by (Some r) is made =
-      let more = accepted_more q e x t f.made h r (row_known q e x r is) in
-      let back : (i : ℕ) (m : Made) → slice_get (effect q r e x).made i ≡ Some m → slice_get e.made i ≡ Some m = λ i m g. subst (λ (ms : List Made). slice_get ms i ≡ Some m) made g in
+  shown_by : (r : TakeRow) → is_closed e.phase ≡ false → Knows q r e x → Shown (effect q r e x) f
+  shown_by r away knows =
+      let more = accepted_more q e x t f.made h r knows in
+      let back : (i : ℕ) (m : Made) → slice_get (effect q r e x).made i ≡ Some m → slice_get e.made i ≡ Some m = λ i m g. subst (λ (ms : List Made). slice_get ms i ≡ Some m) (effect_made q r e x) g in
       record {
-        shown = λ i m g k j v s u. (let z = w.shown i m (back i m g) k j v s u in omega (arith, z, handed_more q e x (Some r)));
+        shown = λ i m g k j v s u. (let z = w.shown i m (back i m g) k j v s u in omega (arith, z, handed_more q e x r));
         judged = λ i m g k. ⊎_elim
-            (λ (z : e.accepted ≡ 0). absurd (let y = w.first_words z (not_closed q e x r is) i m (back i m g) in cc))
+            (λ (z : e.accepted ≡ 0). absurd (let y = w.first_words z away i m (back i m g) in cc))
             (λ (z : (o : ℕ) × (o < e.accepted) × SnIs f.made o m.pdu.cs). inr (z.0, omega (arith, z.1, more), z.2))
             (w.judged i m (back i m g) k);
-        first_words = λ a d i m g. w.first_words (omega (arith, more, a)) (not_closed q e x r is) i m (back i m g);
+        first_words = λ a d i m g. w.first_words (omega (arith, more, a)) away i m (back i m g);
         ready_run = λ c. (let z = w.ready_run c in omega (arith, z, more));
         ready_offer = λ l. (let z = w.ready_offer l in omega (arith, z, more));
       }
 
   pub shown_take : Shown (after_take q e x) f
-  shown_take = shown_by (take_row q e x) refl (take_made q e x)
+  shown_take = take_by q e x (λ e'. Shown e' f) w shown_by
 
 -- The peer takes a PDU of the end.
 
@@ -254,24 +225,13 @@ module _ (q : Parameters) (e f : EndState) (t : ℕ) (m : Made) (p : ℕ) (h : H
   run_by Disconnected x r = absurd (cc)
   run_by _ x r = by_name (ap is_named x.1)
 
-  run_by_option : (o : Option TakeRow) → take_row q f m.pdu ≡ o → is_connected (effect_by q o f m.pdu).phase ≡ true → 0 < e.accepted
-  run_by_option None is r = w.ready_run r
-  run_by_option (Some row) is r = run_by row (row_known q f m.pdu row is) r
-
   pub shown_peer_take : Shown e (after_take q f m.pdu)
   shown_peer_take =
       let alone = take_leaves q f m.pdu in
       record {
-        shown = λ i n g k j v s u.
-            w.shown i n g k j v
-            (record { m = s.m; there = subst (λ (ms : List Made). slice_get ms j ≡ Some s.m) alone.made s.there; same = s.same })
-            (subst (λ vs. slice_get vs j ≡ Some v) same_values u);
-        judged = λ i n g k. ⊎_elim
-            (λ (z : e.accepted ≡ 0). inl z)
-            (λ (z : (o : ℕ) × (o < e.accepted) × SnIs f.made o n.pdu.cs).
-            inr (z.0, z.1, record { m = z.2.m; there = subst (λ (ms : List Made). slice_get ms z.0 ≡ Some z.2.m) (sym alone.made) z.2.there; same = z.2.same }))
-            (w.judged i n g k);
+        shown = λ i n g k j v s u. w.shown i n g k j v (subst (λ (ms : List Made). SnIs ms j n.pdu.cs) alone.made s) (subst (λ vs. slice_get vs j ≡ Some v) same_values u);
+        judged = λ i n g k. ⊎_map (λ z. z) (λ (z : (o : ℕ) × (o < e.accepted) × SnIs f.made o n.pdu.cs). (z.0, z.1, subst (λ (ms : List Made). SnIs ms z.0 n.pdu.cs) (sym alone.made) z.2)) (w.judged i n g k);
         first_words = w.first_words;
-        ready_run = run_by_option (take_row q f m.pdu) refl;
+        ready_run = take_by q f m.pdu (λ f'. is_connected f'.phase ≡ true → 0 < e.accepted) w.ready_run (λ r away x. run_by r x);
         ready_offer = λ l. w.ready_offer (let z = alone.offered in omega (arith, z, l));
       }

@@ -1,6 +1,5 @@
 -- What a make adds and leaves alone, and what holds at the start.
-use Rattle.std.proofs.Common.{◌≡◌, ℕ, ◌≤◌, false, [], ◌∷◌, ◌++◌, length, Option, Some, None, refl, ap, sym, ◌∙◌, arith}
-use Rattle.std.specs.Prelude.{nat_lt}
+use Rattle.std.proofs.Common.{◌≡◌, ℕ, ◌≤◌, [], ◌∷◌, ◌++◌, length, Option, Some, None, refl, ap, sym, ◌∙◌, arith}
 use Rattle.std.proofs.lemmas.Bool.Decides.{nat_tests}
 use Rattle.rasta_pcap.specs.declared.fault.Side.{Side}
 use Rattle.rasta_pcap.specs.declared.fault.Side.TheVariants.{Client, Server}
@@ -13,9 +12,6 @@ use Rattle.rasta_end.specs.MakeRule.{Makes, after_make_by}
 use Rattle.rasta_end.specs.Starts.{start_by}
 use Rattle.rasta_check.proofs.Model.PassedTests.{passed}
 use Rattle.rasta_check.proofs.Model.MakeRows.{made_by, after_row, new_made}
-
-pub clock_le : (u v : ℕ) → nat_lt u v ≡ false → v ≤ u
-clock_le u v h = grind (arith, nat_tests)
 
 -- nothing more was handed up
 pub record SameHanded (e e' : EndState) : Type 0 where
@@ -43,7 +39,7 @@ made_more p e x clock why e' mk =
       pdu = refl;
       made = ap (λ (z : EndState). z.made) after;
       now = ap (λ (z : EndState). z.clock) after;
-      rises = clock_le clock e.clock pass.rises;
+      rises = grind (arith, nat_tests, pass.rises);
       side = ap (λ (z : EndState). z.side) after;
       base = ap (λ (z : EndState). z.base) after;
       same = record { positions = ap (λ (z : EndState). z.handed) after; pdus = ap (λ (z : EndState). z.handed_pdus) after };

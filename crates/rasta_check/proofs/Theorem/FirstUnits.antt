@@ -1,23 +1,23 @@
 -- The units that an end handed up are the first that its peer offered.
-use Rattle.std.proofs.Common.{◌≡◌, ℕ, suc, List, [], ◌∷◌, ◌++◌, map, filter, Some, slice_get, refl, ap, sym, ◌∙◌}
+use Rattle.std.proofs.Common.{◌≡◌, ℕ, List, ◌++◌, map, filter, Some, slice_get, ap, sym, ◌∙◌}
+use Rattle.std.specs.Option.{option_map}
+use Rattle.std.proofs.lemmas.Option.{slice_get-map}
 use Rattle.rasta_pdu.specs.Pdu.{SafetyPdu, messages_in, is_kind}
 use Rattle.rasta_end.specs.State.{EndState, Made}
 use Rattle.rasta_check.specs.Model.Theorem.{HandsUpUnits, units_handed}
 use Rattle.rasta_check.specs.Verdict.Headline.{units_offered}
+use Rattle.rasta_check.proofs.Model.ListGrowth.{get_mapped}
+use Rattle.rasta_check.proofs.Model.Requests.{begins_with}
 use Rattle.rasta_pdu.specs.declared.kind.Kind.TheVariants.{Data}
 
 -- these PDUs have the messages of the first of those
 begin_with : (xs : List SafetyPdu) (ms : List Made)
     → ((i : ℕ) (x : SafetyPdu) → slice_get xs i ≡ Some x → (m : Made) × (slice_get ms i ≡ Some m) × (messages_in x.body ≡ messages_in m.pdu.body))
     → (later : List (List (List ℕ))) × (map (λ (m : Made). messages_in m.pdu.body) ms ≡ map (λ (x : SafetyPdu). messages_in x.body) xs ++ later)
-begin_with [] ms h = (map (λ (m : Made). messages_in m.pdu.body) ms, refl)
-begin_with (x ∷ xs) [] h = absurd (let z = (h 0 x refl).1 in cc)
-begin_with (x ∷ xs) (m ∷ ms) h =
-    let w = h 0 x refl in
-    let here : m ≡ w.0 = (let g = w.1 in cc) in
-    let same : messages_in m.pdu.body ≡ messages_in x.body = ap (λ (n : Made). messages_in n.pdu.body) here ∙ sym w.2 in
-    let r = begin_with xs ms (λ i y g. h (suc i) y g) in
-    (r.0, (λ i. same i ∷ r.1 i))
+begin_with xs ms h =
+    begins_with (map (λ (x : SafetyPdu). messages_in x.body) xs) (map (λ (m : Made). messages_in m.pdu.body) ms)
+    (λ i a g. (let x = get_mapped (λ (x : SafetyPdu). messages_in x.body) xs i a g in let m = h i x.0 x.1 in
+    slice_get-map (λ (m : Made). messages_in m.pdu.body) ms i ∙ (ap (option_map (λ (m : Made). messages_in m.pdu.body)) m.1 ∙ ap Some (sym m.2 ∙ x.2))))
 
 pub offered_first : (e f : EndState) → HandsUpUnits e f → (later : List (List (List ℕ))) × (units_offered f ≡ units_handed e ++ later)
 offered_first e f h = begin_with e.handed_pdus (filter (λ (n : Made). is_kind Data n.pdu.kind) f.made) h.messages

@@ -1,12 +1,13 @@
 -- Messages of units, joined to one list.
 use Rattle.std.proofs.Common.{◌≡◌, ◌⊎◌, ℕ, zero, suc, ◌+◌, ◌≤◌, List, [], ◌∷◌, ◌++◌, length, map, Some, slice_get, refl, ap, sym, ◌∙◌, arith, inl, inr, ⊎_elim, append_assoc, subst}
 use Rattle.std.specs.List.{flat_map}
+use Rattle.std.proofs.lemmas.List.{map-append, length-map}
 use Rattle.rasta_pdu.specs.Pdu.{SafetyPdu, messages_in}
 use Rattle.rasta_check.specs.Verdict.Taken.{TakenUnit, TakenMessage, messages_of_unit, messages_taken}
 use Rattle.rasta_check.specs.Model.Theorem.{units_listed}
 use Rattle.rasta_check.specs.Verdict.Listed.{ListedMessage, numbered_from}
 use Rattle.rasta_check.specs.Verdict.Headline.{messages_in_list}
-use Rattle.rasta_check.proofs.Model.ListGrowth.{get_front}
+use Rattle.rasta_check.proofs.Model.ListGrowth.{get_front, get_past}
 
 -- the messages of each unit, unit by unit
 abbrev pub joined : List (List (List ℕ)) → List (List ℕ)
@@ -21,28 +22,20 @@ pub up_joined : (xs : List SafetyPdu) → flat_map (λ (x : SafetyPdu). messages
 up_joined [] = refl
 up_joined (x ∷ xs) = ap (λ ms. messages_in x.body ++ ms) (up_joined xs)
 
-said : List TakenMessage → List (List ℕ)
+abbrev said : List TakenMessage → List (List ℕ)
 said ms = map (λ (m : TakenMessage). m.message) ms
 
-said-append : (xs ys : List TakenMessage) → said (xs ++ ys) ≡ said xs ++ said ys
-unfolding said
-said-append [] ys = refl
-said-append (x ∷ xs) ys = ap (λ ms. x.message ∷ ms) (said-append xs ys)
-
 said_unit : (data_place proof : ℕ) (ms : List (List ℕ)) → said (messages_of_unit (record { messages = ms; data_place = data_place; proof_place = proof })) ≡ ms
-unfolding said
 said_unit data_place proof [] = refl
 said_unit data_place proof (m ∷ ms) = ap (λ xs. m ∷ xs) (said_unit data_place proof ms)
 
 said_units : (us : List TakenUnit) → said (messages_taken us) ≡ joined (units_listed us)
-unfolding said
 said_units [] = refl
 said_units (u ∷ us) =
-    said-append (messages_of_unit u) (messages_taken us)
+    map-append (λ (m : TakenMessage). m.message) (messages_of_unit u) (messages_taken us)
     ∙ (λ i. said_unit u.data_place u.proof_place u.messages i ++ said_units us i)
 
 said_numbered : (n : ℕ) (ms : List TakenMessage) → messages_in_list (numbered_from n ms) ≡ said ms
-unfolding said
 said_numbered n [] = refl
 said_numbered n (m ∷ ms) = ap (λ xs. m.message ∷ xs) (said_numbered (suc n) ms)
 
@@ -59,10 +52,6 @@ parted (x ∷ xs) ys (suc m) t g =
     ⊎_elim (λ (h : slice_get xs m ≡ Some t). inl h)
     (λ (h : (n : ℕ) × (m ≡ length xs + n) × (slice_get ys n ≡ Some t)). (let e = h.1 in inr (h.0, omega (arith, e), h.2)))
     (parted xs ys m t g)
-
-get_past : {A : Type 0} (xs ys : List A) (n : ℕ) → slice_get (xs ++ ys) (length xs + n) ≡ slice_get ys n
-get_past [] ys n = ap (slice_get ys) (omega arith)
-get_past (x ∷ xs) ys n = (let e : length (x ∷ xs) + n ≡ suc (length xs + n) = omega arith in ap (slice_get (x ∷ (xs ++ ys))) e ∙ get_past xs ys n)
 
 of_unit : (data_place proof : ℕ) (ms : List (List ℕ)) (m : ℕ) (t : TakenMessage) → slice_get (messages_of_unit (record { messages = ms; data_place = data_place; proof_place = proof })) m ≡ Some t
     → (slice_get ms m ≡ Some t.message) × (t.proof_place ≡ proof)
@@ -85,13 +74,6 @@ pub record OfUnit (us : List TakenUnit) (m : ℕ) (t : TakenMessage) : Type 0 wh
 first_up : (u : TakenUnit) (us : List TakenUnit) (i : ℕ) (handed : List (List (List ℕ))) → HaveThrough (u ∷ us) i handed → (rest : List (List (List ℕ))) × (handed ≡ u.messages ∷ rest)
 first_up u us i [] h = absurd (let z = h 0 u (omega arith) refl in cc)
 first_up u us i (x ∷ rest) h = (rest, (let z = h 0 u (omega arith) refl in let e : x ≡ u.messages = cc in ap (λ y. y ∷ rest) e))
-
-length-unit : (u : TakenUnit) → length (messages_of_unit u) ≡ length u.messages
-length-unit u = by u.messages
-  where
-    by : (ms : List (List ℕ)) → length (messages_of_unit (record { messages = ms; data_place = u.data_place; proof_place = u.proof_place })) ≡ length ms
-    by [] = refl
-    by (m ∷ ms) = ap suc (by ms)
 
 pub of_message : (us : List TakenUnit) (m : ℕ) (t : TakenMessage) → slice_get (messages_taken us) m ≡ Some t → OfUnit us m t
 of_message [] m t g = absurd (cc)
@@ -117,7 +99,7 @@ of_message (u ∷ us) m t g = ⊎_elim here (λ (h : (n : ℕ) × (m ≡ length 
           place = r.place;
           up = λ handed k.
               (let f = first_up u us (suc r.i) handed k in
-              let at : m ≡ length u.messages + n = (let l = length-unit u in omega (arith, e, l)) in
+              let at : m ≡ length u.messages + n = (let l = length-map {B = TakenMessage} u.messages (λ (x : List ℕ). record { message = x; data_place = u.data_place; proof_place = u.proof_place }) in omega (arith, e, l)) in
               let later : HaveThrough us r.i f.0 = λ j x l x_there. (let y = subst (λ (xs : List (List (List ℕ))). slice_get xs (suc j) ≡ Some x.messages) f.1 (k (suc j) x (omega arith) x_there) in y) in
               (λ i. slice_get (joined (f.1 i)) (at i)) ∙ (get_past u.messages (joined f.0) n ∙ r.up f.0 later));
         }

@@ -12,7 +12,7 @@ use Rattle.rasta_end.specs.Starts.{start_by}
 use Rattle.rasta_check.specs.Verdict.Taken.{position_with, asked_positions, units_along, units_shown, pdus_made}
 use Rattle.rasta_check.proofs.Model.NamedPositions.{SnIs}
 use Rattle.rasta_check.proofs.Model.ConveyedUnits.{values, length-values, get_within}
-use Rattle.rasta_check.proofs.Theorem.ShownByLists.{found_position}
+use Rattle.rasta_check.proofs.Model.Requests.{found_position}
 use Rattle.rasta_pdu.specs.declared.kind.Kind.TheVariants.{ConnectionRequest}
 
 -- a quiet PDU asks for nothing
