@@ -18,7 +18,7 @@ use Rattle.std.specs.Int.{bytes_low_first}
 use Rattle.std.proofs.lemmas.Nat.{from_le_bytes-to_le_bytes_4}
 use Rattle.rasta_pdu.proofs.Spellings.{decode_of-Ok}
 use Rattle.rasta_end.specs.State.{wrapped}
-use Rattle.rasta_check.specs.Capture.Crossing.{FirstCopy, Spells, copy_with, is_next_number, number_fault, read_fault, packet_fault}
+use Rattle.rasta_check.specs.Capture.Crossing.{FirstCopy, Sent, Spells, copy_with, is_next_number, number_fault, read_fault, packet_fault}
 use Rattle.rasta_check.specs.Model.Theorem.{most_packets}
 use Rattle.rasta_check.specs.Capture.Crossing.{IsRecorded}
 use Rattle.rasta_check.specs.Model.World.{most_sent}
@@ -69,6 +69,19 @@ pub goes_on : (p : Parameters) (packets : List Packet) (own : List FirstCopy) (a
 goes_on p packets own a sent w n =
     subst (λ (r : Result RedundancyPdu Fault). IsSent p (packets ++ a ∷ []) a.side (after_read own (length packets) r)) (sym w.1)
     (by_copy p packets a.side own a sent refl w.0 w.2 (copy_with own w.0.number) refl (sym (ap (read_fault p a.side own a.payload) w.1) ∙ n))
+
+after_few : (own : List FirstCopy) (place : ℕ) (r : Result RedundancyPdu Fault) → length (after_read own place r) ≤ length own + 1
+after_few own place (Err fault) = omega arith
+after_few own place (Ok d) = by (copy_with own d.number)
+  where
+    by : (o : Option FirstCopy) → length (after_pdu own place d o) ≤ length own + 1
+    by None = (let l = length_push own (record { place = place; pdu = d }) in omega arith)
+    by (Some c) = omega arith
+
+pub goes_on_sent : (p : Parameters) (packets : List Packet) (own : List FirstCopy) (a : Packet) → IsSent p packets a.side own → length own ≤ 1000000 → IsRead p a
+    → packet_fault p own a ≡ None → Sent p (packets ++ a ∷ []) a.side (after_read own (length packets) (decode_of p a.side a.payload))
+goes_on_sent p packets own a sent few w n =
+    let l = after_few own (length packets) (decode_of p a.side a.payload) in of_record p (packets ++ a ∷ []) a.side _ (goes_on p packets own a sent w n) (omega arith)
 
 -- ---- packets of known numbers
 

@@ -23,7 +23,7 @@ use Rattle.rasta_check.proofs.Capture.Crossings.{list_of}
 use Rattle.rasta_check.proofs.Model.ListGrowth.{get_front, get_push, get_push_cases}
 use Rattle.rasta_check.proofs.Capture.Positions.{place_pushed}
 use Rattle.rasta_check.proofs.Script.Simulation.{slice_get_some}
-use Rattle.rasta_check.proofs.Capture.DefiniteFaults.{nothing_is}
+use Rattle.rasta_check.proofs.Capture.FaultlessCaptures.{nothing_is}
 use Rattle.rasta_check.proofs.Internals.StoreLists.{count_of, kept_at, ordered_of, place_found, place_missing}
 
 -- ---- the packets that are there
