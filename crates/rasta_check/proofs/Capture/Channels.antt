@@ -59,10 +59,7 @@ tests_failed : (t u v w x a b c e f g : Bool) (i j k l m : Fault) (rest : Result
     → (if t then Ok None else if u then Ok None else if v then Ok None else if w then Ok None else if x then Ok None
     else if a then Err i else if b then Err j else if c then Err k else if e then Ok None else if f then Err l else if g then Err m else rest) ≡ Ok (Some d)
     → rest ≡ Ok (Some d)
-tests_failed t u v w x a b c e f g i j k l m rest d h =
-    let past_none = after_none x _ d (after_none w _ d (after_none v _ d (after_none u _ d (after_none t _ d h)))) in
-    let past_fault = after_fault c k _ d (after_fault b j _ d (after_fault a i _ d past_none)) in
-    after_fault g m rest d (after_fault f l _ d (after_none e _ d past_fault))
+tests_failed t u v w x a b c e f g i j k l m rest d h = grind arith
 
 found_among : (channels : List Channel) (x : Fields) (d : Found) → found_by channels x ≡ Ok (Some d) → Among 1 (length channels) d.channel
 unfolding found_by direction_of

@@ -34,12 +34,7 @@ IsSided f = (IsSome f.end → (redundancy_length ≤ f.number) × (f.number ≤ 
 
 low_next : (ended full short long cut : Bool) (place : ℕ) (r : Numbered)
     → IfErr (cond ended (Ok None) (cond full (Err (fault_at too_many place)) (cond short (Err (fault_at cut_record place)) (cond long (Err (fault_at record_too_long place)) (cond cut (Err (fault_at cut_record place)) (Ok (Some r))))))) IsLow
-low_next true full short long cut place r = tt
-low_next false true short long cut place r = (omega arith, omega arith)
-low_next false false true long cut place r = (omega arith, omega arith)
-low_next false false false true cut place r = (omega arith, omega arith)
-low_next false false false false true place r = (omega arith, omega arith)
-low_next false false false false false place r = tt
+low_next ended full short long cut place r = grind arith
 
 next_low : (c : Cursor) (f : Fault) → next c ≡ Err f → IsLow f
 next_low c f e =
@@ -61,30 +56,9 @@ low_opening false (Some order) file =
 opening_low : (file : List ℕ) (f : Fault) → opening file ≡ Err f → IsLow f
 opening_low file f e = subst (λ (q : Result Cursor Fault). IfErr q IsLow) e (low_opening (nat_lt (length file) 24) (order_of file) file)
 
-low_found : (t u v w x a b c e f g : Bool) (o : Option Found)
-    → IfErr (if t then Ok None else if u then Ok None else if v then Ok None else if w then Ok None else if x then Ok None
-    else if a then Err (fault_at fragment 0) else if b then Err (fault_at bad_udp 0) else if c then Err (fault_at cut_packet 0) else if e then Ok None
-    else if f then Err (fault_at bad_udp 0) else if g then Err (fault_at cut_packet 0) else Ok o) IsLow
-low_found true u v w x a b c e f g o = tt
-low_found false true v w x a b c e f g o = tt
-low_found false false true w x a b c e f g o = tt
-low_found false false false true x a b c e f g o = tt
-low_found false false false false true a b c e f g o = tt
-low_found false false false false false true b c e f g o = (omega arith, omega arith)
-low_found false false false false false false true c e f g o = (omega arith, omega arith)
-low_found false false false false false false false true e f g o = (omega arith, omega arith)
-low_found false false false false false false false false true f g o = tt
-low_found false false false false false false false false false true g o = (omega arith, omega arith)
-low_found false false false false false false false false false false true o = (omega arith, omega arith)
-low_found false false false false false false false false false false false o = tt
-
 found_low : (channels : List Channel) (x : Fields) → IfErr (found_by channels x) IsLow
 unfolding found_by
-found_low channels x =
-    low_found (nat_lt x.captured 34) (not (x.ether_type == 0x0800)) (not (x.version == 4) || nat_lt x.header_length 20) (not (x.protocol == 17)) (not (has_known_addresses channels x))
-    (x.more_fragments == 1 || nat_lt 0 x.fragment_offset) (nat_lt x.total_length (x.header_length + 8)) (nat_lt x.captured (14 + x.header_length + 8)) (is_none (direction_of channels x))
-    (nat_lt x.udp_length 8 || nat_lt (x.total_length - x.header_length) x.udp_length) (nat_lt x.captured (14 + x.header_length + x.udp_length))
-    (option_map (found_in x) (direction_of channels x))
+found_low channels x = grind arith
 
 mapped_low : {A B : Type 0} (h : A → B) (r : Result (Option A) Fault) → IfErr r IsLow → IfErr (map_found h r) IsLow
 mapped_low h (Ok None) l = tt
@@ -110,10 +84,7 @@ IsOfPacket number = (redundancy_length ≤ number) × (number ≤ number_gap)
 
 between_tests : (a b c : Bool) (rest : Result RedundancyPdu Fault) → IfErr rest (λ f. IsOfPacket f.number)
     → IfErr (if a then (if b then (if c then rest else refused safety_length) else refused too_short) else refused redundancy_length) (λ f. IsOfPacket f.number)
-between_tests true true true rest h = h
-between_tests true true false rest h = (omega arith, omega arith)
-between_tests true false c rest h = (omega arith, omega arith)
-between_tests false b c rest h = (omega arith, omega arith)
+between_tests a b c rest h = grind arith
 
 body_between : (p : Parameters) (side : Side) (bytes : List ℕ) (kind : Kind) (o : Option SafetyBody) → IfErr (decode_body p side bytes kind o) (λ f. IsOfPacket f.number)
 body_between p side bytes kind None = (omega arith, omega arith)
