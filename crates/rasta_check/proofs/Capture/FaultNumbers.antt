@@ -1,18 +1,17 @@
 -- The numbers of a capture's faults: those of a packet are 20 to 28 and name its side, all others are lower and name none.
-use Rattle.std.proofs.Common.{◌≡◌, ℕ, ◌+◌, ◌-◌, ◌<◌, ◌≤◌, List, ◌∷◌, ◌++◌, length, drop, Option, Some, None, Result, Ok, Err, Bool, true, false, refl, ap, sym, arith, subst, nat_lt, nat_le, nat_eq, cond, if◌then◌else◌, is_none, ◌⊎◌, inl, inr}
-use Rattle.std.specs.Prelude.{IsSome, IfErr, IfSome, ◌↔◌, not, ◌&&◌, ◌||◌, ◌==◌}
-use Rattle.std.specs.Option.{option_map}
+use Rattle.std.proofs.Common.{◌≡◌, ℕ, ◌+◌, ◌<◌, ◌≤◌, List, ◌∷◌, ◌++◌, length, drop, Option, Some, None, Result, Ok, Err, Bool, true, false, refl, ap, sym, arith, subst, nat_lt, nat_le, nat_eq, cond, if◌then◌else◌, ◌⊎◌, inl, inr}
+use Rattle.std.specs.Prelude.{IsSome, IfErr, IfSome, ◌↔◌, ◌&&◌, ◌==◌}
 use native.Mathlib.Decide.{dec_lt}
 use Prim.{yes, no}
 use Rattle.rasta_pcap.specs.declared.fault.Fault.{Fault}
 use Rattle.rasta_pcap.specs.declared.fault.Side.{Side}
 use Rattle.rasta_pcap.specs.declared.pcap.Endianness.{Endianness}
-use Rattle.rasta_pcap.specs.Fault.{not_pcap, fault_at, cut_header, cut_record, cut_packet, wrong_version, wrong_link_type, fragment, bad_udp, too_many, record_too_long, redundancy_length, too_short, safety_length, wrong_code, wrong_ids, copy_differs, number_gap}
+use Rattle.rasta_pcap.specs.Fault.{not_pcap, fault_at, cut_header, cut_record, wrong_version, wrong_link_type, too_many, record_too_long, redundancy_length, too_short, safety_length, wrong_code, wrong_ids, copy_differs, number_gap}
 use Rattle.rasta_pcap.specs.Capture.{Cursor, Numbered, max_records, max_captured, next_length, next_bytes, next, opening, opening_in, order_of, number_in, reading_of}
 use Rattle.rasta_pcap.proofs.Captures.{IsRefused-place, IsRefused-reading_of, opening-by_reading_of}
 use Rattle.rasta_pcap.proofs.Headers.{opening-fault_place}
 use Rattle.rasta_udp.specs.declared.channel.Channel.{Channel}
-use Rattle.rasta_udp.specs.Frame.{Fields, Found, Packet, direction_of, fields_of, found_by, found_in, has_known_addresses, is_tagged, untagged_of, without_tag, datagram_of, map_found, moved_on, packet_at, packet_in}
+use Rattle.rasta_udp.specs.Frame.{Fields, Packet, fields_of, found_by, is_tagged, untagged_of, without_tag, datagram_of, map_found, moved_on, packet_at, packet_in}
 use Rattle.rasta_pdu.specs.Params.{Parameters}
 use Rattle.rasta_pdu.specs.declared.kind.Kind.{Kind}
 use Rattle.rasta_pdu.specs.Pdu.{RedundancyPdu, SafetyBody, body_in, check_at, code_at, decode_body, decode_kind, decode_of, has_code, has_fields, has_ids, has_length, has_safety_length, kind_of, layout_of, number_at, refused}

@@ -1,8 +1,7 @@
 -- A store with one packet more.
-use Rattle.std.proofs.Common.{◌≡◌, ℕ, suc, ◌+◌, ◌<◌, ◌≤◌, List, [], ◌∷◌, ◌++◌, append_assoc, length, map, Bool, true, false, not, nat_eq, nat_lt, Option, Some, None, slice_get, refl, ap, sym, ◌∙◌, subst, arith, ⊎_elim, if◌then◌else◌}
-use Rattle.std.specs.Prelude.{Result, Ok, is_some, is_none, ◌&&◌, ◌||◌}
-use Rattle.rasta_check.specs.Model.World.{most_sent}
-use Rattle.rasta_check.specs.Model.Theorem.{OfConnection, most_packets}
+use Rattle.std.proofs.Common.{◌≡◌, ℕ, suc, ◌+◌, ◌<◌, ◌≤◌, List, [], ◌∷◌, ◌++◌, append_assoc, length, map, Bool, true, false, not, nat_eq, Option, Some, None, slice_get, refl, ap, sym, ◌∙◌, subst, arith, ⊎_elim, if◌then◌else◌}
+use Rattle.std.specs.Prelude.{Result, Ok, is_some}
+use Rattle.rasta_check.specs.Model.Theorem.{OfConnection}
 use Rattle.rasta_pcap.specs.declared.fault.Fault.{Fault}
 use Rattle.std.proofs.lemmas.Bool.Decides.{nat_tests}
 use Rattle.std.proofs.lemmas.List.{append-nil, length-map, length_push, map-append}
@@ -17,7 +16,7 @@ use Rattle.rasta_check.specs.declared.crossing_store.StoredPacket.{StoredPacket}
 use Rattle.rasta_check.specs.Capture.Crossing.{FirstCopy, Spells}
 use Rattle.rasta_check.specs.Internals.Datagrams.{Kept, KeptDatagrams, keeping, kept_by, nothing_kept}
 use Rattle.rasta_check.specs.Capture.Lists.{IsOrdered, position_of_place}
-use Rattle.rasta_check.specs.Capture.Reading.{Crossing, IsCrossing, crossing_with, is_within, sent_by, sent_after, with_packet}
+use Rattle.rasta_check.specs.Capture.Reading.{Crossing, IsCrossing, crossing_with, sent_by, sent_after, with_packet}
 use Rattle.rasta_check.specs.Internals.Stored.{Decode, HavePositions, IsJudged, IsStore, bytes_of, copy_in, crossing_by, first_copies_from, packet_by, pdu_in}
 use Rattle.rasta_check.proofs.Capture.Crossings.{list_of}
 use Rattle.rasta_check.proofs.Model.ListGrowth.{get_front, get_push, get_push_cases}
@@ -313,32 +312,12 @@ module _ (p : Parameters) (d : KeptDatagrams) (packets : List StoredPacket) (st 
       let view = new_view p d packets st a.channel position place a.payload j.0 n a.side last j.1 j.3 in
       (subst (λ (x : KeptDatagrams). IsStore p x all) (sym m) (subst (IsStore p _) (sym e) store), (λ i. crossing_by p (m i) (e i)) ∙ view)
 
--- ---- the limits
-
--- a list of its side that is as long, or longer by one
-is_room : (k : Crossing) (a : Packet) (side : Side) (own : List FirstCopy) (is_new : Bool) → IsCrossing k → length own ≡ length (sent_by k side) + (if is_new then 1 else 0)
-    → is_within (crossing_with k a side own) ≡ (nat_lt (length k.packets) most_packets && (not is_new || nat_lt (length (sent_by k side)) most_sent))
-is_room k a Client own true h e = (let l = length_push k.packets a in let x = h.few_client in let y = h.few_server in grind (arith, nat_tests))
-is_room k a Client own false h e = (let l = length_push k.packets a in let x = h.few_client in let y = h.few_server in grind (arith, nat_tests))
-is_room k a Server own true h e = (let l = length_push k.packets a in let x = h.few_client in let y = h.few_server in grind (arith, nat_tests))
-is_room k a Server own false h e = (let l = length_push k.packets a in let x = h.few_client in let y = h.few_server in grind (arith, nat_tests))
-
-judged_length : (k : Crossing) (a : Packet) (known : Option ℕ) → IsJudged k a known → length (sent_after k a) ≡ length (sent_by k a.side) + (if is_none known then 1 else 0)
-judged_length k a None j = ap length j.3 ∙ length_push (sent_by k a.side) (record { place = length k.packets; pdu = j.0 })
-judged_length k a (Some position) j = ap length j.3 ∙ (let n : length (sent_by k a.side) ≡ length (sent_by k a.side) + 0 = omega arith in n)
-
-module _ (k : Crossing) (a : Packet) (known : Option ℕ) (h : IsCrossing k) (j : IsJudged k a known) (is_new room : Bool) (new_is : is_some known ≡ not is_new)
-    (room_is : room ≡ (nat_lt (length k.packets) most_packets && (not is_new || nat_lt (length (sent_by k a.side)) most_sent))) where
-  same_new : (o : Option ℕ) (b : Bool) → is_some o ≡ not b → is_none o ≡ b
-  same_new None true e = refl
-  same_new None false e = absurd (cc)
-  same_new (Some x) true e = absurd (cc)
-  same_new (Some x) false e = refl
-
-  pub within_is : is_within (with_packet k a) ≡ room
-  within_is =
-      is_room k a a.side (sent_after k a) is_new h (judged_length k a known j ∙ ap (λ (b : Bool). length (sent_by k a.side) + (if b then 1 else 0)) (same_new known is_new new_is))
-      ∙ sym room_is
+-- a list of its side goes on where its number is new
+pub judged_length : (k : Crossing) (a : Packet) (known : Option ℕ) (is_new : Bool) → IsJudged k a known → is_some known ≡ not is_new → length (sent_after k a) ≡ length (sent_by k a.side) + (if is_new then 1 else 0)
+judged_length k a None true j e = ap length j.3 ∙ length_push (sent_by k a.side) (record { place = length k.packets; pdu = j.0 })
+judged_length k a (Some position) false j e = ap length j.3 ∙ (let n : length (sent_by k a.side) ≡ length (sent_by k a.side) + 0 = omega arith in n)
+judged_length k a None false j e = absurd (cc)
+judged_length k a (Some position) true j e = absurd (cc)
 
 -- ---- at the start
 

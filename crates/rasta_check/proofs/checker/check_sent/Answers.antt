@@ -1,8 +1,6 @@
-use Rattle.std.proofs.Common.{◌≡◌, ◌∙◌, ℕ, List, Ok, Err, refl, subst, sym, inl, inr, ⊎_elim}
-use Rattle.rasta_check.specs.Capture.Crossing.{FirstCopy}
-use Rattle.rasta_check.specs.Verdict.Report.{IsScriptVerdict, explained, report_of}
-use Rattle.rasta_check.proofs.Verdict.CallAnswers.{both, if_ok, if_err, still_ok}
-use Rattle.rasta_check.proofs.Verdict.Headline.{fits_by, lent}
+use Rattle.std.proofs.Common.{refl, sym}
+use Rattle.rasta_check.proofs.Verdict.CallAnswers.{if_ok}
+use Rattle.rasta_check.proofs.Verdict.Headline.{lent}
 use Rattle.rasta_check.proofs.checker.check_sent.Goals as goal
 
 pub check_lists-requires : goal.check_lists-requires

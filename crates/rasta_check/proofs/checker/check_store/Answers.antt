@@ -1,7 +1,4 @@
-use Rattle.std.proofs.Common.{◌≡◌, ℕ, List, length, Ok, Err, IfOk, OnOk, subst, inl, inr, ⊎_elim}
-use Rattle.rasta_check.specs.declared.report.Report.{Report}
-use Rattle.rasta_check.specs.Capture.Crossing.{FirstCopy}
-use Rattle.rasta_check.specs.Verdict.Report.{BothFit, IsScriptVerdict, explained, report_of}
+use Rattle.std.proofs.Common.{inl, inr, ⊎_elim}
 use Rattle.rasta_check.proofs.Verdict.CallAnswers.{both}
 use Rattle.rasta_check.proofs.Verdict.FileVerdicts.{verdict_is}
 use Rattle.rasta_check.proofs.checker.check_store.Goals as goal
