@@ -1,24 +1,16 @@
 -- Refusals of a capture are told from out of memory and from a failed read by their numbers.
-use Rattle.std.proofs.Common.{◌≡◌, ◌⊎◌, inl, inr, ℕ, ◌+◌, ◌-◌, ◌≤◌, List, [], ◌∷◌, ◌++◌, length, Option, Some, None, Result, Ok, Err, IfErr, Bool, true, false, refl, ap, sym, subst, arith, nat_lt, nat_le, is_none, if◌then◌else◌, ⊎_elim}
-use Rattle.std.specs.Prelude.{IsSome, not, ◌||◌, ◌==◌, option_map}
+use Rattle.std.proofs.Common.{◌≡◌, ◌⊎◌, inl, inr, ℕ, ◌≤◌, List, [], ◌++◌, Option, Some, None, Err, true, false, refl, ap, sym, subst, arith, nat_le}
+use Rattle.std.specs.Prelude.{IsSome}
 use Rattle.std.proofs.lemmas.Bool.{leb-true, leb-false}
-use native.Mathlib.Decide.{dec_lt}
-use Prim.{yes, no}
 use Rattle.rasta_pcap.specs.declared.fault.Fault.{Fault}
 use Rattle.rasta_pcap.specs.declared.fault.Side.{Side}
-use Rattle.rasta_pcap.specs.Capture.{Numbered, reading_of}
-use Rattle.rasta_pcap.specs.Fault.{bad_udp, cut_packet, fault_at, fragment, no_memory, not_pcap, read_failed, too_many}
+use Rattle.rasta_pcap.specs.Fault.{no_memory, not_pcap, read_failed}
 use Rattle.rasta_pcap.specs.Stream.{ReadsSo}
-use Rattle.rasta_pcap.proofs.Captures.{IsRefused-reading_of, opening-by_reading_of}
-use Rattle.rasta_udp.specs.declared.channel.Channel.{Channel}
-use Rattle.rasta_udp.specs.Frame.{Fields, Found, Packet, datagram_of, direction_of, fields_of, found_by, found_in, has_known_addresses, is_tagged, map_found, moved_on, packet_at, packet_in, untagged_of, without_tag}
 use Rattle.rasta_pdu.specs.Params.{Parameters}
-use Rattle.rasta_check.specs.Capture.Crossing.{packet_fault}
-use Rattle.rasta_check.specs.Capture.Reading.{Crossing, after_frame, after_judged, after_packet, after_record, after_records, crossing_of, is_within, nothing_crossed, sent_by, with_packet}
+use Rattle.rasta_check.specs.Capture.Reading.{crossing_of}
 use Rattle.rasta_check.specs.Internals.Storing.{IsFailure, IsRefusedSo}
 use Rattle.rasta_check.proofs.Capture.FaultNumbers.{file_sided}
 use Rattle.rasta_show.specs.Runs.{IsRunFault}
-use Rattle.rasta_show.proofs.Refusals.{next-number, opening-number}
 
 abbrev IsOfCapture : Fault → Type 0
 IsOfCapture f = not_pcap ≤ f.number

@@ -108,7 +108,7 @@ pub record Adds (k last : Crossing) (rs : List Numbered) (frames : List (List �
   pub sound : AreSound k.params frames
   pub crossing : IsCrossing k → AllBytes rs → IsCrossing last
 
-grown_is : (k : Crossing) (a : Packet) (side : Side) (own : List FirstCopy) → ((crossing_with k a side own).packets ≡ k.packets ++ a ∷ []) × ((crossing_with k a side own).params ≡ k.params)
+pub grown_is : (k : Crossing) (a : Packet) (side : Side) (own : List FirstCopy) → ((crossing_with k a side own).packets ≡ k.packets ++ a ∷ []) × ((crossing_with k a side own).params ≡ k.params)
 grown_is k a Client own = (refl, refl)
 grown_is k a Server own = (refl, refl)
 

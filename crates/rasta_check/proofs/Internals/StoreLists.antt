@@ -49,25 +49,20 @@ first_in p side kept h position x g =
           ∙ ap (λ (r : Result RedundancyPdu Fault). Some (record { place = x.place; pdu = pdu_in r })) w.1;
     }
 
-none_in : (p : Parameters) (side : Side) (kept : List Kept) (position : ℕ) → slice_get kept position ≡ None → slice_get (map (copy_in p side) kept) position ≡ None
-none_in p side kept position g = slice_get-map (copy_in p side) kept position ∙ ap (option_map (copy_in p side)) g
-
 module _ (p : Parameters) (d : KeptDatagrams) (packets : List StoredPacket) where
   abbrev whole : Crossing
   whole = crossing_by p d packets
 
+  pub sent_is : (side : Side) → sent_by whole side ≡ map (copy_in p side) (kept_by d side)
+  sent_is Client = refl
+  sent_is Server = refl
+
   pub kept_at : IsStore p d packets → (side : Side) (position : ℕ) (x : Kept) → slice_get (kept_by d side) position ≡ Some x
       → IsFirst p side x (sent_by whole side) position
-  kept_at st Client position x g = first_in p Client d.client st.client position x g
-  kept_at st Server position x g = first_in p Server d.server st.server position x g
-
-  pub none_at : (side : Side) (position : ℕ) → slice_get (kept_by d side) position ≡ None → slice_get (sent_by whole side) position ≡ None
-  none_at Client position g = none_in p Client d.client position g
-  none_at Server position g = none_in p Server d.server position g
+  kept_at st side position x g = subst (λ (own : List FirstCopy). IsFirst p side x own position) (sym (sent_is side)) (first_in p side (kept_by d side) (st.decode side) position x g)
 
   pub count_of : (side : Side) → length (sent_by whole side) ≡ length (kept_by d side)
-  count_of Client = length-map d.client (copy_in p Client)
-  count_of Server = length-map d.server (copy_in p Server)
+  count_of side = ap length (sent_is side) ∙ length-map (kept_by d side) (copy_in p side)
 
   -- the packet at a place
   pub packet_there : (place : ℕ) (x : StoredPacket) → slice_get packets place ≡ Some x → slice_get whole.packets place ≡ Some (packet_by d x)
