@@ -1,5 +1,5 @@
 -- A crossing goes on with a packet that has no fault.
-use Rattle.std.proofs.Common.{◌≡◌, ℕ, suc, ◌+◌, ◌<◌, ◌≤◌, ◌^◌, ◌++◌, Bool, true, false, List, [], ◌∷◌, Option, Some, None, Result, Ok, Err, length, slice_get, refl, ap, sym, ◌∙◌, arith, subst, not, nat_lt, is_some, if◌then◌else◌, IfSome}
+use Rattle.std.proofs.Common.{◌≡◌, ℕ, suc, ◌+◌, ◌<◌, ◌≤◌, ◌^◌, ◌++◌, Bool, true, List, [], ◌∷◌, Option, Some, None, Result, Ok, Err, length, slice_get, refl, ap, sym, ◌∙◌, arith, subst, not, nat_lt, is_some, if◌then◌else◌, IfSome}
 use Rattle.std.specs.Prelude.{◌&&◌, ◌||◌}
 use Rattle.std.specs.Option.{option_map}
 use Rattle.std.proofs.lemmas.List.{length_push}
@@ -152,10 +152,7 @@ is_next_pdu k a pdu h reads e =
 -- a list of its side that is as long, or longer by one
 room_at : (k : Crossing) (a : Packet) (side : Side) (own : List FirstCopy) (is_new : Bool) → IsCrossing k → length own ≡ length (sent_by k side) + (if is_new then 1 else 0)
     → is_within (crossing_with k a side own) ≡ (nat_lt (length k.packets) most_packets && (not is_new || nat_lt (length (sent_by k side)) most_sent))
-room_at k a Client own true h e = (let l = length_push k.packets a in let x = h.few_client in let y = h.few_server in grind (arith, nat_tests))
-room_at k a Client own false h e = (let l = length_push k.packets a in let x = h.few_client in let y = h.few_server in grind (arith, nat_tests))
-room_at k a Server own true h e = (let l = length_push k.packets a in let x = h.few_client in let y = h.few_server in grind (arith, nat_tests))
-room_at k a Server own false h e = (let l = length_push k.packets a in let x = h.few_client in let y = h.few_server in grind (arith, nat_tests))
+room_at k a side own is_new h e = (let l = length_push k.packets a in let x = h.few_client in let y = h.few_server in grind (arith, nat_tests))
 
 pub new_length : (sent : List FirstCopy) (place : ℕ) (new : Option Pdu) → length (with_new sent place new) ≡ length sent + (if is_some new then 1 else 0)
 new_length sent place None = omega arith
@@ -164,7 +161,7 @@ new_length sent place (Some pdu) = length_push sent (copy_of (place, pdu))
 -- ---- one packet more
 
 within_packets : (k : Crossing) → is_within k ≡ true → (length k.packets ≤ most_packets) × (length k.client ≤ most_sent) × (length k.server ≤ most_sent)
-within_packets k e = (grind (arith, nat_tests), grind (arith, nat_tests), grind (arith, nat_tests))
+within_packets k e = grind (arith, nat_tests)
 
 client_not_server : Client ≡ Server → ⊥
 client_not_server e = cc

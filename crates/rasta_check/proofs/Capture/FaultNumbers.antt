@@ -1,22 +1,20 @@
 -- The numbers of a capture's faults: those of a packet are 20 to 28 and name its side, all others are lower and name none.
-use Rattle.std.proofs.Common.{◌≡◌, ℕ, ◌+◌, ◌<◌, ◌≤◌, List, ◌∷◌, ◌++◌, length, drop, Option, Some, None, Result, Ok, Err, Bool, true, false, refl, ap, sym, arith, subst, nat_lt, nat_le, nat_eq, cond, if◌then◌else◌, ◌⊎◌, inl, inr}
-use Rattle.std.specs.Prelude.{IsSome, IfErr, IfSome, ◌↔◌, ◌&&◌, ◌==◌}
+use Rattle.std.proofs.Common.{◌≡◌, ℕ, ◌<◌, ◌≤◌, List, ◌∷◌, ◌++◌, length, Option, Some, None, Result, Ok, Err, refl, ap, sym, arith, subst, ◌⊎◌, inl, inr}
+use Rattle.std.specs.Prelude.{IsSome, IfErr, IfSome, ◌↔◌}
 use native.Mathlib.Decide.{dec_lt}
 use Prim.{yes, no}
 use Rattle.rasta_pcap.specs.declared.fault.Fault.{Fault}
 use Rattle.rasta_pcap.specs.declared.fault.Side.{Side}
-use Rattle.rasta_pcap.specs.declared.pcap.Endianness.{Endianness}
-use Rattle.rasta_pcap.specs.Fault.{not_pcap, fault_at, cut_header, cut_record, wrong_version, wrong_link_type, too_many, record_too_long, redundancy_length, too_short, safety_length, wrong_code, wrong_ids, copy_differs, number_gap}
-use Rattle.rasta_pcap.specs.Capture.{Cursor, Numbered, max_records, max_captured, next_length, next_bytes, next, opening, opening_in, order_of, number_in, reading_of}
+use Rattle.rasta_pcap.specs.Fault.{not_pcap, redundancy_length, number_gap}
+use Rattle.rasta_pcap.specs.Capture.{Cursor, Numbered, next, opening, reading_of}
 use Rattle.rasta_pcap.proofs.Captures.{IsRefused-place, IsRefused-reading_of, opening-by_reading_of}
 use Rattle.rasta_pcap.proofs.Headers.{opening-fault_place}
 use Rattle.rasta_udp.specs.declared.channel.Channel.{Channel}
-use Rattle.rasta_udp.specs.Frame.{Fields, Packet, fields_of, found_by, is_tagged, untagged_of, without_tag, datagram_of, map_found, moved_on, packet_at, packet_in}
+use Rattle.rasta_udp.specs.Frame.{Fields, Packet, found_by, datagram_of, map_found, packet_at, packet_in}
 use Rattle.rasta_pdu.specs.Params.{Parameters}
 use Rattle.rasta_pdu.specs.declared.kind.Kind.{Kind}
-use Rattle.rasta_pdu.specs.Pdu.{RedundancyPdu, SafetyBody, body_in, check_at, code_at, decode_body, decode_kind, decode_of, has_code, has_fields, has_ids, has_length, has_safety_length, kind_of, layout_of, number_at, refused}
-use Rattle.rasta_pdu.specs.Pdu as Pdu
-use Rattle.rasta_check.specs.Capture.Crossing.{FirstCopy, copy_with, is_next_number, number_fault, packet_fault, read_fault}
+use Rattle.rasta_pdu.specs.Pdu.{RedundancyPdu, SafetyBody, decode_body, decode_kind, decode_of}
+use Rattle.rasta_check.specs.Capture.Crossing.{FirstCopy, number_fault, packet_fault, read_fault}
 use Rattle.rasta_check.specs.Capture.Reading.{Crossing, crossing_of, nothing_crossed, sent_by}
 use Rattle.rasta_check.proofs.Capture.Readings.{Step, bad_frame, bad_packet, no_room, breaks}
 use Rattle.rasta_check.proofs.Capture.RefusedCaptures.{Answers}
@@ -31,46 +29,22 @@ IsLow f = (not_pcap ≤ f.number) × (f.number < redundancy_length)
 abbrev pub IsSided : Fault → Type 0
 IsSided f = (IsSome f.end → (redundancy_length ≤ f.number) × (f.number ≤ number_gap)) × (f.end ≡ None → IsLow f)
 
-low_next : (ended full short long cut : Bool) (place : ℕ) (r : Numbered)
-    → IfErr (cond ended (Ok None) (cond full (Err (fault_at too_many place)) (cond short (Err (fault_at cut_record place)) (cond long (Err (fault_at record_too_long place)) (cond cut (Err (fault_at cut_record place)) (Ok (Some r))))))) IsLow
-low_next ended full short long cut place r = grind arith
-
 next_low : (c : Cursor) (f : Fault) → next c ≡ Err f → IsLow f
-next_low c f e =
-    let size = length c.rest in
-    let captured = next_length c in
-    subst (λ (q : Result (Option Numbered) Fault). IfErr q IsLow) e (low_next (nat_eq size 0) (nat_le max_records c.count) (nat_lt size 16) (nat_lt max_captured captured) (nat_lt size (16 + captured)) (c.count + 1) (c.count + 1, next_bytes c))
-
-low_judged : (version link : Bool) (c : Cursor) → IfErr (cond version (cond link (Ok c) (Err (fault_at wrong_link_type 0))) (Err (fault_at wrong_version 0))) IsLow
-low_judged true true c = tt
-low_judged true false c = (omega arith, omega arith)
-low_judged false link c = (omega arith, omega arith)
-
-low_opening : (short : Bool) (o : Option Endianness) (file : List ℕ) → IfErr (cond short (Err (fault_at cut_header 0)) (opening_in o file)) IsLow
-low_opening true o file = (omega arith, omega arith)
-low_opening false None file = (omega arith, omega arith)
-low_opening false (Some order) file =
-    low_judged (number_in order 2 (drop 4 file) == 2 && number_in order 2 (drop 6 file) == 4) (number_in order 4 (drop 20 file) == 1) (record { order = order; rest = drop 24 file; count = 0 })
+next_low c f e = grind arith
 
 opening_low : (file : List ℕ) (f : Fault) → opening file ≡ Err f → IsLow f
-opening_low file f e = subst (λ (q : Result Cursor Fault). IfErr q IsLow) e (low_opening (nat_lt (length file) 24) (order_of file) file)
+opening_low file f e = grind arith
 
 found_low : (channels : List Channel) (x : Fields) → IfErr (found_by channels x) IsLow
 unfolding found_by
 found_low channels x = grind arith
 
 mapped_low : {A B : Type 0} (h : A → B) (r : Result (Option A) Fault) → IfErr r IsLow → IfErr (map_found h r) IsLow
-mapped_low h (Ok None) l = tt
-mapped_low h (Ok (Some x)) l = tt
-mapped_low h (Err f) l = l
+mapped_low h r l = grind arith
 
 datagram_low : (channels : List Channel) (frame : List ℕ) → IfErr (datagram_of channels frame) IsLow
 unfolding datagram_of
-datagram_low channels frame = by (is_tagged frame)
-  where
-    by : (b : Bool) → IfErr (if b then map_found (moved_on 4) (untagged_of channels (without_tag frame)) else untagged_of channels frame) IsLow
-    by true = mapped_low (moved_on 4) (untagged_of channels (without_tag frame)) (found_low channels (fields_of (without_tag frame)))
-    by false = found_low channels (fields_of frame)
+datagram_low channels frame = grind (arith, mapped_low, found_low)
 
 packet_low : (channels : List Channel) (frame : List ℕ) → IfErr (packet_in channels frame) IsLow
 unfolding packet_in
@@ -81,39 +55,21 @@ packet_low channels frame = mapped_low (packet_at frame) (datagram_of channels f
 abbrev IsOfPacket : ℕ → Type 0
 IsOfPacket number = (redundancy_length ≤ number) × (number ≤ number_gap)
 
-between_tests : (a b c : Bool) (rest : Result RedundancyPdu Fault) → IfErr rest (λ f. IsOfPacket f.number)
-    → IfErr (if a then (if b then (if c then rest else refused safety_length) else refused too_short) else refused redundancy_length) (λ f. IsOfPacket f.number)
-between_tests a b c rest h = grind arith
-
 body_between : (p : Parameters) (side : Side) (bytes : List ℕ) (kind : Kind) (o : Option SafetyBody) → IfErr (decode_body p side bytes kind o) (λ f. IsOfPacket f.number)
-body_between p side bytes kind None = (omega arith, omega arith)
-body_between p side bytes kind (Some body) = by (has_code p bytes) (has_ids p side bytes)
-  where
-    by : (a b : Bool) → IfErr (if a then (if b then Ok (Pdu.fields_of kind body (check_at p bytes) bytes) else refused wrong_ids) else refused wrong_code) (λ f. IsOfPacket f.number)
-    by true true = tt
-    by true false = (omega arith, omega arith)
-    by false b = (omega arith, omega arith)
+body_between p side bytes kind o = grind arith
 
 kind_between : (p : Parameters) (side : Side) (bytes : List ℕ) (o : Option Kind) → IfErr (decode_kind p side bytes o) (λ f. IsOfPacket f.number)
-kind_between p side bytes None = (omega arith, omega arith)
-kind_between p side bytes (Some kind) = body_between p side bytes kind (body_in (layout_of kind) _)
+kind_between p side bytes o = grind (arith, body_between)
 
 decode_between : (p : Parameters) (side : Side) (bytes : List ℕ) → IfErr (decode_of p side bytes) (λ f. IsOfPacket f.number)
 unfolding decode_of
-decode_between p side bytes =
-    between_tests (has_length bytes) (has_fields p bytes) (has_safety_length p bytes) (decode_kind p side bytes (kind_of (number_at 2 10 bytes))) (kind_between p side bytes (kind_of (number_at 2 10 bytes)))
-
-test_between : (b : Bool) (fault : ℕ) → IsOfPacket fault → IfSome (if b then None else Some fault) IsOfPacket
-test_between true fault h = tt
-test_between false fault h = h
+decode_between p side bytes = grind (arith, kind_between)
 
 number_between : (p : Parameters) (side : Side) (sent : List FirstCopy) (bytes : List ℕ) (pdu : RedundancyPdu) (o : Option FirstCopy) → IfSome (number_fault p side sent bytes pdu o) IsOfPacket
-number_between p side sent bytes pdu None = test_between (is_next_number sent pdu.number) number_gap (omega arith, omega arith)
-number_between p side sent bytes pdu (Some copy) = test_between _ copy_differs (omega arith, omega arith)
+number_between p side sent bytes pdu o = grind arith
 
 read_between : (p : Parameters) (side : Side) (sent : List FirstCopy) (bytes : List ℕ) (r : Result RedundancyPdu Fault) → IfErr r (λ f. IsOfPacket f.number) → IfSome (read_fault p side sent bytes r) IsOfPacket
-read_between p side sent bytes (Ok pdu) h = number_between p side sent bytes pdu (copy_with sent pdu.number)
-read_between p side sent bytes (Err f) h = h
+read_between p side sent bytes r h = grind (arith, number_between)
 
 packet_between : (p : Parameters) (sent : List FirstCopy) (a : Packet) → IfSome (packet_fault p sent a) IsOfPacket
 packet_between p sent a = read_between p a.side sent a.payload (decode_of p a.side a.payload) (decode_between p a.side a.payload)

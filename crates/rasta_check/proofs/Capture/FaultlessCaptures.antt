@@ -89,8 +89,7 @@ read_is_faultless p file k h are e = (crossed_in p file k h are e).capture
 -- ---- a packet that comes next
 
 within_with : (k : Crossing) (a : Packet) (side : Side) (sent : List FirstCopy) → IsCrossing k → length (k.packets ++ a ∷ []) ≤ most_packets → length sent ≤ most_sent → is_within (crossing_with k a side sent) ≡ true
-within_with k a Client sent h l m = (let x = h.few_server in grind (arith, nat_tests))
-within_with k a Server sent h l m = (let x = h.few_client in grind (arith, nat_tests))
+within_with k a side sent h l m = (let x = h.few_server in let y = h.few_client in grind (arith, nat_tests))
 
 -- of all packets its sender sent a list
 module _ (k : Crossing) (a : Packet) (more : List Packet) (h : IsCrossing k) (big : List FirstCopy) (whole : IsSent k.params (k.packets ++ a ∷ more) a.side big) where

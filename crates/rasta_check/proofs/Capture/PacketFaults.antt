@@ -62,12 +62,10 @@ copy_none (x ∷ own) number e i c g n = none_by (x.pdu.number == number) x own 
 
 -- a test that holds gives no fault, and the other way round
 passes : (b : Bool) (fault : ℕ) → b ≡ true → (if b then None else Some fault) ≡ None
-passes true fault e = refl
-passes false fault e = absurd (cc)
+passes b fault e = grind arith
 
 pub passed : (b : Bool) (fault : ℕ) → (if b then None else Some fault) ≡ None → b ≡ true
-passed true fault e = refl
-passed false fault e = absurd (cc)
+passed b fault e = grind arith
 
 is_next : (own : List FirstCopy) (n : ℕ) → ((c : FirstCopy) → slice_get own 0 ≡ Some c → n ≡ wrapped (c.pdu.number + length own)) → is_next_number own n ≡ true
 is_next [] n h = refl

@@ -144,8 +144,7 @@ then_by (Ok next) f last e = (next, refl, e)
 then_by (Err fault) f last e = absurd (cc)
 
 end_by : (k last : Crossing) (o : Option Fault) → at_end k o ≡ Ok last → (o ≡ None) × (k ≡ last)
-end_by k last None e = (refl, cc)
-end_by k last (Some f) e = absurd (cc)
+end_by k last o e = grind arith
 
 pub records_add : (k last : Crossing) (rs : List Numbered) (end : Option Fault) → after_records k rs end ≡ Ok last → (end ≡ None) × Adds k last rs (window k.params rs)
 unfolding after_records
@@ -165,8 +164,7 @@ pub record Breaks (k : Crossing) (rs : List Numbered) (end : Option Fault) (f : 
   pub how : ((front ≡ rs) × (end ≡ Some f)) ⊎ ((r : Numbered) × (later : List Numbered) × (rs ≡ front ++ r ∷ later) × Step last r (Err f))
 
 end_refused : (k : Crossing) (end : Option Fault) (f : Fault) → at_end k end ≡ Err f → end ≡ Some f
-end_refused k None f e = absurd (cc)
-end_refused k (Some g) f e = cc
+end_refused k o f e = grind arith
 
 pub breaks : (k : Crossing) (rs : List Numbered) (end : Option Fault) (f : Fault) → after_records k rs end ≡ Err f → Breaks k rs end f
 unfolding after_records

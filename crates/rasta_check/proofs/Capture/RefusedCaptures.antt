@@ -26,9 +26,7 @@ use Rattle.rasta_check.proofs.Capture.FaultlessCaptures.{FirstFault, IsFaulty, b
 
 front_step : (n m : ℕ) (c : Cursor) (o : Result (Option Numbered) Fault) → (reading n (cursor_after c)).records ≡ take n (reading m (cursor_after c)).records
     → (read_step o (reading n (cursor_after c))).records ≡ take (suc n) (read_step o (reading m (cursor_after c))).records
-front_step n m c (Err f) more = refl
-front_step n m c (Ok None) more = refl
-front_step n m c (Ok (Some r)) more = ap (λ (rs : List Numbered). r ∷ rs) more
+front_step n m c o more = grind arith
 
 reading_front : (n m : ℕ) (c : Cursor) → n ≤ m → (reading n c).records ≡ take n (reading m c).records
 unfolding reading
@@ -51,9 +49,7 @@ IsUpTo n r = (length r.records ≤ n) × (1 ≤ n → length r.records ≡ n →
 
 most_step : (n : ℕ) (c : Cursor) (o : Result (Option Numbered) Fault) → (length (reading n (cursor_after c)).records ≤ n) × (length (reading n (cursor_after c)).records ≡ n → (reading n (cursor_after c)).fault ≡ None)
     → (length (read_step o (reading n (cursor_after c))).records ≤ suc n) × (length (read_step o (reading n (cursor_after c))).records ≡ suc n → (read_step o (reading n (cursor_after c))).fault ≡ None)
-most_step n c (Err f) more = (omega arith, λ e. absurd (omega arith))
-most_step n c (Ok None) more = (omega arith, λ e. refl)
-most_step n c (Ok (Some r)) more = (let few = more.0 in omega arith, λ e. more.1 (omega arith))
+most_step n c o more = grind arith
 
 reading_most : (n : ℕ) (c : Cursor) → (length (reading n c).records ≤ n) × (length (reading n c).records ≡ n → (reading n c).fault ≡ None)
 unfolding reading

@@ -1,5 +1,5 @@
 -- A store with one packet more.
-use Rattle.std.proofs.Common.{◌≡◌, ℕ, suc, ◌+◌, ◌<◌, ◌≤◌, List, [], ◌∷◌, ◌++◌, append_assoc, length, map, Bool, true, false, not, nat_eq, Option, Some, None, slice_get, refl, ap, sym, ◌∙◌, subst, arith, ⊎_elim, if◌then◌else◌}
+use Rattle.std.proofs.Common.{◌≡◌, ℕ, suc, ◌+◌, ◌<◌, ◌≤◌, List, [], ◌∷◌, ◌++◌, append_assoc, length, map, Bool, false, not, nat_eq, Option, Some, None, slice_get, refl, ap, sym, ◌∙◌, subst, arith, ⊎_elim, if◌then◌else◌}
 use Rattle.std.specs.Prelude.{Result, Ok, is_some}
 use Rattle.rasta_check.specs.Model.Theorem.{OfConnection}
 use Rattle.rasta_pcap.specs.declared.fault.Fault.{Fault}
@@ -300,10 +300,7 @@ module _ (p : Parameters) (d : KeptDatagrams) (packets : List StoredPacket) (st 
 
 -- a list of its side goes on where its number is new
 pub judged_length : (k : Crossing) (a : Packet) (known : Option ℕ) (is_new : Bool) → IsJudged k a known → is_some known ≡ not is_new → length (sent_after k a) ≡ length (sent_by k a.side) + (if is_new then 1 else 0)
-judged_length k a None true j e = ap length j.3 ∙ length_push (sent_by k a.side) (record { place = length k.packets; pdu = j.0 })
-judged_length k a (Some position) false j e = ap length j.3 ∙ (let n : length (sent_by k a.side) ≡ length (sent_by k a.side) + 0 = omega arith in n)
-judged_length k a None false j e = absurd (cc)
-judged_length k a (Some position) true j e = absurd (cc)
+judged_length k a known is_new j e = grind (arith, length_push)
 
 -- ---- at the start
 
