@@ -27,7 +27,8 @@ use Rattle.rasta_build.specs.Choices.{peer_quiet_sn}
 use Rattle.rasta_build.specs.Explaining.{explain, earliest_by}
 use Rattle.rasta_build.proofs.Growth.{lag_grows, origin_grows}
 use Rattle.rasta_build.proofs.Stations.{Live, Follows, offered_few, follows_take, follows_make}
-use Rattle.rasta_build.proofs.SentLists.{Begins, found_there, first_there}
+use Rattle.rasta_check.proofs.Capture.NextPackets.{Begins}
+use Rattle.rasta_build.proofs.SentLists.{found_there, first_there}
 
 -- ---- the start's deadline
 

@@ -29,7 +29,8 @@ use Rattle.rasta_build.specs.Choices.{SidedCopy, first_of, fault_of_stuck}
 use Rattle.rasta_build.specs.declared.stuck.Stuck.TheVariants.{Unexplained}
 use Rattle.rasta_build.specs.Proposing.{Pass, first_pass, one_more, pass_on, passes, copy_goes, side_goes, client_goes, server_goes, scripts_of, proposed_by, proposal, all_copies}
 use Rattle.rasta_build.specs.Completeness.{CanCross}
-use Rattle.rasta_build.proofs.SentLists.{Begins, cut, later_place}
+use Rattle.rasta_check.proofs.Capture.NextPackets.{Begins, cut}
+use Rattle.rasta_build.proofs.SentLists.{later_place}
 use Rattle.rasta_build.proofs.Beginning.{follows_first}
 use Rattle.rasta_build.proofs.Simulation.{Keeps, few_list, step_keeps}
 

@@ -30,7 +30,8 @@ use Rattle.rasta_build.specs.Built.{Built}
 use Rattle.rasta_build.specs.Choices.{first_of}
 use Rattle.rasta_build.specs.Proposing.{Pass, first_pass, one_more, pass_on, passes, copy_goes, client_goes, server_goes, proposal, all_copies}
 use Rattle.rasta_build.specs.Completeness.{CanCross}
-use Rattle.rasta_build.proofs.SentLists.{Begins, cut, begun_get, begun_next, sent_rises, sent_numbers, sent_within, later_place}
+use Rattle.rasta_check.proofs.Capture.NextPackets.{Begins, cut}
+use Rattle.rasta_build.proofs.SentLists.{begun_get, begun_next, sent_rises, sent_numbers, sent_within, later_place}
 use Rattle.rasta_build.proofs.Passes.{Fails, fails, proposed_fails, fails_within, length_take, take_drop, early, finds_none}
 use Rattle.rasta_build.proofs.Soundness.{passes_read}
 use Rattle.rasta_build.proofs.Comparisons.{less_is, not_less}

@@ -1,8 +1,7 @@
 -- The lists that a builder is given, and what has crossed of them so far.
-use Rattle.std.proofs.Common.{◌≡◌, ℕ, suc, ◌+◌, ◌-◌, ◌^◌, ◌<◌, ◌≤◌, false, List, [], ◌∷◌, ◌++◌, length, Option, Some, None, slice_get, refl, ap, sym, ◌∙◌, arith, subst, ⊎_elim}
+use Rattle.std.proofs.Common.{◌≡◌, ℕ, suc, ◌+◌, ◌-◌, ◌^◌, ◌<◌, ◌≤◌, false, List, [], ◌∷◌, ◌++◌, length, Option, Some, None, slice_get, refl, ap, sym, ◌∙◌, arith, subst}
 use Rattle.std.specs.Prelude.{◌==◌}
 use Rattle.std.proofs.lemmas.Bool.Decides.{nat_tests}
-use Rattle.std.proofs.lemmas.List.{length_push, append-nil}
 use Rattle.std.proofs.lemmas.Option.{slice_get_within}
 use native.Mathlib.Decide.{dec_lt}
 use Prim.{yes, no}
@@ -21,48 +20,13 @@ use Rattle.rasta_check.proofs.Model.ListGrowth.{get_front}
 use Rattle.rasta_check.proofs.Capture.FaultlessLists.{IsSent}
 use Rattle.rasta_check.proofs.Script.Simulation.{slice_get_some, places_rise}
 use Rattle.rasta_check.proofs.Model.Steps.{base, base_by}
-use Rattle.rasta_check.proofs.Capture.NextPackets.{shorter}
+use Rattle.rasta_check.proofs.Capture.NextPackets.{Begins, get_past}
 use Rattle.rasta_check.proofs.Script.ScriptsOfRuns.{Sends, copy_at as sent_at}
 use Rattle.rasta_build.specs.Choices.{peer_quiet_sn, member_at, copy_there, first_sn_of}
 use Rattle.rasta_build.proofs.Scans.{AreCopies}
 
--- a list begins with what has crossed, and goes on with what crosses later
-pub record Begins (big own : List FirstCopy) (n : ℕ) : Type 0 where
-  pub later : List FirstCopy
-  pub whole : big ≡ own ++ later
-  pub place : (c : FirstCopy) → slice_get later 0 ≡ Some c → n ≤ c.place
-
-append_one : {A : Type 0} (xs : List A) (y : A) (ys : List A) → xs ++ y ∷ ys ≡ (xs ++ y ∷ []) ++ ys
-append_one [] y ys = refl
-append_one (x ∷ xs) y ys = ap (λ zs. x ∷ zs) (append_one xs y ys)
-
--- the sent list of more packets begins with that of these
-pub cut : (p : Parameters) (ys xs : List Packet) (s : Side) (big : List FirstCopy) → IsSent p (xs ++ ys) s big → (own : List FirstCopy) × IsSent p xs s own × Begins big own (length xs)
-cut p [] xs s big h = (big, subst (λ zs. IsSent p zs s big) (append-nil xs) h, record { later = []; whole = sym (append-nil big); place = λ c g. absurd (cc) })
-cut p (y ∷ ys) xs s big h =
-    let r = cut p ys (xs ++ y ∷ []) s big (subst (λ zs. IsSent p zs s big) (append_one xs y ys) h) in
-    let z = shorter p xs y s r.0 r.1 in
-    let b : Begins big r.0 (length (xs ++ y ∷ [])) = r.2 in
-    let l = length_push xs y in (
-      z.own,
-      z.sent,
-      ⊎_elim
-          (λ (e : r.0 ≡ z.own). record { later = b.later; whole = b.whole ∙ ap (λ (o : List FirstCopy). o ++ b.later) e; place = λ c g. (let q = b.place c g in omega (arith, q, l)) })
-          (λ (w : (c : FirstCopy) × (r.0 ≡ z.own ++ c ∷ []) × (c.place ≡ length xs)). record {
-            later = w.0 ∷ b.later;
-            whole = b.whole ∙ (ap (λ (o : List FirstCopy). o ++ b.later) w.1 ∙ sym (append_one z.own w.0 b.later));
-            place = λ c g. (let e : w.0 ≡ c = cc in let q = ap (λ (k : FirstCopy). k.place) e in let v = w.2 in omega (arith, q, v));
-          })
-          z.how,
-    )
-
 pub begun_get : (big own : List FirstCopy) (n i : ℕ) (c : FirstCopy) → Begins big own n → slice_get own i ≡ Some c → slice_get big i ≡ Some c
 begun_get big own n i c b g = subst (λ (l : List FirstCopy). slice_get l i ≡ Some c) (sym b.whole) (get_front own b.later i c g)
-
--- the member after those that crossed
-get_past : (xs ys : List FirstCopy) → slice_get (xs ++ ys) (length xs) ≡ slice_get ys 0
-get_past [] ys = refl
-get_past (x ∷ xs) ys = get_past xs ys
 
 pub begun_next : (big own : List FirstCopy) (n : ℕ) (c : FirstCopy) → Begins big own n → slice_get big (length own) ≡ Some c → n ≤ c.place
 begun_next big own n c b g = b.place c (sym (get_past own b.later) ∙ (ap (λ (l : List FirstCopy). slice_get l (length own)) (sym b.whole) ∙ g))

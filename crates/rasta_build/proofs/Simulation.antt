@@ -16,7 +16,8 @@ use Rattle.rasta_build.specs.Built.{Built}
 use Rattle.rasta_build.specs.Choices.{SidedCopy, first_of}
 use Rattle.rasta_build.specs.Explaining.{explain}
 use Rattle.rasta_build.specs.Proposing.{Pass, one_more, pass_on, passes, copy_goes, client_goes, server_goes}
-use Rattle.rasta_build.proofs.SentLists.{Begins, begun_get, begun_next}
+use Rattle.rasta_check.proofs.Capture.NextPackets.{Begins}
+use Rattle.rasta_build.proofs.SentLists.{begun_get, begun_next}
 use Rattle.rasta_build.proofs.Moves.{FollowsAt, Stays, MadeOne, Stands, moved}
 use Rattle.rasta_build.proofs.Comparisons.{lt_is, not_lt}
 

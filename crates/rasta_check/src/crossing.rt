@@ -5,7 +5,7 @@ ghost use Rattle.rasta_udp.specs.Frame.{Packet, packet_in, packet_of};
 ghost use Rattle.rasta_check.specs.Capture.Crossing.{FirstCopy, Spells, number_in_bytes, packet_fault};
 ghost use Rattle.rasta_pdu.specs.Pdu.{RedundancyPdu, decode_of};
 ghost use Rattle.rasta_check.specs.Capture.Lists.{copy_of};
-ghost use Rattle.rasta_check.specs.Capture.Reading.{Crossing, IsCrossing, crossing_with, sent_by, sent_after, nothing_crossed, after_packet, after_frame, after_record};
+ghost use Rattle.rasta_check.specs.Capture.Reading.{Crossing, IsCrossing, with_packet, sent_by, sent_after, nothing_crossed, after_packet, after_frame, after_record};
 ghost use Rattle.std.specs.Prelude.{◌<◌, ◌≤◌, IfSome, bytes_eq, nat_lt, not, ◌&&◌, ◌||◌};
 ghost use Rattle.rasta_check.specs.Capture.Crossing.{is_next_number};
 ghost use Rattle.rasta_check.specs.Capture.Crossing.{IsRecorded};
@@ -170,7 +170,8 @@ impl<'a> Sent<'a> {
             × (sent_after self.now (packet_of found.entry) ≡ with_new (sent_by self.now found.entry.side) (length self.now.packets) new))
             (λ f. packet_fault self.now.params (sent_by self.now found.entry.side) (packet_of found.entry) ≡ Some f) }
     {
-        let pdu = match decode(&self.params, found.side, found.payload) {
+        let p = self.params();
+        let pdu = match decode(&p, found.side, found.payload) {
             Ok(pdu) => pdu,
             Err(fault) => return Err(fault.number),
         };
@@ -201,10 +202,9 @@ impl<'a> Sent<'a> {
 
     // Adds a packet, and its PDU where its number is new. Without memory for it all stays as it was.
     fn push(&mut self, found: Datagram<'a>, new: Option<Pdu<'a>>) -> Result<(), AllocError>
-        requires { IsCrossing (crossing_with self.old (packet_of found) found.side
-            (with_new (sent_by self.old found.side) (length self.old.packets) new)) }
-        ensures ok { OnOk result (self.new ≡ crossing_with self.old (packet_of found.entry) found.entry.side
-            (with_new (sent_by self.old found.entry.side) (length self.old.packets) new.entry)) }
+        requires judged { sent_after self.old (packet_of found) ≡ with_new (sent_by self.old found.side) (length self.old.packets) new }
+        requires crossing { IsCrossing (with_packet self.old (packet_of found)) }
+        ensures ok { OnOk result (self.new ≡ with_packet self.old (packet_of found.entry)) }
         ensures err { OnErr result (self.new ≡ self.old) }
     {
         self.packets.try_reserve(1)?;

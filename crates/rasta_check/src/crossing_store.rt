@@ -213,7 +213,8 @@ impl Store {
             (λ f. packet_fault self.now.params (sent_by self.now found.now.side) (packet_of found.now) ≡ Some f) }
         ensures crossing { IsCrossing self.now }
     {
-        let number = match decode(&self.params, found.side, found.payload) {
+        let p = self.params();
+        let number = match decode(&p, found.side, found.payload) {
             Ok(pdu) => pdu.number(),
             Err(fault) => return Err(fault.number),
         };

@@ -76,9 +76,9 @@ impl<'a> SentList<'a> for DenseList<'a> {
     }
 
     fn position_of(&self, number: u32) -> Option<u32> {
-        let (_, first) = self.copies.first()?;
+        let (_, first) = self.get(0)?;
         let position = number.wrapping_sub(first.number());
-        if (position as usize) < self.copies.len() {
+        if position < self.len() {
             Some(position)
         } else {
             None

@@ -19,9 +19,7 @@ Among number count channel = (number ≤ channel) × (channel < number + count)
 
 -- one of two directions, or one of the rest
 first_of : (a b : Bool) (e f d : Direction) (rest : Option Direction) → cond a (Some e) (cond b (Some f) rest) ≡ Some d → (e ≡ d) ⊎ (f ≡ d) ⊎ (rest ≡ Some d)
-first_of true b e f d rest h = inl (cc)
-first_of false true e f d rest h = inr (inl (cc))
-first_of false false e f d rest h = inr (inr h)
+first_of a b e f d rest h = grind arith
 
 among_by : (number : ℕ) (cs : List Channel) (e f d : Direction) (rest : Option Direction) → e.channel ≡ number → f.channel ≡ number → (rest ≡ Some d → Among (number + 1) (length cs) d.channel)
     → (e ≡ d) ⊎ (f ≡ d) ⊎ (rest ≡ Some d) → Among number (suc (length cs)) d.channel
@@ -51,18 +49,14 @@ abbrev answer_of : Option Found → Result (Option Found) Fault
 answer_of o = Ok o
 
 named_by : (x : Fields) (o : Option Direction) (d : Found) → answer_of (option_map (found_in x) o) ≡ Ok (Some d) → (e : Direction) × (o ≡ Some e) × (e.channel ≡ d.channel)
-named_by x None d h = absurd (cc)
-named_by x (Some e) d h = (e, refl, (let same : found_in x e ≡ d = cc in ap (λ (y : Found). y.channel) same))
+named_by x o d h = grind arith
 
 -- what is found where no test of the frame table holds
 tests_failed : (t u v w x a b c e f g : Bool) (i j k l m : Fault) (rest : Result (Option Found) Fault) (d : Found)
     → (if t then Ok None else if u then Ok None else if v then Ok None else if w then Ok None else if x then Ok None
     else if a then Err i else if b then Err j else if c then Err k else if e then Ok None else if f then Err l else if g then Err m else rest) ≡ Ok (Some d)
     → rest ≡ Ok (Some d)
-tests_failed t u v w x a b c e f g i j k l m rest d h =
-    let past_none = after_none x _ d (after_none w _ d (after_none v _ d (after_none u _ d (after_none t _ d h)))) in
-    let past_fault = after_fault c k _ d (after_fault b j _ d (after_fault a i _ d past_none)) in
-    after_fault g m rest d (after_fault f l _ d (after_none e _ d past_fault))
+tests_failed t u v w x a b c e f g i j k l m rest d h = grind arith
 
 found_among : (channels : List Channel) (x : Fields) (d : Found) → found_by channels x ≡ Ok (Some d) → Among 1 (length channels) d.channel
 unfolding found_by direction_of
@@ -77,9 +71,7 @@ found_among channels x d h =
     subst (λ (n : ℕ). Among 1 (length channels) n) w.2 (direction_among x 1 channels w.0 w.1)
 
 moved_by : (r : Result (Option Found) Fault) (n : ℕ) (d : Found) → map_found (moved_on n) r ≡ Ok (Some d) → (e : Found) × (r ≡ Ok (Some e)) × (e.channel ≡ d.channel)
-moved_by (Ok None) n d h = absurd (cc)
-moved_by (Err fault) n d h = absurd (cc)
-moved_by (Ok (Some e)) n d h = (e, refl, (let same : moved_on n e ≡ d = cc in ap (λ (y : Found). y.channel) same))
+moved_by r n d h = grind arith
 
 datagram_among : (channels : List Channel) (frame : List ℕ) (d : Found) → datagram_of channels frame ≡ Ok (Some d) → Among 1 (length channels) d.channel
 unfolding datagram_of
@@ -91,9 +83,7 @@ datagram_among channels frame d h = by (is_tagged frame) h
 
 packet_by : (frame : List ℕ) (r : Result (Option Found) Fault) (a : Packet) → map_found (packet_at frame) r ≡ Ok (Some a)
     → (d : Found) × (r ≡ Ok (Some d)) × (d.channel ≡ a.channel) × (slice_range frame d.start d.end ≡ a.payload)
-packet_by frame (Ok None) a h = absurd (cc)
-packet_by frame (Err fault) a h = absurd (cc)
-packet_by frame (Ok (Some d)) a h = (let same : packet_at frame d ≡ a = cc in (d, refl, ap (λ (y : Packet). y.channel) same, ap (λ (y : Packet). y.payload) same))
+packet_by frame r a h = grind arith
 
 -- its payload is a range of the frame
 pub in_range : (channels : List Channel) (frame : List ℕ) (a : Packet) → packet_in channels frame ≡ Ok (Some a) → (start end : ℕ) × (slice_range frame start end ≡ a.payload)

@@ -1,5 +1,5 @@
 -- A crossing goes on with a packet that has no fault.
-use Rattle.std.proofs.Common.{◌≡◌, ℕ, suc, ◌+◌, ◌<◌, ◌≤◌, ◌^◌, ◌++◌, Bool, true, false, List, [], ◌∷◌, Option, Some, None, Result, Ok, Err, length, slice_get, refl, ap, sym, ◌∙◌, arith, subst, not, nat_lt, is_some, if◌then◌else◌, IfSome}
+use Rattle.std.proofs.Common.{◌≡◌, ℕ, suc, ◌+◌, ◌<◌, ◌≤◌, ◌^◌, ◌++◌, Bool, true, List, [], ◌∷◌, Option, Some, None, Result, Ok, Err, length, slice_get, refl, ap, sym, ◌∙◌, arith, subst, not, nat_lt, is_some, if◌then◌else◌, IfSome}
 use Rattle.std.specs.Prelude.{◌&&◌, ◌||◌}
 use Rattle.std.specs.Option.{option_map}
 use Rattle.std.proofs.lemmas.List.{length_push}
@@ -7,7 +7,7 @@ use Rattle.std.proofs.lemmas.Option.{slice_get_within}
 use Rattle.std.specs.Str.{bytes_eq}
 use Rattle.std.proofs.lemmas.Slice.Eq.{bytes_eq-Decides}
 use Rattle.rasta_pcap.specs.declared.fault.Fault.{Fault}
-use Rattle.rasta_pcap.specs.Fault.{copy_differs, number_gap, fault_at, fault_of_end, too_many}
+use Rattle.rasta_pcap.specs.Fault.{copy_differs, number_gap}
 use Rattle.rasta_pcap.specs.declared.fault.Side.{Side}
 use Rattle.rasta_pcap.specs.declared.fault.Side.TheVariants.{Client, Server}
 use Rattle.rasta_udp.specs.Frame.{Packet}
@@ -18,14 +18,14 @@ use Rattle.std.specs.Int.{bytes_low_first}
 use Rattle.std.proofs.lemmas.Nat.{from_le_bytes-to_le_bytes_4}
 use Rattle.rasta_pdu.proofs.Spellings.{decode_of-Ok}
 use Rattle.rasta_end.specs.State.{wrapped}
-use Rattle.rasta_check.specs.Capture.Crossing.{FirstCopy, Spells, copy_with, is_next_number, number_fault, number_in_bytes, read_fault, packet_fault}
+use Rattle.rasta_check.specs.Capture.Crossing.{FirstCopy, Sent, Spells, copy_with, is_next_number, number_fault, number_in_bytes, read_fault, packet_fault}
 use Rattle.rasta_check.specs.Model.Theorem.{most_packets}
 use Rattle.rasta_check.specs.Capture.Crossing.{IsRecorded}
 use Rattle.rasta_check.specs.Model.World.{most_sent}
 use Rattle.rasta_check.specs.Internals.Packets.{with_new}
 use Rattle.rasta_check.specs.Capture.Lists.{copy_of}
 use Rattle.rasta_pdu.specs.declared.pdu.Pdu.{Pdu}
-use Rattle.rasta_check.specs.Capture.Reading.{Crossing, IsCrossing, sent_by, after_pdu, after_read, sent_after, with_packet, crossing_with, is_within, after_packet, after_judged}
+use Rattle.rasta_check.specs.Capture.Reading.{Crossing, IsCrossing, sent_by, after_pdu, after_read, sent_after, with_packet, crossing_with, is_within}
 use Rattle.rasta_check.proofs.Capture.FaultlessLists.{IsSent}
 use Rattle.rasta_check.proofs.Capture.ListForms.{to_record, of_record}
 use Rattle.rasta_check.proofs.Script.Simulation.{slice_get_some}
@@ -69,6 +69,19 @@ pub goes_on : (p : Parameters) (packets : List Packet) (own : List FirstCopy) (a
 goes_on p packets own a sent w n =
     subst (λ (r : Result RedundancyPdu Fault). IsSent p (packets ++ a ∷ []) a.side (after_read own (length packets) r)) (sym w.1)
     (by_copy p packets a.side own a sent refl w.0 w.2 (copy_with own w.0.number) refl (sym (ap (read_fault p a.side own a.payload) w.1) ∙ n))
+
+after_few : (own : List FirstCopy) (place : ℕ) (r : Result RedundancyPdu Fault) → length (after_read own place r) ≤ length own + 1
+after_few own place (Err fault) = omega arith
+after_few own place (Ok d) = by (copy_with own d.number)
+  where
+    by : (o : Option FirstCopy) → length (after_pdu own place d o) ≤ length own + 1
+    by None = (let l = length_push own (record { place = place; pdu = d }) in omega arith)
+    by (Some c) = omega arith
+
+pub goes_on_sent : (p : Parameters) (packets : List Packet) (own : List FirstCopy) (a : Packet) → IsSent p packets a.side own → length own ≤ 1000000 → IsRead p a
+    → packet_fault p own a ≡ None → Sent p (packets ++ a ∷ []) a.side (after_read own (length packets) (decode_of p a.side a.payload))
+goes_on_sent p packets own a sent few w n =
+    let l = after_few own (length packets) (decode_of p a.side a.payload) in of_record p (packets ++ a ∷ []) a.side _ (goes_on p packets own a sent w n) (omega arith)
 
 -- ---- packets of known numbers
 
@@ -136,17 +149,19 @@ is_next_pdu k a pdu h reads e =
 
 -- ---- the limits
 
-room_at : (k : Crossing) (a : Packet) (side : Side) (place : ℕ) (new : Option Pdu) → IsCrossing k
-    → is_within (crossing_with k a side (with_new (sent_by k side) place new)) ≡ (nat_lt (length k.packets) most_packets && (not (is_some new) || nat_lt (length (sent_by k side)) most_sent))
-room_at k a Client place None h = (let l = length_push k.packets a in let x = h.few_client in let y = h.few_server in grind (arith, nat_tests))
-room_at k a Client place (Some pdu) h = (let l = length_push k.packets a in let m = length_push k.client (copy_of (place, pdu)) in let x = h.few_client in let y = h.few_server in grind (arith, nat_tests))
-room_at k a Server place None h = (let l = length_push k.packets a in let x = h.few_client in let y = h.few_server in grind (arith, nat_tests))
-room_at k a Server place (Some pdu) h = (let l = length_push k.packets a in let m = length_push k.server (copy_of (place, pdu)) in let x = h.few_client in let y = h.few_server in grind (arith, nat_tests))
+-- a list of its side that is as long, or longer by one
+room_at : (k : Crossing) (a : Packet) (side : Side) (own : List FirstCopy) (is_new : Bool) → IsCrossing k → length own ≡ length (sent_by k side) + (if is_new then 1 else 0)
+    → is_within (crossing_with k a side own) ≡ (nat_lt (length k.packets) most_packets && (not is_new || nat_lt (length (sent_by k side)) most_sent))
+room_at k a side own is_new h e = (let l = length_push k.packets a in let x = h.few_client in let y = h.few_server in grind (arith, nat_tests))
+
+pub new_length : (sent : List FirstCopy) (place : ℕ) (new : Option Pdu) → length (with_new sent place new) ≡ length sent + (if is_some new then 1 else 0)
+new_length sent place None = omega arith
+new_length sent place (Some pdu) = length_push sent (copy_of (place, pdu))
 
 -- ---- one packet more
 
 within_packets : (k : Crossing) → is_within k ≡ true → (length k.packets ≤ most_packets) × (length k.client ≤ most_sent) × (length k.server ≤ most_sent)
-within_packets k e = (grind (arith, nat_tests), grind (arith, nat_tests), grind (arith, nat_tests))
+within_packets k e = grind (arith, nat_tests)
 
 client_not_server : Client ≡ Server → ⊥
 client_not_server e = cc
@@ -179,43 +194,10 @@ grown_at k a Server sent e h on s within =
 pub grown_crossing : (k : Crossing) (a : Packet) → IsCrossing k → IsRecorded k.params a.channel → IsRead k.params a → packet_fault k.params (sent_by k a.side) a ≡ None → is_within (with_packet k a) ≡ true → IsCrossing (with_packet k a)
 grown_crossing k a h on are n within = grown_at k a a.side (sent_after k a) refl h on (goes_on k.params k.packets (sent_by k a.side) a (list_of k h a.side) are n) within
 
--- what the code knows of a packet without a fault
-module _ (k : Crossing) (a : Packet) (new : Option Pdu) (h : IsCrossing k) (after : sent_after k a ≡ with_new (sent_by k a.side) (length k.packets) new) where
-  with_is : with_packet k a ≡ crossing_with k a a.side (with_new (sent_by k a.side) (length k.packets) new)
-  with_is = ap (crossing_with k a a.side) after
-
-  within_is : (is_new room : Bool) → is_new ≡ is_some new → room ≡ (nat_lt (length k.packets) most_packets && (not is_new || nat_lt (length (sent_by k a.side)) most_sent)) → is_within (with_packet k a) ≡ room
-  within_is is_new room e f =
-      ap is_within with_is ∙ (room_at k a a.side (length k.packets) new h
-      ∙ (ap (λ (b : Bool). nat_lt (length k.packets) most_packets && (not b || nat_lt (length (sent_by k a.side)) most_sent)) (sym e) ∙ sym f))
-
-  pub may_push : (is_new room : Bool) → is_new ≡ is_some new → room ≡ (nat_lt (length k.packets) most_packets && (not is_new || nat_lt (length (sent_by k a.side)) most_sent)) → room ≡ true
-      → IsRecorded k.params a.channel → IsRead k.params a → packet_fault k.params (sent_by k a.side) a ≡ None → IsCrossing (crossing_with k a a.side (with_new (sent_by k a.side) (length k.packets) new))
-  may_push is_new room e f g on are n = subst IsCrossing with_is (grown_crossing k a h on are n (within_is is_new room e f ∙ g))
-
-  pub pushed : (is_new room : Bool) (number : ℕ) → is_new ≡ is_some new → room ≡ (nat_lt (length k.packets) most_packets && (not is_new || nat_lt (length (sent_by k a.side)) most_sent))
-      → packet_fault k.params (sent_by k a.side) a ≡ None
-      → after_packet k number a ≡ (if room then Ok (crossing_with k a a.side (with_new (sent_by k a.side) (length k.packets) new)) else Err (fault_at too_many number))
-  unfolding after_packet
-  pushed is_new room number e f n =
-      ap (after_judged k number a) n
-      ∙ (λ i. if within_is is_new room e f i then Ok (with_is i) else Err (fault_at too_many number))
-
-  pub pushed_all : (is_new room : Bool) (number : ℕ) → is_new ≡ is_some new → room ≡ (nat_lt (length k.packets) most_packets && (not is_new || nat_lt (length (sent_by k a.side)) most_sent))
-      → packet_fault k.params (sent_by k a.side) a ≡ None → room ≡ true
-      → after_packet k number a ≡ Ok (crossing_with k a a.side (with_new (sent_by k a.side) (length k.packets) new))
-  pushed_all is_new room number e f n g =
-      pushed is_new room number e f n ∙ ap (λ (b : Bool). if b then Ok (crossing_with k a a.side (with_new (sent_by k a.side) (length k.packets) new)) else Err (fault_at too_many number)) g
-
-  pub pushed_none : (is_new room : Bool) (number : ℕ) → is_new ≡ is_some new → room ≡ (nat_lt (length k.packets) most_packets && (not is_new || nat_lt (length (sent_by k a.side)) most_sent))
-      → packet_fault k.params (sent_by k a.side) a ≡ None → room ≡ false → after_packet k number a ≡ Err (fault_at too_many number)
-  pushed_none is_new room number e f n g =
-      pushed is_new room number e f n ∙ ap (λ (b : Bool). if b then Ok (crossing_with k a a.side (with_new (sent_by k a.side) (length k.packets) new)) else Err (fault_at too_many number)) g
-
--- a packet's fault
-pub refused : (k : Crossing) (a : Packet) (number fault : ℕ) → packet_fault k.params (sent_by k a.side) a ≡ Some fault → after_packet k number a ≡ Err (fault_of_end fault number a.side)
-unfolding after_packet
-refused k a number fault e = ap (after_judged k number a) e
+-- whether there is room for a packet without a fault, whose PDU is new or known
+pub within_room : (k : Crossing) (a : Packet) (is_new : Bool) → IsCrossing k → length (sent_after k a) ≡ length (sent_by k a.side) + (if is_new then 1 else 0)
+    → is_within (with_packet k a) ≡ (nat_lt (length k.packets) most_packets && (not is_new || nat_lt (length (sent_by k a.side)) most_sent))
+within_room k a is_new h e = room_at k a a.side (sent_after k a) is_new h e
 
 -- ---- the parts of a crossing with one packet more
 

@@ -138,7 +138,7 @@ module _ (p : Parameters) (xs : List Packet) (s : Side) (c d : List FirstCopy) (
       let head = slice_get_some c 0 (omega arith) in
       not_again head.0.pdu.number r.0 i r.1.pdu.number a.pdu.number (hc.numbers r.0 head.0 r.1 head.1 mine) (hc.numbers i head.0 a head.1 g) low l (ap (λ (z : RedundancyPdu). z.number) same)
 
-below_by : (p : Parameters) (xs : List Packet) (s : Side) (d : List FirstCopy) → IsSent p xs s d → (i j : ℕ) (a b e : FirstCopy) → slice_get d i ≡ Some e → a.place < e.place → slice_get d j ≡ Some b → b.place ≤ a.place → j < i
+pub below_by : (p : Parameters) (xs : List Packet) (s : Side) (d : List FirstCopy) → IsSent p xs s d → (i j : ℕ) (a b e : FirstCopy) → slice_get d i ≡ Some e → a.place < e.place → slice_get d j ≡ Some b → b.place ≤ a.place → j < i
 below_by p xs s d h i j a b e at l g m =
     elim (dec_lt j i) [
       | yes z ↦ z

@@ -1,30 +1,25 @@
--- A packet has no fault exactly where it may come next.
-use Rattle.std.proofs.Common.{◌≡◌, ◌⊎◌, ℕ, zero, suc, ◌+◌, ◌<◌, ◌≤◌, ◌^◌, ◌++◌, Bool, true, false, List, [], ◌∷◌, Option, Some, None, Result, Ok, Err, length, slice_get, refl, ap, sym, ◌∙◌, arith, inl, inr, ⊎_elim, subst}
+-- A packet that may come next has no fault.
+use Rattle.std.proofs.Common.{◌≡◌, ◌⊎◌, ℕ, zero, suc, ◌+◌, ◌<◌, ◌^◌, Bool, true, false, List, [], ◌∷◌, Option, Some, None, Ok, length, slice_get, refl, ap, sym, ◌∙◌, arith, inl, inr, subst}
 use Rattle.std.specs.Prelude.{◌==◌, if◌then◌else◌}
 use Rattle.std.specs.Str.{bytes_eq}
 use Rattle.std.proofs.lemmas.Bool.Decides.{nat_tests}
-use Rattle.std.proofs.lemmas.List.{length_push}
 use Rattle.std.proofs.lemmas.Option.{slice_get_within}
 use Rattle.std.proofs.lemmas.Slice.Eq.{bytes_eq-Decides}
 use Rattle.rasta_pcap.specs.Fault.{copy_differs, number_gap}
-use Rattle.rasta_pcap.specs.declared.fault.Fault.{Fault}
 use Rattle.rasta_pcap.specs.declared.fault.Side.{Side}
 use Rattle.rasta_pcap.specs.declared.fault.Side.TheVariants.{Client, Server}
 use Rattle.rasta_udp.specs.Frame.{Packet}
 use Rattle.rasta_pdu.specs.Params.{Parameters}
-use Rattle.rasta_pdu.specs.Messages.{AreBytes}
 use Rattle.rasta_pdu.specs.Pdu.{RedundancyPdu, redundancy_bytes, decode_of, receiver_of, sender_of}
-use Rattle.rasta_pdu.proofs.Spellings.{decode_of-Ok, decode_of-redundancy_bytes}
+use Rattle.rasta_pdu.proofs.Spellings.{decode_of-redundancy_bytes}
 use Rattle.rasta_end.specs.State.{wrapped}
-use Rattle.rasta_check.specs.Capture.Crossing.{FirstCopy, Sent, Spells, copy_with, is_next_number, repeat_fault, number_fault, read_fault}
+use Rattle.rasta_check.specs.Capture.Crossing.{FirstCopy, Spells, copy_with, is_next_number, repeat_fault, number_fault, read_fault}
 use Rattle.rasta_check.specs.Model.Theorem.{OfConnection}
 use Rattle.rasta_check.proofs.Capture.FaultlessLists.{IsSent}
-use Rattle.rasta_check.proofs.Capture.Spellings.{read_once}
-use Rattle.rasta_check.proofs.Capture.FirstCopies.{not_again, sent_once}
+use Rattle.rasta_check.proofs.Capture.FirstCopies.{not_again}
 use Rattle.rasta_check.proofs.Script.Simulation.{slice_get_some}
 use Rattle.rasta_check.proofs.Script.OneWay.{number_once}
-use Rattle.rasta_check.proofs.Capture.NextPackets.{CanFollow, grows, shorter}
-use Rattle.rasta_check.proofs.Capture.ListForms.{of_record}
+use Rattle.rasta_check.proofs.Capture.NextPackets.{CanFollow}
 
 receiver_small : (p : Parameters) (side : Side) → OfConnection p → receiver_of p side < 2 ^ 32
 receiver_small p Client h = h.server_id
@@ -67,12 +62,10 @@ copy_none (x ∷ own) number e i c g n = none_by (x.pdu.number == number) x own 
 
 -- a test that holds gives no fault, and the other way round
 passes : (b : Bool) (fault : ℕ) → b ≡ true → (if b then None else Some fault) ≡ None
-passes true fault e = refl
-passes false fault e = absurd (cc)
+passes b fault e = grind arith
 
 pub passed : (b : Bool) (fault : ℕ) → (if b then None else Some fault) ≡ None → b ≡ true
-passed true fault e = refl
-passed false fault e = absurd (cc)
+passed b fault e = grind arith
 
 is_next : (own : List FirstCopy) (n : ℕ) → ((c : FirstCopy) → slice_get own 0 ≡ Some c → n ≡ wrapped (c.pdu.number + length own)) → is_next_number own n ≡ true
 is_next [] n h = refl
@@ -102,44 +95,5 @@ module _ (p : Parameters) (packets : List Packet) (side : Side) (own : List Firs
   none_known d s (inl w) None e = absurd (copy_none own d.number e w.0 w.1 w.3 (ap (λ (z : RedundancyPdu). z.number) w.5))
   none_known d s (inr w) None e = passes (is_next_number own d.number) number_gap (is_next own d.number w)
 
-  none_fault : CanFollow p packets side own a → read_fault p side own a.payload (decode_of p side a.payload) ≡ None
-  none_fault f = ap (read_fault p side own a.payload) (reads p side f.0 a.payload h f.1) ∙ none_known f.0 f.1 f.2 (copy_with own f.0.number) refl
-
-  -- ---- where it has no fault, it may come next
-
-  next_of : (os : List FirstCopy) (n : ℕ) → is_next_number os n ≡ true → (c : FirstCopy) → slice_get os 0 ≡ Some c → n ≡ wrapped (c.pdu.number + length os)
-  next_of [] n e c g = absurd (cc)
-  next_of (x ∷ os) n e c g = (let same : x ≡ c = cc in let z : n ≡ wrapped (x.pdu.number + length (x ∷ os)) = grind (arith, nat_tests) in z ∙ ap (λ (y : FirstCopy). wrapped (y.pdu.number + length (x ∷ os))) same)
-
-  follows_known : (d : RedundancyPdu) → Spells p side d a.payload → (o : Option FirstCopy) → copy_with own d.number ≡ o → number_fault p side own a.payload d o ≡ None → CanFollow p packets side own a
-  follows_known d s None e n = (d, s, inr (next_of own d.number (passed (is_next_number own d.number) number_gap n)))
-  follows_known d s (Some c) e n =
-      let f = copy_found own d.number c e in
-      let w = sent.firsts f.0 c f.1 in
-      let same : redundancy_bytes p side c.pdu ≡ a.payload = (bytes_eq-Decides (redundancy_bytes p side c.pdu) a.payload).0 (passed (bytes_eq (redundancy_bytes p side c.pdu) a.payload) copy_differs n) in
-      let here : w.0.payload ≡ a.payload = w.3.same ∙ same in
-      (d, s, inl (f.0, c, w.0, f.1, w.1, read_once p sent.valid side c.pdu d a.payload (record { fits = w.3.fits; same = sym same }) s, here))
-
-  follows_read : (r : Result RedundancyPdu Fault) → decode_of p side a.payload ≡ r → AreBytes a.payload → read_fault p side own a.payload r ≡ None → CanFollow p packets side own a
-  follows_read (Err fault) e are n = absurd (cc)
-  follows_read (Ok d) e are n = (let is = decode_of-Ok p side a.payload d sent.valid are e in follows_known d (record { fits = is.is; same = is.spelled }) (copy_with own d.number) refl n)
-
-  pub follows : AreBytes a.payload → read_fault p side own a.payload (decode_of p side a.payload) ≡ None → CanFollow p packets side own a
-  follows are n = follows_read (decode_of p side a.payload) refl are n
-
   pub faultless : CanFollow p packets side own a → read_fault p side own a.payload (decode_of p side a.payload) ≡ None
-  faultless f = none_fault f
-
--- the sent list goes on after a packet that may come next
-pub grown : (p : Parameters) (packets : List Packet) (a : Packet) (own : List FirstCopy) → IsSent p packets a.side own → length own ≤ 1000000 → CanFollow p packets a.side own a
-    → (more : List FirstCopy) × Sent p (packets ++ a ∷ []) a.side more
-grown p packets a own sent few f =
-    let g = grows p packets a.side own a sent refl f in
-    let s = shorter p packets a a.side g.0 g.1 in
-    let same : own ≡ s.own = sent_once p packets a.side own s.own sent s.sent (omega arith) in
-    let l = ap length same in
-    let longer : length g.0 ≤ suc (length s.own) = ⊎_elim
-    (λ (e : g.0 ≡ s.own). (let z = ap length e in omega arith))
-    (λ (w : (c : FirstCopy) × (g.0 ≡ s.own ++ c ∷ []) × (c.place ≡ length packets)). (let z = ap length w.1 in let k = length_push s.own w.0 in omega arith))
-    s.how in
-    (g.0, of_record p (packets ++ a ∷ []) a.side g.0 g.1 (omega arith))
+  faultless f = ap (read_fault p side own a.payload) (reads p side f.0 a.payload h f.1) ∙ none_known f.0 f.1 f.2 (copy_with own f.0.number) refl

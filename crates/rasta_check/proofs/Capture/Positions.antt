@@ -1,9 +1,9 @@
 -- Positions in ordered lists of first copies.
-use Rattle.std.proofs.Common.{◌≡◌, ℕ, zero, suc, ◌+◌, ◌-◌, ◌%◌, ◌^◌, ◌<◌, ◌≤◌, ◌++◌, Bool, true, false, cond, nat_lt, nat_eq, List, [], ◌∷◌, Option, Some, None, length, get_or, slice_get, position, refl, ap, sym, ◌∙◌, arith, subst, ⊎_elim, lt-ltb, le-ltb, true≢false, not, if◌then◌else◌, eqb, take, drop}
+use Rattle.std.proofs.Common.{◌≡◌, ℕ, zero, suc, ◌+◌, ◌-◌, ◌%◌, ◌^◌, ◌<◌, ◌≤◌, ◌++◌, Bool, true, false, cond, nat_lt, nat_eq, List, [], ◌∷◌, Option, Some, None, length, get_or, slice_get, map, position, refl, ap, sym, ◌∙◌, arith, subst, ⊎_elim, lt-ltb, le-ltb, if◌then◌else◌, eqb, take, drop}
 use Rattle.std.specs.List.{position_or_len}
 use Rattle.std.specs.Option.{option_map}
 use Rattle.std.proofs.lemmas.Bool.Decides.{nat_tests}
-use Rattle.std.proofs.lemmas.List.{length_push, take-append-drop}
+use Rattle.std.proofs.lemmas.List.{length-map, length_push, map-append, take-append-drop}
 use Rattle.std.proofs.lemmas.List.Sums.{position_or_len_is}
 use Rattle.std.proofs.lemmas.List.Folds.{position_or_len_push}
 use Rattle.std.proofs.lemmas.Option.{slice_get_within, slice_get-map, slice_get-get_or}
@@ -16,7 +16,7 @@ use Rattle.rasta_check.proofs.Script.Simulation.{slice_get_some}
 
 -- ---- the first position of a number in a list of numbers
 
-differ : (n m : ℕ) → (m ≡ n → ⊥) → nat_eq n m ≡ false
+pub differ : (n m : ℕ) → (m ≡ n → ⊥) → nat_eq n m ≡ false
 differ n m h = grind (arith, nat_tests)
 
 equal : (n m : ℕ) → m ≡ n → nat_eq n m ≡ true
@@ -46,36 +46,18 @@ module _ (n : ℕ) (xs : List ℕ) where
 
 -- ---- a list that goes on
 
-shown : ℕ → ℕ → Option ℕ
-shown k l = cond (nat_lt k l) (Some k) None
-
-shown_not : (k l : ℕ) → l ≤ k → shown k l ≡ None
-unfolding shown
-shown_not k l h = ap (λ b. cond b (Some k) None) (le-ltb k l h)
-
-shown_lt : (k l : ℕ) → k < l → shown k l ≡ Some k
-unfolding shown
-shown_lt k l h = cond_lt k l h
-
-pushed : (k l n : ℕ) (b : Bool) → b ≡ false → k ≤ l → (e : Bool) → eqb k l ≡ e → n ≡ cond e (l + cond b 0 1) k → shown n (l + 1) ≡ shown k l
-pushed k l n true fails h e f m = absurd (true≢false fails)
-pushed k l n false fails h true f m = (let z : k ≡ l = grind (arith, nat_tests) in shown_not n (l + 1) (omega arith) ∙ sym (shown_not k l (omega arith)))
-pushed k l n false fails h false f m = (let z : k ≡ l → ⊥ = λ e. grind (arith, nat_tests) in shown_lt n (l + 1) (omega (arith, z)) ∙ (ap Some m ∙ sym (shown_lt k l (omega (arith, z)))))
-
-or_len_step : (b : Bool) (k l : ℕ) → k ≤ l → cond (not b) (1 + k) 0 ≤ suc l
-or_len_step true k l h = omega arith
-or_len_step false k l h = omega arith
+pushed : (k l n : ℕ) (b : Bool) → b ≡ false → k ≤ l → n ≡ cond (eqb k l) (l + cond b 0 1) k → cond (nat_lt n (l + 1)) (Some n) None ≡ cond (nat_lt k l) (Some k) None
+pushed k l n b fails h f = grind (arith, nat_tests)
 
 or_len_most : (p : ℕ → Bool) (xs : List ℕ) → position_or_len p xs ≤ length xs
 or_len_most p [] = omega arith
-or_len_most p (x ∷ xs) = or_len_step (p x) (position_or_len p xs) (length xs) (or_len_most p xs)
+or_len_most p (x ∷ xs) = (let more = or_len_most p xs in grind arith)
 
 -- a member that doesn't pass changes nothing
 pub position_push : (p : ℕ → Bool) (xs : List ℕ) (y : ℕ) → p y ≡ false → position p (xs ++ y ∷ []) ≡ position p xs
-unfolding shown
 position_push p xs y fails =
-    ap (λ l. shown (position_or_len p (xs ++ y ∷ [])) l) (length_push xs y)
-    ∙ pushed (position_or_len p xs) (length xs) (position_or_len p (xs ++ y ∷ [])) (p y) fails (or_len_most p xs) (eqb (position_or_len p xs) (length xs)) refl (position_or_len_push p xs y)
+    ap (λ l. cond (nat_lt (position_or_len p (xs ++ y ∷ [])) l) (Some (position_or_len p (xs ++ y ∷ []))) None) (length_push xs y)
+    ∙ pushed (position_or_len p xs) (length xs) (position_or_len p (xs ++ y ∷ [])) (p y) fails (or_len_most p xs) (position_or_len_push p xs y)
 
 -- ---- ordered lists
 
@@ -113,23 +95,16 @@ place_new sent c h i d g =
 
 -- ---- the table of places of a list that goes on
 
-place_there : (sent : List FirstCopy) (i y : ℕ) → slice_get (places_of sent) i ≡ Some y → (c : FirstCopy) × (slice_get sent i ≡ Some c) × (c.place ≡ y)
-place_there [] i y g = absurd (cc)
-place_there (c ∷ sent) zero y g = (c, refl, cc)
-place_there (c ∷ sent) (suc i) y g = place_there sent i y g
-
-number_there : (sent : List FirstCopy) (i y : ℕ) → slice_get (numbers_of sent) i ≡ Some y → (c : FirstCopy) × (slice_get sent i ≡ Some c) × (c.pdu.number ≡ y)
-number_there [] i y g = absurd (cc)
-number_there (c ∷ sent) zero y g = (c, refl, cc)
-number_there (c ∷ sent) (suc i) y g = number_there sent i y g
+pub member_there : (f : FirstCopy → ℕ) (sent : List FirstCopy) (i y : ℕ) → slice_get (map f sent) i ≡ Some y → (c : FirstCopy) × (slice_get sent i ≡ Some c) × (f c ≡ y)
+member_there f [] i y g = absurd (cc)
+member_there f (c ∷ sent) zero y g = (c, refl, cc)
+member_there f (c ∷ sent) (suc i) y g = member_there f sent i y g
 
 places_push : (sent : List FirstCopy) (c : FirstCopy) → places_of (sent ++ c ∷ []) ≡ places_of sent ++ c.place ∷ []
-places_push [] c = refl
-places_push (d ∷ sent) c = ap (λ xs. d.place ∷ xs) (places_push sent c)
+places_push sent c = map-append (λ (d : FirstCopy). d.place) sent (c ∷ [])
 
 length_places : (sent : List FirstCopy) → length (places_of sent) ≡ length sent
-length_places [] = refl
-length_places (c ∷ sent) = ap suc (length_places sent)
+length_places sent = length-map sent (λ (c : FirstCopy). c.place)
 
 module _ (sent : List FirstCopy) (c : FirstCopy) (h : IsOrdered (sent ++ c ∷ [])) where
   place_last : position_of_place (sent ++ c ∷ []) c.place ≡ Some (length sent)
@@ -137,7 +112,7 @@ module _ (sent : List FirstCopy) (c : FirstCopy) (h : IsOrdered (sent ++ c ∷ [
       ap (position (nat_eq c.place)) (places_push sent c)
       ∙ (position_at c.place (places_of sent ++ c.place ∷ []) (length (places_of sent)) (get_push (places_of sent) c.place)
       (λ j y b g e. ⊎_elim
-      (λ (o : slice_get (places_of sent) j ≡ Some y). (let w = place_there sent j y o in let z = place_new sent c h j w.0 w.1 in let q = w.2 in omega arith))
+      (λ (o : slice_get (places_of sent) j ≡ Some y). (let w = member_there (λ (z : FirstCopy). z.place) sent j y o in let z = place_new sent c h j w.0 w.1 in let q = w.2 in omega arith))
       (λ (n : (j ≡ length (places_of sent)) × (c.place ≡ y)). (let q = n.0 in omega arith))
       (get_push_cases (places_of sent) c.place j y g))
       ∙ ap Some (length_places sent))
@@ -161,26 +136,32 @@ same_place f n i a b e = omega arith
 there_again : (f n : ℕ) → f < 4294967296 → n < 4294967296 → n ≡ (f + (n + (4294967296 - f)) % 2 ^ 32) % 2 ^ 32
 there_again f n a b = omega arith
 
-module _ (sent : List FirstCopy) (h : IsOrdered sent) (few : length sent < 4294967296) (start : FirstCopy) (g0 : slice_get sent 0 ≡ Some start) (n : ℕ) (small : n < 4294967296) where
-  start_small : start.pdu.number < 4294967296
-  start_small = (let e = h.numbers 0 start start g0 g0 in small_wrapped start.pdu.number e)
-    where
-      small_wrapped : (m : ℕ) → m ≡ wrapped (m + 0) → m < 4294967296
-      small_wrapped m e = omega arith
+starts_with : (o : Option FirstCopy) (n : ℕ) → option_map (λ (c : FirstCopy). c.pdu.number) o ≡ Some n → (c : FirstCopy) × (o ≡ Some c) × (c.pdu.number ≡ n)
+starts_with None n e = absurd (cc)
+starts_with (Some c) n e = (c, refl, cc)
 
-  pub near : (d : ℕ) → d ≡ (n + (4294967296 - start.pdu.number)) % 2 ^ 32 → d < length sent → position_of_number sent n ≡ Some d
-  near d e l =
+module _ (sent : List FirstCopy) (h : IsOrdered sent) (few : length sent < 4294967296) (first : ℕ) (starts : option_map (λ (c : FirstCopy). c.pdu.number) (slice_get sent 0) ≡ Some first)
+    (n : ℕ) (small : n < 4294967296) where
+  number_at : (i : ℕ) (c : FirstCopy) → slice_get sent i ≡ Some c → c.pdu.number ≡ (first + i) % 4294967296
+  number_at i c g = (let w = starts_with (slice_get sent 0) first starts in h.numbers i w.0 c w.1 g ∙ ap (λ m. wrapped (m + i)) w.2)
+
+  first_small : first < 4294967296
+  first_small = (let w = starts_with (slice_get sent 0) first starts in let e = number_at 0 w.0 w.1 in let same = w.2 in omega arith)
+
+  pub near : (n + (4294967296 - first)) % 4294967296 < length sent → position_of_number sent n ≡ Some ((n + (4294967296 - first)) % 4294967296)
+  near l =
+      let d : ℕ = (n + (4294967296 - first)) % 4294967296 in
       let c = slice_get_some sent d l in
-      let at : c.0.pdu.number ≡ n = h.numbers d start c.0 g0 c.1 ∙ (ap (λ k. wrapped (start.pdu.number + k)) e ∙ sym (there_again start.pdu.number n start_small small)) in
+      let at : c.0.pdu.number ≡ n = number_at d c.0 c.1 ∙ sym (there_again first n first_small small) in
       position_at n (numbers_of sent) d (slice_get-map (λ (x : FirstCopy). x.pdu.number) sent d ∙ (ap (option_map (λ (x : FirstCopy). x.pdu.number)) c.1 ∙ ap Some at))
-      (λ j y b g q. (let w = number_there sent j y g in
-      let same = same_place start.pdu.number n j start_small (omega arith) (sym (w.2 ∙ q) ∙ h.numbers j start w.0 g0 w.1) in omega arith))
+      (λ j y b g q. (let w = member_there (λ (z : FirstCopy). z.pdu.number) sent j y g in
+      let same = same_place first n j first_small (omega arith) (sym (w.2 ∙ q) ∙ number_at j w.0 w.1) in omega arith))
 
-  pub far : (d : ℕ) → d ≡ (n + (4294967296 - start.pdu.number)) % 2 ^ 32 → length sent ≤ d → position_of_number sent n ≡ None
-  far d e l =
-      position_none n (numbers_of sent) (λ j y g q. (let w = number_there sent j y g in
+  pub far : length sent ≤ (n + (4294967296 - first)) % 4294967296 → position_of_number sent n ≡ None
+  far l =
+      position_none n (numbers_of sent) (λ j y g q. (let w = member_there (λ (z : FirstCopy). z.pdu.number) sent j y g in
       let m = slice_get_within sent j w.0 w.1 in
-      let same = same_place start.pdu.number n j start_small (omega arith) (sym (w.2 ∙ q) ∙ h.numbers j start w.0 g0 w.1) in omega arith))
+      let same = same_place first n j first_small (omega arith) (sym (w.2 ∙ q) ∙ number_at j w.0 w.1) in omega arith))
 
 -- ---- a beginning of a list
 

@@ -1,5 +1,5 @@
 -- Lists of first copies as vectors and maps hold them, with one more.
-use Rattle.std.proofs.Common.{◌≡◌, ℕ, suc, ◌+◌, ◌<◌, ◌++◌, Bool, true, false, true≢false, cond, Option, List, [], ◌∷◌, Some, length, map, nat_eq, refl, ap, sym, ◌∙◌, arith, subst, if◌then◌else◌, slice_get}
+use Rattle.std.proofs.Common.{◌≡◌, ℕ, suc, ◌+◌, ◌<◌, ◌++◌, Bool, cond, Option, List, [], ◌∷◌, Some, length, map, nat_eq, refl, ap, sym, ◌∙◌, arith, subst, if◌then◌else◌, slice_get}
 use Rattle.std.specs.HashMap.{HashMap}
 use Rattle.std.specs.Map.{keys_of, lookup}
 use Rattle.std.specs.Option.{option_map}
@@ -13,7 +13,7 @@ use Rattle.rasta_pdu.specs.declared.pdu.Pdu.{Pdu}
 use Rattle.rasta_pdu.specs.Pdu.{value_of}
 use Rattle.rasta_check.specs.Capture.Crossing.{FirstCopy, copy_with}
 use Rattle.rasta_check.specs.Capture.Lists.{IsOrdered, AreMarks, copy_of, copies_in, numbers_of, marked}
-use Rattle.rasta_check.proofs.Capture.Positions.{marks_pushed, number_new}
+use Rattle.rasta_check.proofs.Capture.Positions.{differ, marks_pushed, number_new}
 
 -- ---- marks
 
@@ -43,15 +43,10 @@ copies_push : (es : Entries) (k : ℕ) (x : ℕ × Pdu) → copies_in (es ++ (k,
 copies_push es k x = map-append (λ (e : ℕ × (ℕ × Pdu)). copy_of e.1) es ((k, x) ∷ [])
 
 keys_push : (es : Entries) (k : ℕ) (x : ℕ × Pdu) → keys_of (es ++ (k, x) ∷ []) ≡ keys_of es ++ k ∷ []
-keys_push [] k x = refl
-keys_push (e ∷ es) k x = ap (λ ks. e.0 ∷ ks) (keys_push es k x)
+keys_push es k x = map-append (λ (e : ℕ × (ℕ × Pdu)). e.0) es ((k, x) ∷ [])
 
 numbers_push : (sent : List FirstCopy) (c : FirstCopy) → numbers_of (sent ++ c ∷ []) ≡ numbers_of sent ++ c.pdu.number ∷ []
-numbers_push [] c = refl
-numbers_push (d ∷ sent) c = ap (λ ns. d.pdu.number ∷ ns) (numbers_push sent c)
-
-differ : (n m : ℕ) → (m ≡ n → ⊥) → nat_eq n m ≡ false
-differ n m h = grind (arith, nat_tests)
+numbers_push sent c = map-append (λ (d : FirstCopy). d.pdu.number) sent (c ∷ [])
 
 -- no entry has a new number
 none_has : (es : Entries) (n : ℕ) → keys_of es ≡ numbers_of (copies_in es)
@@ -82,10 +77,7 @@ map_few es all c e few = (let a = ap length e in let b = length_push (copies_in 
 
 found_by : (b d : Bool) (v : ℕ × Pdu) (o : Option (ℕ × Pdu)) (q : Option FirstCopy) → b ≡ d → option_map (λ (w : ℕ × Pdu). w.0) o ≡ option_map (λ (x : FirstCopy). x.place) q
     → option_map (λ (w : ℕ × Pdu). w.0) (cond b (Some v) o) ≡ option_map (λ (x : FirstCopy). x.place) (if d then Some (copy_of v) else q)
-found_by true true v o q e h = refl
-found_by true false v o q e h = absurd (true≢false e)
-found_by false true v o q e h = absurd (true≢false (sym e))
-found_by false false v o q e h = h
+found_by b d v o q e h = grind arith
 
 same_test : (n m k : ℕ) → m ≡ k → nat_eq n m ≡ (k == n)
 same_test n m k e = grind (arith, nat_tests)

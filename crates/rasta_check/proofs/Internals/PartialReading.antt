@@ -14,7 +14,8 @@ use Rattle.rasta_check.specs.Capture.Reading.{Crossing, after_reading, after_rec
 use Rattle.rasta_check.specs.Internals.Storing.{AddsRecord, IsFailure, IsRefusedSo, IsStored, crossing_left}
 use Rattle.rasta_check.specs.Model.Theorem.{OfConnection}
 use Rattle.rasta_check.proofs.Capture.FaultNumbers.{NamesSide, file_names_side}
-use Rattle.rasta_check.proofs.Capture.FaultlessCaptures.{faultless_is_read, opening_faulty, read_is_faultless}
+use Rattle.rasta_check.proofs.Capture.FaultlessCaptures.{faultless_is_read, read_is_faultless}
+use Rattle.rasta_check.proofs.Capture.RefusedCaptures.{opening_faulty}
 use Rattle.rasta_check.proofs.Capture.Readings.{after-end, after-fault, after-none_left, after-opened, after-record, after-refused, left-after}
 use Rattle.rasta_check.proofs.Capture.DefiniteFaults.{is_definite, opening_definite}
 
@@ -158,7 +159,7 @@ file_stored p file k h e = record { value = e; read = λ are. read_is_faultless 
 file_refused : (p : Parameters) (file : List ℕ) (f : Fault) → OfConnection p → crossing_of p file ≡ Err f → IsRefusedSo p f file
 file_refused p file f h e = record {
   value = e;
-  only = λ are client server is. (let w = faultless_is_read p file client server h are is in let z = w.1 in cc);
+  only = λ are client server is. (let z = faultless_is_read p file client server h are is in cc);
   definite = λ are is. (is_definite p file f h are e is).impossible;
 }
 

@@ -1,8 +1,7 @@
 -- A store with one packet more.
-use Rattle.std.proofs.Common.{◌≡◌, ℕ, suc, ◌+◌, ◌<◌, ◌≤◌, List, [], ◌∷◌, ◌++◌, append_assoc, length, map, Bool, true, false, not, nat_eq, nat_lt, Option, Some, None, slice_get, refl, ap, sym, ◌∙◌, subst, arith, ⊎_elim, if◌then◌else◌}
-use Rattle.std.specs.Prelude.{Result, Ok, is_some, is_none, ◌&&◌, ◌||◌}
-use Rattle.rasta_check.specs.Model.World.{most_sent}
-use Rattle.rasta_check.specs.Model.Theorem.{OfConnection, most_packets}
+use Rattle.std.proofs.Common.{◌≡◌, ℕ, suc, ◌+◌, ◌<◌, ◌≤◌, List, [], ◌∷◌, ◌++◌, append_assoc, length, map, Bool, false, not, nat_eq, Option, Some, None, slice_get, refl, ap, sym, ◌∙◌, subst, arith, ⊎_elim, if◌then◌else◌}
+use Rattle.std.specs.Prelude.{Result, Ok, is_some}
+use Rattle.rasta_check.specs.Model.Theorem.{OfConnection}
 use Rattle.rasta_pcap.specs.declared.fault.Fault.{Fault}
 use Rattle.std.proofs.lemmas.Bool.Decides.{nat_tests}
 use Rattle.std.proofs.lemmas.List.{append-nil, length-map, length_push, map-append}
@@ -17,14 +16,15 @@ use Rattle.rasta_check.specs.declared.crossing_store.StoredPacket.{StoredPacket}
 use Rattle.rasta_check.specs.Capture.Crossing.{FirstCopy, Spells}
 use Rattle.rasta_check.specs.Internals.Datagrams.{Kept, KeptDatagrams, keeping, kept_by, nothing_kept}
 use Rattle.rasta_check.specs.Capture.Lists.{IsOrdered, position_of_place}
-use Rattle.rasta_check.specs.Capture.Reading.{Crossing, IsCrossing, crossing_with, is_within, sent_by, sent_after, with_packet}
+use Rattle.rasta_check.specs.Capture.Reading.{Crossing, IsCrossing, crossing_with, sent_by, sent_after, with_packet}
 use Rattle.rasta_check.specs.Internals.Stored.{Decode, HavePositions, IsJudged, IsStore, bytes_of, copy_in, crossing_by, first_copies_from, packet_by, pdu_in}
 use Rattle.rasta_check.proofs.Capture.Crossings.{list_of}
 use Rattle.rasta_check.proofs.Model.ListGrowth.{get_front, get_push, get_push_cases}
 use Rattle.rasta_check.proofs.Capture.Positions.{place_pushed}
 use Rattle.rasta_check.proofs.Script.Simulation.{slice_get_some}
-use Rattle.rasta_check.proofs.Capture.DefiniteFaults.{nothing_is}
-use Rattle.rasta_check.proofs.Internals.StoreLists.{count_of, kept_at, ordered_of, place_found, place_missing}
+use Rattle.rasta_check.proofs.Capture.FaultlessCaptures.{nothing_is}
+use Rattle.rasta_check.proofs.Capture.Readings.{grown_is}
+use Rattle.rasta_check.proofs.Internals.StoreLists.{count_of, kept_at, sent_is, ordered_of, place_found, place_missing}
 
 -- ---- the packets that are there
 
@@ -54,6 +54,14 @@ among_same : (d : KeptDatagrams) → Among d d
 unfolding Among
 among_same d side i x g = g
 
+kept_with : (d : KeptDatagrams) (side : Side) (y : Kept) → (kept_by (keeping d side y) side ≡ kept_by d side ++ y ∷ []) × ((keeping d side y).bytes ≡ d.bytes ++ y.bytes)
+kept_with d Client y = (refl, refl)
+kept_with d Server y = (refl, refl)
+
+sent_with : (k : Crossing) (a : Packet) (side : Side) (own : List FirstCopy) → sent_by (crossing_with k a side own) side ≡ own
+sent_with k a Client own = refl
+sent_with k a Server own = refl
+
 positions_more : (d e : KeptDatagrams) → Among d e → (xs : List StoredPacket) (x : StoredPacket) → HavePositions d xs → x.position < length (kept_by e x.side) → HavePositions e (xs ++ x ∷ [])
 unfolding Among
 positions_more d e h xs x l last i y g =
@@ -69,6 +77,13 @@ decode_more p side kept y pdu h reads spelled i x g =
     (λ (o : slice_get kept i ≡ Some x). h i x o)
     (λ (n : (i ≡ length kept) × (y ≡ x)). subst (λ (z : Kept). (r : RedundancyPdu) × (decode_of p side z.bytes ≡ Ok r) × Spells p side r z.bytes) n.1 (pdu, reads, spelled))
     (get_push_cases kept y i x g)
+
+decode_with : (p : Parameters) (d : KeptDatagrams) (side : Side) (y : Kept) (pdu : RedundancyPdu) → ((s : Side) → Decode p s (kept_by d s)) → decode_of p side y.bytes ≡ Ok pdu → Spells p side pdu y.bytes
+    → (s : Side) → Decode p s (kept_by (keeping d side y) s)
+decode_with p d Client y pdu h reads spelled Client = decode_more p Client d.client y pdu (h Client) reads spelled
+decode_with p d Client y pdu h reads spelled Server = h Server
+decode_with p d Server y pdu h reads spelled Client = h Client
+decode_with p d Server y pdu h reads spelled Server = decode_more p Server d.server y pdu (h Server) reads spelled
 
 -- ---- the bytes of first copies
 
@@ -106,15 +121,12 @@ lower_place place end n o q l e = (let t : nat_eq place end ≡ false = grind (a
 
 -- the list of one side goes on at the end
 module _ (k : Crossing) (a : Packet) (c : FirstCopy) (at : c.place ≡ length k.packets) where
-  client_places : IsOrdered (k.client ++ c ∷ []) → SamePlaces k (crossing_with k a Client (k.client ++ c ∷ [])) (length k.packets)
+  places_with : (side : Side) → IsOrdered (sent_by k side ++ c ∷ []) → SamePlaces k (crossing_with k a side (sent_by k side ++ c ∷ [])) (length k.packets)
   unfolding SamePlaces
-  client_places o Client place l = lower_place place c.place (length k.client) (position_of_place k.client place) _ (omega arith) (place_pushed k.client c o place)
-  client_places o Server place l = refl
-
-  server_places : IsOrdered (k.server ++ c ∷ []) → SamePlaces k (crossing_with k a Server (k.server ++ c ∷ [])) (length k.packets)
-  unfolding SamePlaces
-  server_places o Client place l = refl
-  server_places o Server place l = lower_place place c.place (length k.server) (position_of_place k.server place) _ (omega arith) (place_pushed k.server c o place)
+  places_with Client o Client place l = lower_place place c.place (length k.client) (position_of_place k.client place) _ (omega arith) (place_pushed k.client c o place)
+  places_with Client o Server place l = refl
+  places_with Server o Client place l = refl
+  places_with Server o Server place l = lower_place place c.place (length k.server) (position_of_place k.server place) _ (omega arith) (place_pushed k.server c o place)
 
 no_place : (k : Crossing) → IsCrossing k → (side : Side) → position_of_place (sent_by k side) (length k.packets) ≡ None
 no_place k h side =
@@ -154,77 +166,51 @@ module _ (p : Parameters) (d : KeptDatagrams) (packets : List StoredPacket) (st 
     copy = record { place = length k.packets; pdu = pdu }
 
     here : (side : Side) → position ≡ length (kept_by d side) → packet_by (keeping d side datagram) (stored side) ≡ packet_with channel side payload
-    here Client e =
-        ap (λ (o : Option Kept). packet_with channel Client (bytes_of o)) (ap (slice_get (d.client ++ datagram ∷ [])) e ∙ get_push d.client datagram)
-    here Server e =
-        ap (λ (o : Option Kept). packet_with channel Server (bytes_of o)) (ap (slice_get (d.server ++ datagram ∷ [])) e ∙ get_push d.server datagram)
+    here side e =
+        ap (λ (o : Option Kept). packet_with channel side (bytes_of o)) ((λ i. slice_get ((kept_with d side datagram).0 i) (e i)) ∙ get_push (kept_by d side) datagram)
+
+    view_with : (side : Side) (xs : List StoredPacket) (a : Packet) (own : List FirstCopy) → map (packet_by (keeping d side datagram)) xs ≡ k.packets ++ a ∷ []
+        → map (copy_in p side) (kept_by d side ++ datagram ∷ []) ≡ own → crossing_by p (keeping d side datagram) xs ≡ crossing_with k a side own
+    view_with Client xs a own e f = (λ i. record { params = p; packets = e i; client = f i; server = k.server })
+    view_with Server xs a own e f = (λ i. record { params = p; packets = e i; client = k.client; server = f i })
 
     pub new_view : (side : Side) → position ≡ length (kept_by d side) → decode_of p side payload ≡ Ok pdu
         → sent_after k (packet_with channel side payload) ≡ sent_by k side ++ copy ∷ []
         → crossing_by p (keeping d side datagram) (packets ++ stored side ∷ []) ≡ with_packet k (packet_with channel side payload)
-    new_view Client e reads after =
-        (λ i. record {
-          params = p;
-          packets = packets_with (keeping d Client datagram) (stored Client) _ (among_keeping d Client datagram) (here Client e) i;
-          client = (copies_with Client d.client datagram pdu reads ∙ ap (λ (n : ℕ). k.client ++ record { place = n; pdu = pdu } ∷ []) at ∙ sym after) i;
-          server = k.server;
-        })
-    new_view Server e reads after =
-        (λ i. record {
-          params = p;
-          packets = packets_with (keeping d Server datagram) (stored Server) _ (among_keeping d Server datagram) (here Server e) i;
-          client = k.client;
-          server = (copies_with Server d.server datagram pdu reads ∙ ap (λ (n : ℕ). k.server ++ record { place = n; pdu = pdu } ∷ []) at ∙ sym after) i;
-        })
+    new_view side e reads after =
+        view_with side (packets ++ stored side ∷ []) (packet_with channel side payload) _ (packets_with (keeping d side datagram) (stored side) _ (among_keeping d side datagram) (here side e))
+        (copies_with side (kept_by d side) datagram pdu reads ∙ (λ i. sym (sent_is p d packets side) i ++ record { place = at i; pdu = pdu } ∷ []) ∙ sym after)
 
     -- its bytes come last
     new_bytes : (side : Side) → IsOrdered (sent_by k side ++ copy ∷ []) → d.bytes ++ payload
         ≡ first_copies_from (crossing_with k (packet_with channel side payload) side (sent_by k side ++ copy ∷ [])) 0 (k.packets ++ packet_with channel side payload ∷ [])
-    new_bytes Client h =
-        let a = packet_with channel Client payload in
-        let l = crossing_with k a Client (k.client ++ copy ∷ []) in
-        let last = at_some (position_of_place l.client (length k.packets)) (length k.client) payload
-        (place_found l.client h (length k.client) copy (get_push k.client copy)) in
+    new_bytes side h =
+        let a = packet_with channel side payload in
+        let own = sent_by k side ++ copy ∷ [] in
+        let l = crossing_with k a side own in
+        let last = at_some (position_of_place (sent_by l side) (length k.packets)) (length (sent_by k side)) payload
+        (ap (λ (xs : List FirstCopy). position_of_place xs (length k.packets)) (sent_with k a side own) ∙ place_found own h (length (sent_by k side)) copy (get_push (sent_by k side) copy)) in
         (λ i. st.bytes i ++ payload)
-        ∙ sym (copies_last l k.packets a ∙ (λ i. copies_same k l (length k.packets) 0 k.packets (client_places k a copy refl h) (omega arith) i ++ last i))
-    new_bytes Server h =
-        let a = packet_with channel Server payload in
-        let l = crossing_with k a Server (k.server ++ copy ∷ []) in
-        let last = at_some (position_of_place l.server (length k.packets)) (length k.server) payload
-        (place_found l.server h (length k.server) copy (get_push k.server copy)) in
-        (λ i. st.bytes i ++ payload)
-        ∙ sym (copies_last l k.packets a ∙ (λ i. copies_same k l (length k.packets) 0 k.packets (server_places k a copy refl h) (omega arith) i ++ last i))
+        ∙ sym (copies_last l k.packets a ∙ (λ i. copies_same k l (length k.packets) 0 k.packets (places_with k a copy refl side h) (omega arith) i ++ last i))
 
     -- the store with it
     pub new_store : (side : Side) → position ≡ length (kept_by d side) → decode_of p side payload ≡ Ok pdu → Spells p side pdu payload
         → sent_after k (packet_with channel side payload) ≡ sent_by k side ++ copy ∷ [] → IsCrossing (with_packet k (packet_with channel side payload))
         → IsStore p (keeping d side datagram) (packets ++ stored side ∷ [])
-    new_store Client e reads spelled after h =
-        let a = packet_with channel Client payload in
-        let view = new_view Client e reads after in
-        let next : IsCrossing (crossing_with k a Client (k.client ++ copy ∷ [])) = subst (λ (own : List FirstCopy). IsCrossing (crossing_with k a Client own)) after h in
-        let whole = ap (λ (own : List FirstCopy). crossing_with k a Client own) after in
-        let size = length_push d.client datagram in
+    new_store side e reads spelled after h =
+        let a = packet_with channel side payload in
+        let own = sent_by k side ++ copy ∷ [] in
+        let view = new_view side e reads after in
+        let whole = ap (λ (xs : List FirstCopy). crossing_with k a side xs) after in
+        let ordered = subst IsOrdered (sent_with k a side own) (ordered_of (crossing_with k a side own) (subst IsCrossing whole h) side) in
+        let size = length_push (kept_by d side) datagram in
+        let more = kept_with d side datagram in
         record {
           crossing = subst IsCrossing (sym view) h;
-          client = decode_more p Client d.client datagram pdu st.client reads spelled;
-          server = st.server;
-          positions = positions_more d (keeping d Client datagram) (among_keeping d Client datagram) packets (stored Client) st.positions (omega arith);
-          bytes = new_bytes Client (ordered_of (crossing_with k a Client (k.client ++ copy ∷ [])) next Client)
-              ∙ sym (ap (λ (q : Crossing). first_copies_from q 0 q.packets) (view ∙ whole));
-        }
-    new_store Server e reads spelled after h =
-        let a = packet_with channel Server payload in
-        let view = new_view Server e reads after in
-        let next : IsCrossing (crossing_with k a Server (k.server ++ copy ∷ [])) = subst (λ (own : List FirstCopy). IsCrossing (crossing_with k a Server own)) after h in
-        let whole = ap (λ (own : List FirstCopy). crossing_with k a Server own) after in
-        let size = length_push d.server datagram in
-        record {
-          crossing = subst IsCrossing (sym view) h;
-          client = st.client;
-          server = decode_more p Server d.server datagram pdu st.server reads spelled;
-          positions = positions_more d (keeping d Server datagram) (among_keeping d Server datagram) packets (stored Server) st.positions (omega arith);
-          bytes = new_bytes Server (ordered_of (crossing_with k a Server (k.server ++ copy ∷ [])) next Server)
+          decode = decode_with p d side datagram pdu st.decode reads spelled;
+          positions = positions_more d (keeping d side datagram) (among_keeping d side datagram) packets (stored side) st.positions
+              (subst (λ (xs : List Kept). position < length xs) (sym more.0) (omega arith));
+          bytes = more.1 ∙ new_bytes side ordered ∙ ap (first_copies_from (crossing_with k a side own) 0) (sym (grown_is k a side own).0)
               ∙ sym (ap (λ (q : Crossing). first_copies_from q 0 q.packets) (view ∙ whole));
         }
 
@@ -282,8 +268,7 @@ module _ (p : Parameters) (d : KeptDatagrams) (packets : List StoredPacket) (st 
     pub copy_store : IsCrossing (with_packet k (packet_with channel side payload)) → IsStore p d (packets ++ again ∷ [])
     copy_store h = record {
       crossing = subst IsCrossing (sym copy_view) h;
-      client = st.client;
-      server = st.server;
+      decode = st.decode;
       positions = positions_more d d (among_same d) packets again st.positions position_within;
       bytes = copy_bytes ∙ sym (ap (λ (q : Crossing). first_copies_from q 0 q.packets) copy_lists);
     }
@@ -313,41 +298,16 @@ module _ (p : Parameters) (d : KeptDatagrams) (packets : List StoredPacket) (st 
       let view = new_view p d packets st a.channel position place a.payload j.0 n a.side last j.1 j.3 in
       (subst (λ (x : KeptDatagrams). IsStore p x all) (sym m) (subst (IsStore p _) (sym e) store), (λ i. crossing_by p (m i) (e i)) ∙ view)
 
--- ---- the limits
-
--- a list of its side that is as long, or longer by one
-is_room : (k : Crossing) (a : Packet) (side : Side) (own : List FirstCopy) (is_new : Bool) → IsCrossing k → length own ≡ length (sent_by k side) + (if is_new then 1 else 0)
-    → is_within (crossing_with k a side own) ≡ (nat_lt (length k.packets) most_packets && (not is_new || nat_lt (length (sent_by k side)) most_sent))
-is_room k a Client own true h e = (let l = length_push k.packets a in let x = h.few_client in let y = h.few_server in grind (arith, nat_tests))
-is_room k a Client own false h e = (let l = length_push k.packets a in let x = h.few_client in let y = h.few_server in grind (arith, nat_tests))
-is_room k a Server own true h e = (let l = length_push k.packets a in let x = h.few_client in let y = h.few_server in grind (arith, nat_tests))
-is_room k a Server own false h e = (let l = length_push k.packets a in let x = h.few_client in let y = h.few_server in grind (arith, nat_tests))
-
-judged_length : (k : Crossing) (a : Packet) (known : Option ℕ) → IsJudged k a known → length (sent_after k a) ≡ length (sent_by k a.side) + (if is_none known then 1 else 0)
-judged_length k a None j = ap length j.3 ∙ length_push (sent_by k a.side) (record { place = length k.packets; pdu = j.0 })
-judged_length k a (Some position) j = ap length j.3 ∙ (let n : length (sent_by k a.side) ≡ length (sent_by k a.side) + 0 = omega arith in n)
-
-module _ (k : Crossing) (a : Packet) (known : Option ℕ) (h : IsCrossing k) (j : IsJudged k a known) (is_new room : Bool) (new_is : is_some known ≡ not is_new)
-    (room_is : room ≡ (nat_lt (length k.packets) most_packets && (not is_new || nat_lt (length (sent_by k a.side)) most_sent))) where
-  same_new : (o : Option ℕ) (b : Bool) → is_some o ≡ not b → is_none o ≡ b
-  same_new None true e = refl
-  same_new None false e = absurd (cc)
-  same_new (Some x) true e = absurd (cc)
-  same_new (Some x) false e = refl
-
-  pub within_is : is_within (with_packet k a) ≡ room
-  within_is =
-      is_room k a a.side (sent_after k a) is_new h (judged_length k a known j ∙ ap (λ (b : Bool). length (sent_by k a.side) + (if b then 1 else 0)) (same_new known is_new new_is))
-      ∙ sym room_is
+-- a list of its side goes on where its number is new
+pub judged_length : (k : Crossing) (a : Packet) (known : Option ℕ) (is_new : Bool) → IsJudged k a known → is_some known ≡ not is_new → length (sent_after k a) ≡ length (sent_by k a.side) + (if is_new then 1 else 0)
+judged_length k a known is_new j e = grind (arith, length_push)
 
 -- ---- at the start
 
+no_datagram : (p : Parameters) (side : Side) → Decode p side (kept_by nothing_kept side)
+no_datagram p Client i x g = absurd (cc)
+no_datagram p Server i x g = absurd (cc)
+
 pub empty_store : (p : Parameters) → OfConnection p → IsStore p nothing_kept []
 unfolding first_copies_from
-empty_store p h = record {
-  crossing = nothing_is p h;
-  client = λ i x g. absurd (cc);
-  server = λ i x g. absurd (cc);
-  positions = λ i x g. absurd (cc);
-  bytes = refl;
-}
+empty_store p h = record { crossing = nothing_is p h; decode = no_datagram p; positions = λ i x g. absurd (cc); bytes = refl }

@@ -1,5 +1,5 @@
 -- What a store keeps at its positions and places.
-use Rattle.std.proofs.Common.{◌≡◌, ℕ, zero, suc, ◌+◌, ◌-◌, ◌%◌, ◌<◌, ◌≤◌, List, [], ◌∷◌, length, map, Bool, true, false, cond, not, nat_lt, nat_eq, Option, Some, None, slice_get, refl, ap, sym, ◌∙◌, subst, arith, IfSome, if◌then◌else◌}
+use Rattle.std.proofs.Common.{◌≡◌, ℕ, suc, ◌+◌, ◌-◌, ◌<◌, ◌≤◌, List, [], ◌∷◌, length, map, Bool, true, false, cond, not, nat_lt, nat_eq, Option, Some, None, slice_get, refl, ap, sym, ◌∙◌, subst, arith, IfSome, if◌then◌else◌}
 use Rattle.std.specs.Prelude.{◌==◌, Ok, Result}
 use Rattle.std.specs.List.{position_or_len}
 use Rattle.std.specs.Option.{option_map}
@@ -8,8 +8,6 @@ use Rattle.std.proofs.lemmas.Bool.Decides.{nat_tests}
 use Rattle.std.proofs.lemmas.Slice.Eq.{bytes_eq-Decides}
 use Rattle.std.proofs.lemmas.List.{length-map}
 use Rattle.std.proofs.lemmas.Option.{slice_get-map, slice_get_past, slice_get_within}
-use native.Mathlib.Decide.{dec_lt}
-use Prim.{yes, no}
 use Rattle.rasta_pcap.specs.declared.fault.Fault.{Fault}
 use Rattle.rasta_pcap.specs.declared.fault.Side.{Side}
 use Rattle.rasta_pcap.specs.declared.fault.Side.TheVariants.{Client, Server}
@@ -24,7 +22,7 @@ use Rattle.rasta_check.specs.Capture.Lists.{IsOrdered, numbers_of, places_of, po
 use Rattle.rasta_check.specs.Capture.Reading.{Crossing, IsCrossing, sent_by, after_pdu, after_read, sent_after}
 use Rattle.rasta_check.specs.Internals.Stored.{IsStore, Decode, bytes_of, copy_in, pdu_in, packet_by, crossing_by}
 use Rattle.rasta_check.proofs.Capture.Crossings.{few_of, list_of}
-use Rattle.rasta_check.proofs.Capture.Positions.{far, near, places_below, position_at, position_none}
+use Rattle.rasta_check.proofs.Capture.Positions.{member_there, places_below, position_at, position_none}
 use Rattle.rasta_check.proofs.Script.Simulation.{slice_get_some}
 use Rattle.rasta_check.proofs.Capture.FirstCopies.{not_again}
 use Rattle.rasta_check.proofs.Capture.Spellings.{read_once}
@@ -49,25 +47,20 @@ first_in p side kept h position x g =
           ∙ ap (λ (r : Result RedundancyPdu Fault). Some (record { place = x.place; pdu = pdu_in r })) w.1;
     }
 
-none_in : (p : Parameters) (side : Side) (kept : List Kept) (position : ℕ) → slice_get kept position ≡ None → slice_get (map (copy_in p side) kept) position ≡ None
-none_in p side kept position g = slice_get-map (copy_in p side) kept position ∙ ap (option_map (copy_in p side)) g
-
 module _ (p : Parameters) (d : KeptDatagrams) (packets : List StoredPacket) where
   abbrev whole : Crossing
   whole = crossing_by p d packets
 
+  pub sent_is : (side : Side) → sent_by whole side ≡ map (copy_in p side) (kept_by d side)
+  sent_is Client = refl
+  sent_is Server = refl
+
   pub kept_at : IsStore p d packets → (side : Side) (position : ℕ) (x : Kept) → slice_get (kept_by d side) position ≡ Some x
       → IsFirst p side x (sent_by whole side) position
-  kept_at st Client position x g = first_in p Client d.client st.client position x g
-  kept_at st Server position x g = first_in p Server d.server st.server position x g
-
-  pub none_at : (side : Side) (position : ℕ) → slice_get (kept_by d side) position ≡ None → slice_get (sent_by whole side) position ≡ None
-  none_at Client position g = none_in p Client d.client position g
-  none_at Server position g = none_in p Server d.server position g
+  kept_at st side position x g = subst (λ (own : List FirstCopy). IsFirst p side x own position) (sym (sent_is side)) (first_in p side (kept_by d side) (st.decode side) position x g)
 
   pub count_of : (side : Side) → length (sent_by whole side) ≡ length (kept_by d side)
-  count_of Client = length-map d.client (copy_in p Client)
-  count_of Server = length-map d.server (copy_in p Server)
+  count_of side = ap length (sent_is side) ∙ length-map (kept_by d side) (copy_in p side)
 
   -- the packet at a place
   pub packet_there : (place : ℕ) (x : StoredPacket) → slice_get packets place ≡ Some x → slice_get whole.packets place ≡ Some (packet_by d x)
@@ -102,19 +95,14 @@ pub one_place : (sent : List FirstCopy) → IsOrdered sent → (i j : ℕ) (a b 
 one_place sent h i j a b g f l =
     places_below sent h (j - suc i) i a b g (subst (λ (n : ℕ). slice_get sent n ≡ Some b) (omega arith) f)
 
-place_in : (sent : List FirstCopy) (i y : ℕ) → slice_get (places_of sent) i ≡ Some y → (c : FirstCopy) × (slice_get sent i ≡ Some c) × (c.place ≡ y)
-place_in [] i y g = absurd (cc)
-place_in (c ∷ sent) zero y g = (c, refl, cc)
-place_in (c ∷ sent) (suc i) y g = place_in sent i y g
-
 -- the position of a place is that of the copy there
 pub place_found : (sent : List FirstCopy) → IsOrdered sent → (position : ℕ) (c : FirstCopy) → slice_get sent position ≡ Some c → position_of_place sent c.place ≡ Some position
 place_found sent h position c g =
     position_at c.place (places_of sent) position (slice_get-map (λ (x : FirstCopy). x.place) sent position ∙ ap (option_map (λ (x : FirstCopy). x.place)) g)
-    (λ j y b f e. (let w = place_in sent j y f in let z = one_place sent h j position w.0 c w.1 g b in let q = w.2 in omega arith))
+    (λ j y b f e. (let w = member_there (λ (x : FirstCopy). x.place) sent j y f in let z = one_place sent h j position w.0 c w.1 g b in let q = w.2 in omega arith))
 
 pub place_missing : (sent : List FirstCopy) (place : ℕ) → ((i : ℕ) (c : FirstCopy) → slice_get sent i ≡ Some c → c.place ≡ place → ⊥) → position_of_place sent place ≡ None
-place_missing sent place h = position_none place (places_of sent) (λ j y f e. (let w = place_in sent j y f in h j w.0 w.1 (w.2 ∙ e)))
+place_missing sent place h = position_none place (places_of sent) (λ j y f e. (let w = member_there (λ (x : FirstCopy). x.place) sent j y f in h j w.0 w.1 (w.2 ∙ e)))
 
 module _ (p : Parameters) (d : KeptDatagrams) (packets : List StoredPacket) (st : IsStore p d packets) where
   abbrev all : Crossing
@@ -151,13 +139,9 @@ module _ (p : Parameters) (d : KeptDatagrams) (packets : List StoredPacket) (st 
       let one : mine.pdu ≡ c.pdu = read_once p st.crossing.valid.valid side mine.pdu c.pdu y.bytes mine.spelled
       (subst (λ (bs : List ℕ). Spells p side c.pdu bs) (sym bytes) w.3) in
       let number : mine.pdu.number ≡ c.pdu.number = ap (λ (r : RedundancyPdu). r.number) one in
-      elim (dec_lt i x.position) [
-        | yes l ↦ absurd (one_number all st.crossing side i x.position c _ f mine.there (sym number) l)
-        | no n ↦ elim (dec_lt x.position i) [
-          | yes l ↦ absurd (one_number all st.crossing side x.position i _ c mine.there f number l)
-          | no m ↦ omega arith
-        ]
-      ]
+      let not_low : i < x.position → ⊥ = λ l. one_number all st.crossing side i x.position c _ f mine.there (sym number) l in
+      let not_high : x.position < i → ⊥ = λ l. one_number all st.crossing side x.position i _ c mine.there f number l in
+      omega (arith, not_low, not_high)
 
   -- each packet has the position of a datagram
   pub not_stored : (side : Side) (place : ℕ) (x : StoredPacket) → slice_get packets place ≡ Some x → x.side ≡ side → slice_get (kept_by d side) x.position ≡ None → ⊥
@@ -207,33 +191,29 @@ same_test n m = grind (arith, nat_tests)
 -- the first copy of a number stands at the number's position
 copy_step : (e b : Bool) (c : FirstCopy) (own : List FirstCopy) (l : ℕ) (o : Option FirstCopy) → e ≡ b → o ≡ slice_get own l
     → (if b then Some c else o) ≡ slice_get (c ∷ own) (cond (not e) (1 + l) 0)
-copy_step true true c own l o e h = refl
-copy_step true false c own l o e h = absurd (cc)
-copy_step false true c own l o e h = absurd (cc)
-copy_step false false c own l o e h = h ∙ ap (slice_get (c ∷ own)) (let n : suc l ≡ 1 + l = omega arith in n)
+copy_step e b c own l o f h = grind arith
 
 or_len : (own : List FirstCopy) (n : ℕ) → copy_with own n ≡ slice_get own (position_or_len (nat_eq n) (numbers_of own))
 or_len [] n = refl
 or_len (c ∷ own) n =
     copy_step (nat_eq n c.pdu.number) (c.pdu.number == n) c own (position_or_len (nat_eq n) (numbers_of own)) (copy_with own n) (same_test n c.pdu.number) (or_len own n)
 
-shown_some : (b : Bool) (l i : ℕ) → cond b (Some l) None ≡ Some i → l ≡ i
-shown_some true l i e = cc
-shown_some false l i e = absurd (cc)
+shown_some : (l n i : ℕ) → cond (nat_lt l n) (Some l) None ≡ Some i → (l ≡ i) × (i < n)
+shown_some l n i e = by (nat_lt l n) refl e
+  where
+    by : (b : Bool) → nat_lt l n ≡ b → cond b (Some l) None ≡ Some i → (l ≡ i) × (i < n)
+    by true f g = (let same : l ≡ i = cc in (same, let z : l < n = grind (arith, nat_tests) in omega arith))
+    by false f g = absurd (cc)
 
 shown_none : (l n : ℕ) → cond (nat_lt l n) (Some l) None ≡ None → n ≤ l
-shown_none l n e = by (nat_lt l n) refl e
-  where
-    by : (b : Bool) → nat_lt l n ≡ b → cond b (Some l) None ≡ None → n ≤ l
-    by true f g = absurd (cc)
-    by false f g = grind (arith, nat_tests)
+shown_none l n e = grind (arith, nat_tests)
 
 length-numbers : (own : List FirstCopy) → length (numbers_of own) ≡ length own
 length-numbers own = length-map own (λ (c : FirstCopy). c.pdu.number)
 
 pub copy_of_position : (own : List FirstCopy) (n position : ℕ) → position_of_number own n ≡ Some position → copy_with own n ≡ slice_get own position
 copy_of_position own n position e =
-    or_len own n ∙ ap (slice_get own) (shown_some (nat_lt (position_or_len (nat_eq n) (numbers_of own)) (length (numbers_of own))) (position_or_len (nat_eq n) (numbers_of own)) position e)
+    or_len own n ∙ ap (slice_get own) (shown_some (position_or_len (nat_eq n) (numbers_of own)) (length (numbers_of own)) position e).0
 
 pub no_copy : (own : List FirstCopy) (n : ℕ) → position_of_number own n ≡ None → copy_with own n ≡ None
 no_copy own n e =
@@ -241,14 +221,10 @@ no_copy own n e =
     let size = length-numbers own in
     or_len own n ∙ slice_get_past own (position_or_len (nat_eq n) (numbers_of own)) (omega arith)
 
-within_by : (b : Bool) (l n i : ℕ) → nat_lt l n ≡ b → cond b (Some l) None ≡ Some i → i < n
-within_by true l n i f e = (let same : l ≡ i = cc in let z : l < n = grind (arith, nat_tests) in omega arith)
-within_by false l n i f e = absurd (cc)
-
 -- a number's position is one of the list
 pub shown_within : (own : List FirstCopy) (n position : ℕ) → position_of_number own n ≡ Some position → position < length own
 shown_within own n position e =
-    let l = within_by (nat_lt (position_or_len (nat_eq n) (numbers_of own)) (length (numbers_of own))) (position_or_len (nat_eq n) (numbers_of own)) (length (numbers_of own)) position refl e in
+    let l = (shown_some (position_or_len (nat_eq n) (numbers_of own)) (length (numbers_of own)) position e).1 in
     let size = length-numbers own in omega arith
 
 -- what is known of a packet whose number is that of a first copy
@@ -292,23 +268,3 @@ module _ (k : Crossing) (a : Packet) (pdu : RedundancyPdu) (reads : decode_of k.
   skips e f =
       ap (read_fault k.params a.side sent a.payload) reads ∙ (ap (number_fault k.params a.side sent a.payload pdu) (no_copy sent pdu.number e)
       ∙ ap (λ (b : Bool). if b then None else Some number_gap) f)
-
--- ---- numbers by their distance from the first
-
-first_of : (o : Option FirstCopy) (n : ℕ) → option_map (λ (c : FirstCopy). c.pdu.number) o ≡ Some n → (c : FirstCopy) × (o ≡ Some c) × (c.pdu.number ≡ n)
-first_of None n e = absurd (cc)
-first_of (Some c) n e = (c, refl, cc)
-
-module _ (k : Crossing) (h : IsCrossing k) (side : Side) (first : ℕ) (starts : option_map (λ (c : FirstCopy). c.pdu.number) (slice_get (sent_by k side) 0) ≡ Some first) (n : ℕ) (small : n < 4294967296)
-    (position : ℕ) (distance : position ≡ (n + (4294967296 - first)) % 4294967296) where
-  pub near_to : position < length (sent_by k side) → Some position ≡ position_of_number (sent_by k side) n
-  near_to l =
-      let w = first_of (slice_get (sent_by k side) 0) first starts in
-      let few = few_of k h side in
-      sym (near (sent_by k side) (ordered_of k h side) (omega arith) w.0 w.1 n small position (distance ∙ ap (λ (m : ℕ). (n + (4294967296 - m)) % 4294967296) (sym w.2)) l)
-
-  pub far_from : length (sent_by k side) ≤ position → None ≡ position_of_number (sent_by k side) n
-  far_from l =
-      let w = first_of (slice_get (sent_by k side) 0) first starts in
-      let few = few_of k h side in
-      sym (far (sent_by k side) (ordered_of k h side) (omega arith) w.0 w.1 n small position (distance ∙ ap (λ (m : ℕ). (n + (4294967296 - m)) % 4294967296) (sym w.2)) l)

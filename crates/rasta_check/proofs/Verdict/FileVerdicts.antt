@@ -14,12 +14,12 @@ use Rattle.rasta_check.specs.Capture.Faults.{CrossedIn}
 use Rattle.rasta_check.specs.Verdict.Report.{Explained, BothFit, Explains, IsFileVerdict, IsScriptVerdict, judged, report_of}
 use Rattle.rasta_check.specs.Verdict.Headline.{Headline}
 use Rattle.rasta_check.proofs.Capture.ListForms.{to_record}
-use Rattle.rasta_check.proofs.Capture.Readings.{records_by}
+use Rattle.rasta_check.proofs.Capture.Readings.{records_add}
 use Rattle.rasta_check.proofs.Capture.FirstCopies.{sent_once}
 
 -- what is read has the parameters by which it is read
 pub same_params : (p : Parameters) (file : List ℕ) (k : Crossing) → crossing_of p file ≡ Ok k → k.params ≡ p
-same_params p file k e = (records_by (nothing_crossed p) k (reading_of p.last_record file).records (reading_of p.last_record file).fault e).1.1
+same_params p file k e = (records_add (nothing_crossed p) k (reading_of p.last_record file).records (reading_of p.last_record file).fault e).1.params
 
 -- the verdict on a capture without a fault is that on what crossed in it
 pub verdict_is : (p : Parameters) (file : List ℕ) (k : Crossing) → CrossedIn p file k → (scripts : Scripts) (verdict : Result Explained Fault)

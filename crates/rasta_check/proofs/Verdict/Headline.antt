@@ -210,8 +210,3 @@ module _ (p : Parameters) (packets : List Packet) (c s : List FirstCopy) (h : Is
 pub lent : (k : Crossing) (p : Parameters) (c s : List FirstCopy) → k.params ≡ p → c ≡ k.client → s ≡ k.server → IsCrossing k
     → IsCrossing (record { params = p; packets = k.packets; client = c; server = s })
 lent k p c s a b d h = subst IsCrossing (λ i. record { params = a i; packets = k.packets; client = sym b i; server = sym d i }) h
-
--- scripts fit equal lists
-pub fits_by : (p : Parameters) (scripts : Scripts) (n m : ℕ) (c d s t : List FirstCopy) → n ≡ m → c ≡ d → s ≡ t → BothFit p n c s scripts → BothFit p m d t scripts
-fits_by p scripts n m c d s t a b e f =
-    subst (λ (y : List FirstCopy). BothFit p m d y scripts) e (subst (λ (x : List FirstCopy). BothFit p m x s scripts) b (subst (λ k. BothFit p k c s scripts) a f))

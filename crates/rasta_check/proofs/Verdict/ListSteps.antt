@@ -2,6 +2,7 @@
 use Rattle.std.proofs.Common.{◌≡◌, ℕ, zero, suc, ◌+◌, ◌≤◌, Bool, true, false, List, [], ◌∷◌, ◌++◌, length, drop, map, Some, None, refl, ap, sym, ◌∙◌, arith, append_assoc, slice_get}
 use Rattle.std.specs.Prelude.{if◌then◌else◌}
 use Rattle.std.proofs.lemmas.List.{append-nil, length-append, length-map}
+use Rattle.std.proofs.Math.ListN.{drop_of_length-le}
 use Rattle.rasta_end.specs.State.{EndState}
 use Rattle.rasta_check.specs.Capture.Crossing.{FirstCopy}
 use Rattle.rasta_check.specs.declared.report.Taken.{Taken}
@@ -19,10 +20,7 @@ left_at (y ∷ xs) zero x g = (let e : y ≡ x = cc in ap (λ (z : FirstCopy). z
 left_at (y ∷ xs) (suc i) x g = (let n : suc (i + 1) ≡ suc i + 1 = omega arith in left_at xs i x g ∙ ap (λ k. x ∷ drop k (y ∷ xs)) n)
 
 pub none_left : (xs : List FirstCopy) (i : ℕ) → length xs ≤ i → drop i xs ≡ []
-none_left [] zero l = refl
-none_left [] (suc i) l = refl
-none_left (x ∷ xs) zero l = absurd (omega arith)
-none_left (x ∷ xs) (suc i) l = none_left xs i (omega arith)
+none_left xs i l = drop_of_length-le xs l
 
 -- ---- places of proofs
 
@@ -49,7 +47,7 @@ unproved places unit (c ∷ copies) g = by (is_kind Data c.pdu.safety.kind) (unp
 
 pub other_copy : (places : List ℕ) (unit : ℕ) (c : FirstCopy) (copies : List FirstCopy) → is_kind Data c.pdu.safety.kind ≡ false → proved_units places unit (c ∷ copies) ≡ proved_units places unit copies
 unfolding proved_units
-other_copy places unit c copies k = ap (λ b. if b then with_unit c (slice_get places unit) (proved_units places (suc unit) copies) else proved_units places unit copies) k
+other_copy places unit c copies k = grind arith
 
 pub unproved_copy : (places : List ℕ) (unit : ℕ) (c : FirstCopy) (copies : List FirstCopy) → slice_get places unit ≡ None → proved_units places unit (c ∷ copies) ≡ proved_units places unit copies
 unproved_copy places unit c copies g = unproved places unit (c ∷ copies) g ∙ sym (unproved places unit copies g)

@@ -3,8 +3,8 @@ use Rattle.std.proofs.Common.{◌≡◌, ℕ, zero, suc, ◌+◌, ◌-◌, ◌%�
 use Rattle.std.specs.Prelude.{fold, max, nat_lt, slice_index_or, if◌then◌else◌, ◌==◌}
 use Rattle.std.specs.Option.{option_map}
 use Rattle.std.proofs.lemmas.Bool.Decides.{nat_tests}
-use Rattle.std.proofs.lemmas.List.{length-append}
-use Rattle.std.proofs.lemmas.Option.{slice_get_within}
+use Rattle.std.proofs.lemmas.List.{get_or-replicate, length-append, length-replicate}
+use Rattle.std.proofs.lemmas.Option.{slice_get-get_or, slice_get_past, slice_get_within}
 use Rattle.rasta_pcap.specs.declared.fault.Side.{Side}
 use Rattle.rasta_pcap.specs.declared.fault.Side.TheVariants.{Client, Server}
 use Rattle.rasta_pdu.specs.declared.quiet_point.Quiet.{Quiet}
@@ -128,23 +128,17 @@ first_small q s (m ∷ ms) own e h = (let z = head q s own e h in omega arith)
 -- ---- places of proofs, by what each PDU shows
 
 get_replicated : (m p k : ℕ) → k < m → slice_get (replicate m p) k ≡ Some p
-get_replicated zero p k l = absurd (omega arith)
-get_replicated (suc m) p zero l = refl
-get_replicated (suc m) p (suc k) l = get_replicated m p k (omega arith)
+get_replicated m p k l = (let few = length-replicate m p in slice_get-get_or (replicate m p) k 0 (omega arith) ∙ ap Some (get_or-replicate m k p 0 l))
 
 get_after : (places : List ℕ) (m p k : ℕ) → length places ≤ k → k < length places + m → slice_get (places ++ replicate m p) k ≡ Some p
 get_after [] m p k low high = get_replicated m p k (omega arith)
 get_after (x ∷ places) m p zero low high = absurd (omega arith)
 get_after (x ∷ places) m p (suc k) low high = get_after places m p k (omega arith) (omega arith)
 
-length-replicated : (m p : ℕ) → length (replicate m p) ≡ m
-length-replicated zero p = refl
-length-replicated (suc m) p = ap suc (length-replicated m p)
-
 length-with_proofs : (places : List ℕ) (n p : ℕ) → length (with_proofs places n p) ≡ max (length places) n
 length-with_proofs places n p =
     let a = length-append places (replicate (n - length places) p) in
-    let b = length-replicated (n - length places) p in
+    let b = length-replicate (n - length places) p in
     omega (arith, a, b)
 
 module _ (shown : SafetyPdu → ℕ) where
@@ -243,13 +237,8 @@ module _ (own : List SafetyPdu) (peer : List FirstCopy) (places : List ℕ) (h :
       listed r false e =
           let l : length places ≤ unit = grind (arith, nat_tests) in
           let n : 0 ≡ length places - unit = omega (arith, l) in
-          ap (λ o. with_unit c o (proved_units places (suc unit) copies)) (past places unit l)
+          ap (λ o. with_unit c o (proved_units places (suc unit) copies)) (slice_get_past places unit l)
           ∙ ap (λ k. units_from own peer unit (take k (c ∷ data_copies copies))) n
-        where
-          past : (xs : List ℕ) (k : ℕ) → length xs ≤ k → slice_get xs k ≡ None
-          past [] k l = refl
-          past (x ∷ xs) zero l = absurd (omega arith)
-          past (x ∷ xs) (suc k) l = past xs k (omega arith)
 
       by : (b : Bool) → proved_units places (suc unit) copies ≡ units_from own peer (suc unit) (take (length places - suc unit) (data_copies copies))
           → proved_units places unit copies ≡ units_from own peer unit (take (length places - unit) (data_copies copies))

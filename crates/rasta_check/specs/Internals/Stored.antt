@@ -70,8 +70,7 @@ HavePositions d packets = (i : ℕ) (x : StoredPacket) → slice_get packets i �
 -- so a store keeps what crossed
 pub record IsStore (p : Parameters) (d : KeptDatagrams) (packets : List StoredPacket) : Type 0 where
   pub crossing : IsCrossing (crossing_by p d packets)
-  pub client : Decode p Client d.client
-  pub server : Decode p Server d.server
+  pub decode : (side : Side) → Decode p side (kept_by d side)
   pub positions : HavePositions d packets
   pub bytes : d.bytes ≡ first_copy_bytes (crossing_by p d packets)
 

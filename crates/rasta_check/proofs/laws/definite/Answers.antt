@@ -1,6 +1,7 @@
 use Rattle.std.proofs.Common.{refl, arith}
 use Rattle.rasta_check.proofs.Capture.ListForms.{to_record}
-use Rattle.rasta_check.proofs.Capture.PacketFaults.{follows, faultless, grown}
+use Rattle.rasta_check.proofs.Capture.PacketFaults.{faultless}
+use Rattle.rasta_check.proofs.Capture.Crossings.{goes_on_sent, is_read}
 use Rattle.rasta_check.proofs.Capture.NextPackets.{definite, can_follow}
 use Rattle.rasta_check.proofs.laws.definite.Goals as goal
 
@@ -11,7 +12,7 @@ returns z p h = (
       faultless p packets packet.side sent packet h own (omega arith) (definite p h.valid ws w packets rest packet sent r e own (omega arith))),
   λ packets packet sent are s few.
       let own = to_record p packets packet.side sent h.valid s in (
-        (λ n. grown p packets packet sent own few (follows p packets packet.side sent packet h own (omega arith) are n)),
+        (λ n. (_, goes_on_sent p packets sent packet own few (is_read p sent packet h.valid are n) n)),
         λ rest more g. faultless p packets packet.side sent packet h own (omega arith) (can_follow p packets rest packet.side sent packet own (omega arith) refl more (to_record p _ packet.side more h.valid g)),
       ),
 )

@@ -7,9 +7,8 @@ use Rattle.rasta_check.specs.Capture.Reading.{Crossing, after_reading, crossing_
 use Rattle.rasta_check.specs.Model.Theorem.{OfConnection}
 use Rattle.rasta_check.specs.Capture.Faults.{in_header}
 use Rattle.rasta_check.proofs.Capture.Readings.{after-opened}
-use Rattle.rasta_check.proofs.Capture.DefiniteFaults.{Answers, answer_definite, opening_definite}
-use Rattle.rasta_check.proofs.Capture.FaultlessCaptures.{answer_only, opening_faulty}
-use Rattle.rasta_check.proofs.Capture.RefusedCaptures.{answer_is}
+use Rattle.rasta_check.proofs.Capture.DefiniteFaults.{answer_definite, opening_definite}
+use Rattle.rasta_check.proofs.Capture.RefusedCaptures.{Answers, answer_is, answer_only, opening_faulty}
 use Rattle.rasta_check.proofs.Capture.FaultNumbers.{answer_names_side, opening_names_side}
 use Rattle.rasta_check.proofs.reading.sent.Goals as goal
 

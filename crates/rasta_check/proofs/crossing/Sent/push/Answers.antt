@@ -22,7 +22,8 @@ invariant_of-self-2 c =
     let k : Crossing = record { params = old.params; packets = map packet_of items; client = old.client; server = old.server } in
     let whole : Option Pdu → Crossing = λ (new : Option Pdu). crossing_with k a a.side (with_new (sent_by k a.side) (length k.packets) new) in
     let may : IsCrossing (whole c.args.new) =
-    subst (λ (q : Crossing). IsCrossing (crossing_with q a a.side (with_new (sent_by q a.side) (length q.packets) c.args.new))) (sym c.self.view_is) c.requires in
+    subst (λ (q : Crossing). IsCrossing (crossing_with q a a.side (with_new (sent_by q a.side) (length q.packets) c.args.new))) (sym c.self.view_is)
+    (rw c.requires.judged at c.requires.crossing) in
     let parts : Inside → Crossing = λ (y : Inside). record { params = y.params; packets = map packet_of c.push_reserved.new.self.items; client = y.client; server = y.server } in
     let kept : c.try_reserve.new.self.items ≡ items = c.in_ok-try_reserve.ensures.items in
     let count : length (map packet_of items) ≡ length items = length-map items packet_of in
