@@ -86,6 +86,13 @@ impl<'a> Sent<'a> {
         self.params
     }
 
+    fn kept_params(&self) -> &Params
+        ensures value { result.now ≡ self.now.params }
+        ensures crossing { IsCrossing self.now }
+    {
+        &self.params
+    }
+
     /// How many packets crossed.
     pub fn len(&self) -> u32
         ensures value { result ≡ length self.now.packets }
@@ -170,8 +177,8 @@ impl<'a> Sent<'a> {
             × (sent_after self.now (packet_of found.entry) ≡ with_new (sent_by self.now found.entry.side) (length self.now.packets) new))
             (λ f. packet_fault self.now.params (sent_by self.now found.entry.side) (packet_of found.entry) ≡ Some f) }
     {
-        let p = self.params();
-        let pdu = match decode(&p, found.side, found.payload) {
+        let p = self.kept_params();
+        let pdu = match decode(p, found.side, found.payload) {
             Ok(pdu) => pdu,
             Err(fault) => return Err(fault.number),
         };

@@ -75,6 +75,13 @@ impl Store {
         self.params
     }
 
+    fn kept_params(&self) -> &Params
+        ensures value { result.now ≡ self.now.params }
+        ensures crossing { IsCrossing self.now }
+    {
+        &self.params
+    }
+
     /// How many packets crossed.
     pub fn len(&self) -> u32
         ensures value { result ≡ length self.now.packets }
@@ -213,8 +220,8 @@ impl Store {
             (λ f. packet_fault self.now.params (sent_by self.now found.now.side) (packet_of found.now) ≡ Some f) }
         ensures crossing { IsCrossing self.now }
     {
-        let p = self.params();
-        let number = match decode(&p, found.side, found.payload) {
+        let p = self.kept_params();
+        let number = match decode(p, found.side, found.payload) {
             Ok(pdu) => pdu.number(),
             Err(fault) => return Err(fault.number),
         };

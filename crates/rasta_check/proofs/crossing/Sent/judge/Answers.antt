@@ -21,15 +21,15 @@ pub returns-then-has_bytes-clause-value : goal.returns-then-has_bytes-clause-val
 returns-then-has_bytes-clause-value c =
     let at = known_at c.args.self.now _ c.args.found.side _ _ _ _ c.list.ensures.value c.number-number.ensures c.place_of.ensures c.in-Some.is in
     rw c.if-has_bytes.true at
-    (repeated c.args.self.now (packet_of c.args.found) (value_of c.in-Ok.pdu) c.in-Some.place c.has_bytes.result c.list.ensures.crossing (rw c.params-p.ensures.value at c.in-Ok.ensures.value) at c.has_bytes.ensures)
+    (repeated c.args.self.now (packet_of c.args.found) (value_of c.in-Ok.pdu) c.in-Some.place c.has_bytes.result c.list.ensures.crossing (rw c.kept_params-p.ensures.value at c.in-Ok.ensures.value) at c.has_bytes.ensures)
 
 pub returns-else-has_bytes-clause-value : goal.returns-else-has_bytes-clause-value
 returns-else-has_bytes-clause-value c =
     let at = known_at c.args.self.now _ c.args.found.side _ _ _ _ c.list.ensures.value c.number-number.ensures c.place_of.ensures c.in-Some.is in
     (rw c.if-has_bytes.false at
-    (repeated c.args.self.now (packet_of c.args.found) (value_of c.in-Ok.pdu) c.in-Some.place c.has_bytes.result c.list.ensures.crossing (rw c.params-p.ensures.value at c.in-Ok.ensures.value) at c.has_bytes.ensures)).0
+    (repeated c.args.self.now (packet_of c.args.found) (value_of c.in-Ok.pdu) c.in-Some.place c.has_bytes.result c.list.ensures.crossing (rw c.kept_params-p.ensures.value at c.in-Ok.ensures.value) at c.has_bytes.ensures)).0
 
 pub returns-then-is_next-clause-value : goal.returns-then-is_next-clause-value
 returns-then-is_next-clause-value c =
-    is_next_pdu c.args.self.now (packet_of c.args.found) c.in-Ok.pdu c.params-p.ensures.crossing (rw c.params-p.ensures.value at c.in-Ok.ensures.value)
+    is_next_pdu c.args.self.now (packet_of c.args.found) c.in-Ok.pdu c.kept_params-p.ensures.crossing (rw c.kept_params-p.ensures.value at c.in-Ok.ensures.value)
     (rw c.number-number.ensures at (sym c.is_next.ensures ∙ c.if-is_next.true))

@@ -7,24 +7,24 @@ use Rattle.rasta_check.proofs.crossing_store.Store.judge.Goals as goal
 
 pub returns-then-is_next-clause-value : goal.returns-then-is_next-clause-value
 returns-then-is_next-clause-value c =
-    let reads = rw c.params-p.ensures.value at c.in-Ok.ensures.value in
-    let spelled = rw c.params-p.ensures.value at c.in-Ok.ensures.spelled in
-    let w = is_next_pdu c.args.self.now (packet_of c.args.found.now) c.in-Ok.pdu c.params-p.ensures.crossing reads (rw c.number-number.ensures at (sym c.is_next.ensures ∙ c.if-is_next.true)) in
+    let reads = rw c.kept_params-p.ensures.value at c.in-Ok.ensures.value in
+    let spelled = rw c.kept_params-p.ensures.value at c.in-Ok.ensures.spelled in
+    let w = is_next_pdu c.args.self.now (packet_of c.args.found.now) c.in-Ok.pdu c.kept_params-p.ensures.crossing reads (rw c.number-number.ensures at (sym c.is_next.ensures ∙ c.if-is_next.true)) in
     (w.0, (value_of c.in-Ok.pdu, reads, record { fits = spelled.0; same = spelled.1 }, w.1))
 
 pub returns-then-has_bytes-clause-value : goal.returns-then-has_bytes-clause-value
 returns-then-has_bytes-clause-value c =
-    let w = repeats_at c.args.self.now (packet_of c.args.found.now) (value_of c.in-Ok.pdu) (rw c.params-p.ensures.value at c.in-Ok.ensures.value) c.in-Some.position c.has_bytes.result
+    let w = repeats_at c.args.self.now (packet_of c.args.found.now) (value_of c.in-Ok.pdu) (rw c.kept_params-p.ensures.value at c.in-Ok.ensures.value) c.in-Some.position c.has_bytes.result
     (rw c.number-number.ensures at (sym c.position_of.ensures.value ∙ c.in-Some.is)) c.has_bytes.ensures in
     (w.2 ∙ ap (λ b. if b then None else Some 27) c.if-has_bytes.true, (w.0, w.1, w.4 c.if-has_bytes.true, w.3))
 
 pub returns-else-has_bytes-clause-value : goal.returns-else-has_bytes-clause-value
 returns-else-has_bytes-clause-value c =
-    let w = repeats_at c.args.self.now (packet_of c.args.found.now) (value_of c.in-Ok.pdu) (rw c.params-p.ensures.value at c.in-Ok.ensures.value) c.in-Some.position c.has_bytes.result
+    let w = repeats_at c.args.self.now (packet_of c.args.found.now) (value_of c.in-Ok.pdu) (rw c.kept_params-p.ensures.value at c.in-Ok.ensures.value) c.in-Some.position c.has_bytes.result
     (rw c.number-number.ensures at (sym c.position_of.ensures.value ∙ c.in-Some.is)) c.has_bytes.ensures in
     w.2 ∙ ap (λ b. if b then None else Some 27) c.if-has_bytes.false
 
 pub returns-in-None-clause-value : goal.returns-in-None-clause-value
 returns-in-None-clause-value c =
-    skips c.args.self.now (packet_of c.args.found.now) (value_of c.in-Ok.pdu) (rw c.params-p.ensures.value at c.in-Ok.ensures.value)
+    skips c.args.self.now (packet_of c.args.found.now) (value_of c.in-Ok.pdu) (rw c.kept_params-p.ensures.value at c.in-Ok.ensures.value)
     (rw c.number-number.ensures at (sym c.position_of.ensures.value ∙ c.in-None.is)) (rw c.number-number.ensures at (sym c.is_next.ensures ∙ c.if-is_next.false))
