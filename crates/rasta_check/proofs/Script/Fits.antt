@@ -25,7 +25,7 @@ use Rattle.rasta_check.specs.Script.Fitting.{places_made, AreInOrder, AreNamed, 
 use Rattle.rasta_check.specs.Internals.Checking.{unless, take_at, take_found, make_of, make_found, next_cursor, then_follow, follow_from, follow, where_followed, verdict_of}
 use Rattle.rasta_check.specs.Verdict.Report.{Explained, IsScriptVerdict, both_fit, client_refused, server_refused, report_of}
 use Rattle.rasta_check.proofs.Script.ListItems.{get_behind}
-use Rattle.rasta_check.proofs.Script.FollowedScripts.{Goes, takes, makes, goes, gone, number_found, place_found, place_named, not_less, holds, held, failed, same_equal, follow_fits, fits_follow}
+use Rattle.rasta_check.proofs.Script.FollowedScripts.{Goes, takes, makes, goes, gone, number_found, place_found, place_named, not_less, held, failed, same_equal, follow_fits, fits_follow}
 use Rattle.rasta_check.proofs.Script.Simulation.{slice_get_some}
 use Rattle.rasta_check.proofs.Internals.StoreLists.{copy_of_position, no_copy}
 
@@ -162,28 +162,6 @@ module _ (p : Parameters) (packets : ℕ) (own peer : List FirstCopy) where
         fits = λ xs made taken e f. (taken, record { makes = (λ i. here i ∷ f.makes i); slots = (low, f.slots); takes = f.takes; ends = (after, mk, f.ends) }, refl);
       }
 
-  -- ---- what the code follows to the end fits
-
-  back : (side : Side) (entry : ℕ) (u : Cursor) (xs : List Entry) (left : List FirstCopy) (e : EndState) → Rests u left
-      → follow_from p side packets own peer entry u xs ≡ Ok e → (taken : List ℕ) × FitsFrom u xs left taken e
-  unfolding follow_from
-  back side entry u [] [] e r h = ([], record { makes = refl; slots = tt; takes = tt; ends = (let a = holds (u.made == length own) (fault_of_end make_missing entry side) _ e h in let z = a.1 in cc) })
-  back side entry u [] (c ∷ left) e r h =
-      let a = holds (u.made == length own) (fault_of_end make_missing entry side) _ e h in
-      let l = slice_get_within own u.made c (head_rests u c left r) in
-      absurd (let t = a.0 in let z : u.made ≡ length own = grind (arith, nat_tests) in omega (arith, l, z))
-  back side entry u (x ∷ xs) left e r h = by (next_cursor p packets own peer u x) refl h (λ v l q k. back side (suc entry) v xs l e q k)
-    where
-      by : (o : Result Cursor ℕ) → next_cursor p packets own peer u x ≡ o → then_follow (λ v. follow_from p side packets own peer (suc entry) v xs) entry side o ≡ Ok e
-          → ((v : Cursor) (l : List FirstCopy) → Rests v l → follow_from p side packets own peer (suc entry) v xs ≡ Ok e → (taken : List ℕ) × FitsFrom v xs l taken e)
-          → (taken : List ℕ) × FitsFrom u (x ∷ xs) left taken e
-      by (Err f) k g rest = absurd (cc)
-      by (Ok v) k g rest =
-          let z = consed u v x left (goes p packets own peer u v x k) r in
-          let w = rest v z.others z.rests g in
-          let y = z.fits xs z.others w.0 e w.1 in
-          (y.0, subst (λ (cs : List FirstCopy). FitsFrom u (x ∷ xs) cs y.0 e) (sym z.is) y.1)
-
   -- ---- the tests on an entry are those of the code
 
   entry_fault : Cursor → List FirstCopy → Entry → Option ℕ
@@ -296,32 +274,35 @@ module _ (p : Parameters) (packets : ℕ) (own peer : List FirstCopy) where
   some_left : (u : Cursor) → u.made < length own → Rests u [] → ⊥
   some_left u l r = (let f = slice_get_some own u.made l in none_there u f.0 r f.1)
 
-  back_fault : (side : Side) (entry : ℕ) (u : Cursor) (xs : List Entry) (left : List FirstCopy) (f : Fault) → Rests u left → u.made ≤ length own
-      → follow_from p side packets own peer entry u xs ≡ Err f → FaultFrom side entry u xs left f
-  unfolding follow_from counted
-  back_fault side entry u [] left f r l h =
-      let a = last_fault (u.made == length own) u.state (fault_of_end make_missing entry side) f h in
-      let m : u.made < length own = (let t = a.0 in let z : u.made ≡ length own → ⊥ = (λ e. absurd (grind (arith, nat_tests, e))) in omega (arith, z, l)) in
-      by left r m a.1
-    where
-      last_fault : (b : Bool) (e : EndState) (g f : Fault) → ◌≡◌ {A = Result EndState Fault} (if b then Ok e else Err g) (Err f) → (b ≡ false) × (g ≡ f)
-      last_fault true e g f h = absurd (cc)
-      last_fault false e g f h = (refl, cc)
+  -- an end that the script fits with, or its first fault
+  abbrev Answered : Side → ℕ → Cursor → List Entry → List FirstCopy → Result EndState Fault → Type 0
+  Answered side entry u xs left (Ok e) = (taken : List ℕ) × FitsFrom u xs left taken e
+  Answered side entry u xs left (Err f) = FaultFrom side entry u xs left f
 
-      by : (left : List FirstCopy) → Rests u left → u.made < length own → fault_of_end make_missing entry side ≡ f → FaultFrom side entry u [] left f
-      by [] r m e = absurd (some_left u m r)
-      by (c ∷ left) r m e = subst (FaultFrom side entry u [] (c ∷ left)) e (none_left [] left c [] u.state (here u) refl)
-  back_fault side entry u (x ∷ xs) left f r l h = by (next_cursor p packets own peer u x) refl h (λ v cs q m k. back_fault side (suc entry) v xs cs f q m k)
+  answered_on : (side : Side) (entry : ℕ) (u v : Cursor) (x : Entry) (xs : List Entry) (left : List FirstCopy) (z : Consed u v x left) (r : Result EndState Fault)
+      → Answered side (suc entry) v xs z.others r → Answered side entry u (x ∷ xs) left r
+  answered_on side entry u v x xs left z (Ok e) w = (let y = z.fits xs z.others w.0 e w.1 in (y.0, subst (λ (cs : List FirstCopy). FitsFrom u (x ∷ xs) cs y.0 e) (sym z.is) y.1))
+  answered_on side entry u v x xs left z (Err f) w = fault_after side entry u v x xs left f z w
+
+  answered : (side : Side) (entry : ℕ) (u : Cursor) (xs : List Entry) (left : List FirstCopy) → Rests u left → u.made ≤ length own
+      → Answered side entry u xs left (follow_from p side packets own peer entry u xs)
+  unfolding follow_from counted
+  answered side entry u [] left r l = by left r (u.made == length own) refl
     where
-      by : (o : Result Cursor ℕ) → next_cursor p packets own peer u x ≡ o → then_follow (λ v. follow_from p side packets own peer (suc entry) v xs) entry side o ≡ Err f
-          → ((v : Cursor) (cs : List FirstCopy) → Rests v cs → v.made ≤ length own → follow_from p side packets own peer (suc entry) v xs ≡ Err f → FaultFrom side (suc entry) v xs cs f)
-          → FaultFrom side entry u (x ∷ xs) left f
-      by (Err n) k g rest =
-          let is : fault_of_end n entry side ≡ f = cc in
-          subst (FaultFrom side entry u (x ∷ xs) left) is (one_of [] xs x [] left [] u.state n refl refl (here u) (is_refused u left x n r k))
-      by (Ok v) k g rest =
+      by : (left : List FirstCopy) → Rests u left → (b : Bool) → (u.made == length own) ≡ b → Answered side entry u [] left (if b then Ok u.state else Err (fault_of_end make_missing entry side))
+      by [] r true e = ([], here u)
+      by [] r false e = absurd (some_left u (let z : u.made ≡ length own → ⊥ = (λ q. absurd (grind (arith, nat_tests, e, q))) in omega (arith, z, l)) r)
+      by (c ∷ left) r true e = absurd (let z : u.made ≡ length own = grind (arith, nat_tests) in let m = slice_get_within own u.made c (head_rests u c left r) in omega (arith, z, m))
+      by (c ∷ left) r false e = none_left [] left c [] u.state (here u) refl
+  answered side entry u (x ∷ xs) left r l = by (next_cursor p packets own peer u x) refl (λ v cs q m. answered side (suc entry) v xs cs q m)
+    where
+      by : (o : Result Cursor ℕ) → next_cursor p packets own peer u x ≡ o
+          → ((v : Cursor) (cs : List FirstCopy) → Rests v cs → v.made ≤ length own → Answered side (suc entry) v xs cs (follow_from p side packets own peer (suc entry) v xs))
+          → Answered side entry u (x ∷ xs) left (then_follow (λ v. follow_from p side packets own peer (suc entry) v xs) entry side o)
+      by (Err n) k rest = one_of [] xs x [] left [] u.state n refl refl (here u) (is_refused u left x n r k)
+      by (Ok v) k rest =
           let z = consed u v x left (goes p packets own peer u v x k) r in
-          fault_after side entry u v x xs left f z (rest v z.others z.rests (z.within l) g)
+          answered_on side entry u v x xs left z (follow_from p side packets own peer (suc entry) v xs) (rest v z.others z.rests (z.within l))
 
   -- ---- a whole script
 
@@ -351,9 +332,12 @@ module _ (p : Parameters) (packets : ℕ) (own peer : List FirstCopy) where
       ∙ (runs side 1 (at_start (start_of p side)) es [] own [] f.taken e (start_rests (start_of p side) own [] (sym (append-nil own))) (start_behind (start_of p side)) (from_start side own es e f)
       ∙ held (w.made == length own) (fault_of_end make_missing (counted 1 es) side) _ (same_equal w.made (length own) all))
 
+  by_code : (side : Side) (es : List Entry) (r : Result EndState Fault) → follow p side packets own peer es ≡ r → Answered side 1 (at_start (start_of p side)) es own r
+  by_code side es r h = subst (Answered side 1 (at_start (start_of p side)) es own) h (answered side 1 (at_start (start_of p side)) es own (λ j. let z : 0 + j ≡ j = omega arith in ap (slice_get own) z) (omega arith))
+
   -- and what is followed fits
   pub is_fits : (side : Side) (es : List Entry) (e : EndState) → follow p side packets own peer es ≡ Ok e → Fits p side packets own peer es e
-  is_fits side es e h = (let z = back side 1 (at_start (start_of p side)) es own e (λ j. let z : 0 + j ≡ j = omega arith in ap (slice_get own) z) h in to_start side own es z.0 e z.1)
+  is_fits side es e h = (let z = by_code side es (Ok e) h in to_start side own es z.0 e z.1)
 
   -- at the start the counts are lengths
   first_entry : (xs : List Entry) → counted 1 xs ≡ suc (length xs)
@@ -369,7 +353,7 @@ module _ (p : Parameters) (packets : ℕ) (own peer : List FirstCopy) where
 
   pub is_fault : (side : Side) (es : List Entry) (f : Fault) → follow p side packets own peer es ≡ Err f → FirstFault p side packets own peer es f
   unfolding to_start
-  is_fault side es f h = by f (back_fault side 1 (at_start (start_of p side)) es own f (λ j. let z : 0 + j ≡ j = omega arith in ap (slice_get own) z) (omega arith) h)
+  is_fault side es f h = by f (by_code side es (Err f) h)
     where
       by : (f : Fault) → FaultFrom side 1 (at_start (start_of p side)) es own f → FirstFault p side packets own peer es f
       by f (one_of front behind x made left taken e number is parts fits says) =

@@ -1,5 +1,5 @@
 -- Along a run: the first copies so far, and a script for each end.
-use Rattle.std.proofs.Common.{◌≡◌, ℕ, suc, ◌+◌, ◌-◌, ◌<◌, ◌≤◌, Bool, true, false, List, [], ◌∷◌, ◌++◌, length, Option, Some, None, slice_get, refl, ap, sym, ◌∙◌, arith, ⊎_elim, subst, length-append}
+use Rattle.std.proofs.Common.{◌≡◌, ℕ, suc, ◌+◌, ◌-◌, ◌<◌, ◌≤◌, Bool, true, false, List, [], ◌∷◌, ◌++◌, length, Option, Some, None, slice_get, refl, ap, sym, ◌∙◌, arith, ◌⊎◌, inl, inr, ⊎_elim, subst, length-append}
 use Rattle.std.specs.Prelude.{if◌then◌else◌}
 use Rattle.std.proofs.lemmas.Bool.Decides.{nat_tests}
 use Rattle.std.proofs.lemmas.List.{append-nil, append_assoc, length_push, length-map, map-append}
@@ -304,54 +304,44 @@ pub told_by : (p : Parameters) → AreParameters p → (ws : List World) (w : Wo
 told_by p valid ws w Client r = told p valid ws w r
 told_by p valid ws w Server r = turn p Client Server w.crossed w.client w.server (told p valid ws w r)
 
+-- a list as it was, or with a copy that doesn't lie below this place
+abbrev Grows : ℕ → List FirstCopy → List FirstCopy → Type 0
+Grows n old new = (new ≡ old) ⊎ ((c : FirstCopy) × (new ≡ old ++ c ∷ []) × (n ≤ c.place))
+
+-- so grows the list of the station that moves, and that of its peer stays
+grown : (p : Parameters) (s r : Side) (xs ys : List Packet) (a a' b : Station) (apart : s ≡ r → ⊥) {move : Move} (m : Moves p b xs a move a' ys) (g : Both p s r xs a b)
+    → Grows (length xs) g.own (both_kept p s r xs ys a a' b apart m g).own × ((both_kept p s r xs ys a a' b apart m g).peer ≡ g.peer)
+unfolding both_kept copy
+grown p s r xs ys a a' b apart (makes x why e' ch res chk bs mk sp rec) g = (inr (_, refl, omega arith), refl)
+grown p s r xs ys a a' b apart _ g = (inl refl, refl)
+
+both_grown : (p : Parameters) (v w : World) (st : Step p v w) (g : Both p Client Server v.crossed v.client v.server)
+    → Grows (length v.crossed) g.own (told_step p v w st g).own × Grows (length v.crossed) g.peer (told_step p v w st g).peer
+unfolding told_step
+both_grown p v w (side_moves {a = a} {after = ys} Client m) g = (let z = grown p Client Server v.crossed ys v.client a v.server (λ e. cc (e)) m g in (z.0, inl z.1))
+both_grown p v w (side_moves {a = a} {after = ys} Server m) g = (let z = grown p Server Client v.crossed ys v.server a v.client (λ e. cc (e)) m (turn p Client Server v.crossed v.client v.server g) in (inl z.1, z.0))
+
+kept_copies : (n : ℕ) (old new : List FirstCopy) → Grows n old new → (j : ℕ) (d : FirstCopy) → slice_get new j ≡ Some d → d.place < n → slice_get old j ≡ Some d
+kept_copies n old new (inl e) j d at l = subst (λ (cs : List FirstCopy). slice_get cs j ≡ Some d) e at
+kept_copies n old new (inr h) j d at l = ⊎_elim
+    (λ (x : slice_get old j ≡ Some d). x)
+    (λ (x : (j ≡ length old) × (h.0 ≡ d)). absurd (let z = ap (λ (c : FirstCopy). c.place) x.1 in let y = h.2 in omega (arith, z, y, l)))
+    (get_push_cases old h.0 j d (subst (λ (cs : List FirstCopy). slice_get cs j ≡ Some d) h.1 at))
+
+kept_front : (n : ℕ) (old new : List FirstCopy) → Grows n old new → (j : ℕ) (d : FirstCopy) → slice_get old j ≡ Some d → slice_get new j ≡ Some d
+kept_front n old new (inl e) j d at = subst (λ (cs : List FirstCopy). slice_get cs j ≡ Some d) (sym e) at
+kept_front n old new (inr h) j d at = subst (λ (cs : List FirstCopy). slice_get cs j ≡ Some d) (sym h.1) (get_front old (h.0 ∷ []) j d at)
+
 -- the copies below the packets so far stay where they are
-kept_copies : (p : Parameters) (s r : Side) (xs ys : List Packet) (a a' b : Station) (apart : s ≡ r → ⊥) {move : Move} (m : Moves p b xs a move a' ys) (g : Both p s r xs a b) (j : ℕ) (d : FirstCopy)
-    → slice_get (both_kept p s r xs ys a a' b apart m g).own j ≡ Some d → d.place < length xs → slice_get g.own j ≡ Some d
-unfolding both_kept copy
-kept_copies p s r xs ys a a' b apart (makes x why e' ch res chk bs mk sp rec) g j d at l = ⊎_elim
-    (λ (old : slice_get g.own j ≡ Some d). old)
-    (λ (new : (j ≡ length g.own) × (_ ≡ d)). absurd (let z = ap (λ (c : FirstCopy). c.place) new.1 in omega arith))
-    (get_push_cases g.own _ j d at)
-kept_copies p s r xs ys a a' b apart _ g j d at l = at
-
-kept_front : (p : Parameters) (s r : Side) (xs ys : List Packet) (a a' b : Station) (apart : s ≡ r → ⊥) {move : Move} (m : Moves p b xs a move a' ys) (g : Both p s r xs a b) (j : ℕ) (d : FirstCopy)
-    → slice_get g.own j ≡ Some d → slice_get (both_kept p s r xs ys a a' b apart m g).own j ≡ Some d
-unfolding both_kept copy
-kept_front p s r xs ys a a' b apart (makes x why e' ch res chk bs mk sp rec) g j d at = get_front g.own _ j d at
-kept_front p s r xs ys a a' b apart _ g j d at = at
-
-same_peer : (p : Parameters) (s r : Side) (xs ys : List Packet) (a a' b : Station) (apart : s ≡ r → ⊥) {move : Move} (m : Moves p b xs a move a' ys) (g : Both p s r xs a b) → (both_kept p s r xs ys a a' b apart m g).peer ≡ g.peer
-unfolding both_kept
-same_peer p s r xs ys a a' b apart (makes x why e' ch res chk bs mk sp rec) g = refl
-same_peer p s r xs ys a a' b apart _ g = refl
-
 pub step_copies : (p : Parameters) (v w : World) (st : Step p v w) (g : Both p Client Server v.crossed v.client v.server)
     → ((j : ℕ) (d : FirstCopy) → slice_get (told_step p v w st g).own j ≡ Some d → d.place < length v.crossed → slice_get g.own j ≡ Some d)
     × ((j : ℕ) (d : FirstCopy) → slice_get (told_step p v w st g).peer j ≡ Some d → d.place < length v.crossed → slice_get g.peer j ≡ Some d)
-unfolding told_step
-step_copies p v w (side_moves {a = a} {after = ys} Client m) g = (
-  λ j d at l. kept_copies p Client Server v.crossed ys v.client a v.server (λ e. cc (e)) m g j d at l,
-  λ j d at l. subst (λ (cs : List FirstCopy). slice_get cs j ≡ Some d) (same_peer p Client Server v.crossed ys v.client a v.server (λ e. cc (e)) m g) at,
-)
-step_copies p v w (side_moves {a = a} {after = ys} Server m) g =
-    let h = turn p Client Server v.crossed v.client v.server g in (
-      λ j d at l. subst (λ (cs : List FirstCopy). slice_get cs j ≡ Some d) (same_peer p Server Client v.crossed ys v.server a v.client (λ e. cc (e)) m h) at,
-      λ j d at l. kept_copies p Server Client v.crossed ys v.server a v.client (λ e. cc (e)) m h j d at l,
-    )
+step_copies p v w st g = (let z = both_grown p v w st g in (kept_copies _ _ _ z.0, kept_copies _ _ _ z.1))
 
 pub step_front : (p : Parameters) (v w : World) (st : Step p v w) (g : Both p Client Server v.crossed v.client v.server)
     → ((j : ℕ) (d : FirstCopy) → slice_get g.own j ≡ Some d → slice_get (told_step p v w st g).own j ≡ Some d)
     × ((j : ℕ) (d : FirstCopy) → slice_get g.peer j ≡ Some d → slice_get (told_step p v w st g).peer j ≡ Some d)
-unfolding told_step
-step_front p v w (side_moves {a = a} {after = ys} Client m) g = (
-  λ j d at. kept_front p Client Server v.crossed ys v.client a v.server (λ e. cc (e)) m g j d at,
-  λ j d at. subst (λ (cs : List FirstCopy). slice_get cs j ≡ Some d) (sym (same_peer p Client Server v.crossed ys v.client a v.server (λ e. cc (e)) m g)) at,
-)
-step_front p v w (side_moves {a = a} {after = ys} Server m) g =
-    let h = turn p Client Server v.crossed v.client v.server g in (
-      λ j d at. subst (λ (cs : List FirstCopy). slice_get cs j ≡ Some d) (sym (same_peer p Server Client v.crossed ys v.server a v.client (λ e. cc (e)) m h)) at,
-      λ j d at. kept_front p Server Client v.crossed ys v.server a v.client (λ e. cc (e)) m h j d at,
-    )
+step_front p v w st g = (let z = both_grown p v w st g in (kept_front _ _ _ z.0, kept_front _ _ _ z.1))
 
 -- the same for given lists of first copies
 pub told_of : (p : Parameters) (ws : List World) (w : World) (side : Side) (own peer : List FirstCopy) → Reaches p ws w → IsSent p w.crossed side own → IsSent p w.crossed (other_side side) peer

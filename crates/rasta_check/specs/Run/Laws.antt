@@ -1,4 +1,4 @@
--- Which run two scripts tell.
+-- Runs move by move are runs, each move has a line, and two scripts that fit tell a run by theirs.
 use Rattle.std.specs.Prelude.{◌≡◌, List, length}
 use Rattle.rasta_pcap.specs.declared.fault.Side.TheVariants.{Client, Server}
 use Rattle.rasta_udp.specs.Frame.{Packet}
@@ -12,6 +12,8 @@ use Rattle.rasta_check.specs.Run.Moves.{Happened, Runs, worlds_of}
 use Rattle.rasta_check.specs.Run.Lines.{told}
 use Rattle.rasta_check.specs.Run.Levels.{run_lines}
 
+-- ---- runs and their lines
+
 -- what happens in a run leads through the run's worlds, in their order; and in each run something happens in each of its worlds
 abbrev pub SameRuns : Parameters → Type 0
 SameRuns p =
@@ -21,6 +23,8 @@ SameRuns p =
 -- each move of a run has one line: the lines leave none out
 abbrev pub OneLineEach : Parameters → Type 0
 OneLineEach p = (happened : List Happened) (w : World) → Runs p happened w → length (told happened) ≡ length happened
+
+-- ---- 4. simulation
 
 -- two scripts that fit, each without the other, tell one run, move by move: it sends exactly these packets, ends in the ends that the
 -- scripts reach, and its lines are those of the scripts
