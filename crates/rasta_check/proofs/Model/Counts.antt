@@ -1,6 +1,5 @@
 -- How many PDUs of a kind are made, and how many things of a kind are owed.
-use Rattle.std.proofs.Common.{◌≡◌, ℕ, zero, suc, ◌+◌, ◌≤◌, Bool, true, false, List, [], ◌∷◌, ◌++◌, length, Some, slice_get, take, refl, ap, ◌∙◌, arith, cond}
-use Rattle.std.specs.Prelude.{filter}
+use Rattle.std.proofs.Common.{◌≡◌, ℕ, zero, suc, ◌+◌, ◌≤◌, Bool, true, false, List, [], ◌∷◌, ◌++◌, Some, slice_get, take, refl, ap, ◌∙◌, arith}
 use Rattle.rasta_pdu.specs.declared.kind.Kind.{Kind}
 use Rattle.rasta_end.specs.declared.owed.Owed.{Owed}
 use Rattle.rasta_end.specs.declared.owed.Owed.TheVariants.{RetransmissionResponse as OweRetransmissionResponse, RetransmissionRequest as OweRetransmissionRequest}
@@ -82,12 +81,3 @@ owes-append f (o ∷ os) ps = ap (tally (f o)) (owes-append f os ps) ∙ tally_a
     tally_add : (b : Bool) (m n : ℕ) → tally b (m + n) ≡ tally b m + n
     tally_add true m n = omega arith
     tally_add false m n = refl
-
--- the count is the length of the list of those of the type
-pub number-filter : (f : Kind → Bool) (ms : List Made) → number f ms ≡ length (filter (λ (m : Made). f m.pdu.kind) ms)
-number-filter f [] = refl
-number-filter f (m ∷ ms) = filtered (f m.pdu.kind) m (filter (λ (k : Made). f k.pdu.kind) ms) (number f ms) (number-filter f ms)
-  where
-    filtered : (b : Bool) (m : Made) (rest : List Made) (n : ℕ) → n ≡ length rest → tally b n ≡ length (cond b (m ∷ rest) rest)
-    filtered true m rest n e = ap suc e
-    filtered false m rest n e = e

@@ -30,6 +30,7 @@ use Rattle.rasta_check.proofs.Model.HandedUnits.{Handed, handed_make, handed_pee
 use Rattle.rasta_check.proofs.Model.ShownUnits.{Shown, shown_make, shown_peer_make, shown_take, shown_peer_take}
 use Rattle.rasta_check.proofs.Model.SequenceNumbers.{numbered_once}
 use Rattle.rasta_check.proofs.Model.Induction.{always}
+use Rattle.rasta_check.proofs.Model.Steps.{start_base, base_small}
 use Rattle.rasta_pdu.specs.Pdu.{is_kind}
 use Rattle.rasta_pdu.specs.declared.kind.Kind.TheVariants.{Data}
 
@@ -234,15 +235,9 @@ first_all (Some quiet) m n =
       their_shows = quiet_shown Server Client quiet.server quiet.client;
     }
 
-base_by : (quiet : Option Quiet) (side : Side) → (start_by quiet side).base ≤ 1
-base_by None Client = omega arith
-base_by None Server = omega arith
-base_by (Some quiet) Client = omega arith
-base_by (Some quiet) Server = omega arith
-
 -- no end has made more than 1,000,001 PDUs
 pub few_made : (p : Parameters) (w : World) → IsWithin p w → (side : Side) → length (end_of w side).made ≤ 1000001
-few_made p w within side = (let l = within side in let b = base_by p.quiet side in omega (arith, l, b))
+few_made p w within side = omega (arith, within side, start_base p.quiet side, base_small p.quiet)
 
 turned : (a b : Station) → Whole a b → Whole b a
 turned a b g l m = (let h = g m l in record { mine = h.theirs; theirs = h.mine; values = h.their_values; their_values = h.values; up = h.their_up; their_up = h.up; shows = h.their_shows; their_shows = h.shows })

@@ -1,5 +1,5 @@
 -- What a PDU shows was handed up before it crossed.
-use Rattle.std.proofs.Common.{◌≡◌, ℕ, zero, suc, ◌+◌, ◌<◌, ◌≤◌, Bool, true, false, List, [], ◌∷◌, length, Some, slice_get, refl, ap, sym, ◌∙◌, arith, ⊎_elim, subst}
+use Rattle.std.proofs.Common.{◌≡◌, ℕ, suc, ◌+◌, ◌<◌, ◌≤◌, Bool, true, false, List, [], ◌∷◌, length, Some, slice_get, refl, ap, sym, ◌∙◌, arith, ⊎_elim, subst}
 use Rattle.std.specs.Prelude.{slice_index_or, is_some, not, ◌&&◌, ◌||◌}
 use Rattle.std.proofs.lemmas.Option.{slice_get_within}
 use Rattle.rasta_pcap.specs.declared.fault.Side.{Side}
@@ -40,11 +40,8 @@ module _ (e0 f0 e f : EndState) (t : ℕ) (w0 : Shown e0 f0) (w : Shown e f) (g 
   unheard k a true c =
       let s : e ≡ e0 = ge.over (made_over e0.side e0.phase e0.made q m there c) in
       let n : e.accepted ≡ 0 = ap (λ (z : EndState). z.accepted) s ∙ a in
-      none e.accepted f.offered w.ready_offer n
-    where
-      none : (a o : ℕ) → (0 < o → 0 < a) → a ≡ 0 → o ≡ 0
-      none a zero h n = refl
-      none a (suc o) h n = absurd (let z = h (omega arith) in omega arith)
+      let none : 0 < f.offered → ⊥ = λ l. (let z = w.ready_offer l in omega arith) in
+      omega (arith, none)
   unheard k a false c = absurd (let z = w0.first_words a c q m there in cc)
 
   in_time_at : is_kind ConnectionRequest m.pdu.kind ≡ false → (c v : ℕ) → SnIs f.made c m.pdu.cs → slice_get (values f) c ≡ Some v → v ≤ length e0.handed
