@@ -108,10 +108,16 @@ impl<'a> Sent<'a> {
             × Spells self.now.params k.side d k.payload × (r ≡ (k.side, d.number))) }
         ensures crossing { IsCrossing self.now }
     {
-        match self.packets.get(place as usize) {
-            Some(packet) => Some((packet.side, number_in(packet.payload))),
-            None => None,
-        }
+        let packet = self.packet_at(place)?;
+        Some((packet.side, number_in(packet.payload)))
+    }
+
+    // The packet at a place.
+    fn packet_at(&self, place: u32) -> Option<Datagram<'a>>
+        ensures value { option_map packet_of result ≡ slice_get self.now.packets place }
+        ensures crossing { IsCrossing self.now }
+    {
+        self.packets.get(place as usize).copied()
     }
 
     /// The sent list of the client.

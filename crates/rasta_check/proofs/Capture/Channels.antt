@@ -1,13 +1,13 @@
 -- Packets are found on recorded channels.
-use Rattle.std.proofs.Common.{◌≡◌, ◌⊎◌, ℕ, suc, ◌+◌, ◌-◌, ◌<◌, ◌≤◌, List, [], ◌∷◌, ◌++◌, length, Bool, true, false, cond, if◌then◌else◌, Option, Some, None, is_none, Result, Ok, Err, slice_get, refl, ap, arith, inl, inr, ⊎_elim, subst}
-use Rattle.std.specs.Prelude.{slice_range, not, ◌||◌, ◌==◌, nat_lt}
+use Rattle.std.proofs.Common.{◌≡◌, ◌⊎◌, ℕ, suc, ◌+◌, ◌<◌, ◌≤◌, List, [], ◌∷◌, ◌++◌, length, Bool, cond, Option, Some, Result, Ok, slice_get, refl, ap, sym, ◌∙◌, arith, inl, inr, ⊎_elim, subst}
+use Rattle.std.specs.Prelude.{slice_range}
 use Rattle.std.specs.List.{find}
 use Rattle.std.specs.Option.{option_map}
 use Rattle.rasta_pcap.specs.declared.fault.Fault.{Fault}
-use Rattle.rasta_pcap.specs.Fault.{fault_at, fragment, bad_udp, cut_packet}
 use Rattle.rasta_pcap.specs.declared.fault.Side.TheVariants.{Client, Server}
 use Rattle.rasta_udp.specs.declared.channel.Channel.{Channel}
-use Rattle.rasta_udp.specs.Frame.{Direction, Fields, Found, Packet, directions_from, direction_of, goes, found_by, found_in, has_known_addresses, fields_of, map_found, moved_on, datagram_of, is_tagged, untagged_of, without_tag, packet_at, packet_in}
+use Rattle.rasta_udp.specs.declared.channel.Datagram.{Datagram}
+use Rattle.rasta_udp.specs.Frame.{Direction, Fields, Found, Packet, directions_from, direction_of, goes, found_by, found_in, map_found, moved_on, datagram_of, packet_at, packet_in, packet_of}
 use Rattle.rasta_pdu.specs.Params.{Parameters}
 use Rattle.rasta_check.specs.Capture.Crossing.{CrossRecorded}
 use Rattle.rasta_check.specs.Capture.Crossing.{IsRecorded}
@@ -35,16 +35,6 @@ direction_among x number (c ∷ cs) d h =
     let back : Direction = record { channel = number; side = Server; source = c.server; destination = c.client } in
     among_by number cs there back d _ refl refl (direction_among x (number + 1) cs d) (first_of (goes x c.client c.server) (goes x c.server c.client) there back d _ h)
 
--- a test that answers nothing where it holds leads on
-after_none : (b : Bool) (rest : Result (Option Found) Fault) (d : Found) → (if b then Ok None else rest) ≡ Ok (Some d) → rest ≡ Ok (Some d)
-after_none true rest d h = absurd (cc)
-after_none false rest d h = h
-
--- so does one that answers a fault
-after_fault : (b : Bool) (fault : Fault) (rest : Result (Option Found) Fault) (d : Found) → (if b then Err fault else rest) ≡ Ok (Some d) → rest ≡ Ok (Some d)
-after_fault true fault rest d h = absurd (cc)
-after_fault false fault rest d h = h
-
 abbrev answer_of : Option Found → Result (Option Found) Fault
 answer_of o = Ok o
 
@@ -52,22 +42,14 @@ named_by : (x : Fields) (o : Option Direction) (d : Found) → answer_of (option
 named_by x o d h = grind arith
 
 -- what is found where no test of the frame table holds
-tests_failed : (t u v w x a b c e f g : Bool) (i j k l m : Fault) (rest : Result (Option Found) Fault) (d : Found)
-    → (if t then Ok None else if u then Ok None else if v then Ok None else if w then Ok None else if x then Ok None
-    else if a then Err i else if b then Err j else if c then Err k else if e then Ok None else if f then Err l else if g then Err m else rest) ≡ Ok (Some d)
-    → rest ≡ Ok (Some d)
-tests_failed t u v w x a b c e f g i j k l m rest d h = grind arith
+found_where : (channels : List Channel) (x : Fields) (d : Found) → found_by channels x ≡ Ok (Some d) → answer_of (option_map (found_in x) (direction_of channels x)) ≡ Ok (Some d)
+unfolding found_by
+found_where channels x d h = grind arith
 
 found_among : (channels : List Channel) (x : Fields) (d : Found) → found_by channels x ≡ Ok (Some d) → Among 1 (length channels) d.channel
-unfolding found_by direction_of
+unfolding direction_of
 found_among channels x d h =
-    let found : answer_of (option_map (found_in x) (direction_of channels x)) ≡ Ok (Some d) =
-    tests_failed (nat_lt x.captured 34) (not (x.ether_type == 0x0800)) (not (x.version == 4) || nat_lt x.header_length 20) (not (x.protocol == 17)) (not (has_known_addresses channels x))
-    (x.more_fragments == 1 || nat_lt 0 x.fragment_offset) (nat_lt x.total_length (x.header_length + 8)) (nat_lt x.captured (14 + x.header_length + 8)) (is_none (direction_of channels x))
-    (nat_lt x.udp_length 8 || nat_lt (x.total_length - x.header_length) x.udp_length) (nat_lt x.captured (14 + x.header_length + x.udp_length))
-    (fault_at fragment 0) (fault_at bad_udp 0) (fault_at cut_packet 0) (fault_at bad_udp 0) (fault_at cut_packet 0)
-    (answer_of (option_map (found_in x) (direction_of channels x))) d h in
-    let w = named_by x (direction_of channels x) d found in
+    let w = named_by x (direction_of channels x) d (found_where channels x d h) in
     subst (λ (n : ℕ). Among 1 (length channels) n) w.2 (direction_among x 1 channels w.0 w.1)
 
 moved_by : (r : Result (Option Found) Fault) (n : ℕ) (d : Found) → map_found (moved_on n) r ≡ Ok (Some d) → (e : Found) × (r ≡ Ok (Some e)) × (e.channel ≡ d.channel)
@@ -75,11 +57,7 @@ moved_by r n d h = grind arith
 
 datagram_among : (channels : List Channel) (frame : List ℕ) (d : Found) → datagram_of channels frame ≡ Ok (Some d) → Among 1 (length channels) d.channel
 unfolding datagram_of
-datagram_among channels frame d h = by (is_tagged frame) h
-  where
-    by : (b : Bool) → (if b then map_found (moved_on 4) (untagged_of channels (without_tag frame)) else untagged_of channels frame) ≡ Ok (Some d) → Among 1 (length channels) d.channel
-    by true e = (let w = moved_by (untagged_of channels (without_tag frame)) 4 d e in subst (λ (n : ℕ). Among 1 (length channels) n) w.2 (found_among channels (fields_of (without_tag frame)) w.0 w.1))
-    by false e = found_among channels (fields_of frame) d e
+datagram_among channels frame d h = grind (arith, found_among, moved_by)
 
 packet_by : (frame : List ℕ) (r : Result (Option Found) Fault) (a : Packet) → map_found (packet_at frame) r ≡ Ok (Some a)
     → (d : Found) × (r ≡ Ok (Some d)) × (d.channel ≡ a.channel) × (slice_range frame d.start d.end ≡ a.payload)
@@ -99,6 +77,11 @@ is_recorded p frame a h =
     let low = among.0 in
     let high = among.1 in
     (omega arith, omega arith)
+
+-- so was the datagram that the code finds in it
+pub is_recorded_by : (p : Parameters) (channels : List Channel) (frame : List ℕ) (o : Result (Option Datagram) Fault) (q : Option Datagram) (found : Datagram) → channels ≡ p.channels
+    → map_found packet_of o ≡ packet_in channels frame → o ≡ Ok q → q ≡ Some found → IsRecorded p found.channel
+is_recorded_by p channels frame o q found a b e f = is_recorded p frame (packet_of found) (rw (← a) (sym b ∙ ap (map_found packet_of) (e ∙ ap Ok f)))
 
 -- packets on recorded channels, and one more
 pub recorded_more : (p : Parameters) (packets : List Packet) (a : Packet) → CrossRecorded p packets → IsRecorded p a.channel → CrossRecorded p (packets ++ a ∷ [])

@@ -13,8 +13,8 @@ use Rattle.rasta_udp.specs.declared.channel.Channel.{Channel}
 use Rattle.rasta_udp.specs.Frame.{Fields, Packet, found_by, datagram_of, map_found, packet_at, packet_in}
 use Rattle.rasta_pdu.specs.Params.{Parameters}
 use Rattle.rasta_pdu.specs.declared.kind.Kind.{Kind}
-use Rattle.rasta_pdu.specs.Pdu.{RedundancyPdu, SafetyBody, decode_body, decode_kind, decode_of}
-use Rattle.rasta_check.specs.Capture.Crossing.{FirstCopy, number_fault, packet_fault, read_fault}
+use Rattle.rasta_pdu.specs.Pdu.{decode_kind, decode_of}
+use Rattle.rasta_check.specs.Capture.Crossing.{FirstCopy, packet_fault}
 use Rattle.rasta_check.specs.Capture.Reading.{Crossing, crossing_of, nothing_crossed, sent_by}
 use Rattle.rasta_check.proofs.Capture.Readings.{Step, bad_frame, bad_packet, no_room, breaks}
 use Rattle.rasta_check.proofs.Capture.RefusedCaptures.{Answers}
@@ -55,24 +55,15 @@ packet_low channels frame = mapped_low (packet_at frame) (datagram_of channels f
 abbrev IsOfPacket : ℕ → Type 0
 IsOfPacket number = (redundancy_length ≤ number) × (number ≤ number_gap)
 
-body_between : (p : Parameters) (side : Side) (bytes : List ℕ) (kind : Kind) (o : Option SafetyBody) → IfErr (decode_body p side bytes kind o) (λ f. IsOfPacket f.number)
-body_between p side bytes kind o = grind arith
-
 kind_between : (p : Parameters) (side : Side) (bytes : List ℕ) (o : Option Kind) → IfErr (decode_kind p side bytes o) (λ f. IsOfPacket f.number)
-kind_between p side bytes o = grind (arith, body_between)
+kind_between p side bytes o = grind arith
 
 decode_between : (p : Parameters) (side : Side) (bytes : List ℕ) → IfErr (decode_of p side bytes) (λ f. IsOfPacket f.number)
 unfolding decode_of
 decode_between p side bytes = grind (arith, kind_between)
 
-number_between : (p : Parameters) (side : Side) (sent : List FirstCopy) (bytes : List ℕ) (pdu : RedundancyPdu) (o : Option FirstCopy) → IfSome (number_fault p side sent bytes pdu o) IsOfPacket
-number_between p side sent bytes pdu o = grind arith
-
-read_between : (p : Parameters) (side : Side) (sent : List FirstCopy) (bytes : List ℕ) (r : Result RedundancyPdu Fault) → IfErr r (λ f. IsOfPacket f.number) → IfSome (read_fault p side sent bytes r) IsOfPacket
-read_between p side sent bytes r h = grind (arith, number_between)
-
 packet_between : (p : Parameters) (sent : List FirstCopy) (a : Packet) → IfSome (packet_fault p sent a) IsOfPacket
-packet_between p sent a = read_between p a.side sent a.payload (decode_of p a.side a.payload) (decode_between p a.side a.payload)
+packet_between p sent a = (let d = decode_between p a.side a.payload in grind arith)
 
 -- ---- faults of a file
 

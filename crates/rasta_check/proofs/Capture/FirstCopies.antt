@@ -29,9 +29,9 @@ old_other p xs k s own j a h g e = ⊎_elim (λ (w : First xs s own j). inl w) (
 old_first : (p : Parameters) (xs : List Packet) (k : Packet) (s : Side) (own : List FirstCopy) (i : ℕ) (c : FirstCopy) → IsSent p xs s own → slice_get own i ≡ Some c → (b : Packet) × (slice_get (xs ++ k ∷ []) c.place ≡ Some b) × (b.side ≡ s) × Spells p s c.pdu b.payload
 old_first p xs k s own i c h g = (let w = h.firsts i c g in (w.0, get_front xs (k ∷ []) c.place w.0 w.1, w.2, w.3))
 
--- a packet of the other side
-pub sent_other : (p : Parameters) (xs : List Packet) (k : Packet) (s : Side) (own : List FirstCopy) → IsSent p xs s own → (k.side ≡ s → ⊥) → IsSent p (xs ++ k ∷ []) s own
-sent_other p xs k s own h apart =
+-- one packet more, which is none of this side or repeats one
+sent_more : (p : Parameters) (xs : List Packet) (k : Packet) (s : Side) (own : List FirstCopy) → IsSent p xs s own → (k.side ≡ s → Again (xs ++ k ∷ []) s (length xs) k.payload) → IsSent p (xs ++ k ∷ []) s own
+sent_more p xs k s own h last =
     record {
       valid = h.valid;
       firsts = λ i c g. old_first p xs k s own i c h g;
@@ -39,23 +39,16 @@ sent_other p xs k s own h apart =
       numbers = h.numbers;
       others = λ j a g e. ⊎_elim
           (λ (old : slice_get xs j ≡ Some a). old_other p xs k s own j a h old e)
-          (λ (new : (j ≡ length xs) × (k ≡ a)). absurd (apart (ap (λ (b : Packet). b.side) new.1 ∙ e)))
+          (λ (new : (j ≡ length xs) × (k ≡ a)). inr (let w = last (ap (λ (b : Packet). b.side) new.1 ∙ e) in
+          (w.0, w.1, (let l = w.2 in omega arith), w.3, w.4, w.5 ∙ ap (λ (b : Packet). b.payload) new.1)))
           (get_push_cases xs k j a g);
     }
 
--- a copy
+pub sent_other : (p : Parameters) (xs : List Packet) (k : Packet) (s : Side) (own : List FirstCopy) → IsSent p xs s own → (k.side ≡ s → ⊥) → IsSent p (xs ++ k ∷ []) s own
+sent_other p xs k s own h apart = sent_more p xs k s own h (λ side. absurd (apart side))
+
 pub sent_copy : (p : Parameters) (xs : List Packet) (k : Packet) (s : Side) (own : List FirstCopy) (j : ℕ) (b : Packet) → IsSent p xs s own → slice_get xs j ≡ Some b → b.side ≡ s → b.payload ≡ k.payload → IsSent p (xs ++ k ∷ []) s own
-sent_copy p xs k s own j b h there side same =
-    record {
-      valid = h.valid;
-      firsts = λ i c g. old_first p xs k s own i c h g;
-      rising = h.rising;
-      numbers = h.numbers;
-      others = λ i a g e. ⊎_elim
-          (λ (old : slice_get xs i ≡ Some a). old_other p xs k s own i a h old e)
-          (λ (new : (i ≡ length xs) × (k ≡ a)). inr (j, b, (let l = slice_get_within xs j b there in omega arith), get_front xs (k ∷ []) j b there, side, same ∙ ap (λ (z : Packet). z.payload) new.1))
-          (get_push_cases xs k i a g);
-    }
+sent_copy p xs k s own j b h there side same = sent_more p xs k s own h (λ e. (j, b, slice_get_within xs j b there, get_front xs (k ∷ []) j b there, side, same))
 
 abbrev pub Counts_from : ℕ → List FirstCopy → Type 0
 Counts_from f own = (i : ℕ) (c : FirstCopy) → slice_get own i ≡ Some c → c.pdu.number ≡ wrapped (f + i)
@@ -142,10 +135,10 @@ pub below_by : (p : Parameters) (xs : List Packet) (s : Side) (d : List FirstCop
 below_by p xs s d h i j a b e at l g m =
     elim (dec_lt j i) [
       | yes z ↦ z
-      | no z ↦ elim (dec_lt i j) [
-        | yes y ↦ absurd (let r = places_rise p xs s d h (j - suc i) i e b at (subst (λ (t : ℕ). slice_get d t ≡ Some b) (omega arith) g) in omega arith)
-        | no y ↦ absurd (let same : i ≡ j = omega arith in let q : e ≡ b = (let g' : slice_get d i ≡ Some b = subst (λ (t : ℕ). slice_get d t ≡ Some b) (sym same) g in cc) in let w = ap (λ (u : FirstCopy). u.place) q in omega arith)
-      ]
+      | no z ↦ absurd (elim (dec_lt i j) [
+        | yes y ↦ (let r = places_rise p xs s d h (j - suc i) i e b at (subst (λ (t : ℕ). slice_get d t ≡ Some b) (omega arith) g) in omega arith)
+        | no y ↦ (let same : i ≡ j = omega arith in let q : e ≡ b = cc (ap (slice_get d) same) in let w = ap (λ (u : FirstCopy). u.place) q in omega arith)
+      ])
     ]
 
 at_same : (p : Parameters) (xs : List Packet) (s : Side) (c d : List FirstCopy) → IsSent p xs s c → IsSent p xs s d → (i : ℕ) (a b : FirstCopy) → slice_get c i ≡ Some a → slice_get d i ≡ Some b → a.place ≡ b.place → a ≡ b

@@ -1,16 +1,16 @@
 -- Positions in ordered lists of first copies.
-use Rattle.std.proofs.Common.{◌≡◌, ℕ, zero, suc, ◌+◌, ◌-◌, ◌%◌, ◌^◌, ◌<◌, ◌≤◌, ◌++◌, Bool, true, false, cond, nat_lt, nat_eq, List, [], ◌∷◌, Option, Some, None, length, get_or, slice_get, map, position, refl, ap, sym, ◌∙◌, arith, subst, ⊎_elim, lt-ltb, le-ltb, if◌then◌else◌, eqb, take, drop}
+use Rattle.std.proofs.Common.{◌≡◌, ℕ, zero, suc, ◌+◌, ◌-◌, ◌%◌, ◌^◌, ◌<◌, ◌≤◌, ◌++◌, Bool, true, false, cond, nat_lt, nat_eq, List, [], ◌∷◌, Option, Some, None, length, get_or, slice_get, map, position, refl, ap, sym, ◌∙◌, arith, subst, lt-ltb, le-ltb, if◌then◌else◌, eqb, take, drop}
 use Rattle.std.specs.List.{position_or_len}
 use Rattle.std.specs.Option.{option_map}
 use Rattle.std.proofs.lemmas.Bool.Decides.{nat_tests}
-use Rattle.std.proofs.lemmas.List.{length-map, length_push, map-append, take-append-drop}
+use Rattle.std.proofs.lemmas.List.{length_push, map-append, take-append-drop}
 use Rattle.std.proofs.lemmas.List.Sums.{position_or_len_is}
 use Rattle.std.proofs.lemmas.List.Folds.{position_or_len_push}
 use Rattle.std.proofs.lemmas.Option.{slice_get_within, slice_get-map, slice_get-get_or}
 use Rattle.rasta_end.specs.State.{wrapped}
 use Rattle.rasta_check.specs.Capture.Crossing.{FirstCopy}
 use Rattle.rasta_check.specs.Capture.Lists.{IsOrdered, places_of, numbers_of, position_of_number, position_of_place, AreMarks, marked}
-use Rattle.rasta_check.proofs.Model.ListGrowth.{get_push_cases, get_front, get_push}
+use Rattle.rasta_check.proofs.Model.ListGrowth.{get_front, get_push}
 use Rattle.rasta_check.proofs.Capture.FirstCopies.{not_again}
 use Rattle.rasta_check.proofs.Script.Simulation.{slice_get_some}
 
@@ -87,12 +87,6 @@ places_below sent h (suc d) i a b x y =
     let high = h.places (suc d + i) mid.0 b mid.1 (subst (λ (j : ℕ). slice_get sent j ≡ Some b) (omega arith) y) in
     omega (arith, low, high)
 
-pub place_new : (sent : List FirstCopy) (c : FirstCopy) → IsOrdered (sent ++ c ∷ []) → (i : ℕ) (d : FirstCopy) → slice_get sent i ≡ Some d → d.place < c.place
-place_new sent c h i d g =
-    let l = slice_get_within sent i d g in
-    places_below (sent ++ c ∷ []) h (length sent - suc i) i d c (get_front sent (c ∷ []) i d g)
-    (subst (λ (j : ℕ). slice_get (sent ++ c ∷ []) j ≡ Some c) (omega arith) (get_push sent c))
-
 -- ---- the table of places of a list that goes on
 
 pub member_there : (f : FirstCopy → ℕ) (sent : List FirstCopy) (i y : ℕ) → slice_get (map f sent) i ≡ Some y → (c : FirstCopy) × (slice_get sent i ≡ Some c) × (f c ≡ y)
@@ -103,19 +97,20 @@ member_there f (c ∷ sent) (suc i) y g = member_there f sent i y g
 places_push : (sent : List FirstCopy) (c : FirstCopy) → places_of (sent ++ c ∷ []) ≡ places_of sent ++ c.place ∷ []
 places_push sent c = map-append (λ (d : FirstCopy). d.place) sent (c ∷ [])
 
-length_places : (sent : List FirstCopy) → length (places_of sent) ≡ length sent
-length_places sent = length-map sent (λ (c : FirstCopy). c.place)
+-- two positions with one place are one
+pub one_place : (sent : List FirstCopy) → IsOrdered sent → (i j : ℕ) (a b : FirstCopy) → slice_get sent i ≡ Some a → slice_get sent j ≡ Some b → i < j → a.place < b.place
+one_place sent h i j a b g f l =
+    places_below sent h (j - suc i) i a b g (subst (λ (n : ℕ). slice_get sent n ≡ Some b) (omega arith) f)
+
+-- the position of a place is that of the copy there
+pub place_found : (sent : List FirstCopy) → IsOrdered sent → (position : ℕ) (c : FirstCopy) → slice_get sent position ≡ Some c → position_of_place sent c.place ≡ Some position
+place_found sent h position c g =
+    position_at c.place (places_of sent) position (slice_get-map (λ (x : FirstCopy). x.place) sent position ∙ ap (option_map (λ (x : FirstCopy). x.place)) g)
+    (λ j y b f e. (let w = member_there (λ (x : FirstCopy). x.place) sent j y f in let z = one_place sent h j position w.0 c w.1 g b in let q = w.2 in omega arith))
 
 module _ (sent : List FirstCopy) (c : FirstCopy) (h : IsOrdered (sent ++ c ∷ [])) where
   place_last : position_of_place (sent ++ c ∷ []) c.place ≡ Some (length sent)
-  place_last =
-      ap (position (nat_eq c.place)) (places_push sent c)
-      ∙ (position_at c.place (places_of sent ++ c.place ∷ []) (length (places_of sent)) (get_push (places_of sent) c.place)
-      (λ j y b g e. ⊎_elim
-      (λ (o : slice_get (places_of sent) j ≡ Some y). (let w = member_there (λ (z : FirstCopy). z.place) sent j y o in let z = place_new sent c h j w.0 w.1 in let q = w.2 in omega arith))
-      (λ (n : (j ≡ length (places_of sent)) × (c.place ≡ y)). (let q = n.0 in omega arith))
-      (get_push_cases (places_of sent) c.place j y g))
-      ∙ ap Some (length_places sent))
+  place_last = place_found (sent ++ c ∷ []) h (length sent) c (get_push sent c)
 
   pub place_pushed : (q : ℕ) → position_of_place (sent ++ c ∷ []) q ≡ (if nat_eq q c.place then Some (length sent) else position_of_place sent q)
   place_pushed q = by (nat_eq q c.place) refl

@@ -1,5 +1,5 @@
 -- What a store keeps at its positions and places.
-use Rattle.std.proofs.Common.{◌≡◌, ℕ, suc, ◌+◌, ◌-◌, ◌<◌, ◌≤◌, List, [], ◌∷◌, length, map, Bool, true, false, cond, not, nat_lt, nat_eq, Option, Some, None, slice_get, refl, ap, sym, ◌∙◌, subst, arith, IfSome, if◌then◌else◌}
+use Rattle.std.proofs.Common.{◌≡◌, ℕ, ◌+◌, ◌<◌, ◌≤◌, List, [], ◌∷◌, length, map, Bool, true, false, cond, not, nat_lt, nat_eq, Option, Some, None, slice_get, refl, ap, sym, ◌∙◌, subst, arith, IfSome, if◌then◌else◌}
 use Rattle.std.specs.Prelude.{◌==◌, Ok, Result}
 use Rattle.std.specs.List.{position_or_len}
 use Rattle.std.specs.Option.{option_map}
@@ -22,7 +22,7 @@ use Rattle.rasta_check.specs.Capture.Lists.{IsOrdered, numbers_of, places_of, po
 use Rattle.rasta_check.specs.Capture.Reading.{Crossing, IsCrossing, sent_by, after_pdu, after_read, sent_after}
 use Rattle.rasta_check.specs.Internals.Stored.{IsStore, Decode, bytes_of, copy_in, pdu_in, packet_by, crossing_by}
 use Rattle.rasta_check.proofs.Capture.Crossings.{few_of, list_of}
-use Rattle.rasta_check.proofs.Capture.Positions.{member_there, places_below, position_at, position_none}
+use Rattle.rasta_check.proofs.Capture.Positions.{member_there, place_found, position_none}
 use Rattle.rasta_check.proofs.Script.Simulation.{slice_get_some}
 use Rattle.rasta_check.proofs.Capture.FirstCopies.{not_again}
 use Rattle.rasta_check.proofs.Capture.Spellings.{read_once}
@@ -89,17 +89,6 @@ one_number k h side i j a b g f e l =
     let high = slice_get_within (sent_by k side) j b f in
     let head = slice_get_some (sent_by k side) 0 (omega arith) in
     not_again head.0.pdu.number i j a.pdu.number b.pdu.number (s.numbers i head.0 a head.1 g) (s.numbers j head.0 b head.1 f) l (omega arith) e
-
--- two positions with one place are one
-pub one_place : (sent : List FirstCopy) → IsOrdered sent → (i j : ℕ) (a b : FirstCopy) → slice_get sent i ≡ Some a → slice_get sent j ≡ Some b → i < j → a.place < b.place
-one_place sent h i j a b g f l =
-    places_below sent h (j - suc i) i a b g (subst (λ (n : ℕ). slice_get sent n ≡ Some b) (omega arith) f)
-
--- the position of a place is that of the copy there
-pub place_found : (sent : List FirstCopy) → IsOrdered sent → (position : ℕ) (c : FirstCopy) → slice_get sent position ≡ Some c → position_of_place sent c.place ≡ Some position
-place_found sent h position c g =
-    position_at c.place (places_of sent) position (slice_get-map (λ (x : FirstCopy). x.place) sent position ∙ ap (option_map (λ (x : FirstCopy). x.place)) g)
-    (λ j y b f e. (let w = member_there (λ (x : FirstCopy). x.place) sent j y f in let z = one_place sent h j position w.0 c w.1 g b in let q = w.2 in omega arith))
 
 pub place_missing : (sent : List FirstCopy) (place : ℕ) → ((i : ℕ) (c : FirstCopy) → slice_get sent i ≡ Some c → c.place ≡ place → ⊥) → position_of_place sent place ≡ None
 place_missing sent place h = position_none place (places_of sent) (λ j y f e. (let w = member_there (λ (x : FirstCopy). x.place) sent j y f in h j w.0 w.1 (w.2 ∙ e)))
