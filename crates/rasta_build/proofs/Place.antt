@@ -23,7 +23,7 @@ use Rattle.rasta_check.proofs.Capture.FaultlessLists.{IsSent}
 use Rattle.rasta_check.proofs.Capture.ListForms.{to_record}
 use Rattle.rasta_check.proofs.Model.Steps.{made_more}
 use Rattle.rasta_check.proofs.Model.TakeRows.{take_leaves}
-use Rattle.rasta_check.proofs.Script.Simulation.{slice_get_some}
+use Rattle.rasta_check.proofs.Script.Tracks.{slice_get_some}
 use Rattle.rasta_check.proofs.Run.Simulation.{simulated}
 use Rattle.rasta_check.proofs.Theorem.SentRuns.{known}
 use Rattle.rasta_build.specs.Built.{Built}

@@ -4,7 +4,7 @@ pub mod FollowedScripts
 pub mod CutScripts
 pub mod Fits
 pub mod RefusedEntries
-pub mod Simulation
+pub mod Tracks
 pub mod OneWay
 pub mod ScriptsOfRuns
 pub mod WritableEntries

@@ -28,7 +28,7 @@ use Rattle.rasta_pdu.specs.declared.pdu.Pdu.{Pdu}
 use Rattle.rasta_check.specs.Capture.Reading.{Crossing, IsCrossing, sent_by, after_pdu, after_read, sent_after, with_packet, crossing_with, is_within}
 use Rattle.rasta_check.proofs.Capture.FaultlessLists.{IsSent}
 use Rattle.rasta_check.proofs.Capture.ListForms.{to_record, of_record}
-use Rattle.rasta_check.proofs.Script.Simulation.{slice_get_some}
+use Rattle.rasta_check.proofs.Script.Tracks.{slice_get_some}
 use Rattle.rasta_check.proofs.Capture.FirstCopies.{not_again, sent_copy, sent_first, sent_other, earliest}
 use Rattle.rasta_check.proofs.Capture.NextPackets.{first_number, numbers_from, next_from}
 use Rattle.std.proofs.lemmas.Bool.Decides.{nat_tests}

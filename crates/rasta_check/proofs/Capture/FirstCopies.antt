@@ -11,7 +11,7 @@ use Rattle.rasta_udp.specs.Frame.{Packet}
 use Rattle.rasta_check.proofs.Capture.FaultlessLists.{IsSent}
 use Rattle.rasta_check.proofs.Model.ListGrowth.{get_push_cases, get_front, get_push}
 use Rattle.rasta_check.proofs.Capture.Spellings.{read_once}
-use Rattle.rasta_check.proofs.Script.Simulation.{places_rise, slice_get_some}
+use Rattle.rasta_check.proofs.Script.Tracks.{places_rise, slice_get_some}
 use Rattle.rasta_pdu.specs.Params.{Parameters, AreParameters}
 
 abbrev pub First : List Packet → Side → List FirstCopy → ℕ → Type 0

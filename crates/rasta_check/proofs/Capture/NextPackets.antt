@@ -13,7 +13,7 @@ use Rattle.rasta_check.specs.Model.World.{World, Reaches}
 use Rattle.rasta_check.proofs.Capture.FaultlessLists.{IsSent}
 use Rattle.rasta_end.proofs.Lists.{get_front, get_front_within}
 use Rattle.rasta_check.proofs.Capture.FirstCopies.{below_by, earliest, sent_once, First, Again, Counts_from}
-use Rattle.rasta_check.proofs.Script.Simulation.{places_rise, slice_get_some}
+use Rattle.rasta_check.proofs.Script.Tracks.{places_rise, slice_get_some}
 use Rattle.rasta_check.proofs.Script.ScriptsOfRuns.{told_by}
 
 -- it says something, and its number has crossed with the same bytes, or is the next, or is the first

@@ -17,7 +17,7 @@ use Rattle.rasta_check.specs.Capture.Crossing.{FirstCopy, Spells, copy_with, is_
 use Rattle.rasta_check.specs.Model.Theorem.{OfConnection}
 use Rattle.rasta_check.proofs.Capture.FaultlessLists.{IsSent}
 use Rattle.rasta_check.proofs.Capture.FirstCopies.{not_again}
-use Rattle.rasta_check.proofs.Script.Simulation.{slice_get_some}
+use Rattle.rasta_check.proofs.Script.Tracks.{slice_get_some}
 use Rattle.rasta_check.proofs.Script.OneWay.{number_once}
 use Rattle.rasta_check.proofs.Capture.NextPackets.{CanFollow}
 

@@ -12,7 +12,7 @@ use Rattle.rasta_check.specs.Capture.Crossing.{FirstCopy}
 use Rattle.rasta_check.specs.Capture.Lists.{IsOrdered, places_of, numbers_of, position_of_number, position_of_place, AreMarks, marked}
 use Rattle.rasta_check.proofs.Model.ListGrowth.{get_front, get_push}
 use Rattle.rasta_check.proofs.Capture.FirstCopies.{not_again}
-use Rattle.rasta_check.proofs.Script.Simulation.{slice_get_some}
+use Rattle.rasta_check.proofs.Script.Tracks.{slice_get_some}
 
 -- ---- the first position of a number in a list of numbers
 

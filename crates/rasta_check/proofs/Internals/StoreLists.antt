@@ -23,7 +23,7 @@ use Rattle.rasta_check.specs.Capture.Reading.{Crossing, IsCrossing, sent_by, aft
 use Rattle.rasta_check.specs.Internals.Stored.{IsStore, Decode, bytes_of, copy_in, pdu_in, packet_by, crossing_by}
 use Rattle.rasta_check.proofs.Capture.Crossings.{few_of, list_of}
 use Rattle.rasta_check.proofs.Capture.Positions.{member_there, place_found, position_none}
-use Rattle.rasta_check.proofs.Script.Simulation.{slice_get_some}
+use Rattle.rasta_check.proofs.Script.Tracks.{slice_get_some}
 use Rattle.rasta_check.proofs.Capture.FirstCopies.{not_again}
 use Rattle.rasta_check.proofs.Capture.Spellings.{read_once}
 

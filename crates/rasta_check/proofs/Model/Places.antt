@@ -13,7 +13,7 @@ use Rattle.rasta_check.specs.Model.Theorem.{Appends, IsMade}
 use Rattle.rasta_check.proofs.Capture.FaultlessLists.{IsSent}
 use Rattle.rasta_check.proofs.Capture.ListForms.{of_record}
 use Rattle.rasta_check.proofs.Model.Steps.{base, start_base}
-use Rattle.rasta_check.proofs.Script.Simulation.{slice_get_some}
+use Rattle.rasta_check.proofs.Script.Tracks.{slice_get_some}
 use Rattle.rasta_check.proofs.Script.ScriptsOfRuns.{told_by, sends_count}
 use Rattle.rasta_check.proofs.Model.History.{stepped, joined}
 use Rattle.rasta_check.proofs.Theorem.SentRuns.{before}

@@ -19,7 +19,7 @@ use Rattle.rasta_check.specs.Model.World.{Station, making, repeating, waiting, m
 use Rattle.rasta_check.proofs.Capture.FaultlessLists.{IsSent}
 use Rattle.rasta_check.proofs.Capture.Crossings.{number_spelled}
 use Rattle.rasta_check.proofs.Model.ListGrowth.{get_front, get_push}
-use Rattle.rasta_check.proofs.Script.Simulation.{Tracks, Drained, next_number, next_packet, places_once, slice_get_some, untouched}
+use Rattle.rasta_check.proofs.Script.Tracks.{Tracks, Drained, next_number, next_packet, places_once, slice_get_some, untouched}
 use Rattle.rasta_check.proofs.Model.Steps.{base, made_more}
 use Rattle.rasta_check.specs.Run.Lines.{lines_of_move, copy_lines, number_of}
 use Rattle.rasta_check.specs.Run.Levels.{makes_at, make_line, waited_line, each_make, side_lines, crossed_lines}

@@ -13,7 +13,7 @@ use Rattle.rasta_check.specs.Capture.Lists.{places_of, position_of_place}
 use Rattle.rasta_check.specs.Script.Following.{Cursor, Advances, takes_next, makes_next, Leads}
 use Rattle.rasta_check.proofs.Capture.FaultlessLists.{IsSent}
 use Rattle.rasta_check.proofs.Capture.Positions.{position_none}
-use Rattle.rasta_check.proofs.Script.Simulation.{places_once}
+use Rattle.rasta_check.proofs.Script.Tracks.{places_once}
 use Rattle.rasta_check.proofs.Script.FollowedScripts.{place_named}
 use Rattle.rasta_check.proofs.Script.ListItems.{mapped_at}
 use Rattle.rasta_check.specs.Run.Levels.{takes_at, makes_at}

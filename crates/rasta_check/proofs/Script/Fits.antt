@@ -26,7 +26,7 @@ use Rattle.rasta_check.specs.Internals.Checking.{unless, take_at, take_found, ma
 use Rattle.rasta_check.specs.Verdict.Report.{Explained, IsScriptVerdict, both_fit, client_refused, server_refused, report_of}
 use Rattle.rasta_check.proofs.Script.ListItems.{get_behind}
 use Rattle.rasta_check.proofs.Script.FollowedScripts.{Goes, takes, makes, goes, gone, number_found, place_found, place_named, not_less, held, failed, same_equal, follow_fits, fits_follow}
-use Rattle.rasta_check.proofs.Script.Simulation.{slice_get_some}
+use Rattle.rasta_check.proofs.Script.Tracks.{slice_get_some}
 use Rattle.rasta_check.proofs.Internals.StoreLists.{copy_of_position, no_copy}
 
 -- so many and those of a list

@@ -26,7 +26,7 @@ use Rattle.rasta_check.specs.Internals.Checking.{unless, take_at, take_found, ma
 use Rattle.rasta_check.proofs.Capture.Positions.{position_at, places_below}
 use Rattle.rasta_check.proofs.Capture.FirstCopies.{not_again}
 use Rattle.rasta_check.proofs.Script.ListItems.{map_at, mapped_at}
-use Rattle.rasta_check.proofs.Script.Simulation.{slice_get_some}
+use Rattle.rasta_check.proofs.Script.Tracks.{slice_get_some}
 
 -- ---- positions
 

@@ -16,7 +16,7 @@ use Rattle.rasta_check.proofs.Capture.FaultlessLists.{IsSent}
 use Rattle.rasta_check.specs.Script.Following.{Cursor, Advances, takes_next, makes_next, Leads}
 use Rattle.rasta_check.proofs.Capture.Spellings.{read_once}
 use Rattle.rasta_check.proofs.Capture.FirstCopies.{earliest, not_again}
-use Rattle.rasta_check.proofs.Script.Simulation.{slice_get_some}
+use Rattle.rasta_check.proofs.Script.Tracks.{slice_get_some}
 
 -- a number names one position of a list
 pub number_once : (p : Parameters) (xs : List Packet) (s : Side) (own : List FirstCopy) → IsSent p xs s own → length own < 4294967296 → (i j : ℕ) (c d : FirstCopy) → slice_get own i ≡ Some c → slice_get own j ≡ Some d → c.pdu.number ≡ d.pdu.number → i ≡ j

@@ -18,7 +18,7 @@ use Rattle.rasta_check.specs.Internals.Listing.{shown_by, with_proofs, proofs_fr
 use Rattle.rasta_check.proofs.Model.ListGrowth.{get_front}
 use Rattle.rasta_check.proofs.Model.SequenceNumbers.{Numbered}
 use Rattle.rasta_check.proofs.Model.NamedPositions.{SnIs}
-use Rattle.rasta_check.proofs.Script.Simulation.{slice_get_some}
+use Rattle.rasta_check.proofs.Script.Tracks.{slice_get_some}
 use Rattle.rasta_check.proofs.Model.ConveyedUnits.{get_or_none}
 use Rattle.rasta_pdu.specs.declared.kind.Kind.TheVariants.{Data}
 
