@@ -1,7 +1,6 @@
 //! The lines of entries.
 ghost use Rattle.std.specs.Prelude.{◌≡◌, ◌≤◌, length};
 ghost use Rattle.rasta_cert.specs.Certificate.{IsEntry, entry_line, why_line};
-ghost use Rattle.rasta_end.specs.declared.why.Why.TheVariants.{Again};
 ghost use Rattle.rasta_cert.specs.declared.entry.Entry.TheVariants.{Take, Make};
 
 use crate::entry::Entry;

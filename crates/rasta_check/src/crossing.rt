@@ -86,6 +86,7 @@ impl<'a> Sent<'a> {
         self.params
     }
 
+    // Its parameters, where it keeps them.
     fn kept_params(&self) -> &Params
         ensures value { result.now ≡ self.now.params }
         ensures crossing { IsCrossing self.now }

@@ -75,6 +75,7 @@ impl Store {
         self.params
     }
 
+    // Its parameters, where it keeps them.
     fn kept_params(&self) -> &Params
         ensures value { result.now ≡ self.now.params }
         ensures crossing { IsCrossing self.now }
