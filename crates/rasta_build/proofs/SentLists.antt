@@ -15,7 +15,7 @@ use Rattle.rasta_end.specs.State.{Made, EndState, first_sn}
 use Rattle.rasta_end.specs.Starts.{start_by}
 use Rattle.rasta_check.specs.Capture.Crossing.{FirstCopy}
 use Rattle.rasta_check.specs.Model.World.{other_side}
-use Rattle.rasta_check.specs.Verdict.Taken.{pdus_made, pdus_of}
+use Rattle.rasta_check.specs.Model.Taken.{pdus_made, pdus_of}
 use Rattle.rasta_check.proofs.Model.ListGrowth.{get_front}
 use Rattle.rasta_check.proofs.Capture.FaultlessLists.{IsSent}
 use Rattle.rasta_check.proofs.Script.Tracks.{slice_get_some, places_rise}

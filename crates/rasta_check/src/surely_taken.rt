@@ -3,8 +3,7 @@ ghost use Rattle.std.specs.Prelude.{◌≡◌, ◌++◌, ◌∷◌, [], List, le
 ghost use Rattle.rasta_pdu.specs.Pdu.{value_of, messages_in};
 ghost use Rattle.rasta_check.specs.Capture.Crossing.{FirstCopy};
 ghost use Rattle.rasta_check.specs.Capture.Lists.{copy_of};
-ghost use Rattle.rasta_check.specs.Verdict.Taken.{messages_of_unit, messages_taken};
-ghost use Rattle.rasta_check.specs.Verdict.Listed.{listed_of, numbered_from};
+ghost use Rattle.rasta_check.specs.Verdict.Listed.{messages_of_unit, messages_taken, listed_of, numbered_from};
 ghost use Rattle.rasta_check.specs.Internals.Listing.{listed_with, proofs_from, proved_units, shown_by, with_proofs};
 
 use crate::report::{Taken, TakenList};

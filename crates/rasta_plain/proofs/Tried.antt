@@ -23,7 +23,7 @@ use Rattle.rasta_end.specs.Starts.{start_of}
 use Rattle.rasta_end.proofs.MakeTests.{no_fault, no_test}
 use Rattle.rasta_check.specs.Capture.Crossing.{FirstCopy, Spells, Sent, CrossRecorded, packet_fault}
 use Rattle.rasta_check.specs.Model.World.{World, Reaches}
-use Rattle.rasta_check.specs.Verdict.Taken.{TakenUnit, pdus_made, all_made, surely_taken}
+use Rattle.rasta_check.specs.Model.Taken.{TakenUnit, pdus_made, all_made, surely_taken}
 use Rattle.rasta_check.specs.Script.Fitting.{Fits, FirstFault, at_entry, after_last}
 use Rattle.rasta_check.specs.Script.Following.{Cursor, Advances, takes_next, makes_next, Leads, at_start}
 use Rattle.rasta_check.specs.Model.Theorem.{OfConnection, SentLists, Definite, Necessity, Appends, HasHandedUp, units_handed, units_listed}

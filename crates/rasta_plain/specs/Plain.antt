@@ -5,7 +5,7 @@ use Rattle.rasta_plain.specs.declared.taken.FirstCopy.{FirstCopy as PlainCopy}
 use Rattle.rasta_plain.specs.declared.taken.MadePdu.{MadePdu}
 use Rattle.rasta_plain.specs.declared.taken.TakenUnit.{TakenUnit as PlainUnit}
 use Rattle.rasta_check.specs.Capture.Crossing.{FirstCopy}
-use Rattle.rasta_check.specs.Verdict.Taken.{TakenUnit}
+use Rattle.rasta_check.specs.Model.Taken.{TakenUnit}
 
 abbrev pub copy_of : PlainCopy → FirstCopy
 copy_of c = record { place = c.place; pdu = value_of c.pdu }

@@ -6,8 +6,8 @@ ghost use Rattle.rasta_end.specs.State;
 ghost use Rattle.rasta_end.specs.Starts;
 ghost use Rattle.rasta_end.specs.Starts.{start_of};
 ghost use Rattle.rasta_end.specs.Units;
-ghost use Rattle.rasta_check.specs.Verdict.Taken;
-ghost use Rattle.rasta_check.specs.Verdict.Taken.{pdus_of, pdus_made};
+ghost use Rattle.rasta_check.specs.Model.Taken;
+ghost use Rattle.rasta_check.specs.Model.Taken.{pdus_of, pdus_made};
 ghost use Rattle.rasta_plain.specs.Plain.{AreAtMost, copies_of, copy_of, pdus, safety_of, units_of};
 
 use rasta_pdu::{Body, Kind, Params, Pdu, QuietEnd, Side};

@@ -11,7 +11,7 @@ use Rattle.rasta_pdu.specs.declared.kind.Kind.TheVariants.{RetransmissionRequest
 use Rattle.rasta_pdu.specs.Pdu.{SafetyPdu, is_kind}
 use Rattle.rasta_end.specs.State.{Made, EndState, kinds}
 use Rattle.rasta_end.specs.Units.{responses_in}
-use Rattle.rasta_check.specs.Verdict.Taken.{pdus_made, position_with, asked_positions}
+use Rattle.rasta_check.specs.Model.Taken.{pdus_made, position_with, asked_positions}
 use Rattle.rasta_check.specs.Model.Laws.{NamesOne, requests_of, AnswersInOrder}
 use Rattle.rasta_check.proofs.Model.Counts.{number, tally, number_take_all, number_take_at}
 use Rattle.rasta_check.proofs.Model.TakeRows.{kind_is}

@@ -23,7 +23,7 @@ use Rattle.rasta_end.specs.Starts.{start_of, start_by}
 use Rattle.rasta_check.specs.Capture.Crossing.{FirstCopy, CrossRecorded}
 use Rattle.rasta_check.specs.Model.World.{World, Reaches}
 use Rattle.rasta_check.specs.Model.Laws.{NamesOne}
-use Rattle.rasta_check.specs.Verdict.Taken.{pdus_made, pdus_of, all_made, units_along, units_shown, units_taken, position_with, surely_taken}
+use Rattle.rasta_check.specs.Model.Taken.{pdus_made, pdus_of, all_made, units_along, units_shown, units_taken, position_with, surely_taken}
 use Rattle.rasta_check.specs.Script.Following.{Cursor, Advances, takes_next, makes_next, Leads, at_start, Follows}
 use Rattle.rasta_check.specs.Model.Theorem.{units_handed, units_listed}
 use Rattle.rasta_check.proofs.Capture.FaultlessLists.{IsSent}

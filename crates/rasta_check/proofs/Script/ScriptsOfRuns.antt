@@ -24,7 +24,7 @@ use Rattle.rasta_cert.specs.declared.entry.Entry.TheVariants.{Take, Make}
 use Rattle.rasta_cert.specs.Certificate.{most_entries}
 use Rattle.rasta_check.proofs.Capture.FaultlessLists.{IsSent}
 use Rattle.rasta_check.specs.Script.Following.{Cursor, Advances, takes_next, makes_next, Leads, Follows, at_start}
-use Rattle.rasta_check.specs.Verdict.Taken.{pdus_of, pdus_made}
+use Rattle.rasta_check.specs.Model.Taken.{pdus_of, pdus_made}
 use Rattle.rasta_check.proofs.Model.ListGrowth.{get_push_cases, get_front, get_push}
 use Rattle.rasta_check.proofs.Model.TakeRows.{take_leaves}
 use Rattle.rasta_check.proofs.Script.ListItems.{get_behind, map_at, mapped_at}

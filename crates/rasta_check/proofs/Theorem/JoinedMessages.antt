@@ -3,9 +3,9 @@ use Rattle.std.proofs.Common.{◌≡◌, ◌⊎◌, ℕ, zero, suc, ◌+◌, ◌
 use Rattle.std.specs.List.{flat_map}
 use Rattle.std.proofs.lemmas.List.{map-append, length-map}
 use Rattle.rasta_pdu.specs.Pdu.{SafetyPdu, messages_in}
-use Rattle.rasta_check.specs.Verdict.Taken.{TakenUnit, TakenMessage, messages_of_unit, messages_taken}
+use Rattle.rasta_check.specs.Model.Taken.{TakenUnit}
 use Rattle.rasta_check.specs.Model.Theorem.{units_listed}
-use Rattle.rasta_check.specs.Verdict.Listed.{ListedMessage, numbered_from}
+use Rattle.rasta_check.specs.Verdict.Listed.{TakenMessage, messages_of_unit, messages_taken, ListedMessage, numbered_from}
 use Rattle.rasta_check.specs.Verdict.Headline.{messages_in_list}
 use Rattle.rasta_check.proofs.Model.ListGrowth.{get_front, get_past}
 

@@ -13,7 +13,7 @@ use Rattle.rasta_pdu.specs.Pdu.{SafetyPdu, messages_in, is_kind}
 use Rattle.rasta_end.specs.State.{Made, EndState}
 use Rattle.rasta_end.specs.Starts.{start_by}
 use Rattle.rasta_check.specs.Capture.Crossing.{FirstCopy}
-use Rattle.rasta_check.specs.Verdict.Taken.{pdus_made, pdus_of, all_made, units_shown, units_taken, TakenUnit, proof_place, units_from, data_copies, surely_taken}
+use Rattle.rasta_check.specs.Model.Taken.{pdus_made, pdus_of, all_made, units_shown, units_taken, TakenUnit, proof_place, units_from, data_copies, surely_taken}
 use Rattle.rasta_check.specs.Model.Theorem.{HandsUpUnits, units_handed, units_listed}
 use Rattle.std.proofs.lemmas.List.Elements.{filter-append}
 use Rattle.rasta_check.proofs.Script.Tracks.{slice_get_some}

@@ -6,7 +6,7 @@ use Rattle.rasta_pdu.specs.Params.{Parameters}
 use Rattle.rasta_end.specs.State.{EndState}
 use Rattle.rasta_check.specs.Capture.Crossing.{FirstCopy}
 use Rattle.rasta_check.specs.Model.World.{World, end_of, other_side, Reaches}
-use Rattle.rasta_check.specs.Verdict.Taken.{all_made, TakenUnit, surely_taken}
+use Rattle.rasta_check.specs.Model.Taken.{all_made, TakenUnit, surely_taken}
 use Rattle.rasta_check.specs.Model.Theorem.{Appends, HandsUpUnits, HasHandedUp, units_handed, units_listed}
 use Rattle.rasta_check.proofs.Capture.FaultlessLists.{IsSent}
 use Rattle.rasta_check.proofs.Model.HandedUnits.{hands_up_units}

@@ -10,7 +10,7 @@ use Rattle.rasta_end.specs.declared.phase.Phase.TheVariants.{Closed}
 use Rattle.rasta_end.specs.State.{Made, EndState, is_client, is_closed}
 use Rattle.rasta_check.specs.Capture.Crossing.{FirstCopy}
 use Rattle.rasta_check.specs.Model.World.{World, station_of, end_of, other_side, Reaches}
-use Rattle.rasta_check.specs.Verdict.Taken.{pdus_of, all_made, units_shown}
+use Rattle.rasta_check.specs.Model.Taken.{pdus_of, all_made, units_shown}
 use Rattle.rasta_check.specs.Model.Theorem.{Appends}
 use Rattle.rasta_check.proofs.Capture.FaultlessLists.{IsSent}
 use Rattle.rasta_check.proofs.Model.Steps.{base}

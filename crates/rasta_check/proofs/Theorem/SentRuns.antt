@@ -8,7 +8,7 @@ use Rattle.rasta_end.specs.Starts.{start_of}
 use Rattle.rasta_check.specs.Capture.Crossing.{FirstCopy}
 use Rattle.rasta_check.specs.Model.World.{World, station_of, end_of, other_side, Reaches, IsWithin}
 use Rattle.rasta_check.specs.Model.Laws.{NamesOne}
-use Rattle.rasta_check.specs.Verdict.Taken.{pdus_made, pdus_of, all_made, units_along, units_taken}
+use Rattle.rasta_check.specs.Model.Taken.{pdus_made, pdus_of, all_made, units_along, units_taken}
 use Rattle.rasta_check.proofs.Capture.FaultlessLists.{IsSent}
 use Rattle.rasta_check.proofs.Model.Steps.{start_base}
 use Rattle.rasta_check.proofs.Model.SequenceNumbers.{numbered_once}

@@ -9,7 +9,7 @@ use Rattle.rasta_pdu.specs.Pdu.{SafetyPdu, is_kind}
 use Rattle.rasta_end.specs.State.{EndState}
 use Rattle.rasta_end.specs.Units.{units_at}
 use Rattle.rasta_end.specs.Starts.{start_by}
-use Rattle.rasta_check.specs.Verdict.Taken.{position_with, asked_positions, units_along, units_shown, pdus_made}
+use Rattle.rasta_check.specs.Model.Taken.{position_with, asked_positions, units_along, units_shown, pdus_made}
 use Rattle.rasta_check.proofs.Model.NamedPositions.{SnIs}
 use Rattle.rasta_check.proofs.Model.ConveyedUnits.{values, length-values, get_within}
 use Rattle.rasta_check.proofs.Model.Requests.{found_position}

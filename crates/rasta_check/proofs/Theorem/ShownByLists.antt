@@ -7,7 +7,7 @@ use Rattle.rasta_pdu.specs.Pdu.{SafetyPdu, is_kind}
 use Rattle.rasta_end.specs.State.{Made, EndState, kinds}
 use Rattle.rasta_end.specs.Units.{all_units_conveyed}
 use Rattle.rasta_end.proofs.Conveying.{more_asks}
-use Rattle.rasta_check.specs.Verdict.Taken.{pdus_made, position_with, asked_positions, units_along, units_shown, units_taken}
+use Rattle.rasta_check.specs.Model.Taken.{pdus_made, position_with, asked_positions, units_along, units_shown, units_taken}
 use Rattle.rasta_check.specs.Model.Laws.{NamesOne}
 use Rattle.rasta_check.proofs.Model.ListGrowth.{get_past, get_mapped}
 use Rattle.rasta_check.proofs.Model.Invariant.{Held}

@@ -12,13 +12,13 @@ use Rattle.rasta_end.specs.State.{EndState}
 use Rattle.rasta_end.specs.Units.{units_at}
 use Rattle.rasta_check.specs.Capture.Crossing.{FirstCopy}
 use Rattle.rasta_check.specs.Model.World.{World, end_of, other_side, Reaches}
-use Rattle.rasta_check.specs.Verdict.Taken.{surely_taken, messages_taken, position_with, pdus_of, all_made, units_shown, units_taken, units_from, data_copies}
+use Rattle.rasta_check.specs.Model.Taken.{surely_taken, position_with, pdus_of, all_made, units_shown, units_taken, units_from, data_copies}
 use Rattle.rasta_check.specs.Model.Laws.{HandsUp}
 use Rattle.rasta_check.specs.Script.Following.{Follows}
 use Rattle.rasta_check.specs.Internals.Checking.{follow, where_followed, verdict_of}
 use Rattle.rasta_check.specs.Model.Theorem.{Appends, units_handed, units_listed}
 use Rattle.rasta_check.specs.Capture.Reading.{Crossing, IsCrossing}
-use Rattle.rasta_check.specs.Verdict.Listed.{ListedMessage, listed, numbered_from}
+use Rattle.rasta_check.specs.Verdict.Listed.{messages_taken, ListedMessage, listed, numbered_from}
 use Rattle.rasta_check.specs.Verdict.Report.{Explained, report_of, BothFit}
 use Rattle.rasta_check.specs.Internals.Listing.{listed_by, shown_by, proofs_from}
 use Rattle.rasta_check.specs.Verdict.Headline.{messages_in_list, units_offered, HandsUpListed, Headline, IsSharp}

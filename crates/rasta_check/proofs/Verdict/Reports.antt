@@ -13,7 +13,7 @@ use Rattle.rasta_end.specs.State.{Made, EndState, ahead_by, first_sn}
 use Rattle.rasta_end.specs.Units.{units_at}
 use Rattle.rasta_end.specs.Starts.{start_by}
 use Rattle.rasta_check.specs.Capture.Crossing.{FirstCopy}
-use Rattle.rasta_check.specs.Verdict.Taken.{position_with, pdus_of, pdus_made, units_shown, units_taken, proof_place, units_from, data_copies}
+use Rattle.rasta_check.specs.Model.Taken.{position_with, pdus_of, pdus_made, units_shown, units_taken, proof_place, units_from, data_copies}
 use Rattle.rasta_check.specs.Internals.Listing.{shown_by, with_proofs, proofs_from, proved_unit, with_unit, proved_units}
 use Rattle.rasta_check.proofs.Model.ListGrowth.{get_front}
 use Rattle.rasta_check.proofs.Model.SequenceNumbers.{Numbered}

@@ -4,8 +4,8 @@ use Rattle.rasta_pdu.specs.Pdu.{SafetyPdu, messages_in, is_kind}
 use Rattle.rasta_end.specs.State.{EndState, ahead_by, first_sn, kinds}
 use Rattle.rasta_end.specs.Units.{units_conveyed}
 use Rattle.rasta_check.specs.Capture.Crossing.{FirstCopy}
-use Rattle.rasta_check.specs.Verdict.Taken.{TakenUnit, messages_taken}
-use Rattle.rasta_check.specs.Verdict.Listed.{ListedMessage, numbered_from}
+use Rattle.rasta_check.specs.Model.Taken.{TakenUnit}
+use Rattle.rasta_check.specs.Verdict.Listed.{messages_taken, ListedMessage, numbered_from}
 use Rattle.rasta_pdu.specs.declared.kind.Kind.TheVariants.{ConnectionRequest, Data}
 
 -- the units that a PDU of the peer shows, by what this end made

@@ -8,7 +8,7 @@ use Rattle.rasta_end.specs.State.{Made, EndState, kinds}
 use Rattle.rasta_end.specs.Units.{all_units_conveyed, units_conveyed, last_of, responses_in}
 use Rattle.rasta_end.specs.MakeRule.{Makes, has_ended}
 use Rattle.rasta_check.specs.Model.World.{World, other_side, end_of, Reaches, IsWithin}
-use Rattle.rasta_check.specs.Verdict.Taken.{pdus_made, asked_positions, position_with}
+use Rattle.rasta_check.specs.Model.Taken.{pdus_made, asked_positions, position_with}
 use Rattle.rasta_pdu.specs.declared.kind.Kind.TheVariants.{RetransmissionRequest, RetransmissionResponse}
 
 -- what holds of each end and its peer, at every world of a run

@@ -10,7 +10,7 @@ use Rattle.rasta_end.specs.State.{Made, EndState}
 use Rattle.rasta_end.specs.Starts.{start_of}
 use Rattle.rasta_check.specs.Capture.Crossing.{FirstCopy, Sent, packet_fault}
 use Rattle.rasta_check.specs.Model.World.{World, other_side, end_of, Reaches, most_sent, IsWithin}
-use Rattle.rasta_check.specs.Verdict.Taken.{pdus_made, all_made, TakenUnit, surely_taken}
+use Rattle.rasta_check.specs.Model.Taken.{pdus_made, all_made, TakenUnit, surely_taken}
 use Rattle.rasta_check.specs.Model.Laws.{HandsUp}
 use Rattle.rasta_pdu.specs.declared.kind.Kind.TheVariants.{Data}
 

@@ -11,7 +11,7 @@ use Rattle.rasta_end.specs.State.{EndState}
 use Rattle.rasta_end.specs.Starts.{start_of}
 use Rattle.rasta_check.specs.Capture.Crossing.{CrossRecorded, FirstCopy, Sent}
 use Rattle.rasta_check.specs.Model.World.{World, Reaches, most_sent, other_side}
-use Rattle.rasta_check.specs.Verdict.Taken.{surely_taken}
+use Rattle.rasta_check.specs.Model.Taken.{surely_taken}
 use Rattle.rasta_check.specs.Script.Fitting.{Fits, FirstFault}
 use Rattle.rasta_check.specs.Script.Following.{Cursor, Advances, Leads, Follows, at_start}
 use Rattle.rasta_check.specs.Verdict.Report.{Explained, IsScriptVerdict}

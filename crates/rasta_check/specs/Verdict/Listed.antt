@@ -1,10 +1,25 @@
 -- What the lists of a report hold.
-use Rattle.std.specs.Prelude.{ℕ, suc, List, [], ◌∷◌}
+use Rattle.std.specs.Prelude.{ℕ, suc, List, [], ◌∷◌, map}
+use Rattle.std.specs.List.{flat_map}
 use Rattle.rasta_pcap.specs.declared.fault.Side.{Side}
 use Rattle.rasta_pdu.specs.Params.{Parameters}
 use Rattle.rasta_check.specs.declared.report.Taken.{Taken}
 use Rattle.rasta_check.specs.Capture.Crossing.{FirstCopy}
-use Rattle.rasta_check.specs.Verdict.Taken.{TakenMessage, surely_taken, messages_taken}
+use Rattle.rasta_check.specs.Model.Taken.{TakenUnit, surely_taken}
+
+-- a message that was surely taken, with the places of its unit
+pub record TakenMessage : Type 0 where
+  pub message : List ℕ
+  pub data_place : ℕ
+  pub proof_place : ℕ
+
+-- the messages of a unit, each with its places
+abbrev pub messages_of_unit : TakenUnit → List TakenMessage
+messages_of_unit u = map (λ (m : List ℕ). record { message = m; data_place = u.data_place; proof_place = u.proof_place }) u.messages
+
+-- the messages of these units, in order
+abbrev pub messages_taken : List TakenUnit → List TakenMessage
+messages_taken units = flat_map messages_of_unit units
 
 -- a message that a report lists as taken: its number in the list, the places of its data PDU and of its proof, and its bytes
 pub record ListedMessage : Type 0 where

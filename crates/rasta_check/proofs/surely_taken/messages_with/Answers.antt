@@ -1,8 +1,7 @@
 use Rattle.std.proofs.Common.{◌+◌, ◌++◌, ◌∙◌, ap, sym, arith, drop, length, map}
 use Rattle.std.specs.Option.{option_map}
 use Rattle.rasta_check.specs.Capture.Lists.{copy_of}
-use Rattle.rasta_check.specs.Verdict.Taken.{messages_taken}
-use Rattle.rasta_check.specs.Verdict.Listed.{listed_of, numbered_from}
+use Rattle.rasta_check.specs.Verdict.Listed.{messages_taken, listed_of, numbered_from}
 use Rattle.rasta_check.specs.Internals.Listing.{proved_units}
 use Rattle.rasta_check.proofs.Capture.Positions.{none_within}
 use Rattle.rasta_check.proofs.Verdict.ListSteps.{units_left, units_end, listing_ends}

@@ -1,5 +1,5 @@
 use Rattle.std.proofs.Common.{◌≡◌, ◌++◌, drop}
-use Rattle.rasta_check.specs.Verdict.Taken.{all_made, pdus_of}
+use Rattle.rasta_check.specs.Model.Taken.{all_made, pdus_of}
 use Rattle.rasta_plain.specs.Plain.{pdus, copies_of}
 use Rattle.rasta_plain.proofs.taken.all_made.Given as goal
 

@@ -1,5 +1,5 @@
 use Rattle.std.proofs.Common.{◌≡◌, ◌++◌, drop}
-use Rattle.rasta_check.specs.Verdict.Taken.{data_copies}
+use Rattle.rasta_check.specs.Model.Taken.{data_copies}
 use Rattle.rasta_plain.specs.Plain.{copies_of}
 use Rattle.rasta_plain.proofs.taken.data_copies.Given as goal
 

@@ -1,5 +1,5 @@
 use Rattle.std.proofs.Common.{◌≡◌, drop}
-use Rattle.rasta_check.specs.Verdict.Taken.{position_with}
+use Rattle.rasta_check.specs.Model.Taken.{position_with}
 use Rattle.rasta_plain.specs.Plain.{pdus}
 use Rattle.rasta_plain.proofs.Plainly.{moved_by}
 use Rattle.rasta_plain.proofs.taken.position_with.Given as goal

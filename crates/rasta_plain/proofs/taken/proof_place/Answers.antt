@@ -1,6 +1,6 @@
 use Rattle.std.proofs.Common.{◌∙◌, refl}
 use Rattle.std.proofs.lemmas.Bool.{lt-ltb, le-ltb}
-use Rattle.rasta_check.specs.Verdict.Taken.{pdus_of}
+use Rattle.rasta_check.specs.Model.Taken.{pdus_of}
 use Rattle.rasta_plain.specs.Plain.{pdus, copies_of}
 use Rattle.rasta_plain.proofs.Plainly.{proof-here, proof-passed}
 use Rattle.rasta_plain.proofs.taken.proof_place.Goals as goal

@@ -1,5 +1,5 @@
 use Rattle.std.proofs.Common.{◌≡◌, drop}
-use Rattle.rasta_check.specs.Verdict.Taken.{proof_place, pdus_of}
+use Rattle.rasta_check.specs.Model.Taken.{proof_place, pdus_of}
 use Rattle.rasta_plain.specs.Plain.{pdus, copies_of}
 use Rattle.rasta_plain.proofs.taken.proof_place.Given as goal
 

@@ -1,5 +1,5 @@
 use Rattle.std.proofs.Common.{◌≡◌, ◌∙◌, ap}
-use Rattle.rasta_check.specs.Verdict.Taken.{all_made}
+use Rattle.rasta_check.specs.Model.Taken.{all_made}
 use Rattle.rasta_plain.specs.Plain.{copies_of, pdus}
 use Rattle.rasta_plain.proofs.Plainly.{ok_more, listed_units}
 use Rattle.rasta_plain.proofs.taken.surely_taken.Goals as goal

@@ -1,6 +1,6 @@
 use Rattle.std.proofs.Common.{◌≡◌, ◌∙◌, List, ap}
 use Rattle.rasta_pdu.specs.Pdu.{SafetyPdu}
-use Rattle.rasta_check.specs.Verdict.Taken.{all_made, units_along, pdus_of}
+use Rattle.rasta_check.specs.Model.Taken.{all_made, units_along, pdus_of}
 use Rattle.rasta_plain.specs.Plain.{copies_of, pdus}
 use Rattle.rasta_plain.proofs.Plainly.{ok_more}
 use Rattle.rasta_plain.proofs.taken.units_conveyed.Goals as goal

@@ -1,5 +1,5 @@
 use Rattle.std.proofs.Common.{◌≡◌, ◌++◌, drop}
-use Rattle.rasta_check.specs.Verdict.Taken.{units_from}
+use Rattle.rasta_check.specs.Model.Taken.{units_from}
 use Rattle.rasta_plain.specs.Plain.{pdus, copies_of, units_of}
 use Rattle.rasta_plain.proofs.taken.units_from.Given as goal
 

@@ -1,6 +1,6 @@
 use Rattle.std.proofs.Common.{rules, ◌≡◌, ◌+◌, ◌∙◌, refl, ap, drop, map, max}
 use Rattle.std.specs.Prelude.{fold}
-use Rattle.rasta_check.specs.Verdict.Taken.{pdus_of, units_shown}
+use Rattle.rasta_check.specs.Model.Taken.{pdus_of, units_shown}
 use Rattle.rasta_plain.specs.Plain.{pdus, copies_of}
 use Rattle.rasta_plain.proofs.Plainly.{most-more}
 use Rattle.rasta_plain.proofs.taken.units_taken.Goals as goal

@@ -1,6 +1,6 @@
 use Rattle.std.proofs.Common.{◌≡◌, drop, map, max}
 use Rattle.std.specs.Prelude.{fold}
-use Rattle.rasta_check.specs.Verdict.Taken.{units_shown, units_taken, pdus_of}
+use Rattle.rasta_check.specs.Model.Taken.{units_shown, units_taken, pdus_of}
 use Rattle.rasta_plain.specs.Plain.{pdus, copies_of}
 use Rattle.rasta_plain.proofs.taken.units_taken.Given as goal
 

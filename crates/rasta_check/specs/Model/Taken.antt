@@ -1,6 +1,5 @@
 -- What two sent lists show: which messages of one end its peer surely took.
 use Rattle.std.specs.Prelude.{ℕ, suc, max, nat_lt, if◌then◌else◌, ◌==◌, List, [], ◌∷◌, ◌++◌, take, map, filter, filter_map, fold, Option, Some, None}
-use Rattle.std.specs.List.{flat_map}
 use Rattle.std.specs.Option.{option_map}
 use Rattle.rasta_pcap.specs.declared.fault.Side.{Side}
 use Rattle.rasta_pdu.specs.Params.{Parameters}
@@ -73,17 +72,3 @@ data_copies sent = filter (λ (c : FirstCopy). is_kind Data c.pdu.safety.kind) s
 abbrev pub surely_taken : Parameters → Side → List FirstCopy → List FirstCopy → List TakenUnit
 surely_taken p side own peer =
     units_from (all_made p side own) peer 0 (take (units_taken (all_made p side own) (pdus_of peer)) (data_copies own))
-
--- a message that was surely taken, with the places of its unit
-pub record TakenMessage : Type 0 where
-  pub message : List ℕ
-  pub data_place : ℕ
-  pub proof_place : ℕ
-
--- the messages of a unit, each with its places
-abbrev pub messages_of_unit : TakenUnit → List TakenMessage
-messages_of_unit u = map (λ (m : List ℕ). record { message = m; data_place = u.data_place; proof_place = u.proof_place }) u.messages
-
--- the messages of these units, in order
-abbrev pub messages_taken : List TakenUnit → List TakenMessage
-messages_taken units = flat_map messages_of_unit units
