@@ -236,10 +236,11 @@ pub record AreBound (p : Parameters) (t : Pass) : Type 0 where
 
 pub are_bound : (p : Parameters) (packets : ℕ) (c s : List FirstCopy) (k : ℕ) (t : Pass) → AreSentLists p packets c s → passes p c s k ≡ Ok t → AreBound p t
 are_bound p packets c s k t crossing h =
-    let x = crossing.2 in
+    let x = crossing.2.sent in
+    let valid = crossing.2.valid.valid in
     let most = x.few_packets in
-    let hc = to_record p crossing.0 Client c x.valid.valid x.client in
-    let hs = to_record p crossing.0 Server s x.valid.valid x.server in
+    let hc = to_record p crossing.0 Client c valid x.client_sent in
+    let hs = to_record p crossing.0 Server s valid x.server_sent in
     let r = passes_read p (length crossing.0) c s x.few_client x.few_server (sent_rises p crossing.0 Client c hc) (sent_rises p crossing.0 Server s hs) hc.rising hs.rising (sent_within p crossing.0 Client c hc) (sent_within p crossing.0 Server s hs)
     (omega (arith, most)) (sent_numbers p crossing.0 Client c hc) (sent_numbers p crossing.0 Server s hs) k t h in
     let rc = r.client in

@@ -119,9 +119,10 @@ proposal_fits p packets c s crossing = subst (λ n. IsProposal p n c s (proposal
     by : (r : Result Pass ℕ) → passes p c s (all_copies c s) ≡ r → IsProposal p (length crossing.0) c s (proposal p c s)
     by (Err q) e = subst (λ (o : Result Scripts Fault). IsProposal p (length crossing.0) c s o) (sym (ap proposed_by e)) (_, refl)
     by (Ok t) e =
-        let k = crossing.2 in
-        let hc = to_record p crossing.0 Client c k.valid.valid k.client in
-        let hs = to_record p crossing.0 Server s k.valid.valid k.server in
+        let k = crossing.2.sent in
+        let valid = crossing.2.valid.valid in
+        let hc = to_record p crossing.0 Client c valid k.client_sent in
+        let hs = to_record p crossing.0 Server s valid k.server_sent in
         let fr = passes_front p crossing.0 c s hc hs (all_copies c s) t e in
         let g = gone_through c s t fr.most fr.their_most (passes_count p c s (all_copies c s) t e) in
         let f = passed_fits p crossing.0 c s hc hs k.few_packets k.few_client k.few_server t e g.0 g.1 in

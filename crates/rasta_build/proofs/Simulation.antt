@@ -58,9 +58,9 @@ stands_client p w h b g = (let few = few_made p w b in record {
   their_sends = g.their_sends;
   clock = (let t = g.told in let z = t.state in t.clock);
   based = (let t = g.told in let z = t.mark in omega (arith, z));
-  held = h.mine;
-  their_held = h.theirs;
-  values = h.values;
+  held = h.mine.held;
+  their_held = h.theirs.held;
+  values = h.mine.values;
   few = few Client;
   their_few = few Server;
 })
@@ -71,9 +71,9 @@ stands_server p w h b g = (let few = few_made p w b in record {
   their_sends = g.sends;
   clock = (let t = g.their_told in t.clock);
   based = (let t = g.their_told in let z = t.mark in omega (arith, z));
-  held = h.theirs;
-  their_held = h.mine;
-  values = h.their_values;
+  held = h.theirs.held;
+  their_held = h.mine.held;
+  values = h.theirs.values;
   few = few Server;
   their_few = few Client;
 })
@@ -181,11 +181,11 @@ step_keeps p valid c s v w (side_moves {a = a} {after = ys} Client m) gv gw hv h
     ⊎_elim
     (λ (y : Stays p Client Server ys a v.server gv.own gv.peer c s k.pass.own k.pass.other). client_stays p valid c s v w gv gw hv hw bv bw clocks cv sv cw sw k refl y)
     (λ (y : MadeOne p Client Server v.crossed ys a v.server gv.own gv.peer c s k.pass.own k.pass.other). client_made p valid c s v w gv gw hv hw bv bw clocks cv sv cw sw k refl y)
-    (moved p Client Server v.crossed ys v.client a v.server gv.own gv.peer c s k.pass.own k.pass.other valid refl (λ e. cc (e)) m st (few Client) hw.values clocks.0 sv k.client k.server)
+    (moved p Client Server v.crossed ys v.client a v.server gv.own gv.peer c s k.pass.own k.pass.other valid refl (λ e. cc (e)) m st (few Client) hw.mine.values clocks.0 sv k.client k.server)
 step_keeps p valid c s v w (side_moves {a = a} {after = ys} Server m) gv gw hv hw bv bw clocks cv sv cw sw k =
     let few = few_made p w bw in
     let st = stands_server p v hv bv gv in
     ⊎_elim
     (λ (y : Stays p Server Client ys a v.client gv.peer gv.own s c k.pass.other k.pass.own). server_stays p valid c s v w gv gw hv hw bv bw clocks cv sv cw sw k refl y)
     (λ (y : MadeOne p Server Client v.crossed ys a v.client gv.peer gv.own s c k.pass.other k.pass.own). server_made p valid c s v w gv gw hv hw bv bw clocks cv sv cw sw k refl y)
-    (moved p Server Client v.crossed ys v.server a v.client gv.peer gv.own s c k.pass.other k.pass.own valid refl (λ e. cc (e)) m st (few Server) hw.their_values clocks.1 cv k.server k.client)
+    (moved p Server Client v.crossed ys v.server a v.client gv.peer gv.own s c k.pass.other k.pass.own valid refl (λ e. cc (e)) m st (few Server) hw.theirs.values clocks.1 cv k.server k.client)

@@ -22,7 +22,7 @@ nothing_sent p side = record {
     all = λ place packet pdu h of_side spelled new. absurd (cc);
   };
   faultless = record {
-    others = λ place packet h of_side. absurd (cc);
+    copies = λ place packet h of_side. absurd (cc);
     numbers = λ i start copy h k. absurd (cc);
   };
 }

@@ -148,6 +148,11 @@ module _ (p : Parameters) (valid : AreParameters p) (crossed : List Packet) (sid
       omega (arith, n, m, small)
   numbers (suc i) d e g h = absurd (cc)
 
+  spelled_at : (i : ℕ) (a : Packet) → slice_get crossed i ≡ Some a → a.side ≡ side → Spells p side c.pdu a.payload
+  spelled_at i a g s =
+      let e : k ≡ a = (let z : slice_get crossed c.place ≡ Some a = subst (λ (j : ℕ). slice_get crossed j ≡ Some a) (only i a g s) g in let y = there in cc) in
+      subst (λ (b : Packet). Spells p side c.pdu b.payload) e spelled
+
   -- a side that sent one packet
   one_sent : Sent p crossed side (c ∷ [])
   one_sent = of_record p crossed side (c ∷ []) (record {
@@ -155,7 +160,7 @@ module _ (p : Parameters) (valid : AreParameters p) (crossed : List Packet) (sid
     firsts = firsts;
     rising = λ i d e g h. absurd (cc);
     numbers = numbers;
-    others = λ i a g s. inl (0, c, refl, sym (only i a g s));
+    copies = λ i a g s. (0, c, refl, (let e = only i a g s in omega arith), spelled_at i a g s);
   }) (omega arith)
 
 only_client : (i : ℕ) (a : Packet) → slice_get packets i ≡ Some a → a.side ≡ Client → i ≡ 0
@@ -185,7 +190,7 @@ nothing_sent = of_record connection (first ∷ []) Server [] (record {
   firsts = λ i c g. absurd (cc);
   rising = λ i c d g h. absurd (cc);
   numbers = λ i c d g h. absurd (cc);
-  others = λ i a g s. absurd (no_server i a g s);
+  copies = λ i a g s. absurd (no_server i a g s);
 }) (omega arith)
 
 -- ---- both scripts

@@ -36,7 +36,7 @@ FitBy k scripts p = BothFit p (length k.packets) k.client k.server scripts
 told_run : (k : Crossing) (scripts : Scripts) → IsCrossing k → FitBy k scripts k.params → IsToldRun k.params k.packets (run_text k scripts)
 unfolding run_text
 told_run k scripts h fit =
-    let r = simulation k.params h.valid.valid k.packets k.client k.server scripts.client scripts.server fit.0.0 fit.1.0 h.recorded h.client h.server fit.0.1 fit.1.1 in
+    let r = simulation k.params h.valid.valid k.packets k.client k.server scripts.client scripts.server fit.0.0 fit.1.0 h.recorded h.sent.client_sent h.sent.server_sent fit.0.1 fit.1.1 in
     record { happened = r.0; world = r.1; runs = r.2; sends = r.3; lines = sym (ap (λ (ls : List Line). flat_map line_text ls) r.6) }
 
 -- the checker's answer, by the parameters of what crossed

@@ -95,8 +95,8 @@ none_decides k fault place is crossed complete =
     record {
       place = place;
       told = ap refused_line is;
-      none = λ rest. complete.finds_none k.packets rest place crossed.client crossed.server told;
-      exact = λ n. complete.exact k.packets place n crossed.recorded crossed.client crossed.server crossed.few_packets crossed.few_client crossed.few_server told;
+      none = λ rest. complete.finds_none k.packets rest place crossed.sent.client_sent crossed.sent.server_sent told;
+      exact = λ n. complete.exact k.packets place n crossed.recorded crossed.sent.client_sent crossed.sent.server_sent crossed.sent.few_packets crossed.sent.few_client crossed.sent.few_server told;
     }
 
 same_crossing : (p : Parameters) (file : List ℕ) (k j : Crossing) → crossing_of p file ≡ Ok k → crossing_of p file ≡ Ok j → k ≡ j

@@ -1,5 +1,5 @@
 -- A crossing goes on with a packet that has no fault.
-use Rattle.std.proofs.Common.{◌≡◌, ℕ, suc, ◌+◌, ◌<◌, ◌≤◌, ◌^◌, ◌++◌, Bool, true, List, [], ◌∷◌, Option, Some, None, Result, Ok, Err, length, slice_get, refl, ap, sym, ◌∙◌, arith, subst, not, nat_lt, is_some, if◌then◌else◌, IfSome}
+use Rattle.std.proofs.Common.{◌≡◌, ℕ, ◌+◌, ◌<◌, ◌≤◌, ◌^◌, ◌++◌, Bool, true, List, [], ◌∷◌, Option, Some, None, Result, Ok, Err, length, slice_get, refl, ap, sym, ◌∙◌, arith, subst, not, nat_lt, is_some, if◌then◌else◌, IfSome}
 use Rattle.std.specs.Prelude.{◌&&◌, ◌||◌}
 use Rattle.std.specs.Option.{option_map}
 use Rattle.std.proofs.lemmas.List.{length_push}
@@ -29,7 +29,7 @@ use Rattle.rasta_check.specs.Capture.Reading.{Crossing, IsCrossing, sent_by, aft
 use Rattle.rasta_check.proofs.Capture.FaultlessLists.{IsSent}
 use Rattle.rasta_check.proofs.Capture.ListForms.{to_record, of_record}
 use Rattle.rasta_check.proofs.Script.Tracks.{slice_get_some}
-use Rattle.rasta_check.proofs.Capture.FirstCopies.{not_again, sent_copy, sent_first, sent_other, earliest}
+use Rattle.rasta_check.proofs.Capture.FirstCopies.{not_again, sent_copy, sent_first, sent_other}
 use Rattle.rasta_check.proofs.Capture.NextPackets.{first_number, numbers_from, next_from}
 use Rattle.std.proofs.lemmas.Bool.Decides.{nat_tests}
 use Rattle.rasta_check.proofs.Capture.PacketFaults.{copy_found, passed}
@@ -86,12 +86,12 @@ goes_on_sent p packets own a sent few w n =
 -- ---- packets of known numbers
 
 pub list_of : (k : Crossing) → IsCrossing k → (side : Side) → IsSent k.params k.packets side (sent_by k side)
-list_of k h Client = to_record k.params k.packets Client k.client h.valid.valid h.client
-list_of k h Server = to_record k.params k.packets Server k.server h.valid.valid h.server
+list_of k h Client = to_record k.params k.packets Client k.client h.valid.valid h.sent.client_sent
+list_of k h Server = to_record k.params k.packets Server k.server h.valid.valid h.sent.server_sent
 
 pub few_of : (k : Crossing) → IsCrossing k → (side : Side) → length (sent_by k side) ≤ 1000000
-few_of k h Client = h.few_client
-few_of k h Server = h.few_server
+few_of k h Client = h.sent.few_client
+few_of k h Server = h.sent.few_server
 
 -- the first copy at this place
 placed : (o : Option FirstCopy) (place : ℕ) → option_map (λ (c : FirstCopy). c.place) o ≡ Some place → (c : FirstCopy) × (o ≡ Some c) × (c.place ≡ place)
@@ -152,7 +152,7 @@ is_next_pdu k a pdu h reads e =
 -- a list of its side that is as long, or longer by one
 room_at : (k : Crossing) (a : Packet) (side : Side) (own : List FirstCopy) (is_new : Bool) → IsCrossing k → length own ≡ length (sent_by k side) + (if is_new then 1 else 0)
     → is_within (crossing_with k a side own) ≡ (nat_lt (length k.packets) most_packets && (not is_new || nat_lt (length (sent_by k side)) most_sent))
-room_at k a side own is_new h e = (let l = length_push k.packets a in let x = h.few_client in let y = h.few_server in grind (arith, nat_tests))
+room_at k a side own is_new h e = (let l = length_push k.packets a in let x = h.sent.few_client in let y = h.sent.few_server in grind (arith, nat_tests))
 
 pub new_length : (sent : List FirstCopy) (place : ℕ) (new : Option Pdu) → length (with_new sent place new) ≡ length sent + (if is_some new then 1 else 0)
 new_length sent place None = omega arith
@@ -173,22 +173,26 @@ grown_at k a Client sent e h on s within =
     record {
       valid = h.valid;
       recorded = recorded_more k.params k.packets a h.recorded on;
-      client = of_record k.params (k.packets ++ a ∷ []) Client sent s (let z = w.1 in omega arith);
-      server = of_record k.params (k.packets ++ a ∷ []) Server k.server (sent_other k.params k.packets a Server k.server (list_of k h Server) (λ f. client_not_server (sym e ∙ f))) (let z = w.2 in omega arith);
-      few_packets = w.0;
-      few_client = w.1;
-      few_server = w.2;
+      sent = record {
+        client_sent = of_record k.params (k.packets ++ a ∷ []) Client sent s (let z = w.1 in omega arith);
+        server_sent = of_record k.params (k.packets ++ a ∷ []) Server k.server (sent_other k.params k.packets a Server k.server (list_of k h Server) (λ f. client_not_server (sym e ∙ f))) (let z = w.2 in omega arith);
+        few_packets = w.0;
+        few_client = w.1;
+        few_server = w.2;
+      };
     }
 grown_at k a Server sent e h on s within =
     let w = within_packets (crossing_with k a Server sent) within in
     record {
       valid = h.valid;
       recorded = recorded_more k.params k.packets a h.recorded on;
-      client = of_record k.params (k.packets ++ a ∷ []) Client k.client (sent_other k.params k.packets a Client k.client (list_of k h Client) (λ f. client_not_server (sym f ∙ e))) (let z = w.1 in omega arith);
-      server = of_record k.params (k.packets ++ a ∷ []) Server sent s (let z = w.2 in omega arith);
-      few_packets = w.0;
-      few_client = w.1;
-      few_server = w.2;
+      sent = record {
+        client_sent = of_record k.params (k.packets ++ a ∷ []) Client k.client (sent_other k.params k.packets a Client k.client (list_of k h Client) (λ f. client_not_server (sym f ∙ e))) (let z = w.1 in omega arith);
+        server_sent = of_record k.params (k.packets ++ a ∷ []) Server sent s (let z = w.2 in omega arith);
+        few_packets = w.0;
+        few_client = w.1;
+        few_server = w.2;
+      };
     }
 
 pub grown_crossing : (k : Crossing) (a : Packet) → IsCrossing k → IsRecorded k.params a.channel → IsRead k.params a → packet_fault k.params (sent_by k a.side) a ≡ None → is_within (with_packet k a) ≡ true → IsCrossing (with_packet k a)
@@ -226,8 +230,8 @@ module _ (k : Crossing) (a : Packet) (packets : List Packet) (grown : packets �
 -- each packet spells a PDU
 pub spelled_at : (k : Crossing) (place : ℕ) (a : Packet) → IsCrossing k → slice_get k.packets place ≡ Some a → (d : RedundancyPdu) × Spells k.params a.side d a.payload
 spelled_at k place a h g =
-    let r = earliest k.params k.packets a.side (sent_by k a.side) (list_of k h a.side) (suc place) place (omega arith) a g refl in
-    (r.1.pdu, subst (λ (bs : List ℕ). Spells k.params a.side r.1.pdu bs) r.6 r.7)
+    let w = (list_of k h a.side).copies place a g refl in
+    (w.1.pdu, w.4)
 
 number_bytes : (a b n : ℕ) (rest : List ℕ) → n < 2 ^ 32 → number_in_bytes (bytes_low_first 0 2 a ++ (bytes_low_first 0 2 b ++ (bytes_low_first 0 4 n ++ rest))) ≡ n
 number_bytes a b n rest h = from_le_bytes-to_le_bytes_4 n h

@@ -32,11 +32,13 @@ pub nothing_is : (p : Parameters) → OfConnection p → IsCrossing (nothing_cro
 nothing_is p h = record {
   valid = h;
   recorded = λ place a g. absurd (cc);
-  client = of_record p [] Client [] (sent_none p Client h.valid) (omega arith);
-  server = of_record p [] Server [] (sent_none p Server h.valid) (omega arith);
-  few_packets = omega arith;
-  few_client = omega arith;
-  few_server = omega arith;
+  sent = record {
+    client_sent = of_record p [] Client [] (sent_none p Client h.valid) (omega arith);
+    server_sent = of_record p [] Server [] (sent_none p Server h.valid) (omega arith);
+    few_packets = omega arith;
+    few_client = omega arith;
+    few_server = omega arith;
+  };
 }
 
 -- what crosses by records in which the sides sent these lists
@@ -59,17 +61,9 @@ crossed_by p rs end k h are numbers e =
     let frames = window_is p rs 1 numbers in
     let packets : k.packets ≡ crossing_list p (frames_of rs) = w.packets ∙ ap (packets_in p) frames in
     let same : k ≡ crossing_by p (frames_of rs) k.client k.server = (λ i. record { params = w.params i; packets = packets i; client = k.client; server = k.server }) in
-    let here = subst IsCrossing same is in
     record {
       is = is;
-      faultless = record {
-        frames = subst (AreSound p) frames w.sound;
-        client_sent = here.client;
-        server_sent = here.server;
-        few_packets = here.few_packets;
-        few_client = here.few_client;
-        few_server = here.few_server;
-      };
+      faultless = record { frames = subst (AreSound p) frames w.sound; sent = (subst IsCrossing same is).sent };
       same = same;
     }
 
@@ -89,7 +83,7 @@ read_is_faultless p file k h are e = (crossed_in p file k h are e).capture
 -- ---- a packet that comes next
 
 within_with : (k : Crossing) (a : Packet) (side : Side) (sent : List FirstCopy) → IsCrossing k → length (k.packets ++ a ∷ []) ≤ most_packets → length sent ≤ most_sent → is_within (crossing_with k a side sent) ≡ true
-within_with k a side sent h l m = (let x = h.few_server in let y = h.few_client in grind (arith, nat_tests))
+within_with k a side sent h l m = (let x = h.sent.few_server in let y = h.sent.few_client in grind (arith, nat_tests))
 
 -- of all packets its sender sent a list
 module _ (k : Crossing) (a : Packet) (more : List Packet) (h : IsCrossing k) (big : List FirstCopy) (whole : IsSent k.params (k.packets ++ a ∷ more) a.side big) where
@@ -152,8 +146,8 @@ module _ (p : Parameters) (h : OfConnection p) (front later : List Numbered) (r 
 
   list_at : (a : Packet) → nat_lt r.0 p.first_record ≡ false → packet_in p.channels r.1 ≡ Ok (Some a) → (side : Side)
       → (big : List FirstCopy) × IsSent p (k.packets ++ a ∷ packets_in p (window p later)) side big × (length big ≤ most_sent)
-  list_at a inside found Client = (c, subst (λ (xs : List Packet). IsSent p xs Client c) (packets_at a inside found) (to_record p _ Client c h.valid all.client_sent), all.few_client)
-  list_at a inside found Server = (s, subst (λ (xs : List Packet). IsSent p xs Server s) (packets_at a inside found) (to_record p _ Server s h.valid all.server_sent), all.few_server)
+  list_at a inside found Client = (c, subst (λ (xs : List Packet). IsSent p xs Client c) (packets_at a inside found) (to_record p _ Client c h.valid all.sent.client_sent), all.sent.few_client)
+  list_at a inside found Server = (s, subst (λ (xs : List Packet). IsSent p xs Server s) (packets_at a inside found) (to_record p _ Server s h.valid all.sent.server_sent), all.sent.few_server)
 
   pub not_refused : (f : Fault) → Step k r (Err f) → ⊥
   not_refused f (bad_frame g inside found) =
@@ -162,7 +156,7 @@ module _ (p : Parameters) (h : OfConnection p) (front later : List Numbered) (r 
       absurd (let w = list_at a inside found a.side in let none = no_fault k a (packets_in p (window p later)) is w.0 w.1 in cc)
   not_refused f (no_room a inside found none full) =
       absurd (let w = list_at a inside found a.side in
-      let few = subst (λ (xs : List Packet). length xs ≤ most_packets) (packets_at a inside found) all.few_packets in
+      let few = subst (λ (xs : List Packet). length xs ≤ most_packets) (packets_at a inside found) all.sent.few_packets in
       let room = is_room k a (packets_in p (window p later)) is w.0 w.1 (payload_bytes p r.1 a found are) few w.2 in cc)
 
 -- the first fault of records: in which the sides sent these lists up to the record that has it
@@ -225,8 +219,8 @@ records_are_read p rs client server h are numbers all = by (after_records (nothi
     by (Ok k) e =
         let x = crossed_by p rs None k h are numbers e in
         let packets = crossing_list p (frames_of rs) in
-        ap Ok (x.same ∙ (λ i. crossing_by p (frames_of rs) (same_list p Client packets k.client client h.valid x.faultless.client_sent all.client_sent x.faultless.few_client i)
-        (same_list p Server packets k.server server h.valid x.faultless.server_sent all.server_sent x.faultless.few_server i)))
+        ap Ok (x.same ∙ (λ i. crossing_by p (frames_of rs) (same_list p Client packets k.client client h.valid x.faultless.sent.client_sent all.sent.client_sent x.faultless.sent.few_client i)
+        (same_list p Server packets k.server server h.valid x.faultless.sent.server_sent all.sent.server_sent x.faultless.sent.few_server i)))
     by (Err f) e = absurd (broken f (first_fault p rs None f h are numbers e))
 
 pub faultless_is_read : (p : Parameters) (file : List ℕ) (client server : List FirstCopy) → OfConnection p → AreBytes file → (f : IsFaultlessCapture p file client server)

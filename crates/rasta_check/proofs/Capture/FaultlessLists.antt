@@ -1,5 +1,5 @@
 -- Sent lists as the proofs use them: the list and the absence of faults in one record.
-use Rattle.std.proofs.Common.{◌≡◌, ◌⊎◌, ℕ, suc, ◌+◌, ◌<◌, List, Some, slice_get}
+use Rattle.std.proofs.Common.{◌≡◌, ℕ, suc, ◌+◌, ◌<◌, ◌≤◌, List, Some, slice_get}
 use Rattle.rasta_pcap.specs.declared.fault.Side.{Side}
 use Rattle.rasta_udp.specs.Frame.{Packet}
 use Rattle.rasta_pdu.specs.Params.{Parameters, AreParameters}
@@ -12,6 +12,5 @@ pub record IsSent (p : Parameters) (packets : List Packet) (side : Side) (sent :
   pub firsts : (i : ℕ) (c : FirstCopy) → slice_get sent i ≡ Some c → (k : Packet) × (slice_get packets c.place ≡ Some k) × (k.side ≡ side) × Spells p side c.pdu k.payload
   pub rising : (i : ℕ) (c d : FirstCopy) → slice_get sent i ≡ Some c → slice_get sent (suc i) ≡ Some d → c.place < d.place
   pub numbers : (i : ℕ) (c d : FirstCopy) → slice_get sent 0 ≡ Some c → slice_get sent i ≡ Some d → d.pdu.number ≡ wrapped (c.pdu.number + i)
-  pub others : (k : ℕ) (a : Packet) → slice_get packets k ≡ Some a → a.side ≡ side
-      → ((i : ℕ) × (c : FirstCopy) × (slice_get sent i ≡ Some c) × (c.place ≡ k))
-      ⊎ ((j : ℕ) × (b : Packet) × (j < k) × (slice_get packets j ≡ Some b) × (b.side ≡ side) × (b.payload ≡ a.payload))
+  pub copies : (k : ℕ) (a : Packet) → slice_get packets k ≡ Some a → a.side ≡ side
+      → (i : ℕ) × (c : FirstCopy) × (slice_get sent i ≡ Some c) × (c.place ≤ k) × Spells p side c.pdu a.payload

@@ -1,5 +1,5 @@
 -- The first copies of a growing list of packets, and that a list of packets has one list of first copies.
-use Rattle.std.proofs.Common.{◌≡◌, ℕ, zero, suc, ◌+◌, ◌-◌, ◌%◌, ◌^◌, ◌<◌, ◌≤◌, ◌⊎◌, List, [], ◌∷◌, ◌++◌, length, Option, Some, None, slice_get, refl, ap, sym, ◌∙◌, arith, inl, inr, ⊎_elim, subst}
+use Rattle.std.proofs.Common.{◌≡◌, ℕ, zero, suc, ◌+◌, ◌-◌, ◌%◌, ◌^◌, ◌<◌, ◌≤◌, ◌⊎◌, List, [], ◌∷◌, ◌++◌, length, Option, Some, None, slice_get, refl, ap, sym, ◌∙◌, arith, ⊎_elim, subst}
 use Rattle.std.proofs.lemmas.Option.{slice_get_within}
 use native.Mathlib.Decide.{dec_lt}
 use Prim.{yes, no}
@@ -14,33 +14,24 @@ use Rattle.rasta_check.proofs.Capture.Spellings.{read_once}
 use Rattle.rasta_check.proofs.Script.Tracks.{places_rise, slice_get_some}
 use Rattle.rasta_pdu.specs.Params.{Parameters, AreParameters}
 
-abbrev pub First : List Packet → Side → List FirstCopy → ℕ → Type 0
-First xs s own k = (i : ℕ) × (c : FirstCopy) × (slice_get own i ≡ Some c) × (c.place ≡ k)
-
-abbrev pub Again : List Packet → Side → ℕ → List ℕ → Type 0
-Again xs s k bytes = (j : ℕ) × (b : Packet) × (j < k) × (slice_get xs j ≡ Some b) × (b.side ≡ s) × (b.payload ≡ bytes)
-
-again_front : (xs : List Packet) (k : Packet) (s : Side) (j : ℕ) (bytes : List ℕ) → Again xs s j bytes → Again (xs ++ k ∷ []) s j bytes
-again_front xs k s j bytes w = (w.0, w.1, w.2, get_front xs (k ∷ []) w.0 w.1 w.3, w.4, w.5)
-
-old_other : (p : Parameters) (xs : List Packet) (k : Packet) (s : Side) (own : List FirstCopy) (j : ℕ) (a : Packet) → IsSent p xs s own → slice_get xs j ≡ Some a → a.side ≡ s → First (xs ++ k ∷ []) s own j ⊎ Again (xs ++ k ∷ []) s j a.payload
-old_other p xs k s own j a h g e = ⊎_elim (λ (w : First xs s own j). inl w) (λ (w : Again xs s j a.payload). inr (again_front xs k s j a.payload w)) (h.others j a g e)
-
 old_first : (p : Parameters) (xs : List Packet) (k : Packet) (s : Side) (own : List FirstCopy) (i : ℕ) (c : FirstCopy) → IsSent p xs s own → slice_get own i ≡ Some c → (b : Packet) × (slice_get (xs ++ k ∷ []) c.place ≡ Some b) × (b.side ≡ s) × Spells p s c.pdu b.payload
 old_first p xs k s own i c h g = (let w = h.firsts i c g in (w.0, get_front xs (k ∷ []) c.place w.0 w.1, w.2, w.3))
 
--- one packet more, which is none of this side or repeats one
-sent_more : (p : Parameters) (xs : List Packet) (k : Packet) (s : Side) (own : List FirstCopy) → IsSent p xs s own → (k.side ≡ s → Again (xs ++ k ∷ []) s (length xs) k.payload) → IsSent p (xs ++ k ∷ []) s own
+-- one packet more, which is none of this side or spells the PDU of a member
+sent_more : (p : Parameters) (xs : List Packet) (k : Packet) (s : Side) (own : List FirstCopy) → IsSent p xs s own
+    → (k.side ≡ s → (i : ℕ) × (c : FirstCopy) × (slice_get own i ≡ Some c) × Spells p s c.pdu k.payload) → IsSent p (xs ++ k ∷ []) s own
 sent_more p xs k s own h last =
     record {
       valid = h.valid;
       firsts = λ i c g. old_first p xs k s own i c h g;
       rising = h.rising;
       numbers = h.numbers;
-      others = λ j a g e. ⊎_elim
-          (λ (old : slice_get xs j ≡ Some a). old_other p xs k s own j a h old e)
-          (λ (new : (j ≡ length xs) × (k ≡ a)). inr (let w = last (ap (λ (b : Packet). b.side) new.1 ∙ e) in
-          (w.0, w.1, (let l = w.2 in omega arith), w.3, w.4, w.5 ∙ ap (λ (b : Packet). b.payload) new.1)))
+      copies = λ j a g e. ⊎_elim
+          (λ (old : slice_get xs j ≡ Some a). h.copies j a old e)
+          (λ (new : (j ≡ length xs) × (k ≡ a)). (let w = last (ap (λ (b : Packet). b.side) new.1 ∙ e) in
+          let f = h.firsts w.0 w.1 w.2 in
+          let l = slice_get_within xs w.1.place f.0 f.1 in
+          (w.0, w.1, w.2, omega arith, subst (λ (b : Packet). Spells p s w.1.pdu b.payload) new.1 w.3)))
           (get_push_cases xs k j a g);
     }
 
@@ -48,7 +39,8 @@ pub sent_other : (p : Parameters) (xs : List Packet) (k : Packet) (s : Side) (ow
 sent_other p xs k s own h apart = sent_more p xs k s own h (λ side. absurd (apart side))
 
 pub sent_copy : (p : Parameters) (xs : List Packet) (k : Packet) (s : Side) (own : List FirstCopy) (j : ℕ) (b : Packet) → IsSent p xs s own → slice_get xs j ≡ Some b → b.side ≡ s → b.payload ≡ k.payload → IsSent p (xs ++ k ∷ []) s own
-sent_copy p xs k s own j b h there side same = sent_more p xs k s own h (λ e. (j, b, slice_get_within xs j b there, get_front xs (k ∷ []) j b there, side, same))
+sent_copy p xs k s own j b h there side same =
+    sent_more p xs k s own h (λ e. (let w = h.copies j b there side in (w.0, w.1, w.2, subst (λ (bs : List ℕ). Spells p s w.1.pdu bs) same w.4)))
 
 abbrev pub Counts_from : ℕ → List FirstCopy → Type 0
 Counts_from f own = (i : ℕ) (c : FirstCopy) → slice_get own i ≡ Some c → c.pdu.number ≡ wrapped (f + i)
@@ -76,9 +68,9 @@ sent_first p xs k s own d f h cf side sp num =
             (get_push_cases own c i e g);
         rising = λ i a b x y. rise i a b x y;
         numbers = λ i a b x y. from_first f a.pdu.number b.pdu.number i (cf' 0 a x) (cf' i b y);
-        others = λ i a g e. ⊎_elim
-            (λ (old : slice_get xs i ≡ Some a). ⊎_elim (λ (w : First (xs ++ k ∷ []) s own i). inl (w.0, w.1, get_front own (c ∷ []) w.0 w.1 w.2, w.3)) (λ (w : Again (xs ++ k ∷ []) s i a.payload). inr w) (old_other p xs k s own i a h old e))
-            (λ (new : (i ≡ length xs) × (k ≡ a)). inl (length own, c, get_push own c, sym new.0))
+        copies = λ i a g e. ⊎_elim
+            (λ (old : slice_get xs i ≡ Some a). (let w = h.copies i a old e in (w.0, w.1, get_front own (c ∷ []) w.0 w.1 w.2, w.3, w.4)))
+            (λ (new : (i ≡ length xs) × (k ≡ a)). (length own, c, get_push own c, (let q = new.0 in omega arith), subst (λ (b : Packet). Spells p s d b.payload) new.1 sp))
             (get_push_cases xs k i a g);
       },
       cf',
@@ -96,19 +88,7 @@ sent_first p xs k s own d f h cf side sp num =
         (get_push_cases own _ (suc i) b y)
 
 pub sent_none : (p : Parameters) (s : Side) → AreParameters p → IsSent p [] s []
-sent_none p s valid = record { valid = valid; firsts = λ i c g. absurd (cc); rising = λ i a b x y. absurd (cc); numbers = λ i a b x y. absurd (cc); others = λ k a g e. absurd (cc) }
-
--- each packet of a side has a first copy not after it
-pub earliest : (p : Parameters) (xs : List Packet) (s : Side) (own : List FirstCopy) → IsSent p xs s own → (n k : ℕ) → k < n → (a : Packet) → slice_get xs k ≡ Some a → a.side ≡ s
-    → (i : ℕ) × (c : FirstCopy) × (b : Packet) × (slice_get own i ≡ Some c) × (c.place ≤ k) × (slice_get xs c.place ≡ Some b) × (b.payload ≡ a.payload) × Spells p s c.pdu b.payload
-earliest p xs s own h zero k l a g e = absurd (omega arith)
-earliest p xs s own h (suc n) k l a g e =
-    ⊎_elim
-    (λ (w : First xs s own k). (let f = h.firsts w.0 w.1 w.2 in
-    let same : f.0 ≡ a = (let z : slice_get xs k ≡ Some f.0 = subst (λ (t : ℕ). slice_get xs t ≡ Some f.0) w.3 f.1 in cc) in
-    (w.0, w.1, f.0, w.2, (let p = w.3 in omega arith), f.1, ap (λ (z : Packet). z.payload) same, f.3)))
-    (λ (w : Again xs s k a.payload). (let r = earliest p xs s own h n w.0 (let z = w.2 in omega arith) w.1 w.3 w.4 in (r.0, r.1, r.2, r.3, (let z = w.2 in let y = r.4 in omega arith), r.5, r.6 ∙ w.5, r.7)))
-    (h.others k a g e)
+sent_none p s valid = record { valid = valid; firsts = λ i c g. absurd (cc); rising = λ i a b x y. absurd (cc); numbers = λ i a b x y. absurd (cc); copies = λ k a g e. absurd (cc) }
 
 pub not_again : (f i j m n : ℕ) → m ≡ (f + i) % 2 ^ 32 → n ≡ (f + j) % 2 ^ 32 → i < j → j < 4294967296 → m ≡ n → ⊥
 not_again f i j m n x y l b e = omega arith
@@ -122,14 +102,13 @@ module _ (p : Parameters) (xs : List Packet) (s : Side) (c d : List FirstCopy) (
   absent : (i : ℕ) (a : FirstCopy) → i < 4294967296 → Agree i → slice_get c i ≡ Some a → ((j : ℕ) (b : FirstCopy) → slice_get d j ≡ Some b → b.place ≤ a.place → j < i) → ⊥
   absent i a l ag g all =
       let f = hc.firsts i a g in
-      let r = earliest p xs s d hd (suc a.place) a.place (omega arith) f.0 f.1 f.2 in
-      let low = all r.0 r.1 r.3 r.4 in
-      let mine : slice_get c r.0 ≡ Some r.1 = ag r.0 low ∙ r.3 in
-      let here : Spells p s a.pdu r.2.payload = subst (λ (bs : List ℕ). Spells p s a.pdu bs) (sym r.6) f.3 in
-      let same : r.1.pdu ≡ a.pdu = read_once p hc.valid s r.1.pdu a.pdu r.2.payload r.7 here in
+      let w = hd.copies a.place f.0 f.1 f.2 in
+      let low = all w.0 w.1 w.2 w.3 in
+      let mine : slice_get c w.0 ≡ Some w.1 = ag w.0 low ∙ w.2 in
+      let same : w.1.pdu ≡ a.pdu = read_once p hc.valid s w.1.pdu a.pdu f.0.payload w.4 f.3 in
       let lc = slice_get_within c i a g in
       let head = slice_get_some c 0 (omega arith) in
-      not_again head.0.pdu.number r.0 i r.1.pdu.number a.pdu.number (hc.numbers r.0 head.0 r.1 head.1 mine) (hc.numbers i head.0 a head.1 g) low l (ap (λ (z : RedundancyPdu). z.number) same)
+      not_again head.0.pdu.number w.0 i w.1.pdu.number a.pdu.number (hc.numbers w.0 head.0 w.1 head.1 mine) (hc.numbers i head.0 a head.1 g) low l (ap (λ (z : RedundancyPdu). z.number) same)
 
 pub below_by : (p : Parameters) (xs : List Packet) (s : Side) (d : List FirstCopy) → IsSent p xs s d → (i j : ℕ) (a b e : FirstCopy) → slice_get d i ≡ Some e → a.place < e.place → slice_get d j ≡ Some b → b.place ≤ a.place → j < i
 below_by p xs s d h i j a b e at l g m =

@@ -1,5 +1,5 @@
 -- Which packet may come next.
-use Rattle.std.proofs.Common.{◌≡◌, ℕ, zero, suc, ◌+◌, ◌-◌, ◌^◌, ◌<◌, ◌≤◌, ◌⊎◌, List, [], ◌∷◌, ◌++◌, length, Some, slice_get, refl, ap, sym, ◌∙◌, arith, inl, inr, ⊎_elim, subst}
+use Rattle.std.proofs.Common.{◌≡◌, ℕ, zero, suc, ◌+◌, ◌-◌, ◌^◌, ◌<◌, ◌≤◌, ◌⊎◌, List, [], ◌∷◌, ◌++◌, length, Some, slice_get, refl, ap, sym, ◌∙◌, arith, inl, inr, subst}
 use Rattle.std.proofs.lemmas.Option.{slice_get_within}
 use native.Mathlib.Decide.{dec_lt}
 use Prim.{yes, no}
@@ -12,7 +12,7 @@ use Rattle.rasta_udp.specs.Frame.{Packet}
 use Rattle.rasta_check.specs.Model.World.{World, Reaches}
 use Rattle.rasta_check.proofs.Capture.FaultlessLists.{IsSent}
 use Rattle.rasta_end.proofs.Lists.{get_front, get_front_within}
-use Rattle.rasta_check.proofs.Capture.FirstCopies.{below_by, earliest, sent_once, First, Again, Counts_from}
+use Rattle.rasta_check.proofs.Capture.FirstCopies.{below_by, sent_once, Counts_from}
 use Rattle.rasta_check.proofs.Script.Tracks.{places_rise, slice_get_some}
 use Rattle.rasta_check.proofs.Script.ScriptsOfRuns.{told_by}
 
@@ -20,7 +20,7 @@ use Rattle.rasta_check.proofs.Script.ScriptsOfRuns.{told_by}
 abbrev pub CanFollow : Parameters → List Packet → Side → List FirstCopy → Packet → Type 0
 CanFollow p packets s own a =
     (d : RedundancyPdu) × Spells p s d a.payload
-    × (((i : ℕ) × (c : FirstCopy) × (b : Packet) × (slice_get own i ≡ Some c) × (slice_get packets c.place ≡ Some b) × (c.pdu ≡ d) × (b.payload ≡ a.payload))
+    × (((i : ℕ) × (c : FirstCopy) × (slice_get own i ≡ Some c) × (c.pdu ≡ d))
     ⊎ ((c : FirstCopy) → slice_get own 0 ≡ Some c → d.number ≡ wrapped (c.pdu.number + length own)))
 
 -- a list begins with what has crossed, and goes on with what crosses later
@@ -77,11 +77,9 @@ module _ (p : Parameters) (xs ys : List Packet) (s : Side) (own later : List Fir
         firsts = λ i c g. (let w = h.firsts i c (get_front own later i c g) in (w.0, sym (get_front_within xs ys c.place (low i c g)) ∙ w.1, w.2, w.3));
         rising = λ i a b x y. h.rising i a b (get_front own later i a x) (get_front own later (suc i) b y);
         numbers = λ i a b x y. h.numbers i a b (get_front own later 0 a x) (get_front own later i b y);
-        others = λ j a g e. (let l = slice_get_within xs j a g in
-            ⊎_elim
-            (λ (w : First (xs ++ ys) s (own ++ later) j). inl (w.0, w.1, sym (get_front_within own later w.0 (within_own w.0 w.1 w.2 (let q = w.3 in omega arith))) ∙ w.2, w.3))
-            (λ (w : Again (xs ++ ys) s j a.payload). inr (w.0, w.1, w.2, sym (get_front_within xs ys w.0 (let q = w.2 in omega arith)) ∙ w.3, w.4, w.5))
-            (h.others j a (get_front xs ys j a g) e));
+        copies = λ j a g e. (let l = slice_get_within xs j a g in
+            let w = h.copies j a (get_front xs ys j a g) e in
+            (w.0, w.1, sym (get_front_within own later w.0 (within_own w.0 w.1 w.2 (let q = w.3 in omega arith))) ∙ w.2, w.3, w.4));
       }
 
   -- the first copy at the next place comes next
@@ -102,17 +100,17 @@ cut p ys xs s big h =
     let w = split_at (length xs) big in
     (w.0, sent_part p xs ys s w.0 w.2.later (subst (λ (cs : List FirstCopy). IsSent p (xs ++ ys) s cs) w.2.whole h) w.2.place w.1, w.2)
 
+-- it spells the PDU of a member, which crossed before, or is the next
 follow_by : (p : Parameters) (xs rest : List Packet) (s : Side) (own later : List FirstCopy) (a : Packet) → IsSent p xs s own → IsSent p (xs ++ a ∷ rest) s (own ++ later)
-    → ((c : FirstCopy) → slice_get later 0 ≡ Some c → length xs ≤ c.place) → First (xs ++ a ∷ rest) s (own ++ later) (length xs) ⊎ Again (xs ++ a ∷ rest) s (length xs) a.payload → CanFollow p xs s own a
-follow_by p xs rest s own later a h g high (inl w) =
-    let n = next_copy p xs (a ∷ rest) s own later g high h w.0 w.1 w.2 w.3 in
-    let f = g.firsts w.0 w.1 w.2 in
-    let same : f.0 ≡ a = (let z : slice_get (xs ++ a ∷ rest) (length xs) ≡ Some f.0 = subst (λ j. slice_get (xs ++ a ∷ rest) j ≡ Some f.0) w.3 f.1 in let y = get_past xs (a ∷ rest) in cc) in
-    (w.1.pdu, subst (λ (b : Packet). Spells p s w.1.pdu b.payload) same f.3, inr (λ c x. g.numbers w.0 c w.1 (get_front own later 0 c x) w.2 ∙ ap (λ m. wrapped (c.pdu.number + m)) n))
-follow_by p xs rest s own later a h g high (inr w) =
-    let e = earliest p xs s own h (suc w.0) w.0 (omega arith) w.1 (sym (get_front_within xs (a ∷ rest) w.0 w.2) ∙ w.3) w.4 in
-    let same : e.2.payload ≡ a.payload = e.6 ∙ w.5 in
-    (e.1.pdu, subst (λ (bs : List ℕ). Spells p s e.1.pdu bs) same e.7, inl (e.0, e.1, e.2, e.3, e.5, refl, same))
+    → ((c : FirstCopy) → slice_get later 0 ≡ Some c → length xs ≤ c.place) → a.side ≡ s → CanFollow p xs s own a
+follow_by p xs rest s own later a h g high sd =
+    let w = g.copies (length xs) a (get_past xs (a ∷ rest)) sd in
+    (w.1.pdu, w.4, elim (dec_lt w.1.place (length xs)) [
+      | yes l ↦ inl (w.0, w.1, sym (get_front_within own later w.0 (within_own p xs (a ∷ rest) s own later g high w.0 w.1 w.2 l)) ∙ w.2, refl)
+      | no l ↦ inr (λ c x. (let at = w.3 in
+          let n = next_copy p xs (a ∷ rest) s own later g high h w.0 w.1 w.2 (omega arith) in
+          g.numbers w.0 c w.1 (get_front own later 0 c x) w.2 ∙ ap (λ m. wrapped (c.pdu.number + m)) n))
+    ])
 
 pub can_follow : (p : Parameters) (xs rest : List Packet) (s : Side) (own : List FirstCopy) (a : Packet) → IsSent p xs s own → length own < 2 ^ 32 → a.side ≡ s → (more : List FirstCopy) → IsSent p (xs ++ a ∷ rest) s more → CanFollow p xs s own a
 can_follow p xs rest s own a h l sd more g =
@@ -120,7 +118,7 @@ can_follow p xs rest s own a h l sd more g =
     let later = r.2.later in
     let whole : more ≡ own ++ later = r.2.whole ∙ ap (λ (cs : List FirstCopy). cs ++ later) (sym (sent_once p xs s own r.0 h r.1 l)) in
     let goes : IsSent p (xs ++ a ∷ rest) s (own ++ later) = subst (λ (cs : List FirstCopy). IsSent p (xs ++ a ∷ rest) s cs) whole g in
-    follow_by p xs rest s own later a h goes r.2.place (goes.others (length xs) a (get_past xs (a ∷ rest)) sd)
+    follow_by p xs rest s own later a h goes r.2.place sd
 
 pub first_number : (own : List FirstCopy) (d : RedundancyPdu) → ℕ
 first_number [] d = d.number

@@ -87,12 +87,12 @@ module _ (p : Parameters) (packets : List Packet) (side : Side) (own : List Firs
       not_again head.0.pdu.number i (length own) c.pdu.number d.number (sent.numbers i head.0 c head.1 g) (next head.0 head.1) l few n
 
   none_known : (d : RedundancyPdu) → Spells p side d a.payload
-      → ((i : ℕ) × (c : FirstCopy) × (b : Packet) × (slice_get own i ≡ Some c) × (slice_get packets c.place ≡ Some b) × (c.pdu ≡ d) × (b.payload ≡ a.payload))
+      → ((i : ℕ) × (c : FirstCopy) × (slice_get own i ≡ Some c) × (c.pdu ≡ d))
       ⊎ ((c : FirstCopy) → slice_get own 0 ≡ Some c → d.number ≡ wrapped (c.pdu.number + length own))
       → (o : Option FirstCopy) → copy_with own d.number ≡ o → number_fault p side own a.payload d o ≡ None
-  none_known d s (inl w) (Some c) e = (let f = copy_found own d.number c e in repeats_first d s f.0 w.0 c w.1 f.1 w.3 f.2 w.5)
+  none_known d s (inl w) (Some c) e = (let f = copy_found own d.number c e in repeats_first d s f.0 w.0 c w.1 f.1 w.2 f.2 w.3)
   none_known d s (inr w) (Some c) e = (let f = copy_found own d.number c e in absurd (not_next d f.0 c f.1 f.2 w))
-  none_known d s (inl w) None e = absurd (copy_none own d.number e w.0 w.1 w.3 (ap (λ (z : RedundancyPdu). z.number) w.5))
+  none_known d s (inl w) None e = absurd (copy_none own d.number e w.0 w.1 w.2 (ap (λ (z : RedundancyPdu). z.number) w.3))
   none_known d s (inr w) None e = passes (is_next_number own d.number) number_gap (is_next own d.number w)
 
   pub faultless : CanFollow p packets side own a → read_fault p side own a.payload (decode_of p side a.payload) ≡ None

@@ -1,5 +1,5 @@
 -- Every run keeps what holds.
-use Rattle.std.proofs.Common.{◌≡◌, ℕ, zero, suc, ◌≤◌, Bool, false, List, [], ◌∷◌, ◌++◌, length, Option, Some, None, slice_get, refl, ap, sym, subst, ◌∙◌, arith, inl, inr, ◌<◌}
+use Rattle.std.proofs.Common.{◌≡◌, ℕ, zero, suc, ◌≤◌, Bool, false, List, [], ◌∷◌, ◌++◌, length, Option, Some, None, slice_get, refl, ap, sym, subst, ◌∙◌, arith, inl, inr}
 use Rattle.std.proofs.lemmas.List.{length_push}
 use Rattle.rasta_pcap.specs.Fault.{reply_owed, past_deadline}
 use Rattle.rasta_pcap.specs.declared.fault.Side.{Side}
@@ -34,25 +34,59 @@ use Rattle.rasta_check.proofs.Model.Steps.{start_base, base_small}
 use Rattle.rasta_pdu.specs.Pdu.{is_kind}
 use Rattle.rasta_pdu.specs.declared.kind.Kind.TheVariants.{Data}
 
+-- all that holds of an end e that took its peer's PDUs up to position t, and of this peer f
+pub record InRun (e : EndState) (t : ℕ) (f : EndState) : Type 0 where
+  pub held : Held e t f.made
+  pub values : Valued e
+  pub handed : Handed e f
+  pub shown : Shown e f
+
+-- so it is of both stations
+pub record All (a b : Station) : Type 0 where
+  pub mine : InRun a.state a.taken b.state
+  pub theirs : InRun b.state b.taken a.state
+
 -- ---- the start: a fresh end, or one at a quiet point
 
 nothing_at : {A B : Type 0} (i : ℕ) (x : A) → slice_get [] i ≡ Some x → B
 nothing_at i x e = absurd (cc)
 
-fresh_held : (side : Side) (phase : Phase) → (phase ≡ Down → side ≡ Server) → has_peer side phase ≡ false → Held (fresh_end side phase) 0 []
-fresh_held side phase down peer =
+fresh_in_run : (side other : Side) (phase theirs : Phase) → (phase ≡ Down → side ≡ Server) → has_peer side phase ≡ false → is_connected phase ≡ false → is_connected theirs ≡ false → (phase ≡ RetrReq → ⊥)
+    → InRun (fresh_end side phase) 0 (fresh_end other theirs)
+fresh_in_run side other phase theirs down peer apart they_apart asking =
     record {
-      list = record { numbered = λ i m e. nothing_at (suc i) m e; openers = λ i m e. nothing_at i m e };
-      opening = record { down = λ e. (refl, down e, refl); starting = λ _ _. refl; unmade = λ _ _. (refl, refl); response_due = inl refl; connected = λ v. absurd (cc) };
-      asks = record { asked = omega arith; owing = λ _. refl; answered = λ i m e. nothing_at i m e; asks_taken = omega arith; open_requests = omega arith };
-      accepts = record { reached = omega arith; within = omega arith; last = λ i v. absurd (cc); named = λ i m e. nothing_at i m e };
-      confirmed = omega arith;
+      held = record {
+        list = record { numbered = λ i m e. nothing_at (suc i) m e; openers = λ i m e. nothing_at i m e };
+        opening = record { down = λ e. (refl, down e, refl); starting = λ _ _. refl; unmade = λ _ _. (refl, refl); response_due = inl refl; connected = λ v. absurd (cc) };
+        asks = record { asked = omega arith; owing = λ _. refl; answered = λ i m e. nothing_at i m e; asks_taken = omega arith; open_requests = omega arith };
+        accepts = record { reached = omega arith; within = omega arith; last = λ i v. absurd (cc); named = λ i m e. nothing_at i m e };
+        confirmed = omega arith;
+      };
+      values = record {
+        due = λ _. refl;
+        grown = λ v. absurd (cc);
+        positions = record { bounded = λ i v e. nothing_at i v e; units = λ i m e. nothing_at i m e; others = λ i m e. nothing_at i m e; zeroth = refl };
+        returns = record { jumps = λ i m e. nothing_at i m e; asks_within = λ i d e. nothing_at i d e };
+        contents = record { counted = refl; fresh = λ i m e. nothing_at i m e; carried = λ i m e. nothing_at i m e };
+      };
+      handed = record { count = refl; labels = λ i m g. nothing_at i m g; as_many = refl; awaited = λ v. absurd (asking v) };
+      shown = record {
+        shown = λ i m g. nothing_at i m g;
+        judged = λ i m g. nothing_at i m g;
+        first_words = λ _ _ i m g. nothing_at i m g;
+        ready_run = λ r. absurd (cc);
+        ready_offer = λ l. omega arith;
+      };
     }
 
 -- the only one of a list of one
 only_at : (x m : Made) (i : ℕ) → slice_get (x ∷ []) i ≡ Some m → (i ≡ 0) × (x ≡ m)
 only_at x m zero e = (refl, cc)
 only_at x m (suc i) e = nothing_at i m e
+
+zero_at : (i v : ℕ) → slice_get (0 ∷ []) i ≡ Some v → v ≤ 0
+zero_at zero v e = (let z : 0 ≡ v = cc in omega arith)
+zero_at (suc i) v e = nothing_at i v e
 
 quiet_sn : (side : Side) (own other : QuietEnd) (i sn : ℕ) → i ≡ 0 → sn ≡ sn_before own.next_sn → SnIs ((quiet_end side own other).made) i sn
 quiet_sn side own other i sn e f =
@@ -63,78 +97,42 @@ quiet_cs : (own other : QuietEnd) (m : Made) → record { pdu = quiet_pdu own ot
 quiet_cs own other m e = ap (λ (n : Made). n.pdu.cs) (sym e)
 
 -- each quiet PDU confirms the other
-quiet_held : (side peer : Side) (own other : QuietEnd) → Held (quiet_end side own other) 1 (quiet_end peer other own).made
-quiet_held side peer own other =
+quiet_in_run : (side peer : Side) (own other : QuietEnd) → InRun (quiet_end side own other) 1 (quiet_end peer other own)
+quiet_in_run side peer own other =
+    let confirms : (i : ℕ) (m : Made) → slice_get ((quiet_end side own other).made) i ≡ Some m → SnIs ((quiet_end peer other own).made) 0 m.pdu.cs =
+    λ i m e. quiet_sn peer other own 0 m.pdu.cs refl (quiet_cs own other m (only_at _ m i e).1) in
     record {
-      list = record { numbered = λ i m e. nothing_at i m e; openers = λ i m e k. (only_at _ m i e).0 };
-      opening = record { down = λ e. absurd (cc); starting = λ _ v. absurd (cc); unmade = λ _ v. absurd (cc); response_due = inl refl; connected = λ v. (0, refl) };
-      asks = record { asked = omega arith; owing = λ _. refl; answered = λ i m e k c g. absurd (cc); asks_taken = omega arith; open_requests = omega arith };
-      accepts = record {
-        reached = omega arith;
-        within = omega arith;
-        last = λ i v. quiet_sn peer other own i _ (omega arith) refl;
-        named = λ i m e k. (0, omega arith, quiet_sn peer other own 0 m.pdu.cs refl (quiet_cs own other m (only_at _ m i e).1));
+      held = record {
+        list = record { numbered = λ i m e. nothing_at i m e; openers = λ i m e k. (only_at _ m i e).0 };
+        opening = record { down = λ e. absurd (cc); starting = λ _ v. absurd (cc); unmade = λ _ v. absurd (cc); response_due = inl refl; connected = λ v. (0, refl) };
+        asks = record { asked = omega arith; owing = λ _. refl; answered = λ i m e k c g. absurd (cc); asks_taken = omega arith; open_requests = omega arith };
+        accepts = record { reached = omega arith; within = omega arith; last = λ i v. quiet_sn peer other own i _ (omega arith) refl; named = λ i m e k. (0, omega arith, confirms i m e) };
+        confirmed = omega arith;
       };
-      confirmed = omega arith;
-    }
-
-fresh_valued : (side : Side) (phase : Phase) → is_connected phase ≡ false → Valued (fresh_end side phase)
-fresh_valued side phase c =
-    record {
-      due = λ _. refl;
-      grown = λ v. absurd (cc);
-      positions = record { bounded = λ i v e. nothing_at i v e; units = λ i m e. nothing_at i m e; others = λ i m e. nothing_at i m e; zeroth = refl };
-      returns = record { jumps = λ i m e. nothing_at i m e; asks_within = λ i d e. nothing_at i d e };
-      contents = record { counted = refl; fresh = λ i m e. nothing_at i m e; carried = λ i m e. nothing_at i m e };
-    }
-
-zero_at : (i v : ℕ) → slice_get (0 ∷ []) i ≡ Some v → v ≤ 0
-zero_at zero v e = (let z : 0 ≡ v = cc in omega arith)
-zero_at (suc i) v e = nothing_at i v e
-
-quiet_valued : (side : Side) (own other : QuietEnd) → Valued (quiet_end side own other)
-quiet_valued side own other =
-    record {
-      due = λ _. refl;
-      grown = λ v. omega arith;
-      positions = record {
-        bounded = λ i v e. zero_at i v e;
-        units = λ i m e k. absurd (let z = ap (λ (n : Made). carries_unit n.pdu.kind) (only_at _ m i e).1 in cc);
-        others = λ i m e k j s. absurd (let z = (only_at _ m i e).0 in omega arith);
-        zeroth = refl;
+      values = record {
+        due = λ _. refl;
+        grown = λ v. omega arith;
+        positions = record {
+          bounded = λ i v e. zero_at i v e;
+          units = λ i m e k. absurd (let z = ap (λ (n : Made). carries_unit n.pdu.kind) (only_at _ m i e).1 in cc);
+          others = λ i m e k j s. absurd (let z = (only_at _ m i e).0 in omega arith);
+          zeroth = refl;
+        };
+        returns = record { jumps = λ i m e k d g. absurd (cc); asks_within = λ i d e. nothing_at i d e };
+        contents = record {
+          counted = refl;
+          fresh = λ i m e k. absurd (let z = ap (λ (n : Made). is_kind Data n.pdu.kind) (only_at _ m i e).1 in cc);
+          carried = λ i m e k u. absurd (let z = ap (λ (n : Made). n.unit) (only_at _ m i e).1 in cc);
+        };
       };
-      returns = record { jumps = λ i m e k d g. absurd (cc); asks_within = λ i d e. nothing_at i d e };
-      contents = record {
-        counted = refl;
-        fresh = λ i m e k. absurd (let z = ap (λ (n : Made). is_kind Data n.pdu.kind) (only_at _ m i e).1 in cc);
-        carried = λ i m e k u. absurd (let z = ap (λ (n : Made). n.unit) (only_at _ m i e).1 in cc);
+      handed = record { count = refl; labels = λ i m g. nothing_at i m g; as_many = refl; awaited = λ v. absurd (cc) };
+      shown = record {
+        shown = λ i m g k j v t u. zero_at j v u;
+        judged = λ i m g k. inr (0, omega arith, confirms i m g);
+        first_words = λ z. absurd (omega arith);
+        ready_run = λ _. omega arith;
+        ready_offer = λ _. omega arith;
       };
-    }
-
-fresh_handed : (side : Side) (phase : Phase) (e : EndState) → (phase ≡ RetrReq → ⊥) → Handed (fresh_end side phase) e
-fresh_handed side phase e c = record { count = refl; labels = λ i m g. nothing_at i m g; as_many = refl; awaited = λ v. absurd (c v) }
-
-quiet_handed : (side peer : Side) (own other : QuietEnd) → Handed (quiet_end side own other) (quiet_end peer other own)
-quiet_handed side peer own other = record { count = refl; labels = λ i m g. nothing_at i m g; as_many = refl; awaited = λ v. absurd (cc) }
-
-fresh_shown : (side : Side) (phase : Phase) (e : EndState) → is_connected e.phase ≡ false → (0 < e.offered → 0 < 0) → Shown (fresh_end side phase) e
-fresh_shown side phase e c offer =
-    record {
-      shown = λ i m g. nothing_at i m g;
-      judged = λ i m g. nothing_at i m g;
-      first_words = λ _ _ i m g. nothing_at i m g;
-      ready_run = λ r. absurd (cc);
-      ready_offer = offer;
-    }
-
-quiet_shown : (side peer : Side) (own other : QuietEnd) → Shown (quiet_end side own other) (quiet_end peer other own)
-quiet_shown side peer own other =
-    record {
-      shown = λ i m g k j v t u. zero_at j v u;
-      judged = λ i m g k. inr (0, omega arith, quiet_sn peer other own 0 m.pdu.cs refl (quiet_cs own other m (only_at _ m i g).1));
-      first_words = λ z. absurd (omega arith);
-      ready_run = λ _. omega arith;
-      ready_offer = λ _. omega arith;
     }
 
 -- ---- the steps
@@ -146,17 +144,6 @@ free_by (o ∷ os) past e = absurd (cc)
 -- an end that takes something owes nothing
 pub free : (p : Parameters) (e : EndState) (clock : ℕ) → take_fault p e clock ≡ None → is_closed e.phase ≡ false → e.owed ≡ []
 free p e clock h c = free_by e.owed (is_past p e.deadline clock) (rw c at h)
-
--- all that holds of two stations
-pub record All (a b : Station) : Type 0 where
-  pub mine : Held a.state a.taken b.state.made
-  pub theirs : Held b.state b.taken a.state.made
-  pub values : Valued a.state
-  pub their_values : Valued b.state
-  pub up : Handed a.state b.state
-  pub their_up : Handed b.state a.state
-  pub shows : Shown a.state b.state
-  pub their_shows : Shown b.state a.state
 
 abbrev Whole : Station → Station → Type 0
 Whole a b = length a.state.made ≤ 1000001 → length b.state.made ≤ 1000001 → All a b
@@ -170,40 +157,50 @@ all_kept p b a a' xs ys move (makes x why after channel reserve check bytes mk s
     let made : (after_make a.state x a.clock why).made ≡ a.state.made ++ n ∷ [] = ap (λ (e : EndState). e.made) (sym (after_row a.state x a.clock why by)) in
     let few : length (after_make a.state x a.clock why).made ≤ 1000001 = subst (λ (e : EndState). length e.made ≤ 1000001) (sym now) l in
     let h = g (let longer = ap (λ (ms : List Made). length ms) made in omega (arith, longer, few, length_push a.state.made n)) r in
-    let mine = own_make p a.state x a.clock why a.taken b.state.made ok h.mine in
-    let values = valued_make p a.state x a.clock why a.taken b.state.made ok h.mine h.values in
+    let mine = own_make p a.state x a.clock why a.taken b.state.made ok h.mine.held in
+    let values = valued_make p a.state x a.clock why a.taken b.state.made ok h.mine.held h.mine.values in
     let P : EndState → Type 0 = λ e. All (record a { state = e }) b in
     subst P now (record {
-      mine = mine;
-      theirs = subst (λ (ms : List Made). Held b.state b.taken ms) (sym made) (peer_make b.state b.taken a.state.made n h.theirs);
-      values = values;
-      their_values = h.their_values;
-      up = handed_make p a.state b.state x a.clock why a.taken ok h.mine h.up;
-      their_up = handed_peer_make b.state a.state x a.clock why (let z = h.theirs.accepts in omega (arith, z.reached, z.within)) h.their_up;
-      shows = shown_make p a.state b.state x a.clock why a.taken ok h.mine (numbered_once b.state.made r h.theirs.list.numbered) h.their_values h.up h.shows;
-      their_shows = shown_peer_make p b.state a.state x a.clock why ok values (numbered_once (after_make a.state x a.clock why).made few mine.list.numbered) h.their_shows;
+      mine = record {
+        held = mine;
+        values = values;
+        handed = handed_make p a.state b.state x a.clock why a.taken ok h.mine.held h.mine.handed;
+        shown = shown_make p a.state b.state x a.clock why a.taken ok h.mine.held (numbered_once b.state.made r h.theirs.held.list.numbered) h.theirs.values h.mine.handed h.mine.shown;
+      };
+      theirs = record {
+        held = subst (λ (ms : List Made). Held b.state b.taken ms) (sym made) (peer_make b.state b.taken a.state.made n h.theirs.held);
+        values = h.theirs.values;
+        handed = handed_peer_make b.state a.state x a.clock why (let z = h.theirs.held.accepts in omega (arith, z.reached, z.within)) h.theirs.handed;
+        shown = shown_peer_make p b.state a.state x a.clock why ok values (numbered_once (after_make a.state x a.clock why).made few mine.list.numbered) h.theirs.shown;
+      };
     }))
 all_kept p b a a' xs ys move (repeats place channel old there s rec) g = g
-all_kept p b a a' xs ys move (arrives position i j) g = λ l r. (let h = g l r in record { mine = h.mine; theirs = h.theirs; values = h.values; their_values = h.their_values; up = h.up; their_up = h.their_up; shows = h.shows; their_shows = h.their_shows })
+all_kept p b a a' xs ys move (arrives position i j) g = λ l r. (let h = g l r in record { mine = h.mine; theirs = h.theirs })
 all_kept p b a a' xs ys move (takes position m after c i s t) g = λ l r. (
     let same : after.made ≡ a.state.made = ap (λ (e : EndState). e.made) t.1 ∙ take_made p a.state m.pdu in
     let few : length a.state.made ≤ 1000001 = subst (λ (ms : List Made). length ms ≤ 1000001) same l in
     let h = g few r in
     let now : after_take p a.state m.pdu ≡ after = sym t.1 in
-    let k : Taken a.state b.state a.taken b.taken m position = record { mine = h.mine; theirs = h.theirs; there = s; above = i; few = few; few_theirs = r } in
+    let k : Taken a.state b.state a.taken b.taken m position = record { mine = h.mine.held; theirs = h.theirs.held; there = s; above = i; few = few; few_theirs = r } in
     let P : EndState → Type 0 = λ e. All (record a { state = e; taken = suc position }) b in
     let fr = free p a.state a.clock t.0 in
+    let made = take_made p a.state m.pdu in
+    let same_values = values_take p a.state m.pdu h.mine.held.asks.asked in
     subst P now (record {
-      mine = own_take p a.state b.state a.taken b.taken m position k fr;
-      theirs = subst (λ (ms : List Made). Held b.state b.taken ms) (sym (take_made p a.state m.pdu)) h.theirs;
-      values = valued_take p a.state b.state a.taken b.taken m position k h.values fr;
-      their_values = h.their_values;
-      up = handed_take p a.state b.state a.taken b.taken m position k h.up h.their_values fr;
-      their_up = handed_peer_take b.state a.state (after_take p a.state m.pdu) (take_made p a.state m.pdu) (values_take p a.state m.pdu h.mine.asks.asked) h.their_up;
-      shows = shown_take p a.state b.state m.pdu a.taken h.mine h.shows;
-      their_shows = shown_peer_take p b.state a.state b.taken m position h.theirs s (values_take p a.state m.pdu h.mine.asks.asked) h.their_shows;
+      mine = record {
+        held = own_take p a.state b.state a.taken b.taken m position k fr;
+        values = valued_take p a.state b.state a.taken b.taken m position k h.mine.values fr;
+        handed = handed_take p a.state b.state a.taken b.taken m position k h.mine.handed h.theirs.values fr;
+        shown = shown_take p a.state b.state m.pdu a.taken h.mine.held h.mine.shown;
+      };
+      theirs = record {
+        held = subst (λ (ms : List Made). Held b.state b.taken ms) (sym made) h.theirs.held;
+        values = h.theirs.values;
+        handed = handed_peer_take b.state a.state (after_take p a.state m.pdu) made same_values h.theirs.handed;
+        shown = shown_peer_take p b.state a.state b.taken m position h.theirs.held s same_values h.theirs.shown;
+      };
     }))
-all_kept p b a a' xs ys move (waits clock i) g = λ l r. (let h = g l r in record { mine = h.mine; theirs = h.theirs; values = h.values; their_values = h.their_values; up = h.up; their_up = h.their_up; shows = h.shows; their_shows = h.their_shows })
+all_kept p b a a' xs ys move (waits clock i) g = λ l r. (let h = g l r in record { mine = h.mine; theirs = h.theirs })
 
 -- ---- every run
 
@@ -214,33 +211,17 @@ first_all : (quiet : Option Quiet) (m n : ℕ) → All (station_by quiet Client 
 unfolding station_by
 first_all None m n =
     record {
-      mine = fresh_held Client Closed (λ e. absurd (cc)) refl;
-      theirs = fresh_held Server Down (λ _. refl) refl;
-      values = fresh_valued Client Closed refl;
-      their_values = fresh_valued Server Down refl;
-      up = fresh_handed Client Closed (fresh_end Server Down) (λ e. cc (e));
-      their_up = fresh_handed Server Down (fresh_end Client Closed) (λ e. cc (e));
-      shows = fresh_shown Client Closed (fresh_end Server Down) refl (λ l. omega arith);
-      their_shows = fresh_shown Server Down (fresh_end Client Closed) refl (λ l. omega arith);
+      mine = fresh_in_run Client Server Closed Down (λ e. absurd (cc)) refl refl refl (λ e. cc (e));
+      theirs = fresh_in_run Server Client Down Closed (λ _. refl) refl refl refl (λ e. cc (e));
     }
-first_all (Some quiet) m n =
-    record {
-      mine = quiet_held Client Server quiet.client quiet.server;
-      theirs = quiet_held Server Client quiet.server quiet.client;
-      values = quiet_valued Client quiet.client quiet.server;
-      their_values = quiet_valued Server quiet.server quiet.client;
-      up = quiet_handed Client Server quiet.client quiet.server;
-      their_up = quiet_handed Server Client quiet.server quiet.client;
-      shows = quiet_shown Client Server quiet.client quiet.server;
-      their_shows = quiet_shown Server Client quiet.server quiet.client;
-    }
+first_all (Some quiet) m n = record { mine = quiet_in_run Client Server quiet.client quiet.server; theirs = quiet_in_run Server Client quiet.server quiet.client }
 
 -- no end has made more than 1,000,001 PDUs
 pub few_made : (p : Parameters) (w : World) → IsWithin p w → (side : Side) → length (end_of w side).made ≤ 1000001
 few_made p w within side = omega (arith, within side, start_base p.quiet side, base_small p.quiet)
 
 turned : (a b : Station) → Whole a b → Whole b a
-turned a b g l m = (let h = g m l in record { mine = h.theirs; theirs = h.mine; values = h.their_values; their_values = h.values; up = h.their_up; their_up = h.up; shows = h.their_shows; their_shows = h.shows })
+turned a b g l m = (let h = g m l in record { mine = h.theirs; theirs = h.mine })
 
 pub all_held : (p : Parameters) (ws : List World) (w : World) (side : Side) → Reaches p ws w → IsWithin p w → All (station_of w side) (station_of w (other_side side))
 unfolding station_by

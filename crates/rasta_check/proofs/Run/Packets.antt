@@ -1,5 +1,5 @@
 -- The packet of a level: its end makes it, or it is a copy, with its lines.
-use Rattle.std.proofs.Common.{◌≡◌, ℕ, suc, ◌+◌, ◌<◌, List, [], ◌∷◌, ◌++◌, length, Some, slice_get, take, refl, ap, sym, ◌∙◌, arith, ⊎_elim, subst}
+use Rattle.std.proofs.Common.{◌≡◌, ℕ, suc, ◌+◌, ◌<◌, List, [], ◌∷◌, ◌++◌, length, Some, slice_get, take, refl, ap, sym, ◌∙◌, arith, subst}
 use Rattle.std.specs.Prelude.{slice_index_or, Option, None}
 use Rattle.std.proofs.lemmas.List.{append-nil, length_push, length-take-le, get_or-take}
 use Rattle.std.proofs.lemmas.Option.{slice_get_within, slice_get-get_or, get_or_from_slice_get}
@@ -124,17 +124,17 @@ module _ (p : Parameters) (packets : List Packet) (k : ℕ) (s : Side) (own peer
         | yes m ↦ (let z = f.after i c g m in omega (arith, z))
         | no m ↦ (let z = places_above p (length packets) (suc k) own peer _ last es f.fits whole above i c g (omega arith) in omega (arith, z))
       ] in
-      ⊎_elim
-      (λ (w : (i : ℕ) × (c : FirstCopy) × (slice_get own i ≡ Some c) × (c.place ≡ k)). absurd (no_first w.0 w.1 w.2 w.3))
-      (λ (w : (j : ℕ) × (o : Packet) × (j < k) × (slice_get packets j ≡ Some o) × (o.side ≡ s) × (o.payload ≡ here.payload)). record {
+      let w = sent.copies k here at hs in
+      let o = sent.firsts w.0 w.1 w.2 in
+      let earlier : w.1.place < k = (let apart = no_first w.0 w.1 w.2 in let low = w.3 in omega (arith, apart)) in
+      record {
         rest = es;
         station = a;
-        many = copy_moves es a (place_missing own k no_first) (hs ∙ sym f.side) w.0 w.1 w.2 w.3 (w.4 ∙ sym hs) w.5;
+        many = copy_moves es a (place_missing own k no_first) (hs ∙ sym f.side) w.1.place o.0 earlier o.1 (o.2 ∙ sym hs) (o.3.same ∙ sym w.4.same);
         tracks = untouched p (length packets) k s own peer es last a f no_first;
         above = above;
         says = says_all (suc k) (suc k) es;
-      })
-      (sent.others k here at hs)
+      }
 
   pub next_is : (es : List Entry) (a : Station) → here.side ≡ s → Drained k es → Tracks p (length packets) k s own peer es last a → Crossed es a
   next_is [] a hs dr f = copied [] a hs tt f

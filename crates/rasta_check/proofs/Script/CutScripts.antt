@@ -178,12 +178,12 @@ sharp p packets c s cs ss a b recorded hc hs lc ls fc fs =
     let l = known p r.0 w Server s c r.2 sv sc ls lc in
     let rc : (w.client.state ≡ start_of p Client) ⊎ JustMade p c w.client.state = subst (λ (z : EndState). (z ≡ start_of p Client) ⊎ JustMade p c z) (sym r.4) kc.2 in
     let rs : (w.server.state ≡ start_of p Server) ⊎ JustMade p s w.server.state = subst (λ (z : EndState). (z ≡ start_of p Server) ⊎ JustMade p s z) (sym r.5) ks.2 in
-    let up_s = no_more p Server w.server.state w.client.state w.server.taken w.client.taken s (all_made p Client c) k.all.theirs k.once k.all.their_up k.sends.same k.along rs in
-    let up_c = no_more p Client w.client.state w.server.state w.client.taken w.server.taken c (all_made p Server s) l.all.theirs l.once l.all.their_up l.sends.same l.along rc in (
+    let up_s = no_more p Server w.server.state w.client.state w.server.taken w.client.taken s (all_made p Client c) k.all.theirs.held k.once k.all.theirs.handed k.sends.same k.along rs in
+    let up_c = no_more p Client w.client.state w.server.state w.client.taken w.server.taken c (all_made p Server s) l.all.theirs.held l.once l.all.theirs.handed l.sends.same l.along rc in (
       r.0,
       w,
       r.2,
       r.3,
-      exactly_listed p Client w.server.state w.client.state c s k.sends.same (of_units w.server.state w.client.state (hands_up_units w.server.state w.client.state k.all.values k.all.their_up)) k.taken up_s,
-      exactly_listed p Server w.client.state w.server.state s c l.sends.same (of_units w.client.state w.server.state (hands_up_units w.client.state w.server.state l.all.values l.all.their_up)) l.taken up_c,
+      exactly_listed p Client w.server.state w.client.state c s k.sends.same (of_units w.server.state w.client.state (hands_up_units w.server.state w.client.state k.all.mine.values k.all.theirs.handed)) k.taken up_s,
+      exactly_listed p Server w.client.state w.server.state s c l.sends.same (of_units w.client.state w.server.state (hands_up_units w.client.state w.server.state l.all.mine.values l.all.theirs.handed)) l.taken up_c,
     )

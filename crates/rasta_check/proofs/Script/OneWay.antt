@@ -1,5 +1,5 @@
 -- Scripts are followed in one way, and first copies are the packets with a new number.
-use Rattle.std.proofs.Common.{◌≡◌, ℕ, suc, ◌<◌, ◌⊎◌, List, [], ◌∷◌, ◌++◌, length, Some, slice_get, refl, ap, sym, ◌∙◌, arith, inl, inr, ⊎_elim, subst}
+use Rattle.std.proofs.Common.{◌≡◌, ℕ, suc, ◌<◌, List, [], ◌∷◌, ◌++◌, length, Some, slice_get, refl, ap, sym, ◌∙◌, arith, subst}
 use Rattle.std.proofs.lemmas.List.{append-nil}
 use Rattle.std.proofs.lemmas.Option.{slice_get_within}
 use Rattle.rasta_pcap.specs.declared.fault.Side.{Side}
@@ -8,14 +8,14 @@ use Rattle.rasta_pdu.specs.Params.{Parameters}
 use Rattle.rasta_pdu.specs.Pdu.{RedundancyPdu}
 use Rattle.rasta_end.specs.MakeRule.{after_make}
 use Rattle.rasta_end.specs.TakeRule.{after_take}
-use Rattle.rasta_check.specs.Capture.Crossing.{Spells, FirstCopy, IsKnown}
+use Rattle.rasta_check.specs.Capture.Crossing.{Spells, FirstCopy, IsCarried, IsKnown}
 use Rattle.rasta_udp.specs.Frame.{Packet}
 use Rattle.rasta_cert.specs.declared.entry.Entry.{Entry}
 use Rattle.rasta_cert.specs.declared.entry.Entry.TheVariants.{Take, Make}
 use Rattle.rasta_check.proofs.Capture.FaultlessLists.{IsSent}
 use Rattle.rasta_check.specs.Script.Following.{Cursor, Advances, takes_next, makes_next, Leads}
 use Rattle.rasta_check.proofs.Capture.Spellings.{read_once}
-use Rattle.rasta_check.proofs.Capture.FirstCopies.{earliest, not_again}
+use Rattle.rasta_check.proofs.Capture.FirstCopies.{not_again}
 use Rattle.rasta_check.proofs.Script.Tracks.{slice_get_some}
 
 -- a number names one position of a list
@@ -30,26 +30,30 @@ number_once p xs s own h l i j c d x y e =
     let down : j < i → ⊥ = λ z. not_again head.0.pdu.number j i d.pdu.number c.pdu.number nj ni z (omega arith) (sym e) in
     omega (arith, up, down)
 
-pub firsts_new : (p : Parameters) (xs : List Packet) (s : Side) (own : List FirstCopy) → IsSent p xs s own → length own < 4294967296 → (i : ℕ) (c : FirstCopy) → slice_get own i ≡ Some c → IsKnown p xs s c.place c.pdu.number → ⊥
-firsts_new p xs s own h l i c g w =
-    let r = earliest p xs s own h (suc w.earlier) w.earlier (omega arith) w.packet w.there w.of_side in
-    let same : r.1.pdu ≡ w.pdu = read_once p h.valid s r.1.pdu w.pdu r.2.payload r.7 (subst (λ (bs : List ℕ). Spells p s w.pdu bs) (sym r.6) w.spelled) in
-    let q : i ≡ r.0 = number_once p xs s own h l i r.0 c r.1 g r.3 (sym (ap (λ (d : RedundancyPdu). d.number) same ∙ w.same_number)) in
-    let e : c ≡ r.1 = (let z : slice_get own i ≡ Some r.1 = subst (λ j. slice_get own j ≡ Some r.1) (sym q) r.3 in cc) in
-    let p = ap (λ (x : FirstCopy). x.place) e in
-    let a = w.before in
-    let b = r.4 in
+-- each member is a packet of the side, which spells its PDU
+pub carried_at : (p : Parameters) (xs : List Packet) (s : Side) (own : List FirstCopy) → IsSent p xs s own → (i : ℕ) (c : FirstCopy) → slice_get own i ≡ Some c → IsCarried p xs s c
+carried_at p xs s own h i c g = (let f = h.firsts i c g in record { packet = f.0; there = f.1; of_side = f.2; spelled = f.3 })
+
+-- no member's number crossed before
+pub first_is_new : (p : Parameters) (xs : List Packet) (s : Side) (own : List FirstCopy) → IsSent p xs s own → length own < 4294967296 → (i : ℕ) (c : FirstCopy) → slice_get own i ≡ Some c → IsKnown p xs s c.place c.pdu.number → ⊥
+first_is_new p xs s own h l i c g w =
+    let r = h.copies w.earlier.place w.carried.packet w.carried.there w.carried.of_side in
+    let same : r.1.pdu ≡ w.earlier.pdu = read_once p h.valid s r.1.pdu w.earlier.pdu w.carried.packet.payload r.4 w.carried.spelled in
+    let q : i ≡ r.0 = number_once p xs s own h l i r.0 c r.1 g r.2 (sym (ap (λ (d : RedundancyPdu). d.number) same ∙ w.same_number)) in
+    let e : c ≡ r.1 = (let z : slice_get own i ≡ Some r.1 = subst (λ j. slice_get own j ≡ Some r.1) (sym q) r.2 in cc) in
+    let at = ap (λ (x : FirstCopy). x.place) e in
+    let before = w.before in
+    let behind = r.3 in
     omega arith
 
-pub others_old : (p : Parameters) (xs : List Packet) (s : Side) (own : List FirstCopy) → IsSent p xs s own → (k : ℕ) (a : Packet) → slice_get xs k ≡ Some a → a.side ≡ s
-    → ((i : ℕ) × (c : FirstCopy) × (slice_get own i ≡ Some c) × (c.place ≡ k)) ⊎ ((d : RedundancyPdu) × Spells p s d a.payload × IsKnown p xs s k d.number)
-others_old p xs s own h k a g e = ⊎_elim
-    (λ (w : (i : ℕ) × (c : FirstCopy) × (slice_get own i ≡ Some c) × (c.place ≡ k)). inl w)
-    (λ (w : (j : ℕ) × (b : Packet) × (j < k) × (slice_get xs j ≡ Some b) × (b.side ≡ s) × (b.payload ≡ a.payload)).
-    let r = earliest p xs s own h (suc w.0) w.0 (omega arith) w.1 w.3 w.4 in
-    let there : Spells p s r.1.pdu w.1.payload = subst (λ (bs : List ℕ). Spells p s r.1.pdu bs) r.6 r.7 in
-    inr (r.1.pdu, subst (λ (bs : List ℕ). Spells p s r.1.pdu bs) w.5 there, record { earlier = w.0; packet = w.1; pdu = r.1.pdu; before = w.2; there = w.3; of_side = w.4; spelled = there; same_number = refl }))
-    (h.others k a g e)
+-- a packet whose number didn't cross before is that of a member
+pub new_is_first : (p : Parameters) (xs : List Packet) (s : Side) (own : List FirstCopy) → IsSent p xs s own → (k : ℕ) (a : Packet) (d : RedundancyPdu) → slice_get xs k ≡ Some a → a.side ≡ s → Spells p s d a.payload
+    → (IsKnown p xs s k d.number → ⊥) → (i : ℕ) × (c : FirstCopy) × (slice_get own i ≡ Some c) × (c.place ≡ k)
+new_is_first p xs s own h k a d g e spelled new =
+    let w = h.copies k a g e in
+    let same = ap (λ (x : RedundancyPdu). x.number) (read_once p h.valid s w.1.pdu d a.payload w.4 spelled) in
+    let last : w.1.place < k → ⊥ = λ l. new (record { earlier = w.1; carried = carried_at p xs s own h w.0 w.1 w.2; before = l; same_number = same }) in
+    (w.0, w.1, w.2, (let at = w.3 in omega (arith, last)))
 
 module _ (p : Parameters) (n : ℕ) (packets : List Packet) (r : Side) (own peer : List FirstCopy) (sent : IsSent p packets r peer) (few : length peer < 4294967296) where
   take_once : (u v w : Cursor) (slot number : ℕ) → Advances p n own peer u (Take slot number) v → Advances p n own peer u (Take slot number) w → v ≡ w

@@ -29,7 +29,7 @@ module _ (p : Parameters) (ws : List World) (w : World) (side : Side) (own peer 
 
   -- what the other side took
   pub hands_up : HandsUpUnits f e
-  hands_up = hands_up_units f e kn.all.values kn.all.their_up
+  hands_up = hands_up_units f e kn.all.mine.values kn.all.theirs.handed
 
   pub first : (rest : List (List (List ℕ))) × (units_handed f ≡ units_listed (surely_taken p side own peer) ++ rest)
   first = listed_first p side f e own peer kn.sends.same (of_units f e hands_up) kn.taken
@@ -56,7 +56,7 @@ module _ (p : Parameters) (ws : List World) (w : World) (side : Side) (own peer 
       let more = shown.more in
       let b = before p ws w side own peer r mine theirs few few_theirs a.i v a.here in
       let all = all_held p b.us v side b.reached b.few in
-      let h : HandsUpData y e = data_grown y x e (b.grown side).made (of_units y x (hands_up_units y x all.values all.their_up)) in
+      let h : HandsUpData y e = data_grown y x e (b.grown side).made (of_units y x (hands_up_units y x all.mine.values all.theirs.handed)) in
       unit_handed p side y e own peer kn.sends.same h j t (omega (arith, z, more, low)) gt
 
   pub in_time : (i : ℕ) (u : TakenUnit) (v next : World) → slice_get (surely_taken p side own peer) i ≡ Some u → Appends ws w u.proof_place v next → HasHandedUp (end_of v (other_side side)) i u.messages

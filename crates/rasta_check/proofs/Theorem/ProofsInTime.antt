@@ -74,7 +74,7 @@ timed p ws w side own peer r mine theirs few few_theirs j d v next a there =
     let g = b.theirs.kept j d there (let y = a.after in omega arith) in
     let m = made_at p (other_side side) next.crossed b.told.peer f _ j d b.told.their_sends g in
     let t = shows_most (end_of w side) (all_made p side own) (pdus_of peer) kn.sends.same kn.along (length f.handed) m.0.pdu
-    (in_time_at f e (end_of w (other_side side)) (end_of w side) (station_of w side).taken all.their_shows kn.all.their_shows kn.all.mine kn.all.values kn.few (b.grown (other_side side)) (b.grown side) (base p + j) m.0 m.1) in
+    (in_time_at f e (end_of w (other_side side)) (end_of w side) (station_of w side).taken all.theirs.shown kn.all.theirs.shown kn.all.mine.held kn.all.mine.values kn.few (b.grown (other_side side)) (b.grown side) (base p + j) m.0 m.1) in
     let same : units_shown (all_made p side own) (pdus_of peer) m.0.pdu ≡ units_shown (all_made p side own) (pdus_of peer) d.pdu.safety = ap (units_shown (all_made p side own) (pdus_of peer)) m.2 in
     let h = ap length (((stepped p v next (joined p ws w r a.i v next a.here a.there)).ends (other_side side)).same crossing).positions in
     omega (arith, t, same, h)

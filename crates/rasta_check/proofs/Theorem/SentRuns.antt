@@ -53,7 +53,7 @@ module _ (p : Parameters) (ws : List World) (w : World) (side : Side) (own peer 
       subst (λ (o : List FirstCopy). Sends p (other_side side) w.crossed o f (station_of w (other_side side)).first_number) g.2 g.0.their_sends in
       let within : IsWithin p w = both_within p w side (within_by p w side own sends few) (within_by p w (other_side side) peer their_sends few_theirs) in
       let all = all_held p ws w side r within in
-      let once = numbered_once e.made (few_made p w within side) all.mine.list.numbered in
+      let once = numbered_once e.made (few_made p w within side) all.mine.held.list.numbered in
       record {
         within = within;
         all = all;
@@ -62,9 +62,9 @@ module _ (p : Parameters) (ws : List World) (w : World) (side : Side) (own peer 
         their_sends = their_sends;
         once = once;
         along = ap (λ (ms : List SafetyPdu). units_along ms (pdus_of peer)) (sym sends.same)
-            ∙ values_agree e f (station_of w side).taken (station_of w (other_side side)).taken all.mine all.theirs all.values once (pdus_made (start_of p (other_side side)).made) (pdus_of peer) their_sends.same (quiet_asks p.quiet (other_side side) _);
+            ∙ values_agree e f (station_of w side).taken (station_of w (other_side side)).taken all.mine.held all.theirs.held all.mine.values once (pdus_made (start_of p (other_side side)).made) (pdus_of peer) their_sends.same (quiet_asks p.quiet (other_side side) _);
         taken = subst (λ (ms : List SafetyPdu). units_taken ms (pdus_of peer) ≤ length f.handed) sends.same
-            (necessary e f (station_of w side).taken (station_of w (other_side side)).taken all.mine all.theirs all.values once (pdus_made (start_of p (other_side side)).made) (pdus_of peer) their_sends.same (quiet_asks p.quiet (other_side side) _) all.their_shows);
+            (necessary e f (station_of w side).taken (station_of w (other_side side)).taken all.mine.held all.theirs.held all.mine.values once (pdus_made (start_of p (other_side side)).made) (pdus_of peer) their_sends.same (quiet_asks p.quiet (other_side side) _) all.theirs.shown);
       }
 
   -- each earlier world of the run

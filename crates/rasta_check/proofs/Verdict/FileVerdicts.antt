@@ -67,8 +67,8 @@ module _ (p : Parameters) (file : List ℕ) (k : Crossing) (x : CrossedIn p file
 
   pub not_explained : (scripts : Scripts) → (BothFit p (length k.packets) k.client k.server scripts → ⊥) → Explains p file scripts → ⊥
   not_explained scripts unfit e =
-      let c = same_list Client e.capture.records e.client k.client e.capture.capture e.capture.faultless.client_sent h.client h.few_client in
-      let s = same_list Server e.capture.records e.server k.server e.capture.capture e.capture.faultless.server_sent h.server h.few_server in
+      let c = same_list Client e.capture.records e.client k.client e.capture.capture e.capture.faultless.sent.client_sent h.sent.client_sent h.sent.few_client in
+      let s = same_list Server e.capture.records e.server k.server e.capture.capture e.capture.faultless.sent.server_sent h.sent.server_sent h.sent.few_server in
       let n = ap length (packets_of e.capture.records e.capture.capture) in
       unfit (subst (λ (b : List FirstCopy). BothFit p (length k.packets) k.client b scripts) (sym s)
       (subst (λ (a : List FirstCopy). BothFit p (length k.packets) a e.server scripts) (sym c)

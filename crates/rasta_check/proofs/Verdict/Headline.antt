@@ -68,12 +68,12 @@ module _ (p : Parameters) (packets : List Packet) (c s : List FirstCopy) (h : Is
   sent Server = s
 
   is_sent : (side : Side) → IsSent p packets side (sent side)
-  is_sent Client = to_record p packets Client c h.valid.valid h.client
-  is_sent Server = to_record p packets Server s h.valid.valid h.server
+  is_sent Client = to_record p packets Client c h.valid.valid h.sent.client_sent
+  is_sent Server = to_record p packets Server s h.valid.valid h.sent.server_sent
 
   few : (side : Side) → length (sent side) ≤ 1000000
-  few Client = h.few_client
-  few Server = h.few_server
+  few Client = h.sent.few_client
+  few Server = h.sent.few_server
 
   -- ---- a run that sends the packets
 
@@ -96,7 +96,7 @@ module _ (p : Parameters) (packets : List Packet) (c s : List FirstCopy) (h : Is
         let e = end_of w side in
         let first = first_small p.quiet side e.made own kn.sends.same (λ j x y. ((is_sent side).firsts j x y).3.fits.sn) in
         ap (λ n. if is_kind ConnectionRequest d.pdu.safety.kind then 0 else n)
-        (units_named e.made (values e) d.pdu.safety.cs kn.all.mine.list.numbered kn.few (length-values e.asks e.made) first ((is_sent (other_side side)).firsts i d g).3.fits.cs
+        (units_named e.made (values e) d.pdu.safety.cs kn.all.mine.held.list.numbered kn.few (length-values e.asks e.made) first ((is_sent (other_side side)).firsts i d g).3.fits.cs
         ∙ (λ j. units_at (sym kn.along j) (position_with (kn.sends.same j) d.pdu.safety.cs)))
 
     list_is : listed_by (end_of w side) own peer ≡ listed p side own peer
@@ -197,7 +197,7 @@ module _ (p : Parameters) (packets : List Packet) (c s : List FirstCopy) (h : Is
 
       pub is_sharp : IsSharp p packets report
       is_sharp =
-          let r = sharp p packets c s scripts.client scripts.server ended.a ended.b h.recorded (is_sent Client) (is_sent Server) h.few_client h.few_server fits_c fits_s in (
+          let r = sharp p packets c s scripts.client scripts.server ended.a ended.b h.recorded (is_sent Client) (is_sent Server) h.sent.few_client h.sent.few_server fits_c fits_s in (
             r.0,
             r.1,
             r.2,

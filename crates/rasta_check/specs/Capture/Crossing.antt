@@ -1,5 +1,5 @@
 -- What crossed past the tap, and the list of PDUs that each side sent.
-use Rattle.std.specs.Prelude.{◌≡◌, ◌⊎◌, ℕ, suc, ◌+◌, ◌-◌, ◌≤◌, ◌<◌, Bool, true, List, [], ◌∷◌, length, drop, Option, Some, None, Result, Ok, Err, slice_get, slice_index, filter_map, if◌then◌else◌, ◌==◌}
+use Rattle.std.specs.Prelude.{◌≡◌, ℕ, suc, ◌+◌, ◌-◌, ◌≤◌, ◌<◌, Bool, true, List, [], ◌∷◌, length, drop, Option, Some, None, Result, Ok, Err, slice_get, slice_index, filter_map, if◌then◌else◌, ◌==◌}
 use Rattle.std.specs.Int.{from_le_bytes, w32}
 use Rattle.std.specs.Str.{bytes_eq}
 use Rattle.rasta_pcap.specs.declared.fault.Fault.{Fault}
@@ -45,23 +45,19 @@ pub record FirstCopy : Type 0 where
   pub place : ℕ
   pub pdu : RedundancyPdu
 
--- a packet before this place, of this side, has this redundancy number
-pub record IsKnown (p : Parameters) (packets : List Packet) (side : Side) (place number : ℕ) : Type 0 where
-  pub earlier : ℕ
-  pub packet : Packet
-  pub pdu : RedundancyPdu
-  pub before : earlier < place
-  pub there : slice_get packets earlier ≡ Some packet
-  pub of_side : packet.side ≡ side
-  pub spelled : Spells p side pdu packet.payload
-  pub same_number : pdu.number ≡ number
-
 -- a member of a sent list is a packet of this side, whose bytes spell its PDU
 pub record IsCarried (p : Parameters) (packets : List Packet) (side : Side) (copy : FirstCopy) : Type 0 where
   pub packet : Packet
   pub there : slice_get packets copy.place ≡ Some packet
   pub of_side : packet.side ≡ side
   pub spelled : Spells p side copy.pdu packet.payload
+
+-- a packet before this place, of this side, has this redundancy number
+pub record IsKnown (p : Parameters) (packets : List Packet) (side : Side) (place number : ℕ) : Type 0 where
+  pub earlier : FirstCopy
+  pub carried : IsCarried p packets side earlier
+  pub before : earlier.place < place
+  pub same_number : earlier.pdu.number ≡ number
 
 -- the sent list of a side: in the order of the packets, those of this side whose number no earlier packet of that side has
 pub record IsSentList (p : Parameters) (packets : List Packet) (side : Side) (sent : List FirstCopy) : Type 0 where
@@ -71,26 +67,17 @@ pub record IsSentList (p : Parameters) (packets : List Packet) (side : Side) (se
   pub all : (place : ℕ) (packet : Packet) (pdu : RedundancyPdu) → slice_get packets place ≡ Some packet → packet.side ≡ side → Spells p side pdu packet.payload
       → (IsKnown p packets side place pdu.number → ⊥) → (i : ℕ) × (copy : FirstCopy) × (slice_get sent i ≡ Some copy) × (copy.place ≡ place)
 
--- a packet of this side before this place has the same bytes
-pub record IsRepeat (packets : List Packet) (side : Side) (place : ℕ) (bytes : List ℕ) : Type 0 where
-  pub earlier : ℕ
-  pub packet : Packet
-  pub before : earlier < place
-  pub there : slice_get packets earlier ≡ Some packet
-  pub of_side : packet.side ≡ side
-  pub same : packet.payload ≡ bytes
-
--- where this is the sent list, no packet of the side has a fault: each is a first copy, or repeats an earlier packet byte for byte, and the numbers of the
--- first copies rise by one modulo 2^32
-pub record IsFaultless (packets : List Packet) (side : Side) (sent : List FirstCopy) : Type 0 where
-  pub others : (place : ℕ) (packet : Packet) → slice_get packets place ≡ Some packet → packet.side ≡ side
-      → ((i : ℕ) × (copy : FirstCopy) × (slice_get sent i ≡ Some copy) × (copy.place ≡ place)) ⊎ IsRepeat packets side place packet.payload
+-- where this is the sent list, no packet of the side has a fault: each spells the PDU of a member, which is its own or crossed before it, byte for byte;
+-- and the numbers of the members rise by one modulo 2^32
+pub record IsFaultless (p : Parameters) (packets : List Packet) (side : Side) (sent : List FirstCopy) : Type 0 where
+  pub copies : (place : ℕ) (packet : Packet) → slice_get packets place ≡ Some packet → packet.side ≡ side
+      → (i : ℕ) × (copy : FirstCopy) × (slice_get sent i ≡ Some copy) × (copy.place ≤ place) × Spells p side copy.pdu packet.payload
   pub numbers : (i : ℕ) (start copy : FirstCopy) → slice_get sent 0 ≡ Some start → slice_get sent i ≡ Some copy → copy.pdu.number ≡ wrapped (start.pdu.number + i)
 
 -- this side sent this list, and none of its packets has a fault
 pub record Sent (p : Parameters) (packets : List Packet) (side : Side) (sent : List FirstCopy) : Type 0 where
   pub list : IsSentList p packets side sent
-  pub faultless : IsFaultless packets side sent
+  pub faultless : IsFaultless p packets side sent
 
 -- ---- the fault of the next packet
 

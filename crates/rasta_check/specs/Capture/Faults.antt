@@ -8,10 +8,9 @@ use Rattle.rasta_pcap.specs.Capture.{IsCapture, IsRefused, opening, reading_of, 
 use Rattle.rasta_pcap.specs.declared.fault.Side.TheVariants.{Client, Server}
 use Rattle.rasta_udp.specs.Frame.{Packet, packet_in}
 use Rattle.rasta_pdu.specs.Params.{Parameters}
-use Rattle.rasta_check.specs.Capture.Crossing.{FirstCopy, Sent, crossing_list, packet_fault}
-use Rattle.rasta_check.specs.Model.World.{World, Reaches, most_sent}
-use Rattle.rasta_check.specs.Model.Theorem.{most_packets}
-use Rattle.rasta_check.specs.Capture.Reading.{Crossing}
+use Rattle.rasta_check.specs.Capture.Crossing.{FirstCopy, crossing_list, packet_fault}
+use Rattle.rasta_check.specs.Model.World.{World, Reaches}
+use Rattle.rasta_check.specs.Capture.Reading.{AreSent, Crossing}
 
 -- ---- definite faults
 
@@ -25,15 +24,10 @@ Impossible p packets = (ws : List World) (w : World) (rest : List Packet) → Re
 
 -- ---- a capture without a fault
 
--- records without a fault, in which the sides sent these lists: no frame of the window holds a datagram with a fault, each side sent
--- its list of the packets, and all are within the limits
+-- records without a fault, in which the sides sent these lists: no frame of the window holds a datagram with a fault
 pub record AreFaultless (p : Parameters) (records : List (List ℕ)) (client server : List FirstCopy) : Type 0 where
   pub frames : AllByRecursion (λ (frame : List ℕ). IsOk (packet_in p.channels frame)) (drop (p.first_record - 1) records)
-  pub client_sent : Sent p (crossing_list p records) Client client
-  pub server_sent : Sent p (crossing_list p records) Server server
-  pub few_packets : length (crossing_list p records) ≤ most_packets
-  pub few_client : length client ≤ most_sent
-  pub few_server : length server ≤ most_sent
+  pub sent : AreSent p (crossing_list p records) client server
 
 -- a capture without a fault: the file's records are read up to the last of the window, and have none
 pub record IsFaultlessCapture (p : Parameters) (file : List ℕ) (client server : List FirstCopy) : Type 0 where

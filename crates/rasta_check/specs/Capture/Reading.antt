@@ -27,15 +27,19 @@ abbrev pub sent_by : Crossing → Side → List FirstCopy
 sent_by k Client = k.client
 sent_by k Server = k.server
 
--- each side sent its list over the channels of a connection, without a fault, and all are within the limits
+-- each side sent its list of these packets without a fault, and all are within the limits
+pub record AreSent (p : Parameters) (packets : List Packet) (client server : List FirstCopy) : Type 0 where
+  pub client_sent : Sent p packets Client client
+  pub server_sent : Sent p packets Server server
+  pub few_packets : length packets ≤ most_packets
+  pub few_client : length client ≤ most_sent
+  pub few_server : length server ≤ most_sent
+
+-- the packets crossed on the channels of a connection, and the sides sent these lists
 pub record IsCrossing (k : Crossing) : Type 0 where
   pub valid : OfConnection k.params
   pub recorded : CrossRecorded k.params k.packets
-  pub client : Sent k.params k.packets Client k.client
-  pub server : Sent k.params k.packets Server k.server
-  pub few_packets : length k.packets ≤ most_packets
-  pub few_client : length k.client ≤ most_sent
-  pub few_server : length k.server ≤ most_sent
+  pub sent : AreSent k.params k.packets k.client k.server
 
 -- these are the sent lists of so many packets
 abbrev pub AreSentLists : Parameters → ℕ → List FirstCopy → List FirstCopy → Type 0

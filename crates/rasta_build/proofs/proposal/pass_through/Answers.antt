@@ -12,8 +12,8 @@ loop-init g c = ap (λ (t : Pass). Ok t) (sym c.new-pass.ensures)
 pub explain_next-requires : goal.explain_next-requires
 explain_next-requires g c κs =
     let b = are_bound c.args.p.now c.args.packets (g.S.SentList.content c.args.client.now) (g.S.SentList.content c.args.server.now) c.loop.counter c.loop.pass c.requires c.loop.invariant in
-    let fc = c.requires.2.few_client in
-    let fs = c.requires.2.few_server in
+    let fc = c.requires.2.sent.few_client in
+    let fs = c.requires.2.sent.few_server in
     ((refl, tt), ((b.own_params, b.other_params), ((b.own_accepted, b.other_accepted), (omega (arith, fc), omega (arith, fs)))))
 
 pub returns-in_err-explain_next-clause-err : goal.returns-in_err-explain_next-clause-err

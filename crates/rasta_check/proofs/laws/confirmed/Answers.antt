@@ -57,4 +57,4 @@ pub returns : goal.returns
 returns c p ws w side r within =
     let g = all_held p ws w side r within in
     let peer = end_of w (other_side side) in
-    confirms p (end_of w side) peer (station_of w side).taken g.mine (numbered_once peer.made (few_made p w within (other_side side)) g.theirs.list.numbered)
+    confirms p (end_of w side) peer (station_of w side).taken g.mine.held (numbered_once peer.made (few_made p w within (other_side side)) g.theirs.held.list.numbered)

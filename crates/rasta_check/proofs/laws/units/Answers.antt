@@ -11,4 +11,4 @@ conveys : (e peer : EndState) → Valued e → ConveysAll e peer
 conveys e peer h ended owed = bare_rest (jump e) (last_of (values e)) e.offered e.owed owed (h.due ended)
 
 pub returns : goal.returns
-returns c p ws w side r within = conveys (end_of w side) (end_of w (other_side side)) (all_held p ws w side r within).values
+returns c p ws w side r within = conveys (end_of w side) (end_of w (other_side side)) (all_held p ws w side r within).mine.values
