@@ -24,7 +24,7 @@ use Rattle.rasta_end.specs.TakeRule.{effect, take_row, is_ahead}
 use Rattle.rasta_end.proofs.MakeTests.{no_test}
 use Rattle.rasta_check.specs.Capture.Crossing.{FirstCopy}
 use Rattle.rasta_check.proofs.Model.PassedTests.{passed, cs_is, Passed}
-use Rattle.rasta_check.proofs.Model.MakeRows.{Making, opening, response, first_beat, answer, again, ask, beat, fresh, bye, expired, MadeBy, made_by}
+use Rattle.rasta_check.proofs.Model.MakeRows.{Making, opening, MadeBy, made_by}
 use Rattle.rasta_check.proofs.Model.TakeRows.{row_known}
 use Rattle.rasta_check.proofs.Model.Counts.{number}
 use Rattle.rasta_check.proofs.Model.SequenceNumbers.{Numbered}

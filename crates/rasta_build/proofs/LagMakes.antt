@@ -17,13 +17,13 @@ use Rattle.rasta_end.specs.declared.why.Why.{Why}
 use Rattle.rasta_end.specs.declared.why.Why.TheVariants.{Bye, Expired}
 use Rattle.rasta_end.specs.declared.make_row.MakeRow.{MakeRow}
 use Rattle.rasta_end.specs.declared.make_row.MakeRow.TheVariants.{Leaves, TimesOut}
-use Rattle.rasta_end.specs.State.{Made, EndState, ahead_by, first_sn, is_owing, is_closed, is_active, is_connected, is_flowing, wrapped, reason_of, content_of}
+use Rattle.rasta_end.specs.State.{Made, EndState, ahead_by, first_sn, is_owing, is_closed, is_active, is_flowing, wrapped, reason_of, content_of}
 use Rattle.rasta_end.specs.MakeRule.{make_fault, has_ended, row_of, make_row, is_refused_row, is_owing_else, is_next_sn, differs, is_judged, confirms_last, confirms_a_time, is_past, is_early, is_expired, after_make, phase_after}
 use Rattle.rasta_end.specs.TakeRule.{effect, take_row}
 use Rattle.rasta_end.proofs.MakeTests.{no_test}
 use Rattle.rasta_check.specs.Capture.Crossing.{FirstCopy}
-use Rattle.rasta_check.proofs.Model.PassedTests.{passed, Passed}
-use Rattle.rasta_check.proofs.Model.MakeRows.{Making, opening, response, first_beat, answer, again, ask, beat, fresh, bye, expired, made_by, after_row, new_made}
+use Rattle.rasta_check.proofs.Model.PassedTests.{passed}
+use Rattle.rasta_check.proofs.Model.MakeRows.{Making, opening, answer, ask, bye, expired, made_by, after_row, new_made}
 use Rattle.rasta_check.proofs.Model.TakeRows.{row_known}
 use Rattle.rasta_check.proofs.Model.SequenceNumbers.{Numbered}
 use Rattle.rasta_check.proofs.Model.NamedPositions.{SnIs}

@@ -6,7 +6,6 @@ use Rattle.rasta_pcap.specs.declared.fault.Side.{Side}
 use Rattle.rasta_pdu.specs.Params.{Parameters}
 use Rattle.rasta_pdu.specs.Pdu.{SafetyPdu, is_kind}
 use Rattle.rasta_end.specs.declared.take_row.TakeRow.{TakeRow}
-use Rattle.rasta_end.specs.declared.take_row.TakeRow.TheVariants.{Opened, Answered, FirstHeartbeat, InSequence, ResentInSequence, Resumed, Requested}
 use Rattle.rasta_end.specs.State.{Made, EndState, is_owing, is_retr_req}
 use Rattle.rasta_end.specs.TakeRule.{effect, take_row, take_fault}
 use Rattle.rasta_check.specs.Capture.Crossing.{FirstCopy}

@@ -1,10 +1,8 @@
 -- A builder's end follows a station of a run.
 use Rattle.std.proofs.Common.{◌≡◌, ℕ, suc, ◌^◌, ◌<◌, ◌≤◌, ◌⊎◌, Bool, true, false, List, [], ◌∷◌, length, Option, Some, None, refl, ap, sym, ◌∙◌, arith, inl, inr, subst, ⊎_elim, cond}
-use Rattle.std.specs.Prelude.{if◌then◌else◌, not, ◌&&◌, ◌||◌, ◌==◌, map, filter, is_some, slice_get}
-use Rattle.std.proofs.lemmas.Bool.Decides.{nat_tests}
+use Rattle.std.specs.Prelude.{not, ◌&&◌, ◌||◌, ◌==◌, map, filter, is_some, slice_get}
 use Rattle.rasta_pcap.specs.declared.fault.Side.{Side}
 use Rattle.rasta_pcap.specs.declared.fault.Side.TheVariants.{Client, Server}
-use Rattle.rasta_pcap.specs.Fault.{reply_owed, past_deadline}
 use Rattle.rasta_pdu.specs.Params.{Parameters}
 use Rattle.rasta_pdu.specs.Pdu.{SafetyPdu, is_kind}
 use Rattle.rasta_pdu.specs.declared.kind.Kind.{Kind}
@@ -16,13 +14,13 @@ use Rattle.rasta_end.specs.declared.why.Why.{Why}
 use Rattle.rasta_end.specs.declared.make_row.MakeRow.{MakeRow}
 use Rattle.rasta_end.specs.State.{Made, EndState, first_sn, is_owing, is_closed, is_client, is_start, is_active, is_connected, is_retr_req, content_of}
 use Rattle.rasta_end.specs.Starts.{start_of}
-use Rattle.rasta_end.specs.MakeRule.{first_that_holds, make_fault, has_ended, is_past, contents, after_make, phase_after}
+use Rattle.rasta_end.specs.MakeRule.{make_fault, has_ended, contents, after_make, phase_after}
 use Rattle.rasta_end.specs.TakeRule.{effect_by, take_row, after_take, take_fault, is_in, is_ahead, is_valid}
 use Rattle.rasta_end.proofs.MakeTests.{no_test}
 use Rattle.rasta_check.proofs.Script.ScriptsOfRuns.{earlier}
 use Rattle.rasta_check.specs.Capture.Crossing.{FirstCopy}
 use Rattle.rasta_check.proofs.Model.PassedTests.{passed}
-use Rattle.rasta_check.proofs.Model.MakeRows.{Making, opening, response, first_beat, answer, again, ask, beat, fresh, bye, expired, made_by, after_row, new_made}
+use Rattle.rasta_check.proofs.Model.MakeRows.{Making, opening, answer, again, ask, beat, fresh, made_by, after_row, new_made}
 use Rattle.rasta_check.proofs.Model.TakeRows.{closed_row, not_closed, take_leaves}
 use Rattle.rasta_check.proofs.Model.SequenceNumbers.{Numbered}
 use Rattle.rasta_check.proofs.Model.Invariant.{Held}
