@@ -1,3 +1,4 @@
 pub mod Survey
 pub mod Extents
 pub mod Numbers
+pub mod Writing

@@ -1,7 +1,7 @@
 //! A connection that a capture seems to hold.
-ghost use Rattle.std.specs.Prelude.{◌≡◌, IfErr, OnOk};
-ghost use Rattle.rasta_pcap.specs.Devices.{HasFailed};
-ghost use Rattle.rasta_pcap.specs.Fault.{no_memory, write_failed};
+ghost use Rattle.std.specs.Prelude.{◌≡◌, IfErr};
+ghost use Rattle.rasta_pcap.specs.Fault.{no_memory};
+ghost use Rattle.seatmelon_survey.specs.Writing.{AsWritten};
 
 use crate::channel::{ChannelCounts, End, channel_of};
 use crate::draft::write_draft;
@@ -114,9 +114,7 @@ impl Connection {
     ///
     /// Refused by [`Fault::WRITE_FAILED`] alone.
     pub fn write_draft<W: Sink>(&self, writer: &mut W) -> Result<(), Fault>
-        ensures steady { OnOk result (W.failure_count writer.new ≡ W.failure_count writer.old) }
-        ensures err { IfErr result (λ f. (f ≡ write_failed)
-            × HasFailed (W.failure_count writer.old) (W.failure_count writer.new)) }
+        ensures written { AsWritten result (W.failure_count writer.old) (W.failure_count writer.new) }
     {
         write_draft(writer, self)
     }

@@ -1,7 +1,5 @@
 //! The draft of a parameter file.
-ghost use Rattle.std.specs.Prelude.{◌≡◌, IfErr, OnOk};
-ghost use Rattle.rasta_pcap.specs.Fault.{write_failed};
-ghost use Rattle.rasta_pcap.specs.Devices.{HasFailed};
+ghost use Rattle.seatmelon_survey.specs.Writing.{AsWritten};
 
 use crate::channel::{ChannelCounts, reversed};
 use crate::connection::Connection;
@@ -48,9 +46,7 @@ fn roles_in(connection: &Connection) -> Roles<'_> {
 }
 
 fn write_heading<W: Sink>(writer: &mut W, connection: &Connection) -> Result<(), Fault>
-    ensures steady { OnOk result (W.failure_count writer.new ≡ W.failure_count writer.old) }
-    ensures err { IfErr result (λ f. (f ≡ write_failed)
-        × HasFailed (W.failure_count writer.old) (W.failure_count writer.new)) }
+    ensures written { AsWritten result (W.failure_count writer.old) (W.failure_count writer.new) }
 {
     write_parts(
         writer,
@@ -72,9 +68,7 @@ fn write_heading<W: Sink>(writer: &mut W, connection: &Connection) -> Result<(),
 
 // Writes a key with a number.
 fn write_number<W: Sink>(writer: &mut W, key: &'static str, value: u64) -> Result<(), Fault>
-    ensures steady { OnOk result (W.failure_count writer.new ≡ W.failure_count writer.old) }
-    ensures err { IfErr result (λ f. (f ≡ write_failed)
-        × HasFailed (W.failure_count writer.old) (W.failure_count writer.new)) }
+    ensures written { AsWritten result (W.failure_count writer.old) (W.failure_count writer.new) }
 {
     write_parts(
         writer,
@@ -93,9 +87,7 @@ fn write_ids<W: Sink>(
     server: &[Part],
     roles: Roles<'_>,
 ) -> Result<(), Fault>
-    ensures steady { OnOk result (W.failure_count writer.new ≡ W.failure_count writer.old) }
-    ensures err { IfErr result (λ f. (f ≡ write_failed)
-        × HasFailed (W.failure_count writer.old) (W.failure_count writer.new)) }
+    ensures written { AsWritten result (W.failure_count writer.old) (W.failure_count writer.new) }
 {
     write_number(writer, "client_id", u64::from(roles.client.id))?;
     write_parts(writer, client)?;
@@ -109,9 +101,7 @@ fn write_roles<W: Sink>(
     connection: &Connection,
     roles: Roles<'_>,
 ) -> Result<(), Fault>
-    ensures steady { OnOk result (W.failure_count writer.new ≡ W.failure_count writer.old) }
-    ensures err { IfErr result (λ f. (f ≡ write_failed)
-        × HasFailed (W.failure_count writer.old) (W.failure_count writer.new)) }
+    ensures written { AsWritten result (W.failure_count writer.old) (W.failure_count writer.new) }
 {
     if connection.has_opening() {
         let record = Part::Number(u64::from(connection.first_record()));
@@ -150,9 +140,7 @@ fn write_other_lengths<W: Sink>(
     chosen: LengthFit,
     lengths: &[LengthFit; 3],
 ) -> Result<(), Fault>
-    ensures steady { OnOk result (W.failure_count writer.new ≡ W.failure_count writer.old) }
-    ensures err { IfErr result (λ f. (f ≡ write_failed)
-        × HasFailed (W.failure_count writer.old) (W.failure_count writer.new)) }
+    ensures written { AsWritten result (W.failure_count writer.old) (W.failure_count writer.new) }
 {
     for other in lengths {
         write_parts_if(
@@ -176,9 +164,7 @@ fn write_length<W: Sink>(
     lengths: &[LengthFit; 3],
     packets: u64,
 ) -> Result<(), Fault>
-    ensures steady { OnOk result (W.failure_count writer.new ≡ W.failure_count writer.old) }
-    ensures err { IfErr result (λ f. (f ≡ write_failed)
-        × HasFailed (W.failure_count writer.old) (W.failure_count writer.new)) }
+    ensures written { AsWritten result (W.failure_count writer.old) (W.failure_count writer.new) }
 {
     let chosen = likeliest(lengths);
     write_number(writer, key, u64::from(chosen.length))?;
@@ -200,9 +186,7 @@ fn write_length<W: Sink>(
 
 // Writes MD4's own start words, and whether they fit the safety codes.
 fn write_start_words<W: Sink>(writer: &mut W, code: LengthFit) -> Result<(), Fault>
-    ensures steady { OnOk result (W.failure_count writer.new ≡ W.failure_count writer.old) }
-    ensures err { IfErr result (λ f. (f ≡ write_failed)
-        × HasFailed (W.failure_count writer.old) (W.failure_count writer.new)) }
+    ensures written { AsWritten result (W.failure_count writer.old) (W.failure_count writer.new) }
 {
     write_parts(
         writer,
@@ -235,9 +219,7 @@ fn usable(offer: Option<Offer>) -> Option<Offer> {
 
 // Writes the N_sendmax that one end alone offered.
 fn write_offer<W: Sink>(writer: &mut W, name: &'static str, offer: Offer) -> Result<(), Fault>
-    ensures steady { OnOk result (W.failure_count writer.new ≡ W.failure_count writer.old) }
-    ensures err { IfErr result (λ f. (f ≡ write_failed)
-        × HasFailed (W.failure_count writer.old) (W.failure_count writer.new)) }
+    ensures written { AsWritten result (W.failure_count writer.old) (W.failure_count writer.new) }
 {
     write_number(writer, "n_sendmax", u64::from(offer.sendmax))?;
     write_parts(
@@ -254,9 +236,7 @@ fn write_offer<W: Sink>(writer: &mut W, name: &'static str, offer: Offer) -> Res
 
 // Writes what both ends offered: the greater N_sendmax, where they differ.
 fn write_both_offers<W: Sink>(writer: &mut W, client: Offer, server: Offer) -> Result<(), Fault>
-    ensures steady { OnOk result (W.failure_count writer.new ≡ W.failure_count writer.old) }
-    ensures err { IfErr result (λ f. (f ≡ write_failed)
-        × HasFailed (W.failure_count writer.old) (W.failure_count writer.new)) }
+    ensures written { AsWritten result (W.failure_count writer.old) (W.failure_count writer.new) }
 {
     write_number(
         writer,
@@ -282,9 +262,7 @@ fn write_both_offers<W: Sink>(writer: &mut W, client: Offer, server: Offer) -> R
 }
 
 fn write_sendmax<W: Sink>(writer: &mut W, roles: Roles<'_>) -> Result<(), Fault>
-    ensures steady { OnOk result (W.failure_count writer.new ≡ W.failure_count writer.old) }
-    ensures err { IfErr result (λ f. (f ≡ write_failed)
-        × HasFailed (W.failure_count writer.old) (W.failure_count writer.new)) }
+    ensures written { AsWritten result (W.failure_count writer.old) (W.failure_count writer.new) }
 {
     match (usable(roles.client.offer), usable(roles.server.offer)) {
         (Some(client), Some(server)) => write_both_offers(writer, client, server),
@@ -302,9 +280,7 @@ fn write_sendmax<W: Sink>(writer: &mut W, roles: Roles<'_>) -> Result<(), Fault>
 
 // Writes what no packet tells.
 fn write_limits<W: Sink>(writer: &mut W) -> Result<(), Fault>
-    ensures steady { OnOk result (W.failure_count writer.new ≡ W.failure_count writer.old) }
-    ensures err { IfErr result (λ f. (f ≡ write_failed)
-        × HasFailed (W.failure_count writer.old) (W.failure_count writer.new)) }
+    ensures written { AsWritten result (W.failure_count writer.old) (W.failure_count writer.new) }
 {
     write_parts(
         writer,
@@ -317,9 +293,7 @@ fn write_limits<W: Sink>(writer: &mut W) -> Result<(), Fault>
 
 // Writes the records: those of the connection, or only those after a quiet point.
 fn write_window<W: Sink>(writer: &mut W, connection: &Connection) -> Result<(), Fault>
-    ensures steady { OnOk result (W.failure_count writer.new ≡ W.failure_count writer.old) }
-    ensures err { IfErr result (λ f. (f ≡ write_failed)
-        × HasFailed (W.failure_count writer.old) (W.failure_count writer.new)) }
+    ensures written { AsWritten result (W.failure_count writer.old) (W.failure_count writer.new) }
 {
     match connection.quiet.earliest() {
         Some(point) => {
@@ -344,9 +318,7 @@ fn write_window<W: Sink>(writer: &mut W, connection: &Connection) -> Result<(), 
 
 // Writes a channel as a table.
 fn write_table<W: Sink>(writer: &mut W, channel: Channel, record: u32) -> Result<(), Fault>
-    ensures steady { OnOk result (W.failure_count writer.new ≡ W.failure_count writer.old) }
-    ensures err { IfErr result (λ f. (f ≡ write_failed)
-        × HasFailed (W.failure_count writer.old) (W.failure_count writer.new)) }
+    ensures written { AsWritten result (W.failure_count writer.old) (W.failure_count writer.new) }
 {
     let seen = Part::Number(u64::from(record));
     write_parts(
@@ -367,9 +339,7 @@ fn write_table<W: Sink>(writer: &mut W, channel: Channel, record: u32) -> Result
 
 // Writes a channel as a comment.
 fn write_left_out<W: Sink>(writer: &mut W, channel: Channel, record: u32) -> Result<(), Fault>
-    ensures steady { OnOk result (W.failure_count writer.new ≡ W.failure_count writer.old) }
-    ensures err { IfErr result (λ f. (f ≡ write_failed)
-        × HasFailed (W.failure_count writer.old) (W.failure_count writer.new)) }
+    ensures written { AsWritten result (W.failure_count writer.old) (W.failure_count writer.new) }
 {
     write_parts(
         writer,
@@ -397,9 +367,7 @@ fn write_channels<W: Sink>(
     channels: &[ChannelCounts],
     is_first_client: bool,
 ) -> Result<(), Fault>
-    ensures steady { OnOk result (W.failure_count writer.new ≡ W.failure_count writer.old) }
-    ensures err { IfErr result (λ f. (f ≡ write_failed)
-        × HasFailed (W.failure_count writer.old) (W.failure_count writer.new)) }
+    ensures written { AsWritten result (W.failure_count writer.old) (W.failure_count writer.new) }
 {
     let mut written = 0u64;
     for (place, counts) in channels.iter().enumerate() {
@@ -420,9 +388,7 @@ fn write_channels<W: Sink>(
 
 /// Writes a parameter file for a connection, with comments.
 pub fn write_draft<W: Sink>(writer: &mut W, connection: &Connection) -> Result<(), Fault>
-    ensures steady { OnOk result (W.failure_count writer.new ≡ W.failure_count writer.old) }
-    ensures err { IfErr result (λ f. (f ≡ write_failed)
-        × HasFailed (W.failure_count writer.old) (W.failure_count writer.new)) }
+    ensures written { AsWritten result (W.failure_count writer.old) (W.failure_count writer.new) }
 {
     let roles = roles_in(connection);
     let lengths = connection.lengths;

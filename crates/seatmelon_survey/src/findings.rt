@@ -1,7 +1,7 @@
 //! What was found in a capture.
 ghost use Rattle.std.specs.Prelude.{◌≡◌, IfErr, OnOk};
-ghost use Rattle.rasta_pcap.specs.Fault.{no_memory, write_failed};
-ghost use Rattle.rasta_pcap.specs.Devices.{HasFailed};
+ghost use Rattle.rasta_pcap.specs.Fault.{no_memory};
+ghost use Rattle.seatmelon_survey.specs.Writing.{AsWritten};
 
 use crate::connection::Connection;
 use crate::lengths::Trials;
@@ -107,9 +107,7 @@ impl Survey {
     ///
     /// Refused by [`Fault::WRITE_FAILED`] alone.
     pub fn write<W: Sink>(&self, writer: &mut W) -> Result<(), Fault>
-        ensures steady { OnOk result (W.failure_count writer.new ≡ W.failure_count writer.old) }
-        ensures err { IfErr result (λ f. (f ≡ write_failed)
-            × HasFailed (W.failure_count writer.old) (W.failure_count writer.new)) }
+        ensures written { AsWritten result (W.failure_count writer.old) (W.failure_count writer.new) }
     {
         write_summary(writer, self)?;
         for (place, connection) in self.connections.iter().enumerate() {

@@ -1,7 +1,5 @@
 //! The quiet points of a draft.
-ghost use Rattle.std.specs.Prelude.{◌≡◌, IfErr, OnOk};
-ghost use Rattle.rasta_pcap.specs.Fault.{write_failed};
-ghost use Rattle.rasta_pcap.specs.Devices.{HasFailed};
+ghost use Rattle.seatmelon_survey.specs.Writing.{AsWritten};
 
 use crate::quiet::{Candidate, LastData, LastSent, Point};
 use crate::text::{Part, write_parts, write_parts_if};
@@ -20,9 +18,7 @@ fn write_end<W: Sink>(
     name: &'static str,
     last: LastSent,
 ) -> Result<(), Fault>
-    ensures steady { OnOk result (W.failure_count writer.new ≡ W.failure_count writer.old) }
-    ensures err { IfErr result (λ f. (f ≡ write_failed)
-        × HasFailed (W.failure_count writer.old) (W.failure_count writer.new)) }
+    ensures written { AsWritten result (W.failure_count writer.old) (W.failure_count writer.new) }
 {
     write_parts(
         writer,
@@ -66,9 +62,7 @@ fn write_ends<W: Sink>(
     point: &Point,
     is_first_client: bool,
 ) -> Result<(), Fault>
-    ensures steady { OnOk result (W.failure_count writer.new ≡ W.failure_count writer.old) }
-    ensures err { IfErr result (λ f. (f ≡ write_failed)
-        × HasFailed (W.failure_count writer.old) (W.failure_count writer.new)) }
+    ensures written { AsWritten result (W.failure_count writer.old) (W.failure_count writer.new) }
 {
     if is_first_client {
         write_end(writer, before, "client", point.first)?;
@@ -85,9 +79,7 @@ fn write_proposal<W: Sink>(
     point: &Point,
     is_first_client: bool,
 ) -> Result<(), Fault>
-    ensures steady { OnOk result (W.failure_count writer.new ≡ W.failure_count writer.old) }
-    ensures err { IfErr result (λ f. (f ≡ write_failed)
-        × HasFailed (W.failure_count writer.old) (W.failure_count writer.new)) }
+    ensures written { AsWritten result (W.failure_count writer.old) (W.failure_count writer.new) }
 {
     write_parts(
         writer,
@@ -109,9 +101,7 @@ fn write_alternative<W: Sink>(
     point: &Point,
     is_first_client: bool,
 ) -> Result<(), Fault>
-    ensures steady { OnOk result (W.failure_count writer.new ≡ W.failure_count writer.old) }
-    ensures err { IfErr result (λ f. (f ≡ write_failed)
-        × HasFailed (W.failure_count writer.old) (W.failure_count writer.new)) }
+    ensures written { AsWritten result (W.failure_count writer.old) (W.failure_count writer.new) }
 {
     write_parts(
         writer,
@@ -130,9 +120,7 @@ pub fn write_quiet_points<W: Sink>(
     candidates: &[Candidate],
     is_first_client: bool,
 ) -> Result<(), Fault>
-    ensures steady { OnOk result (W.failure_count writer.new ≡ W.failure_count writer.old) }
-    ensures err { IfErr result (λ f. (f ≡ write_failed)
-        × HasFailed (W.failure_count writer.old) (W.failure_count writer.new)) }
+    ensures written { AsWritten result (W.failure_count writer.old) (W.failure_count writer.new) }
 {
     let mut written = 0u64;
     for candidate in candidates {

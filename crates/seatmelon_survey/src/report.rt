@@ -1,7 +1,5 @@
 //! The text of a survey.
-ghost use Rattle.std.specs.Prelude.{◌≡◌, IfErr, OnOk};
-ghost use Rattle.rasta_pcap.specs.Fault.{write_failed};
-ghost use Rattle.rasta_pcap.specs.Devices.{HasFailed};
+ghost use Rattle.seatmelon_survey.specs.Writing.{AsWritten};
 
 use crate::channel::ChannelCounts;
 use crate::connection::Connection;
@@ -15,9 +13,7 @@ use rasta_pcap::{Fault, Sink};
 
 /// Writes how much was read.
 pub fn write_summary<W: Sink>(writer: &mut W, survey: &Survey) -> Result<(), Fault>
-    ensures steady { OnOk result (W.failure_count writer.new ≡ W.failure_count writer.old) }
-    ensures err { IfErr result (λ f. (f ≡ write_failed)
-        × HasFailed (W.failure_count writer.old) (W.failure_count writer.new)) }
+    ensures written { AsWritten result (W.failure_count writer.old) (W.failure_count writer.new) }
 {
     let records = u64::from(survey.records);
     let passed_over = records.saturating_sub(survey.packets);
@@ -69,9 +65,7 @@ fn names_in(connection: &Connection) -> EndNames {
 
 // Writes the id of an end, and what it said of itself at the opening.
 fn write_id<W: Sink>(writer: &mut W, name: &'static str, party: &Party) -> Result<(), Fault>
-    ensures steady { OnOk result (W.failure_count writer.new ≡ W.failure_count writer.old) }
-    ensures err { IfErr result (λ f. (f ≡ write_failed)
-        × HasFailed (W.failure_count writer.old) (W.failure_count writer.new)) }
+    ensures written { AsWritten result (W.failure_count writer.old) (W.failure_count writer.new) }
 {
     write_parts(
         writer,
@@ -98,9 +92,7 @@ fn write_id<W: Sink>(writer: &mut W, name: &'static str, party: &Party) -> Resul
 
 // Writes when the first and the last record were captured.
 fn write_times<W: Sink>(writer: &mut W, connection: &Connection) -> Result<(), Fault>
-    ensures steady { OnOk result (W.failure_count writer.new ≡ W.failure_count writer.old) }
-    ensures err { IfErr result (λ f. (f ≡ write_failed)
-        × HasFailed (W.failure_count writer.old) (W.failure_count writer.new)) }
+    ensures written { AsWritten result (W.failure_count writer.old) (W.failure_count writer.new) }
 {
     let (Some(first), Some(last)) = (connection.first_time, connection.last_time) else {
         return Ok(());
@@ -119,9 +111,7 @@ fn write_times<W: Sink>(writer: &mut W, connection: &Connection) -> Result<(), F
 
 // Writes where the connection stands in the capture, and whether its opening does.
 fn write_extent<W: Sink>(writer: &mut W, connection: &Connection) -> Result<(), Fault>
-    ensures steady { OnOk result (W.failure_count writer.new ≡ W.failure_count writer.old) }
-    ensures err { IfErr result (λ f. (f ≡ write_failed)
-        × HasFailed (W.failure_count writer.old) (W.failure_count writer.new)) }
+    ensures written { AsWritten result (W.failure_count writer.old) (W.failure_count writer.new) }
 {
     write_parts(
         writer,
@@ -149,9 +139,7 @@ fn write_extent<W: Sink>(writer: &mut W, connection: &Connection) -> Result<(), 
 
 // Writes a disconnection request of an end.
 fn write_ending<W: Sink>(writer: &mut W, name: &'static str, party: &Party) -> Result<(), Fault>
-    ensures steady { OnOk result (W.failure_count writer.new ≡ W.failure_count writer.old) }
-    ensures err { IfErr result (λ f. (f ≡ write_failed)
-        × HasFailed (W.failure_count writer.old) (W.failure_count writer.new)) }
+    ensures written { AsWritten result (W.failure_count writer.old) (W.failure_count writer.new) }
 {
     let Some(ending) = party.ending else {
         return Ok(());
@@ -177,9 +165,7 @@ fn write_channel<W: Sink>(
     names: EndNames,
     counts: &ChannelCounts,
 ) -> Result<(), Fault>
-    ensures steady { OnOk result (W.failure_count writer.new ≡ W.failure_count writer.old) }
-    ensures err { IfErr result (λ f. (f ≡ write_failed)
-        × HasFailed (W.failure_count writer.old) (W.failure_count writer.new)) }
+    ensures written { AsWritten result (W.failure_count writer.old) (W.failure_count writer.new) }
 {
     write_parts(
         writer,
@@ -208,9 +194,7 @@ fn write_channels<W: Sink>(
     names: EndNames,
     channels: &[ChannelCounts],
 ) -> Result<(), Fault>
-    ensures steady { OnOk result (W.failure_count writer.new ≡ W.failure_count writer.old) }
-    ensures err { IfErr result (λ f. (f ≡ write_failed)
-        × HasFailed (W.failure_count writer.old) (W.failure_count writer.new)) }
+    ensures written { AsWritten result (W.failure_count writer.old) (W.failure_count writer.new) }
 {
     for (place, counts) in channels.iter().enumerate() {
         write_channel(writer, place as u64, names, counts)?;
@@ -225,9 +209,7 @@ fn write_code_length<W: Sink>(
     count: FitCount,
     packets: u64,
 ) -> Result<(), Fault>
-    ensures steady { OnOk result (W.failure_count writer.new ≡ W.failure_count writer.old) }
-    ensures err { IfErr result (λ f. (f ≡ write_failed)
-        × HasFailed (W.failure_count writer.old) (W.failure_count writer.new)) }
+    ensures written { AsWritten result (W.failure_count writer.old) (W.failure_count writer.new) }
 {
     if count.forms == 0 {
         return Ok(());
@@ -262,9 +244,7 @@ fn write_check_length<W: Sink>(
     count: u64,
     packets: u64,
 ) -> Result<(), Fault>
-    ensures steady { OnOk result (W.failure_count writer.new ≡ W.failure_count writer.old) }
-    ensures err { IfErr result (λ f. (f ≡ write_failed)
-        × HasFailed (W.failure_count writer.old) (W.failure_count writer.new)) }
+    ensures written { AsWritten result (W.failure_count writer.old) (W.failure_count writer.new) }
 {
     write_parts_if(
         writer,
@@ -282,9 +262,7 @@ fn write_check_length<W: Sink>(
 }
 
 fn write_lengths<W: Sink>(writer: &mut W, lengths: &Lengths) -> Result<(), Fault>
-    ensures steady { OnOk result (W.failure_count writer.new ≡ W.failure_count writer.old) }
-    ensures err { IfErr result (λ f. (f ≡ write_failed)
-        × HasFailed (W.failure_count writer.old) (W.failure_count writer.new)) }
+    ensures written { AsWritten result (W.failure_count writer.old) (W.failure_count writer.new) }
 {
     write_code_length(writer, 0, lengths.no_code, lengths.pdus)?;
     write_code_length(writer, 8, lengths.short_code, lengths.pdus)?;
@@ -296,9 +274,7 @@ fn write_lengths<W: Sink>(writer: &mut W, lengths: &Lengths) -> Result<(), Fault
 
 // Writes how many PDUs of each type an end sent, without copies.
 fn write_kinds<W: Sink>(writer: &mut W, name: &'static str, party: &Party) -> Result<(), Fault>
-    ensures steady { OnOk result (W.failure_count writer.new ≡ W.failure_count writer.old) }
-    ensures err { IfErr result (λ f. (f ≡ write_failed)
-        × HasFailed (W.failure_count writer.old) (W.failure_count writer.new)) }
+    ensures written { AsWritten result (W.failure_count writer.old) (W.failure_count writer.new) }
 {
     for kind in KINDS {
         let count = party.kinds.count(kind);
@@ -324,9 +300,7 @@ fn write_gap<W: Sink>(
     name: &'static str,
     counts: &NumberCounts,
 ) -> Result<(), Fault>
-    ensures steady { OnOk result (W.failure_count writer.new ≡ W.failure_count writer.old) }
-    ensures err { IfErr result (λ f. (f ≡ write_failed)
-        × HasFailed (W.failure_count writer.old) (W.failure_count writer.new)) }
+    ensures written { AsWritten result (W.failure_count writer.old) (W.failure_count writer.new) }
 {
     let Some(first) = counts.first_gap else {
         return Ok(());
@@ -356,9 +330,7 @@ fn write_count<W: Sink>(
     what: &'static str,
     count: u64,
 ) -> Result<(), Fault>
-    ensures steady { OnOk result (W.failure_count writer.new ≡ W.failure_count writer.old) }
-    ensures err { IfErr result (λ f. (f ≡ write_failed)
-        × HasFailed (W.failure_count writer.old) (W.failure_count writer.new)) }
+    ensures written { AsWritten result (W.failure_count writer.old) (W.failure_count writer.new) }
 {
     write_parts_if(
         writer,
@@ -379,9 +351,7 @@ fn write_repeats<W: Sink>(
     name: &'static str,
     counts: &NumberCounts,
 ) -> Result<(), Fault>
-    ensures steady { OnOk result (W.failure_count writer.new ≡ W.failure_count writer.old) }
-    ensures err { IfErr result (λ f. (f ≡ write_failed)
-        × HasFailed (W.failure_count writer.old) (W.failure_count writer.new)) }
+    ensures written { AsWritten result (W.failure_count writer.old) (W.failure_count writer.new) }
 {
     write_count(writer, name, "'s numbers that came late: ", counts.late)?;
     write_count(writer, name, "'s copies: ", counts.copies)?;
@@ -396,9 +366,7 @@ fn write_repeats<W: Sink>(
 
 // Writes what an end sent.
 fn write_sent<W: Sink>(writer: &mut W, name: &'static str, party: &Party) -> Result<(), Fault>
-    ensures steady { OnOk result (W.failure_count writer.new ≡ W.failure_count writer.old) }
-    ensures err { IfErr result (λ f. (f ≡ write_failed)
-        × HasFailed (W.failure_count writer.old) (W.failure_count writer.new)) }
+    ensures written { AsWritten result (W.failure_count writer.old) (W.failure_count writer.new) }
 {
     let counts = party.numbers.counts();
     write_kinds(writer, name, party)?;
@@ -412,9 +380,7 @@ fn write_frame<W: Sink>(
     names: EndNames,
     connection: &Connection,
 ) -> Result<(), Fault>
-    ensures steady { OnOk result (W.failure_count writer.new ≡ W.failure_count writer.old) }
-    ensures err { IfErr result (λ f. (f ≡ write_failed)
-        × HasFailed (W.failure_count writer.old) (W.failure_count writer.new)) }
+    ensures written { AsWritten result (W.failure_count writer.old) (W.failure_count writer.new) }
 {
     write_id(writer, names.first, &connection.first)?;
     write_id(writer, names.second, &connection.second)?;
@@ -432,9 +398,7 @@ pub fn write_connection<W: Sink>(
     place: u64,
     connection: &Connection,
 ) -> Result<(), Fault>
-    ensures steady { OnOk result (W.failure_count writer.new ≡ W.failure_count writer.old) }
-    ensures err { IfErr result (λ f. (f ≡ write_failed)
-        × HasFailed (W.failure_count writer.old) (W.failure_count writer.new)) }
+    ensures written { AsWritten result (W.failure_count writer.old) (W.failure_count writer.new) }
 {
     let names = names_in(connection);
     write_parts(

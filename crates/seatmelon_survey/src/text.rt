@@ -1,7 +1,5 @@
 //! Lines of plain text.
-ghost use Rattle.std.specs.Prelude.{◌≡◌, IfErr, OnOk};
-ghost use Rattle.rasta_pcap.specs.Fault.{write_failed};
-ghost use Rattle.rasta_pcap.specs.Devices.{HasFailed};
+ghost use Rattle.seatmelon_survey.specs.Writing.{AsWritten};
 
 use crate::time::write_time;
 use itoa::Buffer;
@@ -28,9 +26,7 @@ pub enum Part {
 }
 
 fn write_number<W: Sink>(writer: &mut W, n: u64) -> Result<(), Fault>
-    ensures steady { OnOk result (W.failure_count writer.new ≡ W.failure_count writer.old) }
-    ensures err { IfErr result (λ f. (f ≡ write_failed)
-        × HasFailed (W.failure_count writer.old) (W.failure_count writer.new)) }
+    ensures written { AsWritten result (W.failure_count writer.old) (W.failure_count writer.new) }
 {
     let mut buffer = Buffer::new();
     write_all(writer, buffer.format(n).as_bytes())
@@ -38,9 +34,7 @@ fn write_number<W: Sink>(writer: &mut W, n: u64) -> Result<(), Fault>
 
 // Writes an address, with dots between its bytes.
 fn write_address<W: Sink>(writer: &mut W, address: [u8; 4]) -> Result<(), Fault>
-    ensures steady { OnOk result (W.failure_count writer.new ≡ W.failure_count writer.old) }
-    ensures err { IfErr result (λ f. (f ≡ write_failed)
-        × HasFailed (W.failure_count writer.old) (W.failure_count writer.new)) }
+    ensures written { AsWritten result (W.failure_count writer.old) (W.failure_count writer.new) }
 {
     let [first, second, third, fourth] = address;
     write_number(writer, u64::from(first))?;
@@ -53,9 +47,7 @@ fn write_address<W: Sink>(writer: &mut W, address: [u8; 4]) -> Result<(), Fault>
 }
 
 fn write_endpoint<W: Sink>(writer: &mut W, endpoint: Endpoint) -> Result<(), Fault>
-    ensures steady { OnOk result (W.failure_count writer.new ≡ W.failure_count writer.old) }
-    ensures err { IfErr result (λ f. (f ≡ write_failed)
-        × HasFailed (W.failure_count writer.old) (W.failure_count writer.new)) }
+    ensures written { AsWritten result (W.failure_count writer.old) (W.failure_count writer.new) }
 {
     write_address(writer, endpoint.address)?;
     write_all(writer, b":")?;
@@ -63,9 +55,7 @@ fn write_endpoint<W: Sink>(writer: &mut W, endpoint: Endpoint) -> Result<(), Fau
 }
 
 fn write_part<W: Sink>(writer: &mut W, part: Part) -> Result<(), Fault>
-    ensures steady { OnOk result (W.failure_count writer.new ≡ W.failure_count writer.old) }
-    ensures err { IfErr result (λ f. (f ≡ write_failed)
-        × HasFailed (W.failure_count writer.old) (W.failure_count writer.new)) }
+    ensures written { AsWritten result (W.failure_count writer.old) (W.failure_count writer.new) }
 {
     match part {
         Part::Words(words) => write_all(writer, words.as_bytes()),
@@ -78,9 +68,7 @@ fn write_part<W: Sink>(writer: &mut W, part: Part) -> Result<(), Fault>
 
 /// Writes parts, one after the other.
 pub fn write_parts<W: Sink>(writer: &mut W, parts: &[Part]) -> Result<(), Fault>
-    ensures steady { OnOk result (W.failure_count writer.new ≡ W.failure_count writer.old) }
-    ensures err { IfErr result (λ f. (f ≡ write_failed)
-        × HasFailed (W.failure_count writer.old) (W.failure_count writer.new)) }
+    ensures written { AsWritten result (W.failure_count writer.old) (W.failure_count writer.new) }
 {
     for part in parts {
         write_part(writer, *part)?;
@@ -90,9 +78,7 @@ pub fn write_parts<W: Sink>(writer: &mut W, parts: &[Part]) -> Result<(), Fault>
 
 /// Writes parts if there is a reason to.
 pub fn write_parts_if<W: Sink>(writer: &mut W, applies: bool, parts: &[Part]) -> Result<(), Fault>
-    ensures steady { OnOk result (W.failure_count writer.new ≡ W.failure_count writer.old) }
-    ensures err { IfErr result (λ f. (f ≡ write_failed)
-        × HasFailed (W.failure_count writer.old) (W.failure_count writer.new)) }
+    ensures written { AsWritten result (W.failure_count writer.old) (W.failure_count writer.new) }
 {
     if applies {
         write_parts(writer, parts)

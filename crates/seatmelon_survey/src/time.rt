@@ -1,7 +1,5 @@
 //! Times of capture, as text.
-ghost use Rattle.std.specs.Prelude.{◌≡◌, IfErr, OnOk};
-ghost use Rattle.rasta_pcap.specs.Fault.{write_failed};
-ghost use Rattle.rasta_pcap.specs.Devices.{HasFailed};
+ghost use Rattle.seatmelon_survey.specs.Writing.{AsWritten};
 
 use itoa::Buffer;
 use jiff_core::civil::Date;
@@ -21,9 +19,7 @@ const ZEROS: [u8; 9] = *b"000000000";
 
 // Writes a number with zeros before it, so that it has that many digits at least.
 fn write_digits<W: Sink>(writer: &mut W, n: u32, width: usize) -> Result<(), Fault>
-    ensures steady { OnOk result (W.failure_count writer.new ≡ W.failure_count writer.old) }
-    ensures err { IfErr result (λ f. (f ≡ write_failed)
-        × HasFailed (W.failure_count writer.old) (W.failure_count writer.new)) }
+    ensures written { AsWritten result (W.failure_count writer.old) (W.failure_count writer.new) }
 {
     let mut buffer = Buffer::new();
     let digits = buffer.format(n).as_bytes();
@@ -33,9 +29,7 @@ fn write_digits<W: Sink>(writer: &mut W, n: u32, width: usize) -> Result<(), Fau
 }
 
 fn write_date<W: Sink>(writer: &mut W, date: Date) -> Result<(), Fault>
-    ensures steady { OnOk result (W.failure_count writer.new ≡ W.failure_count writer.old) }
-    ensures err { IfErr result (λ f. (f ≡ write_failed)
-        × HasFailed (W.failure_count writer.old) (W.failure_count writer.new)) }
+    ensures written { AsWritten result (W.failure_count writer.old) (W.failure_count writer.new) }
 {
     write_digits(writer, u32::from(date.year.unsigned_abs()), 4)?;
     write_all(writer, b"-")?;
@@ -46,9 +40,7 @@ fn write_date<W: Sink>(writer: &mut W, date: Date) -> Result<(), Fault>
 
 // Writes the time of day after so many seconds.
 fn write_time_of_day<W: Sink>(writer: &mut W, seconds: u32) -> Result<(), Fault>
-    ensures steady { OnOk result (W.failure_count writer.new ≡ W.failure_count writer.old) }
-    ensures err { IfErr result (λ f. (f ≡ write_failed)
-        × HasFailed (W.failure_count writer.old) (W.failure_count writer.new)) }
+    ensures written { AsWritten result (W.failure_count writer.old) (W.failure_count writer.new) }
 {
     write_digits(writer, seconds / HOUR, 2)?;
     write_all(writer, b":")?;
@@ -67,9 +59,7 @@ fn digits_of(unit: FractionUnit) -> usize {
 
 /// Writes date and time of day in UTC, as `2024-11-24 12:00:00.000000`.
 pub fn write_time<W: Sink>(writer: &mut W, time: CaptureTime) -> Result<(), Fault>
-    ensures steady { OnOk result (W.failure_count writer.new ≡ W.failure_count writer.old) }
-    ensures err { IfErr result (λ f. (f ≡ write_failed)
-        × HasFailed (W.failure_count writer.old) (W.failure_count writer.new)) }
+    ensures written { AsWritten result (W.failure_count writer.old) (W.failure_count writer.new) }
 {
     write_date(
         writer,
