@@ -7,7 +7,7 @@ use crate::lengths::{LengthFit, likeliest};
 use crate::packet::Offer;
 use crate::party::Party;
 use crate::quiet_draft::write_quiet_points;
-use crate::text::{Part, write_parts, write_parts_if};
+use crate::text::{Part, numbered, write_parts, write_parts_if, write_words};
 use rasta_pcap::{Fault, Sink};
 use rasta_pdu::Kind;
 use rasta_udp::Channel;
@@ -104,21 +104,13 @@ fn write_roles<W: Sink>(
     ensures written { AsWritten result (W.failure_count writer.old) (W.failure_count writer.new) }
 {
     if connection.has_opening() {
-        let record = Part::Number(u64::from(connection.first_record()));
-        let request = [
-            Part::Words("sender of the connection request in record "),
-            record,
-            Part::Words("\n"),
-        ];
+        let record = u64::from(connection.first_record());
+        let request = numbered("sender of the connection request in record ", record);
         return write_ids(writer, &request, &[Part::Words("its receiver\n")], roles);
     }
     if let Some(offer) = roles.server.offer {
-        let record = Part::Number(u64::from(offer.record));
-        let response = [
-            Part::Words("sender of the connection response in record "),
-            record,
-            Part::Words("\n"),
-        ];
+        let record = u64::from(offer.record);
+        let response = numbered("sender of the connection response in record ", record);
         return write_ids(
             writer,
             &[Part::Words("receiver of what the server sent\n")],
@@ -181,21 +173,21 @@ fn write_length<W: Sink>(
         ],
     )?;
     write_other_lengths(writer, chosen, lengths)?;
-    write_parts(writer, &[Part::Words("\n")])
+    write_words(writer, "\n")
 }
 
 // Writes MD4's own start words, and whether they fit the safety codes.
 fn write_start_words<W: Sink>(writer: &mut W, code: LengthFit) -> Result<(), Fault>
     ensures written { AsWritten result (W.failure_count writer.old) (W.failure_count writer.new) }
 {
-    write_parts(
+    write_words(
         writer,
-        &[Part::Words("md4_start = \"67452301efcdab8998badcfe10325476\" # ")],
+        "md4_start = \"67452301efcdab8998badcfe10325476\" # ",
     )?;
     if code.length == 0 {
-        return write_parts(
+        return write_words(
             writer,
-            &[Part::Words("MD4's own start words; without a safety code they have no effect\n")],
+            "MD4's own start words; without a safety code they have no effect\n",
         );
     }
     let doubt = [Part::Words("from the engineering data: ")];
@@ -270,9 +262,9 @@ fn write_sendmax<W: Sink>(writer: &mut W, roles: Roles<'_>) -> Result<(), Fault>
         (None, Some(server)) => write_offer(writer, "server", server),
         (None, None) => {
             write_number(writer, "n_sendmax", PLACEHOLDER_SENDMAX)?;
-            write_parts(
+            write_words(
                 writer,
-                &[Part::Words("from the engineering data: no offer of one was captured\n")],
+                "from the engineering data: no offer of one was captured\n",
             )
         }
     }
@@ -295,25 +287,20 @@ fn write_limits<W: Sink>(writer: &mut W) -> Result<(), Fault>
 fn write_window<W: Sink>(writer: &mut W, connection: &Connection) -> Result<(), Fault>
     ensures written { AsWritten result (W.failure_count writer.old) (W.failure_count writer.new) }
 {
-    match connection.quiet.earliest() {
-        Some(point) => {
-            write_number(
-                writer,
-                "first_record",
-                u64::from(point.record).saturating_add(1),
-            )?;
-            write_parts(
-                writer,
-                &[Part::Words("the first record after the quiet point\n")],
-            )?;
-        }
-        None => {
-            write_number(writer, "first_record", u64::from(connection.first_record()))?;
-            write_parts(writer, &[Part::Words("the connection's first packet\n")])?;
-        }
-    }
+    let (first, origin) = match connection.quiet.earliest() {
+        Some(point) => (
+            u64::from(point.record).saturating_add(1),
+            "the first record after the quiet point\n",
+        ),
+        None => (
+            u64::from(connection.first_record()),
+            "the connection's first packet\n",
+        ),
+    };
+    write_number(writer, "first_record", first)?;
+    write_words(writer, origin)?;
     write_number(writer, "last_record", u64::from(connection.last_record()))?;
-    write_parts(writer, &[Part::Words("the connection's last packet\n")])
+    write_words(writer, "the connection's last packet\n")
 }
 
 // Writes a channel as a table.

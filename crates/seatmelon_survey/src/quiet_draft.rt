@@ -2,7 +2,7 @@
 ghost use Rattle.seatmelon_survey.specs.Writing.{AsWritten};
 
 use crate::quiet::{Candidate, LastData, LastSent, Point};
-use crate::text::{Part, write_parts, write_parts_if};
+use crate::text::{Part, numbered, write_parts, write_parts_if};
 use rasta_pcap::{Fault, Sink};
 
 // What stands before the record of an end's last PDU.
@@ -103,13 +103,10 @@ fn write_alternative<W: Sink>(
 ) -> Result<(), Fault>
     ensures written { AsWritten result (W.failure_count writer.old) (W.failure_count writer.new) }
 {
+    let next = u64::from(point.record).saturating_add(1);
     write_parts(
         writer,
-        &[
-            Part::Words("\n# Another quiet point:\n# first_record = "),
-            Part::Number(u64::from(point.record).saturating_add(1)),
-            Part::Words("\n"),
-        ],
+        &numbered("\n# Another quiet point:\n# first_record = ", next),
     )?;
     write_ends(writer, "# ", point, is_first_client)
 }

@@ -8,7 +8,7 @@ use crate::kinds::{KINDS, name_of};
 use crate::lengths::{FitCount, Lengths};
 use crate::numbers::NumberCounts;
 use crate::party::Party;
-use crate::text::{Part, write_parts, write_parts_if};
+use crate::text::{Part, numbered, write_parts, write_parts_if, write_words};
 use rasta_pcap::{Fault, Sink};
 
 /// Writes how much was read.
@@ -29,15 +29,11 @@ pub fn write_summary<W: Sink>(writer: &mut W, survey: &Survey) -> Result<(), Fau
             Part::Words("\n"),
         ],
     )?;
-    write_parts_if(
-        writer,
-        survey.left_out > 0,
-        &[
-            Part::Words("packets of further connections, left out: "),
-            Part::Number(survey.left_out),
-            Part::Words("\n"),
-        ],
-    )?;
+    let left_out = numbered(
+        "packets of further connections, left out: ",
+        survey.left_out,
+    );
+    write_parts_if(writer, survey.left_out > 0, &left_out)?;
     let none = [Part::Words("no packet of a RaSTA connection\n")];
     write_parts_if(writer, survey.connections().is_empty(), &none)
 }
@@ -87,7 +83,7 @@ fn write_id<W: Sink>(writer: &mut W, name: &'static str, party: &Party) -> Resul
             ],
         )?;
     }
-    write_parts(writer, &[Part::Words("\n")])
+    write_words(writer, "\n")
 }
 
 // Writes when the first and the last record were captured.
@@ -125,15 +121,12 @@ fn write_extent<W: Sink>(writer: &mut W, connection: &Connection) -> Result<(), 
     )?;
     write_times(writer, connection)?;
     if !connection.has_opening() {
-        return write_parts(writer, &[Part::Words("  no opening was captured\n")]);
+        return write_words(writer, "  no opening was captured\n");
     }
+    let first = u64::from(connection.first_record());
     write_parts(
         writer,
-        &[
-            Part::Words("  opened by the client at record "),
-            Part::Number(u64::from(connection.first_record())),
-            Part::Words("\n"),
-        ],
+        &numbered("  opened by the client at record ", first),
     )
 }
 
@@ -202,44 +195,10 @@ fn write_channels<W: Sink>(
     Ok(())
 }
 
-// Writes how many packets have the form that a length of the safety code asks for.
-fn write_code_length<W: Sink>(
+// Writes how many packets have the form that a length of a code asks for, unless none has.
+fn write_fit<W: Sink>(
     writer: &mut W,
-    length: u64,
-    count: FitCount,
-    packets: u64,
-) -> Result<(), Fault>
-    ensures written { AsWritten result (W.failure_count writer.old) (W.failure_count writer.new) }
-{
-    if count.forms == 0 {
-        return Ok(());
-    }
-    write_parts(
-        writer,
-        &[
-            Part::Words("  a safety code of "),
-            Part::Number(length),
-            Part::Words(" bytes fits the length of "),
-            Part::Number(count.forms),
-            Part::Words(" of "),
-            Part::Number(packets),
-            Part::Words(" packets\n"),
-        ],
-    )?;
-    write_parts_if(
-        writer,
-        length > 0,
-        &[
-            Part::Words("    MD4's own start words fit "),
-            Part::Number(count.start_words),
-            Part::Words(" of these\n"),
-        ],
-    )
-}
-
-// Writes how many packets leave so many bytes for the check code.
-fn write_check_length<W: Sink>(
-    writer: &mut W,
+    code: &'static str,
     length: u64,
     count: u64,
     packets: u64,
@@ -250,7 +209,9 @@ fn write_check_length<W: Sink>(
         writer,
         count > 0,
         &[
-            Part::Words("  a check code of "),
+            Part::Words("  a "),
+            Part::Words(code),
+            Part::Words(" code of "),
             Part::Number(length),
             Part::Words(" bytes fits the length of "),
             Part::Number(count),
@@ -261,15 +222,36 @@ fn write_check_length<W: Sink>(
     )
 }
 
+// Writes the fit of a length of the safety code, and that of MD4's own start words.
+fn write_code_fit<W: Sink>(
+    writer: &mut W,
+    length: u64,
+    count: FitCount,
+    packets: u64,
+) -> Result<(), Fault>
+    ensures written { AsWritten result (W.failure_count writer.old) (W.failure_count writer.new) }
+{
+    write_fit(writer, "safety", length, count.forms, packets)?;
+    write_parts_if(
+        writer,
+        count.forms > 0 && length > 0,
+        &[
+            Part::Words("    MD4's own start words fit "),
+            Part::Number(count.start_words),
+            Part::Words(" of these\n"),
+        ],
+    )
+}
+
 fn write_lengths<W: Sink>(writer: &mut W, lengths: &Lengths) -> Result<(), Fault>
     ensures written { AsWritten result (W.failure_count writer.old) (W.failure_count writer.new) }
 {
-    write_code_length(writer, 0, lengths.no_code, lengths.pdus)?;
-    write_code_length(writer, 8, lengths.short_code, lengths.pdus)?;
-    write_code_length(writer, 16, lengths.long_code, lengths.pdus)?;
-    write_check_length(writer, 0, lengths.no_check, lengths.pdus)?;
-    write_check_length(writer, 2, lengths.short_check, lengths.pdus)?;
-    write_check_length(writer, 4, lengths.long_check, lengths.pdus)
+    write_code_fit(writer, 0, lengths.no_code, lengths.pdus)?;
+    write_code_fit(writer, 8, lengths.short_code, lengths.pdus)?;
+    write_code_fit(writer, 16, lengths.long_code, lengths.pdus)?;
+    write_fit(writer, "check", 0, lengths.no_check, lengths.pdus)?;
+    write_fit(writer, "check", 2, lengths.short_check, lengths.pdus)?;
+    write_fit(writer, "check", 4, lengths.long_check, lengths.pdus)
 }
 
 // Writes how many PDUs of each type an end sent, without copies.
@@ -401,25 +383,14 @@ pub fn write_connection<W: Sink>(
     ensures written { AsWritten result (W.failure_count writer.old) (W.failure_count writer.new) }
 {
     let names = names_in(connection);
-    write_parts(
-        writer,
-        &[
-            Part::Words("\nconnection "),
-            Part::Number(place.saturating_add(1)),
-            Part::Words("\n"),
-        ],
-    )?;
+    write_parts(writer, &numbered("\nconnection ", place.saturating_add(1)))?;
     write_frame(writer, names, connection)?;
     write_channels(writer, names, connection.channels.as_slice())?;
-    write_parts_if(
-        writer,
-        connection.on_other_channels > 0,
-        &[
-            Part::Words("  packets on further channels: "),
-            Part::Number(connection.on_other_channels),
-            Part::Words("\n"),
-        ],
-    )?;
+    let further = numbered(
+        "  packets on further channels: ",
+        connection.on_other_channels,
+    );
+    write_parts_if(writer, connection.on_other_channels > 0, &further)?;
     write_lengths(writer, &connection.lengths)?;
     write_sent(writer, names.first, &connection.first)?;
     write_sent(writer, names.second, &connection.second)

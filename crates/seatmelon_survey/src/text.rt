@@ -66,6 +66,18 @@ fn write_part<W: Sink>(writer: &mut W, part: Part) -> Result<(), Fault>
     }
 }
 
+/// A line that ends with a number.
+pub fn numbered(words: &'static str, n: u64) -> [Part; 3] {
+    [Part::Words(words), Part::Number(n), Part::Words("\n")]
+}
+
+/// Writes words.
+pub fn write_words<W: Sink>(writer: &mut W, words: &str) -> Result<(), Fault>
+    ensures written { AsWritten result (W.failure_count writer.old) (W.failure_count writer.new) }
+{
+    write_all(writer, words.as_bytes())
+}
+
 /// Writes parts, one after the other.
 pub fn write_parts<W: Sink>(writer: &mut W, parts: &[Part]) -> Result<(), Fault>
     ensures written { AsWritten result (W.failure_count writer.old) (W.failure_count writer.new) }
