@@ -21,10 +21,8 @@ nothing_sent p side = record {
     first = λ i copy h. absurd (cc);
     all = λ place packet pdu h of_side spelled new. absurd (cc);
   };
-  faultless = record {
-    copies = λ place packet h of_side. absurd (cc);
-    numbers = λ i start copy h k. absurd (cc);
-  };
+  copies = λ place packet h of_side. absurd (cc);
+  numbers = λ i start copy h k. absurd (cc);
 }
 
 -- the run that sends nothing is within the limits

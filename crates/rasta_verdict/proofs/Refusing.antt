@@ -1,5 +1,6 @@
 -- Refusals of a capture are told from out of memory and from a failed read by their numbers.
-use Rattle.std.proofs.Common.{◌≡◌, ◌⊎◌, inl, inr, ℕ, ◌≤◌, List, [], ◌++◌, Option, Some, None, Err, true, false, refl, ap, sym, subst, arith, nat_le}
+use Rattle.std.proofs.Common.{◌≡◌, ◌⊎◌, inl, inr, ℕ, ◌≤◌, List, [], ◌++◌, Option, Some, None, Result, Err, OnOk, IfOk, true, false, refl, ap, sym, subst, arith, nat_le}
+use Rattle.std.specs.Io.KnownBytes.{Appends}
 use Rattle.std.specs.Prelude.{IsSome}
 use Rattle.std.proofs.lemmas.Bool.{leb-true, leb-false}
 use Rattle.rasta_pcap.specs.declared.fault.Fault.{Fault}
@@ -10,7 +11,10 @@ use Rattle.rasta_pdu.specs.Params.{Parameters}
 use Rattle.rasta_check.specs.Capture.Reading.{crossing_of}
 use Rattle.rasta_check.specs.Internals.Storing.{IsFailure, IsRefusedSo}
 use Rattle.rasta_check.proofs.Capture.FaultNumbers.{file_sided}
+use Rattle.rasta_show.specs.Lines.{refused_line}
 use Rattle.rasta_show.specs.Runs.{IsRunFault}
+use Rattle.rasta_verdict.specs.Verdict.{WritesVerdict}
+use Rattle.rasta_verdict.proofs.Verdicts.{Texts, is_one, verdict_written}
 
 abbrev IsOfCapture : Fault → Type 0
 IsOfCapture f = not_pcap ≤ f.number
@@ -24,7 +28,7 @@ of_file p file f e = by f.end refl
 
 -- ---- why nothing was stored
 
-abbrev WhyNone : Parameters → Fault → ℕ → ℕ → Option (List ℕ) → Option (List ℕ) → Type 0
+abbrev pub WhyNone : Parameters → Fault → ℕ → ℕ → Option (List ℕ) → Option (List ℕ) → Type 0
 WhyNone p f old_count new_count old new = IsFailure f old_count new_count ⊎ ReadsSo (IsRefusedSo p f) old new
 
 number_of : (f g : Fault) → f ≡ g → f.number ≡ g.number
@@ -49,3 +53,10 @@ where_broken p f old_count new_count old_writes new_writes old new h (inl (inr f
 where_broken p f old_count new_count old_writes new_writes old new h (inr refused) =
     let below = leb-false not_pcap f.number h in
     let least = of_file p (refused.bytes ++ []) f (refused.each [] (λ e. refl)).value in absurd (omega (arith, below, least))
+
+-- the refusal is written, and says this of the file
+pub refusal_written : (IsText : Texts) (p : Parameters) (f : Fault) (r : Result ℕ Fault) (old_count new_count : ℕ) (oi ni oo on : Option (List ℕ)) → nat_le not_pcap f.number ≡ true
+    → WhyNone p f old_count new_count oi ni → ((file : List ℕ) → IsRefusedSo p f file → IsText file (refused_line f) 1)
+    → OnOk r (Appends oo on (refused_line f)) → IfOk r (λ s. s ≡ 1) → IfOk r (λ s. WritesVerdict IsText s oi ni oo on)
+refusal_written IsText p f r old_count new_count oi ni oo on of_capture why says appended answered =
+    verdict_written IsText (IsRefusedSo p f) r (refused_line f) 1 oi ni oo on (where_refused p f old_count new_count oi ni of_capture why) says appended (is_one r answered)

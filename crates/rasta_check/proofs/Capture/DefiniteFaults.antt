@@ -4,6 +4,8 @@ use Rattle.std.specs.Prelude.{IsSome, IfErr}
 use Rattle.std.specs.List.{cons_option}
 use Rattle.std.proofs.lemmas.List.{drop-append-le, length_push}
 use Rattle.std.proofs.lemmas.List.Elements.{filter_map-append}
+use Rattle.std.specs.Option.{option_flatten}
+use Rattle.std.specs.Result.{result_ok}
 use Rattle.rasta_pcap.specs.declared.fault.Fault.{Fault}
 use Rattle.rasta_pcap.specs.declared.fault.Side.{Side}
 use Rattle.rasta_pcap.specs.declared.fault.Side.TheVariants.{Client, Server}
@@ -13,7 +15,7 @@ use Rattle.rasta_pcap.proofs.Captures.{IsRefused-place, reading_of-IsCapture}
 use Rattle.rasta_udp.specs.Frame.{Packet, packet_in}
 use Rattle.rasta_pdu.specs.Params.{Parameters}
 use Rattle.rasta_pdu.specs.Messages.{AreBytes}
-use Rattle.rasta_check.specs.Capture.Crossing.{FirstCopy, Sent, crossing_list, found_packet, packet_fault}
+use Rattle.rasta_check.specs.Capture.Crossing.{FirstCopy, Sent, crossing_list, packet_fault}
 use Rattle.rasta_check.specs.Model.Theorem.{OfConnection}
 use Rattle.rasta_check.specs.Capture.Reading.{Crossing, crossing_of}
 use Rattle.rasta_check.specs.Capture.Faults.{AreFaultless, HasFault, in_frame, in_packet, in_limits, Impossible, IsRefusedCapture, in_header, in_reading, in_record, packets_through, sent_of}
@@ -61,8 +63,8 @@ definite_by p file f h (in_record records c s frame number end faultless capture
     let read = (reading_of-IsCapture n file (records ++ frame ∷ []) (omega (arith, top, high)) capture).0 in
     let packets : packets_through p file n ≡ crossing_list p records ++ w.0 ∷ [] =
     ap (crossing_list p) read ∙ ap (packets_in p) (drop-append-le (p.first_record - 1) records (frame ∷ []) (omega arith))
-    ∙ filter_map-append (λ (fr : List ℕ). found_packet (packet_in p.channels fr)) _ (frame ∷ [])
-    ∙ ap (λ (o : Result (Option Packet) Fault). crossing_list p records ++ cons_option (found_packet o) []) w.1 in
+    ∙ filter_map-append (λ (fr : List ℕ). option_flatten (result_ok (packet_in p.channels fr))) _ (frame ∷ [])
+    ∙ ap (λ (o : Result (Option Packet) Fault). crossing_list p records ++ cons_option (option_flatten (result_ok o)) []) w.1 in
     record {
       impossible = subst (Impossible p) (sym packets) (impossible_with p (crossing_list p records) _ w.0 number h (sent_at p records c s faultless w.0.side) w.2);
       capture = subst (IsCapture n file) (sym read) capture;

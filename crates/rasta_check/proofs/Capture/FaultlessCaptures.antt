@@ -6,6 +6,8 @@ use Rattle.std.proofs.lemmas.List.{length_push}
 use Rattle.std.proofs.lemmas.List.Elements.{filter_map-append}
 use Rattle.std.proofs.lemmas.Grind.{flat_map-append}
 use Rattle.std.proofs.lemmas.Bool.Decides.{nat_tests}
+use Rattle.std.specs.Option.{option_flatten}
+use Rattle.std.specs.Result.{result_ok}
 use Rattle.rasta_pcap.specs.declared.fault.Fault.{Fault}
 use Rattle.rasta_pcap.specs.declared.fault.Side.{Side}
 use Rattle.rasta_pcap.specs.declared.fault.Side.TheVariants.{Client, Server}
@@ -14,7 +16,7 @@ use Rattle.rasta_pcap.proofs.Captures.{numbers-reading_of, reading_of-IsCapture,
 use Rattle.rasta_udp.specs.Frame.{Packet, packet_in}
 use Rattle.rasta_pdu.specs.Params.{Parameters, AreParameters}
 use Rattle.rasta_pdu.specs.Messages.{AreBytes}
-use Rattle.rasta_check.specs.Capture.Crossing.{FirstCopy, Sent, crossing_list, found_packet, packet_fault}
+use Rattle.rasta_check.specs.Capture.Crossing.{FirstCopy, Sent, crossing_list, packet_fault}
 use Rattle.rasta_check.specs.Model.Theorem.{OfConnection, most_packets}
 use Rattle.rasta_check.specs.Model.World.{most_sent}
 use Rattle.rasta_check.specs.Capture.Reading.{Crossing, IsCrossing, after_records, crossing_of, crossing_with, is_within, nothing_crossed, sent_after, sent_by, with_packet}
@@ -141,8 +143,8 @@ module _ (p : Parameters) (h : OfConnection p) (front later : List Numbered) (r 
   packets_at : (a : Packet) → nat_lt r.0 p.first_record ≡ false → packet_in p.channels r.1 ≡ Ok (Some a)
       → crossing_list p (frames_of (front ++ r ∷ later)) ≡ k.packets ++ a ∷ packets_in p (window p later)
   packets_at a inside found =
-      ap (packets_in p) (frames_at inside) ∙ filter_map-append (λ (frame : List ℕ). found_packet (packet_in p.channels frame)) (window p front) (r.1 ∷ window p later)
-      ∙ (λ i. packets_in p (window_is p front 1 (row_front front (r ∷ later) 1 numbers) i) ++ cons_option (found_packet (found i)) (packets_in p (window p later)))
+      ap (packets_in p) (frames_at inside) ∙ filter_map-append (λ (frame : List ℕ). option_flatten (result_ok (packet_in p.channels frame))) (window p front) (r.1 ∷ window p later)
+      ∙ (λ i. packets_in p (window_is p front 1 (row_front front (r ∷ later) 1 numbers) i) ++ cons_option (option_flatten (result_ok (found i))) (packets_in p (window p later)))
 
   list_at : (a : Packet) → nat_lt r.0 p.first_record ≡ false → packet_in p.channels r.1 ≡ Ok (Some a) → (side : Side)
       → (big : List FirstCopy) × IsSent p (k.packets ++ a ∷ packets_in p (window p later)) side big × (length big ≤ most_sent)

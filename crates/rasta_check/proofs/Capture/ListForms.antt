@@ -13,8 +13,8 @@ to_record p packets side sent valid h =
       valid = valid;
       firsts = λ i c g. (let w = h.list.carried i c g in (w.packet, w.there, w.of_side, w.spelled));
       rising = h.list.in_order;
-      numbers = h.faultless.numbers;
-      copies = h.faultless.copies;
+      numbers = h.numbers;
+      copies = h.copies;
     }
 
 pub of_record : (p : Parameters) (packets : List Packet) (side : Side) (sent : List FirstCopy) → IsSent p packets side sent → length sent < 4294967296 → Sent p packets side sent
@@ -26,5 +26,6 @@ of_record p packets side sent h few =
         first = λ i c g w. first_is_new p packets side sent h few i c g w;
         all = λ place packet pdu g e spelled new. new_is_first p packets side sent h place packet pdu g e spelled new;
       };
-      faultless = record { copies = h.copies; numbers = h.numbers };
+      copies = h.copies;
+      numbers = h.numbers;
     }

@@ -5,12 +5,14 @@ use Rattle.std.specs.List.{AllByRecursion, flat_map, filter_map, range_with_len,
 use Rattle.std.proofs.Math.ListN.{drop_of_length-le}
 use native.Mathlib.Decide.{dec_lt}
 use Prim.{yes, no}
+use Rattle.std.specs.Option.{option_flatten}
+use Rattle.std.specs.Result.{result_ok}
 use Rattle.rasta_pcap.specs.declared.fault.Side.{Side}
 use Rattle.rasta_pcap.specs.declared.fault.Side.TheVariants.{Client, Server}
 use Rattle.rasta_pcap.specs.Fault.{fault_at, fault_of_end, too_many}
 use Rattle.rasta_pcap.proofs.Captures.{IsCapture-reading_of, reading_of-IsCapture, numbers-reading_of}
 use Rattle.rasta_udp.specs.Frame.{Packet, packet_in}
-use Rattle.rasta_check.specs.Capture.Crossing.{FirstCopy, found_packet, crossing_list, packet_fault}
+use Rattle.rasta_check.specs.Capture.Crossing.{FirstCopy, crossing_list, packet_fault}
 use Rattle.rasta_pcap.specs.declared.fault.Fault.{Fault}
 use Rattle.rasta_pcap.specs.Capture.{Cursor, Numbered, IsCapture, next, cursor_after, opening, reading, reading_of, bytes_of}
 use Rattle.rasta_pcap.proofs.Steps.{reading-record, reading-end, reading-fault, reading-none_left, reading_of-opened, reading_of-refused}
@@ -96,7 +98,7 @@ abbrev pub window : Parameters → List Numbered → List (List ℕ)
 window p rs = flat_map (λ (r : Numbered). if nat_lt r.0 p.first_record then [] else r.1 ∷ []) rs
 
 abbrev pub packets_in : Parameters → List (List ℕ) → List Packet
-packets_in p frames = filter_map (λ (frame : List ℕ). found_packet (packet_in p.channels frame)) frames
+packets_in p frames = filter_map (λ (frame : List ℕ). option_flatten (result_ok (packet_in p.channels frame))) frames
 
 abbrev pub AreSound : Parameters → List (List ℕ) → Type 0
 AreSound p frames = AllByRecursion (λ (frame : List ℕ). IsOk (packet_in p.channels frame)) frames
@@ -122,7 +124,7 @@ adds_first k next last r rs (before t) more =
 adds_first k next last r rs (empty t g) more =
     subst (λ (b : Bool). Adds k last (r ∷ rs) ((if b then [] else r.1 ∷ []) ++ window k.params rs)) (sym t)
     (record {
-      packets = more.packets ∙ ap (λ (o : Result (Option Packet) Fault). k.packets ++ cons_option (found_packet o) (packets_in k.params (window k.params rs))) (sym g);
+      packets = more.packets ∙ ap (λ (o : Result (Option Packet) Fault). k.packets ++ cons_option (option_flatten (result_ok o)) (packets_in k.params (window k.params rs))) (sym g);
       params = more.params;
       sound = (subst IsOk (sym g) refl, more.sound);
       crossing = λ h are. more.crossing h are.1;
@@ -132,7 +134,7 @@ adds_first k next last r rs (joined a t g n e) more =
     subst (λ (b : Bool). Adds k last (r ∷ rs) ((if b then [] else r.1 ∷ []) ++ window k.params rs)) (sym t)
     (record {
       packets = more.packets ∙ (λ i. w.0 i ++ packets_in (w.1 i) (window (w.1 i) rs)) ∙ append_assoc k.packets (a ∷ []) (packets_in k.params (window k.params rs))
-          ∙ ap (λ (o : Result (Option Packet) Fault). k.packets ++ cons_option (found_packet o) (packets_in k.params (window k.params rs))) (sym g);
+          ∙ ap (λ (o : Result (Option Packet) Fault). k.packets ++ cons_option (option_flatten (result_ok o)) (packets_in k.params (window k.params rs))) (sym g);
       params = more.params ∙ w.1;
       sound = (subst IsOk (sym g) refl, subst (λ (p : Parameters). AreSound p (window p rs)) w.1 more.sound);
       crossing = λ h are. more.crossing

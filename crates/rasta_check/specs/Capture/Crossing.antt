@@ -1,6 +1,8 @@
 -- What crossed past the tap, and the list of PDUs that each side sent.
-use Rattle.std.specs.Prelude.{◌≡◌, ℕ, suc, ◌+◌, ◌-◌, ◌≤◌, ◌<◌, Bool, true, List, [], ◌∷◌, length, drop, Option, Some, None, Result, Ok, Err, slice_get, slice_index, filter_map, if◌then◌else◌, ◌==◌}
+use Rattle.std.specs.Prelude.{◌≡◌, ℕ, suc, ◌+◌, ◌-◌, ◌≤◌, ◌<◌, Bool, true, List, [], ◌∷◌, length, drop, Option, Some, None, Result, Ok, Err, slice_get, slice_index, filter_map, find, if◌then◌else◌, ◌==◌}
 use Rattle.std.specs.Int.{from_le_bytes, w32}
+use Rattle.std.specs.Option.{option_flatten}
+use Rattle.std.specs.Result.{result_ok}
 use Rattle.std.specs.Str.{bytes_eq}
 use Rattle.rasta_pcap.specs.declared.fault.Fault.{Fault}
 use Rattle.rasta_pcap.specs.declared.fault.Side.{Side}
@@ -12,14 +14,9 @@ use Rattle.rasta_end.specs.State.{wrapped}
 
 -- ---- the crossing list
 
--- the packet that a frame holds; one with a fault holds none
-abbrev pub found_packet : Result (Option Packet) Fault → Option Packet
-found_packet (Ok found) = found
-found_packet (Err fault) = None
-
 -- the crossing list of a capture's records, up to the last of the window: the packets that those from its first on hold, in order
 abbrev pub crossing_list : Parameters → List (List ℕ) → List Packet
-crossing_list p records = filter_map (λ (frame : List ℕ). found_packet (packet_in p.channels frame)) (drop (p.first_record - 1) records)
+crossing_list p records = filter_map (λ (frame : List ℕ). option_flatten (result_ok (packet_in p.channels frame))) (drop (p.first_record - 1) records)
 
 -- a recorded channel
 abbrev pub IsRecorded : Parameters → ℕ → Type 0
@@ -67,24 +64,19 @@ pub record IsSentList (p : Parameters) (packets : List Packet) (side : Side) (se
   pub all : (place : ℕ) (packet : Packet) (pdu : RedundancyPdu) → slice_get packets place ≡ Some packet → packet.side ≡ side → Spells p side pdu packet.payload
       → (IsKnown p packets side place pdu.number → ⊥) → (i : ℕ) × (copy : FirstCopy) × (slice_get sent i ≡ Some copy) × (copy.place ≡ place)
 
--- where this is the sent list, no packet of the side has a fault: each spells the PDU of a member, which is its own or crossed before it, byte for byte;
--- and the numbers of the members rise by one modulo 2^32
-pub record IsFaultless (p : Parameters) (packets : List Packet) (side : Side) (sent : List FirstCopy) : Type 0 where
+-- this side sent this list, and none of its packets has a fault: each spells the PDU of a member, which is its own or crossed before it, byte for byte; and
+-- the numbers of the members rise by one modulo 2^32
+pub record Sent (p : Parameters) (packets : List Packet) (side : Side) (sent : List FirstCopy) : Type 0 where
+  pub list : IsSentList p packets side sent
   pub copies : (place : ℕ) (packet : Packet) → slice_get packets place ≡ Some packet → packet.side ≡ side
       → (i : ℕ) × (copy : FirstCopy) × (slice_get sent i ≡ Some copy) × (copy.place ≤ place) × Spells p side copy.pdu packet.payload
   pub numbers : (i : ℕ) (start copy : FirstCopy) → slice_get sent 0 ≡ Some start → slice_get sent i ≡ Some copy → copy.pdu.number ≡ wrapped (start.pdu.number + i)
-
--- this side sent this list, and none of its packets has a fault
-pub record Sent (p : Parameters) (packets : List Packet) (side : Side) (sent : List FirstCopy) : Type 0 where
-  pub list : IsSentList p packets side sent
-  pub faultless : IsFaultless p packets side sent
 
 -- ---- the fault of the next packet
 
 -- the first copy with this redundancy number
 abbrev pub copy_with : List FirstCopy → ℕ → Option FirstCopy
-copy_with [] number = None
-copy_with (copy ∷ copies) number = if copy.pdu.number == number then Some copy else copy_with copies number
+copy_with sent number = find (λ (copy : FirstCopy). copy.pdu.number == number) sent
 
 -- the number that follows those of a sent list; the first is free
 abbrev pub is_next_number : List FirstCopy → ℕ → Bool

@@ -9,7 +9,7 @@ use Rattle.rasta_check.proofs.Script.Fits.{fits_follows, follows_fits}
 use Rattle.rasta_check.proofs.laws.fits_where_followed.Goals as goal
 
 ordered : (p : Parameters) (packets : List Packet) (side : Side) (sent : List FirstCopy) → Sent p packets side sent → IsOrdered sent
-ordered p packets side sent h = record { places = h.list.in_order; numbers = h.faultless.numbers }
+ordered p packets side sent h = record { places = h.list.in_order; numbers = h.numbers }
 
 pub returns : goal.returns
 returns c p h packets side own peer es e mine theirs few =

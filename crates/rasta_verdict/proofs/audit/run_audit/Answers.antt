@@ -8,8 +8,8 @@ use Rattle.rasta_verdict.specs.Proposed.{IsAudit, capture_refused}
 use Rattle.rasta_verdict.specs.Verdict.{explained_text}
 use Rattle.rasta_pcap.proofs.Sending.{where_failed}
 use Rattle.rasta_verdict.proofs.Proposals.{audit_text, nothing_of_outcome, outcome_begun, refused_decides}
-use Rattle.rasta_verdict.proofs.Refusing.{where_broken, where_refused}
-use Rattle.rasta_verdict.proofs.Verdicts.{is_one, verdict_written}
+use Rattle.rasta_verdict.proofs.Refusing.{refusal_written, where_broken, where_refused}
+use Rattle.rasta_verdict.proofs.Verdicts.{verdict_written}
 use Rattle.rasta_verdict.proofs.audit.run_audit.Goals as goal
 
 -- ---- the capture is refused, or can't be read
@@ -18,10 +18,8 @@ pub returns-in-Err-clause-text : goal.returns-in-Err-clause-text
 returns-in-Err-clause-text g c =
     let p = c.args.params.now in
     let f = c.in-Err.fault in
-    verdict_written (IsAudit p) (IsRefusedSo p f) c.write_refusal.result (refused_line f) 1 _ _ _ _
-    (where_refused p f _ _ _ _ (sym c.if-is_refusal.ensures) c.in-Err.ensures.err)
-    (λ file refused. capture_refused f refused.value)
-    c.write_refusal.ensures.whole (is_one c.write_refusal.result c.write_refusal.ensures.answered)
+    refusal_written (IsAudit p) p f c.write_refusal.result _ _ _ _ _ _ (sym c.if-is_refusal.ensures) c.in-Err.ensures.err
+    (λ file refused. capture_refused f refused.value) c.write_refusal.ensures.whole c.write_refusal.ensures.answered
 
 pub returns-in-Err-clause-begun : goal.returns-in-Err-clause-begun
 returns-in-Err-clause-begun g c =
@@ -36,19 +34,15 @@ pub returns-in-Err-clause-headline : goal.returns-in-Err-clause-headline
 returns-in-Err-clause-headline g c =
     let p = c.args.params.now in
     let f = c.in-Err.fault in
-    verdict_written (ClaimsHeadline p) (IsRefusedSo p f) c.write_refusal.result (refused_line f) 1 _ _ _ _
-    (where_refused p f _ _ _ _ (sym c.if-is_refusal.ensures) c.in-Err.ensures.err)
-    (λ file refused status. absurd (cc))
-    c.write_refusal.ensures.whole (is_one c.write_refusal.result c.write_refusal.ensures.answered)
+    refusal_written (ClaimsHeadline p) p f c.write_refusal.result _ _ _ _ _ _ (sym c.if-is_refusal.ensures) c.in-Err.ensures.err
+    (λ file refused status. absurd (cc)) c.write_refusal.ensures.whole c.write_refusal.ensures.answered
 
 pub returns-in-Err-clause-decided : goal.returns-in-Err-clause-decided
 returns-in-Err-clause-decided g c =
     let p = c.args.params.now in
     let f = c.in-Err.fault in
-    verdict_written (Decides p) (IsRefusedSo p f) c.write_refusal.result (refused_line f) 1 _ _ _ _
-    (where_refused p f _ _ _ _ (sym c.if-is_refusal.ensures) c.in-Err.ensures.err)
-    (λ file refused. refused_decides p file f (refused_line f) 1 refused.value)
-    c.write_refusal.ensures.whole (is_one c.write_refusal.result c.write_refusal.ensures.answered)
+    refusal_written (Decides p) p f c.write_refusal.result _ _ _ _ _ _ (sym c.if-is_refusal.ensures) c.in-Err.ensures.err
+    (λ file refused. refused_decides p file f (refused_line f) 1 refused.value) c.write_refusal.ensures.whole c.write_refusal.ensures.answered
 
 pub returns-in-Err-2-clause-begun : goal.returns-in-Err-2-clause-begun
 returns-in-Err-2-clause-begun g c =

@@ -5,8 +5,8 @@ use Rattle.rasta_verdict.specs.Claims.{ClaimsHeadline}
 use Rattle.rasta_verdict.specs.Judged.{status_of_verdict, text_of_verdict}
 use Rattle.rasta_verdict.specs.Verdict.{IsVerdict, capture_refused}
 use Rattle.rasta_pcap.proofs.Sending.{where_failed}
-use Rattle.rasta_verdict.proofs.Refusing.{where_broken, where_refused}
-use Rattle.rasta_verdict.proofs.Verdicts.{is_one, nothing_begun, one_verdict, still_silent, verdict_begun, verdict_written, write_fault}
+use Rattle.rasta_verdict.proofs.Refusing.{refusal_written, where_broken, where_refused}
+use Rattle.rasta_verdict.proofs.Verdicts.{nothing_begun, one_verdict, still_silent, verdict_begun, verdict_written, write_fault}
 use Rattle.rasta_verdict.proofs.check.run_check_by_value.Goals as goal
 
 -- ---- the capture is refused, or can't be read
@@ -15,10 +15,8 @@ pub returns-in-Err-clause-text : goal.returns-in-Err-clause-text
 returns-in-Err-clause-text g c =
     let p = c.args.params.now in
     let f = c.in-Err.fault in
-    verdict_written (IsVerdict p (g.C.AsSlice.items c.args.certificate)) (IsRefusedSo p f) c.write_refusal.result (refused_line f) 1 _ _ _ _
-    (where_refused p f _ _ _ _ (sym c.if-is_refusal.ensures) c.in-Err.ensures.err)
-    (λ file refused. capture_refused f refused.value)
-    c.write_refusal.ensures.whole (is_one c.write_refusal.result c.write_refusal.ensures.answered)
+    refusal_written (IsVerdict p (g.C.AsSlice.items c.args.certificate)) p f c.write_refusal.result _ _ _ _ _ _ (sym c.if-is_refusal.ensures) c.in-Err.ensures.err
+    (λ file refused. capture_refused f refused.value) c.write_refusal.ensures.whole c.write_refusal.ensures.answered
 
 pub returns-in-Err-clause-begun : goal.returns-in-Err-clause-begun
 returns-in-Err-clause-begun g c =
@@ -33,10 +31,8 @@ pub returns-in-Err-clause-headline : goal.returns-in-Err-clause-headline
 returns-in-Err-clause-headline g c =
     let p = c.args.params.now in
     let f = c.in-Err.fault in
-    verdict_written (ClaimsHeadline p) (IsRefusedSo p f) c.write_refusal.result (refused_line f) 1 _ _ _ _
-    (where_refused p f _ _ _ _ (sym c.if-is_refusal.ensures) c.in-Err.ensures.err)
-    (λ file refused status. absurd (cc))
-    c.write_refusal.ensures.whole (is_one c.write_refusal.result c.write_refusal.ensures.answered)
+    refusal_written (ClaimsHeadline p) p f c.write_refusal.result _ _ _ _ _ _ (sym c.if-is_refusal.ensures) c.in-Err.ensures.err
+    (λ file refused status. absurd (cc)) c.write_refusal.ensures.whole c.write_refusal.ensures.answered
 
 pub returns-in-Err-clause-err : goal.returns-in-Err-clause-err
 returns-in-Err-clause-err g c = write_fault c.write_refusal.result _ _ _ _ c.write_refusal.ensures.err
