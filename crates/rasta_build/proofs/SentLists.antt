@@ -16,9 +16,9 @@ use Rattle.rasta_end.specs.Starts.{start_by}
 use Rattle.rasta_check.specs.Capture.Crossing.{FirstCopy}
 use Rattle.rasta_check.specs.Model.World.{other_side}
 use Rattle.rasta_check.specs.Model.Taken.{pdus_made, pdus_of}
-use Rattle.rasta_check.proofs.Model.ListGrowth.{get_front}
+use Rattle.rasta_check.proofs.Lists.{get_front, slice_get_some}
 use Rattle.rasta_check.proofs.Capture.FaultlessLists.{IsSent}
-use Rattle.rasta_check.proofs.Script.Tracks.{slice_get_some, places_rise}
+use Rattle.rasta_check.proofs.Script.Tracks.{places_rise}
 use Rattle.rasta_check.proofs.Model.Steps.{base, base_by}
 use Rattle.rasta_check.proofs.Capture.NextPackets.{Begins, get_past}
 use Rattle.rasta_check.proofs.Script.ScriptsOfRuns.{Sends, copy_at as sent_at}

@@ -1,3 +1,4 @@
+pub mod Lists
 pub mod Model
 pub mod Theorem
 pub mod Capture

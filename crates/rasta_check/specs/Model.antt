@@ -1,4 +1,5 @@
 -- Two ends and a network, and what holds of every run.
 pub mod World
+pub mod Taken
 pub mod Laws
 pub mod Theorem

@@ -11,7 +11,7 @@ use Rattle.rasta_udp.specs.Frame.{Direction, Fields, Found, Packet, directions_f
 use Rattle.rasta_pdu.specs.Params.{Parameters}
 use Rattle.rasta_check.specs.Capture.Crossing.{CrossRecorded}
 use Rattle.rasta_check.specs.Capture.Crossing.{IsRecorded}
-use Rattle.rasta_check.proofs.Model.ListGrowth.{get_push_cases}
+use Rattle.rasta_check.proofs.Lists.{get_push_cases}
 
 -- a channel's number is one of so many from this one on
 abbrev Among : ℕ → ℕ → ℕ → Type 0

@@ -8,10 +8,10 @@ use Rattle.rasta_end.specs.State.{wrapped}
 use Rattle.rasta_pdu.specs.Pdu.{RedundancyPdu}
 use Rattle.rasta_check.specs.Capture.Crossing.{Spells, FirstCopy}
 use Rattle.rasta_udp.specs.Frame.{Packet}
-use Rattle.rasta_check.proofs.Capture.FaultlessLists.{IsSent}
-use Rattle.rasta_check.proofs.Model.ListGrowth.{get_push_cases, get_front, get_push}
+use Rattle.rasta_check.proofs.Capture.FaultlessLists.{IsSent, ordered}
+use Rattle.rasta_check.proofs.Lists.{get_push_cases, get_front, get_push, slice_get_some}
 use Rattle.rasta_check.proofs.Capture.Spellings.{read_once}
-use Rattle.rasta_check.proofs.Script.Tracks.{places_rise, slice_get_some}
+use Rattle.rasta_check.proofs.Capture.Positions.{not_again, places_rise}
 use Rattle.rasta_pdu.specs.Params.{Parameters, AreParameters}
 
 abbrev pub First : List Packet → Side → List FirstCopy → ℕ → Type 0
@@ -110,9 +110,6 @@ earliest p xs s own h (suc n) k l a g e =
     (λ (w : Again xs s k a.payload). (let r = earliest p xs s own h n w.0 (let z = w.2 in omega arith) w.1 w.3 w.4 in (r.0, r.1, r.2, r.3, (let z = w.2 in let y = r.4 in omega arith), r.5, r.6 ∙ w.5, r.7)))
     (h.others k a g e)
 
-pub not_again : (f i j m n : ℕ) → m ≡ (f + i) % 2 ^ 32 → n ≡ (f + j) % 2 ^ 32 → i < j → j < 4294967296 → m ≡ n → ⊥
-not_again f i j m n x y l b e = omega arith
-
 -- two lists of first copies that agree p below i: the place of the one's i-th is not below that of the other's
 module _ (p : Parameters) (xs : List Packet) (s : Side) (c d : List FirstCopy) (hc : IsSent p xs s c) (hd : IsSent p xs s d) where
   abbrev Agree : ℕ → Type 0
@@ -136,7 +133,7 @@ below_by p xs s d h i j a b e at l g m =
     elim (dec_lt j i) [
       | yes z ↦ z
       | no z ↦ absurd (elim (dec_lt i j) [
-        | yes y ↦ (let r = places_rise p xs s d h (j - suc i) i e b at (subst (λ (t : ℕ). slice_get d t ≡ Some b) (omega arith) g) in omega arith)
+        | yes y ↦ (let r = places_rise d (ordered h) i j e b at g y in omega arith)
         | no y ↦ (let same : i ≡ j = omega arith in let q : e ≡ b = cc (ap (slice_get d) same) in let w = ap (λ (u : FirstCopy). u.place) q in omega arith)
       ])
     ]

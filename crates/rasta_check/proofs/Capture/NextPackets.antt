@@ -10,11 +10,12 @@ use Rattle.rasta_pdu.specs.Pdu.{RedundancyPdu}
 use Rattle.rasta_check.specs.Capture.Crossing.{Spells, FirstCopy}
 use Rattle.rasta_udp.specs.Frame.{Packet}
 use Rattle.rasta_check.specs.Model.World.{World, Reaches}
-use Rattle.rasta_check.proofs.Capture.FaultlessLists.{IsSent}
+use Rattle.rasta_check.proofs.Capture.FaultlessLists.{IsSent, ordered}
 use Rattle.rasta_end.proofs.Lists.{get_front, get_front_within}
 use Rattle.rasta_check.proofs.Capture.FirstCopies.{below_by, earliest, sent_once, First, Again, Counts_from}
-use Rattle.rasta_check.proofs.Script.Tracks.{places_rise, slice_get_some}
 use Rattle.rasta_check.proofs.Script.ScriptsOfRuns.{told_by}
+use Rattle.rasta_check.proofs.Lists.{slice_get_some, get_next}
+use Rattle.rasta_check.proofs.Capture.Positions.{places_rise}
 
 -- it says something, and its number has crossed with the same bytes, or is the next, or is the first
 abbrev pub CanFollow : Parameters → List Packet → Side → List FirstCopy → Packet → Type 0
@@ -28,11 +29,6 @@ pub record Begins (big own : List FirstCopy) (n : ℕ) : Type 0 where
   pub later : List FirstCopy
   pub whole : big ≡ own ++ later
   pub place : (c : FirstCopy) → slice_get later 0 ≡ Some c → n ≤ c.place
-
--- the member after those that crossed
-pub get_past : {A : Type 0} (xs ys : List A) → slice_get (xs ++ ys) (length xs) ≡ slice_get ys 0
-get_past [] ys = refl
-get_past (x ∷ xs) ys = get_past xs ys
 
 AreBelow : ℕ → List FirstCopy → Type 0
 AreBelow n own = (i : ℕ) (c : FirstCopy) → slice_get own i ≡ Some c → c.place < n
@@ -65,7 +61,7 @@ module _ (p : Parameters) (xs ys : List Packet) (s : Side) (own later : List Fir
     | no m ↦
         let n = slice_get_within (own ++ later) i c g in
         let f = slice_get_some (own ++ later) (length own) (omega arith) in
-        let first = high f.0 (sym (get_past own later) ∙ f.1) in
+        let first = high f.0 (sym (get_next own later) ∙ f.1) in
         below_by p (xs ++ ys) s (own ++ later) h (length own) i c c f.0 f.1 (omega arith) g (omega arith)
   ]
 
@@ -91,8 +87,8 @@ module _ (p : Parameters) (xs ys : List Packet) (s : Side) (own later : List Fir
       let not_high : length own < i → ⊥ = λ l.
       (let n = slice_get_within (own ++ later) i c g in
       let f = slice_get_some (own ++ later) (length own) (omega arith) in
-      let first = high f.0 (sym (get_past own later) ∙ f.1) in
-      let r = places_rise p (xs ++ ys) s (own ++ later) h (i - suc (length own)) (length own) f.0 c f.1 (subst (λ (j : ℕ). slice_get (own ++ later) j ≡ Some c) (omega arith) g) in
+      let first = high f.0 (sym (get_next own later) ∙ f.1) in
+      let r = places_rise (own ++ later) (ordered h) (length own) i f.0 c f.1 g l in
       absurd (omega arith)) in
       omega (arith, not_low, not_high)
 
@@ -107,7 +103,7 @@ follow_by : (p : Parameters) (xs rest : List Packet) (s : Side) (own later : Lis
 follow_by p xs rest s own later a h g high (inl w) =
     let n = next_copy p xs (a ∷ rest) s own later g high h w.0 w.1 w.2 w.3 in
     let f = g.firsts w.0 w.1 w.2 in
-    let same : f.0 ≡ a = (let z : slice_get (xs ++ a ∷ rest) (length xs) ≡ Some f.0 = subst (λ j. slice_get (xs ++ a ∷ rest) j ≡ Some f.0) w.3 f.1 in let y = get_past xs (a ∷ rest) in cc) in
+    let same : f.0 ≡ a = (let z : slice_get (xs ++ a ∷ rest) (length xs) ≡ Some f.0 = subst (λ j. slice_get (xs ++ a ∷ rest) j ≡ Some f.0) w.3 f.1 in let y = get_next xs (a ∷ rest) in cc) in
     (w.1.pdu, subst (λ (b : Packet). Spells p s w.1.pdu b.payload) same f.3, inr (λ c x. g.numbers w.0 c w.1 (get_front own later 0 c x) w.2 ∙ ap (λ m. wrapped (c.pdu.number + m)) n))
 follow_by p xs rest s own later a h g high (inr w) =
     let e = earliest p xs s own h (suc w.0) w.0 (omega arith) w.1 (sym (get_front_within xs (a ∷ rest) w.0 w.2) ∙ w.3) w.4 in
@@ -120,7 +116,7 @@ can_follow p xs rest s own a h l sd more g =
     let later = r.2.later in
     let whole : more ≡ own ++ later = r.2.whole ∙ ap (λ (cs : List FirstCopy). cs ++ later) (sym (sent_once p xs s own r.0 h r.1 l)) in
     let goes : IsSent p (xs ++ a ∷ rest) s (own ++ later) = subst (λ (cs : List FirstCopy). IsSent p (xs ++ a ∷ rest) s cs) whole g in
-    follow_by p xs rest s own later a h goes r.2.place (goes.others (length xs) a (get_past xs (a ∷ rest)) sd)
+    follow_by p xs rest s own later a h goes r.2.place (goes.others (length xs) a (get_next xs (a ∷ rest)) sd)
 
 pub first_number : (own : List FirstCopy) (d : RedundancyPdu) → ℕ
 first_number [] d = d.number

@@ -28,9 +28,6 @@ marks_grown sent all c place position old mid new e h m at count same set =
 
 -- ---- a vector
 
-pub vector_grown : (items all : List (ℕ × Pdu)) (x : ℕ × Pdu) → all ≡ items ++ x ∷ [] → map copy_of all ≡ map copy_of items ++ copy_of x ∷ []
-vector_grown items all x e = ap (map copy_of) e ∙ map-append copy_of items (x ∷ [])
-
 pub vector_few : (items all : List (ℕ × Pdu)) (x : ℕ × Pdu) → all ≡ items ++ x ∷ [] → length (map copy_of items) + 1 < 4294967296 → length all < 4294967296
 vector_few items all x e few = (let a = ap length e in let b = length_push items x in let d = length-map items copy_of in omega (arith, a, b, d, few))
 

@@ -19,12 +19,11 @@ use Rattle.rasta_check.specs.Capture.Lists.{IsOrdered, position_of_place}
 use Rattle.rasta_check.specs.Capture.Reading.{Crossing, IsCrossing, crossing_with, sent_by, sent_after, with_packet}
 use Rattle.rasta_check.specs.Internals.Stored.{Decode, HavePositions, IsJudged, IsStore, bytes_of, copy_in, crossing_by, first_copies_from, packet_by, pdu_in}
 use Rattle.rasta_check.proofs.Capture.Crossings.{list_of}
-use Rattle.rasta_check.proofs.Model.ListGrowth.{get_front, get_push, get_push_cases}
-use Rattle.rasta_check.proofs.Capture.Positions.{place_found, place_pushed}
-use Rattle.rasta_check.proofs.Script.Tracks.{slice_get_some}
+use Rattle.rasta_check.proofs.Lists.{get_front, get_push, get_push_cases, slice_get_some}
+use Rattle.rasta_check.proofs.Capture.Positions.{place_pushed, place_missing, place_named}
 use Rattle.rasta_check.proofs.Capture.FaultlessCaptures.{nothing_is}
 use Rattle.rasta_check.proofs.Capture.Readings.{grown_is}
-use Rattle.rasta_check.proofs.Internals.StoreLists.{count_of, kept_at, sent_is, ordered_of, place_missing}
+use Rattle.rasta_check.proofs.Internals.StoreLists.{count_of, kept_at, sent_is, ordered_of}
 
 -- ---- the packets that are there
 
@@ -189,7 +188,7 @@ module _ (p : Parameters) (d : KeptDatagrams) (packets : List StoredPacket) (st 
         let own = sent_by k side ++ copy ∷ [] in
         let l = crossing_with k a side own in
         let last = at_some (position_of_place (sent_by l side) (length k.packets)) (length (sent_by k side)) payload
-        (ap (λ (xs : List FirstCopy). position_of_place xs (length k.packets)) (sent_with k a side own) ∙ place_found own h (length (sent_by k side)) copy (get_push (sent_by k side) copy)) in
+        (ap (λ (xs : List FirstCopy). position_of_place xs (length k.packets)) (sent_with k a side own) ∙ place_named own h (length (sent_by k side)) copy (get_push (sent_by k side) copy)) in
         (λ i. st.bytes i ++ payload)
         ∙ sym (copies_last l k.packets a ∙ (λ i. copies_same k l (length k.packets) 0 k.packets (places_with k a copy refl side h) (omega arith) i ++ last i))
 

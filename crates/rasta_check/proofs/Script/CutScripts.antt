@@ -37,8 +37,8 @@ use Rattle.rasta_check.proofs.Model.Requests.{named_position}
 use Rattle.rasta_check.proofs.Theorem.ShowingPdus.{fold_member}
 use Rattle.rasta_check.proofs.Theorem.SentRuns.{known}
 use Rattle.rasta_check.proofs.Theorem.ListedUnits.{of_units, exactly_listed}
-use Rattle.rasta_check.proofs.Script.ListItems.{map_at}
 use Rattle.rasta_check.proofs.Run.Simulation.{simulated}
+use Rattle.rasta_check.proofs.Lists.{map_at}
 
 -- ---- cut scripts
 

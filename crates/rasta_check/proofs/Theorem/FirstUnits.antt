@@ -6,8 +6,7 @@ use Rattle.rasta_pdu.specs.Pdu.{SafetyPdu, messages_in, is_kind}
 use Rattle.rasta_end.specs.State.{EndState, Made}
 use Rattle.rasta_check.specs.Model.Theorem.{HandsUpUnits, units_handed}
 use Rattle.rasta_check.specs.Verdict.Headline.{units_offered}
-use Rattle.rasta_check.proofs.Model.ListGrowth.{get_mapped}
-use Rattle.rasta_check.proofs.Model.Requests.{begins_with}
+use Rattle.rasta_check.proofs.Lists.{get_mapped, begins_with}
 use Rattle.rasta_pdu.specs.declared.kind.Kind.TheVariants.{Data}
 
 -- these PDUs have the messages of the first of those

@@ -16,9 +16,7 @@ use Rattle.rasta_check.specs.Capture.Crossing.{FirstCopy}
 use Rattle.rasta_check.specs.Model.Taken.{pdus_made, pdus_of, all_made, units_shown, units_taken, TakenUnit, proof_place, units_from, data_copies, surely_taken}
 use Rattle.rasta_check.specs.Model.Theorem.{HandsUpUnits, units_handed, units_listed}
 use Rattle.std.proofs.lemmas.List.Elements.{filter-append}
-use Rattle.rasta_check.proofs.Script.Tracks.{slice_get_some}
-use Rattle.rasta_check.proofs.Model.ListGrowth.{get_front, get_mapped}
-use Rattle.rasta_check.proofs.Model.Requests.{begins_with}
+use Rattle.rasta_check.proofs.Lists.{get_front, get_mapped, slice_get_some, begins_with}
 use Rattle.rasta_pdu.specs.declared.kind.Kind.TheVariants.{Data}
 
 -- ---- members

@@ -15,10 +15,9 @@ use Rattle.rasta_end.specs.Starts.{start_by}
 use Rattle.rasta_check.specs.Capture.Crossing.{FirstCopy}
 use Rattle.rasta_check.specs.Model.Taken.{position_with, pdus_of, pdus_made, units_shown, units_taken, proof_place, units_from, data_copies}
 use Rattle.rasta_check.specs.Internals.Listing.{shown_by, with_proofs, proofs_from, proved_unit, with_unit, proved_units}
-use Rattle.rasta_check.proofs.Model.ListGrowth.{get_front}
+use Rattle.rasta_check.proofs.Lists.{get_front, slice_get_some}
 use Rattle.rasta_check.proofs.Model.SequenceNumbers.{Numbered}
 use Rattle.rasta_check.proofs.Model.NamedPositions.{SnIs}
-use Rattle.rasta_check.proofs.Script.Tracks.{slice_get_some}
 use Rattle.rasta_check.proofs.Model.ConveyedUnits.{get_or_none}
 use Rattle.rasta_pdu.specs.declared.kind.Kind.TheVariants.{Data}
 
