@@ -33,7 +33,7 @@ use Rattle.rasta_check.proofs.Capture.NextPackets.{first_number, numbers_from, n
 use Rattle.std.proofs.lemmas.Bool.Decides.{nat_tests}
 use Rattle.rasta_check.proofs.Capture.PacketFaults.{copy_found, passed}
 use Rattle.rasta_check.proofs.Capture.Channels.{recorded_more}
-use Rattle.rasta_check.proofs.Lists.{slice_get_some, mapped_some}
+use Rattle.rasta_check.proofs.Lists.{mapped_some}
 use Rattle.rasta_check.proofs.Capture.Positions.{next_new}
 
 next_of : (os : List FirstCopy) (n : ℕ) → is_next_number os n ≡ true → (c : FirstCopy) → slice_get os 0 ≡ Some c → n ≡ wrapped (c.pdu.number + length os)

@@ -18,13 +18,13 @@ use Rattle.rasta_pdu.specs.Pdu.{RedundancyPdu, redundancy_bytes, decode_of}
 use Rattle.rasta_check.specs.declared.crossing_store.StoredPacket.{StoredPacket}
 use Rattle.rasta_check.specs.Capture.Crossing.{FirstCopy, Spells, copy_with, is_next_number, number_fault, read_fault, packet_fault}
 use Rattle.rasta_check.specs.Internals.Datagrams.{Kept, KeptDatagrams, kept_by}
-use Rattle.rasta_check.specs.Capture.Lists.{IsOrdered, numbers_of, places_of, position_of_number, position_of_place}
+use Rattle.rasta_check.specs.Capture.Lists.{IsOrdered, numbers_of, position_of_number, position_of_place}
 use Rattle.rasta_check.specs.Capture.Reading.{Crossing, IsCrossing, sent_by, after_pdu, after_read, sent_after}
 use Rattle.rasta_check.specs.Internals.Stored.{IsStore, Decode, bytes_of, copy_in, pdu_in, packet_by, crossing_by}
 use Rattle.rasta_check.proofs.Capture.Crossings.{few_of, list_of}
 use Rattle.rasta_check.proofs.Capture.Spellings.{read_once}
 use Rattle.rasta_check.proofs.Lists.{slice_get_some, map_at}
-use Rattle.rasta_check.proofs.Capture.Positions.{number_found, number_once, place_missing, place_named}
+use Rattle.rasta_check.proofs.Capture.Positions.{number_found, number_once, place_missing, place_named, same_test}
 use Rattle.rasta_check.proofs.Capture.FaultlessLists.{ordered}
 
 -- ---- a datagram and the first copy that it spells
@@ -159,9 +159,6 @@ module _ (p : Parameters) (d : KeptDatagrams) (packets : List StoredPacket) (st 
       differ (ap (λ (z : FirstCopy). z.place) one ∙ e)))
 
 -- ---- packets of known numbers
-
-same_test : (n m : ℕ) → nat_eq n m ≡ (m == n)
-same_test n m = grind (arith, nat_tests)
 
 -- the first copy of a number stands at the number's position
 copy_step : (e b : Bool) (c : FirstCopy) (own : List FirstCopy) (l : ℕ) (o : Option FirstCopy) → e ≡ b → o ≡ slice_get own l

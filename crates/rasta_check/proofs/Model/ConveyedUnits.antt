@@ -1,7 +1,6 @@
 -- The units conveyed through the positions of an end, as what it made and the asks grow.
 use Rattle.std.proofs.Common.{◌≡◌, ℕ, zero, suc, ◌<◌, ◌≤◌, Bool, true, false, List, [], ◌∷◌, ◌++◌, length, Some, None, slice_get, refl, ap, ◌∙◌, arith}
 use Rattle.std.specs.Prelude.{slice_index_or}
-use Rattle.std.proofs.lemmas.Option.{slice_get-get_or}
 use Rattle.rasta_pdu.specs.declared.kind.Kind.{Kind}
 use Rattle.rasta_pdu.specs.declared.kind.Kind.TheVariants.{Data, RetransmittedData, RetransmissionResponse}
 use Rattle.rasta_end.specs.State.{Made, EndState, kinds, carries_unit}
@@ -40,9 +39,6 @@ last_get (v ∷ w ∷ vs) zero e = absurd (omega arith)
 last_get (v ∷ w ∷ vs) (suc q) e = last_get (w ∷ vs) q (omega arith)
 
 -- The member at a position, or 0 where there is none.
-
-pub get_within : (vs : List ℕ) (c : ℕ) → c < length vs → slice_get vs c ≡ Some (slice_index_or vs c 0)
-get_within vs c l = slice_get-get_or vs c 0 l
 
 pub get_or_none : (vs : List ℕ) (c : ℕ) → slice_get vs c ≡ None → slice_index_or vs c 0 ≡ 0
 get_or_none [] c g = refl

@@ -5,7 +5,7 @@ use Rattle.std.specs.Option.{option_map}
 use Rattle.std.specs.List.{cons_option}
 use Rattle.std.proofs.Math.Seq.{take-append_seam}
 use Rattle.std.proofs.lemmas.Bool.Decides.{nat_tests}
-use Rattle.std.proofs.lemmas.Option.{slice_get_within}
+use Rattle.std.proofs.lemmas.Option.{slice_get_within, slice_get-get_or}
 use Rattle.rasta_pdu.specs.declared.kind.Kind.{Kind}
 use Rattle.rasta_pdu.specs.declared.kind.Kind.TheVariants.{RetransmissionRequest, RetransmissionResponse}
 use Rattle.rasta_pdu.specs.Pdu.{SafetyPdu, is_kind}
@@ -17,7 +17,7 @@ use Rattle.rasta_check.proofs.Model.Counts.{number, tally, number_take_all, numb
 use Rattle.rasta_check.proofs.Model.TakeRows.{kind_is}
 use Rattle.rasta_check.proofs.Model.NamedPositions.{SnIs}
 use Rattle.rasta_check.proofs.Model.Invariant.{Held, is_named}
-use Rattle.rasta_check.proofs.Model.ConveyedUnits.{get_within, answers_number}
+use Rattle.rasta_check.proofs.Model.ConveyedUnits.{answers_number}
 use Rattle.rasta_check.proofs.Model.OfferedUnits.{Valued}
 use Rattle.rasta_check.proofs.Lists.{begins_with, get_next}
 
@@ -160,7 +160,7 @@ module _ (e f : EndState) (t u : ℕ) (h : Held e t f.made) (peer : Held f u e.m
       let one = number_take_at (is_kind RetransmissionResponse) e.made (length before) m there r in
       let all = number_take_all (is_kind RetransmissionResponse) e.made (suc (length before)) in
       let ask = slice_index_or e.asks n 0 in
-      let asked = get_within e.asks n (omega (arith, n_is, one, all, h.asks.asked)) in
+      let asked = slice_get-get_or e.asks n 0 (omega (arith, n_is, one, all, h.asks.asked)) in
       let request = ask_at n ask asked in
       let jump = w.returns.jumps (length before) m there r ask (subst (λ k. slice_get e.asks k ≡ Some ask) n_is asked) in
       (ask, request.0, asked, jump.0, request.1, request.2)

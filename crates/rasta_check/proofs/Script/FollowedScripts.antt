@@ -1,11 +1,9 @@
 -- What the checker answers for a script is the end that it leads to, exactly where it fits.
-use Rattle.std.proofs.Common.{◌≡◌, ℕ, suc, ◌+◌, ◌<◌, ◌≤◌, Bool, true, false, List, [], ◌∷◌, drop, length, get_or, Option, Some, None, Result, Ok, Err, slice_get, position, nat_eq, MatchResult, ◌⊎◌, inl, inr, ⊎_elim, refl, ap, sym, ◌∙◌, arith, subst}
-use Rattle.std.specs.Prelude.{◌-◌, not, nat_lt, ◌==◌, ◌||◌, if◌then◌else◌}
+use Rattle.std.proofs.Common.{◌≡◌, ℕ, suc, ◌+◌, ◌<◌, ◌≤◌, Bool, true, false, List, [], ◌∷◌, drop, length, get_or, Option, Some, None, Result, Ok, Err, slice_get, position, MatchResult, ◌⊎◌, inl, inr, ⊎_elim, refl, ap, sym, ◌∙◌, arith, subst}
+use Rattle.std.specs.Prelude.{not, nat_lt, ◌==◌, ◌||◌, if◌then◌else◌}
 use Rattle.std.proofs.lemmas.Bool.Decides.{nat_tests}
-use Rattle.std.proofs.lemmas.List.Quantifiers.{position-Some}
-use Rattle.std.proofs.Math.Seq.{drop-cons}
 use Rattle.std.proofs.lemmas.List.{drop_all}
-use Rattle.std.proofs.lemmas.Option.{get_or_from_slice_get, slice_get_within, slice_get-get_or}
+use Rattle.std.proofs.lemmas.Option.{slice_get-get_or}
 use Rattle.rasta_pcap.specs.declared.fault.Fault.{Fault}
 use Rattle.rasta_pcap.specs.declared.fault.Side.{Side}
 use Rattle.rasta_pcap.specs.Fault.{fault_of_end, no_memory, slot_order, make_missing, not_yet_crossed, not_rising}
@@ -20,7 +18,7 @@ use Rattle.rasta_end.specs.Starts.{start_of}
 use Rattle.rasta_end.specs.Judged.{JudgedEnd}
 use Rattle.rasta_end.proofs.MakeTests.{no_fault, no_test}
 use Rattle.rasta_check.specs.Capture.Crossing.{FirstCopy}
-use Rattle.rasta_check.specs.Capture.Lists.{IsOrdered, places_of, numbers_of, position_of_number, position_of_place}
+use Rattle.rasta_check.specs.Capture.Lists.{IsOrdered, position_of_number, position_of_place}
 use Rattle.rasta_check.specs.Script.Following.{Cursor, Advances, takes_next, makes_next, Leads, at_start, Follows}
 use Rattle.rasta_check.specs.Internals.Checking.{unless, take_at, take_found, make_of, make_found, next_cursor, then_follow, follow_from, follow, Followed, moved_to, IsRefused}
 use Rattle.rasta_check.proofs.Lists.{drop_one_more}

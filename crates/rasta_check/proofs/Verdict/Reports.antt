@@ -17,8 +17,9 @@ use Rattle.rasta_check.specs.Model.Taken.{position_with, pdus_of, pdus_made, uni
 use Rattle.rasta_check.specs.Internals.Listing.{shown_by, with_proofs, proofs_from, proved_unit, with_unit, proved_units}
 use Rattle.rasta_check.proofs.Lists.{get_front, slice_get_some}
 use Rattle.rasta_check.proofs.Model.SequenceNumbers.{Numbered}
-use Rattle.rasta_check.proofs.Model.NamedPositions.{SnIs}
+use Rattle.rasta_check.proofs.Model.NamedPositions.{SnIs, sn_mod}
 use Rattle.rasta_check.proofs.Model.ConveyedUnits.{get_or_none}
+use Rattle.rasta_check.proofs.Model.Requests.{found_position}
 use Rattle.rasta_pdu.specs.declared.kind.Kind.TheVariants.{Data}
 
 -- ---- the position that a CS names
@@ -26,58 +27,21 @@ use Rattle.rasta_pdu.specs.declared.kind.Kind.TheVariants.{Data}
 -- where no member has this SN, none is at a position
 none_has : (ms : List Made) (sn i : ℕ) (m : Made) → position_with (pdus_made ms) sn ≡ None → slice_get ms i ≡ Some m → m.pdu.sn ≡ sn → ⊥
 none_has [] sn i m n g e = absurd (cc)
-none_has (x ∷ ms) sn i m n g e = by (λ n i g. none_has ms sn i m n g e) (x.pdu.sn == sn) refl i g
+none_has (x ∷ ms) sn i m n g e = by (x.pdu.sn == sn) refl n (λ n i g. none_has ms sn i m n g e) i g
   where
     option_none : (o : Option ℕ) → option_map suc o ≡ None → o ≡ None
     option_none None h = refl
     option_none (Some k) h = absurd (cc)
 
-    same : (a b : ℕ) → (a == b) ≡ false → a ≡ b → ⊥
-    same a b h k = absurd (grind (arith, nat_tests))
-
-    left : (x.pdu.sn == sn) ≡ false → position_with (pdus_made ms) sn ≡ None
-    left h = option_none (position_with (pdus_made ms) sn) (sym (ap (λ b. if b then Some 0 else option_map suc (position_with (pdus_made ms) sn)) h) ∙ n)
-
-    by : (position_with (pdus_made ms) sn ≡ None → (i : ℕ) → slice_get ms i ≡ Some m → ⊥) → (b : Bool) → (x.pdu.sn == sn) ≡ b → (i : ℕ) → slice_get (x ∷ ms) i ≡ Some m → ⊥
-    by rest true h i g = absurd (let z = sym (ap (λ b. if b then Some 0 else option_map suc (position_with (pdus_made ms) sn)) h) ∙ n in cc)
-    by rest false h zero g = (let f : x ≡ m = cc in same x.pdu.sn sn h (ap (λ (k : Made). k.pdu.sn) f ∙ e))
-    by rest false h (suc i) g = rest (left h) i g
-
--- a position that is named has this SN
-has : (ms : List Made) (sn i : ℕ) → position_with (pdus_made ms) sn ≡ Some i → SnIs ms i sn
-has [] sn i n = absurd (cc)
-has (x ∷ ms) sn i n = by (λ i n. has ms sn i n) (x.pdu.sn == sn) refl i n
-  where
-    same : (a b : ℕ) → (a == b) ≡ true → a ≡ b
-    same a b h = grind (arith, nat_tests)
-
-    option_some : (o : Option ℕ) (i : ℕ) → option_map suc o ≡ Some i → (k : ℕ) × (o ≡ Some k) × (i ≡ suc k)
-    option_some None i h = absurd (cc)
-    option_some (Some k) i h = (k, refl, sym (cc))
-
-    by : ((i : ℕ) → position_with (pdus_made ms) sn ≡ Some i → SnIs ms i sn) → (b : Bool) → (x.pdu.sn == sn) ≡ b → (i : ℕ) → position_with (pdus_made (x ∷ ms)) sn ≡ Some i → SnIs (x ∷ ms) i sn
-    by rest true h i n =
-        let z : Some 0 ≡ Some i = sym (ap (λ b. if b then Some 0 else option_map suc (position_with (pdus_made ms) sn)) h) ∙ n in
-        let i0 : 0 ≡ i = cc in
-        subst (λ k. SnIs (x ∷ ms) k sn) i0 (record { m = x; there = refl; same = same x.pdu.sn sn h })
-    by rest false h i n =
-        let z = option_some (position_with (pdus_made ms) sn) i (sym (ap (λ b. if b then Some 0 else option_map suc (position_with (pdus_made ms) sn)) h) ∙ n) in
-        let r = rest z.0 z.1 in
-        subst (λ k. SnIs (x ∷ ms) k sn) (sym z.2) (record { m = r.m; there = r.there; same = r.same })
+    by : (b : Bool) → (x.pdu.sn == sn) ≡ b → (if b then Some 0 else option_map suc (position_with (pdus_made ms) sn)) ≡ None
+        → (position_with (pdus_made ms) sn ≡ None → (i : ℕ) → slice_get ms i ≡ Some m → ⊥) → (i : ℕ) → slice_get (x ∷ ms) i ≡ Some m → ⊥
+    by true h n rest i g = cc
+    by false h n rest zero g = (let f : x ≡ m = cc in let same : x.pdu.sn ≡ sn = ap (λ (k : Made). k.pdu.sn) f ∙ e in absurd (grind (arith, nat_tests)))
+    by false h n rest (suc i) g = rest (option_none (position_with (pdus_made ms) sn) n) i g
 
 -- a named position lies as far after the first SN as the SN does
 distance : (ms : List Made) (sn i : ℕ) → Numbered ms → length ms ≤ 1000001 → SnIs ms i sn → ahead_by sn (first_sn ms) ≡ i
-distance [] sn i h b s = absurd (let e = s.there in cc)
-distance (m ∷ ms) sn zero h b s =
-    let e = s.there in
-    let a : m ≡ s.m = cc in
-    let c : m.pdu.sn ≡ sn = ap (λ (k : Made). k.pdu.sn) a ∙ s.same in
-    omega arith
-distance (m ∷ ms) sn (suc i) h b s =
-    let a : s.m.pdu.sn ≡ (m.pdu.sn + suc i) % 2 ^ 32 = h i s.m s.there in
-    let c = s.same in
-    let l = slice_get_within ms i s.m s.there in
-    omega arith
+distance ms sn i h b s = (let z = sn_mod ms i sn h s in let l = slice_get_within ms i s.m s.there in omega arith)
 
 -- a position as far after the first SN as an SN has that SN
 at_distance : (ms : List Made) (sn i : ℕ) (m : Made) → Numbered ms → first_sn ms < 2 ^ 32 → sn < 2 ^ 32 → slice_get ms i ≡ Some m → ahead_by sn (first_sn ms) ≡ i → m.pdu.sn ≡ sn
@@ -102,7 +66,7 @@ units_named ms vs cs h b l f small = by (position_with (pdus_made ms) cs) refl
 
     by : (o : Option ℕ) → position_with (pdus_made ms) cs ≡ o → slice_index_or vs (ahead_by cs (first_sn ms)) 0 ≡ units_at vs (position_with (pdus_made ms) cs)
     by None e = beyond e (slice_get vs (ahead_by cs (first_sn ms))) refl ∙ ap (units_at vs) (sym e)
-    by (Some i) e = ap (λ k. slice_index_or vs k 0) (distance ms cs i h b (has ms cs i e)) ∙ ap (units_at vs) (sym e)
+    by (Some i) e = ap (λ k. slice_index_or vs k 0) (distance ms cs i h b (found_position ms cs i e)) ∙ ap (units_at vs) (sym e)
 
 -- the first SN of what an end made has 32 bits
 pub first_small : (q : Option Quiet) (s : Side) (ms : List Made) (own : List FirstCopy) → pdus_made ms ≡ pdus_made (start_by q s).made ++ pdus_of own
