@@ -26,13 +26,9 @@ use Rattle.rasta_check.proofs.Run.Moves.{Many, many_moves}
 use Rattle.rasta_check.proofs.Run.Takes.{drain, above_next}
 use Rattle.rasta_check.proofs.Run.Packets.{next_is}
 use Rattle.rasta_check.proofs.Lists.{slice_get_some}
+use Rattle.rasta_check.proofs.Sides.{sided}
 
 -- ---- sides
-
--- what belongs to each side
-abbrev pub sided : (P : Side → Type 0) → P Client → P Server → (x : Side) → P x
-sided P c s Client = c
-sided P c s Server = s
 
 apart : (x : Side) → x ≡ other_side x → ⊥
 apart Client e = absurd (cc)

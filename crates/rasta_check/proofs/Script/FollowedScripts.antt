@@ -23,15 +23,12 @@ use Rattle.rasta_check.specs.Script.Following.{Cursor, Advances, takes_next, mak
 use Rattle.rasta_check.specs.Internals.Checking.{unless, take_at, take_found, make_of, make_found, next_cursor, then_follow, follow_from, follow, Followed, moved_to, IsRefused}
 use Rattle.rasta_check.proofs.Lists.{drop_one_more}
 use Rattle.rasta_check.proofs.Capture.Positions.{number_found, number_named, place_found, place_named}
+use Rattle.rasta_check.proofs.Model.PassedTests.{un_not}
 
 -- ---- one entry that is allowed leads on
 
-not_true : (b : Bool) → not b ≡ false → b ≡ true
-not_true true e = refl
-not_true false e = absurd (cc)
-
 pub less : (a b : ℕ) → not (nat_lt a b) ≡ false → a < b
-less a b e = (let t = not_true (nat_lt a b) e in grind (arith, nat_tests))
+less a b e = (let t = un_not (nat_lt a b) e in grind (arith, nat_tests))
 
 pub not_less : (a b : ℕ) → nat_lt a b ≡ false → b ≤ a
 not_less a b e = grind (arith, nat_tests)
@@ -137,21 +134,16 @@ pub below : (a b : ℕ) → a < b → not (nat_lt a b) ≡ false
 below a b l = (let t : nat_lt a b ≡ true = grind (arith, nat_tests) in ap not t)
 
 pub both : (a b : Bool) → a ≡ false → b ≡ false → (a || b) ≡ false
-both false false e f = refl
-both true b e f = e
-both false true e f = f
+both a b e f = (λ i. e i || f i)
 
 pub passed : {A B : Type 0} (b : Bool) (f : B) (r : Result A B) → b ≡ false → (if b then Err f else r) ≡ r
-passed true f r e = absurd (cc)
-passed false f r e = refl
+passed b f r e = ap (λ c. if c then Err f else r) e
 
 pub held : {A B : Type 0} (b : Bool) (f : B) (r : Result A B) → b ≡ true → (if b then r else Err f) ≡ r
-held true f r e = refl
-held false f r e = absurd (cc)
+held b f r e = ap (λ c. if c then r else Err f) e
 
 pub failed : {A B : Type 0} (b : Bool) (f : B) (r : Result A B) → b ≡ false → (if b then r else Err f) ≡ Err f
-failed true f r e = absurd (cc)
-failed false f r e = refl
+failed b f r e = ap (λ c. if c then r else Err f) e
 
 pub same_equal : (a b : ℕ) → a ≡ b → (a == b) ≡ true
 same_equal a b e = grind (arith, nat_tests)
