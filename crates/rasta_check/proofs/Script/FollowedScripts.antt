@@ -185,22 +185,15 @@ module _ (p : Parameters) (packets : ℕ) (own peer : List FirstCopy) (mine : Is
 -- ---- step by step
 
 module _ (p : Parameters) (packets : ℕ) (own peer : List FirstCopy) (side : Side) where
-  -- an entry that is followed leads on
-  pub step_on : (entry : ℕ) (u v : Cursor) (es : List Entry) (i : ℕ) (x : Entry) → slice_get es i ≡ Some x → next_cursor p packets own peer u x ≡ Ok v
-      → follow_from p side packets own peer entry u (drop i es) ≡ follow_from p side packets own peer (suc entry) v (drop (suc i) es)
+  -- by what the code answers for an entry
+  step_by : (entry : ℕ) (u : Cursor) (es : List Entry) (i : ℕ) (x : Entry) (r : Result Cursor ℕ) → slice_get es i ≡ Some x → next_cursor p packets own peer u x ≡ r
+      → follow_from p side packets own peer entry u (drop i es) ≡ then_follow (λ w. follow_from p side packets own peer (suc entry) w (drop (suc i) es)) entry side r
   unfolding follow_from
-  step_on entry u v es i x g n =
+  step_by entry u es i x r g n =
       ap (follow_from p side packets own peer entry u) (drop_one_more i es x g) ∙ ap (then_follow (λ w. follow_from p side packets own peer (suc entry) w (drop (suc i) es)) entry side) n
 
-  -- one that is refused ends the script
-  pub step_off : (entry : ℕ) (u : Cursor) (es : List Entry) (i : ℕ) (x : Entry) (n : ℕ) → slice_get es i ≡ Some x → next_cursor p packets own peer u x ≡ Err n
-      → follow_from p side packets own peer entry u (drop i es) ≡ Err (fault_of_end n entry side)
-  unfolding follow_from
-  step_off entry u es i x n g e =
-      ap (follow_from p side packets own peer entry u) (drop_one_more i es x g) ∙ ap (then_follow (λ w. follow_from p side packets own peer (suc entry) w (drop (suc i) es)) entry side) e
-
   -- after the last
-  pub step_end : (entry : ℕ) (u : Cursor) (es : List Entry) (i : ℕ) → length es ≤ i
+  step_end : (entry : ℕ) (u : Cursor) (es : List Entry) (i : ℕ) → length es ≤ i
       → follow_from p side packets own peer entry u (drop i es) ≡ (if u.made == length own then Ok u.state else Err (fault_of_end make_missing entry side))
   unfolding follow_from
   step_end entry u es i l = ap (follow_from p side packets own peer entry u) (drop_all i es l)
@@ -213,7 +206,7 @@ module _ (p : Parameters) (packets : ℕ) (own peer : List FirstCopy) (side : Si
       let n' : next_cursor p packets own peer f.cursor (get_or es i d) ≡ Ok f'.cursor = ap (λ q. next_cursor q packets own peer f.cursor (get_or es i d)) (sym same_p) ∙ n in
       let number : f'.entry ≡ suc f.entry = ap (λ (g : Followed). g.entry) m in
       let one : i + 1 ≡ suc i = omega arith in
-      sym (step_on f.entry f.cursor f'.cursor es i (get_or es i d) (slice_get-get_or es i d l) n'
+      sym (step_by f.entry f.cursor es i (get_or es i d) (Ok f'.cursor) (slice_get-get_or es i d l) n'
       ∙ (ap (λ k. follow_from p side packets own peer k f'.cursor (drop (suc i) es)) (sym number)
       ∙ ap (λ k. follow_from p side packets own peer f'.entry f'.cursor (drop k es)) (sym one)))
 
@@ -223,7 +216,7 @@ module _ (p : Parameters) (packets : ℕ) (own peer : List FirstCopy) (side : Si
   loop_off f es i d fault l same_p same_s why = ⊎_elim
       (λ (w : (number : ℕ) × (next_cursor f.params packets own peer f.cursor (get_or es i d) ≡ Err number) × (fault ≡ fault_of_end number f.entry f.side)).
       let n : next_cursor p packets own peer f.cursor (get_or es i d) ≡ Err w.0 = ap (λ q. next_cursor q packets own peer f.cursor (get_or es i d)) (sym same_p) ∙ w.1 in
-      inl (step_off f.entry f.cursor es i (get_or es i d) w.0 (slice_get-get_or es i d l) n ∙ ap Err (ap (fault_of_end w.0 f.entry) (sym same_s) ∙ sym w.2)))
+      inl (step_by f.entry f.cursor es i (get_or es i d) (Err w.0) (slice_get-get_or es i d l) n ∙ ap Err (ap (fault_of_end w.0 f.entry) (sym same_s) ∙ sym w.2)))
       (λ (w : fault ≡ no_memory). inr w)
       why
 
