@@ -192,7 +192,7 @@ module _ (k : Crossing) (a : Packet) (pdu : RedundancyPdu) (reads : decode_of k.
   sent = sent_by k a.side
 
   -- its bytes are compared
-  pub repeats : (position : ℕ) (r : Bool) → position_of_number sent pdu.number ≡ Some position → (c : FirstCopy) → slice_get sent position ≡ Some c
+  repeats : (position : ℕ) (r : Bool) → position_of_number sent pdu.number ≡ Some position → (c : FirstCopy) → slice_get sent position ≡ Some c
       → r ≡ bytes_eq (redundancy_bytes k.params a.side c.pdu) a.payload
       → (packet_fault k.params sent a ≡ (if r then None else Some copy_differs)) × (sent_after k a ≡ sent)
   repeats position r e c g f =
@@ -204,21 +204,15 @@ module _ (k : Crossing) (a : Packet) (pdu : RedundancyPdu) (reads : decode_of k.
   same_bytes : (xs ys : List ℕ) (r : Bool) → r ≡ bytes_eq xs ys → r ≡ true → ys ≡ xs
   same_bytes xs ys r e f = sym ((bytes_eq-Decides xs ys).0 (sym e ∙ f))
 
-  there_by : (position : ℕ) (o : Option FirstCopy) (r : Bool) → slice_get sent position ≡ o → position_of_number sent pdu.number ≡ Some position
-      → IfSome o (λ (c : FirstCopy). r ≡ bytes_eq (redundancy_bytes k.params a.side c.pdu) a.payload)
-      → (c : FirstCopy) × (slice_get sent position ≡ Some c) × (packet_fault k.params sent a ≡ (if r then None else Some copy_differs)) × (sent_after k a ≡ sent)
-      × (r ≡ true → a.payload ≡ redundancy_bytes k.params a.side c.pdu)
-  there_by position None r g e h =
-      let there = (number_found sent pdu.number position e).1 in absurd (cc)
-  there_by position (Some c) r g e h =
-      let w = repeats position r e c g h in
-      (c, g, w.0, w.1, same_bytes (redundancy_bytes k.params a.side c.pdu) a.payload r h)
-
   pub repeats_at : (position : ℕ) (r : Bool) → position_of_number sent pdu.number ≡ Some position
       → IfSome (slice_get sent position) (λ (c : FirstCopy). r ≡ bytes_eq (redundancy_bytes k.params a.side c.pdu) a.payload)
       → (c : FirstCopy) × (slice_get sent position ≡ Some c) × (packet_fault k.params sent a ≡ (if r then None else Some copy_differs)) × (sent_after k a ≡ sent)
       × (r ≡ true → a.payload ≡ redundancy_bytes k.params a.side c.pdu)
-  repeats_at position r e h = there_by position (slice_get sent position) r refl e h
+  repeats_at position r e h =
+      let f = number_found sent pdu.number position e in
+      let same = subst (λ (o : Option FirstCopy). IfSome o (λ (c : FirstCopy). r ≡ bytes_eq (redundancy_bytes k.params a.side c.pdu) a.payload)) f.1 h in
+      let w = repeats position r e f.0 f.1 same in
+      (f.0, f.1, w.0, w.1, same_bytes (redundancy_bytes k.params a.side f.0.pdu) a.payload r same)
 
   -- no first copy has its number, which isn't the next
   pub skips : position_of_number sent pdu.number ≡ None → is_next_number sent pdu.number ≡ false → packet_fault k.params sent a ≡ Some number_gap
