@@ -87,11 +87,7 @@ number_once sent h few i j c d x y e =
     let li = slice_get_within sent i c x in
     let lj = slice_get_within sent j d y in
     let head = slice_get_some sent 0 (omega arith) in
-    let ni = h.numbers i head.0 c head.1 x in
-    let nj = h.numbers j head.0 d head.1 y in
-    let up : i < j → ⊥ = λ z. not_again head.0.pdu.number i j c.pdu.number d.pdu.number ni nj z (omega arith) e in
-    let down : j < i → ⊥ = λ z. not_again head.0.pdu.number j i d.pdu.number c.pdu.number nj ni z (omega arith) (sym e) in
-    omega (arith, up, down)
+    omega (arith, li, lj, few, e, h.numbers i head.0 c head.1 x, h.numbers j head.0 d head.1 y)
 
 pub number_named : (sent : List FirstCopy) → IsOrdered sent → length sent < 4294967296 → (i : ℕ) (c : FirstCopy) → slice_get sent i ≡ Some c → position_of_number sent c.pdu.number ≡ Some i
 number_named sent h few i c g =

@@ -196,14 +196,8 @@ appended p ws w (goes_on {ws = us} {w = u} r st) k l =
     elim (dec_lt k (length u.crossed)) [
       | yes y ↦ (let a = appended p us u r k y in (a.0, a.1, record { i = a.2.i; here = get_front (us ++ u ∷ []) (w ∷ []) a.2.i a.0 a.2.here; there = get_front (us ++ u ∷ []) (w ∷ []) (suc a.2.i) a.1 a.2.there; before = a.2.before; after = a.2.after }))
       | no y ↦ (let s = stepped p u w st in let m = s.more in let q = length_push us u in
-          (u, w, record { i = length us; here = get_front (us ++ u ∷ []) (w ∷ []) (length us) u (get_push us u); there = subst (λ j. slice_get ((us ++ u ∷ []) ++ w ∷ []) j ≡ Some w) (let z : length (us ++ u ∷ []) ≡ suc (length us) = omega arith in z) (get_push (us ++ u ∷ []) w); before = at_end k (length u.crossed) (length w.crossed) y l m; after = at_next k (length u.crossed) (length w.crossed) y l m }))
+          (u, w, record { i = length us; here = get_front (us ++ u ∷ []) (w ∷ []) (length us) u (get_push us u); there = subst (λ j. slice_get ((us ++ u ∷ []) ++ w ∷ []) j ≡ Some w) (let z : length (us ++ u ∷ []) ≡ suc (length us) = omega arith in z) (get_push (us ++ u ∷ []) w); before = omega (arith, y, l, m); after = omega (arith, y, l, m) }))
     ]
-  where
-    at_end : (k m n : ℕ) → (k < m → ⊥) → k < n → n ≤ suc m → m ≡ k
-    at_end k m n h l q = omega arith
-
-    at_next : (k m n : ℕ) → (k < m → ⊥) → k < n → n ≤ suc m → n ≡ suc k
-    at_next k m n h l q = omega arith
 
 -- the PDU of a copy
 pub made_at : (p : Parameters) (s : Side) (xs : List Packet) (own : List FirstCopy) (e : EndState) (f j : ℕ) (d : FirstCopy) → Sends p s xs own e f → slice_get own j ≡ Some d → (m : Made) × (slice_get e.made (base p + j) ≡ Some m) × (m.pdu ≡ d.pdu.safety)
