@@ -8,7 +8,7 @@ use Rattle.rasta_pdu.specs.declared.kind.Kind.{Kind}
 use Rattle.rasta_end.specs.State.{Made, EndState}
 use Rattle.rasta_end.specs.TakeRule.{effect}
 use Rattle.rasta_check.specs.Capture.Crossing.{FirstCopy}
-use Rattle.rasta_check.proofs.Model.ListGrowth.{get_front, get_front_within}
+use Rattle.rasta_check.proofs.Lists.{get_front, get_front_within}
 use Rattle.rasta_check.proofs.Model.Counts.{number, tally}
 use Rattle.rasta_build.specs.Built.{Built}
 use Rattle.rasta_build.proofs.Readiness.{IsReady}

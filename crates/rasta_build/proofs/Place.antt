@@ -18,12 +18,11 @@ use Rattle.rasta_check.specs.Capture.Crossing.{FirstCopy, Sent, CrossRecorded}
 use Rattle.rasta_check.specs.Model.World.{most_sent}
 use Rattle.rasta_check.specs.Model.Theorem.{OfConnection, most_packets}
 use Rattle.rasta_check.specs.Script.Following.{Cursor, Advances, takes_next, makes_next, Leads, at_start, Follows}
-use Rattle.rasta_check.proofs.Model.ListGrowth.{get_front}
+use Rattle.rasta_check.proofs.Lists.{get_front, slice_get_some}
 use Rattle.rasta_check.proofs.Capture.FaultlessLists.{IsSent}
 use Rattle.rasta_check.proofs.Capture.ListForms.{to_record}
 use Rattle.rasta_check.proofs.Model.Steps.{made_more}
 use Rattle.rasta_check.proofs.Model.TakeRows.{take_leaves}
-use Rattle.rasta_check.proofs.Script.Tracks.{slice_get_some}
 use Rattle.rasta_check.proofs.Run.Simulation.{simulated}
 use Rattle.rasta_check.proofs.Theorem.SentRuns.{known}
 use Rattle.rasta_build.specs.Built.{Built}

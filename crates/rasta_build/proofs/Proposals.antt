@@ -16,7 +16,7 @@ use Rattle.rasta_check.specs.Capture.Lists.{IsOrdered}
 use Rattle.rasta_check.proofs.Capture.FaultlessLists.{IsSent}
 use Rattle.rasta_check.proofs.Script.Fits.{follows_fits}
 use Rattle.rasta_check.proofs.Capture.ListForms.{to_record}
-use Rattle.rasta_check.proofs.Script.Tracks.{slice_get_some}
+use Rattle.rasta_check.proofs.Lists.{slice_get_some}
 use Rattle.rasta_build.specs.Built.{Built}
 use Rattle.rasta_build.specs.Choices.{first_of}
 use Rattle.rasta_build.specs.Proposing.{Pass, first_pass, one_more, pass_on, passes, copy_goes, client_goes, server_goes, all_copies, proposal, proposed_by, scripts_of}

@@ -17,7 +17,7 @@ use Rattle.rasta_end.specs.TakeRule.{effect, take_row, take_fault, is_heartbeat_
 use Rattle.rasta_check.specs.Capture.Crossing.{FirstCopy}
 use Rattle.rasta_check.proofs.Model.TakeRows.{row_known}
 use Rattle.rasta_check.proofs.Model.Counts.{number, number_take_more, number_take_at}
-use Rattle.rasta_check.proofs.Script.Tracks.{slice_get_some}
+use Rattle.rasta_check.proofs.Lists.{slice_get_some}
 use Rattle.rasta_build.specs.Built.{Built}
 use Rattle.rasta_build.specs.Choices.{copy_at, is_trigger}
 use Rattle.rasta_build.specs.Explaining.{taken_by, try_at, scan, first_tried, take_trigger, positions_tried}

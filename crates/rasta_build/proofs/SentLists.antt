@@ -1,5 +1,5 @@
 -- The lists that a builder is given, and what has crossed of them so far.
-use Rattle.std.proofs.Common.{◌≡◌, ℕ, suc, ◌+◌, ◌-◌, ◌^◌, ◌<◌, ◌≤◌, false, List, [], ◌∷◌, ◌++◌, length, Option, Some, None, slice_get, refl, ap, sym, ◌∙◌, arith, subst}
+use Rattle.std.proofs.Common.{◌≡◌, ℕ, ◌+◌, ◌-◌, ◌^◌, ◌<◌, ◌≤◌, false, List, [], ◌∷◌, ◌++◌, length, Option, Some, None, slice_get, refl, ap, sym, ◌∙◌, arith, subst}
 use Rattle.std.specs.Prelude.{◌==◌}
 use Rattle.std.proofs.lemmas.Bool.Decides.{nat_tests}
 use Rattle.std.proofs.lemmas.Option.{slice_get_within}
@@ -16,12 +16,12 @@ use Rattle.rasta_end.specs.Starts.{start_by}
 use Rattle.rasta_check.specs.Capture.Crossing.{FirstCopy}
 use Rattle.rasta_check.specs.Model.World.{other_side}
 use Rattle.rasta_check.specs.Model.Taken.{pdus_made, pdus_of}
-use Rattle.rasta_check.proofs.Model.ListGrowth.{get_front}
-use Rattle.rasta_check.proofs.Capture.FaultlessLists.{IsSent}
-use Rattle.rasta_check.proofs.Script.Tracks.{slice_get_some, places_rise}
+use Rattle.rasta_check.proofs.Lists.{get_front, slice_get_some, get_next}
+use Rattle.rasta_check.proofs.Capture.FaultlessLists.{IsSent, ordered}
 use Rattle.rasta_check.proofs.Model.Steps.{base, base_by}
-use Rattle.rasta_check.proofs.Capture.NextPackets.{Begins, get_past}
+use Rattle.rasta_check.proofs.Capture.NextPackets.{Begins}
 use Rattle.rasta_check.proofs.Script.ScriptsOfRuns.{Sends, copy_at as sent_at}
+use Rattle.rasta_check.proofs.Capture.Positions.{places_rise}
 use Rattle.rasta_build.specs.Choices.{peer_quiet_sn, member_at, copy_there, first_sn_of}
 use Rattle.rasta_build.proofs.Scans.{AreCopies}
 
@@ -29,7 +29,7 @@ pub begun_get : (big own : List FirstCopy) (n i : ℕ) (c : FirstCopy) → Begin
 begun_get big own n i c b g = subst (λ (l : List FirstCopy). slice_get l i ≡ Some c) (sym b.whole) (get_front own b.later i c g)
 
 pub begun_next : (big own : List FirstCopy) (n : ℕ) (c : FirstCopy) → Begins big own n → slice_get big (length own) ≡ Some c → n ≤ c.place
-begun_next big own n c b g = b.place c (sym (get_past own b.later) ∙ (ap (λ (l : List FirstCopy). slice_get l (length own)) (sym b.whole) ∙ g))
+begun_next big own n c b g = b.place c (sym (get_next own b.later) ∙ (ap (λ (l : List FirstCopy). slice_get l (length own)) (sym b.whole) ∙ g))
 
 -- ---- positions
 
@@ -87,7 +87,7 @@ first_there p s r xs peer big f first e h b l = first_by p.quiet s r peer big b.
 pub sent_rises : (p : Parameters) (packets : List Packet) (side : Side) (own : List FirstCopy) → IsSent p packets side own → (i j : ℕ) (a b : FirstCopy) → slice_get own i ≡ Some a → slice_get own j ≡ Some b → i ≤ j → a.place ≤ b.place
 sent_rises p packets side own h i j a b x y l =
     elim (dec_lt i j) [
-      | yes z ↦ (let w : suc (j - suc i) + i ≡ j = omega arith in let r = places_rise p packets side own h (j - suc i) i a b x (subst (λ k. slice_get own k ≡ Some b) (sym w) y) in omega (arith, r))
+      | yes z ↦ (let r = places_rise own (ordered h) i j a b x y z in omega (arith, r))
       | no z ↦ (let w : j ≡ i = omega arith in let e : a ≡ b = (let y' : slice_get own i ≡ Some b = subst (λ k. slice_get own k ≡ Some b) w y in cc) in let q = ap (λ (k : FirstCopy). k.place) e in omega (arith, q))
     ]
 

@@ -7,7 +7,7 @@ use Rattle.rasta_udp.specs.Frame.{Packet}
 use Rattle.rasta_pdu.specs.Params.{Parameters, AreParameters}
 use Rattle.rasta_check.specs.Capture.Crossing.{FirstCopy}
 use Rattle.rasta_check.specs.Model.World.{Station, World, Step, side_moves, IsWithin}
-use Rattle.rasta_check.proofs.Model.ListGrowth.{get_push}
+use Rattle.rasta_check.proofs.Lists.{get_push}
 use Rattle.rasta_check.proofs.Capture.FaultlessLists.{IsSent}
 use Rattle.rasta_check.proofs.Capture.FirstCopies.{sent_once}
 use Rattle.rasta_check.proofs.Model.InvariantOfRuns.{All, few_made}

@@ -2,6 +2,5 @@
 pub mod StoreGrowth
 pub mod DatagramGrowth
 pub mod ListPushes
-pub mod Sides
 pub mod StoreLists
 pub mod PartialReading

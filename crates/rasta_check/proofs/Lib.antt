@@ -1,3 +1,5 @@
+pub mod Lists
+pub mod Sides
 pub mod Model
 pub mod Theorem
 pub mod Capture

@@ -3,7 +3,6 @@ pub mod Acceptance
 pub mod Requests
 pub mod Counts
 pub mod Distances
-pub mod ListGrowth
 pub mod HandedUnits
 pub mod Invariant
 pub mod InvariantAtMake

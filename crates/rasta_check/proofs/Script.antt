@@ -1,5 +1,4 @@
 -- Scripts that fit, and the runs that they tell.
-pub mod ListItems
 pub mod FollowedScripts
 pub mod CutScripts
 pub mod Fits

@@ -1,5 +1,5 @@
 -- Packets are found on recorded channels.
-use Rattle.std.proofs.Common.{◌≡◌, ◌⊎◌, ℕ, suc, ◌+◌, ◌<◌, ◌≤◌, List, [], ◌∷◌, ◌++◌, length, Bool, cond, Option, Some, Result, Ok, slice_get, refl, ap, sym, ◌∙◌, arith, inl, inr, ⊎_elim, subst}
+use Rattle.std.proofs.Common.{◌≡◌, ◌⊎◌, ℕ, suc, ◌+◌, ◌<◌, ◌≤◌, List, [], ◌∷◌, ◌++◌, length, Bool, cond, Option, Some, Result, Ok, refl, ap, sym, ◌∙◌, arith, inl, inr, subst}
 use Rattle.std.specs.Prelude.{slice_range}
 use Rattle.std.specs.List.{find}
 use Rattle.std.specs.Option.{option_map}
@@ -11,7 +11,7 @@ use Rattle.rasta_udp.specs.Frame.{Direction, Fields, Found, Packet, directions_f
 use Rattle.rasta_pdu.specs.Params.{Parameters}
 use Rattle.rasta_check.specs.Capture.Crossing.{CrossRecorded}
 use Rattle.rasta_check.specs.Capture.Crossing.{IsRecorded}
-use Rattle.rasta_check.proofs.Model.ListGrowth.{get_push_cases}
+use Rattle.rasta_check.proofs.Lists.{all_push}
 
 -- a channel's number is one of so many from this one on
 abbrev Among : ℕ → ℕ → ℕ → Type 0
@@ -85,7 +85,4 @@ is_recorded_by p channels frame o q found a b e f = is_recorded p frame (packet_
 
 -- packets on recorded channels, and one more
 pub recorded_more : (p : Parameters) (packets : List Packet) (a : Packet) → CrossRecorded p packets → IsRecorded p a.channel → CrossRecorded p (packets ++ a ∷ [])
-recorded_more p packets a all one place b g = ⊎_elim
-    (λ (old : slice_get packets place ≡ Some b). all place b old)
-    (λ (new : (place ≡ length packets) × (a ≡ b)). subst (λ (x : Packet). IsRecorded p x.channel) new.1 one)
-    (get_push_cases packets a place b g)
+recorded_more p packets a all one = all_push packets a all one

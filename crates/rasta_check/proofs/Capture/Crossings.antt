@@ -26,14 +26,15 @@ use Rattle.rasta_check.specs.Internals.Packets.{with_new}
 use Rattle.rasta_check.specs.Capture.Lists.{copy_of}
 use Rattle.rasta_pdu.specs.declared.pdu.Pdu.{Pdu}
 use Rattle.rasta_check.specs.Capture.Reading.{Crossing, IsCrossing, sent_by, after_pdu, after_read, sent_after, with_packet, crossing_with, is_within}
-use Rattle.rasta_check.proofs.Capture.FaultlessLists.{IsSent}
+use Rattle.rasta_check.proofs.Capture.FaultlessLists.{IsSent, ordered}
 use Rattle.rasta_check.proofs.Capture.ListForms.{to_record, of_record}
-use Rattle.rasta_check.proofs.Script.Tracks.{slice_get_some}
-use Rattle.rasta_check.proofs.Capture.FirstCopies.{not_again, sent_copy, sent_first, sent_other}
+use Rattle.rasta_check.proofs.Capture.FirstCopies.{sent_copy, sent_first, sent_other}
 use Rattle.rasta_check.proofs.Capture.NextPackets.{first_number, numbers_from, next_from}
 use Rattle.std.proofs.lemmas.Bool.Decides.{nat_tests}
 use Rattle.rasta_check.proofs.Capture.PacketFaults.{copy_found, passed}
 use Rattle.rasta_check.proofs.Capture.Channels.{recorded_more}
+use Rattle.rasta_check.proofs.Lists.{mapped_some}
+use Rattle.rasta_check.proofs.Capture.Positions.{next_new}
 
 next_of : (os : List FirstCopy) (n : ℕ) → is_next_number os n ≡ true → (c : FirstCopy) → slice_get os 0 ≡ Some c → n ≡ wrapped (c.pdu.number + length os)
 next_of [] n e c g = absurd (cc)
@@ -93,16 +94,11 @@ pub few_of : (k : Crossing) → IsCrossing k → (side : Side) → length (sent_
 few_of k h Client = h.sent.few_client
 few_of k h Server = h.sent.few_server
 
--- the first copy at this place
-placed : (o : Option FirstCopy) (place : ℕ) → option_map (λ (c : FirstCopy). c.place) o ≡ Some place → (c : FirstCopy) × (o ≡ Some c) × (c.place ≡ place)
-placed None place e = absurd (cc)
-placed (Some c) place e = (c, refl, cc)
-
 -- the packet of a first copy
 first_packet : (k : Crossing) (side : Side) (number place : ℕ) → IsCrossing k → option_map (λ (c : FirstCopy). c.place) (copy_with (sent_by k side) number) ≡ Some place
     → (c : FirstCopy) × (b : Packet) × (copy_with (sent_by k side) number ≡ Some c) × (slice_get k.packets place ≡ Some b) × (b.payload ≡ redundancy_bytes k.params side c.pdu)
 first_packet k side number place h e =
-    let w = placed (copy_with (sent_by k side) number) place e in
+    let w = mapped_some (λ (c : FirstCopy). c.place) (copy_with (sent_by k side) number) place e in
     let f = copy_found (sent_by k side) number w.0 w.1 in
     let q = (list_of k h side).firsts f.0 w.0 f.1 in
     (w.0, q.0, w.1, subst (λ (j : ℕ). slice_get k.packets j ≡ Some q.0) w.2 q.1, q.3.same)
@@ -130,10 +126,8 @@ next_unknown k side n h e None f = refl
 next_unknown k side n h e (Some c) f =
     let own = sent_by k side in
     let w = copy_found own n c f in
-    let l = slice_get_within own w.0 c w.1 in
     let few = few_of k h side in
-    let head = slice_get_some own 0 (omega arith) in
-    absurd (not_again head.0.pdu.number w.0 (length own) c.pdu.number n ((list_of k h side).numbers w.0 head.0 c head.1 w.1) (next_of own n e head.0 head.1) l (omega arith) w.2)
+    absurd (next_new own (ordered (list_of k h side)) (omega arith) n (next_of own n e) w.0 c w.1 w.2)
 
 -- a packet with the next number has no fault, and its PDU joins the list
 pub is_next_pdu : (k : Crossing) (a : Packet) (pdu : Pdu) → IsCrossing k → decode_of k.params a.side a.payload ≡ Ok (value_of pdu)

@@ -5,6 +5,7 @@ use Rattle.rasta_udp.specs.Frame.{Packet}
 use Rattle.rasta_pdu.specs.Params.{Parameters, AreParameters}
 use Rattle.rasta_end.specs.State.{wrapped}
 use Rattle.rasta_check.specs.Capture.Crossing.{FirstCopy, Spells}
+use Rattle.rasta_check.specs.Capture.Lists.{IsOrdered}
 
 -- these are the first copies of a side, in the order in which they crossed
 pub record IsSent (p : Parameters) (packets : List Packet) (side : Side) (sent : List FirstCopy) : Type 0 where
@@ -14,3 +15,6 @@ pub record IsSent (p : Parameters) (packets : List Packet) (side : Side) (sent :
   pub numbers : (i : ℕ) (c d : FirstCopy) → slice_get sent 0 ≡ Some c → slice_get sent i ≡ Some d → d.pdu.number ≡ wrapped (c.pdu.number + i)
   pub copies : (k : ℕ) (a : Packet) → slice_get packets k ≡ Some a → a.side ≡ side
       → (i : ℕ) × (c : FirstCopy) × (slice_get sent i ≡ Some c) × (c.place ≤ k) × Spells p side c.pdu a.payload
+
+pub ordered : {p : Parameters} {packets : List Packet} {side : Side} {sent : List FirstCopy} → IsSent p packets side sent → IsOrdered sent
+ordered h = record { places = h.rising; numbers = h.numbers }

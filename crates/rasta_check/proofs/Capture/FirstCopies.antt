@@ -1,5 +1,5 @@
 -- The first copies of a growing list of packets, and that a list of packets has one list of first copies.
-use Rattle.std.proofs.Common.{◌≡◌, ℕ, zero, suc, ◌+◌, ◌-◌, ◌%◌, ◌^◌, ◌<◌, ◌≤◌, List, [], ◌∷◌, ◌++◌, length, Option, Some, None, slice_get, refl, ap, sym, ◌∙◌, arith, ⊎_elim, subst}
+use Rattle.std.proofs.Common.{◌≡◌, ℕ, zero, suc, ◌+◌, ◌%◌, ◌^◌, ◌<◌, ◌≤◌, List, [], ◌∷◌, ◌++◌, length, Option, Some, None, slice_get, refl, ap, sym, ◌∙◌, arith, ⊎_elim, subst}
 use Rattle.std.proofs.lemmas.Option.{slice_get_within}
 use native.Mathlib.Decide.{dec_lt}
 use Prim.{yes, no}
@@ -8,10 +8,10 @@ use Rattle.rasta_end.specs.State.{wrapped}
 use Rattle.rasta_pdu.specs.Pdu.{RedundancyPdu}
 use Rattle.rasta_check.specs.Capture.Crossing.{Spells, FirstCopy}
 use Rattle.rasta_udp.specs.Frame.{Packet}
-use Rattle.rasta_check.proofs.Capture.FaultlessLists.{IsSent}
-use Rattle.rasta_check.proofs.Model.ListGrowth.{get_push_cases, get_front, get_push}
+use Rattle.rasta_check.proofs.Capture.FaultlessLists.{IsSent, ordered}
+use Rattle.rasta_check.proofs.Lists.{get_push_cases, get_front, get_push, slice_get_some}
 use Rattle.rasta_check.proofs.Capture.Spellings.{read_once}
-use Rattle.rasta_check.proofs.Script.Tracks.{places_rise, slice_get_some}
+use Rattle.rasta_check.proofs.Capture.Positions.{not_again, places_rise}
 use Rattle.rasta_pdu.specs.Params.{Parameters, AreParameters}
 
 old_first : (p : Parameters) (xs : List Packet) (k : Packet) (s : Side) (own : List FirstCopy) (i : ℕ) (c : FirstCopy) → IsSent p xs s own → slice_get own i ≡ Some c → (b : Packet) × (slice_get (xs ++ k ∷ []) c.place ≡ Some b) × (b.side ≡ s) × Spells p s c.pdu b.payload
@@ -90,9 +90,6 @@ sent_first p xs k s own d f h cf side sp num =
 pub sent_none : (p : Parameters) (s : Side) → AreParameters p → IsSent p [] s []
 sent_none p s valid = record { valid = valid; firsts = λ i c g. absurd (cc); rising = λ i a b x y. absurd (cc); numbers = λ i a b x y. absurd (cc); copies = λ k a g e. absurd (cc) }
 
-pub not_again : (f i j m n : ℕ) → m ≡ (f + i) % 2 ^ 32 → n ≡ (f + j) % 2 ^ 32 → i < j → j < 4294967296 → m ≡ n → ⊥
-not_again f i j m n x y l b e = omega arith
-
 -- two lists of first copies that agree p below i: the place of the one's i-th is not below that of the other's
 module _ (p : Parameters) (xs : List Packet) (s : Side) (c d : List FirstCopy) (hc : IsSent p xs s c) (hd : IsSent p xs s d) where
   abbrev Agree : ℕ → Type 0
@@ -115,7 +112,7 @@ below_by p xs s d h i j a b e at l g m =
     elim (dec_lt j i) [
       | yes z ↦ z
       | no z ↦ absurd (elim (dec_lt i j) [
-        | yes y ↦ (let r = places_rise p xs s d h (j - suc i) i e b at (subst (λ (t : ℕ). slice_get d t ≡ Some b) (omega arith) g) in omega arith)
+        | yes y ↦ (let r = places_rise d (ordered h) i j e b at g y in omega arith)
         | no y ↦ (let same : i ≡ j = omega arith in let q : e ≡ b = cc (ap (slice_get d) same) in let w = ap (λ (u : FirstCopy). u.place) q in omega arith)
       ])
     ]

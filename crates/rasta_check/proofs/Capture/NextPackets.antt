@@ -1,5 +1,5 @@
 -- Which packet may come next.
-use Rattle.std.proofs.Common.{◌≡◌, ℕ, zero, suc, ◌+◌, ◌-◌, ◌^◌, ◌<◌, ◌≤◌, ◌⊎◌, List, [], ◌∷◌, ◌++◌, length, Some, slice_get, refl, ap, sym, ◌∙◌, arith, inl, inr, subst}
+use Rattle.std.proofs.Common.{◌≡◌, ℕ, zero, suc, ◌+◌, ◌^◌, ◌<◌, ◌≤◌, ◌⊎◌, List, [], ◌∷◌, ◌++◌, length, Some, slice_get, refl, ap, sym, ◌∙◌, arith, inl, inr, subst}
 use Rattle.std.proofs.lemmas.Option.{slice_get_within}
 use native.Mathlib.Decide.{dec_lt}
 use Prim.{yes, no}
@@ -10,11 +10,12 @@ use Rattle.rasta_pdu.specs.Pdu.{RedundancyPdu}
 use Rattle.rasta_check.specs.Capture.Crossing.{Spells, FirstCopy}
 use Rattle.rasta_udp.specs.Frame.{Packet}
 use Rattle.rasta_check.specs.Model.World.{World, Reaches}
-use Rattle.rasta_check.proofs.Capture.FaultlessLists.{IsSent}
+use Rattle.rasta_check.proofs.Capture.FaultlessLists.{IsSent, ordered}
 use Rattle.rasta_end.proofs.Lists.{get_front, get_front_within}
 use Rattle.rasta_check.proofs.Capture.FirstCopies.{below_by, sent_once, Counts_from}
-use Rattle.rasta_check.proofs.Script.Tracks.{places_rise, slice_get_some}
 use Rattle.rasta_check.proofs.Script.ScriptsOfRuns.{told_by}
+use Rattle.rasta_check.proofs.Lists.{slice_get_some, get_next}
+use Rattle.rasta_check.proofs.Capture.Positions.{places_rise}
 
 -- it says something, and its number has crossed with the same bytes, or is the next, or is the first
 abbrev pub CanFollow : Parameters → List Packet → Side → List FirstCopy → Packet → Type 0
@@ -28,11 +29,6 @@ pub record Begins (big own : List FirstCopy) (n : ℕ) : Type 0 where
   pub later : List FirstCopy
   pub whole : big ≡ own ++ later
   pub place : (c : FirstCopy) → slice_get later 0 ≡ Some c → n ≤ c.place
-
--- the member after those that crossed
-pub get_past : {A : Type 0} (xs ys : List A) → slice_get (xs ++ ys) (length xs) ≡ slice_get ys 0
-get_past [] ys = refl
-get_past (x ∷ xs) ys = get_past xs ys
 
 AreBelow : ℕ → List FirstCopy → Type 0
 AreBelow n own = (i : ℕ) (c : FirstCopy) → slice_get own i ≡ Some c → c.place < n
@@ -65,7 +61,7 @@ module _ (p : Parameters) (xs ys : List Packet) (s : Side) (own later : List Fir
     | no m ↦
         let n = slice_get_within (own ++ later) i c g in
         let f = slice_get_some (own ++ later) (length own) (omega arith) in
-        let first = high f.0 (sym (get_past own later) ∙ f.1) in
+        let first = high f.0 (sym (get_next own later) ∙ f.1) in
         below_by p (xs ++ ys) s (own ++ later) h (length own) i c c f.0 f.1 (omega arith) g (omega arith)
   ]
 
@@ -89,8 +85,8 @@ module _ (p : Parameters) (xs ys : List Packet) (s : Side) (own later : List Fir
       let not_high : length own < i → ⊥ = λ l.
       (let n = slice_get_within (own ++ later) i c g in
       let f = slice_get_some (own ++ later) (length own) (omega arith) in
-      let first = high f.0 (sym (get_past own later) ∙ f.1) in
-      let r = places_rise p (xs ++ ys) s (own ++ later) h (i - suc (length own)) (length own) f.0 c f.1 (subst (λ (j : ℕ). slice_get (own ++ later) j ≡ Some c) (omega arith) g) in
+      let first = high f.0 (sym (get_next own later) ∙ f.1) in
+      let r = places_rise (own ++ later) (ordered h) (length own) i f.0 c f.1 g l in
       absurd (omega arith)) in
       omega (arith, not_low, not_high)
 
@@ -104,7 +100,7 @@ cut p ys xs s big h =
 follow_by : (p : Parameters) (xs rest : List Packet) (s : Side) (own later : List FirstCopy) (a : Packet) → IsSent p xs s own → IsSent p (xs ++ a ∷ rest) s (own ++ later)
     → ((c : FirstCopy) → slice_get later 0 ≡ Some c → length xs ≤ c.place) → a.side ≡ s → CanFollow p xs s own a
 follow_by p xs rest s own later a h g high sd =
-    let w = g.copies (length xs) a (get_past xs (a ∷ rest)) sd in
+    let w = g.copies (length xs) a (get_next xs (a ∷ rest)) sd in
     (w.1.pdu, w.4, elim (dec_lt w.1.place (length xs)) [
       | yes l ↦ inl (w.0, w.1, sym (get_front_within own later w.0 (within_own p xs (a ∷ rest) s own later g high w.0 w.1 w.2 l)) ∙ w.2, refl)
       | no l ↦ inr (λ c x. (let at = w.3 in

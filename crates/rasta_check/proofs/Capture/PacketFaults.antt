@@ -3,7 +3,6 @@ use Rattle.std.proofs.Common.{◌≡◌, ◌⊎◌, ℕ, zero, suc, ◌+◌, ◌
 use Rattle.std.specs.Prelude.{◌==◌, if◌then◌else◌}
 use Rattle.std.specs.Str.{bytes_eq}
 use Rattle.std.proofs.lemmas.Bool.Decides.{nat_tests}
-use Rattle.std.proofs.lemmas.Option.{slice_get_within}
 use Rattle.std.proofs.lemmas.Slice.Eq.{bytes_eq-Decides}
 use Rattle.rasta_pcap.specs.Fault.{copy_differs, number_gap}
 use Rattle.rasta_pcap.specs.declared.fault.Side.{Side}
@@ -15,11 +14,9 @@ use Rattle.rasta_pdu.proofs.Spellings.{decode_of-redundancy_bytes}
 use Rattle.rasta_end.specs.State.{wrapped}
 use Rattle.rasta_check.specs.Capture.Crossing.{FirstCopy, Spells, copy_with, is_next_number, repeat_fault, number_fault, read_fault}
 use Rattle.rasta_check.specs.Model.Theorem.{OfConnection}
-use Rattle.rasta_check.proofs.Capture.FaultlessLists.{IsSent}
-use Rattle.rasta_check.proofs.Capture.FirstCopies.{not_again}
-use Rattle.rasta_check.proofs.Script.Tracks.{slice_get_some}
-use Rattle.rasta_check.proofs.Script.OneWay.{number_once}
+use Rattle.rasta_check.proofs.Capture.FaultlessLists.{IsSent, ordered}
 use Rattle.rasta_check.proofs.Capture.NextPackets.{CanFollow}
+use Rattle.rasta_check.proofs.Capture.Positions.{next_new, number_once}
 
 receiver_small : (p : Parameters) (side : Side) → OfConnection p → receiver_of p side < 2 ^ 32
 receiver_small p Client h = h.server_id
@@ -74,24 +71,17 @@ is_next (c ∷ own) n h = (let z = h c refl in grind (arith, nat_tests))
 module _ (p : Parameters) (packets : List Packet) (side : Side) (own : List FirstCopy) (a : Packet) (h : OfConnection p) (sent : IsSent p packets side own) (few : length own < 4294967296) where
   repeats_first : (d : RedundancyPdu) → Spells p side d a.payload → (i j : ℕ) (c e : FirstCopy) → slice_get own i ≡ Some c → slice_get own j ≡ Some e → c.pdu.number ≡ d.number → e.pdu ≡ d → repeat_fault p side c a.payload ≡ None
   repeats_first d s i j c e g k n m =
-      let at : i ≡ j = number_once p packets side own sent few i j c e g k (n ∙ sym (ap (λ (z : RedundancyPdu). z.number) m)) in
+      let at : i ≡ j = number_once own (ordered sent) few i j c e g k (n ∙ sym (ap (λ (z : RedundancyPdu). z.number) m)) in
       let same : c ≡ e = (let z : slice_get own i ≡ Some e = subst (λ t. slice_get own t ≡ Some e) (sym at) k in cc) in
       let is : redundancy_bytes p side c.pdu ≡ a.payload = ap (λ (z : FirstCopy). redundancy_bytes p side z.pdu) same ∙ (ap (redundancy_bytes p side) m ∙ sym s.same) in
       passes (bytes_eq (redundancy_bytes p side c.pdu) a.payload) copy_differs ((bytes_eq-Decides (redundancy_bytes p side c.pdu) a.payload).1 is)
-
-  not_next : (d : RedundancyPdu) (i : ℕ) (c : FirstCopy) → slice_get own i ≡ Some c → c.pdu.number ≡ d.number
-      → ((e : FirstCopy) → slice_get own 0 ≡ Some e → d.number ≡ wrapped (e.pdu.number + length own)) → ⊥
-  not_next d i c g n next =
-      let l = slice_get_within own i c g in
-      let head = slice_get_some own 0 (omega arith) in
-      not_again head.0.pdu.number i (length own) c.pdu.number d.number (sent.numbers i head.0 c head.1 g) (next head.0 head.1) l few n
 
   none_known : (d : RedundancyPdu) → Spells p side d a.payload
       → ((i : ℕ) × (c : FirstCopy) × (slice_get own i ≡ Some c) × (c.pdu ≡ d))
       ⊎ ((c : FirstCopy) → slice_get own 0 ≡ Some c → d.number ≡ wrapped (c.pdu.number + length own))
       → (o : Option FirstCopy) → copy_with own d.number ≡ o → number_fault p side own a.payload d o ≡ None
   none_known d s (inl w) (Some c) e = (let f = copy_found own d.number c e in repeats_first d s f.0 w.0 c w.1 f.1 w.2 f.2 w.3)
-  none_known d s (inr w) (Some c) e = (let f = copy_found own d.number c e in absurd (not_next d f.0 c f.1 f.2 w))
+  none_known d s (inr w) (Some c) e = (let f = copy_found own d.number c e in absurd (next_new own (ordered sent) few d.number w f.0 c f.1 f.2))
   none_known d s (inl w) None e = absurd (copy_none own d.number e w.0 w.1 w.2 (ap (λ (z : RedundancyPdu). z.number) w.3))
   none_known d s (inr w) None e = passes (is_next_number own d.number) number_gap (is_next own d.number w)
 

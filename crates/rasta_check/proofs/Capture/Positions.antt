@@ -1,20 +1,23 @@
 -- Positions in ordered lists of first copies.
-use Rattle.std.proofs.Common.{◌≡◌, ℕ, zero, suc, ◌+◌, ◌-◌, ◌%◌, ◌^◌, ◌<◌, ◌≤◌, ◌++◌, Bool, true, false, cond, nat_lt, nat_eq, List, [], ◌∷◌, Option, Some, None, length, get_or, slice_get, map, position, refl, ap, sym, ◌∙◌, arith, subst, lt-ltb, le-ltb, if◌then◌else◌, eqb, take, drop}
+use Rattle.std.proofs.Common.{◌≡◌, ℕ, zero, suc, ◌+◌, ◌-◌, ◌%◌, ◌^◌, ◌<◌, ◌≤◌, ◌++◌, Bool, true, false, cond, nat_lt, nat_eq, List, [], ◌∷◌, Some, None, length, get_or, slice_get, position, refl, ap, sym, ◌∙◌, arith, subst, lt-ltb, le-ltb, if◌then◌else◌, eqb, take, drop}
+use Rattle.std.specs.Prelude.{◌==◌}
 use Rattle.std.specs.List.{position_or_len}
 use Rattle.std.specs.Option.{option_map}
 use Rattle.std.proofs.lemmas.Bool.Decides.{nat_tests}
 use Rattle.std.proofs.lemmas.List.{length_push, map-append, take-append-drop}
+use Rattle.std.proofs.lemmas.List.Quantifiers.{position-Some}
 use Rattle.std.proofs.lemmas.List.Sums.{position_or_len_is}
 use Rattle.std.proofs.lemmas.List.Folds.{position_or_len_push}
-use Rattle.std.proofs.lemmas.Option.{slice_get_within, slice_get-map, slice_get-get_or}
+use Rattle.std.proofs.lemmas.Option.{slice_get_within, slice_get-get_or}
 use Rattle.rasta_end.specs.State.{wrapped}
 use Rattle.rasta_check.specs.Capture.Crossing.{FirstCopy}
 use Rattle.rasta_check.specs.Capture.Lists.{IsOrdered, places_of, numbers_of, position_of_number, position_of_place, AreMarks, marked}
-use Rattle.rasta_check.proofs.Model.ListGrowth.{get_front, get_push}
-use Rattle.rasta_check.proofs.Capture.FirstCopies.{not_again}
-use Rattle.rasta_check.proofs.Script.Tracks.{slice_get_some}
+use Rattle.rasta_check.proofs.Lists.{get_front, get_mapped, get_push, map_at, mapped_some, slice_get_some}
 
 -- ---- the first position of a number in a list of numbers
+
+pub same_test : (n m : ℕ) → nat_eq n m ≡ (m == n)
+same_test n m = grind (arith, nat_tests)
 
 pub differ : (n m : ℕ) → (m ≡ n → ⊥) → nat_eq n m ≡ false
 differ n m h = grind (arith, nat_tests)
@@ -44,6 +47,19 @@ module _ (n : ℕ) (xs : List ℕ) where
       let e : position_or_len (nat_eq n) xs ≡ length xs = position_or_len_is (nat_eq n) xs (length xs) 0 (omega arith) (before (length xs) (omega arith) (λ j y b. fails j y)) (λ z. absurd (omega arith)) in
       ap (λ k. cond (nat_lt k (length xs)) (Some k) None) e ∙ cond_not (length xs)
 
+found_in : (n : ℕ) (xs : List ℕ) (i : ℕ) → position (nat_eq n) xs ≡ Some i → slice_get xs i ≡ Some n
+found_in n xs i e =
+    let f = position-Some (nat_eq n) xs i 0 e in
+    let same : get_or xs i 0 ≡ n = (let t = f.1 in grind (arith, nat_tests)) in
+    slice_get-get_or xs i 0 f.0 ∙ ap Some same
+
+-- the member that a number names
+pub number_found : (cs : List FirstCopy) (number i : ℕ) → position_of_number cs number ≡ Some i → (c : FirstCopy) × (slice_get cs i ≡ Some c) × (c.pdu.number ≡ number)
+number_found cs number i e = get_mapped (λ (c : FirstCopy). c.pdu.number) cs i number (found_in number (numbers_of cs) i e)
+
+pub place_found : (cs : List FirstCopy) (place i : ℕ) → position_of_place cs place ≡ Some i → (c : FirstCopy) × (slice_get cs i ≡ Some c) × (c.place ≡ place)
+place_found cs place i e = get_mapped (λ (c : FirstCopy). c.place) cs i place (found_in place (places_of cs) i e)
+
 -- ---- a list that goes on
 
 pushed : (k l n : ℕ) (b : Bool) → b ≡ false → k ≤ l → n ≡ cond (eqb k l) (l + cond b 0 1) k → cond (nat_lt n (l + 1)) (Some n) None ≡ cond (nat_lt k l) (Some k) None
@@ -61,24 +77,33 @@ position_push p xs y fails =
 
 -- ---- ordered lists
 
-module _ (sent : List FirstCopy) (c : FirstCopy) (h : IsOrdered (sent ++ c ∷ [])) where
-  pub ordered_front : IsOrdered sent
-  ordered_front = record {
-    places = λ i a b x y. h.places i a b (get_front sent (c ∷ []) i a x) (get_front sent (c ∷ []) (suc i) b y);
-    numbers = λ i a b x y. h.numbers i a b (get_front sent (c ∷ []) 0 a x) (get_front sent (c ∷ []) i b y);
-  }
+pub not_again : (f i j m n : ℕ) → m ≡ (f + i) % 2 ^ 32 → n ≡ (f + j) % 2 ^ 32 → i < j → j < 4294967296 → m ≡ n → ⊥
+not_again f i j m n x y l b e = omega arith
 
-  -- its number is new
-  pub number_new : length sent < 4294967296 → (i : ℕ) (d : FirstCopy) → slice_get sent i ≡ Some d → d.pdu.number ≡ c.pdu.number → ⊥
-  number_new few i d g e =
-      let l = slice_get_within sent i d g in
-      let head = slice_get_some sent 0 (omega arith) in
-      let start = get_front sent (c ∷ []) 0 head.0 head.1 in
-      not_again head.0.pdu.number i (length sent) d.pdu.number c.pdu.number
-      (h.numbers i head.0 d start (get_front sent (c ∷ []) i d g)) (h.numbers (length sent) head.0 c start (get_push sent c)) l few e
+-- a number names one position
+pub number_once : (sent : List FirstCopy) → IsOrdered sent → length sent < 4294967296 → (i j : ℕ) (c d : FirstCopy) → slice_get sent i ≡ Some c → slice_get sent j ≡ Some d
+    → c.pdu.number ≡ d.pdu.number → i ≡ j
+number_once sent h few i j c d x y e =
+    let li = slice_get_within sent i c x in
+    let lj = slice_get_within sent j d y in
+    let head = slice_get_some sent 0 (omega arith) in
+    omega (arith, li, lj, few, e, h.numbers i head.0 c head.1 x, h.numbers j head.0 d head.1 y)
 
--- places rise
-pub places_below : (sent : List FirstCopy) → IsOrdered sent → (d i : ℕ) (a b : FirstCopy) → slice_get sent i ≡ Some a → slice_get sent (suc d + i) ≡ Some b → a.place < b.place
+pub number_named : (sent : List FirstCopy) → IsOrdered sent → length sent < 4294967296 → (i : ℕ) (c : FirstCopy) → slice_get sent i ≡ Some c → position_of_number sent c.pdu.number ≡ Some i
+number_named sent h few i c g =
+    position_at c.pdu.number (numbers_of sent) i (map_at (λ (x : FirstCopy). x.pdu.number) sent i c g)
+    (λ j y l k e. (let d = get_mapped (λ (x : FirstCopy). x.pdu.number) sent j y k in let same = number_once sent h few j i d.0 c d.1 g (d.2 ∙ e) in omega (arith, same, l)))
+
+-- the number that comes next is new
+pub next_new : (sent : List FirstCopy) → IsOrdered sent → length sent < 4294967296 → (n : ℕ) → ((c : FirstCopy) → slice_get sent 0 ≡ Some c → n ≡ wrapped (c.pdu.number + length sent))
+    → (i : ℕ) (c : FirstCopy) → slice_get sent i ≡ Some c → c.pdu.number ≡ n → ⊥
+next_new sent h few n next i c g e =
+    let l = slice_get_within sent i c g in
+    let head = slice_get_some sent 0 (omega arith) in
+    not_again head.0.pdu.number i (length sent) c.pdu.number n (h.numbers i head.0 c head.1 g) (next head.0 head.1) l few e
+
+-- a later member crosses later
+places_below : (sent : List FirstCopy) → IsOrdered sent → (d i : ℕ) (a b : FirstCopy) → slice_get sent i ≡ Some a → slice_get sent (suc d + i) ≡ Some b → a.place < b.place
 places_below sent h zero i a b x y = h.places i a b x (subst (λ (j : ℕ). slice_get sent j ≡ Some b) (omega arith) y)
 places_below sent h (suc d) i a b x y =
     let l : suc (suc d) + i < length sent = slice_get_within sent (suc (suc d) + i) b y in
@@ -87,37 +112,55 @@ places_below sent h (suc d) i a b x y =
     let high = h.places (suc d + i) mid.0 b mid.1 (subst (λ (j : ℕ). slice_get sent j ≡ Some b) (omega arith) y) in
     omega (arith, low, high)
 
+pub places_rise : (sent : List FirstCopy) → IsOrdered sent → (i j : ℕ) (a b : FirstCopy) → slice_get sent i ≡ Some a → slice_get sent j ≡ Some b → i < j → a.place < b.place
+places_rise sent h i j a b x y l = places_below sent h (j - suc i) i a b x (subst (λ (n : ℕ). slice_get sent n ≡ Some b) (omega arith) y)
+
+-- a place names one position
+pub place_once : (sent : List FirstCopy) → IsOrdered sent → (i j : ℕ) (a b : FirstCopy) → slice_get sent i ≡ Some a → slice_get sent j ≡ Some b → a.place ≡ b.place → i ≡ j
+place_once sent h i j a b x y e =
+    let up : i < j → ⊥ = λ l. (let z = places_rise sent h i j a b x y l in omega arith) in
+    let down : j < i → ⊥ = λ l. (let z = places_rise sent h j i b a y x l in omega arith) in
+    omega (arith, up, down)
+
+-- the place of a member names its position, where none before it has that place
+pub place_first : (sent : List FirstCopy) (i : ℕ) (c : FirstCopy) → slice_get sent i ≡ Some c → ((j : ℕ) (d : FirstCopy) → j < i → slice_get sent j ≡ Some d → d.place ≡ c.place → ⊥) → position_of_place sent c.place ≡ Some i
+place_first sent i c g none =
+    position_at c.place (places_of sent) i (map_at (λ (x : FirstCopy). x.place) sent i c g) (λ j y l k e. (let d = get_mapped (λ (x : FirstCopy). x.place) sent j y k in none j d.0 l d.1 (d.2 ∙ e)))
+
+pub place_named : (sent : List FirstCopy) → IsOrdered sent → (i : ℕ) (c : FirstCopy) → slice_get sent i ≡ Some c → position_of_place sent c.place ≡ Some i
+place_named sent h i c g = place_first sent i c g (λ j d l k e. (let low = places_rise sent h j i d c k g l in omega (arith, low, e)))
+
+pub place_missing : (sent : List FirstCopy) (place : ℕ) → ((i : ℕ) (c : FirstCopy) → slice_get sent i ≡ Some c → c.place ≡ place → ⊥) → position_of_place sent place ≡ None
+place_missing sent place none = position_none place (places_of sent) (λ j y g e. (let d = get_mapped (λ (x : FirstCopy). x.place) sent j y g in none j d.0 d.1 (d.2 ∙ e)))
+
+-- ---- a beginning of a list
+
+pub ordered_front : (xs ys : List FirstCopy) → IsOrdered (xs ++ ys) → IsOrdered xs
+ordered_front xs ys h = record {
+  places = λ i a b x y. h.places i a b (get_front xs ys i a x) (get_front xs ys (suc i) b y);
+  numbers = λ i a b x y. h.numbers i a b (get_front xs ys 0 a x) (get_front xs ys i b y);
+}
+
+pub ordered_take : (n : ℕ) (xs : List FirstCopy) → IsOrdered xs → IsOrdered (take n xs)
+ordered_take n xs h = ordered_front (take n xs) (drop n xs) (subst IsOrdered (sym (take-append-drop n xs)) h)
+
 -- ---- the table of places of a list that goes on
 
-pub member_there : (f : FirstCopy → ℕ) (sent : List FirstCopy) (i y : ℕ) → slice_get (map f sent) i ≡ Some y → (c : FirstCopy) × (slice_get sent i ≡ Some c) × (f c ≡ y)
-member_there f [] i y g = absurd (cc)
-member_there f (c ∷ sent) zero y g = (c, refl, cc)
-member_there f (c ∷ sent) (suc i) y g = member_there f sent i y g
-
-places_push : (sent : List FirstCopy) (c : FirstCopy) → places_of (sent ++ c ∷ []) ≡ places_of sent ++ c.place ∷ []
-places_push sent c = map-append (λ (d : FirstCopy). d.place) sent (c ∷ [])
-
--- two positions with one place are one
-pub one_place : (sent : List FirstCopy) → IsOrdered sent → (i j : ℕ) (a b : FirstCopy) → slice_get sent i ≡ Some a → slice_get sent j ≡ Some b → i < j → a.place < b.place
-one_place sent h i j a b g f l =
-    places_below sent h (j - suc i) i a b g (subst (λ (n : ℕ). slice_get sent n ≡ Some b) (omega arith) f)
-
--- the position of a place is that of the copy there
-pub place_found : (sent : List FirstCopy) → IsOrdered sent → (position : ℕ) (c : FirstCopy) → slice_get sent position ≡ Some c → position_of_place sent c.place ≡ Some position
-place_found sent h position c g =
-    position_at c.place (places_of sent) position (slice_get-map (λ (x : FirstCopy). x.place) sent position ∙ ap (option_map (λ (x : FirstCopy). x.place)) g)
-    (λ j y b f e. (let w = member_there (λ (x : FirstCopy). x.place) sent j y f in let z = one_place sent h j position w.0 c w.1 g b in let q = w.2 in omega arith))
-
 module _ (sent : List FirstCopy) (c : FirstCopy) (h : IsOrdered (sent ++ c ∷ [])) where
+  -- its number is new
+  pub number_new : length sent < 4294967296 → (i : ℕ) (d : FirstCopy) → slice_get sent i ≡ Some d → d.pdu.number ≡ c.pdu.number → ⊥
+  number_new few i d g e =
+      next_new sent (ordered_front sent (c ∷ []) h) few c.pdu.number (λ a x. h.numbers (length sent) a c (get_front sent (c ∷ []) 0 a x) (get_push sent c)) i d g e
+
   place_last : position_of_place (sent ++ c ∷ []) c.place ≡ Some (length sent)
-  place_last = place_found (sent ++ c ∷ []) h (length sent) c (get_push sent c)
+  place_last = place_named (sent ++ c ∷ []) h (length sent) c (get_push sent c)
 
   pub place_pushed : (q : ℕ) → position_of_place (sent ++ c ∷ []) q ≡ (if nat_eq q c.place then Some (length sent) else position_of_place sent q)
   place_pushed q = by (nat_eq q c.place) refl
     where
       by : (b : Bool) → nat_eq q c.place ≡ b → position_of_place (sent ++ c ∷ []) q ≡ (if b then Some (length sent) else position_of_place sent q)
       by true e = (let same : c.place ≡ q = grind (arith, nat_tests) in subst (λ n. position_of_place (sent ++ c ∷ []) n ≡ Some (length sent)) same place_last)
-      by false e = ap (position (nat_eq q)) (places_push sent c) ∙ position_push (nat_eq q) (places_of sent) c.place e
+      by false e = ap (position (nat_eq q)) (map-append (λ (d : FirstCopy). d.place) sent (c ∷ [])) ∙ position_push (nat_eq q) (places_of sent) c.place e
 
   -- the marks with one more are those of the list with one more
   pub marks_pushed : (old new : List ℕ) → AreMarks sent old → ((q : ℕ) → marked new q ≡ (if nat_eq q c.place then Some (length sent) else marked old q)) → AreMarks (sent ++ c ∷ []) new
@@ -131,51 +174,23 @@ same_place f n i a b e = omega arith
 there_again : (f n : ℕ) → f < 4294967296 → n < 4294967296 → n ≡ (f + (n + (4294967296 - f)) % 2 ^ 32) % 2 ^ 32
 there_again f n a b = omega arith
 
-starts_with : (o : Option FirstCopy) (n : ℕ) → option_map (λ (c : FirstCopy). c.pdu.number) o ≡ Some n → (c : FirstCopy) × (o ≡ Some c) × (c.pdu.number ≡ n)
-starts_with None n e = absurd (cc)
-starts_with (Some c) n e = (c, refl, cc)
-
 module _ (sent : List FirstCopy) (h : IsOrdered sent) (few : length sent < 4294967296) (first : ℕ) (starts : option_map (λ (c : FirstCopy). c.pdu.number) (slice_get sent 0) ≡ Some first)
     (n : ℕ) (small : n < 4294967296) where
   number_at : (i : ℕ) (c : FirstCopy) → slice_get sent i ≡ Some c → c.pdu.number ≡ (first + i) % 4294967296
-  number_at i c g = (let w = starts_with (slice_get sent 0) first starts in h.numbers i w.0 c w.1 g ∙ ap (λ m. wrapped (m + i)) w.2)
+  number_at i c g = (let w = mapped_some (λ (c : FirstCopy). c.pdu.number) (slice_get sent 0) first starts in h.numbers i w.0 c w.1 g ∙ ap (λ m. wrapped (m + i)) w.2)
 
   first_small : first < 4294967296
-  first_small = (let w = starts_with (slice_get sent 0) first starts in let e = number_at 0 w.0 w.1 in let same = w.2 in omega arith)
+  first_small = (let w = mapped_some (λ (c : FirstCopy). c.pdu.number) (slice_get sent 0) first starts in let e = number_at 0 w.0 w.1 in let same = w.2 in omega arith)
 
   pub near : (n + (4294967296 - first)) % 4294967296 < length sent → position_of_number sent n ≡ Some ((n + (4294967296 - first)) % 4294967296)
   near l =
       let d : ℕ = (n + (4294967296 - first)) % 4294967296 in
       let c = slice_get_some sent d l in
       let at : c.0.pdu.number ≡ n = number_at d c.0 c.1 ∙ sym (there_again first n first_small small) in
-      position_at n (numbers_of sent) d (slice_get-map (λ (x : FirstCopy). x.pdu.number) sent d ∙ (ap (option_map (λ (x : FirstCopy). x.pdu.number)) c.1 ∙ ap Some at))
-      (λ j y b g q. (let w = member_there (λ (z : FirstCopy). z.pdu.number) sent j y g in
-      let same = same_place first n j first_small (omega arith) (sym (w.2 ∙ q) ∙ number_at j w.0 w.1) in omega arith))
+      subst (λ m. position_of_number sent m ≡ Some d) at (number_named sent h few d c.0 c.1)
 
   pub far : length sent ≤ (n + (4294967296 - first)) % 4294967296 → position_of_number sent n ≡ None
   far l =
-      position_none n (numbers_of sent) (λ j y g q. (let w = member_there (λ (z : FirstCopy). z.pdu.number) sent j y g in
+      position_none n (numbers_of sent) (λ j y g q. (let w = get_mapped (λ (z : FirstCopy). z.pdu.number) sent j y g in
       let m = slice_get_within sent j w.0 w.1 in
       let same = same_place first n j first_small (omega arith) (sym (w.2 ∙ q) ∙ number_at j w.0 w.1) in omega arith))
-
--- ---- a beginning of a list
-
-ordered_part : (xs ys : List FirstCopy) → IsOrdered (xs ++ ys) → IsOrdered xs
-ordered_part xs ys h = record {
-  places = λ i a b x y. h.places i a b (get_front xs ys i a x) (get_front xs ys (suc i) b y);
-  numbers = λ i a b x y. h.numbers i a b (get_front xs ys 0 a x) (get_front xs ys i b y);
-}
-
-pub ordered_take : (n : ℕ) (xs : List FirstCopy) → IsOrdered xs → IsOrdered (take n xs)
-ordered_take n xs h = ordered_part (take n xs) (drop n xs) (subst IsOrdered (sym (take-append-drop n xs)) h)
-
--- one more of them
-pub take_one_more : (i : ℕ) (xs : List FirstCopy) (c : FirstCopy) → slice_get xs i ≡ Some c → take i xs ++ c ∷ [] ≡ take (i + 1) xs
-take_one_more zero [] c g = absurd (cc)
-take_one_more zero (x ∷ xs) c g = (let same : x ≡ c = cc in ap (λ (y : FirstCopy). y ∷ []) (sym same))
-take_one_more (suc i) [] c g = absurd (cc)
-take_one_more (suc i) (x ∷ xs) c g = ap (λ (ys : List FirstCopy). x ∷ ys) (take_one_more i xs c g) ∙ (let e : suc (i + 1) ≡ suc i + 1 = omega arith in ap (λ n. take n (x ∷ xs)) e)
-
--- a position within a list has a member
-pub none_within : (xs : List FirstCopy) (i : ℕ) → i < length xs → None ≡ slice_get xs i → ⊥
-none_within xs i l e = (let g = slice_get_some xs i l in let h = g.1 in cc)

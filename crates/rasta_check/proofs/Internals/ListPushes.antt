@@ -4,16 +4,16 @@ use Rattle.std.specs.HashMap.{HashMap}
 use Rattle.std.specs.Map.{keys_of, lookup}
 use Rattle.std.specs.Option.{option_map}
 use Rattle.std.specs.Prelude.{◌==◌}
-use Rattle.std.proofs.lemmas.List.{map-append, length-map, length_push}
+use Rattle.std.proofs.lemmas.List.{length-map, length_push}
 use Rattle.std.proofs.lemmas.Map.{NonePasses, lookup-none}
-use Rattle.std.proofs.lemmas.Bool.Decides.{nat_tests}
 use Rattle.indexmap.specs.IndexMap.{insert_entry}
 use Rattle.indexmap.proofs.CallerLemmas.{insert_entry-new}
 use Rattle.rasta_pdu.specs.declared.pdu.Pdu.{Pdu}
 use Rattle.rasta_pdu.specs.Pdu.{value_of}
 use Rattle.rasta_check.specs.Capture.Crossing.{FirstCopy, copy_with}
 use Rattle.rasta_check.specs.Capture.Lists.{IsOrdered, AreMarks, copy_of, copies_in, numbers_of, marked}
-use Rattle.rasta_check.proofs.Capture.Positions.{differ, marks_pushed, number_new}
+use Rattle.rasta_check.proofs.Capture.Positions.{differ, marks_pushed, number_new, same_test}
+use Rattle.rasta_check.proofs.Lists.{map_push}
 
 -- ---- marks
 
@@ -26,27 +26,14 @@ marks_grown sent all c place position old mid new e h m at count same set =
     (λ i. if nat_eq q (sym at i) then Some (count i) else same q i))) in
     subst (λ (xs : List FirstCopy). IsOrdered xs × AreMarks xs new) (sym e) (h, new_marks)
 
--- ---- a vector
-
-pub vector_grown : (items all : List (ℕ × Pdu)) (x : ℕ × Pdu) → all ≡ items ++ x ∷ [] → map copy_of all ≡ map copy_of items ++ copy_of x ∷ []
-vector_grown items all x e = ap (map copy_of) e ∙ map-append copy_of items (x ∷ [])
-
-pub vector_few : (items all : List (ℕ × Pdu)) (x : ℕ × Pdu) → all ≡ items ++ x ∷ [] → length (map copy_of items) + 1 < 4294967296 → length all < 4294967296
-vector_few items all x e few = (let a = ap length e in let b = length_push items x in let d = length-map items copy_of in omega (arith, a, b, d, few))
+-- one more of few
+pub few_more : {A : Type 0} (f : A → FirstCopy) (old : List FirstCopy) (all : List A) (c : FirstCopy) → map f all ≡ old ++ c ∷ [] → length old + 1 < 4294967296 → length all < 4294967296
+few_more f old all c e few = (let a = ap length e in let b = length_push old c in let d = length-map all f in omega (arith, a, b, d, few))
 
 -- ---- a map
 
 abbrev pub Entries : Type 0
 Entries = List (ℕ × (ℕ × Pdu))
-
-copies_push : (es : Entries) (k : ℕ) (x : ℕ × Pdu) → copies_in (es ++ (k, x) ∷ []) ≡ copies_in es ++ copy_of x ∷ []
-copies_push es k x = map-append (λ (e : ℕ × (ℕ × Pdu)). copy_of e.1) es ((k, x) ∷ [])
-
-keys_push : (es : Entries) (k : ℕ) (x : ℕ × Pdu) → keys_of (es ++ (k, x) ∷ []) ≡ keys_of es ++ k ∷ []
-keys_push es k x = map-append (λ (e : ℕ × (ℕ × Pdu)). e.0) es ((k, x) ∷ [])
-
-numbers_push : (sent : List FirstCopy) (c : FirstCopy) → numbers_of (sent ++ c ∷ []) ≡ numbers_of sent ++ c.pdu.number ∷ []
-numbers_push sent c = map-append (λ (d : FirstCopy). d.pdu.number) sent (c ∷ [])
 
 -- no entry has a new number
 none_has : (es : Entries) (n : ℕ) → keys_of es ≡ numbers_of (copies_in es)
@@ -64,14 +51,12 @@ module _ {S : Type 0} (m : HashMap ℕ (ℕ × Pdu) S) (x : ℕ × Pdu) (h : IsO
       (λ i d g z. number_new (copies_in m.entries) (copy_of x) h few i d g (z ∙ e))))
 
   pub map_grown : (number : ℕ) (all : Entries) → number ≡ x.1.number → all ≡ insert_entry nat_eq m.entries number x → copies_in all ≡ copies_in m.entries ++ copy_of x ∷ []
-  map_grown number all e f = ap copies_in (f ∙ inserted number e) ∙ copies_push m.entries number x
+  map_grown number all e f = map_push (λ (y : ℕ × (ℕ × Pdu)). copy_of y.1) m.entries all (number, x) (f ∙ inserted number e)
 
   pub keys_grown : (number : ℕ) (all : Entries) → number ≡ x.1.number → all ≡ insert_entry nat_eq m.entries number x → keys_of all ≡ numbers_of (copies_in all)
   keys_grown number all e f =
-      ap keys_of (f ∙ inserted number e) ∙ (keys_push m.entries number x ∙ ((λ i. keys i ++ e i ∷ []) ∙ (sym (numbers_push (copies_in m.entries) (copy_of x)) ∙ ap numbers_of (sym (map_grown number all e f)))))
-
-pub map_few : (es all : Entries) (c : FirstCopy) → copies_in all ≡ copies_in es ++ c ∷ [] → length (copies_in es) + 1 < 4294967296 → length all < 4294967296
-map_few es all c e few = (let a = ap length e in let b = length_push (copies_in es) c in let d = length-map all (λ (x : ℕ × (ℕ × Pdu)). copy_of x.1) in omega (arith, a, b, d, few))
+      map_push (λ (y : ℕ × (ℕ × Pdu)). y.0) m.entries all (number, x) (f ∙ inserted number e)
+      ∙ ((λ i. keys i ++ e i ∷ []) ∙ sym (map_push (λ (d : FirstCopy). d.pdu.number) (copies_in m.entries) (copies_in all) (copy_of x) (map_grown number all e f)))
 
 -- ---- the place of a number
 
@@ -79,13 +64,10 @@ found_by : (b d : Bool) (v : ℕ × Pdu) (o : Option (ℕ × Pdu)) (q : Option F
     → option_map (λ (w : ℕ × Pdu). w.0) (cond b (Some v) o) ≡ option_map (λ (x : FirstCopy). x.place) (if d then Some (copy_of v) else q)
 found_by b d v o q e h = grind arith
 
-same_test : (n m k : ℕ) → m ≡ k → nat_eq n m ≡ (k == n)
-same_test n m k e = grind (arith, nat_tests)
-
 pub place_found : (es : Entries) (n : ℕ) → keys_of es ≡ numbers_of (copies_in es)
     → option_map (λ (w : ℕ × Pdu). w.0) (lookup (nat_eq n) es) ≡ option_map (λ (x : FirstCopy). x.place) (copy_with (copies_in es) n)
 place_found [] n same = refl
 place_found (e ∷ es) n same =
     let head : e.0 ≡ (value_of e.1.1).number = cc in
     let tail : keys_of es ≡ numbers_of (copies_in es) = cc in
-    found_by (nat_eq n e.0) ((value_of e.1.1).number == n) e.1 (lookup (nat_eq n) es) (copy_with (copies_in es) n) (same_test n e.0 (value_of e.1.1).number head) (place_found es n tail)
+    found_by (nat_eq n e.0) ((value_of e.1.1).number == n) e.1 (lookup (nat_eq n) es) (copy_with (copies_in es) n) (ap (nat_eq n) head ∙ same_test n (value_of e.1.1).number) (place_found es n tail)

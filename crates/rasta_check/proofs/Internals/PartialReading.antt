@@ -65,6 +65,10 @@ Underway-record whole k next r n left old mid new h a = record {
 
 -- ---- the reading ends
 
+-- what holds of every input that begins so
+ReadsSo-then : {P Q : List ℕ → Type 0} (old new : Option (List ℕ)) → ((bytes : List ℕ) → P bytes → Q bytes) → ReadsSo P old new → ReadsSo Q old new
+ReadsSo-then {P = P} {Q = Q} old new lift h = ReadsSo-after P Q [] old old new (Consumes-nil old) lift h
+
 pub Underway-ends : (whole rest : List ℕ → Result Crossing Fault) (answer : Result Crossing Fault) (old mid new : Option (List ℕ))
     → IsUnderway whole rest old mid → ReadsSo (λ bytes. rest bytes ≡ answer) mid new → ReadsSo (λ bytes. whole bytes ≡ answer) old new
 Underway-ends whole rest answer old mid new h e =
@@ -102,13 +106,7 @@ FaultsNext k r f old new = ReadsSo (λ rest. (left : ℕ) → crossing_left k r 
 
 pub next_refused : (k : Crossing) (r : RecordReader) (f : Fault) (old new : Option (List ℕ)) → RefusesRecord (order_in r) (count_in r) f old new
     → FaultsNext k r f old new
-next_refused k r f old new h = record {
-  bytes = h.bytes;
-  met_end = h.met_end;
-  consumed = h.consumed;
-  at_end = h.at_end;
-  each = λ more follows left. after-fault k left (cursor_at (order_in r) (h.bytes ++ more) (count_in r)) f (h.each more follows);
-}
+next_refused k r f old new h = ReadsSo-then old new (λ bytes is left. after-fault k left (cursor_at (order_in r) bytes (count_in r)) f is) h
 
 pub next_faulty : (k : Crossing) (r : RecordReader) (number : ℕ) (bytes : List ℕ) (f : Fault) (old new : Option (List ℕ))
     → ReadsRecord (order_in r) (count_in r) (number, bytes) old new → after_record k (number, bytes) ≡ Err f → FaultsNext k r f old new
@@ -126,13 +124,7 @@ next_faulty k r number bytes f old new h e = record {
 -- with so many records left after it
 pub every_left : (k : Crossing) (r : RecordReader) (left : ℕ) (f : Fault) (old new : Option (List ℕ)) → FaultsNext k r f old new
     → ReadsSo (λ rest. crossing_left k r (suc left) rest ≡ Err f) old new
-every_left k r left f old new h = record {
-  bytes = h.bytes;
-  met_end = h.met_end;
-  consumed = h.consumed;
-  at_end = h.at_end;
-  each = λ more follows. h.each more follows left;
-}
+every_left k r left f old new h = ReadsSo-then old new (λ bytes faults. faults left) h
 
 -- why there was no record
 abbrev pub WhyNone : ℕ → RecordReader → ℕ → Fault → ℕ → ℕ → Option (List ℕ) → Option (List ℕ) → Type 0
@@ -191,13 +183,7 @@ pub header_answer : (p : Parameters) (most : ℕ) (f : Fault) (old_count new_cou
     → FailsWithin most f old_count new_count old new ⊎ RefusesHeader f old new
     → IsFailure f old_count new_count ⊎ ReadsSo (IsRefusedSo p f) old new
 header_answer p most f old_count new_count old new valid (inl failed) = inl (inr (failed.0, failed.1))
-header_answer p most f old_count new_count old new valid (inr h) = inr (record {
-  bytes = h.bytes;
-  met_end = h.met_end;
-  consumed = h.consumed;
-  at_end = h.at_end;
-  each = λ more follows. header_refused p (h.bytes ++ more) f valid (h.each more follows);
-})
+header_answer p most f old_count new_count old new valid (inr h) = inr (ReadsSo-then old new (λ bytes is. header_refused p bytes f valid is) h)
 
 pub header_begun : (most : ℕ) (f : Fault) (old_count new_count : ℕ) (old new : Option (List ℕ))
     → FailsWithin most f old_count new_count old new ⊎ RefusesHeader f old new → (bs : List ℕ) × Consumes old new bs

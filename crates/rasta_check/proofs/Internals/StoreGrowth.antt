@@ -1,5 +1,5 @@
 -- A store with one packet more.
-use Rattle.std.proofs.Common.{◌≡◌, ℕ, suc, ◌+◌, ◌<◌, ◌≤◌, List, [], ◌∷◌, ◌++◌, append_assoc, length, map, Bool, false, not, nat_eq, Option, Some, None, slice_get, refl, ap, sym, ◌∙◌, subst, arith, ⊎_elim, if◌then◌else◌}
+use Rattle.std.proofs.Common.{◌≡◌, ℕ, suc, ◌+◌, ◌<◌, ◌≤◌, List, [], ◌∷◌, ◌++◌, append_assoc, length, map, Bool, false, not, nat_eq, Option, Some, None, slice_get, refl, ap, sym, ◌∙◌, subst, arith, if◌then◌else◌}
 use Rattle.std.specs.Prelude.{Result, Ok, is_some}
 use Rattle.rasta_check.specs.Model.Theorem.{OfConnection}
 use Rattle.rasta_pcap.specs.declared.fault.Fault.{Fault}
@@ -19,12 +19,11 @@ use Rattle.rasta_check.specs.Capture.Lists.{IsOrdered, position_of_place}
 use Rattle.rasta_check.specs.Capture.Reading.{Crossing, IsCrossing, crossing_with, sent_by, sent_after, with_packet}
 use Rattle.rasta_check.specs.Internals.Stored.{Decode, HavePositions, IsJudged, IsStore, bytes_of, copy_in, crossing_by, first_copies_from, packet_by, pdu_in}
 use Rattle.rasta_check.proofs.Capture.Crossings.{list_of}
-use Rattle.rasta_check.proofs.Model.ListGrowth.{get_front, get_push, get_push_cases}
-use Rattle.rasta_check.proofs.Capture.Positions.{place_found, place_pushed}
-use Rattle.rasta_check.proofs.Script.Tracks.{slice_get_some}
+use Rattle.rasta_check.proofs.Lists.{get_front, get_push, slice_get_some, all_push}
+use Rattle.rasta_check.proofs.Capture.Positions.{place_pushed, place_missing, place_named}
 use Rattle.rasta_check.proofs.Capture.FaultlessCaptures.{nothing_is}
 use Rattle.rasta_check.proofs.Capture.Readings.{grown_is}
-use Rattle.rasta_check.proofs.Internals.StoreLists.{count_of, kept_at, sent_is, ordered_of, place_missing}
+use Rattle.rasta_check.proofs.Internals.StoreLists.{count_of, kept_at, sent_is, ordered_of}
 
 -- ---- the packets that are there
 
@@ -64,26 +63,15 @@ sent_with k a Server own = refl
 
 positions_more : (d e : KeptDatagrams) → Among d e → (xs : List StoredPacket) (x : StoredPacket) → HavePositions d xs → x.position < length (kept_by e x.side) → HavePositions e (xs ++ x ∷ [])
 unfolding Among
-positions_more d e h xs x l last i y g =
-    ⊎_elim
-    (λ (o : slice_get xs i ≡ Some y). (let w = slice_get_some (kept_by d y.side) y.position (l i y o) in slice_get_within (kept_by e y.side) y.position w.0 (h y.side y.position w.0 w.1)))
-    (λ (n : (i ≡ length xs) × (x ≡ y)). subst (λ (z : StoredPacket). z.position < length (kept_by e z.side)) n.1 last)
-    (get_push_cases xs x i y g)
-
-decode_more : (p : Parameters) (side : Side) (kept : List Kept) (y : Kept) (pdu : RedundancyPdu) → Decode p side kept → decode_of p side y.bytes ≡ Ok pdu → Spells p side pdu y.bytes
-    → Decode p side (kept ++ y ∷ [])
-decode_more p side kept y pdu h reads spelled i x g =
-    ⊎_elim
-    (λ (o : slice_get kept i ≡ Some x). h i x o)
-    (λ (n : (i ≡ length kept) × (y ≡ x)). subst (λ (z : Kept). (r : RedundancyPdu) × (decode_of p side z.bytes ≡ Ok r) × Spells p side r z.bytes) n.1 (pdu, reads, spelled))
-    (get_push_cases kept y i x g)
+positions_more d e h xs x l last =
+    all_push xs x (λ i y o. (let w = slice_get_some (kept_by d y.side) y.position (l i y o) in slice_get_within (kept_by e y.side) y.position w.0 (h y.side y.position w.0 w.1))) last
 
 decode_with : (p : Parameters) (d : KeptDatagrams) (side : Side) (y : Kept) (pdu : RedundancyPdu) → ((s : Side) → Decode p s (kept_by d s)) → decode_of p side y.bytes ≡ Ok pdu → Spells p side pdu y.bytes
     → (s : Side) → Decode p s (kept_by (keeping d side y) s)
-decode_with p d Client y pdu h reads spelled Client = decode_more p Client d.client y pdu (h Client) reads spelled
+decode_with p d Client y pdu h reads spelled Client = all_push d.client y (h Client) (pdu, reads, spelled)
 decode_with p d Client y pdu h reads spelled Server = h Server
 decode_with p d Server y pdu h reads spelled Client = h Client
-decode_with p d Server y pdu h reads spelled Server = decode_more p Server d.server y pdu (h Server) reads spelled
+decode_with p d Server y pdu h reads spelled Server = all_push d.server y (h Server) (pdu, reads, spelled)
 
 -- ---- the bytes of first copies
 
@@ -109,12 +97,6 @@ unfolding first_copies_from SamePlaces
 copies_same k l end place [] h few = refl
 copies_same k l end place (x ∷ xs) h few =
     (λ i. (if is_some (h x.side place (omega arith) i) then x.payload else []) ++ copies_same k l end (suc place) xs h (omega arith) i)
-
-at_some : {A : Type 0} (o : Option A) (x : A) (bs : List ℕ) → o ≡ Some x → (if is_some o then bs else []) ≡ bs
-at_some o x bs e = ap (λ q. if is_some q then bs else []) e
-
-at_none : {A : Type 0} (o : Option A) (bs : List ℕ) → o ≡ None → (if is_some o then bs else []) ≡ []
-at_none o bs e = ap (λ q. if is_some q then bs else []) e
 
 lower_place : (place end n : ℕ) (o q : Option ℕ) → place < end → q ≡ (if nat_eq place end then Some n else o) → q ≡ o
 lower_place place end n o q l e = (let t : nat_eq place end ≡ false = grind (arith, nat_tests) in e ∙ ap (λ (b : Bool). if b then Some n else o) t)
@@ -188,8 +170,8 @@ module _ (p : Parameters) (d : KeptDatagrams) (packets : List StoredPacket) (st 
         let a = packet_with channel side payload in
         let own = sent_by k side ++ copy ∷ [] in
         let l = crossing_with k a side own in
-        let last = at_some (position_of_place (sent_by l side) (length k.packets)) (length (sent_by k side)) payload
-        (ap (λ (xs : List FirstCopy). position_of_place xs (length k.packets)) (sent_with k a side own) ∙ place_found own h (length (sent_by k side)) copy (get_push (sent_by k side) copy)) in
+        let last = ap (λ (o : Option ℕ). if is_some o then payload else [])
+        (ap (λ (xs : List FirstCopy). position_of_place xs (length k.packets)) (sent_with k a side own) ∙ place_named own h (length (sent_by k side)) copy (get_push (sent_by k side) copy)) in
         (λ i. st.bytes i ++ payload)
         ∙ sym (copies_last l k.packets a ∙ (λ i. copies_same k l (length k.packets) 0 k.packets (places_with k a copy refl side h) (omega arith) i ++ last i))
 
@@ -253,14 +235,13 @@ module _ (p : Parameters) (d : KeptDatagrams) (packets : List StoredPacket) (st 
 
     same_places : SamePlaces k longer (length k.packets)
     unfolding SamePlaces
-    same_places Client place l = refl
-    same_places Server place l = refl
+    same_places s place l = ap (λ (own : List FirstCopy). position_of_place own place) (same_sent s)
 
     -- it adds no bytes
     copy_bytes : d.bytes ≡ first_copies_from longer 0 longer.packets
     copy_bytes =
         let a = packet_with channel side payload in
-        let last = at_none (position_of_place (sent_by longer side) (length k.packets)) payload
+        let last = ap (λ (o : Option ℕ). if is_some o then payload else [])
         (ap (λ (own : List FirstCopy). position_of_place own (length k.packets)) (same_sent side) ∙ no_place k st.crossing side) in
         st.bytes ∙ sym (copies_last longer k.packets a
         ∙ (λ i. copies_same k longer (length k.packets) 0 k.packets same_places (omega arith) i ++ last i) ∙ append-nil (first_copies_from k 0 k.packets))

@@ -7,7 +7,7 @@ use Rattle.std.specs.Str.{bytes_eq}
 use Rattle.std.proofs.lemmas.Bool.Decides.{nat_tests}
 use Rattle.std.proofs.lemmas.Slice.Eq.{bytes_eq-Decides}
 use Rattle.std.proofs.lemmas.List.{length-map}
-use Rattle.std.proofs.lemmas.Option.{slice_get-map, slice_get_past, slice_get_within}
+use Rattle.std.proofs.lemmas.Option.{cond_some, slice_get-map, slice_get_past}
 use Rattle.rasta_pcap.specs.declared.fault.Fault.{Fault}
 use Rattle.rasta_pcap.specs.declared.fault.Side.{Side}
 use Rattle.rasta_pcap.specs.declared.fault.Side.TheVariants.{Client, Server}
@@ -18,14 +18,14 @@ use Rattle.rasta_pdu.specs.Pdu.{RedundancyPdu, redundancy_bytes, decode_of}
 use Rattle.rasta_check.specs.declared.crossing_store.StoredPacket.{StoredPacket}
 use Rattle.rasta_check.specs.Capture.Crossing.{FirstCopy, Spells, copy_with, is_next_number, number_fault, read_fault, packet_fault}
 use Rattle.rasta_check.specs.Internals.Datagrams.{Kept, KeptDatagrams, kept_by}
-use Rattle.rasta_check.specs.Capture.Lists.{IsOrdered, numbers_of, places_of, position_of_number, position_of_place}
+use Rattle.rasta_check.specs.Capture.Lists.{IsOrdered, numbers_of, position_of_number, position_of_place}
 use Rattle.rasta_check.specs.Capture.Reading.{Crossing, IsCrossing, sent_by, after_pdu, after_read, sent_after}
 use Rattle.rasta_check.specs.Internals.Stored.{IsStore, Decode, bytes_of, copy_in, pdu_in, packet_by, crossing_by}
 use Rattle.rasta_check.proofs.Capture.Crossings.{few_of, list_of}
-use Rattle.rasta_check.proofs.Capture.Positions.{member_there, place_found, position_none}
-use Rattle.rasta_check.proofs.Script.Tracks.{slice_get_some}
-use Rattle.rasta_check.proofs.Capture.FirstCopies.{not_again}
 use Rattle.rasta_check.proofs.Capture.Spellings.{read_once}
+use Rattle.rasta_check.proofs.Lists.{slice_get_some, map_at}
+use Rattle.rasta_check.proofs.Capture.Positions.{number_found, number_once, place_missing, place_named, same_test}
+use Rattle.rasta_check.proofs.Capture.FaultlessLists.{ordered}
 
 -- ---- a datagram and the first copy that it spells
 
@@ -43,7 +43,7 @@ first_in p side kept h position x g =
       pdu = w.0;
       reads = w.1;
       spelled = w.2;
-      there = slice_get-map (copy_in p side) kept position ∙ ap (option_map (copy_in p side)) g
+      there = map_at (copy_in p side) kept position x g
           ∙ ap (λ (r : Result RedundancyPdu Fault). Some (record { place = x.place; pdu = pdu_in r })) w.1;
     }
 
@@ -64,7 +64,7 @@ module _ (p : Parameters) (d : KeptDatagrams) (packets : List StoredPacket) wher
 
   -- the packet at a place
   pub packet_there : (place : ℕ) (x : StoredPacket) → slice_get packets place ≡ Some x → slice_get whole.packets place ≡ Some (packet_by d x)
-  packet_there place x g = slice_get-map (packet_by d) packets place ∙ ap (option_map (packet_by d)) g
+  packet_there place x g = map_at (packet_by d) packets place x g
 
   pub no_packet : (place : ℕ) → slice_get packets place ≡ None → slice_get whole.packets place ≡ None
   no_packet place g = slice_get-map (packet_by d) packets place ∙ ap (option_map (packet_by d)) g
@@ -78,20 +78,7 @@ module _ (p : Parameters) (d : KeptDatagrams) (packets : List StoredPacket) wher
 -- ---- lists of a crossing are ordered
 
 pub ordered_of : (k : Crossing) → IsCrossing k → (side : Side) → IsOrdered (sent_by k side)
-ordered_of k h side = (let s = list_of k h side in record { places = s.rising; numbers = s.numbers })
-
--- two positions with one number are one
-pub one_number : (k : Crossing) → IsCrossing k → (side : Side) (i j : ℕ) (a b : FirstCopy) → slice_get (sent_by k side) i ≡ Some a → slice_get (sent_by k side) j ≡ Some b
-    → a.pdu.number ≡ b.pdu.number → i < j → ⊥
-one_number k h side i j a b g f e l =
-    let s = list_of k h side in
-    let few = few_of k h side in
-    let high = slice_get_within (sent_by k side) j b f in
-    let head = slice_get_some (sent_by k side) 0 (omega arith) in
-    not_again head.0.pdu.number i j a.pdu.number b.pdu.number (s.numbers i head.0 a head.1 g) (s.numbers j head.0 b head.1 f) l (omega arith) e
-
-pub place_missing : (sent : List FirstCopy) (place : ℕ) → ((i : ℕ) (c : FirstCopy) → slice_get sent i ≡ Some c → c.place ≡ place → ⊥) → position_of_place sent place ≡ None
-place_missing sent place h = position_none place (places_of sent) (λ j y f e. (let w = member_there (λ (x : FirstCopy). x.place) sent j y f in h j w.0 w.1 (w.2 ∙ e)))
+ordered_of k h side = ordered (list_of k h side)
 
 module _ (p : Parameters) (d : KeptDatagrams) (packets : List StoredPacket) (st : IsStore p d packets) where
   abbrev all : Crossing
@@ -128,9 +115,8 @@ module _ (p : Parameters) (d : KeptDatagrams) (packets : List StoredPacket) (st 
       let one : mine.pdu ≡ c.pdu = read_once p st.crossing.valid.valid side mine.pdu c.pdu y.bytes mine.spelled
       (subst (λ (bs : List ℕ). Spells p side c.pdu bs) (sym bytes) w.3) in
       let number : mine.pdu.number ≡ c.pdu.number = ap (λ (r : RedundancyPdu). r.number) one in
-      let not_low : i < x.position → ⊥ = λ l. one_number all st.crossing side i x.position c _ f mine.there (sym number) l in
-      let not_high : x.position < i → ⊥ = λ l. one_number all st.crossing side x.position i _ c mine.there f number l in
-      omega (arith, not_low, not_high)
+      let few = few_of all st.crossing side in
+      number_once (sent_by all side) (ordered_of all st.crossing side) (omega arith) i x.position c _ f mine.there (sym number)
 
   -- each packet has the position of a datagram
   pub not_stored : (side : Side) (place : ℕ) (x : StoredPacket) → slice_get packets place ≡ Some x → x.side ≡ side → slice_get (kept_by d side) x.position ≡ None → ⊥
@@ -159,7 +145,7 @@ module _ (p : Parameters) (d : KeptDatagrams) (packets : List StoredPacket) (st 
   first_there side place x y g s h e =
       let mine = kept_at p d packets st side x.position y h in
       subst (λ (n : ℕ). position_of_place (sent_by all side) n ≡ Some x.position) e
-      (place_found (sent_by all side) (ordered_of all st.crossing side) x.position (record { place = y.place; pdu = mine.pdu }) mine.there)
+      (place_named (sent_by all side) (ordered_of all st.crossing side) x.position (record { place = y.place; pdu = mine.pdu }) mine.there)
 
   pub copy_there : (side : Side) (place : ℕ) (x : StoredPacket) (y : Kept) → slice_get packets place ≡ Some x → x.side ≡ side
       → slice_get (kept_by d side) x.position ≡ Some y → (y.place ≡ place → ⊥) → position_of_place (sent_by all side) place ≡ None
@@ -174,9 +160,6 @@ module _ (p : Parameters) (d : KeptDatagrams) (packets : List StoredPacket) (st 
 
 -- ---- packets of known numbers
 
-same_test : (n m : ℕ) → nat_eq n m ≡ (m == n)
-same_test n m = grind (arith, nat_tests)
-
 -- the first copy of a number stands at the number's position
 copy_step : (e b : Bool) (c : FirstCopy) (own : List FirstCopy) (l : ℕ) (o : Option FirstCopy) → e ≡ b → o ≡ slice_get own l
     → (if b then Some c else o) ≡ slice_get (c ∷ own) (cond (not e) (1 + l) 0)
@@ -187,13 +170,6 @@ or_len [] n = refl
 or_len (c ∷ own) n =
     copy_step (nat_eq n c.pdu.number) (c.pdu.number == n) c own (position_or_len (nat_eq n) (numbers_of own)) (copy_with own n) (same_test n c.pdu.number) (or_len own n)
 
-shown_some : (l n i : ℕ) → cond (nat_lt l n) (Some l) None ≡ Some i → (l ≡ i) × (i < n)
-shown_some l n i e = by (nat_lt l n) refl e
-  where
-    by : (b : Bool) → nat_lt l n ≡ b → cond b (Some l) None ≡ Some i → (l ≡ i) × (i < n)
-    by true f g = (let same : l ≡ i = cc in (same, let z : l < n = grind (arith, nat_tests) in omega arith))
-    by false f g = absurd (cc)
-
 shown_none : (l n : ℕ) → cond (nat_lt l n) (Some l) None ≡ None → n ≤ l
 shown_none l n e = grind (arith, nat_tests)
 
@@ -202,7 +178,7 @@ length-numbers own = length-map own (λ (c : FirstCopy). c.pdu.number)
 
 pub copy_of_position : (own : List FirstCopy) (n position : ℕ) → position_of_number own n ≡ Some position → copy_with own n ≡ slice_get own position
 copy_of_position own n position e =
-    or_len own n ∙ ap (slice_get own) (shown_some (position_or_len (nat_eq n) (numbers_of own)) (length (numbers_of own)) position e).0
+    or_len own n ∙ ap (slice_get own) (cond_some _ (position_or_len (nat_eq n) (numbers_of own)) position e).1
 
 pub no_copy : (own : List FirstCopy) (n : ℕ) → position_of_number own n ≡ None → copy_with own n ≡ None
 no_copy own n e =
@@ -210,19 +186,13 @@ no_copy own n e =
     let size = length-numbers own in
     or_len own n ∙ slice_get_past own (position_or_len (nat_eq n) (numbers_of own)) (omega arith)
 
--- a number's position is one of the list
-pub shown_within : (own : List FirstCopy) (n position : ℕ) → position_of_number own n ≡ Some position → position < length own
-shown_within own n position e =
-    let l = (shown_some (position_or_len (nat_eq n) (numbers_of own)) (length (numbers_of own)) position e).1 in
-    let size = length-numbers own in omega arith
-
 -- what is known of a packet whose number is that of a first copy
 module _ (k : Crossing) (a : Packet) (pdu : RedundancyPdu) (reads : decode_of k.params a.side a.payload ≡ Ok pdu) where
   abbrev sent : List FirstCopy
   sent = sent_by k a.side
 
   -- its bytes are compared
-  pub repeats : (position : ℕ) (r : Bool) → position_of_number sent pdu.number ≡ Some position → (c : FirstCopy) → slice_get sent position ≡ Some c
+  repeats : (position : ℕ) (r : Bool) → position_of_number sent pdu.number ≡ Some position → (c : FirstCopy) → slice_get sent position ≡ Some c
       → r ≡ bytes_eq (redundancy_bytes k.params a.side c.pdu) a.payload
       → (packet_fault k.params sent a ≡ (if r then None else Some copy_differs)) × (sent_after k a ≡ sent)
   repeats position r e c g f =
@@ -234,23 +204,15 @@ module _ (k : Crossing) (a : Packet) (pdu : RedundancyPdu) (reads : decode_of k.
   same_bytes : (xs ys : List ℕ) (r : Bool) → r ≡ bytes_eq xs ys → r ≡ true → ys ≡ xs
   same_bytes xs ys r e f = sym ((bytes_eq-Decides xs ys).0 (sym e ∙ f))
 
-  there_by : (position : ℕ) (o : Option FirstCopy) (r : Bool) → slice_get sent position ≡ o → position_of_number sent pdu.number ≡ Some position
-      → IfSome o (λ (c : FirstCopy). r ≡ bytes_eq (redundancy_bytes k.params a.side c.pdu) a.payload)
-      → (c : FirstCopy) × (slice_get sent position ≡ Some c) × (packet_fault k.params sent a ≡ (if r then None else Some copy_differs)) × (sent_after k a ≡ sent)
-      × (r ≡ true → a.payload ≡ redundancy_bytes k.params a.side c.pdu)
-  there_by position None r g e h =
-      let l = shown_within sent pdu.number position e in
-      let w = slice_get_some sent position l in
-      let there = w.1 in absurd (cc)
-  there_by position (Some c) r g e h =
-      let w = repeats position r e c g h in
-      (c, g, w.0, w.1, same_bytes (redundancy_bytes k.params a.side c.pdu) a.payload r h)
-
   pub repeats_at : (position : ℕ) (r : Bool) → position_of_number sent pdu.number ≡ Some position
       → IfSome (slice_get sent position) (λ (c : FirstCopy). r ≡ bytes_eq (redundancy_bytes k.params a.side c.pdu) a.payload)
       → (c : FirstCopy) × (slice_get sent position ≡ Some c) × (packet_fault k.params sent a ≡ (if r then None else Some copy_differs)) × (sent_after k a ≡ sent)
       × (r ≡ true → a.payload ≡ redundancy_bytes k.params a.side c.pdu)
-  repeats_at position r e h = there_by position (slice_get sent position) r refl e h
+  repeats_at position r e h =
+      let f = number_found sent pdu.number position e in
+      let same = subst (λ (o : Option FirstCopy). IfSome o (λ (c : FirstCopy). r ≡ bytes_eq (redundancy_bytes k.params a.side c.pdu) a.payload)) f.1 h in
+      let w = repeats position r e f.0 f.1 same in
+      (f.0, f.1, w.0, w.1, same_bytes (redundancy_bytes k.params a.side f.0.pdu) a.payload r same)
 
   -- no first copy has its number, which isn't the next
   pub skips : position_of_number sent pdu.number ≡ None → is_next_number sent pdu.number ≡ false → packet_fault k.params sent a ≡ Some number_gap

@@ -1,12 +1,14 @@
 -- The units conveyed through the positions of an end, as what it made and the asks grow.
-use Rattle.std.proofs.Common.{◌≡◌, ℕ, zero, suc, ◌<◌, ◌≤◌, Bool, true, false, List, [], ◌∷◌, ◌++◌, length, Some, None, slice_get, refl, ap, ◌∙◌, arith}
+use Rattle.std.proofs.Common.{◌≡◌, ℕ, suc, ◌<◌, ◌≤◌, Bool, true, false, List, [], ◌∷◌, ◌++◌, length, Some, None, slice_get, refl, ap, ◌∙◌, arith, Option, sym}
 use Rattle.std.specs.Prelude.{slice_index_or}
-use Rattle.std.proofs.lemmas.Option.{slice_get-get_or}
+use Rattle.std.specs.Option.{unwrap_or}
+use Rattle.std.proofs.lemmas.Option.{slice_get-get_or, unwrap_or-slice_get}
 use Rattle.rasta_pdu.specs.declared.kind.Kind.{Kind}
 use Rattle.rasta_pdu.specs.declared.kind.Kind.TheVariants.{Data, RetransmittedData, RetransmissionResponse}
 use Rattle.rasta_end.specs.State.{Made, EndState, kinds, carries_unit}
 use Rattle.rasta_end.specs.Units.{all_units_conveyed, conveyed, units_after, units_at, last_of, responses_after, responses_in}
-use Rattle.rasta_end.proofs.Conveying.{all_units-push, conveyed-responses, length-all_units, length-kinds, more_asks}
+use Rattle.rasta_end.proofs.Conveying.{all_units-push, conveyed-responses, length-all_units, length-kinds, more_asks, last-at}
+use Rattle.rasta_end.proofs.Pushing.{kinds-push}
 use Rattle.rasta_check.proofs.Model.Counts.{number, tally}
 use Rattle.rasta_pdu.specs.Pdu.{is_kind}
 
@@ -33,21 +35,12 @@ last_push (x ∷ []) v = refl
 last_push (x ∷ y ∷ vs) v = last_push (y ∷ vs) v
 
 pub last_get : (vs : List ℕ) (q : ℕ) → length vs ≡ suc q → slice_get vs q ≡ Some (last_of vs)
-last_get [] q e = absurd (cc)
-last_get (v ∷ []) zero e = refl
-last_get (v ∷ []) (suc q) e = absurd (omega arith)
-last_get (v ∷ w ∷ vs) zero e = absurd (omega arith)
-last_get (v ∷ w ∷ vs) (suc q) e = last_get (w ∷ vs) q (omega arith)
+last_get vs q e = slice_get-get_or vs q 0 (omega (arith, e)) ∙ ap Some (last-at vs q e)
 
 -- The member at a position, or 0 where there is none.
 
-pub get_within : (vs : List ℕ) (c : ℕ) → c < length vs → slice_get vs c ≡ Some (slice_index_or vs c 0)
-get_within vs c l = slice_get-get_or vs c 0 l
-
 pub get_or_none : (vs : List ℕ) (c : ℕ) → slice_get vs c ≡ None → slice_index_or vs c 0 ≡ 0
-get_or_none [] c g = refl
-get_or_none (v ∷ vs) zero g = absurd (cc)
-get_or_none (v ∷ vs) (suc c) g = get_or_none vs c g
+get_or_none vs c g = sym (unwrap_or-slice_get vs c 0) ∙ ap (λ (o : Option ℕ). unwrap_or o 0) g
 
 -- One more PDU appends one value; one more ask changes none.
 
@@ -59,15 +52,11 @@ pub answers_number : (ms : List Made) → responses_in (kinds ms) ≡ number (is
 answers_number [] = refl
 answers_number (m ∷ ms) = answers_tally (responses_in (kinds ms)) m.pdu.kind ∙ ap (tally (is_kind RetransmissionResponse m.pdu.kind)) (answers_number ms)
 
-pub kinds_push : (ms : List Made) (m : Made) → kinds (ms ++ m ∷ []) ≡ kinds ms ++ m.pdu.kind ∷ []
-kinds_push [] m = refl
-kinds_push (x ∷ ms) m = ap (λ ks. x.pdu.kind ∷ ks) (kinds_push ms m)
-
 pub values_push : (asks : List ℕ) (ms : List Made) (m : Made)
     → all_units_conveyed asks (kinds (ms ++ m ∷ [])) ≡ all_units_conveyed asks (kinds ms) ++ units_after asks (all_units_conveyed asks (kinds ms)) (number (is_kind RetransmissionResponse) ms) m.pdu.kind ∷ []
 values_push asks ms m =
     let n : (conveyed asks (kinds ms)).responses ≡ number (is_kind RetransmissionResponse) ms = conveyed-responses asks (kinds ms) ∙ answers_number ms in
-    ap (all_units_conveyed asks) (kinds_push ms m)
+    ap (all_units_conveyed asks) (kinds-push ms m)
     ∙ (all_units-push asks (kinds ms) m.pdu.kind ∙ ap (λ a. all_units_conveyed asks (kinds ms) ++ units_after asks (all_units_conveyed asks (kinds ms)) a m.pdu.kind ∷ []) n)
 
 pub length-values : (asks : List ℕ) (ms : List Made) → length (all_units_conveyed asks (kinds ms)) ≡ length ms

@@ -22,7 +22,7 @@ use Rattle.rasta_end.specs.MakeRule.{row_of, after_make, after_make_by}
 use Rattle.rasta_end.specs.TakeRule.{is_heartbeat_or_data, is_in, steps_past_next, position_confirmed, accept, enter, hand_up, burst, effect, after_take}
 use Rattle.rasta_check.specs.Model.Laws.{conveyed_before, HandsUp}
 use Rattle.rasta_check.specs.Model.Theorem.{HandsUpUnits}
-use Rattle.rasta_check.proofs.Model.ListGrowth.{all_push, get_front, get_push, get_mapped}
+use Rattle.rasta_check.proofs.Lists.{all_push, get_front, get_push, get_mapped}
 use Rattle.rasta_check.proofs.Model.PassedTests.{Passed, cs_is}
 use Rattle.rasta_check.proofs.Model.MakeRows.{MadeBy, made_by, after_row, new_made}
 use Rattle.rasta_check.proofs.Model.TakeRows.{Knows, take_by, kind_is}

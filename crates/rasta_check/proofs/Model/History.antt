@@ -1,8 +1,8 @@
 -- What of an end stays along a run, and the worlds of a run.
-use Rattle.std.proofs.Common.{◌≡◌, ℕ, suc, ◌+◌, ◌<◌, ◌≤◌, Bool, true, false, List, [], ◌∷◌, ◌++◌, length, Option, Some, slice_get, refl, ap, sym, ◌∙◌, arith, ⊎_elim, subst}
-use Rattle.std.specs.Prelude.{◌&&◌}
+use Rattle.std.proofs.Common.{◌≡◌, ℕ, suc, ◌+◌, ◌<◌, ◌≤◌, true, List, [], ◌∷◌, ◌++◌, length, Option, Some, slice_get, refl, ap, sym, ◌∙◌, arith, ⊎_elim, subst}
 use Rattle.std.proofs.lemmas.List.{length_push}
 use Rattle.std.proofs.lemmas.Option.{slice_get_within}
+use Rattle.std.proofs.lemmas.Bool.{and_parts}
 use native.Mathlib.Decide.{dec_lt}
 use Prim.{yes, no}
 use Rattle.rasta_pcap.specs.declared.fault.Side.{Side}
@@ -17,7 +17,7 @@ use Rattle.rasta_end.specs.Starts.{start_of}
 use Rattle.rasta_check.specs.Capture.Crossing.{FirstCopy}
 use Rattle.rasta_check.specs.Model.World.{Station, World, Move, Moves, makes, repeats, arrives, takes, waits, Step, side_moves, station_of, end_of, other_side, Reaches, begins, goes_on, first_world, IsWithin}
 use Rattle.rasta_check.specs.Model.Theorem.{Appends}
-use Rattle.rasta_check.proofs.Model.ListGrowth.{get_push_cases, all_push, get_front, get_push}
+use Rattle.rasta_check.proofs.Lists.{get_push_cases, all_push, get_front, get_push, slice_get_some}
 use Rattle.rasta_check.proofs.Model.PassedTests.{passed}
 use Rattle.rasta_check.proofs.Model.MakeRows.{made_by, after_row, new_made}
 use Rattle.rasta_check.proofs.Model.TakeRows.{take_made, closed_row}
@@ -26,8 +26,8 @@ use Rattle.rasta_check.proofs.Model.Counts.{number}
 use Rattle.rasta_check.proofs.Model.ConveyedUnits.{values, values_push}
 use Rattle.rasta_check.proofs.Model.OfferedUnitsAtTake.{values_take}
 use Rattle.rasta_check.proofs.Model.InvariantOfRuns.{All, all_held}
-use Rattle.rasta_check.proofs.Script.Tracks.{slice_get_some}
 use Rattle.rasta_check.proofs.Script.ScriptsOfRuns.{Both, Sends, turn, told_first, told_step, step_copies, step_front, sends_count, copy_at}
+use Rattle.rasta_check.proofs.Sides.{sided}
 use Rattle.rasta_pdu.specs.Pdu.{is_kind}
 use Rattle.rasta_pdu.specs.declared.kind.Kind.TheVariants.{RetransmissionResponse}
 
@@ -42,10 +42,6 @@ same_grown e = record { made = λ i m g. g; kept = λ i v g. g; over = λ h. ref
 
 both_grown : (a b c : EndState) → Grown a b → Grown b c → Grown a c
 both_grown a b c g h = record { made = λ i m x. h.made i m (g.made i m x); kept = λ i v x. h.kept i v (g.kept i v x); over = λ x. (let e = g.over x in h.over (ap has_ended e ∙ x) ∙ e) }
-
-over_closed : (b c : Bool) → (b && c) ≡ true → b ≡ true
-over_closed true c h = refl
-over_closed false c h = h
 
 grown_move : (p : Parameters) (b a a' : Station) (xs ys : List Packet) {move : Move} → Moves p b xs a move a' ys → number (is_kind RetransmissionResponse) a.state.made ≤ length a.state.asks → Grown a.state a'.state
 grown_move p b a a' xs ys (makes x why e' ch res chk bs mk sp rec) l =
@@ -63,7 +59,7 @@ grown_move p b a a' xs ys (takes q m e' c i s t) l =
     subst (λ (e : EndState). Grown a.state e) (sym t.1) (record {
       made = λ i n g. subst (λ (ms : List Made). slice_get ms i ≡ Some n) (sym (take_made p a.state m.pdu)) g;
       kept = λ i v g. subst (λ vs. slice_get vs i ≡ Some v) (sym (values_take p a.state m.pdu l)) g;
-      over = λ h. ap (λ (r : Option TakeRow). effect_by p r a.state m.pdu) (closed_row a.state.side a.state.phase m.pdu.kind (is_in a.state m.pdu) (is_ahead p a.state m.pdu) (is_valid a.state m.pdu) (over_closed (is_closed a.state.phase) _ h));
+      over = λ h. ap (λ (r : Option TakeRow). effect_by p r a.state m.pdu) (closed_row a.state.side a.state.phase m.pdu.kind (is_in a.state m.pdu) (is_ahead p a.state m.pdu) (is_valid a.state m.pdu) (and_parts (is_closed a.state.phase) _ h).0);
     })
 grown_move p b a a' xs ys (waits c i) l = same_grown a.state
 
@@ -97,15 +93,11 @@ end_moves p b a a' xs ys (takes q m e' c i s t) =
 end_moves p b a a' xs ys (arrives q low i) = (omega arith, omega arith, stands_still _ a.state)
 end_moves p b a a' xs ys (waits c i) = (omega arith, omega arith, stands_still _ a.state)
 
-each_side : (P : Side → Type 0) → P Client → P Server → (side : Side) → P side
-each_side P c s Client = c
-each_side P c s Server = s
-
 pub stepped : (p : Parameters) (v w : World) → Step p v w → Stepped v w
 stepped p v w (side_moves {a = a} {after = ys} Client m) =
-    (let o = end_moves p v.server v.client a v.crossed ys m in record { less = o.0; more = o.1; ends = each_side _ o.2 (stands_still _ v.server.state) })
+    (let o = end_moves p v.server v.client a v.crossed ys m in record { less = o.0; more = o.1; ends = sided _ o.2 (stands_still _ v.server.state) })
 stepped p v w (side_moves {a = a} {after = ys} Server m) =
-    (let o = end_moves p v.client v.server a v.crossed ys m in record { less = o.0; more = o.1; ends = each_side _ (stands_still _ v.client.state) o.2 })
+    (let o = end_moves p v.client v.server a v.crossed ys m in record { less = o.0; more = o.1; ends = sided _ (stands_still _ v.client.state) o.2 })
 
 grown_step : (p : Parameters) (v w : World) → Step p v w → All v.client v.server → (side : Side) → Grown (end_of v side) (end_of w side)
 grown_step p v w (side_moves {a = a} {after = ys} Client m) g Client = grown_move p v.server v.client a v.crossed ys m g.mine.held.asks.asked
@@ -204,14 +196,8 @@ appended p ws w (goes_on {ws = us} {w = u} r st) k l =
     elim (dec_lt k (length u.crossed)) [
       | yes y ↦ (let a = appended p us u r k y in (a.0, a.1, record { i = a.2.i; here = get_front (us ++ u ∷ []) (w ∷ []) a.2.i a.0 a.2.here; there = get_front (us ++ u ∷ []) (w ∷ []) (suc a.2.i) a.1 a.2.there; before = a.2.before; after = a.2.after }))
       | no y ↦ (let s = stepped p u w st in let m = s.more in let q = length_push us u in
-          (u, w, record { i = length us; here = get_front (us ++ u ∷ []) (w ∷ []) (length us) u (get_push us u); there = subst (λ j. slice_get ((us ++ u ∷ []) ++ w ∷ []) j ≡ Some w) (let z : length (us ++ u ∷ []) ≡ suc (length us) = omega arith in z) (get_push (us ++ u ∷ []) w); before = at_end k (length u.crossed) (length w.crossed) y l m; after = at_next k (length u.crossed) (length w.crossed) y l m }))
+          (u, w, record { i = length us; here = get_front (us ++ u ∷ []) (w ∷ []) (length us) u (get_push us u); there = subst (λ j. slice_get ((us ++ u ∷ []) ++ w ∷ []) j ≡ Some w) (let z : length (us ++ u ∷ []) ≡ suc (length us) = omega arith in z) (get_push (us ++ u ∷ []) w); before = omega (arith, y, l, m); after = omega (arith, y, l, m) }))
     ]
-  where
-    at_end : (k m n : ℕ) → (k < m → ⊥) → k < n → n ≤ suc m → m ≡ k
-    at_end k m n h l q = omega arith
-
-    at_next : (k m n : ℕ) → (k < m → ⊥) → k < n → n ≤ suc m → n ≡ suc k
-    at_next k m n h l q = omega arith
 
 -- the PDU of a copy
 pub made_at : (p : Parameters) (s : Side) (xs : List Packet) (own : List FirstCopy) (e : EndState) (f j : ℕ) (d : FirstCopy) → Sends p s xs own e f → slice_get own j ≡ Some d → (m : Made) × (slice_get e.made (base p + j) ≡ Some m) × (m.pdu ≡ d.pdu.safety)

@@ -17,7 +17,7 @@ use Rattle.rasta_end.specs.declared.owed.Owed.{Owed}
 use Rattle.rasta_end.specs.declared.owed.Owed.TheVariants.{ConnectionResponse as OweConnectionResponse}
 use Rattle.rasta_end.specs.State.{Made, EndState, is_connected}
 use Rattle.rasta_end.specs.MakeRule.{is_judged, after_make, after_make_by, phase_after, owed_after}
-use Rattle.rasta_check.proofs.Model.ListGrowth.{all_push, get_front}
+use Rattle.rasta_check.proofs.Lists.{all_push, get_front}
 use Rattle.rasta_check.proofs.Model.SequenceNumbers.{numbered_push}
 use Rattle.rasta_check.proofs.Model.PassedTests.{Passed, un_not, cs_is}
 use Rattle.rasta_check.proofs.Model.MakeRows.{Making, opening, response, first_beat, answer, again, ask, beat, fresh, bye, expired, made_by, after_row, new_made}

@@ -18,7 +18,7 @@ use Rattle.rasta_end.specs.declared.owed.Owed.TheVariants.{RetransmissionRequest
 use Rattle.rasta_end.specs.State.{Made, EndState, kinds, is_closed, is_flowing, is_connected, is_timed, carries_unit}
 use Rattle.rasta_end.specs.Units.{units_conveyed}
 use Rattle.rasta_end.specs.TakeRule.{is_heartbeat_or_data, steps_past_next, is_valid, position_confirmed, accept, enter, resends, burst, effect, after_take}
-use Rattle.rasta_check.proofs.Model.ListGrowth.{get_push_cases}
+use Rattle.rasta_check.proofs.Lists.{get_push_cases}
 use Rattle.rasta_check.proofs.Model.TakeRows.{Knows, take_by, handed_or}
 use Rattle.rasta_check.proofs.Model.Counts.{number, owes, tally, number_take_all, number_take_more, number_take_at, is_answer_owed, is_request_owed, owes-append}
 use Rattle.rasta_check.proofs.Model.NamedPositions.{SnIs, position_is, confirms_is}

@@ -16,7 +16,7 @@ pub record SnIs (ms : List Made) (i sn : ℕ) : Type 0 where
   pub same : m.pdu.sn ≡ sn
 
 -- modulo 2^32 an SN is the first one and its position
-sn_mod : (ms : List Made) (i sn : ℕ) → Numbered ms → SnIs ms i sn → sn % 2 ^ 32 ≡ (first_sn ms + i) % 2 ^ 32
+pub sn_mod : (ms : List Made) (i sn : ℕ) → Numbered ms → SnIs ms i sn → sn % 2 ^ 32 ≡ (first_sn ms + i) % 2 ^ 32
 sn_mod ms i sn h s = ap (λ n. n % 2 ^ 32) (sym s.same) ∙ sn_from_first ms i s.m h s.there
 
 -- an SN after that of position i names the position that is so far after it

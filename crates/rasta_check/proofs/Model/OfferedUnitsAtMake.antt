@@ -3,7 +3,7 @@ use Rattle.std.proofs.Common.{◌≡◌, ℕ, suc, ◌-◌, ◌<◌, ◌≤◌, 
 use Rattle.std.specs.Prelude.{slice_index_or, map, filter}
 use Rattle.std.proofs.lemmas.List.{take-append-le, append-nil, take_all, length_push, map-append}
 use Rattle.std.proofs.lemmas.List.Elements.{filter-append}
-use Rattle.std.proofs.lemmas.Option.{slice_get_within}
+use Rattle.std.proofs.lemmas.Option.{slice_get_within, slice_get-get_or}
 use Rattle.std.proofs.lemmas.Slice.Eq.{bytes_eq-Decides}
 use Rattle.std.specs.Option.{option_map_or}
 use Rattle.std.specs.Str.{bytes_eq}
@@ -22,13 +22,13 @@ use Rattle.rasta_end.specs.declared.owed.Owed.{Owed}
 use Rattle.rasta_end.specs.State.{Made, EndState, is_connected, carries_unit, content_of}
 use Rattle.rasta_end.specs.Units.{units_after, units_at, last_of}
 use Rattle.rasta_end.specs.MakeRule.{has_ended, contents, differs, unit_of, phase_after, owed_after, offered_after, after_make, after_make_by}
-use Rattle.rasta_check.proofs.Model.ListGrowth.{all_push, get_front, get_front_within, get_push}
+use Rattle.rasta_check.proofs.Lists.{all_push, get_front, get_front_within, get_push}
 use Rattle.rasta_check.proofs.Model.Counts.{number}
 use Rattle.rasta_check.proofs.Model.PassedTests.{Passed, un_not}
 use Rattle.rasta_check.proofs.Model.MakeRows.{Making, opening, response, first_beat, answer, again, ask, beat, fresh, bye, expired, MadeBy, made_by, after_row, new_made}
 use Rattle.rasta_check.proofs.Model.Invariant.{Held}
 use Rattle.rasta_check.proofs.Model.InvariantAtMake.{over_after, nothing_made}
-use Rattle.rasta_check.proofs.Model.ConveyedUnits.{values, jump, is_plain, last_push, last_get, get_within, values_push, length-values, units_next, after_is, next_plain, next_unit, first_kept}
+use Rattle.rasta_check.proofs.Model.ConveyedUnits.{values, jump, is_plain, last_push, last_get, values_push, length-values, units_next, after_is, next_plain, next_unit, first_kept}
 use Rattle.rasta_check.proofs.Model.TakeRows.{kind_is}
 use Rattle.rasta_check.proofs.Model.OfferedUnits.{Valued, Conveying, Returning, Carrying, Due, DueRest, rest_due, due_le, bare_rest}
 
@@ -228,7 +228,7 @@ module _ (p : Parameters) (e : EndState) (x : SafetyPdu) (clock : ℕ) (why : Wh
             let a' : slice_get e.asks (number (is_kind RetransmissionResponse) e.made) ≡ Some c = subst (λ (ms : List Made). slice_get e.asks (number (is_kind RetransmissionResponse) ms) ≡ Some c) (whole e.made new e.offered w.contents) a in
             let l = w.returns.asks_within (number (is_kind RetransmissionResponse) e.made) c a' in
             let back : value ≡ slice_index_or (values e) c 0 = value_is ∙ (ap (units_next (jump e) (last_of (values e))) (kind_is RetransmissionResponse x.kind u) ∙ ap (units_at (values e)) a') in
-            (l, at_new ∙ (ap Some back ∙ sym (old c _ (get_within (values e) c (omega (arith, long, l)))))));
+            (l, at_new ∙ (ap Some back ∙ sym (old c _ (slice_get-get_or (values e) c 0 (omega (arith, long, l)))))));
         asks_within = λ i c g. (let l = w.returns.asks_within i c g in omega (arith, l, length_push e.made new));
       }
 

@@ -13,7 +13,7 @@ use Rattle.rasta_end.specs.declared.owed.Owed.TheVariants.{RetransmissionRespons
 use Rattle.rasta_end.specs.State.{Made, EndState, kinds, is_closed, is_connected, carries_unit}
 use Rattle.rasta_end.specs.Units.{units_conveyed, units_at, last_of}
 use Rattle.rasta_end.specs.TakeRule.{is_valid, position_confirmed, accept, enter, note_ask, resends, effect, after_take}
-use Rattle.rasta_check.proofs.Model.ListGrowth.{all_push, get_push, get_front_within}
+use Rattle.rasta_check.proofs.Lists.{all_push, get_push, get_front_within}
 use Rattle.rasta_check.proofs.Model.Counts.{number, number_take_all, number_take_at}
 use Rattle.rasta_check.proofs.Model.TakeRows.{Knows, take_by, handed_or}
 use Rattle.rasta_check.proofs.Model.Invariant.{is_named}

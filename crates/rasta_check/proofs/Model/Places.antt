@@ -13,10 +13,10 @@ use Rattle.rasta_check.specs.Model.Theorem.{Appends, IsMade}
 use Rattle.rasta_check.proofs.Capture.FaultlessLists.{IsSent}
 use Rattle.rasta_check.proofs.Capture.ListForms.{of_record}
 use Rattle.rasta_check.proofs.Model.Steps.{base, start_base}
-use Rattle.rasta_check.proofs.Script.Tracks.{slice_get_some}
 use Rattle.rasta_check.proofs.Script.ScriptsOfRuns.{told_by, sends_count}
 use Rattle.rasta_check.proofs.Model.History.{stepped, joined}
 use Rattle.rasta_check.proofs.Theorem.SentRuns.{before}
+use Rattle.rasta_check.proofs.Lists.{slice_get_some}
 
 -- the j-th copy crosses as the j-th PDU is made
 made_there : (p : Parameters) (b : ℕ) (m m' : ℕ) (xs : List Packet) (s : Side) (own own' : List FirstCopy) (j : ℕ) (d : FirstCopy) → IsSent p xs s own → m ≡ b + length own → m' ≡ b + length own' → m' ≤ suc m

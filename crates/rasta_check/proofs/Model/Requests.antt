@@ -5,7 +5,7 @@ use Rattle.std.specs.Option.{option_map}
 use Rattle.std.specs.List.{cons_option}
 use Rattle.std.proofs.Math.Seq.{take-append_seam}
 use Rattle.std.proofs.lemmas.Bool.Decides.{nat_tests}
-use Rattle.std.proofs.lemmas.Option.{slice_get_within}
+use Rattle.std.proofs.lemmas.Option.{slice_get_within, slice_get-get_or}
 use Rattle.rasta_pdu.specs.declared.kind.Kind.{Kind}
 use Rattle.rasta_pdu.specs.declared.kind.Kind.TheVariants.{RetransmissionRequest, RetransmissionResponse}
 use Rattle.rasta_pdu.specs.Pdu.{SafetyPdu, is_kind}
@@ -17,8 +17,9 @@ use Rattle.rasta_check.proofs.Model.Counts.{number, tally, number_take_all, numb
 use Rattle.rasta_check.proofs.Model.TakeRows.{kind_is}
 use Rattle.rasta_check.proofs.Model.NamedPositions.{SnIs}
 use Rattle.rasta_check.proofs.Model.Invariant.{Held, is_named}
-use Rattle.rasta_check.proofs.Model.ConveyedUnits.{get_within, answers_number}
+use Rattle.rasta_check.proofs.Model.ConveyedUnits.{answers_number}
 use Rattle.rasta_check.proofs.Model.OfferedUnits.{Valued}
+use Rattle.rasta_check.proofs.Lists.{begins_with, get_next}
 
 -- ---- the position that a CS confirms
 
@@ -128,15 +129,6 @@ asked_at own (x ∷ ms) all (suc p) m c e r h =
     more_asked own (is_kind RetransmissionRequest x.pdu.kind) x.pdu (filter (λ (y : SafetyPdu). is_kind RetransmissionRequest y.kind) (pdus_made ms)) (number (is_kind RetransmissionRequest) (take p ms)) c
     (all 0 x refl) (asked_at own ms (λ q n g. all (suc q) n g) p m c e r h)
 
-pub begins_with : {A : Type 0} (xs ys : List A) → ((k : ℕ) (a : A) → slice_get xs k ≡ Some a → slice_get ys k ≡ Some a) → (rest : List A) × (ys ≡ xs ++ rest)
-begins_with [] ys h = (ys, refl)
-begins_with (x ∷ xs) [] h = absurd (let z = h 0 x refl in cc)
-begins_with (x ∷ xs) (y ∷ ys) h =
-    let z : Some y ≡ Some x = h 0 x refl in
-    let same : y ≡ x = cc in
-    let r = begins_with xs ys (λ k a e. h (suc k) a e) in
-    (r.0, ap (λ a. a ∷ ys) same ∙ ap (λ zs. x ∷ zs) r.1)
-
 -- ---- asks and answers
 
 module _ (e f : EndState) (t u : ℕ) (h : Held e t f.made) (peer : Held f u e.made) (w : Valued e) (once : NamesOne e f) where
@@ -161,21 +153,17 @@ module _ (e f : EndState) (t u : ℕ) (h : Held e t f.made) (peer : Held f u e.m
       → (ask : ℕ) × (request : Made) × (slice_get e.asks (responses_in (kinds before)) ≡ Some ask) × (ask < length before)
       × (slice_get (requests_of f.made) (responses_in (kinds before)) ≡ Some request) × (position_with (pdus_made e.made) request.pdu.cs ≡ Some ask)
   answer_at before after m is r =
-      let there : slice_get e.made (length before) ≡ Some m = subst (λ (ms : List Made). slice_get ms (length before) ≡ Some m) (sym is) (get_after before) in
+      let there : slice_get e.made (length before) ≡ Some m = subst (λ (ms : List Made). slice_get ms (length before) ≡ Some m) (sym is) (get_next before (m ∷ after)) in
       let front : take (length before) e.made ≡ before = ap (take (length before)) is ∙ take-append_seam before (m ∷ after) in
       let n = responses_in (kinds before) in
       let n_is : n ≡ number (is_kind RetransmissionResponse) (take (length before) e.made) = answers_number before ∙ ap (number (is_kind RetransmissionResponse)) (sym front) in
       let one = number_take_at (is_kind RetransmissionResponse) e.made (length before) m there r in
       let all = number_take_all (is_kind RetransmissionResponse) e.made (suc (length before)) in
       let ask = slice_index_or e.asks n 0 in
-      let asked = get_within e.asks n (omega (arith, n_is, one, all, h.asks.asked)) in
+      let asked = slice_get-get_or e.asks n 0 (omega (arith, n_is, one, all, h.asks.asked)) in
       let request = ask_at n ask asked in
       let jump = w.returns.jumps (length before) m there r ask (subst (λ k. slice_get e.asks k ≡ Some ask) n_is asked) in
       (ask, request.0, asked, jump.0, request.1, request.2)
-    where
-      get_after : (xs : List Made) → slice_get (xs ++ m ∷ after) (length xs) ≡ Some m
-      get_after [] = refl
-      get_after (x ∷ xs) = get_after xs
 
   pub in_order : AnswersInOrder e f
   in_order = record {

@@ -4,7 +4,7 @@ use Rattle.std.proofs.lemmas.Bool.Decides.{nat_tests}
 use Rattle.std.proofs.lemmas.Option.{slice_get_within}
 use Rattle.rasta_end.specs.State.{Made, first_sn, sn_at}
 use Rattle.rasta_end.specs.MakeRule.{is_next_sn}
-use Rattle.rasta_check.proofs.Model.ListGrowth.{all_push}
+use Rattle.rasta_check.proofs.Lists.{all_push}
 
 -- each SN but the first follows from the first
 abbrev pub Numbered : List Made → Type 0

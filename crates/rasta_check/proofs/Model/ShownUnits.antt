@@ -19,7 +19,7 @@ use Rattle.rasta_end.specs.declared.owed.Owed.{Owed}
 use Rattle.rasta_end.specs.State.{Made, EndState, is_client, is_start, is_closed, is_connected, carries_unit}
 use Rattle.rasta_end.specs.MakeRule.{is_judged, offered_after, after_make, after_make_by}
 use Rattle.rasta_end.specs.TakeRule.{accept, enter, effect, after_take}
-use Rattle.rasta_check.proofs.Model.ListGrowth.{get_push_cases, all_push}
+use Rattle.rasta_check.proofs.Lists.{get_push_cases, all_push}
 use Rattle.rasta_check.proofs.Model.PassedTests.{Passed, cs_is}
 use Rattle.rasta_check.proofs.Model.MakeRows.{Making, fresh, MadeBy, made_by, after_row, new_made}
 use Rattle.rasta_check.proofs.Model.TakeRows.{Knows, take_by, handed_or, effect_made, take_leaves}

@@ -57,20 +57,17 @@ pub base_small : (q : Option Quiet) → base_by q ≤ 1
 base_small None = omega arith
 base_small (Some q) = omega arith
 
+pub start_is : (q : Option Quiet) (s : Side) → ((start_by q s).base ≡ base_by q) × (length (start_by q s).made ≡ base_by q) × ((start_by q s).side ≡ s) × (length (start_by q s).handed ≡ 0)
+start_is None Client = (refl, refl, refl, refl)
+start_is None Server = (refl, refl, refl, refl)
+start_is (Some q) Client = (refl, refl, refl, refl)
+start_is (Some q) Server = (refl, refl, refl, refl)
+
 pub start_base : (q : Option Quiet) (s : Side) → (start_by q s).base ≡ base_by q
-start_base None Client = refl
-start_base None Server = refl
-start_base (Some q) Client = refl
-start_base (Some q) Server = refl
+start_base q s = (start_is q s).0
 
 pub start_made : (q : Option Quiet) (s : Side) → length (start_by q s).made ≡ base_by q
-start_made None Client = refl
-start_made None Server = refl
-start_made (Some q) Client = refl
-start_made (Some q) Server = refl
+start_made q s = (start_is q s).1
 
 pub start_side : (q : Option Quiet) (s : Side) → (start_by q s).side ≡ s
-start_side None Client = refl
-start_side None Server = refl
-start_side (Some q) Client = refl
-start_side (Some q) Server = refl
+start_side q s = (start_is q s).2

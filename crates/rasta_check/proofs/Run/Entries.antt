@@ -1,5 +1,5 @@
 -- What a script says of a level, by its first entry.
-use Rattle.std.proofs.Common.{◌≡◌, ℕ, ◌<◌, Bool, true, false, List, [], ◌∷◌, Some, None, refl, arith}
+use Rattle.std.proofs.Common.{◌≡◌, ℕ, ◌<◌, Bool, true, false, List, [], ◌∷◌, Some, None, refl, arith, ap}
 use Rattle.std.specs.Prelude.{◌==◌, if◌then◌else◌}
 use Rattle.std.specs.List.{cons_option}
 use Rattle.std.proofs.lemmas.Bool.Decides.{nat_tests}
@@ -10,12 +10,10 @@ use Rattle.rasta_check.specs.Run.Levels.{takes_at, makes_at}
 
 -- an item is kept where the test holds, and else not
 kept : {A : Type 0} (b : Bool) (x : A) (xs : List A) → b ≡ true → cons_option (if b then Some x else None) xs ≡ x ∷ xs
-kept true x xs e = refl
-kept false x xs e = absurd (cc)
+kept b x xs e = ap (λ c. cons_option (if c then Some x else None) xs) e
 
 left_out : {A : Type 0} (b : Bool) (x : A) (xs : List A) → b ≡ false → cons_option (if b then Some x else None) xs ≡ xs
-left_out true x xs e = absurd (cc)
-left_out false x xs e = refl
+left_out b x xs e = ap (λ c. cons_option (if c then Some x else None) xs) e
 
 pub takes_here : (level number : ℕ) (es : List Entry) → takes_at level (Take level number ∷ es) ≡ number ∷ takes_at level es
 unfolding takes_at

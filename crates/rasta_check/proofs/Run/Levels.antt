@@ -20,18 +20,15 @@ use Rattle.rasta_check.specs.Run.Lines.{Line, told, number_of}
 use Rattle.rasta_check.specs.Run.Levels.{makes_at, each_take, takes_lines, side_lines, crossed_lines, by_side_lines, packet_lines, level_lines, levels_lines, run_lines}
 use Rattle.rasta_check.proofs.Capture.FaultlessLists.{IsSent}
 use Rattle.rasta_check.proofs.Model.Steps.{base}
-use Rattle.rasta_check.proofs.Script.Tracks.{Tracks, Drained, first_number_of, first_tracks, nothing_left, passed_by, slice_get_some}
+use Rattle.rasta_check.proofs.Script.Tracks.{Tracks, Drained, first_number_of, first_tracks, nothing_left, passed_by}
 use Rattle.rasta_check.proofs.Run.Rests.{Above, Says, says_all, says_on, lead_above}
 use Rattle.rasta_check.proofs.Run.Moves.{Many, many_moves}
 use Rattle.rasta_check.proofs.Run.Takes.{drain, above_next}
 use Rattle.rasta_check.proofs.Run.Packets.{next_is}
+use Rattle.rasta_check.proofs.Lists.{slice_get_some}
+use Rattle.rasta_check.proofs.Sides.{sided}
 
 -- ---- sides
-
--- what belongs to each side
-abbrev pub sided : (P : Side → Type 0) → P Client → P Server → (x : Side) → P x
-sided P c s Client = c
-sided P c s Server = s
 
 apart : (x : Side) → x ≡ other_side x → ⊥
 apart Client e = absurd (cc)

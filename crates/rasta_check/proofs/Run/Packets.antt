@@ -16,17 +16,18 @@ use Rattle.rasta_check.specs.Capture.Crossing.{Spells, FirstCopy, CrossRecorded,
 use Rattle.rasta_check.specs.Capture.Lists.{position_of_place}
 use Rattle.rasta_check.specs.Script.Following.{Cursor, Advances, makes_next, Leads}
 use Rattle.rasta_check.specs.Model.World.{Station, making, repeating, waiting, makes, repeats, waits}
-use Rattle.rasta_check.proofs.Capture.FaultlessLists.{IsSent}
+use Rattle.rasta_check.proofs.Capture.FaultlessLists.{IsSent, ordered}
 use Rattle.rasta_check.proofs.Capture.Crossings.{number_spelled}
-use Rattle.rasta_check.proofs.Model.ListGrowth.{get_front, get_push}
-use Rattle.rasta_check.proofs.Script.Tracks.{Tracks, Drained, next_number, next_packet, places_once, slice_get_some, untouched}
+use Rattle.rasta_check.proofs.Lists.{get_front, get_push, slice_get_some}
+use Rattle.rasta_check.proofs.Script.Tracks.{Tracks, Drained, next_number, next_packet, untouched}
 use Rattle.rasta_check.proofs.Model.Steps.{base, made_more}
 use Rattle.rasta_check.specs.Run.Lines.{lines_of_move, copy_lines, number_of}
 use Rattle.rasta_check.specs.Run.Levels.{makes_at, make_line, waited_line, each_make, side_lines, crossed_lines}
 use Rattle.rasta_check.proofs.Run.Entries.{takes_past, makes_here, makes_other, below}
-use Rattle.rasta_check.proofs.Run.Rests.{Above, Says, says_all, lead_above, places_above, no_makes, place_found, place_missing}
+use Rattle.rasta_check.proofs.Run.Rests.{Above, Says, says_all, lead_above, places_above, no_makes}
 use Rattle.rasta_check.proofs.Run.Moves.{Many, stays, moves, recast}
 use Rattle.rasta_check.proofs.Run.Takes.{ahead}
+use Rattle.rasta_check.proofs.Capture.Positions.{place_missing, place_named, place_once}
 
 module _ (p : Parameters) (packets : List Packet) (k : ℕ) (s : Side) (own peer : List FirstCopy) (sent : IsSent p packets s own) (recorded : CrossRecorded p packets) (last : Cursor) (whole : last.made ≡ length own)
     (b : Station) (here : Packet) (at : slice_get packets k ≡ Some here) where
@@ -65,7 +66,7 @@ module _ (p : Parameters) (packets : List Packet) (k : ℕ) (s : Side) (own peer
       let same_packet : first.0 ≡ here = cc in
       let shown : wrapped (a.first_number + length a.state.made) ≡ number_of here =
       sym numbered ∙ (sym (number_spelled p s c.pdu first.0.payload first.3) ∙ ap (λ (x : Packet). number_of x) same_packet) in
-      let found : position_of_place own k ≡ Some f.made = ap (position_of_place own) (sym pl) ∙ place_found p packets s own sent f.made c mine in
+      let found : position_of_place own k ≡ Some f.made = ap (position_of_place own) (sym pl) ∙ place_named own (ordered sent) f.made c mine in
       let makes_now : makes_at k (Make c.place clock why ∷ es) ≡ (clock, why) ∷ [] =
       ap (λ (j : ℕ). makes_at k (Make j clock why ∷ es)) pl ∙ (makes_here k clock why es ∙ ap (λ (l : List (ℕ × Why)). (clock, why) ∷ l) (no_makes k (suc k) es (omega arith) after)) in
       let line : waited_line (length (take k packets)) s clock ∷ make_line (length (take k packets)) s (wrapped (a.first_number + length a.state.made)) (clock, why) ∷ [] ≡ side_lines k s (number_of here) own (Make c.place clock why ∷ es) =
@@ -89,7 +90,7 @@ module _ (p : Parameters) (packets : List Packet) (k : ℕ) (s : Side) (own peer
           mark = f.mark;
           clock = sym made.now;
           number = f.number;
-          before = λ i d h v. elim (dec_lt d.place k) [ yes l ↦ (let z = f.before i d h l in omega (arith, z)) | no l ↦ (let z = places_once p packets s own sent i f.made d c h mine (omega arith) in omega (arith, z)) ];
+          before = λ i d h v. elim (dec_lt d.place k) [ yes l ↦ (let z = f.before i d h l in omega (arith, z)) | no l ↦ (let z = place_once own (ordered sent) i f.made d c h mine (omega arith) in omega (arith, z)) ];
           after = λ i d h v. elim (dec_lt i f.made) [ yes l ↦ (let z = f.after i d h l in omega (arith, z)) | no l ↦ (let same_i : i ≡ f.made = omega arith in let same_d : d ≡ c = (let h' : slice_get own f.made ≡ Some d = subst (λ (j : ℕ). slice_get own j ≡ Some d) same_i h in cc) in let q = ap (λ (z : FirstCopy). z.place) same_d in omega (arith, q)) ];
           same = λ i d h v. elim (dec_lt i f.made) [
             | yes l ↦ (let z = f.same i d h l in (z.0, subst (λ (ms : List Made). slice_get ms (base p + i) ≡ Some z.0) (sym now) (get_front a.state.made (n ∷ []) (base p + i) z.0 z.1), z.2))

@@ -1,21 +1,13 @@
 -- What the rest of a script that fits says of later levels.
-use Rattle.std.proofs.Common.{◌≡◌, ℕ, ◌<◌, ◌≤◌, List, [], ◌∷◌, length, Some, None, slice_get, refl, ap, ◌∙◌, arith, subst}
+use Rattle.std.proofs.Common.{◌≡◌, ℕ, ◌<◌, ◌≤◌, List, [], ◌∷◌, length, Some, slice_get, refl, ap, ◌∙◌, arith, subst}
 use Rattle.std.proofs.lemmas.Option.{slice_get_within}
 use native.Mathlib.Decide.{dec_lt}
 use Prim.{yes, no}
-use Rattle.rasta_pcap.specs.declared.fault.Side.{Side}
-use Rattle.rasta_udp.specs.Frame.{Packet}
 use Rattle.rasta_pdu.specs.Params.{Parameters}
 use Rattle.rasta_cert.specs.declared.entry.Entry.{Entry}
 use Rattle.rasta_cert.specs.declared.entry.Entry.TheVariants.{Take, Make}
 use Rattle.rasta_check.specs.Capture.Crossing.{FirstCopy}
-use Rattle.rasta_check.specs.Capture.Lists.{places_of, position_of_place}
 use Rattle.rasta_check.specs.Script.Following.{Cursor, Advances, takes_next, makes_next, Leads}
-use Rattle.rasta_check.proofs.Capture.FaultlessLists.{IsSent}
-use Rattle.rasta_check.proofs.Capture.Positions.{position_none}
-use Rattle.rasta_check.proofs.Script.Tracks.{places_once}
-use Rattle.rasta_check.proofs.Script.FollowedScripts.{place_named}
-use Rattle.rasta_check.proofs.Script.ListItems.{mapped_at}
 use Rattle.rasta_check.specs.Run.Levels.{takes_at, makes_at}
 use Rattle.rasta_check.proofs.Run.Entries.{above, makes_none, makes_other, makes_past, takes_none, takes_other, takes_past}
 
@@ -67,11 +59,3 @@ says_all level place es = record { takes = λ j l. refl; makes = λ j l. refl }
 
 pub says_on : {level place level' place' : ℕ} {whole mid es : List Entry} → Says level place whole mid → Says level' place' mid es → level ≤ level' → place ≤ place' → Says level' place' whole es
 says_on a b l m = record { takes = λ j n. a.takes j (omega (arith, l, n)) ∙ b.takes j n; makes = λ j n. a.makes j (omega (arith, m, n)) ∙ b.makes j n }
-
--- ---- places
-
-pub place_found : (p : Parameters) (packets : List Packet) (s : Side) (own : List FirstCopy) → IsSent p packets s own → (i : ℕ) (c : FirstCopy) → slice_get own i ≡ Some c → position_of_place own c.place ≡ Some i
-place_found p packets s own h i c g = place_named own i c g (λ j d l k e. (let z = places_once p packets s own h j i d c k g e in omega (arith, z, l)))
-
-pub place_missing : (own : List FirstCopy) (k : ℕ) → ((i : ℕ) (c : FirstCopy) → slice_get own i ≡ Some c → c.place ≡ k → ⊥) → position_of_place own k ≡ None
-place_missing own k none = position_none k (places_of own) (λ j y g e. (let d = mapped_at (λ (x : FirstCopy). x.place) own j y g in none j d.0 d.1 (d.2 ∙ e)))

@@ -17,7 +17,8 @@ use Rattle.rasta_check.proofs.Capture.FaultlessLists.{IsSent}
 use Rattle.rasta_check.proofs.Capture.ListForms.{to_record}
 use Rattle.rasta_check.proofs.Script.Fits.{fits_follows}
 use Rattle.rasta_check.proofs.Run.Worlds.{reaches_of}
-use Rattle.rasta_check.proofs.Run.Levels.{sided, told_run}
+use Rattle.rasta_check.proofs.Run.Levels.{told_run}
+use Rattle.rasta_check.proofs.Sides.{sided}
 
 module _ (p : Parameters) (packets : List Packet) (c s : List FirstCopy) (cs ss : List Entry) (a b : EndState) (recorded : CrossRecorded p packets) (hc : IsSent p packets Client c) (hs : IsSent p packets Server s)
     (fc : Follows p Client (length packets) c s cs a) (fs : Follows p Server (length packets) s c ss b) where

@@ -16,12 +16,13 @@ use Rattle.rasta_check.specs.Script.Following.{Cursor, Advances, takes_next, mak
 use Rattle.rasta_check.specs.Model.World.{Station, arriving, taking, arrives, takes}
 use Rattle.rasta_check.specs.Run.Levels.{takes_at, take_line, brought_line, each_take, takes_lines}
 use Rattle.rasta_check.proofs.Capture.FaultlessLists.{IsSent}
-use Rattle.rasta_check.proofs.Script.Tracks.{Tracks, Drained, moved_made, next_number, slice_get_some}
+use Rattle.rasta_check.proofs.Script.Tracks.{Tracks, Drained, moved_made, next_number}
 use Rattle.rasta_check.proofs.Model.Steps.{base}
 use Rattle.rasta_check.proofs.Model.TakeRows.{take_leaves}
 use Rattle.rasta_check.proofs.Run.Entries.{takes_here, takes_other, takes_past, makes_past, below, above, takes_none}
 use Rattle.rasta_check.proofs.Run.Rests.{Above, Says, says_all, lead_above, no_takes}
 use Rattle.rasta_check.proofs.Run.Moves.{Many, stays, moves, append_many, recast}
+use Rattle.rasta_check.proofs.Lists.{slice_get_some}
 
 module _ (p : Parameters) (n : ℕ) (s : Side) (own peer : List FirstCopy) (last : Cursor) (k : ℕ) where
   -- where no take is due, the next entry lies at this level or above, and all after it above

@@ -1,12 +1,11 @@
 -- Scripts cut after their last make: a run in which no more is handed up than the two lists show.
-use Rattle.std.proofs.Common.{◌≡◌, ◌⊎◌, ℕ, zero, suc, ◌<◌, ◌≤◌, Bool, true, false, List, [], ◌∷◌, length, Option, Some, None, slice_get, refl, ap, sym, ◌∙◌, arith, inl, inr, ⊎_elim, subst}
+use Rattle.std.proofs.Common.{◌≡◌, ◌⊎◌, ℕ, zero, suc, ◌<◌, ◌≤◌, Bool, true, false, List, [], ◌∷◌, length, Some, slice_get, refl, ap, sym, ◌∙◌, arith, inl, inr, ⊎_elim, subst}
 use Rattle.std.specs.Prelude.{if◌then◌else◌}
 use Rattle.rasta_pcap.specs.declared.fault.Side.{Side}
 use Rattle.rasta_pcap.specs.declared.fault.Side.TheVariants.{Client, Server}
 use Rattle.rasta_udp.specs.Frame.{Packet}
 use Rattle.rasta_pdu.specs.declared.kind.Kind.{Kind}
 use Rattle.rasta_pdu.specs.declared.kind.Kind.TheVariants.{ConnectionRequest}
-use Rattle.rasta_pdu.specs.declared.quiet_point.Quiet.{Quiet}
 use Rattle.rasta_pdu.specs.Params.{Parameters}
 use Rattle.rasta_pdu.specs.Pdu.{SafetyPdu, is_kind}
 use Rattle.rasta_cert.specs.declared.entry.Entry.{Entry}
@@ -19,7 +18,7 @@ use Rattle.rasta_end.specs.declared.make_row.MakeRow.{MakeRow}
 use Rattle.rasta_end.specs.State.{EndState}
 use Rattle.rasta_end.specs.Units.{units_at}
 use Rattle.rasta_end.specs.MakeRule.{Makes, phase_after, after_make_by}
-use Rattle.rasta_end.specs.Starts.{start_of, start_by}
+use Rattle.rasta_end.specs.Starts.{start_of}
 use Rattle.rasta_check.specs.Capture.Crossing.{FirstCopy, CrossRecorded}
 use Rattle.rasta_check.specs.Model.World.{World, Reaches}
 use Rattle.rasta_check.specs.Model.Laws.{NamesOne}
@@ -37,8 +36,9 @@ use Rattle.rasta_check.proofs.Model.Requests.{named_position}
 use Rattle.rasta_check.proofs.Theorem.ShowingPdus.{fold_member}
 use Rattle.rasta_check.proofs.Theorem.SentRuns.{known}
 use Rattle.rasta_check.proofs.Theorem.ListedUnits.{of_units, exactly_listed}
-use Rattle.rasta_check.proofs.Script.ListItems.{map_at}
 use Rattle.rasta_check.proofs.Run.Simulation.{simulated}
+use Rattle.rasta_check.proofs.Lists.{map_at}
+use Rattle.rasta_check.proofs.Model.Steps.{start_is}
 
 -- ---- cut scripts
 
@@ -148,13 +148,7 @@ module _ (p : Parameters) (s : Side) (e f : EndState) (t u : ℕ) (own : List Fi
       omega (arith, big, v, c)
 
   none_handed : e ≡ start_of p s → length e.handed ≤ units_taken M (pdus_of own)
-  none_handed q = (let z = ap (λ (x : EndState). length x.handed) q in let y = empty p.quiet s in omega arith)
-    where
-      empty : (q : Option Quiet) (s : Side) → length (start_by q s).handed ≡ 0
-      empty None Client = refl
-      empty None Server = refl
-      empty (Some q) Client = refl
-      empty (Some q) Server = refl
+  none_handed q = (let z = ap (λ (x : EndState). length x.handed) q in let y = (start_is p.quiet s).3 in omega arith)
 
   pub no_more : (e ≡ start_of p s) ⊎ JustMade p own e → length e.handed ≤ units_taken M (pdus_of own)
   no_more c = ⊎_elim (λ (q : e ≡ start_of p s). none_handed q) (λ (m : JustMade p own e). shows_by m e.accepted refl) c

@@ -24,10 +24,10 @@ use Rattle.rasta_check.specs.Script.Following.{Cursor, at_start, Follows}
 use Rattle.rasta_check.specs.Script.Fitting.{places_made, AreInOrder, AreNamed, Joins, Fits, level_after, position_after, entry_tests, end_fault, FirstFault, at_entry, after_last}
 use Rattle.rasta_check.specs.Internals.Checking.{unless, take_at, take_found, make_of, make_found, next_cursor, then_follow, follow_from, follow, where_followed, verdict_of}
 use Rattle.rasta_check.specs.Verdict.Report.{Explained, IsScriptVerdict, both_fit, client_refused, server_refused, report_of}
-use Rattle.rasta_check.proofs.Script.ListItems.{get_behind}
-use Rattle.rasta_check.proofs.Script.FollowedScripts.{Goes, takes, makes, goes, gone, number_found, place_found, place_named, not_less, held, failed, same_equal, follow_fits, fits_follow}
-use Rattle.rasta_check.proofs.Script.Tracks.{slice_get_some}
+use Rattle.rasta_check.proofs.Script.FollowedScripts.{Goes, takes, makes, goes, gone, not_less, held, failed, same_equal, follow_fits, fits_follow}
 use Rattle.rasta_check.proofs.Internals.StoreLists.{copy_of_position, no_copy}
+use Rattle.rasta_check.proofs.Lists.{slice_get_some, get_past}
+use Rattle.rasta_check.proofs.Capture.Positions.{number_found, place_found, place_first}
 
 -- so many and those of a list
 counted : {A : Type 0} → ℕ → List A → ℕ
@@ -69,7 +69,7 @@ module _ (p : Parameters) (packets : ℕ) (own peer : List FirstCopy) where
 
   -- the next own PDU is found by its place
   found_at : (u : Cursor) (c : FirstCopy) → Behind u → u.level ≤ c.place → slice_get own u.made ≡ Some c → position_of_place own c.place ≡ Some u.made
-  found_at u c low l g = place_named own u.made c g (λ j d b k e. (let q = low j d b k in omega (arith, e, q, l)))
+  found_at u c low l g = place_first own u.made c g (λ j d b k e. (let q = low j d b k in omega (arith, e, q, l)))
 
   behind_on : (u v : Cursor) (c : FirstCopy) → v.made ≡ suc u.made → v.level ≡ suc c.place → u.level ≤ c.place → slice_get own u.made ≡ Some c → Behind u → Behind v
   behind_on u v c m l low g h j d b k = by (cases (nat_lt j u.made) refl)
@@ -320,7 +320,7 @@ module _ (p : Parameters) (packets : ℕ) (own peer : List FirstCopy) where
 
   -- what was made is left behind
   rests_behind : (w : Cursor) (made left : List FirstCopy) → own ≡ made ++ left → w.made ≡ length made → Rests w left
-  rests_behind w made left parts m j = ap (λ (cs : List FirstCopy). slice_get cs (w.made + j)) parts ∙ (ap (λ n. slice_get (made ++ left) (n + j)) m ∙ get_behind made left j)
+  rests_behind w made left parts m j = ap (λ (cs : List FirstCopy). slice_get cs (w.made + j)) parts ∙ (ap (λ n. slice_get (made ++ left) (n + j)) m ∙ get_past made left j)
 
   -- a script that fits is followed
   pub fits_is : (side : Side) (es : List Entry) (e : EndState) → Fits p side packets own peer es e → follow p side packets own peer es ≡ Ok e

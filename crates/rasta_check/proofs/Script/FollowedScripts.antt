@@ -1,11 +1,9 @@
 -- What the checker answers for a script is the end that it leads to, exactly where it fits.
-use Rattle.std.proofs.Common.{◌≡◌, ℕ, suc, ◌+◌, ◌<◌, ◌≤◌, Bool, true, false, List, [], ◌∷◌, drop, length, get_or, Option, Some, None, Result, Ok, Err, slice_get, position, nat_eq, MatchResult, ◌⊎◌, inl, inr, ⊎_elim, refl, ap, sym, ◌∙◌, arith, subst}
-use Rattle.std.specs.Prelude.{◌-◌, not, nat_lt, ◌==◌, ◌||◌, if◌then◌else◌}
+use Rattle.std.proofs.Common.{◌≡◌, ℕ, suc, ◌+◌, ◌<◌, ◌≤◌, Bool, true, false, List, [], ◌∷◌, drop, length, get_or, Option, Some, None, Result, Ok, Err, slice_get, position, MatchResult, ◌⊎◌, inl, inr, ⊎_elim, refl, ap, sym, ◌∙◌, arith, subst}
+use Rattle.std.specs.Prelude.{not, nat_lt, ◌==◌, ◌||◌, if◌then◌else◌}
 use Rattle.std.proofs.lemmas.Bool.Decides.{nat_tests}
-use Rattle.std.proofs.lemmas.List.Quantifiers.{position-Some}
-use Rattle.std.proofs.Math.Seq.{drop-cons}
 use Rattle.std.proofs.lemmas.List.{drop_all}
-use Rattle.std.proofs.lemmas.Option.{get_or_from_slice_get, slice_get_within, slice_get-get_or}
+use Rattle.std.proofs.lemmas.Option.{slice_get-get_or}
 use Rattle.rasta_pcap.specs.declared.fault.Fault.{Fault}
 use Rattle.rasta_pcap.specs.declared.fault.Side.{Side}
 use Rattle.rasta_pcap.specs.Fault.{fault_of_end, no_memory, slot_order, make_missing, not_yet_crossed, not_rising}
@@ -20,37 +18,17 @@ use Rattle.rasta_end.specs.Starts.{start_of}
 use Rattle.rasta_end.specs.Judged.{JudgedEnd}
 use Rattle.rasta_end.proofs.MakeTests.{no_fault, no_test}
 use Rattle.rasta_check.specs.Capture.Crossing.{FirstCopy}
-use Rattle.rasta_check.specs.Capture.Lists.{IsOrdered, places_of, numbers_of, position_of_number, position_of_place}
+use Rattle.rasta_check.specs.Capture.Lists.{IsOrdered, position_of_number, position_of_place}
 use Rattle.rasta_check.specs.Script.Following.{Cursor, Advances, takes_next, makes_next, Leads, at_start, Follows}
 use Rattle.rasta_check.specs.Internals.Checking.{unless, take_at, take_found, make_of, make_found, next_cursor, then_follow, follow_from, follow, Followed, moved_to, IsRefused}
-use Rattle.rasta_check.proofs.Capture.Positions.{position_at, places_below}
-use Rattle.rasta_check.proofs.Capture.FirstCopies.{not_again}
-use Rattle.rasta_check.proofs.Script.ListItems.{map_at, mapped_at}
-use Rattle.rasta_check.proofs.Script.Tracks.{slice_get_some}
-
--- ---- positions
-
-found_in : (n : ℕ) (xs : List ℕ) (i : ℕ) → position (nat_eq n) xs ≡ Some i → slice_get xs i ≡ Some n
-found_in n xs i e =
-    let f = position-Some (nat_eq n) xs i 0 e in
-    let same : get_or xs i 0 ≡ n = (let t = f.1 in grind (arith, nat_tests)) in
-    slice_get-get_or xs i 0 f.0 ∙ ap Some same
-
--- the member that a number names
-pub number_found : (cs : List FirstCopy) (number i : ℕ) → position_of_number cs number ≡ Some i → (c : FirstCopy) × (slice_get cs i ≡ Some c) × (c.pdu.number ≡ number)
-number_found cs number i e = mapped_at (λ (c : FirstCopy). c.pdu.number) cs i number (found_in number (numbers_of cs) i e)
-
-pub place_found : (cs : List FirstCopy) (place i : ℕ) → position_of_place cs place ≡ Some i → (c : FirstCopy) × (slice_get cs i ≡ Some c) × (c.place ≡ place)
-place_found cs place i e = mapped_at (λ (c : FirstCopy). c.place) cs i place (found_in place (places_of cs) i e)
+use Rattle.rasta_check.proofs.Lists.{drop_one_more}
+use Rattle.rasta_check.proofs.Capture.Positions.{number_found, number_named, place_found, place_named}
+use Rattle.rasta_check.proofs.Model.PassedTests.{un_not}
 
 -- ---- one entry that is allowed leads on
 
-not_true : (b : Bool) → not b ≡ false → b ≡ true
-not_true true e = refl
-not_true false e = absurd (cc)
-
 pub less : (a b : ℕ) → not (nat_lt a b) ≡ false → a < b
-less a b e = (let t = not_true (nat_lt a b) e in grind (arith, nat_tests))
+less a b e = (let t = un_not (nat_lt a b) e in grind (arith, nat_tests))
 
 pub not_less : (a b : ℕ) → nat_lt a b ≡ false → b ≤ a
 not_less a b e = grind (arith, nat_tests)
@@ -149,24 +127,6 @@ module _ (p : Parameters) (packets : ℕ) (own peer : List FirstCopy) where
 
 -- ---- a script that fits is followed
 
--- the number of a member of an ordered list names its position
-number_at : (cs : List FirstCopy) → IsOrdered cs → length cs < 4294967296 → (i : ℕ) (c : FirstCopy) → slice_get cs i ≡ Some c → position_of_number cs c.pdu.number ≡ Some i
-number_at cs h few i c g = position_at c.pdu.number (numbers_of cs) i (map_at (λ (x : FirstCopy). x.pdu.number) cs i c g) (λ j y l k e. earlier j y l k e)
-  where
-    earlier : (j y : ℕ) → j < i → slice_get (numbers_of cs) j ≡ Some y → y ≡ c.pdu.number → ⊥
-    earlier j y l k e =
-        let d = mapped_at (λ (x : FirstCopy). x.pdu.number) cs j y k in
-        let w = slice_get_within cs i c g in
-        let head = slice_get_some cs 0 (omega arith) in
-        not_again head.0.pdu.number j i d.0.pdu.number c.pdu.number (h.numbers j head.0 d.0 head.1 d.1) (h.numbers i head.0 c head.1 g) l (omega arith) (d.2 ∙ e)
-
--- the place of a member names its position, where none before it has that place
-pub place_named : (cs : List FirstCopy) (i : ℕ) (c : FirstCopy) → slice_get cs i ≡ Some c → ((j : ℕ) (d : FirstCopy) → j < i → slice_get cs j ≡ Some d → d.place ≡ c.place → ⊥) → position_of_place cs c.place ≡ Some i
-place_named cs i c g none = position_at c.place (places_of cs) i (map_at (λ (x : FirstCopy). x.place) cs i c g) (λ j y l k e. (let d = mapped_at (λ (x : FirstCopy). x.place) cs j y k in none j d.0 l d.1 (d.2 ∙ e)))
-
-place_at : (cs : List FirstCopy) → IsOrdered cs → (i : ℕ) (c : FirstCopy) → slice_get cs i ≡ Some c → position_of_place cs c.place ≡ Some i
-place_at cs h i c g = place_named cs i c g (λ j d l k e. (let low = places_below cs h (i - suc j) j d c k (subst (λ n. slice_get cs n ≡ Some c) (omega arith) g) in omega (arith, low, e)))
-
 pub above : (a b : ℕ) → b ≤ a → nat_lt a b ≡ false
 above a b l = grind (arith, nat_tests)
 
@@ -174,21 +134,16 @@ pub below : (a b : ℕ) → a < b → not (nat_lt a b) ≡ false
 below a b l = (let t : nat_lt a b ≡ true = grind (arith, nat_tests) in ap not t)
 
 pub both : (a b : Bool) → a ≡ false → b ≡ false → (a || b) ≡ false
-both false false e f = refl
-both true b e f = e
-both false true e f = f
+both a b e f = (λ i. e i || f i)
 
 pub passed : {A B : Type 0} (b : Bool) (f : B) (r : Result A B) → b ≡ false → (if b then Err f else r) ≡ r
-passed true f r e = absurd (cc)
-passed false f r e = refl
+passed b f r e = ap (λ c. if c then Err f else r) e
 
 pub held : {A B : Type 0} (b : Bool) (f : B) (r : Result A B) → b ≡ true → (if b then r else Err f) ≡ r
-held true f r e = refl
-held false f r e = absurd (cc)
+held b f r e = ap (λ c. if c then r else Err f) e
 
 pub failed : {A B : Type 0} (b : Bool) (f : B) (r : Result A B) → b ≡ false → (if b then r else Err f) ≡ Err f
-failed true f r e = absurd (cc)
-failed false f r e = refl
+failed b f r e = ap (λ c. if c then r else Err f) e
 
 pub same_equal : (a b : ℕ) → a ≡ b → (a == b) ≡ true
 same_equal a b e = grind (arith, nat_tests)
@@ -213,8 +168,8 @@ module _ (p : Parameters) (packets : ℕ) (own peer : List FirstCopy) where
 module _ (p : Parameters) (packets : ℕ) (own peer : List FirstCopy) (mine : IsOrdered own) (theirs : IsOrdered peer) (few : length peer < 4294967296) where
   -- where an entry leads, the checker goes
   pub goes_on : (u v : Cursor) (x : Entry) → Advances p packets own peer u x v → next_cursor p packets own peer u x ≡ Ok v
-  goes_on u v x (takes_next slot position c after low high g front up t) = gone p packets own peer u v x (takes slot c.pdu.number position c after low high (number_at peer theirs few position c g) g front up t)
-  goes_on u v x (makes_next c clock why after low g m) = gone p packets own peer u v x (makes c.place clock why c after low (place_at own mine u.made c g) g refl m)
+  goes_on u v x (takes_next slot position c after low high g front up t) = gone p packets own peer u v x (takes slot c.pdu.number position c after low high (number_named peer theirs few position c g) g front up t)
+  goes_on u v x (makes_next c clock why after low g m) = gone p packets own peer u v x (makes c.place clock why c after low (place_named own mine u.made c g) g refl m)
 
   follows_from : (side : Side) (entry : ℕ) (u v : Cursor) (es : List Entry) → Leads p packets own peer u es v → v.made ≡ length own → follow_from p side packets own peer entry u es ≡ Ok v.state
   unfolding follow_from
@@ -230,25 +185,15 @@ module _ (p : Parameters) (packets : ℕ) (own peer : List FirstCopy) (mine : Is
 -- ---- step by step
 
 module _ (p : Parameters) (packets : ℕ) (own peer : List FirstCopy) (side : Side) where
-  next_of : (es : List Entry) (i : ℕ) (x : Entry) → slice_get es i ≡ Some x → drop i es ≡ x ∷ drop (suc i) es
-  next_of es i x g = drop-cons es i x (slice_get_within es i x g) ∙ ap (λ (z : Entry). z ∷ drop (suc i) es) (get_or_from_slice_get es i x x g)
-
-  -- an entry that is followed leads on
-  pub step_on : (entry : ℕ) (u v : Cursor) (es : List Entry) (i : ℕ) (x : Entry) → slice_get es i ≡ Some x → next_cursor p packets own peer u x ≡ Ok v
-      → follow_from p side packets own peer entry u (drop i es) ≡ follow_from p side packets own peer (suc entry) v (drop (suc i) es)
+  -- by what the code answers for an entry
+  step_by : (entry : ℕ) (u : Cursor) (es : List Entry) (i : ℕ) (x : Entry) (r : Result Cursor ℕ) → slice_get es i ≡ Some x → next_cursor p packets own peer u x ≡ r
+      → follow_from p side packets own peer entry u (drop i es) ≡ then_follow (λ w. follow_from p side packets own peer (suc entry) w (drop (suc i) es)) entry side r
   unfolding follow_from
-  step_on entry u v es i x g n =
-      ap (follow_from p side packets own peer entry u) (next_of es i x g) ∙ ap (then_follow (λ w. follow_from p side packets own peer (suc entry) w (drop (suc i) es)) entry side) n
-
-  -- one that is refused ends the script
-  pub step_off : (entry : ℕ) (u : Cursor) (es : List Entry) (i : ℕ) (x : Entry) (n : ℕ) → slice_get es i ≡ Some x → next_cursor p packets own peer u x ≡ Err n
-      → follow_from p side packets own peer entry u (drop i es) ≡ Err (fault_of_end n entry side)
-  unfolding follow_from
-  step_off entry u es i x n g e =
-      ap (follow_from p side packets own peer entry u) (next_of es i x g) ∙ ap (then_follow (λ w. follow_from p side packets own peer (suc entry) w (drop (suc i) es)) entry side) e
+  step_by entry u es i x r g n =
+      ap (follow_from p side packets own peer entry u) (drop_one_more i es x g) ∙ ap (then_follow (λ w. follow_from p side packets own peer (suc entry) w (drop (suc i) es)) entry side) n
 
   -- after the last
-  pub step_end : (entry : ℕ) (u : Cursor) (es : List Entry) (i : ℕ) → length es ≤ i
+  step_end : (entry : ℕ) (u : Cursor) (es : List Entry) (i : ℕ) → length es ≤ i
       → follow_from p side packets own peer entry u (drop i es) ≡ (if u.made == length own then Ok u.state else Err (fault_of_end make_missing entry side))
   unfolding follow_from
   step_end entry u es i l = ap (follow_from p side packets own peer entry u) (drop_all i es l)
@@ -261,7 +206,7 @@ module _ (p : Parameters) (packets : ℕ) (own peer : List FirstCopy) (side : Si
       let n' : next_cursor p packets own peer f.cursor (get_or es i d) ≡ Ok f'.cursor = ap (λ q. next_cursor q packets own peer f.cursor (get_or es i d)) (sym same_p) ∙ n in
       let number : f'.entry ≡ suc f.entry = ap (λ (g : Followed). g.entry) m in
       let one : i + 1 ≡ suc i = omega arith in
-      sym (step_on f.entry f.cursor f'.cursor es i (get_or es i d) (slice_get-get_or es i d l) n'
+      sym (step_by f.entry f.cursor es i (get_or es i d) (Ok f'.cursor) (slice_get-get_or es i d l) n'
       ∙ (ap (λ k. follow_from p side packets own peer k f'.cursor (drop (suc i) es)) (sym number)
       ∙ ap (λ k. follow_from p side packets own peer f'.entry f'.cursor (drop k es)) (sym one)))
 
@@ -271,7 +216,7 @@ module _ (p : Parameters) (packets : ℕ) (own peer : List FirstCopy) (side : Si
   loop_off f es i d fault l same_p same_s why = ⊎_elim
       (λ (w : (number : ℕ) × (next_cursor f.params packets own peer f.cursor (get_or es i d) ≡ Err number) × (fault ≡ fault_of_end number f.entry f.side)).
       let n : next_cursor p packets own peer f.cursor (get_or es i d) ≡ Err w.0 = ap (λ q. next_cursor q packets own peer f.cursor (get_or es i d)) (sym same_p) ∙ w.1 in
-      inl (step_off f.entry f.cursor es i (get_or es i d) w.0 (slice_get-get_or es i d l) n ∙ ap Err (ap (fault_of_end w.0 f.entry) (sym same_s) ∙ sym w.2)))
+      inl (step_by f.entry f.cursor es i (get_or es i d) (Err w.0) (slice_get-get_or es i d l) n ∙ ap Err (ap (fault_of_end w.0 f.entry) (sym same_s) ∙ sym w.2)))
       (λ (w : fault ≡ no_memory). inr w)
       why
 

@@ -1,7 +1,6 @@
 -- Scripts are followed in one way, and first copies are the packets with a new number.
 use Rattle.std.proofs.Common.{◌≡◌, ℕ, suc, ◌<◌, List, [], ◌∷◌, ◌++◌, length, Some, slice_get, refl, ap, sym, ◌∙◌, arith, subst}
 use Rattle.std.proofs.lemmas.List.{append-nil}
-use Rattle.std.proofs.lemmas.Option.{slice_get_within}
 use Rattle.rasta_pcap.specs.declared.fault.Side.{Side}
 use Rattle.rasta_end.specs.declared.why.Why.{Why}
 use Rattle.rasta_pdu.specs.Params.{Parameters}
@@ -12,23 +11,10 @@ use Rattle.rasta_check.specs.Capture.Crossing.{Spells, FirstCopy, IsCarried, IsK
 use Rattle.rasta_udp.specs.Frame.{Packet}
 use Rattle.rasta_cert.specs.declared.entry.Entry.{Entry}
 use Rattle.rasta_cert.specs.declared.entry.Entry.TheVariants.{Take, Make}
-use Rattle.rasta_check.proofs.Capture.FaultlessLists.{IsSent}
+use Rattle.rasta_check.proofs.Capture.FaultlessLists.{IsSent, ordered}
 use Rattle.rasta_check.specs.Script.Following.{Cursor, Advances, takes_next, makes_next, Leads}
 use Rattle.rasta_check.proofs.Capture.Spellings.{read_once}
-use Rattle.rasta_check.proofs.Capture.FirstCopies.{not_again}
-use Rattle.rasta_check.proofs.Script.Tracks.{slice_get_some}
-
--- a number names one position of a list
-pub number_once : (p : Parameters) (xs : List Packet) (s : Side) (own : List FirstCopy) → IsSent p xs s own → length own < 4294967296 → (i j : ℕ) (c d : FirstCopy) → slice_get own i ≡ Some c → slice_get own j ≡ Some d → c.pdu.number ≡ d.pdu.number → i ≡ j
-number_once p xs s own h l i j c d x y e =
-    let li = slice_get_within own i c x in
-    let lj = slice_get_within own j d y in
-    let head = slice_get_some own 0 (omega arith) in
-    let ni = h.numbers i head.0 c head.1 x in
-    let nj = h.numbers j head.0 d head.1 y in
-    let up : i < j → ⊥ = λ z. not_again head.0.pdu.number i j c.pdu.number d.pdu.number ni nj z (omega arith) e in
-    let down : j < i → ⊥ = λ z. not_again head.0.pdu.number j i d.pdu.number c.pdu.number nj ni z (omega arith) (sym e) in
-    omega (arith, up, down)
+use Rattle.rasta_check.proofs.Capture.Positions.{number_once}
 
 -- each member is a packet of the side, which spells its PDU
 pub carried_at : (p : Parameters) (xs : List Packet) (s : Side) (own : List FirstCopy) → IsSent p xs s own → (i : ℕ) (c : FirstCopy) → slice_get own i ≡ Some c → IsCarried p xs s c
@@ -39,7 +25,7 @@ pub first_is_new : (p : Parameters) (xs : List Packet) (s : Side) (own : List Fi
 first_is_new p xs s own h l i c g w =
     let r = h.copies w.earlier.place w.carried.packet w.carried.there w.carried.of_side in
     let same : r.1.pdu ≡ w.earlier.pdu = read_once p h.valid s r.1.pdu w.earlier.pdu w.carried.packet.payload r.4 w.carried.spelled in
-    let q : i ≡ r.0 = number_once p xs s own h l i r.0 c r.1 g r.2 (sym (ap (λ (d : RedundancyPdu). d.number) same ∙ w.same_number)) in
+    let q : i ≡ r.0 = number_once own (ordered h) l i r.0 c r.1 g r.2 (sym (ap (λ (d : RedundancyPdu). d.number) same ∙ w.same_number)) in
     let e : c ≡ r.1 = (let z : slice_get own i ≡ Some r.1 = subst (λ j. slice_get own j ≡ Some r.1) (sym q) r.2 in cc) in
     let at = ap (λ (x : FirstCopy). x.place) e in
     let before = w.before in
@@ -64,7 +50,7 @@ module _ (p : Parameters) (n : ℕ) (packets : List Packet) (r : Side) (own peer
         where
           at : (m : ℕ) → m ≡ c.pdu.number → (w : Cursor) → Advances p n own peer u (Take slot' m) w → record { level = slot'; made = u.made; taken = suc i; state = e } ≡ w
           at m q w (takes_next slot'' j d' e' a' b' g' d'' f' t') =
-              let same : i ≡ j = number_once p packets r peer sent few i j c d' g g' (sym q) in
+              let same : i ≡ j = number_once peer (ordered sent) few i j c d' g g' (sym q) in
               let cd : c ≡ d' = (let z : slice_get peer i ≡ Some d' = subst (λ k. slice_get peer k ≡ Some d') (sym same) g' in cc) in
               let ee : e ≡ e' = t.1 ∙ (ap (λ (x : FirstCopy). after_take p u.state x.pdu.safety) cd ∙ sym t'.1) in
               (λ k. record { level = slot'; made = u.made; taken = suc (same k); state = ee k })

@@ -1,5 +1,5 @@
 -- What follows from an entry by the rules of the end: a refusal at its number, or the next cursor.
-use Rattle.std.proofs.Common.{◌≡◌, ◌⊎◌, ℕ, Option, Some, None, Result, Ok, Err, MatchResult, IsErr, IsErrAnd, ap, sym, ◌∙◌, inl, inr, ⊎_elim, subst}
+use Rattle.std.proofs.Common.{◌≡◌, ◌⊎◌, ℕ, Option, Some, None, Result, Ok, ap, sym, ◌∙◌, inl, inr, ⊎_elim}
 use Rattle.rasta_pcap.specs.declared.fault.Fault.{Fault}
 use Rattle.rasta_pcap.specs.Fault.{fault_of_end, no_memory}
 use Rattle.rasta_check.specs.Script.Following.{Cursor}
@@ -17,8 +17,3 @@ refused f g same answer rule there is placed why = ⊎_elim
 -- where it breaks no rule of the end, it leads there
 pub led : (f g : Followed) → f ≡ g → (answer : Result Cursor ℕ) (rule : Followed → Option ℕ) (there : Followed → Cursor) → answer ≡ unless (rule g) (there g) → rule f ≡ None → answer ≡ Ok (there f)
 led f g same answer rule there is none = is ∙ (ap (λ o. unless o (there g)) (ap rule (sym same) ∙ none) ∙ ap (λ (h : Followed). Ok (there h)) (sym same))
-
--- a `?` hands the refusal on
-pub handed_on : {A : Type 0} (P : A → Type 0) (Q : Fault → Type 0) (r : Result A Fault) (fault : Fault) → IsErr r × IsErrAnd r (λ f. f ≡ fault) → Q fault → MatchResult r P Q
-handed_on P Q (Ok x) fault h q = absurd (let z = h.0 in cc)
-handed_on P Q (Err f) fault h q = subst Q (sym h.1) q

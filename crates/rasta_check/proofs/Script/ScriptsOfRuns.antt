@@ -25,9 +25,8 @@ use Rattle.rasta_cert.specs.Certificate.{most_entries}
 use Rattle.rasta_check.proofs.Capture.FaultlessLists.{IsSent}
 use Rattle.rasta_check.specs.Script.Following.{Cursor, Advances, takes_next, makes_next, Leads, Follows, at_start}
 use Rattle.rasta_check.specs.Model.Taken.{pdus_of, pdus_made}
-use Rattle.rasta_check.proofs.Model.ListGrowth.{get_push_cases, get_front, get_push}
+use Rattle.rasta_check.proofs.Lists.{get_push_cases, get_front, get_push, get_past, map_at, get_mapped}
 use Rattle.rasta_check.proofs.Model.TakeRows.{take_leaves}
-use Rattle.rasta_check.proofs.Script.ListItems.{get_behind, map_at, mapped_at}
 use Rattle.rasta_check.proofs.Capture.FirstCopies.{Counts_from, sent_other, sent_copy, sent_first, sent_none, sent_once}
 
 -- scripts in a wider setting, and one entry more
@@ -137,7 +136,7 @@ copy_at p s xs own e f i m h g =
     let a = map_at (λ (x : Made). x.pdu) e.made (base p + i) m g in
     let l : length (pdus_made (start_of p s).made) ≡ base p = length-map (start_of p s).made (λ (x : Made). x.pdu) ∙ start_made p.quiet s in
     let b : slice_get (pdus_made (start_of p s).made ++ pdus_of own) (length (pdus_made (start_of p s).made) + i) ≡ Some m.pdu = subst (λ n. slice_get (pdus_made (start_of p s).made ++ pdus_of own) (n + i) ≡ Some m.pdu) (sym l) (subst (λ (ps : List SafetyPdu). slice_get ps (base p + i) ≡ Some m.pdu) h.same a) in
-    mapped_at (λ (c : FirstCopy). c.pdu.safety) own i m.pdu (sym (get_behind (pdus_made (start_of p s).made) (pdus_of own) i) ∙ b)
+    get_mapped (λ (c : FirstCopy). c.pdu.safety) own i m.pdu (sym (get_past (pdus_made (start_of p s).made) (pdus_of own) i) ∙ b)
 
 -- a packet of the other side leaves what an end sends
 sends_other : (p : Parameters) (s : Side) (xs : List Packet) (k : Packet) (own : List FirstCopy) (e : EndState) (f : ℕ) → Sends p s xs own e f → (k.side ≡ s → ⊥) → Sends p s (xs ++ k ∷ []) own e f

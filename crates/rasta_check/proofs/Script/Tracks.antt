@@ -1,8 +1,6 @@
 -- One side along the packets, as the run of two scripts is built: its script leads on, and it has made what crossed.
-use Rattle.std.proofs.Common.{◌≡◌, ℕ, zero, suc, ◌+◌, ◌-◌, ◌%◌, ◌^◌, ◌<◌, ◌≤◌, List, [], ◌∷◌, ◌++◌, length, Some, slice_get, take, refl, ap, sym, ◌∙◌, arith, subst, get_or, add-one}
-use Rattle.std.specs.Prelude.{slice_index_or}
-use Rattle.std.proofs.lemmas.List.{take_more}
-use Rattle.std.proofs.lemmas.Option.{slice_get_within, slice_get-get_or, get_or_from_slice_get}
+use Rattle.std.proofs.Common.{◌≡◌, ℕ, suc, ◌+◌, ◌-◌, ◌%◌, ◌^◌, ◌<◌, ◌≤◌, List, [], ◌∷◌, ◌++◌, length, Some, slice_get, take, refl, ap, sym, ◌∙◌, arith, subst, add-one}
+use Rattle.std.proofs.lemmas.Option.{slice_get_within}
 use Rattle.rasta_pcap.specs.declared.fault.Side.{Side}
 use Rattle.rasta_pdu.specs.Params.{Parameters}
 use Rattle.rasta_end.specs.State.{Made, wrapped}
@@ -15,6 +13,7 @@ use Rattle.rasta_cert.specs.declared.entry.Entry.{Entry}
 use Rattle.rasta_cert.specs.declared.entry.Entry.TheVariants.{Take, Make}
 use Rattle.rasta_check.proofs.Capture.FaultlessLists.{IsSent}
 use Rattle.rasta_check.specs.Script.Following.{Cursor, Advances, takes_next, makes_next, Leads, at_start}
+use Rattle.rasta_check.proofs.Lists.{take_one_more}
 
 -- one side at a level: what is left of its script leads to its last cursor, and it has made what crossed
 pub record Tracks (p : Parameters) (n k : ℕ) (s : Side) (own peer : List FirstCopy) (es : List Entry) (last : Cursor) (a : Station) : Type 0 where
@@ -43,36 +42,11 @@ Drained k (Make place clock why ∷ es) = Unit {0}
 pub moved_made : (ms ns : List Made) (i : ℕ) (P : Made → Type 0) → ns ≡ ms → ((m : Made) × (slice_get ms i ≡ Some m) × P m) → (m : Made) × (slice_get ns i ≡ Some m) × P m
 moved_made ms ns i P e z = (z.0, subst (λ (xs : List Made). slice_get xs i ≡ Some z.0) (sym e) z.1, z.2)
 
-pub slice_get_some : {A : Type 0} (xs : List A) (k : ℕ) → k < length xs → (x : A) × (slice_get xs k ≡ Some x)
-slice_get_some [] k l = absurd (omega arith)
-slice_get_some (x ∷ xs) zero l = (x, refl)
-slice_get_some (x ∷ xs) (suc k) l = slice_get_some xs k (omega arith)
-
--- places tell positions apart
-pub places_rise : (p : Parameters) (packets : List Packet) (s : Side) (own : List FirstCopy) → IsSent p packets s own → (d i : ℕ) (a b : FirstCopy) → slice_get own i ≡ Some a → slice_get own (suc d + i) ≡ Some b → a.place < b.place
-places_rise p packets s own h zero i a b x y = h.rising i a b x (subst (λ (j : ℕ). slice_get own j ≡ Some b) (omega arith) y)
-places_rise p packets s own h (suc d) i a b x y =
-    let l : suc (suc d) + i < length own = slice_get_within own (suc (suc d) + i) b y in
-    let mid : FirstCopy = slice_index_or own (suc d + i) a in
-    let at : slice_get own (suc d + i) ≡ Some mid = slice_get-get_or own (suc d + i) a (omega arith) in
-    let low = places_rise p packets s own h d i a mid x at in
-    let high = h.rising (suc d + i) mid b at (subst (λ (j : ℕ). slice_get own j ≡ Some b) (omega arith) y) in
-    omega (arith, low, high)
-
-pub places_once : (p : Parameters) (packets : List Packet) (s : Side) (own : List FirstCopy) → IsSent p packets s own → (i j : ℕ) (a b : FirstCopy) → slice_get own i ≡ Some a → slice_get own j ≡ Some b → a.place ≡ b.place → i ≡ j
-places_once p packets s own h i j a b x y e =
-    let up : i < j → ⊥ = λ l. (let z = places_rise p packets s own h (j - suc i) i a b x (subst (λ (t : ℕ). slice_get own t ≡ Some b) (omega arith) y) in omega arith) in
-    let down : j < i → ⊥ = λ l. (let z = places_rise p packets s own h (i - suc j) j b a y (subst (λ (t : ℕ). slice_get own t ≡ Some a) (omega arith) x) in omega arith) in
-    omega (arith, up, down)
-
 packet_is : (k : Packet) (sd : Side) (e : sd ≡ k.side) → record { channel = k.channel; side = sd; payload = k.payload } ≡ k
 packet_is k sd e = λ i. record { channel = k.channel; side = e i; payload = k.payload }
 
 pub next_packet : (packets : List Packet) (k : ℕ) (a : Packet) (sd : Side) → sd ≡ a.side → slice_get packets k ≡ Some a → take k packets ++ record { channel = a.channel; side = sd; payload = a.payload } ∷ [] ≡ take (suc k) packets
-next_packet packets k a sd e g =
-    let more = take_more packets k a (slice_get_within packets k a g) in
-    let there : get_or packets k a ≡ a = get_or_from_slice_get packets k a a g in
-    ap (λ (x : Packet). take k packets ++ x ∷ []) (packet_is a sd e ∙ sym there) ∙ (sym more ∙ ap (λ j. take j packets) (add-one k))
+next_packet packets k a sd e g = ap (λ (x : Packet). take k packets ++ x ∷ []) (packet_is a sd e) ∙ (take_one_more k packets a g ∙ ap (λ j. take j packets) (add-one k))
 
 pub next_number : (f b m n c : ℕ) → n ≡ b + m → (f + b) % 2 ^ 32 ≡ c → (f + n) % 2 ^ 32 ≡ (c + m) % 2 ^ 32
 next_number f b m n c e h = omega arith

@@ -1,7 +1,8 @@
 -- Entries of a script that fits have numbers that a certificate can hold.
-use Rattle.std.proofs.Common.{◌≡◌, ℕ, suc, ◌+◌, ◌<◌, ◌≤◌, ◌^◌, Bool, true, false, List, [], ◌∷◌, Option, Some, None, length, slice_get, refl, ap, ◌∙◌, arith, subst, cond}
-use Rattle.std.specs.Prelude.{not, map, filter}
-use Rattle.std.proofs.lemmas.List.{length_push}
+use Rattle.std.proofs.Common.{◌≡◌, ℕ, ◌+◌, ◌<◌, ◌≤◌, ◌^◌, Bool, false, List, [], ◌∷◌, Option, Some, None, length, slice_get, refl, ap, ◌∙◌, arith, subst}
+use Rattle.std.specs.Prelude.{not, filter}
+use Rattle.std.proofs.lemmas.List.{length-map, length_push}
+use Rattle.std.proofs.lemmas.List.Sums.{count_by-le-length, length-filter}
 use Rattle.std.proofs.lemmas.Option.{slice_get_within}
 use Rattle.std.specs.Option.{option_map_or}
 use Rattle.std.specs.Str.{bytes_eq}
@@ -35,13 +36,12 @@ use Rattle.rasta_pdu.specs.declared.kind.Kind.TheVariants.{Data}
 -- ---- units of resends
 
 length_contents : (made : List Made) → length (contents made) ≤ length made
-length_contents [] = omega arith
-length_contents (m ∷ made) = by (is_kind Data m.pdu.kind) (length_contents made)
-  where
-    by : (b : Bool) → length (contents made) ≤ length made
-        → length (map (λ (n : Made). content_of n.pdu.body) (cond b (m ∷ filter (λ (n : Made). is_kind Data n.pdu.kind) made) (filter (λ (n : Made). is_kind Data n.pdu.kind) made))) ≤ suc (length made)
-    by true l = omega arith
-    by false l = omega arith
+length_contents made =
+    let of_data : Made → Bool = λ (n : Made). is_kind Data n.pdu.kind in
+    let a = length-map (filter of_data made) (λ (n : Made). content_of n.pdu.body) in
+    let b = length-filter of_data made in
+    let c = count_by-le-length of_data made in
+    omega (arith, a, b, c)
 
 unit_there : (made : List Made) (unit : ℕ) (content : List ℕ) (o : Option (List ℕ)) → slice_get (contents made) unit ≡ o → not (option_map_or (λ (own : List ℕ). bytes_eq own content) o false) ≡ false → unit < length made
 unit_there made unit content None e d = absurd (cc)

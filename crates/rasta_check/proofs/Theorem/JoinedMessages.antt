@@ -7,7 +7,7 @@ use Rattle.rasta_check.specs.Model.Taken.{TakenUnit}
 use Rattle.rasta_check.specs.Model.Theorem.{units_listed}
 use Rattle.rasta_check.specs.Verdict.Listed.{TakenMessage, messages_of_unit, messages_taken, ListedMessage, numbered_from}
 use Rattle.rasta_check.specs.Verdict.Headline.{messages_in_list}
-use Rattle.rasta_check.proofs.Model.ListGrowth.{get_front, get_past}
+use Rattle.rasta_check.proofs.Lists.{get_front, get_past}
 
 -- the messages of each unit, unit by unit
 abbrev pub joined : List (List (List ℕ)) → List (List ℕ)

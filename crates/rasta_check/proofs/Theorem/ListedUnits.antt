@@ -2,9 +2,8 @@
 use Rattle.std.proofs.Common.{◌≡◌, ◌⊎◌, ℕ, zero, suc, ◌+◌, ◌<◌, ◌≤◌, Bool, true, false, cond, List, [], ◌∷◌, ◌++◌, length, Option, Some, None, slice_get, take, drop, refl, ap, sym, ◌∙◌, arith, inl, inr, ⊎_elim, subst}
 use Rattle.std.specs.Prelude.{map, filter, fold, max, nat_lt, if◌then◌else◌}
 use Rattle.std.proofs.lemmas.Bool.Decides.{nat_tests}
-use Rattle.std.specs.Option.{option_map}
 use Rattle.std.proofs.lemmas.List.{append-nil, length-append, length-map, length-take, length-take-le, take-append-drop}
-use Rattle.std.proofs.lemmas.Option.{slice_get_within, slice_get-map}
+use Rattle.std.proofs.lemmas.Option.{slice_get_within}
 use Rattle.rasta_pcap.specs.declared.fault.Side.{Side}
 use Rattle.rasta_pcap.specs.declared.fault.Side.TheVariants.{Client, Server}
 use Rattle.rasta_pdu.specs.declared.quiet_point.Quiet.{Quiet}
@@ -16,9 +15,7 @@ use Rattle.rasta_check.specs.Capture.Crossing.{FirstCopy}
 use Rattle.rasta_check.specs.Model.Taken.{pdus_made, pdus_of, all_made, units_shown, units_taken, TakenUnit, proof_place, units_from, data_copies, surely_taken}
 use Rattle.rasta_check.specs.Model.Theorem.{HandsUpUnits, units_handed, units_listed}
 use Rattle.std.proofs.lemmas.List.Elements.{filter-append}
-use Rattle.rasta_check.proofs.Script.Tracks.{slice_get_some}
-use Rattle.rasta_check.proofs.Model.ListGrowth.{get_front, get_mapped}
-use Rattle.rasta_check.proofs.Model.Requests.{begins_with}
+use Rattle.rasta_check.proofs.Lists.{get_front, get_mapped, slice_get_some, begins_with, map_at}
 use Rattle.rasta_pdu.specs.declared.kind.Kind.TheVariants.{Data}
 
 -- ---- members
@@ -153,10 +150,10 @@ module _ (p : Parameters) (s : Side) (e f : EndState) (own peer : List FirstCopy
       let few = h.same_count in
       let x = slice_get_some e.handed_pdus i (omega (arith, l, few)) in
       let r = h.messages i x.0 x.1 in
-      let a : slice_get (pdus_of (data_copies own)) i ≡ Some r.0.pdu = subst (λ (xs : List SafetyPdu). slice_get xs i ≡ Some r.0.pdu) (same_data p s f own told) (slice_get-map (λ (m : Made). m.pdu) (data_made f.made) i ∙ ap (option_map (λ (m : Made). m.pdu)) r.1) in
-      let b : slice_get (pdus_of (data_copies own)) i ≡ Some m.c.pdu.safety = slice_get-map (λ (c : FirstCopy). c.pdu.safety) (data_copies own) i ∙ ap (option_map (λ (c : FirstCopy). c.pdu.safety)) t.1 in
+      let a : slice_get (pdus_of (data_copies own)) i ≡ Some r.0.pdu = subst (λ (xs : List SafetyPdu). slice_get xs i ≡ Some r.0.pdu) (same_data p s f own told) (map_at (λ (m : Made). m.pdu) (data_made f.made) i r.0 r.1) in
+      let b : slice_get (pdus_of (data_copies own)) i ≡ Some m.c.pdu.safety = map_at (λ (c : FirstCopy). c.pdu.safety) (data_copies own) i m.c t.1 in
       let same : r.0.pdu ≡ m.c.pdu.safety = cc in
-      slice_get-map (λ (y : SafetyPdu). messages_in y.body) e.handed_pdus i ∙ (ap (option_map (λ (y : SafetyPdu). messages_in y.body)) x.1 ∙ ap Some (r.2 ∙ (ap (λ (y : SafetyPdu). messages_in y.body) same ∙ sym m.messages)))
+      map_at (λ (y : SafetyPdu). messages_in y.body) e.handed_pdus i x.0 x.1 ∙ ap Some (r.2 ∙ (ap (λ (y : SafetyPdu). messages_in y.body) same ∙ sym m.messages))
 
   -- a unit that is listed is one of those that were taken
   pub listed_below : (i : ℕ) (u : TakenUnit) → slice_get (surely_taken p s own peer) i ≡ Some u → (i < units_taken (all_made p s own) (pdus_of peer)) × (u.proof_place ≡ proof_place (all_made p s own) (pdus_of peer) i peer)

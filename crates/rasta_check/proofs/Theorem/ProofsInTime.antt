@@ -1,7 +1,7 @@
 -- What a PDU shows was handed up before it crossed.
 use Rattle.std.proofs.Common.{◌≡◌, ℕ, suc, ◌+◌, ◌<◌, ◌≤◌, Bool, true, false, List, [], ◌∷◌, length, Some, slice_get, refl, ap, sym, ◌∙◌, arith, ⊎_elim, subst}
 use Rattle.std.specs.Prelude.{slice_index_or, is_some, not, ◌&&◌, ◌||◌}
-use Rattle.std.proofs.lemmas.Option.{slice_get_within}
+use Rattle.std.proofs.lemmas.Option.{slice_get_within, slice_get-get_or}
 use Rattle.rasta_pcap.specs.declared.fault.Side.{Side}
 use Rattle.rasta_pcap.specs.declared.fault.Side.TheVariants.{Client, Server}
 use Rattle.rasta_pdu.specs.Params.{Parameters}
@@ -17,7 +17,7 @@ use Rattle.rasta_check.proofs.Model.Steps.{base}
 use Rattle.rasta_check.proofs.Model.NamedPositions.{SnIs}
 use Rattle.rasta_check.proofs.Model.SequenceNumbers.{numbered_once}
 use Rattle.rasta_check.proofs.Model.Invariant.{Held}
-use Rattle.rasta_check.proofs.Model.ConveyedUnits.{values, length-values, get_within}
+use Rattle.rasta_check.proofs.Model.ConveyedUnits.{values, length-values}
 use Rattle.rasta_check.proofs.Model.OfferedUnits.{Valued}
 use Rattle.rasta_check.proofs.Model.ShownUnits.{Shown}
 use Rattle.rasta_check.proofs.Theorem.ShowingPdus.{shows_most}
@@ -52,7 +52,7 @@ module _ (e0 f0 e f : EndState) (t : ℕ) (w0 : Shown e0 f0) (w : Shown e f) (g 
       let same : c ≡ z.0 = numbered_once f.made few g.list.numbered c z.0 s.m old.m s.there (gf.made z.0 old.m old.there) (s.same ∙ sym old.same) in
       let l = slice_get_within f0.made z.0 old.m old.there in
       let len = length-values f0.asks f0.made in
-      let at : slice_get (values f0) z.0 ≡ Some (slice_index_or (values f0) z.0 0) = get_within (values f0) z.0 (omega arith) in
+      let at : slice_get (values f0) z.0 ≡ Some (slice_index_or (values f0) z.0 0) = slice_get-get_or (values f0) z.0 0 (omega arith) in
       let now = gf.kept z.0 _ at in
       let eq : slice_index_or (values f0) z.0 0 ≡ v = (let h' : slice_get (values f) z.0 ≡ Some v = subst (λ j. slice_get (values f) j ≡ Some v) same h in cc) in
       let low = w0.shown q m there k z.0 (slice_index_or (values f0) z.0 0) old at in

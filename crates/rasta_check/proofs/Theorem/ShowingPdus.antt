@@ -1,7 +1,7 @@
 -- What the PDUs of a sent list show of the units of the other side.
 use Rattle.std.proofs.Common.{◌≡◌, ℕ, zero, suc, ◌≤◌, Bool, true, false, List, [], ◌∷◌, Option, Some, None, slice_get, refl, ap, ◌∙◌, arith}
 use Rattle.std.specs.Prelude.{slice_index_or, map, fold, max, if◌then◌else◌}
-use Rattle.std.proofs.lemmas.Option.{slice_get_within}
+use Rattle.std.proofs.lemmas.Option.{slice_get_within, slice_get-get_or}
 use Rattle.rasta_pcap.specs.declared.fault.Side.{Side}
 use Rattle.rasta_pcap.specs.declared.fault.Side.TheVariants.{Client, Server}
 use Rattle.rasta_pdu.specs.declared.quiet_point.Quiet.{Quiet}
@@ -11,7 +11,7 @@ use Rattle.rasta_end.specs.Units.{units_at}
 use Rattle.rasta_end.specs.Starts.{start_by}
 use Rattle.rasta_check.specs.Model.Taken.{position_with, asked_positions, units_along, units_shown, pdus_made}
 use Rattle.rasta_check.proofs.Model.NamedPositions.{SnIs}
-use Rattle.rasta_check.proofs.Model.ConveyedUnits.{values, length-values, get_within}
+use Rattle.rasta_check.proofs.Model.ConveyedUnits.{values, length-values}
 use Rattle.rasta_check.proofs.Model.Requests.{found_position}
 use Rattle.rasta_pdu.specs.declared.kind.Kind.TheVariants.{ConnectionRequest}
 
@@ -32,7 +32,7 @@ module _ (f : EndState) (own peer : List SafetyPdu) (told : pdus_made f.made ≡
       let l = slice_get_within f.made c s.m s.there in
       let len = length-values f.asks f.made in
       let v = slice_index_or (values f) c 0 in
-      let b = most k c v s (get_within (values f) c (omega (arith, l, len))) in
+      let b = most k c v s (slice_get-get_or (values f) c 0 (omega (arith, l, len))) in
       let same : units_at (units_along own peer) (Some c) ≡ v = ap (λ (vs : List ℕ). slice_index_or vs c 0) along in
       omega (arith, b, same)
 

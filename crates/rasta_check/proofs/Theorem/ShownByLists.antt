@@ -9,7 +9,7 @@ use Rattle.rasta_end.specs.Units.{all_units_conveyed}
 use Rattle.rasta_end.proofs.Conveying.{more_asks}
 use Rattle.rasta_check.specs.Model.Taken.{pdus_made, position_with, asked_positions, units_along, units_shown, units_taken}
 use Rattle.rasta_check.specs.Model.Laws.{NamesOne}
-use Rattle.rasta_check.proofs.Model.ListGrowth.{get_past, get_mapped}
+use Rattle.rasta_check.proofs.Lists.{get_past, get_mapped}
 use Rattle.rasta_check.proofs.Model.Invariant.{Held}
 use Rattle.rasta_check.proofs.Model.ConveyedUnits.{values, answers_number}
 use Rattle.rasta_check.proofs.Model.OfferedUnits.{Valued}

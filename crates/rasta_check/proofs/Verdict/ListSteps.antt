@@ -1,26 +1,21 @@
 -- Working out a list: what is left to be done is done at one member more.
-use Rattle.std.proofs.Common.{◌≡◌, ℕ, zero, suc, ◌+◌, ◌≤◌, Bool, true, false, List, [], ◌∷◌, ◌++◌, length, drop, map, Some, None, refl, ap, sym, ◌∙◌, arith, append_assoc, slice_get}
+use Rattle.std.proofs.Common.{◌≡◌, ℕ, suc, ◌+◌, ◌≤◌, Bool, true, false, List, [], ◌∷◌, ◌++◌, length, drop, map, Some, None, refl, ap, sym, ◌∙◌, arith, append_assoc, slice_get, add-one}
 use Rattle.std.specs.Prelude.{if◌then◌else◌}
-use Rattle.std.proofs.lemmas.List.{append-nil, length-append, length-map}
-use Rattle.std.proofs.Math.ListN.{drop_of_length-le}
+use Rattle.std.proofs.lemmas.List.{append-nil, drop_all, length-append, length-map}
 use Rattle.rasta_end.specs.State.{EndState}
 use Rattle.rasta_check.specs.Capture.Crossing.{FirstCopy}
 use Rattle.rasta_check.specs.declared.report.Taken.{Taken}
 use Rattle.rasta_check.specs.Model.Taken.{TakenUnit}
 use Rattle.rasta_check.specs.Verdict.Listed.{TakenMessage, messages_taken, ListedMessage, listed_of, numbered_from}
 use Rattle.rasta_check.specs.Internals.Listing.{shown_by, with_proofs, proofs_from, proved_unit, with_unit, proved_units}
+use Rattle.rasta_check.proofs.Lists.{drop_one_more}
 use Rattle.rasta_pdu.specs.Pdu.{is_kind}
 use Rattle.rasta_pdu.specs.declared.kind.Kind.TheVariants.{Data}
 
 -- ---- what is left of a list
 
 pub left_at : (xs : List FirstCopy) (i : ℕ) (x : FirstCopy) → slice_get xs i ≡ Some x → drop i xs ≡ x ∷ drop (i + 1) xs
-left_at [] i x g = absurd (cc)
-left_at (y ∷ xs) zero x g = (let e : y ≡ x = cc in ap (λ (z : FirstCopy). z ∷ xs) e)
-left_at (y ∷ xs) (suc i) x g = (let n : suc (i + 1) ≡ suc i + 1 = omega arith in left_at xs i x g ∙ ap (λ k. x ∷ drop k (y ∷ xs)) n)
-
-pub none_left : (xs : List FirstCopy) (i : ℕ) → length xs ≤ i → drop i xs ≡ []
-none_left xs i l = drop_of_length-le xs l
+left_at xs i x g = drop_one_more i xs x g ∙ ap (λ k. x ∷ drop k xs) (sym (add-one i))
 
 -- ---- places of proofs
 
@@ -31,7 +26,7 @@ proofs_more e xs i x places new g h = ap (λ ps. proofs_from e ps (drop (i + 1) 
 
 pub proofs_end : (e : EndState) (xs : List FirstCopy) (i : ℕ) (places : List ℕ) → length xs ≤ i → proofs_from e places (drop i xs) ≡ places
 unfolding proofs_from
-proofs_end e xs i places l = ap (proofs_from e places) (none_left xs i l)
+proofs_end e xs i places l = ap (proofs_from e places) (drop_all i xs l)
 
 -- ---- units
 
@@ -97,7 +92,7 @@ units_left places unit xs i x g = ap (proved_units places unit) (left_at xs i x 
 
 pub units_end : (places : List ℕ) (unit : ℕ) (xs : List FirstCopy) (i : ℕ) → length xs ≤ i → proved_units places unit (drop i xs) ≡ []
 unfolding proved_units
-units_end places unit xs i l = ap (proved_units places unit) (none_left xs i l)
+units_end places unit xs i l = ap (proved_units places unit) (drop_all i xs l)
 
 pub listing_ends : (items : List Taken) (units : List TakenUnit) → units ≡ [] → map listed_of items ≡ map listed_of items ++ numbered_from (length items) (messages_taken units)
 listing_ends items units e = sym (append-nil (map listed_of items)) ∙ ap (λ us. map listed_of items ++ numbered_from (length items) (messages_taken us)) (sym e)

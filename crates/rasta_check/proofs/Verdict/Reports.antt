@@ -1,10 +1,10 @@
 -- What is worked out from the two ends of scripts that fit is what is surely taken.
-use Rattle.std.proofs.Common.{◌≡◌, ℕ, zero, suc, ◌+◌, ◌-◌, ◌%◌, ◌^◌, ◌<◌, ◌≤◌, Bool, true, false, List, [], ◌∷◌, ◌++◌, length, map, replicate, take, Option, Some, None, slice_get, refl, ap, sym, ◌∙◌, arith, subst}
+use Rattle.std.proofs.Common.{◌≡◌, ℕ, zero, suc, ◌+◌, ◌-◌, ◌%◌, ◌^◌, ◌<◌, ◌≤◌, Bool, true, false, List, [], ◌∷◌, ◌++◌, length, map, replicate, take, Option, Some, None, slice_get, refl, ap, sym, ◌∙◌, arith}
 use Rattle.std.specs.Prelude.{fold, max, nat_lt, slice_index_or, if◌then◌else◌, ◌==◌}
 use Rattle.std.specs.Option.{option_map}
 use Rattle.std.proofs.lemmas.Bool.Decides.{nat_tests}
 use Rattle.std.proofs.lemmas.List.{get_or-replicate, length-append, length-replicate}
-use Rattle.std.proofs.lemmas.Option.{slice_get-get_or, slice_get_past, slice_get_within}
+use Rattle.std.proofs.lemmas.Option.{slice_get-get_or, slice_get_past, slice_get_within, same_Some}
 use Rattle.rasta_pcap.specs.declared.fault.Side.{Side}
 use Rattle.rasta_pcap.specs.declared.fault.Side.TheVariants.{Client, Server}
 use Rattle.rasta_pdu.specs.declared.quiet_point.Quiet.{Quiet}
@@ -15,11 +15,11 @@ use Rattle.rasta_end.specs.Starts.{start_by}
 use Rattle.rasta_check.specs.Capture.Crossing.{FirstCopy}
 use Rattle.rasta_check.specs.Model.Taken.{position_with, pdus_of, pdus_made, units_shown, units_taken, proof_place, units_from, data_copies}
 use Rattle.rasta_check.specs.Internals.Listing.{shown_by, with_proofs, proofs_from, proved_unit, with_unit, proved_units}
-use Rattle.rasta_check.proofs.Model.ListGrowth.{get_front}
+use Rattle.rasta_check.proofs.Lists.{get_front, slice_get_some, get_mapped, get_past}
 use Rattle.rasta_check.proofs.Model.SequenceNumbers.{Numbered}
-use Rattle.rasta_check.proofs.Model.NamedPositions.{SnIs}
-use Rattle.rasta_check.proofs.Script.Tracks.{slice_get_some}
+use Rattle.rasta_check.proofs.Model.NamedPositions.{SnIs, sn_mod}
 use Rattle.rasta_check.proofs.Model.ConveyedUnits.{get_or_none}
+use Rattle.rasta_check.proofs.Model.Requests.{found_position}
 use Rattle.rasta_pdu.specs.declared.kind.Kind.TheVariants.{Data}
 
 -- ---- the position that a CS names
@@ -27,58 +27,21 @@ use Rattle.rasta_pdu.specs.declared.kind.Kind.TheVariants.{Data}
 -- where no member has this SN, none is at a position
 none_has : (ms : List Made) (sn i : ℕ) (m : Made) → position_with (pdus_made ms) sn ≡ None → slice_get ms i ≡ Some m → m.pdu.sn ≡ sn → ⊥
 none_has [] sn i m n g e = absurd (cc)
-none_has (x ∷ ms) sn i m n g e = by (λ n i g. none_has ms sn i m n g e) (x.pdu.sn == sn) refl i g
+none_has (x ∷ ms) sn i m n g e = by (x.pdu.sn == sn) refl n (λ n i g. none_has ms sn i m n g e) i g
   where
     option_none : (o : Option ℕ) → option_map suc o ≡ None → o ≡ None
     option_none None h = refl
     option_none (Some k) h = absurd (cc)
 
-    same : (a b : ℕ) → (a == b) ≡ false → a ≡ b → ⊥
-    same a b h k = absurd (grind (arith, nat_tests))
-
-    left : (x.pdu.sn == sn) ≡ false → position_with (pdus_made ms) sn ≡ None
-    left h = option_none (position_with (pdus_made ms) sn) (sym (ap (λ b. if b then Some 0 else option_map suc (position_with (pdus_made ms) sn)) h) ∙ n)
-
-    by : (position_with (pdus_made ms) sn ≡ None → (i : ℕ) → slice_get ms i ≡ Some m → ⊥) → (b : Bool) → (x.pdu.sn == sn) ≡ b → (i : ℕ) → slice_get (x ∷ ms) i ≡ Some m → ⊥
-    by rest true h i g = absurd (let z = sym (ap (λ b. if b then Some 0 else option_map suc (position_with (pdus_made ms) sn)) h) ∙ n in cc)
-    by rest false h zero g = (let f : x ≡ m = cc in same x.pdu.sn sn h (ap (λ (k : Made). k.pdu.sn) f ∙ e))
-    by rest false h (suc i) g = rest (left h) i g
-
--- a position that is named has this SN
-has : (ms : List Made) (sn i : ℕ) → position_with (pdus_made ms) sn ≡ Some i → SnIs ms i sn
-has [] sn i n = absurd (cc)
-has (x ∷ ms) sn i n = by (λ i n. has ms sn i n) (x.pdu.sn == sn) refl i n
-  where
-    same : (a b : ℕ) → (a == b) ≡ true → a ≡ b
-    same a b h = grind (arith, nat_tests)
-
-    option_some : (o : Option ℕ) (i : ℕ) → option_map suc o ≡ Some i → (k : ℕ) × (o ≡ Some k) × (i ≡ suc k)
-    option_some None i h = absurd (cc)
-    option_some (Some k) i h = (k, refl, sym (cc))
-
-    by : ((i : ℕ) → position_with (pdus_made ms) sn ≡ Some i → SnIs ms i sn) → (b : Bool) → (x.pdu.sn == sn) ≡ b → (i : ℕ) → position_with (pdus_made (x ∷ ms)) sn ≡ Some i → SnIs (x ∷ ms) i sn
-    by rest true h i n =
-        let z : Some 0 ≡ Some i = sym (ap (λ b. if b then Some 0 else option_map suc (position_with (pdus_made ms) sn)) h) ∙ n in
-        let i0 : 0 ≡ i = cc in
-        subst (λ k. SnIs (x ∷ ms) k sn) i0 (record { m = x; there = refl; same = same x.pdu.sn sn h })
-    by rest false h i n =
-        let z = option_some (position_with (pdus_made ms) sn) i (sym (ap (λ b. if b then Some 0 else option_map suc (position_with (pdus_made ms) sn)) h) ∙ n) in
-        let r = rest z.0 z.1 in
-        subst (λ k. SnIs (x ∷ ms) k sn) (sym z.2) (record { m = r.m; there = r.there; same = r.same })
+    by : (b : Bool) → (x.pdu.sn == sn) ≡ b → (if b then Some 0 else option_map suc (position_with (pdus_made ms) sn)) ≡ None
+        → (position_with (pdus_made ms) sn ≡ None → (i : ℕ) → slice_get ms i ≡ Some m → ⊥) → (i : ℕ) → slice_get (x ∷ ms) i ≡ Some m → ⊥
+    by true h n rest i g = cc
+    by false h n rest zero g = (let f : x ≡ m = cc in let same : x.pdu.sn ≡ sn = ap (λ (k : Made). k.pdu.sn) f ∙ e in absurd (grind (arith, nat_tests)))
+    by false h n rest (suc i) g = rest (option_none (position_with (pdus_made ms) sn) n) i g
 
 -- a named position lies as far after the first SN as the SN does
 distance : (ms : List Made) (sn i : ℕ) → Numbered ms → length ms ≤ 1000001 → SnIs ms i sn → ahead_by sn (first_sn ms) ≡ i
-distance [] sn i h b s = absurd (let e = s.there in cc)
-distance (m ∷ ms) sn zero h b s =
-    let e = s.there in
-    let a : m ≡ s.m = cc in
-    let c : m.pdu.sn ≡ sn = ap (λ (k : Made). k.pdu.sn) a ∙ s.same in
-    omega arith
-distance (m ∷ ms) sn (suc i) h b s =
-    let a : s.m.pdu.sn ≡ (m.pdu.sn + suc i) % 2 ^ 32 = h i s.m s.there in
-    let c = s.same in
-    let l = slice_get_within ms i s.m s.there in
-    omega arith
+distance ms sn i h b s = (let z = sn_mod ms i sn h s in let l = slice_get_within ms i s.m s.there in omega arith)
 
 -- a position as far after the first SN as an SN has that SN
 at_distance : (ms : List Made) (sn i : ℕ) (m : Made) → Numbered ms → first_sn ms < 2 ^ 32 → sn < 2 ^ 32 → slice_get ms i ≡ Some m → ahead_by sn (first_sn ms) ≡ i → m.pdu.sn ≡ sn
@@ -103,27 +66,22 @@ units_named ms vs cs h b l f small = by (position_with (pdus_made ms) cs) refl
 
     by : (o : Option ℕ) → position_with (pdus_made ms) cs ≡ o → slice_index_or vs (ahead_by cs (first_sn ms)) 0 ≡ units_at vs (position_with (pdus_made ms) cs)
     by None e = beyond e (slice_get vs (ahead_by cs (first_sn ms))) refl ∙ ap (units_at vs) (sym e)
-    by (Some i) e = ap (λ k. slice_index_or vs k 0) (distance ms cs i h b (has ms cs i e)) ∙ ap (units_at vs) (sym e)
+    by (Some i) e = ap (λ k. slice_index_or vs k 0) (distance ms cs i h b (found_position ms cs i e)) ∙ ap (units_at vs) (sym e)
 
 -- the first SN of what an end made has 32 bits
 pub first_small : (q : Option Quiet) (s : Side) (ms : List Made) (own : List FirstCopy) → pdus_made ms ≡ pdus_made (start_by q s).made ++ pdus_of own
     → ((i : ℕ) (c : FirstCopy) → slice_get own i ≡ Some c → c.pdu.safety.sn < 2 ^ 32) → first_sn ms < 2 ^ 32
 first_small q s [] own e h = omega arith
-first_small q s (m ∷ ms) own e h = (let z = head q s own e h in omega arith)
+first_small q s (m ∷ ms) own e h = head q s (ap (λ (xs : List SafetyPdu). slice_get xs 0) (sym e))
   where
-    head_is : (x : SafetyPdu) (xs : List SafetyPdu) → m.pdu ∷ pdus_made ms ≡ x ∷ xs → m.pdu.sn ≡ x.sn
-    head_is x xs e = (let f : m.pdu ≡ x = cc in ap (λ (y : SafetyPdu). y.sn) f)
+    of_copies : slice_get (pdus_of own) 0 ≡ Some m.pdu → m.pdu.sn < 2 ^ 32
+    of_copies g = (let c = get_mapped (λ (d : FirstCopy). d.pdu.safety) own 0 m.pdu g in let a = h 0 c.0 c.1 in let b = ap (λ (x : SafetyPdu). x.sn) c.2 in omega arith)
 
-    of_copies : (own : List FirstCopy) → m.pdu ∷ pdus_made ms ≡ pdus_of own → ((i : ℕ) (c : FirstCopy) → slice_get own i ≡ Some c → c.pdu.safety.sn < 2 ^ 32) → m.pdu.sn < 2 ^ 32
-    of_copies [] e h = absurd (cc)
-    of_copies (c ∷ own) e h = (let a = head_is c.pdu.safety (pdus_of own) e in let b = h 0 c refl in omega arith)
-
-    head : (q : Option Quiet) (s : Side) (own : List FirstCopy) → m.pdu ∷ pdus_made ms ≡ pdus_made (start_by q s).made ++ pdus_of own
-        → ((i : ℕ) (c : FirstCopy) → slice_get own i ≡ Some c → c.pdu.safety.sn < 2 ^ 32) → m.pdu.sn < 2 ^ 32
-    head None Client own e h = of_copies own e h
-    head None Server own e h = of_copies own e h
-    head (Some q) Client own e h = (let a = head_is _ (pdus_of own) e in omega arith)
-    head (Some q) Server own e h = (let a = head_is _ (pdus_of own) e in omega arith)
+    head : (q : Option Quiet) (s : Side) → slice_get (pdus_made (start_by q s).made ++ pdus_of own) 0 ≡ Some m.pdu → m.pdu.sn < 2 ^ 32
+    head None Client g = of_copies g
+    head None Server g = of_copies g
+    head (Some q) Client g = (let a = ap (λ (x : SafetyPdu). x.sn) (same_Some _ _ g) in omega arith)
+    head (Some q) Server g = (let a = ap (λ (x : SafetyPdu). x.sn) (same_Some _ _ g) in omega arith)
 
 -- ---- places of proofs, by what each PDU shows
 
@@ -131,9 +89,10 @@ get_replicated : (m p k : ℕ) → k < m → slice_get (replicate m p) k ≡ Som
 get_replicated m p k l = (let few = length-replicate m p in slice_get-get_or (replicate m p) k 0 (omega arith) ∙ ap Some (get_or-replicate m k p 0 l))
 
 get_after : (places : List ℕ) (m p k : ℕ) → length places ≤ k → k < length places + m → slice_get (places ++ replicate m p) k ≡ Some p
-get_after [] m p k low high = get_replicated m p k (omega arith)
-get_after (x ∷ places) m p zero low high = absurd (omega arith)
-get_after (x ∷ places) m p (suc k) low high = get_after places m p k (omega arith) (omega arith)
+get_after places m p k low high =
+    let n : ℕ = k - length places in
+    let at : k ≡ length places + n = omega (arith, low) in
+    ap (slice_get (places ++ replicate m p)) at ∙ (get_past places (replicate m p) n ∙ get_replicated m p n (omega (arith, low, high)))
 
 length-with_proofs : (places : List ℕ) (n p : ℕ) → length (with_proofs places n p) ≡ max (length places) n
 length-with_proofs places n p =
@@ -141,59 +100,41 @@ length-with_proofs places n p =
     let b = length-replicate (n - length places) p in
     omega (arith, a, b)
 
-module _ (shown : SafetyPdu → ℕ) where
-  places_by : List ℕ → List FirstCopy → List ℕ
-  places_by places [] = places
-  places_by places (c ∷ copies) = places_by (with_proofs places (shown c.pdu.safety) c.place) copies
+-- an end by which each PDU shows as much as by these lists
+module _ (e : EndState) (own peer : List SafetyPdu) where
+  abbrev pub ShowAsMuch : List FirstCopy → Type 0
+  ShowAsMuch copies = (i : ℕ) (c : FirstCopy) → slice_get copies i ≡ Some c → shown_by e c.pdu.safety ≡ units_shown own peer c.pdu.safety
 
-  -- the place of the first that shows more than so many
-  first_that : ℕ → List FirstCopy → ℕ
-  first_that unit [] = 0
-  first_that unit (c ∷ copies) = if nat_lt unit (shown c.pdu.safety) then c.place else first_that unit copies
-
-  length-places : (places : List ℕ) (copies : List FirstCopy) → length (places_by places copies) ≡ fold max (length places) (map shown (pdus_of copies))
-  unfolding places_by
-  length-places places [] = refl
-  length-places places (c ∷ copies) =
-      length-places (with_proofs places (shown c.pdu.safety) c.place) copies
-      ∙ ap (λ n. fold max n (map shown (pdus_of copies))) (length-with_proofs places (shown c.pdu.safety) c.place)
+  length-places : (places : List ℕ) (copies : List FirstCopy) → ShowAsMuch copies → length (proofs_from e places copies) ≡ fold max (length places) (map (units_shown own peer) (pdus_of copies))
+  unfolding proofs_from
+  length-places places [] h = refl
+  length-places places (c ∷ copies) h =
+      length-places (with_proofs places (shown_by e c.pdu.safety) c.place) copies (λ i d g. h (suc i) d g)
+      ∙ ap (λ n. fold max n (map (units_shown own peer) (pdus_of copies))) (length-with_proofs places (shown_by e c.pdu.safety) c.place ∙ ap (max (length places)) (h 0 c refl))
 
   -- what has a place keeps it
-  place_stays : (places : List ℕ) (copies : List FirstCopy) (k v : ℕ) → slice_get places k ≡ Some v → slice_get (places_by places copies) k ≡ Some v
-  unfolding places_by
+  place_stays : (places : List ℕ) (copies : List FirstCopy) (k v : ℕ) → slice_get places k ≡ Some v → slice_get (proofs_from e places copies) k ≡ Some v
+  unfolding proofs_from
   place_stays places [] k v g = g
-  place_stays places (c ∷ copies) k v g = place_stays (with_proofs places (shown c.pdu.safety) c.place) copies k v (get_front places (replicate (shown c.pdu.safety - length places) c.place) k v g)
+  place_stays places (c ∷ copies) k v g = place_stays (with_proofs places (shown_by e c.pdu.safety) c.place) copies k v (get_front places (replicate (shown_by e c.pdu.safety - length places) c.place) k v g)
 
-  -- a new unit has the place of the first that shows it
-  place_new : (places : List ℕ) (copies : List FirstCopy) (k : ℕ) → length places ≤ k → k < length (places_by places copies) → slice_get (places_by places copies) k ≡ Some (first_that k copies)
-  unfolding places_by first_that
-  place_new places [] k low high = absurd (omega arith)
-  place_new places (c ∷ copies) k low high =
-      by (nat_lt k (shown c.pdu.safety)) refl (λ l. place_new (with_proofs places (shown c.pdu.safety) c.place) copies k l high)
+  -- a new unit has the place of its proof
+  place_new : (places : List ℕ) (copies : List FirstCopy) → ShowAsMuch copies → (k : ℕ) → length places ≤ k → k < length (proofs_from e places copies)
+      → slice_get (proofs_from e places copies) k ≡ Some (proof_place own peer k copies)
+  unfolding proofs_from
+  place_new places [] h k low high = absurd (omega arith)
+  place_new places (c ∷ copies) h k low high =
+      by (nat_lt k (units_shown own peer c.pdu.safety)) refl (λ l. place_new (with_proofs places (shown_by e c.pdu.safety) c.place) copies (λ i d g. h (suc i) d g) k l high)
     where
-      by : (b : Bool) → nat_lt k (shown c.pdu.safety) ≡ b
-          → (length (with_proofs places (shown c.pdu.safety) c.place) ≤ k → slice_get (places_by (with_proofs places (shown c.pdu.safety) c.place) copies) k ≡ Some (first_that k copies))
-          → slice_get (places_by (with_proofs places (shown c.pdu.safety) c.place) copies) k ≡ Some (if b then c.place else first_that k copies)
-      by true e rest =
-          let l : k < shown c.pdu.safety = grind (arith, nat_tests) in
-          place_stays (with_proofs places (shown c.pdu.safety) c.place) copies k c.place (get_after places (shown c.pdu.safety - length places) c.place k low (omega (arith, l)))
-      by false e rest =
-          let l : shown c.pdu.safety ≤ k = grind (arith, nat_tests) in
-          rest (let z = length-with_proofs places (shown c.pdu.safety) c.place in omega (arith, l, z))
-
-  -- an end by which each PDU shows as much has these places
-  same_places : (e : EndState) (places : List ℕ) (copies : List FirstCopy) → ((i : ℕ) (c : FirstCopy) → slice_get copies i ≡ Some c → shown_by e c.pdu.safety ≡ shown c.pdu.safety)
-      → proofs_from e places copies ≡ places_by places copies
-  unfolding places_by proofs_from
-  same_places e places [] h = refl
-  same_places e places (c ∷ copies) h =
-      ap (λ n. proofs_from e (with_proofs places n c.place) copies) (h 0 c refl)
-      ∙ same_places e (with_proofs places (shown c.pdu.safety) c.place) copies (λ i d g. h (suc i) d g)
-
-first_is : (own peer : List SafetyPdu) (unit : ℕ) (copies : List FirstCopy) → first_that (units_shown own peer) unit copies ≡ proof_place own peer unit copies
-unfolding first_that
-first_is own peer unit [] = refl
-first_is own peer unit (c ∷ copies) = ap (λ n. if nat_lt unit (units_shown own peer c.pdu.safety) then c.place else n) (first_is own peer unit copies)
+      by : (b : Bool) → nat_lt k (units_shown own peer c.pdu.safety) ≡ b
+          → (length (with_proofs places (shown_by e c.pdu.safety) c.place) ≤ k → slice_get (proofs_from e (with_proofs places (shown_by e c.pdu.safety) c.place) copies) k ≡ Some (proof_place own peer k copies))
+          → slice_get (proofs_from e (with_proofs places (shown_by e c.pdu.safety) c.place) copies) k ≡ Some (if b then c.place else proof_place own peer k copies)
+      by true f rest =
+          let l : k < units_shown own peer c.pdu.safety = grind (arith, nat_tests) in
+          place_stays (with_proofs places (shown_by e c.pdu.safety) c.place) copies k c.place (get_after places (shown_by e c.pdu.safety - length places) c.place k low (omega (arith, l, h 0 c refl)))
+      by false f rest =
+          let l : units_shown own peer c.pdu.safety ≤ k = grind (arith, nat_tests) in
+          rest (let z = length-with_proofs places (shown_by e c.pdu.safety) c.place in omega (arith, l, z, h 0 c refl))
 
 -- ---- the places of the units that are taken
 
@@ -202,17 +143,11 @@ pub record AreProofs (own : List SafetyPdu) (peer : List FirstCopy) (places : Li
   pub count : length places ≡ units_taken own (pdus_of peer)
   pub each : (k : ℕ) → k < length places → slice_get places k ≡ Some (proof_place own (pdus_of peer) k peer)
 
-pub are_proofs : (e : EndState) (own : List SafetyPdu) (peer : List FirstCopy)
-    → ((i : ℕ) (c : FirstCopy) → slice_get peer i ≡ Some c → shown_by e c.pdu.safety ≡ units_shown own (pdus_of peer) c.pdu.safety) → AreProofs own peer (proofs_from e [] peer)
-are_proofs e own peer h =
-    let same = same_places (units_shown own (pdus_of peer)) e [] peer h in
-    record {
-      count = ap length same ∙ length-places (units_shown own (pdus_of peer)) [] peer;
-      each = λ k l.
-          (let l' : k < length (places_by (units_shown own (pdus_of peer)) [] peer) = subst (λ (xs : List ℕ). k < length xs) same l in
-          ap (λ (xs : List ℕ). slice_get xs k) same ∙ (place_new (units_shown own (pdus_of peer)) [] peer k (omega arith) l'
-          ∙ ap Some (first_is own (pdus_of peer) k peer)));
-    }
+pub are_proofs : (e : EndState) (own : List SafetyPdu) (peer : List FirstCopy) → ShowAsMuch e own (pdus_of peer) peer → AreProofs own peer (proofs_from e [] peer)
+are_proofs e own peer h = record {
+  count = length-places e own (pdus_of peer) [] peer h;
+  each = λ k l. place_new e own (pdus_of peer) [] peer h k (omega arith) l;
+}
 
 -- ---- the units that are taken
 

@@ -1,7 +1,8 @@
 use Rattle.std.proofs.Common.{◌≡◌, Ok, Err, sym, subst, inl, inr, ⊎_elim}
+use Rattle.rasta_cert.proofs.ReadingLemmas.{if_ok as where_ok}
 use Rattle.rasta_check.specs.Internals.Checking.{verdict_of}
 use Rattle.rasta_check.specs.Verdict.Report.{BothFit, explained}
-use Rattle.rasta_check.proofs.Verdict.CallAnswers.{both, where_ok, on_ok, where_err}
+use Rattle.rasta_check.proofs.Verdict.CallAnswers.{both, on_ok, where_err}
 use Rattle.rasta_check.proofs.Script.Fits.{is_verdict}
 use Rattle.rasta_check.proofs.Verdict.Headline.{ends, verdict_fits, verdict_refuses, headline, is_sharp}
 use Rattle.rasta_check.proofs.checker.check_lists.Goals as goal

@@ -1,6 +1,4 @@
 use Rattle.std.proofs.Common.{◌≡◌, ℕ, suc, Bool, true, false, List, refl, sym, ◌∙◌, arith}
-use Rattle.std.specs.Prelude.{not, ◌&&◌, ◌==◌}
-use Rattle.std.proofs.lemmas.Bool.Decides.{nat_tests}
 use Rattle.rasta_pcap.specs.declared.fault.Side.{Side}
 use Rattle.rasta_pcap.specs.declared.fault.Side.TheVariants.{Client}
 use Rattle.rasta_pdu.specs.declared.kind.Kind.{Kind}
@@ -11,8 +9,7 @@ use Rattle.rasta_end.specs.declared.phase.Phase.TheVariants.{Closed}
 use Rattle.rasta_end.specs.declared.why.Why.{Why}
 use Rattle.rasta_end.specs.declared.owed.Owed.{Owed}
 use Rattle.rasta_end.specs.declared.make_row.MakeRow.{MakeRow}
-use Rattle.rasta_end.specs.State.{Made, EndState, is_client, is_start}
-use Rattle.rasta_end.specs.MakeRule.{is_judged}
+use Rattle.rasta_end.specs.State.{Made, EndState}
 use Rattle.rasta_check.specs.Model.World.{station_of, end_of, other_side}
 use Rattle.rasta_check.specs.Model.Laws.{NamesOne, ConfirmsAccepted}
 use Rattle.rasta_check.proofs.Model.PassedTests.{Passed, passed, cs_is}
@@ -21,8 +18,9 @@ use Rattle.rasta_check.proofs.Model.SequenceNumbers.{numbered_once}
 use Rattle.rasta_check.proofs.Model.Invariant.{Held}
 use Rattle.rasta_check.proofs.Model.InvariantAtMake.{nothing_made}
 use Rattle.rasta_check.proofs.Model.InvariantOfRuns.{all_held, few_made}
+use Rattle.rasta_check.proofs.Model.ShownUnits.{judged_after}
 use Rattle.rasta_check.proofs.laws.confirmed.Goals as goal
-use Rattle.rasta_pdu.specs.declared.kind.Kind.TheVariants.{ConnectionRequest, DisconnectionRequest}
+use Rattle.rasta_pdu.specs.declared.kind.Kind.TheVariants.{ConnectionRequest}
 
 -- a connection request is made by a closed client
 opening_is : (s : Side) (ph : Phase) (why : Why) (k : Kind) (os : List Owed) (row : MakeRow) → Making s ph why k os row → is_kind ConnectionRequest k ≡ true → (s ≡ Client) × (ph ≡ Closed)
@@ -39,16 +37,11 @@ not_opening p e x clock why t i peer pass h a true b =
     let none = h.opening.unmade o.0 (nothing_made e.side e.phase e.made o.1 pass.open_yet) in
     absurd (omega (arith, a, none.0))
 
-judged_by : (opens leaves none more : Bool) → opens ≡ false → none ≡ false → (not opens && not (leaves && (none && more))) ≡ true
-judged_by false true false more o n = refl
-judged_by false false none more o n = refl
-judged_by _ _ _ more o n = absurd (cc)
-
 confirms : (p : Parameters) (e peer : EndState) (t : ℕ) → Held e t peer.made → NamesOne peer e → ConfirmsAccepted p e peer
 confirms p e peer t h once x clock why after i mk a =
     let pass = passed p e x clock why mk.0 in
     let opens = not_opening p e x clock why t i peer.made pass h a (is_kind ConnectionRequest x.kind) refl in
-    let judged : is_judged e x.kind ≡ true = judged_by (is_kind ConnectionRequest x.kind) (is_kind DisconnectionRequest x.kind) (e.accepted == 0) (is_client e.side && is_start e.phase) opens (grind (arith, nat_tests, a)) in
+    let judged = judged_after e x.kind i a opens in
     let cs = (cs_is e x.kind x.cs judged pass.cs).1 in
     let last = h.accepts.last i a in
     ((last.m, last.there, last.same ∙ sym cs), λ j n there same. once j i n last.m there last.there (same ∙ (cs ∙ sym last.same)))

@@ -3,8 +3,8 @@ use Rattle.std.specs.Option.{option_map}
 use Rattle.rasta_check.specs.Capture.Lists.{copy_of}
 use Rattle.rasta_check.specs.Verdict.Listed.{messages_taken, listed_of, numbered_from}
 use Rattle.rasta_check.specs.Internals.Listing.{proved_units}
-use Rattle.rasta_check.proofs.Capture.Positions.{none_within}
 use Rattle.rasta_check.proofs.Verdict.ListSteps.{units_left, units_end, listing_ends}
+use Rattle.rasta_check.proofs.Lists.{none_within}
 use Rattle.rasta_check.proofs.surely_taken.messages_with.Goals as goal
 use Rattle.rasta_check.proofs.surely_taken.messages_with.Goals.{in-Some+in_ok-unit, in_default}
 

@@ -2,7 +2,7 @@ use Rattle.std.proofs.Common.{List, ap, sym, ◌∙◌, slice_get}
 use Rattle.rasta_check.specs.declared.crossing_store.StoredPacket.{StoredPacket}
 use Rattle.rasta_check.specs.Capture.Lists.{position_of_place}
 use Rattle.rasta_check.specs.Capture.Reading.{Crossing, sent_by}
-use Rattle.rasta_check.proofs.Internals.Sides.{same_side, sides_differ}
+use Rattle.rasta_check.proofs.Sides.{same_side, sides_differ}
 use Rattle.rasta_check.proofs.Internals.StoreLists.{copy_there, first_there, not_placed, not_stored, other_side}
 use Rattle.rasta_check.proofs.crossing_store.Store.at_place.Goals as goal
 

@@ -3,7 +3,8 @@ use Rattle.std.specs.Option.{option_map}
 use Rattle.std.proofs.lemmas.List.{length-take-le}
 use Rattle.rasta_check.specs.Capture.Crossing.{FirstCopy}
 use Rattle.rasta_check.specs.Capture.Lists.{IsOrdered, copy_of}
-use Rattle.rasta_check.proofs.Capture.Positions.{none_within, ordered_take, take_one_more}
+use Rattle.rasta_check.proofs.Capture.Positions.{ordered_take}
+use Rattle.rasta_check.proofs.Lists.{none_within, take_one_more}
 use Rattle.rasta_check.proofs.dense_list.DenseList.of.Goals as goal
 use Rattle.rasta_check.proofs.dense_list.DenseList.of.Goals.{in-Some+in_ok-push, in_default}
 

@@ -3,7 +3,8 @@ use Rattle.std.proofs.lemmas.List.{length-map}
 use Rattle.rasta_pdu.specs.declared.pdu.Pdu.{Pdu}
 use Rattle.rasta_check.specs.Capture.Crossing.{FirstCopy}
 use Rattle.rasta_check.specs.Capture.Lists.{IsOrdered, copy_of}
-use Rattle.rasta_check.proofs.Internals.ListPushes.{marks_grown, vector_grown, vector_few}
+use Rattle.rasta_check.proofs.Internals.ListPushes.{marks_grown, few_more}
+use Rattle.rasta_check.proofs.Lists.{map_push}
 use Rattle.rasta_check.proofs.dense_list.DenseList.push.Goals as goal
 
 pub invariant_of-self-2 : goal.invariant_of-self-2
@@ -15,6 +16,7 @@ invariant_of-self-2 c =
     let reserved : c.try_reserve.new.self.items ≡ items = c.in_ok-try_reserve.ensures.items in
     let all = c.push_reserved.ensures.items ∙ ap (λ (xs : List (ℕ × Pdu)). xs ++ x ∷ []) reserved in
     let count : c.len.result ≡ length (map copy_of items) = (let a = c.len.ensures in let b = ap length reserved in let d = length-map items copy_of in let e = c.in_ok-try_reserve.ensures.len in omega arith) in
-    let rest = marks_grown (map copy_of items) _ (copy_of x) c.args.place c.len.result _ _ _ (vector_grown items _ x all) ordered c.self.invariant.1
+    let grown = map_push copy_of items _ x all in
+    let rest = marks_grown (map copy_of items) _ (copy_of x) c.args.place c.len.result _ _ _ grown ordered c.self.invariant.1
     refl count c.reserve.ensures.same c.mark.ensures in
-    (rest.0, rest.1, vector_few items _ x all few)
+    (rest.0, rest.1, few_more copy_of (map copy_of items) _ (copy_of x) grown few)

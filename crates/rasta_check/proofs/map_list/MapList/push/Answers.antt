@@ -3,7 +3,7 @@ use Rattle.std.proofs.lemmas.List.{length-map}
 use Rattle.rasta_pdu.specs.declared.pdu.Pdu.{Pdu}
 use Rattle.rasta_check.specs.Capture.Crossing.{FirstCopy}
 use Rattle.rasta_check.specs.Capture.Lists.{IsOrdered, copy_of, copies_in}
-use Rattle.rasta_check.proofs.Internals.ListPushes.{marks_grown, map_grown, map_few, keys_grown}
+use Rattle.rasta_check.proofs.Internals.ListPushes.{marks_grown, map_grown, few_more, keys_grown}
 use Rattle.rasta_check.proofs.map_list.MapList.push.Goals as goal
 
 pub invariant_of-self-2 : goal.invariant_of-self-2
@@ -17,7 +17,7 @@ invariant_of-self-2 c =
     let grown = map_grown old x ordered keys (omega (arith, few)) c.number.result _ c.number.ensures c.in-Ok.ensures.entries in
     let rest = marks_grown (copies_in old.entries) _ (copy_of x) c.args.place c.len-position.result _ _ _ grown ordered c.self.invariant.2
     refl count c.reserve.ensures.same c.mark.ensures in
-    (keys_grown old x ordered keys (omega (arith, few)) c.number.result _ c.number.ensures c.in-Ok.ensures.entries, rest.0, rest.1, map_few old.entries _ (copy_of x) grown few)
+    (keys_grown old x ordered keys (omega (arith, few)) c.number.result _ c.number.ensures c.in-Ok.ensures.entries, rest.0, rest.1, few_more (λ (y : ℕ × (ℕ × Pdu)). copy_of y.1) (copies_in old.entries) _ (copy_of x) grown few)
 
 pub returns-clause-ok : goal.returns-clause-ok
 returns-clause-ok c =

@@ -1,8 +1,13 @@
--- Sides that are compared.
+-- What belongs to each side, and sides that are compared.
 use Rattle.std.proofs.Common.{◌≡◌, true, false, not, arith}
 use denote.Enum.Bare.{sameb}
 use Rattle.rasta_pcap.specs.contracts.fault.Side.{the_type}
 use Rattle.rasta_pcap.specs.declared.fault.Side.{Side}
+use Rattle.rasta_pcap.specs.declared.fault.Side.TheVariants.{Client, Server}
+
+abbrev pub sided : (P : Side → Type 0) → P Client → P Server → (x : Side) → P x
+sided P c s Client = c
+sided P c s Server = s
 
 pub same_side : (a b : Side) → not (sameb the_type a b) ≡ false → a ≡ b
 same_side a b h = grind arith
