@@ -17,5 +17,6 @@ pub record IsSent (p : Parameters) (packets : List Packet) (side : Side) (sent :
       → ((i : ℕ) × (c : FirstCopy) × (slice_get sent i ≡ Some c) × (c.place ≡ k))
       ⊎ ((j : ℕ) × (b : Packet) × (j < k) × (slice_get packets j ≡ Some b) × (b.side ≡ side) × (b.payload ≡ a.payload))
 
+-- places rise, and numbers go on
 pub ordered : {p : Parameters} {packets : List Packet} {side : Side} {sent : List FirstCopy} → IsSent p packets side sent → IsOrdered sent
 ordered h = record { places = h.rising; numbers = h.numbers }
