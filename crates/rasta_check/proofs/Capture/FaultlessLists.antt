@@ -16,5 +16,6 @@ pub record IsSent (p : Parameters) (packets : List Packet) (side : Side) (sent :
   pub copies : (k : ℕ) (a : Packet) → slice_get packets k ≡ Some a → a.side ≡ side
       → (i : ℕ) × (c : FirstCopy) × (slice_get sent i ≡ Some c) × (c.place ≤ k) × Spells p side c.pdu a.payload
 
+-- places rise, and numbers go on
 pub ordered : {p : Parameters} {packets : List Packet} {side : Side} {sent : List FirstCopy} → IsSent p packets side sent → IsOrdered sent
 ordered h = record { places = h.rising; numbers = h.numbers }

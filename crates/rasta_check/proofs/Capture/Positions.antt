@@ -47,13 +47,14 @@ module _ (n : ℕ) (xs : List ℕ) where
       let e : position_or_len (nat_eq n) xs ≡ length xs = position_or_len_is (nat_eq n) xs (length xs) 0 (omega arith) (before (length xs) (omega arith) (λ j y b. fails j y)) (λ z. absurd (omega arith)) in
       ap (λ k. cond (nat_lt k (length xs)) (Some k) None) e ∙ cond_not (length xs)
 
+-- ---- the member that is named
+
 found_in : (n : ℕ) (xs : List ℕ) (i : ℕ) → position (nat_eq n) xs ≡ Some i → slice_get xs i ≡ Some n
 found_in n xs i e =
     let f = position-Some (nat_eq n) xs i 0 e in
     let same : get_or xs i 0 ≡ n = (let t = f.1 in grind (arith, nat_tests)) in
     slice_get-get_or xs i 0 f.0 ∙ ap Some same
 
--- the member that a number names
 pub number_found : (cs : List FirstCopy) (number i : ℕ) → position_of_number cs number ≡ Some i → (c : FirstCopy) × (slice_get cs i ≡ Some c) × (c.pdu.number ≡ number)
 number_found cs number i e = get_mapped (λ (c : FirstCopy). c.pdu.number) cs i number (found_in number (numbers_of cs) i e)
 
@@ -77,6 +78,7 @@ position_push p xs y fails =
 
 -- ---- ordered lists
 
+-- numbers of positions that are less than 2^32 apart differ
 pub not_again : (f i j m n : ℕ) → m ≡ (f + i) % 2 ^ 32 → n ≡ (f + j) % 2 ^ 32 → i < j → j < 4294967296 → m ≡ n → ⊥
 not_again f i j m n x y l b e = omega arith
 
@@ -89,6 +91,7 @@ number_once sent h few i j c d x y e =
     let head = slice_get_some sent 0 (omega arith) in
     omega (arith, li, lj, few, e, h.numbers i head.0 c head.1 x, h.numbers j head.0 d head.1 y)
 
+-- the number of a member names its position
 pub number_named : (sent : List FirstCopy) → IsOrdered sent → length sent < 4294967296 → (i : ℕ) (c : FirstCopy) → slice_get sent i ≡ Some c → position_of_number sent c.pdu.number ≡ Some i
 number_named sent h few i c g =
     position_at c.pdu.number (numbers_of sent) i (map_at (λ (x : FirstCopy). x.pdu.number) sent i c g)
@@ -127,9 +130,11 @@ pub place_first : (sent : List FirstCopy) (i : ℕ) (c : FirstCopy) → slice_ge
 place_first sent i c g none =
     position_at c.place (places_of sent) i (map_at (λ (x : FirstCopy). x.place) sent i c g) (λ j y l k e. (let d = get_mapped (λ (x : FirstCopy). x.place) sent j y k in none j d.0 l d.1 (d.2 ∙ e)))
 
+-- and so it does in an ordered list
 pub place_named : (sent : List FirstCopy) → IsOrdered sent → (i : ℕ) (c : FirstCopy) → slice_get sent i ≡ Some c → position_of_place sent c.place ≡ Some i
 place_named sent h i c g = place_first sent i c g (λ j d l k e. (let low = places_rise sent h j i d c k g l in omega (arith, low, e)))
 
+-- a place that no member has names none
 pub place_missing : (sent : List FirstCopy) (place : ℕ) → ((i : ℕ) (c : FirstCopy) → slice_get sent i ≡ Some c → c.place ≡ place → ⊥) → position_of_place sent place ≡ None
 place_missing sent place none = position_none place (places_of sent) (λ j y g e. (let d = get_mapped (λ (x : FirstCopy). x.place) sent j y g in none j d.0 d.1 (d.2 ∙ e)))
 

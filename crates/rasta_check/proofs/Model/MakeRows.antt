@@ -8,7 +8,7 @@ use Rattle.rasta_pcap.specs.declared.fault.Side.{Side}
 use Rattle.rasta_pcap.specs.declared.fault.Side.TheVariants.{Client, Server}
 use Rattle.rasta_pdu.specs.declared.kind.Kind.{Kind}
 use Rattle.rasta_pdu.specs.declared.kind.Kind.TheVariants.{ConnectionRequest, ConnectionResponse, RetransmissionRequest, RetransmissionResponse, DisconnectionRequest, Heartbeat, Data, RetransmittedData}
-use Rattle.rasta_pdu.specs.Pdu.{SafetyPdu}
+use Rattle.rasta_pdu.specs.Pdu.{SafetyPdu, is_kind}
 use Rattle.rasta_pdu.specs.Params.{Parameters}
 use Rattle.rasta_end.specs.declared.phase.Phase.{Phase}
 use Rattle.rasta_end.specs.declared.phase.Phase.TheVariants.{Closed, Start, Up}
@@ -96,6 +96,11 @@ making s ph reason Fresh Data os e f = let m = met Offers (is_connected ph) os e
 making s ph reason Bye DisconnectionRequest os e f = let m = met Leaves (is_active ph && not (reason == 4)) os e f in (Leaves, ap (λ b. then_some b Leaves) m.0, bye (and_parts _ _ m.0).0)
 making s ph reason Expired DisconnectionRequest os e f = let m = met TimesOut (is_active ph && (reason == 4)) os e f in (TimesOut, ap (λ b. then_some b TimesOut) m.0, expired (and_parts _ _ m.0).0)
 making s ph reason _ _ os e f = absurd (cc)
+
+-- a connection request is made by a closed client
+pub opening_is : (s : Side) (ph : Phase) (why : Why) (k : Kind) (os : List Owed) (row : MakeRow) → Making s ph why k os row → is_kind ConnectionRequest k ≡ true → (s ≡ Client) × (ph ≡ Closed) × (row ≡ Opens)
+opening_is s ph why k os row opening h = (refl, refl, refl)
+opening_is s ph why k os row _ h = absurd (cc)
 
 -- ---- the row of a make
 

@@ -85,16 +85,13 @@ kind_is wanted k h =
     cc
 
 three : (a b c : Bool) → (a && (b && c)) ≡ true → (a ≡ true) × (b ≡ true) × (c ≡ true)
-three true true true e = (refl, refl, refl)
-three _ _ _ e = absurd (cc)
+three a b c e = (let x = and_parts a (b && c) e in let w = and_parts b c x.1 in (x.0, w.0, w.1))
 
 four : (a b c d : Bool) → (a && (b && (c && d))) ≡ true → (a ≡ true) × (b ≡ true) × (c ≡ true) × (d ≡ true)
-four true b c d e = (let w = three b c d e in (refl, w.0, w.1, w.2))
-four false b c d e = absurd (cc)
+four a b c d e = (let x = and_parts a (b && (c && d)) e in let w = three b c d x.1 in (x.0, w.0, w.1, w.2))
 
 five : (a b c d f : Bool) → (a && (b && (c && (d && f)))) ≡ true → (a ≡ true) × (b ≡ true) × (c ≡ true) × (d ≡ true) × (f ≡ true)
-five true b c d f e = (let w = four b c d f e in (refl, w.0, w.1, w.2, w.3))
-five false b c d f e = absurd (cc)
+five a b c d f e = (let x = and_parts a (b && (c && (d && f))) e in let w = four b c d f x.1 in (x.0, w.0, w.1, w.2, w.3))
 
 -- ---- each row in turn
 

@@ -10,11 +10,8 @@ use Rattle.rasta_pdu.specs.Params.{Parameters}
 use Rattle.rasta_pdu.specs.Pdu.{SafetyPdu, is_kind}
 use Rattle.rasta_cert.specs.declared.entry.Entry.{Entry}
 use Rattle.rasta_cert.specs.declared.entry.Entry.TheVariants.{Take, Make}
-use Rattle.rasta_end.specs.declared.phase.Phase.{Phase}
 use Rattle.rasta_end.specs.declared.phase.Phase.TheVariants.{Start}
-use Rattle.rasta_end.specs.declared.owed.Owed.{Owed}
 use Rattle.rasta_end.specs.declared.why.Why.{Why}
-use Rattle.rasta_end.specs.declared.make_row.MakeRow.{MakeRow}
 use Rattle.rasta_end.specs.State.{EndState}
 use Rattle.rasta_end.specs.Units.{units_at}
 use Rattle.rasta_end.specs.MakeRule.{Makes, phase_after, after_make_by}
@@ -27,7 +24,7 @@ use Rattle.rasta_check.specs.Script.Following.{Cursor, Advances, takes_next, mak
 use Rattle.rasta_check.specs.Model.Theorem.{units_handed, units_listed}
 use Rattle.rasta_check.proofs.Capture.FaultlessLists.{IsSent}
 use Rattle.rasta_check.proofs.Model.PassedTests.{passed, cs_is}
-use Rattle.rasta_check.proofs.Model.MakeRows.{Making, opening, made_by, after_row}
+use Rattle.rasta_check.proofs.Model.MakeRows.{Making, made_by, after_row, opening_is}
 use Rattle.rasta_check.proofs.Model.Invariant.{Held}
 use Rattle.rasta_check.proofs.Model.ConveyedUnits.{values}
 use Rattle.rasta_check.proofs.Model.ShownUnits.{judged_after}
@@ -118,13 +115,10 @@ module _ (p : Parameters) (s : Side) (e f : EndState) (t u : ℕ) (own : List Fi
       let x = m.c.pdu.safety in
       let b = made_by p m.e x m.clock m.why (passed p m.e x m.clock m.why m.makes.0) in
       let after : e ≡ after_make_by (Some b.row) m.e x m.clock = m.makes.1 ∙ sym (after_row m.e x m.clock m.why b) in
-      let row = opens m.e.side m.e.phase m.why m.e.owed b.row (subst (λ (z : Kind). Making m.e.side m.e.phase m.why z m.e.owed b.row) q b.how) in
+      let row = opening_is m.e.side m.e.phase m.why ConnectionRequest m.e.owed b.row (subst (λ (z : Kind). Making m.e.side m.e.phase m.why z m.e.owed b.row) q b.how) refl in
       let es : e.side ≡ Client = ap (λ (z : EndState). z.side) after ∙ row.0 in
-      let ph : e.phase ≡ Start = ap (λ (z : EndState). z.phase) after ∙ row.1 in
+      let ph : e.phase ≡ Start = ap (λ (z : EndState). z.phase) after ∙ ap (λ r. phase_after r m.e.phase) row.2 in
       absurd (let z = h.opening.starting es ph in omega arith)
-    where
-      opens : (s : Side) (ph : Phase) (y : Why) (os : List Owed) (row : MakeRow) → Making s ph y ConnectionRequest os row → (s ≡ Client) × (phase_after row ph ≡ Start)
-      opens s ph y os row opening = (refl, refl)
   no_opening m _ q l = refl
 
   shows_by : (m : JustMade p own e) → (a : ℕ) → e.accepted ≡ a → length e.handed ≤ units_taken M (pdus_of own)

@@ -1,19 +1,12 @@
 use Rattle.std.proofs.Common.{◌≡◌, ℕ, suc, Bool, true, false, List, refl, sym, ◌∙◌, arith}
-use Rattle.rasta_pcap.specs.declared.fault.Side.{Side}
-use Rattle.rasta_pcap.specs.declared.fault.Side.TheVariants.{Client}
-use Rattle.rasta_pdu.specs.declared.kind.Kind.{Kind}
 use Rattle.rasta_pdu.specs.Pdu.{SafetyPdu, is_kind}
 use Rattle.rasta_pdu.specs.Params.{Parameters}
-use Rattle.rasta_end.specs.declared.phase.Phase.{Phase}
-use Rattle.rasta_end.specs.declared.phase.Phase.TheVariants.{Closed}
 use Rattle.rasta_end.specs.declared.why.Why.{Why}
-use Rattle.rasta_end.specs.declared.owed.Owed.{Owed}
-use Rattle.rasta_end.specs.declared.make_row.MakeRow.{MakeRow}
 use Rattle.rasta_end.specs.State.{Made, EndState}
 use Rattle.rasta_check.specs.Model.World.{station_of, end_of, other_side}
 use Rattle.rasta_check.specs.Model.Laws.{NamesOne, ConfirmsAccepted}
 use Rattle.rasta_check.proofs.Model.PassedTests.{Passed, passed, cs_is}
-use Rattle.rasta_check.proofs.Model.MakeRows.{Making, opening, made_by}
+use Rattle.rasta_check.proofs.Model.MakeRows.{made_by, opening_is}
 use Rattle.rasta_check.proofs.Model.SequenceNumbers.{numbered_once}
 use Rattle.rasta_check.proofs.Model.Invariant.{Held}
 use Rattle.rasta_check.proofs.Model.InvariantAtMake.{nothing_made}
@@ -21,11 +14,6 @@ use Rattle.rasta_check.proofs.Model.InvariantOfRuns.{all_held, few_made}
 use Rattle.rasta_check.proofs.Model.ShownUnits.{judged_after}
 use Rattle.rasta_check.proofs.laws.confirmed.Goals as goal
 use Rattle.rasta_pdu.specs.declared.kind.Kind.TheVariants.{ConnectionRequest}
-
--- a connection request is made by a closed client
-opening_is : (s : Side) (ph : Phase) (why : Why) (k : Kind) (os : List Owed) (row : MakeRow) → Making s ph why k os row → is_kind ConnectionRequest k ≡ true → (s ≡ Client) × (ph ≡ Closed)
-opening_is s ph why k os row opening h = (refl, refl)
-opening_is s ph why k os row _ h = absurd (cc)
 
 -- an end that has accepted something makes no connection request
 not_opening : (p : Parameters) (e : EndState) (x : SafetyPdu) (clock : ℕ) (why : Why) (t i : ℕ) (peer : List Made) → Passed p e x clock why → Held e t peer → e.accepted ≡ suc i

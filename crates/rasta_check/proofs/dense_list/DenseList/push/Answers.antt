@@ -19,4 +19,4 @@ invariant_of-self-2 c =
     let grown = map_push copy_of items _ x all in
     let rest = marks_grown (map copy_of items) _ (copy_of x) c.args.place c.len.result _ _ _ grown ordered c.self.invariant.1
     refl count c.reserve.ensures.same c.mark.ensures in
-    (rest.0, rest.1, few_more copy_of (map copy_of items) _ (copy_of x) grown few)
+    (rest.0, rest.1, few_more _ _ _ _ grown few)

@@ -17,7 +17,7 @@ invariant_of-self-2 c =
     let grown = map_grown old x ordered keys (omega (arith, few)) c.number.result _ c.number.ensures c.in-Ok.ensures.entries in
     let rest = marks_grown (copies_in old.entries) _ (copy_of x) c.args.place c.len-position.result _ _ _ grown ordered c.self.invariant.2
     refl count c.reserve.ensures.same c.mark.ensures in
-    (keys_grown old x ordered keys (omega (arith, few)) c.number.result _ c.number.ensures c.in-Ok.ensures.entries, rest.0, rest.1, few_more (λ (y : ℕ × (ℕ × Pdu)). copy_of y.1) (copies_in old.entries) _ (copy_of x) grown few)
+    (keys_grown old x ordered keys (omega (arith, few)) c.number.result _ c.number.ensures c.in-Ok.ensures.entries, rest.0, rest.1, few_more _ _ _ _ grown few)
 
 pub returns-clause-ok : goal.returns-clause-ok
 returns-clause-ok c =
