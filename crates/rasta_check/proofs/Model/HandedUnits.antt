@@ -5,7 +5,7 @@ use Rattle.std.proofs.lemmas.Bool.Decides.{nat_tests}
 use Rattle.std.proofs.lemmas.List.{take-append-le, take_all, length_push}
 use Rattle.std.proofs.lemmas.Option.{slice_get_within, slice_get-get_or, get_or_from_slice_get}
 use Rattle.rasta_pdu.specs.declared.kind.Kind.{Kind}
-use Rattle.rasta_pdu.specs.declared.kind.Kind.TheVariants.{RetransmissionRequest, RetransmissionResponse, Heartbeat, Data}
+use Rattle.rasta_pdu.specs.declared.kind.Kind.TheVariants.{RetransmissionRequest, RetransmissionResponse, Data}
 use Rattle.rasta_pdu.specs.Params.{Parameters}
 use Rattle.rasta_pdu.specs.Messages.{messages_of}
 use Rattle.rasta_pdu.specs.Pdu.{SafetyPdu, SafetyBody, Opening, Bye, Messages, Empty, messages_in, is_kind}
@@ -127,8 +127,7 @@ handed_make p e f x clock why t pass h w =
 -- The end itself takes.
 
 beat_plain : (k : Kind) → is_heartbeat_or_data k ≡ true → carries_unit k ≡ false → is_plain k ≡ true
-beat_plain Heartbeat h g = refl
-beat_plain _ h g = absurd (cc)
+beat_plain k h g = grind arith
 
 module _ (q : Parameters) (e f : EndState) (t u : ℕ) (m : Made) (p : ℕ) (k : Taken e f t u m p) (w : Handed e f) (vf : Valued f) where
   -- the end accepts position p, through which as many are conveyed as through the last one

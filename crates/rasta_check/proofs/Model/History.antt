@@ -15,7 +15,7 @@ use Rattle.rasta_end.specs.MakeRule.{has_ended}
 use Rattle.rasta_end.specs.TakeRule.{is_valid, is_in, is_ahead, effect_by}
 use Rattle.rasta_end.specs.Starts.{start_of}
 use Rattle.rasta_check.specs.Capture.Crossing.{FirstCopy}
-use Rattle.rasta_check.specs.Model.World.{Station, World, Move, Moves, makes, repeats, arrives, takes, waits, Step, side_moves, station_of, end_of, other_side, Reaches, begins, goes_on, first_world, IsWithin}
+use Rattle.rasta_check.specs.Model.World.{Station, World, Move, Moves, makes, repeats, takes, Step, side_moves, station_of, end_of, other_side, Reaches, begins, goes_on, first_world, IsWithin}
 use Rattle.rasta_check.specs.Model.Theorem.{Appends}
 use Rattle.rasta_check.proofs.Lists.{get_push_cases, all_push, get_front, get_push, slice_get_some}
 use Rattle.rasta_check.proofs.Model.PassedTests.{passed}
@@ -53,15 +53,13 @@ grown_move p b a a' xs ys (makes x why e' ch res chk bs mk sp rec) l =
       kept = λ i v g. subst (λ vs. slice_get vs i ≡ Some v) (sym (values_push a.state.asks a.state.made n)) (get_front (values a.state) _ i v g);
       over = λ h. absurd (let z = ok.open_yet in cc);
     })
-grown_move p b a a' xs ys (repeats place ch old c s rec) l = same_grown a.state
-grown_move p b a a' xs ys (arrives q low i) l = same_grown a.state
 grown_move p b a a' xs ys (takes q m e' c i s t) l =
     subst (λ (e : EndState). Grown a.state e) (sym t.1) (record {
       made = λ i n g. subst (λ (ms : List Made). slice_get ms i ≡ Some n) (sym (take_made p a.state m.pdu)) g;
       kept = λ i v g. subst (λ vs. slice_get vs i ≡ Some v) (sym (values_take p a.state m.pdu l)) g;
       over = λ h. ap (λ (r : Option TakeRow). effect_by p r a.state m.pdu) (closed_row a.state.side a.state.phase m.pdu.kind (is_in a.state m.pdu) (is_ahead p a.state m.pdu) (is_valid a.state m.pdu) (and_parts (is_closed a.state.phase) _ h).0);
     })
-grown_move p b a a' xs ys (waits c i) l = same_grown a.state
+grown_move p b a a' xs ys _ l = same_grown a.state
 
 -- what a step does to an end: it hands nothing up as a packet crosses, and makes at most one PDU
 pub record EndStep (crossing : Type 0) (e e' : EndState) : Type 0 where
@@ -90,8 +88,7 @@ end_moves p b a a' xs ys (takes q m e' c i s t) =
     let e = ap (λ (e : EndState). length e.made) t.1 in
     let f = ap length (take_made p a.state m.pdu) in
     (omega arith, omega arith, record { same = λ h. absurd (omega arith); longer = omega (arith, e, f); most = omega (arith, e, f) })
-end_moves p b a a' xs ys (arrives q low i) = (omega arith, omega arith, stands_still _ a.state)
-end_moves p b a a' xs ys (waits c i) = (omega arith, omega arith, stands_still _ a.state)
+end_moves p b a a' xs ys _ = (omega arith, omega arith, stands_still _ a.state)
 
 pub stepped : (p : Parameters) (v w : World) → Step p v w → Stepped v w
 stepped p v w (side_moves {a = a} {after = ys} Client m) =

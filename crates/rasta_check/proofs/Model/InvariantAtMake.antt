@@ -4,13 +4,13 @@ use Rattle.std.specs.Prelude.{drop}
 use Rattle.std.proofs.lemmas.List.{take-append-le, length_push}
 use Rattle.std.proofs.lemmas.Option.{slice_get_within, slice_get_past}
 use Rattle.rasta_pcap.specs.declared.fault.Side.{Side}
-use Rattle.rasta_pcap.specs.declared.fault.Side.TheVariants.{Client, Server}
+use Rattle.rasta_pcap.specs.declared.fault.Side.TheVariants.{Client}
 use Rattle.rasta_pdu.specs.declared.kind.Kind.{Kind}
 use Rattle.rasta_pdu.specs.declared.kind.Kind.TheVariants.{ConnectionRequest, DisconnectionRequest, RetransmissionRequest, RetransmissionResponse}
 use Rattle.rasta_pdu.specs.Pdu.{SafetyPdu, is_kind}
 use Rattle.rasta_pdu.specs.Params.{Parameters}
 use Rattle.rasta_end.specs.declared.phase.Phase.{Phase}
-use Rattle.rasta_end.specs.declared.phase.Phase.TheVariants.{Closed, Start, Up, RetrReq, RetrRun}
+use Rattle.rasta_end.specs.declared.phase.Phase.TheVariants.{Closed, Start}
 use Rattle.rasta_end.specs.declared.why.Why.{Why}
 use Rattle.rasta_end.specs.declared.make_row.MakeRow.{MakeRow}
 use Rattle.rasta_end.specs.declared.owed.Owed.{Owed}
@@ -39,10 +39,7 @@ pub data Changed (s : Side) (ph : Phase) (k : Kind) (os : List Owed) : Phase →
 -- ---- the rows
 
 pub connected_peer : (s : Side) (ph : Phase) → is_connected ph ≡ true → has_peer s ph ≡ true
-connected_peer s Up e = refl
-connected_peer s RetrReq e = refl
-connected_peer s RetrRun e = refl
-connected_peer s _ e = absurd (cc)
+connected_peer s ph e = grind arith
 
 pub changed : (s : Side) (ph : Phase) (why : Why) (k : Kind) (os : List Owed) (row : MakeRow) → Making s ph why k os row → Changed s ph k os (phase_after row ph) (owed_after row os)
 changed s ph why k os row opening = opened refl refl refl
@@ -60,17 +57,13 @@ changed s ph why k os row (expired r) = over refl
 
 -- an end that closes by a make has ended
 pub over_after : (s : Side) (ph : Phase) (ms : List Made) (m : Made) → ph ≡ Closed → ended s ph (ms ++ m ∷ []) ≡ true
-over_after Server Closed ms m e = refl
-over_after Client Closed [] m e = refl
-over_after Client Closed (x ∷ ms) m e = refl
-over_after s _ ms m e = absurd (cc)
+over_after s ph [] m e = grind arith
+over_after s ph (x ∷ ms) m e = grind arith
 
 -- an end that is Closed and hasn't ended has made nothing
 pub nothing_made : (s : Side) (ph : Phase) (ms : List Made) → ph ≡ Closed → ended s ph ms ≡ false → ms ≡ []
-nothing_made s Closed [] e h = refl
-nothing_made Client Closed (m ∷ ms) e h = absurd (cc)
-nothing_made Server Closed (m ∷ ms) e h = absurd (cc)
-nothing_made s _ ms e h = absurd (cc)
+nothing_made s ph [] e h = refl
+nothing_made s ph (m ∷ ms) e h = absurd (grind arith)
 
 pub SnIs_front : (ms : List Made) (m : Made) (i sn : ℕ) → SnIs ms i sn → SnIs (ms ++ m ∷ []) i sn
 SnIs_front ms m i sn s = record { m = s.m; there = get_front ms (m ∷ []) i s.m s.there; same = s.same }
@@ -116,8 +109,7 @@ peer_make f u ms m h =
 -- ---- the maker
 
 moved : (b : Bool) (n o o' : ℕ) → tally b o' ≡ o → tally b n + o' ≡ n + o
-moved true n o o' t = omega arith
-moved false n o o' t = omega arith
+moved b n o o' t = grind arith
 
 module _ (s : Side) (ph : Phase) (ms : List Made) (m : Made) (a : ℕ) (os : List Owed) (open_yet : ended s ph ms ≡ false) (h : Opening s ph ms a os) where
   make_opening : (ph' : Phase) (os' : List Owed) → Changed s ph m.pdu.kind os ph' os' → Opening s ph' (ms ++ m ∷ []) a os'
@@ -186,9 +178,7 @@ named_connected (opened a s d) h = absurd (let z = ap is_named d in cc)
 named_connected (goes_on on b c d r) h = on
 
 pub named_judged : (e : EndState) (k : Kind) → is_named k ≡ true → is_judged e k ≡ true
-named_judged e ConnectionRequest h = absurd (cc)
-named_judged e DisconnectionRequest h = absurd (cc)
-named_judged e _ h = refl
+named_judged e k h = grind arith
 
 -- a make by a row keeps what holds of the maker
 row_make : (p : Parameters) (e : EndState) (x : SafetyPdu) (clock : ℕ) (why : Why) (row : MakeRow) (t : ℕ) (peer : List Made)

@@ -46,12 +46,7 @@ Met Anything os = Unit {0}
 -- ---- each row in turn
 
 same_is : (q o : Owed) → same_owed q o ≡ true → q ≡ o
-same_is OweConnectionResponse OweConnectionResponse h = refl
-same_is OweFirstHeartbeat OweFirstHeartbeat h = refl
-same_is OweRetransmissionResponse OweRetransmissionResponse h = refl
-same_is (OweResend j) (OweResend k) h = ap OweResend (grind (arith, nat_tests))
-same_is OweRetransmissionRequest OweRetransmissionRequest h = refl
-same_is _ _ h = absurd (cc)
+same_is q o h = grind (arith, nat_tests)
 
 meets : (d : Demand) (os : List Owed) → lacks d os ≡ false → owes_else d os ≡ false → Met d os
 unfolding Met

@@ -10,14 +10,13 @@ use Rattle.std.specs.Str.{bytes_eq}
 use Rattle.rasta_pcap.specs.declared.fault.Side.{Side}
 use Rattle.rasta_pcap.specs.declared.fault.Side.TheVariants.{Client}
 use Rattle.rasta_pdu.specs.declared.kind.Kind.{Kind}
-use Rattle.rasta_pdu.specs.declared.kind.Kind.TheVariants.{RetransmissionResponse, Data, RetransmittedData}
+use Rattle.rasta_pdu.specs.declared.kind.Kind.TheVariants.{RetransmissionResponse, Data}
 use Rattle.rasta_pdu.specs.Params.{Parameters}
 use Rattle.rasta_pdu.specs.Pdu.{SafetyPdu, is_kind}
 use Rattle.rasta_end.specs.declared.phase.Phase.{Phase}
 use Rattle.rasta_end.specs.declared.phase.Phase.TheVariants.{Closed}
 use Rattle.rasta_end.specs.declared.why.Why.{Why}
 use Rattle.rasta_end.specs.declared.make_row.MakeRow.{MakeRow}
-use Rattle.rasta_end.specs.declared.make_row.MakeRow.TheVariants.{Offers}
 use Rattle.rasta_end.specs.declared.owed.Owed.{Owed}
 use Rattle.rasta_end.specs.State.{Made, EndState, is_connected, carries_unit, content_of}
 use Rattle.rasta_end.specs.Units.{units_after, units_at, last_of}
@@ -25,7 +24,7 @@ use Rattle.rasta_end.specs.MakeRule.{has_ended, contents, differs, unit_of, phas
 use Rattle.rasta_check.proofs.Lists.{all_push, get_front, get_front_within, get_push}
 use Rattle.rasta_check.proofs.Model.Counts.{number}
 use Rattle.rasta_check.proofs.Model.PassedTests.{Passed, un_not}
-use Rattle.rasta_check.proofs.Model.MakeRows.{Making, opening, response, first_beat, answer, again, ask, beat, fresh, bye, expired, MadeBy, made_by, after_row, new_made}
+use Rattle.rasta_check.proofs.Model.MakeRows.{Making, opening, answer, again, fresh, bye, expired, MadeBy, made_by, after_row, new_made}
 use Rattle.rasta_check.proofs.Model.Invariant.{Held}
 use Rattle.rasta_check.proofs.Model.InvariantAtMake.{over_after, nothing_made}
 use Rattle.rasta_check.proofs.Model.ConveyedUnits.{values, jump, is_plain, last_push, last_get, values_push, length-values, units_next, after_is, next_plain, next_unit, first_kept}
@@ -33,9 +32,7 @@ use Rattle.rasta_check.proofs.Model.TakeRows.{kind_is}
 use Rattle.rasta_check.proofs.Model.OfferedUnits.{Valued, Conveying, Returning, Carrying, Due, DueRest, rest_due, due_le, bare_rest}
 
 not_plain : (k : Kind) → carries_unit k ≡ true → is_plain k ≡ false
-not_plain Data h = refl
-not_plain RetransmittedData h = refl
-not_plain _ h = absurd (cc)
+not_plain k h = grind arith
 
 -- What a row does: u are the units at the ask that is answered next, v the units conveyed so far, n those offered.
 
@@ -45,15 +42,11 @@ Leads u v n ph k row os = ((phase_after row ph ≡ Closed) × (is_plain k ≡ tr
 
 leads : (s : Side) (ph : Phase) (why : Why) (k : Kind) (os : List Owed) (row : MakeRow) (u v n : ℕ) → (s ≡ Client → ph ≡ Closed → os ≡ []) → Making s ph why k os row → Due u v n os → Leads u v n ph k row os
 leads s ph why k os row u v n free opening d = inr (subst (DueRest v n) (sym (free refl refl)) (bare_rest u v n os (free refl refl) d))
-leads s ph why k os row u v n free response d = inr d
-leads s ph why k os row u v n free first_beat d = inr d
-leads s ph why k os row u v n free (answer r) d = inr d
 leads s ph why k os row u v n free (again r) d = inr d.1
-leads s ph why k os row u v n free (ask r) d = inr d
-leads s ph why k os row u v n free (beat r) d = inr d
 leads s ph why k os row u v n free (fresh r) d = inr (ap suc d)
 leads s ph why k os row u v n free (bye r) d = inl (refl, refl)
 leads s ph why k os row u v n free (expired r) d = inl (refl, refl)
+leads s ph why k os row u v n free _ d = inr d
 
 -- a unit is made by an end that is connected; it is the next one
 unit_made : (s : Side) (ph : Phase) (why : Why) (k : Kind) (os : List Owed) (row : MakeRow) (u v n : ℕ) → Making s ph why k os row → Due u v n os → carries_unit k ≡ true → unit_of row n ≡ Some v
@@ -68,8 +61,7 @@ unit_runs s ph why k os row (fresh r) h = r
 unit_runs s ph why k os row _ h = absurd (cc)
 
 offered_least : (row : MakeRow) (n : ℕ) → n ≤ offered_after row n
-offered_least Offers n = omega arith
-offered_least _ n = omega arith
+offered_least row n = grind arith
 
 last_most : (vs : List ℕ) (n : ℕ) → ((i v : ℕ) → slice_get vs i ≡ Some v → v ≤ n) → last_of vs ≤ n
 last_most [] n h = omega arith

@@ -1,6 +1,5 @@
 -- What the PDUs of an end show: no more units than it has handed up.
-use Rattle.std.proofs.Common.{◌≡◌, ℕ, zero, suc, ◌<◌, ◌≤◌, ◌⊎◌, Bool, true, false, List, [], ◌∷◌, ◌++◌, length, Some, slice_get, refl, ap, sym, ◌∙◌, arith, inl, inr, ⊎_elim, subst}
-use Rattle.std.specs.Prelude.{not, ◌&&◌, ◌==◌}
+use Rattle.std.proofs.Common.{◌≡◌, ℕ, zero, suc, ◌<◌, ◌≤◌, ◌⊎◌, true, false, List, [], ◌∷◌, ◌++◌, length, Some, slice_get, refl, ap, sym, ◌∙◌, arith, inl, inr, ⊎_elim, subst}
 use Rattle.std.proofs.Math.Logic.{⊎_map}
 use Rattle.std.proofs.lemmas.Bool.Decides.{nat_tests}
 use Rattle.std.proofs.lemmas.List.{length_push}
@@ -16,7 +15,7 @@ use Rattle.rasta_end.specs.declared.make_row.MakeRow.{MakeRow}
 use Rattle.rasta_end.specs.declared.take_row.TakeRow.{TakeRow}
 use Rattle.rasta_end.specs.declared.take_row.TakeRow.TheVariants.{Opened, Answered, FirstHeartbeat, InSequence, ResentInSequence, Gap, GapInRetransmission, Disconnected}
 use Rattle.rasta_end.specs.declared.owed.Owed.{Owed}
-use Rattle.rasta_end.specs.State.{Made, EndState, is_client, is_start, is_closed, is_connected, carries_unit}
+use Rattle.rasta_end.specs.State.{Made, EndState, is_closed, is_connected, carries_unit}
 use Rattle.rasta_end.specs.MakeRule.{is_judged, offered_after, after_make, after_make_by}
 use Rattle.rasta_end.specs.TakeRule.{accept, enter, effect, after_take}
 use Rattle.rasta_check.proofs.Lists.{get_push_cases, all_push}
@@ -31,7 +30,7 @@ use Rattle.rasta_check.proofs.Model.ConveyedUnits.{values, values_push, length-v
 use Rattle.rasta_check.proofs.Model.OfferedUnits.{Valued}
 use Rattle.rasta_check.proofs.Model.Requests.{OnceIn}
 use Rattle.rasta_check.proofs.Model.HandedUnits.{Handed, worth_at}
-use Rattle.rasta_pdu.specs.declared.kind.Kind.TheVariants.{ConnectionRequest, DisconnectionRequest}
+use Rattle.rasta_pdu.specs.declared.kind.Kind.TheVariants.{ConnectionRequest}
 
 -- e: the end whose PDUs show units; f: its peer, which offers them
 pub record Shown (e f : EndState) : Type 0 where
@@ -45,17 +44,9 @@ pub record Shown (e f : EndState) : Type 0 where
 
 -- The end makes.
 
-judges : (r d z c : Bool) → r ≡ false → z ≡ false → (not r && not (d && (z && c))) ≡ true
-judges true d z c e g = absurd (cc)
-judges false true true c e g = absurd (cc)
-judges false true false c e g = refl
-judges false false z c e g = refl
-
 -- once something is accepted, every CS is judged but that of a connection request
 pub judged_after : (e : EndState) (k : Kind) (i : ℕ) → e.accepted ≡ suc i → is_kind ConnectionRequest k ≡ false → is_judged e k ≡ true
-judged_after e k i a c =
-    let z : (e.accepted == 0) ≡ false = grind (arith, nat_tests) in
-    judges (is_kind ConnectionRequest k) (is_kind DisconnectionRequest k) (e.accepted == 0) (is_client e.side && is_start e.phase) c z
+judged_after e k i a c = grind (arith, nat_tests)
 
 module _ (p : Parameters) (e f : EndState) (x : SafetyPdu) (clock : ℕ) (why : Why) (t : ℕ) (pass : Passed p e x clock why) (h : Held e t f.made) (fnum : OnceIn f.made) (vf : Valued f) (hd : Handed e f) (w : Shown e f) (b : MadeBy e x why) where
   abbrev new : Made
