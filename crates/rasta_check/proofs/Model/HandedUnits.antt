@@ -126,9 +126,6 @@ handed_make p e f x clock why t pass h w =
 
 -- The end itself takes.
 
-beat_plain : (k : Kind) → is_heartbeat_or_data k ≡ true → carries_unit k ≡ false → is_plain k ≡ true
-beat_plain k h g = grind arith
-
 module _ (q : Parameters) (e f : EndState) (t u : ℕ) (m : Made) (p : ℕ) (k : Taken e f t u m p) (w : Handed e f) (vf : Valued f) where
   -- the end accepts position p, through which as many are conveyed as through the last one
   same_worth : (i : ℕ) → e.accepted ≡ suc i → slice_get (values f) p ≡ slice_get (values f) i → worth (values f) (suc (e.accepted + steps_past_next e m.pdu)) ≡ worth (values f) e.accepted
@@ -215,7 +212,7 @@ module _ (q : Parameters) (e f : EndState) (t u : ℕ) (m : Made) (p : ℕ) (k :
       let s = in_place x.3 a.0 a.1 in
       by_unit (carries_unit m.pdu.kind) (enter Up (accept q e m.pdu))
       (λ c. hands a.0 a.1 s c (ap suc (place q e f t u m p k a.0 a.1)) (λ r. cc (r)))
-      (λ c. keeps (same_worth a.0 a.1 (plain_next a.0 s (beat_plain m.pdu.kind x.1 c))) (λ r n. cc (r)))
+      (λ c. keeps (same_worth a.0 a.1 (plain_next a.0 s (grind (arith, x.1, c)))) (λ r n. cc (r)))
   h_row free ResentInSequence x =
       let a = k.mine.opening.connected (ap (has_peer e.side) x.0) in
       let unit = ap carries_unit x.1 in
@@ -251,9 +248,7 @@ hands_up e f w = record {
 messages_by_content : (body : SafetyBody) → messages_in body ≡ messages_of (content_of body)
 unfolding messages_of
 messages_by_content (Messages payload) = refl
-messages_by_content (Opening version sendmax reserved) = refl
-messages_by_content (Bye detail reason) = refl
-messages_by_content Empty = refl
+messages_by_content _ = refl
 
 -- the i-th PDU handed up carries the messages of the i-th data PDU
 handed_messages : (e f : EndState) → Valued f → Handed e f → (i : ℕ) (x : SafetyPdu) → slice_get e.handed_pdus i ≡ Some x

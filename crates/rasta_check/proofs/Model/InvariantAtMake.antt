@@ -108,9 +108,6 @@ peer_make f u ms m h =
 
 -- ---- the maker
 
-moved : (b : Bool) (n o o' : ℕ) → tally b o' ≡ o → tally b n + o' ≡ n + o
-moved b n o o' t = grind arith
-
 module _ (s : Side) (ph : Phase) (ms : List Made) (m : Made) (a : ℕ) (os : List Owed) (open_yet : ended s ph ms ≡ false) (h : Opening s ph ms a os) where
   make_opening : (ph' : Phase) (os' : List Owed) → Changed s ph m.pdu.kind os ph' os' → Opening s ph' (ms ++ m ∷ []) a os'
   make_opening ph' os' (over d) =
@@ -145,22 +142,12 @@ module _ (s : Side) (ph : Phase) (ms : List Made) (m : Made) (a : ℕ) (os : Lis
           × (ended s ph' (ms ++ m ∷ []) ≡ false → number (is_kind RetransmissionResponse) (ms ++ m ∷ []) + owes is_answer_owed os' ≡ length qs)
           × (number (is_kind RetransmissionRequest) (ms ++ m ∷ []) + owes is_request_owed os' ≤ number (is_kind RetransmissionResponse) (take t peer) + open_bit ph')
       counts (over d) =
-          let answers = number_push_as (is_kind RetransmissionResponse) ms m false (ap (is_kind RetransmissionResponse) d) in
-          let requests = number_push_as (is_kind RetransmissionRequest) ms m false (ap (is_kind RetransmissionRequest) d) in
-          (omega (arith, answers, w.asked), λ v. absurd (let z = over_after s Closed ms m refl in cc), omega (arith, requests, w.open_requests, bit_most ph))
+          (grind (arith, number_push, w.asked, d), λ v. absurd (let z = over_after s Closed ms m refl in cc), grind (arith, number_push, w.open_requests, bit_most ph, d))
       counts (opened b c d) =
-          let answers = number_push_as (is_kind RetransmissionResponse) ms m false (ap (is_kind RetransmissionResponse) d) in
-          let requests = number_push_as (is_kind RetransmissionRequest) ms m false (ap (is_kind RetransmissionRequest) d) in
           let none = nothing_made s ph ms b open_yet in
-          let made = ap (number (is_kind RetransmissionRequest)) none in
           let owed = ap (owes is_request_owed) (h.unmade c none).1 in
-          (omega (arith, answers, w.asked), λ v. omega (arith, answers, w.owing open_yet), omega (arith, requests, made, owed))
-      counts (goes_on on b c d r) =
-          let answers = number_push (is_kind RetransmissionResponse) ms m in
-          let requests = number_push (is_kind RetransmissionRequest) ms m in
-          let same = moved (is_kind RetransmissionResponse m.pdu.kind) (number (is_kind RetransmissionResponse) ms) _ _ b in
-          let kept = moved (is_kind RetransmissionRequest m.pdu.kind) (number (is_kind RetransmissionRequest) ms) _ _ c in
-          (omega (arith, answers, same, w.owing open_yet), λ v. omega (arith, answers, same, w.owing open_yet), omega (arith, requests, kept, w.open_requests))
+          (grind (arith, number_push, w.asked, d), λ v. grind (arith, number_push, w.owing open_yet, d), grind (arith, number_push, none, owed, d))
+      counts (goes_on on b c d r) = (grind (arith, number_push, b, w.owing open_yet), λ v. grind (arith, number_push, b, w.owing open_yet), grind (arith, number_push, c, w.open_requests))
 
   make_opener : (ph' : Phase) (os' : List Owed) → Changed s ph m.pdu.kind os ph' os' → is_opener m.pdu.kind ≡ true → ms ≡ []
   make_opener ph' os' (over d) k = absurd (let z = ap is_opener d in cc)

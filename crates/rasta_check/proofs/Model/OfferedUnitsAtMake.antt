@@ -27,12 +27,9 @@ use Rattle.rasta_check.proofs.Model.PassedTests.{Passed, un_not}
 use Rattle.rasta_check.proofs.Model.MakeRows.{Making, opening, answer, again, fresh, bye, expired, MadeBy, made_by, after_row, new_made}
 use Rattle.rasta_check.proofs.Model.Invariant.{Held}
 use Rattle.rasta_check.proofs.Model.InvariantAtMake.{over_after, nothing_made}
-use Rattle.rasta_check.proofs.Model.ConveyedUnits.{values, jump, is_plain, last_push, last_get, values_push, length-values, units_next, after_is, next_plain, next_unit, first_kept}
+use Rattle.rasta_check.proofs.Model.ConveyedUnits.{values, jump, is_plain, last_push, last_get, values_push, length-values, units_next, after_is, first_kept}
 use Rattle.rasta_check.proofs.Model.TakeRows.{kind_is}
 use Rattle.rasta_check.proofs.Model.OfferedUnits.{Valued, Conveying, Returning, Carrying, Due, DueRest, rest_due, due_le, bare_rest}
-
-not_plain : (k : Kind) → carries_unit k ≡ true → is_plain k ≡ false
-not_plain k h = grind arith
 
 -- What a row does: u are the units at the ask that is answered next, v the units conveyed so far, n those offered.
 
@@ -59,9 +56,6 @@ unit_runs s ph why k os row (answer r) h = r
 unit_runs s ph why k os row (again r) h = r
 unit_runs s ph why k os row (fresh r) h = r
 unit_runs s ph why k os row _ h = absurd (cc)
-
-offered_least : (row : MakeRow) (n : ℕ) → n ≤ offered_after row n
-offered_least row n = grind arith
 
 last_most : (vs : List ℕ) (n : ℕ) → ((i v : ℕ) → slice_get vs i ≡ Some v → v ≤ n) → last_of vs ≤ n
 last_most [] n h = omega arith
@@ -160,12 +154,12 @@ module _ (p : Parameters) (e : EndState) (x : SafetyPdu) (clock : ℕ) (why : Wh
       leads e.side e.phase why x.kind e.owed b.row (jump e) (last_of (values e)) e.offered (λ s c. (h.opening.unmade s (nothing_made e.side e.phase e.made c pass.open_yet)).1) b.how (w.due pass.open_yet)
 
   plain_is : is_plain x.kind ≡ true → value ≡ last_of (values e)
-  plain_is u = value_is ∙ next_plain (jump e) (last_of (values e)) x.kind u
+  plain_is u = grind (arith, value_is)
 
   value_most : value ≤ after.offered
   value_most =
       ⊎_elim
-      (λ (o : (after.phase ≡ Closed) × (is_plain x.kind ≡ true)). omega (arith, plain_is o.1, last_most (values e) e.offered w.positions.bounded, offered_least b.row e.offered))
+      (λ (o : (after.phase ≡ Closed) × (is_plain x.kind ≡ true)). grind (arith, plain_is o.1, last_most (values e) e.offered w.positions.bounded))
       (λ (d : DueRest next after.offered after.owed). omega (arith, value_is, due_le next after.offered after.owed d))
       step
 
@@ -195,13 +189,13 @@ module _ (p : Parameters) (e : EndState) (x : SafetyPdu) (clock : ℕ) (why : Wh
   conveys : Conveying (values e ++ value ∷ []) (e.made ++ new ∷ []) after.offered
   conveys =
       record {
-        bounded = all_push {P = λ i v. v ≤ after.offered} (values e) value (λ i v g. omega (arith, w.positions.bounded i v g, offered_least b.row e.offered)) value_most;
+        bounded = all_push {P = λ i v. v ≤ after.offered} (values e) value (λ i v g. grind (arith, w.positions.bounded i v g)) value_most;
         units = all_push e.made new
             (λ i n g u. (let r = w.positions.units i n g u in (r.0, r.1, r.2, r.3, old r.0 r.1 r.4, old i (suc r.1) r.5)))
             (λ u.
-            let last : length e.made ≡ suc (length e.made - 1) = omega (arith, some_made (not_plain x.kind u)) in
+            let last : length e.made ≡ suc (length e.made - 1) = omega (arith, some_made (grind arith)) in
             let unit = unit_made e.side e.phase why x.kind e.owed b.row (jump e) (last_of (values e)) e.offered b.how (w.due pass.open_yet) u in
-            (length e.made - 1, last_of (values e), last, unit, previous (length e.made - 1) last, at_new ∙ ap Some (value_is ∙ next_unit (jump e) (last_of (values e)) x.kind u)));
+            (length e.made - 1, last_of (values e), last, unit, previous (length e.made - 1) last, at_new ∙ ap Some (grind (arith, value_is))));
         others = all_push e.made new
             (λ i n g u q s. (let l = slice_get_within e.made i n g in both_old i q (w.positions.others i n g u q s) l (omega (arith, l, s))))
             (λ u q s. at_new ∙ (ap Some (plain_is u) ∙ sym (previous q s)));

@@ -31,17 +31,10 @@ OnceIn ms = (i j : ℕ) (m n : Made) → slice_get ms i ≡ Some m → slice_get
 pub named_position : (ms : List Made) (c sn : ℕ) → OnceIn ms → SnIs ms c sn → position_with (pdus_made ms) sn ≡ Some c
 named_position [] c sn once s = absurd (let e = s.there in cc)
 named_position (x ∷ ms) zero sn once s =
-    let e = s.there in
-    let same : x ≡ s.m = cc in
-    let sn_is : x.pdu.sn ≡ sn = ap (λ (m : Made). m.pdu.sn) same ∙ s.same in
-    let test : (x.pdu.sn == sn) ≡ true = grind (arith, nat_tests, sn_is) in
-    ap (λ b. if b then Some 0 else option_map suc (position_with (pdus_made ms) sn)) test
+    grind (arith, nat_tests, s.there, s.same)
 named_position (x ∷ ms) (suc c) sn once s =
-    by (named_position ms c sn (λ i j m n e f g. (let same = once (suc i) (suc j) m n e f g in omega (arith, same))) (record { m = s.m; there = s.there; same = s.same })) (x.pdu.sn == sn) refl
-  where
-    by : position_with (pdus_made ms) sn ≡ Some c → (b : Bool) → (x.pdu.sn == sn) ≡ b → (if b then Some 0 else option_map suc (position_with (pdus_made ms) sn)) ≡ Some (suc c)
-    by later true e = absurd (let here : x.pdu.sn ≡ sn = grind (arith, nat_tests, e) in let z = once 0 (suc c) x s.m refl s.there (here ∙ sym s.same) in omega (arith, z))
-    by later false e = ap (option_map suc) later
+    let later = named_position ms c sn (λ i j m n e f g. (let same = once (suc i) (suc j) m n e f g in omega (arith, same))) (record { m = s.m; there = s.there; same = s.same }) in
+    grind (arith, nat_tests, later, s.same, once 0 (suc c) x s.m refl s.there)
 
 -- the position that a CS confirms has this SN
 next_found : (m : Made) (ms : List Made) (sn : ℕ) → ((c : ℕ) → position_with (pdus_made ms) sn ≡ Some c → SnIs ms c sn)
@@ -88,19 +81,12 @@ found f (x ∷ ms) k l = found_by f x ms (f x.pdu.kind) refl (found f ms) k l
 
 -- ---- what each request confirms
 
-more_of : {A : Type 0} (b : Bool) (x a : A) (xs : List A) (k : ℕ) → slice_get xs k ≡ Some a → slice_get (cond b (x ∷ xs) xs) (tally b k) ≡ Some a
-more_of true x a xs k e = e
-more_of false x a xs k e = e
-
 -- the k-th request, by its position
 pub request_at : (ms : List Made) (p : ℕ) (m : Made) → slice_get ms p ≡ Some m → is_kind RetransmissionRequest m.pdu.kind ≡ true
     → slice_get (requests_of ms) (number (is_kind RetransmissionRequest) (take p ms)) ≡ Some m
 request_at [] p m e r = absurd (cc)
-request_at (x ∷ ms) zero m e r =
-    let same : x ≡ m = cc in
-    let b : is_kind RetransmissionRequest x.pdu.kind ≡ true = ap (λ (n : Made). is_kind RetransmissionRequest n.pdu.kind) same ∙ r in
-    ap (λ c. slice_get (cond c (x ∷ requests_of ms) (requests_of ms)) 0) b ∙ ap Some same
-request_at (x ∷ ms) (suc p) m e r = more_of (is_kind RetransmissionRequest x.pdu.kind) x m (requests_of ms) (number (is_kind RetransmissionRequest) (take p ms)) (request_at ms p m e r)
+request_at (x ∷ ms) zero m e r = grind arith
+request_at (x ∷ ms) (suc p) m e r = grind (arith, request_at ms p m e r)
 
 more_asked : (own : List SafetyPdu) (b : Bool) (x : SafetyPdu) (xs : List SafetyPdu) (k c : ℕ) → (b ≡ true → (d : ℕ) × (position_with own x.cs ≡ Some d))
     → slice_get (filter_map (λ (y : SafetyPdu). position_with own y.cs) xs) k ≡ Some c
