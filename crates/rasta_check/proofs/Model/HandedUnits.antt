@@ -2,7 +2,8 @@
 use Rattle.std.proofs.Common.{◌≡◌, ℕ, zero, suc, ◌+◌, ◌<◌, ◌≤◌, Bool, true, false, List, [], ◌∷◌, ◌++◌, length, Option, Some, None, slice_get, take, refl, ap, sym, ◌∙◌, arith, subst}
 use Rattle.std.specs.Prelude.{slice_index_or, if◌then◌else◌, filter, drop}
 use Rattle.std.proofs.lemmas.Bool.Decides.{nat_tests}
-use Rattle.std.proofs.lemmas.List.{take-append-le, take_all, length_push}
+use Rattle.std.proofs.Math.Seq.{take-append_seam}
+use Rattle.std.proofs.lemmas.List.{take-append-le, length_push}
 use Rattle.std.proofs.lemmas.Option.{slice_get_within, slice_get-get_or, get_or_from_slice_get}
 use Rattle.rasta_pdu.specs.declared.kind.Kind.{Kind}
 use Rattle.rasta_pdu.specs.declared.kind.Kind.TheVariants.{RetransmissionRequest, RetransmissionResponse, Data}
@@ -93,16 +94,18 @@ handed_peer_take e f f' same vals h =
 
 -- The end itself makes.
 
-module _ (p : Parameters) (e f : EndState) (x : SafetyPdu) (clock : ℕ) (why : Why) (t : ℕ) (pass : Passed p e x clock why) (h : Held e t f.made) (w : Handed e f) (b : MadeBy e x why) where
+module _ (p : Parameters) (e f : EndState) (x : SafetyPdu) (clock : ℕ) (why : Why) (t : ℕ) (pass : Passed p e x clock why) (h : Held e t f.made) (w : Handed e f) where
+  by : MadeBy e x why
+  by = made_by p e x clock why pass
+
   abbrev new : Made
-  new = new_made b.row e x
+  new = new_made by.row e x
 
   new_ask : (c : Bool) → is_kind RetransmissionRequest x.kind ≡ c → e.phase ≡ RetrReq
       → tally c (owes is_request_owed (drop 1 e.owed)) ≡ owes is_request_owed e.owed → owes is_request_owed (drop 1 e.owed) ≡ 0 → LastRequest (e.made ++ new ∷ []) e.last_sn
   new_ask true c ph d none =
-      let all : take (length e.made) (e.made ++ new ∷ []) ≡ e.made = take-append-le (length e.made) e.made (new ∷ []) (omega arith) ∙ take_all (length e.made) e.made (omega arith) in
       let num = number_push_as (is_kind RetransmissionRequest) e.made new true c in
-      let here = ap (number (is_kind RetransmissionRequest)) all in
+      let here = ap (number (is_kind RetransmissionRequest)) (take-append_seam e.made (new ∷ [])) in
       (length e.made, new, get_push e.made new, c, (cs_is e x.kind x.cs (named_judged e x.kind (ap is_named (kind_is RetransmissionRequest x.kind c))) pass.cs).1, omega (arith, num, here))
   new_ask false c ph d none =
       let r = w.awaited ph (sym d ∙ none) in
@@ -116,13 +119,12 @@ module _ (p : Parameters) (e f : EndState) (x : SafetyPdu) (clock : ℕ) (why : 
   await_by (opened a s c) ph none = absurd (cc)
   await_by (goes_on a c d g j) ph none = new_ask (is_kind RetransmissionRequest x.kind) refl ph d none
 
-  handed_row : Handed (after_make_by (Some b.row) e x clock) f
-  handed_row = record { count = w.count; labels = w.labels; as_many = w.as_many; awaited = await_by (changed e.side e.phase why x.kind e.owed b.row b.how) }
-
-pub handed_make : (p : Parameters) (e f : EndState) (x : SafetyPdu) (clock : ℕ) (why : Why) (t : ℕ) → Passed p e x clock why → Held e t f.made → Handed e f → Handed (after_make e x clock why) f
-handed_make p e f x clock why t pass h w =
-    let b = made_by p e x clock why pass in
-    subst (λ (e' : EndState). Handed e' f) (after_row e x clock why b) (handed_row p e f x clock why t pass h w b)
+  pub handed_make : Handed (after_make e x clock why) f
+  handed_make =
+      subst
+      (λ (e' : EndState). Handed e' f)
+      (after_row e x clock why by)
+      (record { count = w.count; labels = w.labels; as_many = w.as_many; awaited = await_by (changed e.side e.phase why x.kind e.owed by.row by.how) })
 
 -- The end itself takes.
 
@@ -168,9 +170,10 @@ module _ (q : Parameters) (e f : EndState) (t u : ℕ) (m : Made) (p : ℕ) (k :
       let pl : e.accepted + steps_past_next e m.pdu ≡ p = place q e f t u m p k i a in
       omega (arith, pl, d, a)
 
-  plain_next : (i : ℕ) → p ≡ suc i → is_plain m.pdu.kind ≡ true → slice_get (values f) p ≡ slice_get (values f) i
-  plain_next i s c =
-      vf.positions.others p m k.there c i s
+  -- a plain PDU in sequence hands nothing up
+  plain : {sn : ℕ} {ph : Phase} {os : List Owed} → has_peer e.side e.phase ≡ true → is_in e m.pdu ≡ true → is_plain m.pdu.kind ≡ true → (ph ≡ RetrReq → owes is_request_owed os ≡ 0 → ⊥)
+      → HandsOver e.handed e.handed_pdus (suc (e.accepted + steps_past_next e m.pdu)) sn ph os e.made f.made (values f)
+  plain peer b c never = let a = k.mine.opening.connected peer in keeps (same_worth a.0 a.1 (vf.positions.others p m k.there c a.0 (in_place b a.0 a.1))) never
 
   -- the retransmission response goes back to the last accepted position
   resumed : e.phase ≡ RetrReq → e.owed ≡ [] → m.pdu.kind ≡ RetransmissionResponse → (i : ℕ) → e.accepted ≡ suc i → slice_get (values f) p ≡ slice_get (values f) i
@@ -204,30 +207,24 @@ module _ (q : Parameters) (e f : EndState) (t u : ℕ) (m : Made) (p : ℕ) (k :
   h_row : e.owed ≡ [] → (r : TakeRow) → Knows q r e m.pdu → Handed (effect q r e m.pdu) f
   h_row free Opened x = first_by (λ r. cc (r)) (k.mine.opening.down x.0).2
   h_row free Answered x = first_by (λ r. cc (r)) (k.mine.opening.starting x.0 x.1)
-  h_row free FirstHeartbeat x =
-      let a = k.mine.opening.connected (starting_peer x.0 x.1) in
-      keeps (same_worth a.0 a.1 (plain_next a.0 (in_place x.4 a.0 a.1) (ap is_plain x.2))) (λ r n. cc (r))
+  h_row free FirstHeartbeat x = plain (starting_peer x.0 x.1) x.4 (ap is_plain x.2) (λ r n. cc (r))
   h_row free InSequence x =
-      let a = k.mine.opening.connected (flowing_peer e.side e.phase x.0) in
-      let s = in_place x.3 a.0 a.1 in
+      let peer = flowing_peer e.side e.phase x.0 in
+      let a = k.mine.opening.connected peer in
       by_unit (carries_unit m.pdu.kind) (enter Up (accept q e m.pdu))
-      (λ c. hands a.0 a.1 s c (ap suc (place q e f t u m p k a.0 a.1)) (λ r. cc (r)))
-      (λ c. keeps (same_worth a.0 a.1 (plain_next a.0 s (grind (arith, x.1, c)))) (λ r n. cc (r)))
+      (λ c. hands a.0 a.1 (in_place x.3 a.0 a.1) c (ap suc (place q e f t u m p k a.0 a.1)) (λ r. cc (r)))
+      (λ c. plain peer x.3 (grind (arith, x.1, c)) (λ r n. cc (r)))
   h_row free ResentInSequence x =
       let a = k.mine.opening.connected (ap (has_peer e.side) x.0) in
       let unit = ap carries_unit x.1 in
       by_unit (carries_unit m.pdu.kind) (accept q e m.pdu) (λ c. hands a.0 a.1 (in_place x.3 a.0 a.1) c (ap suc (place q e f t u m p k a.0 a.1)) (λ r. cc (x.0, r))) (λ c. absurd (cc))
-  h_row free Gap x = keeps refl (λ r n. cc (n))
-  h_row free GapInRetransmission x = keeps refl (λ r n. cc (n))
   h_row free Resumed x =
       let a = k.mine.opening.connected (ap (has_peer e.side) x.0) in
       keeps (same_worth a.0 a.1 (resumed x.0 free x.1 a.0 a.1)) (λ r n. cc (r))
-  h_row free Requested x =
-      let a = k.mine.opening.connected (flowing_peer e.side e.phase x.0) in
-      keeps (same_worth a.0 a.1 (plain_next a.0 (in_place x.3 a.0 a.1) (ap is_plain x.1))) (λ r n. (let z = ap is_flowing r in cc))
+  h_row free Requested x = plain (flowing_peer e.side e.phase x.0) x.3 (ap is_plain x.1) (λ r n. (let z = ap is_flowing r in cc))
   h_row free RequestedAhead x = keeps refl (λ r n. (let a = owes-append is_request_owed (burst e (position_confirmed e m.pdu)) (OweRetransmissionRequest ∷ []) in omega arith))
   h_row free RequestedAgain x = record { count = w.count; labels = w.labels; as_many = w.as_many; awaited = λ r n. w.awaited x.0 (ap (owes is_request_owed) free) }
-  h_row free Disconnected x = keeps refl (λ r n. cc (r))
+  h_row free _ x = keeps refl (λ r n. cc)
 
 pub handed_take : (q : Parameters) (e f : EndState) (t u : ℕ) (m : Made) (p : ℕ) (k : Taken e f t u m p) (w : Handed e f) → Valued f → (is_closed e.phase ≡ false → e.owed ≡ []) → Handed (after_take q e m.pdu) f
 handed_take q e f t u m p k w vf free = take_by q e m.pdu (λ e'. Handed e' f) w (λ r away x. h_row q e f t u m p k w vf (free away) r x)

@@ -167,13 +167,14 @@ named_connected (goes_on on b c d r) h = on
 pub named_judged : (e : EndState) (k : Kind) → is_named k ≡ true → is_judged e k ≡ true
 named_judged e k h = grind arith
 
--- a make by a row keeps what holds of the maker
-row_make : (p : Parameters) (e : EndState) (x : SafetyPdu) (clock : ℕ) (why : Why) (row : MakeRow) (t : ℕ) (peer : List Made)
-    → Passed p e x clock why → Making e.side e.phase why x.kind e.owed row → Held e t peer → Held (after_make_by (Some row) e x clock) t peer
-row_make p e x clock why row t peer pass making h =
-    let n : Made = new_made row e x in
-    let how : Changed e.side e.phase x.kind e.owed (phase_after row e.phase) (owed_after row e.owed) = changed e.side e.phase why x.kind e.owed row making in
-    record {
+-- a make keeps what holds of the maker
+pub own_make : (p : Parameters) (e : EndState) (x : SafetyPdu) (clock : ℕ) (why : Why) (t : ℕ) (peer : List Made)
+    → Passed p e x clock why → Held e t peer → Held (after_make e x clock why) t peer
+own_make p e x clock why t peer pass h =
+    let by = made_by p e x clock why pass in
+    let n : Made = new_made by.row e x in
+    let how = changed e.side e.phase why x.kind e.owed by.row by.how in
+    subst (λ (e' : EndState). Held e' t peer) (after_row e x clock why by) (record {
       list = record {
         numbered = numbered_push e.made n h.list.numbered (un_not _ pass.sn);
         openers = all_push e.made n h.list.openers (λ k. ap length (make_opener e.side e.phase e.made n e.accepted e.owed pass.open_yet h.opening _ _ how k));
@@ -191,11 +192,4 @@ row_make p e x clock why row t peer pass making h =
             (a.0, omega (arith, a.1), record { m = l.m; there = l.there; same = l.same ∙ sym (cs_is e x.kind x.cs (named_judged e x.kind k) pass.cs).1 }));
       };
       confirmed = (let len = length_push e.made n in omega (arith, h.confirmed, len));
-    }
-
--- a make keeps what holds of the maker
-pub own_make : (p : Parameters) (e : EndState) (x : SafetyPdu) (clock : ℕ) (why : Why) (t : ℕ) (peer : List Made)
-    → Passed p e x clock why → Held e t peer → Held (after_make e x clock why) t peer
-own_make p e x clock why t peer pass h =
-    let by = made_by p e x clock why pass in
-    subst (λ (e' : EndState). Held e' t peer) (after_row e x clock why by) (row_make p e x clock why by.row t peer pass by.how h)
+    })

@@ -1,7 +1,8 @@
 -- A make keeps what holds of the units offered.
 use Rattle.std.proofs.Common.{◌≡◌, ℕ, suc, ◌-◌, ◌<◌, ◌≤◌, ◌⊎◌, true, false, List, [], ◌∷◌, ◌++◌, length, Option, Some, None, slice_get, take, refl, ap, sym, ◌∙◌, arith, inl, inr, ⊎_elim, subst}
 use Rattle.std.specs.Prelude.{slice_index_or, map, filter}
-use Rattle.std.proofs.lemmas.List.{take-append-le, append-nil, take_all, length_push, map-append}
+use Rattle.std.proofs.Math.Seq.{take-append_seam}
+use Rattle.std.proofs.lemmas.List.{take-append-le, append-nil, length_push, map-append}
 use Rattle.std.proofs.lemmas.List.Elements.{filter-append}
 use Rattle.std.proofs.lemmas.Option.{slice_get_within, slice_get-get_or}
 use Rattle.std.proofs.lemmas.Slice.Eq.{bytes_eq-Decides}
@@ -57,6 +58,9 @@ unit_runs s ph why k os row (again r) h = r
 unit_runs s ph why k os row (fresh r) h = r
 unit_runs s ph why k os row _ h = absurd (cc)
 
+offered_least : (row : MakeRow) (n : ℕ) → n ≤ offered_after row n
+offered_least row n = grind arith
+
 last_most : (vs : List ℕ) (n : ℕ) → ((i v : ℕ) → slice_get vs i ≡ Some v → v ≤ n) → last_of vs ≤ n
 last_most [] n h = omega arith
 last_most (v ∷ vs) n h = h (length vs) (last_of (v ∷ vs)) (last_get (v ∷ vs) (length vs) refl)
@@ -88,7 +92,7 @@ module _ (ms : List Made) (m : Made) (n : ℕ) (w : Carrying ms n) where
   front i l = take-append-le i ms (m ∷ []) l
 
   whole : take (length ms) (ms ++ m ∷ []) ≡ ms
-  whole = front (length ms) (omega arith) ∙ take_all (length ms) ms (omega arith)
+  whole = take-append_seam ms (m ∷ [])
 
   old_fresh : (i : ℕ) (y : Made) → slice_get ms i ≡ Some y → is_kind Data y.pdu.kind ≡ true → y.unit ≡ Some (length (contents (take i (ms ++ m ∷ []))))
   old_fresh i y g d = (let l = slice_get_within ms i y g in w.fresh i y g d ∙ ap (λ (l : List Made). Some (length (contents l))) (sym (front i (omega (arith, l)))))
@@ -123,7 +127,10 @@ module _ (ms : List Made) (m : Made) (n : ℕ) (w : Carrying ms n) where
             (ap carries_unit d, ap (λ (cs : List (List ℕ)). slice_get cs k) more ∙ subst (λ j. slice_get (contents ms ++ content_of m.pdu.body ∷ []) j ≡ Some (content_of m.pdu.body)) at (get_push (contents ms) (content_of m.pdu.body))));
       }
 
-module _ (p : Parameters) (e : EndState) (x : SafetyPdu) (clock : ℕ) (why : Why) (t : ℕ) (peer : List Made) (pass : Passed p e x clock why) (h : Held e t peer) (w : Valued e) (b : MadeBy e x why) where
+module _ (p : Parameters) (e : EndState) (x : SafetyPdu) (clock : ℕ) (why : Why) (t : ℕ) (peer : List Made) (pass : Passed p e x clock why) (h : Held e t peer) (w : Valued e) where
+  b : MadeBy e x why
+  b = made_by p e x clock why pass
+
   abbrev after : EndState
   after = after_make_by (Some b.row) e x clock
 
@@ -159,7 +166,7 @@ module _ (p : Parameters) (e : EndState) (x : SafetyPdu) (clock : ℕ) (why : Wh
   value_most : value ≤ after.offered
   value_most =
       ⊎_elim
-      (λ (o : (after.phase ≡ Closed) × (is_plain x.kind ≡ true)). grind (arith, plain_is o.1, last_most (values e) e.offered w.positions.bounded))
+      (λ (o : (after.phase ≡ Closed) × (is_plain x.kind ≡ true)). omega (arith, plain_is o.1, last_most (values e) e.offered w.positions.bounded, offered_least b.row e.offered))
       (λ (d : DueRest next after.offered after.owed). omega (arith, value_is, due_le next after.offered after.owed d))
       step
 
@@ -189,7 +196,7 @@ module _ (p : Parameters) (e : EndState) (x : SafetyPdu) (clock : ℕ) (why : Wh
   conveys : Conveying (values e ++ value ∷ []) (e.made ++ new ∷ []) after.offered
   conveys =
       record {
-        bounded = all_push {P = λ i v. v ≤ after.offered} (values e) value (λ i v g. grind (arith, w.positions.bounded i v g)) value_most;
+        bounded = all_push {P = λ i v. v ≤ after.offered} (values e) value (λ i v g. omega (arith, w.positions.bounded i v g, offered_least b.row e.offered)) value_most;
         units = all_push e.made new
             (λ i n g u. (let r = w.positions.units i n g u in (r.0, r.1, r.2, r.3, old r.0 r.1 r.4, old i (suc r.1) r.5)))
             (λ u.
@@ -218,19 +225,13 @@ module _ (p : Parameters) (e : EndState) (x : SafetyPdu) (clock : ℕ) (why : Wh
         asks_within = λ i c g. (let l = w.returns.asks_within i c g in omega (arith, l, length_push e.made new));
       }
 
-  valued_after : Valued after
-  valued_after =
-      record {
+  pub valued_make : Valued (after_make e x clock why)
+  valued_make =
+      subst Valued (after_row e x clock why b) (record {
         due = due_after;
         grown = λ _. omega (arith, length_push e.made new);
         positions = subst (λ vs. Conveying vs after.made after.offered) (sym pushed) conveys;
         returns = subst (λ vs. Returning vs after.made e.asks) (sym pushed) returns;
         contents = carries e.made new e.offered w.contents after.offered
             (adds e.side e.phase why x.kind e.owed b.row e.made e.offered (content_of x.body) b.how (subst (λ (row : Option MakeRow). differs e.made row (content_of x.body) ≡ false) b.is pass.same));
-      }
-
-pub valued_make : (p : Parameters) (e : EndState) (x : SafetyPdu) (clock : ℕ) (why : Why) (t : ℕ) (peer : List Made)
-    → Passed p e x clock why → Held e t peer → Valued e → Valued (after_make e x clock why)
-valued_make p e x clock why t peer pass h w =
-    let b = made_by p e x clock why pass in
-    subst Valued (after_row e x clock why b) (valued_after p e x clock why t peer pass h w b)
+      })

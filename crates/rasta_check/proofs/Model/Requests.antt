@@ -88,14 +88,6 @@ request_at [] p m e r = absurd (cc)
 request_at (x ∷ ms) zero m e r = grind arith
 request_at (x ∷ ms) (suc p) m e r = grind (arith, request_at ms p m e r)
 
-more_asked : (own : List SafetyPdu) (b : Bool) (x : SafetyPdu) (xs : List SafetyPdu) (k c : ℕ) → (b ≡ true → (d : ℕ) × (position_with own x.cs ≡ Some d))
-    → slice_get (filter_map (λ (y : SafetyPdu). position_with own y.cs) xs) k ≡ Some c
-    → slice_get (filter_map (λ (y : SafetyPdu). position_with own y.cs) (cond b (x ∷ xs) xs)) (tally b k) ≡ Some c
-more_asked own true x xs k c h e =
-    let d = h refl in
-    subst (λ o. slice_get (cons_option o (filter_map (λ (y : SafetyPdu). position_with own y.cs) xs)) (suc k) ≡ Some c) (sym d.1) e
-more_asked own false x xs k c h e = e
-
 -- each request confirms a position
 abbrev pub AllNamed : List SafetyPdu → List Made → Type 0
 AllNamed own ms = (p : ℕ) (m : Made) → slice_get ms p ≡ Some m → is_kind RetransmissionRequest m.pdu.kind ≡ true → (d : ℕ) × (position_with own m.pdu.cs ≡ Some d)
@@ -104,16 +96,8 @@ AllNamed own ms = (p : ℕ) (m : Made) → slice_get ms p ≡ Some m → is_kind
 pub asked_at : (own : List SafetyPdu) (ms : List Made) → AllNamed own ms → (p : ℕ) (m : Made) (c : ℕ) → slice_get ms p ≡ Some m → is_kind RetransmissionRequest m.pdu.kind ≡ true
     → position_with own m.pdu.cs ≡ Some c → slice_get (asked_positions own (pdus_made ms)) (number (is_kind RetransmissionRequest) (take p ms)) ≡ Some c
 asked_at own [] all p m c e r h = absurd (cc)
-asked_at own (x ∷ ms) all zero m c e r h =
-    let same : x ≡ m = cc in
-    let b : is_kind RetransmissionRequest x.pdu.kind ≡ true = ap (λ (n : Made). is_kind RetransmissionRequest n.pdu.kind) same ∙ r in
-    let at : position_with own x.pdu.cs ≡ Some c = ap (λ (n : Made). position_with own n.pdu.cs) same ∙ h in
-    let rest = filter (λ (y : SafetyPdu). is_kind RetransmissionRequest y.kind) (pdus_made ms) in
-    ap (λ d. slice_get (filter_map (λ (y : SafetyPdu). position_with own y.cs) (cond d (x.pdu ∷ rest) rest)) 0) b
-    ∙ ap (λ o. slice_get (cons_option o (filter_map (λ (y : SafetyPdu). position_with own y.cs) rest)) 0) at
-asked_at own (x ∷ ms) all (suc p) m c e r h =
-    more_asked own (is_kind RetransmissionRequest x.pdu.kind) x.pdu (filter (λ (y : SafetyPdu). is_kind RetransmissionRequest y.kind) (pdus_made ms)) (number (is_kind RetransmissionRequest) (take p ms)) c
-    (all 0 x refl) (asked_at own ms (λ q n g. all (suc q) n g) p m c e r h)
+asked_at own (x ∷ ms) all zero m c e r h = grind (arith, e, r, h)
+asked_at own (x ∷ ms) all (suc p) m c e r h = grind (arith, all 0 x refl, asked_at own ms (λ q n g. all (suc q) n g) p m c e r h)
 
 -- ---- asks and answers
 

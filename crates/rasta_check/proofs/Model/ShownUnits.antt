@@ -48,7 +48,10 @@ pub record Shown (e f : EndState) : Type 0 where
 pub judged_after : (e : EndState) (k : Kind) (i : ℕ) → e.accepted ≡ suc i → is_kind ConnectionRequest k ≡ false → is_judged e k ≡ true
 judged_after e k i a c = grind (arith, nat_tests)
 
-module _ (p : Parameters) (e f : EndState) (x : SafetyPdu) (clock : ℕ) (why : Why) (t : ℕ) (pass : Passed p e x clock why) (h : Held e t f.made) (fnum : OnceIn f.made) (vf : Valued f) (hd : Handed e f) (w : Shown e f) (b : MadeBy e x why) where
+module _ (p : Parameters) (e f : EndState) (x : SafetyPdu) (clock : ℕ) (why : Why) (t : ℕ) (pass : Passed p e x clock why) (h : Held e t f.made) (fnum : OnceIn f.made) (vf : Valued f) (hd : Handed e f) (w : Shown e f) where
+  b : MadeBy e x why
+  b = made_by p e x clock why pass
+
   abbrev new : Made
   new = new_made b.row e x
 
@@ -83,20 +86,15 @@ module _ (p : Parameters) (e f : EndState) (x : SafetyPdu) (clock : ℕ) (why : 
       absurd (let y = nothing_made e.side e.phase e.made a pass.open_yet in let u' : slice_get [] i ≡ Some m = subst (λ (ms : List Made). slice_get ms i ≡ Some m) y u in cc)
   old_first (goes_on a c d g j) z cl i m u = w.first_words z cl i m u
 
-  shown_row : Shown (after_make_by (Some b.row) e x clock) f
-  shown_row =
-      record {
+  pub shown_make : Shown (after_make e x clock why) f
+  shown_make =
+      subst (λ (e' : EndState). Shown e' f) (after_row e x clock why b) (record {
         shown = all_push e.made new w.shown (λ k j v s u. new_shown e.accepted refl k j v s u);
         judged = all_push e.made new w.judged (new_judged e.accepted refl);
         first_words = λ a c. all_push e.made new (old_first (changed e.side e.phase why x.kind e.owed b.row b.how) a c) (new_first (changed e.side e.phase why x.kind e.owed b.row b.how) a c);
         ready_run = w.ready_run;
         ready_offer = w.ready_offer;
-      }
-
-pub shown_make : (p : Parameters) (e f : EndState) (x : SafetyPdu) (clock : ℕ) (why : Why) (t : ℕ) → Passed p e x clock why → Held e t f.made → OnceIn f.made → Valued f → Handed e f → Shown e f → Shown (after_make e x clock why) f
-shown_make p e f x clock why t pass h fnum vf hd w =
-    let b = made_by p e x clock why pass in
-    subst (λ (e' : EndState). Shown e' f) (after_row e x clock why b) (shown_row p e f x clock why t pass h fnum vf hd w b)
+      })
 
 -- The peer makes.
 
