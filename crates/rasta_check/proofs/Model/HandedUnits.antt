@@ -87,10 +87,7 @@ handed_peer_make e f x clock why l h = peer_row e f x clock (row_of f x why) l h
 
 pub handed_peer_take : (e f f' : EndState) → f'.made ≡ f.made → values f' ≡ values f → Handed e f → Handed e f'
 handed_peer_take e f f' same vals h =
-    subst
-    (λ (ms : List Made). HandsOver e.handed e.handed_pdus e.accepted e.last_sn e.phase e.owed e.made ms (values f'))
-    (sym same)
-    (subst (λ vs. HandsOver e.handed e.handed_pdus e.accepted e.last_sn e.phase e.owed e.made f.made vs) (sym vals) h)
+    record { count = h.count ∙ ap (λ vs. worth vs e.accepted) (sym vals); labels = subst (AreUnits e.handed e.handed_pdus) (sym same) h.labels; as_many = h.as_many; awaited = h.awaited }
 
 -- The end itself makes.
 
@@ -183,9 +180,8 @@ module _ (q : Parameters) (e f : EndState) (t u : ℕ) (m : Made) (p : ℕ) (k :
       let low = number_take_more (is_kind RetransmissionResponse) f.made t p k.above in
       let next = number_take_at (is_kind RetransmissionResponse) f.made p m k.there is_a in
       let all = number_take_all (is_kind RetransmissionResponse) f.made (suc p) in
-      let req : number (is_kind RetransmissionRequest) e.made ≤ number (is_kind RetransmissionResponse) (take t f.made) + 1 = omega (arith, k.mine.asks.open_requests, ap open_bit ph) in
       let most = number_take_all (is_kind RetransmissionRequest) e.made u in
-      let idx : number (is_kind RetransmissionResponse) (take p f.made) ≡ number (is_kind RetransmissionRequest) (take aw.0 e.made) = omega (arith, low, next, all, req, most, aw.5, k.theirs.asks.asked, k.theirs.asks.asks_taken) in
+      let idx : number (is_kind RetransmissionResponse) (take p f.made) ≡ number (is_kind RetransmissionRequest) (take aw.0 e.made) = omega (arith, low, next, all, k.mine.asks.open_requests, ap open_bit ph, most, aw.5, k.theirs.asks.asked, k.theirs.asks.asks_taken) in
       let inside : number (is_kind RetransmissionResponse) (take p f.made) < length f.asks = omega (arith, next, all, k.theirs.asks.asked) in
       let c : slice_get f.asks (number (is_kind RetransmissionResponse) (take p f.made)) ≡ Some (slice_index_or f.asks (number (is_kind RetransmissionResponse) (take p f.made)) 0) = slice_get-get_or f.asks _ 0 inside in
       let j = vf.returns.jumps p m k.there is_a _ c in
@@ -231,13 +227,9 @@ handed_take q e f t u m p k w vf free = take_by q e m.pdu (λ e'. Handed e' f) w
 
 -- What it handed up, unit by unit.
 
-worth_before : (f : EndState) (a : ℕ) → worth (values f) a ≡ conveyed_before f a
-worth_before f zero = refl
-worth_before f (suc i) = refl
-
 pub hands_up : (e f : EndState) → Handed e f → HandsUp e f
 hands_up e f w = record {
-  count = w.count ∙ worth_before f e.accepted;
+  count = grind (arith, w.count);
   same_count = w.as_many;
   units = λ i pos g. (let r = w.labels i pos g in (r.0, r.1, r.3, r.4));
 }

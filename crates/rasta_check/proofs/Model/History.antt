@@ -97,10 +97,8 @@ stepped p v w (side_moves {a = a} {after = ys} Server m) =
     (let o = end_moves p v.client v.server a v.crossed ys m in record { less = o.0; more = o.1; ends = sided _ (stands_still _ v.client.state) o.2 })
 
 grown_step : (p : Parameters) (v w : World) → Step p v w → All v.client v.server → (side : Side) → Grown (end_of v side) (end_of w side)
-grown_step p v w (side_moves {a = a} {after = ys} Client m) g Client = grown_move p v.server v.client a v.crossed ys m g.mine.held.asks.asked
-grown_step p v w (side_moves {a = a} {after = ys} Client m) g Server = same_grown v.server.state
-grown_step p v w (side_moves {a = a} {after = ys} Server m) g Client = same_grown v.client.state
-grown_step p v w (side_moves {a = a} {after = ys} Server m) g Server = grown_move p v.client v.server a v.crossed ys m g.theirs.held.asks.asked
+grown_step p v w (side_moves {a = a} {after = ys} Client m) g = sided _ (grown_move p v.server v.client a v.crossed ys m g.mine.held.asks.asked) (same_grown v.server.state)
+grown_step p v w (side_moves {a = a} {after = ys} Server m) g = sided _ (same_grown v.client.state) (grown_move p v.client v.server a v.crossed ys m g.theirs.held.asks.asked)
 
 -- of the copies of a list, these are those that had crossed
 pub record HadCrossed (packets : ℕ) (list copies : List FirstCopy) : Type 0 where

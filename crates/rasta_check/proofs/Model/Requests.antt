@@ -19,7 +19,7 @@ use Rattle.rasta_check.proofs.Model.NamedPositions.{SnIs}
 use Rattle.rasta_check.proofs.Model.Invariant.{Held, is_named}
 use Rattle.rasta_check.proofs.Model.ConveyedUnits.{answers_number}
 use Rattle.rasta_check.proofs.Model.OfferedUnits.{Valued}
-use Rattle.rasta_check.proofs.Lists.{begins_with, get_next}
+use Rattle.rasta_check.proofs.Lists.{begins_with, get_next, mapped_some}
 
 -- ---- the position that a CS confirms
 
@@ -37,14 +37,6 @@ named_position (x ∷ ms) (suc c) sn once s =
     grind (arith, nat_tests, later, s.same, once 0 (suc c) x s.m refl s.there)
 
 -- the position that a CS confirms has this SN
-next_found : (m : Made) (ms : List Made) (sn : ℕ) → ((c : ℕ) → position_with (pdus_made ms) sn ≡ Some c → SnIs ms c sn)
-    → (o : Option ℕ) → position_with (pdus_made ms) sn ≡ o → (c : ℕ) → option_map suc o ≡ Some c → SnIs (m ∷ ms) c sn
-next_found m ms sn rest None is c g = absurd (cc)
-next_found m ms sn rest (Some d) is c g =
-    let s = rest d is in
-    let next : suc d ≡ c = cc in
-    subst (λ i. SnIs (m ∷ ms) i sn) next (record { m = s.m; there = s.there; same = s.same })
-
 pub found_position : (ms : List Made) (sn c : ℕ) → position_with (pdus_made ms) sn ≡ Some c → SnIs ms c sn
 found_position [] sn c g = absurd (cc)
 found_position (m ∷ ms) sn c g = by (m.pdu.sn == sn) refl g (found_position ms sn)
@@ -54,7 +46,10 @@ found_position (m ∷ ms) sn c g = by (m.pdu.sn == sn) refl g (found_position ms
     by true e h rest =
         let first : 0 ≡ c = cc in
         subst (λ i. SnIs (m ∷ ms) i sn) first (record { m = m; there = refl; same = grind (arith, nat_tests) })
-    by false e h rest = next_found m ms sn rest (position_with (pdus_made ms) sn) refl c h
+    by false e h rest =
+        let d = mapped_some suc (position_with (pdus_made ms) sn) c h in
+        let s = rest d.0 d.1 in
+        subst (λ i. SnIs (m ∷ ms) i sn) d.2 (record { m = s.m; there = s.there; same = s.same })
 
 -- ---- the k-th of a kind
 
