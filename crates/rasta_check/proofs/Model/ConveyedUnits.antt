@@ -71,6 +71,3 @@ units_next u v _ = v
 
 pub after_is : (asks vs : List ℕ) (a : ℕ) (k : Kind) → (is_plain k ≡ false → 0 < length vs) → units_after asks vs a k ≡ units_next (units_at vs (slice_get asks a)) (last_of vs) k
 after_is asks vs a k l = grind arith
-
-pub first_kept : (asks vs : List ℕ) (a : ℕ) (k : Kind) → slice_index_or vs 0 0 ≡ 0 → slice_index_or (vs ++ units_after asks vs a k ∷ []) 0 0 ≡ 0
-first_kept asks vs a k h = grind arith

@@ -30,7 +30,7 @@ use Rattle.rasta_check.proofs.Model.TakeRows.{Knows, take_by, kind_is}
 use Rattle.rasta_check.proofs.Model.Counts.{number, owes, tally, number_push_as, number_take_all, number_take_more, number_take_at, is_request_owed, owes-append}
 use Rattle.rasta_check.proofs.Model.SequenceNumbers.{numbered_once}
 use Rattle.rasta_check.proofs.Model.Invariant.{Held, has_peer, is_named, open_bit}
-use Rattle.rasta_check.proofs.Model.InvariantAtMake.{Changed, changed, over, opened, goes_on, named_judged}
+use Rattle.rasta_check.proofs.Model.InvariantAtMake.{Changed, changed, over, opened, goes_on}
 use Rattle.rasta_check.proofs.Model.InvariantAtTake.{Taken, place, flowing_peer, starting_peer}
 use Rattle.rasta_check.proofs.Model.ConveyedUnits.{values, is_plain, length-values, values_push}
 use Rattle.rasta_check.proofs.Model.OfferedUnits.{Valued}
@@ -103,7 +103,7 @@ module _ (p : Parameters) (e f : EndState) (x : SafetyPdu) (clock : ℕ) (why : 
   new_ask true c ph d none =
       let num = number_push_as (is_kind RetransmissionRequest) e.made new true c in
       let here = ap (number (is_kind RetransmissionRequest)) (take-append_seam e.made (new ∷ [])) in
-      (length e.made, new, get_push e.made new, c, (cs_is e x.kind x.cs (named_judged e x.kind (ap is_named (kind_is RetransmissionRequest x.kind c))) pass.cs).1, omega (arith, num, here))
+      (length e.made, new, get_push e.made new, c, (cs_is e x.kind x.cs (grind (arith, c)) pass.cs).1, omega (arith, num, here))
   new_ask false c ph d none =
       let r = w.awaited ph (sym d ∙ none) in
       let l = slice_get_within e.made r.0 r.1 r.2 in

@@ -38,20 +38,16 @@ pub data Changed (s : Side) (ph : Phase) (k : Kind) (os : List Owed) : Phase →
 
 -- ---- the rows
 
-pub connected_peer : (s : Side) (ph : Phase) → is_connected ph ≡ true → has_peer s ph ≡ true
-connected_peer s ph e = grind arith
-
 pub changed : (s : Side) (ph : Phase) (why : Why) (k : Kind) (os : List Owed) (row : MakeRow) → Making s ph why k os row → Changed s ph k os (phase_after row ph) (owed_after row os)
 changed s ph why k os row opening = opened refl refl refl
 changed s ph why k os row (response {os = rest}) = goes_on refl refl refl (λ _. (rest, refl)) (omega arith)
 changed s ph why k os row first_beat = goes_on refl refl refl (λ e. absurd (cc)) (omega arith)
-changed s ph why k os row (answer r) = goes_on (connected_peer s ph r) refl refl (λ e. absurd (cc)) (omega arith)
-changed s ph why k os row (again r) = goes_on (connected_peer s ph r) refl refl (λ e. absurd (cc)) (omega arith)
-changed s ph why k os row (ask r) = goes_on (connected_peer s ph r) refl refl (λ e. absurd (cc)) (omega arith)
-changed s ph why k os row (beat r) = goes_on (connected_peer s ph r) refl refl (λ e. absurd (cc)) (omega arith)
-changed s ph why k os row (fresh r) = goes_on (connected_peer s ph r) refl refl (λ e. absurd (cc)) (omega arith)
-changed s ph why k os row (bye r) = over refl
-changed s ph why k os row (expired r) = over refl
+changed s ph why k os row (answer r) = goes_on (grind (arith, r)) refl refl (λ e. absurd (cc)) (omega arith)
+changed s ph why k os row (again r) = goes_on (grind (arith, r)) refl refl (λ e. absurd (cc)) (omega arith)
+changed s ph why k os row (ask r) = goes_on (grind (arith, r)) refl refl (λ e. absurd (cc)) (omega arith)
+changed s ph why k os row (beat r) = goes_on (grind (arith, r)) refl refl (λ e. absurd (cc)) (omega arith)
+changed s ph why k os row (fresh r) = goes_on (grind (arith, r)) refl refl (λ e. absurd (cc)) (omega arith)
+changed s ph why k os row _ = over refl
 
 -- ---- the parts of an end
 
@@ -80,23 +76,22 @@ peer_make f u ms m h =
     let front : (i : ℕ) → i ≤ length ms → take i (ms ++ m ∷ []) ≡ take i ms = λ i l. take-append-le i ms (m ∷ []) l in
     let taken = front u h.accepts.within in
     let old = h.asks in
-    let asks : Asking f.side f.phase f.made f.asks f.owed u (ms ++ m ∷ []) = record {
-      asked = old.asked;
-      owing = old.owing;
-      answered = all_push ms m
-          (λ p n g k c a.
-          old.answered p n g k c (subst (λ (l : List Made). slice_get f.asks (number (is_kind RetransmissionRequest) l) ≡ Some c) (front p (let w = slice_get_within ms p n g in omega (arith, w))) a))
-          (λ k c a.
-          let all = number_take_more (is_kind RetransmissionRequest) ms u (length ms) h.accepts.within in
-          let past : slice_get f.asks (number (is_kind RetransmissionRequest) (take (length ms) ms)) ≡ None = slice_get_past f.asks _ (omega (arith, all, old.asks_taken)) in
-          absurd (let z = subst (λ (l : List Made). slice_get f.asks (number (is_kind RetransmissionRequest) l) ≡ Some c) (front (length ms) (omega arith)) a in cc));
-      asks_taken = (let same = ap (number (is_kind RetransmissionRequest)) taken in omega (arith, same, old.asks_taken));
-      open_requests = (let same = ap (number (is_kind RetransmissionResponse)) taken in omega (arith, same, old.open_requests));
-    } in
     record {
       list = h.list;
       opening = h.opening;
-      asks = asks;
+      asks = record {
+        asked = old.asked;
+        owing = old.owing;
+        answered = all_push ms m
+            (λ p n g k c a.
+            old.answered p n g k c (subst (λ (l : List Made). slice_get f.asks (number (is_kind RetransmissionRequest) l) ≡ Some c) (front p (let w = slice_get_within ms p n g in omega (arith, w))) a))
+            (λ k c a.
+            let all = number_take_more (is_kind RetransmissionRequest) ms u (length ms) h.accepts.within in
+            let past : slice_get f.asks (number (is_kind RetransmissionRequest) (take (length ms) ms)) ≡ None = slice_get_past f.asks _ (omega (arith, all, old.asks_taken)) in
+            absurd (let z = subst (λ (l : List Made). slice_get f.asks (number (is_kind RetransmissionRequest) l) ≡ Some c) (front (length ms) (omega arith)) a in cc));
+        asks_taken = (let same = ap (number (is_kind RetransmissionRequest)) taken in omega (arith, same, old.asks_taken));
+        open_requests = (let same = ap (number (is_kind RetransmissionResponse)) taken in omega (arith, same, old.open_requests));
+      };
       accepts = record {
         reached = h.accepts.reached;
         within = omega (arith, h.accepts.within, length_push ms m);
@@ -164,9 +159,6 @@ named_connected (over d) h = absurd (let z = ap is_named d in cc)
 named_connected (opened a s d) h = absurd (let z = ap is_named d in cc)
 named_connected (goes_on on b c d r) h = on
 
-pub named_judged : (e : EndState) (k : Kind) → is_named k ≡ true → is_judged e k ≡ true
-named_judged e k h = grind arith
-
 -- a make keeps what holds of the maker
 pub own_make : (p : Parameters) (e : EndState) (x : SafetyPdu) (clock : ℕ) (why : Why) (t : ℕ) (peer : List Made)
     → Passed p e x clock why → Held e t peer → Held (after_make e x clock why) t peer
@@ -189,7 +181,7 @@ own_make p e x clock why t peer pass h =
             (λ k.
             let a = h.opening.connected (named_connected how k) in
             let l = h.accepts.last a.0 a.1 in
-            (a.0, omega (arith, a.1), record { m = l.m; there = l.there; same = l.same ∙ sym (cs_is e x.kind x.cs (named_judged e x.kind k) pass.cs).1 }));
+            (a.0, omega (arith, a.1), record { m = l.m; there = l.there; same = l.same ∙ sym (cs_is e x.kind x.cs (grind (arith, k)) pass.cs).1 }));
       };
       confirmed = (let len = length_push e.made n in omega (arith, h.confirmed, len));
     })

@@ -28,7 +28,7 @@ use Rattle.rasta_check.proofs.Model.PassedTests.{Passed, un_not}
 use Rattle.rasta_check.proofs.Model.MakeRows.{Making, opening, answer, again, fresh, bye, expired, MadeBy, made_by, after_row, new_made}
 use Rattle.rasta_check.proofs.Model.Invariant.{Held}
 use Rattle.rasta_check.proofs.Model.InvariantAtMake.{over_after, nothing_made}
-use Rattle.rasta_check.proofs.Model.ConveyedUnits.{values, jump, is_plain, last_push, last_get, values_push, length-values, units_next, after_is, first_kept}
+use Rattle.rasta_check.proofs.Model.ConveyedUnits.{values, jump, is_plain, last_push, last_get, values_push, length-values, units_next, after_is}
 use Rattle.rasta_check.proofs.Model.TakeRows.{kind_is}
 use Rattle.rasta_check.proofs.Model.OfferedUnits.{Valued, Conveying, Returning, Carrying, Due, DueRest, rest_due, due_le, bare_rest}
 
@@ -206,7 +206,7 @@ module _ (p : Parameters) (e : EndState) (x : SafetyPdu) (clock : ℕ) (why : Wh
         others = all_push e.made new
             (λ i n g u q s. (let l = slice_get_within e.made i n g in both_old i q (w.positions.others i n g u q s) l (omega (arith, l, s))))
             (λ u q s. at_new ∙ (ap Some (plain_is u) ∙ sym (previous q s)));
-        zeroth = first_kept e.asks (values e) (number (is_kind RetransmissionResponse) e.made) x.kind w.positions.zeroth;
+        zeroth = grind (arith, w.positions.zeroth);
       }
 
   returns : Returning (values e ++ value ∷ []) (e.made ++ new ∷ []) e.asks

@@ -106,9 +106,7 @@ pub values_take : (q : Parameters) (e : EndState) (x : SafetyPdu) → number (is
 values_take q e x h = take_by q e x (λ g. values g ≡ values e) refl (λ r away knows. by r)
   where
     by : (r : TakeRow) → values (effect q r e x) ≡ values e
-    by InSequence = handed_or (λ g. values g ≡ values e) (carries_unit x.kind) e.accepted (enter Up (accept q e x)) x refl (λ s. s)
-    by ResentInSequence = handed_or (λ g. values g ≡ values e) (carries_unit x.kind) e.accepted (accept q e x) x refl (λ s. s)
     by Requested = values_asks e.asks (position_confirmed e x) e.made h
     by RequestedAhead = values_asks e.asks (position_confirmed e x) e.made h
     by RequestedAgain = values_asks e.asks (position_confirmed e x) e.made h
-    by _ = refl
+    by _ = grind arith

@@ -155,17 +155,14 @@ module _ (p : Parameters) (e f : EndState) (x : SafetyPdu) (clock : ℕ) (why : 
 
 -- a take hands up more, if anything
 handed_more : (q : Parameters) (e : EndState) (x : SafetyPdu) (r : TakeRow) → length e.handed ≤ length (effect q r e x).handed
-handed_more q e x InSequence = handed_or (λ g. length e.handed ≤ length g.handed) (carries_unit x.kind) e.accepted (enter Up (accept q e x)) x (omega arith) (λ l. omega (arith, length_push e.handed e.accepted))
-handed_more q e x ResentInSequence = handed_or (λ g. length e.handed ≤ length g.handed) (carries_unit x.kind) e.accepted (accept q e x) x (omega arith) (λ l. omega (arith, length_push e.handed e.accepted))
-handed_more q e x _ = omega arith
+handed_more q e x InSequence = grind (arith, length_push e.handed e.accepted)
+handed_more q e x _ = grind (arith, length_push e.handed e.accepted)
 
 -- a take accepts more, if anything
 accepted_more : (q : Parameters) (e : EndState) (x : SafetyPdu) (t : ℕ) (peer : List Made) → Held e t peer → (r : TakeRow) → Knows q r e x → e.accepted ≤ (effect q r e x).accepted
 accepted_more q e x t peer h Opened w = (let z = (h.opening.down w.0).2 in omega (arith, z))
 accepted_more q e x t peer h Answered w = (let z = h.opening.starting w.0 w.1 in omega (arith, z))
-accepted_more q e x t peer h InSequence w = handed_or (λ g. e.accepted ≤ g.accepted) (carries_unit x.kind) e.accepted (enter Up (accept q e x)) x (omega arith) (λ l. l)
-accepted_more q e x t peer h ResentInSequence w = handed_or (λ g. e.accepted ≤ g.accepted) (carries_unit x.kind) e.accepted (accept q e x) x (omega arith) (λ l. l)
-accepted_more q e x t peer h _ w = omega arith
+accepted_more q e x t peer h _ w = grind arith
 
 module _ (q : Parameters) (e f : EndState) (x : SafetyPdu) (t : ℕ) (h : Held e t f.made) (w : Shown e f) where
   shown_by : (r : TakeRow) → is_closed e.phase ≡ false → Knows q r e x → Shown (effect q r e x) f
