@@ -112,9 +112,8 @@ module _ (p : Parameters) (e f : EndState) (x : SafetyPdu) (clock : ℕ) (why : 
       (r.0, r.1, get_front e.made (new ∷ []) r.0 r.1 r.2, r.3, r.4, ap (λ ms. suc (number (is_kind RetransmissionRequest) ms)) same ∙ (r.5 ∙ sym num))
 
   await_by : {ph : Phase} {os : List Owed} → Changed e.side e.phase x.kind e.owed ph os → ph ≡ RetrReq → owes is_request_owed os ≡ 0 → LastRequest (e.made ++ new ∷ []) e.last_sn
-  await_by (over d) ph none = absurd (cc)
-  await_by (opened a s c) ph none = absurd (cc)
   await_by (goes_on a c d g j) ph none = new_ask (is_kind RetransmissionRequest x.kind) refl ph d none
+  await_by _ ph none = absurd (cc)
 
   pub handed_make : Handed (after_make e x clock why) f
   handed_make =
@@ -162,10 +161,7 @@ module _ (q : Parameters) (e f : EndState) (t u : ℕ) (m : Made) (p : ℕ) (k :
       }
 
   in_place : is_in e m.pdu ≡ true → (i : ℕ) → e.accepted ≡ suc i → p ≡ suc i
-  in_place b i a =
-      let d : steps_past_next e m.pdu ≡ 0 = grind (arith, nat_tests, b) in
-      let pl : e.accepted + steps_past_next e m.pdu ≡ p = place q e f t u m p k i a in
-      omega (arith, pl, d, a)
+  in_place b i a = grind (arith, nat_tests, b, place q e f t u m p k i a)
 
   -- a plain PDU in sequence hands nothing up
   plain : {sn : ℕ} {ph : Phase} {os : List Owed} → has_peer e.side e.phase ≡ true → is_in e m.pdu ≡ true → is_plain m.pdu.kind ≡ true → (ph ≡ RetrReq → owes is_request_owed os ≡ 0 → ⊥)

@@ -201,5 +201,4 @@ made_at p s xs own e f j d h g =
     let n = sends_count p s xs own e f h in
     let a = slice_get_some e.made (base p + j) (omega arith) in
     let b = copy_at p s xs own e f j a.0 h a.1 in
-    let same : b.0 ≡ d = (let z = b.1 in cc) in
-    (a.0, a.1, sym b.2 ∙ ap (λ (c : FirstCopy). c.pdu.safety) same)
+    (a.0, a.1, grind (arith, b.1, b.2))

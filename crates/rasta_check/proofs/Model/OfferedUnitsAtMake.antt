@@ -72,8 +72,7 @@ data Adds (ms : List Made) (n : ℕ) (k : Kind) (content : List ℕ) (unit : Opt
   one : k ≡ Data → n' ≡ suc n → unit ≡ Some n → Adds ms n k content unit n'
 
 the_content : (unit : Option (List ℕ)) (content : List ℕ) → option_map_or (λ (own : List ℕ). bytes_eq own content) unit false ≡ true → unit ≡ Some content
-the_content None content h = absurd (cc)
-the_content (Some unit) content h = ap Some ((bytes_eq-Decides unit content).0 h)
+the_content unit content h = grind (arith, bytes_eq-Decides)
 
 adds : (s : Side) (ph : Phase) (why : Why) (k : Kind) (os : List Owed) (row : MakeRow) (ms : List Made) (n : ℕ) (content : List ℕ)
     → Making s ph why k os row → differs ms (Some row) content ≡ false → Adds ms n k content (unit_of row n) (offered_after row n)

@@ -65,10 +65,8 @@ found_by : (f : Kind → Bool) (x : Made) (ms : List Made) (b : Bool) → f x.pd
 found_by f x ms true e rest zero l = record { at = 0; m = x; there = refl; is = e; before = refl }
 found_by f x ms true e rest (suc k) l =
     let r = rest k (omega (arith, l)) in
-    record { at = suc r.at; m = r.m; there = r.there; is = r.is; before = ap (λ b. tally b (number f (take r.at ms))) e ∙ ap suc r.before }
-found_by f x ms false e rest k l =
-    let r = rest k l in
-    record { at = suc r.at; m = r.m; there = r.there; is = r.is; before = ap (λ b. tally b (number f (take r.at ms))) e ∙ r.before }
+    record { at = suc r.at; m = r.m; there = r.there; is = r.is; before = grind (arith, r.before) }
+found_by f x ms false e rest k l = (let r = rest k l in record { at = suc r.at; m = r.m; there = r.there; is = r.is; before = grind (arith, r.before) })
 
 pub found : (f : Kind → Bool) (ms : List Made) (k : ℕ) → k < number f ms → Found f ms k
 found f [] k l = absurd (omega (arith, l))

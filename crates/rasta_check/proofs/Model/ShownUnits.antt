@@ -110,9 +110,8 @@ module _ (p : Parameters) (e f : EndState) (x : SafetyPdu) (clock : ℕ) (why : 
   f_offer l = ⊎_elim w.ready_offer w.ready_run (offers_by f.side f.phase why x.kind f.owed by.row f.offered by.how l)
 
   f_runs : {ph : Phase} {os : List Owed} → Changed f.side f.phase x.kind f.owed ph os → is_connected ph ≡ true → 0 < e.accepted
-  f_runs (over d) r = absurd (cc)
-  f_runs (opened a s c) r = absurd (cc)
   f_runs (goes_on a c d g j) r = w.ready_run r
+  f_runs _ r = absurd (cc)
 
   new_position : (a : ℕ) → e.accepted ≡ a → (i j v : ℕ) (m : Made) → slice_get e.made i ≡ Some m → is_kind ConnectionRequest m.pdu.kind ≡ false
       → SnIs after.made j m.pdu.cs → j ≡ length f.made → slice_get (values after) j ≡ Some v → v ≤ length e.handed

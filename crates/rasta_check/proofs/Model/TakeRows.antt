@@ -30,6 +30,7 @@ Premise RequestedAhead s ph k n a v = (is_flowing ph ≡ true) × (k ≡ Retrans
 Premise RequestedAgain s ph k n a v = (ph ≡ RetrReq) × (k ≡ RetransmissionRequest) × (v ≡ true) × (a ≡ true)
 Premise Disconnected s ph k n a v = (is_active ph ≡ true) × (k ≡ DisconnectionRequest)
 
+-- what passes the test of a kind is of that kind
 pub kind_is : (wanted k : Kind) → is_kind wanted k ≡ true → k ≡ wanted
 kind_is wanted k h = grind arith
 
