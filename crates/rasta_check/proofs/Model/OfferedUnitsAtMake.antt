@@ -71,13 +71,10 @@ data Adds (ms : List Made) (n : ℕ) (k : Kind) (content : List ℕ) (unit : Opt
   none : is_kind Data k ≡ false → n' ≡ n → ((j : ℕ) → unit ≡ Some j → (carries_unit k ≡ true) × (slice_get (contents ms) j ≡ Some content)) → Adds ms n k content unit n'
   one : k ≡ Data → n' ≡ suc n → unit ≡ Some n → Adds ms n k content unit n'
 
-the_content : (unit : Option (List ℕ)) (content : List ℕ) → option_map_or (λ (own : List ℕ). bytes_eq own content) unit false ≡ true → unit ≡ Some content
-the_content unit content h = grind (arith, bytes_eq-Decides)
-
 adds : (s : Side) (ph : Phase) (why : Why) (k : Kind) (os : List Owed) (row : MakeRow) (ms : List Made) (n : ℕ) (content : List ℕ)
     → Making s ph why k os row → differs ms (Some row) content ≡ false → Adds ms n k content (unit_of row n) (offered_after row n)
 adds s ph why k os row ms n content (again {k = j} r) d =
-    none refl refl (λ i u. (refl, (let same : j ≡ i = cc in subst (λ z. slice_get (contents ms) z ≡ Some content) same (the_content (slice_get (contents ms) j) content (un_not _ d)))))
+    none refl refl (λ i u. (refl, grind (arith, bytes_eq-Decides, d, u)))
 adds s ph why k os row ms n content (fresh r) d = one refl refl refl
 adds s ph why k os row ms n content _ d = none refl refl (λ i u. absurd (cc))
 
@@ -119,11 +116,7 @@ module _ (ms : List Made) (m : Made) (n : ℕ) (w : Carrying ms n) where
       record {
         counted = (let l = ap length more in let k = length_push (contents ms) (content_of m.pdu.body) in omega (arith, l, k, s, w.counted));
         fresh = all_push ms m old_fresh (λ k. unit_is ∙ ap (λ (l : List Made). Some (length (contents l))) (sym whole));
-        carried = all_push ms m old_carried
-            (λ k u.
-            let un : Some (length (contents ms)) ≡ Some k = sym unit_is ∙ u in
-            let at : length (contents ms) ≡ k = cc in
-            (ap carries_unit d, ap (λ (cs : List (List ℕ)). slice_get cs k) more ∙ subst (λ j. slice_get (contents ms ++ content_of m.pdu.body ∷ []) j ≡ Some (content_of m.pdu.body)) at (get_push (contents ms) (content_of m.pdu.body))));
+        carried = all_push ms m old_carried (λ k u. (ap carries_unit d, grind (arith, more, unit_is, u, get_push (contents ms) (content_of m.pdu.body))));
       }
 
 module _ (p : Parameters) (e : EndState) (x : SafetyPdu) (clock : ℕ) (why : Why) (t : ℕ) (peer : List Made) (pass : Passed p e x clock why) (h : Held e t peer) (w : Valued e) where

@@ -48,9 +48,7 @@ module _ (q : Parameters) (e f : EndState) (t u : ℕ) (m : Made) (p : ℕ) (k :
 
   burst_jump : (c : ℕ) → jump (asked c) ≡ units_conveyed e.asks (kinds e.made) c
   burst_jump c =
-      let len = no_answers q e f t u m p k free away in
-      let at : slice_get (e.asks ++ c ∷ []) (number (is_kind RetransmissionResponse) e.made) ≡ Some c = subst (λ i. slice_get (e.asks ++ c ∷ []) i ≡ Some c) (sym len) (get_push e.asks c) in
-      ap (units_at (values (asked c))) at ∙ ap (λ vs. slice_index_or vs c 0) (same_values c)
+      grind (arith, no_answers q e f t u m p k free away, get_push e.asks c, same_values c)
 
   -- the resends of the burst that answers this ask
   abbrev again : ℕ → List Owed
