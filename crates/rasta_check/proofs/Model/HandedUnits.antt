@@ -142,8 +142,7 @@ module _ (q : Parameters) (e f : EndState) (t u : ℕ) (m : Made) (p : ℕ) (k :
       → HandsOver (e.handed ++ e.accepted ∷ []) (e.handed_pdus ++ m.pdu ∷ []) a sn ph os e.made f.made (values f)
   hands {a = a} i last s c at never =
       let un = vf.positions.units p m k.there c in
-      let z : un.0 ≡ i = omega (arith, s, un.2) in
-      let lab : slice_get (values f) i ≡ Some un.1 = subst (λ j. slice_get (values f) j ≡ Some un.1) z un.4 in
+      let lab : slice_get (values f) i ≡ Some un.1 = grind (arith, s, un.2, un.4) in
       let old : length e.handed ≡ un.1 = w.count ∙ worth_at (values f) e.accepted i un.1 last lab in
       let new = worth_at (values f) a p (suc un.1) at un.5 in
       record {

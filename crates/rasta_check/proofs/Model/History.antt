@@ -179,9 +179,7 @@ joined p ws w (goes_on {ws = us} {w = z} r st) i u v g h = ⊎_elim
     (λ (n : (i ≡ length (us ++ z ∷ [])) × (w ≡ u)). absurd (omega arith))
     (get_push_cases (us ++ z ∷ []) w i u g)))
     (λ (new : (suc i ≡ length (us ++ z ∷ [])) × (w ≡ v)).
-    let at : i ≡ length us = (let q = length_push us z in omega arith) in
-    let there : slice_get ((us ++ z ∷ []) ++ w ∷ []) i ≡ Some z = subst (λ j. slice_get ((us ++ z ∷ []) ++ w ∷ []) j ≡ Some z) (sym at) (get_front (us ++ z ∷ []) (w ∷ []) (length us) z (get_push us z)) in
-    let same : z ≡ u = cc in
+    let same : z ≡ u = grind (arith, g, new.0, length_push us z, get_front (us ++ z ∷ []) (w ∷ []) (length us) z (get_push us z)) in
     subst (λ (y : World). Step p y v) same (subst (λ (y : World). Step p z y) new.1 st))
     (get_push_cases (us ++ z ∷ []) w (suc i) v h)
 

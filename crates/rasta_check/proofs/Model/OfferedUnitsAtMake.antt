@@ -152,13 +152,10 @@ module _ (p : Parameters) (e : EndState) (x : SafetyPdu) (clock : ℕ) (why : Wh
       -- a client that has made nothing owes nothing
       leads e.side e.phase why x.kind e.owed b.row (jump e) (last_of (values e)) e.offered (λ s c. (h.opening.unmade s (nothing_made e.side e.phase e.made c pass.open_yet)).1) b.how (w.due pass.open_yet)
 
-  plain_is : is_plain x.kind ≡ true → value ≡ last_of (values e)
-  plain_is u = grind (arith, value_is)
-
   value_most : value ≤ after.offered
   value_most =
       ⊎_elim
-      (λ (o : (after.phase ≡ Closed) × (is_plain x.kind ≡ true)). omega (arith, plain_is o.1, last_most (values e) e.offered w.positions.bounded, offered_least b.row e.offered))
+      (λ (o : (after.phase ≡ Closed) × (is_plain x.kind ≡ true)). let z : value ≡ last_of (values e) = grind (arith, value_is, o.1) in omega (arith, z, last_most (values e) e.offered w.positions.bounded, offered_least b.row e.offered))
       (λ (d : DueRest next after.offered after.owed). omega (arith, value_is, due_le next after.offered after.owed d))
       step
 
@@ -197,7 +194,7 @@ module _ (p : Parameters) (e : EndState) (x : SafetyPdu) (clock : ℕ) (why : Wh
             (length e.made - 1, last_of (values e), last, unit, previous (length e.made - 1) last, at_new ∙ ap Some (grind (arith, value_is))));
         others = all_push e.made new
             (λ i n g u q s. (let l = slice_get_within e.made i n g in both_old i q (w.positions.others i n g u q s) l (omega (arith, l, s))))
-            (λ u q s. at_new ∙ (ap Some (plain_is u) ∙ sym (previous q s)));
+            (λ u q s. grind (arith, at_new, value_is, u, previous q s));
         zeroth = grind (arith, w.positions.zeroth);
       }
 

@@ -47,8 +47,7 @@ module _ (q : Parameters) (e f : EndState) (t u : ℕ) (m : Made) (p : ℕ) (k :
   same_values c = values_asks e.asks c e.made k.mine.asks.asked
 
   burst_jump : (c : ℕ) → jump (asked c) ≡ units_conveyed e.asks (kinds e.made) c
-  burst_jump c =
-      grind (arith, no_answers q e f t u m p k free away, get_push e.asks c, same_values c)
+  burst_jump c = grind (arith, no_answers q e f t u m p k free away, get_push e.asks c, same_values c)
 
   -- the resends of the burst that answers this ask
   abbrev again : ℕ → List Owed
