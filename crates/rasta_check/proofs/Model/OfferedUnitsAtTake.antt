@@ -1,6 +1,5 @@
 -- A take keeps what holds of the units offered.
-use Rattle.std.proofs.Common.{◌≡◌, ℕ, suc, ◌-◌, ◌<◌, ◌≤◌, true, false, List, [], ◌∷◌, ◌++◌, length, Some, slice_get, refl, ap, sym, ◌∙◌, arith, subst}
-use Rattle.std.specs.Prelude.{slice_index_or}
+use Rattle.std.proofs.Common.{◌≡◌, ℕ, suc, ◌-◌, ◌<◌, ◌≤◌, true, false, List, [], ◌∷◌, ◌++◌, length, refl, ap, sym, ◌∙◌, arith, subst}
 use Rattle.std.proofs.lemmas.List.{append-nil}
 use Rattle.rasta_pdu.specs.Params.{Parameters}
 use Rattle.rasta_pdu.specs.Pdu.{SafetyPdu, is_kind}
@@ -11,7 +10,7 @@ use Rattle.rasta_end.specs.declared.take_row.TakeRow.TheVariants.{Opened, Answer
 use Rattle.rasta_end.specs.declared.owed.Owed.{Owed}
 use Rattle.rasta_end.specs.declared.owed.Owed.TheVariants.{RetransmissionResponse as OweRetransmissionResponse, RetransmissionRequest as OweRetransmissionRequest}
 use Rattle.rasta_end.specs.State.{Made, EndState, kinds, is_closed, is_connected, carries_unit}
-use Rattle.rasta_end.specs.Units.{units_conveyed, units_at, last_of}
+use Rattle.rasta_end.specs.Units.{units_conveyed, last_of}
 use Rattle.rasta_end.specs.TakeRule.{is_valid, position_confirmed, accept, enter, note_ask, resends, effect, after_take}
 use Rattle.rasta_check.proofs.Lists.{all_push, get_push, get_front_within}
 use Rattle.rasta_check.proofs.Model.Counts.{number, number_take_all, number_take_at}

@@ -1,8 +1,7 @@
 -- What an end was asked, and what its retransmission responses answer.
-use Rattle.std.proofs.Common.{◌≡◌, ℕ, zero, suc, ◌<◌, Bool, true, false, List, [], ◌∷◌, ◌++◌, length, Option, Some, None, slice_get, take, refl, ap, sym, ◌∙◌, arith, subst, cond}
-use Rattle.std.specs.Prelude.{slice_index_or, filter, filter_map, if◌then◌else◌, ◌==◌}
+use Rattle.std.proofs.Common.{◌≡◌, ℕ, zero, suc, ◌<◌, Bool, true, false, List, [], ◌∷◌, ◌++◌, length, Some, slice_get, take, refl, ap, sym, ◌∙◌, arith, subst}
+use Rattle.std.specs.Prelude.{slice_index_or, if◌then◌else◌, ◌==◌}
 use Rattle.std.specs.Option.{option_map}
-use Rattle.std.specs.List.{cons_option}
 use Rattle.std.proofs.Math.Seq.{take-append_seam}
 use Rattle.std.proofs.lemmas.Bool.Decides.{nat_tests}
 use Rattle.std.proofs.lemmas.Option.{slice_get_within, slice_get-get_or}
