@@ -142,7 +142,8 @@ module _ (s : Side) (ph : Phase) (ms : List Made) (m : Made) (a : ℕ) (os : Lis
           let none = nothing_made s ph ms b open_yet in
           let owed = ap (owes is_request_owed) (h.unmade c none).1 in
           (grind (arith, number_push, w.asked, d), λ v. grind (arith, number_push, w.owing open_yet, d), grind (arith, number_push, none, owed, d))
-      counts (goes_on on b c d r) = (grind (arith, number_push, b, w.owing open_yet), λ v. grind (arith, number_push, b, w.owing open_yet), grind (arith, number_push, c, w.open_requests))
+      counts (goes_on on b c d r) =
+          (grind (arith, number_push, b, w.owing open_yet), λ v. grind (arith, number_push, b, w.owing open_yet), grind (arith, number_push, c, w.open_requests))
 
   make_opener : (ph' : Phase) (os' : List Owed) → Changed s ph m.pdu.kind os ph' os' → is_opener m.pdu.kind ≡ true → ms ≡ []
   make_opener ph' os' (over d) k = absurd (let z = ap is_opener d in cc)

@@ -153,7 +153,9 @@ module _ (p : Parameters) (e : EndState) (x : SafetyPdu) (clock : ℕ) (why : Wh
   value_most : value ≤ after.offered
   value_most =
       ⊎_elim
-      (λ (o : (after.phase ≡ Closed) × (is_plain x.kind ≡ true)). let z : value ≡ last_of (values e) = grind (arith, value_is, o.1) in omega (arith, z, last_most (values e) e.offered w.positions.bounded, offered_least b.row e.offered))
+      (λ (o : (after.phase ≡ Closed) × (is_plain x.kind ≡ true)).
+      let z : value ≡ last_of (values e) = grind (arith, value_is, o.1) in
+      omega (arith, z, last_most (values e) e.offered w.positions.bounded, offered_least b.row e.offered))
       (λ (d : DueRest next after.offered after.owed). omega (arith, value_is, due_le next after.offered after.owed d))
       step
 

@@ -47,7 +47,8 @@ pub record Shown (e f : EndState) : Type 0 where
 pub judged_after : (e : EndState) (k : Kind) (i : ℕ) → e.accepted ≡ suc i → is_kind ConnectionRequest k ≡ false → is_judged e k ≡ true
 judged_after e k i a c = grind (arith, nat_tests)
 
-module _ (p : Parameters) (e f : EndState) (x : SafetyPdu) (clock : ℕ) (why : Why) (t : ℕ) (pass : Passed p e x clock why) (h : Held e t f.made) (fnum : OnceIn f.made) (vf : Valued f) (hd : Handed e f) (w : Shown e f) where
+module _ (p : Parameters) (e f : EndState) (x : SafetyPdu) (clock : ℕ) (why : Why) (t : ℕ) (pass : Passed p e x clock why)
+    (h : Held e t f.made) (fnum : OnceIn f.made) (vf : Valued f) (hd : Handed e f) (w : Shown e f) where
   b : MadeBy e x why
   b = made_by p e x clock why pass
 
@@ -95,7 +96,8 @@ offers_by : (s : Side) (ph : Phase) (why : Why) (k : Kind) (os : List Owed) (row
 offers_by s ph why k os row n (fresh r) l = inr r
 offers_by s ph why k os row n _ l = inl l
 
-module _ (p : Parameters) (e f : EndState) (x : SafetyPdu) (clock : ℕ) (why : Why) (pass : Passed p f x clock why) (vf : Valued (after_make f x clock why)) (fnum : OnceIn (after_make f x clock why).made) (w : Shown e f) where
+module _ (p : Parameters) (e f : EndState) (x : SafetyPdu) (clock : ℕ) (why : Why) (pass : Passed p f x clock why)
+    (vf : Valued (after_make f x clock why)) (fnum : OnceIn (after_make f x clock why).made) (w : Shown e f) where
   by : MadeBy f x why
   by = made_by p f x clock why pass
 
