@@ -176,7 +176,7 @@ module _ (q : Parameters) (e f : EndState) (t u : ℕ) (m : Made) (p : ℕ) (k :
       let all = number_take_all (is_kind RetransmissionResponse) f.made (suc p) in
       let most = number_take_all (is_kind RetransmissionRequest) e.made u in
       let idx : number (is_kind RetransmissionResponse) (take p f.made) ≡ number (is_kind RetransmissionRequest) (take aw.0 e.made) =
-          omega (arith, low, next, all, k.mine.asks.open_requests, ap open_bit ph, most, aw.5, k.theirs.asks.asked, k.theirs.asks.asks_taken) in
+      omega (arith, low, next, all, k.mine.asks.open_requests, ap open_bit ph, most, aw.5, k.theirs.asks.asked, k.theirs.asks.asks_taken) in
       let inside : number (is_kind RetransmissionResponse) (take p f.made) < length f.asks = omega (arith, next, all, k.theirs.asks.asked) in
       let c : slice_get f.asks (number (is_kind RetransmissionResponse) (take p f.made)) ≡ Some (slice_index_or f.asks (number (is_kind RetransmissionResponse) (take p f.made)) 0) = slice_get-get_or f.asks _ 0 inside in
       let j = vf.returns.jumps p m k.there is_a _ c in
