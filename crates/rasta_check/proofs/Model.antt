@@ -2,7 +2,6 @@
 pub mod Acceptance
 pub mod Requests
 pub mod Counts
-pub mod Distances
 pub mod HandedUnits
 pub mod Invariant
 pub mod InvariantAtMake

@@ -5,11 +5,11 @@ use Rattle.std.specs.Option.{unwrap_or}
 use Rattle.std.proofs.lemmas.Option.{slice_get-get_or, unwrap_or-slice_get}
 use Rattle.rasta_pdu.specs.declared.kind.Kind.{Kind}
 use Rattle.rasta_pdu.specs.declared.kind.Kind.TheVariants.{Data, RetransmittedData, RetransmissionResponse}
-use Rattle.rasta_end.specs.State.{Made, EndState, kinds, carries_unit}
-use Rattle.rasta_end.specs.Units.{all_units_conveyed, conveyed, units_after, units_at, last_of, responses_after, responses_in}
+use Rattle.rasta_end.specs.State.{Made, EndState, kinds}
+use Rattle.rasta_end.specs.Units.{all_units_conveyed, conveyed, units_after, units_at, last_of, responses_in}
 use Rattle.rasta_end.proofs.Conveying.{all_units-push, conveyed-responses, length-all_units, length-kinds, more_asks, last-at}
 use Rattle.rasta_end.proofs.Pushing.{kinds-push}
-use Rattle.rasta_check.proofs.Model.Counts.{number, tally}
+use Rattle.rasta_check.proofs.Model.Counts.{number}
 use Rattle.rasta_pdu.specs.Pdu.{is_kind}
 
 -- neither a unit nor a retransmission response
@@ -44,13 +44,9 @@ get_or_none vs c g = sym (unwrap_or-slice_get vs c 0) ∙ ap (λ (o : Option ℕ
 
 -- One more PDU appends one value; one more ask changes none.
 
-answers_tally : (n : ℕ) (k : Kind) → responses_after n k ≡ tally (is_kind RetransmissionResponse k) n
-answers_tally n RetransmissionResponse = refl
-answers_tally n _ = refl
-
 pub answers_number : (ms : List Made) → responses_in (kinds ms) ≡ number (is_kind RetransmissionResponse) ms
 answers_number [] = refl
-answers_number (m ∷ ms) = answers_tally (responses_in (kinds ms)) m.pdu.kind ∙ ap (tally (is_kind RetransmissionResponse m.pdu.kind)) (answers_number ms)
+answers_number (m ∷ ms) = grind (arith, answers_number ms)
 
 pub values_push : (asks : List ℕ) (ms : List Made) (m : Made)
     → all_units_conveyed asks (kinds (ms ++ m ∷ [])) ≡ all_units_conveyed asks (kinds ms) ++ units_after asks (all_units_conveyed asks (kinds ms)) (number (is_kind RetransmissionResponse) ms) m.pdu.kind ∷ []
@@ -74,23 +70,4 @@ units_next u v RetransmissionResponse = u
 units_next u v _ = v
 
 pub after_is : (asks vs : List ℕ) (a : ℕ) (k : Kind) → (is_plain k ≡ false → 0 < length vs) → units_after asks vs a k ≡ units_next (units_at vs (slice_get asks a)) (last_of vs) k
-after_is asks [] a Data l = absurd (let z = l refl in omega arith)
-after_is asks [] a RetransmittedData l = absurd (let z = l refl in omega arith)
-after_is asks [] a RetransmissionResponse l = absurd (let z = l refl in omega arith)
-after_is asks [] a _ l = refl
-after_is asks (v ∷ vs) a _ l = refl
-
-pub next_plain : (u v : ℕ) (k : Kind) → is_plain k ≡ true → units_next u v k ≡ v
-next_plain u v Data h = absurd (cc)
-next_plain u v RetransmittedData h = absurd (cc)
-next_plain u v RetransmissionResponse h = absurd (cc)
-next_plain u v _ h = refl
-
-pub next_unit : (u v : ℕ) (k : Kind) → carries_unit k ≡ true → units_next u v k ≡ suc v
-next_unit u v Data h = refl
-next_unit u v RetransmittedData h = refl
-next_unit u v _ h = absurd (cc)
-
-pub first_kept : (asks vs : List ℕ) (a : ℕ) (k : Kind) → slice_index_or vs 0 0 ≡ 0 → slice_index_or (vs ++ units_after asks vs a k ∷ []) 0 0 ≡ 0
-first_kept asks [] a k h = refl
-first_kept asks (v ∷ vs) a k h = h
+after_is asks vs a k l = grind arith

@@ -2,34 +2,34 @@
 use Rattle.std.proofs.Common.{◌≡◌, ℕ, zero, suc, ◌+◌, ◌<◌, ◌≤◌, Bool, true, false, List, [], ◌∷◌, ◌++◌, length, Option, Some, None, slice_get, take, refl, ap, sym, ◌∙◌, arith, subst}
 use Rattle.std.specs.Prelude.{slice_index_or, if◌then◌else◌, filter, drop}
 use Rattle.std.proofs.lemmas.Bool.Decides.{nat_tests}
-use Rattle.std.proofs.lemmas.List.{take-append-le, take_all, length_push}
+use Rattle.std.proofs.Math.Seq.{take-append_seam}
+use Rattle.std.proofs.lemmas.List.{take-append-le, length_push}
 use Rattle.std.proofs.lemmas.Option.{slice_get_within, slice_get-get_or, get_or_from_slice_get}
-use Rattle.rasta_pdu.specs.declared.kind.Kind.{Kind}
-use Rattle.rasta_pdu.specs.declared.kind.Kind.TheVariants.{RetransmissionRequest, RetransmissionResponse, Heartbeat, Data}
+use Rattle.rasta_pdu.specs.declared.kind.Kind.TheVariants.{RetransmissionRequest, RetransmissionResponse, Data}
 use Rattle.rasta_pdu.specs.Params.{Parameters}
 use Rattle.rasta_pdu.specs.Messages.{messages_of}
-use Rattle.rasta_pdu.specs.Pdu.{SafetyPdu, SafetyBody, Opening, Bye, Messages, Empty, messages_in, is_kind}
+use Rattle.rasta_pdu.specs.Pdu.{SafetyPdu, SafetyBody, Messages, messages_in, is_kind}
 use Rattle.rasta_end.specs.declared.phase.Phase.{Phase}
 use Rattle.rasta_end.specs.declared.phase.Phase.TheVariants.{Up, RetrReq}
 use Rattle.rasta_end.specs.declared.why.Why.{Why}
 use Rattle.rasta_end.specs.declared.make_row.MakeRow.{MakeRow}
 use Rattle.rasta_end.specs.declared.take_row.TakeRow.{TakeRow}
-use Rattle.rasta_end.specs.declared.take_row.TakeRow.TheVariants.{Opened, Answered, FirstHeartbeat, InSequence, ResentInSequence, Gap, GapInRetransmission, Resumed, Requested, RequestedAhead, RequestedAgain, Disconnected}
+use Rattle.rasta_end.specs.declared.take_row.TakeRow.TheVariants.{Opened, Answered, FirstHeartbeat, InSequence, ResentInSequence, Resumed, Requested, RequestedAhead, RequestedAgain}
 use Rattle.rasta_end.specs.declared.owed.Owed.{Owed}
 use Rattle.rasta_end.specs.declared.owed.Owed.TheVariants.{RetransmissionRequest as OweRetransmissionRequest}
 use Rattle.rasta_end.specs.State.{Made, EndState, is_closed, is_flowing, carries_unit, content_of}
 use Rattle.rasta_end.specs.MakeRule.{row_of, after_make, after_make_by}
-use Rattle.rasta_end.specs.TakeRule.{is_heartbeat_or_data, is_in, steps_past_next, position_confirmed, accept, enter, hand_up, burst, effect, after_take}
-use Rattle.rasta_check.specs.Model.Laws.{conveyed_before, HandsUp}
+use Rattle.rasta_end.specs.TakeRule.{is_in, steps_past_next, position_confirmed, accept, enter, hand_up, burst, effect, after_take}
+use Rattle.rasta_check.specs.Model.Laws.{HandsUp}
 use Rattle.rasta_check.specs.Model.Theorem.{HandsUpUnits}
 use Rattle.rasta_check.proofs.Lists.{all_push, get_front, get_push, get_mapped}
 use Rattle.rasta_check.proofs.Model.PassedTests.{Passed, cs_is}
 use Rattle.rasta_check.proofs.Model.MakeRows.{MadeBy, made_by, after_row, new_made}
-use Rattle.rasta_check.proofs.Model.TakeRows.{Knows, take_by, kind_is}
+use Rattle.rasta_check.proofs.Model.TakeRows.{Knows, take_by}
 use Rattle.rasta_check.proofs.Model.Counts.{number, owes, tally, number_push_as, number_take_all, number_take_more, number_take_at, is_request_owed, owes-append}
 use Rattle.rasta_check.proofs.Model.SequenceNumbers.{numbered_once}
-use Rattle.rasta_check.proofs.Model.Invariant.{Held, has_peer, is_named, open_bit}
-use Rattle.rasta_check.proofs.Model.InvariantAtMake.{Changed, changed, over, opened, goes_on, named_judged}
+use Rattle.rasta_check.proofs.Model.Invariant.{Held, has_peer, open_bit}
+use Rattle.rasta_check.proofs.Model.InvariantAtMake.{Changed, changed, goes_on}
 use Rattle.rasta_check.proofs.Model.InvariantAtTake.{Taken, place, flowing_peer, starting_peer}
 use Rattle.rasta_check.proofs.Model.ConveyedUnits.{values, is_plain, length-values, values_push}
 use Rattle.rasta_check.proofs.Model.OfferedUnits.{Valued}
@@ -86,24 +86,23 @@ handed_peer_make e f x clock why l h = peer_row e f x clock (row_of f x why) l h
 
 pub handed_peer_take : (e f f' : EndState) → f'.made ≡ f.made → values f' ≡ values f → Handed e f → Handed e f'
 handed_peer_take e f f' same vals h =
-    subst
-    (λ (ms : List Made). HandsOver e.handed e.handed_pdus e.accepted e.last_sn e.phase e.owed e.made ms (values f'))
-    (sym same)
-    (subst (λ vs. HandsOver e.handed e.handed_pdus e.accepted e.last_sn e.phase e.owed e.made f.made vs) (sym vals) h)
+    record { count = h.count ∙ ap (λ vs. worth vs e.accepted) (sym vals); labels = subst (AreUnits e.handed e.handed_pdus) (sym same) h.labels; as_many = h.as_many; awaited = h.awaited }
 
 -- The end itself makes.
 
-module _ (p : Parameters) (e f : EndState) (x : SafetyPdu) (clock : ℕ) (why : Why) (t : ℕ) (pass : Passed p e x clock why) (h : Held e t f.made) (w : Handed e f) (b : MadeBy e x why) where
+module _ (p : Parameters) (e f : EndState) (x : SafetyPdu) (clock : ℕ) (why : Why) (t : ℕ) (pass : Passed p e x clock why) (h : Held e t f.made) (w : Handed e f) where
+  by : MadeBy e x why
+  by = made_by p e x clock why pass
+
   abbrev new : Made
-  new = new_made b.row e x
+  new = new_made by.row e x
 
   new_ask : (c : Bool) → is_kind RetransmissionRequest x.kind ≡ c → e.phase ≡ RetrReq
       → tally c (owes is_request_owed (drop 1 e.owed)) ≡ owes is_request_owed e.owed → owes is_request_owed (drop 1 e.owed) ≡ 0 → LastRequest (e.made ++ new ∷ []) e.last_sn
   new_ask true c ph d none =
-      let all : take (length e.made) (e.made ++ new ∷ []) ≡ e.made = take-append-le (length e.made) e.made (new ∷ []) (omega arith) ∙ take_all (length e.made) e.made (omega arith) in
       let num = number_push_as (is_kind RetransmissionRequest) e.made new true c in
-      let here = ap (number (is_kind RetransmissionRequest)) all in
-      (length e.made, new, get_push e.made new, c, (cs_is e x.kind x.cs (named_judged e x.kind (ap is_named (kind_is RetransmissionRequest x.kind c))) pass.cs).1, omega (arith, num, here))
+      let here = ap (number (is_kind RetransmissionRequest)) (take-append_seam e.made (new ∷ [])) in
+      (length e.made, new, get_push e.made new, c, (cs_is e x.kind x.cs (grind (arith, c)) pass.cs).1, omega (arith, num, here))
   new_ask false c ph d none =
       let r = w.awaited ph (sym d ∙ none) in
       let l = slice_get_within e.made r.0 r.1 r.2 in
@@ -112,23 +111,17 @@ module _ (p : Parameters) (e f : EndState) (x : SafetyPdu) (clock : ℕ) (why : 
       (r.0, r.1, get_front e.made (new ∷ []) r.0 r.1 r.2, r.3, r.4, ap (λ ms. suc (number (is_kind RetransmissionRequest) ms)) same ∙ (r.5 ∙ sym num))
 
   await_by : {ph : Phase} {os : List Owed} → Changed e.side e.phase x.kind e.owed ph os → ph ≡ RetrReq → owes is_request_owed os ≡ 0 → LastRequest (e.made ++ new ∷ []) e.last_sn
-  await_by (over d) ph none = absurd (cc)
-  await_by (opened a s c) ph none = absurd (cc)
   await_by (goes_on a c d g j) ph none = new_ask (is_kind RetransmissionRequest x.kind) refl ph d none
+  await_by _ ph none = absurd (cc)
 
-  handed_row : Handed (after_make_by (Some b.row) e x clock) f
-  handed_row = record { count = w.count; labels = w.labels; as_many = w.as_many; awaited = await_by (changed e.side e.phase why x.kind e.owed b.row b.how) }
-
-pub handed_make : (p : Parameters) (e f : EndState) (x : SafetyPdu) (clock : ℕ) (why : Why) (t : ℕ) → Passed p e x clock why → Held e t f.made → Handed e f → Handed (after_make e x clock why) f
-handed_make p e f x clock why t pass h w =
-    let b = made_by p e x clock why pass in
-    subst (λ (e' : EndState). Handed e' f) (after_row e x clock why b) (handed_row p e f x clock why t pass h w b)
+  pub handed_make : Handed (after_make e x clock why) f
+  handed_make =
+      subst
+      (λ (e' : EndState). Handed e' f)
+      (after_row e x clock why by)
+      (record { count = w.count; labels = w.labels; as_many = w.as_many; awaited = await_by (changed e.side e.phase why x.kind e.owed by.row by.how) })
 
 -- The end itself takes.
-
-beat_plain : (k : Kind) → is_heartbeat_or_data k ≡ true → carries_unit k ≡ false → is_plain k ≡ true
-beat_plain Heartbeat h g = refl
-beat_plain _ h g = absurd (cc)
 
 module _ (q : Parameters) (e f : EndState) (t u : ℕ) (m : Made) (p : ℕ) (k : Taken e f t u m p) (w : Handed e f) (vf : Valued f) where
   -- the end accepts position p, through which as many are conveyed as through the last one
@@ -148,8 +141,7 @@ module _ (q : Parameters) (e f : EndState) (t u : ℕ) (m : Made) (p : ℕ) (k :
       → HandsOver (e.handed ++ e.accepted ∷ []) (e.handed_pdus ++ m.pdu ∷ []) a sn ph os e.made f.made (values f)
   hands {a = a} i last s c at never =
       let un = vf.positions.units p m k.there c in
-      let z : un.0 ≡ i = omega (arith, s, un.2) in
-      let lab : slice_get (values f) i ≡ Some un.1 = subst (λ j. slice_get (values f) j ≡ Some un.1) z un.4 in
+      let lab : slice_get (values f) i ≡ Some un.1 = grind (arith, s, un.2, un.4) in
       let old : length e.handed ≡ un.1 = w.count ∙ worth_at (values f) e.accepted i un.1 last lab in
       let new = worth_at (values f) a p (suc un.1) at un.5 in
       record {
@@ -167,14 +159,12 @@ module _ (q : Parameters) (e f : EndState) (t u : ℕ) (m : Made) (p : ℕ) (k :
       }
 
   in_place : is_in e m.pdu ≡ true → (i : ℕ) → e.accepted ≡ suc i → p ≡ suc i
-  in_place b i a =
-      let d : steps_past_next e m.pdu ≡ 0 = grind (arith, nat_tests, b) in
-      let pl : e.accepted + steps_past_next e m.pdu ≡ p = place q e f t u m p k i a in
-      omega (arith, pl, d, a)
+  in_place b i a = grind (arith, nat_tests, b, place q e f t u m p k i a)
 
-  plain_next : (i : ℕ) → p ≡ suc i → is_plain m.pdu.kind ≡ true → slice_get (values f) p ≡ slice_get (values f) i
-  plain_next i s c =
-      vf.positions.others p m k.there c i s
+  -- a plain PDU in sequence hands nothing up
+  plain : {sn : ℕ} {ph : Phase} {os : List Owed} → has_peer e.side e.phase ≡ true → is_in e m.pdu ≡ true → is_plain m.pdu.kind ≡ true → (ph ≡ RetrReq → owes is_request_owed os ≡ 0 → ⊥)
+      → HandsOver e.handed e.handed_pdus (suc (e.accepted + steps_past_next e m.pdu)) sn ph os e.made f.made (values f)
+  plain peer b c never = let a = k.mine.opening.connected peer in keeps (same_worth a.0 a.1 (vf.positions.others p m k.there c a.0 (in_place b a.0 a.1))) never
 
   -- the retransmission response goes back to the last accepted position
   resumed : e.phase ≡ RetrReq → e.owed ≡ [] → m.pdu.kind ≡ RetransmissionResponse → (i : ℕ) → e.accepted ≡ suc i → slice_get (values f) p ≡ slice_get (values f) i
@@ -184,9 +174,9 @@ module _ (q : Parameters) (e f : EndState) (t u : ℕ) (m : Made) (p : ℕ) (k :
       let low = number_take_more (is_kind RetransmissionResponse) f.made t p k.above in
       let next = number_take_at (is_kind RetransmissionResponse) f.made p m k.there is_a in
       let all = number_take_all (is_kind RetransmissionResponse) f.made (suc p) in
-      let req : number (is_kind RetransmissionRequest) e.made ≤ number (is_kind RetransmissionResponse) (take t f.made) + 1 = omega (arith, k.mine.asks.open_requests, ap open_bit ph) in
       let most = number_take_all (is_kind RetransmissionRequest) e.made u in
-      let idx : number (is_kind RetransmissionResponse) (take p f.made) ≡ number (is_kind RetransmissionRequest) (take aw.0 e.made) = omega (arith, low, next, all, req, most, aw.5, k.theirs.asks.asked, k.theirs.asks.asks_taken) in
+      let idx : number (is_kind RetransmissionResponse) (take p f.made) ≡ number (is_kind RetransmissionRequest) (take aw.0 e.made) =
+      omega (arith, low, next, all, k.mine.asks.open_requests, ap open_bit ph, most, aw.5, k.theirs.asks.asked, k.theirs.asks.asks_taken) in
       let inside : number (is_kind RetransmissionResponse) (take p f.made) < length f.asks = omega (arith, next, all, k.theirs.asks.asked) in
       let c : slice_get f.asks (number (is_kind RetransmissionResponse) (take p f.made)) ≡ Some (slice_index_or f.asks (number (is_kind RetransmissionResponse) (take p f.made)) 0) = slice_get-get_or f.asks _ 0 inside in
       let j = vf.returns.jumps p m k.there is_a _ c in
@@ -208,43 +198,33 @@ module _ (q : Parameters) (e f : EndState) (t u : ℕ) (m : Made) (p : ℕ) (k :
   h_row : e.owed ≡ [] → (r : TakeRow) → Knows q r e m.pdu → Handed (effect q r e m.pdu) f
   h_row free Opened x = first_by (λ r. cc (r)) (k.mine.opening.down x.0).2
   h_row free Answered x = first_by (λ r. cc (r)) (k.mine.opening.starting x.0 x.1)
-  h_row free FirstHeartbeat x =
-      let a = k.mine.opening.connected (starting_peer x.0 x.1) in
-      keeps (same_worth a.0 a.1 (plain_next a.0 (in_place x.4 a.0 a.1) (ap is_plain x.2))) (λ r n. cc (r))
+  h_row free FirstHeartbeat x = plain (starting_peer x.0 x.1) x.4 (ap is_plain x.2) (λ r n. cc (r))
   h_row free InSequence x =
-      let a = k.mine.opening.connected (flowing_peer e.side e.phase x.0) in
-      let s = in_place x.3 a.0 a.1 in
+      let peer = flowing_peer e.side e.phase x.0 in
+      let a = k.mine.opening.connected peer in
       by_unit (carries_unit m.pdu.kind) (enter Up (accept q e m.pdu))
-      (λ c. hands a.0 a.1 s c (ap suc (place q e f t u m p k a.0 a.1)) (λ r. cc (r)))
-      (λ c. keeps (same_worth a.0 a.1 (plain_next a.0 s (beat_plain m.pdu.kind x.1 c))) (λ r n. cc (r)))
+      (λ c. hands a.0 a.1 (in_place x.3 a.0 a.1) c (ap suc (place q e f t u m p k a.0 a.1)) (λ r. cc (r)))
+      (λ c. plain peer x.3 (grind (arith, x.1, c)) (λ r n. cc (r)))
   h_row free ResentInSequence x =
       let a = k.mine.opening.connected (ap (has_peer e.side) x.0) in
       let unit = ap carries_unit x.1 in
       by_unit (carries_unit m.pdu.kind) (accept q e m.pdu) (λ c. hands a.0 a.1 (in_place x.3 a.0 a.1) c (ap suc (place q e f t u m p k a.0 a.1)) (λ r. cc (x.0, r))) (λ c. absurd (cc))
-  h_row free Gap x = keeps refl (λ r n. cc (n))
-  h_row free GapInRetransmission x = keeps refl (λ r n. cc (n))
   h_row free Resumed x =
       let a = k.mine.opening.connected (ap (has_peer e.side) x.0) in
       keeps (same_worth a.0 a.1 (resumed x.0 free x.1 a.0 a.1)) (λ r n. cc (r))
-  h_row free Requested x =
-      let a = k.mine.opening.connected (flowing_peer e.side e.phase x.0) in
-      keeps (same_worth a.0 a.1 (plain_next a.0 (in_place x.3 a.0 a.1) (ap is_plain x.1))) (λ r n. (let z = ap is_flowing r in cc))
+  h_row free Requested x = plain (flowing_peer e.side e.phase x.0) x.3 (ap is_plain x.1) (λ r n. (let z = ap is_flowing r in cc))
   h_row free RequestedAhead x = keeps refl (λ r n. (let a = owes-append is_request_owed (burst e (position_confirmed e m.pdu)) (OweRetransmissionRequest ∷ []) in omega arith))
   h_row free RequestedAgain x = record { count = w.count; labels = w.labels; as_many = w.as_many; awaited = λ r n. w.awaited x.0 (ap (owes is_request_owed) free) }
-  h_row free Disconnected x = keeps refl (λ r n. cc (r))
+  h_row free _ x = keeps refl (λ r n. cc)
 
 pub handed_take : (q : Parameters) (e f : EndState) (t u : ℕ) (m : Made) (p : ℕ) (k : Taken e f t u m p) (w : Handed e f) → Valued f → (is_closed e.phase ≡ false → e.owed ≡ []) → Handed (after_take q e m.pdu) f
 handed_take q e f t u m p k w vf free = take_by q e m.pdu (λ e'. Handed e' f) w (λ r away x. h_row q e f t u m p k w vf (free away) r x)
 
 -- What it handed up, unit by unit.
 
-worth_before : (f : EndState) (a : ℕ) → worth (values f) a ≡ conveyed_before f a
-worth_before f zero = refl
-worth_before f (suc i) = refl
-
 pub hands_up : (e f : EndState) → Handed e f → HandsUp e f
 hands_up e f w = record {
-  count = w.count ∙ worth_before f e.accepted;
+  count = grind (arith, w.count);
   same_count = w.as_many;
   units = λ i pos g. (let r = w.labels i pos g in (r.0, r.1, r.3, r.4));
 }
@@ -252,9 +232,7 @@ hands_up e f w = record {
 messages_by_content : (body : SafetyBody) → messages_in body ≡ messages_of (content_of body)
 unfolding messages_of
 messages_by_content (Messages payload) = refl
-messages_by_content (Opening version sendmax reserved) = refl
-messages_by_content (Bye detail reason) = refl
-messages_by_content Empty = refl
+messages_by_content _ = refl
 
 -- the i-th PDU handed up carries the messages of the i-th data PDU
 handed_messages : (e f : EndState) → Valued f → Handed e f → (i : ℕ) (x : SafetyPdu) → slice_get e.handed_pdus i ≡ Some x

@@ -15,7 +15,7 @@ use Rattle.rasta_end.specs.MakeRule.{has_ended}
 use Rattle.rasta_end.specs.TakeRule.{is_valid, is_in, is_ahead, effect_by}
 use Rattle.rasta_end.specs.Starts.{start_of}
 use Rattle.rasta_check.specs.Capture.Crossing.{FirstCopy}
-use Rattle.rasta_check.specs.Model.World.{Station, World, Move, Moves, makes, repeats, arrives, takes, waits, Step, side_moves, station_of, end_of, other_side, Reaches, begins, goes_on, first_world, IsWithin}
+use Rattle.rasta_check.specs.Model.World.{Station, World, Move, Moves, makes, repeats, takes, Step, side_moves, station_of, end_of, other_side, Reaches, begins, goes_on, first_world, IsWithin}
 use Rattle.rasta_check.specs.Model.Theorem.{Appends}
 use Rattle.rasta_check.proofs.Lists.{get_push_cases, all_push, get_front, get_push, slice_get_some}
 use Rattle.rasta_check.proofs.Model.PassedTests.{passed}
@@ -53,15 +53,13 @@ grown_move p b a a' xs ys (makes x why e' ch res chk bs mk sp rec) l =
       kept = λ i v g. subst (λ vs. slice_get vs i ≡ Some v) (sym (values_push a.state.asks a.state.made n)) (get_front (values a.state) _ i v g);
       over = λ h. absurd (let z = ok.open_yet in cc);
     })
-grown_move p b a a' xs ys (repeats place ch old c s rec) l = same_grown a.state
-grown_move p b a a' xs ys (arrives q low i) l = same_grown a.state
 grown_move p b a a' xs ys (takes q m e' c i s t) l =
     subst (λ (e : EndState). Grown a.state e) (sym t.1) (record {
       made = λ i n g. subst (λ (ms : List Made). slice_get ms i ≡ Some n) (sym (take_made p a.state m.pdu)) g;
       kept = λ i v g. subst (λ vs. slice_get vs i ≡ Some v) (sym (values_take p a.state m.pdu l)) g;
       over = λ h. ap (λ (r : Option TakeRow). effect_by p r a.state m.pdu) (closed_row a.state.side a.state.phase m.pdu.kind (is_in a.state m.pdu) (is_ahead p a.state m.pdu) (is_valid a.state m.pdu) (and_parts (is_closed a.state.phase) _ h).0);
     })
-grown_move p b a a' xs ys (waits c i) l = same_grown a.state
+grown_move p b a a' xs ys _ l = same_grown a.state
 
 -- what a step does to an end: it hands nothing up as a packet crosses, and makes at most one PDU
 pub record EndStep (crossing : Type 0) (e e' : EndState) : Type 0 where
@@ -90,8 +88,7 @@ end_moves p b a a' xs ys (takes q m e' c i s t) =
     let e = ap (λ (e : EndState). length e.made) t.1 in
     let f = ap length (take_made p a.state m.pdu) in
     (omega arith, omega arith, record { same = λ h. absurd (omega arith); longer = omega (arith, e, f); most = omega (arith, e, f) })
-end_moves p b a a' xs ys (arrives q low i) = (omega arith, omega arith, stands_still _ a.state)
-end_moves p b a a' xs ys (waits c i) = (omega arith, omega arith, stands_still _ a.state)
+end_moves p b a a' xs ys _ = (omega arith, omega arith, stands_still _ a.state)
 
 pub stepped : (p : Parameters) (v w : World) → Step p v w → Stepped v w
 stepped p v w (side_moves {a = a} {after = ys} Client m) =
@@ -100,10 +97,8 @@ stepped p v w (side_moves {a = a} {after = ys} Server m) =
     (let o = end_moves p v.client v.server a v.crossed ys m in record { less = o.0; more = o.1; ends = sided _ (stands_still _ v.client.state) o.2 })
 
 grown_step : (p : Parameters) (v w : World) → Step p v w → All v.client v.server → (side : Side) → Grown (end_of v side) (end_of w side)
-grown_step p v w (side_moves {a = a} {after = ys} Client m) g Client = grown_move p v.server v.client a v.crossed ys m g.mine.held.asks.asked
-grown_step p v w (side_moves {a = a} {after = ys} Client m) g Server = same_grown v.server.state
-grown_step p v w (side_moves {a = a} {after = ys} Server m) g Client = same_grown v.client.state
-grown_step p v w (side_moves {a = a} {after = ys} Server m) g Server = grown_move p v.client v.server a v.crossed ys m g.theirs.held.asks.asked
+grown_step p v w (side_moves {a = a} {after = ys} Client m) g = sided _ (grown_move p v.server v.client a v.crossed ys m g.mine.held.asks.asked) (same_grown v.server.state)
+grown_step p v w (side_moves {a = a} {after = ys} Server m) g = sided _ (same_grown v.client.state) (grown_move p v.client v.server a v.crossed ys m g.theirs.held.asks.asked)
 
 -- of the copies of a list, these are those that had crossed
 pub record HadCrossed (packets : ℕ) (list copies : List FirstCopy) : Type 0 where
@@ -184,9 +179,7 @@ joined p ws w (goes_on {ws = us} {w = z} r st) i u v g h = ⊎_elim
     (λ (n : (i ≡ length (us ++ z ∷ [])) × (w ≡ u)). absurd (omega arith))
     (get_push_cases (us ++ z ∷ []) w i u g)))
     (λ (new : (suc i ≡ length (us ++ z ∷ [])) × (w ≡ v)).
-    let at : i ≡ length us = (let q = length_push us z in omega arith) in
-    let there : slice_get ((us ++ z ∷ []) ++ w ∷ []) i ≡ Some z = subst (λ j. slice_get ((us ++ z ∷ []) ++ w ∷ []) j ≡ Some z) (sym at) (get_front (us ++ z ∷ []) (w ∷ []) (length us) z (get_push us z)) in
-    let same : z ≡ u = cc in
+    let same : z ≡ u = grind (arith, g, new.0, length_push us z, get_front (us ++ z ∷ []) (w ∷ []) (length us) z (get_push us z)) in
     subst (λ (y : World). Step p y v) same (subst (λ (y : World). Step p z y) new.1 st))
     (get_push_cases (us ++ z ∷ []) w (suc i) v h)
 
@@ -206,5 +199,4 @@ made_at p s xs own e f j d h g =
     let n = sends_count p s xs own e f h in
     let a = slice_get_some e.made (base p + j) (omega arith) in
     let b = copy_at p s xs own e f j a.0 h a.1 in
-    let same : b.0 ≡ d = (let z = b.1 in cc) in
-    (a.0, a.1, sym b.2 ∙ ap (λ (c : FirstCopy). c.pdu.safety) same)
+    (a.0, a.1, grind (arith, b.1, b.2))

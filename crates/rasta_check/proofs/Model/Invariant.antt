@@ -46,9 +46,7 @@ open_bit Closed = 1
 open_bit _ = 0
 
 pub bit_most : (ph : Phase) → open_bit ph ≤ 1
-bit_most Closed = omega arith
-bit_most RetrReq = omega arith
-bit_most _ = omega arith
+bit_most ph = grind arith
 
 -- the connection of such an end is over
 abbrev pub ended : Side → Phase → List Made → Bool

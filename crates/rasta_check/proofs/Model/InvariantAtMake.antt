@@ -1,27 +1,27 @@
 -- A make keeps what holds, at both ends.
-use Rattle.std.proofs.Common.{◌≡◌, ℕ, ◌+◌, ◌≤◌, Bool, true, false, List, [], ◌∷◌, ◌++◌, length, Some, None, slice_get, take, refl, ap, sym, ◌∙◌, arith, inl, ⊎_elim, subst}
+use Rattle.std.proofs.Common.{◌≡◌, ℕ, ◌+◌, ◌≤◌, true, false, List, [], ◌∷◌, ◌++◌, length, Some, None, slice_get, take, refl, ap, sym, ◌∙◌, arith, inl, ⊎_elim, subst}
 use Rattle.std.specs.Prelude.{drop}
 use Rattle.std.proofs.lemmas.List.{take-append-le, length_push}
 use Rattle.std.proofs.lemmas.Option.{slice_get_within, slice_get_past}
 use Rattle.rasta_pcap.specs.declared.fault.Side.{Side}
-use Rattle.rasta_pcap.specs.declared.fault.Side.TheVariants.{Client, Server}
+use Rattle.rasta_pcap.specs.declared.fault.Side.TheVariants.{Client}
 use Rattle.rasta_pdu.specs.declared.kind.Kind.{Kind}
 use Rattle.rasta_pdu.specs.declared.kind.Kind.TheVariants.{ConnectionRequest, DisconnectionRequest, RetransmissionRequest, RetransmissionResponse}
 use Rattle.rasta_pdu.specs.Pdu.{SafetyPdu, is_kind}
 use Rattle.rasta_pdu.specs.Params.{Parameters}
 use Rattle.rasta_end.specs.declared.phase.Phase.{Phase}
-use Rattle.rasta_end.specs.declared.phase.Phase.TheVariants.{Closed, Start, Up, RetrReq, RetrRun}
+use Rattle.rasta_end.specs.declared.phase.Phase.TheVariants.{Closed, Start}
 use Rattle.rasta_end.specs.declared.why.Why.{Why}
 use Rattle.rasta_end.specs.declared.make_row.MakeRow.{MakeRow}
 use Rattle.rasta_end.specs.declared.owed.Owed.{Owed}
 use Rattle.rasta_end.specs.declared.owed.Owed.TheVariants.{ConnectionResponse as OweConnectionResponse}
-use Rattle.rasta_end.specs.State.{Made, EndState, is_connected}
-use Rattle.rasta_end.specs.MakeRule.{is_judged, after_make, after_make_by, phase_after, owed_after}
+use Rattle.rasta_end.specs.State.{Made, EndState}
+use Rattle.rasta_end.specs.MakeRule.{after_make, phase_after, owed_after}
 use Rattle.rasta_check.proofs.Lists.{all_push, get_front}
 use Rattle.rasta_check.proofs.Model.SequenceNumbers.{numbered_push}
 use Rattle.rasta_check.proofs.Model.PassedTests.{Passed, un_not, cs_is}
-use Rattle.rasta_check.proofs.Model.MakeRows.{Making, opening, response, first_beat, answer, again, ask, beat, fresh, bye, expired, made_by, after_row, new_made}
-use Rattle.rasta_check.proofs.Model.Counts.{number, owes, tally, number_push, number_push_as, number_take_more, is_answer_owed, is_request_owed}
+use Rattle.rasta_check.proofs.Model.MakeRows.{Making, opening, response, first_beat, answer, again, ask, beat, fresh, made_by, after_row, new_made}
+use Rattle.rasta_check.proofs.Model.Counts.{number, owes, tally, number_push, number_take_more, is_answer_owed, is_request_owed}
 use Rattle.rasta_check.proofs.Model.NamedPositions.{SnIs}
 use Rattle.rasta_check.proofs.Model.Invariant.{Held, Opening, Asking, ended, is_response_owed, is_opener, has_peer, is_named, open_bit, bit_most}
 
@@ -38,39 +38,28 @@ pub data Changed (s : Side) (ph : Phase) (k : Kind) (os : List Owed) : Phase →
 
 -- ---- the rows
 
-pub connected_peer : (s : Side) (ph : Phase) → is_connected ph ≡ true → has_peer s ph ≡ true
-connected_peer s Up e = refl
-connected_peer s RetrReq e = refl
-connected_peer s RetrRun e = refl
-connected_peer s _ e = absurd (cc)
-
 pub changed : (s : Side) (ph : Phase) (why : Why) (k : Kind) (os : List Owed) (row : MakeRow) → Making s ph why k os row → Changed s ph k os (phase_after row ph) (owed_after row os)
 changed s ph why k os row opening = opened refl refl refl
 changed s ph why k os row (response {os = rest}) = goes_on refl refl refl (λ _. (rest, refl)) (omega arith)
 changed s ph why k os row first_beat = goes_on refl refl refl (λ e. absurd (cc)) (omega arith)
-changed s ph why k os row (answer r) = goes_on (connected_peer s ph r) refl refl (λ e. absurd (cc)) (omega arith)
-changed s ph why k os row (again r) = goes_on (connected_peer s ph r) refl refl (λ e. absurd (cc)) (omega arith)
-changed s ph why k os row (ask r) = goes_on (connected_peer s ph r) refl refl (λ e. absurd (cc)) (omega arith)
-changed s ph why k os row (beat r) = goes_on (connected_peer s ph r) refl refl (λ e. absurd (cc)) (omega arith)
-changed s ph why k os row (fresh r) = goes_on (connected_peer s ph r) refl refl (λ e. absurd (cc)) (omega arith)
-changed s ph why k os row (bye r) = over refl
-changed s ph why k os row (expired r) = over refl
+changed s ph why k os row (answer r) = goes_on (grind (arith, r)) refl refl (λ e. absurd (cc)) (omega arith)
+changed s ph why k os row (again r) = goes_on (grind (arith, r)) refl refl (λ e. absurd (cc)) (omega arith)
+changed s ph why k os row (ask r) = goes_on (grind (arith, r)) refl refl (λ e. absurd (cc)) (omega arith)
+changed s ph why k os row (beat r) = goes_on (grind (arith, r)) refl refl (λ e. absurd (cc)) (omega arith)
+changed s ph why k os row (fresh r) = goes_on (grind (arith, r)) refl refl (λ e. absurd (cc)) (omega arith)
+changed s ph why k os row _ = over refl
 
 -- ---- the parts of an end
 
 -- an end that closes by a make has ended
 pub over_after : (s : Side) (ph : Phase) (ms : List Made) (m : Made) → ph ≡ Closed → ended s ph (ms ++ m ∷ []) ≡ true
-over_after Server Closed ms m e = refl
-over_after Client Closed [] m e = refl
-over_after Client Closed (x ∷ ms) m e = refl
-over_after s _ ms m e = absurd (cc)
+over_after s ph [] m e = grind arith
+over_after s ph (x ∷ ms) m e = grind arith
 
 -- an end that is Closed and hasn't ended has made nothing
 pub nothing_made : (s : Side) (ph : Phase) (ms : List Made) → ph ≡ Closed → ended s ph ms ≡ false → ms ≡ []
-nothing_made s Closed [] e h = refl
-nothing_made Client Closed (m ∷ ms) e h = absurd (cc)
-nothing_made Server Closed (m ∷ ms) e h = absurd (cc)
-nothing_made s _ ms e h = absurd (cc)
+nothing_made s ph [] e h = refl
+nothing_made s ph (m ∷ ms) e h = absurd (grind arith)
 
 pub SnIs_front : (ms : List Made) (m : Made) (i sn : ℕ) → SnIs ms i sn → SnIs (ms ++ m ∷ []) i sn
 SnIs_front ms m i sn s = record { m = s.m; there = get_front ms (m ∷ []) i s.m s.there; same = s.same }
@@ -87,23 +76,22 @@ peer_make f u ms m h =
     let front : (i : ℕ) → i ≤ length ms → take i (ms ++ m ∷ []) ≡ take i ms = λ i l. take-append-le i ms (m ∷ []) l in
     let taken = front u h.accepts.within in
     let old = h.asks in
-    let asks : Asking f.side f.phase f.made f.asks f.owed u (ms ++ m ∷ []) = record {
-      asked = old.asked;
-      owing = old.owing;
-      answered = all_push ms m
-          (λ p n g k c a.
-          old.answered p n g k c (subst (λ (l : List Made). slice_get f.asks (number (is_kind RetransmissionRequest) l) ≡ Some c) (front p (let w = slice_get_within ms p n g in omega (arith, w))) a))
-          (λ k c a.
-          let all = number_take_more (is_kind RetransmissionRequest) ms u (length ms) h.accepts.within in
-          let past : slice_get f.asks (number (is_kind RetransmissionRequest) (take (length ms) ms)) ≡ None = slice_get_past f.asks _ (omega (arith, all, old.asks_taken)) in
-          absurd (let z = subst (λ (l : List Made). slice_get f.asks (number (is_kind RetransmissionRequest) l) ≡ Some c) (front (length ms) (omega arith)) a in cc));
-      asks_taken = (let same = ap (number (is_kind RetransmissionRequest)) taken in omega (arith, same, old.asks_taken));
-      open_requests = (let same = ap (number (is_kind RetransmissionResponse)) taken in omega (arith, same, old.open_requests));
-    } in
     record {
       list = h.list;
       opening = h.opening;
-      asks = asks;
+      asks = record {
+        asked = old.asked;
+        owing = old.owing;
+        answered = all_push ms m
+            (λ p n g k c a.
+            old.answered p n g k c (subst (λ (l : List Made). slice_get f.asks (number (is_kind RetransmissionRequest) l) ≡ Some c) (front p (let w = slice_get_within ms p n g in omega (arith, w))) a))
+            (λ k c a.
+            let all = number_take_more (is_kind RetransmissionRequest) ms u (length ms) h.accepts.within in
+            let past : slice_get f.asks (number (is_kind RetransmissionRequest) (take (length ms) ms)) ≡ None = slice_get_past f.asks _ (omega (arith, all, old.asks_taken)) in
+            absurd (let z = subst (λ (l : List Made). slice_get f.asks (number (is_kind RetransmissionRequest) l) ≡ Some c) (front (length ms) (omega arith)) a in cc));
+        asks_taken = (let same = ap (number (is_kind RetransmissionRequest)) taken in omega (arith, same, old.asks_taken));
+        open_requests = (let same = ap (number (is_kind RetransmissionResponse)) taken in omega (arith, same, old.open_requests));
+      };
       accepts = record {
         reached = h.accepts.reached;
         within = omega (arith, h.accepts.within, length_push ms m);
@@ -114,10 +102,6 @@ peer_make f u ms m h =
     }
 
 -- ---- the maker
-
-moved : (b : Bool) (n o o' : ℕ) → tally b o' ≡ o → tally b n + o' ≡ n + o
-moved true n o o' t = omega arith
-moved false n o o' t = omega arith
 
 module _ (s : Side) (ph : Phase) (ms : List Made) (m : Made) (a : ℕ) (os : List Owed) (open_yet : ended s ph ms ≡ false) (h : Opening s ph ms a os) where
   make_opening : (ph' : Phase) (os' : List Owed) → Changed s ph m.pdu.kind os ph' os' → Opening s ph' (ms ++ m ∷ []) a os'
@@ -153,22 +137,13 @@ module _ (s : Side) (ph : Phase) (ms : List Made) (m : Made) (a : ℕ) (os : Lis
           × (ended s ph' (ms ++ m ∷ []) ≡ false → number (is_kind RetransmissionResponse) (ms ++ m ∷ []) + owes is_answer_owed os' ≡ length qs)
           × (number (is_kind RetransmissionRequest) (ms ++ m ∷ []) + owes is_request_owed os' ≤ number (is_kind RetransmissionResponse) (take t peer) + open_bit ph')
       counts (over d) =
-          let answers = number_push_as (is_kind RetransmissionResponse) ms m false (ap (is_kind RetransmissionResponse) d) in
-          let requests = number_push_as (is_kind RetransmissionRequest) ms m false (ap (is_kind RetransmissionRequest) d) in
-          (omega (arith, answers, w.asked), λ v. absurd (let z = over_after s Closed ms m refl in cc), omega (arith, requests, w.open_requests, bit_most ph))
+          (grind (arith, number_push, w.asked, d), λ v. absurd (let z = over_after s Closed ms m refl in cc), grind (arith, number_push, w.open_requests, bit_most ph, d))
       counts (opened b c d) =
-          let answers = number_push_as (is_kind RetransmissionResponse) ms m false (ap (is_kind RetransmissionResponse) d) in
-          let requests = number_push_as (is_kind RetransmissionRequest) ms m false (ap (is_kind RetransmissionRequest) d) in
           let none = nothing_made s ph ms b open_yet in
-          let made = ap (number (is_kind RetransmissionRequest)) none in
           let owed = ap (owes is_request_owed) (h.unmade c none).1 in
-          (omega (arith, answers, w.asked), λ v. omega (arith, answers, w.owing open_yet), omega (arith, requests, made, owed))
+          (grind (arith, number_push, w.asked, d), λ v. grind (arith, number_push, w.owing open_yet, d), grind (arith, number_push, none, owed, d))
       counts (goes_on on b c d r) =
-          let answers = number_push (is_kind RetransmissionResponse) ms m in
-          let requests = number_push (is_kind RetransmissionRequest) ms m in
-          let same = moved (is_kind RetransmissionResponse m.pdu.kind) (number (is_kind RetransmissionResponse) ms) _ _ b in
-          let kept = moved (is_kind RetransmissionRequest m.pdu.kind) (number (is_kind RetransmissionRequest) ms) _ _ c in
-          (omega (arith, answers, same, w.owing open_yet), λ v. omega (arith, answers, same, w.owing open_yet), omega (arith, requests, kept, w.open_requests))
+          (grind (arith, number_push, b, w.owing open_yet), λ v. grind (arith, number_push, b, w.owing open_yet), grind (arith, number_push, c, w.open_requests))
 
   make_opener : (ph' : Phase) (os' : List Owed) → Changed s ph m.pdu.kind os ph' os' → is_opener m.pdu.kind ≡ true → ms ≡ []
   make_opener ph' os' (over d) k = absurd (let z = ap is_opener d in cc)
@@ -185,18 +160,14 @@ named_connected (over d) h = absurd (let z = ap is_named d in cc)
 named_connected (opened a s d) h = absurd (let z = ap is_named d in cc)
 named_connected (goes_on on b c d r) h = on
 
-pub named_judged : (e : EndState) (k : Kind) → is_named k ≡ true → is_judged e k ≡ true
-named_judged e ConnectionRequest h = absurd (cc)
-named_judged e DisconnectionRequest h = absurd (cc)
-named_judged e _ h = refl
-
--- a make by a row keeps what holds of the maker
-row_make : (p : Parameters) (e : EndState) (x : SafetyPdu) (clock : ℕ) (why : Why) (row : MakeRow) (t : ℕ) (peer : List Made)
-    → Passed p e x clock why → Making e.side e.phase why x.kind e.owed row → Held e t peer → Held (after_make_by (Some row) e x clock) t peer
-row_make p e x clock why row t peer pass making h =
-    let n : Made = new_made row e x in
-    let how : Changed e.side e.phase x.kind e.owed (phase_after row e.phase) (owed_after row e.owed) = changed e.side e.phase why x.kind e.owed row making in
-    record {
+-- a make keeps what holds of the maker
+pub own_make : (p : Parameters) (e : EndState) (x : SafetyPdu) (clock : ℕ) (why : Why) (t : ℕ) (peer : List Made)
+    → Passed p e x clock why → Held e t peer → Held (after_make e x clock why) t peer
+own_make p e x clock why t peer pass h =
+    let by = made_by p e x clock why pass in
+    let n : Made = new_made by.row e x in
+    let how = changed e.side e.phase why x.kind e.owed by.row by.how in
+    subst (λ (e' : EndState). Held e' t peer) (after_row e x clock why by) (record {
       list = record {
         numbered = numbered_push e.made n h.list.numbered (un_not _ pass.sn);
         openers = all_push e.made n h.list.openers (λ k. ap length (make_opener e.side e.phase e.made n e.accepted e.owed pass.open_yet h.opening _ _ how k));
@@ -211,14 +182,7 @@ row_make p e x clock why row t peer pass making h =
             (λ k.
             let a = h.opening.connected (named_connected how k) in
             let l = h.accepts.last a.0 a.1 in
-            (a.0, omega (arith, a.1), record { m = l.m; there = l.there; same = l.same ∙ sym (cs_is e x.kind x.cs (named_judged e x.kind k) pass.cs).1 }));
+            (a.0, omega (arith, a.1), record { m = l.m; there = l.there; same = l.same ∙ sym (cs_is e x.kind x.cs (grind (arith, k)) pass.cs).1 }));
       };
       confirmed = (let len = length_push e.made n in omega (arith, h.confirmed, len));
-    }
-
--- a make keeps what holds of the maker
-pub own_make : (p : Parameters) (e : EndState) (x : SafetyPdu) (clock : ℕ) (why : Why) (t : ℕ) (peer : List Made)
-    → Passed p e x clock why → Held e t peer → Held (after_make e x clock why) t peer
-own_make p e x clock why t peer pass h =
-    let by = made_by p e x clock why pass in
-    subst (λ (e' : EndState). Held e' t peer) (after_row e x clock why by) (row_make p e x clock why by.row t peer pass by.how h)
+    })

@@ -46,12 +46,7 @@ Met Anything os = Unit {0}
 -- ---- each row in turn
 
 same_is : (q o : Owed) → same_owed q o ≡ true → q ≡ o
-same_is OweConnectionResponse OweConnectionResponse h = refl
-same_is OweFirstHeartbeat OweFirstHeartbeat h = refl
-same_is OweRetransmissionResponse OweRetransmissionResponse h = refl
-same_is (OweResend j) (OweResend k) h = ap OweResend (grind (arith, nat_tests))
-same_is OweRetransmissionRequest OweRetransmissionRequest h = refl
-same_is _ _ h = absurd (cc)
+same_is q o h = grind (arith, nat_tests)
 
 meets : (d : Demand) (os : List Owed) → lacks d os ≡ false → owes_else d os ≡ false → Met d os
 unfolding Met
@@ -67,18 +62,15 @@ met row true os e f = (refl, meets (demand_of row) os e f)
 
 open_row : (s : Side) (ph : Phase) (os : List Owed) → (is_client s && is_closed ph) ≡ true → Making s ph Open ConnectionRequest os Opens
 open_row Client Closed os e = opening
-open_row Client _ os e = absurd (cc)
-open_row Server ph os e = absurd (cc)
+open_row _ _ os e = absurd (cc)
 
 response_row : (s : Side) (ph : Phase) (os : List Owed) → (not (is_client s) && is_start ph) ≡ true → Making s ph Reply ConnectionResponse (OweConnectionResponse ∷ os) Answers
 response_row Server Start os e = response
-response_row Server _ os e = absurd (cc)
-response_row Client ph os e = absurd (cc)
+response_row _ _ os e = absurd (cc)
 
 first_beat_row : (s : Side) (ph : Phase) (os : List Owed) → (is_client s && is_up ph) ≡ true → Making s ph Reply Heartbeat (OweFirstHeartbeat ∷ os) StartsBeating
 first_beat_row Client Up os e = first_beat
-first_beat_row Client _ os e = absurd (cc)
-first_beat_row Server ph os e = absurd (cc)
+first_beat_row _ _ os e = absurd (cc)
 
 -- the row of a make that is neither refused nor kept back by what is owed
 pub making : (s : Side) (ph : Phase) (reason : ℕ) (why : Why) (k : Kind) (os : List Owed)

@@ -7,7 +7,6 @@ use Rattle.rasta_pdu.specs.Pdu.{SafetyPdu}
 use Rattle.rasta_end.specs.State.{Made, EndState, ahead_by, first_sn, sn_at}
 use Rattle.rasta_end.specs.TakeRule.{is_valid, position_confirmed}
 use Rattle.rasta_check.proofs.Model.SequenceNumbers.{Numbered, sn_from_first}
-use Rattle.rasta_check.proofs.Model.Distances.{apart, confirmed_at}
 
 -- the PDU at this position has this SN
 pub record SnIs (ms : List Made) (i sn : ℕ) : Type 0 where
@@ -23,7 +22,7 @@ sn_mod ms i sn h s = ap (λ n. n % 2 ^ 32) (sym s.same) ∙ sn_from_first ms i s
 pub position_is : (ms : List Made) (i p u v : ℕ) → Numbered ms → length ms ≤ 1000001 → SnIs ms p u → SnIs ms i v → i < p → i + suc (ahead_by u (v + 1)) ≡ p
 position_is ms i p u v h b x y l =
     let w : p < length ms = slice_get_within ms p x.m x.there in
-    apart u v (first_sn ms) i p (sn_mod ms p u h x) (sn_mod ms i v h y) l (omega arith)
+    omega (arith, sn_mod ms p u h x, sn_mod ms i v h y)
 
 -- a valid SN of a position lies as far after the confirmed one as the position does
 valid_at : (ms : List Made) (c j u : ℕ) → Numbered ms → length ms ≤ 1000001 → c ≤ length ms → SnIs ms j u
@@ -32,7 +31,7 @@ valid_at [] c j u h b l s v = absurd (let e = s.there in cc)
 valid_at (m ∷ ms) c j u h b l s v =
     let w : j < length (m ∷ ms) = slice_get_within (m ∷ ms) j s.m s.there in
     let t : ahead_by u ((m.pdu.sn + c) % 2 ^ 32) < ahead_by ((m.pdu.sn + length (m ∷ ms)) % 2 ^ 32) ((m.pdu.sn + c) % 2 ^ 32) = grind (arith, nat_tests) in
-    confirmed_at u m.pdu.sn c j (length (m ∷ ms)) (sn_mod (m ∷ ms) j u h s) l w b t
+    omega (arith, sn_mod (m ∷ ms) j u h s, l, w, b, t)
 
 -- a valid CS confirms the position that it names
 pub confirms_is : (e : EndState) (x : SafetyPdu) (j : ℕ) → Numbered e.made → length e.made ≤ 1000001 → e.confirmed ≤ length e.made → SnIs e.made j x.cs → is_valid e x ≡ true → position_confirmed e x ≡ j

@@ -4,7 +4,7 @@ use Rattle.std.specs.Prelude.{slice_index_or}
 use Rattle.rasta_pcap.specs.declared.fault.Side.{Side}
 use Rattle.rasta_end.specs.declared.phase.Phase.{Phase}
 use Rattle.rasta_end.specs.declared.owed.Owed.{Owed}
-use Rattle.rasta_end.specs.declared.owed.Owed.TheVariants.{ConnectionResponse as OweConnectionResponse, FirstHeartbeat as OweFirstHeartbeat, RetransmissionResponse as OweRetransmissionResponse, Resend as OweResend, RetransmissionRequest as OweRetransmissionRequest}
+use Rattle.rasta_end.specs.declared.owed.Owed.TheVariants.{RetransmissionResponse as OweRetransmissionResponse, Resend as OweResend}
 use Rattle.rasta_end.specs.State.{Made, EndState, kinds, is_connected, carries_unit, content_of}
 use Rattle.rasta_end.specs.Units.{last_of, units_at, all_units_conveyed}
 use Rattle.rasta_end.specs.MakeRule.{contents}
@@ -25,11 +25,7 @@ DueRest v n (_ ∷ os) = DueRest v n os
 -- the same, where a retransmission response goes back to u
 abbrev pub Due : ℕ → ℕ → ℕ → List Owed → Type 0
 Due u v n (OweRetransmissionResponse ∷ os) = DueRest u n os
-Due u v n [] = DueRest v n []
-Due u v n (OweConnectionResponse ∷ os) = DueRest v n os
-Due u v n (OweFirstHeartbeat ∷ os) = DueRest v n os
-Due u v n (OweRetransmissionRequest ∷ os) = DueRest v n os
-Due u v n (OweResend k ∷ os) = DueRest v n (OweResend k ∷ os)
+Due u v n os = DueRest v n os
 
 -- What holds comes in slices, each over what it reads of the end. vs: the units conveyed through each position, ms: what
 -- the end made, qs: its asks, n: how many units it offered, os: what it owes
@@ -82,11 +78,9 @@ rest_due u v n _ h = h
 
 pub due_le : (v n : ℕ) (os : List Owed) → DueRest v n os → v ≤ n
 due_le v n [] h = omega arith
-due_le v n (OweConnectionResponse ∷ os) h = due_le v n os h
-due_le v n (OweFirstHeartbeat ∷ os) h = due_le v n os h
-due_le v n (OweRetransmissionRequest ∷ os) h = due_le v n os h
 due_le v n (OweResend k ∷ os) h = (let l = due_le (suc v) n os h.1 in omega (arith, l))
 due_le v n (OweRetransmissionResponse ∷ os) h = absurd h
+due_le v n (_ ∷ os) h = due_le v n os h
 
 resends_due_at : (u d n : ℕ) (tail : List Owed) → u + d ≡ n → DueRest n n tail → DueRest u n (resends u d ++ tail)
 resends_due_at u zero n tail e h = let s : n ≡ u = omega (arith, e) in subst (λ v. DueRest v n tail) s h

@@ -1,41 +1,34 @@
 -- A make keeps what holds of the units offered.
-use Rattle.std.proofs.Common.{◌≡◌, ℕ, suc, ◌-◌, ◌<◌, ◌≤◌, ◌⊎◌, true, false, List, [], ◌∷◌, ◌++◌, length, Option, Some, None, slice_get, take, refl, ap, sym, ◌∙◌, arith, inl, inr, ⊎_elim, subst}
+use Rattle.std.proofs.Common.{◌≡◌, ℕ, suc, ◌-◌, ◌<◌, ◌≤◌, ◌⊎◌, true, false, List, [], ◌∷◌, ◌++◌, length, Option, Some, slice_get, take, refl, ap, sym, ◌∙◌, arith, inl, inr, ⊎_elim, subst}
 use Rattle.std.specs.Prelude.{slice_index_or, map, filter}
-use Rattle.std.proofs.lemmas.List.{take-append-le, append-nil, take_all, length_push, map-append}
+use Rattle.std.proofs.Math.Seq.{take-append_seam}
+use Rattle.std.proofs.lemmas.List.{take-append-le, append-nil, length_push, map-append}
 use Rattle.std.proofs.lemmas.List.Elements.{filter-append}
 use Rattle.std.proofs.lemmas.Option.{slice_get_within, slice_get-get_or}
 use Rattle.std.proofs.lemmas.Slice.Eq.{bytes_eq-Decides}
-use Rattle.std.specs.Option.{option_map_or}
-use Rattle.std.specs.Str.{bytes_eq}
 use Rattle.rasta_pcap.specs.declared.fault.Side.{Side}
 use Rattle.rasta_pcap.specs.declared.fault.Side.TheVariants.{Client}
 use Rattle.rasta_pdu.specs.declared.kind.Kind.{Kind}
-use Rattle.rasta_pdu.specs.declared.kind.Kind.TheVariants.{RetransmissionResponse, Data, RetransmittedData}
+use Rattle.rasta_pdu.specs.declared.kind.Kind.TheVariants.{RetransmissionResponse, Data}
 use Rattle.rasta_pdu.specs.Params.{Parameters}
 use Rattle.rasta_pdu.specs.Pdu.{SafetyPdu, is_kind}
 use Rattle.rasta_end.specs.declared.phase.Phase.{Phase}
 use Rattle.rasta_end.specs.declared.phase.Phase.TheVariants.{Closed}
 use Rattle.rasta_end.specs.declared.why.Why.{Why}
 use Rattle.rasta_end.specs.declared.make_row.MakeRow.{MakeRow}
-use Rattle.rasta_end.specs.declared.make_row.MakeRow.TheVariants.{Offers}
 use Rattle.rasta_end.specs.declared.owed.Owed.{Owed}
 use Rattle.rasta_end.specs.State.{Made, EndState, is_connected, carries_unit, content_of}
 use Rattle.rasta_end.specs.Units.{units_after, units_at, last_of}
 use Rattle.rasta_end.specs.MakeRule.{has_ended, contents, differs, unit_of, phase_after, owed_after, offered_after, after_make, after_make_by}
 use Rattle.rasta_check.proofs.Lists.{all_push, get_front, get_front_within, get_push}
 use Rattle.rasta_check.proofs.Model.Counts.{number}
-use Rattle.rasta_check.proofs.Model.PassedTests.{Passed, un_not}
-use Rattle.rasta_check.proofs.Model.MakeRows.{Making, opening, response, first_beat, answer, again, ask, beat, fresh, bye, expired, MadeBy, made_by, after_row, new_made}
+use Rattle.rasta_check.proofs.Model.PassedTests.{Passed}
+use Rattle.rasta_check.proofs.Model.MakeRows.{Making, opening, answer, again, fresh, bye, expired, MadeBy, made_by, after_row, new_made}
 use Rattle.rasta_check.proofs.Model.Invariant.{Held}
 use Rattle.rasta_check.proofs.Model.InvariantAtMake.{over_after, nothing_made}
-use Rattle.rasta_check.proofs.Model.ConveyedUnits.{values, jump, is_plain, last_push, last_get, values_push, length-values, units_next, after_is, next_plain, next_unit, first_kept}
+use Rattle.rasta_check.proofs.Model.ConveyedUnits.{values, jump, is_plain, last_push, last_get, values_push, length-values, units_next, after_is}
 use Rattle.rasta_check.proofs.Model.TakeRows.{kind_is}
 use Rattle.rasta_check.proofs.Model.OfferedUnits.{Valued, Conveying, Returning, Carrying, Due, DueRest, rest_due, due_le, bare_rest}
-
-not_plain : (k : Kind) → carries_unit k ≡ true → is_plain k ≡ false
-not_plain Data h = refl
-not_plain RetransmittedData h = refl
-not_plain _ h = absurd (cc)
 
 -- What a row does: u are the units at the ask that is answered next, v the units conveyed so far, n those offered.
 
@@ -45,15 +38,11 @@ Leads u v n ph k row os = ((phase_after row ph ≡ Closed) × (is_plain k ≡ tr
 
 leads : (s : Side) (ph : Phase) (why : Why) (k : Kind) (os : List Owed) (row : MakeRow) (u v n : ℕ) → (s ≡ Client → ph ≡ Closed → os ≡ []) → Making s ph why k os row → Due u v n os → Leads u v n ph k row os
 leads s ph why k os row u v n free opening d = inr (subst (DueRest v n) (sym (free refl refl)) (bare_rest u v n os (free refl refl) d))
-leads s ph why k os row u v n free response d = inr d
-leads s ph why k os row u v n free first_beat d = inr d
-leads s ph why k os row u v n free (answer r) d = inr d
 leads s ph why k os row u v n free (again r) d = inr d.1
-leads s ph why k os row u v n free (ask r) d = inr d
-leads s ph why k os row u v n free (beat r) d = inr d
 leads s ph why k os row u v n free (fresh r) d = inr (ap suc d)
 leads s ph why k os row u v n free (bye r) d = inl (refl, refl)
 leads s ph why k os row u v n free (expired r) d = inl (refl, refl)
+leads s ph why k os row u v n free _ d = inr d
 
 -- a unit is made by an end that is connected; it is the next one
 unit_made : (s : Side) (ph : Phase) (why : Why) (k : Kind) (os : List Owed) (row : MakeRow) (u v n : ℕ) → Making s ph why k os row → Due u v n os → carries_unit k ≡ true → unit_of row n ≡ Some v
@@ -68,8 +57,7 @@ unit_runs s ph why k os row (fresh r) h = r
 unit_runs s ph why k os row _ h = absurd (cc)
 
 offered_least : (row : MakeRow) (n : ℕ) → n ≤ offered_after row n
-offered_least Offers n = omega arith
-offered_least _ n = omega arith
+offered_least row n = grind arith
 
 last_most : (vs : List ℕ) (n : ℕ) → ((i v : ℕ) → slice_get vs i ≡ Some v → v ≤ n) → last_of vs ≤ n
 last_most [] n h = omega arith
@@ -81,14 +69,10 @@ data Adds (ms : List Made) (n : ℕ) (k : Kind) (content : List ℕ) (unit : Opt
   none : is_kind Data k ≡ false → n' ≡ n → ((j : ℕ) → unit ≡ Some j → (carries_unit k ≡ true) × (slice_get (contents ms) j ≡ Some content)) → Adds ms n k content unit n'
   one : k ≡ Data → n' ≡ suc n → unit ≡ Some n → Adds ms n k content unit n'
 
-the_content : (unit : Option (List ℕ)) (content : List ℕ) → option_map_or (λ (own : List ℕ). bytes_eq own content) unit false ≡ true → unit ≡ Some content
-the_content None content h = absurd (cc)
-the_content (Some unit) content h = ap Some ((bytes_eq-Decides unit content).0 h)
-
 adds : (s : Side) (ph : Phase) (why : Why) (k : Kind) (os : List Owed) (row : MakeRow) (ms : List Made) (n : ℕ) (content : List ℕ)
     → Making s ph why k os row → differs ms (Some row) content ≡ false → Adds ms n k content (unit_of row n) (offered_after row n)
 adds s ph why k os row ms n content (again {k = j} r) d =
-    none refl refl (λ i u. (refl, (let same : j ≡ i = cc in subst (λ z. slice_get (contents ms) z ≡ Some content) same (the_content (slice_get (contents ms) j) content (un_not _ d)))))
+    none refl refl (λ i u. (refl, grind (arith, bytes_eq-Decides, d, u)))
 adds s ph why k os row ms n content (fresh r) d = one refl refl refl
 adds s ph why k os row ms n content _ d = none refl refl (λ i u. absurd (cc))
 
@@ -102,7 +86,7 @@ module _ (ms : List Made) (m : Made) (n : ℕ) (w : Carrying ms n) where
   front i l = take-append-le i ms (m ∷ []) l
 
   whole : take (length ms) (ms ++ m ∷ []) ≡ ms
-  whole = front (length ms) (omega arith) ∙ take_all (length ms) ms (omega arith)
+  whole = take-append_seam ms (m ∷ [])
 
   old_fresh : (i : ℕ) (y : Made) → slice_get ms i ≡ Some y → is_kind Data y.pdu.kind ≡ true → y.unit ≡ Some (length (contents (take i (ms ++ m ∷ []))))
   old_fresh i y g d = (let l = slice_get_within ms i y g in w.fresh i y g d ∙ ap (λ (l : List Made). Some (length (contents l))) (sym (front i (omega (arith, l)))))
@@ -130,14 +114,13 @@ module _ (ms : List Made) (m : Made) (n : ℕ) (w : Carrying ms n) where
       record {
         counted = (let l = ap length more in let k = length_push (contents ms) (content_of m.pdu.body) in omega (arith, l, k, s, w.counted));
         fresh = all_push ms m old_fresh (λ k. unit_is ∙ ap (λ (l : List Made). Some (length (contents l))) (sym whole));
-        carried = all_push ms m old_carried
-            (λ k u.
-            let un : Some (length (contents ms)) ≡ Some k = sym unit_is ∙ u in
-            let at : length (contents ms) ≡ k = cc in
-            (ap carries_unit d, ap (λ (cs : List (List ℕ)). slice_get cs k) more ∙ subst (λ j. slice_get (contents ms ++ content_of m.pdu.body ∷ []) j ≡ Some (content_of m.pdu.body)) at (get_push (contents ms) (content_of m.pdu.body))));
+        carried = all_push ms m old_carried (λ k u. (ap carries_unit d, grind (arith, more, unit_is, u, get_push (contents ms) (content_of m.pdu.body))));
       }
 
-module _ (p : Parameters) (e : EndState) (x : SafetyPdu) (clock : ℕ) (why : Why) (t : ℕ) (peer : List Made) (pass : Passed p e x clock why) (h : Held e t peer) (w : Valued e) (b : MadeBy e x why) where
+module _ (p : Parameters) (e : EndState) (x : SafetyPdu) (clock : ℕ) (why : Why) (t : ℕ) (peer : List Made) (pass : Passed p e x clock why) (h : Held e t peer) (w : Valued e) where
+  b : MadeBy e x why
+  b = made_by p e x clock why pass
+
   abbrev after : EndState
   after = after_make_by (Some b.row) e x clock
 
@@ -167,13 +150,12 @@ module _ (p : Parameters) (e : EndState) (x : SafetyPdu) (clock : ℕ) (why : Wh
       -- a client that has made nothing owes nothing
       leads e.side e.phase why x.kind e.owed b.row (jump e) (last_of (values e)) e.offered (λ s c. (h.opening.unmade s (nothing_made e.side e.phase e.made c pass.open_yet)).1) b.how (w.due pass.open_yet)
 
-  plain_is : is_plain x.kind ≡ true → value ≡ last_of (values e)
-  plain_is u = value_is ∙ next_plain (jump e) (last_of (values e)) x.kind u
-
   value_most : value ≤ after.offered
   value_most =
       ⊎_elim
-      (λ (o : (after.phase ≡ Closed) × (is_plain x.kind ≡ true)). omega (arith, plain_is o.1, last_most (values e) e.offered w.positions.bounded, offered_least b.row e.offered))
+      (λ (o : (after.phase ≡ Closed) × (is_plain x.kind ≡ true)).
+      let z : value ≡ last_of (values e) = grind (arith, value_is, o.1) in
+      omega (arith, z, last_most (values e) e.offered w.positions.bounded, offered_least b.row e.offered))
       (λ (d : DueRest next after.offered after.owed). omega (arith, value_is, due_le next after.offered after.owed d))
       step
 
@@ -207,13 +189,13 @@ module _ (p : Parameters) (e : EndState) (x : SafetyPdu) (clock : ℕ) (why : Wh
         units = all_push e.made new
             (λ i n g u. (let r = w.positions.units i n g u in (r.0, r.1, r.2, r.3, old r.0 r.1 r.4, old i (suc r.1) r.5)))
             (λ u.
-            let last : length e.made ≡ suc (length e.made - 1) = omega (arith, some_made (not_plain x.kind u)) in
+            let last : length e.made ≡ suc (length e.made - 1) = omega (arith, some_made (grind arith)) in
             let unit = unit_made e.side e.phase why x.kind e.owed b.row (jump e) (last_of (values e)) e.offered b.how (w.due pass.open_yet) u in
-            (length e.made - 1, last_of (values e), last, unit, previous (length e.made - 1) last, at_new ∙ ap Some (value_is ∙ next_unit (jump e) (last_of (values e)) x.kind u)));
+            (length e.made - 1, last_of (values e), last, unit, previous (length e.made - 1) last, at_new ∙ ap Some (grind (arith, value_is))));
         others = all_push e.made new
             (λ i n g u q s. (let l = slice_get_within e.made i n g in both_old i q (w.positions.others i n g u q s) l (omega (arith, l, s))))
-            (λ u q s. at_new ∙ (ap Some (plain_is u) ∙ sym (previous q s)));
-        zeroth = first_kept e.asks (values e) (number (is_kind RetransmissionResponse) e.made) x.kind w.positions.zeroth;
+            (λ u q s. grind (arith, at_new, value_is, u, previous q s));
+        zeroth = grind (arith, w.positions.zeroth);
       }
 
   returns : Returning (values e ++ value ∷ []) (e.made ++ new ∷ []) e.asks
@@ -232,19 +214,13 @@ module _ (p : Parameters) (e : EndState) (x : SafetyPdu) (clock : ℕ) (why : Wh
         asks_within = λ i c g. (let l = w.returns.asks_within i c g in omega (arith, l, length_push e.made new));
       }
 
-  valued_after : Valued after
-  valued_after =
-      record {
+  pub valued_make : Valued (after_make e x clock why)
+  valued_make =
+      subst Valued (after_row e x clock why b) (record {
         due = due_after;
         grown = λ _. omega (arith, length_push e.made new);
         positions = subst (λ vs. Conveying vs after.made after.offered) (sym pushed) conveys;
         returns = subst (λ vs. Returning vs after.made e.asks) (sym pushed) returns;
         contents = carries e.made new e.offered w.contents after.offered
             (adds e.side e.phase why x.kind e.owed b.row e.made e.offered (content_of x.body) b.how (subst (λ (row : Option MakeRow). differs e.made row (content_of x.body) ≡ false) b.is pass.same));
-      }
-
-pub valued_make : (p : Parameters) (e : EndState) (x : SafetyPdu) (clock : ℕ) (why : Why) (t : ℕ) (peer : List Made)
-    → Passed p e x clock why → Held e t peer → Valued e → Valued (after_make e x clock why)
-valued_make p e x clock why t peer pass h w =
-    let b = made_by p e x clock why pass in
-    subst Valued (after_row e x clock why b) (valued_after p e x clock why t peer pass h w b)
+      })

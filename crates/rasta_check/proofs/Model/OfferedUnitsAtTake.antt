@@ -1,6 +1,5 @@
 -- A take keeps what holds of the units offered.
-use Rattle.std.proofs.Common.{◌≡◌, ℕ, suc, ◌-◌, ◌<◌, ◌≤◌, true, false, List, [], ◌∷◌, ◌++◌, length, Some, slice_get, refl, ap, sym, ◌∙◌, arith, subst}
-use Rattle.std.specs.Prelude.{slice_index_or}
+use Rattle.std.proofs.Common.{◌≡◌, ℕ, suc, ◌-◌, ◌<◌, ◌≤◌, true, false, List, [], ◌∷◌, ◌++◌, length, refl, ap, sym, ◌∙◌, arith, subst}
 use Rattle.std.proofs.lemmas.List.{append-nil}
 use Rattle.rasta_pdu.specs.Params.{Parameters}
 use Rattle.rasta_pdu.specs.Pdu.{SafetyPdu, is_kind}
@@ -11,7 +10,7 @@ use Rattle.rasta_end.specs.declared.take_row.TakeRow.TheVariants.{Opened, Answer
 use Rattle.rasta_end.specs.declared.owed.Owed.{Owed}
 use Rattle.rasta_end.specs.declared.owed.Owed.TheVariants.{RetransmissionResponse as OweRetransmissionResponse, RetransmissionRequest as OweRetransmissionRequest}
 use Rattle.rasta_end.specs.State.{Made, EndState, kinds, is_closed, is_connected, carries_unit}
-use Rattle.rasta_end.specs.Units.{units_conveyed, units_at, last_of}
+use Rattle.rasta_end.specs.Units.{units_conveyed, last_of}
 use Rattle.rasta_end.specs.TakeRule.{is_valid, position_confirmed, accept, enter, note_ask, resends, effect, after_take}
 use Rattle.rasta_check.proofs.Lists.{all_push, get_push, get_front_within}
 use Rattle.rasta_check.proofs.Model.Counts.{number, number_take_all, number_take_at}
@@ -47,10 +46,7 @@ module _ (q : Parameters) (e f : EndState) (t u : ℕ) (m : Made) (p : ℕ) (k :
   same_values c = values_asks e.asks c e.made k.mine.asks.asked
 
   burst_jump : (c : ℕ) → jump (asked c) ≡ units_conveyed e.asks (kinds e.made) c
-  burst_jump c =
-      let len = no_answers q e f t u m p k free away in
-      let at : slice_get (e.asks ++ c ∷ []) (number (is_kind RetransmissionResponse) e.made) ≡ Some c = subst (λ i. slice_get (e.asks ++ c ∷ []) i ≡ Some c) (sym len) (get_push e.asks c) in
-      ap (units_at (values (asked c))) at ∙ ap (λ vs. slice_index_or vs c 0) (same_values c)
+  burst_jump c = grind (arith, no_answers q e f t u m p k free away, get_push e.asks c, same_values c)
 
   -- the resends of the burst that answers this ask
   abbrev again : ℕ → List Owed
@@ -106,9 +102,7 @@ pub values_take : (q : Parameters) (e : EndState) (x : SafetyPdu) → number (is
 values_take q e x h = take_by q e x (λ g. values g ≡ values e) refl (λ r away knows. by r)
   where
     by : (r : TakeRow) → values (effect q r e x) ≡ values e
-    by InSequence = handed_or (λ g. values g ≡ values e) (carries_unit x.kind) e.accepted (enter Up (accept q e x)) x refl (λ s. s)
-    by ResentInSequence = handed_or (λ g. values g ≡ values e) (carries_unit x.kind) e.accepted (accept q e x) x refl (λ s. s)
     by Requested = values_asks e.asks (position_confirmed e x) e.made h
     by RequestedAhead = values_asks e.asks (position_confirmed e x) e.made h
     by RequestedAgain = values_asks e.asks (position_confirmed e x) e.made h
-    by _ = refl
+    by _ = grind arith

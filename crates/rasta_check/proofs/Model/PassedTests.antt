@@ -1,5 +1,5 @@
 -- What an allowed make has passed.
-use Rattle.std.proofs.Common.{◌≡◌, ◌<◌, ℕ, zero, suc, Bool, true, false, refl, arith}
+use Rattle.std.proofs.Common.{◌≡◌, ◌<◌, ℕ, Bool, true, false, arith}
 use Rattle.std.specs.Prelude.{All, IsFalse, not, ◌&&◌, ◌==◌, nat_lt}
 use Rattle.std.proofs.lemmas.Bool.Decides.{nat_tests}
 use Rattle.rasta_pdu.specs.declared.kind.Kind.{Kind}
@@ -39,17 +39,8 @@ passed p e x clock why h =
     }
 
 pub un_not : (b : Bool) → not b ≡ false → b ≡ true
-un_not true e = refl
-un_not false e = absurd (cc)
-
-last_by : (n u v : ℕ) → not (not (n == 0) && u == v) ≡ false → (0 < n) × (u ≡ v)
-last_by zero u v h = absurd (cc)
-last_by (suc n) u v h = (omega arith, grind (arith, nat_tests))
+un_not b e = grind arith
 
 -- a CS that is judged: something was accepted, and it is the SN of the last accepted PDU
 pub cs_is : (e : EndState) (kind : Kind) (cs : ℕ) → is_judged e kind ≡ true → (is_judged e kind && not (confirms_last e cs)) ≡ false → (0 < e.accepted) × (cs ≡ e.last_sn)
-cs_is e kind cs j h = last_by e.accepted cs e.last_sn (judged_by (is_judged e kind) (confirms_last e cs) j h)
-  where
-    judged_by : (a b : Bool) → a ≡ true → (a && not b) ≡ false → not b ≡ false
-    judged_by true b e h = h
-    judged_by false b e h = absurd (cc)
+cs_is e kind cs j h = grind (arith, nat_tests)

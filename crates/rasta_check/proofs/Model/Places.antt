@@ -44,9 +44,6 @@ made_then p ws w side own peer r mine theirs few few_theirs j d v next a there =
 few_sent : (p : Parameters) (s : Side) (n made : ℕ) → made ≡ base p + n → made ≤ (start_of p s).base + 1000000 → n ≤ 1000000
 few_sent p s n made e l = (let b = start_base p.quiet s in omega arith)
 
-at_base : (p : Parameters) (s : Side) (j m m' : ℕ) → (m ≡ base p + j) × (m' ≡ suc (base p + j)) → (m ≡ (start_of p s).base + j) × (m' ≡ suc ((start_of p s).base + j))
-at_base p s j m m' h = (let b = start_base p.quiet s in let x = h.0 in let y = h.1 in (omega arith, omega arith))
-
 -- the sent list of a side in a run
 pub made_list : (p : Parameters) → AreParameters p → (ws : List World) (w : World) (side : Side) → Reaches p ws w → IsWithin p w → (sent : List FirstCopy) × IsMade p ws w side sent
 made_list p valid ws w side r within =
@@ -57,6 +54,8 @@ made_list p valid ws w side r within =
       record {
         list = of_record p w.crossed side g.own g.sends.sent (omega arith);
         made = g.sends.same;
-        there = λ j d v next x a. at_base p side j _ _ (made_then p ws w side g.own g.peer r g.sends.sent g.their_sends.sent few few_theirs j d v next a x);
+        there = λ j d v next x a.
+            let m = made_then p ws w side g.own g.peer r g.sends.sent g.their_sends.sent few few_theirs j d v next a x in
+            (omega (arith, m.0, start_base p.quiet side), omega (arith, m.1, start_base p.quiet side));
       },
     )

@@ -1,8 +1,7 @@
 -- What an end was asked, and what its retransmission responses answer.
-use Rattle.std.proofs.Common.{◌≡◌, ℕ, zero, suc, ◌<◌, Bool, true, false, List, [], ◌∷◌, ◌++◌, length, Option, Some, None, slice_get, take, refl, ap, sym, ◌∙◌, arith, subst, cond}
-use Rattle.std.specs.Prelude.{slice_index_or, filter, filter_map, if◌then◌else◌, ◌==◌}
+use Rattle.std.proofs.Common.{◌≡◌, ℕ, zero, suc, ◌<◌, Bool, true, false, List, [], ◌∷◌, ◌++◌, length, Some, slice_get, take, refl, ap, sym, ◌∙◌, arith, subst}
+use Rattle.std.specs.Prelude.{slice_index_or, if◌then◌else◌, ◌==◌}
 use Rattle.std.specs.Option.{option_map}
-use Rattle.std.specs.List.{cons_option}
 use Rattle.std.proofs.Math.Seq.{take-append_seam}
 use Rattle.std.proofs.lemmas.Bool.Decides.{nat_tests}
 use Rattle.std.proofs.lemmas.Option.{slice_get_within, slice_get-get_or}
@@ -19,7 +18,7 @@ use Rattle.rasta_check.proofs.Model.NamedPositions.{SnIs}
 use Rattle.rasta_check.proofs.Model.Invariant.{Held, is_named}
 use Rattle.rasta_check.proofs.Model.ConveyedUnits.{answers_number}
 use Rattle.rasta_check.proofs.Model.OfferedUnits.{Valued}
-use Rattle.rasta_check.proofs.Lists.{begins_with, get_next}
+use Rattle.rasta_check.proofs.Lists.{begins_with, get_next, mapped_some}
 
 -- ---- the position that a CS confirms
 
@@ -31,27 +30,12 @@ OnceIn ms = (i j : ℕ) (m n : Made) → slice_get ms i ≡ Some m → slice_get
 pub named_position : (ms : List Made) (c sn : ℕ) → OnceIn ms → SnIs ms c sn → position_with (pdus_made ms) sn ≡ Some c
 named_position [] c sn once s = absurd (let e = s.there in cc)
 named_position (x ∷ ms) zero sn once s =
-    let e = s.there in
-    let same : x ≡ s.m = cc in
-    let sn_is : x.pdu.sn ≡ sn = ap (λ (m : Made). m.pdu.sn) same ∙ s.same in
-    let test : (x.pdu.sn == sn) ≡ true = grind (arith, nat_tests, sn_is) in
-    ap (λ b. if b then Some 0 else option_map suc (position_with (pdus_made ms) sn)) test
+    grind (arith, nat_tests, s.there, s.same)
 named_position (x ∷ ms) (suc c) sn once s =
-    by (named_position ms c sn (λ i j m n e f g. (let same = once (suc i) (suc j) m n e f g in omega (arith, same))) (record { m = s.m; there = s.there; same = s.same })) (x.pdu.sn == sn) refl
-  where
-    by : position_with (pdus_made ms) sn ≡ Some c → (b : Bool) → (x.pdu.sn == sn) ≡ b → (if b then Some 0 else option_map suc (position_with (pdus_made ms) sn)) ≡ Some (suc c)
-    by later true e = absurd (let here : x.pdu.sn ≡ sn = grind (arith, nat_tests, e) in let z = once 0 (suc c) x s.m refl s.there (here ∙ sym s.same) in omega (arith, z))
-    by later false e = ap (option_map suc) later
+    let later = named_position ms c sn (λ i j m n e f g. (let same = once (suc i) (suc j) m n e f g in omega (arith, same))) (record { m = s.m; there = s.there; same = s.same }) in
+    grind (arith, nat_tests, later, s.same, once 0 (suc c) x s.m refl s.there)
 
 -- the position that a CS confirms has this SN
-next_found : (m : Made) (ms : List Made) (sn : ℕ) → ((c : ℕ) → position_with (pdus_made ms) sn ≡ Some c → SnIs ms c sn)
-    → (o : Option ℕ) → position_with (pdus_made ms) sn ≡ o → (c : ℕ) → option_map suc o ≡ Some c → SnIs (m ∷ ms) c sn
-next_found m ms sn rest None is c g = absurd (cc)
-next_found m ms sn rest (Some d) is c g =
-    let s = rest d is in
-    let next : suc d ≡ c = cc in
-    subst (λ i. SnIs (m ∷ ms) i sn) next (record { m = s.m; there = s.there; same = s.same })
-
 pub found_position : (ms : List Made) (sn c : ℕ) → position_with (pdus_made ms) sn ≡ Some c → SnIs ms c sn
 found_position [] sn c g = absurd (cc)
 found_position (m ∷ ms) sn c g = by (m.pdu.sn == sn) refl g (found_position ms sn)
@@ -61,7 +45,10 @@ found_position (m ∷ ms) sn c g = by (m.pdu.sn == sn) refl g (found_position ms
     by true e h rest =
         let first : 0 ≡ c = cc in
         subst (λ i. SnIs (m ∷ ms) i sn) first (record { m = m; there = refl; same = grind (arith, nat_tests) })
-    by false e h rest = next_found m ms sn rest (position_with (pdus_made ms) sn) refl c h
+    by false e h rest =
+        let d = mapped_some suc (position_with (pdus_made ms) sn) c h in
+        let s = rest d.0 d.1 in
+        subst (λ i. SnIs (m ∷ ms) i sn) d.2 (record { m = s.m; there = s.there; same = s.same })
 
 -- ---- the k-th of a kind
 
@@ -77,10 +64,8 @@ found_by : (f : Kind → Bool) (x : Made) (ms : List Made) (b : Bool) → f x.pd
 found_by f x ms true e rest zero l = record { at = 0; m = x; there = refl; is = e; before = refl }
 found_by f x ms true e rest (suc k) l =
     let r = rest k (omega (arith, l)) in
-    record { at = suc r.at; m = r.m; there = r.there; is = r.is; before = ap (λ b. tally b (number f (take r.at ms))) e ∙ ap suc r.before }
-found_by f x ms false e rest k l =
-    let r = rest k l in
-    record { at = suc r.at; m = r.m; there = r.there; is = r.is; before = ap (λ b. tally b (number f (take r.at ms))) e ∙ r.before }
+    record { at = suc r.at; m = r.m; there = r.there; is = r.is; before = grind (arith, r.before) }
+found_by f x ms false e rest k l = (let r = rest k l in record { at = suc r.at; m = r.m; there = r.there; is = r.is; before = grind (arith, r.before) })
 
 pub found : (f : Kind → Bool) (ms : List Made) (k : ℕ) → k < number f ms → Found f ms k
 found f [] k l = absurd (omega (arith, l))
@@ -88,27 +73,12 @@ found f (x ∷ ms) k l = found_by f x ms (f x.pdu.kind) refl (found f ms) k l
 
 -- ---- what each request confirms
 
-more_of : {A : Type 0} (b : Bool) (x a : A) (xs : List A) (k : ℕ) → slice_get xs k ≡ Some a → slice_get (cond b (x ∷ xs) xs) (tally b k) ≡ Some a
-more_of true x a xs k e = e
-more_of false x a xs k e = e
-
 -- the k-th request, by its position
 pub request_at : (ms : List Made) (p : ℕ) (m : Made) → slice_get ms p ≡ Some m → is_kind RetransmissionRequest m.pdu.kind ≡ true
     → slice_get (requests_of ms) (number (is_kind RetransmissionRequest) (take p ms)) ≡ Some m
 request_at [] p m e r = absurd (cc)
-request_at (x ∷ ms) zero m e r =
-    let same : x ≡ m = cc in
-    let b : is_kind RetransmissionRequest x.pdu.kind ≡ true = ap (λ (n : Made). is_kind RetransmissionRequest n.pdu.kind) same ∙ r in
-    ap (λ c. slice_get (cond c (x ∷ requests_of ms) (requests_of ms)) 0) b ∙ ap Some same
-request_at (x ∷ ms) (suc p) m e r = more_of (is_kind RetransmissionRequest x.pdu.kind) x m (requests_of ms) (number (is_kind RetransmissionRequest) (take p ms)) (request_at ms p m e r)
-
-more_asked : (own : List SafetyPdu) (b : Bool) (x : SafetyPdu) (xs : List SafetyPdu) (k c : ℕ) → (b ≡ true → (d : ℕ) × (position_with own x.cs ≡ Some d))
-    → slice_get (filter_map (λ (y : SafetyPdu). position_with own y.cs) xs) k ≡ Some c
-    → slice_get (filter_map (λ (y : SafetyPdu). position_with own y.cs) (cond b (x ∷ xs) xs)) (tally b k) ≡ Some c
-more_asked own true x xs k c h e =
-    let d = h refl in
-    subst (λ o. slice_get (cons_option o (filter_map (λ (y : SafetyPdu). position_with own y.cs) xs)) (suc k) ≡ Some c) (sym d.1) e
-more_asked own false x xs k c h e = e
+request_at (x ∷ ms) zero m e r = grind arith
+request_at (x ∷ ms) (suc p) m e r = grind (arith, request_at ms p m e r)
 
 -- each request confirms a position
 abbrev pub AllNamed : List SafetyPdu → List Made → Type 0
@@ -118,16 +88,8 @@ AllNamed own ms = (p : ℕ) (m : Made) → slice_get ms p ≡ Some m → is_kind
 pub asked_at : (own : List SafetyPdu) (ms : List Made) → AllNamed own ms → (p : ℕ) (m : Made) (c : ℕ) → slice_get ms p ≡ Some m → is_kind RetransmissionRequest m.pdu.kind ≡ true
     → position_with own m.pdu.cs ≡ Some c → slice_get (asked_positions own (pdus_made ms)) (number (is_kind RetransmissionRequest) (take p ms)) ≡ Some c
 asked_at own [] all p m c e r h = absurd (cc)
-asked_at own (x ∷ ms) all zero m c e r h =
-    let same : x ≡ m = cc in
-    let b : is_kind RetransmissionRequest x.pdu.kind ≡ true = ap (λ (n : Made). is_kind RetransmissionRequest n.pdu.kind) same ∙ r in
-    let at : position_with own x.pdu.cs ≡ Some c = ap (λ (n : Made). position_with own n.pdu.cs) same ∙ h in
-    let rest = filter (λ (y : SafetyPdu). is_kind RetransmissionRequest y.kind) (pdus_made ms) in
-    ap (λ d. slice_get (filter_map (λ (y : SafetyPdu). position_with own y.cs) (cond d (x.pdu ∷ rest) rest)) 0) b
-    ∙ ap (λ o. slice_get (cons_option o (filter_map (λ (y : SafetyPdu). position_with own y.cs) rest)) 0) at
-asked_at own (x ∷ ms) all (suc p) m c e r h =
-    more_asked own (is_kind RetransmissionRequest x.pdu.kind) x.pdu (filter (λ (y : SafetyPdu). is_kind RetransmissionRequest y.kind) (pdus_made ms)) (number (is_kind RetransmissionRequest) (take p ms)) c
-    (all 0 x refl) (asked_at own ms (λ q n g. all (suc q) n g) p m c e r h)
+asked_at own (x ∷ ms) all zero m c e r h = grind (arith, e, r, h)
+asked_at own (x ∷ ms) all (suc p) m c e r h = grind (arith, all 0 x refl, asked_at own ms (λ q n g. all (suc q) n g) p m c e r h)
 
 -- ---- asks and answers
 

@@ -1,6 +1,5 @@
 -- What the PDUs of an end show: no more units than it has handed up.
-use Rattle.std.proofs.Common.{◌≡◌, ℕ, zero, suc, ◌<◌, ◌≤◌, ◌⊎◌, Bool, true, false, List, [], ◌∷◌, ◌++◌, length, Some, slice_get, refl, ap, sym, ◌∙◌, arith, inl, inr, ⊎_elim, subst}
-use Rattle.std.specs.Prelude.{not, ◌&&◌, ◌==◌}
+use Rattle.std.proofs.Common.{◌≡◌, ℕ, zero, suc, ◌<◌, ◌≤◌, ◌⊎◌, true, false, List, [], length, Some, slice_get, refl, ap, sym, ◌∙◌, arith, inl, inr, ⊎_elim, subst}
 use Rattle.std.proofs.Math.Logic.{⊎_map}
 use Rattle.std.proofs.lemmas.Bool.Decides.{nat_tests}
 use Rattle.std.proofs.lemmas.List.{length_push}
@@ -10,19 +9,18 @@ use Rattle.rasta_pdu.specs.declared.kind.Kind.{Kind}
 use Rattle.rasta_pdu.specs.Params.{Parameters}
 use Rattle.rasta_pdu.specs.Pdu.{SafetyPdu, is_kind}
 use Rattle.rasta_end.specs.declared.phase.Phase.{Phase}
-use Rattle.rasta_end.specs.declared.phase.Phase.TheVariants.{Up}
 use Rattle.rasta_end.specs.declared.why.Why.{Why}
 use Rattle.rasta_end.specs.declared.make_row.MakeRow.{MakeRow}
 use Rattle.rasta_end.specs.declared.take_row.TakeRow.{TakeRow}
-use Rattle.rasta_end.specs.declared.take_row.TakeRow.TheVariants.{Opened, Answered, FirstHeartbeat, InSequence, ResentInSequence, Gap, GapInRetransmission, Disconnected}
+use Rattle.rasta_end.specs.declared.take_row.TakeRow.TheVariants.{Opened, Answered, FirstHeartbeat, InSequence, Gap, GapInRetransmission, Disconnected}
 use Rattle.rasta_end.specs.declared.owed.Owed.{Owed}
-use Rattle.rasta_end.specs.State.{Made, EndState, is_client, is_start, is_closed, is_connected, carries_unit}
+use Rattle.rasta_end.specs.State.{Made, EndState, is_closed, is_connected}
 use Rattle.rasta_end.specs.MakeRule.{is_judged, offered_after, after_make, after_make_by}
-use Rattle.rasta_end.specs.TakeRule.{accept, enter, effect, after_take}
+use Rattle.rasta_end.specs.TakeRule.{effect, after_take}
 use Rattle.rasta_check.proofs.Lists.{get_push_cases, all_push}
 use Rattle.rasta_check.proofs.Model.PassedTests.{Passed, cs_is}
 use Rattle.rasta_check.proofs.Model.MakeRows.{Making, fresh, MadeBy, made_by, after_row, new_made}
-use Rattle.rasta_check.proofs.Model.TakeRows.{Knows, take_by, handed_or, effect_made, take_leaves}
+use Rattle.rasta_check.proofs.Model.TakeRows.{Knows, take_by, effect_made, take_leaves}
 use Rattle.rasta_check.proofs.Model.NamedPositions.{SnIs}
 use Rattle.rasta_check.proofs.Model.Invariant.{Held, is_named}
 use Rattle.rasta_check.proofs.Model.InvariantAtMake.{Changed, changed, over, opened, goes_on, nothing_made, SnIs_front}
@@ -31,7 +29,7 @@ use Rattle.rasta_check.proofs.Model.ConveyedUnits.{values, values_push, length-v
 use Rattle.rasta_check.proofs.Model.OfferedUnits.{Valued}
 use Rattle.rasta_check.proofs.Model.Requests.{OnceIn}
 use Rattle.rasta_check.proofs.Model.HandedUnits.{Handed, worth_at}
-use Rattle.rasta_pdu.specs.declared.kind.Kind.TheVariants.{ConnectionRequest, DisconnectionRequest}
+use Rattle.rasta_pdu.specs.declared.kind.Kind.TheVariants.{ConnectionRequest}
 
 -- e: the end whose PDUs show units; f: its peer, which offers them
 pub record Shown (e f : EndState) : Type 0 where
@@ -45,19 +43,15 @@ pub record Shown (e f : EndState) : Type 0 where
 
 -- The end makes.
 
-judges : (r d z c : Bool) → r ≡ false → z ≡ false → (not r && not (d && (z && c))) ≡ true
-judges true d z c e g = absurd (cc)
-judges false true true c e g = absurd (cc)
-judges false true false c e g = refl
-judges false false z c e g = refl
-
 -- once something is accepted, every CS is judged but that of a connection request
 pub judged_after : (e : EndState) (k : Kind) (i : ℕ) → e.accepted ≡ suc i → is_kind ConnectionRequest k ≡ false → is_judged e k ≡ true
-judged_after e k i a c =
-    let z : (e.accepted == 0) ≡ false = grind (arith, nat_tests) in
-    judges (is_kind ConnectionRequest k) (is_kind DisconnectionRequest k) (e.accepted == 0) (is_client e.side && is_start e.phase) c z
+judged_after e k i a c = grind (arith, nat_tests)
 
-module _ (p : Parameters) (e f : EndState) (x : SafetyPdu) (clock : ℕ) (why : Why) (t : ℕ) (pass : Passed p e x clock why) (h : Held e t f.made) (fnum : OnceIn f.made) (vf : Valued f) (hd : Handed e f) (w : Shown e f) (b : MadeBy e x why) where
+module _ (p : Parameters) (e f : EndState) (x : SafetyPdu) (clock : ℕ) (why : Why) (t : ℕ) (pass : Passed p e x clock why)
+    (h : Held e t f.made) (fnum : OnceIn f.made) (vf : Valued f) (hd : Handed e f) (w : Shown e f) where
+  b : MadeBy e x why
+  b = made_by p e x clock why pass
+
   abbrev new : Made
   new = new_made b.row e x
 
@@ -65,10 +59,7 @@ module _ (p : Parameters) (e f : EndState) (x : SafetyPdu) (clock : ℕ) (why : 
   cs_last i a k = (cs_is e x.kind x.cs (judged_after e x.kind i a k) pass.cs).1
 
   new_shown : (a : ℕ) → e.accepted ≡ a → is_kind ConnectionRequest x.kind ≡ false → (j v : ℕ) → SnIs f.made j x.cs → slice_get (values f) j ≡ Some v → v ≤ length e.handed
-  new_shown zero a k j v s g =
-      let none : 0 < f.offered → ⊥ = λ l. (let z = w.ready_offer l in omega arith) in
-      let b = vf.positions.bounded j v g in
-      omega (arith, none, b)
+  new_shown zero a k j v s g = grind (arith, w.ready_offer, vf.positions.bounded j v g)
   new_shown (suc i) a k j v s g =
       let l = h.accepts.last i a in
       let same : j ≡ i = fnum j i s.m l.m s.there l.there (s.same ∙ (cs_last i a k ∙ sym l.same)) in
@@ -81,31 +72,23 @@ module _ (p : Parameters) (e f : EndState) (x : SafetyPdu) (clock : ℕ) (why : 
       let l = h.accepts.last i a in
       inr (i, omega arith, record { m = l.m; there = l.there; same = l.same ∙ sym (cs_last i a k) })
 
-  new_first : {ph : Phase} {os : List Owed} → Changed e.side e.phase x.kind e.owed ph os → e.accepted ≡ 0 → is_closed ph ≡ false → is_kind ConnectionRequest x.kind ≡ true
-  new_first (over d) z cl = absurd (cc)
-  new_first (opened a s c) z cl = ap (is_kind ConnectionRequest) c
-  new_first (goes_on a c d g j) z cl = absurd (let y = h.opening.connected a in omega (arith, z, y.1))
+  -- an end that has accepted nothing and isn't over after the make has made a connection request, the first PDU
+  first_made : {ph : Phase} {os : List Owed} → Changed e.side e.phase x.kind e.owed ph os → e.accepted ≡ 0 → is_closed ph ≡ false → (e.made ≡ []) × (x.kind ≡ ConnectionRequest)
+  first_made (over d) z cl = absurd (cc)
+  first_made (opened a s c) z cl = (nothing_made e.side e.phase e.made a pass.open_yet, c)
+  first_made (goes_on a c d g j) z cl = absurd (let y = h.opening.connected a in omega (arith, z, y.1))
 
-  old_first : {ph : Phase} {os : List Owed} → Changed e.side e.phase x.kind e.owed ph os → e.accepted ≡ 0 → is_closed ph ≡ false → (i : ℕ) (m : Made) → slice_get e.made i ≡ Some m → is_kind ConnectionRequest m.pdu.kind ≡ true
-  old_first (over d) z cl i m u = absurd (cc)
-  old_first (opened a s c) z cl i m u =
-      absurd (let y = nothing_made e.side e.phase e.made a pass.open_yet in let u' : slice_get [] i ≡ Some m = subst (λ (ms : List Made). slice_get ms i ≡ Some m) y u in cc)
-  old_first (goes_on a c d g j) z cl i m u = w.first_words z cl i m u
-
-  shown_row : Shown (after_make_by (Some b.row) e x clock) f
-  shown_row =
-      record {
+  pub shown_make : Shown (after_make e x clock why) f
+  shown_make =
+      subst (λ (e' : EndState). Shown e' f) (after_row e x clock why b) (record {
         shown = all_push e.made new w.shown (λ k j v s u. new_shown e.accepted refl k j v s u);
         judged = all_push e.made new w.judged (new_judged e.accepted refl);
-        first_words = λ a c. all_push e.made new (old_first (changed e.side e.phase why x.kind e.owed b.row b.how) a c) (new_first (changed e.side e.phase why x.kind e.owed b.row b.how) a c);
+        first_words = λ a c.
+            let r = first_made (changed e.side e.phase why x.kind e.owed b.row b.how) a c in
+            all_push e.made new (λ i m g. absurd (let z = subst (λ (ms : List Made). slice_get ms i ≡ Some m) r.0 g in cc)) (ap (is_kind ConnectionRequest) r.1);
         ready_run = w.ready_run;
         ready_offer = w.ready_offer;
-      }
-
-pub shown_make : (p : Parameters) (e f : EndState) (x : SafetyPdu) (clock : ℕ) (why : Why) (t : ℕ) → Passed p e x clock why → Held e t f.made → OnceIn f.made → Valued f → Handed e f → Shown e f → Shown (after_make e x clock why) f
-shown_make p e f x clock why t pass h fnum vf hd w =
-    let b = made_by p e x clock why pass in
-    subst (λ (e' : EndState). Shown e' f) (after_row e x clock why b) (shown_row p e f x clock why t pass h fnum vf hd w b)
+      })
 
 -- The peer makes.
 
@@ -113,44 +96,45 @@ offers_by : (s : Side) (ph : Phase) (why : Why) (k : Kind) (os : List Owed) (row
 offers_by s ph why k os row n (fresh r) l = inr r
 offers_by s ph why k os row n _ l = inl l
 
-module _ (e f : EndState) (x : SafetyPdu) (clock : ℕ) (why : Why) (b : MadeBy f x why) (vf' : Valued (after_make_by (Some b.row) f x clock))
-    (fnum' : OnceIn (f.made ++ new_made b.row f x ∷ [])) (w : Shown e f) where
+module _ (p : Parameters) (e f : EndState) (x : SafetyPdu) (clock : ℕ) (why : Why) (pass : Passed p f x clock why)
+    (vf : Valued (after_make f x clock why)) (fnum : OnceIn (after_make f x clock why).made) (w : Shown e f) where
+  by : MadeBy f x why
+  by = made_by p f x clock why pass
+
   abbrev after : EndState
-  after = after_make_by (Some b.row) f x clock
+  after = after_make_by (Some by.row) f x clock
 
   abbrev added : Made
-  added = new_made b.row f x
+  added = new_made by.row f x
 
   f_offer : 0 < after.offered → 0 < e.accepted
-  f_offer l =
-      ⊎_elim w.ready_offer w.ready_run (offers_by f.side f.phase why x.kind f.owed b.row f.offered b.how l)
+  f_offer l = ⊎_elim w.ready_offer w.ready_run (offers_by f.side f.phase why x.kind f.owed by.row f.offered by.how l)
 
   f_runs : {ph : Phase} {os : List Owed} → Changed f.side f.phase x.kind f.owed ph os → is_connected ph ≡ true → 0 < e.accepted
-  f_runs (over d) r = absurd (cc)
-  f_runs (opened a s c) r = absurd (cc)
   f_runs (goes_on a c d g j) r = w.ready_run r
+  f_runs _ r = absurd (cc)
 
   new_position : (a : ℕ) → e.accepted ≡ a → (i j v : ℕ) (m : Made) → slice_get e.made i ≡ Some m → is_kind ConnectionRequest m.pdu.kind ≡ false
       → SnIs after.made j m.pdu.cs → j ≡ length f.made → slice_get (values after) j ≡ Some v → v ≤ length e.handed
   new_position zero a i j v m g k s q u =
-      let none : 0 < after.offered → ⊥ = λ l. (let z = f_offer l in omega arith) in
-      let b = vf'.positions.bounded j v u in
-      omega (arith, none, b)
+      let vf' = subst Valued (sym (after_row f x clock why by)) vf in
+      grind (arith, f_offer, vf'.positions.bounded j v u)
   new_position (suc n) a i j v m g k s q u =
       ⊎_elim
       (λ (z : e.accepted ≡ 0). absurd (omega arith))
       (λ (z : (o : ℕ) × (o < e.accepted) × SnIs f.made o m.pdu.cs).
       let old = SnIs_front f.made added z.0 m.pdu.cs z.2 in
-      let same : z.0 ≡ j = fnum' z.0 j old.m s.m old.there s.there (old.same ∙ sym s.same) in
+      let once = subst (λ (f' : EndState). OnceIn f'.made) (sym (after_row f x clock why by)) fnum in
+      let same : z.0 ≡ j = once z.0 j old.m s.m old.there s.there (old.same ∙ sym s.same) in
       let l = slice_get_within f.made z.0 z.2.m z.2.there in
       absurd (omega arith))
       (w.judged i m g k)
 
-  shown_peer_row : Shown e after
-  shown_peer_row =
+  pub shown_peer_make : Shown e (after_make f x clock why)
+  shown_peer_make =
       let more = values_push f.asks f.made added in
       let len = length-values f.asks f.made in
-      record {
+      subst (λ (f' : EndState). Shown e f') (after_row f x clock why by) (record {
         shown = λ i m g k j v s u. ⊎_elim
             (λ (old : slice_get f.made j ≡ Some s.m).
             let l = slice_get_within f.made j s.m old in
@@ -163,32 +147,22 @@ module _ (e f : EndState) (x : SafetyPdu) (clock : ℕ) (why : Why) (b : MadeBy 
             (get_push_cases f.made added j s.m s.there);
         judged = λ i m g k. ⊎_map (λ z. z) (λ (z : (o : ℕ) × (o < e.accepted) × SnIs f.made o m.pdu.cs). (z.0, z.1, SnIs_front f.made added z.0 m.pdu.cs z.2)) (w.judged i m g k);
         first_words = w.first_words;
-        ready_run = f_runs (changed f.side f.phase why x.kind f.owed b.row b.how);
+        ready_run = f_runs (changed f.side f.phase why x.kind f.owed by.row by.how);
         ready_offer = f_offer;
-      }
-
-pub shown_peer_make : (p : Parameters) (e f : EndState) (x : SafetyPdu) (clock : ℕ) (why : Why) → Passed p f x clock why
-    → Valued (after_make f x clock why) → OnceIn (after_make f x clock why).made → Shown e f → Shown e (after_make f x clock why)
-shown_peer_make p e f x clock why pass vf' fnum' w =
-    let b = made_by p f x clock why pass in
-    let is = after_row f x clock why b in
-    subst (λ (f' : EndState). Shown e f') is (shown_peer_row e f x clock why b (subst Valued (sym is) vf') (subst (λ (f' : EndState). OnceIn f'.made) (sym is) fnum') w)
+      })
 
 -- The end itself takes.
 
 -- a take hands up more, if anything
 handed_more : (q : Parameters) (e : EndState) (x : SafetyPdu) (r : TakeRow) → length e.handed ≤ length (effect q r e x).handed
-handed_more q e x InSequence = handed_or (λ g. length e.handed ≤ length g.handed) (carries_unit x.kind) e.accepted (enter Up (accept q e x)) x (omega arith) (λ l. omega (arith, length_push e.handed e.accepted))
-handed_more q e x ResentInSequence = handed_or (λ g. length e.handed ≤ length g.handed) (carries_unit x.kind) e.accepted (accept q e x) x (omega arith) (λ l. omega (arith, length_push e.handed e.accepted))
-handed_more q e x _ = omega arith
+handed_more q e x InSequence = grind (arith, length_push e.handed e.accepted)
+handed_more q e x _ = grind (arith, length_push e.handed e.accepted)
 
 -- a take accepts more, if anything
 accepted_more : (q : Parameters) (e : EndState) (x : SafetyPdu) (t : ℕ) (peer : List Made) → Held e t peer → (r : TakeRow) → Knows q r e x → e.accepted ≤ (effect q r e x).accepted
 accepted_more q e x t peer h Opened w = (let z = (h.opening.down w.0).2 in omega (arith, z))
 accepted_more q e x t peer h Answered w = (let z = h.opening.starting w.0 w.1 in omega (arith, z))
-accepted_more q e x t peer h InSequence w = handed_or (λ g. e.accepted ≤ g.accepted) (carries_unit x.kind) e.accepted (enter Up (accept q e x)) x (omega arith) (λ l. l)
-accepted_more q e x t peer h ResentInSequence w = handed_or (λ g. e.accepted ≤ g.accepted) (carries_unit x.kind) e.accepted (accept q e x) x (omega arith) (λ l. l)
-accepted_more q e x t peer h _ w = omega arith
+accepted_more q e x t peer h _ w = grind arith
 
 module _ (q : Parameters) (e f : EndState) (x : SafetyPdu) (t : ℕ) (h : Held e t f.made) (w : Shown e f) where
   shown_by : (r : TakeRow) → is_closed e.phase ≡ false → Knows q r e x → Shown (effect q r e x) f
