@@ -13,7 +13,7 @@ use Rattle.rasta_pdu.specs.Params.{Parameters, AreParameters}
 use Rattle.rasta_pdu.specs.Pdu.{SafetyPdu, RedundancyPdu}
 use Rattle.rasta_end.specs.State.{Made, EndState, wrapped, is_closed, is_owing}
 use Rattle.rasta_end.specs.MakeRule.{Makes, is_past, first_that_holds}
-use Rattle.rasta_end.specs.TakeRule.{Takes, after_take, take_fault}
+use Rattle.rasta_end.specs.TakeRule.{Takes, take_fault}
 use Rattle.rasta_end.specs.Starts.{start_of}
 use Rattle.rasta_check.proofs.Model.Steps.{base, start_base, start_made, start_side, made_more}
 use Rattle.rasta_check.specs.Capture.Crossing.{Spells, FirstCopy}
@@ -30,13 +30,14 @@ use Rattle.rasta_check.proofs.Model.TakeRows.{take_leaves}
 use Rattle.rasta_check.proofs.Capture.FirstCopies.{Counts_from, sent_other, sent_copy, sent_first, sent_none, sent_once}
 
 -- scripts in a wider setting, and one entry more
-advances_wider : (p : Parameters) (n n' : ℕ) (own o peer q : List FirstCopy) (u v : Cursor) (x : Entry) → n ≤ n' → Advances p n own peer u x v → Advances p n' (own ++ o) (peer ++ q) u x v
-advances_wider p n n' own o peer q u v x l (takes_next slot position c e' a b g d f t) = takes_next slot position c e' a (omega arith) (get_front peer q position c g) d f t
-advances_wider p n n' own o peer q u v x l (makes_next c clock why e' a g m) = makes_next c clock why e' a (get_front own o _ c g) m
-
-leads_wider : (p : Parameters) (n n' : ℕ) (own o peer q : List FirstCopy) (u v : Cursor) (es : List Entry) → n ≤ n' → Leads p n own peer u es v → Leads p n' (own ++ o) (peer ++ q) u es v
-leads_wider p n n' own o peer q u v [] l f = f
-leads_wider p n n' own o peer q u v (x ∷ es) l f = (f.0, advances_wider p n n' own o peer q u f.0 x l f.1, leads_wider p n n' own o peer q f.0 v es l f.2)
+leads_wider : (p : Parameters) (n n' : ℕ) (own own' peer peer' : List FirstCopy) (u v : Cursor) (es : List Entry) → n ≤ n'
+    → ((i : ℕ) (c : FirstCopy) → slice_get own i ≡ Some c → slice_get own' i ≡ Some c) → ((i : ℕ) (c : FirstCopy) → slice_get peer i ≡ Some c → slice_get peer' i ≡ Some c)
+    → Leads p n own peer u es v → Leads p n' own' peer' u es v
+leads_wider p n n' own own' peer peer' u v [] l k h f = f
+leads_wider p n n' own own' peer peer' u v (x ∷ es) l k h (m, takes_next slot position c e a b g d f t, r) =
+    (_, takes_next slot position c e a (omega arith) (h position c g) d f t, leads_wider p n n' own own' peer peer' _ v es l k h r)
+leads_wider p n n' own own' peer peer' u v (x ∷ es) l k h (m, makes_next c clock why e a g mk, r) =
+    (_, makes_next c clock why e a (k _ c g) mk, leads_wider p n n' own own' peer peer' _ v es l k h r)
 
 pub leads_more : (p : Parameters) (n : ℕ) (own peer : List FirstCopy) (u v w : Cursor) (es : List Entry) (x : Entry) → Leads p n own peer u es v → Advances p n own peer v x w → Leads p n own peer u (es ++ x ∷ []) w
 leads_more p n own peer u v w [] x f a = (w, subst (λ (z : Cursor). Advances p n own peer z x w) (sym f) a, refl)
@@ -61,19 +62,13 @@ clocks_on n (Make place clock why ∷ es) more h g = (h.0, clocks_on n es more h
 -- each entry raises one of the two marks
 pub leads_count : (p : Parameters) (n : ℕ) (own peer : List FirstCopy) (u v : Cursor) (es : List Entry) → Leads p n own peer u es v → length es + u.made + u.taken ≤ v.made + v.taken
 leads_count p n own peer u v [] f = (let a = ap (λ (z : Cursor). z.made) f in let b = ap (λ (z : Cursor). z.taken) f in omega arith)
-leads_count p n own peer u v (x ∷ es) f = by x f.0 f.1 (leads_count p n own peer f.0 v es f.2)
-  where
-    by : (x : Entry) (m : Cursor) → Advances p n own peer u x m → length es + m.made + m.taken ≤ v.made + v.taken → suc (length es) + u.made + u.taken ≤ v.made + v.taken
-    by x m (takes_next slot position c e' a b g d f t) l = omega arith
-    by x m (makes_next c clock why e' a g k) l = omega arith
+leads_count p n own peer u v (x ∷ es) (m, takes_next slot position c e a b g d f t, r) = (let z = leads_count p n own peer _ v es r in omega arith)
+leads_count p n own peer u v (x ∷ es) (m, makes_next c clock why e a g k, r) = (let z = leads_count p n own peer _ v es r in omega arith)
 
 pub taken_within : (p : Parameters) (n : ℕ) (own peer : List FirstCopy) (u v : Cursor) (es : List Entry) → Leads p n own peer u es v → u.taken ≤ length peer → v.taken ≤ length peer
 taken_within p n own peer u v [] f l = (let b = ap (λ (z : Cursor). z.taken) f in omega arith)
-taken_within p n own peer u v (x ∷ es) f l = taken_within p n own peer f.0 v es f.2 (by x f.0 f.1)
-  where
-    by : (x : Entry) (m : Cursor) → Advances p n own peer u x m → m.taken ≤ length peer
-    by x m (takes_next slot position c e' a b g d f t) = (let z = slice_get_within peer position c g in omega arith)
-    by x m (makes_next c clock why e' a g k) = l
+taken_within p n own peer u v (x ∷ es) (m, takes_next slot position c e a b g d f t, r) l = taken_within p n own peer _ v es r (let z = slice_get_within peer position c g in omega arith)
+taken_within p n own peer u v (x ∷ es) (m, makes_next c clock why e a g k, r) l = taken_within p n own peer _ v es r l
 
 -- the deadline test at an earlier moment
 past_before : (p : Parameters) (d : Option ℕ) (m n : ℕ) → m ≤ n → is_past p d n ≡ false → is_past p d m ≡ false
@@ -121,33 +116,26 @@ pub record Both (p : Parameters) (s r : Side) (xs : List Packet) (a b : Station)
   pub their_told : Told p r (length xs) peer own b.state b.clock b.taken
 
 pub sends_count : (p : Parameters) (s : Side) (xs : List Packet) (own : List FirstCopy) (e : EndState) (f : ℕ) → Sends p s xs own e f → length e.made ≡ base p + length own
-sends_count p s xs own e f h =
-    let a = length-map e.made (λ (x : Made). x.pdu) in
-    let b = ap length h.same in
-    let c = length-append (pdus_made (start_of p s).made) (pdus_of own) in
-    let d = length-map (start_of p s).made (λ (x : Made). x.pdu) in
-    let g = start_made p.quiet s in
-    let k = length-map own (λ (c : FirstCopy). c.pdu.safety) in
-    omega (arith, a, b, c, d, g, k)
+sends_count p s xs own e f h = (let a = simp (length-append, length-map) at (ap length h.same) in let g = start_made p.quiet s in omega arith)
 
 -- the copy at a position of the peer
 pub copy_at : (p : Parameters) (s : Side) (xs : List Packet) (own : List FirstCopy) (e : EndState) (f i : ℕ) (m : Made) → Sends p s xs own e f → slice_get e.made (base p + i) ≡ Some m → (c : FirstCopy) × (slice_get own i ≡ Some c) × (c.pdu.safety ≡ m.pdu)
 copy_at p s xs own e f i m h g =
-    let a = map_at (λ (x : Made). x.pdu) e.made (base p + i) m g in
     let l : length (pdus_made (start_of p s).made) ≡ base p = length-map (start_of p s).made (λ (x : Made). x.pdu) ∙ start_made p.quiet s in
-    let b : slice_get (pdus_made (start_of p s).made ++ pdus_of own) (length (pdus_made (start_of p s).made) + i) ≡ Some m.pdu = subst (λ n. slice_get (pdus_made (start_of p s).made ++ pdus_of own) (n + i) ≡ Some m.pdu) (sym l) (subst (λ (ps : List SafetyPdu). slice_get ps (base p + i) ≡ Some m.pdu) h.same a) in
-    get_mapped (λ (c : FirstCopy). c.pdu.safety) own i m.pdu (sym (get_past (pdus_made (start_of p s).made) (pdus_of own) i) ∙ b)
+    let a : slice_get (pdus_made (start_of p s).made ++ pdus_of own) (base p + i) ≡ Some m.pdu = sym (ap (λ (ps : List SafetyPdu). slice_get ps (base p + i)) h.same) ∙ map_at (λ (x : Made). x.pdu) e.made (base p + i) m g in
+    get_mapped (λ (c : FirstCopy). c.pdu.safety) own i m.pdu (sym (get_past (pdus_made (start_of p s).made) (pdus_of own) i) ∙ rw l a)
 
 -- a packet of the other side leaves what an end sends
 sends_other : (p : Parameters) (s : Side) (xs : List Packet) (k : Packet) (own : List FirstCopy) (e : EndState) (f : ℕ) → Sends p s xs own e f → (k.side ≡ s → ⊥) → Sends p s (xs ++ k ∷ []) own e f
 sends_other p s xs k own e f h apart = record { sent = sent_other p xs k s own h.sent apart; same = h.same; numbers = h.numbers; side = h.side }
 
-told_wider : (p : Parameters) (s : Side) (n n' : ℕ) (own peer q : List FirstCopy) (e : EndState) (clock taken : ℕ) → n ≤ n' → Told p s n own peer e clock taken → Told p s n' own (peer ++ q) e clock taken
-told_wider p s n n' own peer q e clock taken l h =
+told_wider : (p : Parameters) (s : Side) (n n' : ℕ) (own peer peer' : List FirstCopy) (e : EndState) (clock taken : ℕ) → n ≤ n' → ((i : ℕ) (c : FirstCopy) → slice_get peer i ≡ Some c → slice_get peer' i ≡ Some c)
+    → Told p s n own peer e clock taken → Told p s n' own peer' e clock taken
+told_wider p s n n' own peer peer' e clock taken l more h =
     record {
       es = h.es;
       at = h.at;
-      leads = subst (λ (os : List FirstCopy). Leads p n' os (peer ++ q) (at_start (start_of p s)) h.es h.at) (append-nil own) (leads_wider p n n' own [] peer q _ h.at h.es l h.leads);
+      leads = leads_wider p n n' own own peer peer' _ h.at h.es l (λ i c g. g) more h.leads;
       made = h.made;
       mark = h.mark;
       level = omega (arith, h.level);
@@ -156,51 +144,43 @@ told_wider p s n n' own peer q e clock taken l h =
       clocks = h.clocks;
     }
 
-told_longer : (p : Parameters) (s : Side) (n n' : ℕ) (own peer : List FirstCopy) (e : EndState) (clock taken : ℕ) → n ≤ n' → Told p s n own peer e clock taken → Told p s n' own peer e clock taken
-told_longer p s n n' own peer e clock taken l h =
-    subst (λ (qs : List FirstCopy). Told p s n' own qs e clock taken) (append-nil peer) (told_wider p s n n' own peer [] e clock taken l h)
-
 -- a make
 module _ (p : Parameters) (s : Side) (xs : List Packet) (own peer : List FirstCopy) (e e' : EndState) (first clock taken channel reserve : ℕ) (check bytes : List ℕ) (x : SafetyPdu) (why : Why)
     (mk : Makes p e x clock why e') (sp : Spells p e.side (record { number = wrapped (first + length e.made); reserve = reserve; safety = x; check_bytes = check }) bytes)
     (h : Sends p s xs own e first) (t : Told p s (length xs) own peer e clock taken) where
-  datagram : RedundancyPdu
+  abbrev datagram : RedundancyPdu
   datagram = record { number = wrapped (first + length e.made); reserve = reserve; safety = x; check_bytes = check }
 
-  packet : Packet
+  abbrev packet : Packet
   packet = record { channel = channel; side = e.side; payload = bytes }
 
-  copy : FirstCopy
+  abbrev copy : FirstCopy
   copy = record { place = length xs; pdu = datagram }
 
   made_sends : Sends p s (xs ++ packet ∷ []) (own ++ copy ∷ []) e' first
-  unfolding datagram packet copy
   made_sends =
       let r = sent_first p xs packet s own datagram (first + base p) h.sent h.numbers h.side (subst (λ (z : Side). Spells p z datagram bytes) h.side sp) (ap (λ n. wrapped n) (let z = sends_count p s xs own e first h in omega arith)) in
       let made = made_more p e x clock why e' mk in
-      let n : Made = made.new in
-      let now : e'.made ≡ e.made ++ n ∷ [] = made.made in
       record {
         sent = r.0;
-        same = ap pdus_made now ∙ (map-append (λ (x : Made). x.pdu) e.made (n ∷ []) ∙ (ap (λ y. pdus_made e.made ++ y ∷ []) made.pdu ∙ (ap (λ ps. ps ++ x ∷ []) h.same ∙ (append_assoc (pdus_made (start_of p s).made) (pdus_of own) (x ∷ []) ∙ ap (λ ps. pdus_made (start_of p s).made ++ ps) (sym (map-append (λ (c : FirstCopy). c.pdu.safety) own (copy ∷ [])))))));
+        same = rw made.made (simp (map-append, made.pdu, h.same, append_assoc));
         numbers = r.1;
         side = made.side ∙ h.side;
       }
 
   made_told : Told p s (length (xs ++ packet ∷ [])) (own ++ copy ∷ []) peer e' clock taken
-  unfolding datagram packet copy
   made_told =
       let len = length_push xs packet in
       let made = made_more p e x clock why e' mk in
       let rises : e.clock ≤ clock = made.rises in
       let now : e'.clock ≡ clock = made.now in
-      let wide = leads_wider p (length xs) (length (xs ++ packet ∷ [])) own (copy ∷ []) peer [] _ t.at t.es (omega arith) t.leads in
+      let wide = leads_wider p (length xs) (length (xs ++ packet ∷ [])) own (own ++ copy ∷ []) peer peer _ t.at t.es (omega arith) (λ i c g. get_front own (copy ∷ []) i c g) (λ i c g. g) t.leads in
       let there : slice_get (own ++ copy ∷ []) t.at.made ≡ Some copy = subst (λ n. slice_get (own ++ copy ∷ []) n ≡ Some copy) (sym t.made) (get_push own copy) in
       let step : Advances p (length (xs ++ packet ∷ [])) (own ++ copy ∷ []) peer t.at (Make (length xs) clock why) (record { level = suc (length xs); made = suc t.at.made; taken = t.at.taken; state = e' }) = makes_next copy clock why e' t.level there (subst (λ (z : EndState). Makes p z x clock why e') (sym t.state) mk) in
       record {
         es = t.es ++ Make (length xs) clock why ∷ [];
         at = record { level = suc (length xs); made = suc t.at.made; taken = t.at.taken; state = e' };
-        leads = leads_more p (length (xs ++ packet ∷ [])) (own ++ copy ∷ []) peer _ t.at _ t.es _ (subst (λ (qs : List FirstCopy). Leads p (length (xs ++ packet ∷ [])) (own ++ copy ∷ []) qs (at_start (start_of p s)) t.es t.at) (append-nil peer) wide) step;
+        leads = leads_more p (length (xs ++ packet ∷ [])) (own ++ copy ∷ []) peer _ t.at _ t.es _ wide step;
         made = (let z = length_push own copy in let y = t.made in omega arith);
         mark = t.mark;
         level = omega arith;
@@ -218,13 +198,13 @@ took p s r xs own peer e e' f clock taken position their m tk above g hs t =
     let c = copy_at p r xs peer f their i m hs (subst (λ n. slice_get f.made n ≡ Some m) at g) in
     let fst = hs.sent.firsts i c.0 c.1 in
     let low = slice_get_within xs c.0.place fst.0 fst.1 in
-    let fault : take_fault p t.at.state t.at.state.clock ≡ None = subst (λ (z : EndState). take_fault p z z.clock ≡ None) (sym t.state) (earlier p e e.clock clock t.clock tk.0) in
-    let eff : e' ≡ after_take p t.at.state c.0.pdu.safety = tk.1 ∙ ap (λ (z : EndState). after_take p z m.pdu) (sym t.state) ∙ ap (λ (y : SafetyPdu). after_take p t.at.state y) (sym c.2) in
-    let step : Advances p (length xs) own peer t.at (Take (length xs) c.0.pdu.number) (record { level = length xs; made = t.at.made; taken = suc i; state = e' }) = takes_next (length xs) i c.0 e' t.level (omega arith) c.1 low (let z = t.mark in omega arith) (fault, eff) in
+    let next : Cursor = record { level = length xs; made = t.at.made; taken = suc i; state = e' } in
+    let step : Advances p (length xs) own peer t.at (Take (length xs) c.0.pdu.number) next
+    = takes_next (length xs) i c.0 e' t.level (omega arith) c.1 low (let z = t.mark in omega arith) (rw t.state (earlier p e e.clock clock t.clock tk.0), rw (t.state, c.2) tk.1) in
     let same : e'.clock ≡ e.clock = ap (λ (z : EndState). z.clock) tk.1 ∙ (take_leaves p e m.pdu).clock in
     record {
       es = t.es ++ Take (length xs) c.0.pdu.number ∷ [];
-      at = record { level = length xs; made = t.at.made; taken = suc i; state = e' };
+      at = next;
       leads = leads_more p (length xs) own peer _ t.at _ t.es _ t.leads step;
       made = t.made;
       mark = omega arith;
@@ -235,15 +215,16 @@ took p s r xs own peer e e' f clock taken position their m tk above g hs t =
     }
 
 both_kept : (p : Parameters) (s r : Side) (xs ys : List Packet) (a a' b : Station) → (s ≡ r → ⊥) → {move : Move} → Moves p b xs a move a' ys → Both p s r xs a b → Both p s r ys a' b
-unfolding packet
 both_kept p s r xs ys a a' b apart (makes x why e' ch res chk bs mk sp rec) g =
+    let c : FirstCopy = copy p s xs g.own g.peer a.state e' a.first_number a.clock a.taken ch res chk bs x why mk sp g.sends g.told in
+    let k : Packet = record { channel = ch; side = a.state.side; payload = bs } in
     record {
-      own = g.own ++ copy p s xs g.own g.peer a.state e' a.first_number a.clock a.taken ch res chk bs x why mk sp g.sends g.told ∷ [];
+      own = g.own ++ c ∷ [];
       peer = g.peer;
       sends = made_sends p s xs g.own g.peer a.state e' a.first_number a.clock a.taken ch res chk bs x why mk sp g.sends g.told;
-      their_sends = sends_other p r xs (record { channel = ch; side = a.state.side; payload = bs }) g.peer b.state b.first_number g.their_sends (λ z. apart (sym g.sends.side ∙ z));
+      their_sends = sends_other p r xs k g.peer b.state b.first_number g.their_sends (λ z. apart (sym g.sends.side ∙ z));
       told = made_told p s xs g.own g.peer a.state e' a.first_number a.clock a.taken ch res chk bs x why mk sp g.sends g.told;
-      their_told = told_wider p r (length xs) _ g.peer g.own (copy p s xs g.own g.peer a.state e' a.first_number a.clock a.taken ch res chk bs x why mk sp g.sends g.told ∷ []) b.state b.clock b.taken (let z = length_push xs (record { channel = ch; side = a.state.side; payload = bs }) in omega arith) g.their_told;
+      their_told = told_wider p r (length xs) _ g.peer g.own (g.own ++ c ∷ []) b.state b.clock b.taken (let z = length_push xs k in omega arith) (λ i d h. get_front g.own (c ∷ []) i d h) g.their_told;
     }
 both_kept p s r xs ys a a' b apart (repeats place ch old at sd rec) g =
     let k : Packet = record old { channel = ch } in
@@ -253,8 +234,8 @@ both_kept p s r xs ys a a' b apart (repeats place ch old at sd rec) g =
       peer = g.peer;
       sends = record { sent = sent_copy p xs k s g.own place old g.sends.sent at (sd ∙ g.sends.side) refl; same = g.sends.same; numbers = g.sends.numbers; side = g.sends.side };
       their_sends = sends_other p r xs k g.peer b.state b.first_number g.their_sends (λ z. apart (sym (sd ∙ g.sends.side) ∙ z));
-      told = told_longer p s (length xs) _ g.own g.peer a.state a.clock a.taken (omega arith) g.told;
-      their_told = told_longer p r (length xs) _ g.peer g.own b.state b.clock b.taken (omega arith) g.their_told;
+      told = told_wider p s (length xs) _ g.own g.peer g.peer a.state a.clock a.taken (omega arith) (λ i c h. h) g.told;
+      their_told = told_wider p r (length xs) _ g.peer g.own g.own b.state b.clock b.taken (omega arith) (λ i c h. h) g.their_told;
     }
 both_kept p s r xs ys a a' b apart (arrives q low l) g = record { own = g.own; peer = g.peer; sends = g.sends; their_sends = g.their_sends; told = g.told; their_told = g.their_told }
 both_kept p s r xs ys a a' b apart (takes q m e' c l at tk) g =
@@ -269,13 +250,14 @@ both_kept p s r xs ys a a' b apart (takes q m e' c l at tk) g =
       their_told = g.their_told;
     }
 both_kept p s r xs ys a a' b apart (waits c l) g =
+    let t = g.told in
     record {
       own = g.own;
       peer = g.peer;
       sends = g.sends;
       their_sends = g.their_sends;
+      told = record { es = t.es; at = t.at; leads = t.leads; made = t.made; mark = t.mark; level = t.level; state = t.state; clock = (let z = t.clock in omega arith); clocks = t.clocks };
       their_told = g.their_told;
-      told = (let t = g.told in record { es = t.es; at = t.at; leads = t.leads; made = t.made; mark = t.mark; level = t.level; state = t.state; clock = (let z = t.clock in omega arith); clocks = t.clocks });
     }
 
 abbrev pub turn : (p : Parameters) (s r : Side) (xs : List Packet) (a b : Station) → Both p s r xs a b → Both p r s xs b a
@@ -310,7 +292,7 @@ Grows n old new = (new ≡ old) ⊎ ((c : FirstCopy) × (new ≡ old ++ c ∷ []
 -- so grows the list of the station that moves, and that of its peer stays
 grown : (p : Parameters) (s r : Side) (xs ys : List Packet) (a a' b : Station) (apart : s ≡ r → ⊥) {move : Move} (m : Moves p b xs a move a' ys) (g : Both p s r xs a b)
     → Grows (length xs) g.own (both_kept p s r xs ys a a' b apart m g).own × ((both_kept p s r xs ys a a' b apart m g).peer ≡ g.peer)
-unfolding both_kept copy
+unfolding both_kept
 grown p s r xs ys a a' b apart (makes x why e' ch res chk bs mk sp rec) g = (inr (_, refl, omega arith), refl)
 grown p s r xs ys a a' b apart _ g = (inl refl, refl)
 
@@ -368,10 +350,8 @@ pub complete : (p : Parameters) (ws : List World) (w : World) (c s : List FirstC
 complete p ws w c s r hc hs lc ls n bc bs =
     let g = told_of p ws w Client c s r hc hs lc ls in
     let h = g.0 in
-    let fc : Follows p Client (length w.crossed) c s h.told.es w.client.state =
-    subst (λ (o : List FirstCopy). Follows p Client (length w.crossed) o s h.told.es w.client.state) g.1 (subst (λ (q : List FirstCopy). Follows p Client (length w.crossed) h.own q h.told.es w.client.state) g.2 (told_fits p Client _ h.own h.peer _ _ _ h.told)) in
-    let fs : Follows p Server (length w.crossed) s c h.their_told.es w.server.state =
-    subst (λ (o : List FirstCopy). Follows p Server (length w.crossed) o c h.their_told.es w.server.state) g.2 (subst (λ (q : List FirstCopy). Follows p Server (length w.crossed) h.peer q h.their_told.es w.server.state) g.1 (told_fits p Server _ h.peer h.own _ _ _ h.their_told)) in
+    let fc = rw (g.1, g.2) at (told_fits p Client _ h.own h.peer _ _ _ h.told) in
+    let fs = rw (g.1, g.2) at (told_fits p Server _ h.peer h.own _ _ _ h.their_told) in
     let few = told_few p Client _ h.own h.peer _ _ _ h.told in
     let their_few = told_few p Server _ h.peer h.own _ _ _ h.their_told in
     let x = ap length g.1 in
