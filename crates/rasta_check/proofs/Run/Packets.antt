@@ -59,7 +59,7 @@ module _ (p : Parameters) (packets : List Packet) (k : ℕ) (s : Side) (own peer
       let numbered : c.pdu.number ≡ wrapped (a.first_number + length a.state.made) =
       sent.numbers f.made head.0 c head.1 mine ∙ sym (next_number a.first_number (base p) f.made (length a.state.made) head.0.pdu.number f.count (f.number head.0 head.1)) in
       let said : Spells p a.state.side (record { number = wrapped (a.first_number + length a.state.made); reserve = c.pdu.reserve; safety = c.pdu.safety; check_bytes = c.pdu.check_bytes }) first.0.payload =
-      subst (λ (j : ℕ). Spells p a.state.side (record { number = j; reserve = c.pdu.reserve; safety = c.pdu.safety; check_bytes = c.pdu.check_bytes }) first.0.payload) numbered (subst (λ (z : Side). Spells p z c.pdu first.0.payload) (sym f.side) first.3) in
+      rw (f.side, sym numbered) first.3 in
       let count : length e'.made ≡ suc (base p + f.made) = ap length now ∙ (len ∙ (omega (arith, f.count))) in
       let after : Above (suc k) es = lead_above p (length packets) (suc k) own peer _ last es rest (omega (arith, pl)) in
       let there : slice_get packets k ≡ Some first.0 = subst (λ (j : ℕ). slice_get packets j ≡ Some first.0) pl first.1 in
@@ -68,7 +68,7 @@ module _ (p : Parameters) (packets : List Packet) (k : ℕ) (s : Side) (own peer
       sym numbered ∙ (sym (number_spelled p s c.pdu first.0.payload first.3) ∙ ap (λ (x : Packet). number_of x) same_packet) in
       let found : position_of_place own k ≡ Some f.made = ap (position_of_place own) (sym pl) ∙ place_named own (ordered sent) f.made c mine in
       let makes_now : makes_at k (Make c.place clock why ∷ es) ≡ (clock, why) ∷ [] =
-      ap (λ (j : ℕ). makes_at k (Make j clock why ∷ es)) pl ∙ (makes_here k clock why es ∙ ap (λ (l : List (ℕ × Why)). (clock, why) ∷ l) (no_makes k (suc k) es (omega arith) after)) in
+      rw (pl, makes_here k clock why es, no_makes k (suc k) es (omega arith) after) refl in
       let line : waited_line (length (take k packets)) s clock ∷ make_line (length (take k packets)) s (wrapped (a.first_number + length a.state.made)) (clock, why) ∷ [] ≡ side_lines k s (number_of here) own (Make c.place clock why ∷ es) =
       (λ i. waited_line (long i) s clock ∷ make_line (long i) s (shown i) (clock, why) ∷ []) ∙ sym (ap (λ (o : Option ℕ). crossed_lines k s (number_of here) o (makes_at k (Make c.place clock why ∷ es))) found ∙ ap (each_make k s (number_of here)) makes_now) in
       record {

@@ -1,12 +1,11 @@
 -- The takes that are due at a level, with their lines.
-use Rattle.std.proofs.Common.{◌≡◌, ℕ, suc, ◌+◌, ◌<◌, ◌≤◌, List, [], ◌∷◌, length, Some, slice_get, refl, ap, sym, ◌∙◌, arith, subst}
+use Rattle.std.proofs.Common.{◌≡◌, ℕ, suc, ◌+◌, ◌<◌, ◌≤◌, List, [], ◌∷◌, length, Some, slice_get, refl, ap, sym, ◌∙◌, arith}
 use Rattle.std.proofs.lemmas.Option.{slice_get_within}
 use native.Mathlib.Decide.{dec_le, dec_lt}
 use Prim.{yes, no}
 use Rattle.rasta_pcap.specs.declared.fault.Side.{Side}
 use Rattle.rasta_udp.specs.Frame.{Packet}
 use Rattle.rasta_pdu.specs.Params.{Parameters}
-use Rattle.rasta_pdu.specs.Pdu.{SafetyPdu}
 use Rattle.rasta_end.specs.State.{Made, EndState, wrapped}
 use Rattle.rasta_end.specs.TakeRule.{Takes}
 use Rattle.rasta_cert.specs.declared.entry.Entry.{Entry}
@@ -67,7 +66,7 @@ module _ (p : Parameters) (packets : List Packet) (n k : ℕ) (s r : Side) (own 
   one_take slot number es a m f l (takes_next slot' position c e' lv le there below above t0) rest =
       let w : position < g.made = g.before position c there (omega (arith, below, l)) in
       let x = g.same position c there w in
-      let t : Takes p a.state x.0.pdu a.clock e' = subst (λ (y : SafetyPdu). Takes p a.state y a.clock e') (sym x.2) (subst (λ (t : ℕ). Takes p a.state c.pdu.safety t e') (sym f.clock) t0) in
+      let t : Takes p a.state x.0.pdu a.clock e' = rw (x.2, f.clock) t0 in
       let left = take_leaves p a.state x.0.pdu in
       let same_made : e'.made ≡ a.state.made = ap (λ (e : EndState). e.made) t.1 ∙ left.made in
       let q : ℕ = base p + position in
