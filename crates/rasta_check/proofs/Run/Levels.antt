@@ -15,7 +15,7 @@ use Rattle.rasta_check.specs.Model.World.{Station, World, station_of, end_of, ot
 use Rattle.rasta_check.specs.Script.Following.{Follows, at_start}
 use Rattle.rasta_check.specs.Run.Moves.{Happened, Runs, starts}
 use Rattle.rasta_check.specs.Run.Lines.{Line, told, number_of}
-use Rattle.rasta_check.specs.Run.Levels.{makes_at, each_take, takes_lines, side_lines, by_side_lines, packet_lines, level_lines, levels_lines, run_lines}
+use Rattle.rasta_check.specs.Run.Levels.{makes_at, takes_lines, side_lines, by_side_lines, packet_lines, level_lines, levels_lines, run_lines}
 use Rattle.rasta_check.proofs.Capture.FaultlessLists.{IsSent}
 use Rattle.rasta_check.proofs.Model.Steps.{base}
 use Rattle.rasta_check.proofs.Script.Tracks.{Tracks, Drained, first_number_of, first_tracks, nothing_left, passed_by}
@@ -61,7 +61,7 @@ module _ (p : Parameters) (packets : List Packet) where
       → Many p (station_of w.world (other_side x)) x w.world.crossed (station_of w.world x) ls a ys → ys ≡ take k packets
       → Q x a → Q (other_side x) (station_of w.world (other_side x)) → Stage k Q (lines ++ ls)
   goes_on {ls = ls} {a = a} {ys = ys} Q w x m e h g =
-      let z = many_moves x w.world w.happened m (subst (λ (v : World). Runs p w.happened v) (unmoved w.world x) w.reached) in
+      let z = many_moves x w.world w.happened m (rw (sym (unmoved w.world x)) w.reached) in
       record {
         world = moved w.world x a ys;
         happened = z.0;
@@ -97,7 +97,7 @@ module _ (p : Parameters) (packets : List Packet) where
         let long : length w.world.crossed ≡ k = ap length w.crossed ∙ length-take-le k packets l in
         let d = drain p packets (length packets) k x (other_side x) (lists x) (lists (other_side x)) (sent (other_side x)) (follows x).0 (follows (other_side x)).0 (station_of w.world (other_side x)) bs g w.world.crossed long
         h.rest (station_of w.world x) h.above h.tracks in
-        subst (λ (l : List ℕ). Stage k Q (lines ++ each_take k x l)) (sym (h.says.takes k (omega arith)))
+        rw (h.says.takes k (omega arith))
         (goes_on Q w x d.many w.crossed (q d.station (record { rest = d.rest; tracks = d.tracks; drained = d.drained; says = says_on h.says d.says (omega arith) (omega arith) })) still)
 
     -- the client took what is due, and the server hasn't yet
@@ -113,8 +113,7 @@ module _ (p : Parameters) (packets : List Packet) where
     -- the lines of a side's packet are those of the packet at this place
     here_lines : (k : ℕ) (here : Packet) (rest : List Entry) → slice_get packets k ≡ Some here → makes_at k (scripts here.side) ≡ makes_at k rest
         → side_lines k here.side (number_of here) (lists here.side) rest ≡ packet_lines k (lists Client) (lists Server) (scripts Client) (scripts Server) (slice_get packets k)
-    here_lines k here rest at m =
-        rw (at, sym m) (by here.side)
+    here_lines k here rest at m = rw (at, sym m) (by here.side)
       where
         by : (x : Side) → side_lines k x (number_of here) (lists x) (scripts x) ≡ by_side_lines k (number_of here) (lists Client) (lists Server) (scripts Client) (scripts Server) x
         by Client = refl
