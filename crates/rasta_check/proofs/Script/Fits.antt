@@ -68,10 +68,6 @@ module _ (p : Parameters) (packets : ℕ) (own peer : List FirstCopy) where
   rests_on : (u v : Cursor) (c : FirstCopy) (left : List FirstCopy) → v.made ≡ suc u.made → Rests u (c ∷ left) → Rests v left
   rests_on u v c left e h j = ap (slice_get own) (let z = e in omega arith) ∙ h (suc j)
 
-  -- the next own PDU is found by its place
-  found_at : (u : Cursor) (c : FirstCopy) → Behind u → u.level ≤ c.place → slice_get own u.made ≡ Some c → position_of_place own c.place ≡ Some u.made
-  found_at u c low l g = place_first own u.made c g (λ j d b k e. (let q = low j d b k in omega (arith, e, q, l)))
-
   behind_on : (u v : Cursor) (c : FirstCopy) → v.made ≡ suc u.made → v.level ≡ suc c.place → u.level ≤ c.place → slice_get own u.made ≡ Some c → Behind u → Behind v
   behind_on u v c m l low g h j d b k =
       elim (dec_lt j u.made) [
@@ -103,7 +99,7 @@ module _ (p : Parameters) (packets : ℕ) (own peer : List FirstCopy) where
       let low : u.level ≤ c.place = (let z = f.slots.0 in omega arith) in
       let there = head_rests u c (made ++ left) r in
       let v : Cursor = record { level = suc place; made = suc u.made; taken = u.taken; state = f.ends.0 } in
-      rw (gone p packets own peer u v (Make place clock why) (makes place clock why c f.ends.0 f.slots.0 (rw same (found_at u c b low there)) there (sym same) f.ends.1))
+      rw (gone p packets own peer u v (Make place clock why) (makes place clock why c f.ends.0 f.slots.0 (rw same (place_first own u.made c there (λ j d l k q. (let y = b j d l k in omega (arith, q, y, low))))) there (sym same) f.ends.1))
       (runs side (suc entry) v xs rest made left taken e (rests_on u v c (made ++ left) refl r) (behind_on u v c refl (ap suc same) low there b)
       (record { makes = (let z = f.makes in cc); slots = f.slots.1; takes = f.takes; ends = f.ends.2 }))
 

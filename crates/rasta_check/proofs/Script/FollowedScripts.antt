@@ -27,15 +27,15 @@ use Rattle.rasta_check.proofs.Capture.Positions.{number_found, number_named, pla
 -- ---- one entry that is allowed leads on
 
 -- a test that isn't met is passed
-pub passes : {A B : Type 0} (b : Bool) (f : B) (r : Result A B) (v : A) → (if b then Err f else r) ≡ Ok v → (b ≡ false) × (r ≡ Ok v)
+passes : {A B : Type 0} (b : Bool) (f : B) (r : Result A B) (v : A) → (if b then Err f else r) ≡ Ok v → (b ≡ false) × (r ≡ Ok v)
 passes true f r v e = absurd (cc)
 passes false f r v e = (refl, e)
 
-pub holds : {A B : Type 0} (b : Bool) (f : B) (r : Result A B) (v : A) → (if b then r else Err f) ≡ Ok v → (b ≡ true) × (r ≡ Ok v)
+holds : {A B : Type 0} (b : Bool) (f : B) (r : Result A B) (v : A) → (if b then r else Err f) ≡ Ok v → (b ≡ true) × (r ≡ Ok v)
 holds true f r v e = (refl, e)
 holds false f r v e = absurd (cc)
 
-pub allowed : (fault : Option ℕ) (w v : Cursor) → unless fault w ≡ Ok v → (fault ≡ None) × (w ≡ v)
+allowed : (fault : Option ℕ) (w v : Cursor) → unless fault w ≡ Ok v → (fault ≡ None) × (w ≡ v)
 allowed None w v e = (refl, cc)
 allowed (Some f) w v e = absurd (cc)
 
@@ -114,15 +114,6 @@ module _ (p : Parameters) (packets : ℕ) (own peer : List FirstCopy) where
 
 -- ---- a script that fits is followed
 
-pub held : {A B : Type 0} (b : Bool) (f : B) (r : Result A B) → b ≡ true → (if b then r else Err f) ≡ r
-held b f r e = ap (λ c. if c then r else Err f) e
-
-pub failed : {A B : Type 0} (b : Bool) (f : B) (r : Result A B) → b ≡ false → (if b then r else Err f) ≡ Err f
-failed b f r e = ap (λ c. if c then r else Err f) e
-
-pub same_equal : (a b : ℕ) → a ≡ b → (a == b) ≡ true
-same_equal a b e = grind (arith, nat_tests)
-
 module _ (p : Parameters) (packets : ℕ) (own peer : List FirstCopy) where
   -- and where it goes on, the cursor is next
   pub gone : (u v : Cursor) (x : Entry) → Goes p packets own peer u x v → next_cursor p packets own peer u x ≡ Ok v
@@ -134,7 +125,8 @@ module _ (p : Parameters) (packets : ℕ) (own peer : List FirstCopy) where
       rw (first, at, g, crossed, rising, t.0) (ap (λ (z : EndState). Ok (record { level = slot; made = u.made; taken = suc position; state = z })) (sym t.1))
   gone u v x (makes place clock why c after low at g same m) =
       let first : nat_lt place u.level ≡ false = grind (arith, nat_tests, low) in
-      rw (first, at, same_equal u.made u.made refl, g, no_fault p u.state c.pdu.safety clock why m.0)
+      let next : (u.made == u.made) ≡ true = grind (arith, nat_tests) in
+      rw (first, at, next, g, no_fault p u.state c.pdu.safety clock why m.0)
       (ap (λ (z : EndState). Ok (record { level = suc place; made = suc u.made; taken = u.taken; state = z })) (sym m.1))
 
 module _ (p : Parameters) (packets : ℕ) (own peer : List FirstCopy) (mine : IsOrdered own) (theirs : IsOrdered peer) (few : length peer < 4294967296) where
