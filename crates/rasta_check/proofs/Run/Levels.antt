@@ -3,16 +3,9 @@ use Rattle.std.proofs.Common.{◌≡◌, ℕ, zero, suc, ◌+◌, ◌≤◌, Lis
 use Rattle.std.specs.Prelude.{Option, None}
 use Rattle.std.proofs.lemmas.List.{append-nil, append_assoc, take_all, length-take-le}
 use Rattle.std.proofs.lemmas.Option.{slice_get_within}
-use Rattle.rasta_pcap.specs.declared.fault.Side.{Side}
-use Rattle.rasta_pcap.specs.declared.fault.Side.TheVariants.{Client, Server}
-use Rattle.rasta_udp.specs.Frame.{Packet}
-use Rattle.rasta_pdu.specs.Params.{Parameters}
-use Rattle.rasta_end.specs.State.{EndState}
-use Rattle.rasta_end.specs.Starts.{start_of}
-use Rattle.rasta_cert.specs.declared.entry.Entry.{Entry}
-use Rattle.rasta_check.specs.Capture.Crossing.{FirstCopy, CrossRecorded}
-use Rattle.rasta_check.specs.Model.World.{Station, World, station_of, end_of, other_side, moved, first_station, first_world}
-use Rattle.rasta_check.specs.Script.Following.{Follows, at_start}
+use Rattle.rasta_check.proofs.Words.{Side, Client, Server, Packet, Parameters, Entry, EndState, start_of, FirstCopy}
+use Rattle.rasta_check.proofs.Words.{CrossRecorded, Station, World, other_side, station_of, end_of, at_start, Follows}
+use Rattle.rasta_check.specs.Model.World.{moved, first_station, first_world}
 use Rattle.rasta_check.specs.Run.Moves.{Happened, Runs, starts}
 use Rattle.rasta_check.specs.Run.Lines.{Line, told, number_of}
 use Rattle.rasta_check.specs.Run.Levels.{makes_at, takes_lines, side_lines, by_side_lines, packet_lines, level_lines, levels_lines, run_lines}

@@ -1,10 +1,8 @@
 -- Each move of a run has one line.
 use Rattle.std.proofs.Common.{◌≡◌, List, Option, length, refl, ap, arith}
 use Rattle.std.proofs.lemmas.List.{length-append}
-use Rattle.rasta_pcap.specs.declared.fault.Side.{Side}
-use Rattle.rasta_udp.specs.Frame.{Packet}
-use Rattle.rasta_pdu.specs.Params.{Parameters}
-use Rattle.rasta_check.specs.Model.World.{Station, World, Move, Moves, makes, repeats, arrives, takes, waits}
+use Rattle.rasta_check.proofs.Words.{Side, Packet, Parameters, Station, World}
+use Rattle.rasta_check.specs.Model.World.{Move, Moves, makes, repeats, arrives, takes, waits}
 use Rattle.rasta_check.specs.Run.Moves.{Happened, Runs, starts, does}
 use Rattle.rasta_check.specs.Run.Lines.{copy_lines, lines_of_move, told}
 use Rattle.rasta_check.proofs.Run.Moves.{told_push}

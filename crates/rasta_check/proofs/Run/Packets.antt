@@ -5,17 +5,11 @@ use Rattle.std.proofs.lemmas.List.{length_push, length-take-le, get_or-take}
 use Rattle.std.proofs.lemmas.Option.{slice_get_within, slice_get-get_or, get_or_from_slice_get}
 use native.Mathlib.Decide.{dec_lt}
 use Prim.{yes, no}
-use Rattle.rasta_pcap.specs.declared.fault.Side.{Side}
-use Rattle.rasta_udp.specs.Frame.{Packet}
-use Rattle.rasta_pdu.specs.Params.{Parameters}
-use Rattle.rasta_end.specs.declared.why.Why.{Why}
-use Rattle.rasta_end.specs.State.{Made, wrapped}
-use Rattle.rasta_cert.specs.declared.entry.Entry.{Entry}
-use Rattle.rasta_cert.specs.declared.entry.Entry.TheVariants.{Take, Make}
-use Rattle.rasta_check.specs.Capture.Crossing.{Spells, FirstCopy, CrossRecorded}
+use Rattle.rasta_check.proofs.Words.{Side, Packet, Parameters, Entry, Take, Make, Why, Made}
+use Rattle.rasta_check.proofs.Words.{wrapped, FirstCopy, CrossRecorded, Station, Cursor, Advances, makes_next, Leads}
+use Rattle.rasta_check.specs.Capture.Crossing.{Spells}
 use Rattle.rasta_check.specs.Capture.Lists.{position_of_place}
-use Rattle.rasta_check.specs.Script.Following.{Cursor, Advances, makes_next, Leads}
-use Rattle.rasta_check.specs.Model.World.{Station, making, repeating, waiting, makes, repeats, waits}
+use Rattle.rasta_check.specs.Model.World.{making, repeating, waiting, makes, repeats, waits}
 use Rattle.rasta_check.proofs.Capture.FaultlessLists.{IsSent, ordered}
 use Rattle.rasta_check.proofs.Capture.Crossings.{number_spelled}
 use Rattle.rasta_check.proofs.Lists.{get_front, get_push, slice_get_some}

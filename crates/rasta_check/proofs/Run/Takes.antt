@@ -3,16 +3,9 @@ use Rattle.std.proofs.Common.{◌≡◌, ℕ, suc, ◌+◌, ◌<◌, ◌≤◌, 
 use Rattle.std.proofs.lemmas.Option.{slice_get_within}
 use native.Mathlib.Decide.{dec_le, dec_lt}
 use Prim.{yes, no}
-use Rattle.rasta_pcap.specs.declared.fault.Side.{Side}
-use Rattle.rasta_udp.specs.Frame.{Packet}
-use Rattle.rasta_pdu.specs.Params.{Parameters}
-use Rattle.rasta_end.specs.State.{Made, EndState, wrapped}
-use Rattle.rasta_end.specs.TakeRule.{Takes}
-use Rattle.rasta_cert.specs.declared.entry.Entry.{Entry}
-use Rattle.rasta_cert.specs.declared.entry.Entry.TheVariants.{Take, Make}
-use Rattle.rasta_check.specs.Capture.Crossing.{FirstCopy}
-use Rattle.rasta_check.specs.Script.Following.{Cursor, Advances, takes_next, makes_next, Leads}
-use Rattle.rasta_check.specs.Model.World.{Station, arriving, taking, arrives, takes}
+use Rattle.rasta_check.proofs.Words.{Side, Packet, Parameters, Entry, Take, Make, Made, EndState, wrapped}
+use Rattle.rasta_check.proofs.Words.{Takes, FirstCopy, Station, Cursor, Advances, takes_next, makes_next, Leads}
+use Rattle.rasta_check.specs.Model.World.{arriving, taking, arrives, takes}
 use Rattle.rasta_check.specs.Run.Levels.{takes_at, take_line, brought_line, each_take, takes_lines}
 use Rattle.rasta_check.proofs.Capture.FaultlessLists.{IsSent}
 use Rattle.rasta_check.proofs.Script.Tracks.{Tracks, Drained, moved_made, next_number}

@@ -1,27 +1,15 @@
 -- Scripts cut after their last make: a run in which no more is handed up than the two lists show.
 use Rattle.std.proofs.Common.{◌≡◌, ◌⊎◌, ℕ, zero, suc, ◌<◌, ◌≤◌, false, List, [], ◌∷◌, length, Some, slice_get, refl, ap, sym, ◌∙◌, arith, inl, inr, ⊎_elim, subst}
-use Rattle.rasta_pcap.specs.declared.fault.Side.{Side}
-use Rattle.rasta_pcap.specs.declared.fault.Side.TheVariants.{Client, Server}
-use Rattle.rasta_udp.specs.Frame.{Packet}
-use Rattle.rasta_pdu.specs.declared.kind.Kind.{Kind}
+use Rattle.rasta_check.proofs.Words.{Side, Client, Server, Packet, Kind, Parameters, SafetyPdu, Entry, Phase, Owed, Why, EndState, Makes, start_of}
+use Rattle.rasta_check.proofs.Words.{FirstCopy, CrossRecorded, World, Reaches, other_side, station_of, end_of, Cursor, Advances, takes_next, makes_next, Leads, at_start, Follows}
 use Rattle.rasta_pdu.specs.declared.kind.Kind.TheVariants.{ConnectionRequest}
-use Rattle.rasta_pdu.specs.Params.{Parameters}
-use Rattle.rasta_pdu.specs.Pdu.{SafetyPdu, is_kind}
-use Rattle.rasta_cert.specs.declared.entry.Entry.{Entry}
-use Rattle.rasta_end.specs.declared.phase.Phase.{Phase}
+use Rattle.rasta_pdu.specs.Pdu.{is_kind}
 use Rattle.rasta_end.specs.declared.phase.Phase.TheVariants.{Start}
-use Rattle.rasta_end.specs.declared.owed.Owed.{Owed}
-use Rattle.rasta_end.specs.declared.why.Why.{Why}
 use Rattle.rasta_end.specs.declared.make_row.MakeRow.{MakeRow}
-use Rattle.rasta_end.specs.State.{EndState}
 use Rattle.rasta_end.specs.Units.{units_at}
-use Rattle.rasta_end.specs.MakeRule.{Makes, phase_after, after_make_by}
-use Rattle.rasta_end.specs.Starts.{start_of}
-use Rattle.rasta_check.specs.Capture.Crossing.{FirstCopy, CrossRecorded}
-use Rattle.rasta_check.specs.Model.World.{World, Reaches, other_side, end_of, station_of}
+use Rattle.rasta_end.specs.MakeRule.{phase_after, after_make_by}
 use Rattle.rasta_check.specs.Model.Laws.{NamesOne}
 use Rattle.rasta_check.specs.Model.Taken.{pdus_made, pdus_of, all_made, units_along, units_shown, units_taken, position_with, surely_taken}
-use Rattle.rasta_check.specs.Script.Following.{Cursor, Advances, takes_next, makes_next, Leads, at_start, Follows}
 use Rattle.rasta_check.specs.Model.Theorem.{units_handed, units_listed}
 use Rattle.rasta_check.proofs.Capture.FaultlessLists.{IsSent}
 use Rattle.rasta_check.proofs.Model.PassedTests.{passed, cs_is}

@@ -4,22 +4,14 @@ use Rattle.std.specs.Prelude.{not, nat_lt, ◌==◌, ◌||◌, if◌then◌else�
 use Rattle.std.proofs.lemmas.Bool.Decides.{nat_tests}
 use Rattle.std.proofs.lemmas.List.{drop_all}
 use Rattle.std.proofs.lemmas.Option.{slice_get-get_or}
-use Rattle.rasta_pcap.specs.declared.fault.Fault.{Fault}
-use Rattle.rasta_pcap.specs.declared.fault.Side.{Side}
+use Rattle.rasta_check.proofs.Words.{Fault, Side, Parameters, Entry, Take, Make, Why, EndState, Makes, Takes}
+use Rattle.rasta_check.proofs.Words.{start_of, FirstCopy, Cursor, Advances, takes_next, makes_next, Leads, at_start, Follows}
 use Rattle.rasta_pcap.specs.Fault.{fault_of_end, no_memory, slot_order, make_missing, not_yet_crossed, not_rising}
-use Rattle.rasta_pdu.specs.Params.{Parameters}
-use Rattle.rasta_cert.specs.declared.entry.Entry.{Entry}
-use Rattle.rasta_cert.specs.declared.entry.Entry.TheVariants.{Take, Make}
-use Rattle.rasta_end.specs.declared.why.Why.{Why}
-use Rattle.rasta_end.specs.State.{EndState}
-use Rattle.rasta_end.specs.MakeRule.{Makes, make_fault}
-use Rattle.rasta_end.specs.TakeRule.{Takes, take_fault}
-use Rattle.rasta_end.specs.Starts.{start_of}
+use Rattle.rasta_end.specs.MakeRule.{make_fault}
+use Rattle.rasta_end.specs.TakeRule.{take_fault}
 use Rattle.rasta_end.specs.Judged.{JudgedEnd}
 use Rattle.rasta_end.proofs.MakeTests.{no_fault, no_test}
-use Rattle.rasta_check.specs.Capture.Crossing.{FirstCopy}
 use Rattle.rasta_check.specs.Capture.Lists.{IsOrdered, position_of_number, position_of_place}
-use Rattle.rasta_check.specs.Script.Following.{Cursor, Advances, takes_next, makes_next, Leads, at_start, Follows}
 use Rattle.rasta_check.specs.Internals.Checking.{unless, take_at, take_found, make_of, make_found, next_cursor, then_follow, follow_from, follow, Followed, moved_to, IsRefused}
 use Rattle.rasta_check.proofs.Lists.{drop_one_more}
 use Rattle.rasta_check.proofs.Capture.Positions.{number_found, number_named, place_found, place_named}

@@ -1,18 +1,11 @@
 -- Scripts are followed in one way, and first copies are the packets with a new number.
 use Rattle.std.proofs.Common.{◌≡◌, ℕ, suc, ◌<◌, List, [], ◌∷◌, ◌++◌, length, Some, slice_get, refl, ap, sym, ◌∙◌, arith, subst}
 use Rattle.std.proofs.lemmas.List.{append-nil}
-use Rattle.rasta_pcap.specs.declared.fault.Side.{Side}
-use Rattle.rasta_pdu.specs.Params.{Parameters}
-use Rattle.rasta_pdu.specs.Pdu.{RedundancyPdu}
-use Rattle.rasta_end.specs.State.{EndState}
+use Rattle.rasta_check.proofs.Words.{Side, Packet, Parameters, RedundancyPdu, Entry, Take, Make, EndState, FirstCopy, Cursor, Advances, takes_next, makes_next, Leads}
 use Rattle.rasta_end.specs.MakeRule.{after_make}
 use Rattle.rasta_end.specs.TakeRule.{after_take}
-use Rattle.rasta_check.specs.Capture.Crossing.{Spells, FirstCopy, IsCarried, IsKnown}
-use Rattle.rasta_udp.specs.Frame.{Packet}
-use Rattle.rasta_cert.specs.declared.entry.Entry.{Entry}
-use Rattle.rasta_cert.specs.declared.entry.Entry.TheVariants.{Take, Make}
+use Rattle.rasta_check.specs.Capture.Crossing.{Spells, IsCarried, IsKnown}
 use Rattle.rasta_check.proofs.Capture.FaultlessLists.{IsSent, ordered}
-use Rattle.rasta_check.specs.Script.Following.{Cursor, Advances, takes_next, makes_next, Leads}
 use Rattle.rasta_check.proofs.Capture.Spellings.{read_once}
 use Rattle.rasta_check.proofs.Capture.Positions.{number_once}
 

@@ -4,26 +4,17 @@ use Rattle.std.specs.Prelude.{if◌then◌else◌}
 use Rattle.std.proofs.lemmas.Bool.Decides.{nat_tests}
 use Rattle.std.proofs.lemmas.List.{append-nil, append_assoc, length_push, length-map, map-append}
 use Rattle.std.proofs.lemmas.Option.{slice_get_within}
-use Rattle.rasta_pcap.specs.declared.fault.Side.{Side}
-use Rattle.rasta_pcap.specs.declared.fault.Side.TheVariants.{Client, Server}
-use Rattle.rasta_end.specs.declared.why.Why.{Why}
-use Rattle.rasta_end.specs.declared.owed.Owed.{Owed}
+use Rattle.rasta_check.proofs.Words.{Side, Client, Server, Packet, Parameters, AreParameters, SafetyPdu, RedundancyPdu, Entry, Take, Make, Owed, Why, Made, EndState, wrapped}
+use Rattle.rasta_check.proofs.Words.{Makes, Takes, start_of, FirstCopy, Station, World, Reaches, other_side, station_of, Cursor, Advances, takes_next, makes_next, Leads, at_start, Follows}
 use Rattle.rasta_pcap.specs.Fault.{reply_owed, past_deadline}
-use Rattle.rasta_pdu.specs.Params.{Parameters, AreParameters}
-use Rattle.rasta_pdu.specs.Pdu.{SafetyPdu, RedundancyPdu}
-use Rattle.rasta_end.specs.State.{Made, EndState, wrapped, is_closed, is_owing}
-use Rattle.rasta_end.specs.MakeRule.{Makes, is_past, first_that_holds}
-use Rattle.rasta_end.specs.TakeRule.{Takes, take_fault}
-use Rattle.rasta_end.specs.Starts.{start_of}
+use Rattle.rasta_end.specs.State.{is_closed, is_owing}
+use Rattle.rasta_end.specs.MakeRule.{is_past, first_that_holds}
+use Rattle.rasta_end.specs.TakeRule.{take_fault}
 use Rattle.rasta_check.proofs.Model.Steps.{base, start_base, start_made, start_side, made_more}
-use Rattle.rasta_check.specs.Capture.Crossing.{Spells, FirstCopy}
-use Rattle.rasta_udp.specs.Frame.{Packet}
-use Rattle.rasta_check.specs.Model.World.{Station, World, Move, Moves, makes, repeats, arrives, takes, waits, Step, side_moves, station_of, other_side, Reaches, begins, goes_on, first_station}
-use Rattle.rasta_cert.specs.declared.entry.Entry.{Entry}
-use Rattle.rasta_cert.specs.declared.entry.Entry.TheVariants.{Take, Make}
+use Rattle.rasta_check.specs.Capture.Crossing.{Spells}
+use Rattle.rasta_check.specs.Model.World.{Move, Moves, makes, repeats, arrives, takes, waits, Step, side_moves, begins, goes_on, first_station}
 use Rattle.rasta_cert.specs.Certificate.{most_entries}
 use Rattle.rasta_check.proofs.Capture.FaultlessLists.{IsSent}
-use Rattle.rasta_check.specs.Script.Following.{Cursor, Advances, takes_next, makes_next, Leads, Follows, at_start}
 use Rattle.rasta_check.specs.Model.Taken.{pdus_of, pdus_made}
 use Rattle.rasta_check.proofs.Lists.{get_push_cases, get_front, get_push, get_past, map_at, get_mapped}
 use Rattle.rasta_check.proofs.Model.TakeRows.{take_leaves}

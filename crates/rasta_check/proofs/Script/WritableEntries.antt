@@ -6,23 +6,14 @@ use Rattle.std.proofs.lemmas.List.Sums.{count_by-le-length, length-filter}
 use Rattle.std.proofs.lemmas.Option.{slice_get_within}
 use Rattle.std.specs.Option.{option_map_or}
 use Rattle.std.specs.Str.{bytes_eq}
-use Rattle.rasta_pcap.specs.declared.fault.Side.{Side}
-use Rattle.rasta_udp.specs.Frame.{Packet}
-use Rattle.rasta_pdu.specs.declared.kind.Kind.{Kind}
-use Rattle.rasta_pdu.specs.Params.{Parameters}
-use Rattle.rasta_pdu.specs.Pdu.{SafetyPdu, is_kind}
-use Rattle.rasta_cert.specs.declared.entry.Entry.{Entry}
-use Rattle.rasta_end.specs.declared.phase.Phase.{Phase}
-use Rattle.rasta_end.specs.declared.owed.Owed.{Owed}
-use Rattle.rasta_end.specs.declared.why.Why.{Why}
+use Rattle.rasta_check.proofs.Words.{Side, Packet, Kind, Parameters, SafetyPdu, Entry, Phase, Owed, Why, Made}
+use Rattle.rasta_check.proofs.Words.{EndState, Makes, start_of, FirstCopy, Cursor, Advances, takes_next, makes_next, Leads, at_start}
+use Rattle.rasta_pdu.specs.Pdu.{is_kind}
 use Rattle.rasta_end.specs.declared.why.Why.TheVariants.{Again}
 use Rattle.rasta_end.specs.declared.make_row.MakeRow.{MakeRow}
 use Rattle.rasta_end.specs.declared.make_row.MakeRow.TheVariants.{Resends}
-use Rattle.rasta_end.specs.State.{Made, EndState, content_of}
-use Rattle.rasta_end.specs.MakeRule.{Makes, contents, differs, row_of}
-use Rattle.rasta_end.specs.Starts.{start_of}
-use Rattle.rasta_check.specs.Capture.Crossing.{FirstCopy}
-use Rattle.rasta_check.specs.Script.Following.{Cursor, Advances, takes_next, makes_next, Leads, at_start}
+use Rattle.rasta_end.specs.State.{content_of}
+use Rattle.rasta_end.specs.MakeRule.{contents, differs, row_of}
 use Rattle.rasta_cert.specs.Certificate.{AreEntries, IsEntry, IsReason}
 use Rattle.rasta_check.proofs.Capture.FaultlessLists.{IsSent}
 use Rattle.rasta_check.proofs.Model.PassedTests.{passed}
