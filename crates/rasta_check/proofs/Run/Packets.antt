@@ -85,7 +85,7 @@ module _ (p : Parameters) (packets : List Packet) (k : ℕ) (s : Side) (own peer
           mark = f.mark;
           clock = sym made.now;
           number = f.number;
-          before = λ i d h v. elim (dec_lt d.place k) [ yes l ↦ (let z = f.before i d h l in omega (arith, z)) | no l ↦ (let z = place_once own (ordered sent) i f.made d c h mine (omega arith) in omega (arith, z)) ];
+          before = λ i d h v. (let x = f.before i d h in let y = place_once own (ordered sent) i f.made d c h mine in grind (arith, x, y, pl, v));
           after = λ i d h v. elim (dec_lt i f.made) [ yes l ↦ (let z = f.after i d h l in omega (arith, z)) | no l ↦ (let q = ap (λ (z : FirstCopy). z.place) (newest i d h v l) in omega (arith, q)) ];
           same = λ i d h v. elim (dec_lt i f.made) [
             | yes l ↦ (let z = f.same i d h l in (z.0, ap (λ (ms : List Made). slice_get ms (base p + i)) now ∙ get_front a.state.made (n ∷ []) (base p + i) z.0 z.1, z.2))
@@ -111,10 +111,7 @@ module _ (p : Parameters) (packets : List Packet) (k : ℕ) (s : Side) (own peer
   copied : (es : List Entry) (a : Station) → here.side ≡ s → Above (suc k) es → Tracks p (length packets) k s own peer es last a → Crossed es a
   copied es a hs above f =
       let no_first : (i : ℕ) (c : FirstCopy) → slice_get own i ≡ Some c → c.place ≡ k → ⊥ =
-      λ i c g e. elim (dec_lt i f.made) [
-        | yes m ↦ (let z = f.after i c g m in omega (arith, z))
-        | no m ↦ (let z = places_above p (length packets) (suc k) own peer _ last es f.fits whole above i c g (omega arith) in omega (arith, z))
-      ] in
+      λ i c g e. (let x = f.after i c g in let y = places_above p (length packets) (suc k) own peer _ last es f.fits whole above i c g in grind (arith, x, y, e)) in
       let w = sent.copies k here at hs in
       let o = sent.firsts w.0 w.1 w.2 in
       let earlier : w.1.place < k = (let apart = no_first w.0 w.1 w.2 in let low = w.3 in omega (arith, apart)) in

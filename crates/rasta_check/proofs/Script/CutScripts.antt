@@ -100,11 +100,9 @@ module _ (p : Parameters) (s : Side) (e f : EndState) (t u : ℕ) (own : List Fi
       let c = hd.count ∙ ap (worth (values f)) a in
       omega (arith, big, v, c)
 
-  none_handed : e ≡ start_of p s → length e.handed ≤ units_taken M (pdus_of own)
-  none_handed q = (let z = ap (λ (x : EndState). length x.handed) q in let y = (start_is p.quiet s).3 in omega arith)
-
   pub no_more : (e ≡ start_of p s) ⊎ JustMade p own e → length e.handed ≤ units_taken M (pdus_of own)
-  no_more c = ⊎_elim (λ (q : e ≡ start_of p s). none_handed q) (λ (m : JustMade p own e). shows_by m e.accepted refl) c
+  no_more (inl q) = (let z = ap (λ (x : EndState). length x.handed) q in let y = (start_is p.quiet s).3 in omega arith)
+  no_more (inr m) = shows_by m e.accepted refl
 
 -- ---- the run
 

@@ -1,5 +1,5 @@
 -- Along a run: the first copies so far, and a script for each end.
-use Rattle.std.proofs.Common.{◌≡◌, ℕ, suc, ◌+◌, ◌-◌, ◌<◌, ◌≤◌, Bool, true, false, List, [], ◌∷◌, ◌++◌, length, Option, Some, None, slice_get, refl, ap, sym, ◌∙◌, arith, ◌⊎◌, inl, inr, ⊎_elim, subst, length-append}
+use Rattle.std.proofs.Common.{◌≡◌, ℕ, suc, ◌+◌, ◌-◌, ◌<◌, ◌≤◌, Bool, true, false, List, [], ◌∷◌, ◌++◌, length, Option, Some, None, slice_get, refl, ap, sym, ◌∙◌, arith, ⊎_elim, subst, length-append}
 use Rattle.std.specs.Prelude.{if◌then◌else◌}
 use Rattle.std.proofs.lemmas.Bool.Decides.{nat_tests}
 use Rattle.std.proofs.lemmas.List.{append-nil, append_assoc, length_push, length-map, map-append}
@@ -276,44 +276,41 @@ pub told_by : (p : Parameters) → AreParameters p → (ws : List World) (w : Wo
 told_by p valid ws w Client r = told p valid ws w r
 told_by p valid ws w Server r = turn p Client Server w.crossed w.client w.server (told p valid ws w r)
 
--- a list as it was, or with a copy that doesn't lie below this place
+-- of these two lists the one goes on as the other, with no new copy below this place
 abbrev Grows : ℕ → List FirstCopy → List FirstCopy → Type 0
-Grows n old new = (new ≡ old) ⊎ ((c : FirstCopy) × (new ≡ old ++ c ∷ []) × (n ≤ c.place))
+Grows n old new =
+    ((j : ℕ) (d : FirstCopy) → slice_get new j ≡ Some d → d.place < n → slice_get old j ≡ Some d) × ((j : ℕ) (d : FirstCopy) → slice_get old j ≡ Some d → slice_get new j ≡ Some d)
 
 -- so grows the list of the station that moves, and that of its peer stays
 grown : (p : Parameters) (s r : Side) (xs ys : List Packet) (a a' b : Station) (apart : s ≡ r → ⊥) {move : Move} (m : Moves p b xs a move a' ys) (g : Both p s r xs a b)
-    → Grows (length xs) g.own (both_kept p s r xs ys a a' b apart m g).own × ((both_kept p s r xs ys a a' b apart m g).peer ≡ g.peer)
+    → Grows (length xs) g.own (both_kept p s r xs ys a a' b apart m g).own × Grows (length xs) g.peer (both_kept p s r xs ys a a' b apart m g).peer
 unfolding both_kept
-grown p s r xs ys a a' b apart (makes x why e' ch res chk bs mk sp rec) g = (inr (_, refl, omega arith), refl)
-grown p s r xs ys a a' b apart _ g = (inl refl, refl)
+grown p s r xs ys a a' b apart (makes x why e' ch res chk bs mk sp rec) g =
+    let c : FirstCopy = copy p s xs g.own g.peer a.state e' a.first_number a.clock a.taken ch res chk bs x why mk sp g.sends g.told in (
+      (
+        λ j d at l. ⊎_elim (λ (x : slice_get g.own j ≡ Some d). x) (λ (x : (j ≡ length g.own) × (c ≡ d)). absurd (let z = ap (λ (y : FirstCopy). y.place) x.1 in omega (arith, z, l))) (get_push_cases g.own c j d at),
+        λ j d at. get_front g.own (c ∷ []) j d at,
+      ),
+      (λ j d at l. at, λ j d at. at),
+    )
+grown p s r xs ys a a' b apart _ g = ((λ j d at l. at, λ j d at. at), (λ j d at l. at, λ j d at. at))
 
 both_grown : (p : Parameters) (v w : World) (st : Step p v w) (g : Both p Client Server v.crossed v.client v.server)
     → Grows (length v.crossed) g.own (told_step p v w st g).own × Grows (length v.crossed) g.peer (told_step p v w st g).peer
 unfolding told_step
-both_grown p v w (side_moves {a = a} {after = ys} Client m) g = (let z = grown p Client Server v.crossed ys v.client a v.server (λ e. cc (e)) m g in (z.0, inl z.1))
-both_grown p v w (side_moves {a = a} {after = ys} Server m) g = (let z = grown p Server Client v.crossed ys v.server a v.client (λ e. cc (e)) m (turn p Client Server v.crossed v.client v.server g) in (inl z.1, z.0))
-
-kept_copies : (n : ℕ) (old new : List FirstCopy) → Grows n old new → (j : ℕ) (d : FirstCopy) → slice_get new j ≡ Some d → d.place < n → slice_get old j ≡ Some d
-kept_copies n old new (inl e) j d at l = subst (λ (cs : List FirstCopy). slice_get cs j ≡ Some d) e at
-kept_copies n old new (inr h) j d at l = ⊎_elim
-    (λ (x : slice_get old j ≡ Some d). x)
-    (λ (x : (j ≡ length old) × (h.0 ≡ d)). absurd (let z = ap (λ (c : FirstCopy). c.place) x.1 in let y = h.2 in omega (arith, z, y, l)))
-    (get_push_cases old h.0 j d (subst (λ (cs : List FirstCopy). slice_get cs j ≡ Some d) h.1 at))
-
-kept_front : (n : ℕ) (old new : List FirstCopy) → Grows n old new → (j : ℕ) (d : FirstCopy) → slice_get old j ≡ Some d → slice_get new j ≡ Some d
-kept_front n old new (inl e) j d at = subst (λ (cs : List FirstCopy). slice_get cs j ≡ Some d) (sym e) at
-kept_front n old new (inr h) j d at = subst (λ (cs : List FirstCopy). slice_get cs j ≡ Some d) (sym h.1) (get_front old (h.0 ∷ []) j d at)
+both_grown p v w (side_moves {a = a} {after = ys} Client m) g = grown p Client Server v.crossed ys v.client a v.server (λ e. cc (e)) m g
+both_grown p v w (side_moves {a = a} {after = ys} Server m) g = (let z = grown p Server Client v.crossed ys v.server a v.client (λ e. cc (e)) m (turn p Client Server v.crossed v.client v.server g) in (z.1, z.0))
 
 -- the copies below the packets so far stay where they are
 pub step_copies : (p : Parameters) (v w : World) (st : Step p v w) (g : Both p Client Server v.crossed v.client v.server)
     → ((j : ℕ) (d : FirstCopy) → slice_get (told_step p v w st g).own j ≡ Some d → d.place < length v.crossed → slice_get g.own j ≡ Some d)
     × ((j : ℕ) (d : FirstCopy) → slice_get (told_step p v w st g).peer j ≡ Some d → d.place < length v.crossed → slice_get g.peer j ≡ Some d)
-step_copies p v w st g = (let z = both_grown p v w st g in (kept_copies _ _ _ z.0, kept_copies _ _ _ z.1))
+step_copies p v w st g = (let z = both_grown p v w st g in (z.0.0, z.1.0))
 
 pub step_front : (p : Parameters) (v w : World) (st : Step p v w) (g : Both p Client Server v.crossed v.client v.server)
     → ((j : ℕ) (d : FirstCopy) → slice_get g.own j ≡ Some d → slice_get (told_step p v w st g).own j ≡ Some d)
     × ((j : ℕ) (d : FirstCopy) → slice_get g.peer j ≡ Some d → slice_get (told_step p v w st g).peer j ≡ Some d)
-step_front p v w st g = (let z = both_grown p v w st g in (kept_front _ _ _ z.0, kept_front _ _ _ z.1))
+step_front p v w st g = (let z = both_grown p v w st g in (z.0.1, z.1.1))
 
 -- the same for given lists of first copies
 pub told_of : (p : Parameters) (ws : List World) (w : World) (side : Side) (own peer : List FirstCopy) → Reaches p ws w → IsSent p w.crossed side own → IsSent p w.crossed (other_side side) peer
