@@ -40,15 +40,10 @@ ClocksWithin n [] = Unit {0}
 ClocksWithin n (Take slot number ∷ es) = ClocksWithin n es
 ClocksWithin n (Make place clock why ∷ es) = (clock ≤ n) × ClocksWithin n es
 
-clocks_more : (m n : ℕ) (es : List Entry) → m ≤ n → ClocksWithin m es → ClocksWithin n es
-clocks_more m n [] l h = tt
-clocks_more m n (Take slot number ∷ es) l h = clocks_more m n es l h
-clocks_more m n (Make place clock why ∷ es) l h = ((let z = h.0 in omega arith), clocks_more m n es l h.1)
-
-clocks_on : (n : ℕ) (es more : List Entry) → ClocksWithin n es → ClocksWithin n more → ClocksWithin n (es ++ more)
-clocks_on n [] more h g = g
-clocks_on n (Take slot number ∷ es) more h g = clocks_on n es more h g
-clocks_on n (Make place clock why ∷ es) more h g = (h.0, clocks_on n es more h.1 g)
+clocks_on : (m n : ℕ) (es more : List Entry) → m ≤ n → ClocksWithin m es → ClocksWithin n more → ClocksWithin n (es ++ more)
+clocks_on m n [] more l h g = g
+clocks_on m n (Take slot number ∷ es) more l h g = clocks_on m n es more l h g
+clocks_on m n (Make place clock why ∷ es) more l h g = ((let z = h.0 in omega arith), clocks_on m n es more l h.1 g)
 
 -- each entry raises one of the two marks
 pub leads_count : (p : Parameters) (n : ℕ) (own peer : List FirstCopy) (u v : Cursor) (es : List Entry) → Leads p n own peer u es v → length es + u.made + u.taken ≤ v.made + v.taken
@@ -177,7 +172,7 @@ module _ (p : Parameters) (s : Side) (xs : List Packet) (own peer : List FirstCo
         level = omega arith;
         state = refl;
         clock = omega arith;
-        clocks = subst (λ n. ClocksWithin n (t.es ++ Make (length xs) clock why ∷ [])) (sym now) (clocks_on clock t.es (Make (length xs) clock why ∷ []) (clocks_more e.clock clock t.es rises t.clocks) (omega arith, tt));
+        clocks = subst (λ n. ClocksWithin n (t.es ++ Make (length xs) clock why ∷ [])) (sym now) (clocks_on e.clock clock t.es (Make (length xs) clock why ∷ []) rises t.clocks (omega arith, tt));
       }
 
 -- a take
@@ -202,7 +197,7 @@ took p s r xs own peer e e' f clock taken position their m tk above g hs t =
       level = omega arith;
       state = refl;
       clock = (let z = t.clock in omega arith);
-      clocks = subst (λ n. ClocksWithin n (t.es ++ Take (length xs) c.0.pdu.number ∷ [])) (sym same) (clocks_on e.clock t.es (Take (length xs) c.0.pdu.number ∷ []) t.clocks tt);
+      clocks = subst (λ n. ClocksWithin n (t.es ++ Take (length xs) c.0.pdu.number ∷ [])) (sym same) (clocks_on e.clock e.clock t.es (Take (length xs) c.0.pdu.number ∷ []) (omega arith) t.clocks tt);
     }
 
 both_kept : (p : Parameters) (s r : Side) (xs ys : List Packet) (a a' b : Station) → (s ≡ r → ⊥) → {move : Move} → Moves p b xs a move a' ys → Both p s r xs a b → Both p s r ys a' b
@@ -344,4 +339,4 @@ complete p ws w c s r hc hs lc ls n bc bs =
     let their_few = told_few p Server _ h.peer h.own _ _ _ h.their_told in
     let x = ap length g.1 in
     let y = ap length g.2 in
-    (h.told.es, h.their_told.es, fc, fs, omega arith, clocks_more _ n h.told.es bc h.told.clocks, clocks_more _ n h.their_told.es bs h.their_told.clocks)
+    (h.told.es, h.their_told.es, fc, fs, omega arith, rw append-nil at (clocks_on _ n h.told.es [] bc h.told.clocks tt), rw append-nil at (clocks_on _ n h.their_told.es [] bs h.their_told.clocks tt))
