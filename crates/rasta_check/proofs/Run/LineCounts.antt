@@ -16,5 +16,5 @@ one_line s (waits clock l) = refl
 
 pub one_line_each : (p : Parameters) (happened : List Happened) (w : World) → Runs p happened w → length (told happened) ≡ length happened
 one_line_each p hs w (starts m n) = refl
-one_line_each p hs w (does {happened = gs} {w = v} side move r d) = 
+one_line_each p hs w (does {happened = gs} {w = v} side move r d) =
     (let e = one_line_each p gs v r in let f = one_line side d in rw (told_push gs (record { world = v; side = side; move = move })) (simp length-append (omega (arith, e, f))))

@@ -1,6 +1,6 @@
 -- The packet of a level: its end makes it, or it is a copy, with its lines.
 use Rattle.std.proofs.Common.{◌≡◌, ℕ, suc, ◌+◌, ◌<◌, List, [], ◌∷◌, ◌++◌, length, Some, slice_get, take, refl, ap, sym, ◌∙◌, arith, subst}
-use Rattle.std.specs.Prelude.{slice_index_or, Option, None}
+use Rattle.std.specs.Prelude.{slice_index_or, None}
 use Rattle.std.proofs.lemmas.List.{length_push, length-take-le, get_or-take}
 use Rattle.std.proofs.lemmas.Option.{slice_get_within, slice_get-get_or, get_or_from_slice_get}
 use native.Mathlib.Decide.{dec_lt}
@@ -16,7 +16,7 @@ use Rattle.rasta_check.proofs.Lists.{get_front, get_push, slice_get_some}
 use Rattle.rasta_check.proofs.Script.Tracks.{Tracks, Drained, next_number, next_packet, untouched}
 use Rattle.rasta_check.proofs.Model.Steps.{base, made_more}
 use Rattle.rasta_check.specs.Run.Lines.{lines_of_move, number_of}
-use Rattle.rasta_check.specs.Run.Levels.{makes_at, make_line, waited_line, each_make, side_lines, crossed_lines}
+use Rattle.rasta_check.specs.Run.Levels.{makes_at, make_line, waited_line, side_lines}
 use Rattle.rasta_check.proofs.Run.Entries.{takes_past, makes_here, makes_other, below}
 use Rattle.rasta_check.proofs.Run.Rests.{Above, Says, says_all, lead_above, places_above, no_makes}
 use Rattle.rasta_check.proofs.Run.Moves.{Many, stays, moves, recast}
@@ -65,7 +65,7 @@ module _ (p : Parameters) (packets : List Packet) (k : ℕ) (s : Side) (own peer
       let makes_now : makes_at k (Make c.place clock why ∷ es) ≡ (clock, why) ∷ [] =
       rw (pl, makes_here k clock why es, no_makes k (suc k) es (omega arith) after) refl in
       let line : waited_line (length (take k packets)) s clock ∷ make_line (length (take k packets)) s (wrapped (a.first_number + length a.state.made)) (clock, why) ∷ [] ≡ side_lines k s (number_of here) own (Make c.place clock why ∷ es) =
-      (λ i. waited_line (long i) s clock ∷ make_line (long i) s (shown i) (clock, why) ∷ []) ∙ sym (ap (λ (o : Option ℕ). crossed_lines k s (number_of here) o (makes_at k (Make c.place clock why ∷ es))) found ∙ ap (each_make k s (number_of here)) makes_now) in
+      rw (long, shown, found, makes_now) refl in
       record {
         rest = es;
         station = record waited { state = e' };

@@ -64,7 +64,9 @@ module _ (p : Parameters) (packets : ℕ) (own peer : List FirstCopy) where
   behind_on u v c m l low g h j d b k =
       elim (dec_lt j u.made) [
         | yes q ↦ (let r = h j d q k in omega (arith, r, l, low))
-        | no q ↦ (let at : j ≡ u.made = omega (arith, q, b, m) in let same : d ≡ c = (let z = ap (slice_get own) at in cc) in let y = ap (λ (x : FirstCopy). x.place) same in omega (arith, y, l))
+        | no q ↦ (let at : j ≡ u.made = omega (arith, q, b, m) in
+            let same : d ≡ c = (let z = ap (slice_get own) at in cc) in
+            let y = ap (λ (x : FirstCopy). x.place) same in omega (arith, y, l))
       ]
 
   -- entries that fit are followed, whatever comes behind them
@@ -90,8 +92,9 @@ module _ (p : Parameters) (packets : ℕ) (own peer : List FirstCopy) where
       let same : place ≡ c.place = (let z = f.makes in cc) in
       let low : u.level ≤ c.place = (let z = f.slots.0 in omega arith) in
       let there = head_rests u c (made ++ left) r in
+      let found = place_first own u.made c there (λ j d l k q. (let y = b j d l k in omega (arith, q, y, low))) in
       let v : Cursor = record { level = suc place; made = suc u.made; taken = u.taken; state = f.ends.0 } in
-      rw (gone p packets own peer u v (Make place clock why) (makes place clock why c f.ends.0 f.slots.0 (rw same (place_first own u.made c there (λ j d l k q. (let y = b j d l k in omega (arith, q, y, low))))) there (sym same) f.ends.1))
+      rw (gone p packets own peer u v (Make place clock why) (makes place clock why c f.ends.0 f.slots.0 (rw same found) there (sym same) f.ends.1))
       (runs side (suc entry) v xs rest made left taken e (rests_on u v c (made ++ left) refl r) (behind_on u v c refl (ap suc same) low there b)
       (record { makes = (let z = f.makes in cc); slots = f.slots.1; takes = f.takes; ends = f.ends.2 }))
 
@@ -160,7 +163,8 @@ module _ (p : Parameters) (packets : ℕ) (own peer : List FirstCopy) where
       step (nat_lt slot w.level || nat_lt packets slot) slot_order _ _ (take_fault p w.state w.state.clock) (by (position_of_number peer number) refl)
     where
       by : (o : Option ℕ) → position_of_number peer number ≡ o → fault_of (take_found p peer w slot o)
-          ≡ option_or (first_that_holds ((not (option_map_or (λ (c : FirstCopy). nat_lt c.place slot) (copy_with peer number) false), not_yet_crossed) ∷ (option_map_or (λ (position : ℕ). nat_lt position w.taken) o false, not_rising) ∷ []))
+          ≡ option_or (first_that_holds ((not (option_map_or (λ (c : FirstCopy). nat_lt c.place slot) (copy_with peer number) false), not_yet_crossed)
+          ∷ (option_map_or (λ (position : ℕ). nat_lt position w.taken) o false, not_rising) ∷ []))
           (take_fault p w.state w.state.clock)
       by None e = rw (no_copy peer number e) refl
       by (Some i) e =

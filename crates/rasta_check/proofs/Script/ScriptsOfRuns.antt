@@ -108,7 +108,8 @@ sends_count p s xs own e f h = (let a = simp (length-append, length-map) at (ap 
 pub copy_at : (p : Parameters) (s : Side) (xs : List Packet) (own : List FirstCopy) (e : EndState) (f i : ℕ) (m : Made) → Sends p s xs own e f → slice_get e.made (base p + i) ≡ Some m → (c : FirstCopy) × (slice_get own i ≡ Some c) × (c.pdu.safety ≡ m.pdu)
 copy_at p s xs own e f i m h g =
     let l : length (pdus_made (start_of p s).made) ≡ base p = length-map (start_of p s).made (λ (x : Made). x.pdu) ∙ start_made p.quiet s in
-    let a : slice_get (pdus_made (start_of p s).made ++ pdus_of own) (base p + i) ≡ Some m.pdu = sym (ap (λ (ps : List SafetyPdu). slice_get ps (base p + i)) h.same) ∙ map_at (λ (x : Made). x.pdu) e.made (base p + i) m g in
+    let a : slice_get (pdus_made (start_of p s).made ++ pdus_of own) (base p + i) ≡ Some m.pdu =
+    sym (ap (λ (ps : List SafetyPdu). slice_get ps (base p + i)) h.same) ∙ map_at (λ (x : Made). x.pdu) e.made (base p + i) m g in
     get_mapped (λ (c : FirstCopy). c.pdu.safety) own i m.pdu (sym (get_past (pdus_made (start_of p s).made) (pdus_of own) i) ∙ rw l a)
 
 -- a packet of the other side leaves what an end sends
@@ -283,7 +284,8 @@ unfolding both_kept
 grown p s r xs ys a a' b apart (makes x why e' ch res chk bs mk sp rec) g =
     let c : FirstCopy = copy p s xs g.own g.peer a.state e' a.first_number a.clock a.taken ch res chk bs x why mk sp g.sends g.told in (
       (
-        λ j d at l. ⊎_elim (λ (x : slice_get g.own j ≡ Some d). x) (λ (x : (j ≡ length g.own) × (c ≡ d)). absurd (let z = ap (λ (y : FirstCopy). y.place) x.1 in omega (arith, z, l))) (get_push_cases g.own c j d at),
+        λ j d at l. ⊎_elim (λ (x : slice_get g.own j ≡ Some d). x)
+            (λ (x : (j ≡ length g.own) × (c ≡ d)). absurd (let z = ap (λ (y : FirstCopy). y.place) x.1 in omega (arith, z, l))) (get_push_cases g.own c j d at),
         λ j d at. get_front g.own (c ∷ []) j d at,
       ),
       (λ j d at l. at, λ j d at. at),
