@@ -3,21 +3,12 @@ use Rattle.std.proofs.Common.{◌≡◌, ℕ, zero, suc, ◌+◌, ◌≤◌, Lis
 use Rattle.std.specs.Prelude.{Option, None}
 use Rattle.std.proofs.lemmas.List.{append-nil, append_assoc, take_all, length-take-le}
 use Rattle.std.proofs.lemmas.Option.{slice_get_within}
-use Rattle.rasta_pcap.specs.declared.fault.Side.{Side}
-use Rattle.rasta_pcap.specs.declared.fault.Side.TheVariants.{Client, Server}
-use Rattle.rasta_udp.specs.Frame.{Packet}
-use Rattle.rasta_pdu.specs.Params.{Parameters}
-use Rattle.rasta_end.specs.State.{EndState}
-use Rattle.rasta_end.specs.Starts.{start_of}
-use Rattle.rasta_end.specs.declared.why.Why.{Why}
-use Rattle.rasta_cert.specs.declared.entry.Entry.{Entry}
-use Rattle.rasta_check.specs.Capture.Crossing.{FirstCopy, CrossRecorded}
-use Rattle.rasta_check.specs.Capture.Lists.{position_of_place}
-use Rattle.rasta_check.specs.Model.World.{Station, World, station_of, end_of, other_side, moved, first_station, first_world}
-use Rattle.rasta_check.specs.Script.Following.{Follows, at_start}
+use Rattle.rasta_check.proofs.Words.{Side, Client, Server, Packet, Parameters, Entry, EndState, start_of, FirstCopy}
+use Rattle.rasta_check.proofs.Words.{CrossRecorded, Station, World, other_side, station_of, end_of, at_start, Follows}
+use Rattle.rasta_check.specs.Model.World.{moved, first_station, first_world}
 use Rattle.rasta_check.specs.Run.Moves.{Happened, Runs, starts}
 use Rattle.rasta_check.specs.Run.Lines.{Line, told, number_of}
-use Rattle.rasta_check.specs.Run.Levels.{makes_at, each_take, takes_lines, side_lines, crossed_lines, by_side_lines, packet_lines, level_lines, levels_lines, run_lines}
+use Rattle.rasta_check.specs.Run.Levels.{makes_at, takes_lines, side_lines, by_side_lines, packet_lines, level_lines, levels_lines, run_lines}
 use Rattle.rasta_check.proofs.Capture.FaultlessLists.{IsSent}
 use Rattle.rasta_check.proofs.Model.Steps.{base}
 use Rattle.rasta_check.proofs.Script.Tracks.{Tracks, Drained, first_number_of, first_tracks, nothing_left, passed_by}
@@ -63,7 +54,7 @@ module _ (p : Parameters) (packets : List Packet) where
       → Many p (station_of w.world (other_side x)) x w.world.crossed (station_of w.world x) ls a ys → ys ≡ take k packets
       → Q x a → Q (other_side x) (station_of w.world (other_side x)) → Stage k Q (lines ++ ls)
   goes_on {ls = ls} {a = a} {ys = ys} Q w x m e h g =
-      let z = many_moves x w.world w.happened m (subst (λ (v : World). Runs p w.happened v) (unmoved w.world x) w.reached) in
+      let z = many_moves x w.world w.happened m (rw (sym (unmoved w.world x)) w.reached) in
       record {
         world = moved w.world x a ys;
         happened = z.0;
@@ -99,7 +90,7 @@ module _ (p : Parameters) (packets : List Packet) where
         let long : length w.world.crossed ≡ k = ap length w.crossed ∙ length-take-le k packets l in
         let d = drain p packets (length packets) k x (other_side x) (lists x) (lists (other_side x)) (sent (other_side x)) (follows x).0 (follows (other_side x)).0 (station_of w.world (other_side x)) bs g w.world.crossed long
         h.rest (station_of w.world x) h.above h.tracks in
-        subst (λ (l : List ℕ). Stage k Q (lines ++ each_take k x l)) (sym (h.says.takes k (omega arith)))
+        rw (h.says.takes k (omega arith))
         (goes_on Q w x d.many w.crossed (q d.station (record { rest = d.rest; tracks = d.tracks; drained = d.drained; says = says_on h.says d.says (omega arith) (omega arith) })) still)
 
     -- the client took what is due, and the server hasn't yet
@@ -115,9 +106,7 @@ module _ (p : Parameters) (packets : List Packet) where
     -- the lines of a side's packet are those of the packet at this place
     here_lines : (k : ℕ) (here : Packet) (rest : List Entry) → slice_get packets k ≡ Some here → makes_at k (scripts here.side) ≡ makes_at k rest
         → side_lines k here.side (number_of here) (lists here.side) rest ≡ packet_lines k (lists Client) (lists Server) (scripts Client) (scripts Server) (slice_get packets k)
-    here_lines k here rest at m =
-        ap (λ (x : List (ℕ × Why)). crossed_lines k here.side (number_of here) (position_of_place (lists here.side) k) x) (sym m)
-        ∙ (by here.side ∙ ap (λ (x : Option Packet). packet_lines k (lists Client) (lists Server) (scripts Client) (scripts Server) x) (sym at))
+    here_lines k here rest at m = rw (at, sym m) (by here.side)
       where
         by : (x : Side) → side_lines k x (number_of here) (lists x) (scripts x) ≡ by_side_lines k (number_of here) (lists Client) (lists Server) (scripts Client) (scripts Server) x
         by Client = refl
@@ -129,7 +118,7 @@ module _ (p : Parameters) (packets : List Packet) where
     -- a packet more
     packet_at : {k : ℕ} {lines : List Line} (here : Packet) → slice_get packets k ≡ Some here → Stage k (Before k) lines → Stage (suc k) (Before (suc k)) (lines ++ level_at k)
     packet_at {k = k} {lines = lines} here at w =
-        let x : Side = here.side in
+        let x = here.side in
         let d = readied (let l = slice_get_within packets k here at in omega (arith, l)) w in
         let h = d.sides x in
         let g = d.sides (other_side x) in
@@ -137,11 +126,8 @@ module _ (p : Parameters) (packets : List Packet) where
         let other = follows (other_side x) in
         let m = next_is p packets k x (lists x) (lists (other_side x)) (sent x) recorded own.0 own.2 (station_of d.world (other_side x)) here at h.rest (station_of d.world x) refl h.drained h.tracks in
         let still = passed_by p packets k (other_side x) (lists (other_side x)) (lists (other_side (other_side x))) (sent (other_side x)) other.0 g.rest (station_of d.world (other_side x)) here at (apart x) g.tracks in
-        let tc : List Line = takes_lines k Client (scripts Client) in
-        let ts : List Line = takes_lines k Server (scripts Server) in
-        let ps : List Line = packet_lines k (lists Client) (lists Server) (scripts Client) (scripts Server) (slice_get packets k) in
         let many = subst (λ (xs : List Packet). Many p (station_of d.world (other_side x)) x xs (station_of d.world x) (side_lines k x (number_of here) (lists x) h.rest) m.station (take (suc k) packets)) (sym d.crossed) m.many in
-        let made = goes_on (Before (suc k)) d x many refl
+        let made = goes_on {k = suc k} (Before (suc k)) d x many refl
         (record { rest = m.rest; tracks = m.tracks; above = m.above; says = says_on h.says m.says (omega arith) (omega arith) })
         (record {
           rest = g.rest;
@@ -149,8 +135,7 @@ module _ (p : Parameters) (packets : List Packet) where
           above = above_next p (length packets) (other_side x) (lists (other_side x)) (lists (other_side (other_side x))) other.0 k g.rest (station_of d.world (other_side x)) still g.drained;
           says = says_on g.says (says_all (suc k) (suc k) g.rest) (omega arith) (omega arith);
         }) in
-        subst (Stage (suc k) (Before (suc k)))
-        (ap (λ (l : List Line). ((lines ++ tc) ++ ts) ++ l) (here_lines k here h.rest at (h.says.makes k (omega arith))) ∙ (append_assoc (lines ++ tc) ts ps ∙ append_assoc lines tc (ts ++ ps))) made
+        rw (sym (here_lines k here h.rest at (h.says.makes k (omega arith)))) (simp append_assoc at made)
 
     abbrev all_lines : List Line
     all_lines = run_lines packets (lists Client) (lists Server) (scripts Client) (scripts Server)
@@ -165,16 +150,13 @@ module _ (p : Parameters) (packets : List Packet) where
         → (hs : List Happened) × (w : World) × Runs p hs w × (w.crossed ≡ packets) × ((x : Side) → end_of w x ≡ ends x) × (told hs ≡ all_lines)
     all_packets zero k lines e w q =
         let last : k ≡ length packets = omega (arith, e) in
-        let d = readied (omega (arith, last)) w in
-        let tc : List Line = takes_lines k Client (scripts Client) in
-        let ts : List Line = takes_lines k Server (scripts Server) in (
+        let d = readied (omega (arith, last)) w in (
           d.happened,
           d.world,
           d.reached,
           d.crossed ∙ take_all k packets (omega (arith, last)),
           λ x. nothing_left p packets k x (lists x) (lists (other_side x)) (sent x) (follows x).0 (station_of d.world x) (d.sides x).rest (sym last) (d.sides x).drained (d.sides x).tracks ∙ (follows x).3,
-          d.shown ∙ (append_assoc lines tc ts ∙ (ap (λ (l : List Line). lines ++ l)
-              (sym (append-nil (level_at k) ∙ ap (λ (l : List Line). tc ++ l) (ap (λ (l : List Line). ts ++ l) (no_packet k (slice_get packets k) last refl) ∙ append-nil ts))) ∙ q)),
+          d.shown ∙ (append_assoc lines _ _ ∙ simp (append-nil, no_packet k (slice_get packets k) last refl) at q),
         )
     all_packets (suc left) k lines e w q =
         let g = slice_get_some packets k (omega (arith, e)) in

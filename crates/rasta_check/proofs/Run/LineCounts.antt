@@ -1,12 +1,10 @@
 -- Each move of a run has one line.
-use Rattle.std.proofs.Common.{◌≡◌, ◌+◌, List, [], ◌∷◌, ◌++◌, Option, length, refl, ap, sym, ◌∙◌}
+use Rattle.std.proofs.Common.{◌≡◌, List, Option, length, refl, ap, arith}
 use Rattle.std.proofs.lemmas.List.{length-append}
-use Rattle.rasta_pcap.specs.declared.fault.Side.{Side}
-use Rattle.rasta_udp.specs.Frame.{Packet}
-use Rattle.rasta_pdu.specs.Params.{Parameters}
-use Rattle.rasta_check.specs.Model.World.{Station, World, Move, Moves, makes, repeats, arrives, takes, waits}
+use Rattle.rasta_check.proofs.Words.{Side, Packet, Parameters, Station, World}
+use Rattle.rasta_check.specs.Model.World.{Move, Moves, makes, repeats, arrives, takes, waits}
 use Rattle.rasta_check.specs.Run.Moves.{Happened, Runs, starts, does}
-use Rattle.rasta_check.specs.Run.Lines.{Line, copy_lines, lines_in, lines_of_move, told}
+use Rattle.rasta_check.specs.Run.Lines.{copy_lines, lines_of_move, told}
 use Rattle.rasta_check.proofs.Run.Moves.{told_push}
 
 one_line : {p : Parameters} {b a a' : Station} {xs ys : List Packet} {m : Move} (s : Side) → Moves p b xs a m a' ys → length (lines_of_move s a b xs m) ≡ 1
@@ -16,12 +14,7 @@ one_line s (arrives position low within) = refl
 one_line s (takes position m after h l g t) = refl
 one_line s (waits clock l) = refl
 
-one_more : (hs : List Happened) (h : Happened) → length (told hs) ≡ length hs → length (lines_in h.world h.side h.move) ≡ 1 → length (told (hs ++ h ∷ [])) ≡ length (hs ++ h ∷ [])
-one_more hs h e f =
-    ap (λ (l : List Line). length l) (told_push hs h)
-    ∙ (length-append (told hs) (lines_in h.world h.side h.move)
-    ∙ ((λ i. e i + f i) ∙ sym (length-append hs (h ∷ []))))
-
 pub one_line_each : (p : Parameters) (happened : List Happened) (w : World) → Runs p happened w → length (told happened) ≡ length happened
 one_line_each p hs w (starts m n) = refl
-one_line_each p hs w (does {happened = gs} {w = v} side move r d) = one_more gs (record { world = v; side = side; move = move }) (one_line_each p gs v r) (one_line side d)
+one_line_each p hs w (does {happened = gs} {w = v} side move r d) =
+    (let e = one_line_each p gs v r in let f = one_line side d in rw (told_push gs (record { world = v; side = side; move = move })) (simp length-append (omega (arith, e, f))))

@@ -1,11 +1,8 @@
 -- Several moves of one station, one after the other, and their lines.
 use Rattle.std.proofs.Common.{◌≡◌, List, [], ◌∷◌, ◌++◌, ap, sym, ◌∙◌, subst}
 use Rattle.std.proofs.lemmas.List.{append-nil, append_assoc}
-use Rattle.rasta_pcap.specs.declared.fault.Side.{Side}
-use Rattle.rasta_pcap.specs.declared.fault.Side.TheVariants.{Client, Server}
-use Rattle.rasta_udp.specs.Frame.{Packet}
-use Rattle.rasta_pdu.specs.Params.{Parameters}
-use Rattle.rasta_check.specs.Model.World.{Station, World, Move, Moves, station_of, other_side, moved}
+use Rattle.rasta_check.proofs.Words.{Side, Client, Server, Packet, Parameters, Station, World, other_side, station_of}
+use Rattle.rasta_check.specs.Model.World.{Move, Moves, moved}
 use Rattle.rasta_check.specs.Run.Moves.{Happened, Runs, does}
 use Rattle.rasta_check.specs.Run.Lines.{Line, lines_of_move, lines_in, told}
 

@@ -1,28 +1,22 @@
 -- The packet of a level: its end makes it, or it is a copy, with its lines.
 use Rattle.std.proofs.Common.{◌≡◌, ℕ, suc, ◌+◌, ◌<◌, List, [], ◌∷◌, ◌++◌, length, Some, slice_get, take, refl, ap, sym, ◌∙◌, arith, subst}
-use Rattle.std.specs.Prelude.{slice_index_or, Option, None}
-use Rattle.std.proofs.lemmas.List.{append-nil, length_push, length-take-le, get_or-take}
+use Rattle.std.specs.Prelude.{slice_index_or, None}
+use Rattle.std.proofs.lemmas.List.{length_push, length-take-le, get_or-take}
 use Rattle.std.proofs.lemmas.Option.{slice_get_within, slice_get-get_or, get_or_from_slice_get}
 use native.Mathlib.Decide.{dec_lt}
 use Prim.{yes, no}
-use Rattle.rasta_pcap.specs.declared.fault.Side.{Side}
-use Rattle.rasta_udp.specs.Frame.{Packet}
-use Rattle.rasta_pdu.specs.Params.{Parameters}
-use Rattle.rasta_end.specs.declared.why.Why.{Why}
-use Rattle.rasta_end.specs.State.{Made, wrapped}
-use Rattle.rasta_cert.specs.declared.entry.Entry.{Entry}
-use Rattle.rasta_cert.specs.declared.entry.Entry.TheVariants.{Take, Make}
-use Rattle.rasta_check.specs.Capture.Crossing.{Spells, FirstCopy, CrossRecorded, number_in_bytes}
+use Rattle.rasta_check.proofs.Words.{Side, Packet, Parameters, Entry, Take, Make, Why, Made}
+use Rattle.rasta_check.proofs.Words.{wrapped, FirstCopy, CrossRecorded, Station, Cursor, Advances, makes_next, Leads}
+use Rattle.rasta_check.specs.Capture.Crossing.{Spells}
 use Rattle.rasta_check.specs.Capture.Lists.{position_of_place}
-use Rattle.rasta_check.specs.Script.Following.{Cursor, Advances, makes_next, Leads}
-use Rattle.rasta_check.specs.Model.World.{Station, making, repeating, waiting, makes, repeats, waits}
+use Rattle.rasta_check.specs.Model.World.{making, repeating, waiting, makes, repeats, waits}
 use Rattle.rasta_check.proofs.Capture.FaultlessLists.{IsSent, ordered}
 use Rattle.rasta_check.proofs.Capture.Crossings.{number_spelled}
 use Rattle.rasta_check.proofs.Lists.{get_front, get_push, slice_get_some}
 use Rattle.rasta_check.proofs.Script.Tracks.{Tracks, Drained, next_number, next_packet, untouched}
 use Rattle.rasta_check.proofs.Model.Steps.{base, made_more}
-use Rattle.rasta_check.specs.Run.Lines.{lines_of_move, copy_lines, number_of}
-use Rattle.rasta_check.specs.Run.Levels.{makes_at, make_line, waited_line, each_make, side_lines, crossed_lines}
+use Rattle.rasta_check.specs.Run.Lines.{lines_of_move, number_of}
+use Rattle.rasta_check.specs.Run.Levels.{makes_at, make_line, waited_line, side_lines}
 use Rattle.rasta_check.proofs.Run.Entries.{takes_past, makes_here, makes_other, below}
 use Rattle.rasta_check.proofs.Run.Rests.{Above, Says, says_all, lead_above, places_above, no_makes}
 use Rattle.rasta_check.proofs.Run.Moves.{Many, stays, moves, recast}
@@ -50,8 +44,7 @@ module _ (p : Parameters) (packets : List Packet) (k : ℕ) (s : Side) (own peer
   make_one place clock why es a m pl f (makes_next c clock' why' e' lv mine mk) rest =
       let made = made_more p a.state c.pdu.safety clock why e' mk in
       let first = sent.firsts f.made c mine in
-      let l0 = slice_get_within own f.made c mine in
-      let head = slice_get_some own 0 (omega (arith, l0)) in
+      let head = slice_get_some own 0 (let l = slice_get_within own f.made c mine in omega (arith, l)) in
       let n : Made = made.new in
       let waited : Station = record a { clock = clock } in
       let now : e'.made ≡ a.state.made ++ n ∷ [] = made.made in
@@ -59,8 +52,10 @@ module _ (p : Parameters) (packets : List Packet) (k : ℕ) (s : Side) (own peer
       let numbered : c.pdu.number ≡ wrapped (a.first_number + length a.state.made) =
       sent.numbers f.made head.0 c head.1 mine ∙ sym (next_number a.first_number (base p) f.made (length a.state.made) head.0.pdu.number f.count (f.number head.0 head.1)) in
       let said : Spells p a.state.side (record { number = wrapped (a.first_number + length a.state.made); reserve = c.pdu.reserve; safety = c.pdu.safety; check_bytes = c.pdu.check_bytes }) first.0.payload =
-      subst (λ (j : ℕ). Spells p a.state.side (record { number = j; reserve = c.pdu.reserve; safety = c.pdu.safety; check_bytes = c.pdu.check_bytes }) first.0.payload) numbered (subst (λ (z : Side). Spells p z c.pdu first.0.payload) (sym f.side) first.3) in
+      rw (f.side, sym numbered) first.3 in
       let count : length e'.made ≡ suc (base p + f.made) = ap length now ∙ (len ∙ (omega (arith, f.count))) in
+      let newest : (i : ℕ) (d : FirstCopy) → slice_get own i ≡ Some d → i < suc f.made → (i < f.made → ⊥) → d ≡ c =
+      λ i d h v no. (let last : i ≡ f.made = omega (arith, v, no) in let z = ap (slice_get own) last in cc) in
       let after : Above (suc k) es = lead_above p (length packets) (suc k) own peer _ last es rest (omega (arith, pl)) in
       let there : slice_get packets k ≡ Some first.0 = subst (λ (j : ℕ). slice_get packets j ≡ Some first.0) pl first.1 in
       let same_packet : first.0 ≡ here = cc in
@@ -68,9 +63,9 @@ module _ (p : Parameters) (packets : List Packet) (k : ℕ) (s : Side) (own peer
       sym numbered ∙ (sym (number_spelled p s c.pdu first.0.payload first.3) ∙ ap (λ (x : Packet). number_of x) same_packet) in
       let found : position_of_place own k ≡ Some f.made = ap (position_of_place own) (sym pl) ∙ place_named own (ordered sent) f.made c mine in
       let makes_now : makes_at k (Make c.place clock why ∷ es) ≡ (clock, why) ∷ [] =
-      ap (λ (j : ℕ). makes_at k (Make j clock why ∷ es)) pl ∙ (makes_here k clock why es ∙ ap (λ (l : List (ℕ × Why)). (clock, why) ∷ l) (no_makes k (suc k) es (omega arith) after)) in
+      rw (pl, makes_here k clock why es, no_makes k (suc k) es (omega arith) after) refl in
       let line : waited_line (length (take k packets)) s clock ∷ make_line (length (take k packets)) s (wrapped (a.first_number + length a.state.made)) (clock, why) ∷ [] ≡ side_lines k s (number_of here) own (Make c.place clock why ∷ es) =
-      (λ i. waited_line (long i) s clock ∷ make_line (long i) s (shown i) (clock, why) ∷ []) ∙ sym (ap (λ (o : Option ℕ). crossed_lines k s (number_of here) o (makes_at k (Make c.place clock why ∷ es))) found ∙ ap (each_make k s (number_of here)) makes_now) in
+      rw (long, shown, found, makes_now) refl in
       record {
         rest = es;
         station = record waited { state = e' };
@@ -90,13 +85,12 @@ module _ (p : Parameters) (packets : List Packet) (k : ℕ) (s : Side) (own peer
           mark = f.mark;
           clock = sym made.now;
           number = f.number;
-          before = λ i d h v. elim (dec_lt d.place k) [ yes l ↦ (let z = f.before i d h l in omega (arith, z)) | no l ↦ (let z = place_once own (ordered sent) i f.made d c h mine (omega arith) in omega (arith, z)) ];
-          after = λ i d h v. elim (dec_lt i f.made) [ yes l ↦ (let z = f.after i d h l in omega (arith, z)) | no l ↦ (let same_i : i ≡ f.made = omega arith in let same_d : d ≡ c = (let h' : slice_get own f.made ≡ Some d = subst (λ (j : ℕ). slice_get own j ≡ Some d) same_i h in cc) in let q = ap (λ (z : FirstCopy). z.place) same_d in omega (arith, q)) ];
+          before = λ i d h v. (let x = f.before i d h in let y = place_once own (ordered sent) i f.made d c h mine in grind (arith, x, y, pl, v));
+          after = λ i d h v. elim (dec_lt i f.made) [ yes l ↦ (let z = f.after i d h l in omega (arith, z)) | no l ↦ (let q = ap (λ (z : FirstCopy). z.place) (newest i d h v l) in omega (arith, q)) ];
           same = λ i d h v. elim (dec_lt i f.made) [
-            | yes l ↦ (let z = f.same i d h l in (z.0, subst (λ (ms : List Made). slice_get ms (base p + i) ≡ Some z.0) (sym now) (get_front a.state.made (n ∷ []) (base p + i) z.0 z.1), z.2))
-            | no l ↦ (let same_i : i ≡ f.made = omega arith in let same_d : d ≡ c = (let h' : slice_get own f.made ≡ Some d = subst (λ (j : ℕ). slice_get own j ≡ Some d) same_i h in cc) in
-                let at_end : length a.state.made ≡ base p + i = omega (arith, f.count, same_i) in
-                (n, subst (λ (ms : List Made). slice_get ms (base p + i) ≡ Some n) (sym now) (subst (λ (j : ℕ). slice_get (a.state.made ++ n ∷ []) j ≡ Some n) at_end (get_push a.state.made n)), made.pdu ∙ ap (λ (z : FirstCopy). z.pdu.safety) (sym same_d)))
+            | yes l ↦ (let z = f.same i d h l in (z.0, ap (λ (ms : List Made). slice_get ms (base p + i)) now ∙ get_front a.state.made (n ∷ []) (base p + i) z.0 z.1, z.2))
+            | no l ↦ (let at_end : base p + i ≡ length a.state.made = omega (arith, f.count, v, l) in
+                (n, ap (λ (ms : List Made). slice_get ms (base p + i)) now ∙ rw at_end (get_push a.state.made n), made.pdu ∙ ap (λ (z : FirstCopy). z.pdu.safety) (sym (newest i d h v l))))
           ];
           side = made.side ∙ f.side;
         };
@@ -111,20 +105,13 @@ module _ (p : Parameters) (packets : List Packet) (k : ℕ) (s : Side) (own peer
       let whole : record old { channel = here.channel } ≡ here = (λ i. record { channel = here.channel; side = os i; payload = ob i }) in
       let next : take k packets ++ record old { channel = here.channel } ∷ [] ≡ take (suc k) packets = ap (λ (x : Packet). take k packets ++ x ∷ []) whole ∙ next_packet packets k here here.side refl at in
       let there : slice_get (take k packets) j ≡ Some old = slice_get-get_or (take k packets) j old lt ∙ ap Some get in
-      let line : lines_of_move s a b (take k packets) (repeating j here.channel) ++ [] ≡ side_lines k s (number_of here) own es =
-      append-nil (lines_of_move s a b (take k packets) (repeating j here.channel))
-      ∙ (ap (λ (o : Option Packet). copy_lines (length (take k packets)) s o) there
-      ∙ ((λ i. crossed_lines (long i) s (number_in_bytes (ob i)) None [])
-      ∙ sym (ap (λ (o : Option ℕ). crossed_lines k s (number_of here) o (makes_at k es)) no_first))) in
+      let line : lines_of_move s a b (take k packets) (repeating j here.channel) ++ [] ≡ side_lines k s (number_of here) own es = rw (there, no_first, long, ob) refl in
       recast line next (moves (repeating j here.channel) (repeats {a = a} j here.channel old there (os ∙ sd) (recorded k here at)) stays)
 
   copied : (es : List Entry) (a : Station) → here.side ≡ s → Above (suc k) es → Tracks p (length packets) k s own peer es last a → Crossed es a
   copied es a hs above f =
       let no_first : (i : ℕ) (c : FirstCopy) → slice_get own i ≡ Some c → c.place ≡ k → ⊥ =
-      λ i c g e. elim (dec_lt i f.made) [
-        | yes m ↦ (let z = f.after i c g m in omega (arith, z))
-        | no m ↦ (let z = places_above p (length packets) (suc k) own peer _ last es f.fits whole above i c g (omega arith) in omega (arith, z))
-      ] in
+      λ i c g e. (let x = f.after i c g in let y = places_above p (length packets) (suc k) own peer _ last es f.fits whole above i c g in grind (arith, x, y, e)) in
       let w = sent.copies k here at hs in
       let o = sent.firsts w.0 w.1 w.2 in
       let earlier : w.1.place < k = (let apart = no_first w.0 w.1 w.2 in let low = w.3 in omega (arith, apart)) in

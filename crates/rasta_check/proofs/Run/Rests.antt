@@ -1,13 +1,9 @@
 -- What the rest of a script that fits says of later levels.
-use Rattle.std.proofs.Common.{◌≡◌, ℕ, ◌<◌, ◌≤◌, List, [], ◌∷◌, length, Some, slice_get, refl, ap, ◌∙◌, arith, subst}
+use Rattle.std.proofs.Common.{◌≡◌, ℕ, ◌<◌, ◌≤◌, List, [], ◌∷◌, length, Some, slice_get, refl, ap, ◌∙◌, arith}
 use Rattle.std.proofs.lemmas.Option.{slice_get_within}
 use native.Mathlib.Decide.{dec_lt}
 use Prim.{yes, no}
-use Rattle.rasta_pdu.specs.Params.{Parameters}
-use Rattle.rasta_cert.specs.declared.entry.Entry.{Entry}
-use Rattle.rasta_cert.specs.declared.entry.Entry.TheVariants.{Take, Make}
-use Rattle.rasta_check.specs.Capture.Crossing.{FirstCopy}
-use Rattle.rasta_check.specs.Script.Following.{Cursor, Advances, takes_next, makes_next, Leads}
+use Rattle.rasta_check.proofs.Words.{Parameters, Entry, Take, Make, FirstCopy, Cursor, takes_next, makes_next, Leads}
 use Rattle.rasta_check.specs.Run.Levels.{takes_at, makes_at}
 use Rattle.rasta_check.proofs.Run.Entries.{above, makes_none, makes_other, makes_past, takes_none, takes_other, takes_past}
 
@@ -19,25 +15,19 @@ Above k (Make place clock why ∷ es) = (k ≤ place) × Above k es
 
 pub lead_above : (p : Parameters) (n k : ℕ) (own peer : List FirstCopy) (u v : Cursor) (es : List Entry) → Leads p n own peer u es v → k ≤ u.level → Above k es
 lead_above p n k own peer u v [] f l = tt
-lead_above p n k own peer u v (x ∷ es) f l = by x f.0 f.1 (λ m. lead_above p n k own peer f.0 v es f.2 m)
-  where
-    by : (x : Entry) (m : Cursor) → Advances p n own peer u x m → (k ≤ m.level → Above k es) → Above k (x ∷ es)
-    by x m (takes_next slot position d e' lv le there below above t) r = (omega (arith, l, lv), r (omega (arith, l, lv)))
-    by x m (makes_next d clock why e' lv mine mk) r = (omega (arith, l, lv), r (omega (arith, l, lv)))
+lead_above p n k own peer u v (x ∷ es) (m, takes_next slot position d e lv le there below above t, r) l = (omega (arith, l, lv), lead_above p n k own peer _ v es r (omega (arith, l, lv)))
+lead_above p n k own peer u v (x ∷ es) (m, makes_next d clock why e lv mine mk, r) l = (omega (arith, l, lv), lead_above p n k own peer _ v es r (omega (arith, l, lv)))
 
 -- then no PDU that is still to be made crosses below
 pub places_above : (p : Parameters) (n k : ℕ) (own peer : List FirstCopy) (u v : Cursor) (es : List Entry) → Leads p n own peer u es v → v.made ≡ length own → Above k es
     → (i : ℕ) (c : FirstCopy) → slice_get own i ≡ Some c → u.made ≤ i → k ≤ c.place
 places_above p n k own peer u v [] f w o i c g l = absurd (let z = slice_get_within own i c g in let e = ap (λ (z : Cursor). z.made) f in omega (arith, z, e, w, l))
-places_above p n k own peer u v (x ∷ es) f w o i c g l = by x f.0 f.1 o (λ o' m. places_above p n k own peer f.0 v es f.2 w o' i c g m)
-  where
-    by : (x : Entry) (m : Cursor) → Advances p n own peer u x m → Above k (x ∷ es) → (Above k es → m.made ≤ i → k ≤ c.place) → k ≤ c.place
-    by x m (takes_next slot position d e' lv le there below above t) o r = r o.1 l
-    by x m (makes_next d clock why e' lv mine mk) o r =
-        elim (dec_lt u.made i) [
-          | yes q ↦ r o.1 (omega arith)
-          | no q ↦ (let same : d ≡ c = (let g' : slice_get own u.made ≡ Some c = subst (λ (j : ℕ). slice_get own j ≡ Some c) (omega arith) g in cc) in let z = ap (λ (y : FirstCopy). y.place) same in omega (arith, o.0, z))
-        ]
+places_above p n k own peer u v (x ∷ es) (m, takes_next slot position d e lv le there below above t, r) w o i c g l = places_above p n k own peer _ v es r w o.1 i c g l
+places_above p n k own peer u v (x ∷ es) (m, makes_next d clock why e lv mine mk, r) w o i c g l =
+    elim (dec_lt u.made i) [
+      | yes q ↦ places_above p n k own peer _ v es r w o.1 i c g (omega arith)
+      | no q ↦ (let at : u.made ≡ i = omega (arith, l, q) in let same : d ≡ c = (let z = ap (slice_get own) at in cc) in let z = ap (λ (y : FirstCopy). y.place) same in omega (arith, o.0, z))
+    ]
 
 pub no_takes : (at level : ℕ) (es : List Entry) → at < level → Above level es → takes_at at es ≡ []
 no_takes at level [] l o = takes_none at

@@ -1,14 +1,7 @@
 -- The run that two scripts tell.
 use Rattle.std.proofs.Common.{◌≡◌, List, length}
-use Rattle.rasta_pcap.specs.declared.fault.Side.{Side}
-use Rattle.rasta_pcap.specs.declared.fault.Side.TheVariants.{Client, Server}
-use Rattle.rasta_udp.specs.Frame.{Packet}
-use Rattle.rasta_pdu.specs.Params.{Parameters, AreParameters}
-use Rattle.rasta_cert.specs.declared.entry.Entry.{Entry}
-use Rattle.rasta_end.specs.State.{EndState}
-use Rattle.rasta_check.specs.Capture.Crossing.{FirstCopy, CrossRecorded}
-use Rattle.rasta_check.specs.Model.World.{World, Reaches, other_side}
-use Rattle.rasta_check.specs.Script.Following.{Follows}
+use Rattle.rasta_check.proofs.Words.{Side, Client, Server, Packet, Parameters, AreParameters, Entry}
+use Rattle.rasta_check.proofs.Words.{EndState, FirstCopy, CrossRecorded, World, Reaches, other_side, Follows}
 use Rattle.rasta_check.specs.Run.Moves.{Happened, Runs, worlds_of}
 use Rattle.rasta_check.specs.Run.Lines.{told}
 use Rattle.rasta_check.specs.Run.Levels.{run_lines}

@@ -1,19 +1,11 @@
 -- The takes that are due at a level, with their lines.
-use Rattle.std.proofs.Common.{◌≡◌, ℕ, suc, ◌+◌, ◌<◌, ◌≤◌, List, [], ◌∷◌, length, Some, slice_get, refl, ap, sym, ◌∙◌, arith, subst}
+use Rattle.std.proofs.Common.{◌≡◌, ℕ, suc, ◌+◌, ◌<◌, ◌≤◌, List, [], ◌∷◌, length, Some, slice_get, refl, ap, sym, ◌∙◌, arith}
 use Rattle.std.proofs.lemmas.Option.{slice_get_within}
-use native.Mathlib.Decide.{dec_le, dec_lt}
+use native.Mathlib.Decide.{dec_le}
 use Prim.{yes, no}
-use Rattle.rasta_pcap.specs.declared.fault.Side.{Side}
-use Rattle.rasta_udp.specs.Frame.{Packet}
-use Rattle.rasta_pdu.specs.Params.{Parameters}
-use Rattle.rasta_pdu.specs.Pdu.{SafetyPdu}
-use Rattle.rasta_end.specs.State.{Made, EndState, wrapped}
-use Rattle.rasta_end.specs.TakeRule.{Takes}
-use Rattle.rasta_cert.specs.declared.entry.Entry.{Entry}
-use Rattle.rasta_cert.specs.declared.entry.Entry.TheVariants.{Take, Make}
-use Rattle.rasta_check.specs.Capture.Crossing.{FirstCopy}
-use Rattle.rasta_check.specs.Script.Following.{Cursor, Advances, takes_next, makes_next, Leads}
-use Rattle.rasta_check.specs.Model.World.{Station, arriving, taking, arrives, takes}
+use Rattle.rasta_check.proofs.Words.{Side, Packet, Parameters, Entry, Take, Make, Made, EndState, wrapped}
+use Rattle.rasta_check.proofs.Words.{Takes, FirstCopy, Station, Cursor, Advances, takes_next, makes_next, Leads}
+use Rattle.rasta_check.specs.Model.World.{arriving, taking, arrives, takes}
 use Rattle.rasta_check.specs.Run.Levels.{takes_at, take_line, brought_line, each_take, takes_lines}
 use Rattle.rasta_check.proofs.Capture.FaultlessLists.{IsSent}
 use Rattle.rasta_check.proofs.Script.Tracks.{Tracks, Drained, moved_made, next_number}
@@ -29,13 +21,10 @@ module _ (p : Parameters) (n : ℕ) (s : Side) (own peer : List FirstCopy) (last
   pub ahead : (j : ℕ) (x : Entry) (es : List Entry) (a : Station) → k ≤ j → j ≤ suc k → Tracks p n j s own peer (x ∷ es) last a → Drained k (x ∷ es) → Above j (x ∷ []) × Above (suc k) es
   ahead j x es a l m f dr = by x f.fits.0 f.made f.level f.taken f.before f.fits.1 dr (λ h. lead_above p n (suc k) own peer f.fits.0 last es f.fits.2 h)
     where
-      not_early : (low made : ℕ) → (low < j → made < made) → j ≤ low
-      not_early low made h = elim (dec_lt low j) [ yes i ↦ (let z = h i in absurd (omega (arith, z))) | no i ↦ omega arith ]
-
       by : (x : Entry) (v : Cursor) (made level taken : ℕ) → ((i : ℕ) (c : FirstCopy) → slice_get own i ≡ Some c → c.place < j → i < made)
           → Advances p n own peer (record { level = level; made = made; taken = taken; state = a.state }) x v → Drained k (x ∷ es) → (suc k ≤ v.level → Above (suc k) es) → Above j (x ∷ []) × Above (suc k) es
       by x v made level taken h (takes_next slot position d e' lv le there low above t) dr r = ((omega (arith, dr, m), tt), r (omega (arith, dr)))
-      by x v made level taken h (makes_next c clock why e' lv mine mk) dr r = (let low : j ≤ c.place = not_early c.place made (h made c mine) in ((low, tt), r (omega (arith, low, l))))
+      by x v made level taken h (makes_next c clock why e' lv mine mk) dr r = (let low : j ≤ c.place = (let z = h made c mine in grind (arith, z)) in ((low, tt), r (omega (arith, low, l))))
 
   -- then the script has no take at this level
   none_due : (es : List Entry) (a : Station) → Tracks p n k s own peer es last a → Drained k es → takes_at k es ≡ []
@@ -67,7 +56,7 @@ module _ (p : Parameters) (packets : List Packet) (n k : ℕ) (s r : Side) (own 
   one_take slot number es a m f l (takes_next slot' position c e' lv le there below above t0) rest =
       let w : position < g.made = g.before position c there (omega (arith, below, l)) in
       let x = g.same position c there w in
-      let t : Takes p a.state x.0.pdu a.clock e' = subst (λ (y : SafetyPdu). Takes p a.state y a.clock e') (sym x.2) (subst (λ (t : ℕ). Takes p a.state c.pdu.safety t e') (sym f.clock) t0) in
+      let t : Takes p a.state x.0.pdu a.clock e' = rw (x.2, f.clock) t0 in
       let left = take_leaves p a.state x.0.pdu in
       let same_made : e'.made ≡ a.state.made = ap (λ (e : EndState). e.made) t.1 ∙ left.made in
       let q : ℕ = base p + position in
@@ -100,17 +89,6 @@ module _ (p : Parameters) (packets : List Packet) (n k : ℕ) (s r : Side) (own 
         },
       )
 
-  prepend : (slot number : ℕ) (es : List Entry) (a a' : Station) → slot ≡ k → Many p b s xs a (brought_line k s number ∷ take_line k s number ∷ []) a' xs → Drain es a' → Drain (Take slot number ∷ es) a
-  prepend slot number es a a' e m d =
-      record {
-        rest = d.rest;
-        station = d.station;
-        many = recast (ap (λ (l : List ℕ). each_take k s l) (sym (ap (λ (j : ℕ). takes_at k (Take j number ∷ es)) e ∙ takes_here k number es))) refl (append_many m d.many);
-        tracks = d.tracks;
-        drained = d.drained;
-        says = record { takes = λ j l. takes_other j slot number es (below slot j (omega (arith, e, l))) ∙ d.says.takes j l; makes = λ j l. makes_past j slot number es ∙ d.says.makes j l };
-      }
-
   -- no take is due
   rests : (es : List Entry) (a : Station) → Tracks p n k s own peer es last a → Drained k es → Drain es a
   rests es a f dr =
@@ -131,6 +109,14 @@ module _ (p : Parameters) (packets : List Packet) (n k : ℕ) (s r : Side) (own 
       elim (dec_le slot k) [
         | yes l ↦ (let same : slot ≡ k = (let z = ab.0 in omega (arith, l, z)) in
             let o = one_take slot number es a f.fits.0 f same f.fits.1 f.fits.2 in
-            prepend slot number es a o.0 same o.1 (drain es o.0 ab.1 o.2))
+            let d = drain es o.0 ab.1 o.2 in
+            record {
+              rest = d.rest;
+              station = d.station;
+              many = recast (ap (λ (l : List ℕ). each_take k s l) (sym (ap (λ (j : ℕ). takes_at k (Take j number ∷ es)) same ∙ takes_here k number es))) refl (append_many o.1 d.many);
+              tracks = d.tracks;
+              drained = d.drained;
+              says = record { takes = λ j l. takes_other j slot number es (below slot j (omega (arith, same, l))) ∙ d.says.takes j l; makes = λ j l. makes_past j slot number es ∙ d.says.makes j l };
+            })
         | no l ↦ rests (Take slot number ∷ es) a f (omega (arith, l))
       ]

@@ -5,37 +5,30 @@ use Rattle.std.specs.Option.{option_map_or, option_or}
 use Rattle.std.proofs.lemmas.Bool.Decides.{nat_tests}
 use Rattle.std.proofs.lemmas.List.{append-nil, append_assoc, length-append}
 use Rattle.std.proofs.lemmas.Option.{slice_get_within}
-use Rattle.rasta_pcap.specs.declared.fault.Fault.{Fault}
-use Rattle.rasta_pcap.specs.declared.fault.Side.{Side}
-use Rattle.rasta_pcap.specs.declared.fault.Side.TheVariants.{Client, Server}
+use Rattle.rasta_check.proofs.Words.{Fault, Side, Client, Server, Parameters, Entry, Take, Make, EndState, Makes, start_of, FirstCopy, Cursor, at_start, Follows}
 use Rattle.rasta_pcap.specs.Fault.{fault_of_end, slot_order, not_first_copy, make_missing, not_yet_crossed, not_rising}
-use Rattle.rasta_pdu.specs.Params.{Parameters}
 use Rattle.rasta_cert.specs.Certificate.{Scripts}
-use Rattle.rasta_cert.specs.declared.entry.Entry.{Entry}
-use Rattle.rasta_cert.specs.declared.entry.Entry.TheVariants.{Take, Make}
-use Rattle.rasta_end.specs.declared.why.Why.{Why}
-use Rattle.rasta_end.specs.State.{EndState}
-use Rattle.rasta_end.specs.MakeRule.{Makes, make_fault, first_that_holds, is_there}
+use Rattle.rasta_end.specs.MakeRule.{make_fault, first_that_holds, is_there}
 use Rattle.rasta_end.specs.TakeRule.{take_fault}
-use Rattle.rasta_end.specs.Starts.{start_of}
-use Rattle.rasta_check.specs.Capture.Crossing.{FirstCopy, copy_with}
+use Rattle.rasta_check.specs.Capture.Crossing.{copy_with}
 use Rattle.rasta_check.specs.Capture.Lists.{IsOrdered, places_of, position_of_number, position_of_place}
-use Rattle.rasta_check.specs.Script.Following.{Cursor, at_start, Follows}
 use Rattle.rasta_check.specs.Script.Fitting.{places_made, AreInOrder, AreNamed, Joins, Fits, level_after, position_after, entry_tests, end_fault, FirstFault, at_entry, after_last}
-use Rattle.rasta_check.specs.Internals.Checking.{unless, take_at, take_found, make_of, make_found, next_cursor, then_follow, follow_from, follow, where_followed, verdict_of}
+use Rattle.rasta_check.specs.Script.Laws.{HasOneAnswer}
+use native.Mathlib.Decide.{dec_lt}
+use Prim.{yes, no}
+use Rattle.rasta_check.specs.Internals.Checking.{unless, take_found, make_of, make_found, next_cursor, then_follow, follow_from, follow, where_followed, verdict_of}
 use Rattle.rasta_check.specs.Verdict.Report.{Explained, IsScriptVerdict, both_fit, client_refused, server_refused, report_of}
-use Rattle.rasta_check.proofs.Script.FollowedScripts.{Goes, takes, makes, goes, gone, not_less, held, failed, same_equal, follow_fits, fits_follow}
+use Rattle.rasta_check.proofs.Script.FollowedScripts.{Goes, takes, makes, goes, gone, follow_fits, fits_follow}
 use Rattle.rasta_check.proofs.Internals.StoreLists.{copy_of_position, no_copy}
 use Rattle.rasta_check.proofs.Lists.{slice_get_some, get_past}
 use Rattle.rasta_check.proofs.Capture.Positions.{number_found, place_found, place_first}
 
 -- so many and those of a list
-counted : {A : Type 0} → ℕ → List A → ℕ
+abbrev counted : {A : Type 0} → ℕ → List A → ℕ
 counted n [] = n
 counted n (x ∷ xs) = counted (suc n) xs
 
 counted_is : {A : Type 0} (n : ℕ) (xs : List A) → counted n xs ≡ n + length xs
-unfolding counted
 counted_is n [] = omega arith
 counted_is n (x ∷ xs) = (let z = counted_is (suc n) xs in omega (arith, z))
 
@@ -67,26 +60,20 @@ module _ (p : Parameters) (packets : ℕ) (own peer : List FirstCopy) where
   rests_on : (u v : Cursor) (c : FirstCopy) (left : List FirstCopy) → v.made ≡ suc u.made → Rests u (c ∷ left) → Rests v left
   rests_on u v c left e h j = ap (slice_get own) (let z = e in omega arith) ∙ h (suc j)
 
-  -- the next own PDU is found by its place
-  found_at : (u : Cursor) (c : FirstCopy) → Behind u → u.level ≤ c.place → slice_get own u.made ≡ Some c → position_of_place own c.place ≡ Some u.made
-  found_at u c low l g = place_first own u.made c g (λ j d b k e. (let q = low j d b k in omega (arith, e, q, l)))
-
   behind_on : (u v : Cursor) (c : FirstCopy) → v.made ≡ suc u.made → v.level ≡ suc c.place → u.level ≤ c.place → slice_get own u.made ≡ Some c → Behind u → Behind v
-  behind_on u v c m l low g h j d b k = by (cases (nat_lt j u.made) refl)
-    where
-      cases : (t : Bool) → nat_lt j u.made ≡ t → (j < u.made) ⊎ (j ≡ u.made)
-      cases true e = inl (grind (arith, nat_tests))
-      cases false e = (let z = not_less j u.made e in inr (omega (arith, z, m, b)))
-
-      by : (j < u.made) ⊎ (j ≡ u.made) → d.place < v.level
-      by (inl q) = (let r = h j d q k in let z = l in omega arith)
-      by (inr q) = (let at : slice_get own u.made ≡ Some d = subst (λ n. slice_get own n ≡ Some d) q k in let same : d ≡ c = cc in let y = ap (λ (x : FirstCopy). x.place) same in let z = l in omega arith)
+  behind_on u v c m l low g h j d b k =
+      elim (dec_lt j u.made) [
+        | yes q ↦ (let r = h j d q k in omega (arith, r, l, low))
+        | no q ↦ (let at : j ≡ u.made = omega (arith, q, b, m) in
+            let same : d ≡ c = (let z = ap (slice_get own) at in cc) in
+            let y = ap (λ (x : FirstCopy). x.place) same in omega (arith, y, l))
+      ]
 
   -- entries that fit are followed, whatever comes behind them
   runs : (side : Side) (entry : ℕ) (u : Cursor) (xs rest : List Entry) (made left : List FirstCopy) (taken : List ℕ) (e : EndState)
       → Rests u (made ++ left) → Behind u → FitsFrom u xs made taken e
       → follow_from p side packets own peer entry u (xs ++ rest) ≡ follow_from p side packets own peer (counted entry xs) (reached u xs made taken e) rest
-  unfolding follow_from counted
+  unfolding follow_from
   runs side entry u [] rest (c ∷ made) left taken e r b f = absurd (let z = f.makes in cc)
   runs side entry u [] rest [] left (j ∷ taken) e r b f = absurd f.takes
   runs side entry u [] rest [] left [] e r b f =
@@ -94,28 +81,22 @@ module _ (p : Parameters) (packets : ℕ) (own peer : List FirstCopy) where
   runs side entry u (Take slot number ∷ xs) rest made left [] e r b f = absurd f.takes
   runs side entry u (Take slot number ∷ xs) rest made left (position ∷ taken) e r b f =
       let c = f.ends.0 in
-      let after = f.ends.1 in
-      let at = f.takes.1 in
-      let there : slice_get peer position ≡ Some c = sym (copy_of_position peer number position at) ∙ f.ends.2 in
+      let there : slice_get peer position ≡ Some c = sym (copy_of_position peer number position f.takes.1) ∙ f.ends.2 in
       let same : f.takes.2.0 ≡ c = (let x = f.takes.2.1 in let y = f.ends.2 in cc) in
-      let front : c.place < slot = subst (λ (d : FirstCopy). d.place < slot) same f.takes.2.2 in
-      let v : Cursor = record { level = slot; made = u.made; taken = suc position; state = after } in
-      let step = gone p packets own peer u v (Take slot number) (takes slot number position c after f.slots.0 f.slots.1 at there front f.takes.0 f.ends.3) in
-      ap (then_follow (λ w. follow_from p side packets own peer (suc entry) w (xs ++ rest)) entry side) step
-      ∙ runs side (suc entry) v xs rest made left taken e r (λ j d l k. let q = b j d l k in let z = f.slots.0 in omega arith)
-      (record { makes = f.makes; slots = f.slots.2; takes = f.takes.3; ends = f.ends.4 })
+      let v : Cursor = record { level = slot; made = u.made; taken = suc position; state = f.ends.1 } in
+      rw (gone p packets own peer u v (Take slot number) (takes slot number position c f.ends.1 f.slots.0 f.slots.1 f.takes.1 there (rw same at f.takes.2.2) f.takes.0 f.ends.3))
+      (runs side (suc entry) v xs rest made left taken e r (λ j d l k. let q = b j d l k in let z = f.slots.0 in omega arith)
+      (record { makes = f.makes; slots = f.slots.2; takes = f.takes.3; ends = f.ends.4 }))
   runs side entry u (Make place clock why ∷ xs) rest [] left taken e r b f = absurd f.ends
   runs side entry u (Make place clock why ∷ xs) rest (c ∷ made) left taken e r b f =
       let same : place ≡ c.place = (let z = f.makes in cc) in
-      let tail : places_made xs ≡ places_of made = (let z = f.makes in cc) in
       let low : u.level ≤ c.place = (let z = f.slots.0 in omega arith) in
       let there = head_rests u c (made ++ left) r in
-      let at : position_of_place own place ≡ Some u.made = subst (λ n. position_of_place own n ≡ Some u.made) (sym same) (found_at u c b low there) in
+      let found = place_first own u.made c there (λ j d l k q. (let y = b j d l k in omega (arith, q, y, low))) in
       let v : Cursor = record { level = suc place; made = suc u.made; taken = u.taken; state = f.ends.0 } in
-      let step = gone p packets own peer u v (Make place clock why) (makes place clock why c f.ends.0 f.slots.0 at there (sym same) f.ends.1) in
-      ap (then_follow (λ w. follow_from p side packets own peer (suc entry) w (xs ++ rest)) entry side) step
-      ∙ runs side (suc entry) v xs rest made left taken e (rests_on u v c (made ++ left) refl r) (behind_on u v c refl (ap suc same) low there b)
-      (record { makes = tail; slots = f.slots.1; takes = f.takes; ends = f.ends.2 })
+      rw (gone p packets own peer u v (Make place clock why) (makes place clock why c f.ends.0 f.slots.0 (rw same found) there (sym same) f.ends.1))
+      (runs side (suc entry) v xs rest made left taken e (rests_on u v c (made ++ left) refl r) (behind_on u v c refl (ap suc same) low there b)
+      (record { makes = (let z = f.makes in cc); slots = f.slots.1; takes = f.takes; ends = f.ends.2 }))
 
   -- ---- an entry that the code follows is one that fits
 
@@ -132,7 +113,6 @@ module _ (p : Parameters) (packets : ℕ) (own peer : List FirstCopy) where
   none_there u c r g = absurd (let z : slice_get own u.made ≡ None = subst (λ n. slice_get own n ≡ None) (omega arith) (r 0) in cc)
 
   consed : (u v : Cursor) (x : Entry) (left : List FirstCopy) → Goes p packets own peer u x v → Rests u left → Consed u v x left
-  unfolding counted
   consed u v x left (takes slot number position c after low high at g front up t) r =
       let named : copy_with peer number ≡ Some c = copy_of_position peer number position at ∙ g in
       record {
@@ -149,103 +129,75 @@ module _ (p : Parameters) (packets : ℕ) (own peer : List FirstCopy) where
       }
   consed u v x [] (makes place clock why c after low at g same m) r = absurd (none_there u c r g)
   consed u v x (d ∷ left) (makes place clock why c after low at g same m) r =
-      let there = head_rests u d left r in
-      let is : c ≡ d = cc in
+      let is : c ≡ d = (let there = head_rests u d left r in cc) in
       let here : place ≡ d.place = sym same ∙ ap (λ (z : FirstCopy). z.place) is in
-      let mk : Makes p u.state d.pdu.safety clock why after = subst (λ (z : FirstCopy). Makes p u.state z.pdu.safety clock why after) is m in
       record {
         one = d ∷ [];
         others = left;
         is = refl;
         rests = rests_on u (record { level = suc place; made = suc u.made; taken = u.taken; state = after }) d left refl r;
         within = λ l. slice_get_within own u.made c g;
-        fits = λ xs made taken e f. (taken, record { makes = (λ i. here i ∷ f.makes i); slots = (low, f.slots); takes = f.takes; ends = (after, mk, f.ends) }, refl);
+        fits = λ xs made taken e f. (taken, record { makes = (λ i. here i ∷ f.makes i); slots = (low, f.slots); takes = f.takes; ends = (after, subst (λ (z : FirstCopy). Makes p u.state z.pdu.safety clock why after) is m, f.ends) }, refl);
       }
 
   -- ---- the tests on an entry are those of the code
 
-  entry_fault : Cursor → List FirstCopy → Entry → Option ℕ
+  abbrev entry_fault : Cursor → List FirstCopy → Entry → Option ℕ
   entry_fault w left x = option_or (first_that_holds (entry_tests packets own peer w.level w.made w.taken x)) (end_fault p w.state left x)
 
-  Same : Result Cursor ℕ → Option ℕ → Type 0
-  Same (Ok v) o = o ≡ None
-  Same (Err n) o = o ≡ Some n
+  abbrev fault_of : Result Cursor ℕ → Option ℕ
+  fault_of (Ok v) = None
+  fault_of (Err n) = Some n
 
-  step : (b : Bool) (n : ℕ) (r : Result Cursor ℕ) (ts : List (Bool × ℕ)) (o : Option ℕ) → Same r (option_or (first_that_holds ts) o)
-      → Same (if b then Err n else r) (option_or (first_that_holds ((b, n) ∷ ts)) o)
-  unfolding Same
-  step true n r ts o s = refl
-  step false n r ts o s = s
+  step : (b : Bool) (n : ℕ) (r : Result Cursor ℕ) (first o : Option ℕ) → fault_of r ≡ option_or first o → fault_of (if b then Err n else r) ≡ option_or (if b then Some n else first) o
+  step true n r first o s = refl
+  step false n r first o s = s
 
-  by_rules : (o : Option ℕ) (v : Cursor) → Same (unless o v) o
-  unfolding Same
+  by_rules : (o : Option ℕ) (v : Cursor) → fault_of (unless o v) ≡ o
   by_rules None v = refl
   by_rules (Some n) v = refl
 
-  take_tests : ℕ → ℕ → Option ℕ → Option FirstCopy → List (Bool × ℕ)
-  take_tests next slot o copy =
-      (not (option_map_or (λ (c : FirstCopy). nat_lt c.place slot) copy false), not_yet_crossed)
-      ∷ (option_map_or (λ (position : ℕ). nat_lt position next) o false, not_rising)
-      ∷ []
-
-  take_same : (w : Cursor) (slot : ℕ) (o : Option ℕ) (copy : Option FirstCopy)
-      → ((o ≡ None) × (copy ≡ None)) ⊎ ((i : ℕ) × (c : FirstCopy) × (o ≡ Some i) × (slice_get peer i ≡ Some c) × (copy ≡ Some c))
-      → Same (take_found p peer w slot o) (option_or (first_that_holds (take_tests w.taken slot o copy)) (take_fault p w.state w.state.clock))
-  unfolding Same take_tests
-  take_same w slot o copy (inl h) =
-      subst (λ (x : Option ℕ). Same (take_found p peer w slot x) (option_or (first_that_holds (take_tests w.taken slot x copy)) (take_fault p w.state w.state.clock))) (sym h.0)
-      (subst (λ (x : Option FirstCopy). option_or (first_that_holds (take_tests w.taken slot None x)) (take_fault p w.state w.state.clock) ≡ Some not_yet_crossed) (sym h.1) refl)
-  take_same w slot o copy (inr h) =
-      let i = h.0 in
-      let c = h.1 in
-      subst (λ (x : Option ℕ). Same (take_found p peer w slot x) (option_or (first_that_holds (take_tests w.taken slot x copy)) (take_fault p w.state w.state.clock))) (sym h.2)
-      (subst (λ (x : Option FirstCopy). Same (take_at p w slot i (slice_get peer i)) (option_or (first_that_holds (take_tests w.taken slot (Some i) x)) (take_fault p w.state w.state.clock))) (sym h.4)
-      (subst (λ (x : Option FirstCopy). Same (take_at p w slot i x) (option_or (first_that_holds (take_tests w.taken slot (Some i) (Some c))) (take_fault p w.state w.state.clock))) (sym h.3)
-      (step (not (nat_lt c.place slot)) not_yet_crossed _ ((nat_lt i w.taken, not_rising) ∷ []) (take_fault p w.state w.state.clock)
-      (step (nat_lt i w.taken) not_rising _ [] (take_fault p w.state w.state.clock) (by_rules (take_fault p w.state w.state.clock) _)))))
-
-  numbered : (number : ℕ) (o : Option ℕ) → position_of_number peer number ≡ o
-      → ((o ≡ None) × (copy_with peer number ≡ None)) ⊎ ((i : ℕ) × (c : FirstCopy) × (o ≡ Some i) × (slice_get peer i ≡ Some c) × (copy_with peer number ≡ Some c))
-  numbered number None e = inl (refl, no_copy peer number e)
-  numbered number (Some i) e = (let f = number_found peer number i e in inr (i, f.0, refl, f.1, copy_of_position peer number i e ∙ f.1))
-
-  make_same : (w : Cursor) (place clock : ℕ) (why : Why) (left : List FirstCopy) → Rests w left → (o : Option ℕ) → ((i : ℕ) → o ≡ Some i → (c : FirstCopy) × (slice_get own i ≡ Some c))
-      → Same (make_found p own w place clock why o)
-      (option_or (first_that_holds ((is_none o, not_first_copy) ∷ (not (is_there o w.made), make_missing) ∷ [])) (end_fault p w.state left (Make place clock why)))
-  unfolding Same
-  make_same w place clock why left r None h = refl
-  make_same w place clock why left r (Some i) h = by (i == w.made) refl
-    where
-      last : (cs : List FirstCopy) → Rests w cs → i ≡ w.made → Same (make_of p w place clock why (slice_get own i)) (end_fault p w.state cs (Make place clock why))
-      last [] q e = (let f = h i refl in absurd (none_there w f.0 q (subst (λ n. slice_get own n ≡ Some f.0) e f.1)))
-      last (d ∷ cs) q e =
-          let there : slice_get own i ≡ Some d = subst (λ n. slice_get own n ≡ Some d) (sym e) (head_rests w d cs q) in
-          subst (λ (x : Option FirstCopy). Same (make_of p w place clock why x) (make_fault p w.state d.pdu.safety clock why)) (sym there) (by_rules (make_fault p w.state d.pdu.safety clock why) _)
-
-      by : (b : Bool) → (i == w.made) ≡ b
-          → Same (if b then make_of p w place clock why (slice_get own i) else Err make_missing) (option_or (first_that_holds ((not b, make_missing) ∷ [])) (end_fault p w.state left (Make place clock why)))
-      by false e = refl
-      by true e = last left r (grind (arith, nat_tests))
-
-  judged : (w : Cursor) (left : List FirstCopy) (x : Entry) → Rests w left → Same (next_cursor p packets own peer w x) (entry_fault w left x)
-  unfolding next_cursor entry_fault take_tests
+  judged : (w : Cursor) (left : List FirstCopy) (x : Entry) → Rests w left → fault_of (next_cursor p packets own peer w x) ≡ entry_fault w left x
+  unfolding next_cursor
   judged w left (Take slot number) r =
-      step (nat_lt slot w.level || nat_lt packets slot) slot_order _ (take_tests w.taken slot (position_of_number peer number) (copy_with peer number)) (take_fault p w.state w.state.clock) (take_same w slot (position_of_number peer number) (copy_with peer number) (numbered number (position_of_number peer number) refl))
+      step (nat_lt slot w.level || nat_lt packets slot) slot_order _ _ (take_fault p w.state w.state.clock) (by (position_of_number peer number) refl)
+    where
+      by : (o : Option ℕ) → position_of_number peer number ≡ o → fault_of (take_found p peer w slot o)
+          ≡ option_or (first_that_holds ((not (option_map_or (λ (c : FirstCopy). nat_lt c.place slot) (copy_with peer number) false), not_yet_crossed)
+          ∷ (option_map_or (λ (position : ℕ). nat_lt position w.taken) o false, not_rising) ∷ []))
+          (take_fault p w.state w.state.clock)
+      by None e = rw (no_copy peer number e) refl
+      by (Some i) e =
+          let f = number_found peer number i e in
+          rw (copy_of_position peer number i e, f.1)
+          (step (not (nat_lt f.0.place slot)) not_yet_crossed _ _ (take_fault p w.state w.state.clock)
+          (step (nat_lt i w.taken) not_rising _ None (take_fault p w.state w.state.clock) (by_rules (take_fault p w.state w.state.clock) _)))
   judged w left (Make place clock why) r =
-      step (nat_lt place w.level) slot_order _ ((is_none (position_of_place own place), not_first_copy) ∷ (not (is_there (position_of_place own place) w.made), make_missing) ∷ []) (end_fault p w.state left (Make place clock why)) (make_same w place clock why left r (position_of_place own place) (λ i e. let f = place_found own place i e in (f.0, f.1)))
+      step (nat_lt place w.level) slot_order _ _ (end_fault p w.state left (Make place clock why)) (by (position_of_place own place) refl)
+    where
+      on : (i : ℕ) (cs : List FirstCopy) → Rests w cs → position_of_place own place ≡ Some i → (b : Bool) → (i == w.made) ≡ b
+          → fault_of (if b then make_of p w place clock why (slice_get own i) else Err make_missing) ≡ option_or (first_that_holds ((not b, make_missing) ∷ [])) (end_fault p w.state cs (Make place clock why))
+      on i cs q k false e = refl
+      on i [] q k true e =
+          let f = place_found own place i k in
+          let at : i ≡ w.made = grind (arith, nat_tests, e) in
+          absurd (none_there w f.0 q (sym (ap (slice_get own) at) ∙ f.1))
+      on i (d ∷ cs) q k true e =
+          let at : i ≡ w.made = grind (arith, nat_tests, e) in
+          rw (ap (slice_get own) at ∙ head_rests w d cs q) (by_rules (make_fault p w.state d.pdu.safety clock why) _)
+
+      by : (o : Option ℕ) → position_of_place own place ≡ o → fault_of (make_found p own w place clock why o)
+          ≡ option_or (first_that_holds ((is_none o, not_first_copy) ∷ (not (is_there o w.made), make_missing) ∷ [])) (end_fault p w.state left (Make place clock why))
+      by None e = refl
+      by (Some i) e = on i left r e (i == w.made) refl
 
   -- the code refuses an entry by the first test that holds
   refuses : (w : Cursor) (left : List FirstCopy) (x : Entry) (n : ℕ) → Rests w left → entry_fault w left x ≡ Some n → next_cursor p packets own peer w x ≡ Err n
-  unfolding Same
-  refuses w left x n r h = by (next_cursor p packets own peer w x) (judged w left x r)
+  refuses w left x n r h = by (next_cursor p packets own peer w x) (judged w left x r ∙ h)
     where
-      by : (o : Result Cursor ℕ) → Same o (entry_fault w left x) → o ≡ Err n
+      by : (o : Result Cursor ℕ) → fault_of o ≡ Some n → o ≡ Err n
       by (Ok v) s = absurd (cc)
       by (Err m) s = cc
-
-  is_refused : (w : Cursor) (left : List FirstCopy) (x : Entry) (n : ℕ) → Rests w left → next_cursor p packets own peer w x ≡ Err n → entry_fault w left x ≡ Some n
-  unfolding Same
-  is_refused w left x n r h = subst (λ (o : Result Cursor ℕ). Same o (entry_fault w left x)) h (judged w left x r)
 
   -- ---- what the code answers is the first fault
 
@@ -261,7 +213,6 @@ module _ (p : Parameters) (packets : ℕ) (own peer : List FirstCopy) where
 
   fault_after : (side : Side) (entry : ℕ) (u v : Cursor) (x : Entry) (xs : List Entry) (left : List FirstCopy) (f : Fault) (z : Consed u v x left)
       → FaultFrom side (suc entry) v xs z.others f → FaultFrom side entry u (x ∷ xs) left f
-  unfolding counted
   fault_after side entry u v x xs left f z (one_of front behind y made rest taken e number is parts fits says) =
       let w = z.fits front made taken e fits in
       one_of (x ∷ front) behind y (z.one ++ made) rest w.0 e number (ap (λ (l : List Entry). x ∷ l) is)
@@ -270,9 +221,6 @@ module _ (p : Parameters) (packets : ℕ) (own peer : List FirstCopy) where
   fault_after side entry u v x xs left f z (none_left made rest c taken e fits parts) =
       let w = z.fits xs made taken e fits in
       none_left (z.one ++ made) rest c w.0 e w.1 (z.is ∙ (ap (λ (l : List FirstCopy). z.one ++ l) parts ∙ sym (append_assoc z.one made (c ∷ rest))))
-
-  some_left : (u : Cursor) → u.made < length own → Rests u [] → ⊥
-  some_left u l r = (let f = slice_get_some own u.made l in none_there u f.0 r f.1)
 
   -- an end that the script fits with, or its first fault
   abbrev Answered : Side → ℕ → Cursor → List Entry → List FirstCopy → Result EndState Fault → Type 0
@@ -286,51 +234,47 @@ module _ (p : Parameters) (packets : ℕ) (own peer : List FirstCopy) where
 
   answered : (side : Side) (entry : ℕ) (u : Cursor) (xs : List Entry) (left : List FirstCopy) → Rests u left → u.made ≤ length own
       → Answered side entry u xs left (follow_from p side packets own peer entry u xs)
-  unfolding follow_from counted
+  unfolding follow_from
   answered side entry u [] left r l = by left r (u.made == length own) refl
     where
       by : (left : List FirstCopy) → Rests u left → (b : Bool) → (u.made == length own) ≡ b → Answered side entry u [] left (if b then Ok u.state else Err (fault_of_end make_missing entry side))
       by [] r true e = ([], here u)
-      by [] r false e = absurd (some_left u (let z : u.made ≡ length own → ⊥ = (λ q. absurd (grind (arith, nat_tests, e, q))) in omega (arith, z, l)) r)
-      by (c ∷ left) r true e = absurd (let z : u.made ≡ length own = grind (arith, nat_tests) in let m = slice_get_within own u.made c (head_rests u c left r) in omega (arith, z, m))
+      by [] r false e = absurd (let f = slice_get_some own u.made (grind (arith, nat_tests, e, l)) in none_there u f.0 r f.1)
+      by (c ∷ left) r true e = absurd (let m = slice_get_within own u.made c (head_rests u c left r) in grind (arith, nat_tests, e, m))
       by (c ∷ left) r false e = none_left [] left c [] u.state (here u) refl
   answered side entry u (x ∷ xs) left r l = by (next_cursor p packets own peer u x) refl (λ v cs q m. answered side (suc entry) v xs cs q m)
     where
       by : (o : Result Cursor ℕ) → next_cursor p packets own peer u x ≡ o
           → ((v : Cursor) (cs : List FirstCopy) → Rests v cs → v.made ≤ length own → Answered side (suc entry) v xs cs (follow_from p side packets own peer (suc entry) v xs))
           → Answered side entry u (x ∷ xs) left (then_follow (λ v. follow_from p side packets own peer (suc entry) v xs) entry side o)
-      by (Err n) k rest = one_of [] xs x [] left [] u.state n refl refl (here u) (is_refused u left x n r k)
+      by (Err n) k rest = one_of [] xs x [] left [] u.state n refl refl (here u) (sym (judged u left x r) ∙ ap fault_of k)
       by (Ok v) k rest =
           let z = consed u v x left (goes p packets own peer u v x k) r in
           answered_on side entry u v x xs left z (follow_from p side packets own peer (suc entry) v xs) (rest v z.others z.rests (z.within l))
 
   -- ---- a whole script
 
-  start_behind : (e : EndState) → Behind (at_start e)
-  start_behind e j c l g = absurd (omega arith)
-
-  from_start : (side : Side) (made : List FirstCopy) (es : List Entry) (e : EndState) (f : Fits p side packets made peer es e) → FitsFrom (at_start (start_of p side)) es made f.taken e
-  from_start side made es e f = record { makes = f.makes; slots = f.slots; takes = f.takes; ends = f.ends }
-
-  to_start : (side : Side) (made : List FirstCopy) (es : List Entry) (taken : List ℕ) (e : EndState) → FitsFrom (at_start (start_of p side)) es made taken e → Fits p side packets made peer es e
+  abbrev to_start : (side : Side) (made : List FirstCopy) (es : List Entry) (taken : List ℕ) (e : EndState) → FitsFrom (at_start (start_of p side)) es made taken e → Fits p side packets made peer es e
   to_start side made es taken e f = record { makes = f.makes; slots = f.slots; taken = taken; takes = f.takes; ends = f.ends }
 
-  start_rests : (e : EndState) (made left : List FirstCopy) → own ≡ made ++ left → Rests (at_start e) (made ++ left)
-  start_rests e made left parts j = (let z : 0 + j ≡ j = omega arith in ap (slice_get own) z ∙ ap (λ (cs : List FirstCopy). slice_get cs j) parts)
-
-  -- what was made is left behind
-  rests_behind : (w : Cursor) (made left : List FirstCopy) → own ≡ made ++ left → w.made ≡ length made → Rests w left
-  rests_behind w made left parts m j = ap (λ (cs : List FirstCopy). slice_get cs (w.made + j)) parts ∙ (ap (λ n. slice_get (made ++ left) (n + j)) m ∙ get_past made left j)
+  -- a script whose beginning fits is followed through it
+  from_start : (side : Side) (es rest : List Entry) (made left : List FirstCopy) (e : EndState) → own ≡ made ++ left → (f : Fits p side packets made peer es e)
+      → follow p side packets own peer (es ++ rest)
+      ≡ follow_from p side packets own peer (suc (length es)) (record { level = level_after 0 es; made = length made; taken = position_after 0 f.taken; state = e }) rest
+  from_start side es rest made left e parts f =
+      let entry : suc (length es) ≡ counted 1 es = (let z = counted_is 1 es in omega arith) in
+      let count : length made ≡ counted 0 made = (let z = counted_is 0 made in omega arith) in
+      rw (entry, count)
+      (runs side 1 (at_start (start_of p side)) es rest made left f.taken e (λ j. (let z : 0 + j ≡ j = omega arith in rw (z, parts) refl)) (λ j c l g. absurd (omega arith))
+      (record { makes = f.makes; slots = f.slots; takes = f.takes; ends = f.ends }))
 
   -- a script that fits is followed
   pub fits_is : (side : Side) (es : List Entry) (e : EndState) → Fits p side packets own peer es e → follow p side packets own peer es ≡ Ok e
   unfolding follow_from
   fits_is side es e f =
-      let w = reached (at_start (start_of p side)) es own f.taken e in
-      let all : w.made ≡ length own = (let z = counted_is 0 own in omega (arith, z)) in
-      ap (λ (xs : List Entry). follow_from p side packets own peer 1 (at_start (start_of p side)) xs) (sym (append-nil es))
-      ∙ (runs side 1 (at_start (start_of p side)) es [] own [] f.taken e (start_rests (start_of p side) own [] (sym (append-nil own))) (start_behind (start_of p side)) (from_start side own es e f)
-      ∙ held (w.made == length own) (fault_of_end make_missing (counted 1 es) side) _ (same_equal w.made (length own) all))
+      let z = from_start side es [] own [] e (sym (append-nil own)) f in
+      let all : (length own == length own) ≡ true = grind (arith, nat_tests) in
+      (rw append-nil at z) ∙ rw all refl
 
   by_code : (side : Side) (es : List Entry) (r : Result EndState Fault) → follow p side packets own peer es ≡ r → Answered side 1 (at_start (start_of p side)) es own r
   by_code side es r h = subst (Answered side 1 (at_start (start_of p side)) es own) h (answered side 1 (at_start (start_of p side)) es own (λ j. let z : 0 + j ≡ j = omega arith in ap (slice_get own) z) (omega arith))
@@ -339,66 +283,41 @@ module _ (p : Parameters) (packets : ℕ) (own peer : List FirstCopy) where
   pub is_fits : (side : Side) (es : List Entry) (e : EndState) → follow p side packets own peer es ≡ Ok e → Fits p side packets own peer es e
   is_fits side es e h = (let z = by_code side es (Ok e) h in to_start side own es z.0 e z.1)
 
-  -- at the start the counts are lengths
-  first_entry : (xs : List Entry) → counted 1 xs ≡ suc (length xs)
-  first_entry xs = (let z = counted_is 1 xs in omega (arith, z))
-
-  first_made : (cs : List FirstCopy) → counted 0 cs ≡ length cs
-  first_made cs = (let z = counted_is 0 cs in omega (arith, z))
-
-  by_count : (u : Cursor) (made left : List FirstCopy) (x : Entry) (n : ℕ) → n ≡ length made
-      → entry_fault (record { level = u.level; made = n; taken = u.taken; state = u.state }) left x ≡ option_or (first_that_holds (entry_tests packets own peer u.level (length made) u.taken x)) (end_fault p u.state left x)
-  unfolding entry_fault
-  by_count u made left x n e = ap (λ k. option_or (first_that_holds (entry_tests packets own peer u.level k u.taken x)) (end_fault p u.state left x)) e
-
   pub is_fault : (side : Side) (es : List Entry) (f : Fault) → follow p side packets own peer es ≡ Err f → FirstFault p side packets own peer es f
-  unfolding to_start
   is_fault side es f h = by f (by_code side es (Err f) h)
     where
+      first : (xs : List Entry) → counted 1 xs ≡ suc (length xs)
+      first xs = (let z = counted_is 1 xs in omega arith)
+
       by : (f : Fault) → FaultFrom side 1 (at_start (start_of p side)) es own f → FirstFault p side packets own peer es f
       by f (one_of front behind x made left taken e number is parts fits says) =
-          subst (λ k. FirstFault p side packets own peer es (fault_of_end number k side)) (sym (first_entry front))
-          (at_entry front behind x made left e (to_start side made front taken e fits) number is parts
-          (sym (by_count (record { level = level_after 0 front; made = 0; taken = position_after 0 taken; state = e }) made left x (counted 0 made) (first_made made)) ∙ says))
-      by f (none_left made left c taken e fits parts) =
-          subst (λ k. FirstFault p side packets own peer es (fault_of_end make_missing k side)) (sym (first_entry es))
-          (after_last made left c e (to_start side made es taken e fits) parts)
+          let made_is : counted 0 made ≡ length made = (let z = counted_is 0 made in omega arith) in
+          rw (first front) (at_entry front behind x made left e (to_start side made front taken e fits) number is parts (rw made_is at says))
+      by f (none_left made left c taken e fits parts) = rw (first es) (after_last made left c e (to_start side made es taken e fits) parts)
 
   pub fault_is : (side : Side) (es : List Entry) (f : Fault) → FirstFault p side packets own peer es f → follow p side packets own peer es ≡ Err f
   unfolding follow_from
   fault_is side es f (at_entry front behind x made left e before number is parts says) =
-      let u = at_start (start_of p side) in
-      let w = reached u front made before.taken e in
-      let at = by_count (record { level = level_after 0 front; made = 0; taken = position_after 0 before.taken; state = e }) made left x (counted 0 made) (first_made made) ∙ says in
-      ap (λ (xs : List Entry). follow_from p side packets own peer 1 u xs) is
-      ∙ (runs side 1 u front (x ∷ behind) made left before.taken e (start_rests (start_of p side) made left parts) (start_behind (start_of p side)) (from_start side made front e before)
-      ∙ (ap (then_follow (λ v. follow_from p side packets own peer (suc (counted 1 front)) v behind) (counted 1 front) side) (refuses w left x number (rests_behind w made left parts (first_made made)) at)
-      ∙ ap (λ k. Err (fault_of_end number k side)) (first_entry front)))
+      let w : Cursor = record { level = level_after 0 front; made = length made; taken = position_after 0 before.taken; state = e } in
+      rw (is, from_start side front (x ∷ behind) made left e parts before, refuses w left x number (λ j. (rw parts (get_past made left j))) says) refl
   fault_is side es f (after_last made left c e before parts) =
-      let u = at_start (start_of p side) in
-      let w = reached u es made before.taken e in
-      let more : (w.made == length own) ≡ false = (let z = first_made made in let y = ap length parts in let q = length-append made (c ∷ left) in grind (arith, nat_tests, z, y, q)) in
-      ap (λ (xs : List Entry). follow_from p side packets own peer 1 u xs) (sym (append-nil es))
-      ∙ (runs side 1 u es [] made (c ∷ left) before.taken e (start_rests (start_of p side) made (c ∷ left) parts) (start_behind (start_of p side)) (from_start side made es e before)
-      ∙ (failed (w.made == length own) (fault_of_end make_missing (counted 1 es) side) _ more ∙ ap (λ k. Err (fault_of_end make_missing k side)) (first_entry es)))
+      let more : (length made == length own) ≡ false = (let y = ap length parts in let q = length-append made (c ∷ left) in grind (arith, nat_tests, y, q)) in
+      (rw append-nil at (from_start side es [] made (c ∷ left) e parts before)) ∙ rw more refl
 
   -- ---- one answer
 
-  pub some_answer : (side : Side) (es : List Entry) → ((e : EndState) × Fits p side packets own peer es e) ⊎ ((f : Fault) × FirstFault p side packets own peer es f)
-  some_answer side es = by (follow p side packets own peer es) refl
+  -- a script fits or has a first fault
+  pub answered_once : (side : Side) (es : List Entry) → HasOneAnswer p side packets own peer es
+  answered_once side es = record {
+    some = by (follow p side packets own peer es) refl;
+    one_end = λ a b f g. cc (fits_is side es a f, fits_is side es b g);
+    one_fault = λ f g a b. cc (fault_is side es f a, fault_is side es g b);
+    not_both = λ e f a b. absurd (let x = fits_is side es e a in let y = fault_is side es f b in cc);
+  }
     where
       by : (r : Result EndState Fault) → follow p side packets own peer es ≡ r → ((e : EndState) × Fits p side packets own peer es e) ⊎ ((f : Fault) × FirstFault p side packets own peer es f)
       by (Ok e) h = inl (e, is_fits side es e h)
       by (Err f) h = inr (f, is_fault side es f h)
-
-  pub one_end : (side : Side) (es : List Entry) (a b : EndState) → Fits p side packets own peer es a → Fits p side packets own peer es b → a ≡ b
-  one_end side es a b f g = (let x = fits_is side es a f in let y = fits_is side es b g in cc)
-
-  pub one_fault : (side : Side) (es : List Entry) (f g : Fault) → FirstFault p side packets own peer es f → FirstFault p side packets own peer es g → f ≡ g
-  one_fault side es f g a b = (let x = fault_is side es f a in let y = fault_is side es g b in cc)
-
-  pub not_both : (side : Side) (es : List Entry) (e : EndState) (f : Fault) → Fits p side packets own peer es e → FirstFault p side packets own peer es f → ⊥
-  not_both side es e f a b = absurd (let x = fits_is side es e a in let y = fault_is side es f b in cc)
 
   -- ---- the cursor's form
 
@@ -413,24 +332,19 @@ module _ (p : Parameters) (packets : ℕ) (own peer : List FirstCopy) where
 module _ (p : Parameters) (packets : ℕ) (c s : List FirstCopy) (scripts : Scripts) where
   -- the verdict of the code is one
   pub is_verdict : (answer : Result Explained Fault) → verdict_of p packets c s scripts ≡ answer → IsScriptVerdict p packets c s scripts answer
-  is_verdict answer h = by (follow p Client packets c s scripts.client) (follow p Server packets s c scripts.server) refl refl answer h
+  is_verdict answer h = subst (IsScriptVerdict p packets c s scripts) h (by (follow p Client packets c s scripts.client) (follow p Server packets s c scripts.server) refl refl)
     where
-      by : (a b : Result EndState Fault) → follow p Client packets c s scripts.client ≡ a → follow p Server packets s c scripts.server ≡ b → (answer : Result Explained Fault)
-          → where_followed a (where_followed b (Ok (report_of p packets c s))) ≡ answer → IsScriptVerdict p packets c s scripts answer
-      by (Err f) b g k answer h = subst (IsScriptVerdict p packets c s scripts) h (client_refused f (is_fault p packets c s Client scripts.client f g))
-      by (Ok e) (Err f) g k answer h = subst (IsScriptVerdict p packets c s scripts) h (server_refused e f (is_fits p packets c s Client scripts.client e g) (is_fault p packets s c Server scripts.server f k))
-      by (Ok e) (Ok e') g k answer h = subst (IsScriptVerdict p packets c s scripts) h (both_fit ((e, is_fits p packets c s Client scripts.client e g), (e', is_fits p packets s c Server scripts.server e' k)))
+      by : (a b : Result EndState Fault) → follow p Client packets c s scripts.client ≡ a → follow p Server packets s c scripts.server ≡ b
+          → IsScriptVerdict p packets c s scripts (where_followed a (where_followed b (Ok (report_of p packets c s))))
+      by (Err f) b g k = client_refused f (is_fault p packets c s Client scripts.client f g)
+      by (Ok e) (Err f) g k = server_refused e f (is_fits p packets c s Client scripts.client e g) (is_fault p packets s c Server scripts.server f k)
+      by (Ok e) (Ok e') g k = both_fit ((e, is_fits p packets c s Client scripts.client e g), (e', is_fits p packets s c Server scripts.server e' k))
 
   -- and no other is
   pub verdict_is_of : (answer : Result Explained Fault) → IsScriptVerdict p packets c s scripts answer → verdict_of p packets c s scripts ≡ answer
-  verdict_is_of answer (both_fit fits) =
-      ap (λ (r : Result EndState Fault). where_followed r (where_followed (follow p Server packets s c scripts.server) (Ok (report_of p packets c s)))) (fits_is p packets c s Client scripts.client fits.0.0 fits.0.1)
-      ∙ ap (λ (r : Result EndState Fault). where_followed r (Ok (report_of p packets c s))) (fits_is p packets s c Server scripts.server fits.1.0 fits.1.1)
-  verdict_is_of answer (client_refused f fault) =
-      ap (λ (r : Result EndState Fault). where_followed r (where_followed (follow p Server packets s c scripts.server) (Ok (report_of p packets c s)))) (fault_is p packets c s Client scripts.client f fault)
-  verdict_is_of answer (server_refused e f fits fault) =
-      ap (λ (r : Result EndState Fault). where_followed r (where_followed (follow p Server packets s c scripts.server) (Ok (report_of p packets c s)))) (fits_is p packets c s Client scripts.client e fits)
-      ∙ ap (λ (r : Result EndState Fault). where_followed r (Ok (report_of p packets c s))) (fault_is p packets s c Server scripts.server f fault)
+  verdict_is_of answer (both_fit fits) = rw (fits_is p packets c s Client scripts.client fits.0.0 fits.0.1, fits_is p packets s c Server scripts.server fits.1.0 fits.1.1) refl
+  verdict_is_of answer (client_refused f fault) = rw (fault_is p packets c s Client scripts.client f fault) refl
+  verdict_is_of answer (server_refused e f fits fault) = rw (fits_is p packets c s Client scripts.client e fits, fault_is p packets s c Server scripts.server f fault) refl
 
   pub one_answer : (a b : Result Explained Fault) → IsScriptVerdict p packets c s scripts a → IsScriptVerdict p packets c s scripts b → a ≡ b
   one_answer a b h k = sym (verdict_is_of a h) ∙ verdict_is_of b k

@@ -1,55 +1,35 @@
 -- What the checker answers for a script is the end that it leads to, exactly where it fits.
-use Rattle.std.proofs.Common.{◌≡◌, ℕ, suc, ◌+◌, ◌<◌, ◌≤◌, Bool, true, false, List, [], ◌∷◌, drop, length, get_or, Option, Some, None, Result, Ok, Err, slice_get, position, MatchResult, ◌⊎◌, inl, inr, ⊎_elim, refl, ap, sym, ◌∙◌, arith, subst}
+use Rattle.std.proofs.Common.{◌≡◌, ℕ, suc, ◌+◌, ◌<◌, ◌≤◌, Bool, true, false, List, [], ◌∷◌, drop, length, get_or, Option, Some, None, Result, Ok, Err, slice_get, position, MatchResult, ◌⊎◌, inl, inr, refl, ap, sym, ◌∙◌, arith, subst, add-one}
 use Rattle.std.specs.Prelude.{not, nat_lt, ◌==◌, ◌||◌, if◌then◌else◌}
 use Rattle.std.proofs.lemmas.Bool.Decides.{nat_tests}
 use Rattle.std.proofs.lemmas.List.{drop_all}
 use Rattle.std.proofs.lemmas.Option.{slice_get-get_or}
-use Rattle.rasta_pcap.specs.declared.fault.Fault.{Fault}
-use Rattle.rasta_pcap.specs.declared.fault.Side.{Side}
+use Rattle.rasta_check.proofs.Words.{Fault, Side, Parameters, Entry, Take, Make, Why, EndState, Makes, Takes}
+use Rattle.rasta_check.proofs.Words.{start_of, FirstCopy, Cursor, Advances, takes_next, makes_next, Leads, at_start, Follows}
 use Rattle.rasta_pcap.specs.Fault.{fault_of_end, no_memory, slot_order, make_missing, not_yet_crossed, not_rising}
-use Rattle.rasta_pdu.specs.Params.{Parameters}
-use Rattle.rasta_cert.specs.declared.entry.Entry.{Entry}
-use Rattle.rasta_cert.specs.declared.entry.Entry.TheVariants.{Take, Make}
-use Rattle.rasta_end.specs.declared.why.Why.{Why}
-use Rattle.rasta_end.specs.State.{EndState}
-use Rattle.rasta_end.specs.MakeRule.{Makes, make_fault, after_make}
-use Rattle.rasta_end.specs.TakeRule.{Takes, take_fault, after_take}
-use Rattle.rasta_end.specs.Starts.{start_of}
+use Rattle.rasta_end.specs.MakeRule.{make_fault}
+use Rattle.rasta_end.specs.TakeRule.{take_fault}
 use Rattle.rasta_end.specs.Judged.{JudgedEnd}
 use Rattle.rasta_end.proofs.MakeTests.{no_fault, no_test}
-use Rattle.rasta_check.specs.Capture.Crossing.{FirstCopy}
 use Rattle.rasta_check.specs.Capture.Lists.{IsOrdered, position_of_number, position_of_place}
-use Rattle.rasta_check.specs.Script.Following.{Cursor, Advances, takes_next, makes_next, Leads, at_start, Follows}
 use Rattle.rasta_check.specs.Internals.Checking.{unless, take_at, take_found, make_of, make_found, next_cursor, then_follow, follow_from, follow, Followed, moved_to, IsRefused}
 use Rattle.rasta_check.proofs.Lists.{drop_one_more}
 use Rattle.rasta_check.proofs.Capture.Positions.{number_found, number_named, place_found, place_named}
-use Rattle.rasta_check.proofs.Model.PassedTests.{un_not}
 
 -- ---- one entry that is allowed leads on
 
-pub less : (a b : ℕ) → not (nat_lt a b) ≡ false → a < b
-less a b e = (let t = un_not (nat_lt a b) e in grind (arith, nat_tests))
-
-pub not_less : (a b : ℕ) → nat_lt a b ≡ false → b ≤ a
-not_less a b e = grind (arith, nat_tests)
-
 -- a test that isn't met is passed
-pub passes : {A B : Type 0} (b : Bool) (f : B) (r : Result A B) (v : A) → (if b then Err f else r) ≡ Ok v → (b ≡ false) × (r ≡ Ok v)
+passes : {A B : Type 0} (b : Bool) (f : B) (r : Result A B) (v : A) → (if b then Err f else r) ≡ Ok v → (b ≡ false) × (r ≡ Ok v)
 passes true f r v e = absurd (cc)
 passes false f r v e = (refl, e)
 
-pub holds : {A B : Type 0} (b : Bool) (f : B) (r : Result A B) (v : A) → (if b then r else Err f) ≡ Ok v → (b ≡ true) × (r ≡ Ok v)
+holds : {A B : Type 0} (b : Bool) (f : B) (r : Result A B) (v : A) → (if b then r else Err f) ≡ Ok v → (b ≡ true) × (r ≡ Ok v)
 holds true f r v e = (refl, e)
 holds false f r v e = absurd (cc)
 
-pub allowed : (fault : Option ℕ) (w v : Cursor) → unless fault w ≡ Ok v → (fault ≡ None) × (w ≡ v)
+allowed : (fault : Option ℕ) (w v : Cursor) → unless fault w ≡ Ok v → (fault ≡ None) × (w ≡ v)
 allowed None w v e = (refl, cc)
 allowed (Some f) w v e = absurd (cc)
-
-pub neither : (a b : Bool) → (a || b) ≡ false → (a ≡ false) × (b ≡ false)
-neither false false e = (refl, refl)
-neither true b e = absurd (cc)
-neither false true e = absurd (cc)
 
 module _ (p : Parameters) (packets : ℕ) (own peer : List FirstCopy) where
   -- the code goes on with an entry: from here to there
@@ -72,9 +52,9 @@ module _ (p : Parameters) (packets : ℕ) (own peer : List FirstCopy) where
       let a = passes (not (nat_lt f.0.place slot)) not_yet_crossed _ v at in
       let b = passes (nat_lt position u.taken) not_rising _ v a.1 in
       let d = allowed (take_fault p u.state u.state.clock) _ v b.1 in
-      let step : Goes u (Take slot number) (record { level = slot; made = u.made; taken = suc position; state = after_take p u.state f.0.pdu.safety })
-      = takes slot number position f.0 (after_take p u.state f.0.pdu.safety) low high e f.1 (less f.0.place slot a.0) (not_less position u.taken b.0) (d.0, refl) in
-      subst (λ (w : Cursor). Goes u (Take slot number) w) d.1 step
+      let front : f.0.place < slot = (let t = a.0 in grind (arith, nat_tests)) in
+      let up : u.taken ≤ position = (let t = b.0 in grind (arith, nat_tests)) in
+      subst (Goes u (Take slot number)) d.1 (takes slot number position f.0 _ low high e f.1 front up (d.0, refl))
 
   make_goes : (u v : Cursor) (place clock : ℕ) (why : Why) → u.level ≤ place → (o : Option ℕ) → position_of_place own place ≡ o
       → make_found p own u place clock why o ≡ Ok v → Goes u (Make place clock why) v
@@ -86,28 +66,27 @@ module _ (p : Parameters) (packets : ℕ) (own peer : List FirstCopy) where
       let there : slice_get own u.made ≡ Some f.0 = subst (λ i. slice_get own i ≡ Some f.0) same f.1 in
       let at : make_of p u place clock why (Some f.0) ≡ Ok v = ap (make_of p u place clock why) (sym f.1) ∙ h.1 in
       let d = allowed (make_fault p u.state f.0.pdu.safety clock why) _ v at in
-      let step : Goes u (Make place clock why) (record { level = suc place; made = suc u.made; taken = u.taken; state = after_make u.state f.0.pdu.safety clock why })
-      = makes place clock why f.0 (after_make u.state f.0.pdu.safety clock why) low (e ∙ ap Some same) there f.2 (no_test p u.state f.0.pdu.safety clock why d.0, refl) in
-      subst (λ (w : Cursor). Goes u (Make place clock why) w) d.1 step
+      subst (Goes u (Make place clock why)) d.1 (makes place clock why f.0 _ low (e ∙ ap Some same) there f.2 (no_test p u.state f.0.pdu.safety clock why d.0, refl))
 
   pub goes : (u v : Cursor) (x : Entry) → next_cursor p packets own peer u x ≡ Ok v → Goes u x v
   unfolding next_cursor
   goes u v (Take slot number) e =
       let a = passes (nat_lt slot u.level || nat_lt packets slot) slot_order _ v e in
-      let b = neither (nat_lt slot u.level) (nat_lt packets slot) a.0 in
-      take_goes u v slot number (not_less slot u.level b.0) (not_less packets slot b.1) (position_of_number peer number) refl a.1
+      let low : u.level ≤ slot = (let t = a.0 in grind (arith, nat_tests)) in
+      let high : slot ≤ packets = (let t = a.0 in grind (arith, nat_tests)) in
+      take_goes u v slot number low high (position_of_number peer number) refl a.1
   goes u v (Make place clock why) e =
       let a = passes (nat_lt place u.level) slot_order _ v e in
-      make_goes u v place clock why (not_less place u.level a.0) (position_of_place own place) refl a.1
+      make_goes u v place clock why (let t = a.0 in grind (arith, nat_tests)) (position_of_place own place) refl a.1
 
   -- what follows by one entry is where it leads
   leads_on : (u v : Cursor) (x : Entry) → Goes u x v → Advances p packets own peer u x v
   leads_on u v x (takes slot number position c after low high at g front up t) =
       let f = number_found peer number position at in
-      let named : c.pdu.number ≡ number = (let same : f.0 ≡ c = (let z = f.1 in cc) in ap (λ (d : FirstCopy). d.pdu.number) (sym same) ∙ f.2) in
+      let named : c.pdu.number ≡ number = (let same : f.0 ≡ c = cc (f.1) in cc (f.2)) in
       subst (λ n. Advances p packets own peer u (Take slot n) (record { level = slot; made = u.made; taken = suc position; state = after })) named (takes_next slot position c after low high g front up t)
   leads_on u v x (makes place clock why c after low at g same m) =
-      subst (λ n. Advances p packets own peer u (Make n clock why) (record { level = suc n; made = suc u.made; taken = u.taken; state = after })) same (makes_next c clock why after (subst (λ n. u.level ≤ n) (sym same) low) g m)
+      subst (λ n. Advances p packets own peer u (Make n clock why) (record { level = suc n; made = suc u.made; taken = u.taken; state = after })) same (makes_next c clock why after (omega arith) g m)
 
   leads_from : (side : Side) (entry : ℕ) (u : Cursor) (es : List Entry) (e : EndState) → follow_from p side packets own peer entry u es ≡ Ok e
       → (v : Cursor) × Leads p packets own peer u es v × (v.made ≡ length own) × (v.state ≡ e)
@@ -127,43 +106,20 @@ module _ (p : Parameters) (packets : ℕ) (own peer : List FirstCopy) where
 
 -- ---- a script that fits is followed
 
-pub above : (a b : ℕ) → b ≤ a → nat_lt a b ≡ false
-above a b l = grind (arith, nat_tests)
-
-pub below : (a b : ℕ) → a < b → not (nat_lt a b) ≡ false
-below a b l = (let t : nat_lt a b ≡ true = grind (arith, nat_tests) in ap not t)
-
-pub both : (a b : Bool) → a ≡ false → b ≡ false → (a || b) ≡ false
-both a b e f = (λ i. e i || f i)
-
-pub passed : {A B : Type 0} (b : Bool) (f : B) (r : Result A B) → b ≡ false → (if b then Err f else r) ≡ r
-passed b f r e = ap (λ c. if c then Err f else r) e
-
-pub held : {A B : Type 0} (b : Bool) (f : B) (r : Result A B) → b ≡ true → (if b then r else Err f) ≡ r
-held b f r e = ap (λ c. if c then r else Err f) e
-
-pub failed : {A B : Type 0} (b : Bool) (f : B) (r : Result A B) → b ≡ false → (if b then r else Err f) ≡ Err f
-failed b f r e = ap (λ c. if c then r else Err f) e
-
-pub same_equal : (a b : ℕ) → a ≡ b → (a == b) ≡ true
-same_equal a b e = grind (arith, nat_tests)
-
 module _ (p : Parameters) (packets : ℕ) (own peer : List FirstCopy) where
   -- and where it goes on, the cursor is next
   pub gone : (u v : Cursor) (x : Entry) → Goes p packets own peer u x v → next_cursor p packets own peer u x ≡ Ok v
   unfolding next_cursor
   gone u v x (takes slot number position c after low high at g front up t) =
-      passed (nat_lt slot u.level || nat_lt packets slot) slot_order _ (both _ _ (above slot u.level low) (above packets slot high))
-      ∙ (ap (take_found p peer u slot) at ∙ (ap (take_at p u slot position) g
-      ∙ (passed (not (nat_lt c.place slot)) not_yet_crossed _ (below c.place slot front) ∙ (passed (nat_lt position u.taken) not_rising _ (above position u.taken up)
-      ∙ (ap (λ o. unless o (record { level = slot; made = u.made; taken = suc position; state = after_take p u.state c.pdu.safety })) t.0
-      ∙ ap (λ (z : EndState). Ok (record { level = slot; made = u.made; taken = suc position; state = z })) (sym t.1))))))
+      let first : (nat_lt slot u.level || nat_lt packets slot) ≡ false = grind (arith, nat_tests, low, high) in
+      let crossed : nat_lt c.place slot ≡ true = grind (arith, nat_tests, front) in
+      let rising : nat_lt position u.taken ≡ false = grind (arith, nat_tests, up) in
+      rw (first, at, g, crossed, rising, t.0) (ap (λ (z : EndState). Ok (record { level = slot; made = u.made; taken = suc position; state = z })) (sym t.1))
   gone u v x (makes place clock why c after low at g same m) =
-      passed (nat_lt place u.level) slot_order _ (above place u.level low)
-      ∙ (ap (make_found p own u place clock why) at ∙ (held (u.made == u.made) make_missing _ (same_equal u.made u.made refl)
-      ∙ (ap (make_of p u place clock why) g
-      ∙ (ap (λ o. unless o (record { level = suc place; made = suc u.made; taken = u.taken; state = after_make u.state c.pdu.safety clock why })) (no_fault p u.state c.pdu.safety clock why m.0)
-      ∙ ap (λ (z : EndState). Ok (record { level = suc place; made = suc u.made; taken = u.taken; state = z })) (sym m.1)))))
+      let first : nat_lt place u.level ≡ false = grind (arith, nat_tests, low) in
+      let next : (u.made == u.made) ≡ true = grind (arith, nat_tests) in
+      rw (first, at, next, g, no_fault p u.state c.pdu.safety clock why m.0)
+      (ap (λ (z : EndState). Ok (record { level = suc place; made = suc u.made; taken = u.taken; state = z })) (sym m.1))
 
 module _ (p : Parameters) (packets : ℕ) (own peer : List FirstCopy) (mine : IsOrdered own) (theirs : IsOrdered peer) (few : length peer < 4294967296) where
   -- where an entry leads, the checker goes
@@ -173,10 +129,8 @@ module _ (p : Parameters) (packets : ℕ) (own peer : List FirstCopy) (mine : Is
 
   follows_from : (side : Side) (entry : ℕ) (u v : Cursor) (es : List Entry) → Leads p packets own peer u es v → v.made ≡ length own → follow_from p side packets own peer entry u es ≡ Ok v.state
   unfolding follow_from
-  follows_from side entry u v [] f e =
-      held (u.made == length own) (fault_of_end make_missing entry side) _ (same_equal u.made (length own) (ap (λ (z : Cursor). z.made) f ∙ e)) ∙ ap (λ (z : Cursor). Ok z.state) f
-  follows_from side entry u v (x ∷ xs) f e =
-      ap (then_follow (λ w. follow_from p side packets own peer (suc entry) w xs) entry side) (goes_on u f.0 x f.1) ∙ follows_from side (suc entry) f.0 v xs f.2 e
+  follows_from side entry u v [] f e = rw f (let t : (v.made == length own) ≡ true = grind (arith, nat_tests, e) in rw t refl)
+  follows_from side entry u v (x ∷ xs) f e = rw (goes_on u f.0 x f.1) (follows_from side (suc entry) f.0 v xs f.2 e)
 
   -- a script that fits is followed to its end
   pub fits_follow : (side : Side) (es : List Entry) (e : EndState) → Follows p side packets own peer es e → follow p side packets own peer es ≡ Ok e
@@ -189,56 +143,33 @@ module _ (p : Parameters) (packets : ℕ) (own peer : List FirstCopy) (side : Si
   step_by : (entry : ℕ) (u : Cursor) (es : List Entry) (i : ℕ) (x : Entry) (r : Result Cursor ℕ) → slice_get es i ≡ Some x → next_cursor p packets own peer u x ≡ r
       → follow_from p side packets own peer entry u (drop i es) ≡ then_follow (λ w. follow_from p side packets own peer (suc entry) w (drop (suc i) es)) entry side r
   unfolding follow_from
-  step_by entry u es i x r g n =
-      ap (follow_from p side packets own peer entry u) (drop_one_more i es x g) ∙ ap (then_follow (λ w. follow_from p side packets own peer (suc entry) w (drop (suc i) es)) entry side) n
-
-  -- after the last
-  step_end : (entry : ℕ) (u : Cursor) (es : List Entry) (i : ℕ) → length es ≤ i
-      → follow_from p side packets own peer entry u (drop i es) ≡ (if u.made == length own then Ok u.state else Err (fault_of_end make_missing entry side))
-  unfolding follow_from
-  step_end entry u es i l = ap (follow_from p side packets own peer entry u) (drop_all i es l)
+  step_by entry u es i x r g n = rw (drop_one_more i es x g) (rw n refl)
 
   -- the same for a follower
   pub loop_on : (f f' : Followed) (es : List Entry) (i : ℕ) (d : Entry) → i < length es → f.params ≡ p → f.side ≡ side
       → next_cursor f.params packets own peer f.cursor (get_or es i d) ≡ Ok f'.cursor → f' ≡ moved_to f f'.cursor
       → follow_from p side packets own peer f'.entry f'.cursor (drop (i + 1) es) ≡ follow_from p side packets own peer f.entry f.cursor (drop i es)
   loop_on f f' es i d l same_p same_s n m =
-      let n' : next_cursor p packets own peer f.cursor (get_or es i d) ≡ Ok f'.cursor = ap (λ q. next_cursor q packets own peer f.cursor (get_or es i d)) (sym same_p) ∙ n in
       let number : f'.entry ≡ suc f.entry = ap (λ (g : Followed). g.entry) m in
-      let one : i + 1 ≡ suc i = omega arith in
-      sym (step_by f.entry f.cursor es i (get_or es i d) (Ok f'.cursor) (slice_get-get_or es i d l) n'
-      ∙ (ap (λ k. follow_from p side packets own peer k f'.cursor (drop (suc i) es)) (sym number)
-      ∙ ap (λ k. follow_from p side packets own peer f'.entry f'.cursor (drop k es)) (sym one)))
-
-  pub loop_off : (f : Followed) (es : List Entry) (i : ℕ) (d : Entry) (fault : Fault) → i < length es → f.params ≡ p → f.side ≡ side
-      → IsRefused f (next_cursor f.params packets own peer f.cursor (get_or es i d)) fault
-      → (follow_from p side packets own peer f.entry f.cursor (drop i es) ≡ Err fault) ⊎ (fault ≡ no_memory)
-  loop_off f es i d fault l same_p same_s why = ⊎_elim
-      (λ (w : (number : ℕ) × (next_cursor f.params packets own peer f.cursor (get_or es i d) ≡ Err number) × (fault ≡ fault_of_end number f.entry f.side)).
-      let n : next_cursor p packets own peer f.cursor (get_or es i d) ≡ Err w.0 = ap (λ q. next_cursor q packets own peer f.cursor (get_or es i d)) (sym same_p) ∙ w.1 in
-      inl (step_by f.entry f.cursor es i (get_or es i d) (Err w.0) (slice_get-get_or es i d l) n ∙ ap Err (ap (fault_of_end w.0 f.entry) (sym same_s) ∙ sym w.2)))
-      (λ (w : fault ≡ no_memory). inr w)
-      why
+      rw (number, add-one) (sym (step_by f.entry f.cursor es i (get_or es i d) (Ok f'.cursor) (slice_get-get_or es i d l) (rw same_p at n)))
 
   -- an entry that is refused is the answer of the whole script
-  pub loop_answer : (es : List Entry) (fault : Fault) → {here : Result EndState Fault} → here ≡ follow p side packets own peer es → (here ≡ Err fault) ⊎ (fault ≡ no_memory)
+  pub loop_off : (f : Followed) (es : List Entry) (i : ℕ) (d : Entry) (fault : Fault) → i < length es → f.params ≡ p → f.side ≡ side
+      → follow_from p side packets own peer f.entry f.cursor (drop i es) ≡ follow p side packets own peer es
+      → IsRefused f (next_cursor f.params packets own peer f.cursor (get_or es i d)) fault
       → (follow p side packets own peer es ≡ Err fault) ⊎ (fault ≡ no_memory)
-  loop_answer es fault {here = here} rest why = ⊎_elim (λ (w : here ≡ Err fault). inl (sym rest ∙ w)) (λ (w : fault ≡ no_memory). inr w) why
+  loop_off f es i d fault l same_p same_s rest (inl w) =
+      inl (sym rest ∙ (step_by f.entry f.cursor es i (get_or es i d) (Err w.0) (slice_get-get_or es i d l) (rw same_p at w.1) ∙ rw (w.2, same_s) refl))
+  loop_off f es i d fault l same_p same_s rest (inr w) = inr w
 
-  -- what the end of a script answers
-  abbrev pub Answers : Result JudgedEnd Fault → List Entry → Type 0
-  Answers result es = MatchResult result
-      (λ (e : JudgedEnd). (e.params ≡ p) × (follow p side packets own peer es ≡ Ok e.state))
-      (λ (f : Fault). (follow p side packets own peer es ≡ Err f) ⊎ (f ≡ no_memory))
-
+  -- and after the last, what the end of a script answers
   pub loop_end : (f : Followed) (es : List Entry) (i : ℕ) (result : Result JudgedEnd Fault) → length es ≤ i → f.params ≡ p → f.side ≡ side
       → follow_from p side packets own peer f.entry f.cursor (drop i es) ≡ follow p side packets own peer es
       → MatchResult result (λ (e : JudgedEnd). (e ≡ record { params = f.params; state = f.cursor.state }) × (f.cursor.made ≡ length own))
       (λ (fault : Fault). (fault ≡ fault_of_end make_missing f.entry f.side) × ((f.cursor.made == length own) ≡ false))
-      → Answers result es
-  loop_end f es i (Ok e) l same_p same_s rest h = (
-    ap (λ (x : JudgedEnd). x.params) h.0 ∙ same_p,
-    sym rest ∙ (step_end f.entry f.cursor es i l ∙ (held (f.cursor.made == length own) _ _ (same_equal f.cursor.made (length own) h.1) ∙ ap (λ (x : JudgedEnd). Ok x.state) (sym h.0))),
-  )
-  loop_end f es i (Err fault) l same_p same_s rest h =
-      inl (sym rest ∙ (step_end f.entry f.cursor es i l ∙ (failed (f.cursor.made == length own) _ _ h.1 ∙ ap Err (ap (fault_of_end make_missing f.entry) (sym same_s) ∙ sym h.0))))
+      → MatchResult result (λ (e : JudgedEnd). (e.params ≡ p) × (follow p side packets own peer es ≡ Ok e.state)) (λ (f : Fault). (follow p side packets own peer es ≡ Err f) ⊎ (f ≡ no_memory))
+  unfolding follow_from
+  loop_end f es i (Ok e) l same_p same_s rest h =
+      let all : (f.cursor.made == length own) ≡ true = (let t = h.1 in grind (arith, nat_tests)) in
+      (ap (λ (x : JudgedEnd). x.params) h.0 ∙ same_p, sym rest ∙ rw (drop_all i es l) (rw (all, h.0) refl))
+  loop_end f es i (Err fault) l same_p same_s rest h = inl (sym rest ∙ rw (drop_all i es l) (rw (h.1, h.0, same_s) refl))

@@ -1,18 +1,11 @@
 -- Scripts are followed in one way, and first copies are the packets with a new number.
 use Rattle.std.proofs.Common.{◌≡◌, ℕ, suc, ◌<◌, List, [], ◌∷◌, ◌++◌, length, Some, slice_get, refl, ap, sym, ◌∙◌, arith, subst}
 use Rattle.std.proofs.lemmas.List.{append-nil}
-use Rattle.rasta_pcap.specs.declared.fault.Side.{Side}
-use Rattle.rasta_end.specs.declared.why.Why.{Why}
-use Rattle.rasta_pdu.specs.Params.{Parameters}
-use Rattle.rasta_pdu.specs.Pdu.{RedundancyPdu}
+use Rattle.rasta_check.proofs.Words.{Side, Packet, Parameters, RedundancyPdu, Entry, Take, Make, EndState, FirstCopy, Cursor, Advances, takes_next, makes_next, Leads}
 use Rattle.rasta_end.specs.MakeRule.{after_make}
 use Rattle.rasta_end.specs.TakeRule.{after_take}
-use Rattle.rasta_check.specs.Capture.Crossing.{Spells, FirstCopy, IsCarried, IsKnown}
-use Rattle.rasta_udp.specs.Frame.{Packet}
-use Rattle.rasta_cert.specs.declared.entry.Entry.{Entry}
-use Rattle.rasta_cert.specs.declared.entry.Entry.TheVariants.{Take, Make}
+use Rattle.rasta_check.specs.Capture.Crossing.{Spells, IsCarried, IsKnown}
 use Rattle.rasta_check.proofs.Capture.FaultlessLists.{IsSent, ordered}
-use Rattle.rasta_check.specs.Script.Following.{Cursor, Advances, takes_next, makes_next, Leads}
 use Rattle.rasta_check.proofs.Capture.Spellings.{read_once}
 use Rattle.rasta_check.proofs.Capture.Positions.{number_once}
 
@@ -42,31 +35,28 @@ new_is_first p xs s own h k a d g e spelled new =
     (w.0, w.1, w.2, (let at = w.3 in omega (arith, last)))
 
 module _ (p : Parameters) (n : ℕ) (packets : List Packet) (r : Side) (own peer : List FirstCopy) (sent : IsSent p packets r peer) (few : length peer < 4294967296) where
-  take_once : (u v w : Cursor) (slot number : ℕ) → Advances p n own peer u (Take slot number) v → Advances p n own peer u (Take slot number) w → v ≡ w
-  take_once u v w slot number (takes_next slot' i c e a b g d f t) y = by c refl w y
-    where
-      by : (c' : FirstCopy) → c' ≡ c → (w : Cursor) → Advances p n own peer u (Take slot' c'.pdu.number) w → record { level = slot'; made = u.made; taken = suc i; state = e } ≡ w
-      by c' q w y = at (c'.pdu.number) (ap (λ (x : FirstCopy). x.pdu.number) q) w y
-        where
-          at : (m : ℕ) → m ≡ c.pdu.number → (w : Cursor) → Advances p n own peer u (Take slot' m) w → record { level = slot'; made = u.made; taken = suc i; state = e } ≡ w
-          at m q w (takes_next slot'' j d' e' a' b' g' d'' f' t') =
-              let same : i ≡ j = number_once peer (ordered sent) few i j c d' g g' (sym q) in
-              let cd : c ≡ d' = (let z : slice_get peer i ≡ Some d' = subst (λ k. slice_get peer k ≡ Some d') (sym same) g' in cc) in
-              let ee : e ≡ e' = t.1 ∙ (ap (λ (x : FirstCopy). after_take p u.state x.pdu.safety) cd ∙ sym t'.1) in
-              (λ k. record { level = slot'; made = u.made; taken = suc (same k); state = ee k })
+  -- what an entry says of the cursor behind it
+  abbrev Led : Cursor → Entry → Cursor → Type 0
+  Led u (Take slot number) v =
+      (i : ℕ) × (c : FirstCopy) × (slice_get peer i ≡ Some c) × (c.pdu.number ≡ number) × (v ≡ record { level = slot; made = u.made; taken = suc i; state = after_take p u.state c.pdu.safety })
+  Led u (Make place clock why) v =
+      (c : FirstCopy) × (slice_get own u.made ≡ Some c) × (v ≡ record { level = suc place; made = suc u.made; taken = u.taken; state = after_make u.state c.pdu.safety clock why })
 
-  make_once : (u v w : Cursor) (place clock : ℕ) (why : Why) → Advances p n own peer u (Make place clock why) v → Advances p n own peer u (Make place clock why) w → v ≡ w
-  make_once u v w place clock why (makes_next c clock' why' e a g m) y = at c.place refl w y
-    where
-      at : (q : ℕ) → q ≡ c.place → (w : Cursor) → Advances p n own peer u (Make q clock' why') w → record { level = suc c.place; made = suc u.made; taken = u.taken; state = e } ≡ w
-      at q f w (makes_next d clock'' why'' e' a' g' m') =
-          let cd : c ≡ d = cc in
-          let ee : e ≡ e' = m.1 ∙ (ap (λ (x : FirstCopy). after_make u.state x.pdu.safety clock' why') cd ∙ sym m'.1) in
-          (λ k. record { level = suc (cd k).place; made = suc u.made; taken = u.taken; state = ee k })
+  led : (u v : Cursor) (x : Entry) → Advances p n own peer u x v → Led u x v
+  led u v x (takes_next slot i c e a b g d f t) = (i, c, g, refl, ap (λ (z : EndState). record { level = slot; made = u.made; taken = suc i; state = z }) t.1)
+  led u v x (makes_next c clock why e a g m) = (c, g, ap (λ (z : EndState). record { level = suc c.place; made = suc u.made; taken = u.taken; state = z }) m.1)
+
+  same_led : (u v w : Cursor) (x : Entry) → Led u x v → Led u x w → v ≡ w
+  same_led u v w (Take slot number) a b =
+      let i : a.0 ≡ b.0 = number_once peer (ordered sent) few a.0 b.0 a.1 b.1 a.2 b.2 (a.3 ∙ sym b.3) in
+      let c : a.1 ≡ b.1 = (let z = ap (slice_get peer) i in let x = a.2 in let y = b.2 in cc) in
+      cc (a.4, b.4)
+  same_led u v w (Make place clock why) a b =
+      let c : a.0 ≡ b.0 = (let x = a.1 in let y = b.1 in cc) in
+      cc (a.2, b.2)
 
   pub advances_once : (u v w : Cursor) (x : Entry) → Advances p n own peer u x v → Advances p n own peer u x w → v ≡ w
-  advances_once u v w (Take slot number) a b = take_once u v w slot number a b
-  advances_once u v w (Make place clock why) a b = make_once u v w place clock why a b
+  advances_once u v w x a b = same_led u v w x (led u v x a) (led u w x b)
 
   -- what leads to v, and the rest of a longer script
   leads_rest : (u v w : Cursor) (es rest : List Entry) → Leads p n own peer u es v → Leads p n own peer u (es ++ rest) w → Leads p n own peer v rest w

@@ -1,42 +1,34 @@
 -- Along a run: the first copies so far, and a script for each end.
-use Rattle.std.proofs.Common.{◌≡◌, ℕ, suc, ◌+◌, ◌-◌, ◌<◌, ◌≤◌, Bool, true, false, List, [], ◌∷◌, ◌++◌, length, Option, Some, None, slice_get, refl, ap, sym, ◌∙◌, arith, ◌⊎◌, inl, inr, ⊎_elim, subst, length-append}
+use Rattle.std.proofs.Common.{◌≡◌, ℕ, suc, ◌+◌, ◌-◌, ◌<◌, ◌≤◌, Bool, true, false, List, [], ◌∷◌, ◌++◌, length, Option, Some, None, slice_get, refl, ap, sym, ◌∙◌, arith, ⊎_elim, subst, length-append}
 use Rattle.std.specs.Prelude.{if◌then◌else◌}
 use Rattle.std.proofs.lemmas.Bool.Decides.{nat_tests}
 use Rattle.std.proofs.lemmas.List.{append-nil, append_assoc, length_push, length-map, map-append}
 use Rattle.std.proofs.lemmas.Option.{slice_get_within}
-use Rattle.rasta_pcap.specs.declared.fault.Side.{Side}
-use Rattle.rasta_pcap.specs.declared.fault.Side.TheVariants.{Client, Server}
-use Rattle.rasta_end.specs.declared.why.Why.{Why}
-use Rattle.rasta_end.specs.declared.owed.Owed.{Owed}
+use Rattle.rasta_check.proofs.Words.{Side, Client, Server, Packet, Parameters, AreParameters, SafetyPdu, RedundancyPdu, Entry, Take, Make, Owed, Why, Made, EndState, wrapped}
+use Rattle.rasta_check.proofs.Words.{Makes, Takes, start_of, FirstCopy, Station, World, Reaches, other_side, station_of, Cursor, Advances, takes_next, makes_next, Leads, at_start, Follows}
 use Rattle.rasta_pcap.specs.Fault.{reply_owed, past_deadline}
-use Rattle.rasta_pdu.specs.Params.{Parameters, AreParameters}
-use Rattle.rasta_pdu.specs.Pdu.{SafetyPdu, RedundancyPdu}
-use Rattle.rasta_end.specs.State.{Made, EndState, wrapped, is_closed, is_owing}
-use Rattle.rasta_end.specs.MakeRule.{Makes, is_past, first_that_holds}
-use Rattle.rasta_end.specs.TakeRule.{Takes, after_take, take_fault}
-use Rattle.rasta_end.specs.Starts.{start_of}
+use Rattle.rasta_end.specs.State.{is_closed, is_owing}
+use Rattle.rasta_end.specs.MakeRule.{is_past, first_that_holds}
+use Rattle.rasta_end.specs.TakeRule.{take_fault}
 use Rattle.rasta_check.proofs.Model.Steps.{base, start_base, start_made, start_side, made_more}
-use Rattle.rasta_check.specs.Capture.Crossing.{Spells, FirstCopy}
-use Rattle.rasta_udp.specs.Frame.{Packet}
-use Rattle.rasta_check.specs.Model.World.{Station, World, Move, Moves, makes, repeats, arrives, takes, waits, Step, side_moves, station_of, other_side, Reaches, begins, goes_on, first_station}
-use Rattle.rasta_cert.specs.declared.entry.Entry.{Entry}
-use Rattle.rasta_cert.specs.declared.entry.Entry.TheVariants.{Take, Make}
+use Rattle.rasta_check.specs.Capture.Crossing.{Spells}
+use Rattle.rasta_check.specs.Model.World.{Move, Moves, makes, repeats, arrives, takes, waits, Step, side_moves, begins, goes_on, first_station}
 use Rattle.rasta_cert.specs.Certificate.{most_entries}
 use Rattle.rasta_check.proofs.Capture.FaultlessLists.{IsSent}
-use Rattle.rasta_check.specs.Script.Following.{Cursor, Advances, takes_next, makes_next, Leads, Follows, at_start}
 use Rattle.rasta_check.specs.Model.Taken.{pdus_of, pdus_made}
 use Rattle.rasta_check.proofs.Lists.{get_push_cases, get_front, get_push, get_past, map_at, get_mapped}
 use Rattle.rasta_check.proofs.Model.TakeRows.{take_leaves}
 use Rattle.rasta_check.proofs.Capture.FirstCopies.{Counts_from, sent_other, sent_copy, sent_first, sent_none, sent_once}
 
 -- scripts in a wider setting, and one entry more
-advances_wider : (p : Parameters) (n n' : ℕ) (own o peer q : List FirstCopy) (u v : Cursor) (x : Entry) → n ≤ n' → Advances p n own peer u x v → Advances p n' (own ++ o) (peer ++ q) u x v
-advances_wider p n n' own o peer q u v x l (takes_next slot position c e' a b g d f t) = takes_next slot position c e' a (omega arith) (get_front peer q position c g) d f t
-advances_wider p n n' own o peer q u v x l (makes_next c clock why e' a g m) = makes_next c clock why e' a (get_front own o _ c g) m
-
-leads_wider : (p : Parameters) (n n' : ℕ) (own o peer q : List FirstCopy) (u v : Cursor) (es : List Entry) → n ≤ n' → Leads p n own peer u es v → Leads p n' (own ++ o) (peer ++ q) u es v
-leads_wider p n n' own o peer q u v [] l f = f
-leads_wider p n n' own o peer q u v (x ∷ es) l f = (f.0, advances_wider p n n' own o peer q u f.0 x l f.1, leads_wider p n n' own o peer q f.0 v es l f.2)
+leads_wider : (p : Parameters) (n n' : ℕ) (own own' peer peer' : List FirstCopy) (u v : Cursor) (es : List Entry) → n ≤ n'
+    → ((i : ℕ) (c : FirstCopy) → slice_get own i ≡ Some c → slice_get own' i ≡ Some c) → ((i : ℕ) (c : FirstCopy) → slice_get peer i ≡ Some c → slice_get peer' i ≡ Some c)
+    → Leads p n own peer u es v → Leads p n' own' peer' u es v
+leads_wider p n n' own own' peer peer' u v [] l k h f = f
+leads_wider p n n' own own' peer peer' u v (x ∷ es) l k h (m, takes_next slot position c e a b g d f t, r) =
+    (_, takes_next slot position c e a (omega arith) (h position c g) d f t, leads_wider p n n' own own' peer peer' _ v es l k h r)
+leads_wider p n n' own own' peer peer' u v (x ∷ es) l k h (m, makes_next c clock why e a g mk, r) =
+    (_, makes_next c clock why e a (k _ c g) mk, leads_wider p n n' own own' peer peer' _ v es l k h r)
 
 pub leads_more : (p : Parameters) (n : ℕ) (own peer : List FirstCopy) (u v w : Cursor) (es : List Entry) (x : Entry) → Leads p n own peer u es v → Advances p n own peer v x w → Leads p n own peer u (es ++ x ∷ []) w
 leads_more p n own peer u v w [] x f a = (w, subst (λ (z : Cursor). Advances p n own peer z x w) (sym f) a, refl)
@@ -48,32 +40,21 @@ ClocksWithin n [] = Unit {0}
 ClocksWithin n (Take slot number ∷ es) = ClocksWithin n es
 ClocksWithin n (Make place clock why ∷ es) = (clock ≤ n) × ClocksWithin n es
 
-clocks_more : (m n : ℕ) (es : List Entry) → m ≤ n → ClocksWithin m es → ClocksWithin n es
-clocks_more m n [] l h = tt
-clocks_more m n (Take slot number ∷ es) l h = clocks_more m n es l h
-clocks_more m n (Make place clock why ∷ es) l h = ((let z = h.0 in omega arith), clocks_more m n es l h.1)
-
-clocks_on : (n : ℕ) (es more : List Entry) → ClocksWithin n es → ClocksWithin n more → ClocksWithin n (es ++ more)
-clocks_on n [] more h g = g
-clocks_on n (Take slot number ∷ es) more h g = clocks_on n es more h g
-clocks_on n (Make place clock why ∷ es) more h g = (h.0, clocks_on n es more h.1 g)
+clocks_on : (m n : ℕ) (es more : List Entry) → m ≤ n → ClocksWithin m es → ClocksWithin n more → ClocksWithin n (es ++ more)
+clocks_on m n [] more l h g = g
+clocks_on m n (Take slot number ∷ es) more l h g = clocks_on m n es more l h g
+clocks_on m n (Make place clock why ∷ es) more l h g = ((let z = h.0 in omega arith), clocks_on m n es more l h.1 g)
 
 -- each entry raises one of the two marks
 pub leads_count : (p : Parameters) (n : ℕ) (own peer : List FirstCopy) (u v : Cursor) (es : List Entry) → Leads p n own peer u es v → length es + u.made + u.taken ≤ v.made + v.taken
 leads_count p n own peer u v [] f = (let a = ap (λ (z : Cursor). z.made) f in let b = ap (λ (z : Cursor). z.taken) f in omega arith)
-leads_count p n own peer u v (x ∷ es) f = by x f.0 f.1 (leads_count p n own peer f.0 v es f.2)
-  where
-    by : (x : Entry) (m : Cursor) → Advances p n own peer u x m → length es + m.made + m.taken ≤ v.made + v.taken → suc (length es) + u.made + u.taken ≤ v.made + v.taken
-    by x m (takes_next slot position c e' a b g d f t) l = omega arith
-    by x m (makes_next c clock why e' a g k) l = omega arith
+leads_count p n own peer u v (x ∷ es) (m, takes_next slot position c e a b g d f t, r) = (let z = leads_count p n own peer _ v es r in omega arith)
+leads_count p n own peer u v (x ∷ es) (m, makes_next c clock why e a g k, r) = (let z = leads_count p n own peer _ v es r in omega arith)
 
 pub taken_within : (p : Parameters) (n : ℕ) (own peer : List FirstCopy) (u v : Cursor) (es : List Entry) → Leads p n own peer u es v → u.taken ≤ length peer → v.taken ≤ length peer
 taken_within p n own peer u v [] f l = (let b = ap (λ (z : Cursor). z.taken) f in omega arith)
-taken_within p n own peer u v (x ∷ es) f l = taken_within p n own peer f.0 v es f.2 (by x f.0 f.1)
-  where
-    by : (x : Entry) (m : Cursor) → Advances p n own peer u x m → m.taken ≤ length peer
-    by x m (takes_next slot position c e' a b g d f t) = (let z = slice_get_within peer position c g in omega arith)
-    by x m (makes_next c clock why e' a g k) = l
+taken_within p n own peer u v (x ∷ es) (m, takes_next slot position c e a b g d f t, r) l = taken_within p n own peer _ v es r (let z = slice_get_within peer position c g in omega arith)
+taken_within p n own peer u v (x ∷ es) (m, makes_next c clock why e a g k, r) l = taken_within p n own peer _ v es r l
 
 -- the deadline test at an earlier moment
 past_before : (p : Parameters) (d : Option ℕ) (m n : ℕ) → m ≤ n → is_past p d n ≡ false → is_past p d m ≡ false
@@ -121,33 +102,27 @@ pub record Both (p : Parameters) (s r : Side) (xs : List Packet) (a b : Station)
   pub their_told : Told p r (length xs) peer own b.state b.clock b.taken
 
 pub sends_count : (p : Parameters) (s : Side) (xs : List Packet) (own : List FirstCopy) (e : EndState) (f : ℕ) → Sends p s xs own e f → length e.made ≡ base p + length own
-sends_count p s xs own e f h =
-    let a = length-map e.made (λ (x : Made). x.pdu) in
-    let b = ap length h.same in
-    let c = length-append (pdus_made (start_of p s).made) (pdus_of own) in
-    let d = length-map (start_of p s).made (λ (x : Made). x.pdu) in
-    let g = start_made p.quiet s in
-    let k = length-map own (λ (c : FirstCopy). c.pdu.safety) in
-    omega (arith, a, b, c, d, g, k)
+sends_count p s xs own e f h = (let a = simp (length-append, length-map) at (ap length h.same) in let g = start_made p.quiet s in omega arith)
 
 -- the copy at a position of the peer
 pub copy_at : (p : Parameters) (s : Side) (xs : List Packet) (own : List FirstCopy) (e : EndState) (f i : ℕ) (m : Made) → Sends p s xs own e f → slice_get e.made (base p + i) ≡ Some m → (c : FirstCopy) × (slice_get own i ≡ Some c) × (c.pdu.safety ≡ m.pdu)
 copy_at p s xs own e f i m h g =
-    let a = map_at (λ (x : Made). x.pdu) e.made (base p + i) m g in
     let l : length (pdus_made (start_of p s).made) ≡ base p = length-map (start_of p s).made (λ (x : Made). x.pdu) ∙ start_made p.quiet s in
-    let b : slice_get (pdus_made (start_of p s).made ++ pdus_of own) (length (pdus_made (start_of p s).made) + i) ≡ Some m.pdu = subst (λ n. slice_get (pdus_made (start_of p s).made ++ pdus_of own) (n + i) ≡ Some m.pdu) (sym l) (subst (λ (ps : List SafetyPdu). slice_get ps (base p + i) ≡ Some m.pdu) h.same a) in
-    get_mapped (λ (c : FirstCopy). c.pdu.safety) own i m.pdu (sym (get_past (pdus_made (start_of p s).made) (pdus_of own) i) ∙ b)
+    let a : slice_get (pdus_made (start_of p s).made ++ pdus_of own) (base p + i) ≡ Some m.pdu =
+    sym (ap (λ (ps : List SafetyPdu). slice_get ps (base p + i)) h.same) ∙ map_at (λ (x : Made). x.pdu) e.made (base p + i) m g in
+    get_mapped (λ (c : FirstCopy). c.pdu.safety) own i m.pdu (sym (get_past (pdus_made (start_of p s).made) (pdus_of own) i) ∙ rw l a)
 
 -- a packet of the other side leaves what an end sends
 sends_other : (p : Parameters) (s : Side) (xs : List Packet) (k : Packet) (own : List FirstCopy) (e : EndState) (f : ℕ) → Sends p s xs own e f → (k.side ≡ s → ⊥) → Sends p s (xs ++ k ∷ []) own e f
 sends_other p s xs k own e f h apart = record { sent = sent_other p xs k s own h.sent apart; same = h.same; numbers = h.numbers; side = h.side }
 
-told_wider : (p : Parameters) (s : Side) (n n' : ℕ) (own peer q : List FirstCopy) (e : EndState) (clock taken : ℕ) → n ≤ n' → Told p s n own peer e clock taken → Told p s n' own (peer ++ q) e clock taken
-told_wider p s n n' own peer q e clock taken l h =
+told_wider : (p : Parameters) (s : Side) (n n' : ℕ) (own peer peer' : List FirstCopy) (e : EndState) (clock taken : ℕ) → n ≤ n' → ((i : ℕ) (c : FirstCopy) → slice_get peer i ≡ Some c → slice_get peer' i ≡ Some c)
+    → Told p s n own peer e clock taken → Told p s n' own peer' e clock taken
+told_wider p s n n' own peer peer' e clock taken l more h =
     record {
       es = h.es;
       at = h.at;
-      leads = subst (λ (os : List FirstCopy). Leads p n' os (peer ++ q) (at_start (start_of p s)) h.es h.at) (append-nil own) (leads_wider p n n' own [] peer q _ h.at h.es l h.leads);
+      leads = leads_wider p n n' own own peer peer' _ h.at h.es l (λ i c g. g) more h.leads;
       made = h.made;
       mark = h.mark;
       level = omega (arith, h.level);
@@ -156,57 +131,49 @@ told_wider p s n n' own peer q e clock taken l h =
       clocks = h.clocks;
     }
 
-told_longer : (p : Parameters) (s : Side) (n n' : ℕ) (own peer : List FirstCopy) (e : EndState) (clock taken : ℕ) → n ≤ n' → Told p s n own peer e clock taken → Told p s n' own peer e clock taken
-told_longer p s n n' own peer e clock taken l h =
-    subst (λ (qs : List FirstCopy). Told p s n' own qs e clock taken) (append-nil peer) (told_wider p s n n' own peer [] e clock taken l h)
-
 -- a make
 module _ (p : Parameters) (s : Side) (xs : List Packet) (own peer : List FirstCopy) (e e' : EndState) (first clock taken channel reserve : ℕ) (check bytes : List ℕ) (x : SafetyPdu) (why : Why)
     (mk : Makes p e x clock why e') (sp : Spells p e.side (record { number = wrapped (first + length e.made); reserve = reserve; safety = x; check_bytes = check }) bytes)
     (h : Sends p s xs own e first) (t : Told p s (length xs) own peer e clock taken) where
-  datagram : RedundancyPdu
+  abbrev datagram : RedundancyPdu
   datagram = record { number = wrapped (first + length e.made); reserve = reserve; safety = x; check_bytes = check }
 
-  packet : Packet
+  abbrev packet : Packet
   packet = record { channel = channel; side = e.side; payload = bytes }
 
-  copy : FirstCopy
+  abbrev copy : FirstCopy
   copy = record { place = length xs; pdu = datagram }
 
   made_sends : Sends p s (xs ++ packet ∷ []) (own ++ copy ∷ []) e' first
-  unfolding datagram packet copy
   made_sends =
       let r = sent_first p xs packet s own datagram (first + base p) h.sent h.numbers h.side (subst (λ (z : Side). Spells p z datagram bytes) h.side sp) (ap (λ n. wrapped n) (let z = sends_count p s xs own e first h in omega arith)) in
       let made = made_more p e x clock why e' mk in
-      let n : Made = made.new in
-      let now : e'.made ≡ e.made ++ n ∷ [] = made.made in
       record {
         sent = r.0;
-        same = ap pdus_made now ∙ (map-append (λ (x : Made). x.pdu) e.made (n ∷ []) ∙ (ap (λ y. pdus_made e.made ++ y ∷ []) made.pdu ∙ (ap (λ ps. ps ++ x ∷ []) h.same ∙ (append_assoc (pdus_made (start_of p s).made) (pdus_of own) (x ∷ []) ∙ ap (λ ps. pdus_made (start_of p s).made ++ ps) (sym (map-append (λ (c : FirstCopy). c.pdu.safety) own (copy ∷ [])))))));
+        same = rw made.made (simp (map-append, made.pdu, h.same, append_assoc));
         numbers = r.1;
         side = made.side ∙ h.side;
       }
 
   made_told : Told p s (length (xs ++ packet ∷ [])) (own ++ copy ∷ []) peer e' clock taken
-  unfolding datagram packet copy
   made_told =
       let len = length_push xs packet in
       let made = made_more p e x clock why e' mk in
       let rises : e.clock ≤ clock = made.rises in
       let now : e'.clock ≡ clock = made.now in
-      let wide = leads_wider p (length xs) (length (xs ++ packet ∷ [])) own (copy ∷ []) peer [] _ t.at t.es (omega arith) t.leads in
+      let wide = leads_wider p (length xs) (length (xs ++ packet ∷ [])) own (own ++ copy ∷ []) peer peer _ t.at t.es (omega arith) (λ i c g. get_front own (copy ∷ []) i c g) (λ i c g. g) t.leads in
       let there : slice_get (own ++ copy ∷ []) t.at.made ≡ Some copy = subst (λ n. slice_get (own ++ copy ∷ []) n ≡ Some copy) (sym t.made) (get_push own copy) in
       let step : Advances p (length (xs ++ packet ∷ [])) (own ++ copy ∷ []) peer t.at (Make (length xs) clock why) (record { level = suc (length xs); made = suc t.at.made; taken = t.at.taken; state = e' }) = makes_next copy clock why e' t.level there (subst (λ (z : EndState). Makes p z x clock why e') (sym t.state) mk) in
       record {
         es = t.es ++ Make (length xs) clock why ∷ [];
         at = record { level = suc (length xs); made = suc t.at.made; taken = t.at.taken; state = e' };
-        leads = leads_more p (length (xs ++ packet ∷ [])) (own ++ copy ∷ []) peer _ t.at _ t.es _ (subst (λ (qs : List FirstCopy). Leads p (length (xs ++ packet ∷ [])) (own ++ copy ∷ []) qs (at_start (start_of p s)) t.es t.at) (append-nil peer) wide) step;
+        leads = leads_more p (length (xs ++ packet ∷ [])) (own ++ copy ∷ []) peer _ t.at _ t.es _ wide step;
         made = (let z = length_push own copy in let y = t.made in omega arith);
         mark = t.mark;
         level = omega arith;
         state = refl;
         clock = omega arith;
-        clocks = subst (λ n. ClocksWithin n (t.es ++ Make (length xs) clock why ∷ [])) (sym now) (clocks_on clock t.es (Make (length xs) clock why ∷ []) (clocks_more e.clock clock t.es rises t.clocks) (omega arith, tt));
+        clocks = subst (λ n. ClocksWithin n (t.es ++ Make (length xs) clock why ∷ [])) (sym now) (clocks_on e.clock clock t.es (Make (length xs) clock why ∷ []) rises t.clocks (omega arith, tt));
       }
 
 -- a take
@@ -218,32 +185,33 @@ took p s r xs own peer e e' f clock taken position their m tk above g hs t =
     let c = copy_at p r xs peer f their i m hs (subst (λ n. slice_get f.made n ≡ Some m) at g) in
     let fst = hs.sent.firsts i c.0 c.1 in
     let low = slice_get_within xs c.0.place fst.0 fst.1 in
-    let fault : take_fault p t.at.state t.at.state.clock ≡ None = subst (λ (z : EndState). take_fault p z z.clock ≡ None) (sym t.state) (earlier p e e.clock clock t.clock tk.0) in
-    let eff : e' ≡ after_take p t.at.state c.0.pdu.safety = tk.1 ∙ ap (λ (z : EndState). after_take p z m.pdu) (sym t.state) ∙ ap (λ (y : SafetyPdu). after_take p t.at.state y) (sym c.2) in
-    let step : Advances p (length xs) own peer t.at (Take (length xs) c.0.pdu.number) (record { level = length xs; made = t.at.made; taken = suc i; state = e' }) = takes_next (length xs) i c.0 e' t.level (omega arith) c.1 low (let z = t.mark in omega arith) (fault, eff) in
+    let next : Cursor = record { level = length xs; made = t.at.made; taken = suc i; state = e' } in
+    let step : Advances p (length xs) own peer t.at (Take (length xs) c.0.pdu.number) next
+    = takes_next (length xs) i c.0 e' t.level (omega arith) c.1 low (let z = t.mark in omega arith) (rw t.state (earlier p e e.clock clock t.clock tk.0), rw (t.state, c.2) tk.1) in
     let same : e'.clock ≡ e.clock = ap (λ (z : EndState). z.clock) tk.1 ∙ (take_leaves p e m.pdu).clock in
     record {
       es = t.es ++ Take (length xs) c.0.pdu.number ∷ [];
-      at = record { level = length xs; made = t.at.made; taken = suc i; state = e' };
+      at = next;
       leads = leads_more p (length xs) own peer _ t.at _ t.es _ t.leads step;
       made = t.made;
       mark = omega arith;
       level = omega arith;
       state = refl;
       clock = (let z = t.clock in omega arith);
-      clocks = subst (λ n. ClocksWithin n (t.es ++ Take (length xs) c.0.pdu.number ∷ [])) (sym same) (clocks_on e.clock t.es (Take (length xs) c.0.pdu.number ∷ []) t.clocks tt);
+      clocks = subst (λ n. ClocksWithin n (t.es ++ Take (length xs) c.0.pdu.number ∷ [])) (sym same) (clocks_on e.clock e.clock t.es (Take (length xs) c.0.pdu.number ∷ []) (omega arith) t.clocks tt);
     }
 
 both_kept : (p : Parameters) (s r : Side) (xs ys : List Packet) (a a' b : Station) → (s ≡ r → ⊥) → {move : Move} → Moves p b xs a move a' ys → Both p s r xs a b → Both p s r ys a' b
-unfolding packet
 both_kept p s r xs ys a a' b apart (makes x why e' ch res chk bs mk sp rec) g =
+    let c : FirstCopy = copy p s xs g.own g.peer a.state e' a.first_number a.clock a.taken ch res chk bs x why mk sp g.sends g.told in
+    let k : Packet = record { channel = ch; side = a.state.side; payload = bs } in
     record {
-      own = g.own ++ copy p s xs g.own g.peer a.state e' a.first_number a.clock a.taken ch res chk bs x why mk sp g.sends g.told ∷ [];
+      own = g.own ++ c ∷ [];
       peer = g.peer;
       sends = made_sends p s xs g.own g.peer a.state e' a.first_number a.clock a.taken ch res chk bs x why mk sp g.sends g.told;
-      their_sends = sends_other p r xs (record { channel = ch; side = a.state.side; payload = bs }) g.peer b.state b.first_number g.their_sends (λ z. apart (sym g.sends.side ∙ z));
+      their_sends = sends_other p r xs k g.peer b.state b.first_number g.their_sends (λ z. apart (sym g.sends.side ∙ z));
       told = made_told p s xs g.own g.peer a.state e' a.first_number a.clock a.taken ch res chk bs x why mk sp g.sends g.told;
-      their_told = told_wider p r (length xs) _ g.peer g.own (copy p s xs g.own g.peer a.state e' a.first_number a.clock a.taken ch res chk bs x why mk sp g.sends g.told ∷ []) b.state b.clock b.taken (let z = length_push xs (record { channel = ch; side = a.state.side; payload = bs }) in omega arith) g.their_told;
+      their_told = told_wider p r (length xs) _ g.peer g.own (g.own ++ c ∷ []) b.state b.clock b.taken (let z = length_push xs k in omega arith) (λ i d h. get_front g.own (c ∷ []) i d h) g.their_told;
     }
 both_kept p s r xs ys a a' b apart (repeats place ch old at sd rec) g =
     let k : Packet = record old { channel = ch } in
@@ -253,8 +221,8 @@ both_kept p s r xs ys a a' b apart (repeats place ch old at sd rec) g =
       peer = g.peer;
       sends = record { sent = sent_copy p xs k s g.own place old g.sends.sent at (sd ∙ g.sends.side) refl; same = g.sends.same; numbers = g.sends.numbers; side = g.sends.side };
       their_sends = sends_other p r xs k g.peer b.state b.first_number g.their_sends (λ z. apart (sym (sd ∙ g.sends.side) ∙ z));
-      told = told_longer p s (length xs) _ g.own g.peer a.state a.clock a.taken (omega arith) g.told;
-      their_told = told_longer p r (length xs) _ g.peer g.own b.state b.clock b.taken (omega arith) g.their_told;
+      told = told_wider p s (length xs) _ g.own g.peer g.peer a.state a.clock a.taken (omega arith) (λ i c h. h) g.told;
+      their_told = told_wider p r (length xs) _ g.peer g.own g.own b.state b.clock b.taken (omega arith) (λ i c h. h) g.their_told;
     }
 both_kept p s r xs ys a a' b apart (arrives q low l) g = record { own = g.own; peer = g.peer; sends = g.sends; their_sends = g.their_sends; told = g.told; their_told = g.their_told }
 both_kept p s r xs ys a a' b apart (takes q m e' c l at tk) g =
@@ -269,13 +237,14 @@ both_kept p s r xs ys a a' b apart (takes q m e' c l at tk) g =
       their_told = g.their_told;
     }
 both_kept p s r xs ys a a' b apart (waits c l) g =
+    let t = g.told in
     record {
       own = g.own;
       peer = g.peer;
       sends = g.sends;
       their_sends = g.their_sends;
+      told = record { es = t.es; at = t.at; leads = t.leads; made = t.made; mark = t.mark; level = t.level; state = t.state; clock = (let z = t.clock in omega arith); clocks = t.clocks };
       their_told = g.their_told;
-      told = (let t = g.told in record { es = t.es; at = t.at; leads = t.leads; made = t.made; mark = t.mark; level = t.level; state = t.state; clock = (let z = t.clock in omega arith); clocks = t.clocks });
     }
 
 abbrev pub turn : (p : Parameters) (s r : Side) (xs : List Packet) (a b : Station) → Both p s r xs a b → Both p r s xs b a
@@ -303,44 +272,42 @@ pub told_by : (p : Parameters) → AreParameters p → (ws : List World) (w : Wo
 told_by p valid ws w Client r = told p valid ws w r
 told_by p valid ws w Server r = turn p Client Server w.crossed w.client w.server (told p valid ws w r)
 
--- a list as it was, or with a copy that doesn't lie below this place
+-- of these two lists the one goes on as the other, with no new copy below this place
 abbrev Grows : ℕ → List FirstCopy → List FirstCopy → Type 0
-Grows n old new = (new ≡ old) ⊎ ((c : FirstCopy) × (new ≡ old ++ c ∷ []) × (n ≤ c.place))
+Grows n old new =
+    ((j : ℕ) (d : FirstCopy) → slice_get new j ≡ Some d → d.place < n → slice_get old j ≡ Some d) × ((j : ℕ) (d : FirstCopy) → slice_get old j ≡ Some d → slice_get new j ≡ Some d)
 
 -- so grows the list of the station that moves, and that of its peer stays
 grown : (p : Parameters) (s r : Side) (xs ys : List Packet) (a a' b : Station) (apart : s ≡ r → ⊥) {move : Move} (m : Moves p b xs a move a' ys) (g : Both p s r xs a b)
-    → Grows (length xs) g.own (both_kept p s r xs ys a a' b apart m g).own × ((both_kept p s r xs ys a a' b apart m g).peer ≡ g.peer)
-unfolding both_kept copy
-grown p s r xs ys a a' b apart (makes x why e' ch res chk bs mk sp rec) g = (inr (_, refl, omega arith), refl)
-grown p s r xs ys a a' b apart _ g = (inl refl, refl)
+    → Grows (length xs) g.own (both_kept p s r xs ys a a' b apart m g).own × Grows (length xs) g.peer (both_kept p s r xs ys a a' b apart m g).peer
+unfolding both_kept
+grown p s r xs ys a a' b apart (makes x why e' ch res chk bs mk sp rec) g =
+    let c : FirstCopy = copy p s xs g.own g.peer a.state e' a.first_number a.clock a.taken ch res chk bs x why mk sp g.sends g.told in (
+      (
+        λ j d at l. ⊎_elim (λ (x : slice_get g.own j ≡ Some d). x)
+            (λ (x : (j ≡ length g.own) × (c ≡ d)). absurd (let z = ap (λ (y : FirstCopy). y.place) x.1 in omega (arith, z, l))) (get_push_cases g.own c j d at),
+        λ j d at. get_front g.own (c ∷ []) j d at,
+      ),
+      (λ j d at l. at, λ j d at. at),
+    )
+grown p s r xs ys a a' b apart _ g = ((λ j d at l. at, λ j d at. at), (λ j d at l. at, λ j d at. at))
 
 both_grown : (p : Parameters) (v w : World) (st : Step p v w) (g : Both p Client Server v.crossed v.client v.server)
     → Grows (length v.crossed) g.own (told_step p v w st g).own × Grows (length v.crossed) g.peer (told_step p v w st g).peer
 unfolding told_step
-both_grown p v w (side_moves {a = a} {after = ys} Client m) g = (let z = grown p Client Server v.crossed ys v.client a v.server (λ e. cc (e)) m g in (z.0, inl z.1))
-both_grown p v w (side_moves {a = a} {after = ys} Server m) g = (let z = grown p Server Client v.crossed ys v.server a v.client (λ e. cc (e)) m (turn p Client Server v.crossed v.client v.server g) in (inl z.1, z.0))
-
-kept_copies : (n : ℕ) (old new : List FirstCopy) → Grows n old new → (j : ℕ) (d : FirstCopy) → slice_get new j ≡ Some d → d.place < n → slice_get old j ≡ Some d
-kept_copies n old new (inl e) j d at l = subst (λ (cs : List FirstCopy). slice_get cs j ≡ Some d) e at
-kept_copies n old new (inr h) j d at l = ⊎_elim
-    (λ (x : slice_get old j ≡ Some d). x)
-    (λ (x : (j ≡ length old) × (h.0 ≡ d)). absurd (let z = ap (λ (c : FirstCopy). c.place) x.1 in let y = h.2 in omega (arith, z, y, l)))
-    (get_push_cases old h.0 j d (subst (λ (cs : List FirstCopy). slice_get cs j ≡ Some d) h.1 at))
-
-kept_front : (n : ℕ) (old new : List FirstCopy) → Grows n old new → (j : ℕ) (d : FirstCopy) → slice_get old j ≡ Some d → slice_get new j ≡ Some d
-kept_front n old new (inl e) j d at = subst (λ (cs : List FirstCopy). slice_get cs j ≡ Some d) (sym e) at
-kept_front n old new (inr h) j d at = subst (λ (cs : List FirstCopy). slice_get cs j ≡ Some d) (sym h.1) (get_front old (h.0 ∷ []) j d at)
+both_grown p v w (side_moves {a = a} {after = ys} Client m) g = grown p Client Server v.crossed ys v.client a v.server (λ e. cc (e)) m g
+both_grown p v w (side_moves {a = a} {after = ys} Server m) g = (let z = grown p Server Client v.crossed ys v.server a v.client (λ e. cc (e)) m (turn p Client Server v.crossed v.client v.server g) in (z.1, z.0))
 
 -- the copies below the packets so far stay where they are
 pub step_copies : (p : Parameters) (v w : World) (st : Step p v w) (g : Both p Client Server v.crossed v.client v.server)
     → ((j : ℕ) (d : FirstCopy) → slice_get (told_step p v w st g).own j ≡ Some d → d.place < length v.crossed → slice_get g.own j ≡ Some d)
     × ((j : ℕ) (d : FirstCopy) → slice_get (told_step p v w st g).peer j ≡ Some d → d.place < length v.crossed → slice_get g.peer j ≡ Some d)
-step_copies p v w st g = (let z = both_grown p v w st g in (kept_copies _ _ _ z.0, kept_copies _ _ _ z.1))
+step_copies p v w st g = (let z = both_grown p v w st g in (z.0.0, z.1.0))
 
 pub step_front : (p : Parameters) (v w : World) (st : Step p v w) (g : Both p Client Server v.crossed v.client v.server)
     → ((j : ℕ) (d : FirstCopy) → slice_get g.own j ≡ Some d → slice_get (told_step p v w st g).own j ≡ Some d)
     × ((j : ℕ) (d : FirstCopy) → slice_get g.peer j ≡ Some d → slice_get (told_step p v w st g).peer j ≡ Some d)
-step_front p v w st g = (let z = both_grown p v w st g in (kept_front _ _ _ z.0, kept_front _ _ _ z.1))
+step_front p v w st g = (let z = both_grown p v w st g in (z.0.1, z.1.1))
 
 -- the same for given lists of first copies
 pub told_of : (p : Parameters) (ws : List World) (w : World) (side : Side) (own peer : List FirstCopy) → Reaches p ws w → IsSent p w.crossed side own → IsSent p w.crossed (other_side side) peer
@@ -368,12 +335,10 @@ pub complete : (p : Parameters) (ws : List World) (w : World) (c s : List FirstC
 complete p ws w c s r hc hs lc ls n bc bs =
     let g = told_of p ws w Client c s r hc hs lc ls in
     let h = g.0 in
-    let fc : Follows p Client (length w.crossed) c s h.told.es w.client.state =
-    subst (λ (o : List FirstCopy). Follows p Client (length w.crossed) o s h.told.es w.client.state) g.1 (subst (λ (q : List FirstCopy). Follows p Client (length w.crossed) h.own q h.told.es w.client.state) g.2 (told_fits p Client _ h.own h.peer _ _ _ h.told)) in
-    let fs : Follows p Server (length w.crossed) s c h.their_told.es w.server.state =
-    subst (λ (o : List FirstCopy). Follows p Server (length w.crossed) o c h.their_told.es w.server.state) g.2 (subst (λ (q : List FirstCopy). Follows p Server (length w.crossed) h.peer q h.their_told.es w.server.state) g.1 (told_fits p Server _ h.peer h.own _ _ _ h.their_told)) in
+    let fc = rw (g.1, g.2) at (told_fits p Client _ h.own h.peer _ _ _ h.told) in
+    let fs = rw (g.1, g.2) at (told_fits p Server _ h.peer h.own _ _ _ h.their_told) in
     let few = told_few p Client _ h.own h.peer _ _ _ h.told in
     let their_few = told_few p Server _ h.peer h.own _ _ _ h.their_told in
     let x = ap length g.1 in
     let y = ap length g.2 in
-    (h.told.es, h.their_told.es, fc, fs, omega arith, clocks_more _ n h.told.es bc h.told.clocks, clocks_more _ n h.their_told.es bs h.their_told.clocks)
+    (h.told.es, h.their_told.es, fc, fs, omega arith, rw append-nil at (clocks_on _ n h.told.es [] bc h.told.clocks tt), rw append-nil at (clocks_on _ n h.their_told.es [] bs h.their_told.clocks tt))
