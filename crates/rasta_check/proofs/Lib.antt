@@ -1,4 +1,4 @@
-pub mod Words
+pub mod Prelude
 pub mod Lists
 pub mod Sides
 pub mod Model

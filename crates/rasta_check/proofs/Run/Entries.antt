@@ -2,7 +2,7 @@
 use Rattle.std.proofs.Common.{◌≡◌, ℕ, ◌<◌, true, false, List, [], ◌∷◌, refl, arith}
 use Rattle.std.specs.Prelude.{◌==◌}
 use Rattle.std.proofs.lemmas.Bool.Decides.{nat_tests}
-use Rattle.rasta_check.proofs.Words.{Entry, Take, Make, Why}
+use Rattle.rasta_check.proofs.Prelude.{Entry, Take, Make, Why}
 use Rattle.rasta_check.specs.Run.Levels.{takes_at, makes_at}
 
 pub takes_here : (level number : ℕ) (es : List Entry) → takes_at level (Take level number ∷ es) ≡ number ∷ takes_at level es

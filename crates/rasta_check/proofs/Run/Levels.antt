@@ -3,8 +3,8 @@ use Rattle.std.proofs.Common.{◌≡◌, ℕ, zero, suc, ◌+◌, ◌≤◌, Lis
 use Rattle.std.specs.Prelude.{Option, None}
 use Rattle.std.proofs.lemmas.List.{append-nil, append_assoc, take_all, length-take-le}
 use Rattle.std.proofs.lemmas.Option.{slice_get_within}
-use Rattle.rasta_check.proofs.Words.{Side, Client, Server, Packet, Parameters, Entry, EndState, start_of, FirstCopy}
-use Rattle.rasta_check.proofs.Words.{CrossRecorded, Station, World, other_side, station_of, end_of, at_start, Follows}
+use Rattle.rasta_check.proofs.Prelude.{Side, Client, Server, Packet, Parameters, Entry, EndState, start_of, FirstCopy}
+use Rattle.rasta_check.proofs.Prelude.{CrossRecorded, Station, World, other_side, station_of, end_of, at_start, Follows}
 use Rattle.rasta_check.specs.Model.World.{moved, first_station, first_world}
 use Rattle.rasta_check.specs.Run.Moves.{Happened, Runs, starts}
 use Rattle.rasta_check.specs.Run.Lines.{Line, told, number_of}

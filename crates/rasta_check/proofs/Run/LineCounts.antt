@@ -1,7 +1,7 @@
 -- Each move of a run has one line.
 use Rattle.std.proofs.Common.{◌≡◌, List, Option, length, refl, ap, arith}
 use Rattle.std.proofs.lemmas.List.{length-append}
-use Rattle.rasta_check.proofs.Words.{Side, Packet, Parameters, Station, World}
+use Rattle.rasta_check.proofs.Prelude.{Side, Packet, Parameters, Station, World}
 use Rattle.rasta_check.specs.Model.World.{Move, Moves, makes, repeats, arrives, takes, waits}
 use Rattle.rasta_check.specs.Run.Moves.{Happened, Runs, starts, does}
 use Rattle.rasta_check.specs.Run.Lines.{copy_lines, lines_of_move, told}

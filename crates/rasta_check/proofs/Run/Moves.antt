@@ -1,7 +1,7 @@
 -- Several moves of one station, one after the other, and their lines.
 use Rattle.std.proofs.Common.{◌≡◌, List, [], ◌∷◌, ◌++◌, ap, sym, ◌∙◌, subst}
 use Rattle.std.proofs.lemmas.List.{append-nil, append_assoc}
-use Rattle.rasta_check.proofs.Words.{Side, Client, Server, Packet, Parameters, Station, World, other_side, station_of}
+use Rattle.rasta_check.proofs.Prelude.{Side, Client, Server, Packet, Parameters, Station, World, other_side, station_of}
 use Rattle.rasta_check.specs.Model.World.{Move, Moves, moved}
 use Rattle.rasta_check.specs.Run.Moves.{Happened, Runs, does}
 use Rattle.rasta_check.specs.Run.Lines.{Line, lines_of_move, lines_in, told}

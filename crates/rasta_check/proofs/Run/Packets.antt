@@ -5,8 +5,8 @@ use Rattle.std.proofs.lemmas.List.{length_push, length-take-le, get_or-take}
 use Rattle.std.proofs.lemmas.Option.{slice_get_within, slice_get-get_or, get_or_from_slice_get}
 use native.Mathlib.Decide.{dec_lt}
 use Prim.{yes, no}
-use Rattle.rasta_check.proofs.Words.{Side, Packet, Parameters, Entry, Take, Make, Why, Made}
-use Rattle.rasta_check.proofs.Words.{wrapped, FirstCopy, CrossRecorded, Station, Cursor, Advances, makes_next, Leads}
+use Rattle.rasta_check.proofs.Prelude.{Side, Packet, Parameters, Entry, Take, Make, Why, Made}
+use Rattle.rasta_check.proofs.Prelude.{wrapped, FirstCopy, CrossRecorded, Station, Cursor, Advances, makes_next, Leads}
 use Rattle.rasta_check.specs.Capture.Crossing.{Spells}
 use Rattle.rasta_check.specs.Capture.Lists.{position_of_place}
 use Rattle.rasta_check.specs.Model.World.{making, repeating, waiting, makes, repeats, waits}

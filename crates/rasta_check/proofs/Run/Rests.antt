@@ -3,7 +3,7 @@ use Rattle.std.proofs.Common.{◌≡◌, ℕ, ◌<◌, ◌≤◌, List, [], ◌�
 use Rattle.std.proofs.lemmas.Option.{slice_get_within}
 use native.Mathlib.Decide.{dec_lt}
 use Prim.{yes, no}
-use Rattle.rasta_check.proofs.Words.{Parameters, Entry, Take, Make, FirstCopy, Cursor, takes_next, makes_next, Leads}
+use Rattle.rasta_check.proofs.Prelude.{Parameters, Entry, Take, Make, FirstCopy, Cursor, takes_next, makes_next, Leads}
 use Rattle.rasta_check.specs.Run.Levels.{takes_at, makes_at}
 use Rattle.rasta_check.proofs.Run.Entries.{above, makes_none, makes_other, makes_past, takes_none, takes_other, takes_past}
 

@@ -1,7 +1,7 @@
 -- The run that two scripts tell.
 use Rattle.std.proofs.Common.{◌≡◌, List, length}
-use Rattle.rasta_check.proofs.Words.{Side, Client, Server, Packet, Parameters, AreParameters, Entry}
-use Rattle.rasta_check.proofs.Words.{EndState, FirstCopy, CrossRecorded, World, Reaches, other_side, Follows}
+use Rattle.rasta_check.proofs.Prelude.{Side, Client, Server, Packet, Parameters, AreParameters, Entry}
+use Rattle.rasta_check.proofs.Prelude.{EndState, FirstCopy, CrossRecorded, World, Reaches, other_side, Follows}
 use Rattle.rasta_check.specs.Run.Moves.{Happened, Runs, worlds_of}
 use Rattle.rasta_check.specs.Run.Lines.{told}
 use Rattle.rasta_check.specs.Run.Levels.{run_lines}

@@ -5,7 +5,7 @@ use Rattle.std.specs.Option.{option_map_or, option_or}
 use Rattle.std.proofs.lemmas.Bool.Decides.{nat_tests}
 use Rattle.std.proofs.lemmas.List.{append-nil, append_assoc, length-append}
 use Rattle.std.proofs.lemmas.Option.{slice_get_within}
-use Rattle.rasta_check.proofs.Words.{Fault, Side, Client, Server, Parameters, Entry, Take, Make, EndState, Makes, start_of, FirstCopy, Cursor, at_start, Follows}
+use Rattle.rasta_check.proofs.Prelude.{Fault, Side, Client, Server, Parameters, Entry, Take, Make, EndState, Makes, start_of, FirstCopy, Cursor, at_start, Follows}
 use Rattle.rasta_pcap.specs.Fault.{fault_of_end, slot_order, not_first_copy, make_missing, not_yet_crossed, not_rising}
 use Rattle.rasta_cert.specs.Certificate.{Scripts}
 use Rattle.rasta_end.specs.MakeRule.{make_fault, first_that_holds, is_there}

@@ -1,6 +1,6 @@
 -- What follows from an entry by the rules of the end: a refusal at its number, or the next cursor.
 use Rattle.std.proofs.Common.{◌≡◌, ◌⊎◌, ℕ, Option, Some, None, Result, Ok, sym, refl, inl, inr}
-use Rattle.rasta_check.proofs.Words.{Fault, Cursor}
+use Rattle.rasta_check.proofs.Prelude.{Fault, Cursor}
 use Rattle.rasta_pcap.specs.Fault.{fault_of_end, no_memory}
 use Rattle.rasta_check.specs.Internals.Checking.{Followed, IsRefused, unless}
 

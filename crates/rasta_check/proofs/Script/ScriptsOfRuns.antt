@@ -4,8 +4,8 @@ use Rattle.std.specs.Prelude.{if◌then◌else◌}
 use Rattle.std.proofs.lemmas.Bool.Decides.{nat_tests}
 use Rattle.std.proofs.lemmas.List.{append-nil, append_assoc, length_push, length-map, map-append}
 use Rattle.std.proofs.lemmas.Option.{slice_get_within}
-use Rattle.rasta_check.proofs.Words.{Side, Client, Server, Packet, Parameters, AreParameters, SafetyPdu, RedundancyPdu, Entry, Take, Make, Owed, Why, Made, EndState, wrapped}
-use Rattle.rasta_check.proofs.Words.{Makes, Takes, start_of, FirstCopy, Station, World, Reaches, other_side, station_of, Cursor, Advances, takes_next, makes_next, Leads, at_start, Follows}
+use Rattle.rasta_check.proofs.Prelude.{Side, Client, Server, Packet, Parameters, AreParameters, SafetyPdu, RedundancyPdu, Entry, Take, Make, Owed, Why, Made, EndState, wrapped}
+use Rattle.rasta_check.proofs.Prelude.{Makes, Takes, start_of, FirstCopy, Station, World, Reaches, other_side, station_of, Cursor, Advances, takes_next, makes_next, Leads, at_start, Follows}
 use Rattle.rasta_pcap.specs.Fault.{reply_owed, past_deadline}
 use Rattle.rasta_end.specs.State.{is_closed, is_owing}
 use Rattle.rasta_end.specs.MakeRule.{is_past, first_that_holds}

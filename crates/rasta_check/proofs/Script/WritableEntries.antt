@@ -6,8 +6,8 @@ use Rattle.std.proofs.lemmas.List.Sums.{count_by-le-length, length-filter}
 use Rattle.std.proofs.lemmas.Option.{slice_get_within}
 use Rattle.std.specs.Option.{option_map_or}
 use Rattle.std.specs.Str.{bytes_eq}
-use Rattle.rasta_check.proofs.Words.{Side, Packet, Kind, Parameters, SafetyPdu, Entry, Phase, Owed, Why, Made}
-use Rattle.rasta_check.proofs.Words.{EndState, Makes, start_of, FirstCopy, Cursor, Advances, takes_next, makes_next, Leads, at_start}
+use Rattle.rasta_check.proofs.Prelude.{Side, Packet, Kind, Parameters, SafetyPdu, Entry, Phase, Owed, Why, Made}
+use Rattle.rasta_check.proofs.Prelude.{EndState, Makes, start_of, FirstCopy, Cursor, Advances, takes_next, makes_next, Leads, at_start}
 use Rattle.rasta_pdu.specs.Pdu.{is_kind}
 use Rattle.rasta_end.specs.declared.why.Why.TheVariants.{Again}
 use Rattle.rasta_end.specs.declared.make_row.MakeRow.{MakeRow}

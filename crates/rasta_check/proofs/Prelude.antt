@@ -1,4 +1,4 @@
--- The words that most proofs here speak in.
+-- What most proofs here speak of.
 pub use Rattle.rasta_pcap.specs.declared.fault.Fault.{Fault}
 pub use Rattle.rasta_pcap.specs.declared.fault.Side.{Side}
 pub use Rattle.rasta_pcap.specs.declared.fault.Side.TheVariants.{Client, Server}
