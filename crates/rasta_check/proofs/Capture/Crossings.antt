@@ -18,9 +18,8 @@ use Rattle.std.specs.Int.{bytes_low_first}
 use Rattle.std.proofs.lemmas.Nat.{from_le_bytes-to_le_bytes_4}
 use Rattle.rasta_pdu.proofs.Spellings.{decode_of-Ok}
 use Rattle.rasta_end.specs.State.{wrapped}
-use Rattle.rasta_check.specs.Capture.Crossing.{FirstCopy, Sent, Spells, copy_with, is_next_number, number_fault, number_in_bytes, read_fault, packet_fault}
-use Rattle.rasta_check.specs.Model.Theorem.{most_packets}
-use Rattle.rasta_check.specs.Capture.Crossing.{IsRecorded}
+use Rattle.rasta_check.specs.Capture.Crossing.{FirstCopy, Sent, Spells, copy_with, is_next_number, number_fault, number_in_bytes, read_fault, packet_fault, CrossRecorded, IsRecorded}
+use Rattle.rasta_check.specs.Model.Theorem.{OfConnection, most_packets}
 use Rattle.rasta_check.specs.Model.World.{most_sent}
 use Rattle.rasta_check.specs.Internals.Packets.{with_new}
 use Rattle.rasta_check.specs.Capture.Lists.{copy_of}
@@ -107,18 +106,23 @@ pub place_within : (k : Crossing) (side : Side) (number place : ℕ) → IsCross
     → place < length k.packets
 place_within k side number place h e = (let w = first_packet k side number place h e in slice_get_within k.packets place w.1 w.3)
 
+-- what is known of a packet whose PDU is read
+pub known_by : (k : Crossing) (a : Packet) (d : RedundancyPdu) (o : Option FirstCopy) → decode_of k.params a.side a.payload ≡ Ok d → copy_with (sent_by k a.side) d.number ≡ o
+    → (packet_fault k.params (sent_by k a.side) a ≡ number_fault k.params a.side (sent_by k a.side) a.payload d o) × (sent_after k a ≡ after_pdu (sent_by k a.side) (length k.packets) d o)
+known_by k a d o reads e = (let own = sent_by k a.side in (
+  ap (read_fault k.params a.side own a.payload) reads ∙ ap (number_fault k.params a.side own a.payload d) e,
+  ap (after_read own (length k.packets)) reads ∙ ap (after_pdu own (length k.packets) d) e,
+))
+
 -- a packet of a known number has no fault exactly where its bytes are those of the first copy
 pub repeated : (k : Crossing) (a : Packet) (d : RedundancyPdu) (place : ℕ) (r : Bool) → IsCrossing k → decode_of k.params a.side a.payload ≡ Ok d
     → option_map (λ (c : FirstCopy). c.place) (copy_with (sent_by k a.side) d.number) ≡ Some place → IfSome (slice_get k.packets place) (λ (b : Packet). r ≡ bytes_eq b.payload a.payload)
     → (packet_fault k.params (sent_by k a.side) a ≡ (if r then None else Some copy_differs)) × (sent_after k a ≡ sent_by k a.side)
 repeated k a d place r h e f g =
     let w = first_packet k a.side d.number place h f in
-    let own = sent_by k a.side in
     let test : r ≡ bytes_eq w.1.payload a.payload = subst (λ (o : Option Packet). IfSome o (λ (b : Packet). r ≡ bytes_eq b.payload a.payload)) w.3 g in
-    let same : r ≡ bytes_eq (redundancy_bytes k.params a.side w.0.pdu) a.payload = test ∙ ap (λ (bs : List ℕ). bytes_eq bs a.payload) w.4 in (
-      ap (read_fault k.params a.side own a.payload) e ∙ (ap (number_fault k.params a.side own a.payload d) w.2 ∙ ap (λ (b : Bool). if b then None else Some copy_differs) (sym same)),
-      ap (after_read own (length k.packets)) e ∙ ap (after_pdu own (length k.packets) d) w.2,
-    )
+    let same : r ≡ bytes_eq (redundancy_bytes k.params a.side w.0.pdu) a.payload = test ∙ ap (λ (bs : List ℕ). bytes_eq bs a.payload) w.4 in
+    rw same (known_by k a d (Some w.0) e w.2)
 
 -- the next number is no known one
 next_unknown : (k : Crossing) (side : Side) (n : ℕ) → IsCrossing k → is_next_number (sent_by k side) n ≡ true → (o : Option FirstCopy) → copy_with (sent_by k side) n ≡ o → o ≡ None
@@ -136,10 +140,8 @@ pub is_next_pdu : (k : Crossing) (a : Packet) (pdu : Pdu) → IsCrossing k → d
 is_next_pdu k a pdu h reads e =
     let own = sent_by k a.side in
     let d = value_of pdu in
-    let new = next_unknown k a.side d.number h e (copy_with own d.number) refl in (
-      ap (read_fault k.params a.side own a.payload) reads ∙ (ap (number_fault k.params a.side own a.payload d) new ∙ ap (λ (b : Bool). if b then None else Some number_gap) e),
-      ap (after_read own (length k.packets)) reads ∙ ap (after_pdu own (length k.packets) d) new,
-    )
+    let w = known_by k a d None reads (next_unknown k a.side d.number h e (copy_with own d.number) refl) in
+    (w.0 ∙ ap (λ (b : Bool). if b then None else Some number_gap) e, w.1)
 
 -- ---- the limits
 
@@ -157,37 +159,29 @@ new_length sent place (Some pdu) = length_push sent (copy_of (place, pdu))
 within_packets : (k : Crossing) → is_within k ≡ true → (length k.packets ≤ most_packets) × (length k.client ≤ most_sent) × (length k.server ≤ most_sent)
 within_packets k e = grind (arith, nat_tests)
 
-client_not_server : Client ≡ Server → ⊥
-client_not_server e = cc
+-- lists of both sides within the limits make a crossing
+pub crossing_of_lists : (k : Crossing) → OfConnection k.params → CrossRecorded k.params k.packets → is_within k ≡ true → IsSent k.params k.packets Client k.client
+    → IsSent k.params k.packets Server k.server → IsCrossing k
+crossing_of_lists k valid recorded within c s =
+    let w = within_packets k within in
+    record {
+      valid = valid;
+      recorded = recorded;
+      sent = record {
+        client_sent = of_record k.params k.packets Client k.client c (let z = w.1 in omega arith);
+        server_sent = of_record k.params k.packets Server k.server s (let z = w.2 in omega arith);
+        few_packets = w.0;
+        few_client = w.1;
+        few_server = w.2;
+      };
+    }
 
 grown_at : (k : Crossing) (a : Packet) (side : Side) (sent : List FirstCopy) → a.side ≡ side → IsCrossing k → IsRecorded k.params a.channel → IsSent k.params (k.packets ++ a ∷ []) side sent
     → is_within (crossing_with k a side sent) ≡ true → IsCrossing (crossing_with k a side sent)
-grown_at k a Client sent e h on s within =
-    let w = within_packets (crossing_with k a Client sent) within in
-    record {
-      valid = h.valid;
-      recorded = recorded_more k.params k.packets a h.recorded on;
-      sent = record {
-        client_sent = of_record k.params (k.packets ++ a ∷ []) Client sent s (let z = w.1 in omega arith);
-        server_sent = of_record k.params (k.packets ++ a ∷ []) Server k.server (sent_other k.params k.packets a Server k.server (list_of k h Server) (λ f. client_not_server (sym e ∙ f))) (let z = w.2 in omega arith);
-        few_packets = w.0;
-        few_client = w.1;
-        few_server = w.2;
-      };
-    }
-grown_at k a Server sent e h on s within =
-    let w = within_packets (crossing_with k a Server sent) within in
-    record {
-      valid = h.valid;
-      recorded = recorded_more k.params k.packets a h.recorded on;
-      sent = record {
-        client_sent = of_record k.params (k.packets ++ a ∷ []) Client k.client (sent_other k.params k.packets a Client k.client (list_of k h Client) (λ f. client_not_server (sym f ∙ e))) (let z = w.1 in omega arith);
-        server_sent = of_record k.params (k.packets ++ a ∷ []) Server sent s (let z = w.2 in omega arith);
-        few_packets = w.0;
-        few_client = w.1;
-        few_server = w.2;
-      };
-    }
+grown_at k a Client sent e h on s within = crossing_of_lists (crossing_with k a Client sent) h.valid (recorded_more k.params k.packets a h.recorded on) within
+    s (sent_other k.params k.packets a Server k.server (list_of k h Server) (λ f. (cc)))
+grown_at k a Server sent e h on s within = crossing_of_lists (crossing_with k a Server sent) h.valid (recorded_more k.params k.packets a h.recorded on) within
+    (sent_other k.params k.packets a Client k.client (list_of k h Client) (λ f. (cc))) s
 
 pub grown_crossing : (k : Crossing) (a : Packet) → IsCrossing k → IsRecorded k.params a.channel → IsRead k.params a → packet_fault k.params (sent_by k a.side) a ≡ None → is_within (with_packet k a) ≡ true → IsCrossing (with_packet k a)
 grown_crossing k a h on are n within = grown_at k a a.side (sent_after k a) refl h on (goes_on k.params k.packets (sent_by k a.side) a (list_of k h a.side) are n) within

@@ -22,26 +22,16 @@ use Rattle.rasta_check.specs.Model.World.{most_sent}
 use Rattle.rasta_check.specs.Capture.Reading.{Crossing, IsCrossing, after_records, crossing_of, crossing_with, is_within, nothing_crossed, sent_after, sent_by, with_packet}
 use Rattle.rasta_check.specs.Capture.Faults.{AreFaultless, CrossedIn, IsFaultlessCapture}
 use Rattle.rasta_check.proofs.Capture.FaultlessLists.{IsSent}
-use Rattle.rasta_check.proofs.Capture.Crossings.{list_of, few_of, is_read, goes_on}
+use Rattle.rasta_check.proofs.Capture.Crossings.{crossing_of_lists, list_of, few_of, is_read, goes_on}
 use Rattle.rasta_check.proofs.Capture.PacketFaults.{faultless}
 use Rattle.rasta_check.proofs.Capture.NextPackets.{can_follow, cut}
-use Rattle.rasta_check.proofs.Capture.ListForms.{of_record, to_record}
+use Rattle.rasta_check.proofs.Capture.ListForms.{to_record}
 use Rattle.rasta_check.proofs.Capture.RecordBytes.{AllBytes, file_bytes, payload_bytes}
 use Rattle.rasta_check.proofs.Capture.Readings.{AreFrom, AreSound, Step, bad_frame, bad_packet, no_room, breaks, frames_of, packets_in, records_add, window, window_is}
 use Rattle.rasta_check.proofs.Capture.FirstCopies.{sent_none, sent_once}
 
 pub nothing_is : (p : Parameters) → OfConnection p → IsCrossing (nothing_crossed p)
-nothing_is p h = record {
-  valid = h;
-  recorded = λ place a g. absurd (cc);
-  sent = record {
-    client_sent = of_record p [] Client [] (sent_none p Client h.valid) (omega arith);
-    server_sent = of_record p [] Server [] (sent_none p Server h.valid) (omega arith);
-    few_packets = omega arith;
-    few_client = omega arith;
-    few_server = omega arith;
-  };
-}
+nothing_is p h = crossing_of_lists (nothing_crossed p) h (λ place a g. absurd (cc)) refl (sent_none p Client h.valid) (sent_none p Server h.valid)
 
 -- what crosses by records in which the sides sent these lists
 abbrev pub crossing_by : Parameters → List (List ℕ) → List FirstCopy → List FirstCopy → Crossing

@@ -16,12 +16,12 @@ use Rattle.rasta_udp.specs.Frame.{Packet}
 use Rattle.rasta_pdu.specs.Params.{Parameters}
 use Rattle.rasta_pdu.specs.Pdu.{RedundancyPdu, redundancy_bytes, decode_of}
 use Rattle.rasta_check.specs.declared.crossing_store.StoredPacket.{StoredPacket}
-use Rattle.rasta_check.specs.Capture.Crossing.{FirstCopy, Spells, copy_with, is_next_number, number_fault, read_fault, packet_fault}
+use Rattle.rasta_check.specs.Capture.Crossing.{FirstCopy, Spells, copy_with, is_next_number, packet_fault}
 use Rattle.rasta_check.specs.Internals.Datagrams.{Kept, KeptDatagrams, kept_by}
 use Rattle.rasta_check.specs.Capture.Lists.{IsOrdered, numbers_of, position_of_number, position_of_place}
-use Rattle.rasta_check.specs.Capture.Reading.{Crossing, IsCrossing, sent_by, after_pdu, after_read, sent_after}
+use Rattle.rasta_check.specs.Capture.Reading.{Crossing, IsCrossing, sent_by, sent_after}
 use Rattle.rasta_check.specs.Internals.Stored.{IsStore, Decode, bytes_of, copy_in, pdu_in, packet_by, crossing_by}
-use Rattle.rasta_check.proofs.Capture.Crossings.{few_of, list_of}
+use Rattle.rasta_check.proofs.Capture.Crossings.{few_of, known_by, list_of}
 use Rattle.rasta_check.proofs.Capture.Spellings.{read_once}
 use Rattle.rasta_check.proofs.Lists.{slice_get_some, map_at}
 use Rattle.rasta_check.proofs.Capture.Positions.{number_found, number_once, place_missing, place_named, same_test}
@@ -195,11 +195,7 @@ module _ (k : Crossing) (a : Packet) (pdu : RedundancyPdu) (reads : decode_of k.
   repeats : (position : ℕ) (r : Bool) → position_of_number sent pdu.number ≡ Some position → (c : FirstCopy) → slice_get sent position ≡ Some c
       → r ≡ bytes_eq (redundancy_bytes k.params a.side c.pdu) a.payload
       → (packet_fault k.params sent a ≡ (if r then None else Some copy_differs)) × (sent_after k a ≡ sent)
-  repeats position r e c g f =
-      let known = copy_of_position sent pdu.number position e ∙ g in (
-        ap (read_fault k.params a.side sent a.payload) reads ∙ (ap (number_fault k.params a.side sent a.payload pdu) known ∙ ap (λ (b : Bool). if b then None else Some copy_differs) (sym f)),
-        ap (after_read sent (length k.packets)) reads ∙ ap (after_pdu sent (length k.packets) pdu) known,
-      )
+  repeats position r e c g f = rw f (known_by k a pdu (Some c) reads (copy_of_position sent pdu.number position e ∙ g))
 
   same_bytes : (xs ys : List ℕ) (r : Bool) → r ≡ bytes_eq xs ys → r ≡ true → ys ≡ xs
   same_bytes xs ys r e f = sym ((bytes_eq-Decides xs ys).0 (sym e ∙ f))
@@ -216,6 +212,4 @@ module _ (k : Crossing) (a : Packet) (pdu : RedundancyPdu) (reads : decode_of k.
 
   -- no first copy has its number, which isn't the next
   pub skips : position_of_number sent pdu.number ≡ None → is_next_number sent pdu.number ≡ false → packet_fault k.params sent a ≡ Some number_gap
-  skips e f =
-      ap (read_fault k.params a.side sent a.payload) reads ∙ (ap (number_fault k.params a.side sent a.payload pdu) (no_copy sent pdu.number e)
-      ∙ ap (λ (b : Bool). if b then None else Some number_gap) f)
+  skips e f = (known_by k a pdu None reads (no_copy sent pdu.number e)).0 ∙ ap (λ (b : Bool). if b then None else Some number_gap) f
