@@ -18,7 +18,8 @@ use Rattle.std.specs.Int.{bytes_low_first}
 use Rattle.std.proofs.lemmas.Nat.{from_le_bytes-to_le_bytes_4}
 use Rattle.rasta_pdu.proofs.Spellings.{decode_of-Ok}
 use Rattle.rasta_end.specs.State.{wrapped}
-use Rattle.rasta_check.specs.Capture.Crossing.{FirstCopy, Sent, Spells, copy_with, is_next_number, number_fault, number_in_bytes, read_fault, packet_fault, CrossRecorded, IsRecorded}
+use Rattle.rasta_check.specs.Capture.Crossing.{FirstCopy, Sent, Spells, copy_with, is_next_number, number_fault, number_in_bytes, read_fault, packet_fault}
+use Rattle.rasta_check.specs.Capture.Crossing.{CrossRecorded, IsRecorded}
 use Rattle.rasta_check.specs.Model.Theorem.{OfConnection, most_packets}
 use Rattle.rasta_check.specs.Model.World.{most_sent}
 use Rattle.rasta_check.specs.Internals.Packets.{with_new}
@@ -176,8 +177,8 @@ crossing_of_lists k valid recorded within c s =
       };
     }
 
-grown_at : (k : Crossing) (a : Packet) (side : Side) (sent : List FirstCopy) → a.side ≡ side → IsCrossing k → IsRecorded k.params a.channel → IsSent k.params (k.packets ++ a ∷ []) side sent
-    → is_within (crossing_with k a side sent) ≡ true → IsCrossing (crossing_with k a side sent)
+grown_at : (k : Crossing) (a : Packet) (side : Side) (sent : List FirstCopy) → a.side ≡ side → IsCrossing k → IsRecorded k.params a.channel
+    → IsSent k.params (k.packets ++ a ∷ []) side sent → is_within (crossing_with k a side sent) ≡ true → IsCrossing (crossing_with k a side sent)
 grown_at k a Client sent e h on s within = crossing_of_lists (crossing_with k a Client sent) h.valid (recorded_more k.params k.packets a h.recorded on) within
     s (sent_other k.params k.packets a Server k.server (list_of k h Server) (λ f. (cc)))
 grown_at k a Server sent e h on s within = crossing_of_lists (crossing_with k a Server sent) h.valid (recorded_more k.params k.packets a h.recorded on) within

@@ -56,14 +56,14 @@ split_at n (c ∷ cs) = elim (dec_lt c.place n) [
 
 module _ (p : Parameters) (xs ys : List Packet) (s : Side) (own later : List FirstCopy) (h : IsSent p (xs ++ ys) s (own ++ later)) (high : (c : FirstCopy) → slice_get later 0 ≡ Some c → length xs ≤ c.place) where
   within_own : (i : ℕ) (c : FirstCopy) → slice_get (own ++ later) i ≡ Some c → c.place < length xs → i < length own
-  within_own i c g l = elim (dec_lt i (length own)) [
-    | yes m ↦ m
-    | no m ↦
-        let n = slice_get_within (own ++ later) i c g in
-        let f = slice_get_some (own ++ later) (length own) (omega arith) in
-        let first = high f.0 (sym (get_next own later) ∙ f.1) in
-        below_by p (xs ++ ys) s (own ++ later) h (length own) i c c f.0 f.1 (omega arith) g (omega arith)
-  ]
+  within_own i c g l =
+      let not_high : length own ≤ i → ⊥ = λ m.
+      (let n = slice_get_within (own ++ later) i c g in
+      let f = slice_get_some (own ++ later) (length own) (omega arith) in
+      let first = high f.0 (sym (get_next own later) ∙ f.1) in
+      let low = below_by p (xs ++ ys) s (own ++ later) h (length own) i c c f.0 f.1 (omega arith) g (omega arith) in
+      omega arith) in
+      omega (arith, not_high)
 
   sent_part : AreBelow (length xs) own → IsSent p xs s own
   unfolding AreBelow

@@ -43,17 +43,11 @@ pub copy_found : (own : List FirstCopy) (number : ℕ) (c : FirstCopy) → copy_
 copy_found [] number c e = absurd (cc)
 copy_found (x ∷ own) number c e = found_by (x.pdu.number == number) x own number c (λ h. grind (arith, nat_tests)) (copy_found own number c) e
 
-none_by : (b : Bool) (x : FirstCopy) (own : List FirstCopy) (number : ℕ) → (x.pdu.number ≡ number → b ≡ true)
-    → (copy_with own number ≡ None → (i : ℕ) (c : FirstCopy) → slice_get own i ≡ Some c → c.pdu.number ≡ number → ⊥)
-    → (if b then Some x else copy_with own number) ≡ None → (i : ℕ) (c : FirstCopy) → slice_get (x ∷ own) i ≡ Some c → c.pdu.number ≡ number → ⊥
-none_by true x own number h rest e i c g n = cc
-none_by false x own number h rest e zero c g n = (let same : x ≡ c = cc in let z = h (ap (λ (y : FirstCopy). y.pdu.number) same ∙ n) in cc)
-none_by false x own number h rest e (suc i) c g n = rest e i c g n
-
 -- where there is none, no member has the number
 pub copy_none : (own : List FirstCopy) (number : ℕ) → copy_with own number ≡ None → (i : ℕ) (c : FirstCopy) → slice_get own i ≡ Some c → c.pdu.number ≡ number → ⊥
 copy_none [] number e i c g n = cc
-copy_none (x ∷ own) number e i c g n = none_by (x.pdu.number == number) x own number (λ h. grind (arith, nat_tests)) (copy_none own number) e i c g n
+copy_none (x ∷ own) number e zero c g n = (let same : x ≡ c = cc in grind (arith, nat_tests))
+copy_none (x ∷ own) number e (suc i) c g n = copy_none own number (grind (arith, nat_tests)) i c g n
 
 -- ---- where it may come next, it has no fault
 

@@ -119,11 +119,9 @@ adds_none k = record { packets = sym (append-nil k.packets); params = refl; soun
 
 adds_first : (k next last : Crossing) (r : Numbered) (rs : List Numbered) → Step k r (Ok next) → Adds next last rs (window next.params rs) → Adds k last (r ∷ rs) (window k.params (r ∷ rs))
 adds_first k next last r rs (before t) more =
-    subst (λ (b : Bool). Adds k last (r ∷ rs) ((if b then [] else r.1 ∷ []) ++ window k.params rs)) (sym t)
-    (record { packets = more.packets; params = more.params; sound = more.sound; crossing = λ h are. more.crossing h are.1 })
+    rw t (record { packets = more.packets; params = more.params; sound = more.sound; crossing = λ h are. more.crossing h are.1 })
 adds_first k next last r rs (empty t g) more =
-    subst (λ (b : Bool). Adds k last (r ∷ rs) ((if b then [] else r.1 ∷ []) ++ window k.params rs)) (sym t)
-    (record {
+    rw t (record {
       packets = more.packets ∙ ap (λ (o : Result (Option Packet) Fault). k.packets ++ cons_option (option_flatten (result_ok o)) (packets_in k.params (window k.params rs))) (sym g);
       params = more.params;
       sound = (subst IsOk (sym g) refl, more.sound);
@@ -131,8 +129,7 @@ adds_first k next last r rs (empty t g) more =
     })
 adds_first k next last r rs (joined a t g n e) more =
     let w = grown_is k a a.side (sent_after k a) in
-    subst (λ (b : Bool). Adds k last (r ∷ rs) ((if b then [] else r.1 ∷ []) ++ window k.params rs)) (sym t)
-    (record {
+    rw t (record {
       packets = more.packets ∙ (λ i. w.0 i ++ packets_in (w.1 i) (window (w.1 i) rs)) ∙ append_assoc k.packets (a ∷ []) (packets_in k.params (window k.params rs))
           ∙ ap (λ (o : Result (Option Packet) Fault). k.packets ++ cons_option (option_flatten (result_ok o)) (packets_in k.params (window k.params rs))) (sym g);
       params = more.params ∙ w.1;

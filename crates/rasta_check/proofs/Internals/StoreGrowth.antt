@@ -78,15 +78,13 @@ decode_with p d Server y pdu h reads spelled Server = all_push d.server y (h Ser
 abbrev first_part : Crossing → Packet → ℕ → List ℕ
 first_part k a place = if is_some (position_of_place (sent_by k a.side) place) then a.payload else []
 
-copies_more : (k : Crossing) (place : ℕ) (xs : List Packet) (a : Packet) → first_copies_from k place (xs ++ a ∷ []) ≡ first_copies_from k place xs ++ first_part k a (place + length xs)
+copies_more : (k : Crossing) (place : ℕ) (xs : List Packet) (a : Packet) (end : ℕ) → place + length xs ≡ end
+    → first_copies_from k place (xs ++ a ∷ []) ≡ first_copies_from k place xs ++ first_part k a end
 unfolding first_copies_from
-copies_more k place [] a = append-nil (first_part k a place) ∙ ap (first_part k a) (let n : place ≡ place + 0 = omega arith in n)
-copies_more k place (x ∷ xs) a =
-    ap (λ (bs : List ℕ). first_part k x place ++ bs) (copies_more k (suc place) xs a ∙ ap (λ (n : ℕ). first_copies_from k (suc place) xs ++ first_part k a n) (let n : suc place + length xs ≡ place + suc (length xs) = omega arith in n))
-    ∙ sym (append_assoc (first_part k x place) (first_copies_from k (suc place) xs) (first_part k a (place + suc (length xs))))
-
-copies_last : (k : Crossing) (xs : List Packet) (a : Packet) → first_copies_from k 0 (xs ++ a ∷ []) ≡ first_copies_from k 0 xs ++ first_part k a (length xs)
-copies_last k xs a = copies_more k 0 xs a ∙ ap (λ (n : ℕ). first_copies_from k 0 xs ++ first_part k a n) (let n : 0 + length xs ≡ length xs = omega arith in n)
+copies_more k place [] a end e = append-nil (first_part k a place) ∙ ap (first_part k a) (omega arith)
+copies_more k place (x ∷ xs) a end e =
+    ap (λ (bs : List ℕ). first_part k x place ++ bs) (copies_more k (suc place) xs a end (omega arith))
+    ∙ sym (append_assoc (first_part k x place) (first_copies_from k (suc place) xs) (first_part k a end))
 
 -- both lists have the same places below this one
 SamePlaces : Crossing → Crossing → ℕ → Type 0
@@ -173,7 +171,8 @@ module _ (p : Parameters) (d : KeptDatagrams) (packets : List StoredPacket) (st 
         let last = ap (λ (o : Option ℕ). if is_some o then payload else [])
         (ap (λ (xs : List FirstCopy). position_of_place xs (length k.packets)) (sent_with k a side own) ∙ place_named own h (length (sent_by k side)) copy (get_push (sent_by k side) copy)) in
         (λ i. st.bytes i ++ payload)
-        ∙ sym (copies_last l k.packets a ∙ (λ i. copies_same k l (length k.packets) 0 k.packets (places_with k a copy refl side h) (omega arith) i ++ last i))
+        ∙ sym (copies_more l 0 k.packets a (length k.packets) (omega arith)
+        ∙ (λ i. copies_same k l (length k.packets) 0 k.packets (places_with k a copy refl side h) (omega arith) i ++ last i))
 
     -- the store with it
     pub new_store : (side : Side) → position ≡ length (kept_by d side) → decode_of p side payload ≡ Ok pdu → Spells p side pdu payload
@@ -243,7 +242,7 @@ module _ (p : Parameters) (d : KeptDatagrams) (packets : List StoredPacket) (st 
         let a = packet_with channel side payload in
         let last = ap (λ (o : Option ℕ). if is_some o then payload else [])
         (ap (λ (own : List FirstCopy). position_of_place own (length k.packets)) (same_sent side) ∙ no_place k st.crossing side) in
-        st.bytes ∙ sym (copies_last longer k.packets a
+        st.bytes ∙ sym (copies_more longer 0 k.packets a (length k.packets) (omega arith)
         ∙ (λ i. copies_same k longer (length k.packets) 0 k.packets same_places (omega arith) i ++ last i) ∙ append-nil (first_copies_from k 0 k.packets))
 
     pub copy_store : IsCrossing (with_packet k (packet_with channel side payload)) → IsStore p d (packets ++ again ∷ [])

@@ -1,7 +1,6 @@
 -- What is worked out from the two ends of scripts that fit is what is surely taken.
 use Rattle.std.proofs.Common.{◌≡◌, ℕ, zero, suc, ◌+◌, ◌-◌, ◌%◌, ◌^◌, ◌<◌, ◌≤◌, Bool, true, false, List, [], ◌∷◌, ◌++◌, length, map, replicate, take, Option, Some, None, slice_get, refl, ap, sym, ◌∙◌, arith}
-use Rattle.std.specs.Prelude.{fold, max, nat_lt, slice_index_or, if◌then◌else◌, ◌==◌}
-use Rattle.std.specs.Option.{option_map}
+use Rattle.std.specs.Prelude.{fold, max, nat_lt, slice_index_or, if◌then◌else◌}
 use Rattle.std.proofs.lemmas.Bool.Decides.{nat_tests}
 use Rattle.std.proofs.lemmas.List.{get_or-replicate, length-append, length-replicate}
 use Rattle.std.proofs.lemmas.Option.{slice_get-get_or, slice_get_past, slice_get_within, same_Some}
@@ -27,17 +26,8 @@ use Rattle.rasta_pdu.specs.declared.kind.Kind.TheVariants.{Data}
 -- where no member has this SN, none is at a position
 none_has : (ms : List Made) (sn i : ℕ) (m : Made) → position_with (pdus_made ms) sn ≡ None → slice_get ms i ≡ Some m → m.pdu.sn ≡ sn → ⊥
 none_has [] sn i m n g e = absurd (cc)
-none_has (x ∷ ms) sn i m n g e = by (x.pdu.sn == sn) refl n (λ n i g. none_has ms sn i m n g e) i g
-  where
-    option_none : (o : Option ℕ) → option_map suc o ≡ None → o ≡ None
-    option_none None h = refl
-    option_none (Some k) h = absurd (cc)
-
-    by : (b : Bool) → (x.pdu.sn == sn) ≡ b → (if b then Some 0 else option_map suc (position_with (pdus_made ms) sn)) ≡ None
-        → (position_with (pdus_made ms) sn ≡ None → (i : ℕ) → slice_get ms i ≡ Some m → ⊥) → (i : ℕ) → slice_get (x ∷ ms) i ≡ Some m → ⊥
-    by true h n rest i g = cc
-    by false h n rest zero g = (let f : x ≡ m = cc in let same : x.pdu.sn ≡ sn = ap (λ (k : Made). k.pdu.sn) f ∙ e in absurd (grind (arith, nat_tests)))
-    by false h n rest (suc i) g = rest (option_none (position_with (pdus_made ms) sn) n) i g
+none_has (x ∷ ms) sn zero m n g e = (let f : x ≡ m = cc in absurd (grind (arith, nat_tests)))
+none_has (x ∷ ms) sn (suc i) m n g e = none_has ms sn i m (grind (arith, nat_tests)) g e
 
 -- a named position lies as far after the first SN as the SN does
 distance : (ms : List Made) (sn i : ℕ) → Numbered ms → length ms ≤ 1000001 → SnIs ms i sn → ahead_by sn (first_sn ms) ≡ i
@@ -95,10 +85,7 @@ get_after places m p k low high =
     ap (slice_get (places ++ replicate m p)) at ∙ (get_past places (replicate m p) n ∙ get_replicated m p n (omega (arith, low, high)))
 
 length-with_proofs : (places : List ℕ) (n p : ℕ) → length (with_proofs places n p) ≡ max (length places) n
-length-with_proofs places n p =
-    let a = length-append places (replicate (n - length places) p) in
-    let b = length-replicate (n - length places) p in
-    omega (arith, a, b)
+length-with_proofs places n p = grind (arith, length-append, length-replicate)
 
 -- an end by which each PDU shows as much as by these lists
 module _ (e : EndState) (own peer : List SafetyPdu) where
