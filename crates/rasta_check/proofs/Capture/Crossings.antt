@@ -1,5 +1,5 @@
 -- A crossing goes on with a packet that has no fault.
-use Rattle.std.proofs.Common.{◌≡◌, ℕ, ◌+◌, ◌<◌, ◌≤◌, ◌^◌, ◌++◌, Bool, true, List, [], ◌∷◌, Option, Some, None, Result, Ok, Err, length, slice_get, refl, ap, sym, ◌∙◌, arith, subst, not, nat_lt, is_some, if◌then◌else◌, IfSome}
+use Rattle.std.proofs.Common.{◌≡◌, ℕ, ◌+◌, ◌<◌, ◌≤◌, ◌++◌, Bool, true, List, [], ◌∷◌, Option, Some, None, Result, Ok, Err, length, slice_get, refl, ap, sym, ◌∙◌, arith, subst, not, nat_lt, is_some, if◌then◌else◌, IfSome}
 use Rattle.std.specs.Prelude.{◌&&◌, ◌||◌}
 use Rattle.std.specs.Option.{option_map}
 use Rattle.std.proofs.lemmas.List.{length_push}
@@ -13,8 +13,7 @@ use Rattle.rasta_pcap.specs.declared.fault.Side.TheVariants.{Client, Server}
 use Rattle.rasta_udp.specs.Frame.{Packet}
 use Rattle.rasta_pdu.specs.Params.{Parameters, AreParameters}
 use Rattle.rasta_pdu.specs.Messages.{AreBytes}
-use Rattle.rasta_pdu.specs.Pdu.{RedundancyPdu, redundancy_bytes, safety_bytes, length_of, decode_of, value_of}
-use Rattle.std.specs.Int.{bytes_low_first}
+use Rattle.rasta_pdu.specs.Pdu.{RedundancyPdu, redundancy_bytes, decode_of, value_of}
 use Rattle.std.proofs.lemmas.Nat.{from_le_bytes-to_le_bytes_4}
 use Rattle.rasta_pdu.proofs.Spellings.{decode_of-Ok}
 use Rattle.rasta_end.specs.State.{wrapped}
@@ -222,18 +221,11 @@ spelled_at k place a h g =
     let w = (list_of k h a.side).copies place a g refl in
     (w.1.pdu, w.4)
 
-number_bytes : (a b n : ℕ) (rest : List ℕ) → n < 2 ^ 32 → number_in_bytes (bytes_low_first 0 2 a ++ (bytes_low_first 0 2 b ++ (bytes_low_first 0 4 n ++ rest))) ≡ n
-number_bytes a b n rest h = from_le_bytes-to_le_bytes_4 n h
-
-long_enough : (a b n : ℕ) (rest : List ℕ) → 8 ≤ length (bytes_low_first 0 2 a ++ (bytes_low_first 0 2 b ++ (bytes_low_first 0 4 n ++ rest)))
-long_enough a b n rest = omega arith
-
 -- the redundancy number of what is spelled stands at its place
 pub number_spelled : (p : Parameters) (side : Side) (d : RedundancyPdu) (bytes : List ℕ) → Spells p side d bytes → number_in_bytes bytes ≡ d.number
 unfolding redundancy_bytes
-number_spelled p side d bytes s = ap number_in_bytes s.same ∙ number_bytes (length_of p d) d.reserve d.number (safety_bytes p side d.safety ++ d.check_bytes) s.fits.number
+number_spelled p side d bytes s = ap number_in_bytes s.same ∙ from_le_bytes-to_le_bytes_4 d.number s.fits.number
 
 pub length_spelled : (p : Parameters) (side : Side) (d : RedundancyPdu) (bytes : List ℕ) → Spells p side d bytes → 8 ≤ length bytes
 unfolding redundancy_bytes
-length_spelled p side d bytes s =
-    subst (λ (bs : List ℕ). 8 ≤ length bs) (sym s.same) (long_enough (length_of p d) d.reserve d.number (safety_bytes p side d.safety ++ d.check_bytes))
+length_spelled p side d bytes s = omega (arith, ap length s.same)

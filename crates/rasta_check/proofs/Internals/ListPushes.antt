@@ -1,5 +1,5 @@
 -- Lists of first copies as vectors and maps hold them, with one more.
-use Rattle.std.proofs.Common.{◌≡◌, ℕ, suc, ◌+◌, ◌<◌, ◌++◌, Bool, cond, Option, List, [], ◌∷◌, Some, length, map, nat_eq, refl, ap, sym, ◌∙◌, arith, subst, if◌then◌else◌, slice_get}
+use Rattle.std.proofs.Common.{◌≡◌, ℕ, suc, ◌+◌, ◌<◌, ◌++◌, List, [], ◌∷◌, Some, length, map, nat_eq, refl, ap, sym, ◌∙◌, arith, subst, if◌then◌else◌, slice_get}
 use Rattle.std.specs.HashMap.{HashMap}
 use Rattle.std.specs.Map.{keys_of, lookup}
 use Rattle.std.specs.Option.{option_map}
@@ -60,14 +60,12 @@ module _ {S : Type 0} (m : HashMap ℕ (ℕ × Pdu) S) (x : ℕ × Pdu) (h : IsO
 
 -- ---- the place of a number
 
-found_by : (b d : Bool) (v : ℕ × Pdu) (o : Option (ℕ × Pdu)) (q : Option FirstCopy) → b ≡ d → option_map (λ (w : ℕ × Pdu). w.0) o ≡ option_map (λ (x : FirstCopy). x.place) q
-    → option_map (λ (w : ℕ × Pdu). w.0) (cond b (Some v) o) ≡ option_map (λ (x : FirstCopy). x.place) (if d then Some (copy_of v) else q)
-found_by b d v o q e h = grind arith
-
 pub place_found : (es : Entries) (n : ℕ) → keys_of es ≡ numbers_of (copies_in es)
     → option_map (λ (w : ℕ × Pdu). w.0) (lookup (nat_eq n) es) ≡ option_map (λ (x : FirstCopy). x.place) (copy_with (copies_in es) n)
 place_found [] n same = refl
 place_found (e ∷ es) n same =
     let head : e.0 ≡ (value_of e.1.1).number = cc in
     let tail : keys_of es ≡ numbers_of (copies_in es) = cc in
-    found_by (nat_eq n e.0) ((value_of e.1.1).number == n) e.1 (lookup (nat_eq n) es) (copy_with (copies_in es) n) (ap (nat_eq n) head ∙ same_test n (value_of e.1.1).number) (place_found es n tail)
+    let test : nat_eq n e.0 ≡ ((value_of e.1.1).number == n) = ap (nat_eq n) head ∙ same_test n (value_of e.1.1).number in
+    let more = place_found es n tail in
+    grind arith

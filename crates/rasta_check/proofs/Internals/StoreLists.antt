@@ -1,6 +1,6 @@
 -- What a store keeps at its positions and places.
-use Rattle.std.proofs.Common.{◌≡◌, ℕ, ◌+◌, ◌<◌, ◌≤◌, List, [], ◌∷◌, length, map, Bool, true, false, cond, not, nat_lt, nat_eq, Option, Some, None, slice_get, refl, ap, sym, ◌∙◌, subst, arith, IfSome, if◌then◌else◌}
-use Rattle.std.specs.Prelude.{◌==◌, Ok, Result}
+use Rattle.std.proofs.Common.{◌≡◌, ℕ, ◌<◌, ◌≤◌, List, [], ◌∷◌, length, map, Bool, true, false, cond, nat_lt, nat_eq, Option, Some, None, slice_get, refl, ap, sym, ◌∙◌, subst, arith, IfSome, if◌then◌else◌}
+use Rattle.std.specs.Prelude.{Ok, Result}
 use Rattle.std.specs.List.{position_or_len}
 use Rattle.std.specs.Option.{option_map}
 use Rattle.std.specs.Str.{bytes_eq}
@@ -161,14 +161,9 @@ module _ (p : Parameters) (d : KeptDatagrams) (packets : List StoredPacket) (st 
 -- ---- packets of known numbers
 
 -- the first copy of a number stands at the number's position
-copy_step : (e b : Bool) (c : FirstCopy) (own : List FirstCopy) (l : ℕ) (o : Option FirstCopy) → e ≡ b → o ≡ slice_get own l
-    → (if b then Some c else o) ≡ slice_get (c ∷ own) (cond (not e) (1 + l) 0)
-copy_step e b c own l o f h = grind arith
-
 or_len : (own : List FirstCopy) (n : ℕ) → copy_with own n ≡ slice_get own (position_or_len (nat_eq n) (numbers_of own))
 or_len [] n = refl
-or_len (c ∷ own) n =
-    copy_step (nat_eq n c.pdu.number) (c.pdu.number == n) c own (position_or_len (nat_eq n) (numbers_of own)) (copy_with own n) (same_test n c.pdu.number) (or_len own n)
+or_len (c ∷ own) n = (let more = or_len own n in let test = same_test n c.pdu.number in grind arith)
 
 shown_none : (l n : ℕ) → cond (nat_lt l n) (Some l) None ≡ None → n ≤ l
 shown_none l n e = grind (arith, nat_tests)

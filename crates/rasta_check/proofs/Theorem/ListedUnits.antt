@@ -1,5 +1,5 @@
 -- The units that two lists show to be taken: their members, their proofs, and that they were handed up.
-use Rattle.std.proofs.Common.{◌≡◌, ◌⊎◌, ℕ, zero, suc, ◌+◌, ◌<◌, ◌≤◌, Bool, true, false, cond, List, [], ◌∷◌, ◌++◌, length, Option, Some, None, slice_get, take, drop, refl, ap, sym, ◌∙◌, arith, inl, inr, ⊎_elim, subst}
+use Rattle.std.proofs.Common.{◌≡◌, ◌⊎◌, ℕ, zero, suc, ◌+◌, ◌<◌, ◌≤◌, Bool, true, false, List, [], ◌∷◌, ◌++◌, length, Option, Some, None, slice_get, take, drop, refl, ap, sym, ◌∙◌, arith, inl, inr, ⊎_elim, subst}
 use Rattle.std.specs.Prelude.{map, filter, fold, max, nat_lt, if◌then◌else◌}
 use Rattle.std.proofs.lemmas.Bool.Decides.{nat_tests}
 use Rattle.std.proofs.lemmas.List.{append-nil, length-append, length-map, length-take, length-take-le, take-append-drop}
@@ -85,12 +85,7 @@ data_made made = filter (λ (m : Made). is_kind Data m.pdu.kind) made
 data-mapped : {A : Type 0} (f : A → SafetyPdu) (xs : List A) → map f (filter (λ (x : A). is_kind Data (f x).kind) xs) ≡ data_in (map f xs)
 unfolding data_in
 data-mapped f [] = refl
-data-mapped {A = A} f (x ∷ xs) = by (is_kind Data (f x).kind) (data-mapped f xs)
-  where
-    by : (b : Bool) → map f (filter (λ (y : A). is_kind Data (f y).kind) xs) ≡ filter (λ (y : SafetyPdu). is_kind Data y.kind) (map f xs)
-        → map f (cond b (x ∷ filter (λ (y : A). is_kind Data (f y).kind) xs) (filter (λ (y : A). is_kind Data (f y).kind) xs)) ≡ cond b (f x ∷ filter (λ (y : SafetyPdu). is_kind Data y.kind) (map f xs)) (filter (λ (y : SafetyPdu). is_kind Data y.kind) (map f xs))
-    by true e = ap (λ ys. f x ∷ ys) e
-    by false e = e
+data-mapped f (x ∷ xs) = (let more = data-mapped f xs in grind arith)
 
 quiet_data : (q : Option Quiet) (s : Side) (xs : List SafetyPdu) → data_in (pdus_made (start_by q s).made ++ xs) ≡ data_in xs
 unfolding data_in
@@ -129,16 +124,14 @@ data_grown e f g grown h = record { same_count = h.same_count; messages = λ i x
 
 -- no more was handed up than there are data PDUs
 pub few_handed : (e f : EndState) → HandsUpData e f → length e.handed ≤ length (data_made f.made)
-few_handed e f h = by (length e.handed) refl
-  where
-    by : (n : ℕ) → length e.handed ≡ n → n ≤ length (data_made f.made)
-    by zero l = omega arith
-    by (suc n) l =
-        let c = h.same_count in
-        let x = slice_get_some e.handed_pdus n (omega (arith, c, l)) in
-        let r = h.messages n x.0 x.1 in
-        let z = slice_get_within (data_made f.made) n r.0 r.1 in
-        omega arith
+few_handed e f h =
+    let not_more : length (data_made f.made) < length e.handed → ⊥ = λ l.
+    (let c = h.same_count in
+    let x = slice_get_some e.handed_pdus (length (data_made f.made)) (omega arith) in
+    let r = h.messages (length (data_made f.made)) x.0 x.1 in
+    let z = slice_get_within (data_made f.made) (length (data_made f.made)) r.0 r.1 in
+    omega arith) in
+    omega (arith, not_more)
 
 -- e takes the units of f; `own` is what f sent
 module _ (p : Parameters) (s : Side) (e f : EndState) (own peer : List FirstCopy) (told : pdus_made f.made ≡ all_made p s own) (h : HandsUpData e f) where

@@ -1,6 +1,6 @@
 -- What the PDUs of a sent list show of the units of the other side.
-use Rattle.std.proofs.Common.{◌≡◌, ℕ, zero, suc, ◌≤◌, Bool, true, false, List, [], ◌∷◌, Option, Some, None, slice_get, refl, ap, ◌∙◌, arith}
-use Rattle.std.specs.Prelude.{slice_index_or, map, fold, max, if◌then◌else◌}
+use Rattle.std.proofs.Common.{◌≡◌, ℕ, zero, suc, ◌≤◌, false, List, [], ◌∷◌, Option, Some, None, slice_get, refl, ap, ◌∙◌, arith}
+use Rattle.std.specs.Prelude.{slice_index_or, map, fold, max}
 use Rattle.std.proofs.lemmas.Option.{slice_get_within, slice_get-get_or}
 use Rattle.rasta_pcap.specs.declared.fault.Side.{Side}
 use Rattle.rasta_pcap.specs.declared.fault.Side.TheVariants.{Client, Server}
@@ -36,13 +36,11 @@ module _ (f : EndState) (own peer : List SafetyPdu) (told : pdus_made f.made ≡
       let same : units_at (units_along own peer) (Some c) ≡ v = ap (λ (vs : List ℕ). slice_index_or vs c 0) along in
       omega (arith, b, same)
 
-  by_kind : (b : Bool) → is_kind ConnectionRequest x.kind ≡ b → (if b then 0 else units_at (units_along own peer) (position_with own x.cs)) ≤ n
-  by_kind true e = omega arith
-  by_kind false e = at_position e (position_with own x.cs) refl
-
   -- a PDU shows at most n units where each position that it confirms conveys at most n
   pub shows_most : units_shown own peer x ≤ n
-  shows_most = by_kind (is_kind ConnectionRequest x.kind) refl
+  shows_most =
+      let other : is_kind ConnectionRequest x.kind ≡ false → units_at (units_along own peer) (position_with own x.cs) ≤ n = λ k. at_position k (position_with own x.cs) refl in
+      grind arith
 
 -- ---- the most that any of them shows
 
