@@ -196,22 +196,14 @@ within_room k a is_new h e = room_at k a a.side (sent_after k a) is_new h e
 module _ (k : Crossing) (a : Packet) (packets : List Packet) (grown : packets ≡ k.packets ++ a ∷ []) where
   pub after_client : (place : ℕ) (pdu : Pdu) (client : List FirstCopy) → a.side ≡ Client → place ≡ length k.packets → client ≡ k.client ++ copy_of (place, pdu) ∷ []
       → record { params = k.params; packets = packets; client = client; server = k.server } ≡ crossing_with k a a.side (with_new (sent_by k a.side) (length k.packets) (Some pdu))
-  after_client place pdu client s l f =
-      (λ i. record { params = k.params; packets = grown i; client = (f ∙ ap (λ n. k.client ++ copy_of (n, pdu) ∷ []) l) i; server = k.server })
-      ∙ sym (ap (λ (t : Side). crossing_with k a t (with_new (sent_by k t) (length k.packets) (Some pdu))) s)
+  after_client place pdu client s l f = grind arith
 
   pub after_server : (place : ℕ) (pdu : Pdu) (server : List FirstCopy) → a.side ≡ Server → place ≡ length k.packets → server ≡ k.server ++ copy_of (place, pdu) ∷ []
       → record { params = k.params; packets = packets; client = k.client; server = server } ≡ crossing_with k a a.side (with_new (sent_by k a.side) (length k.packets) (Some pdu))
-  after_server place pdu server s l f =
-      (λ i. record { params = k.params; packets = grown i; client = k.client; server = (f ∙ ap (λ n. k.server ++ copy_of (n, pdu) ∷ []) l) i })
-      ∙ sym (ap (λ (t : Side). crossing_with k a t (with_new (sent_by k t) (length k.packets) (Some pdu))) s)
+  after_server place pdu server s l f = grind arith
 
   pub after_repeat : record { params = k.params; packets = packets; client = k.client; server = k.server } ≡ crossing_with k a a.side (with_new (sent_by k a.side) (length k.packets) None)
-  after_repeat = (λ i. record { params = k.params; packets = grown i; client = k.client; server = k.server }) ∙ by a.side
-    where
-      by : (t : Side) → record { params = k.params; packets = k.packets ++ a ∷ []; client = k.client; server = k.server } ≡ crossing_with k a t (with_new (sent_by k t) (length k.packets) None)
-      by Client = refl
-      by Server = refl
+  after_repeat = grind arith
 
 -- ---- the number of a packet
 

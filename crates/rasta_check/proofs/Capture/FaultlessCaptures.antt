@@ -1,7 +1,7 @@
 -- A capture is read without a fault exactly where it has none.
 use Rattle.std.proofs.Common.{◌≡◌, ◌⊎◌, ℕ, ◌+◌, ◌-◌, ◌≤◌, List, [], ◌∷◌, ◌++◌, length, drop, append_assoc, length-append, Option, Some, None, Result, Ok, Err, Bool, true, false, refl, ap, sym, ◌∙◌, arith, subst, nat_lt, if◌then◌else◌, inl, inr}
 use Rattle.std.specs.Prelude.{IsOk}
-use Rattle.std.specs.List.{cons_option}
+use Rattle.std.specs.List.{AllByRecursion, cons_option}
 use Rattle.std.proofs.lemmas.List.{length_push}
 use Rattle.std.proofs.lemmas.List.Elements.{filter_map-append}
 use Rattle.std.proofs.lemmas.Grind.{flat_map-append}
@@ -98,9 +98,9 @@ module _ (k : Crossing) (a : Packet) (more : List Packet) (h : IsCrossing k) (bi
 
 -- ---- what has no fault is read
 
-sound_at : (p : Parameters) (front : List (List ℕ)) (frame : List ℕ) (later : List (List ℕ)) → AreSound p (front ++ frame ∷ later) → IsOk (packet_in p.channels frame)
-sound_at p [] frame later h = h.0
-sound_at p (x ∷ front) frame later h = sound_at p front frame later h.1
+pub all_at : {X : Type 0} (P : X → Type 0) (front : List X) (x : X) (later : List X) → AllByRecursion P (front ++ x ∷ later) → P x
+all_at P [] x later h = h.0
+all_at P (y ∷ front) x later h = all_at P front x later h.1
 
 -- numbered records up to some of them, and the number of the next
 pub row_front : (front later : List Numbered) (n : ℕ) → AreFrom n (front ++ later) → AreFrom n front
@@ -143,7 +143,7 @@ module _ (p : Parameters) (h : OfConnection p) (front later : List Numbered) (r 
 
   pub not_refused : (f : Fault) → Step k r (Err f) → ⊥
   not_refused f (bad_frame g inside found) =
-      absurd (let sound = sound_at p (window p front) r.1 (window p later) (subst (AreSound p) (frames_at inside) all.frames) in let bad = subst IsOk found sound in cc)
+      absurd (let sound = all_at _ (window p front) r.1 (window p later) (subst (AreSound p) (frames_at inside) all.frames) in let bad = subst IsOk found sound in cc)
   not_refused f (bad_packet a number inside found some) =
       absurd (let w = list_at a inside found a.side in let none = no_fault k a (packets_in p (window p later)) is w.0 w.1 in cc)
   not_refused f (no_room a inside found none full) =
@@ -193,10 +193,6 @@ same_list : (p : Parameters) (side : Side) (packets : List Packet) (own sent : L
 same_list p side packets own sent valid mine theirs few =
     sent_once p packets side own sent (to_record p packets side own valid mine) (to_record p packets side sent valid theirs) (omega arith)
 
-pub bytes_at : (front : List Numbered) (r : Numbered) (later : List Numbered) → AllBytes (front ++ r ∷ later) → AreBytes r.1
-bytes_at [] r later h = h.0
-bytes_at (x ∷ front) r later h = bytes_at front r later h.1
-
 pub records_are_read : (p : Parameters) (rs : List Numbered) (client server : List FirstCopy) → OfConnection p → AllBytes rs → AreFrom 1 rs → AreFaultless p (frames_of rs) client server
     → after_records (nothing_crossed p) rs None ≡ Ok (crossing_by p (frames_of rs) client server)
 records_are_read p rs client server h are numbers all = by (after_records (nothing_crossed p) rs None) refl
@@ -204,7 +200,7 @@ records_are_read p rs client server h are numbers all = by (after_records (nothi
     broken : (f : Fault) → ((c s : List FirstCopy) × AreFaultless p (frames_of rs) c s × ◌≡◌ {A = Option Fault} None (Some f)) ⊎ FirstFault p rs f → ⊥
     broken f (inl w) = absurd (let end = w.3 in cc)
     broken f (inr w) =
-        not_refused p h w.front w.later w.at (subst (AreFrom 1) w.split numbers) (bytes_at w.front w.at w.later (subst AllBytes w.split are)) w.client w.server w.is client server
+        not_refused p h w.front w.later w.at (subst (AreFrom 1) w.split numbers) (all_at _ w.front w.at w.later (subst AllBytes w.split are)) w.client w.server w.is client server
         (subst (λ (xs : List Numbered). AreFaultless p (frames_of xs) client server) w.split all) f w.step
 
     by : (o : Result Crossing Fault) → after_records (nothing_crossed p) rs None ≡ o → o ≡ Ok (crossing_by p (frames_of rs) client server)

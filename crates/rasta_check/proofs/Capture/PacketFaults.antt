@@ -6,7 +6,6 @@ use Rattle.std.proofs.lemmas.Bool.Decides.{nat_tests}
 use Rattle.std.proofs.lemmas.Slice.Eq.{bytes_eq-Decides}
 use Rattle.rasta_pcap.specs.Fault.{copy_differs, number_gap}
 use Rattle.rasta_pcap.specs.declared.fault.Side.{Side}
-use Rattle.rasta_pcap.specs.declared.fault.Side.TheVariants.{Client, Server}
 use Rattle.rasta_udp.specs.Frame.{Packet}
 use Rattle.rasta_pdu.specs.Params.{Parameters}
 use Rattle.rasta_pdu.specs.Pdu.{RedundancyPdu, redundancy_bytes, decode_of, receiver_of, sender_of}
@@ -19,12 +18,10 @@ use Rattle.rasta_check.proofs.Capture.NextPackets.{CanFollow}
 use Rattle.rasta_check.proofs.Capture.Positions.{next_new, number_once}
 
 receiver_small : (p : Parameters) (side : Side) → OfConnection p → receiver_of p side < 2 ^ 32
-receiver_small p Client h = h.server_id
-receiver_small p Server h = h.client_id
+receiver_small p side h = grind arith
 
 sender_small : (p : Parameters) (side : Side) → OfConnection p → sender_of p side < 2 ^ 32
-sender_small p Client h = h.client_id
-sender_small p Server h = h.server_id
+sender_small p side h = grind arith
 
 -- what is spelled is read back
 reads : (p : Parameters) (side : Side) (d : RedundancyPdu) (bytes : List ℕ) → OfConnection p → Spells p side d bytes → decode_of p side bytes ≡ Ok d

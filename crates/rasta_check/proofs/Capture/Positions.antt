@@ -1,5 +1,5 @@
 -- Positions in ordered lists of first copies.
-use Rattle.std.proofs.Common.{◌≡◌, ℕ, zero, suc, ◌+◌, ◌-◌, ◌%◌, ◌^◌, ◌<◌, ◌≤◌, ◌++◌, Bool, true, false, cond, nat_lt, nat_eq, List, [], ◌∷◌, Some, None, length, get_or, slice_get, position, refl, ap, sym, ◌∙◌, arith, subst, if◌then◌else◌, eqb, take, drop}
+use Rattle.std.proofs.Common.{◌≡◌, ℕ, zero, suc, ◌+◌, ◌-◌, ◌%◌, ◌^◌, ◌<◌, ◌≤◌, ◌++◌, Bool, false, cond, nat_lt, nat_eq, List, [], ◌∷◌, Some, None, length, get_or, slice_get, position, ap, sym, ◌∙◌, arith, subst, if◌then◌else◌, eqb, take, drop}
 use Rattle.std.specs.Prelude.{◌==◌}
 use Rattle.std.specs.List.{position_or_len}
 use Rattle.std.specs.Option.{option_map}
@@ -152,11 +152,11 @@ module _ (sent : List FirstCopy) (c : FirstCopy) (h : IsOrdered (sent ++ c ∷ [
   place_last = place_named (sent ++ c ∷ []) h (length sent) c (get_push sent c)
 
   pub place_pushed : (q : ℕ) → position_of_place (sent ++ c ∷ []) q ≡ (if nat_eq q c.place then Some (length sent) else position_of_place sent q)
-  place_pushed q = by (nat_eq q c.place) refl
-    where
-      by : (b : Bool) → nat_eq q c.place ≡ b → position_of_place (sent ++ c ∷ []) q ≡ (if b then Some (length sent) else position_of_place sent q)
-      by true e = (let same : c.place ≡ q = grind (arith, nat_tests) in subst (λ n. position_of_place (sent ++ c ∷ []) n ≡ Some (length sent)) same place_last)
-      by false e = ap (position (nat_eq q)) (map-append (λ (d : FirstCopy). d.place) sent (c ∷ [])) ∙ position_push (nat_eq q) (places_of sent) c.place e
+  place_pushed q =
+      let here : c.place ≡ q → position_of_place (sent ++ c ∷ []) q ≡ Some (length sent) = λ same. subst (λ n. position_of_place (sent ++ c ∷ []) n ≡ Some (length sent)) same place_last in
+      let old : nat_eq q c.place ≡ false → position_of_place (sent ++ c ∷ []) q ≡ position_of_place sent q = λ e.
+      ap (position (nat_eq q)) (map-append (λ (d : FirstCopy). d.place) sent (c ∷ [])) ∙ position_push (nat_eq q) (places_of sent) c.place e in
+      grind (arith, nat_tests)
 
   -- the marks with one more are those of the list with one more
   pub marks_pushed : (old new : List ℕ) → AreMarks sent old → ((q : ℕ) → marked new q ≡ (if nat_eq q c.place then Some (length sent) else marked old q)) → AreMarks (sent ++ c ∷ []) new

@@ -8,7 +8,6 @@ use Prim.{yes, no}
 use Rattle.std.specs.Option.{option_flatten}
 use Rattle.std.specs.Result.{result_ok}
 use Rattle.rasta_pcap.specs.declared.fault.Side.{Side}
-use Rattle.rasta_pcap.specs.declared.fault.Side.TheVariants.{Client, Server}
 use Rattle.rasta_pcap.specs.Fault.{fault_at, fault_of_end, too_many}
 use Rattle.rasta_pcap.proofs.Captures.{IsCapture-reading_of, reading_of-IsCapture, numbers-reading_of}
 use Rattle.rasta_udp.specs.Frame.{Packet, packet_in}
@@ -111,8 +110,7 @@ pub record Adds (k last : Crossing) (rs : List Numbered) (frames : List (List �
   pub crossing : IsCrossing k → AllBytes rs → IsCrossing last
 
 pub grown_is : (k : Crossing) (a : Packet) (side : Side) (own : List FirstCopy) → ((crossing_with k a side own).packets ≡ k.packets ++ a ∷ []) × ((crossing_with k a side own).params ≡ k.params)
-grown_is k a Client own = (refl, refl)
-grown_is k a Server own = (refl, refl)
+grown_is k a side own = grind arith
 
 adds_none : (k : Crossing) → Adds k k [] []
 adds_none k = record { packets = sym (append-nil k.packets); params = refl; sound = tt; crossing = λ h are. h }
@@ -139,8 +137,7 @@ adds_first k next last r rs (joined a t g n e) more =
     })
 
 pub then_by : (q : Result Crossing Fault) (f : Crossing → Result Crossing Fault) (last : Crossing) → and_then q f ≡ Ok last → (next : Crossing) × (q ≡ Ok next) × (f next ≡ Ok last)
-then_by (Ok next) f last e = (next, refl, e)
-then_by (Err fault) f last e = absurd (cc)
+then_by q f last e = grind arith
 
 end_by : (k last : Crossing) (o : Option Fault) → at_end k o ≡ Ok last → (o ≡ None) × (k ≡ last)
 end_by k last o e = grind arith

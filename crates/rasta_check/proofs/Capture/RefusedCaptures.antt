@@ -9,7 +9,6 @@ use Prim.{yes, no}
 use Rattle.std.proofs.lemmas.Bool.Decides.{nat_tests}
 use Rattle.rasta_pcap.specs.declared.fault.Fault.{Fault}
 use Rattle.rasta_pcap.specs.declared.fault.Side.{Side}
-use Rattle.rasta_pcap.specs.declared.fault.Side.TheVariants.{Client, Server}
 use Rattle.rasta_pcap.specs.Fault.{fault_at, no_memory, too_many}
 use Rattle.rasta_pcap.specs.Capture.{Cursor, IsCapture, Numbered, cursor_after, opening, reading, reading_of}
 use Rattle.rasta_pcap.proofs.Captures.{IsCapture-reading_of, IsRefused-reading_of, numbers-reading_of, opening-by_reading_of, reading_of-IsCapture, reading_of-IsRefused, reading_of-header_fault}
@@ -22,7 +21,7 @@ use Rattle.rasta_check.specs.Capture.Reading.{Crossing, after_frame, after_judge
 use Rattle.rasta_check.specs.Capture.Faults.{AreFaultless, CrossedIn, HasFault, in_frame, in_packet, in_limits, IsFaultlessCapture, IsRefusedCapture, in_header, in_reading, in_record, sent_of}
 use Rattle.rasta_check.proofs.Capture.RecordBytes.{AllBytes, file_bytes}
 use Rattle.rasta_check.proofs.Capture.Readings.{AreFrom, Step, after-refused, bad_frame, bad_packet, frames_of, no_room, then_by}
-use Rattle.rasta_check.proofs.Capture.FaultlessCaptures.{FirstFault, IsFaulty, bytes_at, crossed_by, crossed_in, crossing_by, faultless_is_read, first_fault, front_bytes, not_refused, read_is_faultless, records_are_read, row_at, row_front}
+use Rattle.rasta_check.proofs.Capture.FaultlessCaptures.{FirstFault, IsFaulty, all_at, crossed_by, crossed_in, crossing_by, faultless_is_read, first_fault, front_bytes, not_refused, read_is_faultless, records_are_read, row_at, row_front}
 
 -- ---- the first records of a file
 
@@ -76,8 +75,7 @@ module _ (p : Parameters) (records : List (List ℕ)) (c s : List FirstCopy) (r 
   k = crossing_by p records c s
 
   own_is : (side : Side) → sent_by k side ≡ sent_of side c s
-  own_is Client = refl
-  own_is Server = refl
+  own_is side = grind arith
 
   -- it stands in the window, and has this fault
   record FaultHere (f : Fault) : Type 0 where
@@ -159,7 +157,7 @@ module _ (p : Parameters) (file : List ℕ) (h : OfConnection p) (are : AreBytes
   refused_by f (inr w) =
       let z = broken w.front w.at w.later w.split in
       let o = fault_of p (frames_of w.front) w.client w.server w.at f
-      (λ c s g. not_refused p h w.front [] w.at z.row (bytes_at w.front w.at [] z.bytes) w.client w.server w.is c s
+      (λ c s g. not_refused p h w.front [] w.at z.row (all_at _ w.front w.at [] z.bytes) w.client w.server w.is c s
       (subst (λ (xs : List (List ℕ)). AreFaultless p xs c s) (sym (frames_push w.front w.at)) g) f w.step) w.step in
       let low = o.low in
       let number = z.number in

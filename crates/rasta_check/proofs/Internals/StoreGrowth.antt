@@ -54,12 +54,10 @@ unfolding Among
 among_same d side i x g = g
 
 kept_with : (d : KeptDatagrams) (side : Side) (y : Kept) → (kept_by (keeping d side y) side ≡ kept_by d side ++ y ∷ []) × ((keeping d side y).bytes ≡ d.bytes ++ y.bytes)
-kept_with d Client y = (refl, refl)
-kept_with d Server y = (refl, refl)
+kept_with d side y = grind arith
 
 sent_with : (k : Crossing) (a : Packet) (side : Side) (own : List FirstCopy) → sent_by (crossing_with k a side own) side ≡ own
-sent_with k a Client own = refl
-sent_with k a Server own = refl
+sent_with k a side own = grind arith
 
 positions_more : (d e : KeptDatagrams) → Among d e → (xs : List StoredPacket) (x : StoredPacket) → HavePositions d xs → x.position < length (kept_by e x.side) → HavePositions e (xs ++ x ∷ [])
 unfolding Among
@@ -219,12 +217,10 @@ module _ (p : Parameters) (d : KeptDatagrams) (packets : List StoredPacket) (st 
     longer = record { params = p; packets = k.packets ++ packet_with channel side payload ∷ []; client = k.client; server = k.server }
 
     same_lists : (s : Side) → longer ≡ crossing_with k (packet_with channel side payload) s (sent_by k s)
-    same_lists Client = refl
-    same_lists Server = refl
+    same_lists s = grind arith
 
     same_sent : (s : Side) → sent_by longer s ≡ sent_by k s
-    same_sent Client = refl
-    same_sent Server = refl
+    same_sent s = grind arith
 
     copy_lists : crossing_by p d (packets ++ again ∷ []) ≡ longer
     copy_lists = (λ i. record { params = p; packets = packets_with d again _ (among_same d) again_here i; client = k.client; server = k.server })

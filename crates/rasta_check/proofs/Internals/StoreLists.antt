@@ -10,7 +10,6 @@ use Rattle.std.proofs.lemmas.List.{length-map}
 use Rattle.std.proofs.lemmas.Option.{cond_some, slice_get-map, slice_get_past}
 use Rattle.rasta_pcap.specs.declared.fault.Fault.{Fault}
 use Rattle.rasta_pcap.specs.declared.fault.Side.{Side}
-use Rattle.rasta_pcap.specs.declared.fault.Side.TheVariants.{Client, Server}
 use Rattle.rasta_pcap.specs.Fault.{copy_differs, number_gap}
 use Rattle.rasta_udp.specs.Frame.{Packet}
 use Rattle.rasta_pdu.specs.Params.{Parameters}
@@ -52,8 +51,7 @@ module _ (p : Parameters) (d : KeptDatagrams) (packets : List StoredPacket) wher
   whole = crossing_by p d packets
 
   pub sent_is : (side : Side) → sent_by whole side ≡ map (copy_in p side) (kept_by d side)
-  sent_is Client = refl
-  sent_is Server = refl
+  sent_is side = grind arith
 
   pub kept_at : IsStore p d packets → (side : Side) (position : ℕ) (x : Kept) → slice_get (kept_by d side) position ≡ Some x
       → IsFirst p side x (sent_by whole side) position

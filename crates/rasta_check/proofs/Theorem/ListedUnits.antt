@@ -1,11 +1,10 @@
 -- The units that two lists show to be taken: their members, their proofs, and that they were handed up.
-use Rattle.std.proofs.Common.{◌≡◌, ◌⊎◌, ℕ, zero, suc, ◌+◌, ◌<◌, ◌≤◌, Bool, true, false, List, [], ◌∷◌, ◌++◌, length, Option, Some, None, slice_get, take, drop, refl, ap, sym, ◌∙◌, arith, inl, inr, ⊎_elim, subst}
+use Rattle.std.proofs.Common.{◌≡◌, ◌⊎◌, ℕ, zero, suc, ◌+◌, ◌<◌, ◌≤◌, Bool, true, false, List, [], ◌∷◌, ◌++◌, length, Option, Some, slice_get, take, drop, refl, ap, sym, ◌∙◌, arith, inl, inr, ⊎_elim, subst}
 use Rattle.std.specs.Prelude.{map, filter, fold, max, nat_lt, if◌then◌else◌}
 use Rattle.std.proofs.lemmas.Bool.Decides.{nat_tests}
 use Rattle.std.proofs.lemmas.List.{append-nil, length-append, length-map, length-take, length-take-le, take-append-drop}
 use Rattle.std.proofs.lemmas.Option.{slice_get_within}
 use Rattle.rasta_pcap.specs.declared.fault.Side.{Side}
-use Rattle.rasta_pcap.specs.declared.fault.Side.TheVariants.{Client, Server}
 use Rattle.rasta_pdu.specs.declared.quiet_point.Quiet.{Quiet}
 use Rattle.rasta_pdu.specs.Params.{Parameters}
 use Rattle.rasta_pdu.specs.Pdu.{SafetyPdu, messages_in, is_kind}
@@ -89,10 +88,7 @@ data-mapped f (x ∷ xs) = (let more = data-mapped f xs in grind arith)
 
 quiet_data : (q : Option Quiet) (s : Side) (xs : List SafetyPdu) → data_in (pdus_made (start_by q s).made ++ xs) ≡ data_in xs
 unfolding data_in
-quiet_data None Client xs = refl
-quiet_data None Server xs = refl
-quiet_data (Some q) Client xs = refl
-quiet_data (Some q) Server xs = refl
+quiet_data q s xs = grind arith
 
 -- the data PDUs that an end made are those of its sent list
 same_data : (p : Parameters) (s : Side) (f : EndState) (own : List FirstCopy) → pdus_made f.made ≡ all_made p s own → pdus_made (data_made f.made) ≡ pdus_of (data_copies own)

@@ -3,7 +3,6 @@ use Rattle.std.proofs.Common.{◌≡◌, ℕ, zero, suc, ◌≤◌, false, List,
 use Rattle.std.specs.Prelude.{slice_index_or, map, fold, max}
 use Rattle.std.proofs.lemmas.Option.{slice_get_within, slice_get-get_or}
 use Rattle.rasta_pcap.specs.declared.fault.Side.{Side}
-use Rattle.rasta_pcap.specs.declared.fault.Side.TheVariants.{Client, Server}
 use Rattle.rasta_pdu.specs.declared.quiet_point.Quiet.{Quiet}
 use Rattle.rasta_pdu.specs.Pdu.{SafetyPdu, is_kind}
 use Rattle.rasta_end.specs.State.{EndState}
@@ -17,10 +16,7 @@ use Rattle.rasta_pdu.specs.declared.kind.Kind.TheVariants.{ConnectionRequest}
 
 -- a quiet PDU asks for nothing
 pub quiet_asks : (q : Option Quiet) (s : Side) (own : List SafetyPdu) → asked_positions own (pdus_made (start_by q s).made) ≡ []
-quiet_asks None Client own = refl
-quiet_asks None Server own = refl
-quiet_asks (Some q) Client own = refl
-quiet_asks (Some q) Server own = refl
+quiet_asks q s own = grind arith
 
 -- f's units, by lists that tell what f made and what its peer did
 module _ (f : EndState) (own peer : List SafetyPdu) (told : pdus_made f.made ≡ own) (along : units_along own peer ≡ values f) (n : ℕ) (x : SafetyPdu)

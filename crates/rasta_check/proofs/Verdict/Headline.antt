@@ -57,8 +57,7 @@ ends p packets c s scripts report h = by (follow p Client packets c s scripts.cl
     by (Err fault) e y f g = absurd (cc)
 
 twice : (side : Side) → other_side (other_side side) ≡ side
-twice Client = refl
-twice Server = refl
+twice side = grind arith
 
 -- these are the sent lists of these packets
 module _ (p : Parameters) (packets : List Packet) (c s : List FirstCopy) (h : IsCrossing (record { params = p; packets = packets; client = c; server = s })) where
