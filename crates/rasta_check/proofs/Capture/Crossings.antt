@@ -28,7 +28,7 @@ use Rattle.rasta_check.specs.Capture.Reading.{Crossing, IsCrossing, sent_by, aft
 use Rattle.rasta_check.proofs.Capture.FaultlessLists.{IsSent, ordered}
 use Rattle.rasta_check.proofs.Capture.ListForms.{to_record, of_record}
 use Rattle.rasta_check.proofs.Capture.FirstCopies.{sent_copy, sent_first, sent_other}
-use Rattle.rasta_check.proofs.Capture.NextPackets.{first_number, numbers_from, next_from}
+use Rattle.rasta_check.proofs.Capture.NextPackets.{counted}
 use Rattle.std.proofs.lemmas.Bool.Decides.{nat_tests}
 use Rattle.rasta_check.proofs.Capture.PacketFaults.{copy_found, passed}
 use Rattle.rasta_check.proofs.Capture.Channels.{recorded_more}
@@ -42,8 +42,9 @@ next_of (x ∷ os) n e c g = (let same : x ≡ c = cc in let z : n ≡ wrapped (
 module _ (p : Parameters) (packets : List Packet) (side : Side) (own : List FirstCopy) (a : Packet) (sent : IsSent p packets side own) (of_side : a.side ≡ side) where
   by_copy : (d : RedundancyPdu) → Spells p side d a.payload → (o : Option FirstCopy) → copy_with own d.number ≡ o → number_fault p side own a.payload d o ≡ None
       → IsSent p (packets ++ a ∷ []) side (after_pdu own (length packets) d o)
-  by_copy d s None e n = (sent_first p packets a side own d (first_number own d) sent (numbers_from p packets side own d sent) of_side s
-      (next_from own d s.fits.number (next_of own d.number (passed (is_next_number own d.number) number_gap n)))).0
+  by_copy d s None e n =
+      let f = counted p packets side own d sent s.fits.number (next_of own d.number (passed (is_next_number own d.number) number_gap n)) in
+      (sent_first p packets a side own d f.0 sent f.1 of_side s f.2).0
   by_copy d s (Some c) e n =
       let f = copy_found own d.number c e in
       let w = sent.firsts f.0 c f.1 in
@@ -145,11 +146,6 @@ is_next_pdu k a pdu h reads e =
 
 -- ---- the limits
 
--- a list of its side that is as long, or longer by one
-room_at : (k : Crossing) (a : Packet) (side : Side) (own : List FirstCopy) (is_new : Bool) → IsCrossing k → length own ≡ length (sent_by k side) + (if is_new then 1 else 0)
-    → is_within (crossing_with k a side own) ≡ (nat_lt (length k.packets) most_packets && (not is_new || nat_lt (length (sent_by k side)) most_sent))
-room_at k a side own is_new h e = (let l = length_push k.packets a in let x = h.sent.few_client in let y = h.sent.few_server in grind (arith, nat_tests))
-
 pub new_length : (sent : List FirstCopy) (place : ℕ) (new : Option Pdu) → length (with_new sent place new) ≡ length sent + (if is_some new then 1 else 0)
 new_length sent place None = omega arith
 new_length sent place (Some pdu) = length_push sent (copy_of (place, pdu))
@@ -189,7 +185,7 @@ grown_crossing k a h on are n within = grown_at k a a.side (sent_after k a) refl
 -- whether there is room for a packet without a fault, whose PDU is new or known
 pub within_room : (k : Crossing) (a : Packet) (is_new : Bool) → IsCrossing k → length (sent_after k a) ≡ length (sent_by k a.side) + (if is_new then 1 else 0)
     → is_within (with_packet k a) ≡ (nat_lt (length k.packets) most_packets && (not is_new || nat_lt (length (sent_by k a.side)) most_sent))
-within_room k a is_new h e = room_at k a a.side (sent_after k a) is_new h e
+within_room k a is_new h e = (let l = length_push k.packets a in let x = h.sent.few_client in let y = h.sent.few_server in grind (arith, nat_tests))
 
 -- ---- the parts of a crossing with one packet more
 

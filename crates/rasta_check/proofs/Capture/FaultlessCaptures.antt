@@ -19,7 +19,7 @@ use Rattle.rasta_pdu.specs.Messages.{AreBytes}
 use Rattle.rasta_check.specs.Capture.Crossing.{FirstCopy, Sent, crossing_list, packet_fault}
 use Rattle.rasta_check.specs.Model.Theorem.{OfConnection, most_packets}
 use Rattle.rasta_check.specs.Model.World.{most_sent}
-use Rattle.rasta_check.specs.Capture.Reading.{Crossing, IsCrossing, after_records, crossing_of, crossing_with, is_within, nothing_crossed, sent_after, sent_by, with_packet}
+use Rattle.rasta_check.specs.Capture.Reading.{Crossing, IsCrossing, after_records, crossing_of, is_within, nothing_crossed, sent_after, sent_by, with_packet}
 use Rattle.rasta_check.specs.Capture.Faults.{AreFaultless, CrossedIn, IsFaultlessCapture}
 use Rattle.rasta_check.proofs.Capture.FaultlessLists.{IsSent}
 use Rattle.rasta_check.proofs.Capture.Crossings.{crossing_of_lists, list_of, few_of, is_read, goes_on}
@@ -74,9 +74,6 @@ read_is_faultless p file k h are e = (crossed_in p file k h are e).capture
 
 -- ---- a packet that comes next
 
-within_with : (k : Crossing) (a : Packet) (side : Side) (sent : List FirstCopy) → IsCrossing k → length (k.packets ++ a ∷ []) ≤ most_packets → length sent ≤ most_sent → is_within (crossing_with k a side sent) ≡ true
-within_with k a side sent h l m = (let x = h.sent.few_server in let y = h.sent.few_client in grind (arith, nat_tests))
-
 -- of all packets its sender sent a list
 module _ (k : Crossing) (a : Packet) (more : List Packet) (h : IsCrossing k) (big : List FirstCopy) (whole : IsSent k.params (k.packets ++ a ∷ more) a.side big) where
   no_fault : packet_fault k.params (sent_by k a.side) a ≡ None
@@ -94,7 +91,10 @@ module _ (k : Crossing) (a : Packet) (more : List Packet) (h : IsCrossing k) (bi
       let same = ap length (sent_once k.params (k.packets ++ a ∷ []) a.side front.0 (sent_after k a) front.1 grown (omega arith)) in
       let all = length-append k.packets (a ∷ more) in
       let one = length_push k.packets a in
-      within_with k a a.side (sent_after k a) h (omega arith) (omega arith)
+      let room : length (sent_after k a) ≤ most_sent = omega arith in
+      let few_client = h.sent.few_client in
+      let few_server = h.sent.few_server in
+      grind (arith, nat_tests)
 
 -- ---- what has no fault is read
 

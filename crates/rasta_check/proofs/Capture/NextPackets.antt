@@ -116,19 +116,11 @@ can_follow p xs rest s own a h l sd more g =
     let goes : IsSent p (xs ++ a ∷ rest) s (own ++ later) = subst (λ (cs : List FirstCopy). IsSent p (xs ++ a ∷ rest) s cs) whole g in
     follow_by p xs rest s own later a h goes r.2.place sd
 
-pub first_number : (own : List FirstCopy) (d : RedundancyPdu) → ℕ
-first_number [] d = d.number
-first_number (c ∷ cs) d = c.pdu.number
-
-pub numbers_from : (p : Parameters) (xs : List Packet) (s : Side) (own : List FirstCopy) (d : RedundancyPdu) → IsSent p xs s own → Counts_from (first_number own d) own
-unfolding first_number
-numbers_from p xs s [] d h i c g = absurd (cc)
-numbers_from p xs s (x ∷ own) d h i c g = h.numbers i x c refl g
-
-pub next_from : (own : List FirstCopy) (d : RedundancyPdu) → d.number < 2 ^ 32 → ((c : FirstCopy) → slice_get own 0 ≡ Some c → d.number ≡ wrapped (c.pdu.number + length own)) → d.number ≡ wrapped (first_number own d + length own)
-unfolding first_number
-next_from [] d l h = omega arith
-next_from (c ∷ own) d l h = h c refl
+-- the numbers of a list, and the next
+pub counted : (p : Parameters) (xs : List Packet) (s : Side) (own : List FirstCopy) (d : RedundancyPdu) → IsSent p xs s own → d.number < 2 ^ 32
+    → ((c : FirstCopy) → slice_get own 0 ≡ Some c → d.number ≡ wrapped (c.pdu.number + length own)) → (f : ℕ) × Counts_from f own × (d.number ≡ wrapped (f + length own))
+counted p xs s [] d h l next = (d.number, λ i c g. absurd (cc), omega arith)
+counted p xs s (x ∷ own) d h l next = (x.pdu.number, λ i c g. h.numbers i x c refl g, next x refl)
 
 pub definite : (p : Parameters) (valid : AreParameters p) (ws : List World) (w : World) (xs rest : List Packet) (a : Packet) (own : List FirstCopy) → Reaches p ws w → w.crossed ≡ xs ++ a ∷ rest → IsSent p xs a.side own → length own < 2 ^ 32 → CanFollow p xs a.side own a
 definite p valid ws w xs rest a own r e h l = (let g = told_by p valid ws w a.side r in can_follow p xs rest a.side own a h l refl g.own (subst (λ zs. IsSent p zs a.side g.own) e g.sends.sent))

@@ -1,5 +1,5 @@
 -- Positions in ordered lists of first copies.
-use Rattle.std.proofs.Common.{◌≡◌, ℕ, zero, suc, ◌+◌, ◌-◌, ◌%◌, ◌^◌, ◌<◌, ◌≤◌, ◌++◌, Bool, false, cond, nat_lt, nat_eq, List, [], ◌∷◌, Some, None, length, get_or, slice_get, position, ap, sym, ◌∙◌, arith, subst, if◌then◌else◌, eqb, take, drop}
+use Rattle.std.proofs.Common.{◌≡◌, ℕ, zero, suc, ◌+◌, ◌-◌, ◌%◌, ◌^◌, ◌<◌, ◌≤◌, ◌++◌, Bool, false, nat_eq, List, [], ◌∷◌, Some, None, length, get_or, slice_get, position, ap, sym, ◌∙◌, arith, subst, if◌then◌else◌, take, drop}
 use Rattle.std.specs.Prelude.{◌==◌}
 use Rattle.std.specs.List.{position_or_len}
 use Rattle.std.specs.Option.{option_map}
@@ -54,18 +54,13 @@ place_found cs place i e = get_mapped (λ (c : FirstCopy). c.place) cs i place (
 
 -- ---- a list that goes on
 
-pushed : (k l n : ℕ) (b : Bool) → b ≡ false → k ≤ l → n ≡ cond (eqb k l) (l + cond b 0 1) k → cond (nat_lt n (l + 1)) (Some n) None ≡ cond (nat_lt k l) (Some k) None
-pushed k l n b fails h f = grind (arith, nat_tests)
-
 or_len_most : (p : ℕ → Bool) (xs : List ℕ) → position_or_len p xs ≤ length xs
 or_len_most p [] = omega arith
 or_len_most p (x ∷ xs) = (let more = or_len_most p xs in grind arith)
 
 -- a member that doesn't pass changes nothing
 pub position_push : (p : ℕ → Bool) (xs : List ℕ) (y : ℕ) → p y ≡ false → position p (xs ++ y ∷ []) ≡ position p xs
-position_push p xs y fails =
-    ap (λ l. cond (nat_lt (position_or_len p (xs ++ y ∷ [])) l) (Some (position_or_len p (xs ++ y ∷ []))) None) (length_push xs y)
-    ∙ pushed (position_or_len p xs) (length xs) (position_or_len p (xs ++ y ∷ [])) (p y) fails (or_len_most p xs) (position_or_len_push p xs y)
+position_push p xs y fails = (let size = length_push xs y in let most = or_len_most p xs in let more = position_or_len_push p xs y in grind (arith, nat_tests))
 
 -- ---- ordered lists
 

@@ -1,5 +1,5 @@
 -- The first fault of a capture is the one that is read.
-use Rattle.std.proofs.Common.{◌≡◌, ◌⊎◌, ℕ, zero, suc, ◌≤◌, List, [], ◌∷◌, ◌++◌, length, map, take, drop, append_assoc, append-nil, length-append, Option, Some, None, Result, Ok, Err, Bool, true, false, refl, ap, sym, ◌∙◌, add-one, arith, subst, nat_lt, le-ltb, if◌then◌else◌, inl, inr, MatchResult}
+use Rattle.std.proofs.Common.{◌≡◌, ◌⊎◌, ℕ, zero, suc, ◌≤◌, List, [], ◌∷◌, ◌++◌, length, map, take, drop, append_assoc, append-nil, length-append, Option, Some, None, Result, Ok, Err, Bool, true, false, refl, ap, sym, ◌∙◌, add-one, arith, subst, le-ltb, if◌then◌else◌, inl, inr, MatchResult}
 use Rattle.std.proofs.lemmas.List.{length-map, length_push, map-append, take-append-drop}
 use Rattle.std.proofs.lemmas.Grind.{common_steps}
 use Rattle.std.proofs.Math.Seq.{take-append-add}
@@ -85,15 +85,12 @@ module _ (p : Parameters) (records : List (List ℕ)) (c s : List FirstCopy) (r 
     has : HasFault p records c s r.1 number end
     same : f ≡ record { number = number; place = r.0; end = end }
 
-  in_window : nat_lt r.0 p.first_record ≡ false → p.first_record ≤ r.0
-  in_window t = grind (arith, nat_tests)
-
   fault_of : (f : Fault) → ((c2 s2 : List FirstCopy) → AreFaultless p (records ++ r.1 ∷ []) c2 s2 → ⊥) → Step k r (Err f) → FaultHere f
-  fault_of f is (bad_frame g t found) = record { number = g.number; end = None; low = in_window t; has = in_frame g found; same = refl }
+  fault_of f is (bad_frame g t found) = record { number = g.number; end = None; low = grind (arith, nat_tests); has = in_frame g found; same = refl }
   fault_of f is (bad_packet a n t found some) =
-      record { number = n; end = Some a.side; low = in_window t; has = in_packet a n found (ap (λ (own : List FirstCopy). packet_fault p own a) (sym (own_is a.side)) ∙ some); same = refl }
+      record { number = n; end = Some a.side; low = grind (arith, nat_tests); has = in_packet a n found (ap (λ (own : List FirstCopy). packet_fault p own a) (sym (own_is a.side)) ∙ some); same = refl }
   fault_of f is (no_room a t found none full) =
-      record { number = too_many; end = None; low = in_window t; has = in_limits a found (ap (λ (own : List FirstCopy). packet_fault p own a) (sym (own_is a.side)) ∙ none) is; same = refl }
+      record { number = too_many; end = None; low = grind (arith, nat_tests); has = in_limits a found (ap (λ (own : List FirstCopy). packet_fault p own a) (sym (own_is a.side)) ∙ none) is; same = refl }
 
   -- and back
   at_frame : (o : Result (Option Packet) Fault) → p.first_record ≤ r.0 → packet_in p.channels r.1 ≡ o → after_record k r ≡ after_frame k r.0 o

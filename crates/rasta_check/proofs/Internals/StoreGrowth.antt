@@ -281,8 +281,7 @@ judged_length k a known is_new j e = grind (arith, length_push)
 -- ---- at the start
 
 no_datagram : (p : Parameters) (side : Side) → Decode p side (kept_by nothing_kept side)
-no_datagram p Client i x g = absurd (cc)
-no_datagram p Server i x g = absurd (cc)
+no_datagram p side i x g = absurd (grind arith)
 
 pub empty_store : (p : Parameters) → OfConnection p → IsStore p nothing_kept []
 unfolding first_copies_from

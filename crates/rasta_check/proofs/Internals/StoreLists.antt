@@ -1,5 +1,5 @@
 -- What a store keeps at its positions and places.
-use Rattle.std.proofs.Common.{◌≡◌, ℕ, ◌<◌, ◌≤◌, List, [], ◌∷◌, length, map, Bool, true, false, cond, nat_lt, nat_eq, Option, Some, None, slice_get, refl, ap, sym, ◌∙◌, subst, arith, IfSome, if◌then◌else◌}
+use Rattle.std.proofs.Common.{◌≡◌, ℕ, ◌<◌, ◌≤◌, List, [], ◌∷◌, length, map, Bool, true, false, nat_eq, Option, Some, None, slice_get, refl, ap, sym, ◌∙◌, subst, arith, IfSome, if◌then◌else◌}
 use Rattle.std.specs.Prelude.{Ok, Result}
 use Rattle.std.specs.List.{position_or_len}
 use Rattle.std.specs.Option.{option_map}
@@ -163,20 +163,14 @@ or_len : (own : List FirstCopy) (n : ℕ) → copy_with own n ≡ slice_get own 
 or_len [] n = refl
 or_len (c ∷ own) n = (let more = or_len own n in let test = same_test n c.pdu.number in grind arith)
 
-shown_none : (l n : ℕ) → cond (nat_lt l n) (Some l) None ≡ None → n ≤ l
-shown_none l n e = grind (arith, nat_tests)
-
-length-numbers : (own : List FirstCopy) → length (numbers_of own) ≡ length own
-length-numbers own = length-map own (λ (c : FirstCopy). c.pdu.number)
-
 pub copy_of_position : (own : List FirstCopy) (n position : ℕ) → position_of_number own n ≡ Some position → copy_with own n ≡ slice_get own position
 copy_of_position own n position e =
     or_len own n ∙ ap (slice_get own) (cond_some _ (position_or_len (nat_eq n) (numbers_of own)) position e).1
 
 pub no_copy : (own : List FirstCopy) (n : ℕ) → position_of_number own n ≡ None → copy_with own n ≡ None
 no_copy own n e =
-    let l = shown_none (position_or_len (nat_eq n) (numbers_of own)) (length (numbers_of own)) e in
-    let size = length-numbers own in
+    let l : length (numbers_of own) ≤ position_or_len (nat_eq n) (numbers_of own) = grind (arith, nat_tests) in
+    let size = length-map own (λ (c : FirstCopy). c.pdu.number) in
     or_len own n ∙ slice_get_past own (position_or_len (nat_eq n) (numbers_of own)) (omega arith)
 
 -- what is known of a packet whose number is that of a first copy
@@ -190,9 +184,6 @@ module _ (k : Crossing) (a : Packet) (pdu : RedundancyPdu) (reads : decode_of k.
       → (packet_fault k.params sent a ≡ (if r then None else Some copy_differs)) × (sent_after k a ≡ sent)
   repeats position r e c g f = rw f (known_by k a pdu (Some c) reads (copy_of_position sent pdu.number position e ∙ g))
 
-  same_bytes : (xs ys : List ℕ) (r : Bool) → r ≡ bytes_eq xs ys → r ≡ true → ys ≡ xs
-  same_bytes xs ys r e f = sym ((bytes_eq-Decides xs ys).0 (sym e ∙ f))
-
   pub repeats_at : (position : ℕ) (r : Bool) → position_of_number sent pdu.number ≡ Some position
       → IfSome (slice_get sent position) (λ (c : FirstCopy). r ≡ bytes_eq (redundancy_bytes k.params a.side c.pdu) a.payload)
       → (c : FirstCopy) × (slice_get sent position ≡ Some c) × (packet_fault k.params sent a ≡ (if r then None else Some copy_differs)) × (sent_after k a ≡ sent)
@@ -201,7 +192,7 @@ module _ (k : Crossing) (a : Packet) (pdu : RedundancyPdu) (reads : decode_of k.
       let f = number_found sent pdu.number position e in
       let same = subst (λ (o : Option FirstCopy). IfSome o (λ (c : FirstCopy). r ≡ bytes_eq (redundancy_bytes k.params a.side c.pdu) a.payload)) f.1 h in
       let w = repeats position r e f.0 f.1 same in
-      (f.0, f.1, w.0, w.1, same_bytes (redundancy_bytes k.params a.side f.0.pdu) a.payload r same)
+      (f.0, f.1, w.0, w.1, λ is. sym ((bytes_eq-Decides (redundancy_bytes k.params a.side f.0.pdu) a.payload).0 (sym same ∙ is)))
 
   -- no first copy has its number, which isn't the next
   pub skips : position_of_number sent pdu.number ≡ None → is_next_number sent pdu.number ≡ false → packet_fault k.params sent a ≡ Some number_gap

@@ -2,6 +2,7 @@
 use Rattle.std.proofs.Common.{◌≡◌, ℕ, zero, suc, ◌+◌, ◌-◌, ◌%◌, ◌^◌, ◌<◌, ◌≤◌, Bool, true, false, List, [], ◌∷◌, ◌++◌, length, map, replicate, take, Option, Some, None, slice_get, refl, ap, sym, ◌∙◌, arith}
 use Rattle.std.specs.Prelude.{fold, max, nat_lt, slice_index_or}
 use Rattle.std.proofs.lemmas.Bool.Decides.{nat_tests}
+use Rattle.std.proofs.Math.Seq.{take-nil}
 use Rattle.std.proofs.lemmas.List.{get_or-replicate, length-append, length-replicate}
 use Rattle.std.proofs.lemmas.Option.{slice_get-get_or, slice_get_past, slice_get_within, same_Some}
 use Rattle.rasta_pcap.specs.declared.fault.Side.{Side}
@@ -135,11 +136,7 @@ are_proofs e own peer h = record {
 module _ (own : List SafetyPdu) (peer : List FirstCopy) (places : List ℕ) (h : AreProofs own peer places) where
   pub units_are : (unit : ℕ) (copies : List FirstCopy) → proved_units places unit copies ≡ units_from own peer unit (take (length places - unit) (data_copies copies))
   unfolding proved_units
-  units_are unit [] = nothing (length places - unit)
-    where
-      nothing : (n : ℕ) → [] ≡ units_from own peer unit (take n [])
-      nothing zero = refl
-      nothing (suc n) = refl
+  units_are unit [] = ap (units_from own peer unit) (sym (take-nil (length places - unit)))
   units_are unit (c ∷ copies) = (let r = listed (units_are (suc unit) copies) (nat_lt unit (length places)) refl in let s = units_are unit copies in grind arith)
     where
       listed : proved_units places (suc unit) copies ≡ units_from own peer (suc unit) (take (length places - suc unit) (data_copies copies)) → (b : Bool) → nat_lt unit (length places) ≡ b
