@@ -72,12 +72,7 @@ goes_on p packets own a sent w n =
     (by_copy p packets a.side own a sent refl w.0 w.2 (copy_with own w.0.number) refl (sym (ap (read_fault p a.side own a.payload) w.1) ∙ n))
 
 after_few : (own : List FirstCopy) (place : ℕ) (r : Result RedundancyPdu Fault) → length (after_read own place r) ≤ length own + 1
-after_few own place (Err fault) = omega arith
-after_few own place (Ok d) = by (copy_with own d.number)
-  where
-    by : (o : Option FirstCopy) → length (after_pdu own place d o) ≤ length own + 1
-    by None = (let l = length_push own (record { place = place; pdu = d }) in omega arith)
-    by (Some c) = omega arith
+after_few own place r = grind (arith, length_push)
 
 pub goes_on_sent : (p : Parameters) (packets : List Packet) (own : List FirstCopy) (a : Packet) → IsSent p packets a.side own → length own ≤ 1000000 → IsRead p a
     → packet_fault p own a ≡ None → Sent p (packets ++ a ∷ []) a.side (after_read own (length packets) (decode_of p a.side a.payload))
@@ -91,8 +86,7 @@ list_of k h Client = to_record k.params k.packets Client k.client h.valid.valid 
 list_of k h Server = to_record k.params k.packets Server k.server h.valid.valid h.sent.server_sent
 
 pub few_of : (k : Crossing) → IsCrossing k → (side : Side) → length (sent_by k side) ≤ 1000000
-few_of k h Client = h.sent.few_client
-few_of k h Server = h.sent.few_server
+few_of k h side = grind arith
 
 -- the packet of a first copy
 first_packet : (k : Crossing) (side : Side) (number place : ℕ) → IsCrossing k → option_map (λ (c : FirstCopy). c.place) (copy_with (sent_by k side) number) ≡ Some place
@@ -147,19 +141,15 @@ is_next_pdu k a pdu h reads e =
 -- ---- the limits
 
 pub new_length : (sent : List FirstCopy) (place : ℕ) (new : Option Pdu) → length (with_new sent place new) ≡ length sent + (if is_some new then 1 else 0)
-new_length sent place None = omega arith
-new_length sent place (Some pdu) = length_push sent (copy_of (place, pdu))
+new_length sent place new = grind (arith, length_push)
 
 -- ---- one packet more
-
-within_packets : (k : Crossing) → is_within k ≡ true → (length k.packets ≤ most_packets) × (length k.client ≤ most_sent) × (length k.server ≤ most_sent)
-within_packets k e = grind (arith, nat_tests)
 
 -- lists of both sides within the limits make a crossing
 pub crossing_of_lists : (k : Crossing) → OfConnection k.params → CrossRecorded k.params k.packets → is_within k ≡ true → IsSent k.params k.packets Client k.client
     → IsSent k.params k.packets Server k.server → IsCrossing k
 crossing_of_lists k valid recorded within c s =
-    let w = within_packets k within in
+    let w : (length k.packets ≤ most_packets) × (length k.client ≤ most_sent) × (length k.server ≤ most_sent) = grind (arith, nat_tests) in
     record {
       valid = valid;
       recorded = recorded;

@@ -37,8 +37,7 @@ impossible_with p packets own a number h sent some ws w rest r e =
 
 sent_at : (p : Parameters) (records : List (List ℕ)) (c s : List FirstCopy) → AreFaultless p records c s → (side : Side)
     → Sent p (crossing_list p records) side (sent_of side c s) × (length (sent_of side c s) ≤ 1000000)
-sent_at p records c s h Client = (h.sent.client_sent, h.sent.few_client)
-sent_at p records c s h Server = (h.sent.server_sent, h.sent.few_server)
+sent_at p records c s h side = grind arith
 
 -- a fault that speaks of a side is that of a packet
 of_packet : (p : Parameters) (records : List (List ℕ)) (c s : List FirstCopy) (frame : List ℕ) (number : ℕ) (end : Option Side) → HasFault p records c s frame number end → IsSome end

@@ -1,5 +1,5 @@
 -- The numbers of a capture's faults: those of a packet are 20 to 28 and name its side, all others are lower and name none.
-use Rattle.std.proofs.Common.{◌≡◌, ℕ, ◌<◌, ◌≤◌, List, ◌∷◌, ◌++◌, length, Option, Some, None, Result, Ok, Err, refl, ap, sym, arith, subst, ◌⊎◌, inl, inr}
+use Rattle.std.proofs.Common.{◌≡◌, ℕ, ◌<◌, ◌≤◌, List, ◌∷◌, ◌++◌, length, Option, Some, None, Result, Ok, Err, refl, ap, sym, arith, subst, ◌⊎◌, ⊎_elim, inl, inr}
 use Rattle.std.specs.Prelude.{IsSome, IfErr, IfSome, ◌↔◌}
 use native.Mathlib.Decide.{dec_lt}
 use Prim.{yes, no}
@@ -87,12 +87,10 @@ step_sided k r f (bad_packet a n t found some) = ((λ is. subst (λ (o : Option 
 step_sided k r f (no_room a t found none full) = sideless f (omega arith, omega arith) refl
 
 pub file_sided : (p : Parameters) (file : List ℕ) (f : Fault) → crossing_of p file ≡ Err f → IsSided f
-file_sided p file f e = (let b = breaks (nothing_crossed p) (reading_of p.last_record file).records (reading_of p.last_record file).fault f e in by b.last b.front b.how)
-  where
-    by : (k : Crossing) (front : List Numbered) → ((front ≡ (reading_of p.last_record file).records) × ((reading_of p.last_record file).fault ≡ Some f))
-        ⊎ ((r : Numbered) × (later : List Numbered) × ((reading_of p.last_record file).records ≡ front ++ r ∷ later) × Step k r (Err f)) → IsSided f
-    by k front (inl w) = reading_sided p.last_record file f w.1
-    by k front (inr w) = step_sided k w.0 f w.3
+file_sided p file f e =
+    let r = reading_of p.last_record file in
+    let b = breaks (nothing_crossed p) r.records r.fault f e in
+    ⊎_elim (λ w. reading_sided p.last_record file f w.1) (λ w. step_sided b.last w.0 f w.3) b.how
 
 -- it names a side exactly where it is one of a packet
 abbrev pub NamesSide : Fault → Type 0

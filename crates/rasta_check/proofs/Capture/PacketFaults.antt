@@ -17,15 +17,9 @@ use Rattle.rasta_check.proofs.Capture.FaultlessLists.{IsSent, ordered}
 use Rattle.rasta_check.proofs.Capture.NextPackets.{CanFollow}
 use Rattle.rasta_check.proofs.Capture.Positions.{next_new, number_once}
 
-receiver_small : (p : Parameters) (side : Side) → OfConnection p → receiver_of p side < 2 ^ 32
-receiver_small p side h = grind arith
-
-sender_small : (p : Parameters) (side : Side) → OfConnection p → sender_of p side < 2 ^ 32
-sender_small p side h = grind arith
-
 -- what is spelled is read back
 reads : (p : Parameters) (side : Side) (d : RedundancyPdu) (bytes : List ℕ) → OfConnection p → Spells p side d bytes → decode_of p side bytes ≡ Ok d
-reads p side d bytes h s = ap (decode_of p side) s.same ∙ decode_of-redundancy_bytes p side d h.valid (receiver_small p side h) (sender_small p side h) s.fits
+reads p side d bytes h s = ap (decode_of p side) s.same ∙ decode_of-redundancy_bytes p side d h.valid (grind arith) (grind arith) s.fits
 
 -- ---- the first copy with a number
 
@@ -48,10 +42,7 @@ copy_none (x ∷ own) number e (suc i) c g n = copy_none own number (grind (arit
 
 -- ---- where it may come next, it has no fault
 
--- a test that holds gives no fault, and the other way round
-passes : (b : Bool) (fault : ℕ) → b ≡ true → (if b then None else Some fault) ≡ None
-passes b fault e = grind arith
-
+-- a test that gives no fault holds
 pub passed : (b : Bool) (fault : ℕ) → (if b then None else Some fault) ≡ None → b ≡ true
 passed b fault e = grind arith
 
@@ -65,7 +56,8 @@ module _ (p : Parameters) (packets : List Packet) (side : Side) (own : List Firs
       let at : i ≡ j = number_once own (ordered sent) few i j c e g k (n ∙ sym (ap (λ (z : RedundancyPdu). z.number) m)) in
       let same : c ≡ e = (let z : slice_get own i ≡ Some e = subst (λ t. slice_get own t ≡ Some e) (sym at) k in cc) in
       let is : redundancy_bytes p side c.pdu ≡ a.payload = ap (λ (z : FirstCopy). redundancy_bytes p side z.pdu) same ∙ (ap (redundancy_bytes p side) m ∙ sym s.same) in
-      passes (bytes_eq (redundancy_bytes p side c.pdu) a.payload) copy_differs ((bytes_eq-Decides (redundancy_bytes p side c.pdu) a.payload).1 is)
+      let test = (bytes_eq-Decides (redundancy_bytes p side c.pdu) a.payload).1 is in
+      grind arith
 
   none_known : (d : RedundancyPdu) → Spells p side d a.payload
       → ((i : ℕ) × (c : FirstCopy) × (slice_get own i ≡ Some c) × (c.pdu ≡ d))
@@ -74,7 +66,7 @@ module _ (p : Parameters) (packets : List Packet) (side : Side) (own : List Firs
   none_known d s (inl w) (Some c) e = (let f = copy_found own d.number c e in repeats_first d s f.0 w.0 c w.1 f.1 w.2 f.2 w.3)
   none_known d s (inr w) (Some c) e = (let f = copy_found own d.number c e in absurd (next_new own (ordered sent) few d.number w f.0 c f.1 f.2))
   none_known d s (inl w) None e = absurd (copy_none own d.number e w.0 w.1 w.2 (ap (λ (z : RedundancyPdu). z.number) w.3))
-  none_known d s (inr w) None e = passes (is_next_number own d.number) number_gap (is_next own d.number w)
+  none_known d s (inr w) None e = (let test = is_next own d.number w in grind arith)
 
   pub faultless : CanFollow p packets side own a → read_fault p side own a.payload (decode_of p side a.payload) ≡ None
   faultless f = ap (read_fault p side own a.payload) (reads p side f.0 a.payload h f.1) ∙ none_known f.0 f.1 f.2 (copy_with own f.0.number) refl

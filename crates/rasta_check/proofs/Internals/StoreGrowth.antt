@@ -44,10 +44,7 @@ same_packets d e h (x ∷ xs) l =
 
 among_keeping : (d : KeptDatagrams) (side : Side) (y : Kept) → Among d (keeping d side y)
 unfolding Among
-among_keeping d Client y Client i x g = get_front d.client (y ∷ []) i x g
-among_keeping d Client y Server i x g = g
-among_keeping d Server y Client i x g = g
-among_keeping d Server y Server i x g = get_front d.server (y ∷ []) i x g
+among_keeping d side y other i x g = grind (arith, get_front)
 
 among_same : (d : KeptDatagrams) → Among d d
 unfolding Among
