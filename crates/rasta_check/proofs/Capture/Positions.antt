@@ -1,6 +1,5 @@
 -- Positions in ordered lists of first copies.
 use Rattle.std.proofs.Common.{◌≡◌, ℕ, zero, suc, ◌+◌, ◌-◌, ◌%◌, ◌^◌, ◌<◌, ◌≤◌, ◌++◌, Bool, false, nat_eq, List, [], ◌∷◌, Some, None, length, get_or, slice_get, position, ap, sym, ◌∙◌, arith, subst, if◌then◌else◌, take, drop}
-use Rattle.std.specs.Prelude.{◌==◌}
 use Rattle.std.specs.List.{position_or_len}
 use Rattle.std.specs.Option.{option_map}
 use Rattle.std.proofs.lemmas.Bool.Decides.{nat_tests}
@@ -16,15 +15,9 @@ use Rattle.rasta_check.proofs.Lists.{get_front, get_mapped, get_push, map_at, ma
 
 -- ---- the first position of a number in a list of numbers
 
-pub same_test : (n m : ℕ) → nat_eq n m ≡ (m == n)
-same_test n m = grind (arith, nat_tests)
-
-pub differ : (n m : ℕ) → (m ≡ n → ⊥) → nat_eq n m ≡ false
-differ n m h = grind (arith, nat_tests)
-
 module _ (n : ℕ) (xs : List ℕ) where
   before : (i : ℕ) → i ≤ length xs → ((j y : ℕ) → j < i → slice_get xs j ≡ Some y → y ≡ n → ⊥) → (k : ℕ) → k < i → nat_eq n (get_or xs k 0) ≡ false
-  before i l fails k b = differ n (get_or xs k 0) (fails k (get_or xs k 0) b (slice_get-get_or xs k 0 (omega arith)))
+  before i l fails k b = (let other : get_or xs k 0 ≡ n → ⊥ = fails k (get_or xs k 0) b (slice_get-get_or xs k 0 (omega arith)) in grind (arith, nat_tests))
 
   pub position_at : (i : ℕ) → slice_get xs i ≡ Some n → ((j y : ℕ) → j < i → slice_get xs j ≡ Some y → y ≡ n → ⊥) → position (nat_eq n) xs ≡ Some i
   position_at i g fails =

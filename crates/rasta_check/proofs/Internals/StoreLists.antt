@@ -23,7 +23,7 @@ use Rattle.rasta_check.specs.Internals.Stored.{IsStore, Decode, bytes_of, copy_i
 use Rattle.rasta_check.proofs.Capture.Crossings.{few_of, known_by, list_of}
 use Rattle.rasta_check.proofs.Capture.Spellings.{read_once}
 use Rattle.rasta_check.proofs.Lists.{slice_get_some, map_at}
-use Rattle.rasta_check.proofs.Capture.Positions.{number_found, number_once, place_missing, place_named, same_test}
+use Rattle.rasta_check.proofs.Capture.Positions.{number_found, number_once, place_missing, place_named}
 use Rattle.rasta_check.proofs.Capture.FaultlessLists.{ordered}
 
 -- ---- a datagram and the first copy that it spells
@@ -161,7 +161,7 @@ module _ (p : Parameters) (d : KeptDatagrams) (packets : List StoredPacket) (st 
 -- the first copy of a number stands at the number's position
 or_len : (own : List FirstCopy) (n : ℕ) → copy_with own n ≡ slice_get own (position_or_len (nat_eq n) (numbers_of own))
 or_len [] n = refl
-or_len (c ∷ own) n = (let more = or_len own n in let test = same_test n c.pdu.number in grind arith)
+or_len (c ∷ own) n = (let more = or_len own n in grind (arith, nat_tests))
 
 pub copy_of_position : (own : List FirstCopy) (n position : ℕ) → position_of_number own n ≡ Some position → copy_with own n ≡ slice_get own position
 copy_of_position own n position e =

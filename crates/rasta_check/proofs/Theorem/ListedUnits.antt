@@ -59,14 +59,11 @@ proof_by : (own peer : List SafetyPdu) (k a : ℕ) (ds : List FirstCopy) → k <
 proof_by own peer k a [] l = inl l
 proof_by own peer k a (d ∷ ds) l = by (nat_lt k (units_shown own peer d.pdu.safety)) refl (proof_by own peer k (max a (units_shown own peer d.pdu.safety)) ds l)
   where
-    skip : nat_lt k (units_shown own peer d.pdu.safety) ≡ false → Proof own peer k ds → Proof own peer k (d ∷ ds)
-    skip e r = record { j = suc r.j; d = r.d; there = r.there; more = r.more; place = ap (λ b. if b then d.place else proof_place own peer k ds) e ∙ r.place }
-
     by : (b : Bool) → nat_lt k (units_shown own peer d.pdu.safety) ≡ b → (k < max a (units_shown own peer d.pdu.safety)) ⊎ Proof own peer k ds → (k < a) ⊎ Proof own peer k (d ∷ ds)
     by true e r = inr (record { j = 0; d = d; there = refl; more = grind (arith, nat_tests, e); place = ap (λ b. if b then d.place else proof_place own peer k ds) e })
     by false e r = ⊎_elim
         (λ (z : k < max a (units_shown own peer d.pdu.safety)). inl (grind (arith, nat_tests, e, z)))
-        (λ (z : Proof own peer k ds). inr (skip e z))
+        (λ (z : Proof own peer k ds). inr (record { j = suc z.j; d = z.d; there = z.there; more = z.more; place = ap (λ b. if b then d.place else proof_place own peer k ds) e ∙ z.place }))
         r
 
 -- where some PDU shows more than k units, the one at the proof place does
