@@ -9,7 +9,7 @@ use Rattle.rasta_check.specs.Model.Taken.{TakenUnit}
 use Rattle.rasta_check.specs.Model.Theorem.{units_listed}
 use Rattle.rasta_check.specs.Verdict.Listed.{TakenMessage, messages_of_unit, messages_taken, ListedMessage, numbered_from}
 use Rattle.rasta_check.specs.Verdict.Headline.{messages_in_list}
-use Rattle.rasta_check.proofs.Lists.{get_front, get_past}
+use Rattle.rasta_check.proofs.Lists.{get_front, get_mapped, get_past}
 
 -- the messages of each unit, unit by unit
 abbrev pub joined : List (List (List ℕ)) → List (List ℕ)
@@ -54,9 +54,9 @@ parted (x ∷ xs) ys (suc m) t g =
 
 of_unit : (data_place proof : ℕ) (ms : List (List ℕ)) (m : ℕ) (t : TakenMessage) → slice_get (messages_of_unit (record { messages = ms; data_place = data_place; proof_place = proof })) m ≡ Some t
     → (slice_get ms m ≡ Some t.message) × (t.proof_place ≡ proof)
-of_unit data_place proof [] m t g = absurd (cc)
-of_unit data_place proof (x ∷ ms) zero t g = (let e : record { message = x; data_place = data_place; proof_place = proof } ≡ t = cc in (ap (λ (z : TakenMessage). Some z.message) e, sym (ap (λ (z : TakenMessage). z.proof_place) e)))
-of_unit data_place proof (x ∷ ms) (suc m) t g = of_unit data_place proof ms m t g
+of_unit data_place proof ms m t g =
+    let w = get_mapped (λ (x : List ℕ). record { message = x; data_place = data_place; proof_place = proof }) ms m t g in
+    (w.1 ∙ ap (λ (z : TakenMessage). Some z.message) w.2, sym (ap (λ (z : TakenMessage). z.proof_place) w.2))
 
 -- the first units, up to one, were handed up with their messages
 abbrev pub HaveThrough : List TakenUnit → ℕ → List (List (List ℕ)) → Type 0

@@ -63,7 +63,8 @@ proof_by own peer k a (d ∷ ds) l = by (nat_lt k (units_shown own peer d.pdu.sa
     by true e r = inr (record { j = 0; d = d; there = refl; more = grind (arith, nat_tests, e); place = ap (λ b. if b then d.place else proof_place own peer k ds) e })
     by false e r = ⊎_elim
         (λ (z : k < max a (units_shown own peer d.pdu.safety)). inl (grind (arith, nat_tests, e, z)))
-        (λ (z : Proof own peer k ds). inr (record { j = suc z.j; d = z.d; there = z.there; more = z.more; place = ap (λ b. if b then d.place else proof_place own peer k ds) e ∙ z.place }))
+        (λ (z : Proof own peer k ds).
+        inr (record { j = suc z.j; d = z.d; there = z.there; more = z.more; place = ap (λ b. if b then d.place else proof_place own peer k ds) e ∙ z.place }))
         r
 
 -- where some PDU shows more than k units, the one at the proof place does
