@@ -146,8 +146,7 @@ module _ (p : Parameters) (d : KeptDatagrams) (packets : List StoredPacket) (st 
 
     view_with : (side : Side) (xs : List StoredPacket) (a : Packet) (own : List FirstCopy) → map (packet_by (keeping d side datagram)) xs ≡ k.packets ++ a ∷ []
         → map (copy_in p side) (kept_by d side ++ datagram ∷ []) ≡ own → crossing_by p (keeping d side datagram) xs ≡ crossing_with k a side own
-    view_with Client xs a own e f = (λ i. record { params = p; packets = e i; client = f i; server = k.server })
-    view_with Server xs a own e f = (λ i. record { params = p; packets = e i; client = k.client; server = f i })
+    view_with side xs a own e f = grind arith
 
     pub new_view : (side : Side) → position ≡ length (kept_by d side) → decode_of p side payload ≡ Ok pdu
         → sent_after k (packet_with channel side payload) ≡ sent_by k side ++ copy ∷ []

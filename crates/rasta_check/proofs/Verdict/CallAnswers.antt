@@ -1,5 +1,5 @@
 -- What one answer of a call says, said of another.
-use Rattle.std.proofs.Common.{arith, ◌≡◌, Result, Ok, Err, MatchResult, IfOk, OnOk, IfErr, IsErr, IsErrAnd, sym, subst}
+use Rattle.std.proofs.Common.{arith, ◌≡◌, Result, MatchResult, IfOk, OnOk, IfErr, IsErr, IsErrAnd}
 
 pub on_ok : {A B : Type 0} (r : Result A B) (P : A → Type 0) (R : B → Type 0) (T : Type 0) → MatchResult r P R → ((x : A) → P x → T) → OnOk r T
 on_ok r P R T h k = grind arith
