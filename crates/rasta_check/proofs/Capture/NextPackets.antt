@@ -100,13 +100,16 @@ cut p ys xs s big h =
 follow_by : (p : Parameters) (xs rest : List Packet) (s : Side) (own later : List FirstCopy) (a : Packet) → IsSent p xs s own → IsSent p (xs ++ a ∷ rest) s (own ++ later)
     → ((c : FirstCopy) → slice_get later 0 ≡ Some c → length xs ≤ c.place) → a.side ≡ s → CanFollow p xs s own a
 follow_by p xs rest s own later a h g high sd =
-    let w = g.copies (length xs) a (get_next xs (a ∷ rest)) sd in
-    (w.1.pdu, w.4, elim (dec_lt w.1.place (length xs)) [
-      | yes l ↦ inl (w.0, w.1, sym (get_front_within own later w.0 (within_own p xs (a ∷ rest) s own later g high w.0 w.1 w.2 l)) ∙ w.2, refl)
-      | no l ↦ inr (λ c x. (let at = w.3 in
-          let n = next_copy p xs (a ∷ rest) s own later g high h w.0 w.1 w.2 (omega arith) in
-          g.numbers w.0 c w.1 (get_front own later 0 c x) w.2 ∙ ap (λ m. wrapped (c.pdu.number + m)) n))
-    ])
+    let w = g.copies (length xs) a (get_next xs (a ∷ rest)) sd in (
+      w.1.pdu,
+      w.4,
+      elim (dec_lt w.1.place (length xs)) [
+        | yes l ↦ inl (w.0, w.1, sym (get_front_within own later w.0 (within_own p xs (a ∷ rest) s own later g high w.0 w.1 w.2 l)) ∙ w.2, refl)
+        | no l ↦ inr (λ c x. (let at = w.3 in
+            let n = next_copy p xs (a ∷ rest) s own later g high h w.0 w.1 w.2 (omega arith) in
+            g.numbers w.0 c w.1 (get_front own later 0 c x) w.2 ∙ ap (λ m. wrapped (c.pdu.number + m)) n))
+      ],
+    )
 
 pub can_follow : (p : Parameters) (xs rest : List Packet) (s : Side) (own : List FirstCopy) (a : Packet) → IsSent p xs s own → length own < 2 ^ 32 → a.side ≡ s → (more : List FirstCopy) → IsSent p (xs ++ a ∷ rest) s more → CanFollow p xs s own a
 can_follow p xs rest s own a h l sd more g =

@@ -88,9 +88,11 @@ module _ (p : Parameters) (records : List (List ℕ)) (c s : List FirstCopy) (r 
   fault_of : (f : Fault) → ((c2 s2 : List FirstCopy) → AreFaultless p (records ++ r.1 ∷ []) c2 s2 → ⊥) → Step k r (Err f) → FaultHere f
   fault_of f is (bad_frame g t found) = record { number = g.number; end = None; low = grind (arith, nat_tests); has = in_frame g found; same = refl }
   fault_of f is (bad_packet a n t found some) =
-      record { number = n; end = Some a.side; low = grind (arith, nat_tests); has = in_packet a n found (ap (λ (own : List FirstCopy). packet_fault p own a) (sym (own_is a.side)) ∙ some); same = refl }
+      let own = sym (own_is a.side) in
+      record { number = n; end = Some a.side; low = grind (arith, nat_tests); has = in_packet a n found (ap (λ (own : List FirstCopy). packet_fault p own a) own ∙ some); same = refl }
   fault_of f is (no_room a t found none full) =
-      record { number = too_many; end = None; low = grind (arith, nat_tests); has = in_limits a found (ap (λ (own : List FirstCopy). packet_fault p own a) (sym (own_is a.side)) ∙ none) is; same = refl }
+      let own = sym (own_is a.side) in
+      record { number = too_many; end = None; low = grind (arith, nat_tests); has = in_limits a found (ap (λ (own : List FirstCopy). packet_fault p own a) own ∙ none) is; same = refl }
 
   -- and back
   at_frame : (o : Result (Option Packet) Fault) → p.first_record ≤ r.0 → packet_in p.channels r.1 ≡ o → after_record k r ≡ after_frame k r.0 o
