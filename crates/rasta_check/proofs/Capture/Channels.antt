@@ -1,5 +1,5 @@
 -- Packets are found on recorded channels.
-use Rattle.std.proofs.Common.{◌≡◌, ◌⊎◌, ℕ, suc, ◌+◌, ◌<◌, ◌≤◌, List, [], ◌∷◌, ◌++◌, length, Bool, cond, Option, Some, Result, Ok, refl, ap, sym, ◌∙◌, arith, inl, inr, subst}
+use Rattle.std.proofs.Common.{◌≡◌, ℕ, suc, ◌+◌, ◌<◌, ◌≤◌, List, [], ◌∷◌, ◌++◌, length, Bool, cond, Option, Some, Result, Ok, refl, ap, sym, ◌∙◌, arith, subst}
 use Rattle.std.specs.Prelude.{slice_range}
 use Rattle.std.specs.List.{find}
 use Rattle.std.specs.Option.{option_map}
@@ -9,8 +9,7 @@ use Rattle.rasta_udp.specs.declared.channel.Channel.{Channel}
 use Rattle.rasta_udp.specs.declared.channel.Datagram.{Datagram}
 use Rattle.rasta_udp.specs.Frame.{Direction, Fields, Found, Packet, directions_from, direction_of, goes, found_by, found_in, map_found, moved_on, datagram_of, packet_at, packet_in, packet_of}
 use Rattle.rasta_pdu.specs.Params.{Parameters}
-use Rattle.rasta_check.specs.Capture.Crossing.{CrossRecorded}
-use Rattle.rasta_check.specs.Capture.Crossing.{IsRecorded}
+use Rattle.rasta_check.specs.Capture.Crossing.{CrossRecorded, IsRecorded}
 use Rattle.rasta_check.proofs.Lists.{all_push}
 
 -- a channel's number is one of so many from this one on
@@ -18,14 +17,9 @@ abbrev Among : ℕ → ℕ → ℕ → Type 0
 Among number count channel = (number ≤ channel) × (channel < number + count)
 
 -- one of two directions, or one of the rest
-first_of : (a b : Bool) (e f d : Direction) (rest : Option Direction) → cond a (Some e) (cond b (Some f) rest) ≡ Some d → (e ≡ d) ⊎ (f ≡ d) ⊎ (rest ≡ Some d)
-first_of a b e f d rest h = grind arith
-
-among_by : (number : ℕ) (cs : List Channel) (e f d : Direction) (rest : Option Direction) → e.channel ≡ number → f.channel ≡ number → (rest ≡ Some d → Among (number + 1) (length cs) d.channel)
-    → (e ≡ d) ⊎ (f ≡ d) ⊎ (rest ≡ Some d) → Among number (suc (length cs)) d.channel
-among_by number cs e f d rest n m after (inl w) = (let c = ap (λ (y : Direction). y.channel) w in (omega arith, omega arith))
-among_by number cs e f d rest n m after (inr (inl w)) = (let c = ap (λ (y : Direction). y.channel) w in (omega arith, omega arith))
-among_by number cs e f d rest n m after (inr (inr w)) = (let c = after w in let low = c.0 in let high = c.1 in (omega arith, omega arith))
+among_by : (a b : Bool) (number : ℕ) (cs : List Channel) (e f d : Direction) (rest : Option Direction) → e.channel ≡ number → f.channel ≡ number
+    → (rest ≡ Some d → Among (number + 1) (length cs) d.channel) → cond a (Some e) (cond b (Some f) rest) ≡ Some d → Among number (suc (length cs)) d.channel
+among_by a b number cs e f d rest n m after h = grind arith
 
 direction_among : (x : Fields) (number : ℕ) (channels : List Channel) (d : Direction) → find (λ (e : Direction). goes x e.source e.destination) (directions_from number channels) ≡ Some d
     → Among number (length channels) d.channel
@@ -33,7 +27,7 @@ direction_among x number [] d h = absurd (cc)
 direction_among x number (c ∷ cs) d h =
     let there : Direction = record { channel = number; side = Client; source = c.client; destination = c.server } in
     let back : Direction = record { channel = number; side = Server; source = c.server; destination = c.client } in
-    among_by number cs there back d _ refl refl (direction_among x (number + 1) cs d) (first_of (goes x c.client c.server) (goes x c.server c.client) there back d _ h)
+    among_by (goes x c.client c.server) (goes x c.server c.client) number cs there back d _ refl refl (direction_among x (number + 1) cs d) h
 
 abbrev answer_of : Option Found → Result (Option Found) Fault
 answer_of o = Ok o

@@ -1,5 +1,5 @@
 -- A crossing goes on with a packet that has no fault.
-use Rattle.std.proofs.Common.{◌≡◌, ℕ, ◌+◌, ◌<◌, ◌≤◌, ◌^◌, ◌++◌, Bool, true, List, [], ◌∷◌, Option, Some, None, Result, Ok, Err, length, slice_get, refl, ap, sym, ◌∙◌, arith, subst, not, nat_lt, is_some, if◌then◌else◌, IfSome}
+use Rattle.std.proofs.Common.{◌≡◌, ℕ, ◌+◌, ◌<◌, ◌≤◌, ◌++◌, Bool, true, List, [], ◌∷◌, Option, Some, None, Result, Ok, Err, length, slice_get, refl, ap, sym, ◌∙◌, arith, subst, not, nat_lt, is_some, if◌then◌else◌, IfSome}
 use Rattle.std.specs.Prelude.{◌&&◌, ◌||◌}
 use Rattle.std.specs.Option.{option_map}
 use Rattle.std.proofs.lemmas.List.{length_push}
@@ -13,14 +13,13 @@ use Rattle.rasta_pcap.specs.declared.fault.Side.TheVariants.{Client, Server}
 use Rattle.rasta_udp.specs.Frame.{Packet}
 use Rattle.rasta_pdu.specs.Params.{Parameters, AreParameters}
 use Rattle.rasta_pdu.specs.Messages.{AreBytes}
-use Rattle.rasta_pdu.specs.Pdu.{RedundancyPdu, redundancy_bytes, safety_bytes, length_of, decode_of, value_of}
-use Rattle.std.specs.Int.{bytes_low_first}
+use Rattle.rasta_pdu.specs.Pdu.{RedundancyPdu, redundancy_bytes, decode_of, value_of}
 use Rattle.std.proofs.lemmas.Nat.{from_le_bytes-to_le_bytes_4}
 use Rattle.rasta_pdu.proofs.Spellings.{decode_of-Ok}
 use Rattle.rasta_end.specs.State.{wrapped}
 use Rattle.rasta_check.specs.Capture.Crossing.{FirstCopy, Sent, Spells, copy_with, is_next_number, number_fault, number_in_bytes, read_fault, packet_fault}
-use Rattle.rasta_check.specs.Model.Theorem.{most_packets}
-use Rattle.rasta_check.specs.Capture.Crossing.{IsRecorded}
+use Rattle.rasta_check.specs.Capture.Crossing.{CrossRecorded, IsRecorded}
+use Rattle.rasta_check.specs.Model.Theorem.{OfConnection, most_packets}
 use Rattle.rasta_check.specs.Model.World.{most_sent}
 use Rattle.rasta_check.specs.Internals.Packets.{with_new}
 use Rattle.rasta_check.specs.Capture.Lists.{copy_of}
@@ -29,7 +28,7 @@ use Rattle.rasta_check.specs.Capture.Reading.{Crossing, IsCrossing, sent_by, aft
 use Rattle.rasta_check.proofs.Capture.FaultlessLists.{IsSent, ordered}
 use Rattle.rasta_check.proofs.Capture.ListForms.{to_record, of_record}
 use Rattle.rasta_check.proofs.Capture.FirstCopies.{sent_copy, sent_first, sent_other}
-use Rattle.rasta_check.proofs.Capture.NextPackets.{first_number, numbers_from, next_from}
+use Rattle.rasta_check.proofs.Capture.NextPackets.{counted}
 use Rattle.std.proofs.lemmas.Bool.Decides.{nat_tests}
 use Rattle.rasta_check.proofs.Capture.PacketFaults.{copy_found, passed}
 use Rattle.rasta_check.proofs.Capture.Channels.{recorded_more}
@@ -43,8 +42,9 @@ next_of (x ∷ os) n e c g = (let same : x ≡ c = cc in let z : n ≡ wrapped (
 module _ (p : Parameters) (packets : List Packet) (side : Side) (own : List FirstCopy) (a : Packet) (sent : IsSent p packets side own) (of_side : a.side ≡ side) where
   by_copy : (d : RedundancyPdu) → Spells p side d a.payload → (o : Option FirstCopy) → copy_with own d.number ≡ o → number_fault p side own a.payload d o ≡ None
       → IsSent p (packets ++ a ∷ []) side (after_pdu own (length packets) d o)
-  by_copy d s None e n = (sent_first p packets a side own d (first_number own d) sent (numbers_from p packets side own d sent) of_side s
-      (next_from own d s.fits.number (next_of own d.number (passed (is_next_number own d.number) number_gap n)))).0
+  by_copy d s None e n =
+      let f = counted p packets side own d sent s.fits.number (next_of own d.number (passed (is_next_number own d.number) number_gap n)) in
+      (sent_first p packets a side own d f.0 sent f.1 of_side s f.2).0
   by_copy d s (Some c) e n =
       let f = copy_found own d.number c e in
       let w = sent.firsts f.0 c f.1 in
@@ -72,12 +72,7 @@ goes_on p packets own a sent w n =
     (by_copy p packets a.side own a sent refl w.0 w.2 (copy_with own w.0.number) refl (sym (ap (read_fault p a.side own a.payload) w.1) ∙ n))
 
 after_few : (own : List FirstCopy) (place : ℕ) (r : Result RedundancyPdu Fault) → length (after_read own place r) ≤ length own + 1
-after_few own place (Err fault) = omega arith
-after_few own place (Ok d) = by (copy_with own d.number)
-  where
-    by : (o : Option FirstCopy) → length (after_pdu own place d o) ≤ length own + 1
-    by None = (let l = length_push own (record { place = place; pdu = d }) in omega arith)
-    by (Some c) = omega arith
+after_few own place r = grind (arith, length_push)
 
 pub goes_on_sent : (p : Parameters) (packets : List Packet) (own : List FirstCopy) (a : Packet) → IsSent p packets a.side own → length own ≤ 1000000 → IsRead p a
     → packet_fault p own a ≡ None → Sent p (packets ++ a ∷ []) a.side (after_read own (length packets) (decode_of p a.side a.payload))
@@ -91,8 +86,7 @@ list_of k h Client = to_record k.params k.packets Client k.client h.valid.valid 
 list_of k h Server = to_record k.params k.packets Server k.server h.valid.valid h.sent.server_sent
 
 pub few_of : (k : Crossing) → IsCrossing k → (side : Side) → length (sent_by k side) ≤ 1000000
-few_of k h Client = h.sent.few_client
-few_of k h Server = h.sent.few_server
+few_of k h side = grind arith
 
 -- the packet of a first copy
 first_packet : (k : Crossing) (side : Side) (number place : ℕ) → IsCrossing k → option_map (λ (c : FirstCopy). c.place) (copy_with (sent_by k side) number) ≡ Some place
@@ -107,18 +101,23 @@ pub place_within : (k : Crossing) (side : Side) (number place : ℕ) → IsCross
     → place < length k.packets
 place_within k side number place h e = (let w = first_packet k side number place h e in slice_get_within k.packets place w.1 w.3)
 
+-- what is known of a packet whose PDU is read
+pub known_by : (k : Crossing) (a : Packet) (d : RedundancyPdu) (o : Option FirstCopy) → decode_of k.params a.side a.payload ≡ Ok d → copy_with (sent_by k a.side) d.number ≡ o
+    → (packet_fault k.params (sent_by k a.side) a ≡ number_fault k.params a.side (sent_by k a.side) a.payload d o) × (sent_after k a ≡ after_pdu (sent_by k a.side) (length k.packets) d o)
+known_by k a d o reads e = (let own = sent_by k a.side in (
+  ap (read_fault k.params a.side own a.payload) reads ∙ ap (number_fault k.params a.side own a.payload d) e,
+  ap (after_read own (length k.packets)) reads ∙ ap (after_pdu own (length k.packets) d) e,
+))
+
 -- a packet of a known number has no fault exactly where its bytes are those of the first copy
 pub repeated : (k : Crossing) (a : Packet) (d : RedundancyPdu) (place : ℕ) (r : Bool) → IsCrossing k → decode_of k.params a.side a.payload ≡ Ok d
     → option_map (λ (c : FirstCopy). c.place) (copy_with (sent_by k a.side) d.number) ≡ Some place → IfSome (slice_get k.packets place) (λ (b : Packet). r ≡ bytes_eq b.payload a.payload)
     → (packet_fault k.params (sent_by k a.side) a ≡ (if r then None else Some copy_differs)) × (sent_after k a ≡ sent_by k a.side)
 repeated k a d place r h e f g =
     let w = first_packet k a.side d.number place h f in
-    let own = sent_by k a.side in
     let test : r ≡ bytes_eq w.1.payload a.payload = subst (λ (o : Option Packet). IfSome o (λ (b : Packet). r ≡ bytes_eq b.payload a.payload)) w.3 g in
-    let same : r ≡ bytes_eq (redundancy_bytes k.params a.side w.0.pdu) a.payload = test ∙ ap (λ (bs : List ℕ). bytes_eq bs a.payload) w.4 in (
-      ap (read_fault k.params a.side own a.payload) e ∙ (ap (number_fault k.params a.side own a.payload d) w.2 ∙ ap (λ (b : Bool). if b then None else Some copy_differs) (sym same)),
-      ap (after_read own (length k.packets)) e ∙ ap (after_pdu own (length k.packets) d) w.2,
-    )
+    let same : r ≡ bytes_eq (redundancy_bytes k.params a.side w.0.pdu) a.payload = test ∙ ap (λ (bs : List ℕ). bytes_eq bs a.payload) w.4 in
+    rw same (known_by k a d (Some w.0) e w.2)
 
 -- the next number is no known one
 next_unknown : (k : Crossing) (side : Side) (n : ℕ) → IsCrossing k → is_next_number (sent_by k side) n ≡ true → (o : Option FirstCopy) → copy_with (sent_by k side) n ≡ o → o ≡ None
@@ -136,58 +135,39 @@ pub is_next_pdu : (k : Crossing) (a : Packet) (pdu : Pdu) → IsCrossing k → d
 is_next_pdu k a pdu h reads e =
     let own = sent_by k a.side in
     let d = value_of pdu in
-    let new = next_unknown k a.side d.number h e (copy_with own d.number) refl in (
-      ap (read_fault k.params a.side own a.payload) reads ∙ (ap (number_fault k.params a.side own a.payload d) new ∙ ap (λ (b : Bool). if b then None else Some number_gap) e),
-      ap (after_read own (length k.packets)) reads ∙ ap (after_pdu own (length k.packets) d) new,
-    )
+    let w = known_by k a d None reads (next_unknown k a.side d.number h e (copy_with own d.number) refl) in
+    (w.0 ∙ ap (λ (b : Bool). if b then None else Some number_gap) e, w.1)
 
 -- ---- the limits
 
--- a list of its side that is as long, or longer by one
-room_at : (k : Crossing) (a : Packet) (side : Side) (own : List FirstCopy) (is_new : Bool) → IsCrossing k → length own ≡ length (sent_by k side) + (if is_new then 1 else 0)
-    → is_within (crossing_with k a side own) ≡ (nat_lt (length k.packets) most_packets && (not is_new || nat_lt (length (sent_by k side)) most_sent))
-room_at k a side own is_new h e = (let l = length_push k.packets a in let x = h.sent.few_client in let y = h.sent.few_server in grind (arith, nat_tests))
-
 pub new_length : (sent : List FirstCopy) (place : ℕ) (new : Option Pdu) → length (with_new sent place new) ≡ length sent + (if is_some new then 1 else 0)
-new_length sent place None = omega arith
-new_length sent place (Some pdu) = length_push sent (copy_of (place, pdu))
+new_length sent place new = grind (arith, length_push)
 
 -- ---- one packet more
 
-within_packets : (k : Crossing) → is_within k ≡ true → (length k.packets ≤ most_packets) × (length k.client ≤ most_sent) × (length k.server ≤ most_sent)
-within_packets k e = grind (arith, nat_tests)
-
-client_not_server : Client ≡ Server → ⊥
-client_not_server e = cc
-
-grown_at : (k : Crossing) (a : Packet) (side : Side) (sent : List FirstCopy) → a.side ≡ side → IsCrossing k → IsRecorded k.params a.channel → IsSent k.params (k.packets ++ a ∷ []) side sent
-    → is_within (crossing_with k a side sent) ≡ true → IsCrossing (crossing_with k a side sent)
-grown_at k a Client sent e h on s within =
-    let w = within_packets (crossing_with k a Client sent) within in
+-- lists of both sides within the limits make a crossing
+pub crossing_of_lists : (k : Crossing) → OfConnection k.params → CrossRecorded k.params k.packets → is_within k ≡ true → IsSent k.params k.packets Client k.client
+    → IsSent k.params k.packets Server k.server → IsCrossing k
+crossing_of_lists k valid recorded within c s =
+    let w : (length k.packets ≤ most_packets) × (length k.client ≤ most_sent) × (length k.server ≤ most_sent) = grind (arith, nat_tests) in
     record {
-      valid = h.valid;
-      recorded = recorded_more k.params k.packets a h.recorded on;
+      valid = valid;
+      recorded = recorded;
       sent = record {
-        client_sent = of_record k.params (k.packets ++ a ∷ []) Client sent s (let z = w.1 in omega arith);
-        server_sent = of_record k.params (k.packets ++ a ∷ []) Server k.server (sent_other k.params k.packets a Server k.server (list_of k h Server) (λ f. client_not_server (sym e ∙ f))) (let z = w.2 in omega arith);
+        client_sent = of_record k.params k.packets Client k.client c (let z = w.1 in omega arith);
+        server_sent = of_record k.params k.packets Server k.server s (let z = w.2 in omega arith);
         few_packets = w.0;
         few_client = w.1;
         few_server = w.2;
       };
     }
-grown_at k a Server sent e h on s within =
-    let w = within_packets (crossing_with k a Server sent) within in
-    record {
-      valid = h.valid;
-      recorded = recorded_more k.params k.packets a h.recorded on;
-      sent = record {
-        client_sent = of_record k.params (k.packets ++ a ∷ []) Client k.client (sent_other k.params k.packets a Client k.client (list_of k h Client) (λ f. client_not_server (sym f ∙ e))) (let z = w.1 in omega arith);
-        server_sent = of_record k.params (k.packets ++ a ∷ []) Server sent s (let z = w.2 in omega arith);
-        few_packets = w.0;
-        few_client = w.1;
-        few_server = w.2;
-      };
-    }
+
+grown_at : (k : Crossing) (a : Packet) (side : Side) (sent : List FirstCopy) → a.side ≡ side → IsCrossing k → IsRecorded k.params a.channel
+    → IsSent k.params (k.packets ++ a ∷ []) side sent → is_within (crossing_with k a side sent) ≡ true → IsCrossing (crossing_with k a side sent)
+grown_at k a Client sent e h on s within = crossing_of_lists (crossing_with k a Client sent) h.valid (recorded_more k.params k.packets a h.recorded on) within
+    s (sent_other k.params k.packets a Server k.server (list_of k h Server) (λ f. (cc)))
+grown_at k a Server sent e h on s within = crossing_of_lists (crossing_with k a Server sent) h.valid (recorded_more k.params k.packets a h.recorded on) within
+    (sent_other k.params k.packets a Client k.client (list_of k h Client) (λ f. (cc))) s
 
 pub grown_crossing : (k : Crossing) (a : Packet) → IsCrossing k → IsRecorded k.params a.channel → IsRead k.params a → packet_fault k.params (sent_by k a.side) a ≡ None → is_within (with_packet k a) ≡ true → IsCrossing (with_packet k a)
 grown_crossing k a h on are n within = grown_at k a a.side (sent_after k a) refl h on (goes_on k.params k.packets (sent_by k a.side) a (list_of k h a.side) are n) within
@@ -195,29 +175,21 @@ grown_crossing k a h on are n within = grown_at k a a.side (sent_after k a) refl
 -- whether there is room for a packet without a fault, whose PDU is new or known
 pub within_room : (k : Crossing) (a : Packet) (is_new : Bool) → IsCrossing k → length (sent_after k a) ≡ length (sent_by k a.side) + (if is_new then 1 else 0)
     → is_within (with_packet k a) ≡ (nat_lt (length k.packets) most_packets && (not is_new || nat_lt (length (sent_by k a.side)) most_sent))
-within_room k a is_new h e = room_at k a a.side (sent_after k a) is_new h e
+within_room k a is_new h e = (let l = length_push k.packets a in let x = h.sent.few_client in let y = h.sent.few_server in grind (arith, nat_tests))
 
 -- ---- the parts of a crossing with one packet more
 
 module _ (k : Crossing) (a : Packet) (packets : List Packet) (grown : packets ≡ k.packets ++ a ∷ []) where
   pub after_client : (place : ℕ) (pdu : Pdu) (client : List FirstCopy) → a.side ≡ Client → place ≡ length k.packets → client ≡ k.client ++ copy_of (place, pdu) ∷ []
       → record { params = k.params; packets = packets; client = client; server = k.server } ≡ crossing_with k a a.side (with_new (sent_by k a.side) (length k.packets) (Some pdu))
-  after_client place pdu client s l f =
-      (λ i. record { params = k.params; packets = grown i; client = (f ∙ ap (λ n. k.client ++ copy_of (n, pdu) ∷ []) l) i; server = k.server })
-      ∙ sym (ap (λ (t : Side). crossing_with k a t (with_new (sent_by k t) (length k.packets) (Some pdu))) s)
+  after_client place pdu client s l f = grind arith
 
   pub after_server : (place : ℕ) (pdu : Pdu) (server : List FirstCopy) → a.side ≡ Server → place ≡ length k.packets → server ≡ k.server ++ copy_of (place, pdu) ∷ []
       → record { params = k.params; packets = packets; client = k.client; server = server } ≡ crossing_with k a a.side (with_new (sent_by k a.side) (length k.packets) (Some pdu))
-  after_server place pdu server s l f =
-      (λ i. record { params = k.params; packets = grown i; client = k.client; server = (f ∙ ap (λ n. k.server ++ copy_of (n, pdu) ∷ []) l) i })
-      ∙ sym (ap (λ (t : Side). crossing_with k a t (with_new (sent_by k t) (length k.packets) (Some pdu))) s)
+  after_server place pdu server s l f = grind arith
 
   pub after_repeat : record { params = k.params; packets = packets; client = k.client; server = k.server } ≡ crossing_with k a a.side (with_new (sent_by k a.side) (length k.packets) None)
-  after_repeat = (λ i. record { params = k.params; packets = grown i; client = k.client; server = k.server }) ∙ by a.side
-    where
-      by : (t : Side) → record { params = k.params; packets = k.packets ++ a ∷ []; client = k.client; server = k.server } ≡ crossing_with k a t (with_new (sent_by k t) (length k.packets) None)
-      by Client = refl
-      by Server = refl
+  after_repeat = grind arith
 
 -- ---- the number of a packet
 
@@ -227,18 +199,11 @@ spelled_at k place a h g =
     let w = (list_of k h a.side).copies place a g refl in
     (w.1.pdu, w.4)
 
-number_bytes : (a b n : ℕ) (rest : List ℕ) → n < 2 ^ 32 → number_in_bytes (bytes_low_first 0 2 a ++ (bytes_low_first 0 2 b ++ (bytes_low_first 0 4 n ++ rest))) ≡ n
-number_bytes a b n rest h = from_le_bytes-to_le_bytes_4 n h
-
-long_enough : (a b n : ℕ) (rest : List ℕ) → 8 ≤ length (bytes_low_first 0 2 a ++ (bytes_low_first 0 2 b ++ (bytes_low_first 0 4 n ++ rest)))
-long_enough a b n rest = omega arith
-
 -- the redundancy number of what is spelled stands at its place
 pub number_spelled : (p : Parameters) (side : Side) (d : RedundancyPdu) (bytes : List ℕ) → Spells p side d bytes → number_in_bytes bytes ≡ d.number
 unfolding redundancy_bytes
-number_spelled p side d bytes s = ap number_in_bytes s.same ∙ number_bytes (length_of p d) d.reserve d.number (safety_bytes p side d.safety ++ d.check_bytes) s.fits.number
+number_spelled p side d bytes s = ap number_in_bytes s.same ∙ from_le_bytes-to_le_bytes_4 d.number s.fits.number
 
 pub length_spelled : (p : Parameters) (side : Side) (d : RedundancyPdu) (bytes : List ℕ) → Spells p side d bytes → 8 ≤ length bytes
 unfolding redundancy_bytes
-length_spelled p side d bytes s =
-    subst (λ (bs : List ℕ). 8 ≤ length bs) (sym s.same) (long_enough (length_of p d) d.reserve d.number (safety_bytes p side d.safety ++ d.check_bytes))
+length_spelled p side d bytes s = omega (arith, ap length s.same)

@@ -8,7 +8,6 @@ use Rattle.std.specs.Option.{option_flatten}
 use Rattle.std.specs.Result.{result_ok}
 use Rattle.rasta_pcap.specs.declared.fault.Fault.{Fault}
 use Rattle.rasta_pcap.specs.declared.fault.Side.{Side}
-use Rattle.rasta_pcap.specs.declared.fault.Side.TheVariants.{Client, Server}
 use Rattle.rasta_pcap.specs.Capture.{IsCapture, opening, reading_of, bytes_of}
 use Rattle.rasta_pcap.proofs.Headers.{opening-fault_place}
 use Rattle.rasta_pcap.proofs.Captures.{IsRefused-place, reading_of-IsCapture}
@@ -37,8 +36,7 @@ impossible_with p packets own a number h sent some ws w rest r e =
 
 sent_at : (p : Parameters) (records : List (List ℕ)) (c s : List FirstCopy) → AreFaultless p records c s → (side : Side)
     → Sent p (crossing_list p records) side (sent_of side c s) × (length (sent_of side c s) ≤ 1000000)
-sent_at p records c s h Client = (h.sent.client_sent, h.sent.few_client)
-sent_at p records c s h Server = (h.sent.server_sent, h.sent.few_server)
+sent_at p records c s h side = grind arith
 
 -- a fault that speaks of a side is that of a packet
 of_packet : (p : Parameters) (records : List (List ℕ)) (c s : List FirstCopy) (frame : List ℕ) (number : ℕ) (end : Option Side) → HasFault p records c s frame number end → IsSome end

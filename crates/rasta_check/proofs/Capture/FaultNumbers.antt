@@ -1,5 +1,5 @@
 -- The numbers of a capture's faults: those of a packet are 20 to 28 and name its side, all others are lower and name none.
-use Rattle.std.proofs.Common.{◌≡◌, ℕ, ◌<◌, ◌≤◌, List, ◌∷◌, ◌++◌, length, Option, Some, None, Result, Ok, Err, refl, ap, sym, arith, subst, ◌⊎◌, inl, inr}
+use Rattle.std.proofs.Common.{◌≡◌, ℕ, ◌<◌, ◌≤◌, List, length, Option, Some, None, Result, Ok, Err, refl, ap, sym, arith, subst, ⊎_elim, inl, inr}
 use Rattle.std.specs.Prelude.{IsSome, IfErr, IfSome, ◌↔◌}
 use native.Mathlib.Decide.{dec_lt}
 use Prim.{yes, no}
@@ -10,7 +10,7 @@ use Rattle.rasta_pcap.specs.Capture.{Cursor, Numbered, next, opening, reading_of
 use Rattle.rasta_pcap.proofs.Captures.{IsRefused-place, IsRefused-reading_of, opening-by_reading_of}
 use Rattle.rasta_pcap.proofs.Headers.{opening-fault_place}
 use Rattle.rasta_udp.specs.declared.channel.Channel.{Channel}
-use Rattle.rasta_udp.specs.Frame.{Fields, Packet, found_by, datagram_of, map_found, packet_at, packet_in}
+use Rattle.rasta_udp.specs.Frame.{Fields, Packet, found_by, datagram_of, map_found, packet_in}
 use Rattle.rasta_pdu.specs.Params.{Parameters}
 use Rattle.rasta_pdu.specs.declared.kind.Kind.{Kind}
 use Rattle.rasta_pdu.specs.Pdu.{decode_kind, decode_of}
@@ -48,7 +48,7 @@ datagram_low channels frame = grind (arith, mapped_low, found_low)
 
 packet_low : (channels : List Channel) (frame : List ℕ) → IfErr (packet_in channels frame) IsLow
 unfolding packet_in
-packet_low channels frame = mapped_low (packet_at frame) (datagram_of channels frame) (datagram_low channels frame)
+packet_low channels frame = grind (arith, mapped_low, datagram_low)
 
 -- ---- faults of a packet
 
@@ -68,7 +68,7 @@ packet_between p sent a = (let d = decode_between p a.side a.payload in grind ar
 -- ---- faults of a file
 
 sideless : (f : Fault) → IsLow f → f.end ≡ None → IsSided f
-sideless f low none = ((λ is. absurd (cc)), λ e. low)
+sideless f low none = grind arith
 
 opening_sided : (file : List ℕ) (f : Fault) → opening file ≡ Err f → IsSided f
 opening_sided file f e = sideless f (opening_low file f e) (ap (λ (g : Fault). g.end) (opening-fault_place file f e))
@@ -87,23 +87,17 @@ step_sided k r f (bad_packet a n t found some) = ((λ is. subst (λ (o : Option 
 step_sided k r f (no_room a t found none full) = sideless f (omega arith, omega arith) refl
 
 pub file_sided : (p : Parameters) (file : List ℕ) (f : Fault) → crossing_of p file ≡ Err f → IsSided f
-file_sided p file f e = (let b = breaks (nothing_crossed p) (reading_of p.last_record file).records (reading_of p.last_record file).fault f e in by b.last b.front b.how)
-  where
-    by : (k : Crossing) (front : List Numbered) → ((front ≡ (reading_of p.last_record file).records) × ((reading_of p.last_record file).fault ≡ Some f))
-        ⊎ ((r : Numbered) × (later : List Numbered) × ((reading_of p.last_record file).records ≡ front ++ r ∷ later) × Step k r (Err f)) → IsSided f
-    by k front (inl w) = reading_sided p.last_record file f w.1
-    by k front (inr w) = step_sided k w.0 f w.3
+file_sided p file f e =
+    let r = reading_of p.last_record file in
+    let b = breaks (nothing_crossed p) r.records r.fault f e in
+    ⊎_elim (λ w. reading_sided p.last_record file f w.1) (λ w. step_sided b.last w.0 f w.3) b.how
 
 -- it names a side exactly where it is one of a packet
 abbrev pub NamesSide : Fault → Type 0
 NamesSide f = IsSome f.end ↔ (redundancy_length ≤ f.number) × (f.number ≤ number_gap)
 
 names_side : (f : Fault) → IsSided f → NamesSide f
-names_side f h = (h.0, by f.end refl)
-  where
-    by : (o : Option Side) → f.end ≡ o → (redundancy_length ≤ f.number) × (f.number ≤ number_gap) → IsSome o
-    by None e w = (let low = (h.1 e).1 in let high = w.0 in absurd (omega arith))
-    by (Some side) e w = refl
+names_side f h = grind arith
 
 pub file_names_side : (p : Parameters) (file : List ℕ) (f : Fault) → crossing_of p file ≡ Err f → NamesSide f
 file_names_side p file f e = names_side f (file_sided p file f e)

@@ -1,7 +1,7 @@
 -- A capture is read without a fault exactly where it has none.
 use Rattle.std.proofs.Common.{◌≡◌, ◌⊎◌, ℕ, ◌+◌, ◌-◌, ◌≤◌, List, [], ◌∷◌, ◌++◌, length, drop, append_assoc, length-append, Option, Some, None, Result, Ok, Err, Bool, true, false, refl, ap, sym, ◌∙◌, arith, subst, nat_lt, if◌then◌else◌, inl, inr}
 use Rattle.std.specs.Prelude.{IsOk}
-use Rattle.std.specs.List.{cons_option}
+use Rattle.std.specs.List.{AllByRecursion, cons_option}
 use Rattle.std.proofs.lemmas.List.{length_push}
 use Rattle.std.proofs.lemmas.List.Elements.{filter_map-append}
 use Rattle.std.proofs.lemmas.Grind.{flat_map-append}
@@ -19,29 +19,19 @@ use Rattle.rasta_pdu.specs.Messages.{AreBytes}
 use Rattle.rasta_check.specs.Capture.Crossing.{FirstCopy, Sent, crossing_list, packet_fault}
 use Rattle.rasta_check.specs.Model.Theorem.{OfConnection, most_packets}
 use Rattle.rasta_check.specs.Model.World.{most_sent}
-use Rattle.rasta_check.specs.Capture.Reading.{Crossing, IsCrossing, after_records, crossing_of, crossing_with, is_within, nothing_crossed, sent_after, sent_by, with_packet}
+use Rattle.rasta_check.specs.Capture.Reading.{Crossing, IsCrossing, after_records, crossing_of, is_within, nothing_crossed, sent_after, sent_by, with_packet}
 use Rattle.rasta_check.specs.Capture.Faults.{AreFaultless, CrossedIn, IsFaultlessCapture}
 use Rattle.rasta_check.proofs.Capture.FaultlessLists.{IsSent}
-use Rattle.rasta_check.proofs.Capture.Crossings.{list_of, few_of, is_read, goes_on}
+use Rattle.rasta_check.proofs.Capture.Crossings.{crossing_of_lists, list_of, few_of, is_read, goes_on}
 use Rattle.rasta_check.proofs.Capture.PacketFaults.{faultless}
 use Rattle.rasta_check.proofs.Capture.NextPackets.{can_follow, cut}
-use Rattle.rasta_check.proofs.Capture.ListForms.{of_record, to_record}
+use Rattle.rasta_check.proofs.Capture.ListForms.{to_record}
 use Rattle.rasta_check.proofs.Capture.RecordBytes.{AllBytes, file_bytes, payload_bytes}
 use Rattle.rasta_check.proofs.Capture.Readings.{AreFrom, AreSound, Step, bad_frame, bad_packet, no_room, breaks, frames_of, packets_in, records_add, window, window_is}
 use Rattle.rasta_check.proofs.Capture.FirstCopies.{sent_none, sent_once}
 
 pub nothing_is : (p : Parameters) → OfConnection p → IsCrossing (nothing_crossed p)
-nothing_is p h = record {
-  valid = h;
-  recorded = λ place a g. absurd (cc);
-  sent = record {
-    client_sent = of_record p [] Client [] (sent_none p Client h.valid) (omega arith);
-    server_sent = of_record p [] Server [] (sent_none p Server h.valid) (omega arith);
-    few_packets = omega arith;
-    few_client = omega arith;
-    few_server = omega arith;
-  };
-}
+nothing_is p h = crossing_of_lists (nothing_crossed p) h (λ place a g. absurd (cc)) refl (sent_none p Client h.valid) (sent_none p Server h.valid)
 
 -- what crosses by records in which the sides sent these lists
 abbrev pub crossing_by : Parameters → List (List ℕ) → List FirstCopy → List FirstCopy → Crossing
@@ -84,9 +74,6 @@ read_is_faultless p file k h are e = (crossed_in p file k h are e).capture
 
 -- ---- a packet that comes next
 
-within_with : (k : Crossing) (a : Packet) (side : Side) (sent : List FirstCopy) → IsCrossing k → length (k.packets ++ a ∷ []) ≤ most_packets → length sent ≤ most_sent → is_within (crossing_with k a side sent) ≡ true
-within_with k a side sent h l m = (let x = h.sent.few_server in let y = h.sent.few_client in grind (arith, nat_tests))
-
 -- of all packets its sender sent a list
 module _ (k : Crossing) (a : Packet) (more : List Packet) (h : IsCrossing k) (big : List FirstCopy) (whole : IsSent k.params (k.packets ++ a ∷ more) a.side big) where
   no_fault : packet_fault k.params (sent_by k a.side) a ≡ None
@@ -104,13 +91,16 @@ module _ (k : Crossing) (a : Packet) (more : List Packet) (h : IsCrossing k) (bi
       let same = ap length (sent_once k.params (k.packets ++ a ∷ []) a.side front.0 (sent_after k a) front.1 grown (omega arith)) in
       let all = length-append k.packets (a ∷ more) in
       let one = length_push k.packets a in
-      within_with k a a.side (sent_after k a) h (omega arith) (omega arith)
+      let room : length (sent_after k a) ≤ most_sent = omega arith in
+      let few_client = h.sent.few_client in
+      let few_server = h.sent.few_server in
+      grind (arith, nat_tests)
 
 -- ---- what has no fault is read
 
-sound_at : (p : Parameters) (front : List (List ℕ)) (frame : List ℕ) (later : List (List ℕ)) → AreSound p (front ++ frame ∷ later) → IsOk (packet_in p.channels frame)
-sound_at p [] frame later h = h.0
-sound_at p (x ∷ front) frame later h = sound_at p front frame later h.1
+pub all_at : {X : Type 0} (P : X → Type 0) (front : List X) (x : X) (later : List X) → AllByRecursion P (front ++ x ∷ later) → P x
+all_at P [] x later h = h.0
+all_at P (y ∷ front) x later h = all_at P front x later h.1
 
 -- numbered records up to some of them, and the number of the next
 pub row_front : (front later : List Numbered) (n : ℕ) → AreFrom n (front ++ later) → AreFrom n front
@@ -153,7 +143,7 @@ module _ (p : Parameters) (h : OfConnection p) (front later : List Numbered) (r 
 
   pub not_refused : (f : Fault) → Step k r (Err f) → ⊥
   not_refused f (bad_frame g inside found) =
-      absurd (let sound = sound_at p (window p front) r.1 (window p later) (subst (AreSound p) (frames_at inside) all.frames) in let bad = subst IsOk found sound in cc)
+      absurd (let sound = all_at _ (window p front) r.1 (window p later) (subst (AreSound p) (frames_at inside) all.frames) in let bad = subst IsOk found sound in cc)
   not_refused f (bad_packet a number inside found some) =
       absurd (let w = list_at a inside found a.side in let none = no_fault k a (packets_in p (window p later)) is w.0 w.1 in cc)
   not_refused f (no_room a inside found none full) =
@@ -203,10 +193,6 @@ same_list : (p : Parameters) (side : Side) (packets : List Packet) (own sent : L
 same_list p side packets own sent valid mine theirs few =
     sent_once p packets side own sent (to_record p packets side own valid mine) (to_record p packets side sent valid theirs) (omega arith)
 
-pub bytes_at : (front : List Numbered) (r : Numbered) (later : List Numbered) → AllBytes (front ++ r ∷ later) → AreBytes r.1
-bytes_at [] r later h = h.0
-bytes_at (x ∷ front) r later h = bytes_at front r later h.1
-
 pub records_are_read : (p : Parameters) (rs : List Numbered) (client server : List FirstCopy) → OfConnection p → AllBytes rs → AreFrom 1 rs → AreFaultless p (frames_of rs) client server
     → after_records (nothing_crossed p) rs None ≡ Ok (crossing_by p (frames_of rs) client server)
 records_are_read p rs client server h are numbers all = by (after_records (nothing_crossed p) rs None) refl
@@ -214,7 +200,7 @@ records_are_read p rs client server h are numbers all = by (after_records (nothi
     broken : (f : Fault) → ((c s : List FirstCopy) × AreFaultless p (frames_of rs) c s × ◌≡◌ {A = Option Fault} None (Some f)) ⊎ FirstFault p rs f → ⊥
     broken f (inl w) = absurd (let end = w.3 in cc)
     broken f (inr w) =
-        not_refused p h w.front w.later w.at (subst (AreFrom 1) w.split numbers) (bytes_at w.front w.at w.later (subst AllBytes w.split are)) w.client w.server w.is client server
+        not_refused p h w.front w.later w.at (subst (AreFrom 1) w.split numbers) (all_at _ w.front w.at w.later (subst AllBytes w.split are)) w.client w.server w.is client server
         (subst (λ (xs : List Numbered). AreFaultless p (frames_of xs) client server) w.split all) f w.step
 
     by : (o : Result Crossing Fault) → after_records (nothing_crossed p) rs None ≡ o → o ≡ Ok (crossing_by p (frames_of rs) client server)

@@ -1,5 +1,6 @@
 -- The first copies of a growing list of packets, and that a list of packets has one list of first copies.
-use Rattle.std.proofs.Common.{◌≡◌, ℕ, zero, suc, ◌+◌, ◌%◌, ◌^◌, ◌<◌, ◌≤◌, List, [], ◌∷◌, ◌++◌, length, Option, Some, None, slice_get, refl, ap, sym, ◌∙◌, arith, ⊎_elim, subst}
+use Rattle.std.proofs.Common.{◌≡◌, ℕ, zero, suc, ◌+◌, ◌<◌, ◌≤◌, List, [], ◌∷◌, ◌++◌, length, Option, Some, None, slice_get, refl, ap, sym, ◌∙◌, arith, ⊎_elim, subst}
+use Rattle.std.proofs.lemmas.List.{length_push}
 use Rattle.std.proofs.lemmas.Option.{slice_get_within}
 use native.Mathlib.Decide.{dec_lt}
 use Prim.{yes, no}
@@ -9,13 +10,14 @@ use Rattle.rasta_pdu.specs.Pdu.{RedundancyPdu}
 use Rattle.rasta_check.specs.Capture.Crossing.{Spells, FirstCopy}
 use Rattle.rasta_udp.specs.Frame.{Packet}
 use Rattle.rasta_check.proofs.Capture.FaultlessLists.{IsSent, ordered}
-use Rattle.rasta_check.proofs.Lists.{get_push_cases, get_front, get_push, slice_get_some}
+use Rattle.rasta_check.proofs.Lists.{all_push, get_push_cases, get_front, get_front_within, get_push, slice_get_some}
 use Rattle.rasta_check.proofs.Capture.Spellings.{read_once}
 use Rattle.rasta_check.proofs.Capture.Positions.{not_again, places_rise}
 use Rattle.rasta_pdu.specs.Params.{Parameters, AreParameters}
 
-old_first : (p : Parameters) (xs : List Packet) (k : Packet) (s : Side) (own : List FirstCopy) (i : ℕ) (c : FirstCopy) → IsSent p xs s own → slice_get own i ≡ Some c → (b : Packet) × (slice_get (xs ++ k ∷ []) c.place ≡ Some b) × (b.side ≡ s) × Spells p s c.pdu b.payload
-old_first p xs k s own i c h g = (let w = h.firsts i c g in (w.0, get_front xs (k ∷ []) c.place w.0 w.1, w.2, w.3))
+old_first : (p : Parameters) (xs : List Packet) (k : Packet) (s : Side) (own : List FirstCopy) → IsSent p xs s own → (i : ℕ) (c : FirstCopy) → slice_get own i ≡ Some c
+    → (b : Packet) × (slice_get (xs ++ k ∷ []) c.place ≡ Some b) × (b.side ≡ s) × Spells p s c.pdu b.payload
+old_first p xs k s own h i c g = (let w = h.firsts i c g in (w.0, get_front xs (k ∷ []) c.place w.0 w.1, w.2, w.3))
 
 -- one packet more, which is none of this side or spells the PDU of a member
 sent_more : (p : Parameters) (xs : List Packet) (k : Packet) (s : Side) (own : List FirstCopy) → IsSent p xs s own
@@ -23,16 +25,13 @@ sent_more : (p : Parameters) (xs : List Packet) (k : Packet) (s : Side) (own : L
 sent_more p xs k s own h last =
     record {
       valid = h.valid;
-      firsts = λ i c g. old_first p xs k s own i c h g;
+      firsts = old_first p xs k s own h;
       rising = h.rising;
       numbers = h.numbers;
-      copies = λ j a g e. ⊎_elim
-          (λ (old : slice_get xs j ≡ Some a). h.copies j a old e)
-          (λ (new : (j ≡ length xs) × (k ≡ a)). (let w = last (ap (λ (b : Packet). b.side) new.1 ∙ e) in
+      copies = all_push xs k h.copies (λ e. (let w = last e in
           let f = h.firsts w.0 w.1 w.2 in
           let l = slice_get_within xs w.1.place f.0 f.1 in
-          (w.0, w.1, w.2, omega arith, subst (λ (b : Packet). Spells p s w.1.pdu b.payload) new.1 w.3)))
-          (get_push_cases xs k j a g);
+          (w.0, w.1, w.2, omega arith, w.3)));
     }
 
 pub sent_other : (p : Parameters) (xs : List Packet) (k : Packet) (s : Side) (own : List FirstCopy) → IsSent p xs s own → (k.side ≡ s → ⊥) → IsSent p (xs ++ k ∷ []) s own
@@ -45,47 +44,30 @@ sent_copy p xs k s own j b h there side same =
 abbrev pub Counts_from : ℕ → List FirstCopy → Type 0
 Counts_from f own = (i : ℕ) (c : FirstCopy) → slice_get own i ≡ Some c → c.pdu.number ≡ wrapped (f + i)
 
-counts_push : (f : ℕ) (own : List FirstCopy) (c : FirstCopy) → Counts_from f own → c.pdu.number ≡ wrapped (f + length own) → Counts_from f (own ++ c ∷ [])
-counts_push f own c h e i d g = ⊎_elim
-    (λ (old : slice_get own i ≡ Some d). h i d old)
-    (λ (new : (i ≡ length own) × (c ≡ d)). ap (λ (z : FirstCopy). z.pdu.number) (sym new.1) ∙ (e ∙ ap (λ n. wrapped (f + n)) (sym new.0)))
-    (get_push_cases own c i d g)
-
-from_first : (f a b i : ℕ) → a ≡ (f + 0) % 2 ^ 32 → b ≡ (f + i) % 2 ^ 32 → b ≡ (a + i) % 2 ^ 32
-from_first f a b i x y = omega arith
-
 -- a new first copy
 pub sent_first : (p : Parameters) (xs : List Packet) (k : Packet) (s : Side) (own : List FirstCopy) (d : RedundancyPdu) (f : ℕ) → IsSent p xs s own → Counts_from f own → k.side ≡ s → Spells p s d k.payload → d.number ≡ wrapped (f + length own)
     → IsSent p (xs ++ k ∷ []) s (own ++ record { place = length xs; pdu = d } ∷ []) × Counts_from f (own ++ record { place = length xs; pdu = d } ∷ [])
 sent_first p xs k s own d f h cf side sp num =
     let c : FirstCopy = record { place = length xs; pdu = d } in
-    let cf' = counts_push f own c cf num in (
+    let cf' : Counts_from f (own ++ c ∷ []) = all_push own c cf num in (
       record {
         valid = h.valid;
-        firsts = λ i e g. ⊎_elim
-            (λ (old : slice_get own i ≡ Some e). old_first p xs k s own i e h old)
-            (λ (new : (i ≡ length own) × (c ≡ e)). subst (λ (z : FirstCopy). (b : Packet) × (slice_get (xs ++ k ∷ []) z.place ≡ Some b) × (b.side ≡ s) × Spells p s z.pdu b.payload) new.1 (k, get_push xs k, side, sp))
-            (get_push_cases own c i e g);
-        rising = λ i a b x y. rise i a b x y;
-        numbers = λ i a b x y. from_first f a.pdu.number b.pdu.number i (cf' 0 a x) (cf' i b y);
-        copies = λ i a g e. ⊎_elim
-            (λ (old : slice_get xs i ≡ Some a). (let w = h.copies i a old e in (w.0, w.1, get_front own (c ∷ []) w.0 w.1 w.2, w.3, w.4)))
-            (λ (new : (i ≡ length xs) × (k ≡ a)). (length own, c, get_push own c, (let q = new.0 in omega arith), subst (λ (b : Packet). Spells p s d b.payload) new.1 sp))
-            (get_push_cases xs k i a g);
+        firsts = all_push own c (old_first p xs k s own h) (k, get_push xs k, side, sp);
+        rising = λ i a b x y. (let l = slice_get_within (own ++ c ∷ []) (suc i) b y in
+            let n = length_push own c in
+            let w = h.firsts i a (sym (get_front_within own (c ∷ []) i (omega arith)) ∙ x) in
+            let m = slice_get_within xs a.place w.0 w.1 in
+            ⊎_elim
+            (λ (old : slice_get own (suc i) ≡ Some b). h.rising i a b (sym (get_front_within own (c ∷ []) i (omega arith)) ∙ x) old)
+            (λ (new : (suc i ≡ length own) × (c ≡ b)). (let q = ap (λ (z : FirstCopy). z.place) new.1 in omega arith))
+            (get_push_cases own c (suc i) b y));
+        numbers = λ i a b x y. (let first = cf' 0 a x in let this = cf' i b y in omega arith);
+        copies = all_push xs k
+            (λ i a old e. (let w = h.copies i a old e in (w.0, w.1, get_front own (c ∷ []) w.0 w.1 w.2, w.3, w.4)))
+            (λ e. (length own, c, get_push own c, omega arith, sp));
       },
       cf',
     )
-  where
-    rise : (i : ℕ) (a b : FirstCopy) → slice_get (own ++ record { place = length xs; pdu = d } ∷ []) i ≡ Some a → slice_get (own ++ record { place = length xs; pdu = d } ∷ []) (suc i) ≡ Some b → a.place < b.place
-    rise i a b x y = ⊎_elim
-        (λ (old : slice_get own (suc i) ≡ Some b). (let l = slice_get_within own (suc i) b old in
-        ⊎_elim (λ (o : slice_get own i ≡ Some a). h.rising i a b o old) (λ (n : (i ≡ length own) × (record { place = length xs; pdu = d } ≡ a)). absurd (omega arith)) (get_push_cases own _ i a x)))
-        (λ (new : (suc i ≡ length own) × (record { place = length xs; pdu = d } ≡ b)).
-        ⊎_elim
-        (λ (o : slice_get own i ≡ Some a). (let w = h.firsts i a o in let l = slice_get_within xs a.place w.0 w.1 in let q = ap (λ (z : FirstCopy). z.place) new.1 in omega arith))
-        (λ (n : (i ≡ length own) × (record { place = length xs; pdu = d } ≡ a)). absurd (omega arith))
-        (get_push_cases own _ i a x))
-        (get_push_cases own _ (suc i) b y)
 
 pub sent_none : (p : Parameters) (s : Side) → AreParameters p → IsSent p [] s []
 sent_none p s valid = record { valid = valid; firsts = λ i c g. absurd (cc); rising = λ i a b x y. absurd (cc); numbers = λ i a b x y. absurd (cc); copies = λ k a g e. absurd (cc) }
@@ -109,13 +91,9 @@ module _ (p : Parameters) (xs : List Packet) (s : Side) (c d : List FirstCopy) (
 
 pub below_by : (p : Parameters) (xs : List Packet) (s : Side) (d : List FirstCopy) → IsSent p xs s d → (i j : ℕ) (a b e : FirstCopy) → slice_get d i ≡ Some e → a.place < e.place → slice_get d j ≡ Some b → b.place ≤ a.place → j < i
 below_by p xs s d h i j a b e at l g m =
-    elim (dec_lt j i) [
-      | yes z ↦ z
-      | no z ↦ absurd (elim (dec_lt i j) [
-        | yes y ↦ (let r = places_rise d (ordered h) i j e b at g y in omega arith)
-        | no y ↦ (let same : i ≡ j = omega arith in let q : e ≡ b = cc (ap (slice_get d) same) in let w = ap (λ (u : FirstCopy). u.place) q in omega arith)
-      ])
-    ]
+    let later : i < j → ⊥ = λ y. (let r = places_rise d (ordered h) i j e b at g y in omega arith) in
+    let same : i ≡ j → ⊥ = λ q. (let z : e ≡ b = cc in let w = ap (λ (u : FirstCopy). u.place) z in omega arith) in
+    omega (arith, later, same)
 
 at_same : (p : Parameters) (xs : List Packet) (s : Side) (c d : List FirstCopy) → IsSent p xs s c → IsSent p xs s d → (i : ℕ) (a b : FirstCopy) → slice_get c i ≡ Some a → slice_get d i ≡ Some b → a.place ≡ b.place → a ≡ b
 at_same p xs s c d hc hd i a b g k e =

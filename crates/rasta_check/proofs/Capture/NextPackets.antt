@@ -56,14 +56,14 @@ split_at n (c ∷ cs) = elim (dec_lt c.place n) [
 
 module _ (p : Parameters) (xs ys : List Packet) (s : Side) (own later : List FirstCopy) (h : IsSent p (xs ++ ys) s (own ++ later)) (high : (c : FirstCopy) → slice_get later 0 ≡ Some c → length xs ≤ c.place) where
   within_own : (i : ℕ) (c : FirstCopy) → slice_get (own ++ later) i ≡ Some c → c.place < length xs → i < length own
-  within_own i c g l = elim (dec_lt i (length own)) [
-    | yes m ↦ m
-    | no m ↦
-        let n = slice_get_within (own ++ later) i c g in
-        let f = slice_get_some (own ++ later) (length own) (omega arith) in
-        let first = high f.0 (sym (get_next own later) ∙ f.1) in
-        below_by p (xs ++ ys) s (own ++ later) h (length own) i c c f.0 f.1 (omega arith) g (omega arith)
-  ]
+  within_own i c g l =
+      let not_high : length own ≤ i → ⊥ = λ m.
+      (let n = slice_get_within (own ++ later) i c g in
+      let f = slice_get_some (own ++ later) (length own) (omega arith) in
+      let first = high f.0 (sym (get_next own later) ∙ f.1) in
+      let low = below_by p (xs ++ ys) s (own ++ later) h (length own) i c c f.0 f.1 (omega arith) g (omega arith) in
+      omega arith) in
+      omega (arith, not_high)
 
   sent_part : AreBelow (length xs) own → IsSent p xs s own
   unfolding AreBelow
@@ -100,13 +100,16 @@ cut p ys xs s big h =
 follow_by : (p : Parameters) (xs rest : List Packet) (s : Side) (own later : List FirstCopy) (a : Packet) → IsSent p xs s own → IsSent p (xs ++ a ∷ rest) s (own ++ later)
     → ((c : FirstCopy) → slice_get later 0 ≡ Some c → length xs ≤ c.place) → a.side ≡ s → CanFollow p xs s own a
 follow_by p xs rest s own later a h g high sd =
-    let w = g.copies (length xs) a (get_next xs (a ∷ rest)) sd in
-    (w.1.pdu, w.4, elim (dec_lt w.1.place (length xs)) [
-      | yes l ↦ inl (w.0, w.1, sym (get_front_within own later w.0 (within_own p xs (a ∷ rest) s own later g high w.0 w.1 w.2 l)) ∙ w.2, refl)
-      | no l ↦ inr (λ c x. (let at = w.3 in
-          let n = next_copy p xs (a ∷ rest) s own later g high h w.0 w.1 w.2 (omega arith) in
-          g.numbers w.0 c w.1 (get_front own later 0 c x) w.2 ∙ ap (λ m. wrapped (c.pdu.number + m)) n))
-    ])
+    let w = g.copies (length xs) a (get_next xs (a ∷ rest)) sd in (
+      w.1.pdu,
+      w.4,
+      elim (dec_lt w.1.place (length xs)) [
+        | yes l ↦ inl (w.0, w.1, sym (get_front_within own later w.0 (within_own p xs (a ∷ rest) s own later g high w.0 w.1 w.2 l)) ∙ w.2, refl)
+        | no l ↦ inr (λ c x. (let at = w.3 in
+            let n = next_copy p xs (a ∷ rest) s own later g high h w.0 w.1 w.2 (omega arith) in
+            g.numbers w.0 c w.1 (get_front own later 0 c x) w.2 ∙ ap (λ m. wrapped (c.pdu.number + m)) n))
+      ],
+    )
 
 pub can_follow : (p : Parameters) (xs rest : List Packet) (s : Side) (own : List FirstCopy) (a : Packet) → IsSent p xs s own → length own < 2 ^ 32 → a.side ≡ s → (more : List FirstCopy) → IsSent p (xs ++ a ∷ rest) s more → CanFollow p xs s own a
 can_follow p xs rest s own a h l sd more g =
@@ -116,19 +119,11 @@ can_follow p xs rest s own a h l sd more g =
     let goes : IsSent p (xs ++ a ∷ rest) s (own ++ later) = subst (λ (cs : List FirstCopy). IsSent p (xs ++ a ∷ rest) s cs) whole g in
     follow_by p xs rest s own later a h goes r.2.place sd
 
-pub first_number : (own : List FirstCopy) (d : RedundancyPdu) → ℕ
-first_number [] d = d.number
-first_number (c ∷ cs) d = c.pdu.number
-
-pub numbers_from : (p : Parameters) (xs : List Packet) (s : Side) (own : List FirstCopy) (d : RedundancyPdu) → IsSent p xs s own → Counts_from (first_number own d) own
-unfolding first_number
-numbers_from p xs s [] d h i c g = absurd (cc)
-numbers_from p xs s (x ∷ own) d h i c g = h.numbers i x c refl g
-
-pub next_from : (own : List FirstCopy) (d : RedundancyPdu) → d.number < 2 ^ 32 → ((c : FirstCopy) → slice_get own 0 ≡ Some c → d.number ≡ wrapped (c.pdu.number + length own)) → d.number ≡ wrapped (first_number own d + length own)
-unfolding first_number
-next_from [] d l h = omega arith
-next_from (c ∷ own) d l h = h c refl
+-- the numbers of a list, and the next
+pub counted : (p : Parameters) (xs : List Packet) (s : Side) (own : List FirstCopy) (d : RedundancyPdu) → IsSent p xs s own → d.number < 2 ^ 32
+    → ((c : FirstCopy) → slice_get own 0 ≡ Some c → d.number ≡ wrapped (c.pdu.number + length own)) → (f : ℕ) × Counts_from f own × (d.number ≡ wrapped (f + length own))
+counted p xs s [] d h l next = (d.number, λ i c g. absurd (cc), omega arith)
+counted p xs s (x ∷ own) d h l next = (x.pdu.number, λ i c g. h.numbers i x c refl g, next x refl)
 
 pub definite : (p : Parameters) (valid : AreParameters p) (ws : List World) (w : World) (xs rest : List Packet) (a : Packet) (own : List FirstCopy) → Reaches p ws w → w.crossed ≡ xs ++ a ∷ rest → IsSent p xs a.side own → length own < 2 ^ 32 → CanFollow p xs a.side own a
 definite p valid ws w xs rest a own r e h l = (let g = told_by p valid ws w a.side r in can_follow p xs rest a.side own a h l refl g.own (subst (λ zs. IsSent p zs a.side g.own) e g.sends.sent))

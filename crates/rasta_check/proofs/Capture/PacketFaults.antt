@@ -1,15 +1,12 @@
 -- A packet that may come next has no fault.
-use Rattle.std.proofs.Common.{◌≡◌, ◌⊎◌, ℕ, zero, suc, ◌+◌, ◌<◌, ◌^◌, Bool, true, false, List, [], ◌∷◌, Option, Some, None, Ok, length, slice_get, refl, ap, sym, ◌∙◌, arith, inl, inr, subst}
+use Rattle.std.proofs.Common.{◌≡◌, ◌⊎◌, ℕ, zero, suc, ◌+◌, ◌<◌, Bool, true, false, List, [], ◌∷◌, Option, Some, None, Ok, length, slice_get, refl, ap, sym, ◌∙◌, arith, inl, inr, subst}
 use Rattle.std.specs.Prelude.{◌==◌, if◌then◌else◌}
-use Rattle.std.specs.Str.{bytes_eq}
 use Rattle.std.proofs.lemmas.Bool.Decides.{nat_tests}
 use Rattle.std.proofs.lemmas.Slice.Eq.{bytes_eq-Decides}
-use Rattle.rasta_pcap.specs.Fault.{copy_differs, number_gap}
 use Rattle.rasta_pcap.specs.declared.fault.Side.{Side}
-use Rattle.rasta_pcap.specs.declared.fault.Side.TheVariants.{Client, Server}
 use Rattle.rasta_udp.specs.Frame.{Packet}
 use Rattle.rasta_pdu.specs.Params.{Parameters}
-use Rattle.rasta_pdu.specs.Pdu.{RedundancyPdu, redundancy_bytes, decode_of, receiver_of, sender_of}
+use Rattle.rasta_pdu.specs.Pdu.{RedundancyPdu, redundancy_bytes, decode_of}
 use Rattle.rasta_pdu.proofs.Spellings.{decode_of-redundancy_bytes}
 use Rattle.rasta_end.specs.State.{wrapped}
 use Rattle.rasta_check.specs.Capture.Crossing.{FirstCopy, Spells, copy_with, is_next_number, repeat_fault, number_fault, read_fault}
@@ -18,17 +15,9 @@ use Rattle.rasta_check.proofs.Capture.FaultlessLists.{IsSent, ordered}
 use Rattle.rasta_check.proofs.Capture.NextPackets.{CanFollow}
 use Rattle.rasta_check.proofs.Capture.Positions.{next_new, number_once}
 
-receiver_small : (p : Parameters) (side : Side) → OfConnection p → receiver_of p side < 2 ^ 32
-receiver_small p Client h = h.server_id
-receiver_small p Server h = h.client_id
-
-sender_small : (p : Parameters) (side : Side) → OfConnection p → sender_of p side < 2 ^ 32
-sender_small p Client h = h.client_id
-sender_small p Server h = h.server_id
-
 -- what is spelled is read back
 reads : (p : Parameters) (side : Side) (d : RedundancyPdu) (bytes : List ℕ) → OfConnection p → Spells p side d bytes → decode_of p side bytes ≡ Ok d
-reads p side d bytes h s = ap (decode_of p side) s.same ∙ decode_of-redundancy_bytes p side d h.valid (receiver_small p side h) (sender_small p side h) s.fits
+reads p side d bytes h s = ap (decode_of p side) s.same ∙ decode_of-redundancy_bytes p side d h.valid (grind arith) (grind arith) s.fits
 
 -- ---- the first copy with a number
 
@@ -43,24 +32,15 @@ pub copy_found : (own : List FirstCopy) (number : ℕ) (c : FirstCopy) → copy_
 copy_found [] number c e = absurd (cc)
 copy_found (x ∷ own) number c e = found_by (x.pdu.number == number) x own number c (λ h. grind (arith, nat_tests)) (copy_found own number c) e
 
-none_by : (b : Bool) (x : FirstCopy) (own : List FirstCopy) (number : ℕ) → (x.pdu.number ≡ number → b ≡ true)
-    → (copy_with own number ≡ None → (i : ℕ) (c : FirstCopy) → slice_get own i ≡ Some c → c.pdu.number ≡ number → ⊥)
-    → (if b then Some x else copy_with own number) ≡ None → (i : ℕ) (c : FirstCopy) → slice_get (x ∷ own) i ≡ Some c → c.pdu.number ≡ number → ⊥
-none_by true x own number h rest e i c g n = cc
-none_by false x own number h rest e zero c g n = (let same : x ≡ c = cc in let z = h (ap (λ (y : FirstCopy). y.pdu.number) same ∙ n) in cc)
-none_by false x own number h rest e (suc i) c g n = rest e i c g n
-
 -- where there is none, no member has the number
 pub copy_none : (own : List FirstCopy) (number : ℕ) → copy_with own number ≡ None → (i : ℕ) (c : FirstCopy) → slice_get own i ≡ Some c → c.pdu.number ≡ number → ⊥
 copy_none [] number e i c g n = cc
-copy_none (x ∷ own) number e i c g n = none_by (x.pdu.number == number) x own number (λ h. grind (arith, nat_tests)) (copy_none own number) e i c g n
+copy_none (x ∷ own) number e zero c g n = (let same : x ≡ c = cc in grind (arith, nat_tests))
+copy_none (x ∷ own) number e (suc i) c g n = copy_none own number (grind (arith, nat_tests)) i c g n
 
 -- ---- where it may come next, it has no fault
 
--- a test that holds gives no fault, and the other way round
-passes : (b : Bool) (fault : ℕ) → b ≡ true → (if b then None else Some fault) ≡ None
-passes b fault e = grind arith
-
+-- a test that gives no fault holds
 pub passed : (b : Bool) (fault : ℕ) → (if b then None else Some fault) ≡ None → b ≡ true
 passed b fault e = grind arith
 
@@ -74,7 +54,8 @@ module _ (p : Parameters) (packets : List Packet) (side : Side) (own : List Firs
       let at : i ≡ j = number_once own (ordered sent) few i j c e g k (n ∙ sym (ap (λ (z : RedundancyPdu). z.number) m)) in
       let same : c ≡ e = (let z : slice_get own i ≡ Some e = subst (λ t. slice_get own t ≡ Some e) (sym at) k in cc) in
       let is : redundancy_bytes p side c.pdu ≡ a.payload = ap (λ (z : FirstCopy). redundancy_bytes p side z.pdu) same ∙ (ap (redundancy_bytes p side) m ∙ sym s.same) in
-      passes (bytes_eq (redundancy_bytes p side c.pdu) a.payload) copy_differs ((bytes_eq-Decides (redundancy_bytes p side c.pdu) a.payload).1 is)
+      let test = (bytes_eq-Decides (redundancy_bytes p side c.pdu) a.payload).1 is in
+      grind arith
 
   none_known : (d : RedundancyPdu) → Spells p side d a.payload
       → ((i : ℕ) × (c : FirstCopy) × (slice_get own i ≡ Some c) × (c.pdu ≡ d))
@@ -83,7 +64,7 @@ module _ (p : Parameters) (packets : List Packet) (side : Side) (own : List Firs
   none_known d s (inl w) (Some c) e = (let f = copy_found own d.number c e in repeats_first d s f.0 w.0 c w.1 f.1 w.2 f.2 w.3)
   none_known d s (inr w) (Some c) e = (let f = copy_found own d.number c e in absurd (next_new own (ordered sent) few d.number w f.0 c f.1 f.2))
   none_known d s (inl w) None e = absurd (copy_none own d.number e w.0 w.1 w.2 (ap (λ (z : RedundancyPdu). z.number) w.3))
-  none_known d s (inr w) None e = passes (is_next_number own d.number) number_gap (is_next own d.number w)
+  none_known d s (inr w) None e = (let test = is_next own d.number w in grind arith)
 
   pub faultless : CanFollow p packets side own a → read_fault p side own a.payload (decode_of p side a.payload) ≡ None
   faultless f = ap (read_fault p side own a.payload) (reads p side f.0 a.payload h f.1) ∙ none_known f.0 f.1 f.2 (copy_with own f.0.number) refl

@@ -1,6 +1,5 @@
 -- Positions in ordered lists of first copies.
-use Rattle.std.proofs.Common.{◌≡◌, ℕ, zero, suc, ◌+◌, ◌-◌, ◌%◌, ◌^◌, ◌<◌, ◌≤◌, ◌++◌, Bool, true, false, cond, nat_lt, nat_eq, List, [], ◌∷◌, Some, None, length, get_or, slice_get, position, refl, ap, sym, ◌∙◌, arith, subst, lt-ltb, le-ltb, if◌then◌else◌, eqb, take, drop}
-use Rattle.std.specs.Prelude.{◌==◌}
+use Rattle.std.proofs.Common.{◌≡◌, ℕ, zero, suc, ◌+◌, ◌-◌, ◌%◌, ◌^◌, ◌<◌, ◌≤◌, ◌++◌, Bool, false, nat_eq, List, [], ◌∷◌, Some, None, length, get_or, slice_get, position, ap, sym, ◌∙◌, arith, subst, if◌then◌else◌, take, drop}
 use Rattle.std.specs.List.{position_or_len}
 use Rattle.std.specs.Option.{option_map}
 use Rattle.std.proofs.lemmas.Bool.Decides.{nat_tests}
@@ -16,36 +15,21 @@ use Rattle.rasta_check.proofs.Lists.{get_front, get_mapped, get_push, map_at, ma
 
 -- ---- the first position of a number in a list of numbers
 
-pub same_test : (n m : ℕ) → nat_eq n m ≡ (m == n)
-same_test n m = grind (arith, nat_tests)
-
-pub differ : (n m : ℕ) → (m ≡ n → ⊥) → nat_eq n m ≡ false
-differ n m h = grind (arith, nat_tests)
-
-equal : (n m : ℕ) → m ≡ n → nat_eq n m ≡ true
-equal n m h = grind (arith, nat_tests)
-
-cond_lt : (i l : ℕ) → i < l → cond (nat_lt i l) (Some i) None ≡ Some i
-cond_lt i l h = ap (λ b. cond b (Some i) None) (lt-ltb i l h)
-
-cond_not : (l : ℕ) → cond (nat_lt l l) (Some l) None ≡ None
-cond_not l = ap (λ b. cond b (Some l) None) (le-ltb l l (omega arith))
-
 module _ (n : ℕ) (xs : List ℕ) where
   before : (i : ℕ) → i ≤ length xs → ((j y : ℕ) → j < i → slice_get xs j ≡ Some y → y ≡ n → ⊥) → (k : ℕ) → k < i → nat_eq n (get_or xs k 0) ≡ false
-  before i l fails k b = differ n (get_or xs k 0) (fails k (get_or xs k 0) b (slice_get-get_or xs k 0 (omega arith)))
+  before i l fails k b = (let other : get_or xs k 0 ≡ n → ⊥ = fails k (get_or xs k 0) b (slice_get-get_or xs k 0 (omega arith)) in grind (arith, nat_tests))
 
   pub position_at : (i : ℕ) → slice_get xs i ≡ Some n → ((j y : ℕ) → j < i → slice_get xs j ≡ Some y → y ≡ n → ⊥) → position (nat_eq n) xs ≡ Some i
   position_at i g fails =
       let l = slice_get_within xs i n g in
       let here : get_or xs i 0 ≡ n = (let z = slice_get-get_or xs i 0 l in cc) in
-      let e : position_or_len (nat_eq n) xs ≡ i = position_or_len_is (nat_eq n) xs i 0 (omega arith) (before i (omega arith) fails) (λ z. equal n (get_or xs i 0) here) in
-      ap (λ k. cond (nat_lt k (length xs)) (Some k) None) e ∙ cond_lt i (length xs) l
+      let e : position_or_len (nat_eq n) xs ≡ i = position_or_len_is (nat_eq n) xs i 0 (omega arith) (before i (omega arith) fails) (λ z. grind (arith, nat_tests)) in
+      grind (arith, nat_tests)
 
   pub position_none : ((j y : ℕ) → slice_get xs j ≡ Some y → y ≡ n → ⊥) → position (nat_eq n) xs ≡ None
   position_none fails =
       let e : position_or_len (nat_eq n) xs ≡ length xs = position_or_len_is (nat_eq n) xs (length xs) 0 (omega arith) (before (length xs) (omega arith) (λ j y b. fails j y)) (λ z. absurd (omega arith)) in
-      ap (λ k. cond (nat_lt k (length xs)) (Some k) None) e ∙ cond_not (length xs)
+      grind (arith, nat_tests)
 
 -- ---- the member that is named
 
@@ -63,18 +47,13 @@ place_found cs place i e = get_mapped (λ (c : FirstCopy). c.place) cs i place (
 
 -- ---- a list that goes on
 
-pushed : (k l n : ℕ) (b : Bool) → b ≡ false → k ≤ l → n ≡ cond (eqb k l) (l + cond b 0 1) k → cond (nat_lt n (l + 1)) (Some n) None ≡ cond (nat_lt k l) (Some k) None
-pushed k l n b fails h f = grind (arith, nat_tests)
-
 or_len_most : (p : ℕ → Bool) (xs : List ℕ) → position_or_len p xs ≤ length xs
 or_len_most p [] = omega arith
 or_len_most p (x ∷ xs) = (let more = or_len_most p xs in grind arith)
 
 -- a member that doesn't pass changes nothing
 pub position_push : (p : ℕ → Bool) (xs : List ℕ) (y : ℕ) → p y ≡ false → position p (xs ++ y ∷ []) ≡ position p xs
-position_push p xs y fails =
-    ap (λ l. cond (nat_lt (position_or_len p (xs ++ y ∷ [])) l) (Some (position_or_len p (xs ++ y ∷ []))) None) (length_push xs y)
-    ∙ pushed (position_or_len p xs) (length xs) (position_or_len p (xs ++ y ∷ [])) (p y) fails (or_len_most p xs) (position_or_len_push p xs y)
+position_push p xs y fails = (let size = length_push xs y in let most = or_len_most p xs in let more = position_or_len_push p xs y in grind (arith, nat_tests))
 
 -- ---- ordered lists
 
@@ -161,23 +140,17 @@ module _ (sent : List FirstCopy) (c : FirstCopy) (h : IsOrdered (sent ++ c ∷ [
   place_last = place_named (sent ++ c ∷ []) h (length sent) c (get_push sent c)
 
   pub place_pushed : (q : ℕ) → position_of_place (sent ++ c ∷ []) q ≡ (if nat_eq q c.place then Some (length sent) else position_of_place sent q)
-  place_pushed q = by (nat_eq q c.place) refl
-    where
-      by : (b : Bool) → nat_eq q c.place ≡ b → position_of_place (sent ++ c ∷ []) q ≡ (if b then Some (length sent) else position_of_place sent q)
-      by true e = (let same : c.place ≡ q = grind (arith, nat_tests) in subst (λ n. position_of_place (sent ++ c ∷ []) n ≡ Some (length sent)) same place_last)
-      by false e = ap (position (nat_eq q)) (map-append (λ (d : FirstCopy). d.place) sent (c ∷ [])) ∙ position_push (nat_eq q) (places_of sent) c.place e
+  place_pushed q =
+      let here : c.place ≡ q → position_of_place (sent ++ c ∷ []) q ≡ Some (length sent) = λ same. subst (λ n. position_of_place (sent ++ c ∷ []) n ≡ Some (length sent)) same place_last in
+      let old : nat_eq q c.place ≡ false → position_of_place (sent ++ c ∷ []) q ≡ position_of_place sent q = λ e.
+      ap (position (nat_eq q)) (map-append (λ (d : FirstCopy). d.place) sent (c ∷ [])) ∙ position_push (nat_eq q) (places_of sent) c.place e in
+      grind (arith, nat_tests)
 
   -- the marks with one more are those of the list with one more
   pub marks_pushed : (old new : List ℕ) → AreMarks sent old → ((q : ℕ) → marked new q ≡ (if nat_eq q c.place then Some (length sent) else marked old q)) → AreMarks (sent ++ c ∷ []) new
   marks_pushed old new m f q = f q ∙ (ap (λ o. if nat_eq q c.place then Some (length sent) else o) (m q) ∙ sym (place_pushed q))
 
 -- ---- the position of a number is its distance from the first
-
-same_place : (f n i : ℕ) → f < 4294967296 → i < 4294967296 → n ≡ (f + i) % 2 ^ 32 → (n + (4294967296 - f)) % 2 ^ 32 ≡ i
-same_place f n i a b e = omega arith
-
-there_again : (f n : ℕ) → f < 4294967296 → n < 4294967296 → n ≡ (f + (n + (4294967296 - f)) % 2 ^ 32) % 2 ^ 32
-there_again f n a b = omega arith
 
 module _ (sent : List FirstCopy) (h : IsOrdered sent) (few : length sent < 4294967296) (first : ℕ) (starts : option_map (λ (c : FirstCopy). c.pdu.number) (slice_get sent 0) ≡ Some first)
     (n : ℕ) (small : n < 4294967296) where
@@ -191,11 +164,14 @@ module _ (sent : List FirstCopy) (h : IsOrdered sent) (few : length sent < 42949
   near l =
       let d : ℕ = (n + (4294967296 - first)) % 4294967296 in
       let c = slice_get_some sent d l in
-      let at : c.0.pdu.number ≡ n = number_at d c.0 c.1 ∙ sym (there_again first n first_small small) in
+      let few_first = first_small in
+      let number = number_at d c.0 c.1 in
+      let at : c.0.pdu.number ≡ n = omega arith in
       subst (λ m. position_of_number sent m ≡ Some d) at (number_named sent h few d c.0 c.1)
 
   pub far : length sent ≤ (n + (4294967296 - first)) % 4294967296 → position_of_number sent n ≡ None
   far l =
       position_none n (numbers_of sent) (λ j y g q. (let w = get_mapped (λ (z : FirstCopy). z.pdu.number) sent j y g in
       let m = slice_get_within sent j w.0 w.1 in
-      let same = same_place first n j first_small (omega arith) (sym (w.2 ∙ q) ∙ number_at j w.0 w.1) in omega arith))
+      let few_first = first_small in
+      let number = sym (w.2 ∙ q) ∙ number_at j w.0 w.1 in omega arith))

@@ -8,7 +8,6 @@ use Prim.{yes, no}
 use Rattle.std.specs.Option.{option_flatten}
 use Rattle.std.specs.Result.{result_ok}
 use Rattle.rasta_pcap.specs.declared.fault.Side.{Side}
-use Rattle.rasta_pcap.specs.declared.fault.Side.TheVariants.{Client, Server}
 use Rattle.rasta_pcap.specs.Fault.{fault_at, fault_of_end, too_many}
 use Rattle.rasta_pcap.proofs.Captures.{IsCapture-reading_of, reading_of-IsCapture, numbers-reading_of}
 use Rattle.rasta_udp.specs.Frame.{Packet, packet_in}
@@ -17,7 +16,7 @@ use Rattle.rasta_pcap.specs.declared.fault.Fault.{Fault}
 use Rattle.rasta_pcap.specs.Capture.{Cursor, Numbered, IsCapture, next, cursor_after, opening, reading, reading_of, bytes_of}
 use Rattle.rasta_pcap.proofs.Steps.{reading-record, reading-end, reading-fault, reading-none_left, reading_of-opened, reading_of-refused}
 use Rattle.rasta_pdu.specs.Params.{Parameters, AreParameters}
-use Rattle.rasta_check.specs.Capture.Reading.{Crossing, IsCrossing, and_then, at_end, after_frame, after_judged, after_packet, after_record, after_records, after_reading, crossing_of, crossing_with, is_within, nothing_crossed, sent_after, sent_by, with_packet}
+use Rattle.rasta_check.specs.Capture.Reading.{Crossing, IsCrossing, and_then, after_frame, after_judged, after_packet, after_record, after_records, after_reading, crossing_of, crossing_with, is_within, nothing_crossed, sent_after, sent_by, with_packet}
 use Rattle.rasta_check.proofs.Capture.Channels.{is_recorded}
 use Rattle.rasta_check.proofs.Capture.Crossings.{is_read, grown_crossing}
 use Rattle.rasta_check.proofs.Capture.RecordBytes.{AllBytes, payload_bytes}
@@ -111,19 +110,13 @@ pub record Adds (k last : Crossing) (rs : List Numbered) (frames : List (List �
   pub crossing : IsCrossing k → AllBytes rs → IsCrossing last
 
 pub grown_is : (k : Crossing) (a : Packet) (side : Side) (own : List FirstCopy) → ((crossing_with k a side own).packets ≡ k.packets ++ a ∷ []) × ((crossing_with k a side own).params ≡ k.params)
-grown_is k a Client own = (refl, refl)
-grown_is k a Server own = (refl, refl)
-
-adds_none : (k : Crossing) → Adds k k [] []
-adds_none k = record { packets = sym (append-nil k.packets); params = refl; sound = tt; crossing = λ h are. h }
+grown_is k a side own = grind arith
 
 adds_first : (k next last : Crossing) (r : Numbered) (rs : List Numbered) → Step k r (Ok next) → Adds next last rs (window next.params rs) → Adds k last (r ∷ rs) (window k.params (r ∷ rs))
 adds_first k next last r rs (before t) more =
-    subst (λ (b : Bool). Adds k last (r ∷ rs) ((if b then [] else r.1 ∷ []) ++ window k.params rs)) (sym t)
-    (record { packets = more.packets; params = more.params; sound = more.sound; crossing = λ h are. more.crossing h are.1 })
+    rw t (record { packets = more.packets; params = more.params; sound = more.sound; crossing = λ h are. more.crossing h are.1 })
 adds_first k next last r rs (empty t g) more =
-    subst (λ (b : Bool). Adds k last (r ∷ rs) ((if b then [] else r.1 ∷ []) ++ window k.params rs)) (sym t)
-    (record {
+    rw t (record {
       packets = more.packets ∙ ap (λ (o : Result (Option Packet) Fault). k.packets ++ cons_option (option_flatten (result_ok o)) (packets_in k.params (window k.params rs))) (sym g);
       params = more.params;
       sound = (subst IsOk (sym g) refl, more.sound);
@@ -131,8 +124,7 @@ adds_first k next last r rs (empty t g) more =
     })
 adds_first k next last r rs (joined a t g n e) more =
     let w = grown_is k a a.side (sent_after k a) in
-    subst (λ (b : Bool). Adds k last (r ∷ rs) ((if b then [] else r.1 ∷ []) ++ window k.params rs)) (sym t)
-    (record {
+    rw t (record {
       packets = more.packets ∙ (λ i. w.0 i ++ packets_in (w.1 i) (window (w.1 i) rs)) ∙ append_assoc k.packets (a ∷ []) (packets_in k.params (window k.params rs))
           ∙ ap (λ (o : Result (Option Packet) Fault). k.packets ++ cons_option (option_flatten (result_ok o)) (packets_in k.params (window k.params rs))) (sym g);
       params = more.params ∙ w.1;
@@ -142,15 +134,13 @@ adds_first k next last r rs (joined a t g n e) more =
     })
 
 pub then_by : (q : Result Crossing Fault) (f : Crossing → Result Crossing Fault) (last : Crossing) → and_then q f ≡ Ok last → (next : Crossing) × (q ≡ Ok next) × (f next ≡ Ok last)
-then_by (Ok next) f last e = (next, refl, e)
-then_by (Err fault) f last e = absurd (cc)
-
-end_by : (k last : Crossing) (o : Option Fault) → at_end k o ≡ Ok last → (o ≡ None) × (k ≡ last)
-end_by k last o e = grind arith
+then_by q f last e = grind arith
 
 pub records_add : (k last : Crossing) (rs : List Numbered) (end : Option Fault) → after_records k rs end ≡ Ok last → (end ≡ None) × Adds k last rs (window k.params rs)
 unfolding after_records
-records_add k last [] end e = (let w = end_by k last end e in (w.0, subst (λ (q : Crossing). Adds k q [] []) w.1 (adds_none k)))
+records_add k last [] end e =
+    let w : (end ≡ None) × (k ≡ last) = grind arith in
+    (w.0, subst (λ (q : Crossing). Adds k q [] []) w.1 (record { packets = sym (append-nil k.packets); params = refl; sound = tt; crossing = λ h are. h }))
 records_add k last (r ∷ rs) end e =
     let w = then_by (after_record k r) (λ (next : Crossing). after_records next rs end) last e in
     let more = records_add w.0 last rs end w.2 in
@@ -165,12 +155,9 @@ pub record Breaks (k : Crossing) (rs : List Numbered) (end : Option Fault) (f : 
   pub read : after_records k front None ≡ Ok last
   pub how : ((front ≡ rs) × (end ≡ Some f)) ⊎ ((r : Numbered) × (later : List Numbered) × (rs ≡ front ++ r ∷ later) × Step last r (Err f))
 
-end_refused : (k : Crossing) (end : Option Fault) (f : Fault) → at_end k end ≡ Err f → end ≡ Some f
-end_refused k o f e = grind arith
-
 pub breaks : (k : Crossing) (rs : List Numbered) (end : Option Fault) (f : Fault) → after_records k rs end ≡ Err f → Breaks k rs end f
 unfolding after_records
-breaks k [] end f e = record { front = []; last = k; read = refl; how = inl (refl, end_refused k end f e) }
+breaks k [] end f e = record { front = []; last = k; read = refl; how = inl (refl, grind arith) }
 breaks k (r ∷ rs) end f e = by (after_record k r) refl e (λ next s. breaks next rs end f s)
   where
     by : (o : Result Crossing Fault) → after_record k r ≡ o → and_then o (λ (next : Crossing). after_records next rs end) ≡ Err f

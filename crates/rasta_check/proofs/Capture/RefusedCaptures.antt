@@ -1,15 +1,16 @@
 -- The first fault of a capture is the one that is read.
-use Rattle.std.proofs.Common.{◌≡◌, ◌⊎◌, ℕ, zero, suc, ◌≤◌, List, [], ◌∷◌, ◌++◌, length, take, drop, append_assoc, append-nil, length-append, Option, Some, None, Result, Ok, Err, Bool, true, false, refl, ap, sym, ◌∙◌, arith, subst, nat_lt, le-ltb, if◌then◌else◌, inl, inr, MatchResult}
+use Rattle.std.proofs.Common.{◌≡◌, ◌⊎◌, ℕ, zero, suc, ◌≤◌, List, [], ◌∷◌, ◌++◌, length, map, take, drop, append_assoc, append-nil, length-append, Option, Some, None, Result, Ok, Err, Bool, true, false, refl, ap, sym, ◌∙◌, add-one, arith, subst, le-ltb, if◌then◌else◌, inl, inr, MatchResult}
 use Rattle.std.proofs.lemmas.List.{length-map, length_push, map-append, take-append-drop}
+use Rattle.std.proofs.lemmas.Grind.{common_steps}
+use Rattle.std.proofs.Math.Seq.{take-append-add}
 use Rattle.std.specs.Prelude.{IfErr}
 use native.Mathlib.Decide.{dec_lt}
 use Prim.{yes, no}
 use Rattle.std.proofs.lemmas.Bool.Decides.{nat_tests}
 use Rattle.rasta_pcap.specs.declared.fault.Fault.{Fault}
 use Rattle.rasta_pcap.specs.declared.fault.Side.{Side}
-use Rattle.rasta_pcap.specs.declared.fault.Side.TheVariants.{Client, Server}
 use Rattle.rasta_pcap.specs.Fault.{fault_at, no_memory, too_many}
-use Rattle.rasta_pcap.specs.Capture.{Cursor, IsCapture, Numbered, next, cursor_after, opening, read_step, Reading, reading, reading_of, reading_opened}
+use Rattle.rasta_pcap.specs.Capture.{Cursor, IsCapture, Numbered, cursor_after, opening, reading, reading_of}
 use Rattle.rasta_pcap.proofs.Captures.{IsCapture-reading_of, IsRefused-reading_of, numbers-reading_of, opening-by_reading_of, reading_of-IsCapture, reading_of-IsRefused, reading_of-header_fault}
 use Rattle.rasta_udp.specs.Frame.{Packet, packet_in}
 use Rattle.rasta_pdu.specs.Params.{Parameters, AreParameters}
@@ -20,49 +21,29 @@ use Rattle.rasta_check.specs.Capture.Reading.{Crossing, after_frame, after_judge
 use Rattle.rasta_check.specs.Capture.Faults.{AreFaultless, CrossedIn, HasFault, in_frame, in_packet, in_limits, IsFaultlessCapture, IsRefusedCapture, in_header, in_reading, in_record, sent_of}
 use Rattle.rasta_check.proofs.Capture.RecordBytes.{AllBytes, file_bytes}
 use Rattle.rasta_check.proofs.Capture.Readings.{AreFrom, Step, after-refused, bad_frame, bad_packet, frames_of, no_room, then_by}
-use Rattle.rasta_check.proofs.Capture.FaultlessCaptures.{FirstFault, IsFaulty, bytes_at, crossed_by, crossed_in, crossing_by, faultless_is_read, first_fault, front_bytes, not_refused, read_is_faultless, records_are_read, row_at, row_front}
+use Rattle.rasta_check.proofs.Capture.FaultlessCaptures.{FirstFault, IsFaulty, all_at, crossed_by, crossed_in, crossing_by, faultless_is_read, first_fault, front_bytes, not_refused, read_is_faultless, records_are_read, row_at, row_front}
 
 -- ---- the first records of a file
-
-front_step : (n m : ℕ) (c : Cursor) (o : Result (Option Numbered) Fault) → (reading n (cursor_after c)).records ≡ take n (reading m (cursor_after c)).records
-    → (read_step o (reading n (cursor_after c))).records ≡ take (suc n) (read_step o (reading m (cursor_after c))).records
-front_step n m c o more = grind arith
 
 reading_front : (n m : ℕ) (c : Cursor) → n ≤ m → (reading n c).records ≡ take n (reading m c).records
 unfolding reading
 reading_front zero m c l = refl
 reading_front (suc n) zero c l = absurd (omega arith)
-reading_front (suc n) (suc m) c l = front_step n m c (next c) (reading_front n m (cursor_after c) (omega arith))
-
-opened_front : (n m : ℕ) (o : Result Cursor Fault) → n ≤ m → (reading_opened n o).records ≡ take n (reading_opened m o).records
-opened_front zero m (Err f) l = refl
-opened_front (suc n) m (Err f) l = refl
-opened_front n m (Ok c) l = reading_front n m c l
+reading_front (suc n) (suc m) c l = (let more = reading_front n m (cursor_after c) (omega arith) in grind arith)
 
 file_front : (n m : ℕ) (file : List ℕ) → n ≤ m → (reading_of n file).records ≡ take n (reading_of m file).records
 unfolding reading_of
-file_front n m file l = opened_front n m (opening file) l
+file_front n m file l = grind (arith, common_steps, reading_front)
 
 -- there are no more records than are asked for; where there are as many, there is no fault
-abbrev IsUpTo : ℕ → Reading → Type 0
-IsUpTo n r = (length r.records ≤ n) × (1 ≤ n → length r.records ≡ n → r.fault ≡ None)
-
-most_step : (n : ℕ) (c : Cursor) (o : Result (Option Numbered) Fault) → (length (reading n (cursor_after c)).records ≤ n) × (length (reading n (cursor_after c)).records ≡ n → (reading n (cursor_after c)).fault ≡ None)
-    → (length (read_step o (reading n (cursor_after c))).records ≤ suc n) × (length (read_step o (reading n (cursor_after c))).records ≡ suc n → (read_step o (reading n (cursor_after c))).fault ≡ None)
-most_step n c o more = grind arith
-
 reading_most : (n : ℕ) (c : Cursor) → (length (reading n c).records ≤ n) × (length (reading n c).records ≡ n → (reading n c).fault ≡ None)
 unfolding reading
 reading_most zero c = (omega arith, λ e. refl)
-reading_most (suc n) c = most_step n c (next c) (reading_most n (cursor_after c))
+reading_most (suc n) c = (let more = reading_most n (cursor_after c) in grind arith)
 
-opened_most : (n : ℕ) (o : Result Cursor Fault) → IsUpTo n (reading_opened n o)
-opened_most n (Err f) = (omega arith, λ l e. absurd (omega arith))
-opened_most n (Ok c) = (let w = reading_most n c in (w.0, λ l e. w.1 e))
-
-file_most : (n : ℕ) (file : List ℕ) → IsUpTo n (reading_of n file)
+file_most : (n : ℕ) (file : List ℕ) → (length (reading_of n file).records ≤ n) × (1 ≤ n → length (reading_of n file).records ≡ n → (reading_of n file).fault ≡ None)
 unfolding reading_of
-file_most n file = opened_most n (opening file)
+file_most n file = grind (arith, reading_most)
 
 -- ---- lists of records
 
@@ -74,39 +55,18 @@ goes_on k last (r ∷ rs) later end e =
     let w = then_by (after_record k r) (λ (next : Crossing). after_records next rs None) last e in
     ap (λ (q : Result Crossing Fault). and_then q (λ (next : Crossing). after_records next (rs ++ later) end)) w.1 ∙ goes_on w.0 last rs later end w.2
 
-next_is : (k : Crossing) (r : Numbered) (later : List Numbered) (end : Option Fault) (o : Result Crossing Fault) → after_record k r ≡ o
-    → after_records k (r ∷ later) end ≡ and_then o (λ (next : Crossing). after_records next later end)
-unfolding after_records
-next_is k r later end o e = ap (λ (q : Result Crossing Fault). and_then q (λ (next : Crossing). after_records next later end)) e
-
 frames_push : (front : List Numbered) (r : Numbered) → frames_of (front ++ r ∷ []) ≡ frames_of front ++ r.1 ∷ []
 frames_push front r = map-append (λ (x : Numbered). x.1) front (r ∷ [])
 
-frames_count : (rs : List Numbered) → length (frames_of rs) ≡ length rs
-frames_count rs = length-map rs (λ (r : Numbered). r.1)
-
-take_front : (front : List Numbered) (r : Numbered) (later : List Numbered) → take (suc (length front)) (front ++ r ∷ later) ≡ front ++ r ∷ []
-take_front [] r later = refl
-take_front (x ∷ front) r later = ap (λ (xs : List Numbered). x ∷ xs) (take_front front r later)
-
--- records whose bytes are these and then those of one more
-record LastOf (rs : List Numbered) (records : List (List ℕ)) (frame : List ℕ) : Type 0 where
-  front : List Numbered
-  last : Numbered
-  whole : rs ≡ front ++ last ∷ []
-  before : frames_of front ≡ records
-  bytes : last.1 ≡ frame
-
-last_of : (rs : List Numbered) (records : List (List ℕ)) (frame : List ℕ) → frames_of rs ≡ records ++ frame ∷ [] → LastOf rs records frame
-last_of [] [] frame e = absurd (cc)
-last_of [] (x ∷ records) frame e = absurd (cc)
-last_of (r ∷ []) [] frame e = record { front = []; last = r; whole = refl; before = refl; bytes = cc }
-last_of (r ∷ s ∷ rs) [] frame e = absurd (cc)
-last_of (r ∷ rs) (x ∷ records) frame e =
-    let head : r.1 ≡ x = cc in
-    let tail : frames_of rs ≡ records ++ frame ∷ [] = cc in
-    let w = last_of rs records frame tail in
-    record { front = r ∷ w.front; last = w.last; whole = ap (λ (xs : List Numbered). r ∷ xs) w.whole; before = (λ i. head i ∷ w.before i); bytes = w.bytes }
+-- a list whose elements are mapped to these, one and others
+split_mapped : {A B : Type 0} (f : A → B) (rs : List A) (xs : List B) (x : B) (ys : List B) → map f rs ≡ xs ++ x ∷ ys
+    → (front : List A) × (r : A) × (later : List A) × (rs ≡ front ++ r ∷ later) × (map f front ≡ xs) × (f r ≡ x)
+split_mapped f [] xs x ys e = absurd (omega (arith, ap length e, length-append xs (x ∷ ys)))
+split_mapped f (r ∷ rs) [] x ys e = ([], r, rs, refl, refl, cc)
+split_mapped f (r ∷ rs) (z ∷ xs) x ys e =
+    let tail : map f rs ≡ xs ++ x ∷ ys = cc in
+    let w = split_mapped f rs xs x ys tail in
+    (r ∷ w.0, w.1, w.2, (let whole = w.3 in cc), (let before = w.4 in cc), w.5)
 
 -- ---- the fault of one record
 
@@ -115,8 +75,7 @@ module _ (p : Parameters) (records : List (List ℕ)) (c s : List FirstCopy) (r 
   k = crossing_by p records c s
 
   own_is : (side : Side) → sent_by k side ≡ sent_of side c s
-  own_is Client = refl
-  own_is Server = refl
+  own_is side = grind arith
 
   -- it stands in the window, and has this fault
   record FaultHere (f : Fault) : Type 0 where
@@ -126,15 +85,14 @@ module _ (p : Parameters) (records : List (List ℕ)) (c s : List FirstCopy) (r 
     has : HasFault p records c s r.1 number end
     same : f ≡ record { number = number; place = r.0; end = end }
 
-  in_window : nat_lt r.0 p.first_record ≡ false → p.first_record ≤ r.0
-  in_window t = grind (arith, nat_tests)
-
   fault_of : (f : Fault) → ((c2 s2 : List FirstCopy) → AreFaultless p (records ++ r.1 ∷ []) c2 s2 → ⊥) → Step k r (Err f) → FaultHere f
-  fault_of f is (bad_frame g t found) = record { number = g.number; end = None; low = in_window t; has = in_frame g found; same = refl }
+  fault_of f is (bad_frame g t found) = record { number = g.number; end = None; low = grind (arith, nat_tests); has = in_frame g found; same = refl }
   fault_of f is (bad_packet a n t found some) =
-      record { number = n; end = Some a.side; low = in_window t; has = in_packet a n found (ap (λ (own : List FirstCopy). packet_fault p own a) (sym (own_is a.side)) ∙ some); same = refl }
+      let own = sym (own_is a.side) in
+      record { number = n; end = Some a.side; low = grind (arith, nat_tests); has = in_packet a n found (ap (λ (own : List FirstCopy). packet_fault p own a) own ∙ some); same = refl }
   fault_of f is (no_room a t found none full) =
-      record { number = too_many; end = None; low = in_window t; has = in_limits a found (ap (λ (own : List FirstCopy). packet_fault p own a) (sym (own_is a.side)) ∙ none) is; same = refl }
+      let own = sym (own_is a.side) in
+      record { number = too_many; end = None; low = grind (arith, nat_tests); has = in_limits a found (ap (λ (own : List FirstCopy). packet_fault p own a) own ∙ none) is; same = refl }
 
   -- and back
   at_frame : (o : Result (Option Packet) Fault) → p.first_record ≤ r.0 → packet_in p.channels r.1 ≡ o → after_record k r ≡ after_frame k r.0 o
@@ -175,10 +133,10 @@ module _ (p : Parameters) (file : List ℕ) (h : OfConnection p) (are : AreBytes
       let few = (file_most p.last_record file).0 in
       let count = ap length same ∙ length-append front (r ∷ later) in
       let high : n ≤ p.last_record = omega (arith, few, count) in
-      let these : (reading_of n file).records ≡ front ++ r ∷ [] = file_front n p.last_record file high ∙ (ap (take n) same ∙ take_front front r later) in
+      let these : (reading_of n file).records ≡ front ++ r ∷ [] = file_front n p.last_record file high ∙ (ap (take n) same ∙ rw add-one at (take-append-add front (r ∷ later) 1)) in
       let many : length (reading_of n file).records ≡ n = (let all_these = ap length these in let one = length_push front r in omega arith) in
       let row : AreFrom 1 (front ++ r ∷ []) = subst (AreFrom 1) these (numbers-reading_of n file) in
-      let counted = frames_count front in
+      let counted = length-map front (λ (x : Numbered). x.1) in
       let last = row_at front r [] 1 row in
       record {
         capture = subst (λ m. IsCapture (suc m) file (frames_of front ++ r.1 ∷ [])) (sym counted)
@@ -198,7 +156,7 @@ module _ (p : Parameters) (file : List ℕ) (h : OfConnection p) (are : AreBytes
   refused_by f (inr w) =
       let z = broken w.front w.at w.later w.split in
       let o = fault_of p (frames_of w.front) w.client w.server w.at f
-      (λ c s g. not_refused p h w.front [] w.at z.row (bytes_at w.front w.at [] z.bytes) w.client w.server w.is c s
+      (λ c s g. not_refused p h w.front [] w.at z.row (all_at _ w.front w.at [] z.bytes) w.client w.server w.is c s
       (subst (λ (xs : List (List ℕ)). AreFaultless p xs c s) (sym (frames_push w.front w.at)) g) f w.step) w.step in
       let low = o.low in
       let number = z.number in
@@ -209,33 +167,6 @@ module _ (p : Parameters) (file : List ℕ) (h : OfConnection p) (are : AreBytes
   is_refused f e = refused_by f (first_fault p all (reading_of p.last_record file).fault f h (file_bytes p.last_record file are) (numbers-reading_of p.last_record file) e)
 
   -- and what refuses the capture is read
-  reads_record : (records : List (List ℕ)) (c s : List FirstCopy) (frame : List ℕ) (number : ℕ) (end : Option Side) → AreFaultless p records c s
-      → IsCapture (suc (length records)) file (records ++ frame ∷ []) → p.first_record ≤ suc (length records) → suc (length records) ≤ p.last_record
-      → HasFault p records c s frame number end → crossing_of p file ≡ Err (record { number = number; place = suc (length records); end = end })
-  unfolding after_records
-  reads_record records c s frame number end faultless capture low high fault =
-      let n = suc (length records) in
-      let top = h.valid.window.last_most in
-      let read = reading_of-IsCapture n file (records ++ frame ∷ []) (omega (arith, top, high)) capture in
-      let l = last_of (reading_of n file).records records frame read.0 in
-      let later = drop n all in
-      let whole : all ≡ l.front ++ l.last ∷ later =
-      sym (take-append-drop n all) ∙ (ap (λ (xs : List Numbered). xs ++ later) (sym (file_front n p.last_record file high) ∙ l.whole) ∙ append_assoc l.front (l.last ∷ []) later) in
-      let z = broken l.front l.last later whole in
-      let k = crossing_by p (frames_of l.front) c s in
-      let before = records_are_read p l.front c s h (front_bytes l.front (l.last ∷ []) z.bytes) (row_front l.front (l.last ∷ []) 1 z.row)
-      (subst (λ (xs : List (List ℕ)). AreFaultless p xs c s) (sym l.before) faultless) in
-      let at : l.last.0 ≡ n = z.number ∙ ap (λ (xs : List (List ℕ)). suc (length xs)) l.before in
-      let here = fault_is p (frames_of l.front) c s l.last number end
-      (subst (λ (fr : List ℕ). HasFault p (frames_of l.front) c s fr number end) (sym l.bytes) (subst (λ (xs : List (List ℕ)). HasFault p xs c s frame number end) (sym l.before) fault))
-      (omega (arith, at, low))
-      (λ next e. subst (λ (xs : List (List ℕ)). AreFaultless p xs next.client next.server) (frames_push l.front l.last)
-      (crossed_by p (l.front ++ l.last ∷ []) None next h z.bytes z.row (goes_on (nothing_crossed p) k l.front (l.last ∷ []) None before ∙ next_is k l.last [] None (Ok next) e)).faultless) in
-      let end_fault = (reading_of p.last_record file).fault in
-      ap (λ (rs : List Numbered). after_records (nothing_crossed p) rs end_fault) whole
-      ∙ (goes_on (nothing_crossed p) k l.front (l.last ∷ later) end_fault before
-      ∙ (next_is k l.last later end_fault _ here ∙ ap Err (λ i. record { number = number; place = at i; end = end })))
-
   pub refused_is_read : (f : Fault) → IsRefusedCapture p file f → crossing_of p file ≡ Err f
   unfolding after_records
   refused_is_read f (in_header g e) = after-refused p file g e
@@ -244,7 +175,32 @@ module _ (p : Parameters) (file : List ℕ) (h : OfConnection p) (are : AreBytes
       let read = reading_of-IsRefused p.last_record file records g (omega (arith, top)) refused in
       let w = records_are_read p all c s h (file_bytes p.last_record file are) (numbers-reading_of p.last_record file) (subst (λ (xs : List (List ℕ)). AreFaultless p xs c s) (sym read.0) faultless) in
       (λ i. after_records (nothing_crossed p) (sym (append-nil all) i) (read.1 i)) ∙ goes_on (nothing_crossed p) _ all [] (Some g) w
-  refused_is_read f (in_record records c s frame number end faultless capture low high fault) = reads_record records c s frame number end faultless capture low high fault
+  refused_is_read f (in_record records c s frame number end faultless capture low high fault) =
+      let n = suc (length records) in
+      let top = h.valid.window.last_most in
+      let read = reading_of-IsCapture n file (records ++ frame ∷ []) (omega (arith, top, high)) capture in
+      let l = split_mapped (λ (r : Numbered). r.1) (reading_of n file).records records frame [] read.0 in
+      let front = l.0 in
+      let last = l.1 in
+      let before = l.4 in
+      let later = l.2 ++ drop n all in
+      let whole : all ≡ front ++ last ∷ later =
+      sym (take-append-drop n all) ∙ ap (λ (xs : List Numbered). xs ++ drop n all) (sym (file_front n p.last_record file high) ∙ l.3) ∙ append_assoc front (last ∷ l.2) (drop n all) in
+      let z = broken front last later whole in
+      let k = crossing_by p (frames_of front) c s in
+      let read_before = records_are_read p front c s h (front_bytes front (last ∷ []) z.bytes) (row_front front (last ∷ []) 1 z.row)
+      (subst (λ (xs : List (List ℕ)). AreFaultless p xs c s) (sym before) faultless) in
+      let at : last.0 ≡ n = z.number ∙ ap (λ (xs : List (List ℕ)). suc (length xs)) before in
+      let here = fault_is p (frames_of front) c s last number end
+      (subst (λ (fr : List ℕ). HasFault p (frames_of front) c s fr number end) (sym l.5) (subst (λ (xs : List (List ℕ)). HasFault p xs c s frame number end) (sym before) fault))
+      (omega (arith, at, low))
+      (λ next e. subst (λ (xs : List (List ℕ)). AreFaultless p xs next.client next.server) (frames_push front last)
+      (crossed_by p (front ++ last ∷ []) None next h z.bytes z.row (goes_on (nothing_crossed p) k front (last ∷ []) None read_before
+      ∙ ap (λ (q : Result Crossing Fault). and_then q (λ (m : Crossing). after_records m [] None)) e)).faultless) in
+      let end_fault = (reading_of p.last_record file).fault in
+      ap (λ (rs : List Numbered). after_records (nothing_crossed p) rs end_fault) whole
+      ∙ (goes_on (nothing_crossed p) k front (last ∷ later) end_fault read_before
+      ∙ (ap (λ (q : Result Crossing Fault). and_then q (λ (m : Crossing). after_records m later end_fault)) here ∙ ap Err (λ i. record { number = number; place = at i; end = end })))
 
   -- ---- one answer
 

@@ -1,9 +1,10 @@
 -- Lists of first copies as vectors and maps hold them, with one more.
-use Rattle.std.proofs.Common.{◌≡◌, ℕ, suc, ◌+◌, ◌<◌, ◌++◌, Bool, cond, Option, List, [], ◌∷◌, Some, length, map, nat_eq, refl, ap, sym, ◌∙◌, arith, subst, if◌then◌else◌, slice_get}
+use Rattle.std.proofs.Common.{◌≡◌, ℕ, suc, ◌+◌, ◌<◌, ◌++◌, List, [], ◌∷◌, Some, length, map, nat_eq, refl, ap, sym, ◌∙◌, arith, subst, if◌then◌else◌, slice_get}
 use Rattle.std.specs.HashMap.{HashMap}
 use Rattle.std.specs.Map.{keys_of, lookup}
 use Rattle.std.specs.Option.{option_map}
 use Rattle.std.specs.Prelude.{◌==◌}
+use Rattle.std.proofs.lemmas.Bool.Decides.{nat_tests}
 use Rattle.std.proofs.lemmas.List.{length-map, length_push}
 use Rattle.std.proofs.lemmas.Map.{NonePasses, lookup-none}
 use Rattle.indexmap.specs.IndexMap.{insert_entry}
@@ -12,7 +13,7 @@ use Rattle.rasta_pdu.specs.declared.pdu.Pdu.{Pdu}
 use Rattle.rasta_pdu.specs.Pdu.{value_of}
 use Rattle.rasta_check.specs.Capture.Crossing.{FirstCopy, copy_with}
 use Rattle.rasta_check.specs.Capture.Lists.{IsOrdered, AreMarks, copy_of, copies_in, numbers_of, marked}
-use Rattle.rasta_check.proofs.Capture.Positions.{differ, marks_pushed, number_new, same_test}
+use Rattle.rasta_check.proofs.Capture.Positions.{marks_pushed, number_new}
 use Rattle.rasta_check.proofs.Lists.{map_push}
 
 -- ---- marks
@@ -42,7 +43,8 @@ none_has [] n same new = tt
 none_has (e ∷ es) n same new =
     let head : e.0 ≡ (value_of e.1.1).number = cc in
     let tail : keys_of es ≡ numbers_of (copies_in es) = cc in
-    (differ n e.0 (λ z. new 0 (copy_of e.1) refl (sym head ∙ z)), none_has es n tail (λ i d g. new (suc i) d g))
+    let other : e.0 ≡ n → ⊥ = λ z. new 0 (copy_of e.1) refl (sym head ∙ z) in
+    (grind (arith, nat_tests), none_has es n tail (λ i d g. new (suc i) d g))
 
 module _ {S : Type 0} (m : HashMap ℕ (ℕ × Pdu) S) (x : ℕ × Pdu) (h : IsOrdered (copies_in m.entries ++ copy_of x ∷ [])) (keys : keys_of m.entries ≡ numbers_of (copies_in m.entries)) (few : length (copies_in m.entries) < 4294967296) where
   inserted : (number : ℕ) → number ≡ x.1.number → insert_entry nat_eq m.entries number x ≡ m.entries ++ (number, x) ∷ []
@@ -60,14 +62,12 @@ module _ {S : Type 0} (m : HashMap ℕ (ℕ × Pdu) S) (x : ℕ × Pdu) (h : IsO
 
 -- ---- the place of a number
 
-found_by : (b d : Bool) (v : ℕ × Pdu) (o : Option (ℕ × Pdu)) (q : Option FirstCopy) → b ≡ d → option_map (λ (w : ℕ × Pdu). w.0) o ≡ option_map (λ (x : FirstCopy). x.place) q
-    → option_map (λ (w : ℕ × Pdu). w.0) (cond b (Some v) o) ≡ option_map (λ (x : FirstCopy). x.place) (if d then Some (copy_of v) else q)
-found_by b d v o q e h = grind arith
-
 pub place_found : (es : Entries) (n : ℕ) → keys_of es ≡ numbers_of (copies_in es)
     → option_map (λ (w : ℕ × Pdu). w.0) (lookup (nat_eq n) es) ≡ option_map (λ (x : FirstCopy). x.place) (copy_with (copies_in es) n)
 place_found [] n same = refl
 place_found (e ∷ es) n same =
     let head : e.0 ≡ (value_of e.1.1).number = cc in
     let tail : keys_of es ≡ numbers_of (copies_in es) = cc in
-    found_by (nat_eq n e.0) ((value_of e.1.1).number == n) e.1 (lookup (nat_eq n) es) (copy_with (copies_in es) n) (ap (nat_eq n) head ∙ same_test n (value_of e.1.1).number) (place_found es n tail)
+    let test : nat_eq n e.0 ≡ ((value_of e.1.1).number == n) = grind (arith, nat_tests) in
+    let more = place_found es n tail in
+    grind arith

@@ -145,9 +145,6 @@ why_begun most r room f old_count new_count old new (inr (inr refused)) = (refus
 
 -- ---- a whole file
 
-file_stored : (p : Parameters) (file : List ℕ) (k : Crossing) → OfConnection p → crossing_of p file ≡ Ok k → IsStored p k file
-file_stored p file k h e = record { value = e; read = λ are. read_is_faultless p file k h are e }
-
 file_refused : (p : Parameters) (file : List ℕ) (f : Fault) → OfConnection p → crossing_of p file ≡ Err f → IsRefusedSo p f file
 file_refused p file f h e = record {
   value = e;
@@ -167,7 +164,7 @@ module _ (p : Parameters) (h : OfConnection p) (rest : List ℕ → Result Cross
   pub stored_answer : (r : Result Crossing Fault) → IfOk r (λ k. ReadsSo (λ bytes. rest bytes ≡ Ok k) mid new)
       → IfOk r (λ k. ReadsSo (IsStored p k) old new)
   stored_answer (Ok k) e = ReadsSo-after (λ bytes. rest bytes ≡ Ok k) (IsStored p k) u.bytes old mid new u.consumed
-      (λ more is. file_stored p (u.bytes ++ more) k h (u.each more ∙ is)) e
+      (λ more is. (let e = u.each more ∙ is in record { value = e; read = λ are. read_is_faultless p (u.bytes ++ more) k h are e })) e
   stored_answer (Err f) e = tt
 
   pub refused_answer : (first_count old_count new_count : ℕ) → old_count ≡ first_count → (r : Result Crossing Fault)
@@ -193,8 +190,7 @@ header_begun most f old_count new_count old new (inr h) = (h.bytes, h.consumed)
 -- ---- the fault speaks of a side where its number says so
 
 failure_names_side : (f : Fault) (old_count new_count : ℕ) → IsFailure f old_count new_count → NamesSide f
-failure_names_side f old_count new_count (inl e) = subst NamesSide (sym e) (λ some. absurd (cc), λ w. absurd (let low = w.0 in omega arith))
-failure_names_side f old_count new_count (inr w) = subst NamesSide (sym w.0) (λ some. absurd (cc), λ w. absurd (let low = w.0 in omega arith))
+failure_names_side f old_count new_count h = grind arith
 
 pub refused_names_side : (p : Parameters) (f : Fault) (old_count new_count : ℕ) (old new : Option (List ℕ))
     → IsFailure f old_count new_count ⊎ ReadsSo (IsRefusedSo p f) old new → NamesSide f

@@ -44,22 +44,17 @@ same_packets d e h (x ∷ xs) l =
 
 among_keeping : (d : KeptDatagrams) (side : Side) (y : Kept) → Among d (keeping d side y)
 unfolding Among
-among_keeping d Client y Client i x g = get_front d.client (y ∷ []) i x g
-among_keeping d Client y Server i x g = g
-among_keeping d Server y Client i x g = g
-among_keeping d Server y Server i x g = get_front d.server (y ∷ []) i x g
+among_keeping d side y other i x g = grind (arith, get_front)
 
 among_same : (d : KeptDatagrams) → Among d d
 unfolding Among
 among_same d side i x g = g
 
 kept_with : (d : KeptDatagrams) (side : Side) (y : Kept) → (kept_by (keeping d side y) side ≡ kept_by d side ++ y ∷ []) × ((keeping d side y).bytes ≡ d.bytes ++ y.bytes)
-kept_with d Client y = (refl, refl)
-kept_with d Server y = (refl, refl)
+kept_with d side y = grind arith
 
 sent_with : (k : Crossing) (a : Packet) (side : Side) (own : List FirstCopy) → sent_by (crossing_with k a side own) side ≡ own
-sent_with k a Client own = refl
-sent_with k a Server own = refl
+sent_with k a side own = grind arith
 
 positions_more : (d e : KeptDatagrams) → Among d e → (xs : List StoredPacket) (x : StoredPacket) → HavePositions d xs → x.position < length (kept_by e x.side) → HavePositions e (xs ++ x ∷ [])
 unfolding Among
@@ -78,15 +73,13 @@ decode_with p d Server y pdu h reads spelled Server = all_push d.server y (h Ser
 abbrev first_part : Crossing → Packet → ℕ → List ℕ
 first_part k a place = if is_some (position_of_place (sent_by k a.side) place) then a.payload else []
 
-copies_more : (k : Crossing) (place : ℕ) (xs : List Packet) (a : Packet) → first_copies_from k place (xs ++ a ∷ []) ≡ first_copies_from k place xs ++ first_part k a (place + length xs)
+copies_more : (k : Crossing) (place : ℕ) (xs : List Packet) (a : Packet) (end : ℕ) → place + length xs ≡ end
+    → first_copies_from k place (xs ++ a ∷ []) ≡ first_copies_from k place xs ++ first_part k a end
 unfolding first_copies_from
-copies_more k place [] a = append-nil (first_part k a place) ∙ ap (first_part k a) (let n : place ≡ place + 0 = omega arith in n)
-copies_more k place (x ∷ xs) a =
-    ap (λ (bs : List ℕ). first_part k x place ++ bs) (copies_more k (suc place) xs a ∙ ap (λ (n : ℕ). first_copies_from k (suc place) xs ++ first_part k a n) (let n : suc place + length xs ≡ place + suc (length xs) = omega arith in n))
-    ∙ sym (append_assoc (first_part k x place) (first_copies_from k (suc place) xs) (first_part k a (place + suc (length xs))))
-
-copies_last : (k : Crossing) (xs : List Packet) (a : Packet) → first_copies_from k 0 (xs ++ a ∷ []) ≡ first_copies_from k 0 xs ++ first_part k a (length xs)
-copies_last k xs a = copies_more k 0 xs a ∙ ap (λ (n : ℕ). first_copies_from k 0 xs ++ first_part k a n) (let n : 0 + length xs ≡ length xs = omega arith in n)
+copies_more k place [] a end e = append-nil (first_part k a place) ∙ ap (first_part k a) (omega arith)
+copies_more k place (x ∷ xs) a end e =
+    ap (λ (bs : List ℕ). first_part k x place ++ bs) (copies_more k (suc place) xs a end (omega arith))
+    ∙ sym (append_assoc (first_part k x place) (first_copies_from k (suc place) xs) (first_part k a end))
 
 -- both lists have the same places below this one
 SamePlaces : Crossing → Crossing → ℕ → Type 0
@@ -153,8 +146,7 @@ module _ (p : Parameters) (d : KeptDatagrams) (packets : List StoredPacket) (st 
 
     view_with : (side : Side) (xs : List StoredPacket) (a : Packet) (own : List FirstCopy) → map (packet_by (keeping d side datagram)) xs ≡ k.packets ++ a ∷ []
         → map (copy_in p side) (kept_by d side ++ datagram ∷ []) ≡ own → crossing_by p (keeping d side datagram) xs ≡ crossing_with k a side own
-    view_with Client xs a own e f = (λ i. record { params = p; packets = e i; client = f i; server = k.server })
-    view_with Server xs a own e f = (λ i. record { params = p; packets = e i; client = k.client; server = f i })
+    view_with side xs a own e f = grind arith
 
     pub new_view : (side : Side) → position ≡ length (kept_by d side) → decode_of p side payload ≡ Ok pdu
         → sent_after k (packet_with channel side payload) ≡ sent_by k side ++ copy ∷ []
@@ -173,7 +165,8 @@ module _ (p : Parameters) (d : KeptDatagrams) (packets : List StoredPacket) (st 
         let last = ap (λ (o : Option ℕ). if is_some o then payload else [])
         (ap (λ (xs : List FirstCopy). position_of_place xs (length k.packets)) (sent_with k a side own) ∙ place_named own h (length (sent_by k side)) copy (get_push (sent_by k side) copy)) in
         (λ i. st.bytes i ++ payload)
-        ∙ sym (copies_last l k.packets a ∙ (λ i. copies_same k l (length k.packets) 0 k.packets (places_with k a copy refl side h) (omega arith) i ++ last i))
+        ∙ sym (copies_more l 0 k.packets a (length k.packets) (omega arith)
+        ∙ (λ i. copies_same k l (length k.packets) 0 k.packets (places_with k a copy refl side h) (omega arith) i ++ last i))
 
     -- the store with it
     pub new_store : (side : Side) → position ≡ length (kept_by d side) → decode_of p side payload ≡ Ok pdu → Spells p side pdu payload
@@ -220,12 +213,10 @@ module _ (p : Parameters) (d : KeptDatagrams) (packets : List StoredPacket) (st 
     longer = record { params = p; packets = k.packets ++ packet_with channel side payload ∷ []; client = k.client; server = k.server }
 
     same_lists : (s : Side) → longer ≡ crossing_with k (packet_with channel side payload) s (sent_by k s)
-    same_lists Client = refl
-    same_lists Server = refl
+    same_lists s = grind arith
 
     same_sent : (s : Side) → sent_by longer s ≡ sent_by k s
-    same_sent Client = refl
-    same_sent Server = refl
+    same_sent s = grind arith
 
     copy_lists : crossing_by p d (packets ++ again ∷ []) ≡ longer
     copy_lists = (λ i. record { params = p; packets = packets_with d again _ (among_same d) again_here i; client = k.client; server = k.server })
@@ -243,7 +234,7 @@ module _ (p : Parameters) (d : KeptDatagrams) (packets : List StoredPacket) (st 
         let a = packet_with channel side payload in
         let last = ap (λ (o : Option ℕ). if is_some o then payload else [])
         (ap (λ (own : List FirstCopy). position_of_place own (length k.packets)) (same_sent side) ∙ no_place k st.crossing side) in
-        st.bytes ∙ sym (copies_last longer k.packets a
+        st.bytes ∙ sym (copies_more longer 0 k.packets a (length k.packets) (omega arith)
         ∙ (λ i. copies_same k longer (length k.packets) 0 k.packets same_places (omega arith) i ++ last i) ∙ append-nil (first_copies_from k 0 k.packets))
 
     pub copy_store : IsCrossing (with_packet k (packet_with channel side payload)) → IsStore p d (packets ++ again ∷ [])
@@ -286,8 +277,7 @@ judged_length k a known is_new j e = grind (arith, length_push)
 -- ---- at the start
 
 no_datagram : (p : Parameters) (side : Side) → Decode p side (kept_by nothing_kept side)
-no_datagram p Client i x g = absurd (cc)
-no_datagram p Server i x g = absurd (cc)
+no_datagram p side i x g = absurd (grind arith)
 
 pub empty_store : (p : Parameters) → OfConnection p → IsStore p nothing_kept []
 unfolding first_copies_from

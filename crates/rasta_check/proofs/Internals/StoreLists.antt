@@ -1,6 +1,6 @@
 -- What a store keeps at its positions and places.
-use Rattle.std.proofs.Common.{◌≡◌, ℕ, ◌+◌, ◌<◌, ◌≤◌, List, [], ◌∷◌, length, map, Bool, true, false, cond, not, nat_lt, nat_eq, Option, Some, None, slice_get, refl, ap, sym, ◌∙◌, subst, arith, IfSome, if◌then◌else◌}
-use Rattle.std.specs.Prelude.{◌==◌, Ok, Result}
+use Rattle.std.proofs.Common.{◌≡◌, ℕ, ◌<◌, ◌≤◌, List, [], ◌∷◌, length, map, Bool, true, false, nat_eq, Option, Some, None, slice_get, refl, ap, sym, ◌∙◌, subst, arith, IfSome, if◌then◌else◌}
+use Rattle.std.specs.Prelude.{Ok, Result}
 use Rattle.std.specs.List.{position_or_len}
 use Rattle.std.specs.Option.{option_map}
 use Rattle.std.specs.Str.{bytes_eq}
@@ -10,21 +10,20 @@ use Rattle.std.proofs.lemmas.List.{length-map}
 use Rattle.std.proofs.lemmas.Option.{cond_some, slice_get-map, slice_get_past}
 use Rattle.rasta_pcap.specs.declared.fault.Fault.{Fault}
 use Rattle.rasta_pcap.specs.declared.fault.Side.{Side}
-use Rattle.rasta_pcap.specs.declared.fault.Side.TheVariants.{Client, Server}
 use Rattle.rasta_pcap.specs.Fault.{copy_differs, number_gap}
 use Rattle.rasta_udp.specs.Frame.{Packet}
 use Rattle.rasta_pdu.specs.Params.{Parameters}
 use Rattle.rasta_pdu.specs.Pdu.{RedundancyPdu, redundancy_bytes, decode_of}
 use Rattle.rasta_check.specs.declared.crossing_store.StoredPacket.{StoredPacket}
-use Rattle.rasta_check.specs.Capture.Crossing.{FirstCopy, Spells, copy_with, is_next_number, number_fault, read_fault, packet_fault}
+use Rattle.rasta_check.specs.Capture.Crossing.{FirstCopy, Spells, copy_with, is_next_number, packet_fault}
 use Rattle.rasta_check.specs.Internals.Datagrams.{Kept, KeptDatagrams, kept_by}
 use Rattle.rasta_check.specs.Capture.Lists.{IsOrdered, numbers_of, position_of_number, position_of_place}
-use Rattle.rasta_check.specs.Capture.Reading.{Crossing, IsCrossing, sent_by, after_pdu, after_read, sent_after}
+use Rattle.rasta_check.specs.Capture.Reading.{Crossing, IsCrossing, sent_by, sent_after}
 use Rattle.rasta_check.specs.Internals.Stored.{IsStore, Decode, bytes_of, copy_in, pdu_in, packet_by, crossing_by}
-use Rattle.rasta_check.proofs.Capture.Crossings.{few_of, list_of}
+use Rattle.rasta_check.proofs.Capture.Crossings.{few_of, known_by, list_of}
 use Rattle.rasta_check.proofs.Capture.Spellings.{read_once}
 use Rattle.rasta_check.proofs.Lists.{slice_get_some, map_at}
-use Rattle.rasta_check.proofs.Capture.Positions.{number_found, number_once, place_missing, place_named, same_test}
+use Rattle.rasta_check.proofs.Capture.Positions.{number_found, number_once, place_missing, place_named}
 use Rattle.rasta_check.proofs.Capture.FaultlessLists.{ordered}
 
 -- ---- a datagram and the first copy that it spells
@@ -52,8 +51,7 @@ module _ (p : Parameters) (d : KeptDatagrams) (packets : List StoredPacket) wher
   whole = crossing_by p d packets
 
   pub sent_is : (side : Side) → sent_by whole side ≡ map (copy_in p side) (kept_by d side)
-  sent_is Client = refl
-  sent_is Server = refl
+  sent_is side = grind arith
 
   pub kept_at : IsStore p d packets → (side : Side) (position : ℕ) (x : Kept) → slice_get (kept_by d side) position ≡ Some x
       → IsFirst p side x (sent_by whole side) position
@@ -161,20 +159,9 @@ module _ (p : Parameters) (d : KeptDatagrams) (packets : List StoredPacket) (st 
 -- ---- packets of known numbers
 
 -- the first copy of a number stands at the number's position
-copy_step : (e b : Bool) (c : FirstCopy) (own : List FirstCopy) (l : ℕ) (o : Option FirstCopy) → e ≡ b → o ≡ slice_get own l
-    → (if b then Some c else o) ≡ slice_get (c ∷ own) (cond (not e) (1 + l) 0)
-copy_step e b c own l o f h = grind arith
-
 or_len : (own : List FirstCopy) (n : ℕ) → copy_with own n ≡ slice_get own (position_or_len (nat_eq n) (numbers_of own))
 or_len [] n = refl
-or_len (c ∷ own) n =
-    copy_step (nat_eq n c.pdu.number) (c.pdu.number == n) c own (position_or_len (nat_eq n) (numbers_of own)) (copy_with own n) (same_test n c.pdu.number) (or_len own n)
-
-shown_none : (l n : ℕ) → cond (nat_lt l n) (Some l) None ≡ None → n ≤ l
-shown_none l n e = grind (arith, nat_tests)
-
-length-numbers : (own : List FirstCopy) → length (numbers_of own) ≡ length own
-length-numbers own = length-map own (λ (c : FirstCopy). c.pdu.number)
+or_len (c ∷ own) n = (let more = or_len own n in grind (arith, nat_tests))
 
 pub copy_of_position : (own : List FirstCopy) (n position : ℕ) → position_of_number own n ≡ Some position → copy_with own n ≡ slice_get own position
 copy_of_position own n position e =
@@ -182,8 +169,8 @@ copy_of_position own n position e =
 
 pub no_copy : (own : List FirstCopy) (n : ℕ) → position_of_number own n ≡ None → copy_with own n ≡ None
 no_copy own n e =
-    let l = shown_none (position_or_len (nat_eq n) (numbers_of own)) (length (numbers_of own)) e in
-    let size = length-numbers own in
+    let l : length (numbers_of own) ≤ position_or_len (nat_eq n) (numbers_of own) = grind (arith, nat_tests) in
+    let size = length-map own (λ (c : FirstCopy). c.pdu.number) in
     or_len own n ∙ slice_get_past own (position_or_len (nat_eq n) (numbers_of own)) (omega arith)
 
 -- what is known of a packet whose number is that of a first copy
@@ -195,14 +182,7 @@ module _ (k : Crossing) (a : Packet) (pdu : RedundancyPdu) (reads : decode_of k.
   repeats : (position : ℕ) (r : Bool) → position_of_number sent pdu.number ≡ Some position → (c : FirstCopy) → slice_get sent position ≡ Some c
       → r ≡ bytes_eq (redundancy_bytes k.params a.side c.pdu) a.payload
       → (packet_fault k.params sent a ≡ (if r then None else Some copy_differs)) × (sent_after k a ≡ sent)
-  repeats position r e c g f =
-      let known = copy_of_position sent pdu.number position e ∙ g in (
-        ap (read_fault k.params a.side sent a.payload) reads ∙ (ap (number_fault k.params a.side sent a.payload pdu) known ∙ ap (λ (b : Bool). if b then None else Some copy_differs) (sym f)),
-        ap (after_read sent (length k.packets)) reads ∙ ap (after_pdu sent (length k.packets) pdu) known,
-      )
-
-  same_bytes : (xs ys : List ℕ) (r : Bool) → r ≡ bytes_eq xs ys → r ≡ true → ys ≡ xs
-  same_bytes xs ys r e f = sym ((bytes_eq-Decides xs ys).0 (sym e ∙ f))
+  repeats position r e c g f = rw f (known_by k a pdu (Some c) reads (copy_of_position sent pdu.number position e ∙ g))
 
   pub repeats_at : (position : ℕ) (r : Bool) → position_of_number sent pdu.number ≡ Some position
       → IfSome (slice_get sent position) (λ (c : FirstCopy). r ≡ bytes_eq (redundancy_bytes k.params a.side c.pdu) a.payload)
@@ -212,10 +192,8 @@ module _ (k : Crossing) (a : Packet) (pdu : RedundancyPdu) (reads : decode_of k.
       let f = number_found sent pdu.number position e in
       let same = subst (λ (o : Option FirstCopy). IfSome o (λ (c : FirstCopy). r ≡ bytes_eq (redundancy_bytes k.params a.side c.pdu) a.payload)) f.1 h in
       let w = repeats position r e f.0 f.1 same in
-      (f.0, f.1, w.0, w.1, same_bytes (redundancy_bytes k.params a.side f.0.pdu) a.payload r same)
+      (f.0, f.1, w.0, w.1, λ is. sym ((bytes_eq-Decides (redundancy_bytes k.params a.side f.0.pdu) a.payload).0 (sym same ∙ is)))
 
   -- no first copy has its number, which isn't the next
   pub skips : position_of_number sent pdu.number ≡ None → is_next_number sent pdu.number ≡ false → packet_fault k.params sent a ≡ Some number_gap
-  skips e f =
-      ap (read_fault k.params a.side sent a.payload) reads ∙ (ap (number_fault k.params a.side sent a.payload pdu) (no_copy sent pdu.number e)
-      ∙ ap (λ (b : Bool). if b then None else Some number_gap) f)
+  skips e f = (known_by k a pdu None reads (no_copy sent pdu.number e)).0 ∙ ap (λ (b : Bool). if b then None else Some number_gap) f

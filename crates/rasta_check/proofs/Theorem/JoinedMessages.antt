@@ -1,26 +1,25 @@
 -- Messages of units, joined to one list.
-use Rattle.std.proofs.Common.{◌≡◌, ◌⊎◌, ℕ, zero, suc, ◌+◌, ◌≤◌, List, [], ◌∷◌, ◌++◌, length, map, Some, slice_get, refl, ap, sym, ◌∙◌, arith, inl, inr, ⊎_elim, append_assoc, subst}
+use Rattle.std.proofs.Common.{◌≡◌, ◌⊎◌, ℕ, zero, suc, ◌+◌, ◌≤◌, List, [], ◌∷◌, ◌++◌, length, map, Some, slice_get, refl, ap, sym, ◌∙◌, arith, inl, inr, ⊎_elim, subst}
 use Rattle.std.specs.List.{flat_map}
 use Rattle.std.proofs.lemmas.List.{map-append, length-map}
+use Rattle.std.proofs.lemmas.List.Folds.{flat_map-map}
+use Rattle.std.proofs.lemmas.Grind.{flat_map-append}
 use Rattle.rasta_pdu.specs.Pdu.{SafetyPdu, messages_in}
 use Rattle.rasta_check.specs.Model.Taken.{TakenUnit}
 use Rattle.rasta_check.specs.Model.Theorem.{units_listed}
 use Rattle.rasta_check.specs.Verdict.Listed.{TakenMessage, messages_of_unit, messages_taken, ListedMessage, numbered_from}
 use Rattle.rasta_check.specs.Verdict.Headline.{messages_in_list}
-use Rattle.rasta_check.proofs.Lists.{get_front, get_past}
+use Rattle.rasta_check.proofs.Lists.{get_front, get_mapped, get_past}
 
 -- the messages of each unit, unit by unit
 abbrev pub joined : List (List (List ℕ)) → List (List ℕ)
-joined [] = []
-joined (ms ∷ units) = ms ++ joined units
+joined units = flat_map (λ (ms : List (List ℕ)). ms) units
 
 pub joined-append : (xs ys : List (List (List ℕ))) → joined (xs ++ ys) ≡ joined xs ++ joined ys
-joined-append [] ys = refl
-joined-append (x ∷ xs) ys = ap (λ ms. x ++ ms) (joined-append xs ys) ∙ sym (append_assoc x (joined xs) (joined ys))
+joined-append xs ys = flat_map-append (λ (ms : List (List ℕ)). ms) xs ys
 
 pub up_joined : (xs : List SafetyPdu) → flat_map (λ (x : SafetyPdu). messages_in x.body) xs ≡ joined (map (λ (x : SafetyPdu). messages_in x.body) xs)
-up_joined [] = refl
-up_joined (x ∷ xs) = ap (λ ms. messages_in x.body ++ ms) (up_joined xs)
+up_joined xs = sym (flat_map-map (λ (ms : List (List ℕ)). ms) (λ (x : SafetyPdu). messages_in x.body) xs)
 
 abbrev said : List TakenMessage → List (List ℕ)
 said ms = map (λ (m : TakenMessage). m.message) ms
@@ -55,9 +54,9 @@ parted (x ∷ xs) ys (suc m) t g =
 
 of_unit : (data_place proof : ℕ) (ms : List (List ℕ)) (m : ℕ) (t : TakenMessage) → slice_get (messages_of_unit (record { messages = ms; data_place = data_place; proof_place = proof })) m ≡ Some t
     → (slice_get ms m ≡ Some t.message) × (t.proof_place ≡ proof)
-of_unit data_place proof [] m t g = absurd (cc)
-of_unit data_place proof (x ∷ ms) zero t g = (let e : record { message = x; data_place = data_place; proof_place = proof } ≡ t = cc in (ap (λ (z : TakenMessage). Some z.message) e, sym (ap (λ (z : TakenMessage). z.proof_place) e)))
-of_unit data_place proof (x ∷ ms) (suc m) t g = of_unit data_place proof ms m t g
+of_unit data_place proof ms m t g =
+    let w = get_mapped (λ (x : List ℕ). record { message = x; data_place = data_place; proof_place = proof }) ms m t g in
+    (w.1 ∙ ap (λ (z : TakenMessage). Some z.message) w.2, sym (ap (λ (z : TakenMessage). z.proof_place) w.2))
 
 -- the first units, up to one, were handed up with their messages
 abbrev pub HaveThrough : List TakenUnit → ℕ → List (List (List ℕ)) → Type 0

@@ -1,11 +1,10 @@
 -- The units that two lists show to be taken: their members, their proofs, and that they were handed up.
-use Rattle.std.proofs.Common.{◌≡◌, ◌⊎◌, ℕ, zero, suc, ◌+◌, ◌<◌, ◌≤◌, Bool, true, false, cond, List, [], ◌∷◌, ◌++◌, length, Option, Some, None, slice_get, take, drop, refl, ap, sym, ◌∙◌, arith, inl, inr, ⊎_elim, subst}
+use Rattle.std.proofs.Common.{◌≡◌, ◌⊎◌, ℕ, zero, suc, ◌+◌, ◌<◌, ◌≤◌, Bool, true, false, List, [], ◌∷◌, ◌++◌, length, Option, Some, slice_get, take, drop, refl, ap, sym, ◌∙◌, arith, inl, inr, ⊎_elim, subst}
 use Rattle.std.specs.Prelude.{map, filter, fold, max, nat_lt, if◌then◌else◌}
 use Rattle.std.proofs.lemmas.Bool.Decides.{nat_tests}
 use Rattle.std.proofs.lemmas.List.{append-nil, length-append, length-map, length-take, length-take-le, take-append-drop}
 use Rattle.std.proofs.lemmas.Option.{slice_get_within}
 use Rattle.rasta_pcap.specs.declared.fault.Side.{Side}
-use Rattle.rasta_pcap.specs.declared.fault.Side.TheVariants.{Client, Server}
 use Rattle.rasta_pdu.specs.declared.quiet_point.Quiet.{Quiet}
 use Rattle.rasta_pdu.specs.Params.{Parameters}
 use Rattle.rasta_pdu.specs.Pdu.{SafetyPdu, messages_in, is_kind}
@@ -60,14 +59,12 @@ proof_by : (own peer : List SafetyPdu) (k a : ℕ) (ds : List FirstCopy) → k <
 proof_by own peer k a [] l = inl l
 proof_by own peer k a (d ∷ ds) l = by (nat_lt k (units_shown own peer d.pdu.safety)) refl (proof_by own peer k (max a (units_shown own peer d.pdu.safety)) ds l)
   where
-    skip : nat_lt k (units_shown own peer d.pdu.safety) ≡ false → Proof own peer k ds → Proof own peer k (d ∷ ds)
-    skip e r = record { j = suc r.j; d = r.d; there = r.there; more = r.more; place = ap (λ b. if b then d.place else proof_place own peer k ds) e ∙ r.place }
-
     by : (b : Bool) → nat_lt k (units_shown own peer d.pdu.safety) ≡ b → (k < max a (units_shown own peer d.pdu.safety)) ⊎ Proof own peer k ds → (k < a) ⊎ Proof own peer k (d ∷ ds)
     by true e r = inr (record { j = 0; d = d; there = refl; more = grind (arith, nat_tests, e); place = ap (λ b. if b then d.place else proof_place own peer k ds) e })
     by false e r = ⊎_elim
         (λ (z : k < max a (units_shown own peer d.pdu.safety)). inl (grind (arith, nat_tests, e, z)))
-        (λ (z : Proof own peer k ds). inr (skip e z))
+        (λ (z : Proof own peer k ds).
+        inr (record { j = suc z.j; d = z.d; there = z.there; more = z.more; place = ap (λ b. if b then d.place else proof_place own peer k ds) e ∙ z.place }))
         r
 
 -- where some PDU shows more than k units, the one at the proof place does
@@ -85,19 +82,11 @@ data_made made = filter (λ (m : Made). is_kind Data m.pdu.kind) made
 data-mapped : {A : Type 0} (f : A → SafetyPdu) (xs : List A) → map f (filter (λ (x : A). is_kind Data (f x).kind) xs) ≡ data_in (map f xs)
 unfolding data_in
 data-mapped f [] = refl
-data-mapped {A = A} f (x ∷ xs) = by (is_kind Data (f x).kind) (data-mapped f xs)
-  where
-    by : (b : Bool) → map f (filter (λ (y : A). is_kind Data (f y).kind) xs) ≡ filter (λ (y : SafetyPdu). is_kind Data y.kind) (map f xs)
-        → map f (cond b (x ∷ filter (λ (y : A). is_kind Data (f y).kind) xs) (filter (λ (y : A). is_kind Data (f y).kind) xs)) ≡ cond b (f x ∷ filter (λ (y : SafetyPdu). is_kind Data y.kind) (map f xs)) (filter (λ (y : SafetyPdu). is_kind Data y.kind) (map f xs))
-    by true e = ap (λ ys. f x ∷ ys) e
-    by false e = e
+data-mapped f (x ∷ xs) = (let more = data-mapped f xs in grind arith)
 
 quiet_data : (q : Option Quiet) (s : Side) (xs : List SafetyPdu) → data_in (pdus_made (start_by q s).made ++ xs) ≡ data_in xs
 unfolding data_in
-quiet_data None Client xs = refl
-quiet_data None Server xs = refl
-quiet_data (Some q) Client xs = refl
-quiet_data (Some q) Server xs = refl
+quiet_data q s xs = grind arith
 
 -- the data PDUs that an end made are those of its sent list
 same_data : (p : Parameters) (s : Side) (f : EndState) (own : List FirstCopy) → pdus_made f.made ≡ all_made p s own → pdus_made (data_made f.made) ≡ pdus_of (data_copies own)
@@ -129,16 +118,14 @@ data_grown e f g grown h = record { same_count = h.same_count; messages = λ i x
 
 -- no more was handed up than there are data PDUs
 pub few_handed : (e f : EndState) → HandsUpData e f → length e.handed ≤ length (data_made f.made)
-few_handed e f h = by (length e.handed) refl
-  where
-    by : (n : ℕ) → length e.handed ≡ n → n ≤ length (data_made f.made)
-    by zero l = omega arith
-    by (suc n) l =
-        let c = h.same_count in
-        let x = slice_get_some e.handed_pdus n (omega (arith, c, l)) in
-        let r = h.messages n x.0 x.1 in
-        let z = slice_get_within (data_made f.made) n r.0 r.1 in
-        omega arith
+few_handed e f h =
+    let not_more : length (data_made f.made) < length e.handed → ⊥ = λ l.
+    (let c = h.same_count in
+    let x = slice_get_some e.handed_pdus (length (data_made f.made)) (omega arith) in
+    let r = h.messages (length (data_made f.made)) x.0 x.1 in
+    let z = slice_get_within (data_made f.made) (length (data_made f.made)) r.0 r.1 in
+    omega arith) in
+    omega (arith, not_more)
 
 -- e takes the units of f; `own` is what f sent
 module _ (p : Parameters) (s : Side) (e f : EndState) (own peer : List FirstCopy) (told : pdus_made f.made ≡ all_made p s own) (h : HandsUpData e f) where

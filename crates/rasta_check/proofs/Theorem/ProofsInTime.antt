@@ -3,10 +3,8 @@ use Rattle.std.proofs.Common.{◌≡◌, ℕ, suc, ◌+◌, ◌<◌, ◌≤◌, 
 use Rattle.std.specs.Prelude.{slice_index_or, is_some, not, ◌&&◌, ◌||◌}
 use Rattle.std.proofs.lemmas.Option.{slice_get_within, slice_get-get_or}
 use Rattle.rasta_pcap.specs.declared.fault.Side.{Side}
-use Rattle.rasta_pcap.specs.declared.fault.Side.TheVariants.{Client, Server}
 use Rattle.rasta_pdu.specs.Params.{Parameters}
 use Rattle.rasta_end.specs.declared.phase.Phase.{Phase}
-use Rattle.rasta_end.specs.declared.phase.Phase.TheVariants.{Closed}
 use Rattle.rasta_end.specs.State.{Made, EndState, is_client, is_closed}
 use Rattle.rasta_check.specs.Capture.Crossing.{FirstCopy}
 use Rattle.rasta_check.specs.Model.World.{World, station_of, end_of, other_side, Reaches}
@@ -28,10 +26,8 @@ use Rattle.rasta_pdu.specs.Pdu.{is_kind}
 use Rattle.rasta_pdu.specs.declared.kind.Kind.TheVariants.{ConnectionRequest}
 
 made_over : (s : Side) (ph : Phase) (ms : List Made) (i : ℕ) (m : Made) → slice_get ms i ≡ Some m → is_closed ph ≡ true → (is_closed ph && (not (is_client s) || is_some (slice_get ms 0))) ≡ true
-made_over s Closed [] i m g h = absurd (cc)
-made_over Client Closed (x ∷ ms) i m g h = refl
-made_over Server Closed (x ∷ ms) i m g h = refl
-made_over s _ ms i m g h = absurd (cc)
+made_over s ph [] i m g h = absurd (cc)
+made_over s ph (x ∷ ms) i m g h = grind arith
 
 -- e0 and f0 in the world after the make, e and f at the end
 module _ (e0 f0 e f : EndState) (t : ℕ) (w0 : Shown e0 f0) (w : Shown e f) (g : Held f t e.made) (vf : Valued f) (few : length f.made ≤ 1000001) (ge : Grown e0 e) (gf : Grown f0 f)

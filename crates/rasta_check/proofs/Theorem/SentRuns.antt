@@ -1,7 +1,6 @@
 -- What is known of a run that sends two given lists.
 use Rattle.std.proofs.Common.{◌≡◌, ℕ, ◌+◌, ◌≤◌, List, [], ◌∷◌, ◌++◌, Some, length, slice_get, ap, ◌∙◌, sym, subst, arith}
 use Rattle.rasta_pcap.specs.declared.fault.Side.{Side}
-use Rattle.rasta_pcap.specs.declared.fault.Side.TheVariants.{Client, Server}
 use Rattle.rasta_pdu.specs.Params.{Parameters}
 use Rattle.rasta_pdu.specs.Pdu.{SafetyPdu}
 use Rattle.rasta_end.specs.Starts.{start_of}
@@ -36,10 +35,7 @@ within_by p w side sent h few = (let b = start_base p.quiet side in let e = send
 
 both_within : (p : Parameters) (w : World) (side : Side) → length (end_of w side).made ≤ (start_of p side).base + 1000000 → length (end_of w (other_side side)).made ≤ (start_of p (other_side side)).base + 1000000
     → (s : Side) → length (end_of w s).made ≤ (start_of p s).base + 1000000
-both_within p w Client mine theirs Client = mine
-both_within p w Client mine theirs Server = theirs
-both_within p w Server mine theirs Client = theirs
-both_within p w Server mine theirs Server = mine
+both_within p w side mine theirs s = grind arith
 
 module _ (p : Parameters) (ws : List World) (w : World) (side : Side) (own peer : List FirstCopy) (r : Reaches p ws w) (mine : IsSent p w.crossed side own) (theirs : IsSent p w.crossed (other_side side) peer)
     (few : length own ≤ 1000000) (few_theirs : length peer ≤ 1000000) where

@@ -1,9 +1,8 @@
 -- What the PDUs of a sent list show of the units of the other side.
-use Rattle.std.proofs.Common.{◌≡◌, ℕ, zero, suc, ◌≤◌, Bool, true, false, List, [], ◌∷◌, Option, Some, None, slice_get, refl, ap, ◌∙◌, arith}
-use Rattle.std.specs.Prelude.{slice_index_or, map, fold, max, if◌then◌else◌}
+use Rattle.std.proofs.Common.{◌≡◌, ℕ, zero, suc, ◌≤◌, false, List, [], ◌∷◌, Option, Some, None, slice_get, refl, ap, ◌∙◌, arith}
+use Rattle.std.specs.Prelude.{slice_index_or, map, fold, max}
 use Rattle.std.proofs.lemmas.Option.{slice_get_within, slice_get-get_or}
 use Rattle.rasta_pcap.specs.declared.fault.Side.{Side}
-use Rattle.rasta_pcap.specs.declared.fault.Side.TheVariants.{Client, Server}
 use Rattle.rasta_pdu.specs.declared.quiet_point.Quiet.{Quiet}
 use Rattle.rasta_pdu.specs.Pdu.{SafetyPdu, is_kind}
 use Rattle.rasta_end.specs.State.{EndState}
@@ -17,10 +16,7 @@ use Rattle.rasta_pdu.specs.declared.kind.Kind.TheVariants.{ConnectionRequest}
 
 -- a quiet PDU asks for nothing
 pub quiet_asks : (q : Option Quiet) (s : Side) (own : List SafetyPdu) → asked_positions own (pdus_made (start_by q s).made) ≡ []
-quiet_asks None Client own = refl
-quiet_asks None Server own = refl
-quiet_asks (Some q) Client own = refl
-quiet_asks (Some q) Server own = refl
+quiet_asks q s own = grind arith
 
 -- f's units, by lists that tell what f made and what its peer did
 module _ (f : EndState) (own peer : List SafetyPdu) (told : pdus_made f.made ≡ own) (along : units_along own peer ≡ values f) (n : ℕ) (x : SafetyPdu)
@@ -36,13 +32,11 @@ module _ (f : EndState) (own peer : List SafetyPdu) (told : pdus_made f.made ≡
       let same : units_at (units_along own peer) (Some c) ≡ v = ap (λ (vs : List ℕ). slice_index_or vs c 0) along in
       omega (arith, b, same)
 
-  by_kind : (b : Bool) → is_kind ConnectionRequest x.kind ≡ b → (if b then 0 else units_at (units_along own peer) (position_with own x.cs)) ≤ n
-  by_kind true e = omega arith
-  by_kind false e = at_position e (position_with own x.cs) refl
-
   -- a PDU shows at most n units where each position that it confirms conveys at most n
   pub shows_most : units_shown own peer x ≤ n
-  shows_most = by_kind (is_kind ConnectionRequest x.kind) refl
+  shows_most =
+      let other : is_kind ConnectionRequest x.kind ≡ false → units_at (units_along own peer) (position_with own x.cs) ≤ n = λ k. at_position k (position_with own x.cs) refl in
+      grind arith
 
 -- ---- the most that any of them shows
 

@@ -27,10 +27,6 @@ pub verdict_is : (p : Parameters) (file : List ℕ) (k : Crossing) → CrossedIn
 verdict_is p file k x scripts verdict g =
     judged k.client k.server x.capture verdict (subst (λ (xs : List Packet). IsScriptVerdict p (length xs) k.client k.server scripts verdict) x.packets g)
 
--- the inside of what is read is what is seen of it
-pub seen : (inside k : Crossing) → inside ≡ k → IsCrossing inside → IsCrossing k
-seen inside k e h = subst IsCrossing e h
-
 module _ (p : Parameters) (file : List ℕ) (k : Crossing) (x : CrossedIn p file k) (h : IsCrossing k) where
   valid : AreParameters p
   valid = subst AreParameters x.params h.valid.valid

@@ -1,6 +1,6 @@
 -- The headline of a verdict, from the theorem over runs.
 use Rattle.std.specs.Prelude.{if◌then◌else◌, take}
-use Rattle.std.proofs.Common.{◌≡◌, ℕ, ◌-◌, ◌≤◌, List, [], ◌++◌, length, Result, Ok, Err, Some, slice_get, refl, ap, sym, ◌∙◌, arith, subst}
+use Rattle.std.proofs.Common.{◌≡◌, ℕ, ◌-◌, List, [], ◌++◌, length, Result, Ok, Err, Some, slice_get, refl, ap, sym, ◌∙◌, arith, subst}
 use Rattle.rasta_pcap.specs.declared.fault.Fault.{Fault}
 use Rattle.rasta_pcap.specs.declared.fault.Side.{Side}
 use Rattle.rasta_pcap.specs.declared.fault.Side.TheVariants.{Client, Server}
@@ -17,13 +17,13 @@ use Rattle.rasta_check.specs.Model.Laws.{HandsUp}
 use Rattle.rasta_check.specs.Script.Following.{Follows}
 use Rattle.rasta_check.specs.Internals.Checking.{follow, where_followed, verdict_of}
 use Rattle.rasta_check.specs.Model.Theorem.{Appends, units_handed, units_listed}
-use Rattle.rasta_check.specs.Capture.Reading.{Crossing, IsCrossing}
+use Rattle.rasta_check.specs.Capture.Reading.{Crossing, IsCrossing, sent_by}
 use Rattle.rasta_check.specs.Verdict.Listed.{messages_taken, ListedMessage, listed, numbered_from}
 use Rattle.rasta_check.specs.Verdict.Report.{Explained, report_of, BothFit}
 use Rattle.rasta_check.specs.Internals.Listing.{listed_by, shown_by, proofs_from}
 use Rattle.rasta_check.specs.Verdict.Headline.{messages_in_list, units_offered, HandsUpListed, Headline, IsSharp}
 use Rattle.rasta_check.proofs.Capture.FaultlessLists.{IsSent}
-use Rattle.rasta_check.proofs.Capture.ListForms.{to_record}
+use Rattle.rasta_check.proofs.Capture.Crossings.{few_of, list_of}
 use Rattle.rasta_check.proofs.Script.FollowedScripts.{follow_fits}
 use Rattle.rasta_check.proofs.Script.Fits.{fits_is, is_fits}
 use Rattle.rasta_check.proofs.Run.Simulation.{simulated}
@@ -57,46 +57,35 @@ ends p packets c s scripts report h = by (follow p Client packets c s scripts.cl
     by (Err fault) e y f g = absurd (cc)
 
 twice : (side : Side) → other_side (other_side side) ≡ side
-twice Client = refl
-twice Server = refl
+twice side = grind arith
 
 -- these are the sent lists of these packets
 module _ (p : Parameters) (packets : List Packet) (c s : List FirstCopy) (h : IsCrossing (record { params = p; packets = packets; client = c; server = s })) where
-  -- the sent list of a side
-  abbrev sent : Side → List FirstCopy
-  sent Client = c
-  sent Server = s
-
-  is_sent : (side : Side) → IsSent p packets side (sent side)
-  is_sent Client = to_record p packets Client c h.valid.valid h.sent.client_sent
-  is_sent Server = to_record p packets Server s h.valid.valid h.sent.server_sent
-
-  few : (side : Side) → length (sent side) ≤ 1000000
-  few Client = h.sent.few_client
-  few Server = h.sent.few_server
+  abbrev k : Crossing
+  k = record { params = p; packets = packets; client = c; server = s }
 
   -- ---- a run that sends the packets
 
   module _ (ws : List World) (w : World) (r : Reaches p ws w) (same : w.crossed ≡ packets) (side : Side) where
     abbrev own : List FirstCopy
-    own = sent side
+    own = sent_by k side
 
     abbrev peer : List FirstCopy
-    peer = sent (other_side side)
+    peer = sent_by k (other_side side)
 
-    run_sent : (side : Side) → IsSent p w.crossed side (sent side)
-    run_sent side = subst (λ (xs : List Packet). IsSent p xs side (sent side)) (sym same) (is_sent side)
+    run_sent : (side : Side) → IsSent p w.crossed side (sent_by k side)
+    run_sent side = subst (λ (xs : List Packet). IsSent p xs side (sent_by k side)) (sym same) (list_of k h side)
 
     kn : Known p w side own peer
-    kn = known p ws w side own peer r (run_sent side) (run_sent (other_side side)) (few side) (few (other_side side))
+    kn = known p ws w side own peer r (run_sent side) (run_sent (other_side side)) (few_of k h side) (few_of k h (other_side side))
 
     -- what a PDU of the peer shows by the end that this side reached, and by the lists
     shown : (i : ℕ) (d : FirstCopy) → slice_get peer i ≡ Some d → shown_by (end_of w side) d.pdu.safety ≡ units_shown (all_made p side own) (pdus_of peer) d.pdu.safety
     shown i d g =
         let e = end_of w side in
-        let first = first_small p.quiet side e.made own kn.sends.same (λ j x y. ((is_sent side).firsts j x y).3.fits.sn) in
+        let first = first_small p.quiet side e.made own kn.sends.same (λ j x y. ((list_of k h side).firsts j x y).3.fits.sn) in
         ap (λ n. if is_kind ConnectionRequest d.pdu.safety.kind then 0 else n)
-        (units_named e.made (values e) d.pdu.safety.cs kn.all.mine.held.list.numbered kn.few (length-values e.asks e.made) first ((is_sent (other_side side)).firsts i d g).3.fits.cs
+        (units_named e.made (values e) d.pdu.safety.cs kn.all.mine.held.list.numbered kn.few (length-values e.asks e.made) first ((list_of k h (other_side side)).firsts i d g).3.fits.cs
         ∙ (λ j. units_at (sym kn.along j) (position_with (kn.sends.same j) d.pdu.safety.cs)))
 
     list_is : listed_by (end_of w side) own peer ≡ listed p side own peer
@@ -113,9 +102,9 @@ module _ (p : Parameters) (packets : List Packet) (c s : List FirstCopy) (h : Is
         let us = surely_taken p side own peer in
         let e = end_of w side in
         let f = end_of w (other_side side) in
-        let up = hands_up p ws w side own peer r (run_sent side) (run_sent (other_side side)) (few side) (few (other_side side)) in
+        let up = hands_up p ws w side own peer r (run_sent side) (run_sent (other_side side)) (few_of k h side) (few_of k h (other_side side)) in
         let offered = offered_first f e up in
-        let first = first p ws w side own peer r (run_sent side) (run_sent (other_side side)) (few side) (few (other_side side)) in
+        let first = first p ws w side own peer r (run_sent side) (run_sent (other_side side)) (few_of k h side) (few_of k h (other_side side)) in
         record {
           labels = subst (λ (x : Side). HandsUp f (end_of w x)) (sym (twice side)) up.labels;
           units = (offered.0, subst (λ (x : Side). units_offered (end_of w x) ≡ units_handed f ++ offered.0) (sym (twice side)) offered.1);
@@ -127,14 +116,15 @@ module _ (p : Parameters) (packets : List Packet) (c s : List FirstCopy) (h : Is
               (let l = of_listed 0 (messages_taken us) i m (subst (λ (xs : List ListedMessage). slice_get xs i ≡ Some m) is g) in
               let o = of_message us i l.0 l.1 in
               subst (λ k. (v next : World) × Appends ws w k v next) (sym (l.3 ∙ o.place))
-              (proof_appended p ws w side own peer r (run_sent side) (run_sent (other_side side)) (few side) (few (other_side side)) o.i o.u o.there));
+              (proof_appended p ws w side own peer r (run_sent side) (run_sent (other_side side)) (few_of k h side) (few_of k h (other_side side)) o.i o.u o.there));
           in_time = λ i m v next g a.
               (let l = of_listed 0 (messages_taken us) i m (subst (λ (xs : List ListedMessage). slice_get xs i ≡ Some m) is g) in
               let o = of_message us i l.0 l.1 in
               let at : Appends ws w o.u.proof_place v next = subst (λ k. Appends ws w k v next) (l.3 ∙ o.place) a in
               ap (λ (xs : List (List ℕ)). slice_get xs i) (up_joined (end_of v (other_side side)).handed_pdus)
               ∙ (o.up (units_handed (end_of v (other_side side))) (λ j t low gt.
-              in_time_through p ws w side own peer r (run_sent side) (run_sent (other_side side)) (few side) (few (other_side side)) o.i j o.u t v next low o.there gt at) ∙ ap Some (sym l.2)));
+              in_time_through p ws w side own peer r (run_sent side) (run_sent (other_side side)) (few_of k h side) (few_of k h (other_side side))
+              o.i j o.u t v next low o.there gt at) ∙ ap Some (sym l.2)));
         }
 
   -- ---- the lists of the report
@@ -143,7 +133,8 @@ module _ (p : Parameters) (packets : List Packet) (c s : List FirstCopy) (h : Is
   pub lists_are : (cs ss : List Entry) (a b : EndState) → follow p Client (length packets) c s cs ≡ Ok a → follow p Server (length packets) s c ss ≡ Ok b
       → (listed_by b s c ≡ listed p Server s c) × (listed_by a c s ≡ listed p Client c s)
   lists_are cs ss a b e f =
-      let r = simulated p packets c s cs ss a b h.recorded (is_sent Client) (is_sent Server) (follow_fits p (length packets) c s Client cs a e) (follow_fits p (length packets) s c Server ss b f) in (
+      let r = simulated p packets c s cs ss a b h.recorded (list_of k h Client) (list_of k h Server)
+      (follow_fits p (length packets) c s Client cs a e) (follow_fits p (length packets) s c Server ss b f) in (
         ap (λ (x : EndState). listed_by x s c) (sym r.5) ∙ list_is r.0 r.1 r.2 r.3 Server,
         ap (λ (x : EndState). listed_by x c s) (sym r.4) ∙ list_is r.0 r.1 r.2 r.3 Client,
       )
@@ -184,7 +175,7 @@ module _ (p : Parameters) (packets : List Packet) (c s : List FirstCopy) (h : Is
       fits_s = follow_fits p (length packets) s c Server scripts.server ended.b ended.server
 
       some_run : (ws : List World) × (w : World) × Reaches p ws w × (w.crossed ≡ packets)
-      some_run = (let r = simulated p packets c s scripts.client scripts.server ended.a ended.b h.recorded (is_sent Client) (is_sent Server) fits_c fits_s in (r.0, r.1, r.2, r.3))
+      some_run = (let r = simulated p packets c s scripts.client scripts.server ended.a ended.b h.recorded (list_of k h Client) (list_of k h Server) fits_c fits_s in (r.0, r.1, r.2, r.3))
 
       to_server : report.server_taken ≡ listed p Client c s
       to_server = ap (λ (x : Explained). x.server_taken) ended.says
@@ -197,7 +188,7 @@ module _ (p : Parameters) (packets : List Packet) (c s : List FirstCopy) (h : Is
 
       pub is_sharp : IsSharp p packets report
       is_sharp =
-          let r = sharp p packets c s scripts.client scripts.server ended.a ended.b h.recorded (is_sent Client) (is_sent Server) h.sent.few_client h.sent.few_server fits_c fits_s in (
+          let r = sharp p packets c s scripts.client scripts.server ended.a ended.b h.recorded (list_of k h Client) (list_of k h Server) h.sent.few_client h.sent.few_server fits_c fits_s in (
             r.0,
             r.1,
             r.2,

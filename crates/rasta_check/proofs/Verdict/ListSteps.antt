@@ -1,13 +1,12 @@
 -- Working out a list: what is left to be done is done at one member more.
-use Rattle.std.proofs.Common.{◌≡◌, ℕ, suc, ◌+◌, ◌≤◌, Bool, true, false, List, [], ◌∷◌, ◌++◌, length, drop, map, Some, None, refl, ap, sym, ◌∙◌, arith, append_assoc, slice_get, add-one}
-use Rattle.std.specs.Prelude.{if◌then◌else◌}
+use Rattle.std.proofs.Common.{◌≡◌, ℕ, suc, ◌+◌, ◌≤◌, true, false, List, [], ◌∷◌, ◌++◌, length, drop, map, Some, None, refl, ap, sym, ◌∙◌, arith, append_assoc, slice_get, add-one}
 use Rattle.std.proofs.lemmas.List.{append-nil, drop_all, length-append, length-map}
 use Rattle.rasta_end.specs.State.{EndState}
 use Rattle.rasta_check.specs.Capture.Crossing.{FirstCopy}
 use Rattle.rasta_check.specs.declared.report.Taken.{Taken}
 use Rattle.rasta_check.specs.Model.Taken.{TakenUnit}
 use Rattle.rasta_check.specs.Verdict.Listed.{TakenMessage, messages_taken, ListedMessage, listed_of, numbered_from}
-use Rattle.rasta_check.specs.Internals.Listing.{shown_by, with_proofs, proofs_from, proved_unit, with_unit, proved_units}
+use Rattle.rasta_check.specs.Internals.Listing.{shown_by, with_proofs, proofs_from, proved_unit, proved_units}
 use Rattle.rasta_check.proofs.Lists.{drop_one_more}
 use Rattle.rasta_pdu.specs.Pdu.{is_kind}
 use Rattle.rasta_pdu.specs.declared.kind.Kind.TheVariants.{Data}
@@ -34,11 +33,7 @@ proofs_end e xs i places l = ap (proofs_from e places) (drop_all i xs l)
 unproved : (places : List ℕ) (unit : ℕ) (copies : List FirstCopy) → slice_get places unit ≡ None → proved_units places unit copies ≡ []
 unfolding proved_units
 unproved places unit [] g = refl
-unproved places unit (c ∷ copies) g = by (is_kind Data c.pdu.safety.kind) (unproved places unit copies g)
-  where
-    by : (b : Bool) → proved_units places unit copies ≡ [] → (if b then with_unit c (slice_get places unit) (proved_units places (suc unit) copies) else proved_units places unit copies) ≡ []
-    by true e = ap (λ o. with_unit c o (proved_units places (suc unit) copies)) g
-    by false e = e
+unproved places unit (c ∷ copies) g = (let more = unproved places unit copies g in grind arith)
 
 pub other_copy : (places : List ℕ) (unit : ℕ) (c : FirstCopy) (copies : List FirstCopy) → is_kind Data c.pdu.safety.kind ≡ false → proved_units places unit (c ∷ copies) ≡ proved_units places unit copies
 unfolding proved_units
@@ -50,10 +45,7 @@ unproved_copy places unit c copies g = unproved places unit (c ∷ copies) g ∙
 pub proved_copy : (places : List ℕ) (unit place : ℕ) (c : FirstCopy) (copies : List FirstCopy) → is_kind Data c.pdu.safety.kind ≡ true → slice_get places unit ≡ Some place
     → proved_units places unit (c ∷ copies) ≡ proved_unit c place ∷ proved_units places (unit + 1) copies
 unfolding proved_units
-proved_copy places unit place c copies k g =
-    ap (λ b. if b then with_unit c (slice_get places unit) (proved_units places (suc unit) copies) else proved_units places unit copies) k
-    ∙ (ap (λ o. with_unit c o (proved_units places (suc unit) copies)) g
-    ∙ (let n : suc unit ≡ unit + 1 = omega arith in ap (λ k. proved_unit c place ∷ proved_units places k copies) n))
+proved_copy places unit place c copies k g = (let n : suc unit ≡ unit + 1 = omega arith in grind arith)
 
 -- ---- numbered messages
 
@@ -70,13 +62,7 @@ length-numbered n (x ∷ xs) = ap suc (length-numbered (suc n) xs)
 -- so many are listed, and these messages are added
 module _ (old new : List Taken) (added more : List TakenMessage) where
   counted : map listed_of new ≡ map listed_of old ++ numbered_from (length old) added → length new ≡ length old + length added
-  counted e =
-      let a = ap length e in
-      let b = length-map new listed_of in
-      let c = length-map old listed_of in
-      let d = length-numbered (length old) added in
-      let f = length-append (map listed_of old) (numbered_from (length old) added) in
-      omega (arith, a, b, c, d, f)
+  counted e = (let a = ap length e in grind (arith, length-map, length-append, length-numbered))
 
   pub added_more : map listed_of new ≡ map listed_of old ++ numbered_from (length old) added
       → map listed_of new ++ numbered_from (length new) more ≡ map listed_of old ++ numbered_from (length old) (added ++ more)

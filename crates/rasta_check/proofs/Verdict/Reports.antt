@@ -1,14 +1,14 @@
 -- What is worked out from the two ends of scripts that fit is what is surely taken.
 use Rattle.std.proofs.Common.{◌≡◌, ℕ, zero, suc, ◌+◌, ◌-◌, ◌%◌, ◌^◌, ◌<◌, ◌≤◌, Bool, true, false, List, [], ◌∷◌, ◌++◌, length, map, replicate, take, Option, Some, None, slice_get, refl, ap, sym, ◌∙◌, arith}
-use Rattle.std.specs.Prelude.{fold, max, nat_lt, slice_index_or, if◌then◌else◌, ◌==◌}
-use Rattle.std.specs.Option.{option_map}
+use Rattle.std.specs.Prelude.{fold, max, nat_lt, slice_index_or}
 use Rattle.std.proofs.lemmas.Bool.Decides.{nat_tests}
+use Rattle.std.proofs.Math.Seq.{take-nil}
 use Rattle.std.proofs.lemmas.List.{get_or-replicate, length-append, length-replicate}
 use Rattle.std.proofs.lemmas.Option.{slice_get-get_or, slice_get_past, slice_get_within, same_Some}
 use Rattle.rasta_pcap.specs.declared.fault.Side.{Side}
 use Rattle.rasta_pcap.specs.declared.fault.Side.TheVariants.{Client, Server}
 use Rattle.rasta_pdu.specs.declared.quiet_point.Quiet.{Quiet}
-use Rattle.rasta_pdu.specs.Pdu.{SafetyPdu, is_kind}
+use Rattle.rasta_pdu.specs.Pdu.{SafetyPdu}
 use Rattle.rasta_end.specs.State.{Made, EndState, ahead_by, first_sn}
 use Rattle.rasta_end.specs.Units.{units_at}
 use Rattle.rasta_end.specs.Starts.{start_by}
@@ -20,24 +20,14 @@ use Rattle.rasta_check.proofs.Model.SequenceNumbers.{Numbered}
 use Rattle.rasta_check.proofs.Model.NamedPositions.{SnIs, sn_mod}
 use Rattle.rasta_check.proofs.Model.ConveyedUnits.{get_or_none}
 use Rattle.rasta_check.proofs.Model.Requests.{found_position}
-use Rattle.rasta_pdu.specs.declared.kind.Kind.TheVariants.{Data}
 
 -- ---- the position that a CS names
 
 -- where no member has this SN, none is at a position
 none_has : (ms : List Made) (sn i : ℕ) (m : Made) → position_with (pdus_made ms) sn ≡ None → slice_get ms i ≡ Some m → m.pdu.sn ≡ sn → ⊥
 none_has [] sn i m n g e = absurd (cc)
-none_has (x ∷ ms) sn i m n g e = by (x.pdu.sn == sn) refl n (λ n i g. none_has ms sn i m n g e) i g
-  where
-    option_none : (o : Option ℕ) → option_map suc o ≡ None → o ≡ None
-    option_none None h = refl
-    option_none (Some k) h = absurd (cc)
-
-    by : (b : Bool) → (x.pdu.sn == sn) ≡ b → (if b then Some 0 else option_map suc (position_with (pdus_made ms) sn)) ≡ None
-        → (position_with (pdus_made ms) sn ≡ None → (i : ℕ) → slice_get ms i ≡ Some m → ⊥) → (i : ℕ) → slice_get (x ∷ ms) i ≡ Some m → ⊥
-    by true h n rest i g = cc
-    by false h n rest zero g = (let f : x ≡ m = cc in let same : x.pdu.sn ≡ sn = ap (λ (k : Made). k.pdu.sn) f ∙ e in absurd (grind (arith, nat_tests)))
-    by false h n rest (suc i) g = rest (option_none (position_with (pdus_made ms) sn) n) i g
+none_has (x ∷ ms) sn zero m n g e = (let f : x ≡ m = cc in absurd (grind (arith, nat_tests)))
+none_has (x ∷ ms) sn (suc i) m n g e = none_has ms sn i m (grind (arith, nat_tests)) g e
 
 -- a named position lies as far after the first SN as the SN does
 distance : (ms : List Made) (sn i : ℕ) → Numbered ms → length ms ≤ 1000001 → SnIs ms i sn → ahead_by sn (first_sn ms) ≡ i
@@ -95,10 +85,7 @@ get_after places m p k low high =
     ap (slice_get (places ++ replicate m p)) at ∙ (get_past places (replicate m p) n ∙ get_replicated m p n (omega (arith, low, high)))
 
 length-with_proofs : (places : List ℕ) (n p : ℕ) → length (with_proofs places n p) ≡ max (length places) n
-length-with_proofs places n p =
-    let a = length-append places (replicate (n - length places) p) in
-    let b = length-replicate (n - length places) p in
-    omega (arith, a, b)
+length-with_proofs places n p = grind (arith, length-append, length-replicate)
 
 -- an end by which each PDU shows as much as by these lists
 module _ (e : EndState) (own peer : List SafetyPdu) where
@@ -124,17 +111,12 @@ module _ (e : EndState) (own peer : List SafetyPdu) where
   unfolding proofs_from
   place_new places [] h k low high = absurd (omega arith)
   place_new places (c ∷ copies) h k low high =
-      by (nat_lt k (units_shown own peer c.pdu.safety)) refl (λ l. place_new (with_proofs places (shown_by e c.pdu.safety) c.place) copies (λ i d g. h (suc i) d g) k l high)
-    where
-      by : (b : Bool) → nat_lt k (units_shown own peer c.pdu.safety) ≡ b
-          → (length (with_proofs places (shown_by e c.pdu.safety) c.place) ≤ k → slice_get (proofs_from e (with_proofs places (shown_by e c.pdu.safety) c.place) copies) k ≡ Some (proof_place own peer k copies))
-          → slice_get (proofs_from e (with_proofs places (shown_by e c.pdu.safety) c.place) copies) k ≡ Some (if b then c.place else proof_place own peer k copies)
-      by true f rest =
-          let l : k < units_shown own peer c.pdu.safety = grind (arith, nat_tests) in
-          place_stays (with_proofs places (shown_by e c.pdu.safety) c.place) copies k c.place (get_after places (shown_by e c.pdu.safety - length places) c.place k low (omega (arith, l, h 0 c refl)))
-      by false f rest =
-          let l : units_shown own peer c.pdu.safety ≤ k = grind (arith, nat_tests) in
-          rest (let z = length-with_proofs places (shown_by e c.pdu.safety) c.place in omega (arith, l, z, h 0 c refl))
+      let more = with_proofs places (shown_by e c.pdu.safety) c.place in
+      let here : k < units_shown own peer c.pdu.safety → slice_get (proofs_from e more copies) k ≡ Some c.place = λ l.
+      place_stays more copies k c.place (get_after places (shown_by e c.pdu.safety - length places) c.place k low (omega (arith, l, h 0 c refl))) in
+      let later : units_shown own peer c.pdu.safety ≤ k → slice_get (proofs_from e more copies) k ≡ Some (proof_place own peer k copies) = λ l.
+      place_new more copies (λ i d g. h (suc i) d g) k (let z = length-with_proofs places (shown_by e c.pdu.safety) c.place in omega (arith, l, z, h 0 c refl)) high in
+      grind (arith, nat_tests)
 
 -- ---- the places of the units that are taken
 
@@ -154,12 +136,8 @@ are_proofs e own peer h = record {
 module _ (own : List SafetyPdu) (peer : List FirstCopy) (places : List ℕ) (h : AreProofs own peer places) where
   pub units_are : (unit : ℕ) (copies : List FirstCopy) → proved_units places unit copies ≡ units_from own peer unit (take (length places - unit) (data_copies copies))
   unfolding proved_units
-  units_are unit [] = nothing (length places - unit)
-    where
-      nothing : (n : ℕ) → [] ≡ units_from own peer unit (take n [])
-      nothing zero = refl
-      nothing (suc n) = refl
-  units_are unit (c ∷ copies) = by (is_kind Data c.pdu.safety.kind) (units_are (suc unit) copies) (units_are unit copies)
+  units_are unit [] = ap (units_from own peer unit) (sym (take-nil (length places - unit)))
+  units_are unit (c ∷ copies) = (let r = listed (units_are (suc unit) copies) (nat_lt unit (length places)) refl in let s = units_are unit copies in grind arith)
     where
       listed : proved_units places (suc unit) copies ≡ units_from own peer (suc unit) (take (length places - suc unit) (data_copies copies)) → (b : Bool) → nat_lt unit (length places) ≡ b
           → with_unit c (slice_get places unit) (proved_units places (suc unit) copies) ≡ units_from own peer unit (take (length places - unit) (c ∷ data_copies copies))
@@ -174,10 +152,3 @@ module _ (own : List SafetyPdu) (peer : List FirstCopy) (places : List ℕ) (h :
           let n : 0 ≡ length places - unit = omega (arith, l) in
           ap (λ o. with_unit c o (proved_units places (suc unit) copies)) (slice_get_past places unit l)
           ∙ ap (λ k. units_from own peer unit (take k (c ∷ data_copies copies))) n
-
-      by : (b : Bool) → proved_units places (suc unit) copies ≡ units_from own peer (suc unit) (take (length places - suc unit) (data_copies copies))
-          → proved_units places unit copies ≡ units_from own peer unit (take (length places - unit) (data_copies copies))
-          → (if b then with_unit c (slice_get places unit) (proved_units places (suc unit) copies) else proved_units places unit copies)
-          ≡ units_from own peer unit (take (length places - unit) (if b then c ∷ data_copies copies else data_copies copies))
-      by true r s = listed r (nat_lt unit (length places)) refl
-      by false r s = s

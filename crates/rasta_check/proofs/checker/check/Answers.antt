@@ -1,7 +1,8 @@
-use Rattle.std.proofs.Common.{inl, inr, ⊎_elim}
+use Rattle.std.proofs.Common.{inl, inr, subst, ⊎_elim}
+use Rattle.rasta_check.specs.Capture.Reading.{IsCrossing}
 use Rattle.rasta_check.specs.Verdict.Report.{explained, refused}
 use Rattle.rasta_check.proofs.Verdict.CallAnswers.{both, if_ok, if_err, still_ok, err_is, err_match}
-use Rattle.rasta_check.proofs.Verdict.FileVerdicts.{seen, verdict_is, explains, exactly, not_explained, headline_is}
+use Rattle.rasta_check.proofs.Verdict.FileVerdicts.{verdict_is, explains, exactly, not_explained, headline_is}
 use Rattle.rasta_check.proofs.checker.check.Goals as goal
 
 pub returns-in_err-sent-clause-refused : goal.returns-in_err-sent-clause-refused
@@ -25,27 +26,27 @@ returns-clause-verdict c =
 pub returns-clause-explains : goal.returns-clause-explains
 returns-clause-explains c =
     let k = c.in_ok-sent.sent in
-    let h = seen _ k c.sent-2.view_is c.sent-2.invariant in
+    let h = subst IsCrossing c.sent-2.view_is c.sent-2.invariant in
     still_ok c.check_sent.result _ _ c.check_sent.ensures.fits
     (λ fits. explains c.args.p.now c.args.file.now k c.in_ok-sent.ensures.value h c.args.certificate.now fits)
 
 pub returns-clause-exact : goal.returns-clause-exact
 returns-clause-exact c =
     let k = c.in_ok-sent.sent in
-    let h = seen _ k c.sent-2.view_is c.sent-2.invariant in
+    let h = subst IsCrossing c.sent-2.view_is c.sent-2.invariant in
     if_ok c.check_sent.result _ _ c.check_sent.ensures.exact
     (λ r x. exactly c.args.p.now c.args.file.now k c.in_ok-sent.ensures.value h c.args.certificate.now (explained r) x.0 x.1)
 
 pub returns-clause-refused : goal.returns-clause-refused
 returns-clause-refused c =
     let k = c.in_ok-sent.sent in
-    let h = seen _ k c.sent-2.view_is c.sent-2.invariant in
+    let h = subst IsCrossing c.sent-2.view_is c.sent-2.invariant in
     if_err c.check_sent.result _ _ c.check_sent.ensures.refused
     (λ f why. ⊎_elim (λ none. inl (not_explained c.args.p.now c.args.file.now k c.in_ok-sent.ensures.value h c.args.certificate.now none)) (λ e. inr e) why)
 
 pub returns-clause-headline : goal.returns-clause-headline
 returns-clause-headline c =
     let k = c.in_ok-sent.sent in
-    let h = seen _ k c.sent-2.view_is c.sent-2.invariant in
+    let h = subst IsCrossing c.sent-2.view_is c.sent-2.invariant in
     if_ok c.check_sent.result _ _ c.check_sent.ensures.headline
     (λ r g records is. headline_is c.args.p.now c.args.file.now k c.in_ok-sent.ensures.value h (explained r) records is g)

@@ -1,4 +1,4 @@
-use Rattle.std.proofs.Common.{◌≡◌, ℕ, ◌<◌, List, length, Option, Some, slice_get, ap, sym, ◌∙◌, arith}
+use Rattle.std.proofs.Common.{◌≡◌, ℕ, List, Option, Some, slice_get, ap, sym, ◌∙◌, arith}
 use Rattle.std.specs.Option.{option_map}
 use Rattle.rasta_pdu.specs.declared.pdu.Pdu.{Pdu}
 use Rattle.rasta_check.specs.Capture.Crossing.{FirstCopy}
@@ -10,15 +10,12 @@ starts_at : (sent : List FirstCopy) (o : Option (ℕ × Pdu)) (x : ℕ × Pdu) (
     → option_map (λ (c : FirstCopy). c.pdu.number) (slice_get sent 0) ≡ Some first
 starts_at sent o x first e f g = ap (option_map (λ (c : FirstCopy). c.pdu.number)) (sym e ∙ ap (option_map copy_of) f) ∙ ap Some (sym g)
 
-few_in : (sent : List FirstCopy) (n : ℕ) → n ≡ length sent → n < 4294967296 → length sent < 4294967296
-few_in sent n e l = omega arith
-
 pub returns-then-position-len-clause-value : goal.returns-then-position-len-clause-value
 returns-then-position-len-clause-value c =
-    sym (near c.args.self.now c.get.ensures.ordered (few_in _ _ c.len.ensures.value c.len.type_inv) c.number.result (starts_at _ _ _ _ c.get.ensures.value c.in_ok-first.was c.number.ensures)
+    sym (near c.args.self.now c.get.ensures.ordered (omega (arith, c.len.ensures.value, c.len.type_inv)) c.number.result (starts_at _ _ _ _ c.get.ensures.value c.in_ok-first.was c.number.ensures)
     c.args.number c.ranges.number.fits (let z = c.if-position-len.true in let y = c.len.ensures.value in omega arith))
 
 pub returns-else-position-len-clause-value : goal.returns-else-position-len-clause-value
 returns-else-position-len-clause-value c =
-    sym (far c.args.self.now c.get.ensures.ordered (few_in _ _ c.len.ensures.value c.len.type_inv) c.number.result (starts_at _ _ _ _ c.get.ensures.value c.in_ok-first.was c.number.ensures)
+    sym (far c.args.self.now c.get.ensures.ordered (omega (arith, c.len.ensures.value, c.len.type_inv)) c.number.result (starts_at _ _ _ _ c.get.ensures.value c.in_ok-first.was c.number.ensures)
     c.args.number c.ranges.number.fits (let z = c.if-position-len.false in let y = c.len.ensures.value in omega arith))
