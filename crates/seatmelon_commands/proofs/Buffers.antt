@@ -1,5 +1,5 @@
 -- A capture that is read through a buffer.
-use Rattle.std.proofs.Common.{◌≡◌, ℕ, List, [], Option, None, Some}
+use Rattle.std.proofs.Common.{ℕ, List, [], Option, None, Some}
 use Rattle.std.specs.Io.KnownBytes.{prepend_known}
 use Rattle.rasta_pdu.specs.Params.{Parameters}
 use Rattle.seatmelon_explain.specs.Outcomes.{IsFileExplained}

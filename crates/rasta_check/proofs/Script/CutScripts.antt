@@ -1,11 +1,10 @@
 -- Scripts cut after their last make: a run in which no more is handed up than the two lists show.
 use Rattle.std.proofs.Common.{◌≡◌, ◌⊎◌, ℕ, zero, suc, ◌<◌, ◌≤◌, false, List, [], ◌∷◌, length, Some, slice_get, refl, ap, sym, ◌∙◌, arith, inl, inr, ⊎_elim, subst}
-use Rattle.rasta_check.proofs.Prelude.{Side, Client, Server, Packet, Kind, Parameters, SafetyPdu, Entry, Phase, Owed, Why, EndState, Makes, start_of}
+use Rattle.rasta_check.proofs.Prelude.{Side, Client, Server, Packet, Kind, Parameters, SafetyPdu, Entry, Why, EndState, Makes, start_of}
 use Rattle.rasta_check.proofs.Prelude.{FirstCopy, CrossRecorded, World, Reaches, other_side, station_of, end_of, Cursor, Advances, takes_next, makes_next, Leads, at_start, Follows}
 use Rattle.rasta_pdu.specs.declared.kind.Kind.TheVariants.{ConnectionRequest}
 use Rattle.rasta_pdu.specs.Pdu.{is_kind}
 use Rattle.rasta_end.specs.declared.phase.Phase.TheVariants.{Start}
-use Rattle.rasta_end.specs.declared.make_row.MakeRow.{MakeRow}
 use Rattle.rasta_end.specs.Units.{units_at}
 use Rattle.rasta_end.specs.MakeRule.{phase_after, after_make_by}
 use Rattle.rasta_check.specs.Model.Laws.{NamesOne}
