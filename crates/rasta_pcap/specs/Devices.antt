@@ -1,7 +1,9 @@
 -- What a device answered, its count of failures, and what went in and out.
-use Rattle.std.specs.Prelude.{◌≡◌, ℕ, ◌+◌, ◌-◌, ◌^◌, ◌<◌, ◌++◌, min, List, Option, Result, Ok, Err, zero, suc, ◌⊎◌}
+use Rattle.std.specs.Prelude.{◌≡◌, ℕ, ◌+◌, ◌-◌, ◌^◌, ◌<◌, ◌++◌, min, List, Option, Result, Ok, Err, MatchResult, zero, suc, ◌⊎◌}
 use Rattle.std.specs.Io.KnownBytes.{Appends}
 use Rattle.rasta_pcap.specs.declared.counted.Counted.{Counted}
+use Rattle.rasta_pcap.specs.declared.fault.Fault.{Fault}
+use Rattle.rasta_pcap.specs.Fault.{write_failed}
 
 -- the greatest count
 abbrev pub greatest_count : ℕ
@@ -29,6 +31,14 @@ HasFailed old new = (old < new) ⊎ (new ≡ greatest_count)
 -- a beginning of these bytes went out
 abbrev pub AppendsBeginning : Option (List ℕ) → Option (List ℕ) → List ℕ → Type 0
 AppendsBeginning old new bytes = (front : List ℕ) × (rest : List ℕ) × Appends old new front × (bytes ≡ front ++ rest)
+
+-- what went out by an answer: these bytes, or a beginning of them where it is a fault
+abbrev pub Writes : {A : Type 0} → Result A Fault → Option (List ℕ) → Option (List ℕ) → List ℕ → Type 0
+Writes result old new bytes = MatchResult result (λ _. Appends old new bytes) (λ _. AppendsBeginning old new bytes)
+
+-- an answer by the counts of failed writes before and after: that none failed, or the fault of one that did
+abbrev pub AsWritten : {A : Type 0} → Result A Fault → ℕ → ℕ → Type 0
+AsWritten result old new = MatchResult result (λ _. new ≡ old) (λ f. (f ≡ write_failed) × HasFailed old new)
 
 -- the device of a counted one
 abbrev pub device_of : {D : Type 0} → Counted D → D

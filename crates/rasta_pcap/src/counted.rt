@@ -1,9 +1,9 @@
 //! Readers and writers that count their failures.
 ghost use Rattle.std.specs.Prelude.{◌≡◌, ℕ, List, [], Option, Ok, IfOk, IfErr, OnOk, OnErr, ◌⊎◌};
 ghost use Rattle.std.specs.Io.{ReadsAtMost, WritesAtMost};
-ghost use Rattle.std.specs.Io.KnownBytes.{ReadConsumes, WriteAppends, IsAtEnd, Consumes, Appends};
-ghost use Rattle.rasta_pcap.specs.Fault.{no_memory, read_failed, write_failed};
-ghost use Rattle.rasta_pcap.specs.Devices.{after_read, after_write, one_failure_more, AppendsBeginning, HasFailed};
+ghost use Rattle.std.specs.Io.KnownBytes.{ReadConsumes, WriteAppends, IsAtEnd, Consumes};
+ghost use Rattle.rasta_pcap.specs.Fault.{no_memory, read_failed};
+ghost use Rattle.rasta_pcap.specs.Devices.{after_read, after_write, one_failure_more, HasFailed, Writes, AsWritten};
 
 use crate::fault::Fault;
 use std::alloc::Global;
@@ -169,11 +169,8 @@ pub fn read_all<S: Source>(alloc: Global, reader: &mut S) -> Result<Vec<u8>, Fau
 ///
 /// Refused by [`Fault::WRITE_FAILED`], at the first call that fails or takes no byte.
 pub fn write_all<W: Sink>(writer: &mut W, bytes: &[u8]) -> Result<(), Fault>
-    ensures ok { OnOk result (Appends (W.contents writer.old) (W.contents writer.new) bytes.now) }
-    ensures steady { OnOk result (W.failure_count writer.new ≡ W.failure_count writer.old) }
-    ensures err { IfErr result (λ f. (f ≡ write_failed)
-        × HasFailed (W.failure_count writer.old) (W.failure_count writer.new)) }
-    ensures begun { OnErr result (AppendsBeginning (W.contents writer.old) (W.contents writer.new) bytes.now) }
+    ensures out { Writes result (W.contents writer.old) (W.contents writer.new) bytes.now }
+    ensures written { AsWritten result (W.failure_count writer.old) (W.failure_count writer.new) }
 
     // No byte is written by no call.
     ensures none { bytes.now ≡ [] → (result ≡ Ok tt) × (writer.new ≡ writer.old) }

@@ -1,12 +1,12 @@
 -- What was read of a capture and written of its text, while a reading goes on and where it ends.
-use Rattle.std.proofs.Common.{◌≡◌, ◌∙◌, ℕ, suc, zero, ◌+◌, ◌-◌, ◌<◌, ◌++◌, append_assoc, List, [], Option, Result, Ok, Err, OnOk, IfOk, true, false, refl, ap, subst, sym}
+use Rattle.std.proofs.Common.{◌≡◌, ◌∙◌, ℕ, suc, zero, ◌+◌, ◌-◌, ◌<◌, ◌++◌, append_assoc, List, [], Option, Result, Ok, Err, IfOk, true, false, refl, ap, subst, sym}
 use Rattle.std.specs.Io.KnownBytes.{Appends, Consumes}
 use Rattle.std.proofs.KnownBytes.{Appends-nil, Appends-trans, Consumes-nil, Consumes-trans}
 use Rattle.rasta_pcap.specs.declared.fault.Fault.{Fault}
 use Rattle.rasta_pcap.specs.declared.pcap.Endianness.{Endianness}
 use Rattle.rasta_pcap.specs.declared.stream.RecordReader.{RecordReader}
 use Rattle.rasta_pcap.specs.Capture.{Numbered, cursor_at, reading}
-use Rattle.rasta_pcap.specs.Devices.{AppendsBeginning}
+use Rattle.rasta_pcap.specs.Devices.{AppendsBeginning, Writes}
 use Rattle.rasta_pcap.specs.Stream.{MeetsEnd, Opens, ReadsJust, ReadsRecord, ReadsSo, RefusesHeader, RefusesRecord, count_in, order_in}
 use Rattle.rasta_pcap.proofs.Streams.{reading-ReadsRecord, reading-RefusesRecord, reading-at_end, reading_of-Opens, reading_of-RefusesHeader}
 use Rattle.rasta_pdu.specs.Params.{Parameters}
@@ -282,6 +282,6 @@ if_ok_map P Q (Ok x) f h = f x h
 if_ok_map P Q (Err e) f h = tt
 
 -- a refusal went out, with status 1
-pub refused_answer : {E A : Type 0} (P : ℕ → Type 0) (r : Result ℕ E) → (A → P 1) → OnOk r A → IfOk r (λ status. status ≡ 1) → IfOk r P
-refused_answer P (Ok status) f out is = subst P (sym is) (f out)
-refused_answer P (Err e) f out is = tt
+pub refused_answer : (P : ℕ → Type 0) (r : Result ℕ Fault) (old new : Option (List ℕ)) (line : List ℕ) → (Appends old new line → P 1) → Writes r old new line → IfOk r (λ status. status ≡ 1) → IfOk r P
+refused_answer P (Ok status) old new line f out is = subst P (sym is) (f out)
+refused_answer P (Err e) old new line f out is = tt

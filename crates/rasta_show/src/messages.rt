@@ -1,9 +1,7 @@
 //! Writing messages in hexadecimal.
-ghost use Rattle.std.specs.Prelude.{◌≡◌, ◌≤◌, length, IfErr, OnErr, OnOk};
-ghost use Rattle.std.specs.Io.KnownBytes.{Appends};
+ghost use Rattle.std.specs.Prelude.{◌≡◌, ◌≤◌, length};
 ghost use Rattle.hex.specs.Hex.{encode_lower};
-ghost use Rattle.rasta_pcap.specs.Fault.{write_failed};
-ghost use Rattle.rasta_pcap.specs.Devices.{AppendsBeginning, HasFailed};
+ghost use Rattle.rasta_pcap.specs.Devices.{Writes, AsWritten};
 ghost use Rattle.rasta_pdu.specs.Pdu.{messages_left};
 ghost use Rattle.rasta_show.specs.Lines.{further_text, message_text, messages_text};
 
@@ -28,11 +26,8 @@ fn digits<'a>(piece: &[u8], room: &'a mut [u8; 128]) -> &'a [u8]
 // Writes at most 64 bytes.
 fn write_piece<W: Sink>(piece: &[u8], writer: &mut W) -> Result<(), Fault>
     requires { length piece.now ≤ 64 }
-    ensures ok { OnOk result (Appends (W.contents writer.old) (W.contents writer.new) (encode_lower piece.now)) }
-    ensures steady { OnOk result (W.failure_count writer.new ≡ W.failure_count writer.old) }
-    ensures err { IfErr result (λ f. (f ≡ write_failed)
-        × HasFailed (W.failure_count writer.old) (W.failure_count writer.new)) }
-    ensures begun { OnErr result (AppendsBeginning (W.contents writer.old) (W.contents writer.new) (encode_lower piece.now)) }
+    ensures out { Writes result (W.contents writer.old) (W.contents writer.new) (encode_lower piece.now) }
+    ensures written { AsWritten result (W.failure_count writer.old) (W.failure_count writer.new) }
 {
     let mut room = [0u8; 128];
     write_all(writer, digits(piece, &mut room))
@@ -40,11 +35,8 @@ fn write_piece<W: Sink>(piece: &[u8], writer: &mut W) -> Result<(), Fault>
 
 // Writes bytes in lower case digits, a piece at a time.
 fn write_hex<W: Sink>(bytes: &[u8], writer: &mut W) -> Result<(), Fault>
-    ensures ok { OnOk result (Appends (W.contents writer.old) (W.contents writer.new) (encode_lower bytes.now)) }
-    ensures steady { OnOk result (W.failure_count writer.new ≡ W.failure_count writer.old) }
-    ensures err { IfErr result (λ f. (f ≡ write_failed)
-        × HasFailed (W.failure_count writer.old) (W.failure_count writer.new)) }
-    ensures begun { OnErr result (AppendsBeginning (W.contents writer.old) (W.contents writer.new) (encode_lower bytes.now)) }
+    ensures out { Writes result (W.contents writer.old) (W.contents writer.new) (encode_lower bytes.now) }
+    ensures written { AsWritten result (W.failure_count writer.old) (W.failure_count writer.new) }
 {
     let mut rest = bytes;
     while !rest.is_empty() {
@@ -57,11 +49,8 @@ fn write_hex<W: Sink>(bytes: &[u8], writer: &mut W) -> Result<(), Fault>
 
 /// Writes a message; an empty one is a dot.
 pub fn write_message<W: Sink>(message: &[u8], writer: &mut W) -> Result<(), Fault>
-    ensures ok { OnOk result (Appends (W.contents writer.old) (W.contents writer.new) (message_text message.now)) }
-    ensures steady { OnOk result (W.failure_count writer.new ≡ W.failure_count writer.old) }
-    ensures err { IfErr result (λ f. (f ≡ write_failed)
-        × HasFailed (W.failure_count writer.old) (W.failure_count writer.new)) }
-    ensures begun { OnErr result (AppendsBeginning (W.contents writer.old) (W.contents writer.new) (message_text message.now)) }
+    ensures out { Writes result (W.contents writer.old) (W.contents writer.new) (message_text message.now) }
+    ensures written { AsWritten result (W.failure_count writer.old) (W.failure_count writer.new) }
 {
     if message.is_empty() {
         write_all(writer, b".")
@@ -72,11 +61,8 @@ pub fn write_message<W: Sink>(message: &[u8], writer: &mut W) -> Result<(), Faul
 
 // Writes messages, each after a comma.
 fn write_further<W: Sink>(messages: Messages<'_>, writer: &mut W) -> Result<(), Fault>
-    ensures ok { OnOk result (Appends (W.contents writer.old) (W.contents writer.new) (further_text (messages_left messages.entry))) }
-    ensures steady { OnOk result (W.failure_count writer.new ≡ W.failure_count writer.old) }
-    ensures err { IfErr result (λ f. (f ≡ write_failed)
-        × HasFailed (W.failure_count writer.old) (W.failure_count writer.new)) }
-    ensures begun { OnErr result (AppendsBeginning (W.contents writer.old) (W.contents writer.new) (further_text (messages_left messages.entry))) }
+    ensures out { Writes result (W.contents writer.old) (W.contents writer.new) (further_text (messages_left messages.entry)) }
+    ensures written { AsWritten result (W.failure_count writer.old) (W.failure_count writer.new) }
 {
     for message in messages {
         write_all(writer, b",")?;
@@ -87,11 +73,8 @@ fn write_further<W: Sink>(messages: Messages<'_>, writer: &mut W) -> Result<(), 
 
 /// Writes messages with one comma between them.
 pub fn write_messages<W: Sink>(mut messages: Messages<'_>, writer: &mut W) -> Result<(), Fault>
-    ensures ok { OnOk result (Appends (W.contents writer.old) (W.contents writer.new) (messages_text (messages_left messages.entry))) }
-    ensures steady { OnOk result (W.failure_count writer.new ≡ W.failure_count writer.old) }
-    ensures err { IfErr result (λ f. (f ≡ write_failed)
-        × HasFailed (W.failure_count writer.old) (W.failure_count writer.new)) }
-    ensures begun { OnErr result (AppendsBeginning (W.contents writer.old) (W.contents writer.new) (messages_text (messages_left messages.entry))) }
+    ensures out { Writes result (W.contents writer.old) (W.contents writer.new) (messages_text (messages_left messages.entry)) }
+    ensures written { AsWritten result (W.failure_count writer.old) (W.failure_count writer.new) }
 {
     match messages.next() {
         Some(first) => {

@@ -1,8 +1,6 @@
 //! The line of a packet.
-ghost use Rattle.std.specs.Prelude.{◌≡◌, ◌+◌, ◌*◌, ◌≤◌, ◌++◌, [], ◌∷◌, length, IfErr, OnErr, OnOk};
-ghost use Rattle.std.specs.Io.KnownBytes.{Appends};
-ghost use Rattle.rasta_pcap.specs.Fault.{write_failed};
-ghost use Rattle.rasta_pcap.specs.Devices.{AppendsBeginning, HasFailed};
+ghost use Rattle.std.specs.Prelude.{◌≡◌, ◌+◌, ◌*◌, ◌≤◌, ◌++◌, [], ◌∷◌, length};
+ghost use Rattle.rasta_pcap.specs.Devices.{Writes, AsWritten};
 ghost use Rattle.rasta_pdu.specs.Pdu.{Bye, Empty, Opening, read_code, value_of};
 ghost use Rattle.rasta_show.specs.Codes.{HasShortCodes};
 ghost use Rattle.rasta_show.specs.Lines.{body_words, code_text, codes_line, front_words, words_before, packet_line};
@@ -98,13 +96,9 @@ impl ShownPacket<'_> {
     // Writes the line of this end, which the body begins.
     fn write<W: Sink>(&self, place: u32, end: &mut Line, writer: &mut W) -> Result<(), Fault>
         requires { length end.old ≤ 82 }
-        ensures ok { OnOk result (Appends (W.contents writer.old) (W.contents writer.new)
-            (words_before (front_words place (packet_of self.now)) end.old)) }
-        ensures steady { OnOk result (W.failure_count writer.new ≡ W.failure_count writer.old) }
-        ensures err { IfErr result (λ f. (f ≡ write_failed)
-            × HasFailed (W.failure_count writer.old) (W.failure_count writer.new)) }
-        ensures begun { OnErr result (AppendsBeginning (W.contents writer.old) (W.contents writer.new)
-            (words_before (front_words place (packet_of self.now)) end.old)) }
+        ensures out { Writes result (W.contents writer.old) (W.contents writer.new)
+            (words_before (front_words place (packet_of self.now)) end.old) }
+        ensures written { AsWritten result (W.failure_count writer.old) (W.failure_count writer.new) }
     {
         self.put_front(place, end);
         write_all(writer, end.as_bytes())
@@ -129,13 +123,8 @@ impl ShownPacket<'_> {
 
     // Writes the line of a packet with messages.
     fn write_data<W: Sink>(&self, place: u32, line: &mut Line, writer: &mut W) -> Result<(), Fault>
-        ensures ok { OnOk result (Appends (W.contents writer.old) (W.contents writer.new)
-            (data_line place (packet_of self.now))) }
-        ensures steady { OnOk result (W.failure_count writer.new ≡ W.failure_count writer.old) }
-        ensures err { IfErr result (λ f. (f ≡ write_failed)
-            × HasFailed (W.failure_count writer.old) (W.failure_count writer.new)) }
-        ensures begun { OnErr result (AppendsBeginning (W.contents writer.old) (W.contents writer.new)
-            (data_line place (packet_of self.now))) }
+        ensures out { Writes result (W.contents writer.old) (W.contents writer.new) (data_line place (packet_of self.now)) }
+        ensures written { AsWritten result (W.failure_count writer.old) (W.failure_count writer.new) }
     {
         self.put_data_front(place, line);
         write_all(writer, line.as_bytes())?;
@@ -153,13 +142,8 @@ pub fn write_packet<W: Sink>(
     room: &mut Line,
     writer: &mut W,
 ) -> Result<(), Fault>
-    ensures ok { OnOk result (Appends (W.contents writer.old) (W.contents writer.new)
-        (packet_line place (packet_of packet.now))) }
-    ensures steady { OnOk result (W.failure_count writer.new ≡ W.failure_count writer.old) }
-    ensures err { IfErr result (λ f. (f ≡ write_failed)
-        × HasFailed (W.failure_count writer.old) (W.failure_count writer.new)) }
-    ensures begun { OnErr result (AppendsBeginning (W.contents writer.old) (W.contents writer.new)
-        (packet_line place (packet_of packet.now))) }
+    ensures out { Writes result (W.contents writer.old) (W.contents writer.new) (packet_line place (packet_of packet.now)) }
+    ensures written { AsWritten result (W.failure_count writer.old) (W.failure_count writer.new) }
 {
     match packet.pdu.body() {
         Body::Opening {

@@ -1,8 +1,7 @@
 //! The text of `show`.
-ghost use Rattle.std.specs.Prelude.{◌≡◌, IfOk, IfErr, OnOk, OnErr, nat_le, nat_lt};
-ghost use Rattle.std.specs.Io.KnownBytes.{Appends};
-ghost use Rattle.rasta_pcap.specs.Fault.{not_pcap, write_failed};
-ghost use Rattle.rasta_pcap.specs.Devices.{AppendsBeginning, HasFailed};
+ghost use Rattle.std.specs.Prelude.{◌≡◌, IfOk, IfErr, OnErr, nat_le, nat_lt};
+ghost use Rattle.rasta_pcap.specs.Fault.{not_pcap};
+ghost use Rattle.rasta_pcap.specs.Devices.{Writes, AsWritten};
 ghost use Rattle.rasta_pcap.specs.Extent.{ReadsUpToRecord};
 ghost use Rattle.rasta_pcap.specs.Stream.{order_in, progress_of};
 ghost use Rattle.rasta_pcap.specs.declared.stream.Progress.TheVariants.{Reading};
@@ -92,11 +91,9 @@ fn sight<'a>(params: &Params, record: &Record<'a>) -> Seen<'a>
 
 /// Writes the refusal that ends a text, and answers the status of the program, 1.
 pub fn write_refusal<W: Sink>(fault: Fault, writer: &mut W) -> Result<u8, Fault>
-    ensures whole { OnOk result (Appends (W.contents writer.old) (W.contents writer.new) (refused_line fault)) }
+    ensures out { Writes result (W.contents writer.old) (W.contents writer.new) (refused_line fault) }
     ensures answered { IfOk result (λ status. status ≡ 1) }
-    ensures begun { OnErr result (AppendsBeginning (W.contents writer.old) (W.contents writer.new) (refused_line fault)) }
-    ensures err { IfErr result (λ f. (f ≡ write_failed)
-        × HasFailed (W.failure_count writer.old) (W.failure_count writer.new)) }
+    ensures written { AsWritten result (W.failure_count writer.old) (W.failure_count writer.new) }
 {
     write_all(writer, refusal_line(fault).as_bytes())?;
     Ok(1)

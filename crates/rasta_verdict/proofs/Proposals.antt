@@ -157,7 +157,7 @@ nothing_of_outcome tell p input oi ni o consumed = record {
 
 -- a beginning of the text that stands
 pub outcome_begun : (IsText : Texts) (P : List ℕ → Type 0) (r : Result ℕ Fault) (text : List ℕ) (status : ℕ) (oi ni oo on : Option (List ℕ)) → ReadsSo P oi ni
-    → ((file : List ℕ) → P file → IsText file text status) → OnErr r (AppendsBeginning oo on text) → OnErr r (BeginsOutcome IsText oi ni oo on)
+    → ((file : List ℕ) → P file → IsText file text status) → Writes r oo on text → OnErr r (BeginsOutcome IsText oi ni oo on)
 outcome_begun IsText P (Ok s) text status oi ni oo on read is begun = tt
 outcome_begun IsText P (Err f) text status oi ni oo on read is begun = record {
   input = read.bytes;

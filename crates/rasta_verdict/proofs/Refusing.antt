@@ -57,6 +57,6 @@ where_broken p f old_count new_count old_writes new_writes old new h (inr refuse
 -- the refusal is written, and says this of the file
 pub refusal_written : (IsText : Texts) (p : Parameters) (f : Fault) (r : Result ℕ Fault) (old_count new_count : ℕ) (oi ni oo on : Option (List ℕ)) → nat_le not_pcap f.number ≡ true
     → WhyNone p f old_count new_count oi ni → ((file : List ℕ) → IsRefusedSo p f file → IsText file (refused_line f) 1)
-    → OnOk r (Appends oo on (refused_line f)) → IfOk r (λ s. s ≡ 1) → IfOk r (λ s. WritesVerdict IsText s oi ni oo on)
+    → Writes r oo on (refused_line f) → IfOk r (λ s. s ≡ 1) → IfOk r (λ s. WritesVerdict IsText s oi ni oo on)
 refusal_written IsText p f r old_count new_count oi ni oo on of_capture why says appended answered =
     verdict_written IsText (IsRefusedSo p f) r (refused_line f) 1 oi ni oo on (where_refused p f old_count new_count oi ni of_capture why) says appended (is_one r answered)

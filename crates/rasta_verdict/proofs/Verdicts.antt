@@ -150,7 +150,7 @@ abbrev pub Texts : Type 1
 Texts = List ℕ → List ℕ → ℕ → Type 0
 
 pub verdict_written : (IsText : Texts) (P : List ℕ → Type 0) (r : Result ℕ Fault) (text : List ℕ) (status : ℕ) (oi ni oo on : Option (List ℕ)) → ReadsSo P oi ni
-    → ((file : List ℕ) → P file → IsText file text status) → OnOk r (Appends oo on text) → IfOk r (λ s. status ≡ s) → IfOk r (λ s. WritesVerdict IsText s oi ni oo on)
+    → ((file : List ℕ) → P file → IsText file text status) → Writes r oo on text → IfOk r (λ s. status ≡ s) → IfOk r (λ s. WritesVerdict IsText s oi ni oo on)
 verdict_written IsText P (Err f) text status oi ni oo on read is appended answered = tt
 verdict_written IsText P (Ok s) text status oi ni oo on read is appended answered = record {
   input = read.bytes;
@@ -163,7 +163,7 @@ verdict_written IsText P (Ok s) text status oi ni oo on read is appended answere
 }
 
 pub verdict_begun : (IsText : Texts) (P : List ℕ → Type 0) (r : Result ℕ Fault) (text : List ℕ) (oi ni oo on : Option (List ℕ)) → ReadsSo P oi ni
-    → ((file t : List ℕ) (s : ℕ) → P file → IsText file t s → t ≡ text) → OnErr r (AppendsBeginning oo on text) → OnErr r (BeginsVerdict IsText oi ni oo on)
+    → ((file t : List ℕ) (s : ℕ) → P file → IsText file t s → t ≡ text) → Writes r oo on text → OnErr r (BeginsVerdict IsText oi ni oo on)
 verdict_begun IsText P (Ok s) text oi ni oo on read one begun = tt
 verdict_begun IsText P (Err f) text oi ni oo on read one begun = record {
   input = read.bytes;
@@ -199,7 +199,7 @@ still_silent (Err f) out = inr refl
 
 -- a write that failed is a run's fault
 pub write_fault : (r : Result ℕ Fault) (old_reads new_reads old_writes new_writes : ℕ)
-    → IfErr r (λ f. (f ≡ write_failed) × HasFailed old_writes new_writes)
+    → AsWritten r old_writes new_writes
     → IfErr r (λ f. IsRunFault f old_reads new_reads old_writes new_writes)
 write_fault (Ok s) old_reads new_reads old_writes new_writes h = tt
 write_fault (Err f) old_reads new_reads old_writes new_writes h = inr (inr h)

@@ -1,8 +1,7 @@
 //! What becomes of what crossed, for which a certificate is proposed.
-ghost use Rattle.std.specs.Prelude.{◌≡◌, List, ℕ, Ok, IfErr, IfOk, OnErr, OnOk};
-ghost use Rattle.std.specs.Io.KnownBytes.{Appends};
-ghost use Rattle.rasta_pcap.specs.Fault.{no_memory, write_failed};
-ghost use Rattle.rasta_pcap.specs.Devices.{AppendsBeginning, HasFailed};
+ghost use Rattle.std.specs.Prelude.{◌≡◌, List, ℕ, Ok, IfErr, IfOk};
+ghost use Rattle.rasta_pcap.specs.Fault.{no_memory};
+ghost use Rattle.rasta_pcap.specs.Devices.{Writes, AsWritten};
 ghost use Rattle.rasta_pdu.specs.Params.{Parameters};
 ghost use Rattle.rasta_check.specs.Capture.Reading.{crossing_of};
 ghost use Rattle.rasta_verdict.specs.Claims.{ClaimsHeadline};
@@ -47,11 +46,9 @@ pub fn judge_proposed<'a>(alloc: Global, store: &'a Store) -> Result<Verdict<'a>
 /// Writes the certificate of a verdict, or its refusal, and answers the status of the program: 0 where the
 /// capture is explained, and else 1.
 pub fn write_found<W: Sink>(verdict: &Verdict<'_>, writer: &mut W) -> Result<u8, Fault>
-    ensures ok { OnOk result (Appends (W.contents writer.old) (W.contents writer.new) (told_verdict built_text verdict.now)) }
+    ensures out { Writes result (W.contents writer.old) (W.contents writer.new) (told_verdict built_text verdict.now) }
     ensures answered { IfOk result (λ status. status_of_verdict verdict.now ≡ status) }
-    ensures err { IfErr result (λ f. (f ≡ write_failed)
-        × HasFailed (W.failure_count writer.old) (W.failure_count writer.new)) }
-    ensures begun { OnErr result (AppendsBeginning (W.contents writer.old) (W.contents writer.new) (told_verdict built_text verdict.now)) }
+    ensures written { AsWritten result (W.failure_count writer.old) (W.failure_count writer.new) }
 {
     match verdict {
         Verdict::Explained(explanation) => {

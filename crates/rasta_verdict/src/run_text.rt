@@ -1,8 +1,6 @@
 //! Writing a run, level by level.
-ghost use Rattle.std.specs.Prelude.{◌≡◌, [], ◌∷◌, slice_get, IfErr, IfOk, OnErr, OnOk};
-ghost use Rattle.std.specs.Io.KnownBytes.{Appends};
-ghost use Rattle.rasta_pcap.specs.Fault.{write_failed};
-ghost use Rattle.rasta_pcap.specs.Devices.{AppendsBeginning, HasFailed};
+ghost use Rattle.std.specs.Prelude.{◌≡◌, slice_get, IfOk};
+ghost use Rattle.rasta_pcap.specs.Devices.{Writes, AsWritten};
 ghost use Rattle.rasta_verdict.specs.RunText.{run_text};
 ghost use Rattle.rasta_verdict.specs.Told.{IsAfter, IsAfterTakes, IsOrderedFrom, IsTold, of_side, takes_text, told_crossing, told_level, told_packet};
 ghost use Rattle.rasta_verdict.specs.Passed.{makes_of, scripts_of};
@@ -31,12 +29,9 @@ fn write_takes<'s, W: Sink>(
     writer: &mut W,
 ) -> Result<&'s [Entry], Fault>
     requires { IsOrderedFrom level script.now }
-    ensures ok { OnOk result (Appends (W.contents writer.old) (W.contents writer.new) (takes_text level side script.entry.now)) }
+    ensures out { Writes result (W.contents writer.old) (W.contents writer.new) (takes_text level side script.entry.now) }
     ensures rest { IfOk result (λ r. IsAfterTakes level script.entry.now r.now) }
-    ensures steady { OnOk result (W.failure_count writer.new ≡ W.failure_count writer.old) }
-    ensures err { IfErr result (λ f. (f ≡ write_failed)
-        × HasFailed (W.failure_count writer.old) (W.failure_count writer.new)) }
-    ensures begun { OnErr result (AppendsBeginning (W.contents writer.old) (W.contents writer.new) (takes_text level side script.entry.now)) }
+    ensures written { AsWritten result (W.failure_count writer.old) (W.failure_count writer.new) }
 {
     let mut rest = script;
     while let Some((number, after)) = next_take(level, rest) {
@@ -77,13 +72,9 @@ fn write_crossed<W: Sink>(
     line: &mut Line,
     writer: &mut W,
 ) -> Result<(), Fault>
-    ensures ok { OnOk result (Appends (W.contents writer.old) (W.contents writer.new)
-        (told_packet place (makes_of client) (makes_of server) (slice_get store.now.packets place))) }
-    ensures steady { OnOk result (W.failure_count writer.new ≡ W.failure_count writer.old) }
-    ensures err { IfErr result (λ f. (f ≡ write_failed)
-        × HasFailed (W.failure_count writer.old) (W.failure_count writer.new)) }
-    ensures begun { OnErr result (AppendsBeginning (W.contents writer.old) (W.contents writer.new)
-        (told_packet place (makes_of client) (makes_of server) (slice_get store.now.packets place))) }
+    ensures out { Writes result (W.contents writer.old) (W.contents writer.new)
+        (told_packet place (makes_of client) (makes_of server) (slice_get store.now.packets place)) }
+    ensures written { AsWritten result (W.failure_count writer.old) (W.failure_count writer.new) }
 {
     let Some((side, number)) = store.packet(place) else {
         return Ok(());
@@ -102,14 +93,10 @@ fn write_level<'s, W: Sink>(
 ) -> Result<Rests<'s>, Fault>
     requires client { IsOrderedFrom level scripts.client.now }
     requires server { IsOrderedFrom level scripts.server.now }
-    ensures ok { OnOk result (Appends (W.contents writer.old) (W.contents writer.new)
-        (told_level store.now.packets (scripts_of scripts.entry) level)) }
+    ensures out { Writes result (W.contents writer.old) (W.contents writer.new)
+        (told_level store.now.packets (scripts_of scripts.entry) level) }
     ensures rests { IfOk result (λ r. IsAfter level scripts.entry.client.now r.client.now × IsAfter level scripts.entry.server.now r.server.now) }
-    ensures steady { OnOk result (W.failure_count writer.new ≡ W.failure_count writer.old) }
-    ensures err { IfErr result (λ f. (f ≡ write_failed)
-        × HasFailed (W.failure_count writer.old) (W.failure_count writer.new)) }
-    ensures begun { OnErr result (AppendsBeginning (W.contents writer.old) (W.contents writer.new)
-        (told_level store.now.packets (scripts_of scripts.entry) level)) }
+    ensures written { AsWritten result (W.failure_count writer.old) (W.failure_count writer.new) }
 {
     let client = write_takes(level, Side::Client, scripts.client, line, writer)?;
     let server = write_takes(level, Side::Server, scripts.server, line, writer)?;
@@ -128,11 +115,8 @@ pub fn write_run<W: Sink>(
     writer: &mut W,
 ) -> Result<(), Fault>
     requires { IsTold store.now certificate.now }
-    ensures ok { OnOk result (Appends (W.contents writer.old) (W.contents writer.new) (run_text store.now certificate.now)) }
-    ensures steady { OnOk result (W.failure_count writer.new ≡ W.failure_count writer.old) }
-    ensures err { IfErr result (λ f. (f ≡ write_failed)
-        × HasFailed (W.failure_count writer.old) (W.failure_count writer.new)) }
-    ensures begun { OnErr result (AppendsBeginning (W.contents writer.old) (W.contents writer.new) (run_text store.now certificate.now)) }
+    ensures out { Writes result (W.contents writer.old) (W.contents writer.new) (run_text store.now certificate.now) }
+    ensures written { AsWritten result (W.failure_count writer.old) (W.failure_count writer.new) }
 {
     let mut rests = Rests {
         client: certificate.client(),

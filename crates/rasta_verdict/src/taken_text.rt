@@ -1,8 +1,6 @@
 //! Writing what a side surely took.
-ghost use Rattle.std.specs.Prelude.{◌≡◌, ◌++◌, ◌∷◌, [], length, map, decimal, IfErr, OnErr, OnOk};
-ghost use Rattle.std.specs.Io.KnownBytes.{Appends};
-ghost use Rattle.rasta_pcap.specs.Fault.{write_failed};
-ghost use Rattle.rasta_pcap.specs.Devices.{AppendsBeginning, HasFailed};
+ghost use Rattle.std.specs.Prelude.{◌≡◌, ◌∷◌, [], map, decimal};
+ghost use Rattle.rasta_pcap.specs.Devices.{Writes, AsWritten};
 ghost use Rattle.rasta_check.specs.Verdict.Listed.{listed_of};
 ghost use Rattle.rasta_show.specs.Lines.{words_before};
 ghost use Rattle.rasta_verdict.specs.Verdict.{taken_count_line, taken_line, taken_lines, taken_text};
@@ -40,11 +38,8 @@ fn write_taken_message<W: Sink>(
     line: &mut Line,
     writer: &mut W,
 ) -> Result<(), Fault>
-    ensures ok { OnOk result (Appends (W.contents writer.old) (W.contents writer.new) (taken_line (listed_of taken.now))) }
-    ensures steady { OnOk result (W.failure_count writer.new ≡ W.failure_count writer.old) }
-    ensures err { IfErr result (λ f. (f ≡ write_failed)
-        × HasFailed (W.failure_count writer.old) (W.failure_count writer.new)) }
-    ensures begun { OnErr result (AppendsBeginning (W.contents writer.old) (W.contents writer.new) (taken_line (listed_of taken.now))) }
+    ensures out { Writes result (W.contents writer.old) (W.contents writer.new) (taken_line (listed_of taken.now)) }
+    ensures written { AsWritten result (W.failure_count writer.old) (W.failure_count writer.new) }
 {
     put_places(line, taken);
     write_all(writer, line.as_bytes())?;
@@ -58,11 +53,8 @@ fn write_messages<W: Sink>(
     line: &mut Line,
     writer: &mut W,
 ) -> Result<(), Fault>
-    ensures ok { OnOk result (Appends (W.contents writer.old) (W.contents writer.new) (taken_lines (map listed_of taken.now))) }
-    ensures steady { OnOk result (W.failure_count writer.new ≡ W.failure_count writer.old) }
-    ensures err { IfErr result (λ f. (f ≡ write_failed)
-        × HasFailed (W.failure_count writer.old) (W.failure_count writer.new)) }
-    ensures begun { OnErr result (AppendsBeginning (W.contents writer.old) (W.contents writer.new) (taken_lines (map listed_of taken.now))) }
+    ensures out { Writes result (W.contents writer.old) (W.contents writer.new) (taken_lines (map listed_of taken.now)) }
+    ensures written { AsWritten result (W.failure_count writer.old) (W.failure_count writer.new) }
 {
     for message in taken {
         write_taken_message(message, line, writer)?;
@@ -77,11 +69,8 @@ pub fn write_taken<W: Sink>(
     line: &mut Line,
     writer: &mut W,
 ) -> Result<(), Fault>
-    ensures ok { OnOk result (Appends (W.contents writer.old) (W.contents writer.new) (taken_text side (map listed_of taken.now))) }
-    ensures steady { OnOk result (W.failure_count writer.new ≡ W.failure_count writer.old) }
-    ensures err { IfErr result (λ f. (f ≡ write_failed)
-        × HasFailed (W.failure_count writer.old) (W.failure_count writer.new)) }
-    ensures begun { OnErr result (AppendsBeginning (W.contents writer.old) (W.contents writer.new) (taken_text side (map listed_of taken.now))) }
+    ensures out { Writes result (W.contents writer.old) (W.contents writer.new) (taken_text side (map listed_of taken.now)) }
+    ensures written { AsWritten result (W.failure_count writer.old) (W.failure_count writer.new) }
 {
     put_count(line, side, taken.len() as u64);
     write_all(writer, line.as_bytes())?;

@@ -1,15 +1,14 @@
 //! The verdict on what crossed and a certificate, and its text.
-ghost use Rattle.std.specs.Prelude.{◌≡◌, ◌≢◌, ◌⊎◌, List, ℕ, Ok, IfErr, IfOk, OnErr, OnOk};
-ghost use Rattle.std.specs.Io.KnownBytes.{Appends};
-ghost use Rattle.rasta_pcap.specs.Fault.{no_memory, write_failed};
-ghost use Rattle.rasta_pcap.specs.Devices.{AppendsBeginning, HasFailed};
+ghost use Rattle.std.specs.Prelude.{◌≡◌, ◌≢◌, ◌⊎◌, List, ℕ, Ok, IfErr, IfOk};
+ghost use Rattle.rasta_pcap.specs.Fault.{no_memory};
+ghost use Rattle.rasta_pcap.specs.Devices.{Writes, AsWritten};
 ghost use Rattle.rasta_pdu.specs.Params.{Parameters};
 ghost use Rattle.rasta_cert.specs.Certificate.{IsCertificate, certificate_text};
 ghost use Rattle.rasta_cert.specs.Refusals.{IsRefused};
 ghost use Rattle.rasta_check.specs.Capture.Reading.{crossing_of};
 ghost use Rattle.rasta_verdict.specs.declared.verdict.Verdict.TheVariants as verdicts;
 ghost use Rattle.rasta_verdict.specs.Told.{IsTold};
-ghost use Rattle.rasta_verdict.specs.Verdict.{IsVerdict, explained_line, explained_text};
+ghost use Rattle.rasta_verdict.specs.Verdict.{IsVerdict, explained_line};
 ghost use Rattle.rasta_verdict.specs.Claims.{ClaimsHeadline};
 ghost use Rattle.rasta_verdict.specs.Judged.{HasToldRun, IsChecked, IsJudged, status_of_verdict, text_of_explanation, text_of_verdict};
 
@@ -129,10 +128,8 @@ fn put_explained(line: &mut Line, packets: u32)
 // Writes the text of an explanation.
 fn write_explanation<W: Sink>(explanation: &Explanation<'_>, writer: &mut W) -> Result<(), Fault>
     requires { IsTold explanation.now.store.now explanation.now.certificate }
-    ensures ok { OnOk result (Appends (W.contents writer.old) (W.contents writer.new) (text_of_explanation explanation.now)) }
-    ensures err { IfErr result (λ f. (f ≡ write_failed)
-        × HasFailed (W.failure_count writer.old) (W.failure_count writer.new)) }
-    ensures begun { OnErr result (AppendsBeginning (W.contents writer.old) (W.contents writer.new) (text_of_explanation explanation.now)) }
+    ensures out { Writes result (W.contents writer.old) (W.contents writer.new) (text_of_explanation explanation.now) }
+    ensures written { AsWritten result (W.failure_count writer.old) (W.failure_count writer.new) }
 {
     let report = &explanation.report;
     let mut line = Line::new();
@@ -162,11 +159,9 @@ fn write_explanation<W: Sink>(explanation: &Explanation<'_>, writer: &mut W) -> 
 /// and else 1.
 pub fn write_verdict<W: Sink>(verdict: &Verdict<'_>, writer: &mut W) -> Result<u8, Fault>
     requires { HasToldRun verdict.now }
-    ensures ok { OnOk result (Appends (W.contents writer.old) (W.contents writer.new) (text_of_verdict verdict.now)) }
+    ensures out { Writes result (W.contents writer.old) (W.contents writer.new) (text_of_verdict verdict.now) }
     ensures answered { IfOk result (λ status. status_of_verdict verdict.now ≡ status) }
-    ensures err { IfErr result (λ f. (f ≡ write_failed)
-        × HasFailed (W.failure_count writer.old) (W.failure_count writer.new)) }
-    ensures begun { OnErr result (AppendsBeginning (W.contents writer.old) (W.contents writer.new) (text_of_verdict verdict.now)) }
+    ensures written { AsWritten result (W.failure_count writer.old) (W.failure_count writer.new) }
 {
     match verdict {
         Verdict::Explained(explanation) => {

@@ -1,4 +1,3 @@
 pub mod Survey
 pub mod Extents
 pub mod Numbers
-pub mod Writing

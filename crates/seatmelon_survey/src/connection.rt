@@ -1,7 +1,7 @@
 //! A connection that a capture seems to hold.
 ghost use Rattle.std.specs.Prelude.{◌≡◌, IfErr};
 ghost use Rattle.rasta_pcap.specs.Fault.{no_memory};
-ghost use Rattle.seatmelon_survey.specs.Writing.{AsWritten};
+ghost use Rattle.rasta_pcap.specs.Devices.{AsWritten};
 
 use crate::channel::{ChannelCounts, End, channel_of};
 use crate::draft::write_draft;

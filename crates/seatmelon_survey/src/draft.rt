@@ -1,5 +1,5 @@
 //! The draft of a parameter file.
-ghost use Rattle.seatmelon_survey.specs.Writing.{AsWritten};
+ghost use Rattle.rasta_pcap.specs.Devices.{AsWritten};
 
 use crate::channel::{ChannelCounts, reversed};
 use crate::connection::Connection;

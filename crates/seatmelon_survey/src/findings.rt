@@ -1,7 +1,7 @@
 //! What was found in a capture.
 ghost use Rattle.std.specs.Prelude.{◌≡◌, IfErr, OnOk};
 ghost use Rattle.rasta_pcap.specs.Fault.{no_memory};
-ghost use Rattle.seatmelon_survey.specs.Writing.{AsWritten};
+ghost use Rattle.rasta_pcap.specs.Devices.{AsWritten};
 
 use crate::connection::Connection;
 use crate::lengths::Trials;

@@ -1,5 +1,5 @@
 //! The quiet points of a draft.
-ghost use Rattle.seatmelon_survey.specs.Writing.{AsWritten};
+ghost use Rattle.rasta_pcap.specs.Devices.{AsWritten};
 
 use crate::quiet::{Candidate, LastData, LastSent, Point};
 use crate::text::{Part, numbered, write_parts, write_parts_if};

@@ -1,5 +1,5 @@
 //! The text of a survey.
-ghost use Rattle.seatmelon_survey.specs.Writing.{AsWritten};
+ghost use Rattle.rasta_pcap.specs.Devices.{AsWritten};
 
 use crate::channel::ChannelCounts;
 use crate::connection::Connection;

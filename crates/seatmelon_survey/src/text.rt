@@ -1,5 +1,5 @@
 //! Lines of plain text.
-ghost use Rattle.seatmelon_survey.specs.Writing.{AsWritten};
+ghost use Rattle.rasta_pcap.specs.Devices.{AsWritten};
 
 use crate::time::write_time;
 use itoa::Buffer;

@@ -1,5 +1,5 @@
 //! Times of capture, as text.
-ghost use Rattle.seatmelon_survey.specs.Writing.{AsWritten};
+ghost use Rattle.rasta_pcap.specs.Devices.{AsWritten};
 
 use itoa::Buffer;
 use jiff_core::civil::Date;

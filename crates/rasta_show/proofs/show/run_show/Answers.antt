@@ -1,6 +1,6 @@
 use Rattle.std.proofs.Common.{ap, refl, sym}
 use Rattle.rasta_pcap.proofs.Extents.{HasRead-opened}
-use Rattle.rasta_pcap.proofs.Sending.{on_err_map}
+use Rattle.rasta_pcap.proofs.Sending.{on_err_map, where_begun}
 use Rattle.rasta_show.specs.Show.{Shown, show_status, show_text, shown, status_after, text_from}
 use Rattle.rasta_show.specs.Runs.{WritesText}
 use Rattle.rasta_show.specs.Shown.{status_left, text_left}
@@ -38,18 +38,18 @@ returns-in-Err-clause-text g c =
     refused_answer (λ status. WritesText (show_text p) (show_status p) status
     (g.R.Source.remaining c.args.reader.now) (g.R.Source.remaining c.open.new.reader)
     (g.W.Sink.contents c.args.writer.now) (g.W.Sink.contents c.write_refusal.new.writer))
-    c.write_refusal.result
+    c.write_refusal.result _ _ _
     (λ out. Streams-ends (shown p) _ 0 (refusal f) _ _ _ _ _ _ _ (Streams-start (shown p) _ _) (ends_at_header p f _ _ header) (text_from-fault 0 f) out)
-    c.write_refusal.ensures.whole c.write_refusal.ensures.answered
+    c.write_refusal.ensures.out c.write_refusal.ensures.answered
 
 pub returns-in-Err-clause-begun : goal.returns-in-Err-clause-begun
 returns-in-Err-clause-begun g c =
     let p = c.args.params.now in
     let f = c.in-Err.fault in
     let header = header_refused _ f _ _ _ _ (sym c.if-is_refusal.ensures) c.in-Err.ensures.err in
-    on_err_map c.write_refusal.result
+    where_begun c.write_refusal.result _ _ _
     (λ begun. Streams-ends_begun (shown p) _ 0 (refusal f) _ _ _ _ _ _ _ (Streams-start (shown p) _ _) (ends_at_header p f _ _ header) (text_from-fault 0 f) begun)
-    c.write_refusal.ensures.begun
+    c.write_refusal.ensures.out
 
 pub returns-in-Err-2-clause-begun : goal.returns-in-Err-2-clause-begun
 returns-in-Err-2-clause-begun g c =

@@ -1,6 +1,6 @@
 use Rattle.std.proofs.Common.{◌≡◌, ◌∙◌, ◌+◌, ◌-◌, ℕ, List, ap, subst, sym, arith}
 use Rattle.rasta_pcap.specs.Stream.{ReadsSo, count_in, order_in}
-use Rattle.rasta_pcap.proofs.Sending.{on_err_map, where_failed}
+use Rattle.rasta_pcap.proofs.Sending.{where_begun, where_failed}
 use Rattle.rasta_show.specs.Show.{packet, passed_over, refused, sight_of}
 use Rattle.rasta_show.specs.Runs.{WritesText}
 use Rattle.rasta_show.specs.Shown.{packet_of, status_left, text_left}
@@ -22,10 +22,10 @@ returns-in-Err-clause-text g c =
     refused_answer (λ status. WritesText (text_left c.args.params.now c.args.records) (status_left c.args.params.now c.args.records) status
     (g.R.Source.remaining c.args.reader.now) (g.R.Source.remaining c.advance.new.reader)
     (g.W.Sink.contents c.args.writer.now) (g.W.Sink.contents c.write_refusal.new.writer))
-    c.write_refusal.result
+    c.write_refusal.result _ _ _
     (λ out. Streams-ends _ _ c.loop.place (refusal c.in-Err.fault) _ _ _ _ _ _ _
     (Streams-left _ _ _ _ _ end c.loop.counter _ _ _ _ c.loop-test.true c.loop.invariant.0) left (text_from-fault c.loop.place c.in-Err.fault) out)
-    c.write_refusal.ensures.whole c.write_refusal.ensures.answered
+    c.write_refusal.ensures.out c.write_refusal.ensures.answered
 
 pub returns-in-Err-clause-begun : goal.returns-in-Err-clause-begun
 returns-in-Err-clause-begun g c =
@@ -33,9 +33,9 @@ returns-in-Err-clause-begun g c =
     let records = c.loop.records in
     let why = where_refused _ _ _ _ c.in-Err.fault _ _ _ _ (sym c.if-is_refusal.ensures) (c.in-Err.ensures.step.err c.loop.invariant.3) in
     let left = ends_at_fault c.args.params.now (end - (c.loop.counter + 1)) (order_in records) (count_in records) c.in-Err.fault _ _ why in
-    on_err_map c.write_refusal.result (λ begun. Streams-ends_begun _ _ c.loop.place (refusal c.in-Err.fault) _ _ _ _ _ _ _
+    where_begun c.write_refusal.result _ _ _ (λ begun. Streams-ends_begun _ _ c.loop.place (refusal c.in-Err.fault) _ _ _ _ _ _ _
     (Streams-left _ _ _ _ _ end c.loop.counter _ _ _ _ c.loop-test.true c.loop.invariant.0) left (text_from-fault c.loop.place c.in-Err.fault) begun)
-    c.write_refusal.ensures.begun
+    c.write_refusal.ensures.out
 
 pub returns-in-Err-2-clause-begun : goal.returns-in-Err-2-clause-begun
 returns-in-Err-2-clause-begun g c =
@@ -60,7 +60,7 @@ returns-in_err-write_packet-in-Packet-clause-begun g c =
     let seen = sees_record p (end - (c.loop.counter + 1)) (order_in records) (count_in records) _ (packet q) _ _ found
     (c.in-Packet.ensures ∙ ap (λ (b : List ℕ). sight_of p (c.in-Ok-Some.number, b)) c.buffer-bytes.ensures.bytes) in
     where_failed c.from_residual.result (Streams-packet_begun _ _ _ c.loop.place q _ _ _ _ _ _
-    (Streams-left _ _ _ _ _ end c.loop.counter _ _ _ _ c.loop-test.true c.loop.invariant.0) seen c.in_err-write_packet-in-Packet.ensures.begun)
+    (Streams-left _ _ _ _ _ end c.loop.counter _ _ _ _ c.loop-test.true c.loop.invariant.0) seen c.in_err-write_packet-in-Packet.ensures.out)
 
 pub returns-in-Refused-clause-text : goal.returns-in-Refused-clause-text
 returns-in-Refused-clause-text g c =
@@ -74,10 +74,10 @@ returns-in-Refused-clause-text g c =
     refused_answer (λ status. WritesText (text_left p c.args.records) (status_left p c.args.records) status
     (g.R.Source.remaining c.args.reader.now) (g.R.Source.remaining c.advance.new.reader)
     (g.W.Sink.contents c.args.writer.now) (g.W.Sink.contents c.write_refusal-in-Refused.new.writer))
-    c.write_refusal-in-Refused.result
+    c.write_refusal-in-Refused.result _ _ _
     (λ out. Streams-ends _ _ c.loop.place (refusal f) _ _ _ _ _ _ _
     (Streams-left _ _ _ _ _ end c.loop.counter _ _ _ _ c.loop-test.true c.loop.invariant.0) (ends_refused _ (left_shown p (end - (c.loop.counter + 1)) (order_in records) c.in-Ok-Some.number) f _ _ seen) (text_from-fault c.loop.place f) out)
-    c.write_refusal-in-Refused.ensures.whole c.write_refusal-in-Refused.ensures.answered
+    c.write_refusal-in-Refused.ensures.out c.write_refusal-in-Refused.ensures.answered
 
 pub returns-in-Refused-clause-begun : goal.returns-in-Refused-clause-begun
 returns-in-Refused-clause-begun g c =
@@ -88,9 +88,9 @@ returns-in-Refused-clause-begun g c =
     let found = rw c.in-Ok-Some.field-0-is at (c.in-Ok-Some.ensures.step.found c.loop.invariant.3) in
     let seen = sees_record p (end - (c.loop.counter + 1)) (order_in records) (count_in records) _ (refused f) _ _ found
     (c.in-Refused.ensures ∙ ap (λ (b : List ℕ). sight_of p (c.in-Ok-Some.number, b)) c.buffer-bytes.ensures.bytes) in
-    on_err_map c.write_refusal-in-Refused.result (λ begun. Streams-ends_begun _ _ c.loop.place (refusal f) _ _ _ _ _ _ _
+    where_begun c.write_refusal-in-Refused.result _ _ _ (λ begun. Streams-ends_begun _ _ c.loop.place (refusal f) _ _ _ _ _ _ _
     (Streams-left _ _ _ _ _ end c.loop.counter _ _ _ _ c.loop-test.true c.loop.invariant.0) (ends_refused _ (left_shown p (end - (c.loop.counter + 1)) (order_in records) c.in-Ok-Some.number) f _ _ seen) (text_from-fault c.loop.place f) begun)
-    c.write_refusal-in-Refused.ensures.begun
+    c.write_refusal-in-Refused.ensures.out
 
 pub loop-preserved : goal.loop-preserved
 loop-preserved g c =
@@ -121,9 +121,9 @@ loop-preserved g c =
           let q = packet_of w.in-Packet.packet in (
             rw (w.writer-is, w.place-is, step.order, count) (Streams-packet _ _ _ c.loop.place q _ _ _ _ _ _ before
                 (sees_record p k (order_in old) (count_in old) _ (packet q) _ _ found (w.in-Packet.ensures ∙ sight))
-                w.in_ok-write_packet-in-Packet.ensures.ok),
+                w.in_ok-write_packet-in-Packet.ensures.out),
             step.steady ∙ c.loop.invariant.1,
-            rw w.writer-is (w.in_ok-write_packet-in-Packet.ensures.steady ∙ c.loop.invariant.2),
+            rw w.writer-is (w.in_ok-write_packet-in-Packet.ensures.written ∙ c.loop.invariant.2),
             progress,
             omega arith,
             c.loop.invariant.5,
@@ -155,7 +155,7 @@ returns-in_err-write_all-clause-begun g c =
     ] in
     where_failed c.from_residual-in_err-write_all.result (Streams-ends_begun _ _ c.loop.place nothing c.as_bytes.result.now _ _ _ _ _ _
     c.loop.invariant.0 ended (text_from-nothing c.loop.place ∙ sym (c.as_bytes.ensures ∙ c.count_line.ensures))
-    c.in_err-write_all.ensures.begun)
+    c.in_err-write_all.ensures.out)
 
 pub returns-clause-text : goal.returns-clause-text
 returns-clause-text g c =
@@ -178,7 +178,7 @@ returns-clause-text g c =
     ] in
     Streams-ends _ _ c.loop.place nothing c.as_bytes.result.now _ _ _ _ _ _
     c.loop.invariant.0 ended (text_from-nothing c.loop.place ∙ sym (c.as_bytes.ensures ∙ c.count_line.ensures))
-    c.in_ok-write_all.ensures.ok
+    c.in_ok-write_all.ensures.out
 
 -- ---- nothing is read after the window's last record
 

@@ -19,7 +19,7 @@ returns-in-Err-clause-text g c =
     let p = c.args.params.now in
     let f = c.in-Err.fault in
     refusal_written (IsAudit p) p f c.write_refusal.result _ _ _ _ _ _ (sym c.if-is_refusal.ensures) c.in-Err.ensures.err
-    (λ file refused. capture_refused f refused.value) c.write_refusal.ensures.whole c.write_refusal.ensures.answered
+    (λ file refused. capture_refused f refused.value) c.write_refusal.ensures.out c.write_refusal.ensures.answered
 
 pub returns-in-Err-clause-begun : goal.returns-in-Err-clause-begun
 returns-in-Err-clause-begun g c =
@@ -28,21 +28,21 @@ returns-in-Err-clause-begun g c =
     outcome_begun (IsAudit p) (IsRefusedSo p f) c.write_refusal.result (refused_line f) 1 _ _ _ _
     (where_refused p f _ _ _ _ (sym c.if-is_refusal.ensures) c.in-Err.ensures.err)
     (λ file refused. capture_refused f refused.value)
-    c.write_refusal.ensures.begun
+    c.write_refusal.ensures.out
 
 pub returns-in-Err-clause-headline : goal.returns-in-Err-clause-headline
 returns-in-Err-clause-headline g c =
     let p = c.args.params.now in
     let f = c.in-Err.fault in
     refusal_written (ClaimsHeadline p) p f c.write_refusal.result _ _ _ _ _ _ (sym c.if-is_refusal.ensures) c.in-Err.ensures.err
-    (λ file refused status. absurd (cc)) c.write_refusal.ensures.whole c.write_refusal.ensures.answered
+    (λ file refused status. absurd (cc)) c.write_refusal.ensures.out c.write_refusal.ensures.answered
 
 pub returns-in-Err-clause-decided : goal.returns-in-Err-clause-decided
 returns-in-Err-clause-decided g c =
     let p = c.args.params.now in
     let f = c.in-Err.fault in
     refusal_written (Decides p) p f c.write_refusal.result _ _ _ _ _ _ (sym c.if-is_refusal.ensures) c.in-Err.ensures.err
-    (λ file refused. refused_decides p file f (refused_line f) 1 refused.value) c.write_refusal.ensures.whole c.write_refusal.ensures.answered
+    (λ file refused. refused_decides p file f (refused_line f) 1 refused.value) c.write_refusal.ensures.out c.write_refusal.ensures.answered
 
 pub returns-in-Err-2-clause-begun : goal.returns-in-Err-2-clause-begun
 returns-in-Err-2-clause-begun g c =
@@ -66,7 +66,7 @@ returns-clause-text g c =
     verdict_written (IsAudit p) (IsStored p c.in-Ok.store) c.write_verdict.result (text_of_verdict verdict) status _ _ _ _
     c.in-Ok.ensures.value
     (λ file stored. subst (λ (t : List ℕ). IsAudit p file t status) (audit_text verdict) (c.in_ok-verdict.ensures.stands explained_text p file stored.value))
-    c.write_verdict.ensures.ok c.write_verdict.ensures.answered
+    c.write_verdict.ensures.out c.write_verdict.ensures.answered
 
 pub returns-clause-begun : goal.returns-clause-begun
 returns-clause-begun g c =
@@ -76,7 +76,7 @@ returns-clause-begun g c =
     outcome_begun (IsAudit p) (IsStored p c.in-Ok.store) c.write_verdict.result (text_of_verdict verdict) status _ _ _ _
     c.in-Ok.ensures.value
     (λ file stored. subst (λ (t : List ℕ). IsAudit p file t status) (audit_text verdict) (c.in_ok-verdict.ensures.stands explained_text p file stored.value))
-    c.write_verdict.ensures.begun
+    c.write_verdict.ensures.out
 
 pub returns-clause-headline : goal.returns-clause-headline
 returns-clause-headline g c =
@@ -84,7 +84,7 @@ returns-clause-headline g c =
     let verdict = c.in_ok-verdict.verdict in
     verdict_written (ClaimsHeadline p) (IsStored p c.in-Ok.store) c.write_verdict.result (text_of_verdict verdict) (status_of_verdict verdict) _ _ _ _
     c.in-Ok.ensures.value (λ file stored. c.in_ok-verdict.ensures.headline p file stored.value)
-    c.write_verdict.ensures.ok c.write_verdict.ensures.answered
+    c.write_verdict.ensures.out c.write_verdict.ensures.answered
 
 pub returns-clause-decided : goal.returns-clause-decided
 returns-clause-decided g c =
@@ -94,4 +94,4 @@ returns-clause-decided g c =
     verdict_written (Decides p) (IsStored p c.in-Ok.store) c.write_verdict.result (text_of_verdict verdict) status _ _ _ _
     c.in-Ok.ensures.value
     (λ file stored. subst (λ (t : List ℕ). Decides p file t status) (audit_text verdict) (c.in_ok-verdict.ensures.decided explained_text p file stored.value))
-    c.write_verdict.ensures.ok c.write_verdict.ensures.answered
+    c.write_verdict.ensures.out c.write_verdict.ensures.answered

@@ -17,7 +17,7 @@ returns-in-Err-clause-text g c =
     let p = c.args.params.now in
     let f = c.in-Err.fault in
     refusal_written (IsBuild p) p f c.write_refusal.result _ _ _ _ _ _ (sym c.if-is_refusal.ensures) c.in-Err.ensures.err
-    (λ file refused. capture_refused f refused.value) c.write_refusal.ensures.whole c.write_refusal.ensures.answered
+    (λ file refused. capture_refused f refused.value) c.write_refusal.ensures.out c.write_refusal.ensures.answered
 
 pub returns-in-Err-clause-begun : goal.returns-in-Err-clause-begun
 returns-in-Err-clause-begun g c =
@@ -26,14 +26,14 @@ returns-in-Err-clause-begun g c =
     outcome_begun (IsBuild p) (IsRefusedSo p f) c.write_refusal.result (refused_line f) 1 _ _ _ _
     (where_refused p f _ _ _ _ (sym c.if-is_refusal.ensures) c.in-Err.ensures.err)
     (λ file refused. capture_refused f refused.value)
-    c.write_refusal.ensures.begun
+    c.write_refusal.ensures.out
 
 pub returns-in-Err-clause-decided : goal.returns-in-Err-clause-decided
 returns-in-Err-clause-decided g c =
     let p = c.args.params.now in
     let f = c.in-Err.fault in
     refusal_written (Decides p) p f c.write_refusal.result _ _ _ _ _ _ (sym c.if-is_refusal.ensures) c.in-Err.ensures.err
-    (λ file refused. refused_decides p file f (refused_line f) 1 refused.value) c.write_refusal.ensures.whole c.write_refusal.ensures.answered
+    (λ file refused. refused_decides p file f (refused_line f) 1 refused.value) c.write_refusal.ensures.out c.write_refusal.ensures.answered
 
 pub returns-in-Err-2-clause-begun : goal.returns-in-Err-2-clause-begun
 returns-in-Err-2-clause-begun g c =
@@ -55,7 +55,7 @@ returns-clause-text g c =
     let verdict = c.in_ok-verdict.verdict in
     verdict_written (IsBuild p) (IsStored p c.in-Ok.store) c.write_found.result (told_verdict built_text verdict) (status_of_verdict verdict) _ _ _ _
     c.in-Ok.ensures.value (λ file stored. c.in_ok-verdict.ensures.stands built_text p file stored.value)
-    c.write_found.ensures.ok c.write_found.ensures.answered
+    c.write_found.ensures.out c.write_found.ensures.answered
 
 pub returns-clause-begun : goal.returns-clause-begun
 returns-clause-begun g c =
@@ -63,7 +63,7 @@ returns-clause-begun g c =
     let verdict = c.in_ok-verdict.verdict in
     outcome_begun (IsBuild p) (IsStored p c.in-Ok.store) c.write_found.result (told_verdict built_text verdict) (status_of_verdict verdict) _ _ _ _
     c.in-Ok.ensures.value (λ file stored. c.in_ok-verdict.ensures.stands built_text p file stored.value)
-    c.write_found.ensures.begun
+    c.write_found.ensures.out
 
 pub returns-clause-decided : goal.returns-clause-decided
 returns-clause-decided g c =
@@ -71,4 +71,4 @@ returns-clause-decided g c =
     let verdict = c.in_ok-verdict.verdict in
     verdict_written (Decides p) (IsStored p c.in-Ok.store) c.write_found.result (told_verdict built_text verdict) (status_of_verdict verdict) _ _ _ _
     c.in-Ok.ensures.value (λ file stored. c.in_ok-verdict.ensures.decided built_text p file stored.value)
-    c.write_found.ensures.ok c.write_found.ensures.answered
+    c.write_found.ensures.out c.write_found.ensures.answered

@@ -16,7 +16,7 @@ returns-in-Err-clause-text g c =
     let p = c.args.params.now in
     let f = c.in-Err.fault in
     refusal_written (IsVerdict p (g.C.AsSlice.items c.args.certificate)) p f c.write_refusal.result _ _ _ _ _ _ (sym c.if-is_refusal.ensures) c.in-Err.ensures.err
-    (λ file refused. capture_refused f refused.value) c.write_refusal.ensures.whole c.write_refusal.ensures.answered
+    (λ file refused. capture_refused f refused.value) c.write_refusal.ensures.out c.write_refusal.ensures.answered
 
 pub returns-in-Err-clause-begun : goal.returns-in-Err-clause-begun
 returns-in-Err-clause-begun g c =
@@ -25,17 +25,17 @@ returns-in-Err-clause-begun g c =
     verdict_begun (IsVerdict p (g.C.AsSlice.items c.args.certificate)) (IsRefusedSo p f) c.write_refusal.result (refused_line f) _ _ _ _
     (where_refused p f _ _ _ _ (sym c.if-is_refusal.ensures) c.in-Err.ensures.err)
     (λ file t s refused other. one_verdict p (g.C.AsSlice.items c.args.certificate) file t (refused_line f) s 1 other (capture_refused f refused.value))
-    c.write_refusal.ensures.begun
+    c.write_refusal.ensures.out
 
 pub returns-in-Err-clause-headline : goal.returns-in-Err-clause-headline
 returns-in-Err-clause-headline g c =
     let p = c.args.params.now in
     let f = c.in-Err.fault in
     refusal_written (ClaimsHeadline p) p f c.write_refusal.result _ _ _ _ _ _ (sym c.if-is_refusal.ensures) c.in-Err.ensures.err
-    (λ file refused status. absurd (cc)) c.write_refusal.ensures.whole c.write_refusal.ensures.answered
+    (λ file refused status. absurd (cc)) c.write_refusal.ensures.out c.write_refusal.ensures.answered
 
 pub returns-in-Err-clause-err : goal.returns-in-Err-clause-err
-returns-in-Err-clause-err g c = write_fault c.write_refusal.result _ _ _ _ c.write_refusal.ensures.err
+returns-in-Err-clause-err g c = write_fault c.write_refusal.result _ _ _ _ c.write_refusal.ensures.written
 
 pub returns-in-Err-2-clause-begun : goal.returns-in-Err-2-clause-begun
 returns-in-Err-2-clause-begun g c =
@@ -60,7 +60,7 @@ returns-clause-text g c =
     let verdict = c.in_ok-verdict.verdict in
     verdict_written (IsVerdict p (g.C.AsSlice.items c.args.certificate)) (IsStored p c.in-Ok.store) c.write_verdict.result (text_of_verdict verdict) (status_of_verdict verdict) _ _ _ _
     c.in-Ok.ensures.value (λ file stored. c.in_ok-verdict.ensures.stands p file stored.value)
-    c.write_verdict.ensures.ok c.write_verdict.ensures.answered
+    c.write_verdict.ensures.out c.write_verdict.ensures.answered
 
 pub returns-clause-begun : goal.returns-clause-begun
 returns-clause-begun g c =
@@ -71,10 +71,10 @@ returns-clause-begun g c =
     verdict_begun (IsVerdict p certificate) (IsStored p c.in-Ok.store) c.write_verdict.result text _ _ _ _
     c.in-Ok.ensures.value
     (λ file t s stored other. one_verdict p certificate file t text s status other (c.in_ok-verdict.ensures.stands p file stored.value))
-    c.write_verdict.ensures.begun
+    c.write_verdict.ensures.out
 
 pub returns-clause-err : goal.returns-clause-err
-returns-clause-err g c = write_fault c.write_verdict.result _ _ _ _ c.write_verdict.ensures.err
+returns-clause-err g c = write_fault c.write_verdict.result _ _ _ _ c.write_verdict.ensures.written
 
 pub returns-clause-headline : goal.returns-clause-headline
 returns-clause-headline g c =
@@ -82,4 +82,4 @@ returns-clause-headline g c =
     let verdict = c.in_ok-verdict.verdict in
     verdict_written (ClaimsHeadline p) (IsStored p c.in-Ok.store) c.write_verdict.result (text_of_verdict verdict) (status_of_verdict verdict) _ _ _ _
     c.in-Ok.ensures.value (λ file stored. c.in_ok-verdict.ensures.headline p file stored.value)
-    c.write_verdict.ensures.ok c.write_verdict.ensures.answered
+    c.write_verdict.ensures.out c.write_verdict.ensures.answered
