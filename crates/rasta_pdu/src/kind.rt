@@ -16,8 +16,8 @@ pub enum Kind {
 }
 
 impl Kind {
-    // The kind of a type number.
-    pub(crate) fn of(number: u16) -> Option<Kind>
+    /// The type with this number, as it stands in the PDU.
+    pub fn of(number: u16) -> Option<Kind>
         ensures { result ≡ kind_of number }
     {
         match number {

@@ -1,6 +1,5 @@
 //! Packets that have the form of RaSTA.
-ghost use Rattle.std.specs.Prelude.{◌≡◌, ◌+◌, ◌≤◌, length, IfSome};
-ghost use Rattle.rasta_pdu.specs.Pdu.{type_of};
+ghost use Rattle.std.specs.Prelude.{◌+◌, ◌≤◌, length};
 
 use crate::lengths::{Fits, Trials};
 use crate::route::route_in;
@@ -79,22 +78,6 @@ pub struct Packet {
     pub hash: u64,
 }
 
-fn kind_of(number: u16) -> Option<Kind>
-    ensures { IfSome result (λ k. type_of k ≡ number) }
-{
-    match number {
-        6200 => Some(Kind::ConnectionRequest),
-        6201 => Some(Kind::ConnectionResponse),
-        6212 => Some(Kind::RetransmissionRequest),
-        6213 => Some(Kind::RetransmissionResponse),
-        6216 => Some(Kind::DisconnectionRequest),
-        6220 => Some(Kind::Heartbeat),
-        6240 => Some(Kind::Data),
-        6241 => Some(Kind::RetransmittedData),
-        _ => None,
-    }
-}
-
 fn u32_at(bytes: &[u8], at: usize) -> u32
     requires { at + 4 ≤ length bytes.now }
 {
@@ -155,7 +138,7 @@ pub fn packet_in(trials: &Trials, found: &Record<'_>, time: Option<CaptureTime>)
     if bytes.len() < PAYLOAD_AT {
         return None;
     }
-    let kind = kind_of(LittleEndian::read_u16(&bytes[TYPE_AT..]))?;
+    let kind = Kind::of(LittleEndian::read_u16(&bytes[TYPE_AT..]))?;
     let way = Way {
         sender: u32_at(bytes, SENDER_AT),
         receiver: u32_at(bytes, RECEIVER_AT),
