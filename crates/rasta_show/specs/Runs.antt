@@ -10,7 +10,7 @@ pub use Rattle.rasta_pcap.specs.Stream.{MayFollow}
 
 -- some input was read, perhaps to its end, and some output was written; and this holds of every input that begins so, and
 -- of what was written
-pub record Writes (Holds : List ℕ → List ℕ → Type 0) (old_input new_input old_output new_output : Option (List ℕ)) : Type 0 where
+pub record ReadsAndWrites (Holds : List ℕ → List ℕ → Type 0) (old_input new_input old_output new_output : Option (List ℕ)) : Type 0 where
   pub input : List ℕ
   pub met_end : Bool
   pub consumed : Consumes old_input new_input input
@@ -21,11 +21,11 @@ pub record Writes (Holds : List ℕ → List ℕ → Type 0) (old_input new_inpu
 
 -- what was written is the text of every such input, and the answer is the status of each of them
 abbrev pub WritesText : (List ℕ → List ℕ) → (List ℕ → ℕ) → ℕ → Option (List ℕ) → Option (List ℕ) → Option (List ℕ) → Option (List ℕ) → Type 0
-WritesText text status answer = Writes (λ file output. (output ≡ text file) × (answer ≡ status file))
+WritesText text status answer = ReadsAndWrites (λ file output. (output ≡ text file) × (answer ≡ status file))
 
 -- what was written begins the text of every such input
 abbrev pub WritesBeginning : (List ℕ → List ℕ) → Option (List ℕ) → Option (List ℕ) → Option (List ℕ) → Option (List ℕ) → Type 0
-WritesBeginning text = Writes (λ file output. (rest : List ℕ) × (text file ≡ output ++ rest))
+WritesBeginning text = ReadsAndWrites (λ file output. (rest : List ℕ) × (text file ≡ output ++ rest))
 
 -- where the header of a capture was read before and no record, nothing was read after the record with this number
 abbrev pub GoesUpToRecord : Endianness → ℕ → Option (List ℕ) → Option (List ℕ) → Type 0

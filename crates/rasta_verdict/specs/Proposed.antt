@@ -7,7 +7,7 @@ use Rattle.rasta_cert.specs.Certificate.{IsCertificate, Scripts, certificate_tex
 use Rattle.rasta_check.specs.Capture.Reading.{Crossing, crossing_of}
 use Rattle.rasta_check.specs.Verdict.Report.{Explained, IsScriptVerdict}
 use Rattle.rasta_show.specs.Lines.{refused_line}
-use Rattle.rasta_show.specs.Runs.{Writes}
+use Rattle.rasta_show.specs.Runs.{ReadsAndWrites}
 use Rattle.rasta_verdict.specs.Verdict.{explained_text}
 
 -- how an explanation is written: what crossed, the scripts that explain it, and the report on both
@@ -40,4 +40,4 @@ IsBuild p file text status = IsOutcome built_text p file text status
 
 -- what was written begins some text of every input that begins with what was read
 abbrev pub BeginsOutcome : (List ℕ → List ℕ → ℕ → Type 0) → Option (List ℕ) → Option (List ℕ) → Option (List ℕ) → Option (List ℕ) → Type 0
-BeginsOutcome IsText = Writes (λ file output. (text rest : List ℕ) × (status : ℕ) × IsText file text status × (text ≡ output ++ rest))
+BeginsOutcome IsText = ReadsAndWrites (λ file output. (text rest : List ℕ) × (status : ℕ) × IsText file text status × (text ≡ output ++ rest))

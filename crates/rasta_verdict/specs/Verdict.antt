@@ -13,7 +13,7 @@ use Rattle.rasta_check.specs.Verdict.Listed.{ListedMessage}
 use Rattle.rasta_check.specs.Verdict.Report.{Explained, IsScriptVerdict}
 use Rattle.rasta_show.specs.Lines.{line_of, message_text, refused_line, side_text}
 use Rattle.rasta_verdict.specs.RunText.{run_text}
-use Rattle.rasta_show.specs.Runs.{Writes}
+use Rattle.rasta_show.specs.Runs.{ReadsAndWrites}
 
 -- ---- texts
 
@@ -65,8 +65,8 @@ pub data IsVerdict (p : Parameters) (certificate file : List ℕ) : List ℕ →
 
 -- what was written and answered is a text and a status of every input that begins with what was read
 abbrev pub WritesVerdict : (List ℕ → List ℕ → ℕ → Type 0) → ℕ → Option (List ℕ) → Option (List ℕ) → Option (List ℕ) → Option (List ℕ) → Type 0
-WritesVerdict IsText answer = Writes (λ file output. IsText file output answer)
+WritesVerdict IsText answer = ReadsAndWrites (λ file output. IsText file output answer)
 
 -- what was written begins each text of every such input
 abbrev pub BeginsVerdict : (List ℕ → List ℕ → ℕ → Type 0) → Option (List ℕ) → Option (List ℕ) → Option (List ℕ) → Option (List ℕ) → Type 0
-BeginsVerdict IsText = Writes (λ file output. (text : List ℕ) (status : ℕ) → IsText file text status → (rest : List ℕ) × (text ≡ output ++ rest))
+BeginsVerdict IsText = ReadsAndWrites (λ file output. (text : List ℕ) (status : ℕ) → IsText file text status → (rest : List ℕ) × (text ≡ output ++ rest))
