@@ -1,32 +1,22 @@
 -- What a pass that is gone through step by step answers.
 use Rattle.std.proofs.Common.{◌≡◌, ℕ, zero, suc, ◌+◌, ◌-◌, ◌<◌, ◌^◌, ◌⊎◌, Bool, true, false, List, length, Option, Some, None, Result, Ok, Err, slice_get, refl, ap, sym, ◌∙◌, arith, inl, inr, subst}
-use Rattle.std.specs.Prelude.{nat_lt, if◌then◌else◌, option_map}
+use Rattle.rasta_build.proofs.Prelude.{nat_lt, if◌then◌else◌, option_map, fault_at, no_memory, not_found, Fault, Side, Client, Server, Parameters, Scripts, IsCertificate}
+use Rattle.rasta_build.proofs.Prelude.{most_entries, FirstCopy, BothFit, to_record, base_small, IfErr, Built, SidedCopy, first_of, Pass, one_more, pass_on, passes, copy_goes}
+use Rattle.rasta_build.proofs.Prelude.{client_goes, server_goes, all_copies, proposal, proposed_by, scripts_of, explain, Unexplained}
 use Rattle.rasta_pdu.specs.declared.pdu.Pdu.{Pdu}
 use Rattle.rasta_check.proofs.Script.ScriptsOfRuns.{taken_within}
 use Rattle.rasta_check.specs.Capture.Lists.{copy_of}
-use Rattle.rasta_pcap.specs.Fault.{fault_at, no_memory, not_found, too_many_entries}
-use Rattle.rasta_pcap.specs.declared.fault.Fault.{Fault}
-use Rattle.rasta_pcap.specs.declared.fault.Side.{Side}
-use Rattle.rasta_pcap.specs.declared.fault.Side.TheVariants.{Client, Server}
-use Rattle.rasta_pdu.specs.Params.{Parameters}
-use Rattle.rasta_cert.specs.Certificate.{Scripts, IsCertificate, most_entries}
-use Rattle.rasta_check.specs.Capture.Crossing.{FirstCopy}
+use Rattle.rasta_pcap.specs.Fault.{too_many_entries}
 use Rattle.rasta_check.specs.Capture.Reading.{AreSentLists}
-use Rattle.rasta_check.specs.Verdict.Report.{BothFit}
-use Rattle.rasta_check.proofs.Capture.ListForms.{to_record}
-use Rattle.rasta_check.proofs.Model.Steps.{base_small}
-use Rattle.std.specs.Result.{IfOk, IfErr, IsErr, IsErrAnd}
-use Rattle.rasta_build.specs.Built.{Built}
-use Rattle.rasta_build.specs.Choices.{SidedCopy, sided_copy, first_of, fault_of_stuck, IsUnexplained, IsProposalFault}
+use Rattle.std.specs.Result.{IfOk, IsErr, IsErrAnd}
+use Rattle.rasta_build.specs.Choices.{sided_copy, fault_of_stuck, IsUnexplained, IsProposalFault}
 use Rattle.rasta_build.specs.Completeness.{IsProposal, IsAnswer}
-use Rattle.rasta_build.specs.Proposing.{Pass, one_more, pass_on, passes, copy_goes, client_goes, server_goes, all_copies, proposal, proposed_by, scripts_of}
-use Rattle.rasta_build.specs.Explaining.{explain}
 use Rattle.rasta_build.specs.Stopping.{fault_of_stop, list_of, IsHaltAt, IsPassStop, IsNextStop, IsStopped, IsMet}
 use Rattle.rasta_build.specs.declared.obstacles.Obstacle.{Obstacle}
 use Rattle.rasta_build.specs.declared.obstacles.Stop.{Stop}
 use Rattle.rasta_build.specs.declared.obstacles.Stop.TheVariants.{OutOfMemory, Blocked}
 use Rattle.rasta_build.specs.declared.stuck.Stuck.{Stuck}
-use Rattle.rasta_build.specs.declared.stuck.Stuck.TheVariants.{Unexplained, NoMemory}
+use Rattle.rasta_build.specs.declared.stuck.Stuck.TheVariants.{NoMemory}
 use Rattle.rasta_build.proofs.SentLists.{sent_rises, sent_numbers, sent_within}
 use Rattle.rasta_build.proofs.Soundness.{passes_read}
 use Rattle.rasta_build.proofs.Proposals.{proposal_fits}

@@ -1,17 +1,8 @@
 -- The builder's ends at the start.
 use Rattle.std.proofs.Common.{◌≡◌, ℕ, true, List, [], length, Option, Some, None, refl, ap, sym, arith, inl, inr, subst}
-use Rattle.std.specs.Prelude.{◌==◌}
-use Rattle.rasta_pcap.specs.declared.fault.Side.{Side}
-use Rattle.rasta_pcap.specs.declared.fault.Side.TheVariants.{Client, Server}
-use Rattle.rasta_pdu.specs.Params.{Parameters}
-use Rattle.rasta_pdu.specs.declared.quiet_point.Quiet.{Quiet}
-use Rattle.rasta_end.specs.declared.owed.Owed.{Owed}
-use Rattle.rasta_end.specs.State.{Made, EndState, is_closed, is_client, is_start}
-use Rattle.rasta_end.specs.Starts.{start_of, start_by}
-use Rattle.rasta_check.specs.Capture.Crossing.{FirstCopy}
-use Rattle.rasta_check.proofs.Model.Steps.{base, base_by}
+use Rattle.rasta_build.proofs.Prelude.{◌==◌, Side, Client, Server, Parameters, Quiet, Owed, Made, EndState, is_closed, is_client, is_start, start_of, start_by, FirstCopy, base}
+use Rattle.rasta_build.proofs.Prelude.{base_by, peer_quiet_sn}
 use Rattle.rasta_build.specs.Built.{built_at_start}
-use Rattle.rasta_build.specs.Choices.{peer_quiet_sn}
 use Rattle.rasta_build.proofs.Times.{NearDeadlines}
 use Rattle.rasta_build.proofs.Readiness.{IsReady, IsTrail}
 use Rattle.rasta_build.proofs.Stations.{Follows}

@@ -1,21 +1,14 @@
 -- A take has an effect exactly where it is by a row.
 use Rattle.std.proofs.Common.{◌≡◌, ℕ, ◌<◌, ◌≤◌, Bool, true, false, List, [], length, Option, Some, None, Result, Ok, Err, refl, ap, sym, ◌∙◌, arith}
-use Rattle.std.specs.Prelude.{nat_lt, if◌then◌else◌, OnOk}
-use Rattle.std.proofs.lemmas.Bool.Decides.{nat_tests}
-use Rattle.rasta_pdu.specs.Params.{Parameters}
-use Rattle.rasta_pdu.specs.Pdu.{SafetyPdu, RedundancyPdu}
-use Rattle.rasta_end.specs.declared.owed.Owed.{Owed}
-use Rattle.rasta_end.specs.declared.phase.Phase.{Phase}
-use Rattle.rasta_end.specs.declared.phase.Phase.TheVariants.{Closed, Start, Up, RetrReq, RetrRun}
-use Rattle.rasta_end.specs.declared.take_row.TakeRow.{TakeRow}
-use Rattle.rasta_end.specs.declared.take_row.TakeRow.TheVariants.{Opened, Answered, FirstHeartbeat, InSequence, ResentInSequence, Gap, GapInRetransmission, Resumed, Requested, RequestedAhead, RequestedAgain, Disconnected}
-use Rattle.rasta_end.specs.State.{EndState, is_active, carries_unit}
-use Rattle.rasta_end.specs.TakeRule.{effect, effect_by, take_row, take_fault, after_take, accept, enter, hand_up}
-use Rattle.rasta_check.proofs.Model.TakeRows.{row_known, not_closed}
+use Rattle.rasta_build.proofs.Prelude.{nat_lt, if◌then◌else◌, nat_tests, Parameters, SafetyPdu, RedundancyPdu, Owed, Phase, Closed, Start, Up, RetrReq, RetrRun, TakeRow, Opened}
+use Rattle.rasta_build.proofs.Prelude.{Answered, FirstHeartbeat, InSequence, ResentInSequence, Gap, GapInRetransmission, Resumed, Requested, RequestedAhead, RequestedAgain}
+use Rattle.rasta_build.proofs.Prelude.{Disconnected, EndState, is_active, carries_unit, effect, effect_by, take_row, take_fault, after_take, accept, enter, hand_up, row_known}
+use Rattle.rasta_build.proofs.Prelude.{Built, unless, taken_by, take_step}
+use Rattle.std.specs.Prelude.{OnOk}
+use Rattle.rasta_check.proofs.Model.TakeRows.{not_closed}
 use Rattle.rasta_check.proofs.Model.InvariantOfRuns.{free}
 use Rattle.rasta_build.specs.declared.script_builder.Progress.{Progress}
-use Rattle.rasta_build.specs.Built.{Built, lead, progress_of, note_take}
-use Rattle.rasta_build.specs.Explaining.{unless, taken_by, take_step}
+use Rattle.rasta_build.specs.Built.{lead, progress_of, note_take}
 use Rattle.rasta_build.proofs.Comparisons.{not_lt}
 
 unit_accepted : (c : Bool) (i : ℕ) (e : EndState) (x : SafetyPdu) → (if c then hand_up i e x else e).accepted ≡ e.accepted

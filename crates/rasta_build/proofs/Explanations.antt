@@ -1,38 +1,18 @@
 -- Where an end of a run makes a PDU, the builder explains it, and both ends are again the same but for their times.
 use Rattle.std.proofs.Common.{◌≡◌, ℕ, zero, suc, ◌+◌, ◌^◌, ◌<◌, ◌≤◌, ◌⊎◌, Bool, true, false, List, [], ◌∷◌, length, Option, Some, None, take, refl, ap, sym, ◌∙◌, arith, inl, inr, subst, ⊎_elim}
-use Rattle.std.specs.Prelude.{not, ◌&&◌, ◌||◌, ◌==◌, option_map}
-use Rattle.std.proofs.lemmas.Bool.Decides.{nat_tests}
-use Rattle.std.proofs.lemmas.Option.{slice_get_within}
-use Rattle.rasta_pcap.specs.declared.fault.Side.{Side}
-use Rattle.rasta_pcap.specs.declared.fault.Side.TheVariants.{Client}
-use Rattle.rasta_pdu.specs.Params.{Parameters}
-use Rattle.rasta_pdu.specs.Pdu.{SafetyPdu, is_kind}
-use Rattle.rasta_pdu.specs.declared.kind.Kind.{Kind}
-use Rattle.rasta_pdu.specs.declared.kind.Kind.TheVariants.{RetransmissionRequest, RetransmissionResponse, ConnectionRequest, DisconnectionRequest}
-use Rattle.rasta_end.specs.declared.owed.Owed.{Owed}
-use Rattle.rasta_end.specs.declared.phase.Phase.{Phase}
-use Rattle.rasta_end.specs.declared.phase.Phase.TheVariants.{Closed, Start, RetrReq}
-use Rattle.rasta_end.specs.declared.take_row.TakeRow.{TakeRow}
-use Rattle.rasta_end.specs.declared.take_row.TakeRow.TheVariants.{Gap, GapInRetransmission, RequestedAhead, RequestedAgain}
-use Rattle.rasta_end.specs.declared.owed.Owed.TheVariants.{RetransmissionRequest as OweRetransmissionRequest, RetransmissionResponse as OweRetransmissionResponse}
-use Rattle.rasta_end.specs.declared.why.Why.{Why}
-use Rattle.rasta_end.specs.declared.make_row.MakeRow.{MakeRow}
-use Rattle.rasta_end.specs.State.{Made, EndState, ahead_by, first_sn, is_owing, is_closed, is_client, is_start, is_active, is_retr_req}
-use Rattle.rasta_end.specs.Starts.{start_of}
-use Rattle.rasta_end.specs.MakeRule.{make_fault, has_ended, is_judged, confirms_last, confirms_a_time, is_past, is_early, is_expired, after_make}
-use Rattle.rasta_end.specs.TakeRule.{effect, take_row, is_ahead}
-use Rattle.rasta_end.proofs.MakeTests.{no_test}
-use Rattle.rasta_check.specs.Capture.Crossing.{FirstCopy}
-use Rattle.rasta_check.proofs.Model.PassedTests.{passed, cs_is, Passed}
-use Rattle.rasta_check.proofs.Model.MakeRows.{Making, opening, MadeBy, made_by}
-use Rattle.rasta_check.proofs.Model.TakeRows.{row_known}
-use Rattle.rasta_check.proofs.Model.Counts.{number}
-use Rattle.rasta_check.proofs.Model.SequenceNumbers.{Numbered}
+use Rattle.rasta_build.proofs.Prelude.{not, ◌&&◌, ◌||◌, ◌==◌, option_map, nat_tests, slice_get_within, Side, Client, Parameters, SafetyPdu, is_kind, Kind, RetransmissionRequest}
+use Rattle.rasta_build.proofs.Prelude.{RetransmissionResponse, DisconnectionRequest, Owed, Phase, Closed, Start, RetrReq, TakeRow, Gap, GapInRetransmission, RequestedAhead}
+use Rattle.rasta_build.proofs.Prelude.{RequestedAgain, OweRetransmissionRequest, OweRetransmissionResponse, Why, MakeRow, Made, EndState, ahead_by, first_sn, is_owing, is_closed}
+use Rattle.rasta_build.proofs.Prelude.{is_client, is_start, is_active, is_retr_req, start_of, make_fault, has_ended, is_judged, confirms_last, confirms_a_time, is_past, is_early}
+use Rattle.rasta_build.proofs.Prelude.{is_expired, after_make, effect, take_row, is_ahead, no_test, FirstCopy, passed, Making, opening, made_by, row_known, number, Numbered, Built}
+use Rattle.rasta_build.proofs.Prelude.{copy_at, is_before, first_sn_of, wants_trigger, catch_up, made_at, explain, earliest_by}
+use Rattle.rasta_pdu.specs.declared.kind.Kind.TheVariants.{ConnectionRequest}
+use Rattle.rasta_check.proofs.Model.PassedTests.{cs_is, Passed}
+use Rattle.rasta_check.proofs.Model.MakeRows.{MadeBy}
 use Rattle.rasta_check.proofs.Model.NamedPositions.{SnIs}
 use Rattle.rasta_check.proofs.Model.InvariantAtMake.{nothing_made}
-use Rattle.rasta_build.specs.Built.{Built}
-use Rattle.rasta_build.specs.Choices.{copy_at, is_before, first_sn_of, position_named, has_to_take, is_unanswered, wants_trigger}
-use Rattle.rasta_build.specs.Explaining.{and_then, catch_up, accept_through, take_trigger, take_step_by, made_at, make_step, explain, earliest_by}
+use Rattle.rasta_build.specs.Choices.{position_named, has_to_take, is_unanswered}
+use Rattle.rasta_build.specs.Explaining.{and_then, accept_through, take_trigger, take_step_by, make_step}
 use Rattle.rasta_build.proofs.Readiness.{IsReady}
 use Rattle.rasta_build.proofs.Scans.{AreCopies, is_gap, is_request_ahead, gap_found, request_found}
 use Rattle.rasta_build.proofs.Lags.{Pending, IsLag, caught_itself}

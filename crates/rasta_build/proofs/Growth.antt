@@ -1,22 +1,13 @@
 -- What holds of a builder's end stays where its peer makes one PDU more.
 use Rattle.std.proofs.Common.{◌≡◌, ℕ, zero, suc, ◌≤◌, Bool, true, false, List, [], ◌∷◌, ◌++◌, length, Option, take, ap, sym, ◌∙◌, arith, inl, inr, subst, ⊎_elim}
+use Rattle.rasta_build.proofs.Prelude.{slice_get_within, Side, Parameters, Kind, Made, EndState, effect, FirstCopy, get_front, number, Built, is_kind, RetransmissionRequest}
 use Rattle.std.proofs.lemmas.List.{take-append-le}
-use Rattle.std.proofs.lemmas.Option.{slice_get_within}
-use Rattle.rasta_pcap.specs.declared.fault.Side.{Side}
-use Rattle.rasta_pdu.specs.Params.{Parameters}
-use Rattle.rasta_pdu.specs.declared.kind.Kind.{Kind}
-use Rattle.rasta_end.specs.State.{Made, EndState}
-use Rattle.rasta_end.specs.TakeRule.{effect}
-use Rattle.rasta_check.specs.Capture.Crossing.{FirstCopy}
-use Rattle.rasta_check.proofs.Lists.{get_front, get_front_within}
-use Rattle.rasta_check.proofs.Model.Counts.{number, tally}
-use Rattle.rasta_build.specs.Built.{Built}
+use Rattle.rasta_check.proofs.Lists.{get_front_within}
+use Rattle.rasta_check.proofs.Model.Counts.{tally}
 use Rattle.rasta_build.proofs.Readiness.{IsReady}
 use Rattle.rasta_build.proofs.Scans.{is_gap, is_request_ahead}
 use Rattle.rasta_build.proofs.Lags.{Pending, IsLag}
 use Rattle.rasta_build.proofs.Explanations.{IsOrigin}
-use Rattle.rasta_pdu.specs.Pdu.{is_kind}
-use Rattle.rasta_pdu.specs.declared.kind.Kind.TheVariants.{RetransmissionRequest}
 
 tally_most : (b : Bool) (m n : ℕ) → m ≤ n → tally b m ≤ tally b n
 tally_most true m n h = omega arith

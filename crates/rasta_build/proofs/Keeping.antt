@@ -1,21 +1,11 @@
 -- What the steps of an end keep of it, and how far they raise what is accepted.
 use Rattle.std.proofs.Common.{◌≡◌, ℕ, zero, suc, ◌+◌, ◌-◌, ◌^◌, ◌<◌, ◌≤◌, Bool, true, false, List, [], ◌∷◌, length, Option, Some, None, refl, ap, ◌∙◌, arith, subst}
-use Rattle.std.specs.Prelude.{nat_lt, if◌then◌else◌, ◌==◌}
-use Rattle.rasta_pdu.specs.Params.{Parameters}
-use Rattle.rasta_pdu.specs.Pdu.{SafetyPdu, RedundancyPdu}
-use Rattle.rasta_pdu.specs.declared.kind.Kind.{Kind}
-use Rattle.rasta_pdu.specs.declared.kind.Kind.TheVariants.{RetransmissionRequest, RetransmissionResponse}
-use Rattle.rasta_end.specs.declared.take_row.TakeRow.{TakeRow}
-use Rattle.rasta_end.specs.declared.take_row.TakeRow.TheVariants.{FirstHeartbeat, InSequence, ResentInSequence, Resumed, Requested}
-use Rattle.rasta_end.specs.declared.owed.Owed.{Owed}
-use Rattle.rasta_end.specs.State.{EndState, carries_unit, is_owing}
-use Rattle.rasta_end.specs.TakeRule.{accept, enter, hand_up, is_in, steps_past_next, effect, effect_by, after_take, take_row, take_fault}
-use Rattle.rasta_check.specs.Capture.Crossing.{FirstCopy}
+use Rattle.rasta_build.proofs.Prelude.{nat_lt, if◌then◌else◌, ◌==◌, Parameters, SafetyPdu, RedundancyPdu, Kind, RetransmissionRequest, RetransmissionResponse, TakeRow}
+use Rattle.rasta_build.proofs.Prelude.{FirstHeartbeat, InSequence, ResentInSequence, Resumed, Requested, Owed, EndState, carries_unit, is_owing, accept, enter, hand_up, is_in}
+use Rattle.rasta_build.proofs.Prelude.{steps_past_next, effect, effect_by, after_take, take_row, take_fault, FirstCopy, row_known, Built, copy_at, is_trigger, unless, taken_by}
+use Rattle.rasta_build.proofs.Prelude.{take_step, accept_from}
 use Rattle.rasta_check.proofs.Model.Acceptance.{accepted_after}
-use Rattle.rasta_check.proofs.Model.TakeRows.{row_known}
-use Rattle.rasta_build.specs.Built.{Built}
-use Rattle.rasta_build.specs.Choices.{copy_at, is_trigger}
-use Rattle.rasta_build.specs.Explaining.{unless, taken_by, take_step, if_accepted, accept_there, accept_step, accept_from, and_then, try_at, try_there, try_step, go_on, scan}
+use Rattle.rasta_build.specs.Explaining.{if_accepted, accept_there, accept_step, and_then, try_at, try_there, try_step, go_on, scan}
 use Rattle.rasta_build.proofs.Comparisons.{was_same}
 
 -- the parameters stay, and so much more is accepted

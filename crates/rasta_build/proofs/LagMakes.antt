@@ -1,36 +1,17 @@
 -- Facts about a make of an end that lags: what its type wants to be owed, the position that its CS names, and disconnection requests.
 use Rattle.std.proofs.Common.{◌≡◌, ℕ, zero, suc, ◌+◌, ◌%◌, ◌^◌, ◌≤◌, ◌⊎◌, Bool, true, false, List, [], ◌∷◌, length, Option, Some, None, refl, ap, ◌∙◌, arith, inl, inr, subst, ⊎_elim}
-use Rattle.std.specs.Prelude.{nat_lt, not, ◌&&◌, ◌||◌, ◌==◌}
-use Rattle.std.proofs.lemmas.Option.{slice_get_within}
-use Rattle.rasta_pcap.specs.declared.fault.Side.{Side}
-use Rattle.rasta_pdu.specs.Params.{Parameters}
-use Rattle.rasta_pdu.specs.Pdu.{SafetyPdu, is_kind}
-use Rattle.rasta_pdu.specs.declared.kind.Kind.{Kind}
-use Rattle.rasta_pdu.specs.declared.kind.Kind.TheVariants.{RetransmissionRequest, RetransmissionResponse, DisconnectionRequest}
-use Rattle.rasta_end.specs.declared.owed.Owed.{Owed}
-use Rattle.rasta_end.specs.declared.owed.Owed.TheVariants.{RetransmissionRequest as OweRetransmissionRequest, RetransmissionResponse as OweRetransmissionResponse}
-use Rattle.rasta_end.specs.declared.phase.Phase.{Phase}
-use Rattle.rasta_end.specs.declared.phase.Phase.TheVariants.{Closed, Up, RetrReq, RetrRun}
-use Rattle.rasta_end.specs.declared.take_row.TakeRow.{TakeRow}
-use Rattle.rasta_end.specs.declared.take_row.TakeRow.TheVariants.{Gap, GapInRetransmission, RequestedAhead, RequestedAgain}
-use Rattle.rasta_end.specs.declared.why.Why.{Why}
-use Rattle.rasta_end.specs.declared.why.Why.TheVariants.{Bye, Expired}
-use Rattle.rasta_end.specs.declared.make_row.MakeRow.{MakeRow}
+use Rattle.rasta_build.proofs.Prelude.{nat_lt, not, ◌&&◌, ◌||◌, ◌==◌, slice_get_within, Side, Parameters, SafetyPdu, is_kind, Kind, RetransmissionRequest, RetransmissionResponse}
+use Rattle.rasta_build.proofs.Prelude.{DisconnectionRequest, Owed, OweRetransmissionRequest, OweRetransmissionResponse, Phase, Closed, Up, RetrReq, RetrRun, TakeRow, Gap}
+use Rattle.rasta_build.proofs.Prelude.{GapInRetransmission, RequestedAhead, RequestedAgain, Why, Bye, Expired, MakeRow, Made, EndState, ahead_by, first_sn, is_owing, is_closed}
+use Rattle.rasta_build.proofs.Prelude.{is_active, is_flowing, wrapped, reason_of, content_of, make_fault, has_ended, row_of, is_judged, confirms_last, confirms_a_time, is_past}
+use Rattle.rasta_build.proofs.Prelude.{is_early, is_expired, after_make, effect, take_row, no_test, FirstCopy, passed, Making, opening, answer, ask, made_by, after_row, row_known}
+use Rattle.rasta_build.proofs.Prelude.{Numbered, Built, copy_at, is_before, wants_trigger, catch_up}
 use Rattle.rasta_end.specs.declared.make_row.MakeRow.TheVariants.{Leaves, TimesOut}
-use Rattle.rasta_end.specs.State.{Made, EndState, ahead_by, first_sn, is_owing, is_closed, is_active, is_flowing, wrapped, reason_of, content_of}
-use Rattle.rasta_end.specs.MakeRule.{make_fault, has_ended, row_of, make_row, is_refused_row, is_owing_else, is_next_sn, differs, is_judged, confirms_last, confirms_a_time, is_past, is_early, is_expired, after_make, phase_after}
-use Rattle.rasta_end.specs.TakeRule.{effect, take_row}
-use Rattle.rasta_end.proofs.MakeTests.{no_test}
-use Rattle.rasta_check.specs.Capture.Crossing.{FirstCopy}
-use Rattle.rasta_check.proofs.Model.PassedTests.{passed}
-use Rattle.rasta_check.proofs.Model.MakeRows.{Making, opening, answer, ask, bye, expired, made_by, after_row, new_made}
-use Rattle.rasta_check.proofs.Model.TakeRows.{row_known}
-use Rattle.rasta_check.proofs.Model.SequenceNumbers.{Numbered}
+use Rattle.rasta_end.specs.MakeRule.{make_row, is_refused_row, is_owing_else, is_next_sn, differs, phase_after}
+use Rattle.rasta_check.proofs.Model.MakeRows.{bye, expired, new_made}
 use Rattle.rasta_check.proofs.Model.NamedPositions.{SnIs}
 use Rattle.rasta_check.proofs.Model.InvariantAtMake.{over_after}
-use Rattle.rasta_build.specs.Built.{Built}
-use Rattle.rasta_build.specs.Choices.{copy_at, is_before, wants_trigger}
-use Rattle.rasta_build.specs.Explaining.{catch_up, accept_through}
+use Rattle.rasta_build.specs.Explaining.{accept_through}
 use Rattle.rasta_build.proofs.Scans.{is_gap, is_request_ahead}
 use Rattle.rasta_build.proofs.Lags.{caught_itself}
 use Rattle.rasta_build.proofs.Makes.{none_of, reason_is, ReasonIs}

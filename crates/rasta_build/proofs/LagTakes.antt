@@ -1,29 +1,16 @@
 -- A take of a run's end keeps the lag of the builder's end.
 use Rattle.std.proofs.Common.{◌≡◌, ℕ, suc, ◌+◌, ◌*◌, ◌<◌, ◌≤◌, ◌⊎◌, Bool, true, false, List, [], length, Option, Some, None, take, refl, ap, sym, ◌∙◌, arith, inl, inr, subst, ⊎_elim}
-use Rattle.std.specs.Prelude.{nat_lt, nat_le, if◌then◌else◌, ◌&&◌, ◌==◌}
-use Rattle.std.proofs.lemmas.Bool.Decides.{nat_tests}
-use Rattle.rasta_pcap.specs.declared.fault.Side.{Side}
-use Rattle.rasta_pcap.specs.declared.fault.Side.TheVariants.{Client, Server}
-use Rattle.rasta_pdu.specs.Params.{Parameters}
-use Rattle.rasta_pdu.specs.Pdu.{SafetyPdu, is_kind}
-use Rattle.rasta_pdu.specs.declared.kind.Kind.{Kind}
-use Rattle.rasta_pdu.specs.declared.kind.Kind.TheVariants.{Heartbeat, Data, RetransmissionRequest, RetransmissionResponse}
-use Rattle.rasta_end.specs.declared.phase.Phase.{Phase}
-use Rattle.rasta_end.specs.declared.phase.Phase.TheVariants.{Start, Up, RetrRun}
-use Rattle.rasta_end.specs.declared.take_row.TakeRow.{TakeRow}
-use Rattle.rasta_end.specs.declared.take_row.TakeRow.TheVariants.{Opened, Answered, FirstHeartbeat, InSequence, ResentInSequence, Gap, GapInRetransmission, Resumed, Requested, RequestedAhead, RequestedAgain, Disconnected}
-use Rattle.rasta_end.specs.State.{Made, EndState, is_owing, is_closed, is_active, is_retr_req, is_flowing, carries_unit}
-use Rattle.rasta_end.specs.TakeRule.{effect, effect_by, after_take, take_row, take_fault, is_heartbeat_or_data, steps_past_next, is_in, is_ahead, accept, enter, hand_up}
-use Rattle.rasta_check.specs.Capture.Crossing.{FirstCopy}
-use Rattle.rasta_check.proofs.Model.TakeRows.{row_known}
-use Rattle.rasta_check.proofs.Model.Counts.{number}
+use Rattle.rasta_build.proofs.Prelude.{nat_lt, nat_le, if◌then◌else◌, ◌&&◌, ◌==◌, nat_tests, Side, Client, Server, Parameters, SafetyPdu, is_kind, Kind, Heartbeat, Data}
+use Rattle.rasta_build.proofs.Prelude.{RetransmissionRequest, RetransmissionResponse, Phase, Start, Up, RetrRun, TakeRow, Opened, Answered, FirstHeartbeat, InSequence}
+use Rattle.rasta_build.proofs.Prelude.{ResentInSequence, Gap, GapInRetransmission, Resumed, Requested, RequestedAhead, RequestedAgain, Disconnected, Made, EndState, is_owing}
+use Rattle.rasta_build.proofs.Prelude.{is_closed, is_active, is_retr_req, is_flowing, carries_unit, effect, effect_by, after_take, take_row, take_fault, steps_past_next, is_in}
+use Rattle.rasta_build.proofs.Prelude.{is_ahead, accept, enter, hand_up, FirstCopy, row_known, number, Valued, Taken, Built, catch_up}
+use Rattle.rasta_end.specs.TakeRule.{is_heartbeat_or_data}
 use Rattle.rasta_check.proofs.Model.NamedPositions.{position_is}
 use Rattle.rasta_check.proofs.Model.ConveyedUnits.{values}
-use Rattle.rasta_check.proofs.Model.OfferedUnits.{Valued, conveyed_most}
+use Rattle.rasta_check.proofs.Model.OfferedUnits.{conveyed_most}
 use Rattle.rasta_check.proofs.Model.Invariant.{is_opener, has_peer}
-use Rattle.rasta_check.proofs.Model.InvariantAtTake.{Taken, place, index, flowing_peer, own_take}
-use Rattle.rasta_build.specs.Built.{Built}
-use Rattle.rasta_build.specs.Explaining.{catch_up}
+use Rattle.rasta_check.proofs.Model.InvariantAtTake.{place, index, flowing_peer, own_take}
 use Rattle.rasta_build.proofs.Readiness.{IsReady, ConveysNoMore}
 use Rattle.rasta_build.proofs.Scans.{AreCopies, Names, is_gap, is_request_ahead}
 use Rattle.rasta_build.proofs.Lags.{IsLag, Accepting, lag_accepts}

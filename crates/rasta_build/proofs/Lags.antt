@@ -1,22 +1,13 @@
 -- What an end of a run has taken since its last make, and that the builder's end can catch up with it.
 use Rattle.std.proofs.Common.{◌≡◌, ℕ, zero, suc, ◌+◌, ◌-◌, ◌<◌, ◌≤◌, ◌⊎◌, Bool, true, false, List, [], length, Option, Some, None, slice_get, take, refl, ap, sym, ◌∙◌, arith, inl, subst, ⊎_elim}
-use Rattle.std.specs.Prelude.{if◌then◌else◌, ◌==◌}
-use Rattle.std.proofs.lemmas.Option.{slice_get_within}
-use Rattle.rasta_pcap.specs.declared.fault.Side.{Side}
-use Rattle.rasta_pdu.specs.Params.{Parameters}
-use Rattle.rasta_pdu.specs.Pdu.{SafetyPdu, is_kind}
-use Rattle.rasta_end.specs.declared.take_row.TakeRow.{TakeRow}
-use Rattle.rasta_end.specs.State.{Made, EndState, is_owing, is_retr_req}
-use Rattle.rasta_end.specs.TakeRule.{effect, take_row, take_fault}
-use Rattle.rasta_check.specs.Capture.Crossing.{FirstCopy}
-use Rattle.rasta_check.proofs.Model.Counts.{number}
-use Rattle.rasta_build.specs.Built.{Built}
-use Rattle.rasta_build.specs.Choices.{copy_at, is_response}
-use Rattle.rasta_build.specs.Explaining.{taken_by, take_step, accept_there, accept_step, accept_from, last_response, first_acceptable, accept_range, catch_up}
+use Rattle.rasta_build.proofs.Prelude.{if◌then◌else◌, ◌==◌, slice_get_within, Side, Parameters, SafetyPdu, is_kind, TakeRow, Made, EndState, is_owing, is_retr_req, effect}
+use Rattle.rasta_build.proofs.Prelude.{take_row, take_fault, FirstCopy, number, Built, copy_at, taken_by, take_step, accept_from, catch_up, RetransmissionRequest}
+use Rattle.rasta_build.proofs.Prelude.{RetransmissionResponse}
+use Rattle.rasta_build.specs.Choices.{is_response}
+use Rattle.rasta_build.specs.Explaining.{accept_there, accept_step, last_response, first_acceptable, accept_range}
 use Rattle.rasta_build.proofs.Readiness.{IsReady, ConveysNoMore, ready_step, ready_effect}
 use Rattle.rasta_build.proofs.Scans.{AreCopies, Names, is_gap, is_request_ahead}
 use Rattle.rasta_build.proofs.Comparisons.{is_same, is_other, was_same}
-use Rattle.rasta_pdu.specs.declared.kind.Kind.TheVariants.{RetransmissionRequest, RetransmissionResponse}
 
 -- ---- catching up by one position more
 

@@ -1,22 +1,17 @@
 -- A make at a later clock, and one that is refused.
 use Rattle.std.proofs.Common.{◌≡◌, ℕ, Bool, true, false, Option, Some, None, Result, Ok, Err, OnOk, refl, ap, sym, ◌∙◌, inl, inr}
-use Rattle.std.specs.Prelude.{if◌then◌else◌, ◌==◌}
+use Rattle.rasta_build.proofs.Prelude.{if◌then◌else◌, ◌==◌, too_early_timeout, Fault, Parameters, SafetyPdu, EndState, Why, make_fault, after_make, Built, made_at, IfErr}
+use Rattle.rasta_build.proofs.Prelude.{Unexplained}
 use Rattle.std.proofs.lemmas.Result.{on_ok_weaker}
-use Rattle.rasta_pcap.specs.Fault.{too_early_timeout}
-use Rattle.rasta_pcap.specs.declared.fault.Fault.{Fault}
-use Rattle.rasta_pdu.specs.Params.{Parameters}
-use Rattle.rasta_pdu.specs.Pdu.{SafetyPdu}
-use Rattle.rasta_end.specs.State.{EndState}
-use Rattle.rasta_end.specs.declared.why.Why.{Why}
 use Rattle.rasta_end.specs.Judged.{JudgedEnd}
-use Rattle.rasta_end.specs.MakeRule.{make_fault, after_make, IsMakeRefusal}
+use Rattle.rasta_end.specs.MakeRule.{IsMakeRefusal}
 use Rattle.rasta_cert.specs.declared.entry.Entry.TheVariants.{Make}
-use Rattle.rasta_build.specs.Built.{Built, note}
+use Rattle.rasta_build.specs.Built.{note}
 use Rattle.rasta_build.specs.Choices.{stuck_by}
-use Rattle.rasta_build.specs.Explaining.{made_at, make_by, make_when}
-use Rattle.std.specs.Result.{IfErr, IsErrAnd}
+use Rattle.rasta_build.specs.Explaining.{make_by, make_when}
+use Rattle.std.specs.Result.{IsErrAnd}
 use Rattle.rasta_build.specs.declared.stuck.Stuck.{Stuck}
-use Rattle.rasta_build.specs.declared.stuck.Stuck.TheVariants.{Unexplained, NoMemory}
+use Rattle.rasta_build.specs.declared.stuck.Stuck.TheVariants.{NoMemory}
 
 -- what a fault of an end says of its script, where it isn't for lack of memory
 pub if_stuck : {A X : Type 0} (r : Result A Stuck) (fault : Fault) → IsErrAnd r (λ (s : Stuck). s ≡ stuck_by fault) → (stuck_by fault ≡ Unexplained → X) → IfErr r (λ (s : Stuck). s ≡ Unexplained → X)

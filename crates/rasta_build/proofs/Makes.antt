@@ -1,30 +1,17 @@
 -- A make of a run's end is one of the builder's end, at a clock that isn't later.
 use Rattle.std.proofs.Common.{◌≡◌, ℕ, zero, suc, ◌+◌, ◌-◌, ◌*◌, ◌%◌, ◌/◌, ◌^◌, ◌<◌, ◌≤◌, ◌⊎◌, Bool, true, false, List, [], ◌∷◌, length, Option, Some, None, refl, ap, sym, ◌∙◌, arith, inl, inr, subst, ⊎_elim}
-use Rattle.std.specs.Prelude.{nat_lt, nat_le, not, ◌&&◌, ◌==◌}
-use Rattle.std.proofs.lemmas.Bool.Decides.{nat_tests}
+use Rattle.rasta_build.proofs.Prelude.{nat_lt, nat_le, not, ◌&&◌, ◌==◌, nat_tests, Side, too_early_timeout, Parameters, SafetyPdu, Kind, DisconnectionRequest, Owed, Phase, Why}
+use Rattle.rasta_build.proofs.Prelude.{Bye, Expired, MakeRow, Made, EndState, wrapped, ahead_by, is_active, reason_of, content_of, start_of, make_fault, has_ended, row_of}
+use Rattle.rasta_build.proofs.Prelude.{is_judged, confirms_last, confirms_a_time, is_past, is_early, is_expired, after_make, no_test, passed, Making, opening, answer, ask, made_by}
+use Rattle.rasta_build.proofs.Prelude.{after_row, Built, clock_of, made_at, earliest_by}
 use Rattle.std.specs.Bool.{then_some}
-use Rattle.rasta_pcap.specs.declared.fault.Side.{Side}
-use Rattle.rasta_pcap.specs.Fault.{closed, not_allowed, reply_owed, sequence_number, clock_differs, clock_falls, past_deadline, too_early_timeout, confirmed_number, confirmed_time, resend_differs}
-use Rattle.rasta_pdu.specs.Params.{Parameters}
-use Rattle.rasta_pdu.specs.Pdu.{SafetyPdu}
-use Rattle.rasta_pdu.specs.declared.kind.Kind.{Kind}
-use Rattle.rasta_pdu.specs.declared.kind.Kind.TheVariants.{DisconnectionRequest}
-use Rattle.rasta_end.specs.declared.owed.Owed.{Owed}
-use Rattle.rasta_end.specs.declared.phase.Phase.{Phase}
-use Rattle.rasta_end.specs.declared.why.Why.{Why}
-use Rattle.rasta_end.specs.declared.why.Why.TheVariants.{Bye, Expired}
-use Rattle.rasta_end.specs.declared.make_row.MakeRow.{MakeRow}
+use Rattle.rasta_pcap.specs.Fault.{closed, not_allowed, reply_owed, sequence_number, clock_differs, clock_falls, past_deadline, confirmed_number, confirmed_time, resend_differs}
 use Rattle.rasta_end.specs.declared.make_row.MakeRow.TheVariants.{Leaves, TimesOut}
-use Rattle.rasta_end.specs.State.{Made, EndState, wrapped, ahead_by, is_active, reason_of, content_of}
-use Rattle.rasta_end.specs.Starts.{start_of}
-use Rattle.rasta_end.specs.MakeRule.{first_that_holds, make_fault, has_ended, row_of, make_row, is_refused_row, is_owing_else, is_next_sn, is_judged, confirms_last, confirms_a_time, differs, is_past, is_early, is_expired, after_make, after_make_by, offered_after, owed_after}
-use Rattle.rasta_end.proofs.MakeTests.{no_test}
-use Rattle.rasta_check.proofs.Model.PassedTests.{Passed, passed}
-use Rattle.rasta_check.proofs.Model.MakeRows.{Making, opening, response, first_beat, answer, again, ask, beat, fresh, bye, expired, MadeBy, made_by, after_row}
-use Rattle.rasta_build.specs.Built.{Built}
+use Rattle.rasta_end.specs.MakeRule.{first_that_holds, make_row, is_refused_row, is_owing_else, is_next_sn, differs, after_make_by, offered_after, owed_after}
+use Rattle.rasta_check.proofs.Model.PassedTests.{Passed}
+use Rattle.rasta_check.proofs.Model.MakeRows.{response, first_beat, again, beat, fresh, bye, expired, MadeBy}
 use Rattle.rasta_build.specs.Choices.{why_by, why_of, next_unit}
-use Rattle.rasta_build.specs.Clock.{clock_of}
-use Rattle.rasta_build.specs.Explaining.{made_at, make_step, earliest_timeout, earliest_by, least_later}
+use Rattle.rasta_build.specs.Explaining.{make_step, earliest_timeout, least_later}
 use Rattle.rasta_build.proofs.Times.{timed, NearDeadlines, not_past}
 use Rattle.rasta_build.proofs.Readiness.{IsReady, IsTrail}
 

@@ -1,33 +1,19 @@
 -- A step of a station keeps the builder's ends with both stations; where it makes a PDU, the builder explains that.
 use Rattle.std.proofs.Common.{◌≡◌, ℕ, suc, ◌+◌, ◌-◌, ◌^◌, ◌<◌, ◌≤◌, ◌⊎◌, true, List, [], ◌∷◌, ◌++◌, length, Option, Some, None, refl, ap, sym, ◌∙◌, arith, inl, inr, subst, ⊎_elim}
-use Rattle.std.specs.Prelude.{IfSome, option_map}
+use Rattle.rasta_build.proofs.Prelude.{option_map, Side, Client, Server, Packet, Parameters, AreParameters, RedundancyPdu, Quiet, Made, EndState, wrapped, start_by, start_of}
+use Rattle.rasta_build.proofs.Prelude.{has_ended, after_make, FirstCopy, Station, IsSent, base, base_small, made_more, Taken, Valued, Sends, sends_count, Built, peer_quiet_sn}
+use Rattle.rasta_build.proofs.Prelude.{explain, earliest_by, Begins}
+use Rattle.std.specs.Prelude.{IfSome}
 use Rattle.std.proofs.lemmas.List.{length_push}
-use Rattle.rasta_pcap.specs.declared.fault.Side.{Side}
-use Rattle.rasta_pcap.specs.declared.fault.Side.TheVariants.{Client, Server}
-use Rattle.rasta_udp.specs.Frame.{Packet}
-use Rattle.rasta_pdu.specs.Params.{Parameters, AreParameters, IsQuiet, most_clock}
-use Rattle.rasta_pdu.specs.Pdu.{RedundancyPdu}
-use Rattle.rasta_pdu.specs.declared.quiet_point.Quiet.{Quiet}
-use Rattle.rasta_end.specs.State.{Made, EndState, wrapped}
-use Rattle.rasta_end.specs.Starts.{start_by, start_of}
-use Rattle.rasta_end.specs.MakeRule.{has_ended, after_make}
+use Rattle.rasta_pdu.specs.Params.{IsQuiet, most_clock}
 use Rattle.rasta_end.proofs.MakeTests.{no_fault}
-use Rattle.rasta_check.specs.Capture.Crossing.{FirstCopy, Spells}
-use Rattle.rasta_check.specs.Model.World.{Station, Move, Moves, makes, repeats, arrives, takes, waits, other_side}
-use Rattle.rasta_check.proofs.Capture.FaultlessLists.{IsSent}
-use Rattle.rasta_check.proofs.Model.Steps.{base, base_small, made_more}
+use Rattle.rasta_check.specs.Capture.Crossing.{Spells}
+use Rattle.rasta_check.specs.Model.World.{Move, Moves, makes, repeats, arrives, takes, waits, other_side}
 use Rattle.rasta_check.proofs.Model.TakeRows.{take_made}
 use Rattle.rasta_check.proofs.Model.Invariant.{Held}
-use Rattle.rasta_check.proofs.Model.InvariantAtTake.{Taken}
-use Rattle.rasta_check.proofs.Model.OfferedUnits.{Valued}
 use Rattle.rasta_check.proofs.Capture.FirstCopies.{sent_first, sent_other, sent_copy}
-use Rattle.rasta_check.proofs.Script.ScriptsOfRuns.{Sends, sends_count}
-use Rattle.rasta_build.specs.Built.{Built}
-use Rattle.rasta_build.specs.Choices.{peer_quiet_sn}
-use Rattle.rasta_build.specs.Explaining.{explain, earliest_by}
 use Rattle.rasta_build.proofs.Growth.{lag_grows, origin_grows}
 use Rattle.rasta_build.proofs.Stations.{Live, Follows, offered_few, follows_take, follows_make}
-use Rattle.rasta_check.proofs.Capture.NextPackets.{Begins}
 use Rattle.rasta_build.proofs.SentLists.{found_there, first_there}
 
 -- ---- the start's deadline

@@ -1,35 +1,21 @@
 -- The pass explains what a run sent; where it fails, no run sends packets that begin so.
 use Rattle.std.proofs.Common.{◌≡◌, ℕ, zero, suc, ◌+◌, ◌-◌, ◌^◌, ◌<◌, ◌≤◌, ◌⊎◌, Bool, true, false, List, [], ◌∷◌, ◌++◌, length, Option, Some, None, Result, Ok, Err, slice_get, take, drop, refl, ap, sym, ◌∙◌, arith, inl, inr, subst, ⊎_elim, length-append}
-use Rattle.std.specs.Prelude.{nat_lt, if◌then◌else◌, min}
+use Rattle.rasta_build.proofs.Prelude.{nat_lt, if◌then◌else◌, min, slice_get_within, dec_lt, yes, no, fault_at, not_found, Fault, Side, Client, Server, Packet, Parameters}
+use Rattle.rasta_build.proofs.Prelude.{AreParameters, Scripts, most_entries, FirstCopy, Sent, OfConnection, Station, IsSent, to_record, made_more, start_of, take_leaves, Sends}
+use Rattle.rasta_build.proofs.Prelude.{sends_count, Built, SidedCopy, first_of, Unexplained, Pass, first_pass, one_more, pass_on, passes, copy_goes, client_goes, server_goes}
+use Rattle.rasta_build.proofs.Prelude.{scripts_of, proposed_by, proposal, all_copies, CanCross, Begins}
 use Rattle.std.proofs.lemmas.List.{take-append-le, append_assoc, append-nil}
-use Rattle.std.proofs.lemmas.Option.{slice_get_within}
-use native.Mathlib.Decide.{dec_lt, dec_le}
-use Prim.{yes, no}
-use Rattle.rasta_pcap.specs.Fault.{fault_at, not_found, too_many_entries}
-use Rattle.rasta_pcap.specs.declared.fault.Fault.{Fault}
-use Rattle.rasta_pcap.specs.declared.fault.Side.{Side}
-use Rattle.rasta_pcap.specs.declared.fault.Side.TheVariants.{Client, Server}
-use Rattle.rasta_udp.specs.Frame.{Packet}
-use Rattle.rasta_pdu.specs.Params.{Parameters, AreParameters}
-use Rattle.rasta_cert.specs.Certificate.{Scripts, most_entries}
-use Rattle.rasta_check.specs.Capture.Crossing.{FirstCopy, Sent}
-use Rattle.rasta_check.specs.Model.Theorem.{OfConnection}
-use Rattle.rasta_check.specs.Model.World.{Station, World, Move, Moves, makes, repeats, arrives, takes, waits, Step, side_moves, end_of, Reaches, begins, goes_on, first_world, IsWithin}
-use Rattle.rasta_check.proofs.Capture.FaultlessLists.{IsSent}
-use Rattle.rasta_check.proofs.Capture.ListForms.{to_record}
+use native.Mathlib.Decide.{dec_le}
+use Rattle.rasta_pcap.specs.Fault.{too_many_entries}
+use Rattle.rasta_check.specs.Model.World.{World, Move, Moves, makes, repeats, arrives, takes, waits, Step, side_moves, end_of, Reaches, begins, goes_on, first_world, IsWithin}
 use Rattle.rasta_check.proofs.Capture.FirstCopies.{sent_once, sent_none}
-use Rattle.rasta_check.proofs.Model.Steps.{start_base, made_more}
-use Rattle.rasta_end.specs.Starts.{start_of}
-use Rattle.rasta_check.proofs.Model.TakeRows.{take_leaves}
+use Rattle.rasta_check.proofs.Model.Steps.{start_base}
 use Rattle.rasta_check.proofs.Model.InvariantOfRuns.{all_held, few_made}
 use Rattle.rasta_check.proofs.Model.History.{stepped}
-use Rattle.rasta_check.proofs.Script.ScriptsOfRuns.{Sends, sends_count, told}
-use Rattle.rasta_build.specs.Built.{Built}
-use Rattle.rasta_build.specs.Choices.{SidedCopy, first_of, fault_of_stuck}
-use Rattle.rasta_build.specs.declared.stuck.Stuck.TheVariants.{Unexplained}
-use Rattle.rasta_build.specs.Proposing.{Pass, first_pass, one_more, pass_on, passes, copy_goes, side_goes, client_goes, server_goes, scripts_of, proposed_by, proposal, all_copies}
-use Rattle.rasta_build.specs.Completeness.{CanCross}
-use Rattle.rasta_check.proofs.Capture.NextPackets.{Begins, cut}
+use Rattle.rasta_check.proofs.Script.ScriptsOfRuns.{told}
+use Rattle.rasta_build.specs.Choices.{fault_of_stuck}
+use Rattle.rasta_build.specs.Proposing.{side_goes}
+use Rattle.rasta_check.proofs.Capture.NextPackets.{cut}
 use Rattle.rasta_build.proofs.SentLists.{later_place}
 use Rattle.rasta_build.proofs.Beginning.{follows_first}
 use Rattle.rasta_build.proofs.Simulation.{Keeps, few_list, step_keeps}

@@ -1,35 +1,19 @@
 -- The place at which nothing is found is exact: some run within the limits sends the packets before it.
 use Rattle.std.proofs.Common.{◌≡◌, ℕ, zero, suc, ◌+◌, ◌-◌, ◌^◌, ◌<◌, ◌≤◌, Bool, true, false, List, [], ◌∷◌, ◌++◌, length, Option, Some, None, Result, Ok, Err, slice_get, take, drop, refl, ap, sym, ◌∙◌, arith, subst}
-use Rattle.std.specs.Prelude.{◌↔◌, nat_lt, if◌then◌else◌, min, IfSome}
-use Rattle.std.proofs.lemmas.Option.{slice_get_within}
-use native.Mathlib.Decide.{dec_lt}
-use Prim.{yes, no}
-use Rattle.rasta_pcap.specs.Fault.{fault_at, not_found}
-use Rattle.rasta_pcap.specs.declared.fault.Side.{Side}
-use Rattle.rasta_pcap.specs.declared.fault.Side.TheVariants.{Client, Server}
-use Rattle.rasta_udp.specs.Frame.{Packet}
-use Rattle.rasta_pdu.specs.Params.{Parameters, AreParameters, IsQuiet}
-use Rattle.rasta_pdu.specs.declared.quiet_point.Quiet.{Quiet}
+use Rattle.rasta_build.proofs.Prelude.{nat_lt, if◌then◌else◌, min, slice_get_within, dec_lt, yes, no, fault_at, not_found, Side, Client, Server, Packet, Parameters, AreParameters}
+use Rattle.rasta_build.proofs.Prelude.{Quiet, EndState, start_of, start_by, FirstCopy, Sent, OfConnection, get_front, slice_get_some, IsSent, to_record, made_more, take_leaves}
+use Rattle.rasta_build.proofs.Prelude.{Built, first_of, Pass, first_pass, one_more, pass_on, passes, copy_goes, client_goes, server_goes, proposal, all_copies, CanCross, Begins}
+use Rattle.std.specs.Prelude.{◌↔◌, IfSome}
+use Rattle.rasta_pdu.specs.Params.{IsQuiet}
 use Rattle.rasta_cert.specs.Certificate.{AreEntries, IsEntry}
 use Rattle.rasta_cert.specs.declared.entry.Entry.{Entry}
-use Rattle.rasta_end.specs.State.{EndState}
-use Rattle.rasta_end.specs.Starts.{start_of, start_by}
-use Rattle.rasta_check.specs.Capture.Crossing.{FirstCopy, Sent, CrossRecorded}
+use Rattle.rasta_check.specs.Capture.Crossing.{CrossRecorded}
 use Rattle.rasta_check.specs.Model.World.{most_sent}
-use Rattle.rasta_check.specs.Model.Theorem.{OfConnection, most_packets}
+use Rattle.rasta_check.specs.Model.Theorem.{most_packets}
 use Rattle.rasta_check.specs.Script.Following.{Cursor, Advances, takes_next, makes_next, Leads, at_start, Follows}
-use Rattle.rasta_check.proofs.Lists.{get_front, slice_get_some}
-use Rattle.rasta_check.proofs.Capture.FaultlessLists.{IsSent}
-use Rattle.rasta_check.proofs.Capture.ListForms.{to_record}
-use Rattle.rasta_check.proofs.Model.Steps.{made_more}
-use Rattle.rasta_check.proofs.Model.TakeRows.{take_leaves}
 use Rattle.rasta_check.proofs.Run.Simulation.{simulated}
 use Rattle.rasta_check.proofs.Theorem.SentRuns.{known}
-use Rattle.rasta_build.specs.Built.{Built}
-use Rattle.rasta_build.specs.Choices.{first_of}
-use Rattle.rasta_build.specs.Proposing.{Pass, first_pass, one_more, pass_on, passes, copy_goes, client_goes, server_goes, proposal, all_copies}
-use Rattle.rasta_build.specs.Completeness.{CanCross}
-use Rattle.rasta_check.proofs.Capture.NextPackets.{Begins, cut}
+use Rattle.rasta_check.proofs.Capture.NextPackets.{cut}
 use Rattle.rasta_build.proofs.SentLists.{begun_get, begun_next, sent_rises, sent_numbers, sent_within, later_place}
 use Rattle.rasta_build.proofs.Passes.{Fails, fails, proposed_fails, fails_within, length_take, take_drop, early, finds_none}
 use Rattle.rasta_build.proofs.Soundness.{passes_read}

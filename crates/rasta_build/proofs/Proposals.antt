@@ -1,25 +1,12 @@
 -- What is proposed fits, run or no run; and where nothing is proposed, nothing is found at a place.
 use Rattle.std.proofs.Common.{◌≡◌, ℕ, zero, suc, ◌+◌, ◌≤◌, ◌⊎◌, Bool, true, false, List, length, Option, Some, None, Result, Ok, Err, slice_get, refl, ap, sym, ◌∙◌, arith, inl, inr, subst}
-use Rattle.std.specs.Prelude.{nat_lt, if◌then◌else◌}
-use native.Mathlib.Decide.{dec_lt}
-use Prim.{yes, no}
-use Rattle.rasta_pcap.specs.declared.fault.Fault.{Fault}
-use Rattle.rasta_pcap.specs.declared.fault.Side.TheVariants.{Client, Server}
-use Rattle.rasta_udp.specs.Frame.{Packet}
-use Rattle.rasta_pdu.specs.Params.{Parameters}
-use Rattle.rasta_cert.specs.Certificate.{Scripts, IsCertificate, most_entries}
+use Rattle.rasta_build.proofs.Prelude.{nat_lt, if◌then◌else◌, dec_lt, yes, no, Fault, Client, Server, Packet, Parameters, Scripts, IsCertificate, most_entries, FirstCopy, BothFit}
+use Rattle.rasta_build.proofs.Prelude.{IsSent, to_record, slice_get_some, Built, first_of, Pass, first_pass, one_more, pass_on, passes, copy_goes, client_goes, server_goes}
+use Rattle.rasta_build.proofs.Prelude.{all_copies, proposal, proposed_by, scripts_of}
 use Rattle.rasta_check.proofs.Script.ScriptsOfRuns.{leads_count, taken_within}
-use Rattle.rasta_check.specs.Capture.Crossing.{FirstCopy}
 use Rattle.rasta_check.specs.Capture.Reading.{AreSentLists}
-use Rattle.rasta_check.specs.Verdict.Report.{BothFit}
 use Rattle.rasta_check.specs.Capture.Lists.{IsOrdered}
-use Rattle.rasta_check.proofs.Capture.FaultlessLists.{IsSent}
 use Rattle.rasta_check.proofs.Script.Fits.{follows_fits}
-use Rattle.rasta_check.proofs.Capture.ListForms.{to_record}
-use Rattle.rasta_check.proofs.Lists.{slice_get_some}
-use Rattle.rasta_build.specs.Built.{Built}
-use Rattle.rasta_build.specs.Choices.{first_of}
-use Rattle.rasta_build.specs.Proposing.{Pass, first_pass, one_more, pass_on, passes, copy_goes, client_goes, server_goes, all_copies, proposal, proposed_by, scripts_of}
 use Rattle.rasta_build.specs.Completeness.{IsProposal}
 use Rattle.rasta_build.proofs.Comparisons.{not_lt}
 use Rattle.rasta_build.proofs.SentLists.{sent_rises, sent_numbers, sent_within}

@@ -1,31 +1,22 @@
 -- A builder's end that differs from a run's end in its times alone, and that it can take what the run's end takes.
 use Rattle.std.proofs.Common.{◌≡◌, ℕ, zero, suc, ◌+◌, ◌-◌, ◌<◌, ◌≤◌, Bool, true, false, List, [], ◌∷◌, ◌++◌, length, Option, Some, None, take, refl, ap, sym, ◌∙◌, arith, subst}
-use Rattle.std.specs.Prelude.{nat_lt, if◌then◌else◌, ◌&&◌, ◌==◌, min}
-use Rattle.std.proofs.lemmas.Bool.Decides.{nat_tests}
-use Rattle.rasta_pcap.specs.declared.fault.Side.{Side}
+use Rattle.rasta_build.proofs.Prelude.{nat_lt, if◌then◌else◌, ◌&&◌, ◌==◌, min, nat_tests, Side, Parameters, SafetyPdu, RedundancyPdu, is_kind, Owed, OweRetransmissionResponse}
+use Rattle.rasta_build.proofs.Prelude.{OweRetransmissionRequest, Phase, Up, RetrReq, TakeRow, Opened, Answered, FirstHeartbeat, InSequence, ResentInSequence, Gap}
+use Rattle.rasta_build.proofs.Prelude.{GapInRetransmission, Resumed, Requested, RequestedAhead, RequestedAgain, Disconnected, Made, EndState, is_owing, is_closed, is_flowing}
+use Rattle.rasta_build.proofs.Prelude.{carries_unit, is_past, hand_up, effect, take_row, take_fault, accept, enter, row_known, number, Built, taken_by, unless, take_step}
+use Rattle.rasta_build.proofs.Prelude.{RetransmissionRequest}
 use Rattle.rasta_pcap.specs.Fault.{reply_owed, past_deadline}
-use Rattle.rasta_pdu.specs.Params.{Parameters}
-use Rattle.rasta_pdu.specs.Pdu.{SafetyPdu, RedundancyPdu, is_kind}
-use Rattle.rasta_end.specs.declared.owed.Owed.{Owed}
-use Rattle.rasta_end.specs.declared.owed.Owed.TheVariants.{ConnectionResponse as OweConnectionResponse, FirstHeartbeat as OweFirstHeartbeat, RetransmissionResponse as OweRetransmissionResponse, Resend as OweResend, RetransmissionRequest as OweRetransmissionRequest}
-use Rattle.rasta_end.specs.declared.phase.Phase.{Phase}
-use Rattle.rasta_end.specs.declared.phase.Phase.TheVariants.{Up, RetrReq}
-use Rattle.rasta_end.specs.declared.take_row.TakeRow.{TakeRow}
-use Rattle.rasta_end.specs.declared.take_row.TakeRow.TheVariants.{Opened, Answered, FirstHeartbeat, InSequence, ResentInSequence, Gap, GapInRetransmission, Resumed, Requested, RequestedAhead, RequestedAgain, Disconnected}
-use Rattle.rasta_end.specs.State.{Made, EndState, is_owing, is_closed, is_flowing, carries_unit, kinds}
+use Rattle.rasta_end.specs.declared.owed.Owed.TheVariants.{ConnectionResponse as OweConnectionResponse, FirstHeartbeat as OweFirstHeartbeat, Resend as OweResend}
+use Rattle.rasta_end.specs.State.{kinds}
 use Rattle.rasta_end.specs.Units.{units_conveyed}
-use Rattle.rasta_end.specs.MakeRule.{is_past, first_that_holds}
-use Rattle.rasta_end.specs.TakeRule.{hand_up, effect, take_row, take_fault, accept, enter, resends, burst, position_confirmed}
+use Rattle.rasta_end.specs.MakeRule.{first_that_holds}
+use Rattle.rasta_end.specs.TakeRule.{resends, burst, position_confirmed}
 use Rattle.rasta_check.proofs.Script.ScriptsOfRuns.{fault_by}
-use Rattle.rasta_check.proofs.Model.TakeRows.{row_known}
-use Rattle.rasta_check.proofs.Model.Counts.{number}
-use Rattle.rasta_build.specs.Built.{Built, progress_of, trail_after}
+use Rattle.rasta_build.specs.Built.{progress_of, trail_after}
 use Rattle.rasta_build.specs.declared.script_builder.Progress.{Progress}
-use Rattle.rasta_build.specs.Explaining.{taken_by, unless, take_step}
 use Rattle.rasta_build.proofs.Times.{timed, deadline_by, effect_timed, IsNear, near_effect, not_past}
 use Rattle.std.proofs.lemmas.List.{append-nil}
 use Rattle.rasta_build.proofs.Comparisons.{not_lt}
-use Rattle.rasta_pdu.specs.declared.kind.Kind.TheVariants.{RetransmissionRequest}
 
 -- ---- what is owed after the units
 

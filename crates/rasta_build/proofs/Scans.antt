@@ -1,26 +1,14 @@
 -- What starts a request, and which request is answered.
 use Rattle.std.proofs.Common.{◌≡◌, ℕ, zero, suc, ◌+◌, ◌*◌, ◌<◌, ◌≤◌, ◌⊎◌, Bool, true, false, List, [], ◌∷◌, length, Option, Some, None, slice_get, take, refl, ap, sym, ◌∙◌, arith, inl, inr, subst, ⊎_elim}
-use Rattle.std.specs.Prelude.{nat_lt, nat_le, ◌&&◌, ◌==◌}
-use Rattle.std.proofs.lemmas.Bool.Decides.{nat_tests}
-use Rattle.std.proofs.lemmas.Option.{slice_get_within}
-use Rattle.rasta_pcap.specs.declared.fault.Side.{Side}
-use Rattle.rasta_pdu.specs.Params.{Parameters}
-use Rattle.rasta_pdu.specs.Pdu.{SafetyPdu, is_kind}
-use Rattle.rasta_pdu.specs.declared.kind.Kind.{Kind}
-use Rattle.rasta_pdu.specs.declared.kind.Kind.TheVariants.{RetransmissionRequest, RetransmissionResponse, Heartbeat, Data}
-use Rattle.rasta_end.specs.declared.owed.Owed.TheVariants.{RetransmissionRequest as OweRetransmissionRequest}
-use Rattle.rasta_end.specs.declared.phase.Phase.TheVariants.{RetrReq}
-use Rattle.rasta_end.specs.declared.take_row.TakeRow.{TakeRow}
-use Rattle.rasta_end.specs.declared.take_row.TakeRow.TheVariants.{Opened, Answered, FirstHeartbeat, InSequence, ResentInSequence, Gap, GapInRetransmission, Resumed, Requested, RequestedAhead, RequestedAgain, Disconnected}
-use Rattle.rasta_end.specs.State.{Made, EndState, is_timed, is_owing}
-use Rattle.rasta_end.specs.TakeRule.{effect, take_row, take_fault, is_heartbeat_or_data, steps_past_next, is_in, is_ahead}
-use Rattle.rasta_check.specs.Capture.Crossing.{FirstCopy}
-use Rattle.rasta_check.proofs.Model.TakeRows.{row_known}
-use Rattle.rasta_check.proofs.Model.Counts.{number, number_take_more, number_take_at}
-use Rattle.rasta_check.proofs.Lists.{slice_get_some}
-use Rattle.rasta_build.specs.Built.{Built}
-use Rattle.rasta_build.specs.Choices.{copy_at, is_trigger}
-use Rattle.rasta_build.specs.Explaining.{taken_by, try_at, scan, first_tried, take_trigger, positions_tried}
+use Rattle.rasta_build.proofs.Prelude.{nat_lt, nat_le, ◌&&◌, ◌==◌, nat_tests, slice_get_within, Side, Parameters, SafetyPdu, is_kind, Kind, RetransmissionRequest}
+use Rattle.rasta_build.proofs.Prelude.{RetransmissionResponse, Heartbeat, Data, OweRetransmissionRequest, RetrReq, TakeRow, Opened, Answered, FirstHeartbeat, InSequence}
+use Rattle.rasta_build.proofs.Prelude.{ResentInSequence, Gap, GapInRetransmission, Resumed, Requested, RequestedAhead, RequestedAgain, Disconnected, Made, EndState, is_owing}
+use Rattle.rasta_build.proofs.Prelude.{effect, take_row, take_fault, steps_past_next, is_in, is_ahead, FirstCopy, row_known, number, slice_get_some, Built, copy_at, is_trigger}
+use Rattle.rasta_build.proofs.Prelude.{taken_by}
+use Rattle.rasta_end.specs.State.{is_timed}
+use Rattle.rasta_end.specs.TakeRule.{is_heartbeat_or_data}
+use Rattle.rasta_check.proofs.Model.Counts.{number_take_more, number_take_at}
+use Rattle.rasta_build.specs.Explaining.{try_at, scan, first_tried, take_trigger, positions_tried}
 use Rattle.rasta_build.proofs.Readiness.{IsReady, ConveysNoMore, ready_step, ready_effect}
 use Rattle.rasta_build.proofs.Comparisons.{lt_is}
 

@@ -1,28 +1,14 @@
 -- The lists that a builder is given, and what has crossed of them so far.
 use Rattle.std.proofs.Common.{◌≡◌, ℕ, ◌+◌, ◌-◌, ◌^◌, ◌<◌, ◌≤◌, false, List, [], ◌∷◌, ◌++◌, length, Option, Some, None, slice_get, refl, ap, sym, ◌∙◌, arith, subst}
-use Rattle.std.specs.Prelude.{◌==◌}
-use Rattle.std.proofs.lemmas.Bool.Decides.{nat_tests}
-use Rattle.std.proofs.lemmas.Option.{slice_get_within}
-use native.Mathlib.Decide.{dec_lt}
-use Prim.{yes, no}
-use Rattle.rasta_pcap.specs.declared.fault.Side.{Side}
-use Rattle.rasta_pcap.specs.declared.fault.Side.TheVariants.{Client, Server}
-use Rattle.rasta_udp.specs.Frame.{Packet}
-use Rattle.rasta_pdu.specs.Params.{Parameters}
-use Rattle.rasta_pdu.specs.Pdu.{SafetyPdu}
-use Rattle.rasta_pdu.specs.declared.quiet_point.Quiet.{Quiet}
-use Rattle.rasta_end.specs.State.{Made, EndState, first_sn}
-use Rattle.rasta_end.specs.Starts.{start_by}
-use Rattle.rasta_check.specs.Capture.Crossing.{FirstCopy}
+use Rattle.rasta_build.proofs.Prelude.{◌==◌, nat_tests, slice_get_within, dec_lt, yes, no, Side, Client, Server, Packet, Parameters, SafetyPdu, Quiet, Made, EndState, first_sn}
+use Rattle.rasta_build.proofs.Prelude.{start_by, FirstCopy, get_front, slice_get_some, IsSent, base, base_by, Begins, Sends, peer_quiet_sn, first_sn_of}
 use Rattle.rasta_check.specs.Model.World.{other_side}
 use Rattle.rasta_check.specs.Model.Taken.{pdus_made, pdus_of}
-use Rattle.rasta_check.proofs.Lists.{get_front, slice_get_some, get_next}
-use Rattle.rasta_check.proofs.Capture.FaultlessLists.{IsSent, ordered}
-use Rattle.rasta_check.proofs.Model.Steps.{base, base_by}
-use Rattle.rasta_check.proofs.Capture.NextPackets.{Begins}
-use Rattle.rasta_check.proofs.Script.ScriptsOfRuns.{Sends, copy_at as sent_at}
+use Rattle.rasta_check.proofs.Lists.{get_next}
+use Rattle.rasta_check.proofs.Capture.FaultlessLists.{ordered}
+use Rattle.rasta_check.proofs.Script.ScriptsOfRuns.{copy_at as sent_at}
 use Rattle.rasta_check.proofs.Capture.Positions.{places_rise}
-use Rattle.rasta_build.specs.Choices.{peer_quiet_sn, member_at, copy_there, first_sn_of}
+use Rattle.rasta_build.specs.Choices.{member_at, copy_there}
 use Rattle.rasta_build.proofs.Scans.{AreCopies}
 
 pub begun_get : (big own : List FirstCopy) (n i : ℕ) (c : FirstCopy) → Begins big own n → slice_get own i ≡ Some c → slice_get big i ≡ Some c

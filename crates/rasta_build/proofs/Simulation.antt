@@ -1,22 +1,13 @@
 -- Along a run, the pass explains each first copy that crosses.
 use Rattle.std.proofs.Common.{◌≡◌, ℕ, suc, ◌+◌, ◌^◌, ◌<◌, ◌≤◌, List, [], ◌∷◌, ◌++◌, length, Option, Some, None, Result, Ok, slice_get, refl, ap, sym, ◌∙◌, arith, subst, ⊎_elim}
+use Rattle.rasta_build.proofs.Prelude.{Side, Client, Server, Packet, Parameters, AreParameters, FirstCopy, Station, IsSent, Sends, sends_count, Built, SidedCopy, first_of, explain}
+use Rattle.rasta_build.proofs.Prelude.{Pass, one_more, pass_on, passes, copy_goes, client_goes, server_goes, Begins}
 use Rattle.std.proofs.lemmas.List.{length_push}
-use Rattle.rasta_pcap.specs.declared.fault.Side.{Side}
-use Rattle.rasta_pcap.specs.declared.fault.Side.TheVariants.{Client, Server}
-use Rattle.rasta_udp.specs.Frame.{Packet}
-use Rattle.rasta_pdu.specs.Params.{Parameters, AreParameters}
-use Rattle.rasta_check.specs.Capture.Crossing.{FirstCopy}
-use Rattle.rasta_check.specs.Model.World.{Station, World, Step, side_moves, IsWithin}
+use Rattle.rasta_check.specs.Model.World.{World, Step, side_moves, IsWithin}
 use Rattle.rasta_check.proofs.Lists.{get_push}
-use Rattle.rasta_check.proofs.Capture.FaultlessLists.{IsSent}
 use Rattle.rasta_check.proofs.Capture.FirstCopies.{sent_once}
 use Rattle.rasta_check.proofs.Model.InvariantOfRuns.{All, few_made}
-use Rattle.rasta_check.proofs.Script.ScriptsOfRuns.{Both, Sends, sends_count}
-use Rattle.rasta_build.specs.Built.{Built}
-use Rattle.rasta_build.specs.Choices.{SidedCopy, first_of}
-use Rattle.rasta_build.specs.Explaining.{explain}
-use Rattle.rasta_build.specs.Proposing.{Pass, one_more, pass_on, passes, copy_goes, client_goes, server_goes}
-use Rattle.rasta_check.proofs.Capture.NextPackets.{Begins}
+use Rattle.rasta_check.proofs.Script.ScriptsOfRuns.{Both}
 use Rattle.rasta_build.proofs.SentLists.{begun_get, begun_next}
 use Rattle.rasta_build.proofs.Moves.{FollowsAt, Stays, MadeOne, Stands, moved}
 use Rattle.rasta_build.proofs.Comparisons.{lt_is, not_lt}

@@ -1,36 +1,21 @@
 -- What a pass has explained, its two scripts lead to.
 use Rattle.std.proofs.Common.{◌≡◌, ℕ, zero, suc, ◌+◌, ◌-◌, ◌^◌, ◌<◌, ◌≤◌, Bool, true, false, List, [], ◌∷◌, ◌++◌, length, Option, Some, None, Result, Ok, Err, slice_get, refl, ap, sym, ◌∙◌, arith, subst}
-use Rattle.std.specs.Prelude.{nat_lt, nat_le, if◌then◌else◌, ◌&&◌, ◌||◌, not, ◌==◌, option_map}
-use Rattle.std.proofs.lemmas.Bool.Decides.{nat_tests}
-use Rattle.std.proofs.lemmas.Option.{slice_get_within}
-use Rattle.rasta_pcap.specs.declared.fault.Side.{Side}
-use Rattle.rasta_pcap.specs.declared.fault.Side.TheVariants.{Client, Server}
-use Rattle.rasta_pcap.specs.Fault.{too_early_timeout}
-use Rattle.rasta_pdu.specs.Params.{Parameters}
-use Rattle.rasta_pdu.specs.Pdu.{SafetyPdu}
-use Rattle.rasta_pdu.specs.declared.quiet_point.Quiet.{Quiet}
-use Rattle.rasta_pdu.specs.declared.kind.Kind.{Kind}
-use Rattle.rasta_pdu.specs.declared.kind.Kind.TheVariants.{ConnectionRequest, ConnectionResponse, RetransmissionRequest, RetransmissionResponse, DisconnectionRequest, Heartbeat, Data, RetransmittedData}
+use Rattle.rasta_build.proofs.Prelude.{nat_lt, nat_le, if◌then◌else◌, ◌&&◌, ◌||◌, not, ◌==◌, option_map, nat_tests, slice_get_within, Side, Client, Server, too_early_timeout}
+use Rattle.rasta_build.proofs.Prelude.{Parameters, SafetyPdu, Quiet, Kind, RetransmissionRequest, RetransmissionResponse, DisconnectionRequest, Heartbeat, Data, Why, Bye, Expired}
+use Rattle.rasta_build.proofs.Prelude.{TakeRow, EndState, ahead_by, is_owing, is_retr_req, reason_of, start_of, start_by, make_fault, row_of, after_make, MakeRow, effect}
+use Rattle.rasta_build.proofs.Prelude.{effect_by, after_take, take_row, take_fault, no_test, FirstCopy, base, base_by, base_small, Built, peer_quiet_sn, copy_at, is_before}
+use Rattle.rasta_build.proofs.Prelude.{is_trigger, wants_trigger, first_of, clock_of}
+use Rattle.rasta_pdu.specs.declared.kind.Kind.TheVariants.{ConnectionRequest, ConnectionResponse, RetransmittedData}
 use Rattle.rasta_cert.specs.Certificate.{IsReason, IsEntry, AreEntries}
 use Rattle.rasta_cert.specs.declared.entry.Entry.{Entry}
 use Rattle.rasta_cert.specs.declared.entry.Entry.TheVariants.{Take, Make}
-use Rattle.rasta_end.specs.declared.why.Why.{Why}
-use Rattle.rasta_end.specs.declared.why.Why.TheVariants.{Open, Reply, Beat, Fresh, Again, Ask, Bye, Expired}
-use Rattle.rasta_end.specs.declared.take_row.TakeRow.{TakeRow}
-use Rattle.rasta_end.specs.State.{EndState, ahead_by, is_owing, is_retr_req, reason_of}
-use Rattle.rasta_end.specs.Starts.{start_of, start_by}
-use Rattle.rasta_end.specs.MakeRule.{make_fault, row_of, after_make_by, after_make}
-use Rattle.rasta_end.specs.declared.make_row.MakeRow.{MakeRow}
-use Rattle.rasta_end.specs.TakeRule.{effect, effect_by, after_take, take_row, take_fault}
-use Rattle.rasta_end.proofs.MakeTests.{no_test}
-use Rattle.rasta_check.specs.Capture.Crossing.{FirstCopy}
+use Rattle.rasta_end.specs.declared.why.Why.TheVariants.{Open, Reply, Beat, Fresh, Again, Ask}
+use Rattle.rasta_end.specs.MakeRule.{after_make_by}
 use Rattle.rasta_check.specs.Script.Following.{Cursor, Advances, takes_next, makes_next, Leads, at_start}
-use Rattle.rasta_check.proofs.Model.Steps.{base, base_by, base_small, start_base}
+use Rattle.rasta_check.proofs.Model.Steps.{start_base}
 use Rattle.rasta_build.specs.Proposing
 use Rattle.rasta_check.proofs.Script.ScriptsOfRuns.{leads_more}
-use Rattle.rasta_build.specs.Built.{Built}
-use Rattle.rasta_build.specs.Choices.{peer_quiet_sn, copy_there, copy_at, is_before, is_trigger, wants_trigger, has_to_take, why_by, why_beating, next_unit, in_32_bits, position_named, first_of}
-use Rattle.rasta_build.specs.Clock.{clock_of}
+use Rattle.rasta_build.specs.Choices.{copy_there, has_to_take, why_by, why_beating, next_unit, in_32_bits, position_named}
 use Rattle.rasta_build.specs.Explaining
 use Rattle.rasta_build.proofs.Comparisons.{less_is, not_less}
 use Rattle.rasta_build.proofs.Keeping.{accept_keeps, trigger_next}

@@ -1,43 +1,25 @@
 -- A builder's end follows a station of a run.
 use Rattle.std.proofs.Common.{◌≡◌, ℕ, suc, ◌^◌, ◌<◌, ◌≤◌, ◌⊎◌, Bool, true, false, List, [], ◌∷◌, length, Option, Some, None, refl, ap, sym, ◌∙◌, arith, inl, inr, subst, ⊎_elim, cond}
-use Rattle.std.specs.Prelude.{not, ◌&&◌, ◌||◌, ◌==◌, map, filter, is_some, slice_get}
-use Rattle.rasta_pcap.specs.declared.fault.Side.{Side}
-use Rattle.rasta_pcap.specs.declared.fault.Side.TheVariants.{Client, Server}
-use Rattle.rasta_pdu.specs.Params.{Parameters}
-use Rattle.rasta_pdu.specs.Pdu.{SafetyPdu, is_kind}
-use Rattle.rasta_pdu.specs.declared.kind.Kind.{Kind}
-use Rattle.rasta_end.specs.declared.owed.Owed.{Owed}
-use Rattle.rasta_end.specs.declared.phase.Phase.{Phase}
-use Rattle.rasta_end.specs.declared.phase.Phase.TheVariants.{Closed, Start}
-use Rattle.rasta_end.specs.declared.take_row.TakeRow.{TakeRow}
-use Rattle.rasta_end.specs.declared.why.Why.{Why}
-use Rattle.rasta_end.specs.declared.make_row.MakeRow.{MakeRow}
-use Rattle.rasta_end.specs.State.{Made, EndState, first_sn, is_owing, is_closed, is_client, is_start, is_active, is_connected, is_retr_req, content_of}
-use Rattle.rasta_end.specs.Starts.{start_of}
-use Rattle.rasta_end.specs.MakeRule.{make_fault, has_ended, contents, after_make, phase_after}
-use Rattle.rasta_end.specs.TakeRule.{effect_by, take_row, after_take, take_fault, is_in, is_ahead, is_valid}
-use Rattle.rasta_end.proofs.MakeTests.{no_test}
+use Rattle.rasta_build.proofs.Prelude.{not, ◌&&◌, ◌||◌, ◌==◌, Side, Client, Server, Parameters, SafetyPdu, is_kind, Kind, Owed, Phase, Closed, Start, TakeRow, Why, MakeRow, Made}
+use Rattle.rasta_build.proofs.Prelude.{EndState, first_sn, is_owing, is_closed, is_client, is_start, is_active, is_retr_req, content_of, start_of, make_fault, has_ended}
+use Rattle.rasta_build.proofs.Prelude.{after_make, effect_by, take_row, after_take, take_fault, is_in, is_ahead, no_test, FirstCopy, passed, Making, opening, answer, ask, made_by}
+use Rattle.rasta_build.proofs.Prelude.{after_row, take_leaves, Numbered, Taken, Valued, Built, first_sn_of, catch_up, explain, earliest_by, Data}
+use Rattle.std.specs.Prelude.{map, filter, is_some, slice_get}
+use Rattle.rasta_end.specs.State.{is_connected}
+use Rattle.rasta_end.specs.MakeRule.{contents, phase_after}
+use Rattle.rasta_end.specs.TakeRule.{is_valid}
 use Rattle.rasta_check.proofs.Script.ScriptsOfRuns.{earlier}
-use Rattle.rasta_check.specs.Capture.Crossing.{FirstCopy}
-use Rattle.rasta_check.proofs.Model.PassedTests.{passed}
-use Rattle.rasta_check.proofs.Model.MakeRows.{Making, opening, answer, again, ask, beat, fresh, made_by, after_row, new_made}
-use Rattle.rasta_check.proofs.Model.TakeRows.{closed_row, not_closed, take_leaves}
-use Rattle.rasta_check.proofs.Model.SequenceNumbers.{Numbered}
+use Rattle.rasta_check.proofs.Model.MakeRows.{again, beat, fresh, new_made}
+use Rattle.rasta_check.proofs.Model.TakeRows.{closed_row, not_closed}
 use Rattle.rasta_check.proofs.Model.Invariant.{Held}
 use Rattle.rasta_check.proofs.Model.InvariantAtMake.{nothing_made, push_some}
-use Rattle.rasta_check.proofs.Model.InvariantAtTake.{Taken}
 use Rattle.rasta_check.proofs.Model.InvariantOfRuns.{free}
-use Rattle.rasta_check.proofs.Model.OfferedUnits.{Valued}
-use Rattle.rasta_build.specs.Built.{Built}
-use Rattle.rasta_build.specs.Choices.{first_sn_of}
-use Rattle.rasta_build.specs.Explaining.{catch_up, explain, earliest_by}
 use Rattle.rasta_build.proofs.Readiness.{IsReady}
 use Rattle.rasta_build.proofs.Scans.{AreCopies, is_gap}
 use Rattle.rasta_build.proofs.Lags.{Pending, IsLag}
 use Rattle.rasta_build.proofs.LagTakes.{lag_row}
 use Rattle.rasta_build.proofs.Explanations.{IsOrigin, base_accepted, explains, gap_owes, ahead_owes}
 use Rattle.rasta_build.proofs.Comparisons.{is_same}
-use Rattle.rasta_pdu.specs.declared.kind.Kind.TheVariants.{Data}
 
 -- the builder's end lags behind a run's end, and was the same, but for its times, at the last make
 pub record Live (p : Parameters) (start : Option ℕ) (side : Side) (quiet_sn : Option ℕ) (base0 : ℕ) (e : EndState) (taken : ℕ) (ms : List Made) (sent : List FirstCopy) (b : Built) : Type 0 where

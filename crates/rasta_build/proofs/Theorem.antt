@@ -1,16 +1,8 @@
 -- The proposal is complete.
 use Rattle.std.proofs.Common.{◌≡◌, ℕ, List, length, Result, Err, refl, ap, sym, arith, subst, ⊎_elim}
-use Rattle.rasta_pcap.specs.Fault.{fault_at, no_memory, not_found}
-use Rattle.rasta_pcap.specs.declared.fault.Fault.{Fault}
-use Rattle.rasta_pcap.specs.declared.fault.Side.TheVariants.{Client, Server}
-use Rattle.rasta_udp.specs.Frame.{Packet}
-use Rattle.rasta_pdu.specs.Params.{Parameters}
-use Rattle.rasta_cert.specs.Certificate.{Scripts}
-use Rattle.rasta_check.specs.Capture.Crossing.{FirstCopy, Sent}
-use Rattle.rasta_check.specs.Model.Theorem.{OfConnection}
-use Rattle.rasta_check.proofs.Capture.ListForms.{to_record}
-use Rattle.rasta_build.specs.Completeness.{CanCross, IsExplained, IsAnswer, IsComplete}
-use Rattle.rasta_build.specs.Proposing.{proposal}
+use Rattle.rasta_build.proofs.Prelude.{fault_at, no_memory, not_found, Fault, Client, Server, Packet, Parameters, Scripts, FirstCopy, Sent, OfConnection, to_record, CanCross}
+use Rattle.rasta_build.proofs.Prelude.{proposal}
+use Rattle.rasta_build.specs.Completeness.{IsExplained, IsAnswer, IsComplete}
 use Rattle.rasta_build.proofs.Passes.{explained, finds_none}
 use Rattle.rasta_build.proofs.Place.{exact}
 use Rattle.rasta_build.proofs.Proposals.{passed_fits}

@@ -1,15 +1,9 @@
 -- Two ends that differ in their clock and their deadline alone.
 use Rattle.std.proofs.Common.{◌≡◌, ℕ, ◌+◌, ◌*◌, ◌≤◌, ◌⊎◌, Bool, true, false, Option, Some, None, refl, ap, sym, ◌∙◌, arith, inl, subst}
-use Rattle.std.specs.Prelude.{if◌then◌else◌}
-use Rattle.std.proofs.lemmas.Bool.Decides.{nat_tests}
-use Rattle.rasta_pdu.specs.Params.{Parameters}
-use Rattle.rasta_pdu.specs.Pdu.{SafetyPdu}
-use Rattle.rasta_end.specs.declared.phase.Phase.TheVariants.{Up}
-use Rattle.rasta_end.specs.declared.take_row.TakeRow.{TakeRow}
-use Rattle.rasta_end.specs.declared.take_row.TakeRow.TheVariants.{Opened, Answered, FirstHeartbeat, InSequence, ResentInSequence, Resumed, Requested}
-use Rattle.rasta_end.specs.State.{EndState, is_timed, carries_unit}
-use Rattle.rasta_end.specs.MakeRule.{is_past}
-use Rattle.rasta_end.specs.TakeRule.{deadline_from, hand_up, effect, accept, enter}
+use Rattle.rasta_build.proofs.Prelude.{if◌then◌else◌, nat_tests, Parameters, SafetyPdu, Up, TakeRow, Opened, Answered, FirstHeartbeat, InSequence, ResentInSequence, Resumed}
+use Rattle.rasta_build.proofs.Prelude.{Requested, EndState, carries_unit, is_past, hand_up, effect, accept, enter}
+use Rattle.rasta_end.specs.State.{is_timed}
+use Rattle.rasta_end.specs.TakeRule.{deadline_from}
 
 -- the same end with another clock and another deadline
 abbrev pub timed : ℕ → Option ℕ → EndState → EndState

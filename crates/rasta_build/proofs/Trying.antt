@@ -1,16 +1,10 @@
 -- What completeness asks of an answer, tried on one that gives up, and on two that name a place.
 use Rattle.std.proofs.Common.{◌≡◌, ℕ, ◌+◌, ◌<◌, ◌≤◌, List, [], length, Err, None, refl, ap, arith}
-use Rattle.rasta_pcap.specs.Fault.{fault_at, no_memory, not_found}
-use Rattle.rasta_pcap.specs.declared.fault.Fault.{Fault}
-use Rattle.rasta_pcap.specs.declared.fault.Side.{Side}
-use Rattle.rasta_pcap.specs.declared.fault.Side.TheVariants.{Client, Server}
-use Rattle.rasta_pdu.specs.Params.{Parameters}
-use Rattle.rasta_udp.specs.Frame.{Packet}
-use Rattle.rasta_end.specs.Starts.{start_of}
-use Rattle.rasta_check.specs.Capture.Crossing.{CrossRecorded, FirstCopy, Sent}
+use Rattle.rasta_build.proofs.Prelude.{fault_at, no_memory, not_found, Fault, Side, Client, Server, Parameters, Packet, start_of, FirstCopy, Sent, CanCross}
+use Rattle.rasta_check.specs.Capture.Crossing.{CrossRecorded}
 use Rattle.rasta_check.specs.Model.Theorem.{most_packets}
 use Rattle.rasta_check.specs.Model.World.{first_world, end_of, begins, most_sent}
-use Rattle.rasta_build.specs.Completeness.{IsBounded, CanCross, IsComplete}
+use Rattle.rasta_build.specs.Completeness.{IsBounded, IsComplete}
 
 -- where nothing crossed, nothing was sent
 nothing_sent : (p : Parameters) (side : Side) → Sent p [] side []

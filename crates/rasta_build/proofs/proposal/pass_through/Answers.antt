@@ -1,6 +1,5 @@
 use Rattle.std.proofs.Common.{Result, Ok, ap, sym, refl, arith, subst}
-use Rattle.std.specs.Result.{IfErr}
-use Rattle.rasta_build.specs.Proposing.{Pass}
+use Rattle.rasta_build.proofs.Prelude.{IfErr, Pass}
 use Rattle.rasta_build.specs.Stopping.{IsStopped}
 use Rattle.rasta_build.specs.declared.obstacles.Stop.{Stop}
 use Rattle.rasta_build.proofs.Answering.{passes_more, pass_stops, pass_ends, are_bound, err_is}

@@ -1,5 +1,5 @@
 use Rattle.std.proofs.Common.{◌≡◌, Ok}
-use Rattle.rasta_build.specs.Proposing.{passes}
+use Rattle.rasta_build.proofs.Prelude.{passes}
 use Rattle.rasta_build.proofs.proposal.pass_through.Given as goal
 
 -- so many first copies are explained

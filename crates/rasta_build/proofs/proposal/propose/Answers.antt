@@ -1,8 +1,6 @@
 use Rattle.std.proofs.Common.{ℕ, List, subst}
+use Rattle.rasta_build.proofs.Prelude.{Scripts, IsCertificate, FirstCopy, BothFit}
 use Rattle.std.specs.Result.{IfOk}
-use Rattle.rasta_cert.specs.Certificate.{Scripts, IsCertificate}
-use Rattle.rasta_check.specs.Capture.Crossing.{FirstCopy}
-use Rattle.rasta_check.specs.Verdict.Report.{BothFit}
 use Rattle.rasta_build.proofs.proposal.propose.Goals as goal
 
 pub returns-clause-fits : goal.returns-clause-fits

@@ -1,11 +1,8 @@
 use Rattle.std.proofs.Common.{◌≡◌, ◌∙◌, ℕ, Some, ap, subst}
+use Rattle.rasta_build.proofs.Prelude.{Side, Client, Server, first_of, Pass}
 use Rattle.std.specs.Prelude.{slice_get}
-use Rattle.rasta_pcap.specs.declared.fault.Side.{Side}
-use Rattle.rasta_pcap.specs.declared.fault.Side.TheVariants.{Client, Server}
 use Rattle.rasta_pdu.specs.declared.pdu.Pdu.{Pdu}
 use Rattle.rasta_check.specs.Capture.Lists.{copy_of}
-use Rattle.rasta_build.specs.Choices.{first_of}
-use Rattle.rasta_build.specs.Proposing.{Pass}
 use Rattle.rasta_build.proofs.Answering.{sided, next_is, client_next, server_next}
 use Rattle.rasta_build.proofs.proposal.Pass.explain_next.Goals as goal
 

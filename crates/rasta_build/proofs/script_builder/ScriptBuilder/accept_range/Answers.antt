@@ -1,7 +1,6 @@
 use Rattle.std.proofs.Common.{◌≡◌, ◌-◌, ◌≤◌, ◌∙◌, None, arith, rules}
+use Rattle.rasta_build.proofs.Prelude.{accept_from, Unexplained}
 use Rattle.std.proofs.lemmas.Grind.{common_steps}
-use Rattle.rasta_build.specs.Explaining.{accept_from}
-use Rattle.rasta_build.specs.declared.stuck.Stuck.TheVariants.{Unexplained}
 use Rattle.rasta_build.proofs.Keeping.{accept_keeps, accept_more, accept_stuck}
 use Rattle.rasta_build.proofs.script_builder.ScriptBuilder.accept_range.Goals as goal
 

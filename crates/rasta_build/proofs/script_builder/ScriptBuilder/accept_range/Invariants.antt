@@ -1,5 +1,5 @@
 use Rattle.std.proofs.Common.{◌≡◌, ◌<◌, ◌-◌, ◌^◌, Some}
-use Rattle.rasta_build.specs.Explaining.{accept_from}
+use Rattle.rasta_build.proofs.Prelude.{accept_from}
 use Rattle.rasta_build.proofs.script_builder.ScriptBuilder.accept_range.Given as goal
 
 -- the positions before this one are accepted

@@ -1,9 +1,8 @@
 use Rattle.std.proofs.Common.{◌≡◌, suc, Some, None, rules, ◌∙◌, subst}
+use Rattle.rasta_build.proofs.Prelude.{make_fault, Built, clock_of}
 use Rattle.std.proofs.lemmas.Result.{on_ok_weaker}
 use Rattle.rasta_pdu.specs.Pdu.{value_of}
-use Rattle.rasta_end.specs.MakeRule.{make_fault, IsMakeRefusal}
-use Rattle.rasta_build.specs.Built.{Built}
-use Rattle.rasta_build.specs.Clock.{clock_of}
+use Rattle.rasta_end.specs.MakeRule.{IsMakeRefusal}
 use Rattle.rasta_build.specs.Explaining.{least_later}
 use Rattle.rasta_build.proofs.LaterMakes.{if_stuck, never_made, is_made, made_noted}
 use Rattle.rasta_build.proofs.script_builder.ScriptBuilder.make_later.Goals as goal

@@ -1,5 +1,5 @@
 use Rattle.std.proofs.Common.{◌∙◌, length, ap, arith}
-use Rattle.rasta_build.specs.Built.{Built}
+use Rattle.rasta_build.proofs.Prelude.{Built}
 use Rattle.rasta_build.proofs.Keeping.{try_keeps, scan_on, scan_ends}
 use Rattle.rasta_build.proofs.script_builder.ScriptBuilder.scan.Goals as goal
 
