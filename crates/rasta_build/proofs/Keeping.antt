@@ -1,5 +1,5 @@
 -- What the steps of an end keep of it, and how far they raise what is accepted.
-use Rattle.std.proofs.Common.{◌≡◌, ℕ, zero, suc, ◌+◌, ◌-◌, ◌^◌, ◌<◌, ◌≤◌, Bool, true, false, List, [], ◌∷◌, length, Option, Some, None, refl, ap, ◌∙◌, arith, subst}
+use Rattle.std.proofs.Common.{◌≡◌, ℕ, zero, suc, ◌+◌, ◌-◌, ◌^◌, ◌<◌, ◌≤◌, Bool, true, false, List, [], ◌∷◌, length, Option, Some, None, refl, ap, sym, ◌∙◌, arith, subst, ⊎_elim}
 use Rattle.rasta_build.proofs.Prelude.{nat_lt, if◌then◌else◌, ◌==◌, Parameters, SafetyPdu, RedundancyPdu, Kind, RetransmissionRequest, RetransmissionResponse, TakeRow}
 use Rattle.rasta_build.proofs.Prelude.{FirstHeartbeat, InSequence, ResentInSequence, Resumed, Requested, Owed, EndState, carries_unit, is_owing, accept, enter, hand_up, is_in}
 use Rattle.rasta_build.proofs.Prelude.{steps_past_next, effect, effect_by, after_take, take_row, take_fault, FirstCopy, row_known, Built, copy_at, is_trigger, unless, taken_by}
@@ -7,41 +7,25 @@ use Rattle.rasta_build.proofs.Prelude.{take_step, accept_from}
 use Rattle.rasta_check.proofs.Model.Acceptance.{accepted_after}
 use Rattle.rasta_build.specs.Explaining.{if_accepted, accept_there, accept_step, and_then, try_at, try_there, try_step, go_on, scan}
 use Rattle.rasta_build.proofs.Comparisons.{was_same}
+use Rattle.rasta_build.proofs.Succeeding.{took, accepted, tried}
 
 -- the parameters stay, and so much more is accepted
 abbrev pub Keeps : Built → Built → Type 0
 Keeps b b' = (b'.end.params ≡ b.end.params) × (b'.end.state.accepted ≤ b.end.state.accepted + 2 ^ 32)
 
 pub take_keeps : (slot q : ℕ) (x : RedundancyPdu) (b b' : Built) → take_step slot q x b ≡ Some b' → Keeps b b'
-take_keeps slot q x b b' h = by (nat_lt q b.next_take) (take_fault b.end.params b.end.state b.end.state.clock) (take_row b.end.params b.end.state x.safety) refl h
+take_keeps slot q x b b' h = (let t = took slot q x b b' h in rw (sym t.after) (by t.row t.is))
   where
-    by : (f : Bool) (t : Option ℕ) (o : Option TakeRow) → take_row b.end.params b.end.state x.safety ≡ o → (if f then None else unless t (taken_by o slot q x b)) ≡ Some b' → Keeps b b'
-    by true t o w h = absurd (cc)
-    by false (Some f) o w h = absurd (cc)
-    by false None None w h = (let e : b ≡ b' = cc in subst (λ (z : Built). Keeps b z) e (refl, omega arith))
-    by false None (Some row) w h =
-        let e : taken_by (Some row) slot q x b ≡ b' = cc in
-        let after : after_take b.end.params b.end.state x.safety ≡ effect b.end.params row b.end.state x.safety = ap (λ (o : Option TakeRow). effect_by b.end.params o b.end.state x.safety) w in
-        subst (λ (z : Built). Keeps b z) e (refl, subst (λ (z : EndState). z.accepted ≤ b.end.state.accepted + 2 ^ 32) after (accepted_after b.end.params b.end.state x.safety))
+    by : (o : Option TakeRow) → take_row b.end.params b.end.state x.safety ≡ o → Keeps b (taken_by o slot q x b)
+    by None w = (refl, omega arith)
+    by (Some row) w = (refl, rw w at (accepted_after b.end.params b.end.state x.safety))
 
 -- where a position is accepted, it is the last one
 abbrev pub Accepts : ℕ → Built → Built → Type 0
 Accepts q b b' = (b'.end.params ≡ b.end.params) × (b'.end.state.accepted ≡ suc q)
 
 pub accept_keeps : (sent : List FirstCopy) (slot q : ℕ) (b b' : Built) → accept_step sent slot q b ≡ Some b' → Accepts q b b'
-accept_keeps sent slot q b b' h = by (copy_at b.peer.quiet_sn sent q) h
-  where
-    last_by : (x : Built) → Keeps b x → (f : Bool) → (x.end.state.accepted == suc q) ≡ f → (if f then Some x else None) ≡ Some b' → Accepts q b b'
-    last_by x k true e h = (let z : x ≡ b' = cc in subst (λ (y : Built). Accepts q b y) z (k.0, was_same x.end.state.accepted (suc q) e))
-    last_by x k false e h = absurd (cc)
-
-    then_by : (c : FirstCopy) (o : Option Built) → take_step slot q c.pdu b ≡ o → if_accepted q o ≡ Some b' → Accepts q b b'
-    then_by c None e h = absurd (cc)
-    then_by c (Some x) e h = last_by x (take_keeps slot q c.pdu b x e) (x.end.state.accepted == suc q) refl h
-
-    by : (o : Option FirstCopy) → accept_there slot q o b ≡ Some b' → Accepts q b b'
-    by None h = absurd (cc)
-    by (Some c) h = then_by c (take_step slot q c.pdu b) refl h
+accept_keeps sent slot q b b' h = (let a = accepted sent slot q b b' h in ((take_keeps slot q a.copy.pdu b b' a.taken).0, a.last))
 
 -- one PDU more is accepted
 pub accept_more : (sent : List FirstCopy) (slot first q : ℕ) (b b1 b2 : Built) → first ≤ q → accept_from sent slot first (q - first) b ≡ Some b1 → accept_step sent slot q b1 ≡ Some b2
@@ -97,19 +81,9 @@ scan_ends sent slot made q bound b b1 l h some =
 
 -- a PDU that is tried
 pub try_keeps : (sent : List FirstCopy) (slot : ℕ) (made : Kind) (q : ℕ) (b b' : Built) → try_step sent slot made q b ≡ Some b' → Keeps b b'
-try_keeps sent slot made q b b' h = there (copy_at b.peer.quiet_sn sent q) h
-  where
-    tried : (c : FirstCopy) (t : Bool) → try_at t slot q c.pdu b ≡ Some b' → Keeps b b'
-    tried c true h = take_keeps slot q c.pdu b b' h
-    tried c false h = (let e : b ≡ b' = cc in subst (λ (z : Built). Keeps b z) e (refl, omega arith))
-
-    front_by : (c : FirstCopy) (f : Bool) → (if f then try_at (is_trigger made c.pdu.safety.kind) slot q c.pdu b else None) ≡ Some b' → Keeps b b'
-    front_by c true h = tried c (is_trigger made c.pdu.safety.kind) h
-    front_by c false h = absurd (cc)
-
-    there : (o : Option FirstCopy) → try_there slot made q b o ≡ Some b' → Keeps b b'
-    there None h = absurd (cc)
-    there (Some c) h = front_by c (nat_lt c.place slot) h
+try_keeps sent slot made q b b' h =
+    let t = tried sent slot made q b b' h in
+    ⊎_elim (λ (same : b ≡ b'). subst (Keeps b) same (refl, omega arith)) (λ w. take_keeps slot q t.copy.pdu b b' w.1) t.taken
 
 -- ---- what an end answers or asks for is accepted in sequence, if at all
 
@@ -135,10 +109,8 @@ row_next p e x made t Requested w = (let k = row_known p e x Requested w in next
 row_next p e x made t _ w = omega arith
 
 pub trigger_next : (made : Kind) (slot q : ℕ) (x : RedundancyPdu) (b b' : Built) → is_trigger made x.safety.kind ≡ true → take_step slot q x b ≡ Some b' → b'.end.state.accepted ≤ suc b.end.state.accepted
-trigger_next made slot q x b b' t h = by (nat_lt q b.next_take) (take_fault b.end.params b.end.state b.end.state.clock) (take_row b.end.params b.end.state x.safety) refl h
+trigger_next made slot q x b b' t h = (let w = took slot q x b b' h in rw (sym w.after) (by w.row w.is))
   where
-    by : (f : Bool) (g : Option ℕ) (o : Option TakeRow) → take_row b.end.params b.end.state x.safety ≡ o → (if f then None else unless g (taken_by o slot q x b)) ≡ Some b' → b'.end.state.accepted ≤ suc b.end.state.accepted
-    by true g o w h = absurd (cc)
-    by false (Some f) o w h = absurd (cc)
-    by false None None w h = (let e : b ≡ b' = cc in subst (λ (z : Built). z.end.state.accepted ≤ suc b.end.state.accepted) e (omega arith))
-    by false None (Some row) w h = (let e : taken_by (Some row) slot q x b ≡ b' = cc in subst (λ (z : Built). z.end.state.accepted ≤ suc b.end.state.accepted) e (row_next b.end.params b.end.state x.safety made t row w))
+    by : (o : Option TakeRow) → take_row b.end.params b.end.state x.safety ≡ o → (taken_by o slot q x b).end.state.accepted ≤ suc b.end.state.accepted
+    by None w = omega arith
+    by (Some row) w = row_next b.end.params b.end.state x.safety made t row w
