@@ -35,49 +35,28 @@ pub record IsOrigin (p : Parameters) (start : Option ℕ) (side : Side) (quiet_s
 -- ---- when something has to be taken
 
 tells : (o c d u : Bool) → (not o && (not c && not (d && u))) ≡ true → (o ≡ false) × (c ≡ false) × ((d ≡ true) → (u ≡ true) → ⊥)
-tells false false false u h = (refl, refl, λ a b. cc)
-tells false false true false h = (refl, refl, λ a b. cc)
-tells false false true true h = absurd (cc)
-tells false true d u h = absurd (cc)
-tells true c d u h = absurd (cc)
+tells o c d u h = grind arith
 
 tells_not : (o c d u : Bool) → (not o && (not c && not (d && u))) ≡ false → (o ≡ true) ⊎ (((o ≡ false) × (c ≡ true)) ⊎ ((d ≡ true) × (u ≡ true)))
-tells_not true c d u h = inl refl
-tells_not false true d u h = inr (inl (refl, refl))
-tells_not false false true true h = inr (inr (refl, refl))
-tells_not false false true false h = absurd (cc)
-tells_not false false false u h = absurd (cc)
+tells_not o c d u h = grind arith
 
 judges : (c d a s ph : Bool) → c ≡ false → ((d ≡ true) → (a ≡ true) → (s ≡ true) → (ph ≡ true) → ⊥) → (not c && not (d && (a && (s && ph)))) ≡ true
-judges true d a s ph h n = absurd (cc)
-judges false true true true true h n = absurd (n refl refl refl refl)
-judges false false a s ph h n = refl
-judges false true false s ph h n = refl
-judges false true true false ph h n = refl
-judges false true true true false h n = refl
+judges c d a s ph h n = grind arith
 
 three : (s ph a : Bool) → (s && (ph && a)) ≡ true → (s ≡ true) × (ph ≡ true) × (a ≡ true)
-three true true true h = (refl, refl, refl)
-three _ _ _ h = absurd (cc)
-
-all_three : (s ph a : Bool) → s ≡ true → ph ≡ true → a ≡ true → (s && (ph && a)) ≡ true
-all_three s ph a x y z = rw x (rw y (rw z refl))
+three s ph a h = grind arith
 
 unjudged : (c d a s ph v : Bool) → d ≡ true → a ≡ true → s ≡ true → ph ≡ true → ((not c && not (d && (a && (s && ph)))) && v) ≡ false
-unjudged true d a s ph v w x y z = refl
-unjudged false d a s ph v w x y z = rw w (rw x (rw y (rw z refl)))
+unjudged c d a s ph v w x y z = grind arith
 
 and_false : (b : Bool) → (b && false) ≡ false
-and_false true = refl
-and_false false = refl
+and_false b = grind arith
 
 start_open : (ph : Phase) → is_start ph ≡ true → (is_closed ph ≡ false) × (is_active ph ≡ true) × (is_retr_req ph ≡ false)
-start_open Start h = (refl, refl, refl)
-start_open _ h = absurd (cc)
+start_open ph h = grind arith
 
 active_open : (ph : Phase) → is_active ph ≡ true → is_closed ph ≡ false
-active_open Closed h = absurd (cc)
-active_open _ h = refl
+active_open ph h = grind arith
 
 over_not : (b c : Bool) → b ≡ false → (b && c) ≡ false
 over_not b c h = rw h refl
@@ -85,9 +64,6 @@ over_not b c h = rw h refl
 opens_only : (s : Side) (ph : Phase) (why : Why) (k : Kind) (os : List Owed) (row : MakeRow) → Making s ph why k os row → is_kind ConnectionRequest k ≡ true → (s ≡ Client) × (ph ≡ Closed)
 opens_only s ph why k os row opening h = (refl, refl)
 opens_only s ph why k os row _ h = absurd (cc)
-
-same_zero : (n : ℕ) → n ≡ 0 → (n == 0) ≡ true
-same_zero n h = grind (arith, nat_tests)
 
 pub gap_owes : (p : Parameters) (base : EndState) (y : SafetyPdu) (row : TakeRow) → is_gap row ≡ true → (rest : List Owed) × ((effect p row base y).owed ≡ OweRetransmissionRequest ∷ rest)
 gap_owes p base y Gap h = ([], refl)
@@ -111,15 +87,13 @@ one_less zero h = absurd (omega arith)
 one_less (suc i) h = (i, refl)
 
 second_off : (j v : Bool) → j ≡ true → (j && v) ≡ false → v ≡ false
-second_off true v h g = g
-second_off false v h g = absurd (cc)
+second_off j v h g = grind arith
 
 off_by : (j v w : Bool) → v ≡ w → w ≡ false → (j && v) ≡ false
-off_by j v w h g = (let z : v ≡ false = h ∙ g in rw z (and_false j))
+off_by j v w h g = grind arith
 
 waits_open : (ph : Phase) → ph ≡ RetrReq → is_closed ph ≡ false
-waits_open RetrReq h = refl
-waits_open _ h = absurd (cc)
+waits_open ph h = rw h refl
 
 module _ (p : Parameters) (start : Option ℕ) (side : Side) (quiet_sn : Option ℕ) (e : EndState) (taken : ℕ) (ms : List Made) (sent : List FirstCopy) (b : Built) (base0 n place k : ℕ) (x : SafetyPdu) (why : Why)
     (ok : make_fault p e x k why ≡ None) (bounded : k < 2 ^ 64) (waits : p.t_max ≤ 60000) (from : start ≡ (start_of p side).deadline) (low_start : earliest_by p start ≤ 2 ^ 63)
@@ -240,7 +214,7 @@ module _ (p : Parameters) (start : Option ℕ) (side : Side) (quiet_sn : Option 
         let at : b.end.state.accepted ≡ 0 = (let l = lag.low in omega (arith, ac, z, l)) in
         let sd : is_client b.side ≡ true = ap is_client (b_side ∙ sym same_side) ∙ s in
         ⊎_elim
-        (λ (h : e ≡ lag.base). all_three (is_client b.side) (is_start b.end.state.phase) (b.end.state.accepted == 0) sd (ap (λ (g : EndState). is_start g.phase) r.state ∙ (ap (λ (g : EndState). is_start g.phase) (sym h) ∙ ph)) (same_zero b.end.state.accepted at))
+        (λ (h : e ≡ lag.base). (let on = ap (λ (g : EndState). is_start g.phase) r.state ∙ (ap (λ (g : EndState). is_start g.phase) (sym h) ∙ ph) in grind (arith, nat_tests)))
         (λ (q : Pending p lag.base lag.mark e taken ms). absurd (let l = left_is q in let w = start_open e.phase ph in let v : is_retr_req e.phase ≡ true = ap is_retr_req l.phase in let u = w.2 in cc))
         lag.stage
 
