@@ -8,6 +8,10 @@ use Rattle.rasta_pdu.specs.Params.{IsQuiet}
 use Rattle.rasta_cert.specs.Certificate.{AreEntries, IsEntry}
 use Rattle.rasta_cert.specs.declared.entry.Entry.{Entry}
 use Rattle.rasta_check.specs.Capture.Crossing.{CrossRecorded}
+use Rattle.rasta_check.specs.Capture.Faults.{sent_of}
+use Rattle.rasta_check.specs.Model.World.{other_side}
+use Rattle.rasta_check.proofs.Sides.{sided}
+use Rattle.rasta_build.specs.Proposing.{side_goes}
 use Rattle.rasta_check.specs.Model.World.{most_sent}
 use Rattle.rasta_check.specs.Model.Theorem.{most_packets}
 use Rattle.rasta_check.specs.Script.Following.{Cursor, Advances, takes_next, makes_next, Leads, at_start, Follows}
@@ -72,22 +76,53 @@ start_clock slack (Some q) h Server = (let z = h.server.clock_most in omega (ari
 
 -- ---- what a pass has explained crossed before what it hasn't
 
+-- how many first copies of a side it has explained
+abbrev pub count_of : Pass → Side → ℕ
+count_of t Client = t.made
+count_of t Server = t.answered
+
 -- a place between them
 pub record IsFront (c s : List FirstCopy) (t : Pass) : Type 0 where
   pub low : ℕ
-  pub passed : (i : ℕ) (d : FirstCopy) → i < t.made → slice_get c i ≡ Some d → d.place < low
-  pub their_passed : (i : ℕ) (d : FirstCopy) → i < t.answered → slice_get s i ≡ Some d → d.place < low
-  pub next : (d : FirstCopy) → slice_get c t.made ≡ Some d → low ≤ d.place
-  pub their_next : (d : FirstCopy) → slice_get s t.answered ≡ Some d → low ≤ d.place
-  pub most : t.made ≤ length c
-  pub their_most : t.answered ≤ length s
+  pub passed : (x : Side) (i : ℕ) (d : FirstCopy) → i < count_of t x → slice_get (sent_of x c s) i ≡ Some d → d.place < low
+  pub next : (x : Side) (d : FirstCopy) → slice_get (sent_of x c s) (count_of t x) ≡ Some d → low ≤ d.place
+  pub most : (x : Side) → count_of t x ≤ length (sent_of x c s)
 
 -- this place is one
 record IsParted (c s : List FirstCopy) (t : Pass) (q : ℕ) : Type 0 where
-  pub passed : (i : ℕ) (d : FirstCopy) → i < t.made → slice_get c i ≡ Some d → d.place < q
-  pub their_passed : (i : ℕ) (d : FirstCopy) → i < t.answered → slice_get s i ≡ Some d → d.place < q
-  pub next : (d : FirstCopy) → slice_get c t.made ≡ Some d → q ≤ d.place
-  pub their_next : (d : FirstCopy) → slice_get s t.answered ≡ Some d → q ≤ d.place
+  pub passed : (x : Side) (i : ℕ) (d : FirstCopy) → i < count_of t x → slice_get (sent_of x c s) i ≡ Some d → d.place < q
+  pub next : (x : Side) (d : FirstCopy) → slice_get (sent_of x c s) (count_of t x) ≡ Some d → q ≤ d.place
+
+-- what holds of a side and of the other holds of both
+either_side : (x : Side) (P : Side → Type 0) → P x → P (other_side x) → (y : Side) → P y
+either_side Client P a b Client = a
+either_side Client P a b Server = b
+either_side Server P a b Client = b
+either_side Server P a b Server = a
+
+-- a copy of this side is explained
+record Goes (x : Side) (t t' : Pass) : Type 0 where
+  went : count_of t' x ≡ suc (count_of t x)
+  stays : count_of t' (other_side x) ≡ count_of t (other_side x)
+
+abbrev side_by : Side → Pass → ℕ → Option Built → Result Pass ℕ
+side_by Client = client_goes
+side_by Server = server_goes
+
+goes_by : (x : Side) (t t' : Pass) (place : ℕ) (o : Option Built) → side_by x t place o ≡ Ok t' → Goes x t t'
+goes_by x t t' place o h = grind arith
+
+goes : (x : Side) (c s : List FirstCopy) (t t' : Pass) (d : FirstCopy) → side_goes x c s t d ≡ Ok t' → Goes x t t'
+goes Client c s t t' d h = goes_by Client t t' d.place _ h
+goes Server c s t t' d h = goes_by Server t t' d.place _ h
+
+-- or the pass fails at its place
+stops_by : (x : Side) (t : Pass) (place q : ℕ) (o : Option Built) → side_by x t place o ≡ Err q → place ≡ q
+stops_by x t place q o h = grind arith
+
+stops : (x : Side) (c s : List FirstCopy) (t : Pass) (d : FirstCopy) (q : ℕ) → side_goes x c s t d ≡ Err q → d.place ≡ q
+stops Client c s t d q h = stops_by Client t d.place q _ h
+stops Server c s t d q h = stops_by Server t d.place q _ h
 
 same_member : (xs : List FirstCopy) (i : ℕ) (a b : FirstCopy) → slice_get xs i ≡ Some a → slice_get xs i ≡ Some b → a.place ≡ b.place
 same_member xs i a b g h = (let e : a ≡ b = cc in ap (λ (z : FirstCopy). z.place) e)
@@ -96,6 +131,10 @@ not_there : (xs : List FirstCopy) (i : ℕ) (a : FirstCopy) → slice_get xs i �
 not_there xs i a g h = cc
 
 module _ (p : Parameters) (packets : List Packet) (c s : List FirstCopy) (hc : IsSent p packets Client c) (hs : IsSent p packets Server s) where
+  lists : (x : Side) → IsSent p packets x (sent_of x c s)
+  lists Client = hc
+  lists Server = hs
+
   -- no packet is of both sides
   apart : (i j : ℕ) (d f : FirstCopy) → slice_get c i ≡ Some d → slice_get s j ≡ Some f → d.place ≡ f.place → ⊥
   apart i j d f x y e =
@@ -107,41 +146,25 @@ module _ (p : Parameters) (packets : List Packet) (c s : List FirstCopy) (hc : I
       let o : Client ≡ Server = sym v.2 ∙ (ap (λ (k : Packet). k.side) z ∙ w.2) in
       absurd (cc)
 
-  client_front : (t t' : Pass) (d : FirstCopy) → slice_get c t.made ≡ Some d → ((f : FirstCopy) → slice_get s t.answered ≡ Some f → d.place < f.place) → IsFront c s t → (o : Option Built) → client_goes t d.place o ≡ Ok t' → IsFront c s t'
-  client_front t t' d g before r None h = absurd (cc)
-  client_front t t' d g before r (Some b) h =
-      let z : record t { made = suc t.made; own = b } ≡ t' = cc in
-      let low = r.next d g in
-      subst (λ (y : Pass). IsFront c s y) z (record {
+  -- the next copy of a side is explained, which crossed before that of the other
+  side_front : (x : Side) (t t' : Pass) (d : FirstCopy) → slice_get (sent_of x c s) (count_of t x) ≡ Some d
+      → ((f : FirstCopy) → slice_get (sent_of (other_side x) c s) (count_of t (other_side x)) ≡ Some f → d.place < f.place) → IsFront c s t → side_goes x c s t d ≡ Ok t' → IsFront c s t'
+  side_front x t t' d g before r h =
+      let go = goes x c s t t' d h in
+      let own = sent_of x c s in
+      let low = r.next x d g in
+      record {
         low = suc d.place;
-        passed = λ i f l k. elim (dec_lt i t.made) [
-          | yes y ↦ (let v = r.passed i f y k in omega (arith, v, low))
-          | no y ↦ (let w : i ≡ t.made = omega (arith, y, l) in let v = same_member c t.made d f g (subst (λ n. slice_get c n ≡ Some f) w k) in omega (arith, v))
-        ];
-        their_passed = λ i f l k. (let v = r.their_passed i f l k in omega (arith, v, low));
-        next = λ f k. (let v = hc.rising t.made d f g k in omega (arith, v));
-        their_next = λ f k. (let v = before f k in omega (arith, v));
-        most = (let v = slice_get_within c t.made d g in omega (arith, v));
-        their_most = r.their_most;
-      })
-
-  server_front : (t t' : Pass) (d : FirstCopy) → slice_get s t.answered ≡ Some d → ((f : FirstCopy) → slice_get c t.made ≡ Some f → d.place < f.place) → IsFront c s t → (o : Option Built) → server_goes t d.place o ≡ Ok t' → IsFront c s t'
-  server_front t t' d g before r None h = absurd (cc)
-  server_front t t' d g before r (Some b) h =
-      let z : record t { answered = suc t.answered; other = b } ≡ t' = cc in
-      let low = r.their_next d g in
-      subst (λ (y : Pass). IsFront c s y) z (record {
-        low = suc d.place;
-        passed = λ i f l k. (let v = r.passed i f l k in omega (arith, v, low));
-        their_passed = λ i f l k. elim (dec_lt i t.answered) [
-          | yes y ↦ (let v = r.their_passed i f y k in omega (arith, v, low))
-          | no y ↦ (let w : i ≡ t.answered = omega (arith, y, l) in let v = same_member s t.answered d f g (subst (λ n. slice_get s n ≡ Some f) w k) in omega (arith, v))
-        ];
-        next = λ f k. (let v = before f k in omega (arith, v));
-        their_next = λ f k. (let v = hs.rising t.answered d f g k in omega (arith, v));
-        most = r.most;
-        their_most = (let v = slice_get_within s t.answered d g in omega (arith, v));
-      })
+        passed = either_side x (λ y. (i : ℕ) (f : FirstCopy) → i < count_of t' y → slice_get (sent_of y c s) i ≡ Some f → f.place < suc d.place)
+            (λ i f l k. elim (dec_lt i (count_of t x)) [
+              | yes z ↦ omega (arith, r.passed x i f z k, low)
+              | no z ↦ (let w : i ≡ count_of t x = omega (arith, z, l, go.went) in omega (arith, same_member own (count_of t x) d f g (subst (λ n. slice_get own n ≡ Some f) w k)))
+            ])
+            (λ i f l k. omega (arith, r.passed (other_side x) i f (omega (arith, l, go.stays)) k, low));
+        next = either_side x (λ y. (f : FirstCopy) → slice_get (sent_of y c s) (count_of t' y) ≡ Some f → suc d.place ≤ f.place)
+            (λ f k. (lists x).rising (count_of t x) d f g (subst (λ n. slice_get own n ≡ Some f) go.went k)) (λ f k. before f (subst (λ n. slice_get (sent_of (other_side x) c s) n ≡ Some f) go.stays k));
+        most = either_side x (λ y. count_of t' y ≤ length (sent_of y c s)) (omega (arith, go.went, slice_get_within own (count_of t x) d g)) (omega (arith, go.stays, r.most (other_side x)));
+      }
 
   -- the server's next copy crossed before the client's, where it isn't the other way
   server_first : (t : Pass) (d f : FirstCopy) → slice_get c t.made ≡ Some d → slice_get s t.answered ≡ Some f → nat_lt d.place f.place ≡ false → f.place < d.place
@@ -154,18 +177,24 @@ module _ (p : Parameters) (packets : List Packet) (c s : List FirstCopy) (hc : I
 
   one_front : (t t' : Pass) → IsFront c s t → (a b : Option FirstCopy) → slice_get c t.made ≡ a → slice_get s t.answered ≡ b → copy_goes c s t (first_of a b) ≡ Ok t' → IsFront c s t'
   one_front t t' r None None x y h = (let z : t ≡ t' = cc in subst (λ (k : Pass). IsFront c s k) z r)
-  one_front t t' r (Some d) None x y h = client_front t t' d x (λ f k. absurd (not_there s t.answered f y k)) r _ h
-  one_front t t' r None (Some d) x y h = server_front t t' d y (λ f k. absurd (not_there c t.made f x k)) r _ h
+  one_front t t' r (Some d) None x y h = side_front Client t t' d x (λ f k. absurd (not_there s t.answered f y k)) r h
+  one_front t t' r None (Some d) x y h = side_front Server t t' d y (λ f k. absurd (not_there c t.made f x k)) r h
   one_front t t' r (Some d) (Some f) x y h = by (nat_lt d.place f.place) refl h
     where
       by : (l : Bool) → nat_lt d.place f.place ≡ l → copy_goes c s t (Some (if l then record { side = Client; copy = d } else record { side = Server; copy = f })) ≡ Ok t' → IsFront c s t'
-      by true e h = (let l = less_is d.place f.place e in client_front t t' d x (λ g k. (let v = same_member s t.answered f g y k in omega (arith, v, l))) r _ h)
-      by false e h = (let l = server_first t d f x y e in server_front t t' f y (λ g k. (let v = same_member c t.made d g x k in omega (arith, v, l))) r _ h)
+      by true e h = side_front Client t t' d x (λ g k. omega (arith, same_member s t.answered f g y k, less_is d.place f.place e)) r h
+      by false e h = side_front Server t t' f y (λ g k. omega (arith, same_member c t.made d g x k, server_first t d f x y e)) r h
+
+  first_front : IsFront c s (first_pass p)
+  first_front = record {
+    low = 0;
+    passed = sided (λ y. (i : ℕ) (d : FirstCopy) → i < count_of (first_pass p) y → slice_get (sent_of y c s) i ≡ Some d → d.place < 0) (λ i d l g. absurd (omega (arith, l))) (λ i d l g. absurd (omega (arith, l)));
+    next = λ x d g. omega arith;
+    most = sided (λ y. count_of (first_pass p) y ≤ length (sent_of y c s)) (omega arith) (omega arith);
+  }
 
   pub passes_front : (k : ℕ) (t : Pass) → passes p c s k ≡ Ok t → IsFront c s t
-  passes_front zero t h =
-      let z : first_pass p ≡ t = cc in
-      subst (λ (y : Pass). IsFront c s y) z (record { low = 0; passed = λ i d l g. absurd (omega (arith, l)); their_passed = λ i d l g. absurd (omega (arith, l)); next = λ d g. omega arith; their_next = λ d g. omega arith; most = omega arith; their_most = omega arith })
+  passes_front zero t h = (let z : first_pass p ≡ t = cc in subst (IsFront c s) z first_front)
   passes_front (suc k) t h = then_by k t (passes p c s k) refl h (λ u e. passes_front k u e)
     where
       then_by : (k : ℕ) (t : Pass) (r : Result Pass ℕ) → passes p c s k ≡ r → pass_on r (one_more c s) ≡ Ok t → ((u : Pass) → passes p c s k ≡ Ok u → IsFront c s u) → IsFront c s t
@@ -173,39 +202,26 @@ module _ (p : Parameters) (packets : List Packet) (c s : List FirstCopy) (hc : I
       then_by k t (Ok u) e h rest = one_front u t (rest u e) (slice_get c u.made) (slice_get s u.answered) refl refl h
 
   -- where the pass fails
-  client_parted : (t : Pass) (d : FirstCopy) (q : ℕ) → slice_get c t.made ≡ Some d → ((f : FirstCopy) → slice_get s t.answered ≡ Some f → d.place ≤ f.place) → IsFront c s t → (o : Option Built) → client_goes t d.place o ≡ Err q → IsParted c s t q
-  client_parted t d q g before r (Some b) h = absurd (cc)
-  client_parted t d q g before r None h =
-      let z : d.place ≡ q = cc in
-      let low = r.next d g in
+  side_parted : (x : Side) (t : Pass) (d : FirstCopy) (q : ℕ) → slice_get (sent_of x c s) (count_of t x) ≡ Some d
+      → ((f : FirstCopy) → slice_get (sent_of (other_side x) c s) (count_of t (other_side x)) ≡ Some f → d.place ≤ f.place) → IsFront c s t → side_goes x c s t d ≡ Err q → IsParted c s t q
+  side_parted x t d q g before r h =
+      let z = stops x c s t d q h in
+      let low = r.next x d g in
       record {
-        passed = λ i f l k. (let v = r.passed i f l k in omega (arith, v, low, z));
-        their_passed = λ i f l k. (let v = r.their_passed i f l k in omega (arith, v, low, z));
-        next = λ f k. (let v = same_member c t.made d f g k in omega (arith, v, z));
-        their_next = λ f k. (let v = before f k in omega (arith, v, z));
-      }
-
-  server_parted : (t : Pass) (d : FirstCopy) (q : ℕ) → slice_get s t.answered ≡ Some d → ((f : FirstCopy) → slice_get c t.made ≡ Some f → d.place ≤ f.place) → IsFront c s t → (o : Option Built) → server_goes t d.place o ≡ Err q → IsParted c s t q
-  server_parted t d q g before r (Some b) h = absurd (cc)
-  server_parted t d q g before r None h =
-      let z : d.place ≡ q = cc in
-      let low = r.their_next d g in
-      record {
-        passed = λ i f l k. (let v = r.passed i f l k in omega (arith, v, low, z));
-        their_passed = λ i f l k. (let v = r.their_passed i f l k in omega (arith, v, low, z));
-        next = λ f k. (let v = before f k in omega (arith, v, z));
-        their_next = λ f k. (let v = same_member s t.answered d f g k in omega (arith, v, z));
+        passed = λ y i f l k. omega (arith, r.passed y i f l k, low, z);
+        next = either_side x (λ y. (f : FirstCopy) → slice_get (sent_of y c s) (count_of t y) ≡ Some f → q ≤ f.place)
+            (λ f k. omega (arith, same_member (sent_of x c s) (count_of t x) d f g k, z)) (λ f k. omega (arith, before f k, z));
       }
 
   parted_by : (t : Pass) (q : ℕ) → IsFront c s t → (a b : Option FirstCopy) → slice_get c t.made ≡ a → slice_get s t.answered ≡ b → copy_goes c s t (first_of a b) ≡ Err q → IsParted c s t q
   parted_by t q r None None x y h = absurd (cc)
-  parted_by t q r (Some d) None x y h = client_parted t d q x (λ f k. absurd (not_there s t.answered f y k)) r _ h
-  parted_by t q r None (Some d) x y h = server_parted t d q y (λ f k. absurd (not_there c t.made f x k)) r _ h
+  parted_by t q r (Some d) None x y h = side_parted Client t d q x (λ f k. absurd (not_there s t.answered f y k)) r h
+  parted_by t q r None (Some d) x y h = side_parted Server t d q y (λ f k. absurd (not_there c t.made f x k)) r h
   parted_by t q r (Some d) (Some f) x y h = by (nat_lt d.place f.place) refl h
     where
       by : (l : Bool) → nat_lt d.place f.place ≡ l → copy_goes c s t (Some (if l then record { side = Client; copy = d } else record { side = Server; copy = f })) ≡ Err q → IsParted c s t q
-      by true e h = (let l = less_is d.place f.place e in client_parted t d q x (λ g k. (let v = same_member s t.answered f g y k in omega (arith, v, l))) r _ h)
-      by false e h = (let l = not_less d.place f.place e in server_parted t f q y (λ g k. (let v = same_member c t.made d g x k in omega (arith, v, l))) r _ h)
+      by true e h = side_parted Client t d q x (λ g k. omega (arith, same_member s t.answered f g y k, less_is d.place f.place e)) r h
+      by false e h = side_parted Server t f q y (λ g k. omega (arith, same_member c t.made d g x k, not_less d.place f.place e)) r h
 
 -- ---- the beginning of a list
 
@@ -243,12 +259,12 @@ module _ (p : Parameters) (valid : AreParameters p) (packets : List Packet) (c s
       (omega (arith, most)) (sent_numbers p packets Client c hc) (sent_numbers p packets Server s hs) f.k t f.before in
       let rc = a.client in
       let rs = a.server in
-      let mc : t.made ≡ length kc.0 = as_many p front Client c kc.0 t.made kc.1 kc.2 fr.most (λ i d l g. (let v = pt.passed i d l g in omega (arith, v, lp))) (λ d g. (let v = pt.next d g in omega (arith, v, lp))) in
-      let ms : t.answered ≡ length ks.0 = as_many p front Server s ks.0 t.answered ks.1 ks.2 fr.their_most (λ i d l g. (let v = pt.their_passed i d l g in omega (arith, v, lp))) (λ d g. (let v = pt.their_next d g in omega (arith, v, lp))) in
+      let mc : t.made ≡ length kc.0 = as_many p front Client c kc.0 t.made kc.1 kc.2 (fr.most Client) (λ i d l g. omega (arith, pt.passed Client i d l g, lp)) (λ d g. omega (arith, pt.next Client d g, lp)) in
+      let ms : t.answered ≡ length ks.0 = as_many p front Server s ks.0 t.answered ks.1 ks.2 (fr.most Server) (λ i d l g. omega (arith, pt.passed Server i d l g, lp)) (λ d g. omega (arith, pt.next Server d g, lp)) in
       let low_c = rc.low in
       let low_s = rs.low in
-      let below_c = a.below q pt.passed in
-      let below_s = a.their_below q pt.their_passed in
+      let below_c = a.below q (pt.passed Client) in
+      let below_s = a.their_below q (pt.passed Server) in
       let made_c = rc.made in
       let made_s = rs.made in
       let lead_c = leads_cut p (length packets) (length front) c s kc.0 ks.0 kc.2 ks.2 (λ j d l g. later_place p packets Server s ks.0 (length front) j d hs ks.2 l g) (at_start (start_of p Client)) rc.at t.own.script rc.leads
@@ -258,8 +274,8 @@ module _ (p : Parameters) (valid : AreParameters p) (packets : List Packet) (c s
       let fits_c : Follows p Client (length front) kc.0 ks.0 t.own.script rc.at.state = (rc.at, lead_c, rc.made ∙ mc, refl) in
       let fits_s : Follows p Server (length front) ks.0 kc.0 t.other.script rs.at.state = (rs.at, lead_s, rs.made ∙ ms, refl) in
       let r = simulated p front kc.0 ks.0 t.own.script t.other.script rc.at.state rs.at.state (recorded_front p front (drop q packets) packets whole recorded) kc.1 ks.1 fits_c fits_s in
-      let few_c = fr.most in
-      let few_s = fr.their_most in
+      let few_c = fr.most Client in
+      let few_s = fr.most Server in
       let kn = known p r.0 r.1 Client kc.0 ks.0 r.2 (subst (λ (k : List Packet). IsSent p k Client kc.0) (sym r.3) kc.1) (subst (λ (k : List Packet). IsSent p k Server ks.0) (sym r.3) ks.1)
       (omega (arith, mc, few_c, lc)) (omega (arith, ms, few_s, ls)) in
       let length_all = ap (λ (k : List Packet). length k) r.3 in

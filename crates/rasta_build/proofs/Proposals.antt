@@ -108,6 +108,6 @@ proposal_fits p packets c s crossing = subst (λ n. IsProposal p n c s (proposal
         let hc = to_record p crossing.0 Client c valid k.client_sent in
         let hs = to_record p crossing.0 Server s valid k.server_sent in
         let fr = passes_front p crossing.0 c s hc hs (all_copies c s) t e in
-        let g = gone_through c s t fr.most fr.their_most (passes_count p c s (all_copies c s) t e) in
+        let g = gone_through c s t (fr.most Client) (fr.most Server) (passes_count p c s (all_copies c s) t e) in
         let f = passed_fits p crossing.0 c s hc hs k.few_packets k.few_client k.few_server t e g.0 g.1 in
         subst (λ (o : Result Scripts Fault). IsProposal p (length crossing.0) c s o) (sym f.0) f.1
