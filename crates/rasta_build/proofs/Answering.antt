@@ -38,38 +38,12 @@ stays p c s k (suc m) n place e h =
 abbrev pub sided : Side → FirstCopy → SidedCopy
 sided side copy = record { side = side; copy = copy }
 
-is_copy : (x y : SidedCopy) → Some x ≡ Some y → x ≡ y
-is_copy x y h = (let z : x ≡ y = cc in z)
-
-same_copy : (side : Side) (d copy : FirstCopy) → Some (sided side d) ≡ Some (sided side copy) → Some d ≡ Some copy
-same_copy side d copy h = ap (λ (x : SidedCopy). Some x.copy) (is_copy (sided side d) (sided side copy) h)
-
-no_client : (f copy : FirstCopy) → Some (sided Server f) ≡ Some (sided Client copy) → ⊥
-no_client f copy h = (let q : Server ≡ Client = ap (λ (x : SidedCopy). x.side) (is_copy (sided Server f) (sided Client copy) h) in absurd (cc))
-
-no_server : (d copy : FirstCopy) → Some (sided Client d) ≡ Some (sided Server copy) → ⊥
-no_server d copy h = (let q : Client ≡ Server = ap (λ (x : SidedCopy). x.side) (is_copy (sided Client d) (sided Server copy) h) in absurd (cc))
-
 -- the copy that crossed first is of its side's list
 first_client : (a b : Option FirstCopy) (copy : FirstCopy) → first_of a b ≡ Some (sided Client copy) → a ≡ Some copy
-first_client None None copy h = absurd (cc)
-first_client (Some d) None copy h = same_copy Client d copy h
-first_client None (Some f) copy h = absurd (no_client f copy h)
-first_client (Some d) (Some f) copy h = by (nat_lt d.place f.place) h
-  where
-    by : (l : Bool) → Some (if l then sided Client d else sided Server f) ≡ Some (sided Client copy) → Some d ≡ Some copy
-    by true h = same_copy Client d copy h
-    by false h = absurd (no_client f copy h)
+first_client a b copy h = grind arith
 
 first_server : (a b : Option FirstCopy) (copy : FirstCopy) → first_of a b ≡ Some (sided Server copy) → b ≡ Some copy
-first_server None None copy h = absurd (cc)
-first_server None (Some f) copy h = same_copy Server f copy h
-first_server (Some d) None copy h = absurd (no_server d copy h)
-first_server (Some d) (Some f) copy h = by (nat_lt d.place f.place) h
-  where
-    by : (l : Bool) → Some (if l then sided Client d else sided Server f) ≡ Some (sided Server copy) → Some f ≡ Some copy
-    by true h = absurd (no_server d copy h)
-    by false h = same_copy Server f copy h
+first_server a b copy h = grind arith
 
 -- the copy that is found first is the first of both lists
 pub next_is : (c s : List FirstCopy) (made answered : ℕ) (x y : Option (ℕ × Pdu)) (o : Option (Side × (ℕ × Pdu))) (side : Side) (sent : ℕ × Pdu)
@@ -80,12 +54,10 @@ next_is c s made answered x y o side sent v w f is =
     sym e ∙ (sym f ∙ ap (option_map sided_copy) is)
 
 client_place : (t : Pass) (q place : ℕ) (o : Option Built) → client_goes t q o ≡ Err place → place ≡ q
-client_place t q place None h = (let e : place ≡ q = cc in e)
-client_place t q place (Some b) h = absurd (cc)
+client_place t q place o h = grind arith
 
 server_place : (t : Pass) (q place : ℕ) (o : Option Built) → server_goes t q o ≡ Err place → place ≡ q
-server_place t q place None h = (let e : place ≡ q = cc in e)
-server_place t q place (Some b) h = absurd (cc)
+server_place t q place o h = grind arith
 
 -- a script that can't go on stops a step at its copy, where the step fails for want of an explanation
 step_stops : (u : Stuck) (stop : Stop) (side : Side) (place : ℕ) (pass : Result Pass ℕ) → IsHaltAt u side place stop → (u ≡ Unexplained → pass ≡ Err place) → IsPassStop side pass stop
@@ -184,11 +156,7 @@ answer_fits p packets c s (Ok scripts) crossing (inl e) = absurd (cc)
 answer_fits p packets c s (Ok scripts) crossing (inr e) = subst (λ (o : Result Scripts Fault). IsProposal p packets c s o) (sym e) (proposal_fits p packets c s crossing)
 
 many : (t : Pass) (place : ℕ) → proposed_by (Ok t) ≡ Err (fault_at not_found place) → ⊥
-many t place h = by (nat_lt most_entries (length t.own.script + length t.other.script)) h
-  where
-    by : (f : Bool) → (if f then Err (fault_at too_many_entries 0) else Ok (scripts_of t)) ≡ Err (fault_at not_found place) → ⊥
-    by true h = (let e : fault_at too_many_entries 0 ≡ fault_at not_found place = cc in let n : too_many_entries ≡ not_found = ap (λ (x : Fault). x.number) e in omega (arith, n))
-    by false h = absurd (cc)
+many t place h = (let n : too_many_entries ≡ not_found → ⊥ = omega arith in grind arith)
 
 -- what a walk meets that is through, and one that is stopped
 pub none_met : (p : Parameters) (c s : List FirstCopy) (t : Pass) → passes p c s (all_copies c s) ≡ Ok t → IsMet p c s None
