@@ -55,7 +55,7 @@ and_false b = grind arith
 start_open : (ph : Phase) → is_start ph ≡ true → (is_closed ph ≡ false) × (is_active ph ≡ true) × (is_retr_req ph ≡ false)
 start_open ph h = grind arith
 
-active_open : (ph : Phase) → is_active ph ≡ true → is_closed ph ≡ false
+pub active_open : (ph : Phase) → is_active ph ≡ true → is_closed ph ≡ false
 active_open ph h = grind arith
 
 over_not : (b c : Bool) → b ≡ false → (b && c) ≡ false

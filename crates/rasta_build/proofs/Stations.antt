@@ -18,7 +18,7 @@ use Rattle.rasta_build.proofs.Readiness.{IsReady}
 use Rattle.rasta_build.proofs.Scans.{AreCopies, is_gap}
 use Rattle.rasta_build.proofs.Lags.{Pending, IsLag}
 use Rattle.rasta_build.proofs.LagTakes.{lag_row}
-use Rattle.rasta_build.proofs.Explanations.{IsOrigin, base_accepted, explains, gap_owes, ahead_owes}
+use Rattle.rasta_build.proofs.Explanations.{IsOrigin, active_open, base_accepted, explains, gap_owes, ahead_owes}
 use Rattle.rasta_build.proofs.Comparisons.{is_same}
 
 -- the builder's end lags behind a run's end, and was the same, but for its times, at the last make
@@ -37,11 +37,7 @@ pub record Follows (p : Parameters) (start : Option ℕ) (side : Side) (quiet_sn
 
 number_few : (ms : List Made) → length (contents ms) ≤ length ms
 number_few [] = omega arith
-number_few (m ∷ ms) = by (is_kind Data m.pdu.kind) (filter (λ (n : Made). is_kind Data n.pdu.kind) ms) (number_few ms)
-  where
-    by : (c : Bool) (rest : List Made) → length (map (λ (n : Made). content_of n.pdu.body) rest) ≤ length ms → length (map (λ (n : Made). content_of n.pdu.body) (cond c (m ∷ rest) rest)) ≤ suc (length ms)
-    by true rest h = omega (arith, h)
-    by false rest h = omega (arith, h)
+number_few (m ∷ ms) = (let rest = number_few ms in grind arith)
 
 pub offered_few : (e : EndState) → Valued e → length e.made ≤ 1000001 → e.offered ≤ 1000001
 offered_few e v l = (let c = v.contents.counted in let n = number_few e.made in omega (arith, c, n, l))
@@ -49,35 +45,21 @@ offered_few e v l = (let c = v.contents.counted in let n = number_few e.made in 
 -- ---- phases
 
 ended_if : (s : Side) (ph : Phase) (ms : List Made) → is_closed ph ≡ true → (s ≡ Client → ms ≡ [] → ⊥) → (is_closed ph && (not (is_client s) || is_some (slice_get ms 0))) ≡ true
-ended_if Server ph ms c h = rw c refl
-ended_if Client ph [] c h = absurd (h refl refl)
-ended_if Client ph (m ∷ ms) c h = rw c refl
+ended_if s ph [] c h = grind arith
+ended_if s ph (m ∷ ms) c h = grind arith
 
 over_closed : (b c : Bool) → (b && c) ≡ true → b ≡ true
-over_closed true c h = refl
-over_closed false c h = h
-
-active_open : (ph : Phase) → is_active ph ≡ true → is_closed ph ≡ false
-active_open Closed h = absurd (cc)
-active_open _ h = refl
+over_closed b c h = grind arith
 
 client_is : (s : Side) → is_client s ≡ true → s ≡ Client
-client_is Client e = refl
-client_is Server e = absurd (cc)
+client_is s e = grind arith
 
 no_start : (ph : Phase) → is_connected ph ≡ true → is_start ph ≡ true → ⊥
-no_start Start r h = cc
-no_start _ r h = cc
+no_start ph r h = grind arith
 
 -- a client that is in Start after a make was Closed
 start_by_opening : (s : Side) (ph : Phase) (why : Why) (k : Kind) (os : List Owed) (row : MakeRow) → Making s ph why k os row → is_client s ≡ true → is_start (phase_after row ph) ≡ true → ph ≡ Closed
-start_by_opening s ph why k os row opening c h = refl
-start_by_opening s ph why k os row (answer r) c h = absurd (no_start ph r h)
-start_by_opening s ph why k os row (again r) c h = absurd (no_start ph r h)
-start_by_opening s ph why k os row (ask r) c h = absurd (no_start ph r h)
-start_by_opening s ph why k os row (beat r) c h = absurd (no_start ph r h)
-start_by_opening s ph why k os row (fresh r) c h = absurd (no_start ph r h)
-start_by_opening s ph why k os row _ c h = absurd (cc)
+start_by_opening s ph why k os row how c h = grind (arith, no_start ph)
 
 -- ---- a take
 
