@@ -44,16 +44,10 @@ owes_wanted s ph why k os row _ = refl
 
 -- where a request is owed first, an end that is connected makes it, or ends
 pub asks_first : (s : Side) (ph : Phase) (why : Why) (k : Kind) (os rest : List Owed) (row : MakeRow) → Making s ph why k os row → os ≡ OweRetransmissionRequest ∷ rest → is_closed ph ≡ false → (k ≡ RetransmissionRequest) ⊎ (is_kind DisconnectionRequest k ≡ true)
-asks_first s ph why k os rest row (ask d) h c = inl refl
-asks_first s ph why k os rest row (bye d) h c = inr refl
-asks_first s ph why k os rest row (expired d) h c = inr refl
-asks_first s ph why k os rest row _ h c = absurd (cc)
+asks_first s ph why k os rest row h g l = grind arith
 
 pub answers_first : (s : Side) (ph : Phase) (why : Why) (k : Kind) (os rest : List Owed) (row : MakeRow) → Making s ph why k os row → os ≡ OweRetransmissionResponse ∷ rest → is_closed ph ≡ false → (k ≡ RetransmissionResponse) ⊎ (is_kind DisconnectionRequest k ≡ true)
-answers_first s ph why k os rest row (answer d) h c = inl refl
-answers_first s ph why k os rest row (bye d) h c = inr refl
-answers_first s ph why k os rest row (expired d) h c = inr refl
-answers_first s ph why k os rest row _ h c = absurd (cc)
+answers_first s ph why k os rest row h g l = grind arith
 
 -- ---- what CS names
 
@@ -88,17 +82,13 @@ through sent place i b b1 h l front = by (suc i == b.end.state.accepted) refl
 -- ---- a disconnection request
 
 pub disc_plain : (k : Kind) → is_kind DisconnectionRequest k ≡ true → wants_trigger k ≡ false
-disc_plain DisconnectionRequest h = refl
-disc_plain _ h = absurd (cc)
+disc_plain k h = grind arith
 
 pub disc_is : (k : Kind) → is_kind DisconnectionRequest k ≡ true → k ≡ DisconnectionRequest
-disc_is DisconnectionRequest h = refl
-disc_is _ h = absurd (cc)
+disc_is k h = grind arith
 
 leaving_why : (s : Side) (ph : Phase) (why : Why) (k : Kind) (os : List Owed) (row : MakeRow) → Making s ph why k os row → is_kind DisconnectionRequest k ≡ true → (why ≡ Bye) ⊎ (why ≡ Expired)
-leaving_why s ph why k os row (bye c) h = inl refl
-leaving_why s ph why k os row (expired c) h = inr refl
-leaving_why s ph why k os row _ h = absurd (cc)
+leaving_why s ph why k os row h g = grind arith
 
 -- the row of one
 abbrev pub IsLeaving : Side → Phase → ℕ → Why → Kind → Type 0
@@ -149,9 +139,7 @@ pub record LeftBy (base e : EndState) : Type 0 where
   pub owes : ((rest : List Owed) × (e.owed ≡ OweRetransmissionRequest ∷ rest)) ⊎ ((rest : List Owed) × (e.owed ≡ OweRetransmissionResponse ∷ rest))
 
 flowing_active : (ph : Phase) → is_flowing ph ≡ true → is_active ph ≡ true
-flowing_active Up h = refl
-flowing_active RetrRun h = refl
-flowing_active _ h = absurd (cc)
+flowing_active ph h = grind arith
 
 pub left_by : (p : Parameters) (base : EndState) (x : SafetyPdu) (row : TakeRow) → take_row p base x ≡ Some row → (is_gap row ≡ true) ⊎ (is_request_ahead row ≡ true) → LeftBy base (effect p row base x)
 left_by p base x Gap is h = (let w = row_known p base x Gap is in record { accepted = refl; last_sn = refl; made = refl; clock = refl; offered = refl; deadline = refl; times = λ c. refl; phase = refl; active = ap is_active w.0; owes = inl ([], refl) })

@@ -31,23 +31,16 @@ unit_accepted true i e x = refl
 unit_accepted false i e x = refl
 
 unit_phase : (c : Bool) (i : ℕ) (e : EndState) (x : SafetyPdu) → (if c then hand_up i e x else e).phase ≡ e.phase
-unit_phase true i e x = refl
-unit_phase false i e x = refl
+unit_phase c i e x = grind arith
 
 flowing_waits : (ph : Phase) → is_flowing ph ≡ true → is_retr_req ph ≡ false
-flowing_waits Up h = refl
-flowing_waits RetrRun h = refl
-flowing_waits _ h = absurd (cc)
+flowing_waits ph h = grind arith
 
 fresh_plain : (k : Kind) → is_heartbeat_or_data k ≡ true → is_kind RetransmissionResponse k ≡ false
-fresh_plain Heartbeat h = refl
-fresh_plain Data h = refl
-fresh_plain _ h = absurd (cc)
+fresh_plain k h = grind arith
 
 starting_peer : (s : Side) (ph : Phase) → s ≡ Server → ph ≡ Start → has_peer s ph ≡ true
-starting_peer Server Start d e = refl
-starting_peer Server _ d e = absurd (cc)
-starting_peer Client ph d e = absurd (cc)
+starting_peer s ph h g = grind arith
 
 module _ (p : Parameters) (e f : EndState) (t u : ℕ) (m : Made) (q : ℕ) (k : Taken e f t u m q) where
   -- an end that has accepted something finds the positions of its peer

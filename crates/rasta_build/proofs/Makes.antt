@@ -51,13 +51,10 @@ why_is x e trail s ph why k os row (bye c) h t b r = rw r refl
 why_is x e trail s ph why k os row (expired c) h t b r = rw r refl
 
 second : (a b : Bool) (row : MakeRow) (os : List Owed) → is_refused_row (then_some (a && b) row) os ≡ false → b ≡ true
-second true true row os h = refl
-second true false row os h = absurd (cc)
-second false b row os h = absurd (cc)
+second a b row os h = grind arith
 
 was_not : (b : Bool) → not b ≡ true → b ≡ false
-was_not true h = absurd (cc)
-was_not false h = refl
+was_not b h = grind arith
 
 pub reason_is : (s : Side) (ph : Phase) (reason : ℕ) (why : Why) (k : Kind) (os : List Owed) → is_refused_row (make_row s ph reason why k) os ≡ false → ReasonIs why reason
 reason_is s ph reason Bye DisconnectionRequest os h = was_not (reason == 4) (second (is_active ph) (not (reason == 4)) Leaves os h)

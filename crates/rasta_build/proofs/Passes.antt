@@ -162,12 +162,10 @@ record Failing (c s : List FirstCopy) (t : Pass) (place : ℕ) : Type 0 where
   pub at : copy.place ≡ place
 
 client_place : (t : Pass) (q place : ℕ) (o : Option Built) → client_goes t q o ≡ Err place → q ≡ place
-client_place t q place None h = cc
-client_place t q place (Some b) h = absurd (cc)
+client_place t q place o h = grind arith
 
 server_place : (t : Pass) (q place : ℕ) (o : Option Built) → server_goes t q o ≡ Err place → q ≡ place
-server_place t q place None h = cc
-server_place t q place (Some b) h = absurd (cc)
+server_place t q place o h = grind arith
 
 failing_by : (c s : List FirstCopy) (t : Pass) (place : ℕ) (a b : Option FirstCopy) → slice_get c t.made ≡ a → slice_get s t.answered ≡ b → copy_goes c s t (first_of a b) ≡ Err place → Failing c s t place
 failing_by c s t place None None x y h = absurd (cc)
@@ -181,12 +179,10 @@ failing_by c s t place (Some d) (Some f) x y h = by (nat_lt d.place f.place) h
 
 -- counts don't fall
 client_grows : (t t' : Pass) (q : ℕ) (o : Option Built) → client_goes t q o ≡ Ok t' → (t.made ≤ t'.made) × (t.answered ≤ t'.answered)
-client_grows t t' q None h = absurd (cc)
-client_grows t t' q (Some b) h = (let e : record t { made = suc t.made; own = b } ≡ t' = cc in let x = ap (λ (z : Pass). z.made) e in let y = ap (λ (z : Pass). z.answered) e in (omega (arith, x), omega (arith, y)))
+client_grows t t' q o h = grind arith
 
 server_grows : (t t' : Pass) (q : ℕ) (o : Option Built) → server_goes t q o ≡ Ok t' → (t.made ≤ t'.made) × (t.answered ≤ t'.answered)
-server_grows t t' q None h = absurd (cc)
-server_grows t t' q (Some b) h = (let e : record t { answered = suc t.answered; other = b } ≡ t' = cc in let x = ap (λ (z : Pass). z.made) e in let y = ap (λ (z : Pass). z.answered) e in (omega (arith, x), omega (arith, y)))
+server_grows t t' q o h = grind arith
 
 one_grows : (c s : List FirstCopy) (t t' : Pass) (o : Option SidedCopy) → copy_goes c s t o ≡ Ok t' → (t.made ≤ t'.made) × (t.answered ≤ t'.answered)
 one_grows c s t t' None h = (let e : t ≡ t' = cc in let x = ap (λ (z : Pass). z.made) e in let y = ap (λ (z : Pass). z.answered) e in (omega (arith, x), omega (arith, y)))

@@ -56,20 +56,10 @@ none_left xs i h =
     ]
 
 client_counts : (c s : List FirstCopy) (t t' : Pass) (q n : ℕ) (o : Option Built) → Counts c s t n → client_goes t q o ≡ Ok t' → Counts c s t' (suc n)
-client_counts c s t t' q n None r h = absurd (cc)
-client_counts c s t t' q n (Some b) r h = (let z : record t { made = suc t.made; own = b } ≡ t' = cc in subst (λ (y : Pass). Counts c s y (suc n)) z (more r))
-  where
-    more : Counts c s t n → Counts c s (record t { made = suc t.made; own = b }) (suc n)
-    more (inl e) = inl (omega (arith, e))
-    more (inr e) = (let x = e.0 in inr (omega (arith, x), e.1))
+client_counts c s t t' q n o h g = grind arith
 
 server_counts : (c s : List FirstCopy) (t t' : Pass) (q n : ℕ) (o : Option Built) → Counts c s t n → server_goes t q o ≡ Ok t' → Counts c s t' (suc n)
-server_counts c s t t' q n None r h = absurd (cc)
-server_counts c s t t' q n (Some b) r h = (let z : record t { answered = suc t.answered; other = b } ≡ t' = cc in subst (λ (y : Pass). Counts c s y (suc n)) z (more r))
-  where
-    more : Counts c s t n → Counts c s (record t { answered = suc t.answered; other = b }) (suc n)
-    more (inl e) = inl (omega (arith, e))
-    more (inr e) = (let x = e.1 in inr (e.0, omega (arith, x)))
+server_counts c s t t' q n o h g = grind arith
 
 one_counts : (c s : List FirstCopy) (t t' : Pass) (n : ℕ) → Counts c s t n → (a b : Option FirstCopy) → slice_get c t.made ≡ a → slice_get s t.answered ≡ b → copy_goes c s t (first_of a b) ≡ Ok t' → Counts c s t' (suc n)
 one_counts c s t t' n r None None x y h = (let z : t ≡ t' = cc in subst (λ (k : Pass). Counts c s k (suc n)) z (inr (none_left c t.made x, none_left s t.answered y)))
