@@ -1,8 +1,8 @@
 -- What a pass that is gone through step by step answers.
 use Rattle.std.proofs.Common.{◌≡◌, ℕ, zero, suc, ◌+◌, ◌-◌, ◌<◌, ◌^◌, ◌⊎◌, Bool, true, false, List, length, Option, Some, None, Result, Ok, Err, slice_get, refl, ap, sym, ◌∙◌, arith, inl, inr, subst}
 use Rattle.rasta_build.proofs.Prelude.{nat_lt, if◌then◌else◌, option_map, fault_at, no_memory, not_found, Fault, Side, Client, Server, Parameters, Scripts, IsCertificate}
-use Rattle.rasta_build.proofs.Prelude.{most_entries, FirstCopy, BothFit, to_record, base_small, IfErr, Built, SidedCopy, first_of, Pass, one_more, pass_on, passes, copy_goes}
-use Rattle.rasta_build.proofs.Prelude.{client_goes, server_goes, all_copies, proposal, proposed_by, scripts_of, explain, Unexplained}
+use Rattle.rasta_build.proofs.Prelude.{FirstCopy, BothFit, to_record, base_small, IfErr, Built, SidedCopy, first_of, Pass, one_more, pass_on, passes, copy_goes}
+use Rattle.rasta_build.proofs.Prelude.{client_goes, server_goes, all_copies, proposal, proposed_by, explain, Unexplained}
 use Rattle.rasta_pdu.specs.declared.pdu.Pdu.{Pdu}
 use Rattle.rasta_check.proofs.Script.ScriptsOfRuns.{taken_within}
 use Rattle.rasta_check.specs.Capture.Lists.{copy_of}
@@ -16,7 +16,6 @@ use Rattle.rasta_build.specs.declared.obstacles.Obstacle.{Obstacle}
 use Rattle.rasta_build.specs.declared.obstacles.Stop.{Stop}
 use Rattle.rasta_build.specs.declared.obstacles.Stop.TheVariants.{OutOfMemory, Blocked}
 use Rattle.rasta_build.specs.declared.stuck.Stuck.{Stuck}
-use Rattle.rasta_build.specs.declared.stuck.Stuck.TheVariants.{NoMemory}
 use Rattle.rasta_build.proofs.SentLists.{sent_rises, sent_numbers, sent_within}
 use Rattle.rasta_build.proofs.Soundness.{passes_read}
 use Rattle.rasta_build.proofs.Proposals.{proposal_fits}
@@ -24,9 +23,7 @@ use Rattle.rasta_build.proofs.Proposals.{proposal_fits}
 -- ---- a step
 
 pub passes_more : (p : Parameters) (c s : List FirstCopy) (k : ℕ) (t t' : Pass) → passes p c s k ≡ Ok t → one_more c s t ≡ Ok t' → passes p c s (k + 1) ≡ Ok t'
-passes_more p c s k t t' h m =
-    let next : k + 1 ≡ suc k = omega arith in
-    ap (λ (j : ℕ). passes p c s j) next ∙ (ap (λ (r : Result Pass ℕ). pass_on r (one_more c s)) h ∙ m)
+passes_more p c s k t t' h g = grind arith
 
 stays : (p : Parameters) (c s : List FirstCopy) (k m n place : ℕ) → n ≡ m + k → passes p c s k ≡ Err place → passes p c s n ≡ Err place
 stays p c s k zero n place e h = (let z : n ≡ k = omega (arith, e) in rw z h)
@@ -49,9 +46,7 @@ first_server a b copy h = grind arith
 pub next_is : (c s : List FirstCopy) (made answered : ℕ) (x y : Option (ℕ × Pdu)) (o : Option (Side × (ℕ × Pdu))) (side : Side) (sent : ℕ × Pdu)
     → option_map copy_of x ≡ slice_get c made → option_map copy_of y ≡ slice_get s answered → option_map sided_copy o ≡ first_of (option_map copy_of x) (option_map copy_of y)
     → o ≡ Some (side, sent) → first_of (slice_get c made) (slice_get s answered) ≡ Some (sided side (copy_of sent))
-next_is c s made answered x y o side sent v w f is =
-    let e : first_of (option_map copy_of x) (option_map copy_of y) ≡ first_of (slice_get c made) (slice_get s answered) = cc in
-    sym e ∙ (sym f ∙ ap (option_map sided_copy) is)
+next_is c s made answered x y o side sent h g k l = grind arith
 
 client_place : (t : Pass) (q place : ℕ) (o : Option Built) → client_goes t q o ≡ Err place → place ≡ q
 client_place t q place o h = grind arith
@@ -61,9 +56,7 @@ server_place t q place o h = grind arith
 
 -- a script that can't go on stops a step at its copy, where the step fails for want of an explanation
 step_stops : (u : Stuck) (stop : Stop) (side : Side) (place : ℕ) (pass : Result Pass ℕ) → IsHaltAt u side place stop → (u ≡ Unexplained → pass ≡ Err place) → IsPassStop side pass stop
-step_stops u OutOfMemory side place pass h k = tt
-step_stops NoMemory (Blocked met) side place pass h k = absurd (cc)
-step_stops Unexplained (Blocked met) side place pass h k = (h.0, k refl ∙ ap (λ (q : ℕ). Err q) (sym h.1))
+step_stops u stop side place pass h g = grind arith
 
 pub client_stops : (u : Stuck) (stop : Stop) (place : ℕ) (t : Pass) (o : Option Built) → IsHaltAt u Client place stop → (u ≡ Unexplained → o ≡ None) → IsPassStop Client (client_goes t place o) stop
 client_stops u stop place t o h k = step_stops u stop Client place (client_goes t place o) h (λ e. ap (client_goes t place) (k e))
@@ -117,13 +110,11 @@ pass_answers p c s t answer h a = inr (a ∙ sym (ap proposed_by h))
 
 -- or the fault of what stops it
 pub stop_answers : (p : Parameters) (c s : List FirstCopy) (stop : Stop) → IsStopped p c s stop → IsAnswer p c s (Err (fault_of_stop stop))
-stop_answers p c s OutOfMemory h = inl refl
-stop_answers p c s (Blocked met) h = inr (sym (ap proposed_by h.0))
+stop_answers p c s stop h = grind arith
 
 -- an error that is handed on
 pub err_is : {A E : Type 0} (r : Result A E) (y : E) → IsErr r → IsErrAnd r (λ (z : E). z ≡ y) → r ≡ Err y
-err_is (Ok x) y h k = absurd (cc)
-err_is (Err z) y h k = ap Err k
+err_is r y h g = grind arith
 
 -- ---- what an answer says
 

@@ -26,8 +26,7 @@ first_end (Some q) Client = record { owed = refl; asks = refl; offered = refl; s
 first_end (Some q) Server = record { owed = refl; asks = refl; offered = refl; side = refl; base = refl; accepted = refl; unopened = λ a b. absurd (cc); young = λ a b. absurd (cc) }
 
 near_itself : (p : Parameters) (start : Option ℕ) (c : ℕ) (d : Option ℕ) → start ≡ d → NearDeadlines p start c 0 d d
-near_itself p start c None h = tt
-near_itself p start c (Some d) h = (omega arith, omega arith, inr (h, refl))
+near_itself p start c d h = grind arith
 
 ready_first : (p : Parameters) (s : Side) (ms : List Made) → IsReady p (start_of p s).deadline s (peer_quiet_sn p.quiet s) (start_of p s) (start_of p s).base ms (built_at_start p s)
 ready_first p s ms =

@@ -1,9 +1,8 @@
 -- A take has an effect exactly where it is by a row.
-use Rattle.std.proofs.Common.{◌≡◌, ℕ, ◌<◌, ◌≤◌, Bool, true, false, List, [], length, Option, Some, None, Result, Ok, Err, refl, ap, sym, ◌∙◌, arith}
-use Rattle.rasta_build.proofs.Prelude.{nat_lt, if◌then◌else◌, nat_tests, Parameters, SafetyPdu, RedundancyPdu, Owed, Phase, Closed, Start, Up, RetrReq, RetrRun, TakeRow, Opened}
-use Rattle.rasta_build.proofs.Prelude.{Answered, FirstHeartbeat, InSequence, ResentInSequence, Gap, GapInRetransmission, Resumed, Requested, RequestedAhead, RequestedAgain}
-use Rattle.rasta_build.proofs.Prelude.{Disconnected, EndState, is_active, carries_unit, effect, effect_by, take_row, take_fault, after_take, accept, enter, hand_up, row_known}
-use Rattle.rasta_build.proofs.Prelude.{Built, unless, taken_by, take_step}
+use Rattle.std.proofs.Common.{◌≡◌, ℕ, ◌<◌, ◌≤◌, Bool, true, List, [], length, Option, Some, None, Result, Ok, Err, refl, ap, sym, ◌∙◌, arith}
+use Rattle.rasta_build.proofs.Prelude.{nat_lt, if◌then◌else◌, nat_tests, Parameters, SafetyPdu, RedundancyPdu, Owed, Phase, Closed, TakeRow}
+use Rattle.rasta_build.proofs.Prelude.{EndState, is_active, effect, effect_by, take_row, take_fault, after_take, hand_up}
+use Rattle.rasta_build.proofs.Prelude.{Built, taken_by, take_step}
 use Rattle.std.specs.Prelude.{OnOk}
 use Rattle.rasta_check.proofs.Model.TakeRows.{not_closed}
 use Rattle.rasta_check.proofs.Model.InvariantOfRuns.{free}
@@ -12,33 +11,16 @@ use Rattle.rasta_build.specs.Built.{lead, progress_of, note_take}
 use Rattle.rasta_build.proofs.Comparisons.{not_lt}
 
 unit_accepted : (c : Bool) (i : ℕ) (e : EndState) (x : SafetyPdu) → (if c then hand_up i e x else e).accepted ≡ e.accepted
-unit_accepted true i e x = refl
-unit_accepted false i e x = refl
+unit_accepted c i e x = grind arith
 
 longer : (os ps : List Owed) → 0 < length ps → os ≡ [] → length ps ≡ length os → ⊥
 longer os ps l h k = (let z = ap (λ (l : List Owed). length l) h in omega (arith, z, k, l))
 
 closing : (ph : Phase) → is_active ph ≡ true → Closed ≡ ph → ⊥
-closing Closed a e = cc
-closing Start a e = cc
-closing Up a e = cc
-closing RetrReq a e = cc
-closing RetrRun a e = cc
-closing _ a e = cc
+closing ph h g = grind arith
 
 moves : (p : Parameters) (e : EndState) (x : SafetyPdu) (row : TakeRow) → take_row p e x ≡ Some row → e.owed ≡ [] → progress_of (effect p row e x) ≡ progress_of e → ⊥
-moves p e x Opened is none h = longer e.owed (effect p Opened e x).owed (omega arith) none (ap (λ (g : Progress). g.owed) h)
-moves p e x Answered is none h = longer e.owed (effect p Answered e x).owed (omega arith) none (ap (λ (g : Progress). g.owed) h)
-moves p e x FirstHeartbeat is none h = (let w = row_known p e x FirstHeartbeat is in let z : Up ≡ e.phase = ap (λ (g : Progress). g.phase) h in let y : Up ≡ Start = z ∙ w.1 in cc)
-moves p e x InSequence is none h = (let a = unit_accepted (carries_unit x.kind) e.accepted (enter Up (accept p e x)) x in let z = ap (λ (g : Progress). g.accepted) h in omega (arith, a, z))
-moves p e x ResentInSequence is none h = (let a = unit_accepted (carries_unit x.kind) e.accepted (accept p e x) x in let z = ap (λ (g : Progress). g.accepted) h in omega (arith, a, z))
-moves p e x Gap is none h = longer e.owed (effect p Gap e x).owed (omega arith) none (ap (λ (g : Progress). g.owed) h)
-moves p e x GapInRetransmission is none h = longer e.owed (effect p GapInRetransmission e x).owed (omega arith) none (ap (λ (g : Progress). g.owed) h)
-moves p e x Resumed is none h = (let w = row_known p e x Resumed is in let z : RetrRun ≡ e.phase = ap (λ (g : Progress). g.phase) h in let y : RetrRun ≡ RetrReq = z ∙ w.0 in cc)
-moves p e x Requested is none h = longer e.owed (effect p Requested e x).owed (omega arith) none (ap (λ (g : Progress). g.owed) h)
-moves p e x RequestedAhead is none h = longer e.owed (effect p RequestedAhead e x).owed (omega arith) none (ap (λ (g : Progress). g.owed) h)
-moves p e x RequestedAgain is none h = longer e.owed (effect p RequestedAgain e x).owed (omega arith) none (ap (λ (g : Progress). g.owed) h)
-moves p e x Disconnected is none h = (let w = row_known p e x Disconnected is in closing e.phase w.0 (ap (λ (g : Progress). g.phase) h))
+moves p e x row h g k = grind arith
 
 -- a take that changes nothing that is looked at is the whole step
 pub take_unmoved : (slot q : ℕ) (x : RedundancyPdu) (b : Built) → b.next_take ≤ q → take_fault b.end.params b.end.state b.end.state.clock ≡ None
@@ -65,12 +47,7 @@ take_moved slot q x b l f h = by (take_row b.end.params b.end.state x.safety) re
 
 -- one that is refused is none
 pub take_refused : (slot q : ℕ) (x : RedundancyPdu) (b : Built) (fault : ℕ) → take_fault b.end.params b.end.state b.end.state.clock ≡ Some fault → take_step slot q x b ≡ None
-take_refused slot q x b fault f = by (nat_lt q b.next_take) (take_fault b.end.params b.end.state b.end.state.clock) f
-  where
-    by : (t : Bool) (o : Option ℕ) → o ≡ Some fault → (if t then None else unless o (taken_by (take_row b.end.params b.end.state x.safety) slot q x b)) ≡ None
-    by true o h = refl
-    by false None h = absurd (cc)
-    by false (Some g) h = refl
+take_refused slot q x b fault h = grind arith
 
 pub take_below : (slot q : ℕ) (x : RedundancyPdu) (b : Built) → q < b.next_take → take_step slot q x b ≡ None
 take_below slot q x b l = (let z : nat_lt q b.next_take ≡ true = grind (arith, nat_tests) in rw z refl)

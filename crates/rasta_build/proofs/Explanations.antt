@@ -1,10 +1,10 @@
 -- Where an end of a run makes a PDU, the builder explains it, and both ends are again the same but for their times.
 use Rattle.std.proofs.Common.{◌≡◌, ℕ, zero, suc, ◌+◌, ◌^◌, ◌<◌, ◌≤◌, ◌⊎◌, Bool, true, false, List, [], ◌∷◌, length, Option, Some, None, take, refl, ap, sym, ◌∙◌, arith, inl, inr, subst, ⊎_elim}
 use Rattle.rasta_build.proofs.Prelude.{not, ◌&&◌, ◌||◌, ◌==◌, option_map, nat_tests, slice_get_within, Side, Client, Parameters, SafetyPdu, is_kind, Kind, RetransmissionRequest}
-use Rattle.rasta_build.proofs.Prelude.{RetransmissionResponse, DisconnectionRequest, Owed, Phase, Closed, Start, RetrReq, TakeRow, Gap, GapInRetransmission, RequestedAhead}
+use Rattle.rasta_build.proofs.Prelude.{RetransmissionResponse, DisconnectionRequest, Owed, Phase, Closed, RetrReq, TakeRow, RequestedAhead}
 use Rattle.rasta_build.proofs.Prelude.{RequestedAgain, OweRetransmissionRequest, OweRetransmissionResponse, Why, MakeRow, Made, EndState, ahead_by, first_sn, is_owing, is_closed}
 use Rattle.rasta_build.proofs.Prelude.{is_client, is_start, is_active, is_retr_req, start_of, make_fault, has_ended, is_judged, confirms_last, confirms_a_time, is_past, is_early}
-use Rattle.rasta_build.proofs.Prelude.{is_expired, after_make, effect, take_row, is_ahead, no_test, FirstCopy, passed, Making, opening, made_by, row_known, number, Numbered, Built}
+use Rattle.rasta_build.proofs.Prelude.{is_expired, after_make, effect, take_row, is_ahead, no_test, FirstCopy, passed, Making, made_by, number, Numbered, Built}
 use Rattle.rasta_build.proofs.Prelude.{copy_at, is_before, first_sn_of, wants_trigger, catch_up, made_at, explain, earliest_by}
 use Rattle.rasta_pdu.specs.declared.kind.Kind.TheVariants.{ConnectionRequest}
 use Rattle.rasta_check.proofs.Model.PassedTests.{cs_is, Passed}
@@ -62,13 +62,10 @@ over_not : (b c : Bool) → b ≡ false → (b && c) ≡ false
 over_not b c h = rw h refl
 
 opens_only : (s : Side) (ph : Phase) (why : Why) (k : Kind) (os : List Owed) (row : MakeRow) → Making s ph why k os row → is_kind ConnectionRequest k ≡ true → (s ≡ Client) × (ph ≡ Closed)
-opens_only s ph why k os row opening h = (refl, refl)
-opens_only s ph why k os row _ h = absurd (cc)
+opens_only s ph why k os row h g = grind arith
 
 pub gap_owes : (p : Parameters) (base : EndState) (y : SafetyPdu) (row : TakeRow) → is_gap row ≡ true → (rest : List Owed) × ((effect p row base y).owed ≡ OweRetransmissionRequest ∷ rest)
-gap_owes p base y Gap h = ([], refl)
-gap_owes p base y GapInRetransmission h = ([], refl)
-gap_owes p base y _ h = absurd (cc)
+gap_owes p base y row h = grind arith
 
 pub ahead_owes : (p : Parameters) (base : EndState) (y : SafetyPdu) (row : TakeRow) → is_request_ahead row ≡ true → (rest : List Owed) × ((effect p row base y).owed ≡ OweRetransmissionResponse ∷ rest)
 ahead_owes p base y RequestedAhead h = (_, refl)
@@ -76,11 +73,7 @@ ahead_owes p base y RequestedAgain h = (_, refl)
 ahead_owes p base y _ h = absurd (cc)
 
 gap_ahead : (p : Parameters) (base : EndState) (y : SafetyPdu) (row : TakeRow) → (is_gap row ≡ true) ⊎ (is_request_ahead row ≡ true) → take_row p base y ≡ Some row → is_ahead p base y ≡ true
-gap_ahead p base y Gap h is = (let w = row_known p base y Gap is in w.3)
-gap_ahead p base y GapInRetransmission h is = (let w = row_known p base y GapInRetransmission is in w.3)
-gap_ahead p base y RequestedAhead h is = (let w = row_known p base y RequestedAhead is in w.3)
-gap_ahead p base y RequestedAgain h is = (let w = row_known p base y RequestedAgain is in w.3)
-gap_ahead p base y _ h is = ⊎_elim (λ (a : false ≡ true). absurd (cc)) (λ (a : false ≡ true). absurd (cc)) h
+gap_ahead p base y row h g = grind arith
 
 one_less : (n : ℕ) → 0 < n → (i : ℕ) × (n ≡ suc i)
 one_less zero h = absurd (omega arith)

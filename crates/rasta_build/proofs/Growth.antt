@@ -1,5 +1,5 @@
 -- What holds of a builder's end stays where its peer makes one PDU more.
-use Rattle.std.proofs.Common.{◌≡◌, ℕ, zero, suc, ◌≤◌, Bool, true, false, List, [], ◌∷◌, ◌++◌, length, Option, take, ap, sym, ◌∙◌, arith, inl, inr, subst, ⊎_elim}
+use Rattle.std.proofs.Common.{◌≡◌, ℕ, zero, suc, ◌≤◌, Bool, true, List, [], ◌∷◌, ◌++◌, length, Option, take, ap, sym, ◌∙◌, arith, inl, inr, subst, ⊎_elim}
 use Rattle.rasta_build.proofs.Prelude.{slice_get_within, Side, Parameters, Kind, Made, EndState, effect, FirstCopy, get_front, number, Built, is_kind, RetransmissionRequest}
 use Rattle.std.proofs.lemmas.List.{take-append-le}
 use Rattle.rasta_check.proofs.Lists.{get_front_within}
@@ -10,8 +10,7 @@ use Rattle.rasta_build.proofs.Lags.{Pending, IsLag}
 use Rattle.rasta_build.proofs.Explanations.{IsOrigin}
 
 tally_most : (b : Bool) (m n : ℕ) → m ≤ n → tally b m ≤ tally b n
-tally_most true m n h = omega arith
-tally_most false m n h = h
+tally_most b m n h = grind arith
 
 number_front : (f : Kind → Bool) (k : ℕ) (ms ys : List Made) → number f (take k ms) ≤ number f (take k (ms ++ ys))
 number_front f zero ms ys = omega arith

@@ -1,11 +1,11 @@
 -- What the steps of an end keep of it, and how far they raise what is accepted.
-use Rattle.std.proofs.Common.{◌≡◌, ℕ, zero, suc, ◌+◌, ◌-◌, ◌^◌, ◌<◌, ◌≤◌, Bool, true, false, List, [], ◌∷◌, length, Option, Some, None, refl, ap, sym, ◌∙◌, arith, subst, ⊎_elim}
-use Rattle.rasta_build.proofs.Prelude.{nat_lt, if◌then◌else◌, ◌==◌, Parameters, SafetyPdu, RedundancyPdu, Kind, RetransmissionRequest, RetransmissionResponse, TakeRow}
+use Rattle.std.proofs.Common.{◌≡◌, ℕ, zero, suc, ◌+◌, ◌-◌, ◌^◌, ◌<◌, ◌≤◌, Bool, true, false, List, length, Option, Some, None, refl, ap, sym, ◌∙◌, arith, subst, ⊎_elim}
+use Rattle.rasta_build.proofs.Prelude.{if◌then◌else◌, Parameters, SafetyPdu, RedundancyPdu, Kind, RetransmissionResponse, TakeRow}
 use Rattle.rasta_build.proofs.Prelude.{FirstHeartbeat, InSequence, ResentInSequence, Resumed, Requested, Owed, EndState, carries_unit, is_owing, accept, enter, hand_up, is_in}
-use Rattle.rasta_build.proofs.Prelude.{steps_past_next, effect, effect_by, after_take, take_row, take_fault, FirstCopy, row_known, Built, copy_at, is_trigger, unless, taken_by}
+use Rattle.rasta_build.proofs.Prelude.{steps_past_next, effect, take_row, FirstCopy, row_known, Built, is_trigger, taken_by}
 use Rattle.rasta_build.proofs.Prelude.{take_step, accept_from}
 use Rattle.rasta_check.proofs.Model.Acceptance.{accepted_after}
-use Rattle.rasta_build.specs.Explaining.{if_accepted, accept_there, accept_step, and_then, try_at, try_there, try_step, go_on, scan}
+use Rattle.rasta_build.specs.Explaining.{accept_step, and_then, try_step, scan}
 use Rattle.rasta_build.proofs.Comparisons.{was_same}
 use Rattle.rasta_build.proofs.Succeeding.{took, accepted, tried}
 
@@ -53,17 +53,13 @@ accept_stuck sent slot first bound q b b1 l m h k =
 -- the search goes on where nothing is owed yet
 scan_steps : (sent : List FirstCopy) (slot : ℕ) (made : Kind) (q bound : ℕ) (b b1 : Built) → q < bound → try_step sent slot made q b ≡ Some b1
     → scan sent slot made q (bound - q) b ≡ (if is_owing b1.end.state.owed then Some b1 else scan sent slot made (suc q) (bound - suc q) b1)
-scan_steps sent slot made q bound b b1 l h =
-    let all : bound - q ≡ suc (bound - suc q) = omega arith in
-    ap (λ (j : ℕ). scan sent slot made q j b) all ∙ ap (λ (o : Option Built). go_on (scan sent slot made (suc q) (bound - suc q)) o) h
+scan_steps sent slot made q bound b b1 h g = grind arith
 
 owing : (os : List Owed) → 0 < length os → is_owing os ≡ true
-owing [] l = absurd (omega (arith, l))
-owing (o ∷ os) l = refl
+owing os h = grind arith
 
 owing_none : (os : List Owed) → length os ≤ 0 → is_owing os ≡ false
-owing_none [] l = refl
-owing_none (o ∷ os) l = absurd (omega (arith, l))
+owing_none os h = grind arith
 
 pub scan_on : (sent : List FirstCopy) (slot : ℕ) (made : Kind) (q bound : ℕ) (b b1 : Built) → q < bound → try_step sent slot made q b ≡ Some b1 → length b1.end.state.owed ≤ 0
     → scan sent slot made q (bound - q) b ≡ scan sent slot made (q + 1) (bound - (q + 1)) b1
@@ -76,8 +72,7 @@ scan_on sent slot made q bound b b1 l h none =
 -- and ends where something is
 pub scan_ends : (sent : List FirstCopy) (slot : ℕ) (made : Kind) (q bound : ℕ) (b b1 : Built) → q < bound → try_step sent slot made q b ≡ Some b1 → 0 < length b1.end.state.owed
     → scan sent slot made q (bound - q) b ≡ Some b1
-scan_ends sent slot made q bound b b1 l h some =
-    scan_steps sent slot made q bound b b1 l h ∙ ap (λ (t : Bool). if t then Some b1 else scan sent slot made (suc q) (bound - suc q) b1) (owing b1.end.state.owed some)
+scan_ends sent slot made q bound b b1 h g k = grind arith
 
 -- a PDU that is tried
 pub try_keeps : (sent : List FirstCopy) (slot : ℕ) (made : Kind) (q : ℕ) (b b' : Built) → try_step sent slot made q b ≡ Some b' → Keeps b b'
@@ -88,17 +83,13 @@ try_keeps sent slot made q b b' h =
 -- ---- what an end answers or asks for is accepted in sequence, if at all
 
 handed : (c : Bool) (i : ℕ) (e : EndState) (x : SafetyPdu) (n : ℕ) → e.accepted ≤ n → (if c then hand_up i e x else e).accepted ≤ n
-handed true i e x n l = l
-handed false i e x n l = l
+handed c i e x n h = grind arith
 
 next_accepted : (p : Parameters) (e : EndState) (x : SafetyPdu) → is_in e x ≡ true → (accept p e x).accepted ≤ suc e.accepted
 next_accepted p e x h = (let z = was_same (steps_past_next e x) 0 h in omega (arith, z))
 
 no_response : (made k : Kind) → is_trigger made k ≡ true → k ≡ RetransmissionResponse → ⊥
-no_response RetransmissionResponse RetransmissionResponse t h = absurd (cc)
-no_response RetransmissionRequest RetransmissionResponse t h = absurd (cc)
-no_response _ RetransmissionResponse t h = absurd (cc)
-no_response _ _ t h = absurd (cc)
+no_response made k h g = grind arith
 
 row_next : (p : Parameters) (e : EndState) (x : SafetyPdu) (made : Kind) → is_trigger made x.kind ≡ true → (row : TakeRow) → take_row p e x ≡ Some row → (effect p row e x).accepted ≤ suc e.accepted
 row_next p e x made t FirstHeartbeat w = (let k = row_known p e x FirstHeartbeat w in next_accepted p e x k.4)

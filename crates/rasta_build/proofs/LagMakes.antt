@@ -1,10 +1,10 @@
 -- Facts about a make of an end that lags: what its type wants to be owed, the position that its CS names, and disconnection requests.
 use Rattle.std.proofs.Common.{◌≡◌, ℕ, zero, suc, ◌+◌, ◌%◌, ◌^◌, ◌≤◌, ◌⊎◌, Bool, true, false, List, [], ◌∷◌, length, Option, Some, None, refl, ap, ◌∙◌, arith, inl, inr, subst, ⊎_elim}
 use Rattle.rasta_build.proofs.Prelude.{nat_lt, not, ◌&&◌, ◌||◌, ◌==◌, slice_get_within, Side, Parameters, SafetyPdu, is_kind, Kind, RetransmissionRequest, RetransmissionResponse}
-use Rattle.rasta_build.proofs.Prelude.{DisconnectionRequest, Owed, OweRetransmissionRequest, OweRetransmissionResponse, Phase, Closed, Up, RetrReq, RetrRun, TakeRow, Gap}
+use Rattle.rasta_build.proofs.Prelude.{DisconnectionRequest, Owed, OweRetransmissionRequest, OweRetransmissionResponse, Phase, Closed, RetrReq, TakeRow, Gap}
 use Rattle.rasta_build.proofs.Prelude.{GapInRetransmission, RequestedAhead, RequestedAgain, Why, Bye, Expired, MakeRow, Made, EndState, ahead_by, first_sn, is_owing, is_closed}
 use Rattle.rasta_build.proofs.Prelude.{is_active, is_flowing, wrapped, reason_of, content_of, make_fault, has_ended, row_of, is_judged, confirms_last, confirms_a_time, is_past}
-use Rattle.rasta_build.proofs.Prelude.{is_early, is_expired, after_make, effect, take_row, no_test, FirstCopy, passed, Making, opening, answer, ask, made_by, after_row, row_known}
+use Rattle.rasta_build.proofs.Prelude.{is_early, is_expired, after_make, effect, take_row, no_test, FirstCopy, passed, Making, made_by, after_row, row_known}
 use Rattle.rasta_build.proofs.Prelude.{Numbered, Built, copy_at, is_before, wants_trigger, catch_up}
 use Rattle.rasta_end.specs.declared.make_row.MakeRow.TheVariants.{Leaves, TimesOut}
 use Rattle.rasta_end.specs.MakeRule.{make_row, is_refused_row, is_owing_else, is_next_sn, differs, phase_after}
@@ -13,9 +13,7 @@ use Rattle.rasta_check.proofs.Model.NamedPositions.{SnIs}
 use Rattle.rasta_check.proofs.Model.InvariantAtMake.{over_after}
 use Rattle.rasta_build.specs.Explaining.{accept_through}
 use Rattle.rasta_build.proofs.Scans.{is_gap, is_request_ahead}
-use Rattle.rasta_build.proofs.Lags.{caught_itself}
 use Rattle.rasta_build.proofs.Makes.{none_of, reason_is, ReasonIs}
-use Rattle.rasta_build.proofs.Comparisons.{was_same, was_other, not_lt}
 
 -- ---- the end of a connection
 
@@ -33,14 +31,10 @@ ended_by p e x k why ok h =
 -- ---- what a make wants to be owed
 
 pub or_true : (b : Bool) → (b || true) ≡ true
-or_true true = refl
-or_true false = refl
+or_true b = grind arith
 
 pub owes_wanted : (s : Side) (ph : Phase) (why : Why) (k : Kind) (os : List Owed) (row : MakeRow) → Making s ph why k os row → (is_owing os || not (wants_trigger k)) ≡ true
-owes_wanted s ph why k os row opening = or_true (is_owing os)
-owes_wanted s ph why k os row (bye c) = or_true (is_owing os)
-owes_wanted s ph why k os row (expired c) = or_true (is_owing os)
-owes_wanted s ph why k os row _ = refl
+owes_wanted s ph why k os row h = grind arith
 
 -- where a request is owed first, an end that is connected makes it, or ends
 pub asks_first : (s : Side) (ph : Phase) (why : Why) (k : Kind) (os rest : List Owed) (row : MakeRow) → Making s ph why k os row → os ≡ OweRetransmissionRequest ∷ rest → is_closed ph ≡ false → (k ≡ RetransmissionRequest) ⊎ (is_kind DisconnectionRequest k ≡ true)
@@ -67,17 +61,7 @@ sn_near (m ∷ ms) (suc i) sn h b s =
 -- accepting through a position is catching up with it
 pub through : (sent : List FirstCopy) (place i : ℕ) (b b1 : Built) → catch_up sent place (suc i) b ≡ Some b1 → b.end.state.accepted ≤ suc i
     → (b.end.state.accepted ≤ i → is_before (copy_at b.peer.quiet_sn sent i) place ≡ true) → accept_through sent place b (Some i) ≡ Some b1
-through sent place i b b1 h l front = by (suc i == b.end.state.accepted) refl
-  where
-    by : (d : Bool) → (suc i == b.end.state.accepted) ≡ d → accept_through sent place b (Some i) ≡ Some b1
-    by true d = (let e = was_same (suc i) b.end.state.accepted d in let s = caught_itself sent place (suc i) b b1 e h in rw d (ap (λ (z : Built). Some z) s))
-    by false d =
-        let o = was_other (suc i) b.end.state.accepted d in
-        let low : b.end.state.accepted ≤ i = omega (arith, o, l) in
-        let n = not_lt (suc i) b.end.state.accepted l in
-        let f = front low in
-        let h' = rw d at h in
-        rw d (rw n (rw f h'))
+through sent place i b b1 h g k = grind arith
 
 -- ---- a disconnection request
 
@@ -102,10 +86,7 @@ leaving_row s ph reason why k h a r w = ⊎_elim
 
 leaving_tests : (row : MakeRow) (o : Option MakeRow) (os : List Owed) (ms : List Made) (content : List ℕ) → o ≡ Some row → (row ≡ Leaves) ⊎ (row ≡ TimesOut)
     → (is_refused_row o os ≡ false) × (is_owing_else o os ≡ false) × (differs ms o content ≡ false)
-leaving_tests row o os ms content h w = ⊎_elim
-    (λ (r : row ≡ Leaves). (let z : o ≡ Some Leaves = h ∙ ap (λ (y : MakeRow). Some y) r in (rw z refl, rw z refl, rw z refl)))
-    (λ (r : row ≡ TimesOut). (let z : o ≡ Some TimesOut = h ∙ ap (λ (y : MakeRow). Some y) r in (rw z refl, rw z refl, rw z refl)))
-    w
+leaving_tests row o os ms content h g = grind arith
 
 -- an end may make it which has made the same as one that makes it, and whose times and confirmed numbers allow it
 pub leave_fault : (p : Parameters) (e g : EndState) (x : SafetyPdu) (k : ℕ) (why : Why) → make_fault p e x k why ≡ None → is_kind DisconnectionRequest x.kind ≡ true → has_ended g ≡ false → is_active g.phase ≡ true

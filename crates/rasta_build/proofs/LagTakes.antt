@@ -1,7 +1,7 @@
 -- A take of a run's end keeps the lag of the builder's end.
 use Rattle.std.proofs.Common.{◌≡◌, ℕ, suc, ◌+◌, ◌*◌, ◌<◌, ◌≤◌, ◌⊎◌, Bool, true, false, List, [], length, Option, Some, None, take, refl, ap, sym, ◌∙◌, arith, inl, inr, subst, ⊎_elim}
-use Rattle.rasta_build.proofs.Prelude.{nat_lt, nat_le, if◌then◌else◌, ◌&&◌, ◌==◌, nat_tests, Side, Client, Server, Parameters, SafetyPdu, is_kind, Kind, Heartbeat, Data}
-use Rattle.rasta_build.proofs.Prelude.{RetransmissionRequest, RetransmissionResponse, Phase, Start, Up, RetrRun, TakeRow, Opened, Answered, FirstHeartbeat, InSequence}
+use Rattle.rasta_build.proofs.Prelude.{nat_lt, nat_le, if◌then◌else◌, ◌&&◌, ◌==◌, nat_tests, Side, Server, Parameters, SafetyPdu, is_kind, Kind}
+use Rattle.rasta_build.proofs.Prelude.{RetransmissionRequest, RetransmissionResponse, Phase, Start, Up, TakeRow, Opened, Answered, FirstHeartbeat, InSequence}
 use Rattle.rasta_build.proofs.Prelude.{ResentInSequence, Gap, GapInRetransmission, Resumed, Requested, RequestedAhead, RequestedAgain, Disconnected, Made, EndState, is_owing}
 use Rattle.rasta_build.proofs.Prelude.{is_closed, is_active, is_retr_req, is_flowing, carries_unit, effect, effect_by, after_take, take_row, take_fault, steps_past_next, is_in}
 use Rattle.rasta_build.proofs.Prelude.{is_ahead, accept, enter, hand_up, FirstCopy, row_known, number, Valued, Taken, Built, catch_up}
@@ -27,8 +27,7 @@ ahead_steps : (s n : ℕ) → (nat_lt 0 s && nat_le s n) ≡ true → 0 < s
 ahead_steps s n h = grind (arith, nat_tests)
 
 unit_accepted : (c : Bool) (i : ℕ) (e : EndState) (x : SafetyPdu) → (if c then hand_up i e x else e).accepted ≡ e.accepted
-unit_accepted true i e x = refl
-unit_accepted false i e x = refl
+unit_accepted c i e x = grind arith
 
 unit_phase : (c : Bool) (i : ℕ) (e : EndState) (x : SafetyPdu) → (if c then hand_up i e x else e).phase ≡ e.phase
 unit_phase c i e x = grind arith

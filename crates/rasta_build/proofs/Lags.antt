@@ -7,7 +7,7 @@ use Rattle.rasta_build.specs.Choices.{is_response}
 use Rattle.rasta_build.specs.Explaining.{accept_there, accept_step, last_response, first_acceptable, accept_range}
 use Rattle.rasta_build.proofs.Readiness.{IsReady, ConveysNoMore, ready_step, ready_effect}
 use Rattle.rasta_build.proofs.Scans.{AreCopies, Names, is_gap, is_request_ahead}
-use Rattle.rasta_build.proofs.Comparisons.{is_same, is_other, was_same}
+use Rattle.rasta_build.proofs.Comparisons.{is_same, is_other}
 
 -- ---- catching up by one position more
 
@@ -18,8 +18,7 @@ catch_by d rr sent slot bound b =
 
 flowing_from : (d : Bool) (sent : List FirstCopy) (slot t : ℕ) (b b1 : Built) → (t == b.end.state.accepted) ≡ d → catch_by d false sent slot t b ≡ Some b1
     → accept_from sent slot b.end.state.accepted (t - b.end.state.accepted) b ≡ Some b1
-flowing_from true sent slot t b b1 h k = (let e : t ≡ b.end.state.accepted = was_same t b.end.state.accepted h in let z : t - b.end.state.accepted ≡ 0 = omega arith in rw z k)
-flowing_from false sent slot t b b1 h k = k
+flowing_from d sent slot t b b1 h g = grind arith
 
 -- an end that doesn't wait for a response
 pub catch_flowing : (sent : List FirstCopy) (slot t : ℕ) (b b1 : Built) → is_retr_req b.end.state.phase ≡ false → b.end.state.accepted ≤ t → catch_up sent slot t b ≡ Some b1
@@ -77,10 +76,7 @@ catch_waiting sent slot q b ph l response =
     rw ph (rw n (rw first (rw one (rw nil refl))))
 
 pub caught_itself : (sent : List FirstCopy) (slot t : ℕ) (b b1 : Built) → t ≡ b.end.state.accepted → catch_up sent slot t b ≡ Some b1 → b ≡ b1
-caught_itself sent slot t b b1 e h =
-    let o : (t == b.end.state.accepted) ≡ true = is_same t b.end.state.accepted e in
-    let h' : Some b ≡ Some b1 = rw o at h in
-    cc
+caught_itself sent slot t b b1 h g = grind arith
 
 -- ---- the lag
 

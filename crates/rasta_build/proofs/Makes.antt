@@ -1,12 +1,11 @@
 -- A make of a run's end is one of the builder's end, at a clock that isn't later.
-use Rattle.std.proofs.Common.{◌≡◌, ℕ, zero, suc, ◌+◌, ◌-◌, ◌*◌, ◌%◌, ◌/◌, ◌^◌, ◌<◌, ◌≤◌, ◌⊎◌, Bool, true, false, List, [], ◌∷◌, length, Option, Some, None, refl, ap, sym, ◌∙◌, arith, inl, inr, subst, ⊎_elim}
-use Rattle.rasta_build.proofs.Prelude.{nat_lt, nat_le, not, ◌&&◌, ◌==◌, nat_tests, Side, too_early_timeout, Parameters, SafetyPdu, Kind, DisconnectionRequest, Owed, Phase, Why}
-use Rattle.rasta_build.proofs.Prelude.{Bye, Expired, MakeRow, Made, EndState, wrapped, ahead_by, is_active, reason_of, content_of, start_of, make_fault, has_ended, row_of}
+use Rattle.std.proofs.Common.{◌≡◌, ℕ, zero, suc, ◌+◌, ◌-◌, ◌*◌, ◌%◌, ◌/◌, ◌^◌, ◌<◌, ◌≤◌, ◌⊎◌, Bool, true, false, List, [], ◌∷◌, length, Option, Some, None, refl, ap, sym, ◌∙◌, arith, inl, inr, subst}
+use Rattle.rasta_build.proofs.Prelude.{nat_lt, not, ◌&&◌, ◌==◌, nat_tests, Side, too_early_timeout, Parameters, SafetyPdu, Kind, Owed, Phase, Why}
+use Rattle.rasta_build.proofs.Prelude.{Bye, Expired, MakeRow, Made, EndState, wrapped, ahead_by, reason_of, content_of, start_of, make_fault, has_ended, row_of}
 use Rattle.rasta_build.proofs.Prelude.{is_judged, confirms_last, confirms_a_time, is_past, is_early, is_expired, after_make, no_test, passed, Making, opening, answer, ask, made_by}
 use Rattle.rasta_build.proofs.Prelude.{after_row, Built, clock_of, made_at, earliest_by}
 use Rattle.std.specs.Bool.{then_some}
 use Rattle.rasta_pcap.specs.Fault.{closed, not_allowed, reply_owed, sequence_number, clock_differs, clock_falls, past_deadline, confirmed_number, confirmed_time, resend_differs}
-use Rattle.rasta_end.specs.declared.make_row.MakeRow.TheVariants.{Leaves, TimesOut}
 use Rattle.rasta_end.specs.MakeRule.{first_that_holds, make_row, is_refused_row, is_owing_else, is_next_sn, differs, after_make_by, offered_after, owed_after}
 use Rattle.rasta_check.proofs.Model.PassedTests.{Passed}
 use Rattle.rasta_check.proofs.Model.MakeRows.{response, first_beat, again, beat, fresh, bye, expired, MadeBy}
@@ -24,18 +23,7 @@ ReasonIs Expired reason = (reason == 4) ≡ true
 ReasonIs _ reason = Unit {0}
 
 next_unit_is : (offered trail k n : ℕ) → k + n ≡ offered + trail → k ≤ offered → offered ≤ 1000001 → next_unit offered n trail ≡ Some k
-next_unit_is offered trail k n h l b =
-    let a : nat_le trail n ≡ true = (let z : trail ≤ n = omega (arith, h, l) in le_is trail n z) in
-    let c : nat_le (n - trail) offered ≡ true = (let z : n - trail ≤ offered = omega (arith, h, l) in le_is (n - trail) offered z) in
-    let d : offered - (n - trail) ≡ k = omega (arith, h, l) in
-    let f : nat_lt k (2 ^ 32) ≡ true = (let z : k < 2 ^ 32 = omega (arith, l, b) in lt_is k (2 ^ 32) z) in
-    rw a (rw c (rw d (rw f refl)))
-  where
-    le_is : (m n : ℕ) → m ≤ n → nat_le m n ≡ true
-    le_is m n h = grind (arith, nat_tests)
-
-    lt_is : (m n : ℕ) → m < n → nat_lt m n ≡ true
-    lt_is m n h = grind (arith, nat_tests)
+next_unit_is offered trail k n h g l = grind arith
 
 why_is : (x : SafetyPdu) (e : EndState) (trail : ℕ) (s : Side) (ph : Phase) (why : Why) (k : Kind) (os : List Owed) (row : MakeRow) → Making s ph why k os row → e.owed ≡ os → IsTrail e.offered trail os → e.offered ≤ 1000001
     → ReasonIs why (reason_of x.body) → why_by k e trail x ≡ Some why
@@ -57,11 +45,7 @@ was_not : (b : Bool) → not b ≡ true → b ≡ false
 was_not b h = grind arith
 
 pub reason_is : (s : Side) (ph : Phase) (reason : ℕ) (why : Why) (k : Kind) (os : List Owed) → is_refused_row (make_row s ph reason why k) os ≡ false → ReasonIs why reason
-reason_is s ph reason Bye DisconnectionRequest os h = was_not (reason == 4) (second (is_active ph) (not (reason == 4)) Leaves os h)
-reason_is s ph reason Expired DisconnectionRequest os h = second (is_active ph) (reason == 4) TimesOut os h
-reason_is s ph reason Bye _ os h = absurd (cc)
-reason_is s ph reason Expired _ os h = absurd (cc)
-reason_is s ph reason _ k os h = tt
+reason_is s ph reason why k os h = grind arith
 
 -- ---- the tests of a make
 
@@ -108,34 +92,18 @@ pub rise_not : (k c : ℕ) → c ≤ k → nat_lt k c ≡ false
 rise_not k c h = grind (arith, nat_tests)
 
 past_either : (a b c : Bool) → (b ≡ false → c ≡ false) → (a && b) ≡ false → (a && c) ≡ false
-past_either true b c i h = i h
-past_either false b c i h = refl
+past_either a b c h g = grind arith
 
 near_more : (p : Parameters) (start : Option ℕ) (c c1 lag more : ℕ) (d b : Option ℕ) → c ≤ c1 → lag ≤ more → NearDeadlines p start c lag d b → NearDeadlines p start c1 more d b
-near_more p start c c1 lag more None None l m n = n
-near_more p start c c1 lag more (Some d) (Some b) l m n = (n.0, (let z = n.1 in omega (arith, z, m)), ⊎_elim (λ (w : b ≤ c + 4294967296 + p.t_max). inl (omega (arith, w, l))) (λ (w : (start ≡ Some b) × (d ≡ b)). inr w) n.2)
-near_more p start c c1 lag more (Some d) None l m n = absurd n
-near_more p start c c1 lag more None (Some b) l m n = absurd n
+near_more p start c c1 lag more d b h g k = grind arith
 
 -- where a timeout is too early for the builder's end but not for the run's end, the clocks differ
 early_apart : (p : Parameters) (start : Option ℕ) (c lag k c1 : ℕ) (d b : Option ℕ) → NearDeadlines p start c lag d b → is_early p d k ≡ false → is_early p b c1 ≡ true → c1 < k
-early_apart p start c lag k c1 None None n h g = absurd (cc)
-early_apart p start c lag k c1 (Some d) (Some b) n h g = (let y = n.0 in grind (arith, nat_tests))
-early_apart p start c lag k c1 (Some d) None n h g = absurd n
-early_apart p start c lag k c1 None (Some b) n h g = absurd n
+early_apart p start c lag k c1 d b h g l = grind arith
 
 -- a clock that is later than the least one, and not below the earliest timeout of the start, isn't too early
 late_enough : (p : Parameters) (start : Option ℕ) (c lag c2 : ℕ) (d b : Option ℕ) → p.t_max ≤ 60000 → NearDeadlines p start c lag d b → c + 4294967296 ≤ c2 → earliest_by p start ≤ c2 → is_early p b c2 ≡ false
-late_enough p start c lag c2 None None t n l m = refl
-late_enough p start c lag c2 (Some d) (Some b) t n l m = ⊎_elim
-    (λ (w : b ≤ c + 4294967296 + p.t_max). not_early b p.slack c2 (omega (arith, w, l, t)))
-    (λ (w : (start ≡ Some b) × (d ≡ b)). (let z : earliest_by p (Some b) ≤ c2 = subst (λ (o : Option ℕ). earliest_by p o ≤ c2) w.0 m in not_early b p.slack c2 (omega (arith, z))))
-    n.2
-  where
-    not_early : (b s c2 : ℕ) → b ≤ c2 + 4294967296 + s → nat_lt (c2 + 2 ^ 32 + s) b ≡ false
-    not_early b s c2 h = grind (arith, nat_tests)
-late_enough p start c lag c2 (Some d) None t n l m = absurd n
-late_enough p start c lag c2 None (Some b) t n l m = absurd n
+late_enough p start c lag c2 d b h g k l = grind arith
 
 -- ---- the make
 
@@ -148,13 +116,7 @@ make_late : (place : ℕ) (x : SafetyPdu) (b : Built) (why : Why) (c1 c2 : ℕ) 
 make_late place x b why c1 c2 w k f l g = rw w (rw k (rw f (rw l (rw g refl))))
 
 trail_make : (s : Side) (ph : Phase) (why : Why) (k : Kind) (os : List Owed) (row : MakeRow) (offered trail : ℕ) → Making s ph why k os row → IsTrail offered trail os → IsTrail (offered_after row offered) trail (owed_after row os)
-trail_make s ph why k os row offered trail opening t = t
-trail_make s ph why k os row offered trail response t = t
-trail_make s ph why k os row offered trail first_beat t = t
-trail_make s ph why k os row offered trail (answer c) t = t
-trail_make s ph why k os row offered trail (again c) t = t.2
-trail_make s ph why k os row offered trail (ask c) t = t
-trail_make s ph why k os row offered trail _ t = tt
+trail_make s ph why k os row offered trail h g = grind arith
 
 module _ (p : Parameters) (start : Option ℕ) (side : Side) (quiet_sn : Option ℕ) (e : EndState) (taken : ℕ) (ms : List Made) (b : Built) (r : IsReady p start side quiet_sn e taken ms b)
     (place k : ℕ) (x : SafetyPdu) (why : Why) (ok : make_fault p e x k why ≡ None) (bounded : k < 2 ^ 64) (waits : p.t_max ≤ 60000) (from : start ≡ (start_of p side).deadline) (low_start : earliest_by p start ≤ 2 ^ 63)

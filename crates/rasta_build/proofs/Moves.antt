@@ -1,6 +1,6 @@
 -- A step of a station keeps the builder's ends with both stations; where it makes a PDU, the builder explains that.
-use Rattle.std.proofs.Common.{◌≡◌, ℕ, suc, ◌+◌, ◌-◌, ◌^◌, ◌<◌, ◌≤◌, ◌⊎◌, true, List, [], ◌∷◌, ◌++◌, length, Option, Some, None, refl, ap, sym, ◌∙◌, arith, inl, inr, subst, ⊎_elim}
-use Rattle.rasta_build.proofs.Prelude.{option_map, Side, Client, Server, Packet, Parameters, AreParameters, RedundancyPdu, Quiet, Made, EndState, wrapped, start_by, start_of}
+use Rattle.std.proofs.Common.{◌≡◌, ℕ, suc, ◌+◌, ◌^◌, ◌<◌, ◌≤◌, ◌⊎◌, true, List, [], ◌∷◌, ◌++◌, length, Option, Some, refl, ap, sym, ◌∙◌, arith, inl, inr, subst, ⊎_elim}
+use Rattle.rasta_build.proofs.Prelude.{option_map, Side, Packet, Parameters, AreParameters, RedundancyPdu, Quiet, Made, EndState, wrapped, start_by, start_of}
 use Rattle.rasta_build.proofs.Prelude.{has_ended, after_make, FirstCopy, Station, IsSent, base, base_small, made_more, Taken, Valued, Sends, sends_count, Built, peer_quiet_sn}
 use Rattle.rasta_build.proofs.Prelude.{explain, earliest_by, Begins}
 use Rattle.std.specs.Prelude.{IfSome}
@@ -19,17 +19,10 @@ use Rattle.rasta_build.proofs.SentLists.{found_there, first_there}
 -- ---- the start's deadline
 
 low_by : (p : Parameters) (d : Option ℕ) → IfSome d (λ n. n ≤ most_clock) → earliest_by p (option_map (λ n. n + 2 ^ 32) d) ≤ 2 ^ 63
-low_by p None h = omega arith
-low_by p (Some d) h = low d p.slack h
-  where
-    low : (d s : ℕ) → d ≤ 9223372036854775807 → d + 2 ^ 32 - 4294967296 - s ≤ 2 ^ 63
-    low d s h = omega arith
+low_by p d h = grind arith
 
 low_quiet : (p : Parameters) (q : Option Quiet) (s : Side) → IfSome q (IsQuiet p.slack) → earliest_by p (start_by q s).deadline ≤ 2 ^ 63
-low_quiet p None Client h = omega arith
-low_quiet p None Server h = omega arith
-low_quiet p (Some q) Client h = (let c = h.client in low_by p q.client.deadline c.deadline_most)
-low_quiet p (Some q) Server h = (let c = h.server in low_by p q.server.deadline c.deadline_most)
+low_quiet p q s h = grind arith
 
 -- ---- both stations
 

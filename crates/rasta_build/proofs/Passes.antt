@@ -1,8 +1,8 @@
 -- The pass explains what a run sent; where it fails, no run sends packets that begin so.
 use Rattle.std.proofs.Common.{◌≡◌, ℕ, zero, suc, ◌+◌, ◌-◌, ◌^◌, ◌<◌, ◌≤◌, ◌⊎◌, Bool, true, false, List, [], ◌∷◌, ◌++◌, length, Option, Some, None, Result, Ok, Err, slice_get, take, drop, refl, ap, sym, ◌∙◌, arith, inl, inr, subst, ⊎_elim, length-append}
 use Rattle.rasta_build.proofs.Prelude.{nat_lt, if◌then◌else◌, min, slice_get_within, dec_lt, yes, no, fault_at, not_found, Fault, Side, Client, Server, Packet, Parameters}
-use Rattle.rasta_build.proofs.Prelude.{AreParameters, Scripts, most_entries, FirstCopy, Sent, OfConnection, Station, IsSent, to_record, made_more, start_of, take_leaves, Sends}
-use Rattle.rasta_build.proofs.Prelude.{sends_count, Built, SidedCopy, first_of, Unexplained, Pass, first_pass, one_more, pass_on, passes, copy_goes, client_goes, server_goes}
+use Rattle.rasta_build.proofs.Prelude.{AreParameters, Scripts, FirstCopy, Sent, OfConnection, Station, IsSent, to_record, made_more, start_of, take_leaves, Sends}
+use Rattle.rasta_build.proofs.Prelude.{sends_count, Built, SidedCopy, first_of, Pass, first_pass, one_more, pass_on, passes, copy_goes, client_goes, server_goes}
 use Rattle.rasta_build.proofs.Prelude.{scripts_of, proposed_by, proposal, all_copies, CanCross, Begins}
 use Rattle.std.proofs.lemmas.List.{take-append-le, append_assoc, append-nil}
 use native.Mathlib.Decide.{dec_le}
@@ -13,7 +13,6 @@ use Rattle.rasta_check.proofs.Model.Steps.{start_base}
 use Rattle.rasta_check.proofs.Model.InvariantOfRuns.{all_held, few_made}
 use Rattle.rasta_check.proofs.Model.History.{stepped}
 use Rattle.rasta_check.proofs.Script.ScriptsOfRuns.{told}
-use Rattle.rasta_build.specs.Choices.{fault_of_stuck}
 use Rattle.rasta_build.specs.Proposing.{side_goes}
 use Rattle.rasta_check.proofs.Capture.NextPackets.{cut}
 use Rattle.rasta_build.proofs.SentLists.{later_place}
@@ -212,12 +211,7 @@ abbrev chosen : Bool → Pass → Result Scripts Fault
 chosen b t = if b then Err (fault_at too_many_entries 0) else Ok (scripts_of t)
 
 pub proposed_fails : (r : Result Pass ℕ) (place : ℕ) → proposed_by r ≡ Err (fault_at not_found place) → (q : ℕ) × (r ≡ Err q) × (min (q + 1) 4294967295 ≡ place)
-proposed_fails (Err q) place h = (q, refl, (let e : fault_of_stuck Unexplained q ≡ fault_at not_found place = cc in ap (λ (f : Fault). f.place) e))
-proposed_fails (Ok t) place h = absurd (by (nat_lt most_entries (length t.own.script + length t.other.script)) h)
-  where
-    by : (b : Bool) → chosen b t ≡ Err (fault_at not_found place) → ⊥
-    by true h = (let e : fault_at too_many_entries 0 ≡ fault_at not_found place = cc in let z : too_many_entries ≡ not_found = ap (λ (f : Fault). f.number) e in omega (arith, z))
-    by false h = cc
+proposed_fails r place h = grind arith
 
 take_front : {A : Type 0} (n : ℕ) (xs ys : List A) → n ≤ length xs → take n (xs ++ ys) ≡ take n xs
 take_front n xs ys l = take-append-le n xs ys l

@@ -69,10 +69,7 @@ leads_clock p n own peer u v (x ∷ es) f h l = leads_clock p n own peer f.0 v e
     by x m (makes_next c clock why e' a g k) h = (let z = made_more p u.state c.pdu.safety clock why e' k in let w = z.now in let b = h.1 in omega (arith, w, b))
 
 start_clock : (slack : ℕ) (q : Option Quiet) → IfSome q (IsQuiet slack) → (s : Side) → (start_by q s).clock < 2 ^ 64
-start_clock slack None h Client = omega arith
-start_clock slack None h Server = omega arith
-start_clock slack (Some q) h Client = (let z = h.client.clock_most in omega (arith, z))
-start_clock slack (Some q) h Server = (let z = h.server.clock_most in omega (arith, z))
+start_clock slack q h s = grind arith
 
 -- ---- what a pass has explained crossed before what it hasn't
 
@@ -132,19 +129,11 @@ not_there xs i a g h = cc
 
 module _ (p : Parameters) (packets : List Packet) (c s : List FirstCopy) (hc : IsSent p packets Client c) (hs : IsSent p packets Server s) where
   lists : (x : Side) → IsSent p packets x (sent_of x c s)
-  lists Client = hc
-  lists Server = hs
+  lists x = grind arith
 
   -- no packet is of both sides
   apart : (i j : ℕ) (d f : FirstCopy) → slice_get c i ≡ Some d → slice_get s j ≡ Some f → d.place ≡ f.place → ⊥
-  apart i j d f x y e =
-      let v = hc.firsts i d x in
-      let w = hs.firsts j f y in
-      let g : slice_get packets f.place ≡ Some v.0 = ap (λ k. slice_get packets k) (sym e) ∙ v.1 in
-      let g' = w.1 in
-      let z : v.0 ≡ w.0 = cc in
-      let o : Client ≡ Server = sym v.2 ∙ (ap (λ (k : Packet). k.side) z ∙ w.2) in
-      absurd (cc)
+  apart i j d f h g k = grind arith
 
   -- the next copy of a side is explained, which crossed before that of the other
   side_front : (x : Side) (t t' : Pass) (d : FirstCopy) → slice_get (sent_of x c s) (count_of t x) ≡ Some d
@@ -168,12 +157,7 @@ module _ (p : Parameters) (packets : List Packet) (c s : List FirstCopy) (hc : I
 
   -- the server's next copy crossed before the client's, where it isn't the other way
   server_first : (t : Pass) (d f : FirstCopy) → slice_get c t.made ≡ Some d → slice_get s t.answered ≡ Some f → nat_lt d.place f.place ≡ false → f.place < d.place
-  server_first t d f x y e =
-      let l = not_less d.place f.place e in
-      elim (dec_lt f.place d.place) [
-        | yes z ↦ z
-        | no z ↦ absurd (apart t.made t.answered d f x y (omega (arith, l, z)))
-      ]
+  server_first t d f h g k = grind arith
 
   one_front : (t t' : Pass) → IsFront c s t → (a b : Option FirstCopy) → slice_get c t.made ≡ a → slice_get s t.answered ≡ b → copy_goes c s t (first_of a b) ≡ Ok t' → IsFront c s t'
   one_front t t' r None None x y h = (let z : t ≡ t' = cc in subst (λ (k : Pass). IsFront c s k) z r)

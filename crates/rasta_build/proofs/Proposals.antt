@@ -81,8 +81,7 @@ passes_count p c s (suc k) t h = then_by k t (passes p c s k) refl h (λ u e. pa
 
 -- as many steps as both lists have members go through both
 gone_through : (c s : List FirstCopy) (t : Pass) → t.made ≤ length c → t.answered ≤ length s → Counts c s t (all_copies c s) → (t.made ≡ length c) × (t.answered ≡ length s)
-gone_through c s t a b (inl e) = (omega (arith, a, b, e), omega (arith, a, b, e))
-gone_through c s t a b (inr e) = (let x = e.0 in let y = e.1 in (omega (arith, a, x), omega (arith, b, y)))
+gone_through c s t h g k = grind arith
 
 -- ---- the proposal
 

@@ -2,8 +2,8 @@
 use Rattle.std.proofs.Common.{◌≡◌, ℕ, zero, suc, ◌+◌, ◌-◌, ◌<◌, ◌≤◌, Bool, true, false, List, [], ◌∷◌, ◌++◌, length, Option, Some, None, take, refl, ap, sym, ◌∙◌, arith, subst}
 use Rattle.rasta_build.proofs.Prelude.{nat_lt, if◌then◌else◌, ◌&&◌, ◌==◌, min, nat_tests, Side, Parameters, SafetyPdu, RedundancyPdu, is_kind, Owed, OweRetransmissionResponse}
 use Rattle.rasta_build.proofs.Prelude.{OweRetransmissionRequest, Phase, Up, RetrReq, TakeRow, Opened, Answered, FirstHeartbeat, InSequence, ResentInSequence, Gap}
-use Rattle.rasta_build.proofs.Prelude.{GapInRetransmission, Resumed, Requested, RequestedAhead, RequestedAgain, Disconnected, Made, EndState, is_owing, is_closed, is_flowing}
-use Rattle.rasta_build.proofs.Prelude.{carries_unit, is_past, hand_up, effect, take_row, take_fault, accept, enter, row_known, number, Built, taken_by, unless, take_step}
+use Rattle.rasta_build.proofs.Prelude.{GapInRetransmission, Resumed, Requested, RequestedAhead, RequestedAgain, Disconnected, Made, EndState, is_owing, is_flowing}
+use Rattle.rasta_build.proofs.Prelude.{carries_unit, hand_up, effect, take_row, take_fault, accept, enter, row_known, number, Built, taken_by, unless, take_step}
 use Rattle.rasta_build.proofs.Prelude.{RetransmissionRequest}
 use Rattle.rasta_pcap.specs.Fault.{reply_owed, past_deadline}
 use Rattle.rasta_end.specs.declared.owed.Owed.TheVariants.{ConnectionResponse as OweConnectionResponse, FirstHeartbeat as OweFirstHeartbeat, Resend as OweResend}
@@ -11,10 +11,9 @@ use Rattle.rasta_end.specs.State.{kinds}
 use Rattle.rasta_end.specs.Units.{units_conveyed}
 use Rattle.rasta_end.specs.MakeRule.{first_that_holds}
 use Rattle.rasta_end.specs.TakeRule.{resends, burst, position_confirmed}
-use Rattle.rasta_check.proofs.Script.ScriptsOfRuns.{fault_by}
 use Rattle.rasta_build.specs.Built.{progress_of, trail_after}
 use Rattle.rasta_build.specs.declared.script_builder.Progress.{Progress}
-use Rattle.rasta_build.proofs.Times.{timed, deadline_by, effect_timed, IsNear, near_effect, not_past}
+use Rattle.rasta_build.proofs.Times.{timed, deadline_by, effect_timed, IsNear, near_effect}
 use Rattle.std.proofs.lemmas.List.{append-nil}
 use Rattle.rasta_build.proofs.Comparisons.{not_lt}
 
@@ -71,13 +70,10 @@ pub record IsReady (p : Parameters) (start : Option ℕ) (side : Side) (quiet_sn
 
 fault_if : (k : Bool) (os : List Owed) (a b : Bool) → (a ≡ false → b ≡ false) → (if k then None else first_that_holds ((is_owing os, reply_owed) ∷ (a, past_deadline) ∷ [])) ≡ None
     → (if k then None else first_that_holds ((is_owing os, reply_owed) ∷ (b, past_deadline) ∷ [])) ≡ None
-fault_if true os a b i h = refl
-fault_if false os a b i h = fault_by os a b i h
+fault_if k os a b h g = grind arith
 
 pub fault_near : (p : Parameters) (start : Option ℕ) (e : EndState) (clock : ℕ) (deadline : Option ℕ) → IsNear p start e clock deadline → take_fault p e e.clock ≡ None → take_fault p (timed clock deadline e) clock ≡ None
-fault_near p start e clock deadline n h =
-    fault_if (is_closed e.phase) e.owed (is_past p e.deadline e.clock) (is_past p deadline clock)
-    (λ k. not_past p start clock n.lag e.clock clock e.deadline deadline n.deadlines (let z = n.clocks in omega (arith, z)) k) h
+fault_near p start e clock deadline h g = grind arith
 
 step_is : (f : Bool) (t : Option ℕ) (r : Option TakeRow) (row : Option TakeRow) (slot q : ℕ) (x : RedundancyPdu) (b : Built) → f ≡ false → t ≡ None → r ≡ row
     → (if f then None else unless t (taken_by r slot q x b)) ≡ Some (taken_by row slot q x b)
@@ -107,13 +103,10 @@ trail_set : (k f : Bool) (j : Bool) → k ≡ true → j ≡ true → f ≡ true
 trail_set k f j a b c = rw a (rw b (rw c refl))
 
 trail_unset : (k f : Bool) (j : Bool) → j ≡ false → bit (k && (j && f)) ≡ 0
-trail_unset true f j b = rw b refl
-trail_unset false f j b = refl
+trail_unset k f j h = grind arith
 
 trail_waiting : (k j : Bool) (ph : Phase) → ph ≡ RetrReq → bit (k && (j && is_flowing ph)) ≡ 0
-trail_waiting true true ph e = rw e refl
-trail_waiting true false ph e = refl
-trail_waiting false j ph e = refl
+trail_waiting k j ph h = grind arith
 
 -- the trail after the take by a row
 pub trail_row : (p : Parameters) (e : EndState) (x : SafetyPdu) (row : TakeRow) → ConveysNoMore e → e.owed ≡ [] → take_row p e x ≡ Some row

@@ -1,9 +1,9 @@
 -- What starts a request, and which request is answered.
-use Rattle.std.proofs.Common.{◌≡◌, ℕ, zero, suc, ◌+◌, ◌*◌, ◌<◌, ◌≤◌, ◌⊎◌, Bool, true, false, List, [], ◌∷◌, length, Option, Some, None, slice_get, take, refl, ap, sym, ◌∙◌, arith, inl, inr, subst, ⊎_elim}
-use Rattle.rasta_build.proofs.Prelude.{nat_lt, nat_le, ◌&&◌, ◌==◌, nat_tests, slice_get_within, Side, Parameters, SafetyPdu, is_kind, Kind, RetransmissionRequest}
-use Rattle.rasta_build.proofs.Prelude.{RetransmissionResponse, Heartbeat, Data, OweRetransmissionRequest, RetrReq, TakeRow, Opened, Answered, FirstHeartbeat, InSequence}
-use Rattle.rasta_build.proofs.Prelude.{ResentInSequence, Gap, GapInRetransmission, Resumed, Requested, RequestedAhead, RequestedAgain, Disconnected, Made, EndState, is_owing}
-use Rattle.rasta_build.proofs.Prelude.{effect, take_row, take_fault, steps_past_next, is_in, is_ahead, FirstCopy, row_known, number, slice_get_some, Built, copy_at, is_trigger}
+use Rattle.std.proofs.Common.{◌≡◌, ℕ, zero, suc, ◌+◌, ◌<◌, ◌≤◌, ◌⊎◌, Bool, true, false, List, [], ◌∷◌, length, Option, Some, None, slice_get, take, refl, ap, sym, ◌∙◌, arith, inl, inr, subst, ⊎_elim}
+use Rattle.rasta_build.proofs.Prelude.{nat_lt, ◌==◌, nat_tests, slice_get_within, Side, Parameters, SafetyPdu, is_kind, Kind, RetransmissionRequest}
+use Rattle.rasta_build.proofs.Prelude.{RetransmissionResponse, OweRetransmissionRequest, RetrReq, TakeRow}
+use Rattle.rasta_build.proofs.Prelude.{Gap, GapInRetransmission, RequestedAhead, RequestedAgain, Made, EndState, is_owing}
+use Rattle.rasta_build.proofs.Prelude.{effect, take_row, take_fault, steps_past_next, is_in, is_ahead, FirstCopy, number, slice_get_some, Built, copy_at, is_trigger}
 use Rattle.rasta_build.proofs.Prelude.{taken_by}
 use Rattle.rasta_end.specs.State.{is_timed}
 use Rattle.rasta_end.specs.TakeRule.{is_heartbeat_or_data}
@@ -64,47 +64,26 @@ abbrev pub gapped : EndState → EndState
 gapped e = record e { phase = RetrReq; owed = OweRetransmissionRequest ∷ [] }
 
 gap_effect : (p : Parameters) (row : TakeRow) (e : EndState) (x : SafetyPdu) → is_gap row ≡ true → effect p row e x ≡ gapped e
-gap_effect p Gap e x h = refl
-gap_effect p GapInRetransmission e x h = refl
-gap_effect p _ e x h = absurd (cc)
+gap_effect p row e x h = grind arith
 
 off : {P : Type 0} → false ≡ true → P
 off e = absurd (cc)
 
 -- a time-relevant PDU that isn't in sequence is taken by such a row, or by none
 timed_rows : (p : Parameters) (e : EndState) (x : SafetyPdu) → is_timed x.kind ≡ true → is_in e x ≡ false → (row : TakeRow) → take_row p e x ≡ Some row → is_gap row ≡ true
-timed_rows p e x t n Opened is = (let w = row_known p e x Opened is in off (sym (ap is_timed w.1) ∙ t))
-timed_rows p e x t n Answered is = (let w = row_known p e x Answered is in off (sym (ap is_timed w.2) ∙ t))
-timed_rows p e x t n FirstHeartbeat is = (let w = row_known p e x FirstHeartbeat is in off (sym n ∙ w.4))
-timed_rows p e x t n InSequence is = (let w = row_known p e x InSequence is in off (sym n ∙ w.3))
-timed_rows p e x t n ResentInSequence is = (let w = row_known p e x ResentInSequence is in off (sym n ∙ w.3))
-timed_rows p e x t n Gap is = refl
-timed_rows p e x t n GapInRetransmission is = refl
-timed_rows p e x t n Resumed is = (let w = row_known p e x Resumed is in off (sym (ap is_timed w.1) ∙ t))
-timed_rows p e x t n Requested is = (let w = row_known p e x Requested is in off (sym (ap is_timed w.1) ∙ t))
-timed_rows p e x t n RequestedAhead is = (let w = row_known p e x RequestedAhead is in off (sym (ap is_timed w.1) ∙ t))
-timed_rows p e x t n RequestedAgain is = (let w = row_known p e x RequestedAgain is in off (sym (ap is_timed w.1) ∙ t))
-timed_rows p e x t n Disconnected is = (let w = row_known p e x Disconnected is in off (sym (ap is_timed w.1) ∙ t))
+timed_rows p e x h g row k = grind arith
 
 fresh_timed : (k : Kind) → is_heartbeat_or_data k ≡ true → is_timed k ≡ true
-fresh_timed Heartbeat h = refl
-fresh_timed Data h = refl
-fresh_timed _ h = off h
+fresh_timed k h = grind arith
 
 gap_timed : (p : Parameters) (e : EndState) (x : SafetyPdu) (row : TakeRow) → is_gap row ≡ true → take_row p e x ≡ Some row → is_timed x.kind ≡ true
-gap_timed p e x Gap g is = (let w = row_known p e x Gap is in fresh_timed x.kind w.1)
-gap_timed p e x GapInRetransmission g is = (let w = row_known p e x GapInRetransmission is in w.1)
-gap_timed p e x _ g is = off g
+gap_timed p e x row h g = grind arith
 
 ahead_request : (p : Parameters) (e : EndState) (x : SafetyPdu) (row : TakeRow) → is_request_ahead row ≡ true → take_row p e x ≡ Some row → x.kind ≡ RetransmissionRequest
-ahead_request p e x RequestedAhead g is = (let w = row_known p e x RequestedAhead is in w.1)
-ahead_request p e x RequestedAgain g is = (let w = row_known p e x RequestedAgain is in w.1)
-ahead_request p e x _ g is = off g
+ahead_request p e x row h g = grind arith
 
 owing_ahead : (p : Parameters) (e : EndState) (x : SafetyPdu) (row : TakeRow) → is_request_ahead row ≡ true → is_owing (effect p row e x).owed ≡ true
-owing_ahead p e x RequestedAhead g = refl
-owing_ahead p e x RequestedAgain g = refl
-owing_ahead p e x _ g = off g
+owing_ahead p e x row h = grind arith
 
 steps_in : (s : ℕ) → 0 < s → (s == 0) ≡ false
 steps_in s h = grind (arith, nat_tests)
@@ -217,16 +196,7 @@ module _ (p : Parameters) (start : Option ℕ) (side : Side) (quiet_sn : Option 
           (f.0, f.1, f.3, request_by g asks j l k h.0 h.1 f.0 f.2 (is_kind RetransmissionRequest f.0.pdu.safety.kind) refl)
 
     within : is_ahead p e m.pdu ≡ true → q < first_tried b + positions_tried b
-    within h =
-        let s : steps_past_next e m.pdu ≤ 10 * p.n_sendmax = ahead_most (steps_past_next e m.pdu) (10 * p.n_sendmax) h in
-        let nm = names q m there (omega (arith, ahead)) (omega arith) in
-        let a = accepted_same in
-        let c : b.end.params.n_sendmax ≡ p.n_sendmax = ap (λ (z : Parameters). z.n_sendmax) r.params in
-        let z : q ≤ b.end.state.accepted + 10 * b.end.params.n_sendmax = omega (arith, s, nm, a, c) in
-        omega (arith, z)
-      where
-        ahead_most : (s n : ℕ) → (nat_lt 0 s && nat_le s n) ≡ true → s ≤ n
-        ahead_most s n h = grind (arith, nat_tests)
+    within h = grind arith
 
     -- the builder takes what makes a request owed
     pub gap_found : is_gap row ≡ true → is_ahead p e m.pdu ≡ true → (b2 : Built) × (take_trigger sent slot RetransmissionRequest b ≡ Some b2) × Found b2

@@ -23,9 +23,7 @@ not_zero : (i : ℕ) → 1 ≤ i → (i == 0) ≡ false
 not_zero i h = grind (arith, nat_tests)
 
 member_is : (q : Option Quiet) (s : Side) (i : ℕ) → base_by q ≤ i → member_at (peer_quiet_sn q s) i ≡ Some (i - base_by q)
-member_is None s i h = ap Some (omega arith)
-member_is (Some q) Client i h = (let z : (i == 0) ≡ false = not_zero i h in rw z refl)
-member_is (Some q) Server i h = (let z : (i == 0) ≡ false = not_zero i h in rw z refl)
+member_is q s i h = grind arith
 
 -- what the peer made is found in its list
 pub found_there : (p : Parameters) (s r : Side) (xs : List Packet) (peer big : List FirstCopy) (f : EndState) (first : ℕ) → Sends p r xs peer f first → Begins big peer (length xs)
@@ -40,8 +38,7 @@ found_there p s r xs peer big f first h b i m g l =
     (c.0, ap (copy_there big) mem ∙ t, c.2, slice_get_within xs c.0.place fs.0 fs.1)
 
 first_of_pdus : (ms : List Made) (x : SafetyPdu) (xs : List SafetyPdu) → pdus_made ms ≡ x ∷ xs → first_sn ms ≡ x.sn
-first_of_pdus [] x xs h = absurd (cc)
-first_of_pdus (m ∷ ms) x xs h = (let e : m.pdu ≡ x = cc in ap (λ (z : SafetyPdu). z.sn) e)
+first_of_pdus ms x xs h = grind arith
 
 no_pdus : (ms : List Made) → pdus_made ms ≡ [] → ms ≡ []
 no_pdus [] h = refl

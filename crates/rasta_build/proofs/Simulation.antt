@@ -1,5 +1,5 @@
 -- Along a run, the pass explains each first copy that crosses.
-use Rattle.std.proofs.Common.{◌≡◌, ℕ, suc, ◌+◌, ◌^◌, ◌<◌, ◌≤◌, List, [], ◌∷◌, ◌++◌, length, Option, Some, None, Result, Ok, slice_get, refl, ap, sym, ◌∙◌, arith, subst, ⊎_elim}
+use Rattle.std.proofs.Common.{◌≡◌, ℕ, suc, ◌+◌, ◌^◌, ◌<◌, ◌≤◌, List, [], ◌∷◌, ◌++◌, length, Option, Some, Result, Ok, slice_get, refl, ap, sym, ◌∙◌, arith, subst, ⊎_elim}
 use Rattle.rasta_build.proofs.Prelude.{Side, Client, Server, Packet, Parameters, AreParameters, FirstCopy, Station, IsSent, Sends, sends_count, Built, SidedCopy, first_of, explain}
 use Rattle.rasta_build.proofs.Prelude.{Pass, one_more, pass_on, passes, copy_goes, client_goes, server_goes, Begins}
 use Rattle.std.proofs.lemmas.List.{length_push}
@@ -10,7 +10,6 @@ use Rattle.rasta_check.proofs.Model.InvariantOfRuns.{All, few_made}
 use Rattle.rasta_check.proofs.Script.ScriptsOfRuns.{Both}
 use Rattle.rasta_build.proofs.SentLists.{begun_get, begun_next}
 use Rattle.rasta_build.proofs.Moves.{FollowsAt, Stays, MadeOne, Stands, moved}
-use Rattle.rasta_build.proofs.Comparisons.{lt_is, not_lt}
 
 -- the pass has come as far as the run
 pub record Keeps (p : Parameters) (c s own peer : List FirstCopy) (w : World) : Type 0 where
@@ -23,12 +22,10 @@ pub record Keeps (p : Parameters) (c s own peer : List FirstCopy) (w : World) : 
 
 -- the client's copy is the next
 client_next : (a b : Option FirstCopy) (copy : FirstCopy) → a ≡ Some copy → ((d : FirstCopy) → b ≡ Some d → copy.place < d.place) → first_of a b ≡ Some (record { side = Client; copy = copy })
-client_next a None copy h l = rw h refl
-client_next a (Some d) copy h l = (let z = lt_is copy.place d.place (l d refl) in rw h (rw z refl))
+client_next a b copy h g = grind arith
 
 server_next : (a b : Option FirstCopy) (copy : FirstCopy) → b ≡ Some copy → ((d : FirstCopy) → a ≡ Some d → copy.place < d.place) → first_of a b ≡ Some (record { side = Server; copy = copy })
-server_next None b copy h l = rw h refl
-server_next (Some d) b copy h l = (let m = l d refl in let z = not_lt d.place copy.place (omega (arith, m)) in rw h (rw z refl))
+server_next a b copy h g = grind arith
 
 client_one : (c s : List FirstCopy) (t : Pass) (copy : FirstCopy) (b : Built) → first_of (slice_get c t.made) (slice_get s t.answered) ≡ Some (record { side = Client; copy = copy }) → explain s copy.place copy.pdu.safety t.own ≡ Some b
     → one_more c s t ≡ Ok (record t { made = suc t.made; own = b })

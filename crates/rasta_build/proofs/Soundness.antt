@@ -1,21 +1,19 @@
 -- What a pass has explained, its two scripts lead to.
 use Rattle.std.proofs.Common.{◌≡◌, ℕ, zero, suc, ◌+◌, ◌-◌, ◌^◌, ◌<◌, ◌≤◌, Bool, true, false, List, [], ◌∷◌, ◌++◌, length, Option, Some, None, Result, Ok, Err, slice_get, refl, ap, sym, ◌∙◌, arith, subst, ⊎_elim}
 use Rattle.rasta_build.proofs.Prelude.{nat_lt, nat_le, if◌then◌else◌, ◌&&◌, ◌||◌, not, ◌==◌, option_map, nat_tests, slice_get_within, Side, Client, Server, too_early_timeout}
-use Rattle.rasta_build.proofs.Prelude.{Parameters, SafetyPdu, Quiet, Kind, RetransmissionRequest, RetransmissionResponse, DisconnectionRequest, Heartbeat, Data, Why, Bye, Expired}
-use Rattle.rasta_build.proofs.Prelude.{TakeRow, EndState, ahead_by, is_owing, is_retr_req, reason_of, start_of, start_by, make_fault, row_of, after_make, MakeRow, effect}
-use Rattle.rasta_build.proofs.Prelude.{effect_by, after_take, take_row, take_fault, no_test, FirstCopy, base, base_by, base_small, Built, peer_quiet_sn, copy_at, is_before}
-use Rattle.rasta_build.proofs.Prelude.{is_trigger, wants_trigger, first_of, clock_of}
-use Rattle.rasta_pdu.specs.declared.kind.Kind.TheVariants.{ConnectionRequest, ConnectionResponse, RetransmittedData}
+use Rattle.rasta_build.proofs.Prelude.{Parameters, SafetyPdu, Quiet, Kind, Why, Bye, Expired}
+use Rattle.rasta_build.proofs.Prelude.{TakeRow, EndState, ahead_by, is_owing, start_of, start_by, make_fault, after_make, effect}
+use Rattle.rasta_build.proofs.Prelude.{effect_by, after_take, take_row, no_test, FirstCopy, base, base_by, base_small, Built, peer_quiet_sn, copy_at, is_before}
+use Rattle.rasta_build.proofs.Prelude.{wants_trigger, first_of, clock_of}
 use Rattle.rasta_cert.specs.Certificate.{IsReason, IsEntry, AreEntries}
 use Rattle.rasta_cert.specs.declared.entry.Entry.{Entry}
 use Rattle.rasta_cert.specs.declared.entry.Entry.TheVariants.{Take, Make}
-use Rattle.rasta_end.specs.declared.why.Why.TheVariants.{Open, Reply, Beat, Fresh, Again, Ask}
-use Rattle.rasta_end.specs.MakeRule.{after_make_by}
+use Rattle.rasta_end.specs.declared.why.Why.TheVariants.{Again}
 use Rattle.rasta_check.specs.Script.Following.{Cursor, Advances, takes_next, makes_next, Leads, at_start}
 use Rattle.rasta_check.proofs.Model.Steps.{start_base}
 use Rattle.rasta_build.specs.Proposing
 use Rattle.rasta_check.proofs.Script.ScriptsOfRuns.{leads_more}
-use Rattle.rasta_build.specs.Choices.{copy_there, has_to_take, why_by, why_beating, next_unit, in_32_bits, position_named}
+use Rattle.rasta_build.specs.Choices.{has_to_take, why_by, why_beating, next_unit, in_32_bits, position_named}
 use Rattle.rasta_build.specs.Explaining
 use Rattle.rasta_build.proofs.Comparisons.{less_is, not_less}
 use Rattle.rasta_build.proofs.Keeping.{trigger_next}
@@ -40,25 +38,11 @@ not_zero : (i : ℕ) → (i == 0) ≡ false → 1 ≤ i
 not_zero i h = grind (arith, nat_tests)
 
 member_there : (q : Option Quiet) (s : Side) (i : ℕ) (big : List FirstCopy) (c : FirstCopy) → copy_at (peer_quiet_sn q s) big i ≡ Some c → (base_by q ≤ i) × (slice_get big (i - base_by q) ≡ Some c)
-member_there None s i big c h = (omega arith, (let e : i - 0 ≡ i = omega arith in ap (slice_get big) e ∙ h))
-member_there (Some q) Client i big c h = by (i == 0) refl h
-  where
-    by : (z : Bool) → (i == 0) ≡ z → copy_there big (if z then None else Some (i - 1)) ≡ Some c → (1 ≤ i) × (slice_get big (i - 1) ≡ Some c)
-    by true e h = absurd (cc)
-    by false e h = (not_zero i e, h)
-member_there (Some q) Server i big c h = by (i == 0) refl h
-  where
-    by : (z : Bool) → (i == 0) ≡ z → copy_there big (if z then None else Some (i - 1)) ≡ Some c → (1 ≤ i) × (slice_get big (i - 1) ≡ Some c)
-    by true e h = absurd (cc)
-    by false e h = (not_zero i e, h)
+member_there q s i big c h = grind arith
 
 -- a make accepts nothing
 made_accepted : (e : EndState) (x : SafetyPdu) (clock : ℕ) (why : Why) → (after_make e x clock why).accepted ≡ e.accepted
-made_accepted e x clock why = by (row_of e x why)
-  where
-    by : (o : Option MakeRow) → (after_make_by o e x clock).accepted ≡ e.accepted
-    by None = refl
-    by (Some row) = refl
+made_accepted e x clock why = grind arith
 
 -- ---- entries
 
@@ -76,22 +60,16 @@ next_bound : (offered owed trail v : ℕ) → next_unit offered owed trail ≡ S
 next_bound offered owed trail v h = unit_bound _ v (if_then (nat_le trail owed && nat_le (owed - trail) offered) _ v h).1
 
 again_bound : (o : Option ℕ) (w : Why) → option_map Again o ≡ Some w → ((v : ℕ) → o ≡ Some v → v < 2 ^ 32) → IsReason w
-again_bound None w h b = absurd (cc)
-again_bound (Some v) w h b = kept IsReason h (b v refl)
+again_bound o w h g = grind arith
 
 beating_bound : (o : Bool) (w : Why) → Some (why_beating o) ≡ Some w → IsReason w
-beating_bound true w h = kept IsReason h tt
-beating_bound false w h = kept IsReason h tt
+beating_bound o w h = grind arith
 
 ended_bound : (o : Bool) (w : Why) → Some (if o then Expired else Bye) ≡ Some w → IsReason w
-ended_bound true w h = kept IsReason h tt
-ended_bound false w h = kept IsReason h tt
+ended_bound o w h = grind arith
 
 why_bound : (k : Kind) (e : EndState) (trail : ℕ) (x : SafetyPdu) (w : Why) → why_by k e trail x ≡ Some w → IsReason w
-why_bound RetransmittedData e trail x w h = again_bound _ w h (λ v g. next_bound e.offered (length e.owed) trail v g)
-why_bound Heartbeat e trail x w h = beating_bound (is_owing e.owed) w h
-why_bound DisconnectionRequest e trail x w h = ended_bound (reason_of x.body == 4) w h
-why_bound _ e trail x w h = kept IsReason h tt
+why_bound k e trail x w h = grind arith
 
 module _ (p : Parameters) (side : Side) (n : ℕ) (own peer : List FirstCopy) (few : length peer ≤ 1000000) (k slot : ℕ) (inside : slot ≤ n) (small : n < 2 ^ 32)
     (numbers : (i : ℕ) (a : FirstCopy) → slice_get peer i ≡ Some a → a.pdu.number < 2 ^ 32) where
@@ -160,10 +138,7 @@ module _ (p : Parameters) (side : Side) (n : ℕ) (own peer : List FirstCopy) (f
   -- acceptance through a position that crossed
   module _ (rises : (i j : ℕ) (a b : FirstCopy) → slice_get peer i ≡ Some a → slice_get peer j ≡ Some b → i ≤ j → a.place ≤ b.place) where
     up_to : (last : ℕ) (cl : FirstCopy) → copy_at (peer_quiet_sn p.quiet side) peer last ≡ Some cl → cl.place < slot → (j : ℕ) (c : FirstCopy) → j ≤ last → copy_at (peer_quiet_sn p.quiet side) peer j ≡ Some c → c.place < slot
-    up_to last cl g f j c l h =
-        let x = member_there p.quiet side last peer cl g in
-        let y = member_there p.quiet side j peer c h in
-        omega (arith, rises (j - base p) (last - base p) c cl y.1 x.1 (omega (arith, l, y.0)), f)
+    up_to last cl h g j c k l = grind arith
 
     range_read : (last : ℕ) (b b' : Built) → Read b → ((j : ℕ) (c : FirstCopy) → j ≤ last → copy_at (peer_quiet_sn p.quiet side) peer j ≡ Some c → c.place < slot) → (o : Option ℕ) → Explaining.accept_range peer slot (suc last) b o ≡ Some b' → Read b'
     range_read last b b' r front None h = absurd (cc)
@@ -283,10 +258,7 @@ module _ (p : Parameters) (n : ℕ) (c s : List FirstCopy) (few : length c ≤ 1
       by false h = server_read t t' f y r _ refl h
 
   start_low : (q : Option Quiet) (sd : Side) → (start_by q sd).accepted ≤ (start_by q sd).base
-  start_low None Client = omega arith
-  start_low None Server = omega arith
-  start_low (Some quiet) Client = omega arith
-  start_low (Some quiet) Server = omega arith
+  start_low q sd = grind arith
 
   first_read : AreRead p n c s (Proposing.first_pass p)
   first_read =

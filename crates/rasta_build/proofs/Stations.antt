@@ -1,24 +1,24 @@
 -- A builder's end follows a station of a run.
-use Rattle.std.proofs.Common.{◌≡◌, ℕ, suc, ◌^◌, ◌<◌, ◌≤◌, ◌⊎◌, Bool, true, false, List, [], ◌∷◌, length, Option, Some, None, refl, ap, sym, ◌∙◌, arith, inl, inr, subst, ⊎_elim, cond}
-use Rattle.rasta_build.proofs.Prelude.{not, ◌&&◌, ◌||◌, ◌==◌, Side, Client, Server, Parameters, SafetyPdu, is_kind, Kind, Owed, Phase, Closed, Start, TakeRow, Why, MakeRow, Made}
-use Rattle.rasta_build.proofs.Prelude.{EndState, first_sn, is_owing, is_closed, is_client, is_start, is_active, is_retr_req, content_of, start_of, make_fault, has_ended}
-use Rattle.rasta_build.proofs.Prelude.{after_make, effect_by, take_row, after_take, take_fault, is_in, is_ahead, no_test, FirstCopy, passed, Making, opening, answer, ask, made_by}
-use Rattle.rasta_build.proofs.Prelude.{after_row, take_leaves, Numbered, Taken, Valued, Built, first_sn_of, catch_up, explain, earliest_by, Data}
-use Rattle.std.specs.Prelude.{map, filter, is_some, slice_get}
+use Rattle.std.proofs.Common.{◌≡◌, ℕ, suc, ◌^◌, ◌<◌, ◌≤◌, ◌⊎◌, Bool, true, false, List, [], ◌∷◌, length, Option, Some, None, refl, ap, sym, ◌∙◌, arith, inl, inr, subst, ⊎_elim}
+use Rattle.rasta_build.proofs.Prelude.{not, ◌&&◌, ◌||◌, ◌==◌, Side, Client, Parameters, SafetyPdu, Kind, Owed, Phase, Closed, TakeRow, Why, MakeRow, Made}
+use Rattle.rasta_build.proofs.Prelude.{EndState, first_sn, is_owing, is_closed, is_client, is_start, is_active, is_retr_req, start_of, make_fault, has_ended}
+use Rattle.rasta_build.proofs.Prelude.{after_make, effect_by, take_row, after_take, take_fault, is_in, is_ahead, no_test, FirstCopy, passed, Making, made_by}
+use Rattle.rasta_build.proofs.Prelude.{after_row, take_leaves, Numbered, Taken, Valued, Built, first_sn_of, catch_up, explain, earliest_by}
+use Rattle.std.specs.Prelude.{is_some, slice_get}
 use Rattle.rasta_end.specs.State.{is_connected}
 use Rattle.rasta_end.specs.MakeRule.{contents, phase_after}
 use Rattle.rasta_end.specs.TakeRule.{is_valid}
 use Rattle.rasta_check.proofs.Script.ScriptsOfRuns.{earlier}
-use Rattle.rasta_check.proofs.Model.MakeRows.{again, beat, fresh, new_made}
+use Rattle.rasta_check.proofs.Model.MakeRows.{new_made}
 use Rattle.rasta_check.proofs.Model.TakeRows.{closed_row, not_closed}
 use Rattle.rasta_check.proofs.Model.Invariant.{Held}
 use Rattle.rasta_check.proofs.Model.InvariantAtMake.{nothing_made, push_some}
 use Rattle.rasta_check.proofs.Model.InvariantOfRuns.{free}
 use Rattle.rasta_build.proofs.Readiness.{IsReady}
-use Rattle.rasta_build.proofs.Scans.{AreCopies, is_gap}
+use Rattle.rasta_build.proofs.Scans.{AreCopies}
 use Rattle.rasta_build.proofs.Lags.{Pending, IsLag}
 use Rattle.rasta_build.proofs.LagTakes.{lag_row}
-use Rattle.rasta_build.proofs.Explanations.{IsOrigin, active_open, base_accepted, explains, gap_owes, ahead_owes}
+use Rattle.rasta_build.proofs.Explanations.{IsOrigin, active_open, base_accepted, explains}
 use Rattle.rasta_build.proofs.Comparisons.{is_same}
 
 -- the builder's end lags behind a run's end, and was the same, but for its times, at the last make
@@ -74,12 +74,7 @@ module _ (p : Parameters) (start : Option ℕ) (side : Side) (quiet_sn : Option 
 
   -- nothing is pending where something is taken by a row
   not_pending : (base : EndState) (mark : ℕ) → e.owed ≡ [] → Pending p base mark e t f.made → ⊥
-  not_pending base mark none w =
-      let af = w.after in
-      ⊎_elim
-      (λ (g : is_gap w.row ≡ true). (let o = gap_owes p base w.m.pdu w.row g in owing_not e.owed o.0 _ (ap (λ (z : EndState). z.owed) af ∙ o.1) none))
-      (λ g. (let o = ahead_owes p base w.m.pdu w.row g.0 in owing_not e.owed o.0 _ (ap (λ (z : EndState). z.owed) af ∙ o.1) none))
-      w.kind
+  not_pending base mark h g = grind arith
 
   origin_kept : IsOrigin p start side quiet_sn e t f.made b → IsOrigin p start side quiet_sn (after_take p e m.pdu) (suc q) f.made b
   origin_kept o = (let l = take_leaves p e m.pdu in record {

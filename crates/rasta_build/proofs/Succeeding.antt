@@ -1,6 +1,6 @@
 -- What a step of the builder says that succeeds.
-use Rattle.std.proofs.Common.{◌≡◌, ℕ, suc, ◌<◌, ◌⊎◌, Bool, true, false, List, Option, Some, None, refl, arith, subst, inl, inr, ⊎_elim}
-use Rattle.rasta_build.proofs.Prelude.{if◌then◌else◌, ◌==◌, ◌||◌, not, nat_lt, is_owing, is_before, nat_tests, Kind, TakeRow, take_row, take_fault, FirstCopy, Built, copy_at, is_trigger, unless, taken_by, take_step}
+use Rattle.std.proofs.Common.{◌≡◌, ℕ, suc, ◌<◌, ◌⊎◌, Bool, true, false, List, Option, Some, None, refl, arith, subst, inl, inr}
+use Rattle.rasta_build.proofs.Prelude.{if◌then◌else◌, ◌==◌, ◌||◌, not, nat_lt, is_before, Kind, TakeRow, take_row, take_fault, FirstCopy, Built, copy_at, is_trigger, unless, taken_by, take_step}
 use Rattle.rasta_pdu.specs.Pdu.{RedundancyPdu}
 use Rattle.rasta_build.specs.Explaining.{and_then, if_accepted, accept_there, accept_step, try_at, try_there, try_step, go_on}
 use Rattle.rasta_build.proofs.Comparisons.{less_is, was_same}
@@ -11,33 +11,26 @@ kept P e x = subst P (cc) x
 
 -- the test held, or it didn't
 pub if_then : {A : Type 0} (t : Bool) (o : Option A) (b : A) → (if t then o else None) ≡ Some b → (t ≡ true) × (o ≡ Some b)
-if_then true o b h = (refl, h)
-if_then false o b h = absurd (cc)
+if_then t o b h = grind arith
 
 pub if_else : {A : Type 0} (t : Bool) (o : Option A) (b : A) → (if t then None else o) ≡ Some b → (t ≡ false) × (o ≡ Some b)
-if_else true o b h = absurd (cc)
-if_else false o b h = (refl, h)
+if_else t o b h = grind arith
 
 -- one of two steps was made
 pub either : {A : Type 0} (t : Bool) (x y : Option A) (b : A) → (if t then x else y) ≡ Some b → (x ≡ Some b) ⊎ (y ≡ Some b)
-either true x y b h = inl h
-either false x y b h = inr h
+either t x y b h = grind arith
 
 -- two steps, one after the other
 pub both : (o : Option Built) (f : Built → Option Built) (b : Built) → and_then o f ≡ Some b → (a : Built) × (o ≡ Some a) × (f a ≡ Some b)
-both None f b h = absurd (cc)
-both (Some a) f b h = (a, refl, h)
+both o f b h = grind arith
 
 -- a search that goes on after its first step, or ends
 pub went_on : (rest : Built → Option Built) (o : Option Built) (b : Built) → go_on rest o ≡ Some b → (a : Built) × (o ≡ Some a) × ((a ≡ b) ⊎ (rest a ≡ Some b))
-went_on rest None b h = absurd (cc)
-went_on rest (Some a) b h = (a, refl, ⊎_elim (λ (e : Some a ≡ Some b). inl (cc)) (λ (e : rest a ≡ Some b). inr e) (either (is_owing a.end.state.owed) (Some a) (rest a) b h))
+went_on rest o b h = grind arith
 
 -- a copy that isn't ruled out has crossed
 pub crossed : (ruled_out : Bool) (o : Option FirstCopy) (place : ℕ) → (ruled_out || not (is_before o place)) ≡ false → (c : FirstCopy) × (o ≡ Some c) × (c.place < place)
-crossed true o place h = absurd (cc)
-crossed false None place h = absurd (cc)
-crossed false (Some c) place h = (c, refl, grind (arith, nat_tests))
+crossed ruled_out o place h = grind arith
 
 -- a take
 pub record Took (slot q : ℕ) (x : RedundancyPdu) (b b' : Built) : Type 0 where

@@ -1,7 +1,7 @@
 -- Two ends that differ in their clock and their deadline alone.
-use Rattle.std.proofs.Common.{◌≡◌, ℕ, ◌+◌, ◌*◌, ◌≤◌, ◌⊎◌, Bool, true, false, Option, Some, None, refl, ap, sym, ◌∙◌, arith, inl, subst}
-use Rattle.rasta_build.proofs.Prelude.{if◌then◌else◌, nat_tests, Parameters, SafetyPdu, Up, TakeRow, Opened, Answered, FirstHeartbeat, InSequence, ResentInSequence, Resumed}
-use Rattle.rasta_build.proofs.Prelude.{Requested, EndState, carries_unit, is_past, hand_up, effect, accept, enter}
+use Rattle.std.proofs.Common.{◌≡◌, ℕ, ◌+◌, ◌*◌, ◌≤◌, ◌⊎◌, Bool, true, false, Option, Some, None, ap, sym, ◌∙◌, arith, subst}
+use Rattle.rasta_build.proofs.Prelude.{if◌then◌else◌, Parameters, SafetyPdu, TakeRow, FirstHeartbeat, InSequence, ResentInSequence, Resumed}
+use Rattle.rasta_build.proofs.Prelude.{Requested, EndState, is_past, hand_up, effect}
 use Rattle.rasta_end.specs.State.{is_timed}
 use Rattle.rasta_end.specs.TakeRule.{deadline_from}
 
@@ -29,28 +29,15 @@ deadline_by p row clock deadline x = next_deadline p (sets_deadline row) (is_tim
 -- with a deadline set by a test
 hand_timed : (b : Bool) (i clock : ℕ) (deadline : Option ℕ) (e : EndState) (x : SafetyPdu)
     → (if b then hand_up i (timed clock deadline e) x else timed clock deadline e) ≡ timed clock deadline (if b then hand_up i e x else e)
-hand_timed true i clock deadline e x = refl
-hand_timed false i clock deadline e x = refl
+hand_timed b i clock deadline e x = grind arith
 
 if_next : (p : Parameters) (t : Bool) (clock : ℕ) (deadline : Option ℕ) (cts : ℕ) → (if t then Some (deadline_from p clock cts) else deadline) ≡ next_deadline p true t clock deadline cts
-if_next p true clock deadline cts = refl
-if_next p false clock deadline cts = refl
+if_next p t clock deadline cts = grind arith
 
 -- a row's effect doesn't depend on them
 pub effect_timed : (p : Parameters) (row : TakeRow) (clock : ℕ) (deadline : Option ℕ) (e : EndState) (x : SafetyPdu)
     → effect p row (timed clock deadline e) x ≡ timed clock (deadline_by p row clock deadline x) (effect p row e x)
-effect_timed p Opened clock deadline e x = refl
-effect_timed p Answered clock deadline e x = refl
-effect_timed p FirstHeartbeat clock deadline e x = ap (λ d. timed clock d (effect p FirstHeartbeat e x)) (if_next p (is_timed x.kind) clock deadline x.cts)
-effect_timed p InSequence clock deadline e x =
-    ap (λ d. if carries_unit x.kind then hand_up e.accepted (timed clock d (enter Up (accept p e x))) x else timed clock d (enter Up (accept p e x))) (if_next p (is_timed x.kind) clock deadline x.cts)
-    ∙ hand_timed (carries_unit x.kind) e.accepted clock (next_deadline p true (is_timed x.kind) clock deadline x.cts) (enter Up (accept p e x)) x
-effect_timed p ResentInSequence clock deadline e x =
-    ap (λ d. if carries_unit x.kind then hand_up e.accepted (timed clock d (accept p e x)) x else timed clock d (accept p e x)) (if_next p (is_timed x.kind) clock deadline x.cts)
-    ∙ hand_timed (carries_unit x.kind) e.accepted clock (next_deadline p true (is_timed x.kind) clock deadline x.cts) (accept p e x) x
-effect_timed p Resumed clock deadline e x = ap (λ d. timed clock d (effect p Resumed e x)) (if_next p (is_timed x.kind) clock deadline x.cts)
-effect_timed p Requested clock deadline e x = ap (λ d. timed clock d (effect p Requested e x)) (if_next p (is_timed x.kind) clock deadline x.cts)
-effect_timed p _ clock deadline e x = refl
+effect_timed p row clock deadline e x = grind arith
 
 pub effect_deadline : (p : Parameters) (row : TakeRow) (e : EndState) (x : SafetyPdu) → (effect p row e x).deadline ≡ deadline_by p row e.clock e.deadline x
 effect_deadline p row e x = ap (λ (z : EndState). z.deadline) (effect_timed p row e.clock e.deadline e x)
@@ -80,9 +67,7 @@ set_most p c cts = omega arith
 
 near_next : (p : Parameters) (start : Option ℕ) (c lag k : ℕ) (s t : Bool) (d b : Option ℕ) (cts : ℕ) → k ≡ c + lag * 4294967296 → NearDeadlines p start c lag d b
     → NearDeadlines p start c lag (next_deadline p s t k d cts) (next_deadline p s t c b cts)
-near_next p start c lag k true true d b cts h n = let e = set_apart p c lag k cts h in (omega (arith, e), omega (arith, e), inl (set_most p c cts))
-near_next p start c lag k true false d b cts h n = n
-near_next p start c lag k false t d b cts h n = n
+near_next p start c lag k s t d b cts h g = grind arith
 
 pub near_effect : (p : Parameters) (start : Option ℕ) (row : TakeRow) (e : EndState) (x : SafetyPdu) (clock : ℕ) (deadline : Option ℕ) → IsNear p start e clock deadline
     → IsNear p start (effect p row e x) clock (deadline_by p row clock deadline x)
@@ -95,7 +80,4 @@ near_effect p start row e x clock deadline n = record {
 
 -- what the later end isn't past, the earlier one isn't past
 pub not_past : (p : Parameters) (start : Option ℕ) (c lag k m : ℕ) (d b : Option ℕ) → NearDeadlines p start c lag d b → m + lag * 4294967296 ≤ k → is_past p d k ≡ false → is_past p b m ≡ false
-not_past p start c lag k m None None n l h = refl
-not_past p start c lag k m (Some d) (Some b) n l h = (let y = n.1 in grind (arith, nat_tests))
-not_past p start c lag k m (Some d) None n l h = absurd n
-not_past p start c lag k m None (Some b) n l h = absurd n
+not_past p start c lag k m d b h g l = grind arith

@@ -21,8 +21,7 @@ nothing_sent p side = record {
 
 -- the run that sends nothing is within the limits
 starts_few : (p : Parameters) → p.quiet ≡ None → (side : Side) → length (end_of (first_world p 0 0) side).made ≤ (start_of p side).base + most_sent
-starts_few p none Client = rw none (omega arith)
-starts_few p none Server = rw none (omega arith)
+starts_few p h side = grind arith
 
 starts_within : (p : Parameters) → p.quiet ≡ None → IsBounded p (first_world p 0 0)
 starts_within p none = record {
