@@ -1,5 +1,5 @@
 -- What an end has handed up: the units conveyed through the last position of its peer that it accepted.
-use Rattle.std.proofs.Common.{◌≡◌, ℕ, zero, suc, ◌+◌, ◌<◌, ◌≤◌, Bool, true, false, List, [], ◌∷◌, ◌++◌, length, Option, Some, None, slice_get, take, refl, ap, sym, ◌∙◌, arith, subst}
+use Rattle.std.proofs.Common.{◌≡◌, ℕ, zero, suc, ◌+◌, ◌<◌, ◌≤◌, Bool, true, false, List, [], ◌∷◌, ◌++◌, length, Some, slice_get, take, refl, ap, sym, ◌∙◌, arith, subst}
 use Rattle.std.specs.Prelude.{slice_index_or, if◌then◌else◌, filter, drop}
 use Rattle.std.proofs.lemmas.Bool.Decides.{nat_tests}
 use Rattle.std.proofs.Math.Seq.{take-append_seam}
@@ -12,26 +12,26 @@ use Rattle.rasta_pdu.specs.Pdu.{SafetyPdu, SafetyBody, Messages, messages_in, is
 use Rattle.rasta_end.specs.declared.phase.Phase.{Phase}
 use Rattle.rasta_end.specs.declared.phase.Phase.TheVariants.{Up, RetrReq}
 use Rattle.rasta_end.specs.declared.why.Why.{Why}
-use Rattle.rasta_end.specs.declared.make_row.MakeRow.{MakeRow}
 use Rattle.rasta_end.specs.declared.take_row.TakeRow.{TakeRow}
 use Rattle.rasta_end.specs.declared.take_row.TakeRow.TheVariants.{Opened, Answered, FirstHeartbeat, InSequence, ResentInSequence, Resumed, Requested, RequestedAhead, RequestedAgain}
 use Rattle.rasta_end.specs.declared.owed.Owed.{Owed}
 use Rattle.rasta_end.specs.declared.owed.Owed.TheVariants.{RetransmissionRequest as OweRetransmissionRequest}
 use Rattle.rasta_end.specs.State.{Made, EndState, is_closed, is_flowing, carries_unit, content_of}
-use Rattle.rasta_end.specs.MakeRule.{row_of, after_make, after_make_by}
+use Rattle.rasta_end.specs.MakeRule.{after_make}
 use Rattle.rasta_end.specs.TakeRule.{is_in, steps_past_next, position_confirmed, accept, enter, hand_up, burst, effect, after_take}
 use Rattle.rasta_check.specs.Model.Laws.{HandsUp}
 use Rattle.rasta_check.specs.Model.Theorem.{HandsUpUnits}
 use Rattle.rasta_check.proofs.Lists.{all_push, get_front, get_push, get_mapped}
 use Rattle.rasta_check.proofs.Model.PassedTests.{Passed, cs_is}
 use Rattle.rasta_check.proofs.Model.MakeRows.{MadeBy, made_by, after_row, new_made}
+use Rattle.rasta_check.proofs.Model.Steps.{Grown}
 use Rattle.rasta_check.proofs.Model.TakeRows.{Knows, take_by}
 use Rattle.rasta_check.proofs.Model.Counts.{number, owes, tally, number_push_as, number_take_all, number_take_more, number_take_at, is_request_owed, owes-append}
 use Rattle.rasta_check.proofs.Model.SequenceNumbers.{numbered_once}
 use Rattle.rasta_check.proofs.Model.Invariant.{Held, has_peer, open_bit}
 use Rattle.rasta_check.proofs.Model.InvariantAtMake.{Changed, changed, goes_on}
 use Rattle.rasta_check.proofs.Model.InvariantAtTake.{Taken, place, flowing_peer, starting_peer}
-use Rattle.rasta_check.proofs.Model.ConveyedUnits.{values, is_plain, length-values, values_push}
+use Rattle.rasta_check.proofs.Model.ConveyedUnits.{values, is_plain, length-values}
 use Rattle.rasta_check.proofs.Model.OfferedUnits.{Valued}
 
 -- how many units an end has been handed that accepted so many positions
@@ -59,34 +59,22 @@ pub record HandsOver (positions : List ℕ) (pdus : List SafetyPdu) (a sn : ℕ)
 abbrev pub Handed : EndState → EndState → Type 0
 Handed e f = HandsOver e.handed e.handed_pdus e.accepted e.last_sn e.phase e.owed e.made f.made (values f)
 
-worth_front : (vs ws : List ℕ) (a : ℕ) → a ≤ length vs → worth (vs ++ ws) a ≡ worth vs a
-worth_front vs ws zero l = refl
-worth_front vs ws (suc i) l = get_or_from_slice_get (vs ++ ws) i (slice_index_or vs i 0) 0 (get_front vs ws i (slice_index_or vs i 0) (slice_get-get_or vs i 0 l))
+worth_grown : (vs ws : List ℕ) (a : ℕ) → a ≤ length vs → ((i v : ℕ) → slice_get vs i ≡ Some v → slice_get ws i ≡ Some v) → worth vs a ≡ worth ws a
+worth_grown vs ws zero l g = refl
+worth_grown vs ws (suc i) l g = sym (get_or_from_slice_get ws i (slice_index_or vs i 0) 0 (g i _ (slice_get-get_or vs i 0 l)))
 
 pub worth_at : (vs : List ℕ) (a p v : ℕ) → a ≡ suc p → slice_get vs p ≡ Some v → worth vs a ≡ v
 worth_at vs a p v e g = ap (worth vs) e ∙ get_or_from_slice_get vs p v 0 g
 
--- The peer makes and takes.
-
-peer_row : (e f : EndState) (x : SafetyPdu) (clock : ℕ) (row : Option MakeRow) → e.accepted ≤ length f.made → Handed e f → Handed e (after_make_by row f x clock)
-peer_row e f x clock None l h = h
-peer_row e f x clock (Some row) l h =
-    let m : Made = new_made row f x in
-    let more = values_push f.asks f.made m in
-    let len = length-values f.asks f.made in
+-- the peer makes or takes
+pub handed_peer : (e f f' : EndState) → e.accepted ≤ length f.made → Grown f f' → Handed e f → Handed e f'
+handed_peer e f f' l g h =
     record {
-      count = h.count ∙ sym (ap (λ vs. worth vs e.accepted) more ∙ worth_front (values f) _ e.accepted (omega (arith, l, len)));
-      labels = λ i pos g. (let r = h.labels i pos g in (r.0, get_front f.made (m ∷ []) pos r.0 r.1, r.2, r.3, r.4));
+      count = h.count ∙ worth_grown (values f) (values f') e.accepted (omega (arith, l, length-values f.asks f.made)) g.kept;
+      labels = λ i pos o. (let r = h.labels i pos o in (r.0, g.made pos r.0 r.1, r.2, r.3, r.4));
       as_many = h.as_many;
       awaited = h.awaited;
     }
-
-pub handed_peer_make : (e f : EndState) (x : SafetyPdu) (clock : ℕ) (why : Why) → e.accepted ≤ length f.made → Handed e f → Handed e (after_make f x clock why)
-handed_peer_make e f x clock why l h = peer_row e f x clock (row_of f x why) l h
-
-pub handed_peer_take : (e f f' : EndState) → f'.made ≡ f.made → values f' ≡ values f → Handed e f → Handed e f'
-handed_peer_take e f f' same vals h =
-    record { count = h.count ∙ ap (λ vs. worth vs e.accepted) (sym vals); labels = subst (AreUnits e.handed e.handed_pdus) (sym same) h.labels; as_many = h.as_many; awaited = h.awaited }
 
 -- The end itself makes.
 

@@ -1,64 +1,36 @@
 -- What of an end stays along a run, and the worlds of a run.
-use Rattle.std.proofs.Common.{◌≡◌, ℕ, suc, ◌+◌, ◌<◌, ◌≤◌, true, List, [], ◌∷◌, ◌++◌, length, Option, Some, slice_get, refl, ap, sym, ◌∙◌, arith, ⊎_elim, subst}
+use Rattle.std.proofs.Common.{◌≡◌, ℕ, suc, ◌+◌, ◌<◌, ◌≤◌, List, [], ◌∷◌, ◌++◌, length, Some, slice_get, refl, ap, sym, ◌∙◌, arith, ⊎_elim, subst}
 use Rattle.std.proofs.lemmas.List.{length_push}
 use Rattle.std.proofs.lemmas.Option.{slice_get_within}
-use Rattle.std.proofs.lemmas.Bool.{and_parts}
 use native.Mathlib.Decide.{dec_lt}
 use Prim.{yes, no}
 use Rattle.rasta_pcap.specs.declared.fault.Side.{Side}
 use Rattle.rasta_pcap.specs.declared.fault.Side.TheVariants.{Client, Server}
 use Rattle.rasta_udp.specs.Frame.{Packet}
 use Rattle.rasta_pdu.specs.Params.{Parameters, AreParameters}
-use Rattle.rasta_end.specs.declared.take_row.TakeRow.{TakeRow}
-use Rattle.rasta_end.specs.State.{Made, EndState, is_closed}
+use Rattle.rasta_end.specs.State.{Made, EndState}
 use Rattle.rasta_end.specs.MakeRule.{has_ended}
-use Rattle.rasta_end.specs.TakeRule.{is_valid, is_in, is_ahead, effect_by}
 use Rattle.rasta_end.specs.Starts.{start_of}
 use Rattle.rasta_check.specs.Capture.Crossing.{FirstCopy}
 use Rattle.rasta_check.specs.Model.World.{Station, World, Move, Moves, makes, repeats, takes, Step, side_moves, station_of, end_of, other_side, Reaches, begins, goes_on, first_world, IsWithin}
 use Rattle.rasta_check.specs.Model.Theorem.{Appends}
 use Rattle.rasta_check.proofs.Lists.{get_push_cases, all_push, get_front, get_push, slice_get_some}
 use Rattle.rasta_check.proofs.Model.PassedTests.{passed}
-use Rattle.rasta_check.proofs.Model.MakeRows.{made_by, after_row, new_made}
-use Rattle.rasta_check.proofs.Model.TakeRows.{take_made, closed_row}
-use Rattle.rasta_check.proofs.Model.Steps.{base, made_more, SameHanded}
+use Rattle.rasta_check.proofs.Model.TakeRows.{take_made}
+use Rattle.rasta_check.proofs.Model.Steps.{base, made_more, SameHanded, Grown, same_grown, grown_make, grown_take}
 use Rattle.rasta_check.proofs.Model.Counts.{number}
-use Rattle.rasta_check.proofs.Model.ConveyedUnits.{values, values_push}
-use Rattle.rasta_check.proofs.Model.OfferedUnitsAtTake.{values_take}
 use Rattle.rasta_check.proofs.Model.InvariantOfRuns.{All, all_held}
 use Rattle.rasta_check.proofs.Script.ScriptsOfRuns.{Both, Sends, turn, told_first, told_step, step_copies, step_front, sends_count, copy_at}
 use Rattle.rasta_check.proofs.Sides.{sided}
 use Rattle.rasta_pdu.specs.Pdu.{is_kind}
 use Rattle.rasta_pdu.specs.declared.kind.Kind.TheVariants.{RetransmissionResponse}
 
--- what of an end stays
-pub record Grown (e e' : EndState) : Type 0 where
-  pub made : (i : ℕ) (m : Made) → slice_get e.made i ≡ Some m → slice_get e'.made i ≡ Some m
-  pub kept : (i v : ℕ) → slice_get (values e) i ≡ Some v → slice_get (values e') i ≡ Some v
-  pub over : has_ended e ≡ true → e' ≡ e
-
-same_grown : (e : EndState) → Grown e e
-same_grown e = record { made = λ i m g. g; kept = λ i v g. g; over = λ h. refl }
-
 both_grown : (a b c : EndState) → Grown a b → Grown b c → Grown a c
 both_grown a b c g h = record { made = λ i m x. h.made i m (g.made i m x); kept = λ i v x. h.kept i v (g.kept i v x); over = λ x. (let e = g.over x in h.over (ap has_ended e ∙ x) ∙ e) }
 
 grown_move : (p : Parameters) (b a a' : Station) (xs ys : List Packet) {move : Move} → Moves p b xs a move a' ys → number (is_kind RetransmissionResponse) a.state.made ≤ length a.state.asks → Grown a.state a'.state
-grown_move p b a a' xs ys (makes x why e' ch res chk bs mk sp rec) l =
-    let ok = passed p a.state x a.clock why mk.0 in
-    let by = made_by p a.state x a.clock why ok in
-    let n : Made = new_made by.row a.state x in
-    subst (λ (e : EndState). Grown a.state e) (after_row a.state x a.clock why by ∙ sym mk.1) (record {
-      made = λ i m g. get_front a.state.made (n ∷ []) i m g;
-      kept = λ i v g. subst (λ vs. slice_get vs i ≡ Some v) (sym (values_push a.state.asks a.state.made n)) (get_front (values a.state) _ i v g);
-      over = λ h. absurd (let z = ok.open_yet in cc);
-    })
-grown_move p b a a' xs ys (takes q m e' c i s t) l =
-    subst (λ (e : EndState). Grown a.state e) (sym t.1) (record {
-      made = λ i n g. subst (λ (ms : List Made). slice_get ms i ≡ Some n) (sym (take_made p a.state m.pdu)) g;
-      kept = λ i v g. subst (λ vs. slice_get vs i ≡ Some v) (sym (values_take p a.state m.pdu l)) g;
-      over = λ h. ap (λ (r : Option TakeRow). effect_by p r a.state m.pdu) (closed_row a.state.side a.state.phase m.pdu.kind (is_in a.state m.pdu) (is_ahead p a.state m.pdu) (is_valid a.state m.pdu) (and_parts (is_closed a.state.phase) _ h).0);
-    })
+grown_move p b a a' xs ys (makes x why e' ch res chk bs mk sp rec) l = subst (Grown a.state) (sym mk.1) (grown_make p a.state x a.clock why (passed p a.state x a.clock why mk.0))
+grown_move p b a a' xs ys (takes q m e' c i s t) l = subst (Grown a.state) (sym t.1) (grown_take p a.state m.pdu l)
 grown_move p b a a' xs ys _ l = same_grown a.state
 
 -- what a step does to an end: it hands nothing up as a packet crosses, and makes at most one PDU

@@ -25,12 +25,11 @@ use Rattle.rasta_check.proofs.Model.InvariantAtMake.{own_make, peer_make}
 use Rattle.rasta_check.proofs.Model.InvariantAtTake.{Taken, own_take}
 use Rattle.rasta_check.proofs.Model.OfferedUnits.{Valued}
 use Rattle.rasta_check.proofs.Model.OfferedUnitsAtMake.{valued_make}
-use Rattle.rasta_check.proofs.Model.OfferedUnitsAtTake.{valued_take, values_take}
-use Rattle.rasta_check.proofs.Model.HandedUnits.{Handed, handed_make, handed_peer_make, handed_take, handed_peer_take}
+use Rattle.rasta_check.proofs.Model.OfferedUnitsAtTake.{valued_take}
+use Rattle.rasta_check.proofs.Model.HandedUnits.{Handed, handed_make, handed_peer, handed_take}
 use Rattle.rasta_check.proofs.Model.ShownUnits.{Shown, shown_make, shown_peer_make, shown_take, shown_peer_take}
-use Rattle.rasta_check.proofs.Model.SequenceNumbers.{numbered_once}
 use Rattle.rasta_check.proofs.Model.Induction.{always}
-use Rattle.rasta_check.proofs.Model.Steps.{start_base, base_small}
+use Rattle.rasta_check.proofs.Model.Steps.{start_base, base_small, grown_make, grown_take}
 use Rattle.rasta_pdu.specs.Pdu.{is_kind}
 use Rattle.rasta_pdu.specs.declared.kind.Kind.TheVariants.{Data}
 
@@ -72,7 +71,6 @@ fresh_in_run side other phase theirs down peer apart they_apart asking =
       handed = record { count = refl; labels = λ i m g. nothing_at i m g; as_many = refl; awaited = λ v. absurd (asking v) };
       shown = record {
         shown = λ i m g. nothing_at i m g;
-        judged = λ i m g. nothing_at i m g;
         first_words = λ _ _ i m g. nothing_at i m g;
         ready_run = λ r. absurd (cc);
         ready_offer = λ l. omega arith;
@@ -127,8 +125,7 @@ quiet_in_run side peer own other =
       };
       handed = record { count = refl; labels = λ i m g. nothing_at i m g; as_many = refl; awaited = λ v. absurd (cc) };
       shown = record {
-        shown = λ i m g k j v t u. zero_at j v u;
-        judged = λ i m g k. inr (0, omega arith, confirms i m g);
+        shown = λ i m g k. inr (record { at = 0; units = 0; named = confirms i m g; conveyed = refl; most = omega arith });
         first_words = λ z. absurd (omega arith);
         ready_run = λ _. omega arith;
         ready_offer = λ _. omega arith;
@@ -157,21 +154,19 @@ all_kept p b a a' xs ys move (makes x why after channel reserve check bytes mk s
     let made : (after_make a.state x a.clock why).made ≡ a.state.made ++ n ∷ [] = ap (λ (e : EndState). e.made) (sym (after_row a.state x a.clock why by)) in
     let few : length (after_make a.state x a.clock why).made ≤ 1000001 = subst (λ (e : EndState). length e.made ≤ 1000001) (sym now) l in
     let h = g (let longer = ap (λ (ms : List Made). length ms) made in omega (arith, longer, few, length_push a.state.made n)) r in
-    let mine = own_make p a.state x a.clock why a.taken b.state.made ok h.mine.held in
-    let values = valued_make p a.state x a.clock why a.taken b.state.made ok h.mine.held h.mine.values in
     let P : EndState → Type 0 = λ e. All (record a { state = e }) b in
     subst P now (record {
       mine = record {
-        held = mine;
-        values = values;
+        held = own_make p a.state x a.clock why a.taken b.state.made ok h.mine.held;
+        values = valued_make p a.state x a.clock why a.taken b.state.made ok h.mine.held h.mine.values;
         handed = handed_make p a.state b.state x a.clock why a.taken ok h.mine.held h.mine.handed;
-        shown = shown_make p a.state b.state x a.clock why a.taken ok h.mine.held (numbered_once b.state.made r h.theirs.held.list.numbered) h.theirs.values h.mine.handed h.mine.shown;
+        shown = shown_make p a.state b.state x a.clock why a.taken ok h.mine.held h.mine.handed h.mine.shown;
       };
       theirs = record {
         held = subst (λ (ms : List Made). Held b.state b.taken ms) (sym made) (peer_make b.state b.taken a.state.made n h.theirs.held);
         values = h.theirs.values;
-        handed = handed_peer_make b.state a.state x a.clock why (let z = h.theirs.held.accepts in omega (arith, z.reached, z.within)) h.theirs.handed;
-        shown = shown_peer_make p b.state a.state x a.clock why ok values (numbered_once (after_make a.state x a.clock why).made few mine.list.numbered) h.theirs.shown;
+        handed = handed_peer b.state a.state _ (let z = h.theirs.held.accepts in omega (arith, z.reached, z.within)) (grown_make p a.state x a.clock why ok) h.theirs.handed;
+        shown = shown_peer_make p b.state a.state x a.clock why ok h.theirs.shown;
       };
     }))
 all_kept p b a a' xs ys move (repeats place channel old there s rec) g = g
@@ -185,7 +180,6 @@ all_kept p b a a' xs ys move (takes position m after c i s t) g = λ l r. (
     let P : EndState → Type 0 = λ e. All (record a { state = e; taken = suc position }) b in
     let fr = free p a.state a.clock t.0 in
     let made = take_made p a.state m.pdu in
-    let same_values = values_take p a.state m.pdu h.mine.held.asks.asked in
     subst P now (record {
       mine = record {
         held = own_take p a.state b.state a.taken b.taken m position k fr;
@@ -196,8 +190,8 @@ all_kept p b a a' xs ys move (takes position m after c i s t) g = λ l r. (
       theirs = record {
         held = subst (λ (ms : List Made). Held b.state b.taken ms) (sym made) h.theirs.held;
         values = h.theirs.values;
-        handed = handed_peer_take b.state a.state (after_take p a.state m.pdu) made same_values h.theirs.handed;
-        shown = shown_peer_take p b.state a.state b.taken m position h.theirs.held s same_values h.theirs.shown;
+        handed = handed_peer b.state a.state _ (let z = h.theirs.held.accepts in omega (arith, z.reached, z.within)) (grown_take p a.state m.pdu h.mine.held.asks.asked) h.theirs.handed;
+        shown = shown_peer_take p b.state a.state b.taken m position h.theirs.held s h.mine.held.asks.asked h.theirs.shown;
       };
     }))
 all_kept p b a a' xs ys move (waits clock i) g = λ l r. (let h = g l r in record { mine = h.mine; theirs = h.theirs })

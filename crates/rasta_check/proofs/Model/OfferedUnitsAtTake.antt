@@ -1,8 +1,8 @@
 -- A take keeps what holds of the units offered.
-use Rattle.std.proofs.Common.{◌≡◌, ℕ, suc, ◌-◌, ◌<◌, ◌≤◌, true, false, List, [], ◌∷◌, ◌++◌, length, refl, ap, sym, ◌∙◌, arith, subst}
+use Rattle.std.proofs.Common.{◌≡◌, ℕ, suc, ◌-◌, ◌<◌, true, false, List, [], ◌∷◌, ◌++◌, length, refl, ap, sym, ◌∙◌, arith, subst}
 use Rattle.std.proofs.lemmas.List.{append-nil}
 use Rattle.rasta_pdu.specs.Params.{Parameters}
-use Rattle.rasta_pdu.specs.Pdu.{SafetyPdu, is_kind}
+use Rattle.rasta_pdu.specs.Pdu.{is_kind}
 use Rattle.rasta_end.specs.declared.phase.Phase.{Phase}
 use Rattle.rasta_end.specs.declared.phase.Phase.TheVariants.{Up}
 use Rattle.rasta_end.specs.declared.take_row.TakeRow.{TakeRow}
@@ -13,7 +13,7 @@ use Rattle.rasta_end.specs.State.{Made, EndState, kinds, is_closed, is_connected
 use Rattle.rasta_end.specs.Units.{units_conveyed, last_of}
 use Rattle.rasta_end.specs.TakeRule.{is_valid, position_confirmed, accept, enter, note_ask, resends, effect, after_take}
 use Rattle.rasta_check.proofs.Lists.{all_push, get_push, get_front_within}
-use Rattle.rasta_check.proofs.Model.Counts.{number, number_take_all, number_take_at}
+use Rattle.rasta_check.proofs.Model.Counts.{number_take_all, number_take_at}
 use Rattle.rasta_check.proofs.Model.TakeRows.{Knows, take_by, handed_or}
 use Rattle.rasta_check.proofs.Model.Invariant.{is_named}
 use Rattle.rasta_check.proofs.Model.InvariantAtTake.{Taken, mark, no_answers, over_not, fresh_named}
@@ -96,13 +96,3 @@ module _ (q : Parameters) (e f : EndState) (t u : ℕ) (m : Made) (p : ℕ) (k :
 
 pub valued_take : (q : Parameters) (e f : EndState) (t u : ℕ) (m : Made) (p : ℕ) (k : Taken e f t u m p) (w : Valued e) → (is_closed e.phase ≡ false → e.owed ≡ []) → Valued (after_take q e m.pdu)
 valued_take q e f t u m p k w free = take_by q e m.pdu Valued w (λ r away x. v_row q e f t u m p k w (free away) away r x)
-
--- a take leaves the units conveyed through each position
-pub values_take : (q : Parameters) (e : EndState) (x : SafetyPdu) → number (is_kind RetransmissionResponse) e.made ≤ length e.asks → values (after_take q e x) ≡ values e
-values_take q e x h = take_by q e x (λ g. values g ≡ values e) refl (λ r away knows. by r)
-  where
-    by : (r : TakeRow) → values (effect q r e x) ≡ values e
-    by Requested = values_asks e.asks (position_confirmed e x) e.made h
-    by RequestedAhead = values_asks e.asks (position_confirmed e x) e.made h
-    by RequestedAgain = values_asks e.asks (position_confirmed e x) e.made h
-    by _ = grind arith

@@ -1,16 +1,24 @@
--- What a make adds and leaves alone, and what holds at the start.
-use Rattle.std.proofs.Common.{◌≡◌, ℕ, ◌≤◌, [], ◌∷◌, ◌++◌, length, Option, Some, None, refl, ap, sym, ◌∙◌, arith}
+-- What a step adds and leaves alone, and what holds at the start.
+use Rattle.std.proofs.Common.{◌≡◌, ℕ, ◌≤◌, true, [], ◌∷◌, ◌++◌, length, Option, Some, None, slice_get, refl, ap, sym, ◌∙◌, arith, subst}
 use Rattle.std.proofs.lemmas.Bool.Decides.{nat_tests}
 use Rattle.rasta_pcap.specs.declared.fault.Side.{Side}
 use Rattle.rasta_pcap.specs.declared.fault.Side.TheVariants.{Client, Server}
 use Rattle.rasta_pdu.specs.Params.{Parameters}
-use Rattle.rasta_pdu.specs.Pdu.{SafetyPdu}
+use Rattle.rasta_pdu.specs.Pdu.{SafetyPdu, is_kind}
+use Rattle.rasta_pdu.specs.declared.kind.Kind.TheVariants.{RetransmissionResponse}
+use Rattle.rasta_end.specs.declared.take_row.TakeRow.{TakeRow}
+use Rattle.rasta_end.specs.declared.take_row.TakeRow.TheVariants.{Requested, RequestedAhead, RequestedAgain}
+use Rattle.rasta_end.specs.TakeRule.{position_confirmed, effect, after_take}
 use Rattle.rasta_pdu.specs.declared.quiet_point.Quiet.{Quiet}
 use Rattle.rasta_end.specs.declared.why.Why.{Why}
 use Rattle.rasta_end.specs.State.{Made, EndState}
-use Rattle.rasta_end.specs.MakeRule.{Makes, after_make_by}
+use Rattle.rasta_end.specs.MakeRule.{Makes, has_ended, after_make, after_make_by}
 use Rattle.rasta_end.specs.Starts.{start_by}
-use Rattle.rasta_check.proofs.Model.PassedTests.{passed}
+use Rattle.rasta_check.proofs.Lists.{get_front}
+use Rattle.rasta_check.proofs.Model.Counts.{number}
+use Rattle.rasta_check.proofs.Model.ConveyedUnits.{values, values_push, values_asks}
+use Rattle.rasta_check.proofs.Model.TakeRows.{take_by, take_made}
+use Rattle.rasta_check.proofs.Model.PassedTests.{Passed, passed}
 use Rattle.rasta_check.proofs.Model.MakeRows.{made_by, after_row, new_made}
 
 -- nothing more was handed up
@@ -43,6 +51,42 @@ made_more p e x clock why e' mk =
       side = ap (λ (z : EndState). z.side) after;
       base = ap (λ (z : EndState). z.base) after;
       same = record { positions = ap (λ (z : EndState). z.handed) after; pdus = ap (λ (z : EndState). z.handed_pdus) after };
+    }
+
+-- what of an end stays
+pub record Grown (e e' : EndState) : Type 0 where
+  pub made : (i : ℕ) (m : Made) → slice_get e.made i ≡ Some m → slice_get e'.made i ≡ Some m
+  pub kept : (i v : ℕ) → slice_get (values e) i ≡ Some v → slice_get (values e') i ≡ Some v
+  pub over : has_ended e ≡ true → e' ≡ e
+
+pub same_grown : (e : EndState) → Grown e e
+same_grown e = record { made = λ i m g. g; kept = λ i v g. g; over = λ h. refl }
+
+pub grown_make : (p : Parameters) (e : EndState) (x : SafetyPdu) (clock : ℕ) (why : Why) → Passed p e x clock why → Grown e (after_make e x clock why)
+grown_make p e x clock why pass =
+    let by = made_by p e x clock why pass in
+    subst (Grown e) (after_row e x clock why by) (record {
+      made = get_front e.made (new_made by.row e x ∷ []);
+      kept = λ i v g. rw (values_push e.asks e.made (new_made by.row e x)) (get_front (values e) _ i v g);
+      over = λ h. absurd (let z = pass.open_yet in cc);
+    })
+
+-- a take leaves the units conveyed through each position
+values_take : (q : Parameters) (e : EndState) (x : SafetyPdu) → number (is_kind RetransmissionResponse) e.made ≤ length e.asks → values (after_take q e x) ≡ values e
+values_take q e x h = take_by q e x (λ g. values g ≡ values e) refl (λ r away knows. by r)
+  where
+    by : (r : TakeRow) → values (effect q r e x) ≡ values e
+    by Requested = values_asks e.asks (position_confirmed e x) e.made h
+    by RequestedAhead = values_asks e.asks (position_confirmed e x) e.made h
+    by RequestedAgain = values_asks e.asks (position_confirmed e x) e.made h
+    by _ = grind arith
+
+pub grown_take : (q : Parameters) (e : EndState) (x : SafetyPdu) → number (is_kind RetransmissionResponse) e.made ≤ length e.asks → Grown e (after_take q e x)
+grown_take q e x h =
+    record {
+      made = λ i m g. rw (take_made q e x) g;
+      kept = λ i v g. rw (values_take q e x h) g;
+      over = take_by q e x (λ e'. has_ended e ≡ true → e' ≡ e) (λ _. refl) (λ r away knows o. absurd (grind arith));
     }
 
 -- the position of the first PDU of a sent list: 0, or 1 from a quiet point
