@@ -26,7 +26,7 @@ use Rattle.rasta_check.proofs.Model.PassedTests.{Passed, cs_is}
 use Rattle.rasta_check.proofs.Model.MakeRows.{MadeBy, made_by, after_row, new_made}
 use Rattle.rasta_check.proofs.Model.Steps.{Grown}
 use Rattle.rasta_check.proofs.Model.TakeRows.{Knows, take_by}
-use Rattle.rasta_check.proofs.Model.Counts.{number, owes, tally, number_push_as, number_take_all, number_take_more, number_take_at, is_request_owed, owes-append}
+use Rattle.rasta_check.proofs.Model.Counts.{number, owes, tally, number_push_as, number_take_all, number_take_more, number_take_at, is_request_owed, owes-append, requests_in, answers_in, IsRequest, IsAnswer}
 use Rattle.rasta_check.proofs.Model.SequenceNumbers.{numbered_once}
 use Rattle.rasta_check.proofs.Model.Invariant.{Held, has_peer, open_bit}
 use Rattle.rasta_check.proofs.Model.InvariantAtMake.{Changed, changed, goes_on}
@@ -46,8 +46,8 @@ AreUnits positions pdus made = (i position : ℕ) → slice_get positions i ≡ 
 
 -- the last request that this end made has this CS
 abbrev pub LastRequest : List Made → ℕ → Type 0
-LastRequest made cs = (p : ℕ) × (n : Made) × (slice_get made p ≡ Some n) × (is_kind RetransmissionRequest n.pdu.kind ≡ true) × (n.pdu.cs ≡ cs)
-    × (suc (number (is_kind RetransmissionRequest) (take p made)) ≡ number (is_kind RetransmissionRequest) made)
+LastRequest made cs = (p : ℕ) × (n : Made) × (slice_get made p ≡ Some n) × IsRequest n × (n.pdu.cs ≡ cs)
+    × (suc (requests_in (take p made)) ≡ requests_in made)
 
 -- of an end in phase ph that made ms, owes os and accepted up to a, the last with SN sn, and of a peer that made peer and conveys vs
 pub record HandsOver (positions : List ℕ) (pdus : List SafetyPdu) (a sn : ℕ) (ph : Phase) (os : List Owed) (ms peer : List Made) (vs : List ℕ) : Type 0 where
@@ -89,14 +89,14 @@ module _ (p : Parameters) (e f : EndState) (x : SafetyPdu) (clock : ℕ) (why : 
       → tally c (owes is_request_owed (drop 1 e.owed)) ≡ owes is_request_owed e.owed → owes is_request_owed (drop 1 e.owed) ≡ 0 → LastRequest (e.made ++ new ∷ []) e.last_sn
   new_ask true c ph d none =
       let num = number_push_as (is_kind RetransmissionRequest) e.made new true c in
-      let here = ap (number (is_kind RetransmissionRequest)) (take-append_seam e.made (new ∷ [])) in
+      let here = ap requests_in (take-append_seam e.made (new ∷ [])) in
       (length e.made, new, get_push e.made new, c, (cs_is e x.kind x.cs (grind (arith, c)) pass.cs).1, omega (arith, num, here))
   new_ask false c ph d none =
       let r = w.awaited ph (sym d ∙ none) in
       let l = slice_get_within e.made r.0 r.1 r.2 in
       let same : take r.0 (e.made ++ new ∷ []) ≡ take r.0 e.made = take-append-le r.0 e.made (new ∷ []) (omega (arith, l)) in
       let num = number_push_as (is_kind RetransmissionRequest) e.made new false c in
-      (r.0, r.1, get_front e.made (new ∷ []) r.0 r.1 r.2, r.3, r.4, ap (λ ms. suc (number (is_kind RetransmissionRequest) ms)) same ∙ (r.5 ∙ sym num))
+      (r.0, r.1, get_front e.made (new ∷ []) r.0 r.1 r.2, r.3, r.4, ap (λ ms. suc (requests_in ms)) same ∙ (r.5 ∙ sym num))
 
   await_by : {ph : Phase} {os : List Owed} → Changed e.side e.phase x.kind e.owed ph os → ph ≡ RetrReq → owes is_request_owed os ≡ 0 → LastRequest (e.made ++ new ∷ []) e.last_sn
   await_by (goes_on a c d g j) ph none = new_ask (is_kind RetransmissionRequest x.kind) refl ph d none
@@ -158,20 +158,20 @@ module _ (q : Parameters) (e f : EndState) (t u : ℕ) (m : Made) (p : ℕ) (k :
   resumed : e.phase ≡ RetrReq → e.owed ≡ [] → m.pdu.kind ≡ RetransmissionResponse → (i : ℕ) → e.accepted ≡ suc i → slice_get (values f) p ≡ slice_get (values f) i
   resumed ph free ki i a =
       let aw = w.awaited ph (ap (owes is_request_owed) free) in
-      let is_a : is_kind RetransmissionResponse m.pdu.kind ≡ true = ap (is_kind RetransmissionResponse) ki in
+      let is_a : IsAnswer m = ap (is_kind RetransmissionResponse) ki in
       let low = number_take_more (is_kind RetransmissionResponse) f.made t p k.above in
       let next = number_take_at (is_kind RetransmissionResponse) f.made p m k.there is_a in
       let all = number_take_all (is_kind RetransmissionResponse) f.made (suc p) in
       let most = number_take_all (is_kind RetransmissionRequest) e.made u in
-      let idx : number (is_kind RetransmissionResponse) (take p f.made) ≡ number (is_kind RetransmissionRequest) (take aw.0 e.made) =
+      let idx : answers_in (take p f.made) ≡ requests_in (take aw.0 e.made) =
       omega (arith, low, next, all, k.mine.asks.open_requests, ap open_bit ph, most, aw.5, k.theirs.asks.asked, k.theirs.asks.asks_taken) in
-      let inside : number (is_kind RetransmissionResponse) (take p f.made) < length f.asks = omega (arith, next, all, k.theirs.asks.asked) in
-      let c : slice_get f.asks (number (is_kind RetransmissionResponse) (take p f.made)) ≡ Some (slice_index_or f.asks (number (is_kind RetransmissionResponse) (take p f.made)) 0) = slice_get-get_or f.asks _ 0 inside in
+      let inside : answers_in (take p f.made) < length f.asks = omega (arith, next, all, k.theirs.asks.asked) in
+      let c : slice_get f.asks (answers_in (take p f.made)) ≡ Some (slice_index_or f.asks (answers_in (take p f.made)) 0) = slice_get-get_or f.asks _ 0 inside in
       let j = vf.returns.jumps p m k.there is_a _ c in
-      let named = k.theirs.asks.answered aw.0 aw.1 aw.2 aw.3 _ (subst (λ n. slice_get f.asks n ≡ Some (slice_index_or f.asks (number (is_kind RetransmissionResponse) (take p f.made)) 0)) idx c) in
+      let named = k.theirs.asks.answered aw.0 aw.1 aw.2 aw.3 _ (subst (λ n. slice_get f.asks n ≡ Some (slice_index_or f.asks (answers_in (take p f.made)) 0)) idx c) in
       let mine = k.mine.accepts.last i a in
       let sns : named.m.pdu.sn ≡ mine.m.pdu.sn = named.same ∙ (aw.4 ∙ sym mine.same) in
-      let same : slice_index_or f.asks (number (is_kind RetransmissionResponse) (take p f.made)) 0 ≡ i = numbered_once f.made k.few_theirs k.theirs.list.numbered _ i named.m mine.m named.there mine.there sns in
+      let same : slice_index_or f.asks (answers_in (take p f.made)) 0 ≡ i = numbered_once f.made k.few_theirs k.theirs.list.numbered _ i named.m mine.m named.there mine.there sns in
       j.1 ∙ ap (slice_get (values f)) same
 
   -- the first PDU is accepted

@@ -21,7 +21,7 @@ use Rattle.rasta_check.proofs.Lists.{all_push, get_front}
 use Rattle.rasta_check.proofs.Model.SequenceNumbers.{numbered_push}
 use Rattle.rasta_check.proofs.Model.PassedTests.{Passed, un_not, cs_is}
 use Rattle.rasta_check.proofs.Model.MakeRows.{Making, opening, response, first_beat, answer, again, ask, beat, fresh, made_by, after_row, new_made}
-use Rattle.rasta_check.proofs.Model.Counts.{number, owes, tally, number_push, number_take_more, is_answer_owed, is_request_owed}
+use Rattle.rasta_check.proofs.Model.Counts.{number, owes, tally, number_push, number_take_more, is_answer_owed, is_request_owed, requests_in, answers_in}
 use Rattle.rasta_check.proofs.Model.NamedPositions.{SnIs}
 use Rattle.rasta_check.proofs.Model.Invariant.{Held, Opening, Asking, ended, is_response_owed, is_opener, has_peer, is_named, open_bit, bit_most}
 
@@ -84,13 +84,13 @@ peer_make f u ms m h =
         owing = old.owing;
         answered = all_push ms m
             (λ p n g k c a.
-            old.answered p n g k c (subst (λ (l : List Made). slice_get f.asks (number (is_kind RetransmissionRequest) l) ≡ Some c) (front p (let w = slice_get_within ms p n g in omega (arith, w))) a))
+            old.answered p n g k c (subst (λ (l : List Made). slice_get f.asks (requests_in l) ≡ Some c) (front p (let w = slice_get_within ms p n g in omega (arith, w))) a))
             (λ k c a.
             let all = number_take_more (is_kind RetransmissionRequest) ms u (length ms) h.accepts.within in
-            let past : slice_get f.asks (number (is_kind RetransmissionRequest) (take (length ms) ms)) ≡ None = slice_get_past f.asks _ (omega (arith, all, old.asks_taken)) in
-            absurd (let z = subst (λ (l : List Made). slice_get f.asks (number (is_kind RetransmissionRequest) l) ≡ Some c) (front (length ms) (omega arith)) a in cc));
-        asks_taken = (let same = ap (number (is_kind RetransmissionRequest)) taken in omega (arith, same, old.asks_taken));
-        open_requests = (let same = ap (number (is_kind RetransmissionResponse)) taken in omega (arith, same, old.open_requests));
+            let past : slice_get f.asks (requests_in (take (length ms) ms)) ≡ None = slice_get_past f.asks _ (omega (arith, all, old.asks_taken)) in
+            absurd (let z = subst (λ (l : List Made). slice_get f.asks (requests_in l) ≡ Some c) (front (length ms) (omega arith)) a in cc));
+        asks_taken = (let same = ap requests_in taken in omega (arith, same, old.asks_taken));
+        open_requests = (let same = ap answers_in taken in omega (arith, same, old.open_requests));
       };
       accepts = record {
         reached = h.accepts.reached;
@@ -133,9 +133,9 @@ module _ (s : Side) (ph : Phase) (ms : List Made) (m : Made) (a : ℕ) (os : Lis
         open_requests = (counts how).2;
       }
     where
-      counts : {ph' : Phase} {os' : List Owed} → Changed s ph m.pdu.kind os ph' os' → (number (is_kind RetransmissionResponse) (ms ++ m ∷ []) ≤ length qs)
-          × (ended s ph' (ms ++ m ∷ []) ≡ false → number (is_kind RetransmissionResponse) (ms ++ m ∷ []) + owes is_answer_owed os' ≡ length qs)
-          × (number (is_kind RetransmissionRequest) (ms ++ m ∷ []) + owes is_request_owed os' ≤ number (is_kind RetransmissionResponse) (take t peer) + open_bit ph')
+      counts : {ph' : Phase} {os' : List Owed} → Changed s ph m.pdu.kind os ph' os' → (answers_in (ms ++ m ∷ []) ≤ length qs)
+          × (ended s ph' (ms ++ m ∷ []) ≡ false → answers_in (ms ++ m ∷ []) + owes is_answer_owed os' ≡ length qs)
+          × (requests_in (ms ++ m ∷ []) + owes is_request_owed os' ≤ answers_in (take t peer) + open_bit ph')
       counts (over d) =
           (grind (arith, number_push, w.asked, d), λ v. absurd (let z = over_after s Closed ms m refl in cc), grind (arith, number_push, w.open_requests, bit_most ph, d))
       counts (opened b c d) =

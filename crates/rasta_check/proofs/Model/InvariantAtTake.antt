@@ -20,7 +20,7 @@ use Rattle.rasta_end.specs.Units.{units_conveyed}
 use Rattle.rasta_end.specs.TakeRule.{is_heartbeat_or_data, steps_past_next, is_valid, position_confirmed, accept, enter, resends, burst, effect, after_take}
 use Rattle.rasta_check.proofs.Lists.{get_push_cases}
 use Rattle.rasta_check.proofs.Model.TakeRows.{Knows, take_by, handed_or}
-use Rattle.rasta_check.proofs.Model.Counts.{number, owes, tally, number_take_all, number_take_more, number_take_at, is_answer_owed, is_request_owed, owes-append}
+use Rattle.rasta_check.proofs.Model.Counts.{number, owes, tally, number_take_all, number_take_more, number_take_at, is_answer_owed, is_request_owed, owes-append, requests_in, answers_in, IsRequest}
 use Rattle.rasta_check.proofs.Model.NamedPositions.{SnIs, position_is, confirms_is}
 use Rattle.rasta_check.proofs.Model.Invariant.{Held, Opening, Asking, Accepting, is_response_owed, is_opener, has_peer, is_named, open_bit, bit_most}
 
@@ -102,14 +102,14 @@ module _ (q : Parameters) (e f : EndState) (t u : ℕ) (m : Made) (p : ℕ) (k :
       let s : SnIs e.made r.0 m.pdu.cs = r.2 in
       (r.0, s, confirms_is e m.pdu r.0 k.mine.list.numbered k.few k.mine.confirmed s v, slice_get_within e.made r.0 s.m s.there)
 
-  more_asks : length e.asks ≤ number (is_kind RetransmissionRequest) (take (suc p) f.made)
+  more_asks : length e.asks ≤ requests_in (take (suc p) f.made)
   more_asks = omega (arith, k.mine.asks.asks_taken, number_take_more (is_kind RetransmissionRequest) f.made t (suc p) (omega (arith, k.above)))
 
-  more_answers : number (is_kind RetransmissionResponse) (take t f.made) ≤ number (is_kind RetransmissionResponse) (take (suc p) f.made)
+  more_answers : answers_in (take t f.made) ≤ answers_in (take (suc p) f.made)
   more_answers = number_take_more (is_kind RetransmissionResponse) f.made t (suc p) (omega (arith, k.above))
 
   -- a request that is answered is the one after those that were
-  pub index : is_kind RetransmissionRequest m.pdu.kind ≡ true → number (is_kind RetransmissionRequest) (take p f.made) ≡ length e.asks
+  pub index : IsRequest m → requests_in (take p f.made) ≡ length e.asks
   index a =
       let low = number_take_more (is_kind RetransmissionRequest) f.made t p k.above in
       let next = number_take_at (is_kind RetransmissionRequest) f.made p m k.there a in
@@ -119,13 +119,13 @@ module _ (q : Parameters) (e f : EndState) (t u : ℕ) (m : Made) (p : ℕ) (k :
       omega (arith, low, next, all, answers, bit, k.theirs.asks.open_requests, k.mine.asks.asked, k.mine.asks.asks_taken)
 
   -- the list of asks with one more
-  answered_more : (c : ℕ) → is_kind RetransmissionRequest m.pdu.kind ≡ true → SnIs e.made c m.pdu.cs
-      → (p' : ℕ) (n : Made) → slice_get f.made p' ≡ Some n → is_kind RetransmissionRequest n.pdu.kind ≡ true
-      → (d : ℕ) → slice_get (e.asks ++ c ∷ []) (number (is_kind RetransmissionRequest) (take p' f.made)) ≡ Some d → SnIs e.made d n.pdu.cs
+  answered_more : (c : ℕ) → IsRequest m → SnIs e.made c m.pdu.cs
+      → (p' : ℕ) (n : Made) → slice_get f.made p' ≡ Some n → IsRequest n
+      → (d : ℕ) → slice_get (e.asks ++ c ∷ []) (requests_in (take p' f.made)) ≡ Some d → SnIs e.made d n.pdu.cs
   answered_more c a s p' n g b d x =
       ⊎_elim
-      (λ (old : slice_get e.asks (number (is_kind RetransmissionRequest) (take p' f.made)) ≡ Some d). k.mine.asks.answered p' n g b d old)
-      (λ (new : (number (is_kind RetransmissionRequest) (take p' f.made) ≡ length e.asks) × (c ≡ d)).
+      (λ (old : slice_get e.asks (requests_in (take p' f.made)) ≡ Some d). k.mine.asks.answered p' n g b d old)
+      (λ (new : (requests_in (take p' f.made) ≡ length e.asks) × (c ≡ d)).
       let i = index a in
       let next = number_take_at (is_kind RetransmissionRequest) f.made p m k.there a in
       let next' = number_take_at (is_kind RetransmissionRequest) f.made p' n g b in
@@ -134,7 +134,7 @@ module _ (q : Parameters) (e f : EndState) (t u : ℕ) (m : Made) (p : ℕ) (k :
       let same : p' ≡ p = omega (arith, one, two) in
       let same_m : n ≡ m = (let g' : slice_get f.made p ≡ Some n = subst (λ (z : ℕ). slice_get f.made z ≡ Some n) same g in let h = k.there in cc) in
       subst (λ (z : ℕ). SnIs e.made z n.pdu.cs) new.1 (record { m = s.m; there = s.there; same = s.same ∙ ap (λ (z : Made). z.pdu.cs) (sym same_m) }))
-      (get_push_cases e.asks c (number (is_kind RetransmissionRequest) (take p' f.made)) d x)
+      (get_push_cases e.asks c (requests_in (take p' f.made)) d x)
 
   -- the PDU isn't accepted
   skipped : Accepting e.made e.accepted e.last_sn (suc p) f.made
@@ -166,12 +166,12 @@ module _ (q : Parameters) (e f : EndState) (t u : ℕ) (m : Made) (p : ℕ) (k :
 -- an end that takes by a row owes nothing
 module _ (q : Parameters) (e f : EndState) (t u : ℕ) (m : Made) (p : ℕ) (k : Taken e f t u m p) (free : e.owed ≡ []) (away : is_closed e.phase ≡ false) where
   -- each request was answered
-  pub no_answers : number (is_kind RetransmissionResponse) e.made ≡ length e.asks
+  pub no_answers : answers_in e.made ≡ length e.asks
   no_answers = (let o = ap (owes is_answer_owed) free in omega (arith, o, k.mine.asks.owing (over_not e.phase _ away)))
 
   -- no ask joins
   unasked : (ph : Phase) (os : List Owed) → owes is_answer_owed os ≡ 0
-      → number (is_kind RetransmissionResponse) (take t f.made) + open_bit e.phase + owes is_request_owed os ≤ number (is_kind RetransmissionResponse) (take (suc p) f.made) + open_bit ph
+      → answers_in (take t f.made) + open_bit e.phase + owes is_request_owed os ≤ answers_in (take (suc p) f.made) + open_bit ph
       → Asking e.side ph e.made e.asks os (suc p) f.made
   unasked ph os none room =
       record {
@@ -192,7 +192,7 @@ module _ (q : Parameters) (e f : EndState) (t u : ℕ) (m : Made) (p : ℕ) (k :
   burdened ph os ki vd answers bit =
       let c = position_confirmed e m.pdu in
       let at = mark q e f t u m p k (ap is_named ki) vd in
-      let is_a : is_kind RetransmissionRequest m.pdu.kind ≡ true = ap (is_kind RetransmissionRequest) ki in
+      let is_a : IsRequest m = ap (is_kind RetransmissionRequest) ki in
       let i = index q e f t u m p k is_a in
       let l = length_push e.asks c in
       record {

@@ -9,7 +9,7 @@ use Rattle.rasta_end.specs.State.{Made, EndState, kinds, is_connected, carries_u
 use Rattle.rasta_end.specs.Units.{last_of, units_at, all_units_conveyed}
 use Rattle.rasta_end.specs.MakeRule.{contents}
 use Rattle.rasta_end.specs.TakeRule.{resends}
-use Rattle.rasta_check.proofs.Model.Counts.{number}
+use Rattle.rasta_check.proofs.Model.Counts.{number, answers_in, IsAnswer}
 use Rattle.rasta_check.proofs.Model.ConveyedUnits.{is_plain}
 use Rattle.rasta_check.proofs.Model.Invariant.{ended}
 use Rattle.rasta_pdu.specs.Pdu.{is_kind}
@@ -40,8 +40,8 @@ pub record Conveying (vs : List ℕ) (ms : List Made) (n : ℕ) : Type 0 where
 
 -- a retransmission response goes back to its ask; asks are own positions
 pub record Returning (vs : List ℕ) (ms : List Made) (qs : List ℕ) : Type 0 where
-  pub jumps : (p : ℕ) (m : Made) → slice_get ms p ≡ Some m → is_kind RetransmissionResponse m.pdu.kind ≡ true
-      → (c : ℕ) → slice_get qs (number (is_kind RetransmissionResponse) (take p ms)) ≡ Some c → (c < p) × (slice_get vs p ≡ slice_get vs c)
+  pub jumps : (p : ℕ) (m : Made) → slice_get ms p ≡ Some m → IsAnswer m
+      → (c : ℕ) → slice_get qs (answers_in (take p ms)) ≡ Some c → (c < p) × (slice_get vs p ≡ slice_get vs c)
   pub asks_within : (i c : ℕ) → slice_get qs i ≡ Some c → c < length ms
 
 -- the k-th data PDU carries unit k, and whatever carries unit k has its content
@@ -52,7 +52,7 @@ pub record Carrying (ms : List Made) (n : ℕ) : Type 0 where
 
 pub record Offers (s : Side) (ph : Phase) (ms : List Made) (qs : List ℕ) (n : ℕ) (os : List Owed) : Type 0 where
   -- what is owed leads from the units conveyed to those offered
-  pub due : ended s ph ms ≡ false → Due (units_at (all_units_conveyed qs (kinds ms)) (slice_get qs (number (is_kind RetransmissionResponse) ms))) (last_of (all_units_conveyed qs (kinds ms))) n os
+  pub due : ended s ph ms ≡ false → Due (units_at (all_units_conveyed qs (kinds ms)) (slice_get qs (answers_in ms))) (last_of (all_units_conveyed qs (kinds ms))) n os
   pub grown : is_connected ph ≡ true → 0 < length ms
   pub positions : Conveying (all_units_conveyed qs (kinds ms)) ms n
   pub returns : Returning (all_units_conveyed qs (kinds ms)) ms qs

@@ -21,7 +21,7 @@ use Rattle.rasta_end.specs.State.{Made, EndState, is_connected, carries_unit, co
 use Rattle.rasta_end.specs.Units.{units_after, units_at, last_of}
 use Rattle.rasta_end.specs.MakeRule.{has_ended, contents, differs, unit_of, phase_after, owed_after, offered_after, after_make, after_make_by}
 use Rattle.rasta_check.proofs.Lists.{all_push, get_front, get_front_within, get_push}
-use Rattle.rasta_check.proofs.Model.Counts.{number}
+use Rattle.rasta_check.proofs.Model.Counts.{number, answers_in}
 use Rattle.rasta_check.proofs.Model.PassedTests.{Passed}
 use Rattle.rasta_check.proofs.Model.MakeRows.{Making, opening, answer, again, fresh, bye, expired, MadeBy, made_by, after_row, new_made}
 use Rattle.rasta_check.proofs.Model.Invariant.{Held}
@@ -128,7 +128,7 @@ module _ (p : Parameters) (e : EndState) (x : SafetyPdu) (clock : ℕ) (why : Wh
   new = new_made b.row e x
 
   abbrev value : ℕ
-  value = units_after e.asks (values e) (number (is_kind RetransmissionResponse) e.made) x.kind
+  value = units_after e.asks (values e) (answers_in e.made) x.kind
 
   pushed : values after ≡ values e ++ value ∷ []
   pushed = values_push e.asks e.made new
@@ -143,7 +143,7 @@ module _ (p : Parameters) (e : EndState) (x : SafetyPdu) (clock : ℕ) (why : Wh
   next = units_next (jump e) (last_of (values e)) x.kind
 
   value_is : value ≡ next
-  value_is = after_is e.asks (values e) (number (is_kind RetransmissionResponse) e.made) x.kind (λ u. omega (arith, long, some_made u))
+  value_is = after_is e.asks (values e) (answers_in e.made) x.kind (λ u. omega (arith, long, some_made u))
 
   step : Leads (jump e) (last_of (values e)) e.offered e.phase x.kind b.row e.owed
   step =
@@ -204,11 +204,11 @@ module _ (p : Parameters) (e : EndState) (x : SafetyPdu) (clock : ℕ) (why : Wh
         jumps = all_push e.made new
             (λ i n g u c a.
             let l = slice_get_within e.made i n g in
-            let r = w.returns.jumps i n g u c (subst (λ (ms : List Made). slice_get e.asks (number (is_kind RetransmissionResponse) ms) ≡ Some c) (front e.made new e.offered w.contents i (omega (arith, l))) a) in
+            let r = w.returns.jumps i n g u c (subst (λ (ms : List Made). slice_get e.asks (answers_in ms) ≡ Some c) (front e.made new e.offered w.contents i (omega (arith, l))) a) in
             (r.0, both_old i c r.1 l (omega (arith, l, r.0))))
             (λ u c a.
-            let a' : slice_get e.asks (number (is_kind RetransmissionResponse) e.made) ≡ Some c = subst (λ (ms : List Made). slice_get e.asks (number (is_kind RetransmissionResponse) ms) ≡ Some c) (whole e.made new e.offered w.contents) a in
-            let l = w.returns.asks_within (number (is_kind RetransmissionResponse) e.made) c a' in
+            let a' : slice_get e.asks (answers_in e.made) ≡ Some c = subst (λ (ms : List Made). slice_get e.asks (answers_in ms) ≡ Some c) (whole e.made new e.offered w.contents) a in
+            let l = w.returns.asks_within (answers_in e.made) c a' in
             let back : value ≡ slice_index_or (values e) c 0 = value_is ∙ (ap (units_next (jump e) (last_of (values e))) (kind_is RetransmissionResponse x.kind u) ∙ ap (units_at (values e)) a') in
             (l, at_new ∙ (ap Some back ∙ sym (old c _ (slice_get-get_or (values e) c 0 (omega (arith, long, l)))))));
         asks_within = λ i c g. (let l = w.returns.asks_within i c g in omega (arith, l, length_push e.made new));

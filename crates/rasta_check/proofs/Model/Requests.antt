@@ -12,7 +12,7 @@ use Rattle.rasta_end.specs.State.{Made, EndState, kinds}
 use Rattle.rasta_end.specs.Units.{responses_in}
 use Rattle.rasta_check.specs.Model.Taken.{pdus_made, position_with, asked_positions}
 use Rattle.rasta_check.specs.Model.Laws.{NamesOne, requests_of, AnswersInOrder}
-use Rattle.rasta_check.proofs.Model.Counts.{number, tally, number_take_all, number_take_at}
+use Rattle.rasta_check.proofs.Model.Counts.{number, tally, number_take_all, number_take_at, requests_in, answers_in, IsRequest, IsAnswer}
 use Rattle.rasta_check.proofs.Model.TakeRows.{kind_is}
 use Rattle.rasta_check.proofs.Model.NamedPositions.{SnIs}
 use Rattle.rasta_check.proofs.Model.Invariant.{Held, is_named}
@@ -74,19 +74,19 @@ found f (x ∷ ms) k l = found_by f x ms (f x.pdu.kind) refl (found f ms) k l
 -- ---- what each request confirms
 
 -- the k-th request, by its position
-pub request_at : (ms : List Made) (p : ℕ) (m : Made) → slice_get ms p ≡ Some m → is_kind RetransmissionRequest m.pdu.kind ≡ true
-    → slice_get (requests_of ms) (number (is_kind RetransmissionRequest) (take p ms)) ≡ Some m
+pub request_at : (ms : List Made) (p : ℕ) (m : Made) → slice_get ms p ≡ Some m → IsRequest m
+    → slice_get (requests_of ms) (requests_in (take p ms)) ≡ Some m
 request_at [] p m e r = absurd (cc)
 request_at (x ∷ ms) zero m e r = grind arith
 request_at (x ∷ ms) (suc p) m e r = grind (arith, request_at ms p m e r)
 
 -- each request confirms a position
 abbrev pub AllNamed : List SafetyPdu → List Made → Type 0
-AllNamed own ms = (p : ℕ) (m : Made) → slice_get ms p ≡ Some m → is_kind RetransmissionRequest m.pdu.kind ≡ true → (d : ℕ) × (position_with own m.pdu.cs ≡ Some d)
+AllNamed own ms = (p : ℕ) (m : Made) → slice_get ms p ≡ Some m → IsRequest m → (d : ℕ) × (position_with own m.pdu.cs ≡ Some d)
 
 -- the position that the k-th request confirms, by the position of the request
-pub asked_at : (own : List SafetyPdu) (ms : List Made) → AllNamed own ms → (p : ℕ) (m : Made) (c : ℕ) → slice_get ms p ≡ Some m → is_kind RetransmissionRequest m.pdu.kind ≡ true
-    → position_with own m.pdu.cs ≡ Some c → slice_get (asked_positions own (pdus_made ms)) (number (is_kind RetransmissionRequest) (take p ms)) ≡ Some c
+pub asked_at : (own : List SafetyPdu) (ms : List Made) → AllNamed own ms → (p : ℕ) (m : Made) (c : ℕ) → slice_get ms p ≡ Some m → IsRequest m
+    → position_with own m.pdu.cs ≡ Some c → slice_get (asked_positions own (pdus_made ms)) (requests_in (take p ms)) ≡ Some c
 asked_at own [] all p m c e r h = absurd (cc)
 asked_at own (x ∷ ms) all zero m c e r h = grind (arith, e, r, h)
 asked_at own (x ∷ ms) all (suc p) m c e r h = grind (arith, all 0 x refl, asked_at own ms (λ q n g. all (suc q) n g) p m c e r h)
@@ -111,14 +111,14 @@ module _ (e f : EndState) (t u : ℕ) (h : Held e t f.made) (peer : Held f u e.m
         subst (λ n. slice_get (asked_positions (pdus_made e.made) (pdus_made f.made)) n ≡ Some c) r.before (asked_at (pdus_made e.made) f.made all_named r.at r.m c r.there r.is at),
       )
 
-  answer_at : (before after : List Made) (m : Made) → e.made ≡ before ++ m ∷ after → is_kind RetransmissionResponse m.pdu.kind ≡ true
+  answer_at : (before after : List Made) (m : Made) → e.made ≡ before ++ m ∷ after → IsAnswer m
       → (ask : ℕ) × (request : Made) × (slice_get e.asks (responses_in (kinds before)) ≡ Some ask) × (ask < length before)
       × (slice_get (requests_of f.made) (responses_in (kinds before)) ≡ Some request) × (position_with (pdus_made e.made) request.pdu.cs ≡ Some ask)
   answer_at before after m is r =
       let there : slice_get e.made (length before) ≡ Some m = subst (λ (ms : List Made). slice_get ms (length before) ≡ Some m) (sym is) (get_next before (m ∷ after)) in
       let front : take (length before) e.made ≡ before = ap (take (length before)) is ∙ take-append_seam before (m ∷ after) in
       let n = responses_in (kinds before) in
-      let n_is : n ≡ number (is_kind RetransmissionResponse) (take (length before) e.made) = answers_number before ∙ ap (number (is_kind RetransmissionResponse)) (sym front) in
+      let n_is : n ≡ answers_in (take (length before) e.made) = answers_number before ∙ ap answers_in (sym front) in
       let one = number_take_at (is_kind RetransmissionResponse) e.made (length before) m there r in
       let all = number_take_all (is_kind RetransmissionResponse) e.made (suc (length before)) in
       let ask = slice_index_or e.asks n 0 in

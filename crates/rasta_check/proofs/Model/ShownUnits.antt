@@ -27,7 +27,7 @@ use Rattle.rasta_check.proofs.Model.Invariant.{Held, is_named}
 use Rattle.rasta_check.proofs.Model.InvariantAtMake.{Changed, changed, over, opened, goes_on, nothing_made}
 use Rattle.rasta_check.proofs.Model.InvariantAtTake.{fresh_named}
 use Rattle.rasta_check.proofs.Model.ConveyedUnits.{values, length-values}
-use Rattle.rasta_check.proofs.Model.Counts.{number}
+use Rattle.rasta_check.proofs.Model.Counts.{number, answers_in}
 use Rattle.rasta_check.proofs.Model.OfferedUnits.{Valued}
 use Rattle.rasta_check.proofs.Model.Requests.{OnceIn}
 use Rattle.rasta_check.proofs.Model.HandedUnits.{Handed, worth_at}
@@ -150,7 +150,7 @@ module _ (q : Parameters) (e f : EndState) (x : SafetyPdu) (t : ℕ) (h : Held e
 
 -- The peer takes a PDU of the end.
 
-module _ (q : Parameters) (e f : EndState) (t : ℕ) (m : Made) (p : ℕ) (h : Held e t f.made) (there : slice_get e.made p ≡ Some m) (asked : number (is_kind RetransmissionResponse) f.made ≤ length f.asks) (w : Shown e f) where
+module _ (q : Parameters) (e f : EndState) (t : ℕ) (m : Made) (p : ℕ) (h : Held e t f.made) (there : slice_get e.made p ≡ Some m) (asked : answers_in f.made ≤ length f.asks) (w : Shown e f) where
   by_name : is_named m.pdu.kind ≡ true → 0 < e.accepted
   by_name k = (let r = h.accepts.named p m there k in omega (arith, r.1))
 

@@ -15,7 +15,7 @@ use Rattle.rasta_end.specs.State.{Made, EndState}
 use Rattle.rasta_end.specs.MakeRule.{Makes, has_ended, after_make, after_make_by}
 use Rattle.rasta_end.specs.Starts.{start_by}
 use Rattle.rasta_check.proofs.Lists.{get_front}
-use Rattle.rasta_check.proofs.Model.Counts.{number}
+use Rattle.rasta_check.proofs.Model.Counts.{number, answers_in}
 use Rattle.rasta_check.proofs.Model.ConveyedUnits.{values, values_push, values_asks}
 use Rattle.rasta_check.proofs.Model.TakeRows.{take_by, take_made}
 use Rattle.rasta_check.proofs.Model.PassedTests.{Passed, passed}
@@ -72,7 +72,7 @@ grown_make p e x clock why pass =
     })
 
 -- a take leaves the units conveyed through each position
-values_take : (q : Parameters) (e : EndState) (x : SafetyPdu) → number (is_kind RetransmissionResponse) e.made ≤ length e.asks → values (after_take q e x) ≡ values e
+values_take : (q : Parameters) (e : EndState) (x : SafetyPdu) → answers_in e.made ≤ length e.asks → values (after_take q e x) ≡ values e
 values_take q e x h = take_by q e x (λ g. values g ≡ values e) refl (λ r away knows. by r)
   where
     by : (r : TakeRow) → values (effect q r e x) ≡ values e
@@ -81,7 +81,7 @@ values_take q e x h = take_by q e x (λ g. values g ≡ values e) refl (λ r awa
     by RequestedAgain = values_asks e.asks (position_confirmed e x) e.made h
     by _ = grind arith
 
-pub grown_take : (q : Parameters) (e : EndState) (x : SafetyPdu) → number (is_kind RetransmissionResponse) e.made ≤ length e.asks → Grown e (after_take q e x)
+pub grown_take : (q : Parameters) (e : EndState) (x : SafetyPdu) → answers_in e.made ≤ length e.asks → Grown e (after_take q e x)
 grown_take q e x h =
     record {
       made = λ i m g. rw (take_made q e x) g;
