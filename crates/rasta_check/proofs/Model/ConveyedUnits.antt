@@ -9,8 +9,7 @@ use Rattle.rasta_end.specs.State.{Made, EndState, kinds}
 use Rattle.rasta_end.specs.Units.{all_units_conveyed, conveyed, units_after, units_at, last_of, responses_in}
 use Rattle.rasta_end.proofs.Conveying.{all_units-push, conveyed-responses, length-all_units, length-kinds, more_asks, last-at}
 use Rattle.rasta_end.proofs.Pushing.{kinds-push}
-use Rattle.rasta_check.proofs.Model.Counts.{number, answers_in}
-use Rattle.rasta_pdu.specs.Pdu.{is_kind}
+use Rattle.rasta_check.proofs.Model.Counts.{answers_in}
 
 -- neither a unit nor a retransmission response
 abbrev pub is_plain : Kind → Bool

@@ -10,7 +10,7 @@ use Rattle.rasta_pdu.specs.Params.{Parameters}
 use Rattle.rasta_pdu.specs.Messages.{messages_of}
 use Rattle.rasta_pdu.specs.Pdu.{SafetyPdu, SafetyBody, Messages, messages_in, is_kind}
 use Rattle.rasta_end.specs.declared.phase.Phase.{Phase}
-use Rattle.rasta_end.specs.declared.phase.Phase.TheVariants.{Up, RetrReq}
+use Rattle.rasta_end.specs.declared.phase.Phase.TheVariants.{RetrReq}
 use Rattle.rasta_end.specs.declared.why.Why.{Why}
 use Rattle.rasta_end.specs.declared.take_row.TakeRow.{TakeRow}
 use Rattle.rasta_end.specs.declared.take_row.TakeRow.TheVariants.{Opened, Answered, FirstHeartbeat, InSequence, ResentInSequence, Resumed, Requested, RequestedAhead, RequestedAgain}
@@ -18,7 +18,7 @@ use Rattle.rasta_end.specs.declared.owed.Owed.{Owed}
 use Rattle.rasta_end.specs.declared.owed.Owed.TheVariants.{RetransmissionRequest as OweRetransmissionRequest}
 use Rattle.rasta_end.specs.State.{Made, EndState, is_closed, is_flowing, carries_unit, content_of}
 use Rattle.rasta_end.specs.MakeRule.{after_make}
-use Rattle.rasta_end.specs.TakeRule.{is_in, steps_past_next, position_confirmed, accept, enter, hand_up, burst, effect, after_take}
+use Rattle.rasta_end.specs.TakeRule.{is_in, steps_past_next, position_confirmed, hand_up, burst, effect, after_take}
 use Rattle.rasta_check.specs.Model.Laws.{HandsUp}
 use Rattle.rasta_check.specs.Model.Theorem.{HandsUpUnits}
 use Rattle.rasta_check.proofs.Lists.{all_push, get_front, get_push, get_mapped}
@@ -26,11 +26,11 @@ use Rattle.rasta_check.proofs.Model.PassedTests.{Passed, cs_is}
 use Rattle.rasta_check.proofs.Model.MakeRows.{MadeBy, made_by, after_row, new_made}
 use Rattle.rasta_check.proofs.Model.Steps.{Grown}
 use Rattle.rasta_check.proofs.Model.TakeRows.{Knows, take_by}
-use Rattle.rasta_check.proofs.Model.Counts.{number, owes, tally, number_push_as, number_take_all, number_take_more, number_take_at, is_request_owed, owes-append, requests_in, answers_in, IsRequest, IsAnswer}
+use Rattle.rasta_check.proofs.Model.Counts.{owes, tally, number_push_as, number_take_all, number_take_more, number_take_at, is_request_owed, owes-append, requests_in, answers_in, IsRequest, IsAnswer}
 use Rattle.rasta_check.proofs.Model.SequenceNumbers.{numbered_once}
-use Rattle.rasta_check.proofs.Model.Invariant.{Held, has_peer, open_bit}
+use Rattle.rasta_check.proofs.Model.Invariant.{Held, open_bit}
 use Rattle.rasta_check.proofs.Model.InvariantAtMake.{Changed, changed, goes_on}
-use Rattle.rasta_check.proofs.Model.InvariantAtTake.{Taken, place, flowing_peer, starting_peer}
+use Rattle.rasta_check.proofs.Model.InvariantAtTake.{Taken, place, is_inner, inner}
 use Rattle.rasta_check.proofs.Model.ConveyedUnits.{values, is_plain, length-values}
 use Rattle.rasta_check.proofs.Model.OfferedUnits.{Valued}
 
@@ -124,35 +124,38 @@ module _ (q : Parameters) (e f : EndState) (t u : ℕ) (m : Made) (p : ℕ) (k :
   keeps : {a sn : ℕ} {ph : Phase} {os : List Owed} → worth (values f) a ≡ worth (values f) e.accepted → (ph ≡ RetrReq → owes is_request_owed os ≡ 0 → ⊥) → HandsOver e.handed e.handed_pdus a sn ph os e.made f.made (values f)
   keeps v never = record { count = w.count ∙ sym v; labels = w.labels; as_many = w.as_many; awaited = λ r n. absurd (never r n) }
 
-  -- a unit in sequence is handed up
-  hands : {a sn : ℕ} {ph : Phase} {os : List Owed} (i : ℕ) → e.accepted ≡ suc i → p ≡ suc i → carries_unit m.pdu.kind ≡ true → a ≡ suc p → (ph ≡ RetrReq → ⊥)
-      → HandsOver (e.handed ++ e.accepted ∷ []) (e.handed_pdus ++ m.pdu ∷ []) a sn ph os e.made f.made (values f)
-  hands {a = a} i last s c at never =
-      let un = vf.positions.units p m k.there c in
-      let lab : slice_get (values f) i ≡ Some un.1 = grind (arith, s, un.2, un.4) in
-      let old : length e.handed ≡ un.1 = w.count ∙ worth_at (values f) e.accepted i un.1 last lab in
-      let new = worth_at (values f) a p (suc un.1) at un.5 in
-      record {
-        count = omega (arith, length_push e.handed e.accepted, old, new);
-        labels = all_push e.handed e.accepted
-            (λ j pos g. (let r = w.labels j pos g in (r.0, r.1, r.2, r.3, get_front e.handed_pdus (m.pdu ∷ []) j r.0.pdu r.4))) (
-              m,
-              subst (λ x. slice_get f.made x ≡ Some m) (s ∙ sym last) k.there,
-              c,
-              un.3 ∙ ap Some (sym old),
-              subst (λ x. slice_get (e.handed_pdus ++ m.pdu ∷ []) x ≡ Some m.pdu) w.as_many (get_push e.handed_pdus m.pdu),
-            );
-        as_many = omega (arith, length_push e.handed_pdus m.pdu, length_push e.handed e.accepted, w.as_many);
-        awaited = λ r n. absurd (never r);
-      }
+  -- a row between the opening and the end: a PDU was accepted, and the one in sequence follows it
+  last_place : (row : TakeRow) → Knows q row e m.pdu → is_inner row ≡ true → (i : ℕ) × (e.accepted ≡ suc i)
+  last_place row x inside = k.mine.opening.connected (inner q row e m.pdu inside x).0
 
   in_place : is_in e m.pdu ≡ true → (i : ℕ) → e.accepted ≡ suc i → p ≡ suc i
   in_place b i a = grind (arith, nat_tests, b, place q e f t u m p k i a)
 
+  -- a unit in sequence is handed up
+  hands : {sn : ℕ} {ph : Phase} {os : List Owed} (row : TakeRow) → Knows q row e m.pdu → is_inner row ≡ true → is_in e m.pdu ≡ true → carries_unit m.pdu.kind ≡ true → (ph ≡ RetrReq → ⊥)
+      → HandsOver (e.handed ++ e.accepted ∷ []) (e.handed_pdus ++ m.pdu ∷ []) (suc (e.accepted + steps_past_next e m.pdu)) sn ph os e.made f.made (values f)
+  hands row x inside b c never =
+      let (i, last) = last_place row x inside in
+      let s = in_place b i last in
+      let un = vf.positions.units p m k.there c in
+      let lab : slice_get (values f) i ≡ Some un.1 = grind (arith, s, un.2, un.4) in
+      let old : length e.handed ≡ un.1 = w.count ∙ worth_at (values f) e.accepted i un.1 last lab in
+      let new = worth_at (values f) _ p (suc un.1) (ap suc (place q e f t u m p k i last)) un.5 in
+      record {
+        count = omega (arith, length_push e.handed e.accepted, old, new);
+        labels = all_push e.handed e.accepted
+            (λ j pos g. (let r = w.labels j pos g in (r.0, r.1, r.2, r.3, get_front e.handed_pdus (m.pdu ∷ []) j r.0.pdu r.4)))
+            (m, subst (λ x. slice_get f.made x ≡ Some m) (s ∙ sym last) k.there, c, un.3 ∙ ap Some (sym old), subst (λ x. slice_get (e.handed_pdus ++ m.pdu ∷ []) x ≡ Some m.pdu) w.as_many (get_push e.handed_pdus m.pdu));
+        as_many = omega (arith, length_push e.handed_pdus m.pdu, length_push e.handed e.accepted, w.as_many);
+        awaited = λ r n. absurd (never r);
+      }
+
   -- a plain PDU in sequence hands nothing up
-  plain : {sn : ℕ} {ph : Phase} {os : List Owed} → has_peer e.side e.phase ≡ true → is_in e m.pdu ≡ true → is_plain m.pdu.kind ≡ true → (ph ≡ RetrReq → owes is_request_owed os ≡ 0 → ⊥)
+  plain : {sn : ℕ} {ph : Phase} {os : List Owed} (row : TakeRow) → Knows q row e m.pdu → is_inner row ≡ true → is_in e m.pdu ≡ true → is_plain m.pdu.kind ≡ true → (ph ≡ RetrReq → ⊥)
       → HandsOver e.handed e.handed_pdus (suc (e.accepted + steps_past_next e m.pdu)) sn ph os e.made f.made (values f)
-  plain peer b c never = let a = k.mine.opening.connected peer in keeps (same_worth a.0 a.1 (vf.positions.others p m k.there c a.0 (in_place b a.0 a.1))) never
+  plain row x inside b c never =
+      let (i, last) = last_place row x inside in
+      keeps (same_worth i last (vf.positions.others p m k.there c i (in_place b i last))) (λ r n. never r)
 
   -- the retransmission response goes back to the last accepted position
   resumed : e.phase ≡ RetrReq → e.owed ≡ [] → m.pdu.kind ≡ RetransmissionResponse → (i : ℕ) → e.accepted ≡ suc i → slice_get (values f) p ≡ slice_get (values f) i
@@ -163,16 +166,14 @@ module _ (q : Parameters) (e f : EndState) (t u : ℕ) (m : Made) (p : ℕ) (k :
       let next = number_take_at (is_kind RetransmissionResponse) f.made p m k.there is_a in
       let all = number_take_all (is_kind RetransmissionResponse) f.made (suc p) in
       let most = number_take_all (is_kind RetransmissionRequest) e.made u in
-      let idx : answers_in (take p f.made) ≡ requests_in (take aw.0 e.made) =
-      omega (arith, low, next, all, k.mine.asks.open_requests, ap open_bit ph, most, aw.5, k.theirs.asks.asked, k.theirs.asks.asks_taken) in
-      let inside : answers_in (take p f.made) < length f.asks = omega (arith, next, all, k.theirs.asks.asked) in
-      let c : slice_get f.asks (answers_in (take p f.made)) ≡ Some (slice_index_or f.asks (answers_in (take p f.made)) 0) = slice_get-get_or f.asks _ 0 inside in
-      let j = vf.returns.jumps p m k.there is_a _ c in
-      let named = k.theirs.asks.answered aw.0 aw.1 aw.2 aw.3 _ (subst (λ n. slice_get f.asks n ≡ Some (slice_index_or f.asks (answers_in (take p f.made)) 0)) idx c) in
+      let n = answers_in (take p f.made) in
+      let idx : n ≡ requests_in (take aw.0 e.made) = omega (arith, low, next, all, k.mine.asks.open_requests, ap open_bit ph, most, aw.5, k.theirs.asks.asked, k.theirs.asks.asks_taken) in
+      let ask = slice_index_or f.asks n 0 in
+      let c : slice_get f.asks n ≡ Some ask = slice_get-get_or f.asks n 0 (omega (arith, next, all, k.theirs.asks.asked)) in
+      let named = k.theirs.asks.answered aw.0 aw.1 aw.2 aw.3 ask (subst (λ j. slice_get f.asks j ≡ Some ask) idx c) in
       let mine = k.mine.accepts.last i a in
-      let sns : named.m.pdu.sn ≡ mine.m.pdu.sn = named.same ∙ (aw.4 ∙ sym mine.same) in
-      let same : slice_index_or f.asks (answers_in (take p f.made)) 0 ≡ i = numbered_once f.made k.few_theirs k.theirs.list.numbered _ i named.m mine.m named.there mine.there sns in
-      j.1 ∙ ap (slice_get (values f)) same
+      let same = numbered_once f.made k.few_theirs k.theirs.list.numbered ask i named.m mine.m named.there mine.there (named.same ∙ (aw.4 ∙ sym mine.same)) in
+      (vf.returns.jumps p m k.there is_a ask c).1 ∙ ap (slice_get (values f)) same
 
   -- the first PDU is accepted
   first_by : {sn : ℕ} {ph : Phase} {os : List Owed} → (ph ≡ RetrReq → ⊥) → e.accepted ≡ 0 → HandsOver e.handed e.handed_pdus 1 sn ph os e.made f.made (values f)
@@ -186,21 +187,13 @@ module _ (q : Parameters) (e f : EndState) (t u : ℕ) (m : Made) (p : ℕ) (k :
   h_row : e.owed ≡ [] → (r : TakeRow) → Knows q r e m.pdu → Handed (effect q r e m.pdu) f
   h_row free Opened x = first_by (λ r. cc (r)) (k.mine.opening.down x.0).2
   h_row free Answered x = first_by (λ r. cc (r)) (k.mine.opening.starting x.0 x.1)
-  h_row free FirstHeartbeat x = plain (starting_peer x.0 x.1) x.4 (ap is_plain x.2) (λ r n. cc (r))
+  h_row free FirstHeartbeat x = plain FirstHeartbeat x refl x.4 (ap is_plain x.2) (λ r. cc (r))
   h_row free InSequence x =
-      let peer = flowing_peer e.side e.phase x.0 in
-      let a = k.mine.opening.connected peer in
-      by_unit (carries_unit m.pdu.kind) (enter Up (accept q e m.pdu))
-      (λ c. hands a.0 a.1 (in_place x.3 a.0 a.1) c (ap suc (place q e f t u m p k a.0 a.1)) (λ r. cc (r)))
-      (λ c. plain peer x.3 (grind (arith, x.1, c)) (λ r n. cc (r)))
+      by_unit (carries_unit m.pdu.kind) _ (λ c. hands InSequence x refl x.3 c (λ r. cc (r))) (λ c. plain InSequence x refl x.3 (grind (arith, x.1, c)) (λ r. cc (r)))
   h_row free ResentInSequence x =
-      let a = k.mine.opening.connected (ap (has_peer e.side) x.0) in
-      let unit = ap carries_unit x.1 in
-      by_unit (carries_unit m.pdu.kind) (accept q e m.pdu) (λ c. hands a.0 a.1 (in_place x.3 a.0 a.1) c (ap suc (place q e f t u m p k a.0 a.1)) (λ r. cc (x.0, r))) (λ c. absurd (cc))
-  h_row free Resumed x =
-      let a = k.mine.opening.connected (ap (has_peer e.side) x.0) in
-      keeps (same_worth a.0 a.1 (resumed x.0 free x.1 a.0 a.1)) (λ r n. cc (r))
-  h_row free Requested x = plain (flowing_peer e.side e.phase x.0) x.3 (ap is_plain x.1) (λ r n. (let z = ap is_flowing r in cc))
+      by_unit (carries_unit m.pdu.kind) _ (λ c. hands ResentInSequence x refl x.3 c (λ r. cc (x.0, r))) (λ c. absurd (let unit = ap carries_unit x.1 in cc))
+  h_row free Resumed x = (let a = last_place Resumed x refl in keeps (same_worth a.0 a.1 (resumed x.0 free x.1 a.0 a.1)) (λ r n. cc (r)))
+  h_row free Requested x = plain Requested x refl x.3 (ap is_plain x.1) (λ r. (let z = ap is_flowing r in cc))
   h_row free RequestedAhead x = keeps refl (λ r n. (let a = owes-append is_request_owed (burst e (position_confirmed e m.pdu)) (OweRetransmissionRequest ∷ []) in omega arith))
   h_row free RequestedAgain x = record { count = w.count; labels = w.labels; as_many = w.as_many; awaited = λ r n. w.awaited x.0 (ap (owes is_request_owed) free) }
   h_row free _ x = keeps refl (λ r n. cc)

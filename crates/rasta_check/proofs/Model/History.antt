@@ -18,12 +18,10 @@ use Rattle.rasta_check.proofs.Lists.{get_push_cases, all_push, get_front, get_pu
 use Rattle.rasta_check.proofs.Model.PassedTests.{passed}
 use Rattle.rasta_check.proofs.Model.TakeRows.{take_made}
 use Rattle.rasta_check.proofs.Model.Steps.{base, made_more, SameHanded, Grown, same_grown, grown_make, grown_take}
-use Rattle.rasta_check.proofs.Model.Counts.{number, answers_in}
+use Rattle.rasta_check.proofs.Model.Counts.{answers_in}
 use Rattle.rasta_check.proofs.Model.InvariantOfRuns.{All, all_held}
 use Rattle.rasta_check.proofs.Script.ScriptsOfRuns.{Both, Sends, turn, told_first, told_step, step_copies, step_front, sends_count, copy_at}
 use Rattle.rasta_check.proofs.Sides.{sided}
-use Rattle.rasta_pdu.specs.Pdu.{is_kind}
-use Rattle.rasta_pdu.specs.declared.kind.Kind.TheVariants.{RetransmissionResponse}
 
 both_grown : (a b c : EndState) → Grown a b → Grown b c → Grown a c
 both_grown a b c g h = record { made = λ i m x. h.made i m (g.made i m x); kept = λ i v x. h.kept i v (g.kept i v x); over = λ x. (let e = g.over x in h.over (ap has_ended e ∙ x) ∙ e) }

@@ -9,11 +9,11 @@ use Rattle.rasta_end.specs.State.{Made, EndState, kinds, is_connected, carries_u
 use Rattle.rasta_end.specs.Units.{last_of, units_at, all_units_conveyed}
 use Rattle.rasta_end.specs.MakeRule.{contents}
 use Rattle.rasta_end.specs.TakeRule.{resends}
-use Rattle.rasta_check.proofs.Model.Counts.{number, answers_in, IsAnswer}
+use Rattle.rasta_check.proofs.Model.Counts.{answers_in, IsAnswer}
 use Rattle.rasta_check.proofs.Model.ConveyedUnits.{is_plain}
 use Rattle.rasta_check.proofs.Model.Invariant.{ended}
 use Rattle.rasta_pdu.specs.Pdu.{is_kind}
-use Rattle.rasta_pdu.specs.declared.kind.Kind.TheVariants.{Data, RetransmissionResponse}
+use Rattle.rasta_pdu.specs.declared.kind.Kind.TheVariants.{Data}
 
 -- from v units conveyed, what is owed leads to n
 abbrev pub DueRest : ℕ → ℕ → List Owed → Type 0

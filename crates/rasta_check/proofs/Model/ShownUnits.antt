@@ -12,7 +12,7 @@ use Rattle.rasta_end.specs.declared.phase.Phase.{Phase}
 use Rattle.rasta_end.specs.declared.why.Why.{Why}
 use Rattle.rasta_end.specs.declared.make_row.MakeRow.{MakeRow}
 use Rattle.rasta_end.specs.declared.take_row.TakeRow.{TakeRow}
-use Rattle.rasta_end.specs.declared.take_row.TakeRow.TheVariants.{Opened, Answered, FirstHeartbeat, InSequence, Gap, GapInRetransmission, Disconnected}
+use Rattle.rasta_end.specs.declared.take_row.TakeRow.TheVariants.{Opened, Answered, InSequence, Disconnected}
 use Rattle.rasta_end.specs.declared.owed.Owed.{Owed}
 use Rattle.rasta_end.specs.State.{Made, EndState, is_closed, is_connected}
 use Rattle.rasta_end.specs.MakeRule.{is_judged, offered_after, after_make, after_make_by}
@@ -25,13 +25,13 @@ use Rattle.rasta_check.proofs.Model.TakeRows.{Knows, take_by, effect_made, take_
 use Rattle.rasta_check.proofs.Model.NamedPositions.{SnIs}
 use Rattle.rasta_check.proofs.Model.Invariant.{Held, is_named}
 use Rattle.rasta_check.proofs.Model.InvariantAtMake.{Changed, changed, over, opened, goes_on, nothing_made}
-use Rattle.rasta_check.proofs.Model.InvariantAtTake.{fresh_named}
+use Rattle.rasta_check.proofs.Model.InvariantAtTake.{inner}
 use Rattle.rasta_check.proofs.Model.ConveyedUnits.{values, length-values}
-use Rattle.rasta_check.proofs.Model.Counts.{number, answers_in}
+use Rattle.rasta_check.proofs.Model.Counts.{answers_in}
 use Rattle.rasta_check.proofs.Model.OfferedUnits.{Valued}
 use Rattle.rasta_check.proofs.Model.Requests.{OnceIn}
 use Rattle.rasta_check.proofs.Model.HandedUnits.{Handed, worth_at}
-use Rattle.rasta_pdu.specs.declared.kind.Kind.TheVariants.{ConnectionRequest, RetransmissionResponse}
+use Rattle.rasta_pdu.specs.declared.kind.Kind.TheVariants.{ConnectionRequest}
 
 -- a CS names a position of f through which at most n units are conveyed
 pub record Shows (f : EndState) (n cs : ℕ) : Type 0 where
@@ -157,12 +157,8 @@ module _ (q : Parameters) (e f : EndState) (t : ℕ) (m : Made) (p : ℕ) (h : H
   run_by : (r : TakeRow) → Knows q r f m.pdu → is_connected (effect q r f m.pdu).phase ≡ true → 0 < e.accepted
   run_by Opened x r = absurd (cc)
   run_by Answered x r = by_name (ap is_named x.2)
-  run_by FirstHeartbeat x r = by_name (ap is_named x.2)
-  run_by InSequence x r = by_name (fresh_named m.pdu.kind x.1)
-  run_by Gap x r = w.ready_run (ap is_connected x.0)
-  run_by GapInRetransmission x r = w.ready_run (ap is_connected x.0)
   run_by Disconnected x r = absurd (cc)
-  run_by _ x r = by_name (ap is_named x.1)
+  run_by row x r = by_name (inner q row f m.pdu refl x).1
 
   pub shown_peer_take : Shown e (after_take q f m.pdu)
   shown_peer_take =

@@ -4,8 +4,7 @@ use Rattle.std.proofs.lemmas.Bool.Decides.{nat_tests}
 use Rattle.rasta_pcap.specs.declared.fault.Side.{Side}
 use Rattle.rasta_pcap.specs.declared.fault.Side.TheVariants.{Client, Server}
 use Rattle.rasta_pdu.specs.Params.{Parameters}
-use Rattle.rasta_pdu.specs.Pdu.{SafetyPdu, is_kind}
-use Rattle.rasta_pdu.specs.declared.kind.Kind.TheVariants.{RetransmissionResponse}
+use Rattle.rasta_pdu.specs.Pdu.{SafetyPdu}
 use Rattle.rasta_end.specs.declared.take_row.TakeRow.{TakeRow}
 use Rattle.rasta_end.specs.declared.take_row.TakeRow.TheVariants.{Requested, RequestedAhead, RequestedAgain}
 use Rattle.rasta_end.specs.TakeRule.{position_confirmed, effect, after_take}
@@ -15,7 +14,7 @@ use Rattle.rasta_end.specs.State.{Made, EndState}
 use Rattle.rasta_end.specs.MakeRule.{Makes, has_ended, after_make, after_make_by}
 use Rattle.rasta_end.specs.Starts.{start_by}
 use Rattle.rasta_check.proofs.Lists.{get_front}
-use Rattle.rasta_check.proofs.Model.Counts.{number, answers_in}
+use Rattle.rasta_check.proofs.Model.Counts.{answers_in}
 use Rattle.rasta_check.proofs.Model.ConveyedUnits.{values, values_push, values_asks}
 use Rattle.rasta_check.proofs.Model.TakeRows.{take_by, take_made}
 use Rattle.rasta_check.proofs.Model.PassedTests.{Passed, passed}

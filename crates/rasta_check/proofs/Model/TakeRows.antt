@@ -86,6 +86,22 @@ take_by p e x P none each = by (take_row p e x) refl
     by None h = none
     by (Some row) h = each row (not_closed p e x row h) (row_known p e x row h)
 
+-- what a row does but for what it hands up
+abbrev pub bare_effect : Parameters → TakeRow → EndState → SafetyPdu → EndState
+bare_effect p InSequence e x = enter Up (accept p e x)
+bare_effect p ResentInSequence e x = accept p e x
+bare_effect p row e x = effect p row e x
+
+-- what handing up keeps holds after a take where it holds but for what is handed up
+pub take_bare : (p : Parameters) (e : EndState) (x : SafetyPdu) (P : EndState → Type 0) → ((i : ℕ) (g : EndState) → P g → P (hand_up i g x)) → P e
+    → ((row : TakeRow) → is_closed e.phase ≡ false → Knows p row e x → P (bare_effect p row e x)) → P (after_take p e x)
+take_bare p e x P more none each = take_by p e x P none (λ row away w. by row (each row away w))
+  where
+    by : (row : TakeRow) → P (bare_effect p row e x) → P (effect p row e x)
+    by InSequence h = handed_or P (carries_unit x.kind) e.accepted _ x h (more e.accepted _)
+    by ResentInSequence h = handed_or P (carries_unit x.kind) e.accepted _ x h (more e.accepted _)
+    by _ h = h
+
 pub effect_made : (p : Parameters) (row : TakeRow) (e : EndState) (x : SafetyPdu) → (effect p row e x).made ≡ e.made
 effect_made p row e x = (let h = leaves_by p (Some row) e x in h.made)
 
