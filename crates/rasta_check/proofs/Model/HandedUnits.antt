@@ -17,13 +17,13 @@ use Rattle.rasta_end.specs.declared.take_row.TakeRow.TheVariants.{Opened, Answer
 use Rattle.rasta_end.specs.declared.owed.Owed.{Owed}
 use Rattle.rasta_end.specs.declared.owed.Owed.TheVariants.{RetransmissionRequest as OweRetransmissionRequest}
 use Rattle.rasta_end.specs.State.{Made, EndState, is_closed, is_flowing, carries_unit, content_of}
-use Rattle.rasta_end.specs.MakeRule.{after_make}
+use Rattle.rasta_end.specs.MakeRule.{after_make_by}
 use Rattle.rasta_end.specs.TakeRule.{is_in, steps_past_next, position_confirmed, hand_up, burst, effect, after_take}
 use Rattle.rasta_check.specs.Model.Laws.{HandsUp}
 use Rattle.rasta_check.specs.Model.Theorem.{HandsUpUnits}
 use Rattle.rasta_check.proofs.Lists.{all_push, get_front, get_push, get_mapped}
 use Rattle.rasta_check.proofs.Model.PassedTests.{Passed, cs_is}
-use Rattle.rasta_check.proofs.Model.MakeRows.{MadeBy, made_by, after_row, new_made}
+use Rattle.rasta_check.proofs.Model.MakeRows.{MadeBy, new_made}
 use Rattle.rasta_check.proofs.Model.Steps.{Grown}
 use Rattle.rasta_check.proofs.Model.TakeRows.{Knows, take_by}
 use Rattle.rasta_check.proofs.Model.Counts.{owes, tally, number_push_as, number_take_all, number_take_more, number_take_at, is_request_owed, owes-append, requests_in, answers_in, IsRequest, IsAnswer}
@@ -78,10 +78,7 @@ handed_peer e f f' l g h =
 
 -- The end itself makes.
 
-module _ (p : Parameters) (e f : EndState) (x : SafetyPdu) (clock : ℕ) (why : Why) (t : ℕ) (pass : Passed p e x clock why) (h : Held e t f.made) (w : Handed e f) where
-  by : MadeBy e x why
-  by = made_by p e x clock why pass
-
+module _ (p : Parameters) (e f : EndState) (x : SafetyPdu) (clock : ℕ) (why : Why) (t : ℕ) (by : MadeBy e x why) (pass : Passed p e x clock why) (h : Held e t f.made) (w : Handed e f) where
   abbrev new : Made
   new = new_made by.row e x
 
@@ -102,12 +99,8 @@ module _ (p : Parameters) (e f : EndState) (x : SafetyPdu) (clock : ℕ) (why : 
   await_by (goes_on a c d g j) ph none = new_ask (is_kind RetransmissionRequest x.kind) refl ph d none
   await_by _ ph none = absurd (cc)
 
-  pub handed_make : Handed (after_make e x clock why) f
-  handed_make =
-      subst
-      (λ (e' : EndState). Handed e' f)
-      (after_row e x clock why by)
-      (record { count = w.count; labels = w.labels; as_many = w.as_many; awaited = await_by (changed e.side e.phase why x.kind e.owed by.row by.how) })
+  pub handed_make : Handed (after_make_by (Some by.row) e x clock) f
+  handed_make = record { count = w.count; labels = w.labels; as_many = w.as_many; awaited = await_by (changed e.side e.phase why x.kind e.owed by.row by.how) }
 
 -- The end itself takes.
 

@@ -16,6 +16,7 @@ use Rattle.rasta_check.specs.Model.World.{Station, World, Move, Moves, makes, re
 use Rattle.rasta_check.specs.Model.Theorem.{Appends}
 use Rattle.rasta_check.proofs.Lists.{get_push_cases, all_push, get_front, get_push, slice_get_some}
 use Rattle.rasta_check.proofs.Model.PassedTests.{passed}
+use Rattle.rasta_check.proofs.Model.MakeRows.{made_by, after_row}
 use Rattle.rasta_check.proofs.Model.TakeRows.{take_made}
 use Rattle.rasta_check.proofs.Model.Steps.{base, made_more, SameHanded, Grown, same_grown, grown_make, grown_take}
 use Rattle.rasta_check.proofs.Model.Counts.{answers_in}
@@ -27,7 +28,10 @@ both_grown : (a b c : EndState) → Grown a b → Grown b c → Grown a c
 both_grown a b c g h = record { made = λ i m x. h.made i m (g.made i m x); kept = λ i v x. h.kept i v (g.kept i v x); over = λ x. (let e = g.over x in h.over (ap has_ended e ∙ x) ∙ e) }
 
 grown_move : (p : Parameters) (b a a' : Station) (xs ys : List Packet) {move : Move} → Moves p b xs a move a' ys → answers_in a.state.made ≤ length a.state.asks → Grown a.state a'.state
-grown_move p b a a' xs ys (makes x why e' ch res chk bs mk sp rec) l = subst (Grown a.state) (sym mk.1) (grown_make p a.state x a.clock why (passed p a.state x a.clock why mk.0))
+grown_move p b a a' xs ys (makes x why e' ch res chk bs mk sp rec) l =
+    let ok = passed p a.state x a.clock why mk.0 in
+    let by = made_by p a.state x a.clock why ok in
+    subst (Grown a.state) (after_row a.state x a.clock why by ∙ sym mk.1) (grown_make p a.state x a.clock why by ok)
 grown_move p b a a' xs ys (takes q m e' c i s t) l = subst (Grown a.state) (sym t.1) (grown_take p a.state m.pdu l)
 grown_move p b a a' xs ys _ l = same_grown a.state
 

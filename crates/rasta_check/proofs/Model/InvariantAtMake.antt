@@ -16,11 +16,11 @@ use Rattle.rasta_end.specs.declared.make_row.MakeRow.{MakeRow}
 use Rattle.rasta_end.specs.declared.owed.Owed.{Owed}
 use Rattle.rasta_end.specs.declared.owed.Owed.TheVariants.{ConnectionResponse as OweConnectionResponse}
 use Rattle.rasta_end.specs.State.{Made, EndState}
-use Rattle.rasta_end.specs.MakeRule.{after_make, phase_after, owed_after}
+use Rattle.rasta_end.specs.MakeRule.{after_make_by, phase_after, owed_after}
 use Rattle.rasta_check.proofs.Lists.{all_push, get_front}
 use Rattle.rasta_check.proofs.Model.SequenceNumbers.{numbered_push}
 use Rattle.rasta_check.proofs.Model.PassedTests.{Passed, un_not, cs_is}
-use Rattle.rasta_check.proofs.Model.MakeRows.{Making, opening, response, first_beat, answer, again, ask, beat, fresh, made_by, after_row, new_made}
+use Rattle.rasta_check.proofs.Model.MakeRows.{Making, opening, response, first_beat, answer, again, ask, beat, fresh, MadeBy, new_made}
 use Rattle.rasta_check.proofs.Model.Counts.{owes, tally, number_push, number_take_more, is_answer_owed, is_request_owed, requests_in, answers_in}
 use Rattle.rasta_check.proofs.Model.NamedPositions.{SnIs}
 use Rattle.rasta_check.proofs.Model.Invariant.{Held, Opening, Asking, ended, is_response_owed, is_opener, has_peer, is_named, open_bit, bit_most}
@@ -104,27 +104,26 @@ peer_make f u ms m h =
 -- ---- the maker
 
 module _ (s : Side) (ph : Phase) (ms : List Made) (m : Made) (a : ℕ) (os : List Owed) (open_yet : ended s ph ms ≡ false) (h : Opening s ph ms a os) where
-  make_opening : (ph' : Phase) (os' : List Owed) → Changed s ph m.pdu.kind os ph' os' → Opening s ph' (ms ++ m ∷ []) a os'
-  make_opening ph' os' (over d) =
+  make_opening : {ph' : Phase} {os' : List Owed} → Changed s ph m.pdu.kind os ph' os' → Opening s ph' (ms ++ m ∷ []) a os'
+  make_opening (over d) =
       record { down = λ v. absurd (cc); starting = λ _ v. absurd (cc); unmade = λ _ v. absurd (push_some ms m v); response_due = inl refl; connected = λ v. absurd (cc) }
-  make_opening ph' os' (opened b c d) =
+  make_opening (opened b c d) =
       let u = h.unmade c (nothing_made s ph ms b open_yet) in
-      let off : has_peer s Start ≡ false = ap (λ z. has_peer z Start) c in
-      record { down = λ v. absurd (cc); starting = λ _ _. u.0; unmade = λ _ v. absurd (push_some ms m v); response_due = inl (ap (owes is_response_owed) u.1); connected = λ v. absurd (cc) }
-  make_opening ph' os' (goes_on on b c d r) =
+      record { down = λ v. absurd (cc); starting = λ _ _. u.0; unmade = λ _ v. absurd (push_some ms m v); response_due = inl (ap (owes is_response_owed) u.1); connected = λ v. absurd (grind (arith, c)) }
+  make_opening (goes_on on b c d r) =
       record {
         down = λ v. absurd (let z = ap (has_peer s) v in cc);
         starting = h.starting;
         unmade = λ _ v. absurd (push_some ms m v);
-        response_due = ⊎_elim
-            (λ (none : owes is_response_owed os ≡ 0). inl (omega arith))
-            (λ (one : (ms ≡ []) × (os ≡ OweConnectionResponse ∷ [])). inl (ap (λ l. owes is_response_owed (drop 1 l)) one.1))
-            h.response_due;
+        response_due = inl (⊎_elim
+            (λ (none : owes is_response_owed os ≡ 0). omega arith)
+            (λ (one : (ms ≡ []) × (os ≡ OweConnectionResponse ∷ [])). ap (λ l. owes is_response_owed (drop 1 l)) one.1)
+            h.response_due);
         connected = h.connected;
       }
 
-  make_asking : (ph' : Phase) (os' : List Owed) (qs : List ℕ) (t : ℕ) (peer : List Made) → Changed s ph m.pdu.kind os ph' os' → Asking s ph ms qs os t peer → Asking s ph' (ms ++ m ∷ []) qs os' t peer
-  make_asking ph' os' qs t peer how w =
+  make_asking : {ph' : Phase} {os' : List Owed} (qs : List ℕ) (t : ℕ) (peer : List Made) → Changed s ph m.pdu.kind os ph' os' → Asking s ph ms qs os t peer → Asking s ph' (ms ++ m ∷ []) qs os' t peer
+  make_asking qs t peer how w =
       record {
         asked = (counts how).0;
         owing = (counts how).1;
@@ -136,19 +135,17 @@ module _ (s : Side) (ph : Phase) (ms : List Made) (m : Made) (a : ℕ) (os : Lis
       counts : {ph' : Phase} {os' : List Owed} → Changed s ph m.pdu.kind os ph' os' → (answers_in (ms ++ m ∷ []) ≤ length qs)
           × (ended s ph' (ms ++ m ∷ []) ≡ false → answers_in (ms ++ m ∷ []) + owes is_answer_owed os' ≡ length qs)
           × (requests_in (ms ++ m ∷ []) + owes is_request_owed os' ≤ answers_in (take t peer) + open_bit ph')
-      counts (over d) =
-          (grind (arith, number_push, w.asked, d), λ v. absurd (let z = over_after s Closed ms m refl in cc), grind (arith, number_push, w.open_requests, bit_most ph, d))
+      counts (over d) = (grind (arith, number_push, w.asked, d), λ v. absurd (let z = over_after s Closed ms m refl in cc), grind (arith, number_push, w.open_requests, bit_most ph, d))
       counts (opened b c d) =
           let none = nothing_made s ph ms b open_yet in
           let owed = ap (owes is_request_owed) (h.unmade c none).1 in
           (grind (arith, number_push, w.asked, d), λ v. grind (arith, number_push, w.owing open_yet, d), grind (arith, number_push, none, owed, d))
-      counts (goes_on on b c d r) =
-          (grind (arith, number_push, b, w.owing open_yet), λ v. grind (arith, number_push, b, w.owing open_yet), grind (arith, number_push, c, w.open_requests))
+      counts (goes_on on b c d r) = (grind (arith, number_push, b, w.owing open_yet), λ v. grind (arith, number_push, b, w.owing open_yet), grind (arith, number_push, c, w.open_requests))
 
-  make_opener : (ph' : Phase) (os' : List Owed) → Changed s ph m.pdu.kind os ph' os' → is_opener m.pdu.kind ≡ true → ms ≡ []
-  make_opener ph' os' (over d) k = absurd (let z = ap is_opener d in cc)
-  make_opener ph' os' (opened b c d) k = nothing_made s ph ms b open_yet
-  make_opener ph' os' (goes_on on b c d r) k =
+  make_opener : {ph' : Phase} {os' : List Owed} → Changed s ph m.pdu.kind os ph' os' → is_opener m.pdu.kind ≡ true → ms ≡ []
+  make_opener (over d) k = absurd (grind (arith, d))
+  make_opener (opened b c d) k = nothing_made s ph ms b open_yet
+  make_opener (goes_on on b c d r) k =
       ⊎_elim
       (λ (none : owes is_response_owed os ≡ 0). absurd (let q = ap (owes is_response_owed) (d k).1 in omega (arith, q)))
       (λ (one : (ms ≡ []) × (os ≡ OweConnectionResponse ∷ [])). one.0)
@@ -156,24 +153,23 @@ module _ (s : Side) (ph : Phase) (ms : List Made) (m : Made) (a : ℕ) (os : Lis
 
 -- an end that makes a PDU whose CS names one of the peer's has accepted something
 named_connected : {s : Side} {ph ph' : Phase} {k : Kind} {os os' : List Owed} → Changed s ph k os ph' os' → is_named k ≡ true → has_peer s ph ≡ true
-named_connected (over d) h = absurd (let z = ap is_named d in cc)
-named_connected (opened a s d) h = absurd (let z = ap is_named d in cc)
 named_connected (goes_on on b c d r) h = on
+named_connected (over d) h = absurd (grind (arith, d))
+named_connected (opened a s d) h = absurd (grind (arith, d))
 
 -- a make keeps what holds of the maker
-pub own_make : (p : Parameters) (e : EndState) (x : SafetyPdu) (clock : ℕ) (why : Why) (t : ℕ) (peer : List Made)
-    → Passed p e x clock why → Held e t peer → Held (after_make e x clock why) t peer
-own_make p e x clock why t peer pass h =
-    let by = made_by p e x clock why pass in
+pub own_make : (p : Parameters) (e : EndState) (x : SafetyPdu) (clock : ℕ) (why : Why) (t : ℕ) (peer : List Made) (by : MadeBy e x why)
+    → Passed p e x clock why → Held e t peer → Held (after_make_by (Some by.row) e x clock) t peer
+own_make p e x clock why t peer by pass h =
     let n : Made = new_made by.row e x in
     let how = changed e.side e.phase why x.kind e.owed by.row by.how in
-    subst (λ (e' : EndState). Held e' t peer) (after_row e x clock why by) (record {
+    record {
       list = record {
         numbered = numbered_push e.made n h.list.numbered (un_not _ pass.sn);
-        openers = all_push e.made n h.list.openers (λ k. ap length (make_opener e.side e.phase e.made n e.accepted e.owed pass.open_yet h.opening _ _ how k));
+        openers = all_push e.made n h.list.openers (λ k. ap length (make_opener e.side e.phase e.made n e.accepted e.owed pass.open_yet h.opening how k));
       };
-      opening = make_opening e.side e.phase e.made n e.accepted e.owed pass.open_yet h.opening _ _ how;
-      asks = make_asking e.side e.phase e.made n e.accepted e.owed pass.open_yet h.opening _ _ e.asks t peer how h.asks;
+      opening = make_opening e.side e.phase e.made n e.accepted e.owed pass.open_yet h.opening how;
+      asks = make_asking e.side e.phase e.made n e.accepted e.owed pass.open_yet h.opening e.asks t peer how h.asks;
       accepts = record {
         reached = h.accepts.reached;
         within = h.accepts.within;
@@ -184,5 +180,5 @@ own_make p e x clock why t peer pass h =
             let l = h.accepts.last a.0 a.1 in
             (a.0, omega (arith, a.1), record { m = l.m; there = l.there; same = l.same ∙ sym (cs_is e x.kind x.cs (grind (arith, k)) pass.cs).1 }));
       };
-      confirmed = (let len = length_push e.made n in omega (arith, h.confirmed, len));
-    })
+      confirmed = omega (arith, h.confirmed, length_push e.made n);
+    }

@@ -12,7 +12,7 @@ use Rattle.rasta_end.specs.declared.phase.Phase.{Phase}
 use Rattle.rasta_end.specs.declared.phase.Phase.TheVariants.{Closed, Down, RetrReq}
 use Rattle.rasta_end.specs.declared.owed.Owed.{Owed}
 use Rattle.rasta_end.specs.State.{Made, EndState, is_owing, is_closed, is_connected, carries_unit}
-use Rattle.rasta_end.specs.MakeRule.{first_that_holds, is_past, after_make}
+use Rattle.rasta_end.specs.MakeRule.{first_that_holds, is_past, after_make_by}
 use Rattle.rasta_end.specs.TakeRule.{take_fault, after_take}
 use Rattle.rasta_end.specs.Starts.{fresh_end, sn_before, quiet_pdu, quiet_end, start_by}
 use Rattle.rasta_check.specs.Model.World.{Station, World, Move, Moves, makes, repeats, arrives, takes, waits, station_of, end_of, other_side, Reaches, IsWithin}
@@ -47,83 +47,27 @@ pub record All (a b : Station) : Type 0 where
 
 -- ---- the start: a fresh end, or one at a quiet point
 
-nothing_at : {A B : Type 0} (i : ℕ) (x : A) → slice_get [] i ≡ Some x → B
-nothing_at i x e = absurd (cc)
-
-fresh_in_run : (side other : Side) (phase theirs : Phase) → (phase ≡ Down → side ≡ Server) → has_peer side phase ≡ false → is_connected phase ≡ false → is_connected theirs ≡ false → (phase ≡ RetrReq → ⊥)
-    → InRun (fresh_end side phase) 0 (fresh_end other theirs)
-fresh_in_run side other phase theirs down peer apart they_apart asking =
-    record {
-      held = record {
-        list = record { numbered = λ i m e. nothing_at (suc i) m e; openers = λ i m e. nothing_at i m e };
-        opening = record { down = λ e. (refl, down e, refl); starting = λ _ _. refl; unmade = λ _ _. (refl, refl); response_due = inl refl; connected = λ v. absurd (cc) };
-        asks = record { asked = omega arith; owing = λ _. refl; answered = λ i m e. nothing_at i m e; asks_taken = omega arith; open_requests = omega arith };
-        accepts = record { reached = omega arith; within = omega arith; last = λ i v. absurd (cc); named = λ i m e. nothing_at i m e };
-        confirmed = omega arith;
-      };
-      values = record {
-        due = λ _. refl;
-        grown = λ v. absurd (cc);
-        positions = record { bounded = λ i v e. nothing_at i v e; units = λ i m e. nothing_at i m e; others = λ i m e. nothing_at i m e; zeroth = refl };
-        returns = record { jumps = λ i m e. nothing_at i m e; asks_within = λ i d e. nothing_at i d e };
-        contents = record { counted = refl; fresh = λ i m e. nothing_at i m e; carried = λ i m e. nothing_at i m e };
-      };
-      handed = record { count = refl; labels = λ i m g. nothing_at i m g; as_many = refl; awaited = λ v. absurd (asking v) };
-      shown = record {
-        shown = λ i m g. nothing_at i m g;
-        first_words = λ _ _ i m g. nothing_at i m g;
-        ready_run = λ r. absurd (cc);
-        ready_offer = λ l. omega arith;
-      };
-    }
-
 -- the only one of a list of one
 only_at : (x m : Made) (i : ℕ) → slice_get (x ∷ []) i ≡ Some m → (i ≡ 0) × (x ≡ m)
 only_at x m zero e = (refl, cc)
-only_at x m (suc i) e = nothing_at i m e
-
-zero_at : (i v : ℕ) → slice_get (0 ∷ []) i ≡ Some v → v ≤ 0
-zero_at zero v e = (let z : 0 ≡ v = cc in omega arith)
-zero_at (suc i) v e = nothing_at i v e
-
-quiet_sn : (side : Side) (own other : QuietEnd) (i sn : ℕ) → i ≡ 0 → sn ≡ sn_before own.next_sn → SnIs ((quiet_end side own other).made) i sn
-quiet_sn side own other i sn e f =
-    let m : Made = record { pdu = quiet_pdu own other; unit = None } in
-    record { m = m; there = subst (λ j. slice_get ((quiet_end side own other).made) j ≡ Some m) (sym e) refl; same = sym f }
-
-quiet_cs : (own other : QuietEnd) (m : Made) → record { pdu = quiet_pdu own other; unit = None } ≡ m → m.pdu.cs ≡ sn_before other.next_sn
-quiet_cs own other m e = ap (λ (n : Made). n.pdu.cs) (sym e)
+only_at x m (suc i) e = absurd (cc)
 
 -- each quiet PDU confirms the other
 quiet_in_run : (side peer : Side) (own other : QuietEnd) → InRun (quiet_end side own other) 1 (quiet_end peer other own)
 quiet_in_run side peer own other =
-    let confirms : (i : ℕ) (m : Made) → slice_get ((quiet_end side own other).made) i ≡ Some m → SnIs ((quiet_end peer other own).made) 0 m.pdu.cs =
-    λ i m e. quiet_sn peer other own 0 m.pdu.cs refl (quiet_cs own other m (only_at _ m i e).1) in
+    let first : SnIs (quiet_end peer other own).made 0 (sn_before other.next_sn) = record { m = record { pdu = quiet_pdu other own; unit = None }; there = refl; same = refl } in
+    let confirms : (i : ℕ) (m : Made) → slice_get (quiet_end side own other).made i ≡ Some m → SnIs (quiet_end peer other own).made 0 m.pdu.cs =
+    λ i m e. (let z = ap (λ (n : Made). n.pdu.cs) (only_at _ m i e).1 in rw (sym z) first) in
     record {
       held = record {
-        list = record { numbered = λ i m e. nothing_at i m e; openers = λ i m e k. (only_at _ m i e).0 };
-        opening = record { down = λ e. absurd (cc); starting = λ _ v. absurd (cc); unmade = λ _ v. absurd (cc); response_due = inl refl; connected = λ v. (0, refl) };
-        asks = record { asked = omega arith; owing = λ _. refl; answered = λ i m e k c g. absurd (cc); asks_taken = omega arith; open_requests = omega arith };
-        accepts = record { reached = omega arith; within = omega arith; last = λ i v. quiet_sn peer other own i _ (omega arith) refl; named = λ i m e k. (0, omega arith, confirms i m e) };
+        list = grind (arith, only_at);
+        opening = grind arith;
+        asks = grind arith;
+        accepts = record { reached = omega arith; within = omega arith; last = λ i v. subst (λ j. SnIs (quiet_end peer other own).made j (sn_before other.next_sn)) (omega arith) first; named = λ i m e k. (0, omega arith, confirms i m e) };
         confirmed = omega arith;
       };
-      values = record {
-        due = λ _. refl;
-        grown = λ v. omega arith;
-        positions = record {
-          bounded = λ i v e. zero_at i v e;
-          units = λ i m e k. absurd (let z = ap (λ (n : Made). carries_unit n.pdu.kind) (only_at _ m i e).1 in cc);
-          others = λ i m e k j s. absurd (let z = (only_at _ m i e).0 in omega arith);
-          zeroth = refl;
-        };
-        returns = record { jumps = λ i m e k d g. absurd (cc); asks_within = λ i d e. nothing_at i d e };
-        contents = record {
-          counted = refl;
-          fresh = λ i m e k. absurd (let z = ap (λ (n : Made). is_kind Data n.pdu.kind) (only_at _ m i e).1 in cc);
-          carried = λ i m e k u. absurd (let z = ap (λ (n : Made). n.unit) (only_at _ m i e).1 in cc);
-        };
-      };
-      handed = record { count = refl; labels = λ i m g. nothing_at i m g; as_many = refl; awaited = λ v. absurd (cc) };
+      values = grind (arith, only_at);
+      handed = grind arith;
       shown = record {
         shown = λ i m g k. inr (record { at = 0; units = 0; named = confirms i m g; conveyed = refl; most = omega arith });
         first_words = λ z. absurd (omega arith);
@@ -149,24 +93,23 @@ all_kept : (p : Parameters) (b a a' : Station) (xs ys : List Packet) (move : Mov
 all_kept p b a a' xs ys move (makes x why after channel reserve check bytes mk sp rec) g = λ l r. (
     let ok = passed p a.state x a.clock why mk.0 in
     let by = made_by p a.state x a.clock why ok in
-    let n : Made = new_made by.row a.state x in
-    let now : after_make a.state x a.clock why ≡ after = sym mk.1 in
-    let made : (after_make a.state x a.clock why).made ≡ a.state.made ++ n ∷ [] = ap (λ (e : EndState). e.made) (sym (after_row a.state x a.clock why by)) in
-    let few : length (after_make a.state x a.clock why).made ≤ 1000001 = subst (λ (e : EndState). length e.made ≤ 1000001) (sym now) l in
-    let h = g (let longer = ap (λ (ms : List Made). length ms) made in omega (arith, longer, few, length_push a.state.made n)) r in
+    let now : after_make_by (Some by.row) a.state x a.clock ≡ after = after_row a.state x a.clock why by ∙ sym mk.1 in
+    let longer = length_push a.state.made (new_made by.row a.state x) in
+    let h = g (omega (arith, l, longer, ap (λ (e : EndState). length e.made) now)) r in
+    let grown = grown_make p a.state x a.clock why by ok in
     let P : EndState → Type 0 = λ e. All (record a { state = e }) b in
     subst P now (record {
       mine = record {
-        held = own_make p a.state x a.clock why a.taken b.state.made ok h.mine.held;
-        values = valued_make p a.state x a.clock why a.taken b.state.made ok h.mine.held h.mine.values;
-        handed = handed_make p a.state b.state x a.clock why a.taken ok h.mine.held h.mine.handed;
-        shown = shown_make p a.state b.state x a.clock why a.taken ok h.mine.held h.mine.handed h.mine.shown;
+        held = own_make p a.state x a.clock why a.taken b.state.made by ok h.mine.held;
+        values = valued_make p a.state x a.clock why a.taken b.state.made by ok h.mine.held h.mine.values;
+        handed = handed_make p a.state b.state x a.clock why a.taken by ok h.mine.held h.mine.handed;
+        shown = shown_make p a.state b.state x a.clock why a.taken by ok h.mine.held h.mine.handed h.mine.shown;
       };
       theirs = record {
-        held = subst (λ (ms : List Made). Held b.state b.taken ms) (sym made) (peer_make b.state b.taken a.state.made n h.theirs.held);
+        held = peer_make b.state b.taken a.state.made _ h.theirs.held;
         values = h.theirs.values;
-        handed = handed_peer b.state a.state _ (let z = h.theirs.held.accepts in omega (arith, z.reached, z.within)) (grown_make p a.state x a.clock why ok) h.theirs.handed;
-        shown = shown_peer_make p b.state a.state x a.clock why ok h.theirs.shown;
+        handed = handed_peer b.state a.state _ (let z = h.theirs.held.accepts in omega (arith, z.reached, z.within)) grown h.theirs.handed;
+        shown = shown_peer_make b.state a.state x a.clock why by grown h.theirs.shown;
       };
     }))
 all_kept p b a a' xs ys move (repeats place channel old there s rec) g = g
@@ -203,11 +146,7 @@ station_by quiet side number = record { state = start_by quiet side; clock = (st
 
 first_all : (quiet : Option Quiet) (m n : ℕ) → All (station_by quiet Client m) (station_by quiet Server n)
 unfolding station_by
-first_all None m n =
-    record {
-      mine = fresh_in_run Client Server Closed Down (λ e. absurd (cc)) refl refl refl (λ e. cc (e));
-      theirs = fresh_in_run Server Client Down Closed (λ _. refl) refl refl refl (λ e. cc (e));
-    }
+first_all None m n = record { mine = grind arith; theirs = grind arith }
 first_all (Some quiet) m n = record { mine = quiet_in_run Client Server quiet.client quiet.server; theirs = quiet_in_run Server Client quiet.server quiet.client }
 
 -- no end has made more than 1,000,001 PDUs

@@ -23,7 +23,7 @@ use Rattle.rasta_end.specs.MakeRule.{has_ended, contents, differs, unit_of, phas
 use Rattle.rasta_check.proofs.Lists.{all_push, get_front, get_front_within, get_push}
 use Rattle.rasta_check.proofs.Model.Counts.{answers_in}
 use Rattle.rasta_check.proofs.Model.PassedTests.{Passed}
-use Rattle.rasta_check.proofs.Model.MakeRows.{Making, opening, answer, again, fresh, bye, expired, MadeBy, made_by, after_row, new_made}
+use Rattle.rasta_check.proofs.Model.MakeRows.{Making, opening, answer, again, fresh, bye, expired, MadeBy, new_made}
 use Rattle.rasta_check.proofs.Model.Invariant.{Held}
 use Rattle.rasta_check.proofs.Model.InvariantAtMake.{over_after, nothing_made}
 use Rattle.rasta_check.proofs.Model.ConveyedUnits.{values, jump, is_plain, last_push, last_get, values_push, length-values, units_next, after_is}
@@ -117,10 +117,7 @@ module _ (ms : List Made) (m : Made) (n : ℕ) (w : Carrying ms n) where
         carried = all_push ms m old_carried (λ k u. (ap carries_unit d, grind (arith, more, unit_is, u, get_push (contents ms) (content_of m.pdu.body))));
       }
 
-module _ (p : Parameters) (e : EndState) (x : SafetyPdu) (clock : ℕ) (why : Why) (t : ℕ) (peer : List Made) (pass : Passed p e x clock why) (h : Held e t peer) (w : Valued e) where
-  b : MadeBy e x why
-  b = made_by p e x clock why pass
-
+module _ (p : Parameters) (e : EndState) (x : SafetyPdu) (clock : ℕ) (why : Why) (t : ℕ) (peer : List Made) (b : MadeBy e x why) (pass : Passed p e x clock why) (h : Held e t peer) (w : Valued e) where
   abbrev after : EndState
   after = after_make_by (Some b.row) e x clock
 
@@ -214,13 +211,12 @@ module _ (p : Parameters) (e : EndState) (x : SafetyPdu) (clock : ℕ) (why : Wh
         asks_within = λ i c g. (let l = w.returns.asks_within i c g in omega (arith, l, length_push e.made new));
       }
 
-  pub valued_make : Valued (after_make e x clock why)
+  pub valued_make : Valued after
   valued_make =
-      subst Valued (after_row e x clock why b) (record {
+      record {
         due = due_after;
         grown = λ _. omega (arith, length_push e.made new);
-        positions = subst (λ vs. Conveying vs after.made after.offered) (sym pushed) conveys;
-        returns = subst (λ vs. Returning vs after.made e.asks) (sym pushed) returns;
-        contents = carries e.made new e.offered w.contents after.offered
-            (adds e.side e.phase why x.kind e.owed b.row e.made e.offered (content_of x.body) b.how (subst (λ (row : Option MakeRow). differs e.made row (content_of x.body) ≡ false) b.is pass.same));
-      })
+        positions = rw pushed conveys;
+        returns = rw pushed returns;
+        contents = carries e.made new e.offered w.contents after.offered (adds e.side e.phase why x.kind e.owed b.row e.made e.offered (content_of x.body) b.how (rw b.is at pass.same));
+      }

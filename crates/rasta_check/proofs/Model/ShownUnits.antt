@@ -15,12 +15,12 @@ use Rattle.rasta_end.specs.declared.take_row.TakeRow.{TakeRow}
 use Rattle.rasta_end.specs.declared.take_row.TakeRow.TheVariants.{Opened, Answered, InSequence, Disconnected}
 use Rattle.rasta_end.specs.declared.owed.Owed.{Owed}
 use Rattle.rasta_end.specs.State.{Made, EndState, is_closed, is_connected}
-use Rattle.rasta_end.specs.MakeRule.{is_judged, offered_after, after_make, after_make_by}
+use Rattle.rasta_end.specs.MakeRule.{is_judged, offered_after, after_make_by}
 use Rattle.rasta_end.specs.TakeRule.{effect, after_take}
 use Rattle.rasta_check.proofs.Lists.{all_push}
 use Rattle.rasta_check.proofs.Model.PassedTests.{Passed, cs_is}
-use Rattle.rasta_check.proofs.Model.MakeRows.{Making, fresh, MadeBy, made_by, after_row, new_made}
-use Rattle.rasta_check.proofs.Model.Steps.{Grown, same_grown, grown_make, grown_take}
+use Rattle.rasta_check.proofs.Model.MakeRows.{Making, fresh, MadeBy, new_made}
+use Rattle.rasta_check.proofs.Model.Steps.{Grown, same_grown, grown_take}
 use Rattle.rasta_check.proofs.Model.TakeRows.{Knows, take_by, effect_made, take_leaves}
 use Rattle.rasta_check.proofs.Model.NamedPositions.{SnIs}
 use Rattle.rasta_check.proofs.Model.Invariant.{Held, is_named}
@@ -66,10 +66,7 @@ shown_most f n a cs once vf none (inr z) c v s g =
 pub judged_after : (e : EndState) (k : Kind) (i : ℕ) → e.accepted ≡ suc i → is_kind ConnectionRequest k ≡ false → is_judged e k ≡ true
 judged_after e k i a c = grind (arith, nat_tests)
 
-module _ (p : Parameters) (e f : EndState) (x : SafetyPdu) (clock : ℕ) (why : Why) (t : ℕ) (pass : Passed p e x clock why) (h : Held e t f.made) (hd : Handed e f) (w : Shown e f) where
-  b : MadeBy e x why
-  b = made_by p e x clock why pass
-
+module _ (p : Parameters) (e f : EndState) (x : SafetyPdu) (clock : ℕ) (why : Why) (t : ℕ) (b : MadeBy e x why) (pass : Passed p e x clock why) (h : Held e t f.made) (hd : Handed e f) (w : Shown e f) where
   new_shown : (a : ℕ) → e.accepted ≡ a → is_kind ConnectionRequest x.kind ≡ false → (e.accepted ≡ 0) ⊎ Shows f (length e.handed) x.cs
   new_shown zero a k = inl a
   new_shown (suc i) a k =
@@ -84,16 +81,16 @@ module _ (p : Parameters) (e f : EndState) (x : SafetyPdu) (clock : ℕ) (why : 
   first_made (opened a s c) z cl = (nothing_made e.side e.phase e.made a pass.open_yet, c)
   first_made (goes_on a c d g j) z cl = absurd (let y = h.opening.connected a in omega (arith, z, y.1))
 
-  pub shown_make : Shown (after_make e x clock why) f
+  pub shown_make : Shown (after_make_by (Some b.row) e x clock) f
   shown_make =
-      subst (λ (e' : EndState). Shown e' f) (after_row e x clock why b) (record {
+      record {
         shown = all_push e.made (new_made b.row e x) w.shown (new_shown e.accepted refl);
         first_words = λ a c.
             let r = first_made (changed e.side e.phase why x.kind e.owed b.row b.how) a c in
-            all_push e.made _ (λ i m g. absurd (let z = subst (λ (ms : List Made). slice_get ms i ≡ Some m) r.0 g in cc)) (ap (is_kind ConnectionRequest) r.1);
+            all_push e.made _ (λ i m g. absurd (let z = rw r.0 at g in cc)) (ap (is_kind ConnectionRequest) r.1);
         ready_run = w.ready_run;
         ready_offer = w.ready_offer;
-      })
+      }
 
 -- The peer makes or takes.
 
@@ -109,13 +106,11 @@ connected_by : {s : Side} {ph ph' : Phase} {k : Kind} {os os' : List Owed} → C
 connected_by (goes_on a c d g j) r = r
 connected_by _ r = absurd (cc)
 
-pub shown_peer_make : (p : Parameters) (e f : EndState) (x : SafetyPdu) (clock : ℕ) (why : Why) → Passed p f x clock why → Shown e f → Shown e (after_make f x clock why)
-shown_peer_make p e f x clock why pass w =
-    let b = made_by p f x clock why pass in
-    subst (Shown e) (after_row f x clock why b)
-    (shown_peer e f (after_make_by (Some b.row) f x clock) (subst (Grown f) (sym (after_row f x clock why b)) (grown_make p f x clock why pass)) w
+pub shown_peer_make : (e f : EndState) (x : SafetyPdu) (clock : ℕ) (why : Why) (b : MadeBy f x why) → Grown f (after_make_by (Some b.row) f x clock) → Shown e f → Shown e (after_make_by (Some b.row) f x clock)
+shown_peer_make e f x clock why b grown w =
+    shown_peer e f _ grown w
     (λ r. w.ready_run (connected_by (changed f.side f.phase why x.kind f.owed b.row b.how) r))
-    (λ l. ⊎_elim w.ready_offer w.ready_run (offers_by f.side f.phase why x.kind f.owed b.row f.offered b.how l)))
+    (λ l. ⊎_elim w.ready_offer w.ready_run (offers_by f.side f.phase why x.kind f.owed b.row f.offered b.how l))
 
 -- The end itself takes.
 

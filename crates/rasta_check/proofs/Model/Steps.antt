@@ -18,7 +18,7 @@ use Rattle.rasta_check.proofs.Model.Counts.{answers_in}
 use Rattle.rasta_check.proofs.Model.ConveyedUnits.{values, values_push, values_asks}
 use Rattle.rasta_check.proofs.Model.TakeRows.{take_by, take_made}
 use Rattle.rasta_check.proofs.Model.PassedTests.{Passed, passed}
-use Rattle.rasta_check.proofs.Model.MakeRows.{made_by, after_row, new_made}
+use Rattle.rasta_check.proofs.Model.MakeRows.{MadeBy, made_by, after_row, new_made}
 
 -- nothing more was handed up
 pub record SameHanded (e e' : EndState) : Type 0 where
@@ -61,14 +61,13 @@ pub record Grown (e e' : EndState) : Type 0 where
 pub same_grown : (e : EndState) → Grown e e
 same_grown e = record { made = λ i m g. g; kept = λ i v g. g; over = λ h. refl }
 
-pub grown_make : (p : Parameters) (e : EndState) (x : SafetyPdu) (clock : ℕ) (why : Why) → Passed p e x clock why → Grown e (after_make e x clock why)
-grown_make p e x clock why pass =
-    let by = made_by p e x clock why pass in
-    subst (Grown e) (after_row e x clock why by) (record {
-      made = get_front e.made (new_made by.row e x ∷ []);
-      kept = λ i v g. rw (values_push e.asks e.made (new_made by.row e x)) (get_front (values e) _ i v g);
+pub grown_make : (p : Parameters) (e : EndState) (x : SafetyPdu) (clock : ℕ) (why : Why) (b : MadeBy e x why) → Passed p e x clock why → Grown e (after_make_by (Some b.row) e x clock)
+grown_make p e x clock why b pass =
+    record {
+      made = get_front e.made (new_made b.row e x ∷ []);
+      kept = λ i v g. rw (values_push e.asks e.made (new_made b.row e x)) (get_front (values e) _ i v g);
       over = λ h. absurd (let z = pass.open_yet in cc);
-    })
+    }
 
 -- a take leaves the units conveyed through each position
 values_take : (q : Parameters) (e : EndState) (x : SafetyPdu) → answers_in e.made ≤ length e.asks → values (after_take q e x) ≡ values e
