@@ -105,22 +105,12 @@ peer_make f u ms m h =
 
 module _ (s : Side) (ph : Phase) (ms : List Made) (m : Made) (a : ℕ) (os : List Owed) (open_yet : ended s ph ms ≡ false) (h : Opening s ph ms a os) where
   make_opening : {ph' : Phase} {os' : List Owed} → Changed s ph m.pdu.kind os ph' os' → Opening s ph' (ms ++ m ∷ []) a os'
-  make_opening (over d) =
-      record { down = λ v. absurd (cc); starting = λ _ v. absurd (cc); unmade = λ _ v. absurd (push_some ms m v); response_due = inl refl; connected = λ v. absurd (cc) }
+  make_opening (over d) = grind (arith, push_some ms m)
   make_opening (opened b c d) =
       let u = h.unmade c (nothing_made s ph ms b open_yet) in
-      record { down = λ v. absurd (cc); starting = λ _ _. u.0; unmade = λ _ v. absurd (push_some ms m v); response_due = inl (ap (owes is_response_owed) u.1); connected = λ v. absurd (grind (arith, c)) }
+      grind (arith, push_some ms m, u, c, ap (owes is_response_owed) u.1)
   make_opening (goes_on on b c d r) =
-      record {
-        down = λ v. absurd (let z = ap (has_peer s) v in cc);
-        starting = h.starting;
-        unmade = λ _ v. absurd (push_some ms m v);
-        response_due = inl (⊎_elim
-            (λ (none : owes is_response_owed os ≡ 0). omega arith)
-            (λ (one : (ms ≡ []) × (os ≡ OweConnectionResponse ∷ [])). ap (λ l. owes is_response_owed (drop 1 l)) one.1)
-            h.response_due);
-        connected = h.connected;
-      }
+      grind (arith, push_some ms m, on, r, h)
 
   make_asking : {ph' : Phase} {os' : List Owed} (qs : List ℕ) (t : ℕ) (peer : List Made) → Changed s ph m.pdu.kind os ph' os' → Asking s ph ms qs os t peer → Asking s ph' (ms ++ m ∷ []) qs os' t peer
   make_asking qs t peer how w =

@@ -152,14 +152,7 @@ module _ (q : Parameters) (e f : EndState) (t u : ℕ) (m : Made) (p : ℕ) (k :
 
   -- it shows that the end has made something, and the connection runs
   runs : (ph : Phase) (a : ℕ) (os : List Owed) → is_connected ph ≡ true → is_named m.pdu.kind ≡ true → is_valid e m.pdu ≡ true → (i : ℕ) × (a ≡ suc i) → owes is_response_owed os ≡ 0 → Opening e.side ph e.made a os
-  runs ph a os on nm vd peer none =
-      record {
-        down = λ v. absurd (let w = ap is_connected v in cc);
-        starting = λ s v. absurd (let w = ap is_connected v in cc);
-        unmade = λ s v. absurd (let d = mark nm vd in let z : length e.made ≡ 0 = ap length v in omega (arith, d.3, z));
-        response_due = inl none;
-        connected = λ v. peer;
-      }
+  runs ph a os on nm vd peer none = (let d = mark nm vd in grind (arith, d, on, peer, none))
 
   -- ---- the rows
 
@@ -230,7 +223,7 @@ module _ (q : Parameters) (e f : EndState) (t u : ℕ) (m : Made) (p : ℕ) (k :
         let d = k.mine.opening.down w.0 in
         record {
           list = k.mine.list;
-          opening = record { down = λ v. absurd (cc); starting = λ s v. absurd (cc (s, d.1)); unmade = λ s v. absurd (cc (s, d.1)); response_due = inr (d.0, refl); connected = λ v. (0, refl) };
+          opening = grind (arith, d);
           asks = unasked Start _ refl (omega (arith, ap open_bit w.0, more_answers));
           accepts = noted 0 (sym (k.theirs.list.openers p m k.there (ap is_opener w.1)));
           confirmed = k.mine.confirmed;
@@ -265,7 +258,7 @@ module _ (q : Parameters) (e f : EndState) (t u : ℕ) (m : Made) (p : ℕ) (k :
     by_row Disconnected w =
         record {
           list = k.mine.list;
-          opening = record { down = λ v. absurd (cc); starting = λ s v. absurd (cc); unmade = k.mine.opening.unmade; response_due = inl quiet; connected = λ v. absurd (cc) };
+          opening = grind (arith, quiet, k.mine.opening.unmade);
           asks = unchanged Closed (bit_most e.phase);
           accepts = skipped;
           confirmed = k.mine.confirmed;

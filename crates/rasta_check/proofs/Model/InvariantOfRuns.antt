@@ -63,16 +63,16 @@ quiet_in_run side peer own other =
         list = grind (arith, only_at);
         opening = grind arith;
         asks = grind arith;
-        accepts = record { reached = omega arith; within = omega arith; last = λ i v. subst (λ j. SnIs (quiet_end peer other own).made j (sn_before other.next_sn)) (omega arith) first; named = λ i m e k. (0, omega arith, confirms i m e) };
+        accepts = record { reached = omega arith; within = omega arith; last = λ i v. (let z : i ≡ 0 = omega arith in rw z first); named = λ i m e k. (0, omega arith, confirms i m e) };
         confirmed = omega arith;
       };
       values = grind (arith, only_at);
       handed = grind arith;
       shown = record {
         shown = λ i m g k. inr (record { at = 0; units = 0; named = confirms i m g; conveyed = refl; most = omega arith });
-        first_words = λ z. absurd (omega arith);
-        ready_run = λ _. omega arith;
-        ready_offer = λ _. omega arith;
+        first_words = grind arith;
+        ready_run = grind arith;
+        ready_offer = grind arith;
       };
     }
 

@@ -38,11 +38,7 @@ Leads u v n ph k row os = ((phase_after row ph ≡ Closed) × (is_plain k ≡ tr
 
 leads : (s : Side) (ph : Phase) (why : Why) (k : Kind) (os : List Owed) (row : MakeRow) (u v n : ℕ) → (s ≡ Client → ph ≡ Closed → os ≡ []) → Making s ph why k os row → Due u v n os → Leads u v n ph k row os
 leads s ph why k os row u v n free opening d = inr (subst (DueRest v n) (sym (free refl refl)) (bare_rest u v n os (free refl refl) d))
-leads s ph why k os row u v n free (again r) d = inr d.1
-leads s ph why k os row u v n free (fresh r) d = inr (ap suc d)
-leads s ph why k os row u v n free (bye r) d = inl (refl, refl)
-leads s ph why k os row u v n free (expired r) d = inl (refl, refl)
-leads s ph why k os row u v n free _ d = inr d
+leads s ph why k os row u v n free _ d = grind (arith, d)
 
 -- a unit is made by an end that is connected; it is the next one
 unit_made : (s : Side) (ph : Phase) (why : Why) (k : Kind) (os : List Owed) (row : MakeRow) (u v n : ℕ) → Making s ph why k os row → Due u v n os → carries_unit k ≡ true → unit_of row n ≡ Some v

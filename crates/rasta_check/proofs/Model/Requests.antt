@@ -42,13 +42,11 @@ found_position (m ∷ ms) sn c g = by (m.pdu.sn == sn) refl g (found_position ms
   where
     by : (b : Bool) → (m.pdu.sn == sn) ≡ b → (if b then Some 0 else option_map suc (position_with (pdus_made ms) sn)) ≡ Some c
         → ((d : ℕ) → position_with (pdus_made ms) sn ≡ Some d → SnIs ms d sn) → SnIs (m ∷ ms) c sn
-    by true e h rest =
-        let first : 0 ≡ c = cc in
-        subst (λ i. SnIs (m ∷ ms) i sn) first (record { m = m; there = refl; same = grind (arith, nat_tests) })
+    by true e h rest = (let first : c ≡ 0 = cc in rw first (record { m = m; there = refl; same = grind (arith, nat_tests) }))
     by false e h rest =
         let d = mapped_some suc (position_with (pdus_made ms) sn) c h in
         let s = rest d.0 d.1 in
-        subst (λ i. SnIs (m ∷ ms) i sn) d.2 (record { m = s.m; there = s.there; same = s.same })
+        rw (← d.2) (record { m = s.m; there = s.there; same = s.same })
 
 -- ---- the k-th of a kind
 
@@ -60,16 +58,14 @@ pub record Found (f : Kind → Bool) (ms : List Made) (k : ℕ) : Type 0 where
   pub is : f m.pdu.kind ≡ true
   pub before : number f (take at ms) ≡ k
 
-found_by : (f : Kind → Bool) (x : Made) (ms : List Made) (b : Bool) → f x.pdu.kind ≡ b → ((k : ℕ) → k < number f ms → Found f ms k) → (k : ℕ) → k < tally b (number f ms) → Found f (x ∷ ms) k
-found_by f x ms true e rest zero l = record { at = 0; m = x; there = refl; is = e; before = refl }
-found_by f x ms true e rest (suc k) l =
-    let r = rest k (omega (arith, l)) in
-    record { at = suc r.at; m = r.m; there = r.there; is = r.is; before = grind (arith, r.before) }
-found_by f x ms false e rest k l = (let r = rest k l in record { at = suc r.at; m = r.m; there = r.there; is = r.is; before = grind (arith, r.before) })
-
 pub found : (f : Kind → Bool) (ms : List Made) (k : ℕ) → k < number f ms → Found f ms k
 found f [] k l = absurd (omega (arith, l))
-found f (x ∷ ms) k l = found_by f x ms (f x.pdu.kind) refl (found f ms) k l
+found f (x ∷ ms) k l = by (f x.pdu.kind) refl k l (found f ms)
+  where
+    by : (b : Bool) → f x.pdu.kind ≡ b → (k : ℕ) → k < tally b (number f ms) → ((j : ℕ) → j < number f ms → Found f ms j) → Found f (x ∷ ms) k
+    by true e zero l rest = record { at = 0; m = x; there = refl; is = e; before = refl }
+    by true e (suc k) l rest = (let r = rest k (omega (arith, l)) in record { at = suc r.at; m = r.m; there = r.there; is = r.is; before = grind (arith, r.before) })
+    by false e k l rest = (let r = rest k l in record { at = suc r.at; m = r.m; there = r.there; is = r.is; before = grind (arith, r.before) })
 
 -- ---- what each request confirms
 

@@ -96,15 +96,11 @@ abbrev pub base : Parameters → ℕ
 base p = base_by p.quiet
 
 pub base_small : (q : Option Quiet) → base_by q ≤ 1
-base_small None = omega arith
-base_small (Some q) = omega arith
+base_small q = grind arith
 
 -- a quiet point counts as one PDU made, and nothing is handed up before the start
 pub start_is : (q : Option Quiet) (s : Side) → ((start_by q s).base ≡ base_by q) × (length (start_by q s).made ≡ base_by q) × ((start_by q s).side ≡ s) × (length (start_by q s).handed ≡ 0)
-start_is None Client = (refl, refl, refl, refl)
-start_is None Server = (refl, refl, refl, refl)
-start_is (Some q) Client = (refl, refl, refl, refl)
-start_is (Some q) Server = (refl, refl, refl, refl)
+start_is q s = grind arith
 
 pub start_base : (q : Option Quiet) (s : Side) → (start_by q s).base ≡ base_by q
 start_base q s = (start_is q s).0
