@@ -91,9 +91,9 @@ module _ (p : Parameters) (e f : EndState) (x : SafetyPdu) (clock : ℕ) (why : 
   new_ask false c ph d none =
       let r = w.awaited ph (sym d ∙ none) in
       let l = slice_get_within e.made r.0 r.1 r.2 in
-      let same : take r.0 (e.made ++ new ∷ []) ≡ take r.0 e.made = take-append-le r.0 e.made (new ∷ []) (omega (arith, l)) in
+      let same = ap requests_in (take-append-le r.0 e.made (new ∷ []) (omega (arith, l))) in
       let num = number_push_as (is_kind RetransmissionRequest) e.made new false c in
-      (r.0, r.1, get_front e.made (new ∷ []) r.0 r.1 r.2, r.3, r.4, ap (λ ms. suc (requests_in ms)) same ∙ (r.5 ∙ sym num))
+      (r.0, r.1, get_front e.made (new ∷ []) r.0 r.1 r.2, r.3, r.4, omega (arith, same, r.5, num))
 
   await_by : {ph : Phase} {os : List Owed} → Changed e.side e.phase x.kind e.owed ph os → ph ≡ RetrReq → owes is_request_owed os ≡ 0 → LastRequest (e.made ++ new ∷ []) e.last_sn
   await_by (goes_on a c d g j) ph none = new_ask (is_kind RetransmissionRequest x.kind) refl ph d none

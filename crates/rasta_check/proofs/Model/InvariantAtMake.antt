@@ -1,5 +1,5 @@
 -- A make keeps what holds, at both ends.
-use Rattle.std.proofs.Common.{◌≡◌, ℕ, ◌+◌, ◌≤◌, true, false, List, [], ◌∷◌, ◌++◌, length, Some, None, slice_get, take, refl, ap, sym, ◌∙◌, arith, inl, ⊎_elim, subst}
+use Rattle.std.proofs.Common.{◌≡◌, ℕ, ◌+◌, ◌≤◌, true, false, List, [], ◌∷◌, ◌++◌, length, Some, take, refl, ap, sym, ◌∙◌, arith, ⊎_elim}
 use Rattle.std.specs.Prelude.{drop}
 use Rattle.std.proofs.lemmas.List.{take-append-le, length_push}
 use Rattle.std.proofs.lemmas.Option.{slice_get_within, slice_get_past}
@@ -73,8 +73,7 @@ push_some (x ∷ ms) m e = cc
 -- a make leaves what holds of the peer
 pub peer_make : (f : EndState) (u : ℕ) (ms : List Made) (m : Made) → Held f u ms → Held f u (ms ++ m ∷ [])
 peer_make f u ms m h =
-    let front : (i : ℕ) → i ≤ length ms → take i (ms ++ m ∷ []) ≡ take i ms = λ i l. take-append-le i ms (m ∷ []) l in
-    let taken = front u h.accepts.within in
+    let taken = take-append-le u ms (m ∷ []) h.accepts.within in
     let old = h.asks in
     record {
       list = h.list;
@@ -83,12 +82,11 @@ peer_make f u ms m h =
         asked = old.asked;
         owing = old.owing;
         answered = all_push ms m
-            (λ p n g k c a.
-            old.answered p n g k c (subst (λ (l : List Made). slice_get f.asks (requests_in l) ≡ Some c) (front p (let w = slice_get_within ms p n g in omega (arith, w))) a))
+            (λ p n g k c a. (let l = slice_get_within ms p n g in old.answered p n g k c (rw (take-append-le p ms (m ∷ []) (omega (arith, l))) at a)))
             (λ k c a.
             let all = number_take_more (is_kind RetransmissionRequest) ms u (length ms) h.accepts.within in
-            let past : slice_get f.asks (requests_in (take (length ms) ms)) ≡ None = slice_get_past f.asks _ (omega (arith, all, old.asks_taken)) in
-            absurd (let z = subst (λ (l : List Made). slice_get f.asks (requests_in l) ≡ Some c) (front (length ms) (omega arith)) a in cc));
+            let past = slice_get_past f.asks (requests_in (take (length ms) ms)) (omega (arith, all, old.asks_taken)) in
+            absurd (let z = rw (take-append-le (length ms) ms (m ∷ []) (omega arith)) at a in cc));
         asks_taken = (let same = ap requests_in taken in omega (arith, same, old.asks_taken));
         open_requests = (let same = ap answers_in taken in omega (arith, same, old.open_requests));
       };

@@ -1,5 +1,5 @@
 -- Every run keeps what holds.
-use Rattle.std.proofs.Common.{◌≡◌, ℕ, zero, suc, ◌≤◌, Bool, false, List, [], ◌∷◌, ◌++◌, length, Option, Some, None, slice_get, refl, ap, sym, subst, ◌∙◌, arith, inl, inr}
+use Rattle.std.proofs.Common.{◌≡◌, ℕ, zero, suc, ◌≤◌, Bool, false, List, [], ◌∷◌, length, Option, Some, None, slice_get, refl, ap, sym, subst, ◌∙◌, arith, inr}
 use Rattle.std.proofs.lemmas.List.{length_push}
 use Rattle.rasta_pcap.specs.Fault.{reply_owed, past_deadline}
 use Rattle.rasta_pcap.specs.declared.fault.Side.{Side}
@@ -8,19 +8,17 @@ use Rattle.rasta_udp.specs.Frame.{Packet}
 use Rattle.rasta_pdu.specs.Params.{Parameters}
 use Rattle.rasta_pdu.specs.declared.quiet_point.Quiet.{Quiet}
 use Rattle.rasta_pdu.specs.declared.quiet_point.QuietEnd.{QuietEnd}
-use Rattle.rasta_end.specs.declared.phase.Phase.{Phase}
-use Rattle.rasta_end.specs.declared.phase.Phase.TheVariants.{Closed, Down, RetrReq}
 use Rattle.rasta_end.specs.declared.owed.Owed.{Owed}
-use Rattle.rasta_end.specs.State.{Made, EndState, is_owing, is_closed, is_connected, carries_unit}
+use Rattle.rasta_end.specs.State.{Made, EndState, is_owing, is_closed}
 use Rattle.rasta_end.specs.MakeRule.{first_that_holds, is_past, after_make_by}
 use Rattle.rasta_end.specs.TakeRule.{take_fault, after_take}
-use Rattle.rasta_end.specs.Starts.{fresh_end, sn_before, quiet_pdu, quiet_end, start_by}
+use Rattle.rasta_end.specs.Starts.{sn_before, quiet_pdu, quiet_end, start_by}
 use Rattle.rasta_check.specs.Model.World.{Station, World, Move, Moves, makes, repeats, arrives, takes, waits, station_of, end_of, other_side, Reaches, IsWithin}
 use Rattle.rasta_check.proofs.Model.PassedTests.{passed}
 use Rattle.rasta_check.proofs.Model.MakeRows.{made_by, after_row, new_made}
 use Rattle.rasta_check.proofs.Model.TakeRows.{take_made}
 use Rattle.rasta_check.proofs.Model.NamedPositions.{SnIs}
-use Rattle.rasta_check.proofs.Model.Invariant.{Held, has_peer}
+use Rattle.rasta_check.proofs.Model.Invariant.{Held}
 use Rattle.rasta_check.proofs.Model.InvariantAtMake.{own_make, peer_make}
 use Rattle.rasta_check.proofs.Model.InvariantAtTake.{Taken, own_take}
 use Rattle.rasta_check.proofs.Model.OfferedUnits.{Valued}
@@ -30,8 +28,6 @@ use Rattle.rasta_check.proofs.Model.HandedUnits.{Handed, handed_make, handed_pee
 use Rattle.rasta_check.proofs.Model.ShownUnits.{Shown, shown_make, shown_peer_make, shown_take, shown_peer_take}
 use Rattle.rasta_check.proofs.Model.Induction.{always}
 use Rattle.rasta_check.proofs.Model.Steps.{start_base, base_small, grown_make, grown_take}
-use Rattle.rasta_pdu.specs.Pdu.{is_kind}
-use Rattle.rasta_pdu.specs.declared.kind.Kind.TheVariants.{Data}
 
 -- all that holds of an end e that took its peer's PDUs up to position t, and of this peer f
 pub record InRun (e : EndState) (t : ℕ) (f : EndState) : Type 0 where

@@ -1,5 +1,5 @@
 -- A make keeps what holds of the units offered.
-use Rattle.std.proofs.Common.{◌≡◌, ℕ, suc, ◌-◌, ◌<◌, ◌≤◌, ◌⊎◌, true, false, List, [], ◌∷◌, ◌++◌, length, Option, Some, slice_get, take, refl, ap, sym, ◌∙◌, arith, inl, inr, ⊎_elim, subst}
+use Rattle.std.proofs.Common.{◌≡◌, ℕ, suc, ◌-◌, ◌<◌, ◌≤◌, ◌⊎◌, true, false, List, [], ◌∷◌, ◌++◌, length, Option, Some, slice_get, take, refl, ap, sym, ◌∙◌, arith, inr, ⊎_elim, subst}
 use Rattle.std.specs.Prelude.{slice_index_or, map, filter}
 use Rattle.std.proofs.Math.Seq.{take-append_seam}
 use Rattle.std.proofs.lemmas.List.{take-append-le, append-nil, length_push, map-append}
@@ -19,11 +19,11 @@ use Rattle.rasta_end.specs.declared.make_row.MakeRow.{MakeRow}
 use Rattle.rasta_end.specs.declared.owed.Owed.{Owed}
 use Rattle.rasta_end.specs.State.{Made, EndState, is_connected, carries_unit, content_of}
 use Rattle.rasta_end.specs.Units.{units_after, units_at, last_of}
-use Rattle.rasta_end.specs.MakeRule.{has_ended, contents, differs, unit_of, phase_after, owed_after, offered_after, after_make, after_make_by}
+use Rattle.rasta_end.specs.MakeRule.{has_ended, contents, differs, unit_of, phase_after, owed_after, offered_after, after_make_by}
 use Rattle.rasta_check.proofs.Lists.{all_push, get_front, get_front_within, get_push}
 use Rattle.rasta_check.proofs.Model.Counts.{answers_in}
 use Rattle.rasta_check.proofs.Model.PassedTests.{Passed}
-use Rattle.rasta_check.proofs.Model.MakeRows.{Making, opening, answer, again, fresh, bye, expired, MadeBy, new_made}
+use Rattle.rasta_check.proofs.Model.MakeRows.{Making, opening, answer, again, fresh, MadeBy, new_made}
 use Rattle.rasta_check.proofs.Model.Invariant.{Held}
 use Rattle.rasta_check.proofs.Model.InvariantAtMake.{over_after, nothing_made}
 use Rattle.rasta_check.proofs.Model.ConveyedUnits.{values, jump, is_plain, last_push, last_get, values_push, length-values, units_next, after_is}
@@ -78,17 +78,11 @@ contents_push ms m =
     ∙ map-append (λ (n : Made). content_of n.pdu.body) (filter (λ (n : Made). is_kind Data n.pdu.kind) ms) (filter (λ (n : Made). is_kind Data n.pdu.kind) (m ∷ []))
 
 module _ (ms : List Made) (m : Made) (n : ℕ) (w : Carrying ms n) where
-  front : (i : ℕ) → i ≤ length ms → take i (ms ++ m ∷ []) ≡ take i ms
-  front i l = take-append-le i ms (m ∷ []) l
-
-  whole : take (length ms) (ms ++ m ∷ []) ≡ ms
-  whole = take-append_seam ms (m ∷ [])
-
   old_fresh : (i : ℕ) (y : Made) → slice_get ms i ≡ Some y → is_kind Data y.pdu.kind ≡ true → y.unit ≡ Some (length (contents (take i (ms ++ m ∷ []))))
-  old_fresh i y g d = (let l = slice_get_within ms i y g in w.fresh i y g d ∙ ap (λ (l : List Made). Some (length (contents l))) (sym (front i (omega (arith, l)))))
+  old_fresh i y g d = (let l = slice_get_within ms i y g in rw (take-append-le i ms (m ∷ []) (omega (arith, l))) (w.fresh i y g d))
 
   more_contents : (k : ℕ) (content : List ℕ) → slice_get (contents ms) k ≡ Some content → slice_get (contents (ms ++ m ∷ [])) k ≡ Some content
-  more_contents k content g = subst (λ (cs : List (List ℕ)). slice_get cs k ≡ Some content) (sym (contents_push ms m)) (get_front (contents ms) (contents (m ∷ [])) k content g)
+  more_contents k content g = rw (contents_push ms m) (get_front (contents ms) (contents (m ∷ [])) k content g)
 
   old_carried : (i : ℕ) (y : Made) → slice_get ms i ≡ Some y → (k : ℕ) → y.unit ≡ Some k → (carries_unit y.pdu.kind ≡ true) × (slice_get (contents (ms ++ m ∷ [])) k ≡ Some (content_of y.pdu.body))
   old_carried i y g k u = (let r = w.carried i y g k u in (r.0, more_contents k (content_of y.pdu.body) r.1))
@@ -109,7 +103,7 @@ module _ (ms : List Made) (m : Made) (n : ℕ) (w : Carrying ms n) where
       let unit_is : m.unit ≡ Some (length (contents ms)) = unit ∙ ap Some (sym w.counted) in
       record {
         counted = (let l = ap length more in let k = length_push (contents ms) (content_of m.pdu.body) in omega (arith, l, k, s, w.counted));
-        fresh = all_push ms m old_fresh (λ k. unit_is ∙ ap (λ (l : List Made). Some (length (contents l))) (sym whole));
+        fresh = all_push ms m old_fresh (λ k. rw (take-append_seam ms (m ∷ [])) unit_is);
         carried = all_push ms m old_carried (λ k u. (ap carries_unit d, grind (arith, more, unit_is, u, get_push (contents ms) (content_of m.pdu.body))));
       }
 
@@ -197,10 +191,10 @@ module _ (p : Parameters) (e : EndState) (x : SafetyPdu) (clock : ℕ) (why : Wh
         jumps = all_push e.made new
             (λ i n g u c a.
             let l = slice_get_within e.made i n g in
-            let r = w.returns.jumps i n g u c (subst (λ (ms : List Made). slice_get e.asks (answers_in ms) ≡ Some c) (front e.made new e.offered w.contents i (omega (arith, l))) a) in
+            let r = w.returns.jumps i n g u c (rw (take-append-le i e.made (new ∷ []) (omega (arith, l))) at a) in
             (r.0, both_old i c r.1 l (omega (arith, l, r.0))))
             (λ u c a.
-            let a' : slice_get e.asks (answers_in e.made) ≡ Some c = subst (λ (ms : List Made). slice_get e.asks (answers_in ms) ≡ Some c) (whole e.made new e.offered w.contents) a in
+            let a' : slice_get e.asks (answers_in e.made) ≡ Some c = rw (take-append_seam e.made (new ∷ [])) at a in
             let l = w.returns.asks_within (answers_in e.made) c a' in
             let back : value ≡ slice_index_or (values e) c 0 = value_is ∙ (ap (units_next (jump e) (last_of (values e))) (kind_is RetransmissionResponse x.kind u) ∙ ap (units_at (values e)) a') in
             (l, at_new ∙ (ap Some back ∙ sym (old c _ (slice_get-get_or (values e) c 0 (omega (arith, long, l)))))));
