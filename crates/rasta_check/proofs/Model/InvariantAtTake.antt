@@ -21,7 +21,7 @@ use Rattle.rasta_check.proofs.Lists.{get_push_cases}
 use Rattle.rasta_check.proofs.Model.TakeRows.{Premise, Knows, bare_effect, take_bare}
 use Rattle.rasta_check.proofs.Model.Counts.{owes, tally, number_take_all, number_take_more, number_take_at, is_answer_owed, is_request_owed, owes-append, requests_in, answers_in, IsRequest}
 use Rattle.rasta_check.proofs.Model.NamedPositions.{SnIs, position_is, confirms_is}
-use Rattle.rasta_check.proofs.Model.Invariant.{Held, Opening, Asking, Accepting, is_response_owed, is_opener, has_peer, is_named, open_bit, bit_most}
+use Rattle.rasta_check.proofs.Model.Invariant.{ended, Held, Opening, Asking, Accepting, is_response_owed, is_opener, has_peer, is_named, open_bit, bit_most}
 
 -- ---- rows between the opening and the end
 
@@ -110,6 +110,11 @@ module _ (q : Parameters) (e f : EndState) (t u : ℕ) (m : Made) (p : ℕ) (k :
   more_answers : answers_in (take t f.made) ≤ answers_in (take (suc p) f.made)
   more_answers = number_take_more (is_kind RetransmissionResponse) f.made t (suc p) (omega (arith, k.above))
 
+  -- no ask joins
+  passes : (ph : Phase) (os : List Owed) → (ended e.side ph e.made ≡ false → answers_in e.made + owes is_answer_owed os ≡ length e.asks)
+      → requests_in e.made + owes is_request_owed os ≤ answers_in (take (suc p) f.made) + open_bit ph → Asking e.side ph e.made e.asks os (suc p) f.made
+  passes ph os owing open_requests = record { asked = k.mine.asks.asked; owing = owing; answered = k.mine.asks.answered; asks_taken = more_asks; open_requests = open_requests }
+
   -- a request that is answered is the one after those that were
   pub index : IsRequest m → requests_in (take p f.made) ≡ length e.asks
   index a =
@@ -162,18 +167,10 @@ module _ (q : Parameters) (e f : EndState) (t u : ℕ) (m : Made) (p : ℕ) (k :
     pub no_answers : answers_in e.made ≡ length e.asks
     no_answers = (let o = ap (owes is_answer_owed) free in omega (arith, o, k.mine.asks.owing (over_not e.phase _ away)))
 
-    -- no ask joins
+    -- no response is owed
     unasked : (ph : Phase) (os : List Owed) → owes is_answer_owed os ≡ 0
-        → answers_in (take t f.made) + open_bit e.phase + owes is_request_owed os ≤ answers_in (take (suc p) f.made) + open_bit ph
-        → Asking e.side ph e.made e.asks os (suc p) f.made
-    unasked ph os none room =
-        record {
-          asked = k.mine.asks.asked;
-          owing = λ _. omega (arith, no_answers, none);
-          answered = k.mine.asks.answered;
-          asks_taken = more_asks;
-          open_requests = (let o = ap (owes is_request_owed) free in omega (arith, o, room, k.mine.asks.open_requests));
-        }
+        → answers_in (take t f.made) + open_bit e.phase + owes is_request_owed os ≤ answers_in (take (suc p) f.made) + open_bit ph → Asking e.side ph e.made e.asks os (suc p) f.made
+    unasked ph os none room = passes ph os (λ _. omega (arith, no_answers, none)) (let o = ap (owes is_request_owed) free in omega (arith, o, room, k.mine.asks.open_requests))
 
     -- nothing more is owed
     unchanged : (ph : Phase) → open_bit e.phase ≤ open_bit ph → Asking e.side ph e.made e.asks e.owed (suc p) f.made
@@ -266,14 +263,7 @@ module _ (q : Parameters) (e f : EndState) (t u : ℕ) (m : Made) (p : ℕ) (k :
 
 pub own_take : (q : Parameters) (e f : EndState) (t u : ℕ) (m : Made) (p : ℕ) (k : Taken e f t u m p) → (is_closed e.phase ≡ false → e.owed ≡ []) → Held (after_take q e m.pdu) (suc p) f.made
 own_take q e f t u m p k free =
-    let old = k.mine.asks in
-    let asks : Asking e.side e.phase e.made e.asks e.owed (suc p) f.made = record {
-      asked = old.asked;
-      owing = old.owing;
-      answered = old.answered;
-      asks_taken = more_asks q e f t u m p k;
-      open_requests = omega (arith, old.open_requests, more_answers q e f t u m p k);
-    } in
+    let asks = passes q e f t u m p k e.phase e.owed k.mine.asks.owing (omega (arith, k.mine.asks.open_requests, more_answers q e f t u m p k)) in
     take_bare q e m.pdu (λ e'. Held e' (suc p) f.made) (λ i g h. h)
     (record { list = k.mine.list; opening = k.mine.opening; asks = asks; accepts = skipped q e f t u m p k; confirmed = k.mine.confirmed })
     (λ row away x. by_row q e f t u m p k (free away) away row x)

@@ -2,7 +2,8 @@
 use Rattle.std.proofs.Common.{◌≡◌, ℕ, suc, ◌-◌, ◌<◌, ◌≤◌, ◌⊎◌, true, false, List, [], ◌∷◌, ◌++◌, length, Option, Some, slice_get, take, refl, ap, sym, ◌∙◌, arith, inr, ⊎_elim, subst}
 use Rattle.std.specs.Prelude.{slice_index_or, map, filter}
 use Rattle.std.proofs.Math.Seq.{take-append_seam}
-use Rattle.std.proofs.lemmas.List.{take-append-le, append-nil, length_push, map-append}
+use Rattle.std.proofs.lemmas.List.{take-append-le, append-nil, length_push}
+use Rattle.std.proofs.Common.{length-append, ◌+◌}
 use Rattle.std.proofs.lemmas.List.Elements.{filter-append}
 use Rattle.std.proofs.lemmas.Option.{slice_get_within, slice_get-get_or}
 use Rattle.std.proofs.lemmas.Slice.Eq.{bytes_eq-Decides}
@@ -61,50 +62,41 @@ last_most (v ∷ vs) n h = h (length vs) (last_of (v ∷ vs)) (last_get (v ∷ v
 
 -- What a row adds to the contents of the units offered: nothing, or one.
 
-data Adds (ms : List Made) (n : ℕ) (k : Kind) (content : List ℕ) (unit : Option ℕ) (n' : ℕ) : Type 0 where
-  none : is_kind Data k ≡ false → n' ≡ n → ((j : ℕ) → unit ≡ Some j → (carries_unit k ≡ true) × (slice_get (contents ms) j ≡ Some content)) → Adds ms n k content unit n'
-  one : k ≡ Data → n' ≡ suc n → unit ≡ Some n → Adds ms n k content unit n'
+abbrev added : Kind → List ℕ → List (List ℕ)
+added Data content = content ∷ []
+added _ content = []
+
+record Adds (ms : List Made) (n : ℕ) (k : Kind) (content : List ℕ) (unit : Option ℕ) (n' : ℕ) : Type 0 where
+  size : n' ≡ n + length (added k content)
+  number_is : is_kind Data k ≡ true → unit ≡ Some n
+  has : (j : ℕ) → unit ≡ Some j → (carries_unit k ≡ true) × (slice_get (contents ms ++ added k content) j ≡ Some content)
 
 adds : (s : Side) (ph : Phase) (why : Why) (k : Kind) (os : List Owed) (row : MakeRow) (ms : List Made) (n : ℕ) (content : List ℕ)
-    → Making s ph why k os row → differs ms (Some row) content ≡ false → Adds ms n k content (unit_of row n) (offered_after row n)
-adds s ph why k os row ms n content (again {k = j} r) d =
-    none refl refl (λ i u. (refl, grind (arith, bytes_eq-Decides, d, u)))
-adds s ph why k os row ms n content (fresh r) d = one refl refl refl
-adds s ph why k os row ms n content _ d = none refl refl (λ i u. absurd (cc))
+    → length (contents ms) ≡ n → Making s ph why k os row → differs ms (Some row) content ≡ false → Adds ms n k content (unit_of row n) (offered_after row n)
+adds s ph why k os row ms n content l (again {k = j} r) d = record { size = omega arith; number_is = λ z. absurd (cc); has = λ i u. (refl, grind (arith, bytes_eq-Decides, d, u, append-nil (contents ms))) }
+adds s ph why k os row ms n content l (fresh r) d = record { size = omega arith; number_is = λ _. refl; has = λ i u. (refl, grind (arith, l, u, get_push (contents ms) content)) }
+adds s ph why k os row ms n content l _ d = record { size = omega arith; number_is = λ z. absurd (cc); has = λ i u. absurd (cc) }
 
-contents_push : (ms : List Made) (m : Made) → contents (ms ++ m ∷ []) ≡ contents ms ++ contents (m ∷ [])
-contents_push ms m =
-    ap (map (λ (n : Made). content_of n.pdu.body)) (filter-append (λ (n : Made). is_kind Data n.pdu.kind) ms (m ∷ []))
-    ∙ map-append (λ (n : Made). content_of n.pdu.body) (filter (λ (n : Made). is_kind Data n.pdu.kind) ms) (filter (λ (n : Made). is_kind Data n.pdu.kind) (m ∷ []))
+contents_push : (ms : List Made) (m : Made) → contents (ms ++ m ∷ []) ≡ contents ms ++ added m.pdu.kind (content_of m.pdu.body)
+contents_push [] m = grind arith
+contents_push (x ∷ ms) m = grind (arith, contents_push ms m)
 
 module _ (ms : List Made) (m : Made) (n : ℕ) (w : Carrying ms n) where
   old_fresh : (i : ℕ) (y : Made) → slice_get ms i ≡ Some y → is_kind Data y.pdu.kind ≡ true → y.unit ≡ Some (length (contents (take i (ms ++ m ∷ []))))
   old_fresh i y g d = (let l = slice_get_within ms i y g in rw (take-append-le i ms (m ∷ []) (omega (arith, l))) (w.fresh i y g d))
 
   more_contents : (k : ℕ) (content : List ℕ) → slice_get (contents ms) k ≡ Some content → slice_get (contents (ms ++ m ∷ [])) k ≡ Some content
-  more_contents k content g = rw (contents_push ms m) (get_front (contents ms) (contents (m ∷ [])) k content g)
+  more_contents k content g = rw (contents_push ms m) (get_front (contents ms) _ k content g)
 
   old_carried : (i : ℕ) (y : Made) → slice_get ms i ≡ Some y → (k : ℕ) → y.unit ≡ Some k → (carries_unit y.pdu.kind ≡ true) × (slice_get (contents (ms ++ m ∷ [])) k ≡ Some (content_of y.pdu.body))
   old_carried i y g k u = (let r = w.carried i y g k u in (r.0, more_contents k (content_of y.pdu.body) r.1))
 
   carries : (n' : ℕ) → Adds ms n m.pdu.kind (content_of m.pdu.body) m.unit n' → Carrying (ms ++ m ∷ []) n'
-  carries n' (none d s old) =
-      let empty : contents (m ∷ []) ≡ [] = rw d refl in
-      let still : contents (ms ++ m ∷ []) ≡ contents ms = contents_push ms m ∙ (ap (λ (cs : List (List ℕ)). contents ms ++ cs) empty ∙ append-nil (contents ms)) in
+  carries n' a =
       record {
-        counted = ap length still ∙ (w.counted ∙ sym s);
-        fresh = all_push ms m old_fresh (λ k. absurd (cc));
-        carried = all_push ms m old_carried (λ k u. (let r = old k u in (r.0, more_contents k (content_of m.pdu.body) r.1)));
-      }
-  carries n' (one d s unit) =
-      let data_is : is_kind Data m.pdu.kind ≡ true = ap (is_kind Data) d in
-      let new : contents (m ∷ []) ≡ content_of m.pdu.body ∷ [] = rw data_is refl in
-      let more : contents (ms ++ m ∷ []) ≡ contents ms ++ content_of m.pdu.body ∷ [] = contents_push ms m ∙ ap (λ (cs : List (List ℕ)). contents ms ++ cs) new in
-      let unit_is : m.unit ≡ Some (length (contents ms)) = unit ∙ ap Some (sym w.counted) in
-      record {
-        counted = (let l = ap length more in let k = length_push (contents ms) (content_of m.pdu.body) in omega (arith, l, k, s, w.counted));
-        fresh = all_push ms m old_fresh (λ k. rw (take-append_seam ms (m ∷ [])) unit_is);
-        carried = all_push ms m old_carried (λ k u. (ap carries_unit d, grind (arith, more, unit_is, u, get_push (contents ms) (content_of m.pdu.body))));
+        counted = (let l = ap length (contents_push ms m) in omega (arith, l, length-append (contents ms) (added m.pdu.kind (content_of m.pdu.body)), a.size, w.counted));
+        fresh = all_push ms m old_fresh (λ k. rw (take-append_seam ms (m ∷ []), w.counted) (a.number_is k));
+        carried = all_push ms m old_carried (λ k u. rw (contents_push ms m) (a.has k u));
       }
 
 module _ (p : Parameters) (e : EndState) (x : SafetyPdu) (clock : ℕ) (why : Why) (t : ℕ) (peer : List Made) (b : MadeBy e x why) (pass : Passed p e x clock why) (h : Held e t peer) (w : Valued e) where
@@ -138,13 +130,7 @@ module _ (p : Parameters) (e : EndState) (x : SafetyPdu) (clock : ℕ) (why : Wh
       leads e.side e.phase why x.kind e.owed b.row (jump e) (last_of (values e)) e.offered (λ s c. (h.opening.unmade s (nothing_made e.side e.phase e.made c pass.open_yet)).1) b.how (w.due pass.open_yet)
 
   value_most : value ≤ after.offered
-  value_most =
-      ⊎_elim
-      (λ (o : (after.phase ≡ Closed) × (is_plain x.kind ≡ true)).
-      let z : value ≡ last_of (values e) = grind (arith, value_is, o.1) in
-      omega (arith, z, last_most (values e) e.offered w.positions.bounded, offered_least b.row e.offered))
-      (λ (d : DueRest next after.offered after.owed). omega (arith, value_is, due_le next after.offered after.owed d))
-      step
+  value_most = grind (arith, step, value_is, last_most (values e) e.offered w.positions.bounded, offered_least b.row e.offered, due_le next after.offered after.owed)
 
   due_after : has_ended after ≡ false → Due (jump after) (last_of (values after)) after.offered after.owed
   due_after o =
@@ -208,5 +194,5 @@ module _ (p : Parameters) (e : EndState) (x : SafetyPdu) (clock : ℕ) (why : Wh
         grown = λ _. omega (arith, length_push e.made new);
         positions = rw pushed conveys;
         returns = rw pushed returns;
-        contents = carries e.made new e.offered w.contents after.offered (adds e.side e.phase why x.kind e.owed b.row e.made e.offered (content_of x.body) b.how (rw b.is at pass.same));
+        contents = carries e.made new e.offered w.contents after.offered (adds e.side e.phase why x.kind e.owed b.row e.made e.offered (content_of x.body) w.contents.counted b.how (rw b.is at pass.same));
       }

@@ -1,8 +1,6 @@
 -- A first copy crosses as its PDU is made.
-use Rattle.std.proofs.Common.{◌≡◌, ℕ, suc, ◌+◌, ◌≤◌, List, Some, length, slice_get, ap, arith}
+use Rattle.std.proofs.Common.{◌≡◌, ℕ, suc, ◌+◌, ◌<◌, ◌≤◌, List, Some, length, slice_get, ap, arith}
 use Rattle.std.proofs.lemmas.Option.{slice_get_within}
-use native.Mathlib.Decide.{dec_lt}
-use Prim.{yes, no}
 use Rattle.rasta_pcap.specs.declared.fault.Side.{Side}
 use Rattle.rasta_udp.specs.Frame.{Packet}
 use Rattle.rasta_pdu.specs.Params.{Parameters, AreParameters}
@@ -23,11 +21,9 @@ made_there : (p : Parameters) (b : ℕ) (m m' : ℕ) (xs : List Packet) (s : Sid
     → slice_get own' j ≡ Some d → length xs ≡ d.place → ((c : FirstCopy) → slice_get own j ≡ Some c → c ≡ d) → (m ≡ b + j) × (m' ≡ suc (b + j))
 made_there p b m m' xs s own own' j d h e f l g pl same =
     let low = slice_get_within own' j d g in
-    let high : length own ≤ j = elim (dec_lt j (length own)) [
-      | yes z ↦ absurd (let r = slice_get_some own j z in let w = h.firsts j r.0 r.1 in let i = slice_get_within xs r.0.place w.0 w.1 in let q = ap (λ (c : FirstCopy). c.place) (same r.0 r.1) in omega arith)
-      | no z ↦ omega arith
-    ] in
-    (omega arith, omega arith)
+    let old : j < length own → ⊥ =
+    λ z. (let r = slice_get_some own j z in let w = h.firsts j r.0 r.1 in let i = slice_get_within xs r.0.place w.0 w.1 in let q = ap (λ (c : FirstCopy). c.place) (same r.0 r.1) in omega arith) in
+    (omega (arith, old), omega (arith, old))
 
 pub made_then : (p : Parameters) (ws : List World) (w : World) (side : Side) (own peer : List FirstCopy) → Reaches p ws w
     → IsSent p w.crossed side own → IsSent p w.crossed (other_side side) peer → length own ≤ 1000000 → length peer ≤ 1000000

@@ -71,9 +71,8 @@ handed_or P true i e x h more = more h
 handed_or P false i e x h more = h
 
 leaves_by : (p : Parameters) (row : Option TakeRow) (e : EndState) (x : SafetyPdu) → LeftAlone e (effect_by p row e x)
-leaves_by p (Some InSequence) e x = handed_or (LeftAlone e) (carries_unit x.kind) e.accepted (enter Up (accept p e x)) x (record { side = refl; base = refl; made = refl; offered = refl; clock = refl }) (λ h. h)
-leaves_by p (Some ResentInSequence) e x = handed_or (LeftAlone e) (carries_unit x.kind) e.accepted (accept p e x) x (record { side = refl; base = refl; made = refl; offered = refl; clock = refl }) (λ h. h)
-leaves_by p _ e x = record { side = refl; base = refl; made = refl; offered = refl; clock = refl }
+leaves_by p (Some InSequence) e x = grind arith
+leaves_by p _ e x = grind arith
 
 pub take_leaves : (p : Parameters) (e : EndState) (x : SafetyPdu) → LeftAlone e (after_take p e x)
 take_leaves p e x = leaves_by p (take_row p e x) e x
