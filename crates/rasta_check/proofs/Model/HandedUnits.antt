@@ -100,7 +100,7 @@ module _ (p : Parameters) (e f : EndState) (x : SafetyPdu) (clock : ℕ) (why : 
   await_by _ ph none = absurd (cc)
 
   pub handed_make : Handed (after_make_by (Some by.row) e x clock) f
-  handed_make = record { count = w.count; labels = w.labels; as_many = w.as_many; awaited = await_by (changed e.side e.phase why x.kind e.owed by.row by.how) }
+  handed_make = record { count = w.count; labels = w.labels; as_many = w.as_many; awaited = await_by (changed by.how) }
 
 -- The end itself takes.
 

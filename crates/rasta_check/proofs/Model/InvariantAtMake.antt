@@ -38,16 +38,16 @@ pub data Changed (s : Side) (ph : Phase) (k : Kind) (os : List Owed) : Phase →
 
 -- ---- the rows
 
-pub changed : (s : Side) (ph : Phase) (why : Why) (k : Kind) (os : List Owed) (row : MakeRow) → Making s ph why k os row → Changed s ph k os (phase_after row ph) (owed_after row os)
-changed s ph why k os row opening = opened refl refl refl
-changed s ph why k os row (response {os = rest}) = goes_on refl refl refl (λ _. (rest, refl)) (omega arith)
-changed s ph why k os row first_beat = goes_on refl refl refl (λ e. absurd (cc)) (omega arith)
-changed s ph why k os row (answer r) = goes_on (grind (arith, r)) refl refl (λ e. absurd (cc)) (omega arith)
-changed s ph why k os row (again r) = goes_on (grind (arith, r)) refl refl (λ e. absurd (cc)) (omega arith)
-changed s ph why k os row (ask r) = goes_on (grind (arith, r)) refl refl (λ e. absurd (cc)) (omega arith)
-changed s ph why k os row (beat r) = goes_on (grind (arith, r)) refl refl (λ e. absurd (cc)) (omega arith)
-changed s ph why k os row (fresh r) = goes_on (grind (arith, r)) refl refl (λ e. absurd (cc)) (omega arith)
-changed s ph why k os row _ = over refl
+pub changed : {s : Side} {ph : Phase} {why : Why} {k : Kind} {os : List Owed} {row : MakeRow} → Making s ph why k os row → Changed s ph k os (phase_after row ph) (owed_after row os)
+changed opening = opened refl refl refl
+changed (response {os = rest}) = goes_on refl refl refl (λ _. (rest, refl)) (omega arith)
+changed first_beat = goes_on refl refl refl (λ e. absurd (cc)) (omega arith)
+changed (answer r) = goes_on (grind (arith, r)) refl refl (λ e. absurd (cc)) (omega arith)
+changed (again r) = goes_on (grind (arith, r)) refl refl (λ e. absurd (cc)) (omega arith)
+changed (ask r) = goes_on (grind (arith, r)) refl refl (λ e. absurd (cc)) (omega arith)
+changed (beat r) = goes_on (grind (arith, r)) refl refl (λ e. absurd (cc)) (omega arith)
+changed (fresh r) = goes_on (grind (arith, r)) refl refl (λ e. absurd (cc)) (omega arith)
+changed _ = over refl
 
 -- ---- the parts of an end
 
@@ -150,7 +150,7 @@ pub own_make : (p : Parameters) (e : EndState) (x : SafetyPdu) (clock : ℕ) (wh
     → Passed p e x clock why → Held e t peer → Held (after_make_by (Some by.row) e x clock) t peer
 own_make p e x clock why t peer by pass h =
     let n : Made = new_made by.row e x in
-    let how = changed e.side e.phase why x.kind e.owed by.row by.how in
+    let how = changed by.how in
     record {
       list = record {
         numbered = numbered_push e.made n h.list.numbered (un_not _ pass.sn);

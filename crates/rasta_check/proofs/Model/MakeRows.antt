@@ -83,9 +83,9 @@ making s ph reason Expired DisconnectionRequest os e f = row_by TimesOut _ os e 
 making s ph reason _ _ os e f = absurd (cc)
 
 -- a connection request is made by a closed client
-pub opening_is : (s : Side) (ph : Phase) (why : Why) (k : Kind) (os : List Owed) (row : MakeRow) → Making s ph why k os row → is_kind ConnectionRequest k ≡ true → (s ≡ Client) × (ph ≡ Closed) × (row ≡ Opens)
-opening_is s ph why k os row opening h = (refl, refl, refl)
-opening_is s ph why k os row _ h = absurd (cc)
+pub opening_is : {s : Side} {ph : Phase} {why : Why} {k : Kind} {os : List Owed} {row : MakeRow} → Making s ph why k os row → is_kind ConnectionRequest k ≡ true → (s ≡ Client) × (ph ≡ Closed) × (row ≡ Opens)
+opening_is opening h = (refl, refl, refl)
+opening_is _ h = absurd (cc)
 
 -- ---- the row of a make
 

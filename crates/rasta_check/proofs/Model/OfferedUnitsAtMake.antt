@@ -37,21 +37,21 @@ use Rattle.rasta_check.proofs.Model.OfferedUnits.{Valued, Conveying, Returning, 
 abbrev Leads : ℕ → ℕ → ℕ → Phase → Kind → MakeRow → List Owed → Type 0
 Leads u v n ph k row os = ((phase_after row ph ≡ Closed) × (is_plain k ≡ true)) ⊎ DueRest (units_next u v k) (offered_after row n) (owed_after row os)
 
-leads : (s : Side) (ph : Phase) (why : Why) (k : Kind) (os : List Owed) (row : MakeRow) (u v n : ℕ) → (s ≡ Client → ph ≡ Closed → os ≡ []) → Making s ph why k os row → Due u v n os → Leads u v n ph k row os
-leads s ph why k os row u v n free opening d = inr (subst (DueRest v n) (sym (free refl refl)) (bare_rest u v n os (free refl refl) d))
-leads s ph why k os row u v n free _ d = grind (arith, d)
+leads : {s : Side} {ph : Phase} {why : Why} {k : Kind} {os : List Owed} {row : MakeRow} (u v n : ℕ) → (s ≡ Client → ph ≡ Closed → os ≡ []) → Making s ph why k os row → Due u v n os → Leads u v n ph k row os
+leads {os = os} u v n free opening d = (let none = free refl refl in inr (rw none (bare_rest u v n os none d)))
+leads u v n free _ d = grind (arith, d)
 
 -- a unit is made by an end that is connected; it is the next one
-unit_made : (s : Side) (ph : Phase) (why : Why) (k : Kind) (os : List Owed) (row : MakeRow) (u v n : ℕ) → Making s ph why k os row → Due u v n os → carries_unit k ≡ true → unit_of row n ≡ Some v
-unit_made s ph why k os row u v n (again r) d h = ap Some d.0
-unit_made s ph why k os row u v n (fresh r) d h = ap Some (sym d)
-unit_made s ph why k os row u v n _ d h = absurd (cc)
+unit_made : {s : Side} {ph : Phase} {why : Why} {k : Kind} {os : List Owed} {row : MakeRow} (u v n : ℕ) → Making s ph why k os row → Due u v n os → carries_unit k ≡ true → unit_of row n ≡ Some v
+unit_made u v n (again r) d h = ap Some d.0
+unit_made u v n (fresh r) d h = ap Some (sym d)
+unit_made u v n _ d h = absurd (cc)
 
-unit_runs : (s : Side) (ph : Phase) (why : Why) (k : Kind) (os : List Owed) (row : MakeRow) → Making s ph why k os row → is_plain k ≡ false → is_connected ph ≡ true
-unit_runs s ph why k os row (answer r) h = r
-unit_runs s ph why k os row (again r) h = r
-unit_runs s ph why k os row (fresh r) h = r
-unit_runs s ph why k os row _ h = absurd (cc)
+unit_runs : {s : Side} {ph : Phase} {why : Why} {k : Kind} {os : List Owed} {row : MakeRow} → Making s ph why k os row → is_plain k ≡ false → is_connected ph ≡ true
+unit_runs (answer r) h = r
+unit_runs (again r) h = r
+unit_runs (fresh r) h = r
+unit_runs _ h = absurd (cc)
 
 offered_least : (row : MakeRow) (n : ℕ) → n ≤ offered_after row n
 offered_least row n = grind arith
@@ -71,11 +71,11 @@ record Adds (ms : List Made) (n : ℕ) (k : Kind) (content : List ℕ) (unit : O
   number_is : is_kind Data k ≡ true → unit ≡ Some n
   has : (j : ℕ) → unit ≡ Some j → (carries_unit k ≡ true) × (slice_get (contents ms ++ added k content) j ≡ Some content)
 
-adds : (s : Side) (ph : Phase) (why : Why) (k : Kind) (os : List Owed) (row : MakeRow) (ms : List Made) (n : ℕ) (content : List ℕ)
+adds : {s : Side} {ph : Phase} {why : Why} {k : Kind} {os : List Owed} {row : MakeRow} (ms : List Made) (n : ℕ) (content : List ℕ)
     → length (contents ms) ≡ n → Making s ph why k os row → differs ms (Some row) content ≡ false → Adds ms n k content (unit_of row n) (offered_after row n)
-adds s ph why k os row ms n content l (again {k = j} r) d = record { size = omega arith; number_is = λ z. absurd (cc); has = λ i u. (refl, grind (arith, bytes_eq-Decides, d, u, append-nil (contents ms))) }
-adds s ph why k os row ms n content l (fresh r) d = record { size = omega arith; number_is = λ _. refl; has = λ i u. (refl, grind (arith, l, u, get_push (contents ms) content)) }
-adds s ph why k os row ms n content l _ d = record { size = omega arith; number_is = λ z. absurd (cc); has = λ i u. absurd (cc) }
+adds ms n content l (again {k = j} r) d = record { size = omega arith; number_is = λ z. absurd (cc); has = λ i u. (refl, grind (arith, bytes_eq-Decides, d, u, append-nil (contents ms))) }
+adds ms n content l (fresh r) d = record { size = omega arith; number_is = λ _. refl; has = λ i u. (refl, grind (arith, l, u, get_push (contents ms) content)) }
+adds ms n content l _ d = record { size = omega arith; number_is = λ z. absurd (cc); has = λ i u. absurd (cc) }
 
 contents_push : (ms : List Made) (m : Made) → contents (ms ++ m ∷ []) ≡ contents ms ++ added m.pdu.kind (content_of m.pdu.body)
 contents_push [] m = grind arith
@@ -116,7 +116,7 @@ module _ (p : Parameters) (e : EndState) (x : SafetyPdu) (clock : ℕ) (why : Wh
   long = length-values e.asks e.made
 
   some_made : is_plain x.kind ≡ false → 0 < length e.made
-  some_made u = w.grown (unit_runs e.side e.phase why x.kind e.owed b.row b.how u)
+  some_made u = w.grown (unit_runs b.how u)
 
   abbrev next : ℕ
   next = units_next (jump e) (last_of (values e)) x.kind
@@ -127,7 +127,7 @@ module _ (p : Parameters) (e : EndState) (x : SafetyPdu) (clock : ℕ) (why : Wh
   step : Leads (jump e) (last_of (values e)) e.offered e.phase x.kind b.row e.owed
   step =
       -- a client that has made nothing owes nothing
-      leads e.side e.phase why x.kind e.owed b.row (jump e) (last_of (values e)) e.offered (λ s c. (h.opening.unmade s (nothing_made e.side e.phase e.made c pass.open_yet)).1) b.how (w.due pass.open_yet)
+      leads (jump e) (last_of (values e)) e.offered (λ s c. (h.opening.unmade s (nothing_made e.side e.phase e.made c pass.open_yet)).1) b.how (w.due pass.open_yet)
 
   value_most : value ≤ after.offered
   value_most = grind (arith, step, value_is, last_most (values e) e.offered w.positions.bounded, offered_least b.row e.offered, due_le next after.offered after.owed)
@@ -163,7 +163,7 @@ module _ (p : Parameters) (e : EndState) (x : SafetyPdu) (clock : ℕ) (why : Wh
             (λ i n g u. (let r = w.positions.units i n g u in (r.0, r.1, r.2, r.3, old r.0 r.1 r.4, old i (suc r.1) r.5)))
             (λ u.
             let last : length e.made ≡ suc (length e.made - 1) = omega (arith, some_made (grind arith)) in
-            let unit = unit_made e.side e.phase why x.kind e.owed b.row (jump e) (last_of (values e)) e.offered b.how (w.due pass.open_yet) u in
+            let unit = unit_made (jump e) (last_of (values e)) e.offered b.how (w.due pass.open_yet) u in
             (length e.made - 1, last_of (values e), last, unit, previous (length e.made - 1) last, at_new ∙ ap Some (grind (arith, value_is))));
         others = all_push e.made new
             (λ i n g u q s. (let l = slice_get_within e.made i n g in both_old i q (w.positions.others i n g u q s) l (omega (arith, l, s))))
@@ -194,5 +194,5 @@ module _ (p : Parameters) (e : EndState) (x : SafetyPdu) (clock : ℕ) (why : Wh
         grown = λ _. omega (arith, length_push e.made new);
         positions = rw pushed conveys;
         returns = rw pushed returns;
-        contents = carries e.made new e.offered w.contents after.offered (adds e.side e.phase why x.kind e.owed b.row e.made e.offered (content_of x.body) w.contents.counted b.how (rw b.is at pass.same));
+        contents = carries e.made new e.offered w.contents after.offered (adds e.made e.offered (content_of x.body) w.contents.counted b.how (rw b.is at pass.same));
       }

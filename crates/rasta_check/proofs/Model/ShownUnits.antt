@@ -86,7 +86,7 @@ module _ (p : Parameters) (e f : EndState) (x : SafetyPdu) (clock : ℕ) (why : 
       record {
         shown = all_push e.made (new_made b.row e x) w.shown (new_shown e.accepted refl);
         first_words = λ a c.
-            let r = first_made (changed e.side e.phase why x.kind e.owed b.row b.how) a c in
+            let r = first_made (changed b.how) a c in
             all_push e.made _ (λ i m g. absurd (let z = rw r.0 at g in cc)) (ap (is_kind ConnectionRequest) r.1);
         ready_run = w.ready_run;
         ready_offer = w.ready_offer;
@@ -97,9 +97,9 @@ module _ (p : Parameters) (e f : EndState) (x : SafetyPdu) (clock : ℕ) (why : 
 shown_peer : (e f f' : EndState) → Grown f f' → Shown e f → (is_connected f'.phase ≡ true → 0 < e.accepted) → (0 < f'.offered → 0 < e.accepted) → Shown e f'
 shown_peer e f f' g w run offer = record { shown = λ i m there k. ⊎_map (λ z. z) (shows_grown f f' _ _ m.pdu.cs (omega arith) g) (w.shown i m there k); first_words = w.first_words; ready_run = run; ready_offer = offer }
 
-offers_by : (s : Side) (ph : Phase) (why : Why) (k : Kind) (os : List Owed) (row : MakeRow) (n : ℕ) → Making s ph why k os row → 0 < offered_after row n → (0 < n) ⊎ (is_connected ph ≡ true)
-offers_by s ph why k os row n (fresh r) l = inr r
-offers_by s ph why k os row n _ l = inl l
+offers_by : {s : Side} {ph : Phase} {why : Why} {k : Kind} {os : List Owed} {row : MakeRow} (n : ℕ) → Making s ph why k os row → 0 < offered_after row n → (0 < n) ⊎ (is_connected ph ≡ true)
+offers_by n (fresh r) l = inr r
+offers_by n _ l = inl l
 
 -- a make connects no end
 connected_by : {s : Side} {ph ph' : Phase} {k : Kind} {os os' : List Owed} → Changed s ph k os ph' os' → is_connected ph' ≡ true → is_connected ph ≡ true
@@ -109,8 +109,8 @@ connected_by _ r = absurd (cc)
 pub shown_peer_make : (e f : EndState) (x : SafetyPdu) (clock : ℕ) (why : Why) (b : MadeBy f x why) → Grown f (after_make_by (Some b.row) f x clock) → Shown e f → Shown e (after_make_by (Some b.row) f x clock)
 shown_peer_make e f x clock why b grown w =
     shown_peer e f _ grown w
-    (λ r. w.ready_run (connected_by (changed f.side f.phase why x.kind f.owed b.row b.how) r))
-    (λ l. ⊎_elim w.ready_offer w.ready_run (offers_by f.side f.phase why x.kind f.owed b.row f.offered b.how l))
+    (λ r. w.ready_run (connected_by (changed b.how) r))
+    (λ l. ⊎_elim w.ready_offer w.ready_run (offers_by f.offered b.how l))
 
 -- The end itself takes.
 

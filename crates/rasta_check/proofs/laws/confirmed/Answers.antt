@@ -21,7 +21,7 @@ not_opening : (p : Parameters) (e : EndState) (x : SafetyPdu) (clock : ℕ) (why
 not_opening p e x clock why t i peer pass h a false b = b
 not_opening p e x clock why t i peer pass h a true b =
     let by = made_by p e x clock why pass in
-    let o = opening_is e.side e.phase why x.kind e.owed by.row by.how b in
+    let o = opening_is by.how b in
     let none = h.opening.unmade o.0 (nothing_made e.side e.phase e.made o.1 pass.open_yet) in
     absurd (omega (arith, a, none.0))
 
