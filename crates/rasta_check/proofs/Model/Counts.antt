@@ -51,9 +51,6 @@ pub number_push : (f : Kind → Bool) (ms : List Made) (m : Made) → number f (
 number_push f [] m = refl
 number_push f (x ∷ ms) m = grind (arith, number_push f ms m)
 
-pub number_push_as : (f : Kind → Bool) (ms : List Made) (m : Made) (b : Bool) → f m.pdu.kind ≡ b → number f (ms ++ m ∷ []) ≡ tally b (number f ms)
-number_push_as f ms m b e = grind (arith, number_push f ms m)
-
 pub number_take_more : (f : Kind → Bool) (ms : List Made) (i j : ℕ) → i ≤ j → number f (take i ms) ≤ number f (take j ms)
 number_take_more f ms zero j h = omega arith
 number_take_more f ms (suc i) zero h = absurd (omega arith)

@@ -4,7 +4,7 @@ use Rattle.std.specs.Prelude.{slice_index_or, if◌then◌else◌, filter, drop}
 use Rattle.std.proofs.lemmas.Bool.Decides.{nat_tests}
 use Rattle.std.proofs.Math.Seq.{take-append_seam}
 use Rattle.std.proofs.lemmas.List.{take-append-le, length_push}
-use Rattle.std.proofs.lemmas.Option.{slice_get_within, slice_get-get_or, get_or_from_slice_get}
+use Rattle.std.proofs.lemmas.Option.{slice_get_within, slice_get-get_or, get_or_from_slice_get, unwrap_or-slice_get}
 use Rattle.rasta_pdu.specs.declared.kind.Kind.TheVariants.{RetransmissionRequest, RetransmissionResponse, Data}
 use Rattle.rasta_pdu.specs.Params.{Parameters}
 use Rattle.rasta_pdu.specs.Messages.{messages_of}
@@ -25,8 +25,8 @@ use Rattle.rasta_check.proofs.Lists.{all_push, get_front, get_push, get_mapped}
 use Rattle.rasta_check.proofs.Model.PassedTests.{Passed, cs_is}
 use Rattle.rasta_check.proofs.Model.MakeRows.{MadeBy, new_made}
 use Rattle.rasta_check.proofs.Model.Steps.{Grown}
-use Rattle.rasta_check.proofs.Model.TakeRows.{Knows, take_by}
-use Rattle.rasta_check.proofs.Model.Counts.{owes, tally, number_push_as, number_take_all, number_take_more, number_take_at, is_request_owed, owes-append, requests_in, answers_in, IsRequest, IsAnswer}
+use Rattle.rasta_check.proofs.Model.TakeRows.{Knows, by_unit, take_by}
+use Rattle.rasta_check.proofs.Model.Counts.{owes, tally, number_push, number_take_all, number_take_more, number_take_at, is_request_owed, owes-append, requests_in, answers_in, IsRequest, IsAnswer}
 use Rattle.rasta_check.proofs.Model.SequenceNumbers.{numbered_once}
 use Rattle.rasta_check.proofs.Model.Invariant.{Held, open_bit}
 use Rattle.rasta_check.proofs.Model.InvariantAtMake.{Changed, changed, goes_on}
@@ -85,15 +85,13 @@ module _ (p : Parameters) (e f : EndState) (x : SafetyPdu) (clock : ℕ) (why : 
   new_ask : (c : Bool) → is_kind RetransmissionRequest x.kind ≡ c → e.phase ≡ RetrReq
       → tally c (owes is_request_owed (drop 1 e.owed)) ≡ owes is_request_owed e.owed → owes is_request_owed (drop 1 e.owed) ≡ 0 → LastRequest (e.made ++ new ∷ []) e.last_sn
   new_ask true c ph d none =
-      let num = number_push_as (is_kind RetransmissionRequest) e.made new true c in
       let here = ap requests_in (take-append_seam e.made (new ∷ [])) in
-      (length e.made, new, get_push e.made new, c, (cs_is e x.kind x.cs (grind (arith, c)) pass.cs).1, omega (arith, num, here))
+      (length e.made, new, get_push e.made new, c, (cs_is e x.kind x.cs (grind (arith, c)) pass.cs).1, grind (arith, number_push (is_kind RetransmissionRequest) e.made new, c, here))
   new_ask false c ph d none =
       let r = w.awaited ph (sym d ∙ none) in
       let l = slice_get_within e.made r.0 r.1 r.2 in
       let same = ap requests_in (take-append-le r.0 e.made (new ∷ []) (omega (arith, l))) in
-      let num = number_push_as (is_kind RetransmissionRequest) e.made new false c in
-      (r.0, r.1, get_front e.made (new ∷ []) r.0 r.1 r.2, r.3, r.4, omega (arith, same, r.5, num))
+      (r.0, r.1, get_front e.made (new ∷ []) r.0 r.1 r.2, r.3, r.4, grind (arith, number_push (is_kind RetransmissionRequest) e.made new, c, same, r.5))
 
   await_by : {ph : Phase} {os : List Owed} → Changed e.side e.phase x.kind e.owed ph os → ph ≡ RetrReq → owes is_request_owed os ≡ 0 → LastRequest (e.made ++ new ∷ []) e.last_sn
   await_by (goes_on a c d g j) ph none = new_ask (is_kind RetransmissionRequest x.kind) refl ph d none
@@ -108,10 +106,11 @@ module _ (q : Parameters) (e f : EndState) (t u : ℕ) (m : Made) (p : ℕ) (k :
   -- the end accepts position p, through which as many are conveyed as through the last one
   same_worth : (i : ℕ) → e.accepted ≡ suc i → slice_get (values f) p ≡ slice_get (values f) i → worth (values f) (suc (e.accepted + steps_past_next e m.pdu)) ≡ worth (values f) e.accepted
   same_worth i a s =
-      let pl : e.accepted + steps_past_next e m.pdu ≡ p = place q e f t u m p k i a in
-      let l : p < length (values f) = omega (arith, length-values f.asks f.made, slice_get_within f.made p m k.there) in
-      let g : slice_get (values f) p ≡ Some (slice_index_or (values f) p 0) = slice_get-get_or (values f) p 0 l in
-      worth_at (values f) (suc (e.accepted + steps_past_next e m.pdu)) p _ (ap suc pl) g ∙ sym (worth_at (values f) e.accepted i _ a (sym s ∙ g))
+      let pl = place q e f t u m p k i a in
+      let now = unwrap_or-slice_get (values f) p 0 in
+      let before = unwrap_or-slice_get (values f) i 0 in
+      let z = ap (worth (values f)) a in
+      cc
 
   -- nothing is handed up
   keeps : {a sn : ℕ} {ph : Phase} {os : List Owed} → worth (values f) a ≡ worth (values f) e.accepted → (ph ≡ RetrReq → owes is_request_owed os ≡ 0 → ⊥) → HandsOver e.handed e.handed_pdus a sn ph os e.made f.made (values f)
@@ -172,19 +171,14 @@ module _ (q : Parameters) (e f : EndState) (t u : ℕ) (m : Made) (p : ℕ) (k :
   first_by : {sn : ℕ} {ph : Phase} {os : List Owed} → (ph ≡ RetrReq → ⊥) → e.accepted ≡ 0 → HandsOver e.handed e.handed_pdus 1 sn ph os e.made f.made (values f)
   first_by never z = keeps (vf.positions.zeroth ∙ sym (ap (worth (values f)) z)) (λ r n. never r)
 
-  -- a unit is handed up, a plain PDU isn't
-  by_unit : (b : Bool) (g : EndState) → (b ≡ true → Handed (hand_up e.accepted g m.pdu) f) → (b ≡ false → Handed g f) → Handed (if b then hand_up e.accepted g m.pdu else g) f
-  by_unit true g h l = h refl
-  by_unit false g h l = l refl
-
   h_row : e.owed ≡ [] → (r : TakeRow) → Knows q r e m.pdu → Handed (effect q r e m.pdu) f
   h_row free Opened x = first_by (λ r. cc (r)) (k.mine.opening.down x.0).2
   h_row free Answered x = first_by (λ r. cc (r)) (k.mine.opening.starting x.0 x.1)
   h_row free FirstHeartbeat x = plain FirstHeartbeat x refl x.4 (ap is_plain x.2) (λ r. cc (r))
   h_row free InSequence x =
-      by_unit (carries_unit m.pdu.kind) _ (λ c. hands InSequence x refl x.3 c (λ r. cc (r))) (λ c. plain InSequence x refl x.3 (grind (arith, x.1, c)) (λ r. cc (r)))
+      by_unit (λ e'. Handed e' f) (carries_unit m.pdu.kind) e.accepted _ m.pdu (λ c. hands InSequence x refl x.3 c (λ r. cc (r))) (λ c. plain InSequence x refl x.3 (grind (arith, x.1, c)) (λ r. cc (r)))
   h_row free ResentInSequence x =
-      by_unit (carries_unit m.pdu.kind) _ (λ c. hands ResentInSequence x refl x.3 c (λ r. cc (x.0, r))) (λ c. absurd (let unit = ap carries_unit x.1 in cc))
+      by_unit (λ e'. Handed e' f) (carries_unit m.pdu.kind) e.accepted _ m.pdu (λ c. hands ResentInSequence x refl x.3 c (λ r. cc (x.0, r))) (λ c. absurd (let unit = ap carries_unit x.1 in cc))
   h_row free Resumed x = (let a = last_place Resumed x refl in keeps (same_worth a.0 a.1 (resumed x.0 free x.1 a.0 a.1)) (λ r n. cc (r)))
   h_row free Requested x = plain Requested x refl x.3 (ap is_plain x.1) (λ r. (let z = ap is_flowing r in cc))
   h_row free RequestedAhead x = keeps refl (λ r n. (let a = owes-append is_request_owed (burst e (position_confirmed e m.pdu)) (OweRetransmissionRequest ∷ []) in omega arith))

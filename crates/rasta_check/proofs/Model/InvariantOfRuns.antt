@@ -112,7 +112,7 @@ all_kept p b a a' xs ys move (repeats place channel old there s rec) g = g
 all_kept p b a a' xs ys move (arrives position i j) g = λ l r. (let h = g l r in record { mine = h.mine; theirs = h.theirs })
 all_kept p b a a' xs ys move (takes position m after c i s t) g = λ l r. (
     let same : after.made ≡ a.state.made = ap (λ (e : EndState). e.made) t.1 ∙ take_made p a.state m.pdu in
-    let few : length a.state.made ≤ 1000001 = subst (λ (ms : List Made). length ms ≤ 1000001) same l in
+    let few : length a.state.made ≤ 1000001 = rw same at l in
     let h = g few r in
     let now : after_take p a.state m.pdu ≡ after = sym t.1 in
     let k : Taken a.state b.state a.taken b.taken m position = record { mine = h.mine.held; theirs = h.theirs.held; there = s; above = i; few = few; few_theirs = r } in
@@ -127,7 +127,7 @@ all_kept p b a a' xs ys move (takes position m after c i s t) g = λ l r. (
         shown = shown_take p a.state b.state m.pdu a.taken h.mine.held h.mine.shown;
       };
       theirs = record {
-        held = subst (λ (ms : List Made). Held b.state b.taken ms) (sym made) h.theirs.held;
+        held = rw made h.theirs.held;
         values = h.theirs.values;
         handed = handed_peer b.state a.state _ (let z = h.theirs.held.accepts in omega (arith, z.reached, z.within)) (grown_take p a.state m.pdu h.mine.held.asks.asked) h.theirs.handed;
         shown = shown_peer_take p b.state a.state b.taken m position h.theirs.held s h.mine.held.asks.asked h.theirs.shown;
@@ -137,13 +137,11 @@ all_kept p b a a' xs ys move (waits clock i) g = λ l r. (let h = g l r in recor
 
 -- ---- every run
 
-station_by : Option Quiet → Side → ℕ → Station
-station_by quiet side number = record { state = start_by quiet side; clock = (start_by quiet side).clock; arrived = []; taken = (start_by quiet side).base; first_number = number }
-
-first_all : (quiet : Option Quiet) (m n : ℕ) → All (station_by quiet Client m) (station_by quiet Server n)
-unfolding station_by
-first_all None m n = record { mine = grind arith; theirs = grind arith }
-first_all (Some quiet) m n = record { mine = quiet_in_run Client Server quiet.client quiet.server; theirs = quiet_in_run Server Client quiet.server quiet.client }
+first_in_run : (quiet : Option Quiet) (side : Side) → InRun (start_by quiet side) (start_by quiet side).base (start_by quiet (other_side side))
+first_in_run None Client = grind arith
+first_in_run None Server = grind arith
+first_in_run (Some q) Client = quiet_in_run Client Server q.client q.server
+first_in_run (Some q) Server = quiet_in_run Server Client q.server q.client
 
 -- no end has made more than 1,000,001 PDUs
 pub few_made : (p : Parameters) (w : World) → IsWithin p w → (side : Side) → length (end_of w side).made ≤ 1000001
@@ -153,6 +151,5 @@ turned : (a b : Station) → Whole a b → Whole b a
 turned a b g l m = (let h = g m l in record { mine = h.theirs; theirs = h.mine })
 
 pub all_held : (p : Parameters) (ws : List World) (w : World) (side : Side) → Reaches p ws w → IsWithin p w → All (station_of w side) (station_of w (other_side side))
-unfolding station_by
 all_held p ws w side r within =
-    always p Whole turned (λ m n l k. first_all p.quiet m n) (all_kept p) ws w side r (few_made p w within side) (few_made p w within (other_side side))
+    always p Whole turned (λ m n l k. record { mine = first_in_run p.quiet Client; theirs = first_in_run p.quiet Server }) (all_kept p) ws w side r (few_made p w within side) (few_made p w within (other_side side))

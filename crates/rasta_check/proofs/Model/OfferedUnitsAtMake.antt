@@ -81,23 +81,17 @@ contents_push : (ms : List Made) (m : Made) → contents (ms ++ m ∷ []) ≡ co
 contents_push [] m = grind arith
 contents_push (x ∷ ms) m = grind (arith, contents_push ms m)
 
-module _ (ms : List Made) (m : Made) (n : ℕ) (w : Carrying ms n) where
-  old_fresh : (i : ℕ) (y : Made) → slice_get ms i ≡ Some y → is_kind Data y.pdu.kind ≡ true → y.unit ≡ Some (length (contents (take i (ms ++ m ∷ []))))
-  old_fresh i y g d = (let l = slice_get_within ms i y g in rw (take-append-le i ms (m ∷ []) (omega (arith, l))) (w.fresh i y g d))
-
-  more_contents : (k : ℕ) (content : List ℕ) → slice_get (contents ms) k ≡ Some content → slice_get (contents (ms ++ m ∷ [])) k ≡ Some content
-  more_contents k content g = rw (contents_push ms m) (get_front (contents ms) _ k content g)
-
-  old_carried : (i : ℕ) (y : Made) → slice_get ms i ≡ Some y → (k : ℕ) → y.unit ≡ Some k → (carries_unit y.pdu.kind ≡ true) × (slice_get (contents (ms ++ m ∷ [])) k ≡ Some (content_of y.pdu.body))
-  old_carried i y g k u = (let r = w.carried i y g k u in (r.0, more_contents k (content_of y.pdu.body) r.1))
-
-  carries : (n' : ℕ) → Adds ms n m.pdu.kind (content_of m.pdu.body) m.unit n' → Carrying (ms ++ m ∷ []) n'
-  carries n' a =
-      record {
-        counted = (let l = ap length (contents_push ms m) in omega (arith, l, length-append (contents ms) (added m.pdu.kind (content_of m.pdu.body)), a.size, w.counted));
-        fresh = all_push ms m old_fresh (λ k. rw (take-append_seam ms (m ∷ []), w.counted) (a.number_is k));
-        carried = all_push ms m old_carried (λ k u. rw (contents_push ms m) (a.has k u));
-      }
+carries : (ms : List Made) (m : Made) (n n' : ℕ) → Carrying ms n → Adds ms n m.pdu.kind (content_of m.pdu.body) m.unit n' → Carrying (ms ++ m ∷ []) n'
+carries ms m n n' w a =
+    record {
+      counted = (let l = ap length (contents_push ms m) in omega (arith, l, length-append (contents ms) (added m.pdu.kind (content_of m.pdu.body)), a.size, w.counted));
+      fresh = all_push ms m
+          (λ i y g d. (let l = slice_get_within ms i y g in rw (take-append-le i ms (m ∷ []) (omega (arith, l))) (w.fresh i y g d)))
+          (λ k. rw (take-append_seam ms (m ∷ []), w.counted) (a.number_is k));
+      carried = all_push ms m
+          (λ i y g k u. (let r = w.carried i y g k u in (r.0, rw (contents_push ms m) (get_front (contents ms) _ k (content_of y.pdu.body) r.1))))
+          (λ k u. rw (contents_push ms m) (a.has k u));
+    }
 
 module _ (p : Parameters) (e : EndState) (x : SafetyPdu) (clock : ℕ) (why : Why) (t : ℕ) (peer : List Made) (b : MadeBy e x why) (pass : Passed p e x clock why) (h : Held e t peer) (w : Valued e) where
   abbrev after : EndState
@@ -143,24 +137,21 @@ module _ (p : Parameters) (e : EndState) (x : SafetyPdu) (clock : ℕ) (why : Wh
 
   -- The units conveyed through each position.
 
-  old : (i v : ℕ) → slice_get (values e) i ≡ Some v → slice_get (values e ++ value ∷ []) i ≡ Some v
-  old i v g = get_front (values e) (value ∷ []) i v g
-
   at_new : slice_get (values e ++ value ∷ []) (length e.made) ≡ Some value
-  at_new = subst (λ n. slice_get (values e ++ value ∷ []) n ≡ Some value) long (get_push (values e) value)
+  at_new = rw (← long) (get_push (values e) value)
 
   both_old : (i j : ℕ) → slice_get (values e) i ≡ slice_get (values e) j → i < length e.made → j < length e.made → slice_get (values e ++ value ∷ []) i ≡ slice_get (values e ++ value ∷ []) j
   both_old i j g a c = get_front_within (values e) (value ∷ []) i (omega (arith, long, a)) ∙ (g ∙ sym (get_front_within (values e) (value ∷ []) j (omega (arith, long, c))))
 
   previous : (i : ℕ) → length e.made ≡ suc i → slice_get (values e ++ value ∷ []) i ≡ Some (last_of (values e))
-  previous i g = old i _ (last_get (values e) i (long ∙ g))
+  previous i g = get_front (values e) (value ∷ []) i _ (last_get (values e) i (long ∙ g))
 
   conveys : Conveying (values e ++ value ∷ []) (e.made ++ new ∷ []) after.offered
   conveys =
       record {
         bounded = all_push {P = λ i v. v ≤ after.offered} (values e) value (λ i v g. omega (arith, w.positions.bounded i v g, offered_least b.row e.offered)) value_most;
         units = all_push e.made new
-            (λ i n g u. (let r = w.positions.units i n g u in (r.0, r.1, r.2, r.3, old r.0 r.1 r.4, old i (suc r.1) r.5)))
+            (λ i n g u. (let r = w.positions.units i n g u in (r.0, r.1, r.2, r.3, get_front (values e) (value ∷ []) r.0 r.1 r.4, get_front (values e) (value ∷ []) i (suc r.1) r.5)))
             (λ u.
             let last : length e.made ≡ suc (length e.made - 1) = omega (arith, some_made (grind arith)) in
             let unit = unit_made (jump e) (last_of (values e)) e.offered b.how (w.due pass.open_yet) u in
@@ -183,7 +174,7 @@ module _ (p : Parameters) (e : EndState) (x : SafetyPdu) (clock : ℕ) (why : Wh
             let a' : slice_get e.asks (answers_in e.made) ≡ Some c = rw (take-append_seam e.made (new ∷ [])) at a in
             let l = w.returns.asks_within (answers_in e.made) c a' in
             let back : value ≡ slice_index_or (values e) c 0 = value_is ∙ (ap (units_next (jump e) (last_of (values e))) (kind_is RetransmissionResponse x.kind u) ∙ ap (units_at (values e)) a') in
-            (l, at_new ∙ (ap Some back ∙ sym (old c _ (slice_get-get_or (values e) c 0 (omega (arith, long, l)))))));
+            (l, at_new ∙ (ap Some back ∙ sym (get_front (values e) (value ∷ []) c _ (slice_get-get_or (values e) c 0 (omega (arith, long, l)))))));
         asks_within = λ i c g. (let l = w.returns.asks_within i c g in omega (arith, l, length_push e.made new));
       }
 
@@ -194,5 +185,5 @@ module _ (p : Parameters) (e : EndState) (x : SafetyPdu) (clock : ℕ) (why : Wh
         grown = λ _. omega (arith, length_push e.made new);
         positions = rw pushed conveys;
         returns = rw pushed returns;
-        contents = carries e.made new e.offered w.contents after.offered (adds e.made e.offered (content_of x.body) w.contents.counted b.how (rw b.is at pass.same));
+        contents = carries e.made new e.offered after.offered w.contents (adds e.made e.offered (content_of x.body) w.contents.counted b.how (rw b.is at pass.same));
       }

@@ -99,12 +99,12 @@ module _ (e f : EndState) (t u : ℕ) (h : Held e t f.made) (peer : Held f u e.m
   ask_at k c g =
       let few = slice_get_within e.asks k c g in
       let r = found (is_kind RetransmissionRequest) f.made k (omega (arith, few, h.asks.asks_taken, number_take_all (is_kind RetransmissionRequest) f.made t)) in
-      let g' = subst (λ n. slice_get e.asks n ≡ Some c) (sym r.before) g in
+      let g' = rw (← r.before) at g in
       let at = named_position e.made c r.m.pdu.cs once (h.asks.answered r.at r.m r.there r.is c g') in (
         r.m,
-        subst (λ n. slice_get (requests_of f.made) n ≡ Some r.m) r.before (request_at f.made r.at r.m r.there r.is),
+        rw r.before at (request_at f.made r.at r.m r.there r.is),
         at,
-        subst (λ n. slice_get (asked_positions (pdus_made e.made) (pdus_made f.made)) n ≡ Some c) r.before (asked_at (pdus_made e.made) f.made all_named r.at r.m c r.there r.is at),
+        rw r.before at (asked_at (pdus_made e.made) f.made all_named r.at r.m c r.there r.is at),
       )
 
   answer_at : (before after : List Made) (m : Made) → e.made ≡ before ++ m ∷ after → IsAnswer m

@@ -21,7 +21,7 @@ use Rattle.rasta_check.proofs.Lists.{all_push}
 use Rattle.rasta_check.proofs.Model.PassedTests.{Passed, cs_is}
 use Rattle.rasta_check.proofs.Model.MakeRows.{Making, fresh, MadeBy, new_made}
 use Rattle.rasta_check.proofs.Model.Steps.{Grown, same_grown, grown_take}
-use Rattle.rasta_check.proofs.Model.TakeRows.{Knows, take_by, effect_made, take_leaves}
+use Rattle.rasta_check.proofs.Model.TakeRows.{Knows, take_by, effect_leaves, take_leaves}
 use Rattle.rasta_check.proofs.Model.NamedPositions.{SnIs}
 use Rattle.rasta_check.proofs.Model.Invariant.{Held, is_named}
 use Rattle.rasta_check.proofs.Model.InvariantAtMake.{Changed, changed, over, opened, goes_on, nothing_made}
@@ -129,7 +129,7 @@ module _ (q : Parameters) (e f : EndState) (x : SafetyPdu) (t : ℕ) (h : Held e
   shown_by : (r : TakeRow) → is_closed e.phase ≡ false → Knows q r e x → Shown (effect q r e x) f
   shown_by r away knows =
       let more = accepted_more q e x t f.made h r knows in
-      let back : (i : ℕ) (m : Made) → slice_get (effect q r e x).made i ≡ Some m → slice_get e.made i ≡ Some m = λ i m g. subst (λ (ms : List Made). slice_get ms i ≡ Some m) (effect_made q r e x) g in
+      let back : (i : ℕ) (m : Made) → slice_get (effect q r e x).made i ≡ Some m → slice_get e.made i ≡ Some m = λ i m g. rw (effect_leaves q (Some r) e x).made at g in
       record {
         shown = λ i m g k. ⊎_elim
             (λ (z : e.accepted ≡ 0). absurd (let y = w.first_words z away i m (back i m g) in cc))

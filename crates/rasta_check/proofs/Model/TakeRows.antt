@@ -65,17 +65,17 @@ pub record AreSame (s s' : Side) (b b' : ℕ) (ms ms' : List Made) (n n' now now
 abbrev pub LeftAlone : EndState → EndState → Type 0
 LeftAlone e e' = AreSame e.side e'.side e.base e'.base e.made e'.made e.offered e'.offered e.clock e'.clock
 
--- what holds of an end, and still does once it has handed up a unit, holds where it may hand one up
-pub handed_or : (P : EndState → Type 0) (b : Bool) (i : ℕ) (e : EndState) (x : SafetyPdu) → P e → (P e → P (hand_up i e x)) → P (if b then hand_up i e x else e)
-handed_or P true i e x h more = more h
-handed_or P false i e x h more = h
+-- a unit is handed up, another PDU isn't
+pub by_unit : (P : EndState → Type 0) (b : Bool) (i : ℕ) (e : EndState) (x : SafetyPdu) → (b ≡ true → P (hand_up i e x)) → (b ≡ false → P e) → P (if b then hand_up i e x else e)
+by_unit P true i e x h l = h refl
+by_unit P false i e x h l = l refl
 
-leaves_by : (p : Parameters) (row : Option TakeRow) (e : EndState) (x : SafetyPdu) → LeftAlone e (effect_by p row e x)
-leaves_by p (Some InSequence) e x = grind arith
-leaves_by p _ e x = grind arith
+pub effect_leaves : (p : Parameters) (row : Option TakeRow) (e : EndState) (x : SafetyPdu) → LeftAlone e (effect_by p row e x)
+effect_leaves p (Some InSequence) e x = grind arith
+effect_leaves p _ e x = grind arith
 
 pub take_leaves : (p : Parameters) (e : EndState) (x : SafetyPdu) → LeftAlone e (after_take p e x)
-take_leaves p e x = leaves_by p (take_row p e x) e x
+take_leaves p e x = effect_leaves p (take_row p e x) e x
 
 -- what holds where the end takes by no row, and by each row that it may take by, holds after a take
 pub take_by : (p : Parameters) (e : EndState) (x : SafetyPdu) (P : EndState → Type 0) → P e → ((row : TakeRow) → is_closed e.phase ≡ false → Knows p row e x → P (effect p row e x)) → P (after_take p e x)
@@ -97,12 +97,9 @@ pub take_bare : (p : Parameters) (e : EndState) (x : SafetyPdu) (P : EndState �
 take_bare p e x P more none each = take_by p e x P none (λ row away w. by row (each row away w))
   where
     by : (row : TakeRow) → P (bare_effect p row e x) → P (effect p row e x)
-    by InSequence h = handed_or P (carries_unit x.kind) e.accepted _ x h (more e.accepted _)
-    by ResentInSequence h = handed_or P (carries_unit x.kind) e.accepted _ x h (more e.accepted _)
+    by InSequence h = by_unit P (carries_unit x.kind) e.accepted _ x (λ _. more e.accepted _ h) (λ _. h)
+    by ResentInSequence h = by_unit P (carries_unit x.kind) e.accepted _ x (λ _. more e.accepted _ h) (λ _. h)
     by _ h = h
-
-pub effect_made : (p : Parameters) (row : TakeRow) (e : EndState) (x : SafetyPdu) → (effect p row e x).made ≡ e.made
-effect_made p row e x = (let h = leaves_by p (Some row) e x in h.made)
 
 pub take_made : (p : Parameters) (e : EndState) (x : SafetyPdu) → (after_take p e x).made ≡ e.made
 take_made p e x = (let h = take_leaves p e x in h.made)
