@@ -1,6 +1,6 @@
 -- What an end has handed up: the units conveyed through the last position of its peer that it accepted.
 use Rattle.std.proofs.Common.{◌≡◌, ℕ, zero, suc, ◌+◌, ◌<◌, ◌≤◌, Bool, true, false, List, [], ◌∷◌, ◌++◌, length, Some, slice_get, take, refl, ap, sym, ◌∙◌, arith, subst}
-use Rattle.std.specs.Prelude.{slice_index_or, if◌then◌else◌, filter, drop}
+use Rattle.std.specs.Prelude.{slice_index_or, filter, drop}
 use Rattle.std.proofs.lemmas.Bool.Decides.{nat_tests}
 use Rattle.std.proofs.Math.Seq.{take-append_seam}
 use Rattle.std.proofs.lemmas.List.{take-append-le, length_push}
@@ -18,7 +18,7 @@ use Rattle.rasta_end.specs.declared.owed.Owed.{Owed}
 use Rattle.rasta_end.specs.declared.owed.Owed.TheVariants.{RetransmissionRequest as OweRetransmissionRequest}
 use Rattle.rasta_end.specs.State.{Made, EndState, is_closed, is_flowing, carries_unit, content_of}
 use Rattle.rasta_end.specs.MakeRule.{after_make_by}
-use Rattle.rasta_end.specs.TakeRule.{is_in, steps_past_next, position_confirmed, hand_up, burst, effect, after_take}
+use Rattle.rasta_end.specs.TakeRule.{is_in, steps_past_next, position_confirmed, burst, effect, after_take}
 use Rattle.rasta_check.specs.Model.Laws.{HandsUp}
 use Rattle.rasta_check.specs.Model.Theorem.{HandsUpUnits}
 use Rattle.rasta_check.proofs.Lists.{all_push, get_front, get_push, get_mapped}

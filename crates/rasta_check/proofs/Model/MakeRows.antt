@@ -1,6 +1,5 @@
 -- The rows of the make table, one by one.
 use Rattle.std.proofs.Common.{◌≡◌, ℕ, Bool, true, false, List, [], ◌∷◌, Some, refl, ap, sym, arith}
-use Rattle.std.specs.Prelude.{not, ◌&&◌, ◌==◌}
 use Rattle.std.proofs.lemmas.Bool.{and_parts}
 use Rattle.std.proofs.lemmas.Bool.Decides.{nat_tests}
 use Rattle.std.specs.Bool.{then_some}
@@ -20,7 +19,7 @@ use Rattle.rasta_end.specs.declared.owed.Owed.{Owed}
 use Rattle.rasta_end.specs.declared.owed.Owed.TheVariants.{ConnectionResponse as OweConnectionResponse, FirstHeartbeat as OweFirstHeartbeat, RetransmissionResponse as OweRetransmissionResponse, Resend as OweResend, RetransmissionRequest as OweRetransmissionRequest}
 use Rattle.rasta_end.specs.declared.owed.Demand.{Demand}
 use Rattle.rasta_end.specs.declared.owed.Demand.TheVariants.{First, Nothing, Anything}
-use Rattle.rasta_end.specs.State.{Made, EndState, is_client, is_closed, is_start, is_up, is_connected, is_active, reason_of}
+use Rattle.rasta_end.specs.State.{Made, EndState, is_connected, is_active, reason_of}
 use Rattle.rasta_end.specs.MakeRule.{make_row, demand_of, same_owed, lacks, owes_else, is_refused_row, is_owing_else, row_of, unit_of, after_make, after_make_by}
 use Rattle.rasta_check.proofs.Model.PassedTests.{Passed, un_not}
 

@@ -1,10 +1,9 @@
 -- A make keeps what holds of the units offered.
-use Rattle.std.proofs.Common.{◌≡◌, ℕ, suc, ◌-◌, ◌<◌, ◌≤◌, ◌⊎◌, true, false, List, [], ◌∷◌, ◌++◌, length, Option, Some, slice_get, take, refl, ap, sym, ◌∙◌, arith, inr, ⊎_elim, subst}
-use Rattle.std.specs.Prelude.{slice_index_or, map, filter}
+use Rattle.std.proofs.Common.{◌≡◌, ℕ, suc, ◌-◌, ◌<◌, ◌≤◌, ◌⊎◌, true, false, List, [], ◌∷◌, ◌++◌, length, Option, Some, slice_get, refl, ap, sym, ◌∙◌, arith, inr, ⊎_elim, subst}
+use Rattle.std.specs.Prelude.{slice_index_or}
 use Rattle.std.proofs.Math.Seq.{take-append_seam}
 use Rattle.std.proofs.lemmas.List.{take-append-le, append-nil, length_push}
 use Rattle.std.proofs.Common.{length-append, ◌+◌}
-use Rattle.std.proofs.lemmas.List.Elements.{filter-append}
 use Rattle.std.proofs.lemmas.Option.{slice_get_within, slice_get-get_or}
 use Rattle.std.proofs.lemmas.Slice.Eq.{bytes_eq-Decides}
 use Rattle.rasta_pcap.specs.declared.fault.Side.{Side}
