@@ -185,8 +185,8 @@ module _ (q : Parameters) (e f : EndState) (t u : ℕ) (m : Made) (p : ℕ) (k :
   h_row free RequestedAgain x = record { count = w.count; labels = w.labels; as_many = w.as_many; awaited = λ r n. w.awaited x.0 (ap (owes is_request_owed) free) }
   h_row free _ x = keeps refl (λ r n. cc)
 
-pub handed_take : (q : Parameters) (e f : EndState) (t u : ℕ) (m : Made) (p : ℕ) (k : Taken e f t u m p) (w : Handed e f) → Valued f → (is_closed e.phase ≡ false → e.owed ≡ []) → Handed (after_take q e m.pdu) f
-handed_take q e f t u m p k w vf free = take_by q e m.pdu (λ e'. Handed e' f) w (λ r away x. h_row q e f t u m p k w vf (free away) r x)
+  pub handed_take : (is_closed e.phase ≡ false → e.owed ≡ []) → Handed (after_take q e m.pdu) f
+  handed_take free = take_by q e m.pdu (λ e'. Handed e' f) w (λ r away x. h_row (free away) r x)
 
 -- What it handed up, unit by unit.
 

@@ -110,25 +110,19 @@ module _ (s : Side) (ph : Phase) (ms : List Made) (m : Made) (a : ℕ) (os : Lis
   make_opening (goes_on on b c d r) =
       grind (arith, push_some ms m, on, r, h)
 
+  asking_push : {ph' : Phase} {os' : List Owed} {qs : List ℕ} {t : ℕ} {peer : List Made} → Asking s ph ms qs os t peer → answers_in (ms ++ m ∷ []) ≤ length qs
+      → (ended s ph' (ms ++ m ∷ []) ≡ false → answers_in (ms ++ m ∷ []) + owes is_answer_owed os' ≡ length qs)
+      → requests_in (ms ++ m ∷ []) + owes is_request_owed os' ≤ answers_in (take t peer) + open_bit ph' → Asking s ph' (ms ++ m ∷ []) qs os' t peer
+  asking_push w asked owing open_requests = record { asked = asked; owing = owing; answered = λ p n g k c x. SnIs_front ms m c n.pdu.cs (w.answered p n g k c x); asks_taken = w.asks_taken; open_requests = open_requests }
+
   make_asking : {ph' : Phase} {os' : List Owed} (qs : List ℕ) (t : ℕ) (peer : List Made) → Changed s ph m.pdu.kind os ph' os' → Asking s ph ms qs os t peer → Asking s ph' (ms ++ m ∷ []) qs os' t peer
-  make_asking qs t peer how w =
-      record {
-        asked = (counts how).0;
-        owing = (counts how).1;
-        answered = λ p n g k c x. SnIs_front ms m c n.pdu.cs (w.answered p n g k c x);
-        asks_taken = w.asks_taken;
-        open_requests = (counts how).2;
-      }
-    where
-      counts : {ph' : Phase} {os' : List Owed} → Changed s ph m.pdu.kind os ph' os' → (answers_in (ms ++ m ∷ []) ≤ length qs)
-          × (ended s ph' (ms ++ m ∷ []) ≡ false → answers_in (ms ++ m ∷ []) + owes is_answer_owed os' ≡ length qs)
-          × (requests_in (ms ++ m ∷ []) + owes is_request_owed os' ≤ answers_in (take t peer) + open_bit ph')
-      counts (over d) = (grind (arith, number_push, w.asked, d), λ v. absurd (let z = over_after s Closed ms m refl in cc), grind (arith, number_push, w.open_requests, bit_most ph, d))
-      counts (opened b c d) =
-          let none = nothing_made s ph ms b open_yet in
-          let owed = ap (owes is_request_owed) (h.unmade c none).1 in
-          (grind (arith, number_push, w.asked, d), λ v. grind (arith, number_push, w.owing open_yet, d), grind (arith, number_push, none, owed, d))
-      counts (goes_on on b c d r) = (grind (arith, number_push, b, w.owing open_yet), λ v. grind (arith, number_push, b, w.owing open_yet), grind (arith, number_push, c, w.open_requests))
+  make_asking qs t peer (over d) w = asking_push w (grind (arith, number_push, w.asked, d)) (λ v. absurd (let z = over_after s Closed ms m refl in cc)) (grind (arith, number_push, w.open_requests, bit_most ph, d))
+  make_asking qs t peer (opened b c d) w =
+      let none = nothing_made s ph ms b open_yet in
+      let owed = ap (owes is_request_owed) (h.unmade c none).1 in
+      asking_push w (grind (arith, number_push, w.asked, d)) (λ v. grind (arith, number_push, w.owing open_yet, d)) (grind (arith, number_push, none, owed, d))
+  make_asking qs t peer (goes_on on b c d r) w =
+      asking_push w (grind (arith, number_push, b, w.owing open_yet)) (λ v. grind (arith, number_push, b, w.owing open_yet)) (grind (arith, number_push, c, w.open_requests))
 
   make_opener : {ph' : Phase} {os' : List Owed} → Changed s ph m.pdu.kind os ph' os' → is_opener m.pdu.kind ≡ true → ms ≡ []
   make_opener (over d) k = absurd (grind (arith, d))

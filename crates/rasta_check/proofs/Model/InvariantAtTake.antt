@@ -21,7 +21,7 @@ use Rattle.rasta_check.proofs.Lists.{get_push_cases}
 use Rattle.rasta_check.proofs.Model.TakeRows.{Premise, Knows, bare_effect, take_bare}
 use Rattle.rasta_check.proofs.Model.Counts.{owes, tally, number_take_all, number_take_more, number_take_at, is_answer_owed, is_request_owed, owes-append, requests_in, answers_in, IsRequest}
 use Rattle.rasta_check.proofs.Model.NamedPositions.{SnIs, position_is, confirms_is}
-use Rattle.rasta_check.proofs.Model.Invariant.{ended, Held, Opening, Asking, Accepting, is_response_owed, is_opener, has_peer, is_named, open_bit, bit_most}
+use Rattle.rasta_check.proofs.Model.Invariant.{ended, Held, Holds, Opening, Asking, Accepting, is_response_owed, is_opener, has_peer, is_named, open_bit, bit_most}
 
 -- ---- rows between the opening and the end
 
@@ -104,16 +104,13 @@ module _ (q : Parameters) (e f : EndState) (t u : ℕ) (m : Made) (p : ℕ) (k :
   confirms : is_named m.pdu.kind ≡ true → is_valid e m.pdu ≡ true → position_confirmed e m.pdu ≤ length e.made
   confirms n v = (let c = mark n v in omega (arith, c.2, c.3))
 
-  more_asks : length e.asks ≤ requests_in (take (suc p) f.made)
-  more_asks = omega (arith, k.mine.asks.asks_taken, number_take_more (is_kind RetransmissionRequest) f.made t (suc p) (omega (arith, k.above)))
-
   more_answers : answers_in (take t f.made) ≤ answers_in (take (suc p) f.made)
   more_answers = number_take_more (is_kind RetransmissionResponse) f.made t (suc p) (omega (arith, k.above))
 
   -- no ask joins
   passes : (ph : Phase) (os : List Owed) → (ended e.side ph e.made ≡ false → answers_in e.made + owes is_answer_owed os ≡ length e.asks)
       → requests_in e.made + owes is_request_owed os ≤ answers_in (take (suc p) f.made) + open_bit ph → Asking e.side ph e.made e.asks os (suc p) f.made
-  passes ph os owing open_requests = record { asked = k.mine.asks.asked; owing = owing; answered = k.mine.asks.answered; asks_taken = more_asks; open_requests = open_requests }
+  passes ph os owing open_requests = record { asked = k.mine.asks.asked; owing = owing; answered = k.mine.asks.answered; asks_taken = omega (arith, k.mine.asks.asks_taken, number_take_more (is_kind RetransmissionRequest) f.made t (suc p), k.above); open_requests = open_requests }
 
   -- a request that is answered is the one after those that were
   pub index : IsRequest m → requests_in (take p f.made) ≡ length e.asks
@@ -151,13 +148,17 @@ module _ (q : Parameters) (e f : EndState) (t u : ℕ) (m : Made) (p : ℕ) (k :
       record {
         reached = omega arith;
         within = omega (arith, inside);
-        last = λ i g. (let j : i ≡ p = omega (arith, at, g) in subst (λ (z : ℕ). SnIs f.made z m.pdu.sn) (sym j) here);
+        last = λ i g. (let j : i ≡ p = omega (arith, at, g) in rw j here);
         named = λ i n g b. (let r = k.mine.accepts.named i n g b in (r.0, omega (arith, at, r.1, k.mine.accepts.reached, k.above), r.2));
       }
 
   -- it shows that the end has made something, and the connection runs
   runs : (ph : Phase) (a : ℕ) (os : List Owed) → is_connected ph ≡ true → is_named m.pdu.kind ≡ true → is_valid e m.pdu ≡ true → (i : ℕ) × (a ≡ suc i) → owes is_response_owed os ≡ 0 → Opening e.side ph e.made a os
   runs ph a os on nm vd peer none = (let d = mark nm vd in grind (arith, d, on, peer, none))
+
+  holds : {ph : Phase} {a sn c : ℕ} {qs : List ℕ} {os : List Owed} → Opening e.side ph e.made a os → Asking e.side ph e.made qs os (suc p) f.made → Accepting e.made a sn (suc p) f.made → c ≤ length e.made
+      → Holds e.side ph e.made a sn c qs os (suc p) f.made
+  holds opening asks accepts confirmed = record { list = k.mine.list; opening = opening; asks = asks; accepts = accepts; confirmed = confirmed }
 
   -- ---- the rows
 
@@ -170,11 +171,11 @@ module _ (q : Parameters) (e f : EndState) (t u : ℕ) (m : Made) (p : ℕ) (k :
     -- no response is owed
     unasked : (ph : Phase) (os : List Owed) → owes is_answer_owed os ≡ 0
         → answers_in (take t f.made) + open_bit e.phase + owes is_request_owed os ≤ answers_in (take (suc p) f.made) + open_bit ph → Asking e.side ph e.made e.asks os (suc p) f.made
-    unasked ph os none room = passes ph os (λ _. omega (arith, no_answers, none)) (let o = ap (owes is_request_owed) free in omega (arith, o, room, k.mine.asks.open_requests))
+    unasked ph os none room = passes ph os (λ _. omega (arith, no_answers, none)) (omega (arith, ap (owes is_request_owed) free, room, k.mine.asks.open_requests))
 
     -- nothing more is owed
     unchanged : (ph : Phase) → open_bit e.phase ≤ open_bit ph → Asking e.side ph e.made e.asks e.owed (suc p) f.made
-    unchanged ph bit = unasked ph e.owed (ap (owes is_answer_owed) free) (let o = ap (owes is_request_owed) free in omega (arith, o, bit, more_answers))
+    unchanged ph bit = unasked ph e.owed (ap (owes is_answer_owed) free) (omega (arith, ap (owes is_request_owed) free, bit, more_answers))
 
     -- a burst is owed, with a request after it or without
     burdened : (ph : Phase) (os : List Owed) {n : ℕ} → m.pdu.kind ≡ RetransmissionRequest → is_valid e m.pdu ≡ true → Burdens os n → open_bit e.phase + n ≤ open_bit ph
@@ -189,7 +190,7 @@ module _ (q : Parameters) (e f : EndState) (t u : ℕ) (m : Made) (p : ℕ) (k :
           owing = λ _. omega (arith, no_answers, l, b.answers);
           answered = answered_more c is_a (rw at.2 at.1);
           asks_taken = omega (arith, index is_a, number_take_at (is_kind RetransmissionRequest) f.made p m k.there is_a, l);
-          open_requests = (let o = ap (owes is_request_owed) free in omega (arith, o, more_answers, bit, b.asks, k.mine.asks.open_requests));
+          open_requests = omega (arith, ap (owes is_request_owed) free, more_answers, bit, b.asks, k.mine.asks.open_requests);
         }
 
     -- the PDU is accepted
@@ -198,14 +199,14 @@ module _ (q : Parameters) (e f : EndState) (t u : ℕ) (m : Made) (p : ℕ) (k :
     accepts row w inside ph os qs on none asks =
         let (peer, nm, vd) = inner q row e m.pdu inside w in
         let i = k.mine.opening.connected peer in
-        record { list = k.mine.list; opening = runs ph _ os on nm vd (_, refl) none; asks = asks; accepts = noted _ (place i.0 i.1); confirmed = confirms nm vd }
+        holds (runs ph _ os on nm vd (_, refl) none) asks (noted _ (place i.0 i.1)) (confirms nm vd)
 
     -- it isn't accepted
     waits : (row : TakeRow) → Knows q row e m.pdu → is_inner row ≡ true → (ph : Phase) (c : ℕ) (os : List Owed) (qs : List ℕ) → is_connected ph ≡ true → c ≤ length e.made
         → owes is_response_owed os ≡ 0 → Asking e.side ph e.made qs os (suc p) f.made → Held (record e { phase = ph; confirmed = c; owed = os; asks = qs }) (suc p) f.made
     waits row w inside ph c os qs on confirmed none asks =
         let (peer, nm, vd) = inner q row e m.pdu inside w in
-        record { list = k.mine.list; opening = runs ph e.accepted os on nm vd (k.mine.opening.connected peer) none; asks = asks; accepts = skipped; confirmed = confirmed }
+        holds (runs ph e.accepted os on nm vd (k.mine.opening.connected peer) none) asks skipped confirmed
 
     -- a request is owed
     gap : (row : TakeRow) → Knows q row e m.pdu → is_inner row ≡ true → open_bit e.phase ≡ 0 → Held (record e { phase = RetrReq; owed = OweRetransmissionRequest ∷ [] }) (suc p) f.made
@@ -218,21 +219,10 @@ module _ (q : Parameters) (e f : EndState) (t u : ℕ) (m : Made) (p : ℕ) (k :
     by_row : (row : TakeRow) → Knows q row e m.pdu → Held (bare_effect q row e m.pdu) (suc p) f.made
     by_row Opened w =
         let d = k.mine.opening.down w.0 in
-        record {
-          list = k.mine.list;
-          opening = grind (arith, d);
-          asks = unasked Start _ refl (omega (arith, ap open_bit w.0, more_answers));
-          accepts = noted 0 (sym (k.theirs.list.openers p m k.there (ap is_opener w.1)));
-          confirmed = k.mine.confirmed;
-        }
+        holds (grind (arith, d)) (unasked Start _ refl (omega (arith, ap open_bit w.0, more_answers))) (noted 0 (sym (k.theirs.list.openers p m k.there (ap is_opener w.1)))) k.mine.confirmed
     by_row Answered w =
-        record {
-          list = k.mine.list;
-          opening = runs Up 1 _ refl (ap is_named w.2) w.3 (0, refl) refl;
-          asks = unasked Up _ refl (omega (arith, ap open_bit w.1, more_answers));
-          accepts = noted 0 (sym (k.theirs.list.openers p m k.there (ap is_opener w.2)));
-          confirmed = confirms (ap is_named w.2) w.3;
-        }
+        let asks = unasked Up _ refl (omega (arith, ap open_bit w.1, more_answers)) in
+        holds (runs Up 1 _ refl (ap is_named w.2) w.3 (0, refl) refl) asks (noted 0 (sym (k.theirs.list.openers p m k.there (ap is_opener w.2)))) (confirms (ap is_named w.2) w.3)
     by_row FirstHeartbeat w = accepts FirstHeartbeat w refl Up e.owed e.asks refl quiet (unchanged Up (grind (arith, w)))
     by_row InSequence w = accepts InSequence w refl Up e.owed e.asks refl quiet (unchanged Up (grind (arith, w)))
     by_row ResentInSequence w = accepts ResentInSequence w refl e.phase e.owed e.asks (ap is_connected w.0) quiet (unchanged e.phase (omega arith))
@@ -241,8 +231,7 @@ module _ (q : Parameters) (e f : EndState) (t u : ℕ) (m : Made) (p : ℕ) (k :
     by_row Resumed w =
         let next = number_take_at (is_kind RetransmissionResponse) f.made p m k.there (ap (is_kind RetransmissionResponse) w.1) in
         let low = number_take_more (is_kind RetransmissionResponse) f.made t p k.above in
-        let o = ap (owes is_request_owed) free in
-        accepts Resumed w refl RetrRun e.owed e.asks refl quiet (unasked RetrRun e.owed (ap (owes is_answer_owed) free) (omega (arith, ap open_bit w.0, next, low, o)))
+        accepts Resumed w refl RetrRun e.owed e.asks refl quiet (unasked RetrRun e.owed (ap (owes is_answer_owed) free) (omega (arith, ap open_bit w.0, next, low, ap (owes is_request_owed) free)))
     by_row Requested w =
         let o = burst_burdens e (position_confirmed e m.pdu) in
         accepts Requested w refl e.phase _ _ (grind (arith, w)) o.response (burdened e.phase _ w.1 w.2 o (omega arith))
@@ -252,18 +241,10 @@ module _ (q : Parameters) (e f : EndState) (t u : ℕ) (m : Made) (p : ℕ) (k :
     by_row RequestedAgain w =
         let o = burst_burdens e (position_confirmed e m.pdu) in
         waits RequestedAgain w refl e.phase _ _ _ (ap is_connected w.0) (confirms (ap is_named w.1) w.2) o.response (burdened e.phase _ w.1 w.2 o (omega arith))
-    by_row Disconnected w =
-        record {
-          list = k.mine.list;
-          opening = grind (arith, quiet, k.mine.opening.unmade);
-          asks = unchanged Closed (bit_most e.phase);
-          accepts = skipped;
-          confirmed = k.mine.confirmed;
-        }
+    by_row Disconnected w = holds (grind (arith, quiet, k.mine.opening.unmade)) (unchanged Closed (bit_most e.phase)) skipped k.mine.confirmed
 
-pub own_take : (q : Parameters) (e f : EndState) (t u : ℕ) (m : Made) (p : ℕ) (k : Taken e f t u m p) → (is_closed e.phase ≡ false → e.owed ≡ []) → Held (after_take q e m.pdu) (suc p) f.made
-own_take q e f t u m p k free =
-    let asks = passes q e f t u m p k e.phase e.owed k.mine.asks.owing (omega (arith, k.mine.asks.open_requests, more_answers q e f t u m p k)) in
-    take_bare q e m.pdu (λ e'. Held e' (suc p) f.made) (λ i g h. h)
-    (record { list = k.mine.list; opening = k.mine.opening; asks = asks; accepts = skipped q e f t u m p k; confirmed = k.mine.confirmed })
-    (λ row away x. by_row q e f t u m p k (free away) away row x)
+  pub own_take : (is_closed e.phase ≡ false → e.owed ≡ []) → Held (after_take q e m.pdu) (suc p) f.made
+  own_take free =
+      take_bare q e m.pdu (λ e'. Held e' (suc p) f.made) (λ i g h. h)
+      (holds k.mine.opening (passes e.phase e.owed k.mine.asks.owing (omega (arith, k.mine.asks.open_requests, more_answers))) skipped k.mine.confirmed)
+      (λ row away x. by_row (free away) away row x)

@@ -107,25 +107,20 @@ module _ (e f : EndState) (t u : ℕ) (h : Held e t f.made) (peer : Held f u e.m
         rw r.before at (asked_at (pdus_made e.made) f.made all_named r.at r.m c r.there r.is at),
       )
 
-  answer_at : (before after : List Made) (m : Made) → e.made ≡ before ++ m ∷ after → IsAnswer m
-      → (ask : ℕ) × (request : Made) × (slice_get e.asks (responses_in (kinds before)) ≡ Some ask) × (ask < length before)
-      × (slice_get (requests_of f.made) (responses_in (kinds before)) ≡ Some request) × (position_with (pdus_made e.made) request.pdu.cs ≡ Some ask)
-  answer_at before after m is r =
-      let there : slice_get e.made (length before) ≡ Some m = subst (λ (ms : List Made). slice_get ms (length before) ≡ Some m) (sym is) (get_next before (m ∷ after)) in
-      let front : take (length before) e.made ≡ before = ap (take (length before)) is ∙ take-append_seam before (m ∷ after) in
-      let n = responses_in (kinds before) in
-      let n_is : n ≡ answers_in (take (length before) e.made) = answers_number before ∙ ap answers_in (sym front) in
-      let one = number_take_at (is_kind RetransmissionResponse) e.made (length before) m there r in
-      let all = number_take_all (is_kind RetransmissionResponse) e.made (suc (length before)) in
-      let ask = slice_index_or e.asks n 0 in
-      let asked = slice_get-get_or e.asks n 0 (omega (arith, n_is, one, all, h.asks.asked)) in
-      let request = ask_at n ask asked in
-      let jump = w.returns.jumps (length before) m there r ask (subst (λ k. slice_get e.asks k ≡ Some ask) n_is asked) in
-      (ask, request.0, asked, jump.0, request.1, request.2)
-
   pub in_order : AnswersInOrder e f
   in_order = record {
     named = all_named;
     beginning = begins_with e.asks (asked_positions (pdus_made e.made) (pdus_made f.made)) (λ k c g. (ask_at k c g).3);
-    answers = answer_at;
+    answers = λ before after m is r.
+        let there : slice_get e.made (length before) ≡ Some m = subst (λ (ms : List Made). slice_get ms (length before) ≡ Some m) (sym is) (get_next before (m ∷ after)) in
+        let front : take (length before) e.made ≡ before = ap (take (length before)) is ∙ take-append_seam before (m ∷ after) in
+        let n = responses_in (kinds before) in
+        let n_is : n ≡ answers_in (take (length before) e.made) = answers_number before ∙ ap answers_in (sym front) in
+        let one = number_take_at (is_kind RetransmissionResponse) e.made (length before) m there r in
+        let all = number_take_all (is_kind RetransmissionResponse) e.made (suc (length before)) in
+        let ask = slice_index_or e.asks n 0 in
+        let asked = slice_get-get_or e.asks n 0 (omega (arith, n_is, one, all, h.asks.asked)) in
+        let request = ask_at n ask asked in
+        let jump = w.returns.jumps (length before) m there r ask (subst (λ k. slice_get e.asks k ≡ Some ask) n_is asked) in
+        (ask, request.0, asked, jump.0, request.1, request.2);
   }
