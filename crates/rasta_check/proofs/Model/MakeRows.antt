@@ -44,25 +44,19 @@ Met Anything os = Unit {0}
 
 -- ---- each row in turn
 
-same_is : (q o : Owed) → same_owed q o ≡ true → q ≡ o
-same_is q o h = grind (arith, nat_tests)
-
 meets : (d : Demand) (os : List Owed) → lacks d os ≡ false → owes_else d os ≡ false → Met d os
 unfolding Met
 meets (First o) [] e f = absurd (cc)
-meets (First o) (q ∷ os) e f = (os, ap (λ p. p ∷ os) (same_is q o (un_not _ f)))
+meets (First o) (q ∷ os) e f = (os, grind (arith, nat_tests, f))
 meets Nothing [] e f = refl
 meets Nothing (q ∷ os) e f = absurd (cc)
 meets Anything os e f = tt
 
-met : (row : MakeRow) (b : Bool) (os : List Owed) → is_refused_row (then_some b row) os ≡ false → is_owing_else (then_some b row) os ≡ false → (b ≡ true) × Met (demand_of row) os
-met row false os e f = absurd (cc)
-met row true os e f = (refl, meets (demand_of row) os e f)
-
 -- the row that a test lets through
 row_by : {s : Side} {ph : Phase} {why : Why} {k : Kind} (row : MakeRow) (b : Bool) (os : List Owed) → is_refused_row (then_some b row) os ≡ false → is_owing_else (then_some b row) os ≡ false
     → (b ≡ true → Met (demand_of row) os → Making s ph why k os row) → (r : MakeRow) × (then_some b row ≡ Some r) × Making s ph why k os r
-row_by row b os e f how = (let m = met row b os e f in (row, ap (λ c. then_some c row) m.0, how m.0 m.1))
+row_by row false os e f how = absurd (cc)
+row_by row true os e f how = (row, refl, how refl (meets (demand_of row) os e f))
 
 -- the row of a make that is neither refused nor kept back by what is owed
 pub making : (s : Side) (ph : Phase) (reason : ℕ) (why : Why) (k : Kind) (os : List Owed)

@@ -40,16 +40,7 @@ made_more p e x clock why e' mk =
     let pass = passed p e x clock why mk.0 in
     let m = made_by p e x clock why pass in
     let after : e' ≡ after_make_by (Some m.row) e x clock = mk.1 ∙ sym (after_row e x clock why m) in
-    record {
-      new = new_made m.row e x;
-      pdu = refl;
-      made = ap (λ (z : EndState). z.made) after;
-      now = ap (λ (z : EndState). z.clock) after;
-      rises = grind (arith, nat_tests, pass.rises);
-      side = ap (λ (z : EndState). z.side) after;
-      base = ap (λ (z : EndState). z.base) after;
-      same = record { positions = ap (λ (z : EndState). z.handed) after; pdus = ap (λ (z : EndState). z.handed_pdus) after };
-    }
+    rw after (record { new = new_made m.row e x; pdu = refl; made = refl; now = refl; rises = grind (arith, nat_tests, pass.rises); side = refl; base = refl; same = record { positions = refl; pdus = refl } })
 
 -- what of an end stays
 pub record Grown (e e' : EndState) : Type 0 where
