@@ -1,6 +1,6 @@
 -- What an end was asked, and what its retransmission responses answer.
 use Rattle.std.proofs.Common.{◌≡◌, ℕ, zero, suc, ◌<◌, Bool, true, false, List, [], ◌∷◌, ◌++◌, length, Some, slice_get, take, refl, ap, sym, ◌∙◌, arith, subst}
-use Rattle.std.specs.Prelude.{slice_index_or, if◌then◌else◌, ◌==◌}
+use Rattle.std.specs.Prelude.{filter, slice_index_or, if◌then◌else◌, ◌==◌}
 use Rattle.std.specs.Option.{option_map}
 use Rattle.std.proofs.Math.Seq.{take-append_seam}
 use Rattle.std.proofs.lemmas.Bool.Decides.{nat_tests}
@@ -38,15 +38,8 @@ named_position (x ∷ ms) (suc c) sn once s =
 -- the position that a CS confirms has this SN
 pub found_position : (ms : List Made) (sn c : ℕ) → position_with (pdus_made ms) sn ≡ Some c → SnIs ms c sn
 found_position [] sn c g = absurd (cc)
-found_position (m ∷ ms) sn c g = by (m.pdu.sn == sn) refl g (found_position ms sn)
-  where
-    by : (b : Bool) → (m.pdu.sn == sn) ≡ b → (if b then Some 0 else option_map suc (position_with (pdus_made ms) sn)) ≡ Some c
-        → ((d : ℕ) → position_with (pdus_made ms) sn ≡ Some d → SnIs ms d sn) → SnIs (m ∷ ms) c sn
-    by true e h rest = (let first : c ≡ 0 = cc in rw first (record { m = m; there = refl; same = grind (arith, nat_tests) }))
-    by false e h rest =
-        let d = mapped_some suc (position_with (pdus_made ms) sn) c h in
-        let s = rest d.0 d.1 in
-        rw (← d.2) (record { m = s.m; there = s.there; same = s.same })
+found_position (m ∷ ms) sn zero g = record { m = m; there = refl; same = grind (arith, nat_tests, g) }
+found_position (m ∷ ms) sn (suc c) g = (let s = found_position ms sn c (grind (arith, g)) in record { m = s.m; there = s.there; same = s.same })
 
 -- ---- the k-th of a kind
 
@@ -57,24 +50,18 @@ pub record Found (f : Kind → Bool) (ms : List Made) (k : ℕ) : Type 0 where
   pub there : slice_get ms at ≡ Some m
   pub is : f m.pdu.kind ≡ true
   pub before : number f (take at ms) ≡ k
+  pub listed : slice_get (filter (λ (n : Made). f n.pdu.kind) ms) k ≡ Some m
 
 pub found : (f : Kind → Bool) (ms : List Made) (k : ℕ) → k < number f ms → Found f ms k
 found f [] k l = absurd (omega (arith, l))
 found f (x ∷ ms) k l = by (f x.pdu.kind) refl k l (found f ms)
   where
     by : (b : Bool) → f x.pdu.kind ≡ b → (k : ℕ) → k < tally b (number f ms) → ((j : ℕ) → j < number f ms → Found f ms j) → Found f (x ∷ ms) k
-    by true e zero l rest = record { at = 0; m = x; there = refl; is = e; before = refl }
-    by true e (suc k) l rest = (let r = rest k (omega (arith, l)) in record { at = suc r.at; m = r.m; there = r.there; is = r.is; before = grind (arith, r.before) })
-    by false e k l rest = (let r = rest k l in record { at = suc r.at; m = r.m; there = r.there; is = r.is; before = grind (arith, r.before) })
+    by true e zero l rest = record { at = 0; m = x; there = refl; is = e; before = refl; listed = grind (arith, e) }
+    by true e (suc k) l rest = (let r = rest k (omega (arith, l)) in record { at = suc r.at; m = r.m; there = r.there; is = r.is; before = grind (arith, r.before); listed = grind (arith, e, r.listed) })
+    by false e k l rest = (let r = rest k l in record { at = suc r.at; m = r.m; there = r.there; is = r.is; before = grind (arith, r.before); listed = grind (arith, e, r.listed) })
 
 -- ---- what each request confirms
-
--- the k-th request, by its position
-pub request_at : (ms : List Made) (p : ℕ) (m : Made) → slice_get ms p ≡ Some m → IsRequest m
-    → slice_get (requests_of ms) (requests_in (take p ms)) ≡ Some m
-request_at [] p m e r = absurd (cc)
-request_at (x ∷ ms) zero m e r = grind arith
-request_at (x ∷ ms) (suc p) m e r = grind (arith, request_at ms p m e r)
 
 -- each request confirms a position
 abbrev pub AllNamed : List SafetyPdu → List Made → Type 0
@@ -102,7 +89,7 @@ module _ (e f : EndState) (t u : ℕ) (h : Held e t f.made) (peer : Held f u e.m
       let g' = rw (← r.before) at g in
       let at = named_position e.made c r.m.pdu.cs once (h.asks.answered r.at r.m r.there r.is c g') in (
         r.m,
-        rw r.before at (request_at f.made r.at r.m r.there r.is),
+        r.listed,
         at,
         rw r.before at (asked_at (pdus_made e.made) f.made all_named r.at r.m c r.there r.is at),
       )
