@@ -49,10 +49,7 @@ answers_number (m ∷ ms) = grind (arith, answers_number ms)
 
 pub values_push : (asks : List ℕ) (ms : List Made) (m : Made)
     → all_units_conveyed asks (kinds (ms ++ m ∷ [])) ≡ all_units_conveyed asks (kinds ms) ++ units_after asks (all_units_conveyed asks (kinds ms)) (answers_in ms) m.pdu.kind ∷ []
-values_push asks ms m =
-    let n : (conveyed asks (kinds ms)).responses ≡ answers_in ms = conveyed-responses asks (kinds ms) ∙ answers_number ms in
-    ap (all_units_conveyed asks) (kinds-push ms m)
-    ∙ (all_units-push asks (kinds ms) m.pdu.kind ∙ ap (λ a. all_units_conveyed asks (kinds ms) ++ units_after asks (all_units_conveyed asks (kinds ms)) a m.pdu.kind ∷ []) n)
+values_push asks ms m = simp (kinds-push, all_units-push, conveyed-responses, answers_number)
 
 pub length-values : (asks : List ℕ) (ms : List Made) → length (all_units_conveyed asks (kinds ms)) ≡ length ms
 length-values asks ms = length-all_units asks (kinds ms) ∙ length-kinds ms

@@ -93,8 +93,7 @@ all_kept p b a a' xs ys move (makes x why after channel reserve check bytes mk s
     let longer = length_push a.state.made (new_made by.row a.state x) in
     let h = g (omega (arith, l, longer, ap (λ (e : EndState). length e.made) now)) r in
     let grown = grown_make p a.state x a.clock why by ok in
-    let P : EndState → Type 0 = λ e. All (record a { state = e }) b in
-    subst P now (record {
+    subst (λ (e : EndState). All (record a { state = e }) b) now (record {
       mine = record {
         held = own_make p a.state x a.clock why a.taken b.state.made by ok h.mine.held;
         values = valued_make p a.state x a.clock why a.taken b.state.made by ok h.mine.held h.mine.values;
@@ -114,12 +113,10 @@ all_kept p b a a' xs ys move (takes position m after c i s t) g = λ l r. (
     let same : after.made ≡ a.state.made = ap (λ (e : EndState). e.made) t.1 ∙ take_made p a.state m.pdu in
     let few : length a.state.made ≤ 1000001 = rw same at l in
     let h = g few r in
-    let now : after_take p a.state m.pdu ≡ after = sym t.1 in
     let k : Taken a.state b.state a.taken b.taken m position = record { mine = h.mine.held; theirs = h.theirs.held; there = s; above = i; few = few; few_theirs = r } in
-    let P : EndState → Type 0 = λ e. All (record a { state = e; taken = suc position }) b in
     let fr = free p a.state a.clock t.0 in
-    let made = take_made p a.state m.pdu in
-    subst P now (record {
+    let grown = grown_take p a.state m.pdu h.mine.held.asks.asked in
+    subst (λ (e : EndState). All (record a { state = e; taken = suc position }) b) (sym t.1) (record {
       mine = record {
         held = own_take p a.state b.state a.taken b.taken m position k fr;
         values = valued_take p a.state b.state a.taken b.taken m position k h.mine.values fr;
@@ -127,10 +124,10 @@ all_kept p b a a' xs ys move (takes position m after c i s t) g = λ l r. (
         shown = shown_take p a.state b.state m.pdu a.taken h.mine.held h.mine.shown;
       };
       theirs = record {
-        held = rw made h.theirs.held;
+        held = rw (take_made p a.state m.pdu) h.theirs.held;
         values = h.theirs.values;
-        handed = handed_peer b.state a.state _ (let z = h.theirs.held.accepts in omega (arith, z.reached, z.within)) (grown_take p a.state m.pdu h.mine.held.asks.asked) h.theirs.handed;
-        shown = shown_peer_take p b.state a.state b.taken m position h.theirs.held s h.mine.held.asks.asked h.theirs.shown;
+        handed = handed_peer b.state a.state _ (let z = h.theirs.held.accepts in omega (arith, z.reached, z.within)) grown h.theirs.handed;
+        shown = shown_peer_take p b.state a.state b.taken m position h.theirs.held s grown h.theirs.shown;
       };
     }))
 all_kept p b a a' xs ys move (waits clock i) g = λ l r. (let h = g l r in record { mine = h.mine; theirs = h.theirs })

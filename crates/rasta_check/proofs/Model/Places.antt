@@ -4,6 +4,7 @@ use Rattle.std.proofs.lemmas.Option.{slice_get_within}
 use Rattle.rasta_pcap.specs.declared.fault.Side.{Side}
 use Rattle.rasta_udp.specs.Frame.{Packet}
 use Rattle.rasta_pdu.specs.Params.{Parameters, AreParameters}
+use Rattle.rasta_end.specs.State.{EndState}
 use Rattle.rasta_end.specs.Starts.{start_of}
 use Rattle.rasta_check.specs.Capture.Crossing.{FirstCopy}
 use Rattle.rasta_check.specs.Model.World.{World, station_of, end_of, other_side, Reaches, IsWithin}
@@ -11,7 +12,7 @@ use Rattle.rasta_check.specs.Model.Theorem.{Appends, IsMade}
 use Rattle.rasta_check.proofs.Capture.FaultlessLists.{IsSent}
 use Rattle.rasta_check.proofs.Capture.ListForms.{of_record}
 use Rattle.rasta_check.proofs.Model.Steps.{base, start_base}
-use Rattle.rasta_check.proofs.Script.ScriptsOfRuns.{told_by, sends_count}
+use Rattle.rasta_check.proofs.Script.ScriptsOfRuns.{Sends, told_by, sends_count}
 use Rattle.rasta_check.proofs.Model.History.{stepped, joined}
 use Rattle.rasta_check.proofs.Theorem.SentRuns.{before}
 use Rattle.rasta_check.proofs.Lists.{slice_get_some}
@@ -33,15 +34,15 @@ made_then p ws w side own peer r mine theirs few few_theirs j d v next a there =
     λ z. (let c = slice_get_some b0.told.own j z in let k = sent.firsts j c.0 c.1 in let i = slice_get_within v.crossed c.0.place k.0 k.1 in let same : c.0 ≡ d = (let l = b0.mine.listed j c.0 c.1 in cc) in let q = ap (λ (c : FirstCopy). c.place) same in let l = a.before in omega arith) in
     (omega (arith, old, most, before_is, after_is, low), omega (arith, old, most, before_is, after_is, low))
 
-few_sent : (p : Parameters) (s : Side) (n made : ℕ) → made ≡ base p + n → made ≤ (start_of p s).base + 1000000 → n ≤ 1000000
-few_sent p s n made e l = (let b = start_base p.quiet s in omega arith)
+few_sent : (p : Parameters) (s : Side) (xs : List Packet) (own : List FirstCopy) (e : EndState) (n : ℕ) → Sends p s xs own e n → length e.made ≤ (start_of p s).base + 1000000 → length own ≤ 1000000
+few_sent p s xs own e n h l = omega (arith, sends_count p s xs own e n h, l, start_base p.quiet s)
 
 -- the sent list of a side in a run
 pub made_list : (p : Parameters) → AreParameters p → (ws : List World) (w : World) (side : Side) → Reaches p ws w → IsWithin p w → (sent : List FirstCopy) × IsMade p ws w side sent
 made_list p valid ws w side r within =
     let g = told_by p valid ws w side r in
-    let few = few_sent p side (length g.own) _ (sends_count p side w.crossed g.own (end_of w side) (station_of w side).first_number g.sends) (within side) in
-    let few_theirs = few_sent p (other_side side) (length g.peer) _ (sends_count p (other_side side) w.crossed g.peer (end_of w (other_side side)) (station_of w (other_side side)).first_number g.their_sends) (within (other_side side)) in (
+    let few = few_sent p side _ _ _ _ g.sends (within side) in
+    let few_theirs = few_sent p (other_side side) _ _ _ _ g.their_sends (within (other_side side)) in (
       g.own,
       record {
         list = of_record p w.crossed side g.own g.sends.sent (omega arith);

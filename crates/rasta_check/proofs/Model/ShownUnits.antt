@@ -145,7 +145,7 @@ module _ (q : Parameters) (e f : EndState) (x : SafetyPdu) (t : ℕ) (h : Held e
 
 -- The peer takes a PDU of the end.
 
-module _ (q : Parameters) (e f : EndState) (t : ℕ) (m : Made) (p : ℕ) (h : Held e t f.made) (there : slice_get e.made p ≡ Some m) (asked : answers_in f.made ≤ length f.asks) (w : Shown e f) where
+module _ (q : Parameters) (e f : EndState) (t : ℕ) (m : Made) (p : ℕ) (h : Held e t f.made) (there : slice_get e.made p ≡ Some m) (grown : Grown f (after_take q f m.pdu)) (w : Shown e f) where
   by_name : is_named m.pdu.kind ≡ true → 0 < e.accepted
   by_name k = (let r = h.accepts.named p m there k in omega (arith, r.1))
 
@@ -157,6 +157,6 @@ module _ (q : Parameters) (e f : EndState) (t : ℕ) (m : Made) (p : ℕ) (h : H
 
   pub shown_peer_take : Shown e (after_take q f m.pdu)
   shown_peer_take =
-      shown_peer e f (after_take q f m.pdu) (grown_take q f m.pdu asked) w
+      shown_peer e f _ grown w
       (take_by q f m.pdu (λ f'. is_connected f'.phase ≡ true → 0 < e.accepted) w.ready_run (λ r away x. run_by r x))
       (λ l. w.ready_offer (let z = (take_leaves q f m.pdu).offered in omega (arith, z, l)))

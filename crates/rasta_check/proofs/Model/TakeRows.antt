@@ -55,15 +55,12 @@ pub not_closed : (p : Parameters) (e : EndState) (x : SafetyPdu) (row : TakeRow)
 not_closed p e x row h = grind (arith, closed_row e.side e.phase x.kind (is_in e x) (is_ahead p e x) (is_valid e x))
 
 -- what a take leaves as it was
-pub record AreSame (s s' : Side) (b b' : ℕ) (ms ms' : List Made) (n n' now now' : ℕ) : Type 0 where
-  pub side : s' ≡ s
-  pub base : b' ≡ b
-  pub made : ms' ≡ ms
-  pub offered : n' ≡ n
-  pub clock : now' ≡ now
-
-abbrev pub LeftAlone : EndState → EndState → Type 0
-LeftAlone e e' = AreSame e.side e'.side e.base e'.base e.made e'.made e.offered e'.offered e.clock e'.clock
+pub record LeftAlone (e e' : EndState) : Type 0 where
+  pub side : e'.side ≡ e.side
+  pub base : e'.base ≡ e.base
+  pub made : e'.made ≡ e.made
+  pub offered : e'.offered ≡ e.offered
+  pub clock : e'.clock ≡ e.clock
 
 -- a unit is handed up, another PDU isn't
 pub by_unit : (P : EndState → Type 0) (b : Bool) (i : ℕ) (e : EndState) (x : SafetyPdu) → (b ≡ true → P (hand_up i e x)) → (b ≡ false → P e) → P (if b then hand_up i e x else e)
