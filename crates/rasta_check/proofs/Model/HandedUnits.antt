@@ -156,12 +156,10 @@ module _ (q : Parameters) (e f : EndState) (t u : ℕ) (m : Made) (p : ℕ) (k :
       let is_a : IsAnswer m = ap (is_kind RetransmissionResponse) ki in
       let low = number_take_more (is_kind RetransmissionResponse) f.made t p k.above in
       let next = number_take_at (is_kind RetransmissionResponse) f.made p m k.there is_a in
-      let all = number_take_all (is_kind RetransmissionResponse) f.made (suc p) in
-      let most = number_take_all (is_kind RetransmissionRequest) e.made u in
       let n = answers_in (take p f.made) in
-      let idx : n ≡ requests_in (take aw.0 e.made) = omega (arith, low, next, all, k.mine.asks.open_requests, ap open_bit ph, most, aw.5, k.theirs.asks.asked, k.theirs.asks.asks_taken) in
+      let idx : n ≡ requests_in (take aw.0 e.made) = omega (arith, number_take_all, low, next, k.mine.asks.open_requests, ap open_bit ph, aw.5, k.theirs.asks.asked, k.theirs.asks.asks_taken) in
       let ask = slice_index_or f.asks n 0 in
-      let c : slice_get f.asks n ≡ Some ask = slice_get-get_or f.asks n 0 (omega (arith, next, all, k.theirs.asks.asked)) in
+      let c : slice_get f.asks n ≡ Some ask = slice_get-get_or f.asks n 0 (omega (arith, number_take_all, next, k.theirs.asks.asked)) in
       let named = k.theirs.asks.answered aw.0 aw.1 aw.2 aw.3 ask (subst (λ j. slice_get f.asks j ≡ Some ask) idx c) in
       let mine = k.mine.accepts.last i a in
       let same = numbered_once f.made k.few_theirs k.theirs.list.numbered ask i named.m mine.m named.there mine.there (named.same ∙ (aw.4 ∙ sym mine.same)) in

@@ -127,11 +127,7 @@ module _ (s : Side) (ph : Phase) (ms : List Made) (m : Made) (a : ℕ) (os : Lis
   make_opener : {ph' : Phase} {os' : List Owed} → Changed s ph m.pdu.kind os ph' os' → is_opener m.pdu.kind ≡ true → ms ≡ []
   make_opener (over d) k = absurd (grind (arith, d))
   make_opener (opened b c d) k = nothing_made s ph ms b open_yet
-  make_opener (goes_on on b c d r) k =
-      ⊎_elim
-      (λ (none : owes is_response_owed os ≡ 0). absurd (let q = ap (owes is_response_owed) (d k).1 in omega (arith, q)))
-      (λ (one : (ms ≡ []) × (os ≡ OweConnectionResponse ∷ [])). one.0)
-      h.response_due
+  make_opener (goes_on on b c d r) k = grind (arith, h.response_due, ap (owes is_response_owed) (d k).1)
 
 -- an end that makes a PDU whose CS names one of the peer's has accepted something
 named_connected : {s : Side} {ph ph' : Phase} {k : Kind} {os os' : List Owed} → Changed s ph k os ph' os' → is_named k ≡ true → has_peer s ph ≡ true

@@ -117,10 +117,7 @@ module _ (q : Parameters) (e f : EndState) (t u : ℕ) (m : Made) (p : ℕ) (k :
   index a =
       let low = number_take_more (is_kind RetransmissionRequest) f.made t p k.above in
       let next = number_take_at (is_kind RetransmissionRequest) f.made p m k.there a in
-      let all = number_take_all (is_kind RetransmissionRequest) f.made (suc p) in
-      let answers = number_take_all (is_kind RetransmissionResponse) e.made u in
-      let bit = bit_most f.phase in
-      omega (arith, low, next, all, answers, bit, k.theirs.asks.open_requests, k.mine.asks.asked, k.mine.asks.asks_taken)
+      omega (arith, number_take_all, bit_most, low, next, k.theirs.asks.open_requests, k.mine.asks.asked, k.mine.asks.asks_taken)
 
   -- the list of asks with one more
   answered_more : (c : ℕ) → IsRequest m → SnIs e.made c m.pdu.cs

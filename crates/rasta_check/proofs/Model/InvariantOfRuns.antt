@@ -74,13 +74,9 @@ quiet_in_run side peer own other =
 
 -- ---- the steps
 
-free_by : (owed : List Owed) (past : Bool) → first_that_holds ((is_owing owed, reply_owed) ∷ (past, past_deadline) ∷ []) ≡ None → owed ≡ []
-free_by [] past e = refl
-free_by (o ∷ os) past e = absurd (cc)
-
 -- an end that takes something owes nothing
 pub free : (p : Parameters) (e : EndState) (clock : ℕ) → take_fault p e clock ≡ None → is_closed e.phase ≡ false → e.owed ≡ []
-free p e clock h c = free_by e.owed (is_past p e.deadline clock) (rw c at h)
+free p e clock h c = grind (arith, h, c)
 
 abbrev Whole : Station → Station → Type 0
 Whole a b = length a.state.made ≤ 1000001 → length b.state.made ≤ 1000001 → All a b

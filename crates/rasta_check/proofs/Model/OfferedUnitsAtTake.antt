@@ -71,8 +71,7 @@ module _ (q : Parameters) (e f : EndState) (t u : ℕ) (m : Made) (p : ℕ) (k :
         returns = rw same_values (record {
           jumps = λ i n g b d a.
               let next = number_take_at (is_kind RetransmissionResponse) e.made i n g b in
-              let all = number_take_all (is_kind RetransmissionResponse) e.made (suc i) in
-              w.returns.jumps i n g b d (sym (get_front_within e.asks _ _ (omega (arith, next, all, no_answers q e f t u m p k free away))) ∙ a);
+              w.returns.jumps i n g b d (sym (get_front_within e.asks _ _ (omega (arith, number_take_all, next, no_answers q e f t u m p k free away))) ∙ a);
           asks_within = all_push {P = λ i d. d < length e.made} e.asks _ w.returns.asks_within (let z = mark q e f t u m p k i.1 i.2 in omega (arith, z.2, z.3));
         });
         contents = w.contents;

@@ -104,9 +104,8 @@ module _ (e f : EndState) (t u : ℕ) (h : Held e t f.made) (peer : Held f u e.m
         let n = responses_in (kinds before) in
         let n_is : n ≡ answers_in (take (length before) e.made) = answers_number before ∙ ap answers_in (sym front) in
         let one = number_take_at (is_kind RetransmissionResponse) e.made (length before) m there r in
-        let all = number_take_all (is_kind RetransmissionResponse) e.made (suc (length before)) in
         let ask = slice_index_or e.asks n 0 in
-        let asked = slice_get-get_or e.asks n 0 (omega (arith, n_is, one, all, h.asks.asked)) in
+        let asked = slice_get-get_or e.asks n 0 (omega (arith, number_take_all, n_is, one, h.asks.asked)) in
         let request = ask_at n ask asked in
         let jump = w.returns.jumps (length before) m there r ask (subst (λ k. slice_get e.asks k ≡ Some ask) n_is asked) in
         (ask, request.0, asked, jump.0, request.1, request.2);

@@ -64,10 +64,8 @@ values_take : (q : Parameters) (e : EndState) (x : SafetyPdu) → answers_in e.m
 values_take q e x h = take_by q e x (λ g. values g ≡ values e) refl (λ r away knows. by r)
   where
     by : (r : TakeRow) → values (effect q r e x) ≡ values e
-    by Requested = values_asks e.asks (position_confirmed e x) e.made h
-    by RequestedAhead = values_asks e.asks (position_confirmed e x) e.made h
-    by RequestedAgain = values_asks e.asks (position_confirmed e x) e.made h
-    by _ = grind arith
+    by Requested = cc (values_asks e.asks (position_confirmed e x) e.made h)
+    by _ = grind (arith, values_asks e.asks (position_confirmed e x) e.made h)
 
 pub grown_take : (q : Parameters) (e : EndState) (x : SafetyPdu) → answers_in e.made ≤ length e.asks → Grown e (after_take q e x)
 grown_take q e x h =
