@@ -105,12 +105,7 @@ module _ (p : Parameters) (e f : EndState) (x : SafetyPdu) (clock : ℕ) (why : 
 module _ (q : Parameters) (e f : EndState) (t u : ℕ) (m : Made) (p : ℕ) (k : Taken e f t u m p) (w : Handed e f) (vf : Valued f) where
   -- the end accepts position p, through which as many are conveyed as through the last one
   same_worth : (i : ℕ) → e.accepted ≡ suc i → slice_get (values f) p ≡ slice_get (values f) i → worth (values f) (suc (e.accepted + steps_past_next e m.pdu)) ≡ worth (values f) e.accepted
-  same_worth i a s =
-      let pl = place q e f t u m p k i a in
-      let now = unwrap_or-slice_get (values f) p 0 in
-      let before = unwrap_or-slice_get (values f) i 0 in
-      let z = ap (worth (values f)) a in
-      cc
+  same_worth i a s = cc (place q e f t u m p k i a, unwrap_or-slice_get (values f) p 0, unwrap_or-slice_get (values f) i 0, ap (worth (values f)) a)
 
   -- nothing is handed up
   keeps : {a sn : ℕ} {ph : Phase} {os : List Owed} → worth (values f) a ≡ worth (values f) e.accepted → (ph ≡ RetrReq → owes is_request_owed os ≡ 0 → ⊥) → HandsOver e.handed e.handed_pdus a sn ph os e.made f.made (values f)

@@ -55,9 +55,8 @@ end_moves p b a a' xs ys (makes x why e' ch res chk bs mk sp rec) =
     (omega (arith, z), omega (arith, z), record { same = λ h. m.same; longer = omega (arith, e, l); most = omega (arith, e, l); grown = λ h. grown })
 end_moves p b a a' xs ys (repeats place ch old c s rec) = (let z = length_push xs (record old { channel = ch }) in (omega (arith, z), omega (arith, z), stands_still _ a.state))
 end_moves p b a a' xs ys (takes q m e' c i s t) =
-    let e = ap (λ (e : EndState). length e.made) t.1 in
-    let f = ap length (take_made p a.state m.pdu) in
-    (omega arith, omega arith, record { same = λ h. absurd (omega arith); longer = omega (arith, e, f); most = omega (arith, e, f); grown = λ h. rw t.1 (grown_take p a.state m.pdu h) })
+    let l = ap length (take_made p a.state m.pdu) in
+    (omega arith, omega arith, rw t.1 (record { same = λ h. absurd (omega arith); longer = omega (arith, l); most = omega (arith, l); grown = grown_take p a.state m.pdu }))
 end_moves p b a a' xs ys _ = (omega arith, omega arith, stands_still _ a.state)
 
 pub stepped : (p : Parameters) (v w : World) → Step p v w → Stepped v w

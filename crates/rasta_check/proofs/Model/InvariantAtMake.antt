@@ -65,8 +65,7 @@ pub SnIs_front : (ms : List Made) (m : Made) (i sn : ℕ) → SnIs ms i sn → S
 SnIs_front ms m i sn s = record { m = s.m; there = get_front ms (m ∷ []) i s.m s.there; same = s.same }
 
 pub push_some : (ms : List Made) (m : Made) → ms ++ m ∷ [] ≡ [] → ⊥
-push_some [] m e = cc
-push_some (x ∷ ms) m e = cc
+push_some ms m e = omega (arith, length_push ms m, ap length e)
 
 -- ---- the peer
 
@@ -106,9 +105,8 @@ module _ (s : Side) (ph : Phase) (ms : List Made) (m : Made) (a : ℕ) (os : Lis
   make_opening (over d) = grind (arith, push_some ms m)
   make_opening (opened b c d) =
       let u = h.unmade c (nothing_made s ph ms b open_yet) in
-      grind (arith, push_some ms m, u, c, ap (owes is_response_owed) u.1)
-  make_opening (goes_on on b c d r) =
-      grind (arith, push_some ms m, on, r, h)
+      grind (arith, push_some ms m, u, c)
+  make_opening (goes_on on b c d r) = grind (arith, push_some ms m, on, r, h)
 
   asking_push : {ph' : Phase} {os' : List Owed} {qs : List ℕ} {t : ℕ} {peer : List Made} → Asking s ph ms qs os t peer → answers_in (ms ++ m ∷ []) ≤ length qs
       → (ended s ph' (ms ++ m ∷ []) ≡ false → answers_in (ms ++ m ∷ []) + owes is_answer_owed os' ≡ length qs)

@@ -45,8 +45,7 @@ pub record All (a b : Station) : Type 0 where
 
 -- the only one of a list of one
 only_at : (x m : Made) (i : ℕ) → slice_get (x ∷ []) i ≡ Some m → (i ≡ 0) × (x ≡ m)
-only_at x m zero e = (refl, cc)
-only_at x m (suc i) e = absurd (cc)
+only_at x m i e = grind arith
 
 -- each quiet PDU confirms the other
 quiet_in_run : (side peer : Side) (own other : QuietEnd) → InRun (quiet_end side own other) 1 (quiet_end peer other own)

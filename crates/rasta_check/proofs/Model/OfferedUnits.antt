@@ -1,6 +1,7 @@
 -- The units that an end offered: what it owes leads to them, its positions convey them, its PDUs carry them.
 use Rattle.std.proofs.Common.{◌≡◌, ℕ, zero, suc, ◌+◌, ◌-◌, ◌<◌, ◌≤◌, true, false, List, [], ◌∷◌, ◌++◌, length, Some, slice_get, take, refl, arith, subst}
 use Rattle.std.specs.Prelude.{slice_index_or}
+use Rattle.std.proofs.lemmas.Option.{unwrap_or-slice_get}
 use Rattle.rasta_pcap.specs.declared.fault.Side.{Side}
 use Rattle.rasta_end.specs.declared.phase.Phase.{Phase}
 use Rattle.rasta_end.specs.declared.owed.Owed.{Owed}
@@ -62,15 +63,12 @@ abbrev pub Valued : EndState → Type 0
 Valued e = Offers e.side e.phase e.made e.asks e.offered e.owed
 
 pub conveyed_most : (vs : List ℕ) (n c : ℕ) → ((p v : ℕ) → slice_get vs p ≡ Some v → v ≤ n) → slice_index_or vs c 0 ≤ n
-conveyed_most [] n c h = omega arith
-conveyed_most (v ∷ vs) n zero h = h 0 v refl
-conveyed_most (v ∷ vs) n (suc c) h = conveyed_most vs n c (λ p w g. h (suc p) w g)
+conveyed_most vs n c h = grind (arith, h, unwrap_or-slice_get vs c 0)
 
 -- What is owed.
 
 pub bare_rest : (u v n : ℕ) (os : List Owed) → os ≡ [] → Due u v n os → v ≡ n
-bare_rest u v n [] e d = d
-bare_rest u v n (o ∷ os) e d = absurd (cc)
+bare_rest u v n os e d = rw e at d
 
 pub rest_due : (u v n : ℕ) (os : List Owed) → DueRest v n os → Due u v n os
 rest_due u v n (OweRetransmissionResponse ∷ os) h = absurd h
@@ -83,7 +81,7 @@ due_le v n (OweRetransmissionResponse ∷ os) h = absurd h
 due_le v n (_ ∷ os) h = due_le v n os h
 
 resends_due_at : (u d n : ℕ) (tail : List Owed) → u + d ≡ n → DueRest n n tail → DueRest u n (resends u d ++ tail)
-resends_due_at u zero n tail e h = let s : n ≡ u = omega (arith, e) in subst (λ v. DueRest v n tail) s h
+resends_due_at u zero n tail e h = (let s : u ≡ n = omega (arith, e) in rw s h)
 resends_due_at u (suc d) n tail e h = (refl, resends_due_at (suc u) d n tail (omega (arith, e)) h)
 
 -- what a retransmission burst owes leads to the units offered

@@ -16,21 +16,17 @@ use Rattle.rasta_check.proofs.laws.confirmed.Goals as goal
 use Rattle.rasta_pdu.specs.declared.kind.Kind.TheVariants.{ConnectionRequest}
 
 -- an end that has accepted something makes no connection request
-not_opening : (p : Parameters) (e : EndState) (x : SafetyPdu) (clock : ℕ) (why : Why) (t i : ℕ) (peer : List Made) → Passed p e x clock why → Held e t peer → e.accepted ≡ suc i
-    → (b : Bool) → is_kind ConnectionRequest x.kind ≡ b → is_kind ConnectionRequest x.kind ≡ false
-not_opening p e x clock why t i peer pass h a false b = b
-not_opening p e x clock why t i peer pass h a true b =
-    let by = made_by p e x clock why pass in
-    let o = opening_is by.how b in
+not_opening : (p : Parameters) (e : EndState) (x : SafetyPdu) (clock : ℕ) (why : Why) (t i : ℕ) (peer : List Made) → Passed p e x clock why → Held e t peer → e.accepted ≡ suc i → is_kind ConnectionRequest x.kind ≡ true → ⊥
+not_opening p e x clock why t i peer pass h a b =
+    let o = opening_is (made_by p e x clock why pass).how b in
     let none = h.opening.unmade o.0 (nothing_made e.side e.phase e.made o.1 pass.open_yet) in
-    absurd (omega (arith, a, none.0))
+    omega (arith, a, none.0)
 
 confirms : (p : Parameters) (e peer : EndState) (t : ℕ) → Held e t peer.made → NamesOne peer e → ConfirmsAccepted p e peer
 confirms p e peer t h once x clock why after i mk a =
     let pass = passed p e x clock why mk.0 in
-    let opens = not_opening p e x clock why t i peer.made pass h a (is_kind ConnectionRequest x.kind) refl in
-    let judged = judged_after e x.kind i a opens in
-    let cs = (cs_is e x.kind x.cs judged pass.cs).1 in
+    let opens : is_kind ConnectionRequest x.kind ≡ false = grind (arith, not_opening p e x clock why t i peer.made pass h a) in
+    let cs = (cs_is e x.kind x.cs (judged_after e x.kind i a opens) pass.cs).1 in
     let last = h.accepts.last i a in
     ((last.m, last.there, last.same ∙ sym cs), λ j n there same. once j i n last.m there last.there (same ∙ (cs ∙ sym last.same)))
 
