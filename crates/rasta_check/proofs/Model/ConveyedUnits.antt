@@ -6,7 +6,7 @@ use Rattle.std.proofs.lemmas.Option.{slice_get-get_or, unwrap_or-slice_get}
 use Rattle.rasta_pdu.specs.declared.kind.Kind.{Kind}
 use Rattle.rasta_pdu.specs.declared.kind.Kind.TheVariants.{Data, RetransmittedData, RetransmissionResponse}
 use Rattle.rasta_end.specs.State.{Made, EndState, kinds}
-use Rattle.rasta_end.specs.Units.{all_units_conveyed, conveyed, units_after, units_at, last_of, responses_in}
+use Rattle.rasta_end.specs.Units.{all_units_conveyed, units_after, units_at, last_of, responses_in}
 use Rattle.rasta_end.proofs.Conveying.{all_units-push, conveyed-responses, length-all_units, length-kinds, more_asks, last-at}
 use Rattle.rasta_end.proofs.Pushing.{kinds-push}
 use Rattle.rasta_check.proofs.Model.Counts.{answers_in}

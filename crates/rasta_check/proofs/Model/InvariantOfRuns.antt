@@ -1,17 +1,15 @@
 -- Every run keeps what holds.
-use Rattle.std.proofs.Common.{◌≡◌, ℕ, zero, suc, ◌≤◌, Bool, false, List, [], ◌∷◌, length, Option, Some, None, slice_get, refl, ap, sym, subst, ◌∙◌, arith, inr}
+use Rattle.std.proofs.Common.{◌≡◌, ℕ, suc, ◌≤◌, false, List, [], ◌∷◌, length, Option, Some, None, slice_get, refl, ap, sym, subst, ◌∙◌, arith, inr}
 use Rattle.std.proofs.lemmas.List.{length_push}
-use Rattle.rasta_pcap.specs.Fault.{reply_owed, past_deadline}
 use Rattle.rasta_pcap.specs.declared.fault.Side.{Side}
 use Rattle.rasta_pcap.specs.declared.fault.Side.TheVariants.{Client, Server}
 use Rattle.rasta_udp.specs.Frame.{Packet}
 use Rattle.rasta_pdu.specs.Params.{Parameters}
 use Rattle.rasta_pdu.specs.declared.quiet_point.Quiet.{Quiet}
 use Rattle.rasta_pdu.specs.declared.quiet_point.QuietEnd.{QuietEnd}
-use Rattle.rasta_end.specs.declared.owed.Owed.{Owed}
-use Rattle.rasta_end.specs.State.{Made, EndState, is_owing, is_closed}
-use Rattle.rasta_end.specs.MakeRule.{first_that_holds, is_past, after_make_by}
-use Rattle.rasta_end.specs.TakeRule.{take_fault, after_take}
+use Rattle.rasta_end.specs.State.{Made, EndState, is_closed}
+use Rattle.rasta_end.specs.MakeRule.{after_make_by}
+use Rattle.rasta_end.specs.TakeRule.{take_fault}
 use Rattle.rasta_end.specs.Starts.{sn_before, quiet_pdu, quiet_end, start_by}
 use Rattle.rasta_check.specs.Model.World.{Station, World, Move, Moves, makes, repeats, arrives, takes, waits, station_of, end_of, other_side, Reaches, IsWithin}
 use Rattle.rasta_check.proofs.Model.PassedTests.{passed}

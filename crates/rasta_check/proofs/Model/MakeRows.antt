@@ -20,8 +20,8 @@ use Rattle.rasta_end.specs.declared.owed.Owed.TheVariants.{ConnectionResponse as
 use Rattle.rasta_end.specs.declared.owed.Demand.{Demand}
 use Rattle.rasta_end.specs.declared.owed.Demand.TheVariants.{First, Nothing, Anything}
 use Rattle.rasta_end.specs.State.{Made, EndState, is_connected, is_active, reason_of}
-use Rattle.rasta_end.specs.MakeRule.{make_row, demand_of, same_owed, lacks, owes_else, is_refused_row, is_owing_else, row_of, unit_of, after_make, after_make_by}
-use Rattle.rasta_check.proofs.Model.PassedTests.{Passed, un_not}
+use Rattle.rasta_end.specs.MakeRule.{make_row, demand_of, lacks, owes_else, is_refused_row, is_owing_else, row_of, unit_of, after_make, after_make_by}
+use Rattle.rasta_check.proofs.Model.PassedTests.{Passed}
 
 -- which row allows a make: side, phase, why, type, what is owed, and the row
 pub data Making : Side → Phase → Why → Kind → List Owed → MakeRow → Type 0 where

@@ -7,7 +7,7 @@ use Rattle.rasta_pdu.specs.Params.{Parameters, AreParameters}
 use Rattle.rasta_end.specs.State.{EndState}
 use Rattle.rasta_end.specs.Starts.{start_of}
 use Rattle.rasta_check.specs.Capture.Crossing.{FirstCopy}
-use Rattle.rasta_check.specs.Model.World.{World, station_of, end_of, other_side, Reaches, IsWithin}
+use Rattle.rasta_check.specs.Model.World.{World, end_of, other_side, Reaches, IsWithin}
 use Rattle.rasta_check.specs.Model.Theorem.{Appends, IsMade}
 use Rattle.rasta_check.proofs.Capture.FaultlessLists.{IsSent}
 use Rattle.rasta_check.proofs.Capture.ListForms.{of_record}

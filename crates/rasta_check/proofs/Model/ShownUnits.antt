@@ -20,14 +20,13 @@ use Rattle.rasta_end.specs.TakeRule.{effect, after_take}
 use Rattle.rasta_check.proofs.Lists.{all_push}
 use Rattle.rasta_check.proofs.Model.PassedTests.{Passed, cs_is}
 use Rattle.rasta_check.proofs.Model.MakeRows.{Making, fresh, MadeBy, new_made}
-use Rattle.rasta_check.proofs.Model.Steps.{Grown, same_grown, grown_take}
+use Rattle.rasta_check.proofs.Model.Steps.{Grown, same_grown}
 use Rattle.rasta_check.proofs.Model.TakeRows.{Knows, take_by, effect_leaves, take_leaves}
 use Rattle.rasta_check.proofs.Model.NamedPositions.{SnIs}
 use Rattle.rasta_check.proofs.Model.Invariant.{Held, is_named}
 use Rattle.rasta_check.proofs.Model.InvariantAtMake.{Changed, changed, over, opened, goes_on, nothing_made}
 use Rattle.rasta_check.proofs.Model.InvariantAtTake.{inner}
 use Rattle.rasta_check.proofs.Model.ConveyedUnits.{values, length-values}
-use Rattle.rasta_check.proofs.Model.Counts.{answers_in}
 use Rattle.rasta_check.proofs.Model.OfferedUnits.{Valued}
 use Rattle.rasta_check.proofs.Model.Requests.{OnceIn}
 use Rattle.rasta_check.proofs.Model.HandedUnits.{Handed, worth_at}

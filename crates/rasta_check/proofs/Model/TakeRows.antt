@@ -1,5 +1,5 @@
 -- The rows of the take table: what each of them knows, and what a take leaves alone.
-use Rattle.std.proofs.Common.{◌≡◌, ℕ, Bool, true, false, List, Option, Some, None, refl, arith}
+use Rattle.std.proofs.Common.{◌≡◌, ℕ, Bool, true, false, Option, Some, None, refl, arith}
 use Rattle.std.specs.Prelude.{if◌then◌else◌}
 use Rattle.rasta_pcap.specs.declared.fault.Side.{Side}
 use Rattle.rasta_pcap.specs.declared.fault.Side.TheVariants.{Client, Server}
@@ -11,7 +11,7 @@ use Rattle.rasta_end.specs.declared.phase.Phase.{Phase}
 use Rattle.rasta_end.specs.declared.phase.Phase.TheVariants.{Down, Start, Up, RetrReq, RetrRun}
 use Rattle.rasta_end.specs.declared.take_row.TakeRow.{TakeRow}
 use Rattle.rasta_end.specs.declared.take_row.TakeRow.TheVariants.{Opened, Answered, FirstHeartbeat, InSequence, ResentInSequence, Gap, GapInRetransmission, Resumed, Requested, RequestedAhead, RequestedAgain, Disconnected}
-use Rattle.rasta_end.specs.State.{Made, EndState, is_closed, is_flowing, is_active, is_timed, carries_unit}
+use Rattle.rasta_end.specs.State.{EndState, is_closed, is_flowing, is_active, is_timed, carries_unit}
 use Rattle.rasta_end.specs.MakeRule.{first_that_holds}
 use Rattle.rasta_end.specs.TakeRule.{is_heartbeat_or_data, take_rows, is_in, is_ahead, is_valid, take_row, effect, effect_by, accept, enter, hand_up, after_take}
 
