@@ -132,7 +132,7 @@ module _ (q : Parameters) (e f : EndState) (t u : ℕ) (m : Made) (p : ℕ) (k :
         count = omega (arith, length_push e.handed e.accepted, old, new);
         labels = all_push e.handed e.accepted
             (λ j pos g. (let r = w.labels j pos g in (r.0, r.1, r.2, r.3, get_front e.handed_pdus (m.pdu ∷ []) j r.0.pdu r.4)))
-            (m, subst (λ x. slice_get f.made x ≡ Some m) (s ∙ sym last) k.there, c, un.3 ∙ ap Some (sym old), subst (λ x. slice_get (e.handed_pdus ++ m.pdu ∷ []) x ≡ Some m.pdu) w.as_many (get_push e.handed_pdus m.pdu));
+            (m, rw (last ∙ sym s) k.there, c, un.3 ∙ ap Some (sym old), rw (← w.as_many) (get_push e.handed_pdus m.pdu));
         as_many = omega (arith, length_push e.handed_pdus m.pdu, length_push e.handed e.accepted, w.as_many);
         awaited = λ r n. absurd (never r);
       }

@@ -22,7 +22,7 @@ use Rattle.rasta_check.proofs.Model.SequenceNumbers.{numbered_push}
 use Rattle.rasta_check.proofs.Model.PassedTests.{Passed, un_not, cs_is}
 use Rattle.rasta_check.proofs.Model.MakeRows.{Making, opening, response, first_beat, answer, again, ask, beat, fresh, MadeBy, new_made}
 use Rattle.rasta_check.proofs.Model.Counts.{owes, tally, number_push, number_take_more, is_answer_owed, is_request_owed, requests_in, answers_in}
-use Rattle.rasta_check.proofs.Model.NamedPositions.{SnIs}
+use Rattle.rasta_check.proofs.Model.NamedPositions.{SnIs_more}
 use Rattle.rasta_check.proofs.Model.Invariant.{Held, Opening, Asking, ended, is_response_owed, is_opener, has_peer, is_named, open_bit, bit_most}
 
 -- how a make changes the phase and what is owed: it ends the connection, opens it, or goes on
@@ -61,9 +61,6 @@ pub nothing_made : (s : Side) (ph : Phase) (ms : List Made) → ph ≡ Closed �
 nothing_made s ph [] e h = refl
 nothing_made s ph (m ∷ ms) e h = absurd (grind arith)
 
-pub SnIs_front : (ms : List Made) (m : Made) (i sn : ℕ) → SnIs ms i sn → SnIs (ms ++ m ∷ []) i sn
-SnIs_front ms m i sn s = record { m = s.m; there = get_front ms (m ∷ []) i s.m s.there; same = s.same }
-
 pub push_some : (ms : List Made) (m : Made) → ms ++ m ∷ [] ≡ [] → ⊥
 push_some ms m e = omega (arith, length_push ms m, ap length e)
 
@@ -92,8 +89,8 @@ peer_make f u ms m h =
       accepts = record {
         reached = h.accepts.reached;
         within = omega (arith, h.accepts.within, length_push ms m);
-        last = λ i e. SnIs_front ms m i f.last_sn (h.accepts.last i e);
-        named = λ p n e k. (let r = h.accepts.named p n e k in (r.0, r.1, SnIs_front ms m r.0 n.pdu.cs r.2));
+        last = λ i e. SnIs_more (get_front ms (m ∷ [])) (h.accepts.last i e);
+        named = λ p n e k. (let r = h.accepts.named p n e k in (r.0, r.1, SnIs_more (get_front ms (m ∷ [])) r.2));
       };
       confirmed = h.confirmed;
     }
@@ -111,10 +108,12 @@ module _ (s : Side) (ph : Phase) (ms : List Made) (m : Made) (a : ℕ) (os : Lis
   asking_push : {ph' : Phase} {os' : List Owed} {qs : List ℕ} {t : ℕ} {peer : List Made} → Asking s ph ms qs os t peer → answers_in (ms ++ m ∷ []) ≤ length qs
       → (ended s ph' (ms ++ m ∷ []) ≡ false → answers_in (ms ++ m ∷ []) + owes is_answer_owed os' ≡ length qs)
       → requests_in (ms ++ m ∷ []) + owes is_request_owed os' ≤ answers_in (take t peer) + open_bit ph' → Asking s ph' (ms ++ m ∷ []) qs os' t peer
-  asking_push w asked owing open_requests = record { asked = asked; owing = owing; answered = λ p n g k c x. SnIs_front ms m c n.pdu.cs (w.answered p n g k c x); asks_taken = w.asks_taken; open_requests = open_requests }
+  asking_push w asked owing open_requests =
+      record { asked = asked; owing = owing; answered = λ p n g k c x. SnIs_more (get_front ms (m ∷ [])) (w.answered p n g k c x); asks_taken = w.asks_taken; open_requests = open_requests }
 
   make_asking : {ph' : Phase} {os' : List Owed} (qs : List ℕ) (t : ℕ) (peer : List Made) → Changed s ph m.pdu.kind os ph' os' → Asking s ph ms qs os t peer → Asking s ph' (ms ++ m ∷ []) qs os' t peer
-  make_asking qs t peer (over d) w = asking_push w (grind (arith, number_push, w.asked, d)) (λ v. absurd (let z = over_after s Closed ms m refl in cc)) (grind (arith, number_push, w.open_requests, bit_most ph, d))
+  make_asking qs t peer (over d) w =
+      asking_push w (grind (arith, number_push, w.asked, d)) (λ v. absurd (let z = over_after s Closed ms m refl in cc)) (grind (arith, number_push, w.open_requests, bit_most ph, d))
   make_asking qs t peer (opened b c d) w =
       let none = nothing_made s ph ms b open_yet in
       let owed = ap (owes is_request_owed) (h.unmade c none).1 in

@@ -110,7 +110,9 @@ module _ (q : Parameters) (e f : EndState) (t u : ℕ) (m : Made) (p : ℕ) (k :
   -- no ask joins
   passes : (ph : Phase) (os : List Owed) → (ended e.side ph e.made ≡ false → answers_in e.made + owes is_answer_owed os ≡ length e.asks)
       → requests_in e.made + owes is_request_owed os ≤ answers_in (take (suc p) f.made) + open_bit ph → Asking e.side ph e.made e.asks os (suc p) f.made
-  passes ph os owing open_requests = record { asked = k.mine.asks.asked; owing = owing; answered = k.mine.asks.answered; asks_taken = omega (arith, k.mine.asks.asks_taken, number_take_more (is_kind RetransmissionRequest) f.made t (suc p), k.above); open_requests = open_requests }
+  passes ph os owing open_requests =
+      let taken : length e.asks ≤ requests_in (take (suc p) f.made) = omega (arith, k.mine.asks.asks_taken, number_take_more (is_kind RetransmissionRequest) f.made t (suc p), k.above) in
+      record { asked = k.mine.asks.asked; owing = owing; answered = k.mine.asks.answered; asks_taken = taken; open_requests = open_requests }
 
   -- a request that is answered is the one after those that were
   pub index : IsRequest m → requests_in (take p f.made) ≡ length e.asks

@@ -142,4 +142,5 @@ turned a b g l m = (let h = g m l in record { mine = h.theirs; theirs = h.mine }
 
 pub all_held : (p : Parameters) (ws : List World) (w : World) (side : Side) → Reaches p ws w → IsWithin p w → All (station_of w side) (station_of w (other_side side))
 all_held p ws w side r within =
-    always p Whole turned (λ m n l k. record { mine = first_in_run p.quiet Client; theirs = first_in_run p.quiet Server }) (all_kept p) ws w side r (few_made p w within side) (few_made p w within (other_side side))
+    always p Whole turned (λ m n l k. record { mine = first_in_run p.quiet Client; theirs = first_in_run p.quiet Server }) (all_kept p) ws w side r
+    (few_made p w within side) (few_made p w within (other_side side))

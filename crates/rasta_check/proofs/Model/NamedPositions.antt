@@ -14,6 +14,10 @@ pub record SnIs (ms : List Made) (i sn : ℕ) : Type 0 where
   pub there : slice_get ms i ≡ Some m
   pub same : m.pdu.sn ≡ sn
 
+-- it has it in a list that goes on
+pub SnIs_more : {ms ms' : List Made} {i sn : ℕ} → ((j : ℕ) (m : Made) → slice_get ms j ≡ Some m → slice_get ms' j ≡ Some m) → SnIs ms i sn → SnIs ms' i sn
+SnIs_more more s = record { m = s.m; there = more _ s.m s.there; same = s.same }
+
 -- modulo 2^32 an SN is the first one and its position
 pub sn_mod : (ms : List Made) (i sn : ℕ) → Numbered ms → SnIs ms i sn → sn % 2 ^ 32 ≡ (first_sn ms + i) % 2 ^ 32
 sn_mod ms i sn h s = ap (λ n. n % 2 ^ 32) (sym s.same) ∙ sn_from_first ms i s.m h s.there

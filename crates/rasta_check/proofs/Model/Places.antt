@@ -31,7 +31,11 @@ made_then p ws w side own peer r mine theirs few few_theirs j d v next a there =
     let low = slice_get_within b.told.own j d (b.mine.kept j d there (let y = a.after in omega arith)) in
     let sent = b0.told.sends.sent in
     let old : j < length b0.told.own → ⊥ =
-    λ z. (let c = slice_get_some b0.told.own j z in let k = sent.firsts j c.0 c.1 in let i = slice_get_within v.crossed c.0.place k.0 k.1 in let same : c.0 ≡ d = (let l = b0.mine.listed j c.0 c.1 in cc) in let q = ap (λ (c : FirstCopy). c.place) same in let l = a.before in omega arith) in
+    λ z.
+    let c = slice_get_some b0.told.own j z in
+    let k = sent.firsts j c.0 c.1 in
+    let same : c.0 ≡ d = (let l = b0.mine.listed j c.0 c.1 in cc) in
+    omega (arith, ap (λ (x : FirstCopy). x.place) same, slice_get_within v.crossed c.0.place k.0 k.1, a.before) in
     (omega (arith, old, most, before_is, after_is, low), omega (arith, old, most, before_is, after_is, low))
 
 few_sent : (p : Parameters) (s : Side) (xs : List Packet) (own : List FirstCopy) (e : EndState) (n : ℕ) → Sends p s xs own e n → length e.made ≤ (start_of p s).base + 1000000 → length own ≤ 1000000

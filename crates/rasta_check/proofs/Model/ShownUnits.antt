@@ -22,7 +22,7 @@ use Rattle.rasta_check.proofs.Model.PassedTests.{Passed, cs_is}
 use Rattle.rasta_check.proofs.Model.MakeRows.{Making, fresh, MadeBy, new_made}
 use Rattle.rasta_check.proofs.Model.Steps.{Grown, same_grown}
 use Rattle.rasta_check.proofs.Model.TakeRows.{Knows, take_by, effect_leaves, take_leaves}
-use Rattle.rasta_check.proofs.Model.NamedPositions.{SnIs}
+use Rattle.rasta_check.proofs.Model.NamedPositions.{SnIs, SnIs_more}
 use Rattle.rasta_check.proofs.Model.Invariant.{Held, is_named}
 use Rattle.rasta_check.proofs.Model.InvariantAtMake.{Changed, changed, over, opened, goes_on, nothing_made}
 use Rattle.rasta_check.proofs.Model.InvariantAtTake.{inner}
@@ -50,7 +50,7 @@ pub record Shown (e f : EndState) : Type 0 where
   pub ready_offer : 0 < f.offered → 0 < e.accepted
 
 pub shows_grown : (f f' : EndState) (n n' cs : ℕ) → n ≤ n' → Grown f f' → Shows f n cs → Shows f' n' cs
-shows_grown f f' n n' cs l g s = record { at = s.at; units = s.units; named = record { m = s.named.m; there = g.made _ _ s.named.there; same = s.named.same }; conveyed = g.kept _ _ s.conveyed; most = omega (arith, s.most) }
+shows_grown f f' n n' cs l g s = record { at = s.at; units = s.units; named = SnIs_more g.made s.named; conveyed = g.kept _ _ s.conveyed; most = omega (arith, s.most) }
 
 -- no position that has this CS as its SN conveys more
 pub shown_most : (f : EndState) (n a cs : ℕ) → OnceIn f.made → Valued f → (a ≡ 0 → f.offered ≡ 0) → (a ≡ 0) ⊎ Shows f n cs → (c v : ℕ) → SnIs f.made c cs → slice_get (values f) c ≡ Some v → v ≤ n
@@ -94,7 +94,13 @@ module _ (p : Parameters) (e f : EndState) (x : SafetyPdu) (clock : ℕ) (why : 
 -- The peer makes or takes.
 
 shown_peer : (e f f' : EndState) → Grown f f' → Shown e f → (is_connected f'.phase ≡ true → 0 < e.accepted) → (0 < f'.offered → 0 < e.accepted) → Shown e f'
-shown_peer e f f' g w run offer = record { shown = λ i m there k. ⊎_map (λ z. z) (shows_grown f f' _ _ m.pdu.cs (omega arith) g) (w.shown i m there k); first_words = w.first_words; ready_run = run; ready_offer = offer }
+shown_peer e f f' g w run offer =
+    record {
+      shown = λ i m there k. ⊎_map (λ z. z) (shows_grown f f' _ _ m.pdu.cs (omega arith) g) (w.shown i m there k);
+      first_words = w.first_words;
+      ready_run = run;
+      ready_offer = offer;
+    }
 
 offers_by : {s : Side} {ph : Phase} {why : Why} {k : Kind} {os : List Owed} {row : MakeRow} (n : ℕ) → Making s ph why k os row → 0 < offered_after row n → (0 < n) ⊎ (is_connected ph ≡ true)
 offers_by n (fresh r) l = inr r

@@ -40,7 +40,8 @@ made_more p e x clock why e' mk =
     let pass = passed p e x clock why mk.0 in
     let m = made_by p e x clock why pass in
     let after : e' ≡ after_make_by (Some m.row) e x clock = mk.1 ∙ sym (after_row e x clock why m) in
-    rw after (record { new = new_made m.row e x; pdu = refl; made = refl; now = refl; rises = grind (arith, nat_tests, pass.rises); side = refl; base = refl; same = record { positions = refl; pdus = refl } })
+    let rises : e.clock ≤ clock = grind (arith, nat_tests, pass.rises) in
+    rw after (record { new = new_made m.row e x; pdu = refl; made = refl; now = refl; rises = rises; side = refl; base = refl; same = record { positions = refl; pdus = refl } })
 
 -- what of an end stays
 pub record Grown (e e' : EndState) : Type 0 where
