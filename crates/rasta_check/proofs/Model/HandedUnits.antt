@@ -119,10 +119,9 @@ module _ (q : Parameters) (e f : EndState) (t u : ℕ) (m : Made) (p : ℕ) (k :
   in_place b i a = grind (arith, nat_tests, b, place q e f t u m p k i a)
 
   -- a unit in sequence is handed up
-  hands : {sn : ℕ} {ph : Phase} {os : List Owed} (row : TakeRow) → Knows q row e m.pdu → is_inner row ≡ true → is_in e m.pdu ≡ true → carries_unit m.pdu.kind ≡ true → (ph ≡ RetrReq → ⊥)
+  hands : {sn : ℕ} {ph : Phase} {os : List Owed} → (i : ℕ) × (e.accepted ≡ suc i) → is_in e m.pdu ≡ true → carries_unit m.pdu.kind ≡ true → (ph ≡ RetrReq → ⊥)
       → HandsOver (e.handed ++ e.accepted ∷ []) (e.handed_pdus ++ m.pdu ∷ []) (suc (e.accepted + steps_past_next e m.pdu)) sn ph os e.made f.made (values f)
-  hands row x inside b c never =
-      let (i, last) = last_place row x inside in
+  hands (i, last) b c never =
       let s = in_place b i last in
       let un = vf.positions.units p m k.there c in
       let lab : slice_get (values f) i ≡ Some un.1 = grind (arith, s, un.2, un.4) in
@@ -138,11 +137,9 @@ module _ (q : Parameters) (e f : EndState) (t u : ℕ) (m : Made) (p : ℕ) (k :
       }
 
   -- a plain PDU in sequence hands nothing up
-  plain : {sn : ℕ} {ph : Phase} {os : List Owed} (row : TakeRow) → Knows q row e m.pdu → is_inner row ≡ true → is_in e m.pdu ≡ true → is_plain m.pdu.kind ≡ true → (ph ≡ RetrReq → ⊥)
+  plain : {sn : ℕ} {ph : Phase} {os : List Owed} → (i : ℕ) × (e.accepted ≡ suc i) → is_in e m.pdu ≡ true → is_plain m.pdu.kind ≡ true → (ph ≡ RetrReq → ⊥)
       → HandsOver e.handed e.handed_pdus (suc (e.accepted + steps_past_next e m.pdu)) sn ph os e.made f.made (values f)
-  plain row x inside b c never =
-      let (i, last) = last_place row x inside in
-      keeps (same_worth i last (vf.positions.others p m k.there c i (in_place b i last))) (λ r n. never r)
+  plain (i, last) b c never = keeps (same_worth i last (vf.positions.others p m k.there c i (in_place b i last))) (λ r n. never r)
 
   -- the retransmission response goes back to the last accepted position
   resumed : e.phase ≡ RetrReq → e.owed ≡ [] → m.pdu.kind ≡ RetransmissionResponse → (i : ℕ) → e.accepted ≡ suc i → slice_get (values f) p ≡ slice_get (values f) i
@@ -167,13 +164,13 @@ module _ (q : Parameters) (e f : EndState) (t u : ℕ) (m : Made) (p : ℕ) (k :
   h_row : e.owed ≡ [] → (r : TakeRow) → Knows q r e m.pdu → Handed (effect q r e m.pdu) f
   h_row free Opened x = first_by (λ r. cc (r)) (k.mine.opening.down x.0).2
   h_row free Answered x = first_by (λ r. cc (r)) (k.mine.opening.starting x.0 x.1)
-  h_row free FirstHeartbeat x = plain FirstHeartbeat x refl x.4 (ap is_plain x.2) (λ r. cc (r))
+  h_row free FirstHeartbeat x = plain (last_place FirstHeartbeat x refl) x.4 (ap is_plain x.2) (λ r. cc (r))
   h_row free InSequence x =
-      by_unit (λ e'. Handed e' f) (carries_unit m.pdu.kind) e.accepted _ m.pdu (λ c. hands InSequence x refl x.3 c (λ r. cc (r))) (λ c. plain InSequence x refl x.3 (grind (arith, x.1, c)) (λ r. cc (r)))
+      by_unit (λ e'. Handed e' f) (carries_unit m.pdu.kind) e.accepted _ m.pdu (λ c. hands (last_place InSequence x refl) x.3 c (λ r. cc (r))) (λ c. plain (last_place InSequence x refl) x.3 (grind (arith, x.1, c)) (λ r. cc (r)))
   h_row free ResentInSequence x =
-      by_unit (λ e'. Handed e' f) (carries_unit m.pdu.kind) e.accepted _ m.pdu (λ c. hands ResentInSequence x refl x.3 c (λ r. cc (x.0, r))) (λ c. absurd (let unit = ap carries_unit x.1 in cc))
+      by_unit (λ e'. Handed e' f) (carries_unit m.pdu.kind) e.accepted _ m.pdu (λ c. hands (last_place ResentInSequence x refl) x.3 c (λ r. cc (x.0, r))) (λ c. absurd (let unit = ap carries_unit x.1 in cc))
   h_row free Resumed x = (let a = last_place Resumed x refl in keeps (same_worth a.0 a.1 (resumed x.0 free x.1 a.0 a.1)) (λ r n. cc (r)))
-  h_row free Requested x = plain Requested x refl x.3 (ap is_plain x.1) (λ r. (let z = ap is_flowing r in cc))
+  h_row free Requested x = plain (last_place Requested x refl) x.3 (ap is_plain x.1) (λ r. (let z = ap is_flowing r in cc))
   h_row free RequestedAhead x = keeps refl (λ r n. (let a = owes-append is_request_owed (burst e (position_confirmed e m.pdu)) (OweRetransmissionRequest ∷ []) in omega arith))
   h_row free RequestedAgain x = record { count = w.count; labels = w.labels; as_many = w.as_many; awaited = λ r n. w.awaited x.0 (ap (owes is_request_owed) free) }
   h_row free _ x = keeps refl (λ r n. cc)

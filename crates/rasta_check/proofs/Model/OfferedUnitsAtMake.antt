@@ -108,14 +108,11 @@ module _ (p : Parameters) (e : EndState) (x : SafetyPdu) (clock : ℕ) (why : Wh
   long : length (values e) ≡ length e.made
   long = length-values e.asks e.made
 
-  some_made : is_plain x.kind ≡ false → 0 < length e.made
-  some_made u = w.grown (unit_runs b.how u)
-
   abbrev next : ℕ
   next = units_next (jump e) (last_of (values e)) x.kind
 
   value_is : value ≡ next
-  value_is = after_is e.asks (values e) (answers_in e.made) x.kind (λ u. omega (arith, long, some_made u))
+  value_is = after_is e.asks (values e) (answers_in e.made) x.kind (λ u. omega (arith, long, w.grown (unit_runs b.how u)))
 
   step : Leads (jump e) (last_of (values e)) e.offered e.phase x.kind b.row e.owed
   step =
@@ -152,7 +149,7 @@ module _ (p : Parameters) (e : EndState) (x : SafetyPdu) (clock : ℕ) (why : Wh
         units = all_push e.made new
             (λ i n g u. (let r = w.positions.units i n g u in (r.0, r.1, r.2, r.3, get_front (values e) (value ∷ []) r.0 r.1 r.4, get_front (values e) (value ∷ []) i (suc r.1) r.5)))
             (λ u.
-            let last : length e.made ≡ suc (length e.made - 1) = omega (arith, some_made (grind arith)) in
+            let last : length e.made ≡ suc (length e.made - 1) = omega (arith, w.grown (unit_runs b.how (grind arith))) in
             let unit = unit_made (jump e) (last_of (values e)) e.offered b.how (w.due pass.open_yet) u in
             (length e.made - 1, last_of (values e), last, unit, previous (length e.made - 1) last, at_new ∙ ap Some (grind (arith, value_is))));
         others = all_push e.made new
