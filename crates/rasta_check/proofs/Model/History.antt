@@ -49,10 +49,7 @@ end_moves p b a a' xs ys (makes x why e' ch res chk bs mk sp rec) =
     let e = ap length m.made in
     let l = length_push a.state.made m.new in
     let z = length_push xs (record { channel = ch; side = a.state.side; payload = bs }) in
-    let ok = passed p a.state x a.clock why mk.0 in
-    let by = made_by p a.state x a.clock why ok in
-    let grown : Grown a.state e' = rw (mk.1 ∙ sym (after_row a.state x a.clock why by)) (grown_make p a.state x a.clock why by ok) in
-    (omega (arith, z), omega (arith, z), record { same = λ h. m.same; longer = omega (arith, e, l); most = omega (arith, e, l); grown = λ h. grown })
+    (omega (arith, z), omega (arith, z), record { same = λ h. m.same; longer = omega (arith, e, l); most = omega (arith, e, l); grown = λ h. m.grown })
 end_moves p b a a' xs ys (repeats place ch old c s rec) = (let z = length_push xs (record old { channel = ch }) in (omega (arith, z), omega (arith, z), stands_still _ a.state))
 end_moves p b a a' xs ys (takes q m e' c i s t) =
     let l = ap length (take_made p a.state m.pdu) in

@@ -54,11 +54,9 @@ module _ (q : Parameters) (e f : EndState) (t u : ℕ) (m : Made) (p : ℕ) (k :
   burst_jump : jump asked ≡ back
   burst_jump = grind (arith, no_answers q e f t u m p k free away, get_push e.asks (position_confirmed e m.pdu), same_values)
 
+  -- what a burst owes, with a request after it or without
   burst_due : (tail : List Owed) → DueRest e.offered e.offered tail → DueRest (jump asked) e.offered (resends back (e.offered - back) ++ tail)
   burst_due tail d = rw burst_jump (resends_due back e.offered tail (conveyed_most (values e) e.offered _ w.positions.bounded) d)
-
-  burst_due_bare : DueRest (jump asked) e.offered (resends back (e.offered - back))
-  burst_due_bare = rw (append-nil (resends back (e.offered - back))) at (burst_due [] refl)
 
   burdened : (row : TakeRow) → Knows q row e m.pdu → is_inner row ≡ true → {ph : Phase} {rest : List Owed} → DueRest (jump asked) e.offered rest
       → Offers e.side ph e.made asked.asks e.offered (OweRetransmissionResponse ∷ rest)
@@ -83,9 +81,9 @@ module _ (q : Parameters) (e f : EndState) (t u : ℕ) (m : Made) (p : ℕ) (k :
   v_row Answered x = unasked bare_due (λ _. made_some (ap is_named x.2) x.3)
   v_row Gap x = unasked bare_due (λ _. inner_some Gap x refl)
   v_row GapInRetransmission x = unasked bare_due (λ _. inner_some GapInRetransmission x refl)
-  v_row Requested x = burdened Requested x refl burst_due_bare
+  v_row Requested x = burdened Requested x refl (rw (append-nil (resends back (e.offered - back))) at (burst_due [] refl))
   v_row RequestedAhead x = burdened RequestedAhead x refl (burst_due (OweRetransmissionRequest ∷ []) refl)
-  v_row RequestedAgain x = burdened RequestedAgain x refl burst_due_bare
+  v_row RequestedAgain x = burdened RequestedAgain x refl (rw (append-nil (resends back (e.offered - back))) at (burst_due [] refl))
   v_row Disconnected x = unchanged (λ g. absurd (cc))
   v_row r x = unchanged (λ _. inner_some r x refl)
 

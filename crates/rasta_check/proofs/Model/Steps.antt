@@ -19,30 +19,6 @@ use Rattle.rasta_check.proofs.Model.TakeRows.{take_by, take_made}
 use Rattle.rasta_check.proofs.Model.PassedTests.{Passed, passed}
 use Rattle.rasta_check.proofs.Model.MakeRows.{MadeBy, made_by, after_row, new_made}
 
--- nothing more was handed up
-pub record SameHanded (e e' : EndState) : Type 0 where
-  pub positions : e'.handed ≡ e.handed
-  pub pdus : e'.handed_pdus ≡ e.handed_pdus
-
--- an end after a make
-pub record AfterMake (e : EndState) (x : SafetyPdu) (clock : ℕ) (e' : EndState) : Type 0 where
-  pub new : Made
-  pub pdu : new.pdu ≡ x
-  pub made : e'.made ≡ e.made ++ new ∷ []
-  pub now : e'.clock ≡ clock
-  pub rises : e.clock ≤ clock
-  pub side : e'.side ≡ e.side
-  pub base : e'.base ≡ e.base
-  pub same : SameHanded e e'
-
-pub made_more : (p : Parameters) (e : EndState) (x : SafetyPdu) (clock : ℕ) (why : Why) (e' : EndState) → Makes p e x clock why e' → AfterMake e x clock e'
-made_more p e x clock why e' mk =
-    let pass = passed p e x clock why mk.0 in
-    let m = made_by p e x clock why pass in
-    let after : e' ≡ after_make_by (Some m.row) e x clock = mk.1 ∙ sym (after_row e x clock why m) in
-    let rises : e.clock ≤ clock = grind (arith, nat_tests, pass.rises) in
-    rw after (record { new = new_made m.row e x; pdu = refl; made = refl; now = refl; rises = rises; side = refl; base = refl; same = record { positions = refl; pdus = refl } })
-
 -- what of an end stays
 pub record Grown (e e' : EndState) : Type 0 where
   pub made : (i : ℕ) (m : Made) → slice_get e.made i ≡ Some m → slice_get e'.made i ≡ Some m
@@ -59,6 +35,40 @@ grown_make p e x clock why b pass =
       kept = λ i v g. rw (values_push e.asks e.made (new_made b.row e x)) (get_front (values e) _ i v g);
       over = λ h. absurd (let z = pass.open_yet in cc);
     }
+
+-- nothing more was handed up
+pub record SameHanded (e e' : EndState) : Type 0 where
+  pub positions : e'.handed ≡ e.handed
+  pub pdus : e'.handed_pdus ≡ e.handed_pdus
+
+-- an end after a make
+pub record AfterMake (e : EndState) (x : SafetyPdu) (clock : ℕ) (e' : EndState) : Type 0 where
+  pub new : Made
+  pub pdu : new.pdu ≡ x
+  pub made : e'.made ≡ e.made ++ new ∷ []
+  pub now : e'.clock ≡ clock
+  pub rises : e.clock ≤ clock
+  pub side : e'.side ≡ e.side
+  pub base : e'.base ≡ e.base
+  pub same : SameHanded e e'
+  pub grown : Grown e e'
+
+pub made_more : (p : Parameters) (e : EndState) (x : SafetyPdu) (clock : ℕ) (why : Why) (e' : EndState) → Makes p e x clock why e' → AfterMake e x clock e'
+made_more p e x clock why e' mk =
+    let pass = passed p e x clock why mk.0 in
+    let m = made_by p e x clock why pass in
+    let after : e' ≡ after_make_by (Some m.row) e x clock = mk.1 ∙ sym (after_row e x clock why m) in
+    rw after (record {
+      new = new_made m.row e x;
+      pdu = refl;
+      made = refl;
+      now = refl;
+      rises = grind (arith, nat_tests, pass.rises);
+      side = refl;
+      base = refl;
+      same = record { positions = refl; pdus = refl };
+      grown = grown_make p e x clock why m pass;
+    })
 
 -- a take leaves the units conveyed through each position
 values_take : (q : Parameters) (e : EndState) (x : SafetyPdu) → answers_in e.made ≤ length e.asks → values (after_take q e x) ≡ values e
