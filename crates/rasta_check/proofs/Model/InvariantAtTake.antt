@@ -50,7 +50,7 @@ over_not ph b e = ap (λ c. c && b) e
 -- resends are neither requests nor responses
 owes-resends : (f : Owed → Bool) → ((k : ℕ) → f (OweResend k) ≡ false) → (k n : ℕ) → owes f (resends k n) ≡ 0
 owes-resends f none k zero = refl
-owes-resends f none k (suc n) = ap (λ b. tally b (owes f (resends (suc k) n))) (none k) ∙ owes-resends f none (suc k) n
+owes-resends f none k (suc n) = grind (arith, none k, owes-resends f none (suc k) n)
 
 -- a burst owes one retransmission response and nothing else that is counted; with a request after it, that request
 record Burdens (os : List Owed) (requests : ℕ) : Type 0 where
@@ -59,15 +59,10 @@ record Burdens (os : List Owed) (requests : ℕ) : Type 0 where
   asks : owes is_request_owed os ≡ requests
 
 burst_burdens : (e : EndState) (c : ℕ) → Burdens (burst e c) 0
-burst_burdens e c =
-    let u = units_conveyed e.asks (kinds e.made) c in
-    let none = λ (f : Owed → Bool) (h : (j : ℕ) → f (OweResend j) ≡ false). owes-resends f h u (e.offered - u) in
-    record { response = none is_response_owed (λ j. refl); answers = ap suc (none is_answer_owed (λ j. refl)); asks = none is_request_owed (λ j. refl) }
+burst_burdens e c = grind (arith, owes-resends is_response_owed (λ j. refl), owes-resends is_answer_owed (λ j. refl), owes-resends is_request_owed (λ j. refl))
 
 burst_and_request : (e : EndState) (c : ℕ) → Burdens (burst e c ++ OweRetransmissionRequest ∷ []) 1
-burst_and_request e c =
-    let b = burst_burdens e c in
-    record { response = grind (arith, owes-append, b.response); answers = grind (arith, owes-append, b.answers); asks = grind (arith, owes-append, b.asks) }
+burst_and_request e c = grind (arith, owes-append, burst_burdens e c)
 
 -- ---- a take
 
