@@ -76,9 +76,7 @@ rest_due u v n _ h = h
 
 pub due_le : (v n : ℕ) (os : List Owed) → DueRest v n os → v ≤ n
 due_le v n [] h = omega arith
-due_le v n (OweResend k ∷ os) h = (let l = due_le (suc v) n os h.1 in omega (arith, l))
-due_le v n (OweRetransmissionResponse ∷ os) h = absurd h
-due_le v n (_ ∷ os) h = due_le v n os h
+due_le v n (o ∷ os) h = grind (arith, h, due_le v n os, due_le (suc v) n os)
 
 resends_due_at : (u d n : ℕ) (tail : List Owed) → u + d ≡ n → DueRest n n tail → DueRest u n (resends u d ++ tail)
 resends_due_at u zero n tail e h = (let s : u ≡ n = omega (arith, e) in rw s h)

@@ -126,9 +126,8 @@ handed_more q e x _ = grind (arith, length_push e.handed e.accepted)
 
 -- a take accepts more, if anything
 accepted_more : (q : Parameters) (e : EndState) (x : SafetyPdu) (t : ℕ) (peer : List Made) → Held e t peer → (r : TakeRow) → Knows q r e x → e.accepted ≤ (effect q r e x).accepted
-accepted_more q e x t peer h Opened w = (let z = (h.opening.down w.0).2 in omega (arith, z))
-accepted_more q e x t peer h Answered w = (let z = h.opening.starting w.0 w.1 in omega (arith, z))
-accepted_more q e x t peer h _ w = grind arith
+accepted_more q e x t peer h Opened w = grind (arith, h.opening.down w.0)
+accepted_more q e x t peer h r w = grind (arith, h.opening.starting, w)
 
 module _ (q : Parameters) (e f : EndState) (x : SafetyPdu) (t : ℕ) (h : Held e t f.made) (w : Shown e f) where
   shown_by : (r : TakeRow) → is_closed e.phase ≡ false → Knows q r e x → Shown (effect q r e x) f
@@ -141,8 +140,8 @@ module _ (q : Parameters) (e f : EndState) (x : SafetyPdu) (t : ℕ) (h : Held e
             (λ (z : Shows f (length e.handed) m.pdu.cs). inr (shows_grown f f _ _ m.pdu.cs (handed_more q e x r) (same_grown f) z))
             (w.shown i m (back i m g) k);
         first_words = λ a d i m g. w.first_words (omega (arith, more, a)) away i m (back i m g);
-        ready_run = λ c. (let z = w.ready_run c in omega (arith, z, more));
-        ready_offer = λ l. (let z = w.ready_offer l in omega (arith, z, more));
+        ready_run = λ c. omega (arith, w.ready_run c, more);
+        ready_offer = λ l. omega (arith, w.ready_offer l, more);
       }
 
   pub shown_take : Shown (after_take q e x) f
