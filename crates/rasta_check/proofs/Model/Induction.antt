@@ -4,7 +4,7 @@ use Rattle.rasta_pcap.specs.declared.fault.Side.{Side}
 use Rattle.rasta_pcap.specs.declared.fault.Side.TheVariants.{Client, Server}
 use Rattle.rasta_udp.specs.Frame.{Packet}
 use Rattle.rasta_pdu.specs.Params.{Parameters}
-use Rattle.rasta_check.specs.Model.World.{Station, World, Move, Moves, Step, side_moves, station_of, other_side, Reaches, begins, goes_on, first_station}
+use Rattle.rasta_check.specs.Model.World.{Station, World, Move, Moves, side_moves, station_of, other_side, Reaches, begins, goes_on, first_station}
 
 -- of the two stations, whichever stands first
 module _ (p : Parameters) (Good : Station → Station → Type 0)
