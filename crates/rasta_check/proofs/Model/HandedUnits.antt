@@ -192,16 +192,15 @@ unfolding messages_of
 messages_by_content (Messages payload) = refl
 messages_by_content _ = refl
 
--- the i-th PDU handed up carries the messages of the i-th data PDU
-handed_messages : (e f : EndState) → Valued f → Handed e f → (i : ℕ) (x : SafetyPdu) → slice_get e.handed_pdus i ≡ Some x
-    → (m : Made) × (slice_get (filter (λ (n : Made). is_kind Data n.pdu.kind) f.made) i ≡ Some m) × (messages_in x.body ≡ messages_in m.pdu.body)
-handed_messages e f vf w i x g =
-    let l : i < length e.handed = omega (arith, slice_get_within e.handed_pdus i x g, w.as_many) in
-    let r = w.labels i _ (slice_get-get_or e.handed i 0 l) in
-    let same : r.0.pdu ≡ x = (let z : Some r.0.pdu ≡ Some x = sym r.4 ∙ g in cc) in
-    let content = (vf.contents.carried _ r.0 r.1 i r.3).1 in
-    let d = get_mapped (λ (n : Made). content_of n.pdu.body) (filter (λ (n : Made). is_kind Data n.pdu.kind) f.made) i (content_of r.0.pdu.body) content in
-    (d.0, d.1, ap (λ (y : SafetyPdu). messages_in y.body) (sym same) ∙ (messages_by_content r.0.pdu.body ∙ (ap messages_of (sym d.2) ∙ sym (messages_by_content d.0.pdu.body))))
-
 pub hands_up_units : (e f : EndState) → Valued f → Handed e f → HandsUpUnits e f
-hands_up_units e f vf w = record { labels = hands_up e f w; messages = handed_messages e f vf w }
+hands_up_units e f vf w =
+    record {
+      labels = hands_up e f w;
+      -- the i-th PDU handed up carries the messages of the i-th data PDU
+      messages = λ i x g.
+          let r = w.labels i _ (slice_get-get_or e.handed i 0 (omega (arith, slice_get_within e.handed_pdus i x g, w.as_many))) in
+          let same : r.0.pdu ≡ x = (let z : Some r.0.pdu ≡ Some x = sym r.4 ∙ g in cc) in
+          let content = (vf.contents.carried _ r.0 r.1 i r.3).1 in
+          let d = get_mapped (λ (n : Made). content_of n.pdu.body) (filter (λ (n : Made). is_kind Data n.pdu.kind) f.made) i (content_of r.0.pdu.body) content in
+          (d.0, d.1, cc (same, d.2, messages_by_content r.0.pdu.body, messages_by_content d.0.pdu.body));
+    }

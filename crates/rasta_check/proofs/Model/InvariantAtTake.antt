@@ -19,7 +19,7 @@ use Rattle.rasta_end.specs.TakeRule.{steps_past_next, is_valid, position_confirm
 use Rattle.rasta_check.proofs.Lists.{get_push_cases}
 use Rattle.rasta_check.proofs.Model.TakeRows.{Premise, Knows, bare_effect, take_bare}
 use Rattle.rasta_check.proofs.Model.Counts.{owes, number_take_all, number_take_more, number_take_at, is_answer_owed, is_request_owed, owes-append, requests_in, answers_in, IsRequest}
-use Rattle.rasta_check.proofs.Model.NamedPositions.{SnIs, position_is, confirms_is}
+use Rattle.rasta_check.proofs.Model.NamedPositions.{SnIs, position_is, valid_at}
 use Rattle.rasta_check.proofs.Model.Invariant.{ended, Held, Holds, Opening, Asking, Accepting, is_response_owed, is_opener, has_peer, is_named, open_bit, bit_most}
 
 -- ---- rows between the opening and the end
@@ -78,9 +78,6 @@ module _ (q : Parameters) (e f : EndState) (t u : ℕ) (m : Made) (p : ℕ) (k :
   pub here : SnIs f.made p m.pdu.sn
   here = record { m = m; there = k.there; same = refl }
 
-  pub inside : p < length f.made
-  inside = slice_get_within f.made p m k.there
-
   -- the position that an end that has accepted something computes
   pub place : (i : ℕ) → e.accepted ≡ suc i → e.accepted + steps_past_next e m.pdu ≡ p
   place i a =
@@ -93,7 +90,7 @@ module _ (q : Parameters) (e f : EndState) (t u : ℕ) (m : Made) (p : ℕ) (k :
   mark n v =
       let r = k.theirs.accepts.named p m k.there n in
       let s : SnIs e.made r.0 m.pdu.cs = r.2 in
-      (r.0, s, confirms_is e m.pdu r.0 k.mine.list.numbered k.few k.mine.confirmed s v, slice_get_within e.made r.0 s.m s.there)
+      (r.0, s, valid_at e.made e.confirmed r.0 m.pdu.cs k.mine.list.numbered k.few k.mine.confirmed s v, slice_get_within e.made r.0 s.m s.there)
 
   confirms : is_named m.pdu.kind ≡ true → is_valid e m.pdu ≡ true → position_confirmed e m.pdu ≤ length e.made
   confirms n v = (let c = mark n v in omega (arith, c.2, c.3))
@@ -133,14 +130,14 @@ module _ (q : Parameters) (e f : EndState) (t u : ℕ) (m : Made) (p : ℕ) (k :
 
   -- the PDU isn't accepted
   skipped : Accepting e.made e.accepted e.last_sn (suc p) f.made
-  skipped = record { reached = omega (arith, k.mine.accepts.reached, k.above); within = omega (arith, inside); last = k.mine.accepts.last; named = k.mine.accepts.named }
+  skipped = record { reached = omega (arith, k.mine.accepts.reached, k.above); within = omega (arith, slice_get_within f.made p m k.there); last = k.mine.accepts.last; named = k.mine.accepts.named }
 
   -- it is accepted
   noted : (a : ℕ) → a ≡ p → Accepting e.made (suc a) m.pdu.sn (suc p) f.made
   noted a at =
       record {
         reached = omega arith;
-        within = omega (arith, inside);
+        within = omega (arith, slice_get_within f.made p m k.there);
         last = λ i g. (let j : i ≡ p = omega (arith, at, g) in rw j here);
         named = λ i n g b. (let r = k.mine.accepts.named i n g b in (r.0, omega (arith, at, r.1, k.mine.accepts.reached, k.above), r.2));
       }

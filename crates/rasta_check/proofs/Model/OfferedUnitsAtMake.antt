@@ -142,44 +142,36 @@ module _ (p : Parameters) (e : EndState) (x : SafetyPdu) (clock : ℕ) (why : Wh
   previous : (i : ℕ) → length e.made ≡ suc i → slice_get (values e ++ value ∷ []) i ≡ Some (last_of (values e))
   previous i g = get_front (values e) (value ∷ []) i _ (last_get (values e) i (long ∙ g))
 
-  conveys : Conveying (values e ++ value ∷ []) (e.made ++ new ∷ []) after.offered
-  conveys =
-      record {
-        bounded = all_push {P = λ i v. v ≤ after.offered} (values e) value (λ i v g. omega (arith, w.positions.bounded i v g, offered_least b.row e.offered)) value_most;
-        units = all_push e.made new
-            (λ i n g u. (let r = w.positions.units i n g u in (r.0, r.1, r.2, r.3, get_front (values e) (value ∷ []) r.0 r.1 r.4, get_front (values e) (value ∷ []) i (suc r.1) r.5)))
-            (λ u.
-            let last : length e.made ≡ suc (length e.made - 1) = omega (arith, w.grown (unit_runs b.how (grind arith))) in
-            let unit = unit_made (jump e) (last_of (values e)) e.offered b.how (w.due pass.open_yet) u in
-            (length e.made - 1, last_of (values e), last, unit, previous (length e.made - 1) last, at_new ∙ ap Some (grind (arith, value_is))));
-        others = all_push e.made new
-            (λ i n g u q s. (let l = slice_get_within e.made i n g in both_old i q (w.positions.others i n g u q s) l (omega (arith, l, s))))
-            (λ u q s. grind (arith, at_new, value_is, u, previous q s));
-        zeroth = grind (arith, w.positions.zeroth);
-      }
-
-  returns : Returning (values e ++ value ∷ []) (e.made ++ new ∷ []) e.asks
-  returns =
-      record {
-        jumps = all_push e.made new
-            (λ i n g u c a.
-            let l = slice_get_within e.made i n g in
-            let r = w.returns.jumps i n g u c (rw (take-append-le i e.made (new ∷ []) (omega (arith, l))) at a) in
-            (r.0, both_old i c r.1 l (omega (arith, l, r.0))))
-            (λ u c a.
-            let a' : slice_get e.asks (answers_in e.made) ≡ Some c = rw (take-append_seam e.made (new ∷ [])) at a in
-            let l = w.returns.asks_within (answers_in e.made) c a' in
-            let back : value ≡ slice_index_or (values e) c 0 = value_is ∙ (ap (units_next (jump e) (last_of (values e))) (kind_is RetransmissionResponse x.kind u) ∙ ap (units_at (values e)) a') in
-            (l, at_new ∙ (ap Some back ∙ sym (get_front (values e) (value ∷ []) c _ (slice_get-get_or (values e) c 0 (omega (arith, long, l)))))));
-        asks_within = λ i c g. (let l = w.returns.asks_within i c g in omega (arith, l, length_push e.made new));
-      }
-
   pub valued_make : Valued after
   valued_make =
       record {
         due = due_after;
         grown = λ _. omega (arith, length_push e.made new);
-        positions = rw pushed conveys;
-        returns = rw pushed returns;
+        positions = rw pushed (record {
+          bounded = all_push {P = λ i v. v ≤ after.offered} (values e) value (λ i v g. omega (arith, w.positions.bounded i v g, offered_least b.row e.offered)) value_most;
+          units = all_push e.made new
+              (λ i n g u. (let r = w.positions.units i n g u in (r.0, r.1, r.2, r.3, get_front (values e) (value ∷ []) r.0 r.1 r.4, get_front (values e) (value ∷ []) i (suc r.1) r.5)))
+              (λ u.
+              let last : length e.made ≡ suc (length e.made - 1) = omega (arith, w.grown (unit_runs b.how (grind arith))) in
+              let unit = unit_made (jump e) (last_of (values e)) e.offered b.how (w.due pass.open_yet) u in
+              (length e.made - 1, last_of (values e), last, unit, previous (length e.made - 1) last, at_new ∙ ap Some (grind (arith, value_is))));
+          others = all_push e.made new
+              (λ i n g u q s. (let l = slice_get_within e.made i n g in both_old i q (w.positions.others i n g u q s) l (omega (arith, l, s))))
+              (λ u q s. grind (arith, at_new, value_is, u, previous q s));
+          zeroth = grind (arith, w.positions.zeroth);
+        });
+        returns = rw pushed (record {
+          jumps = all_push e.made new
+              (λ i n g u c a.
+              let l = slice_get_within e.made i n g in
+              let r = w.returns.jumps i n g u c (rw (take-append-le i e.made (new ∷ []) (omega (arith, l))) at a) in
+              (r.0, both_old i c r.1 l (omega (arith, l, r.0))))
+              (λ u c a.
+              let a' : slice_get e.asks (answers_in e.made) ≡ Some c = rw (take-append_seam e.made (new ∷ [])) at a in
+              let l = w.returns.asks_within (answers_in e.made) c a' in
+              let back : value ≡ slice_index_or (values e) c 0 = value_is ∙ (ap (units_next (jump e) (last_of (values e))) (kind_is RetransmissionResponse x.kind u) ∙ ap (units_at (values e)) a') in
+              (l, at_new ∙ (ap Some back ∙ sym (get_front (values e) (value ∷ []) c _ (slice_get-get_or (values e) c 0 (omega (arith, long, l)))))));
+          asks_within = λ i c g. (let l = w.returns.asks_within i c g in omega (arith, l, length_push e.made new));
+        });
         contents = carries e.made new e.offered after.offered w.contents (adds e.made e.offered (content_of x.body) w.contents.counted b.how (rw b.is at pass.same));
       }

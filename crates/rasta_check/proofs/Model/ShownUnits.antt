@@ -129,23 +129,20 @@ accepted_more : (q : Parameters) (e : EndState) (x : SafetyPdu) (t : ℕ) (peer 
 accepted_more q e x t peer h Opened w = grind (arith, h.opening.down w.0)
 accepted_more q e x t peer h r w = grind (arith, h.opening.starting, w)
 
-module _ (q : Parameters) (e f : EndState) (x : SafetyPdu) (t : ℕ) (h : Held e t f.made) (w : Shown e f) where
-  shown_by : (r : TakeRow) → is_closed e.phase ≡ false → Knows q r e x → Shown (effect q r e x) f
-  shown_by r away knows =
-      let more = accepted_more q e x t f.made h r knows in
-      let back : (i : ℕ) (m : Made) → slice_get (effect q r e x).made i ≡ Some m → slice_get e.made i ≡ Some m = λ i m g. rw (effect_leaves q (Some r) e x).made at g in
-      record {
-        shown = λ i m g k. ⊎_elim
-            (λ (z : e.accepted ≡ 0). absurd (let y = w.first_words z away i m (back i m g) in cc))
-            (λ (z : Shows f (length e.handed) m.pdu.cs). inr (shows_grown f f _ _ m.pdu.cs (handed_more q e x r) (same_grown f) z))
-            (w.shown i m (back i m g) k);
-        first_words = λ a d i m g. w.first_words (omega (arith, more, a)) away i m (back i m g);
-        ready_run = λ c. omega (arith, w.ready_run c, more);
-        ready_offer = λ l. omega (arith, w.ready_offer l, more);
-      }
-
-  pub shown_take : Shown (after_take q e x) f
-  shown_take = take_by q e x (λ e'. Shown e' f) w shown_by
+pub shown_take : (q : Parameters) (e f : EndState) (x : SafetyPdu) (t : ℕ) → Held e t f.made → Shown e f → Shown (after_take q e x) f
+shown_take q e f x t h w = take_by q e x (λ e'. Shown e' f) w
+    (λ r away knows.
+    let more = accepted_more q e x t f.made h r knows in
+    let back : (i : ℕ) (m : Made) → slice_get (effect q r e x).made i ≡ Some m → slice_get e.made i ≡ Some m = λ i m g. rw (effect_leaves q (Some r) e x).made at g in
+    record {
+      shown = λ i m g k. ⊎_elim
+          (λ (z : e.accepted ≡ 0). absurd (let y = w.first_words z away i m (back i m g) in cc))
+          (λ (z : Shows f (length e.handed) m.pdu.cs). inr (shows_grown f f _ _ m.pdu.cs (handed_more q e x r) (same_grown f) z))
+          (w.shown i m (back i m g) k);
+      first_words = λ a d i m g. w.first_words (omega (arith, more, a)) away i m (back i m g);
+      ready_run = λ c. omega (arith, w.ready_run c, more);
+      ready_offer = λ l. omega (arith, w.ready_offer l, more);
+    })
 
 -- The peer takes a PDU of the end.
 
