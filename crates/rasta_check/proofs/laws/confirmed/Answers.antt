@@ -22,16 +22,15 @@ not_opening p e x clock why t i peer pass h a b =
     let none = h.opening.unmade o.0 (nothing_made e.side e.phase e.made o.1 pass.open_yet) in
     omega (arith, a, none.0)
 
-confirms : (p : Parameters) (e peer : EndState) (t : ℕ) → Held e t peer.made → NamesOne peer e → ConfirmsAccepted p e peer
-confirms p e peer t h once x clock why after i mk a =
+pub returns : goal.returns
+returns c p ws w side r within x clock why after i mk a =
+    let e = end_of w side in
+    let peer = end_of w (other_side side) in
+    let g = all_held p ws w side r within in
+    let h = g.mine.held in
     let pass = passed p e x clock why mk.0 in
-    let opens : is_kind ConnectionRequest x.kind ≡ false = grind (arith, not_opening p e x clock why t i peer.made pass h a) in
+    let opens : is_kind ConnectionRequest x.kind ≡ false = grind (arith, not_opening p e x clock why (station_of w side).taken i peer.made pass h a) in
     let cs = (cs_is e x.kind x.cs (judged_after e x.kind i a opens) pass.cs).1 in
     let last = h.accepts.last i a in
+    let once = numbered_once peer.made (few_made p w within (other_side side)) g.theirs.held.list.numbered in
     ((last.m, last.there, last.same ∙ sym cs), λ j n there same. once j i n last.m there last.there (same ∙ (cs ∙ sym last.same)))
-
-pub returns : goal.returns
-returns c p ws w side r within =
-    let g = all_held p ws w side r within in
-    let peer = end_of w (other_side side) in
-    confirms p (end_of w side) peer (station_of w side).taken g.mine.held (numbered_once peer.made (few_made p w within (other_side side)) g.theirs.held.list.numbered)
