@@ -3,9 +3,7 @@ use Rattle.std.proofs.Common.{◌≡◌, ℕ, suc, ◌+◌, ◌%◌, ◌^◌, �
 use Rattle.std.specs.Prelude.{nat_lt}
 use Rattle.std.proofs.lemmas.Bool.Decides.{nat_tests}
 use Rattle.std.proofs.lemmas.Option.{slice_get_within}
-use Rattle.rasta_pdu.specs.Pdu.{SafetyPdu}
-use Rattle.rasta_end.specs.State.{Made, EndState, ahead_by, first_sn, sn_at}
-use Rattle.rasta_end.specs.TakeRule.{is_valid, position_confirmed}
+use Rattle.rasta_end.specs.State.{Made, ahead_by, first_sn, sn_at}
 use Rattle.rasta_check.proofs.Model.SequenceNumbers.{Numbered, sn_from_first}
 
 -- the PDU at this position has this SN

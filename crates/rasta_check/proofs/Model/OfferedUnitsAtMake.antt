@@ -28,7 +28,7 @@ use Rattle.rasta_check.proofs.Model.Invariant.{Held}
 use Rattle.rasta_check.proofs.Model.InvariantAtMake.{over_after, nothing_made}
 use Rattle.rasta_check.proofs.Model.ConveyedUnits.{values, jump, is_plain, last_push, last_get, values_push, length-values, units_next, after_is}
 use Rattle.rasta_check.proofs.Model.TakeRows.{kind_is}
-use Rattle.rasta_check.proofs.Model.OfferedUnits.{Valued, Conveying, Returning, Carrying, Due, DueRest, rest_due, due_le, bare_rest}
+use Rattle.rasta_check.proofs.Model.OfferedUnits.{Valued, Carrying, Due, DueRest, rest_due, due_le, bare_rest}
 
 -- What a row does: u are the units at the ask that is answered next, v the units conveyed so far, n those offered.
 

@@ -4,7 +4,6 @@ use Rattle.rasta_pdu.specs.Params.{Parameters}
 use Rattle.rasta_end.specs.declared.why.Why.{Why}
 use Rattle.rasta_end.specs.State.{Made, EndState}
 use Rattle.rasta_check.specs.Model.World.{station_of, end_of, other_side}
-use Rattle.rasta_check.specs.Model.Laws.{NamesOne, ConfirmsAccepted}
 use Rattle.rasta_check.proofs.Model.PassedTests.{Passed, passed, cs_is}
 use Rattle.rasta_check.proofs.Model.MakeRows.{made_by, opening_is}
 use Rattle.rasta_check.proofs.Model.SequenceNumbers.{numbered_once}
