@@ -128,7 +128,7 @@ module _ (p : Parameters) (e : EndState) (x : SafetyPdu) (clock : ℕ) (why : Wh
       (λ (c : (after.phase ≡ Closed) × (is_plain x.kind ≡ true)). absurd (let z = over_after e.side after.phase e.made new c.0 in cc))
       (λ (d : DueRest next after.offered after.owed).
       let l : next ≡ last_of (values after) = sym value_is ∙ sym (ap last_of pushed ∙ last_push (values e) value) in
-      rest_due (jump after) (last_of (values after)) after.offered after.owed (subst (λ z. DueRest z after.offered after.owed) l d))
+      rest_due (jump after) (last_of (values after)) after.offered after.owed (rw l at d))
       step
 
   -- The units conveyed through each position.
@@ -169,8 +169,7 @@ module _ (p : Parameters) (e : EndState) (x : SafetyPdu) (clock : ℕ) (why : Wh
               (λ u c a.
               let a' : slice_get e.asks (answers_in e.made) ≡ Some c = rw (take-append_seam e.made (new ∷ [])) at a in
               let l = w.returns.asks_within (answers_in e.made) c a' in
-              let back : value ≡ slice_index_or (values e) c 0 = value_is ∙ (ap (units_next (jump e) (last_of (values e))) (kind_is RetransmissionResponse x.kind u) ∙ ap (units_at (values e)) a') in
-              (l, at_new ∙ (ap Some back ∙ sym (get_front (values e) (value ∷ []) c _ (slice_get-get_or (values e) c 0 (omega (arith, long, l)))))));
+              (l, grind (arith, at_new, value_is, u, a', get_front_within (values e) (value ∷ []) c, long, slice_get-get_or (values e) c 0 (omega (arith, long, l)))));
           asks_within = λ i c g. (let l = w.returns.asks_within i c g in omega (arith, l, length_push e.made new));
         });
         contents = carries e.made new e.offered after.offered w.contents (adds e.made e.offered (content_of x.body) w.contents.counted b.how (rw b.is at pass.same));
