@@ -83,8 +83,8 @@ peer_make f u ms m h =
             let all = number_take_more (is_kind RetransmissionRequest) ms u (length ms) h.accepts.within in
             let past = slice_get_past f.asks (requests_in (take (length ms) ms)) (omega (arith, all, old.asks_taken)) in
             absurd (let z = rw (take-append-le (length ms) ms (m ∷ []) (omega arith)) at a in cc));
-        asks_taken = (let same = ap requests_in taken in omega (arith, same, old.asks_taken));
-        open_requests = (let same = ap answers_in taken in omega (arith, same, old.open_requests));
+        asks_taken = omega (arith, ap requests_in taken, old.asks_taken);
+        open_requests = omega (arith, ap answers_in taken, old.open_requests);
       };
       accepts = record {
         reached = h.accepts.reached;

@@ -170,7 +170,7 @@ module _ (p : Parameters) (e : EndState) (x : SafetyPdu) (clock : ℕ) (why : Wh
               let a' : slice_get e.asks (answers_in e.made) ≡ Some c = rw (take-append_seam e.made (new ∷ [])) at a in
               let l = w.returns.asks_within (answers_in e.made) c a' in
               (l, grind (arith, at_new, value_is, u, a', get_front_within (values e) (value ∷ []) c, long, slice_get-get_or (values e) c 0 (omega (arith, long, l)))));
-          asks_within = λ i c g. (let l = w.returns.asks_within i c g in omega (arith, l, length_push e.made new));
+          asks_within = λ i c g. omega (arith, w.returns.asks_within i c g, length_push e.made new);
         });
         contents = carries e.made new e.offered after.offered w.contents (adds e.made e.offered (content_of x.body) w.contents.counted b.how (rw b.is at pass.same));
       }

@@ -25,7 +25,7 @@ module _ (q : Parameters) (e f : EndState) (t u : ℕ) (m : Made) (p : ℕ) (k :
   bare_due = bare_rest (jump e) (last_of (values e)) e.offered e.owed free (w.due (over_not e.phase _ away))
 
   made_some : is_named m.pdu.kind ≡ true → is_valid e m.pdu ≡ true → 0 < length e.made
-  made_some nm vd = (let c = mark q e f t u m p k nm vd in omega (arith, c.3))
+  made_some nm vd = omega (arith, (mark q e f t u m p k nm vd).3)
 
   inner_some : (row : TakeRow) → Knows q row e m.pdu → is_inner row ≡ true → 0 < length e.made
   inner_some row x inside = (let i = inner q row e m.pdu inside x in made_some i.1 i.2)

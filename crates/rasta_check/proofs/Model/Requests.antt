@@ -31,7 +31,7 @@ named_position [] c sn once s = absurd (let e = s.there in cc)
 named_position (x ∷ ms) zero sn once s =
     grind (arith, nat_tests, s.there, s.same)
 named_position (x ∷ ms) (suc c) sn once s =
-    let later = named_position ms c sn (λ i j m n e f g. (let same = once (suc i) (suc j) m n e f g in omega (arith, same))) (record { m = s.m; there = s.there; same = s.same }) in
+    let later = named_position ms c sn (λ i j m n e f g. omega (arith, once (suc i) (suc j) m n e f g)) (record { m = s.m; there = s.there; same = s.same }) in
     grind (arith, nat_tests, later, s.same, once 0 (suc c) x s.m refl s.there)
 
 -- the position that a CS confirms has this SN

@@ -78,7 +78,7 @@ module _ (p : Parameters) (e f : EndState) (x : SafetyPdu) (clock : ℕ) (why : 
   first_made : {ph : Phase} {os : List Owed} → Changed e.side e.phase x.kind e.owed ph os → e.accepted ≡ 0 → is_closed ph ≡ false → (e.made ≡ []) × (x.kind ≡ ConnectionRequest)
   first_made (over d) z cl = absurd (cc)
   first_made (opened a s c) z cl = (nothing_made e.side e.phase e.made a pass.open_yet, c)
-  first_made (goes_on a c d g j) z cl = absurd (let y = h.opening.connected a in omega (arith, z, y.1))
+  first_made (goes_on a c d g j) z cl = absurd (omega (arith, z, (h.opening.connected a).1))
 
   pub shown_make : Shown (after_make_by (Some b.row) e x clock) f
   shown_make =
@@ -148,7 +148,7 @@ shown_take q e f x t h w = take_by q e x (λ e'. Shown e' f) w
 
 module _ (q : Parameters) (e f : EndState) (t : ℕ) (m : Made) (p : ℕ) (h : Held e t f.made) (there : slice_get e.made p ≡ Some m) (grown : Grown f (after_take q f m.pdu)) (w : Shown e f) where
   by_name : is_named m.pdu.kind ≡ true → 0 < e.accepted
-  by_name k = (let r = h.accepts.named p m there k in omega (arith, r.1))
+  by_name k = omega (arith, (h.accepts.named p m there k).1)
 
   run_by : (r : TakeRow) → Knows q r f m.pdu → is_connected (effect q r f m.pdu).phase ≡ true → 0 < e.accepted
   run_by Opened x r = absurd (cc)
@@ -160,4 +160,4 @@ module _ (q : Parameters) (e f : EndState) (t : ℕ) (m : Made) (p : ℕ) (h : H
   shown_peer_take =
       shown_peer e f _ grown w
       (take_by q f m.pdu (λ f'. is_connected f'.phase ≡ true → 0 < e.accepted) w.ready_run (λ r away x. run_by r x))
-      (λ l. w.ready_offer (let z = (take_leaves q f m.pdu).offered in omega (arith, z, l)))
+      (λ l. w.ready_offer (omega (arith, (take_leaves q f m.pdu).offered, l)))
