@@ -3,16 +3,14 @@ use Rattle.std.proofs.Common.{◌+◌, ◌≤◌, ◌^◌, arith}
 use Rattle.rasta_pdu.specs.Params.{Parameters}
 use Rattle.rasta_pdu.specs.Pdu.{SafetyPdu}
 use Rattle.rasta_end.specs.declared.take_row.TakeRow.{TakeRow}
-use Rattle.rasta_end.specs.declared.take_row.TakeRow.TheVariants.{InSequence, ResentInSequence}
-use Rattle.rasta_end.specs.State.{EndState, carries_unit}
-use Rattle.rasta_end.specs.TakeRule.{accept, enter, effect, after_take}
-use Rattle.rasta_end.specs.declared.phase.Phase.TheVariants.{Up}
-use Rattle.rasta_check.proofs.Model.TakeRows.{take_by, handed_or}
+use Rattle.rasta_end.specs.declared.take_row.TakeRow.TheVariants.{Opened}
+use Rattle.rasta_end.specs.State.{EndState}
+use Rattle.rasta_end.specs.TakeRule.{after_take}
+use Rattle.rasta_check.proofs.Model.TakeRows.{bare_effect, take_bare}
 
 pub accepted_after : (p : Parameters) (e : EndState) (x : SafetyPdu) → (after_take p e x).accepted ≤ e.accepted + 2 ^ 32
-accepted_after p e x = take_by p e x (λ g. g.accepted ≤ e.accepted + 2 ^ 32) (omega arith) (λ row away knows. by row)
+accepted_after p e x = take_bare p e x (λ g. g.accepted ≤ e.accepted + 2 ^ 32) (λ i g h. h) (omega arith) (λ row away knows. by row)
   where
-    by : (row : TakeRow) → (effect p row e x).accepted ≤ e.accepted + 2 ^ 32
-    by InSequence = handed_or (λ g. g.accepted ≤ e.accepted + 2 ^ 32) (carries_unit x.kind) e.accepted (enter Up (accept p e x)) x (omega arith) (λ l. l)
-    by ResentInSequence = handed_or (λ g. g.accepted ≤ e.accepted + 2 ^ 32) (carries_unit x.kind) e.accepted (accept p e x) x (omega arith) (λ l. l)
+    by : (row : TakeRow) → (bare_effect p row e x).accepted ≤ e.accepted + 2 ^ 32
+    by Opened = omega arith
     by _ = omega arith

@@ -6,11 +6,10 @@ use Rattle.std.proofs.lemmas.Option.{slice_get-get_or, unwrap_or-slice_get}
 use Rattle.rasta_pdu.specs.declared.kind.Kind.{Kind}
 use Rattle.rasta_pdu.specs.declared.kind.Kind.TheVariants.{Data, RetransmittedData, RetransmissionResponse}
 use Rattle.rasta_end.specs.State.{Made, EndState, kinds}
-use Rattle.rasta_end.specs.Units.{all_units_conveyed, conveyed, units_after, units_at, last_of, responses_in}
+use Rattle.rasta_end.specs.Units.{all_units_conveyed, units_after, units_at, last_of, responses_in}
 use Rattle.rasta_end.proofs.Conveying.{all_units-push, conveyed-responses, length-all_units, length-kinds, more_asks, last-at}
 use Rattle.rasta_end.proofs.Pushing.{kinds-push}
-use Rattle.rasta_check.proofs.Model.Counts.{number}
-use Rattle.rasta_pdu.specs.Pdu.{is_kind}
+use Rattle.rasta_check.proofs.Model.Counts.{answers_in}
 
 -- neither a unit nor a retransmission response
 abbrev pub is_plain : Kind → Bool
@@ -25,7 +24,7 @@ values e = all_units_conveyed e.asks (kinds e.made)
 
 -- the units at the position that the next retransmission response goes back to
 abbrev pub jump : EndState → ℕ
-jump e = units_at (values e) (slice_get e.asks (number (is_kind RetransmissionResponse) e.made))
+jump e = units_at (values e) (slice_get e.asks (answers_in e.made))
 
 -- The last member.
 
@@ -44,21 +43,18 @@ get_or_none vs c g = sym (unwrap_or-slice_get vs c 0) ∙ ap (λ (o : Option ℕ
 
 -- One more PDU appends one value; one more ask changes none.
 
-pub answers_number : (ms : List Made) → responses_in (kinds ms) ≡ number (is_kind RetransmissionResponse) ms
+pub answers_number : (ms : List Made) → responses_in (kinds ms) ≡ answers_in ms
 answers_number [] = refl
 answers_number (m ∷ ms) = grind (arith, answers_number ms)
 
 pub values_push : (asks : List ℕ) (ms : List Made) (m : Made)
-    → all_units_conveyed asks (kinds (ms ++ m ∷ [])) ≡ all_units_conveyed asks (kinds ms) ++ units_after asks (all_units_conveyed asks (kinds ms)) (number (is_kind RetransmissionResponse) ms) m.pdu.kind ∷ []
-values_push asks ms m =
-    let n : (conveyed asks (kinds ms)).responses ≡ number (is_kind RetransmissionResponse) ms = conveyed-responses asks (kinds ms) ∙ answers_number ms in
-    ap (all_units_conveyed asks) (kinds-push ms m)
-    ∙ (all_units-push asks (kinds ms) m.pdu.kind ∙ ap (λ a. all_units_conveyed asks (kinds ms) ++ units_after asks (all_units_conveyed asks (kinds ms)) a m.pdu.kind ∷ []) n)
+    → all_units_conveyed asks (kinds (ms ++ m ∷ [])) ≡ all_units_conveyed asks (kinds ms) ++ units_after asks (all_units_conveyed asks (kinds ms)) (answers_in ms) m.pdu.kind ∷ []
+values_push asks ms m = simp (kinds-push, all_units-push, conveyed-responses, answers_number)
 
 pub length-values : (asks : List ℕ) (ms : List Made) → length (all_units_conveyed asks (kinds ms)) ≡ length ms
 length-values asks ms = length-all_units asks (kinds ms) ∙ length-kinds ms
 
-pub values_asks : (asks : List ℕ) (c : ℕ) (ms : List Made) → number (is_kind RetransmissionResponse) ms ≤ length asks → all_units_conveyed (asks ++ c ∷ []) (kinds ms) ≡ all_units_conveyed asks (kinds ms)
+pub values_asks : (asks : List ℕ) (c : ℕ) (ms : List Made) → answers_in ms ≤ length asks → all_units_conveyed (asks ++ c ∷ []) (kinds ms) ≡ all_units_conveyed asks (kinds ms)
 values_asks asks c ms h = more_asks asks (c ∷ []) (kinds ms) (omega (arith, answers_number ms, h))
 
 -- What the next position conveys, by its type: u are the units at the ask that is answered next, v those conveyed so far.

@@ -1,6 +1,8 @@
 -- How many PDUs of a kind are made, and how many things of a kind are owed.
 use Rattle.std.proofs.Common.{◌≡◌, ℕ, zero, suc, ◌+◌, ◌≤◌, Bool, true, false, List, [], ◌∷◌, ◌++◌, Some, slice_get, take, refl, arith}
 use Rattle.rasta_pdu.specs.declared.kind.Kind.{Kind}
+use Rattle.rasta_pdu.specs.declared.kind.Kind.TheVariants.{RetransmissionRequest, RetransmissionResponse}
+use Rattle.rasta_pdu.specs.Pdu.{is_kind}
 use Rattle.rasta_end.specs.declared.owed.Owed.{Owed}
 use Rattle.rasta_end.specs.declared.owed.Owed.TheVariants.{RetransmissionResponse as OweRetransmissionResponse, RetransmissionRequest as OweRetransmissionRequest}
 use Rattle.rasta_end.specs.State.{Made}
@@ -14,6 +16,19 @@ tally false n = n
 abbrev pub number : (Kind → Bool) → List Made → ℕ
 number f [] = 0
 number f (m ∷ ms) = tally (f m.pdu.kind) (number f ms)
+
+-- how many of them are retransmission requests, and how many are responses
+abbrev pub requests_in : List Made → ℕ
+requests_in ms = number (is_kind RetransmissionRequest) ms
+
+abbrev pub answers_in : List Made → ℕ
+answers_in ms = number (is_kind RetransmissionResponse) ms
+
+abbrev pub IsRequest : Made → Type 0
+IsRequest m = is_kind RetransmissionRequest m.pdu.kind ≡ true
+
+abbrev pub IsAnswer : Made → Type 0
+IsAnswer m = is_kind RetransmissionResponse m.pdu.kind ≡ true
 
 -- how many such things are owed
 abbrev pub owes : (Owed → Bool) → List Owed → ℕ
@@ -35,9 +50,6 @@ is_request_owed _ = false
 pub number_push : (f : Kind → Bool) (ms : List Made) (m : Made) → number f (ms ++ m ∷ []) ≡ tally (f m.pdu.kind) (number f ms)
 number_push f [] m = refl
 number_push f (x ∷ ms) m = grind (arith, number_push f ms m)
-
-pub number_push_as : (f : Kind → Bool) (ms : List Made) (m : Made) (b : Bool) → f m.pdu.kind ≡ b → number f (ms ++ m ∷ []) ≡ tally b (number f ms)
-number_push_as f ms m b e = grind (arith, number_push f ms m)
 
 pub number_take_more : (f : Kind → Bool) (ms : List Made) (i j : ℕ) → i ≤ j → number f (take i ms) ≤ number f (take j ms)
 number_take_more f ms zero j h = omega arith

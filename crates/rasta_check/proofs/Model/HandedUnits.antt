@@ -1,37 +1,37 @@
 -- What an end has handed up: the units conveyed through the last position of its peer that it accepted.
-use Rattle.std.proofs.Common.{◌≡◌, ℕ, zero, suc, ◌+◌, ◌<◌, ◌≤◌, Bool, true, false, List, [], ◌∷◌, ◌++◌, length, Option, Some, None, slice_get, take, refl, ap, sym, ◌∙◌, arith, subst}
-use Rattle.std.specs.Prelude.{slice_index_or, if◌then◌else◌, filter, drop}
+use Rattle.std.proofs.Common.{◌≡◌, ℕ, zero, suc, ◌+◌, ◌≤◌, Bool, true, false, List, [], ◌∷◌, ◌++◌, length, Some, slice_get, take, refl, ap, sym, ◌∙◌, arith, subst}
+use Rattle.std.specs.Prelude.{slice_index_or, filter, drop}
 use Rattle.std.proofs.lemmas.Bool.Decides.{nat_tests}
 use Rattle.std.proofs.Math.Seq.{take-append_seam}
 use Rattle.std.proofs.lemmas.List.{take-append-le, length_push}
-use Rattle.std.proofs.lemmas.Option.{slice_get_within, slice_get-get_or, get_or_from_slice_get}
+use Rattle.std.proofs.lemmas.Option.{slice_get_within, slice_get-get_or, get_or_from_slice_get, unwrap_or-slice_get}
 use Rattle.rasta_pdu.specs.declared.kind.Kind.TheVariants.{RetransmissionRequest, RetransmissionResponse, Data}
 use Rattle.rasta_pdu.specs.Params.{Parameters}
 use Rattle.rasta_pdu.specs.Messages.{messages_of}
 use Rattle.rasta_pdu.specs.Pdu.{SafetyPdu, SafetyBody, Messages, messages_in, is_kind}
 use Rattle.rasta_end.specs.declared.phase.Phase.{Phase}
-use Rattle.rasta_end.specs.declared.phase.Phase.TheVariants.{Up, RetrReq}
+use Rattle.rasta_end.specs.declared.phase.Phase.TheVariants.{RetrReq}
 use Rattle.rasta_end.specs.declared.why.Why.{Why}
-use Rattle.rasta_end.specs.declared.make_row.MakeRow.{MakeRow}
 use Rattle.rasta_end.specs.declared.take_row.TakeRow.{TakeRow}
 use Rattle.rasta_end.specs.declared.take_row.TakeRow.TheVariants.{Opened, Answered, FirstHeartbeat, InSequence, ResentInSequence, Resumed, Requested, RequestedAhead, RequestedAgain}
 use Rattle.rasta_end.specs.declared.owed.Owed.{Owed}
 use Rattle.rasta_end.specs.declared.owed.Owed.TheVariants.{RetransmissionRequest as OweRetransmissionRequest}
 use Rattle.rasta_end.specs.State.{Made, EndState, is_closed, is_flowing, carries_unit, content_of}
-use Rattle.rasta_end.specs.MakeRule.{row_of, after_make, after_make_by}
-use Rattle.rasta_end.specs.TakeRule.{is_in, steps_past_next, position_confirmed, accept, enter, hand_up, burst, effect, after_take}
+use Rattle.rasta_end.specs.MakeRule.{after_make_by}
+use Rattle.rasta_end.specs.TakeRule.{is_in, steps_past_next, position_confirmed, burst, effect, after_take}
 use Rattle.rasta_check.specs.Model.Laws.{HandsUp}
 use Rattle.rasta_check.specs.Model.Theorem.{HandsUpUnits}
 use Rattle.rasta_check.proofs.Lists.{all_push, get_front, get_push, get_mapped}
 use Rattle.rasta_check.proofs.Model.PassedTests.{Passed, cs_is}
-use Rattle.rasta_check.proofs.Model.MakeRows.{MadeBy, made_by, after_row, new_made}
-use Rattle.rasta_check.proofs.Model.TakeRows.{Knows, take_by}
-use Rattle.rasta_check.proofs.Model.Counts.{number, owes, tally, number_push_as, number_take_all, number_take_more, number_take_at, is_request_owed, owes-append}
+use Rattle.rasta_check.proofs.Model.MakeRows.{MadeBy, new_made}
+use Rattle.rasta_check.proofs.Model.Steps.{Grown}
+use Rattle.rasta_check.proofs.Model.TakeRows.{Knows, by_unit, take_by}
+use Rattle.rasta_check.proofs.Model.Counts.{owes, tally, number_push, number_take_all, number_take_more, number_take_at, is_request_owed, owes-append, requests_in, answers_in, IsRequest, IsAnswer}
 use Rattle.rasta_check.proofs.Model.SequenceNumbers.{numbered_once}
-use Rattle.rasta_check.proofs.Model.Invariant.{Held, has_peer, open_bit}
+use Rattle.rasta_check.proofs.Model.Invariant.{Held, open_bit}
 use Rattle.rasta_check.proofs.Model.InvariantAtMake.{Changed, changed, goes_on}
-use Rattle.rasta_check.proofs.Model.InvariantAtTake.{Taken, place, flowing_peer, starting_peer}
-use Rattle.rasta_check.proofs.Model.ConveyedUnits.{values, is_plain, length-values, values_push}
+use Rattle.rasta_check.proofs.Model.InvariantAtTake.{Taken, place, is_inner, inner}
+use Rattle.rasta_check.proofs.Model.ConveyedUnits.{values, is_plain, length-values}
 use Rattle.rasta_check.proofs.Model.OfferedUnits.{Valued}
 
 -- how many units an end has been handed that accepted so many positions
@@ -46,8 +46,8 @@ AreUnits positions pdus made = (i position : ℕ) → slice_get positions i ≡ 
 
 -- the last request that this end made has this CS
 abbrev pub LastRequest : List Made → ℕ → Type 0
-LastRequest made cs = (p : ℕ) × (n : Made) × (slice_get made p ≡ Some n) × (is_kind RetransmissionRequest n.pdu.kind ≡ true) × (n.pdu.cs ≡ cs)
-    × (suc (number (is_kind RetransmissionRequest) (take p made)) ≡ number (is_kind RetransmissionRequest) made)
+LastRequest made cs = (p : ℕ) × (n : Made) × (slice_get made p ≡ Some n) × IsRequest n × (n.pdu.cs ≡ cs)
+    × (suc (requests_in (take p made)) ≡ requests_in made)
 
 -- of an end in phase ph that made ms, owes os and accepted up to a, the last with SN sn, and of a peer that made peer and conveys vs
 pub record HandsOver (positions : List ℕ) (pdus : List SafetyPdu) (a sn : ℕ) (ph : Phase) (os : List Owed) (ms peer : List Made) (vs : List ℕ) : Type 0 where
@@ -59,166 +59,124 @@ pub record HandsOver (positions : List ℕ) (pdus : List SafetyPdu) (a sn : ℕ)
 abbrev pub Handed : EndState → EndState → Type 0
 Handed e f = HandsOver e.handed e.handed_pdus e.accepted e.last_sn e.phase e.owed e.made f.made (values f)
 
-worth_front : (vs ws : List ℕ) (a : ℕ) → a ≤ length vs → worth (vs ++ ws) a ≡ worth vs a
-worth_front vs ws zero l = refl
-worth_front vs ws (suc i) l = get_or_from_slice_get (vs ++ ws) i (slice_index_or vs i 0) 0 (get_front vs ws i (slice_index_or vs i 0) (slice_get-get_or vs i 0 l))
+worth_grown : (vs ws : List ℕ) (a : ℕ) → a ≤ length vs → ((i v : ℕ) → slice_get vs i ≡ Some v → slice_get ws i ≡ Some v) → worth vs a ≡ worth ws a
+worth_grown vs ws zero l g = refl
+worth_grown vs ws (suc i) l g = sym (get_or_from_slice_get ws i (slice_index_or vs i 0) 0 (g i _ (slice_get-get_or vs i 0 l)))
 
 pub worth_at : (vs : List ℕ) (a p v : ℕ) → a ≡ suc p → slice_get vs p ≡ Some v → worth vs a ≡ v
 worth_at vs a p v e g = ap (worth vs) e ∙ get_or_from_slice_get vs p v 0 g
 
--- The peer makes and takes.
-
-peer_row : (e f : EndState) (x : SafetyPdu) (clock : ℕ) (row : Option MakeRow) → e.accepted ≤ length f.made → Handed e f → Handed e (after_make_by row f x clock)
-peer_row e f x clock None l h = h
-peer_row e f x clock (Some row) l h =
-    let m : Made = new_made row f x in
-    let more = values_push f.asks f.made m in
-    let len = length-values f.asks f.made in
+-- the peer makes or takes
+pub handed_peer : (e f f' : EndState) → e.accepted ≤ length f.made → Grown f f' → Handed e f → Handed e f'
+handed_peer e f f' l g h =
     record {
-      count = h.count ∙ sym (ap (λ vs. worth vs e.accepted) more ∙ worth_front (values f) _ e.accepted (omega (arith, l, len)));
-      labels = λ i pos g. (let r = h.labels i pos g in (r.0, get_front f.made (m ∷ []) pos r.0 r.1, r.2, r.3, r.4));
+      count = h.count ∙ worth_grown (values f) (values f') e.accepted (omega (arith, l, length-values f.asks f.made)) g.kept;
+      labels = λ i pos o. (let r = h.labels i pos o in (r.0, g.made pos r.0 r.1, r.2, r.3, r.4));
       as_many = h.as_many;
       awaited = h.awaited;
     }
 
-pub handed_peer_make : (e f : EndState) (x : SafetyPdu) (clock : ℕ) (why : Why) → e.accepted ≤ length f.made → Handed e f → Handed e (after_make f x clock why)
-handed_peer_make e f x clock why l h = peer_row e f x clock (row_of f x why) l h
-
-pub handed_peer_take : (e f f' : EndState) → f'.made ≡ f.made → values f' ≡ values f → Handed e f → Handed e f'
-handed_peer_take e f f' same vals h =
-    record { count = h.count ∙ ap (λ vs. worth vs e.accepted) (sym vals); labels = subst (AreUnits e.handed e.handed_pdus) (sym same) h.labels; as_many = h.as_many; awaited = h.awaited }
-
 -- The end itself makes.
 
-module _ (p : Parameters) (e f : EndState) (x : SafetyPdu) (clock : ℕ) (why : Why) (t : ℕ) (pass : Passed p e x clock why) (h : Held e t f.made) (w : Handed e f) where
-  by : MadeBy e x why
-  by = made_by p e x clock why pass
-
+module _ (p : Parameters) (e f : EndState) (x : SafetyPdu) (clock : ℕ) (why : Why) (t : ℕ) (by : MadeBy e x why) (pass : Passed p e x clock why) (h : Held e t f.made) (w : Handed e f) where
   abbrev new : Made
   new = new_made by.row e x
 
   new_ask : (c : Bool) → is_kind RetransmissionRequest x.kind ≡ c → e.phase ≡ RetrReq
       → tally c (owes is_request_owed (drop 1 e.owed)) ≡ owes is_request_owed e.owed → owes is_request_owed (drop 1 e.owed) ≡ 0 → LastRequest (e.made ++ new ∷ []) e.last_sn
   new_ask true c ph d none =
-      let num = number_push_as (is_kind RetransmissionRequest) e.made new true c in
-      let here = ap (number (is_kind RetransmissionRequest)) (take-append_seam e.made (new ∷ [])) in
-      (length e.made, new, get_push e.made new, c, (cs_is e x.kind x.cs (grind (arith, c)) pass.cs).1, omega (arith, num, here))
+      let here = ap requests_in (take-append_seam e.made (new ∷ [])) in
+      (length e.made, new, get_push e.made new, c, (cs_is e x.kind x.cs (grind (arith, c)) pass.cs).1, grind (arith, number_push (is_kind RetransmissionRequest) e.made new, c, here))
   new_ask false c ph d none =
       let r = w.awaited ph (sym d ∙ none) in
       let l = slice_get_within e.made r.0 r.1 r.2 in
-      let same : take r.0 (e.made ++ new ∷ []) ≡ take r.0 e.made = take-append-le r.0 e.made (new ∷ []) (omega (arith, l)) in
-      let num = number_push_as (is_kind RetransmissionRequest) e.made new false c in
-      (r.0, r.1, get_front e.made (new ∷ []) r.0 r.1 r.2, r.3, r.4, ap (λ ms. suc (number (is_kind RetransmissionRequest) ms)) same ∙ (r.5 ∙ sym num))
+      let same = ap requests_in (take-append-le r.0 e.made (new ∷ []) (omega (arith, l))) in
+      (r.0, r.1, get_front e.made (new ∷ []) r.0 r.1 r.2, r.3, r.4, grind (arith, number_push (is_kind RetransmissionRequest) e.made new, c, same, r.5))
 
   await_by : {ph : Phase} {os : List Owed} → Changed e.side e.phase x.kind e.owed ph os → ph ≡ RetrReq → owes is_request_owed os ≡ 0 → LastRequest (e.made ++ new ∷ []) e.last_sn
   await_by (goes_on a c d g j) ph none = new_ask (is_kind RetransmissionRequest x.kind) refl ph d none
   await_by _ ph none = absurd (cc)
 
-  pub handed_make : Handed (after_make e x clock why) f
-  handed_make =
-      subst
-      (λ (e' : EndState). Handed e' f)
-      (after_row e x clock why by)
-      (record { count = w.count; labels = w.labels; as_many = w.as_many; awaited = await_by (changed e.side e.phase why x.kind e.owed by.row by.how) })
+  pub handed_make : Handed (after_make_by (Some by.row) e x clock) f
+  handed_make = record { count = w.count; labels = w.labels; as_many = w.as_many; awaited = await_by (changed by.how) }
 
 -- The end itself takes.
 
 module _ (q : Parameters) (e f : EndState) (t u : ℕ) (m : Made) (p : ℕ) (k : Taken e f t u m p) (w : Handed e f) (vf : Valued f) where
   -- the end accepts position p, through which as many are conveyed as through the last one
   same_worth : (i : ℕ) → e.accepted ≡ suc i → slice_get (values f) p ≡ slice_get (values f) i → worth (values f) (suc (e.accepted + steps_past_next e m.pdu)) ≡ worth (values f) e.accepted
-  same_worth i a s =
-      let pl : e.accepted + steps_past_next e m.pdu ≡ p = place q e f t u m p k i a in
-      let l : p < length (values f) = omega (arith, length-values f.asks f.made, slice_get_within f.made p m k.there) in
-      let g : slice_get (values f) p ≡ Some (slice_index_or (values f) p 0) = slice_get-get_or (values f) p 0 l in
-      worth_at (values f) (suc (e.accepted + steps_past_next e m.pdu)) p _ (ap suc pl) g ∙ sym (worth_at (values f) e.accepted i _ a (sym s ∙ g))
+  same_worth i a s = cc (place q e f t u m p k i a, unwrap_or-slice_get (values f) p 0, unwrap_or-slice_get (values f) i 0, ap (worth (values f)) a)
 
   -- nothing is handed up
   keeps : {a sn : ℕ} {ph : Phase} {os : List Owed} → worth (values f) a ≡ worth (values f) e.accepted → (ph ≡ RetrReq → owes is_request_owed os ≡ 0 → ⊥) → HandsOver e.handed e.handed_pdus a sn ph os e.made f.made (values f)
   keeps v never = record { count = w.count ∙ sym v; labels = w.labels; as_many = w.as_many; awaited = λ r n. absurd (never r n) }
 
-  -- a unit in sequence is handed up
-  hands : {a sn : ℕ} {ph : Phase} {os : List Owed} (i : ℕ) → e.accepted ≡ suc i → p ≡ suc i → carries_unit m.pdu.kind ≡ true → a ≡ suc p → (ph ≡ RetrReq → ⊥)
-      → HandsOver (e.handed ++ e.accepted ∷ []) (e.handed_pdus ++ m.pdu ∷ []) a sn ph os e.made f.made (values f)
-  hands {a = a} i last s c at never =
-      let un = vf.positions.units p m k.there c in
-      let lab : slice_get (values f) i ≡ Some un.1 = grind (arith, s, un.2, un.4) in
-      let old : length e.handed ≡ un.1 = w.count ∙ worth_at (values f) e.accepted i un.1 last lab in
-      let new = worth_at (values f) a p (suc un.1) at un.5 in
-      record {
-        count = omega (arith, length_push e.handed e.accepted, old, new);
-        labels = all_push e.handed e.accepted
-            (λ j pos g. (let r = w.labels j pos g in (r.0, r.1, r.2, r.3, get_front e.handed_pdus (m.pdu ∷ []) j r.0.pdu r.4))) (
-              m,
-              subst (λ x. slice_get f.made x ≡ Some m) (s ∙ sym last) k.there,
-              c,
-              un.3 ∙ ap Some (sym old),
-              subst (λ x. slice_get (e.handed_pdus ++ m.pdu ∷ []) x ≡ Some m.pdu) w.as_many (get_push e.handed_pdus m.pdu),
-            );
-        as_many = omega (arith, length_push e.handed_pdus m.pdu, length_push e.handed e.accepted, w.as_many);
-        awaited = λ r n. absurd (never r);
-      }
+  -- a row between the opening and the end: a PDU was accepted, and the one in sequence follows it
+  last_place : (row : TakeRow) → Knows q row e m.pdu → is_inner row ≡ true → (i : ℕ) × (e.accepted ≡ suc i)
+  last_place row x inside = k.mine.opening.connected (inner q row e m.pdu inside x).0
 
   in_place : is_in e m.pdu ≡ true → (i : ℕ) → e.accepted ≡ suc i → p ≡ suc i
   in_place b i a = grind (arith, nat_tests, b, place q e f t u m p k i a)
 
+  -- a unit in sequence is handed up
+  hands : {sn : ℕ} {ph : Phase} {os : List Owed} → (i : ℕ) × (e.accepted ≡ suc i) → is_in e m.pdu ≡ true → carries_unit m.pdu.kind ≡ true → (ph ≡ RetrReq → ⊥)
+      → HandsOver (e.handed ++ e.accepted ∷ []) (e.handed_pdus ++ m.pdu ∷ []) (suc (e.accepted + steps_past_next e m.pdu)) sn ph os e.made f.made (values f)
+  hands (i, last) b c never =
+      let s = in_place b i last in
+      let un = vf.positions.units p m k.there c in
+      let lab : slice_get (values f) i ≡ Some un.1 = grind (arith, s, un.2, un.4) in
+      let old : length e.handed ≡ un.1 = w.count ∙ worth_at (values f) e.accepted i un.1 last lab in
+      let new = worth_at (values f) _ p (suc un.1) (ap suc (place q e f t u m p k i last)) un.5 in
+      record {
+        count = omega (arith, length_push e.handed e.accepted, old, new);
+        labels = all_push e.handed e.accepted
+            (λ j pos g. (let r = w.labels j pos g in (r.0, r.1, r.2, r.3, get_front e.handed_pdus (m.pdu ∷ []) j r.0.pdu r.4)))
+            (m, rw (last ∙ sym s) k.there, c, un.3 ∙ ap Some (sym old), rw (← w.as_many) (get_push e.handed_pdus m.pdu));
+        as_many = omega (arith, length_push e.handed_pdus m.pdu, length_push e.handed e.accepted, w.as_many);
+        awaited = λ r n. absurd (never r);
+      }
+
   -- a plain PDU in sequence hands nothing up
-  plain : {sn : ℕ} {ph : Phase} {os : List Owed} → has_peer e.side e.phase ≡ true → is_in e m.pdu ≡ true → is_plain m.pdu.kind ≡ true → (ph ≡ RetrReq → owes is_request_owed os ≡ 0 → ⊥)
+  plain : {sn : ℕ} {ph : Phase} {os : List Owed} → (i : ℕ) × (e.accepted ≡ suc i) → is_in e m.pdu ≡ true → is_plain m.pdu.kind ≡ true → (ph ≡ RetrReq → ⊥)
       → HandsOver e.handed e.handed_pdus (suc (e.accepted + steps_past_next e m.pdu)) sn ph os e.made f.made (values f)
-  plain peer b c never = let a = k.mine.opening.connected peer in keeps (same_worth a.0 a.1 (vf.positions.others p m k.there c a.0 (in_place b a.0 a.1))) never
+  plain (i, last) b c never = keeps (same_worth i last (vf.positions.others p m k.there c i (in_place b i last))) (λ r n. never r)
 
   -- the retransmission response goes back to the last accepted position
   resumed : e.phase ≡ RetrReq → e.owed ≡ [] → m.pdu.kind ≡ RetransmissionResponse → (i : ℕ) → e.accepted ≡ suc i → slice_get (values f) p ≡ slice_get (values f) i
   resumed ph free ki i a =
       let aw = w.awaited ph (ap (owes is_request_owed) free) in
-      let is_a : is_kind RetransmissionResponse m.pdu.kind ≡ true = ap (is_kind RetransmissionResponse) ki in
+      let is_a : IsAnswer m = ap (is_kind RetransmissionResponse) ki in
       let low = number_take_more (is_kind RetransmissionResponse) f.made t p k.above in
       let next = number_take_at (is_kind RetransmissionResponse) f.made p m k.there is_a in
-      let all = number_take_all (is_kind RetransmissionResponse) f.made (suc p) in
-      let most = number_take_all (is_kind RetransmissionRequest) e.made u in
-      let idx : number (is_kind RetransmissionResponse) (take p f.made) ≡ number (is_kind RetransmissionRequest) (take aw.0 e.made) =
-      omega (arith, low, next, all, k.mine.asks.open_requests, ap open_bit ph, most, aw.5, k.theirs.asks.asked, k.theirs.asks.asks_taken) in
-      let inside : number (is_kind RetransmissionResponse) (take p f.made) < length f.asks = omega (arith, next, all, k.theirs.asks.asked) in
-      let c : slice_get f.asks (number (is_kind RetransmissionResponse) (take p f.made)) ≡ Some (slice_index_or f.asks (number (is_kind RetransmissionResponse) (take p f.made)) 0) = slice_get-get_or f.asks _ 0 inside in
-      let j = vf.returns.jumps p m k.there is_a _ c in
-      let named = k.theirs.asks.answered aw.0 aw.1 aw.2 aw.3 _ (subst (λ n. slice_get f.asks n ≡ Some (slice_index_or f.asks (number (is_kind RetransmissionResponse) (take p f.made)) 0)) idx c) in
+      let n = answers_in (take p f.made) in
+      let idx : n ≡ requests_in (take aw.0 e.made) = omega (arith, number_take_all, low, next, k.mine.asks.open_requests, ap open_bit ph, aw.5, k.theirs.asks.asked, k.theirs.asks.asks_taken) in
+      let ask = slice_index_or f.asks n 0 in
+      let c : slice_get f.asks n ≡ Some ask = slice_get-get_or f.asks n 0 (omega (arith, number_take_all, next, k.theirs.asks.asked)) in
+      let named = k.theirs.asks.answered aw.0 aw.1 aw.2 aw.3 ask (subst (λ j. slice_get f.asks j ≡ Some ask) idx c) in
       let mine = k.mine.accepts.last i a in
-      let sns : named.m.pdu.sn ≡ mine.m.pdu.sn = named.same ∙ (aw.4 ∙ sym mine.same) in
-      let same : slice_index_or f.asks (number (is_kind RetransmissionResponse) (take p f.made)) 0 ≡ i = numbered_once f.made k.few_theirs k.theirs.list.numbered _ i named.m mine.m named.there mine.there sns in
-      j.1 ∙ ap (slice_get (values f)) same
+      let same = numbered_once f.made k.few_theirs k.theirs.list.numbered ask i named.m mine.m named.there mine.there (named.same ∙ (aw.4 ∙ sym mine.same)) in
+      (vf.returns.jumps p m k.there is_a ask c).1 ∙ ap (slice_get (values f)) same
 
   -- the first PDU is accepted
   first_by : {sn : ℕ} {ph : Phase} {os : List Owed} → (ph ≡ RetrReq → ⊥) → e.accepted ≡ 0 → HandsOver e.handed e.handed_pdus 1 sn ph os e.made f.made (values f)
   first_by never z = keeps (vf.positions.zeroth ∙ sym (ap (worth (values f)) z)) (λ r n. never r)
 
-  -- a unit is handed up, a plain PDU isn't
-  by_unit : (b : Bool) (g : EndState) → (b ≡ true → Handed (hand_up e.accepted g m.pdu) f) → (b ≡ false → Handed g f) → Handed (if b then hand_up e.accepted g m.pdu else g) f
-  by_unit true g h l = h refl
-  by_unit false g h l = l refl
-
   h_row : e.owed ≡ [] → (r : TakeRow) → Knows q r e m.pdu → Handed (effect q r e m.pdu) f
   h_row free Opened x = first_by (λ r. cc (r)) (k.mine.opening.down x.0).2
   h_row free Answered x = first_by (λ r. cc (r)) (k.mine.opening.starting x.0 x.1)
-  h_row free FirstHeartbeat x = plain (starting_peer x.0 x.1) x.4 (ap is_plain x.2) (λ r n. cc (r))
+  h_row free FirstHeartbeat x = plain (last_place FirstHeartbeat x refl) x.4 (ap is_plain x.2) (λ r. cc (r))
   h_row free InSequence x =
-      let peer = flowing_peer e.side e.phase x.0 in
-      let a = k.mine.opening.connected peer in
-      by_unit (carries_unit m.pdu.kind) (enter Up (accept q e m.pdu))
-      (λ c. hands a.0 a.1 (in_place x.3 a.0 a.1) c (ap suc (place q e f t u m p k a.0 a.1)) (λ r. cc (r)))
-      (λ c. plain peer x.3 (grind (arith, x.1, c)) (λ r n. cc (r)))
+      by_unit (λ e'. Handed e' f) (carries_unit m.pdu.kind) e.accepted _ m.pdu (λ c. hands (last_place InSequence x refl) x.3 c (λ r. cc (r))) (λ c. plain (last_place InSequence x refl) x.3 (grind (arith, x.1, c)) (λ r. cc (r)))
   h_row free ResentInSequence x =
-      let a = k.mine.opening.connected (ap (has_peer e.side) x.0) in
-      let unit = ap carries_unit x.1 in
-      by_unit (carries_unit m.pdu.kind) (accept q e m.pdu) (λ c. hands a.0 a.1 (in_place x.3 a.0 a.1) c (ap suc (place q e f t u m p k a.0 a.1)) (λ r. cc (x.0, r))) (λ c. absurd (cc))
-  h_row free Resumed x =
-      let a = k.mine.opening.connected (ap (has_peer e.side) x.0) in
-      keeps (same_worth a.0 a.1 (resumed x.0 free x.1 a.0 a.1)) (λ r n. cc (r))
-  h_row free Requested x = plain (flowing_peer e.side e.phase x.0) x.3 (ap is_plain x.1) (λ r n. (let z = ap is_flowing r in cc))
+      by_unit (λ e'. Handed e' f) (carries_unit m.pdu.kind) e.accepted _ m.pdu (λ c. hands (last_place ResentInSequence x refl) x.3 c (λ r. cc (x.0, r))) (λ c. absurd (let unit = ap carries_unit x.1 in cc))
+  h_row free Resumed x = (let a = last_place Resumed x refl in keeps (same_worth a.0 a.1 (resumed x.0 free x.1 a.0 a.1)) (λ r n. cc (r)))
+  h_row free Requested x = plain (last_place Requested x refl) x.3 (ap is_plain x.1) (λ r. (let z = ap is_flowing r in cc))
   h_row free RequestedAhead x = keeps refl (λ r n. (let a = owes-append is_request_owed (burst e (position_confirmed e m.pdu)) (OweRetransmissionRequest ∷ []) in omega arith))
   h_row free RequestedAgain x = record { count = w.count; labels = w.labels; as_many = w.as_many; awaited = λ r n. w.awaited x.0 (ap (owes is_request_owed) free) }
   h_row free _ x = keeps refl (λ r n. cc)
 
-pub handed_take : (q : Parameters) (e f : EndState) (t u : ℕ) (m : Made) (p : ℕ) (k : Taken e f t u m p) (w : Handed e f) → Valued f → (is_closed e.phase ≡ false → e.owed ≡ []) → Handed (after_take q e m.pdu) f
-handed_take q e f t u m p k w vf free = take_by q e m.pdu (λ e'. Handed e' f) w (λ r away x. h_row q e f t u m p k w vf (free away) r x)
+  pub handed_take : (is_closed e.phase ≡ false → e.owed ≡ []) → Handed (after_take q e m.pdu) f
+  handed_take free = take_by q e m.pdu (λ e'. Handed e' f) w (λ r away x. h_row (free away) r x)
 
 -- What it handed up, unit by unit.
 
@@ -234,16 +192,15 @@ unfolding messages_of
 messages_by_content (Messages payload) = refl
 messages_by_content _ = refl
 
--- the i-th PDU handed up carries the messages of the i-th data PDU
-handed_messages : (e f : EndState) → Valued f → Handed e f → (i : ℕ) (x : SafetyPdu) → slice_get e.handed_pdus i ≡ Some x
-    → (m : Made) × (slice_get (filter (λ (n : Made). is_kind Data n.pdu.kind) f.made) i ≡ Some m) × (messages_in x.body ≡ messages_in m.pdu.body)
-handed_messages e f vf w i x g =
-    let l : i < length e.handed = omega (arith, slice_get_within e.handed_pdus i x g, w.as_many) in
-    let r = w.labels i _ (slice_get-get_or e.handed i 0 l) in
-    let same : r.0.pdu ≡ x = (let z : Some r.0.pdu ≡ Some x = sym r.4 ∙ g in cc) in
-    let content = (vf.contents.carried _ r.0 r.1 i r.3).1 in
-    let d = get_mapped (λ (n : Made). content_of n.pdu.body) (filter (λ (n : Made). is_kind Data n.pdu.kind) f.made) i (content_of r.0.pdu.body) content in
-    (d.0, d.1, ap (λ (y : SafetyPdu). messages_in y.body) (sym same) ∙ (messages_by_content r.0.pdu.body ∙ (ap messages_of (sym d.2) ∙ sym (messages_by_content d.0.pdu.body))))
-
 pub hands_up_units : (e f : EndState) → Valued f → Handed e f → HandsUpUnits e f
-hands_up_units e f vf w = record { labels = hands_up e f w; messages = handed_messages e f vf w }
+hands_up_units e f vf w =
+    record {
+      labels = hands_up e f w;
+      -- the i-th PDU handed up carries the messages of the i-th data PDU
+      messages = λ i x g.
+          let r = w.labels i _ (slice_get-get_or e.handed i 0 (omega (arith, slice_get_within e.handed_pdus i x g, w.as_many))) in
+          let same : r.0.pdu ≡ x = (let z : Some r.0.pdu ≡ Some x = sym r.4 ∙ g in cc) in
+          let content = (vf.contents.carried _ r.0 r.1 i r.3).1 in
+          let d = get_mapped (λ (n : Made). content_of n.pdu.body) (filter (λ (n : Made). is_kind Data n.pdu.kind) f.made) i (content_of r.0.pdu.body) content in
+          (d.0, d.1, cc (same, d.2, messages_by_content r.0.pdu.body, messages_by_content d.0.pdu.body));
+    }

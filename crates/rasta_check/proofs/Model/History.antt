@@ -1,74 +1,39 @@
 -- What of an end stays along a run, and the worlds of a run.
-use Rattle.std.proofs.Common.{◌≡◌, ℕ, suc, ◌+◌, ◌<◌, ◌≤◌, true, List, [], ◌∷◌, ◌++◌, length, Option, Some, slice_get, refl, ap, sym, ◌∙◌, arith, ⊎_elim, subst}
+use Rattle.std.proofs.Common.{◌≡◌, ℕ, suc, ◌+◌, ◌<◌, ◌≤◌, List, [], ◌∷◌, ◌++◌, length, Some, slice_get, refl, ap, sym, ◌∙◌, arith, ⊎_elim, subst}
 use Rattle.std.proofs.lemmas.List.{length_push}
 use Rattle.std.proofs.lemmas.Option.{slice_get_within}
-use Rattle.std.proofs.lemmas.Bool.{and_parts}
 use native.Mathlib.Decide.{dec_lt}
 use Prim.{yes, no}
 use Rattle.rasta_pcap.specs.declared.fault.Side.{Side}
 use Rattle.rasta_pcap.specs.declared.fault.Side.TheVariants.{Client, Server}
 use Rattle.rasta_udp.specs.Frame.{Packet}
 use Rattle.rasta_pdu.specs.Params.{Parameters, AreParameters}
-use Rattle.rasta_end.specs.declared.take_row.TakeRow.{TakeRow}
-use Rattle.rasta_end.specs.State.{Made, EndState, is_closed}
+use Rattle.rasta_end.specs.State.{Made, EndState}
 use Rattle.rasta_end.specs.MakeRule.{has_ended}
-use Rattle.rasta_end.specs.TakeRule.{is_valid, is_in, is_ahead, effect_by}
 use Rattle.rasta_end.specs.Starts.{start_of}
 use Rattle.rasta_check.specs.Capture.Crossing.{FirstCopy}
 use Rattle.rasta_check.specs.Model.World.{Station, World, Move, Moves, makes, repeats, takes, Step, side_moves, station_of, end_of, other_side, Reaches, begins, goes_on, first_world, IsWithin}
 use Rattle.rasta_check.specs.Model.Theorem.{Appends}
-use Rattle.rasta_check.proofs.Lists.{get_push_cases, all_push, get_front, get_push, slice_get_some}
-use Rattle.rasta_check.proofs.Model.PassedTests.{passed}
-use Rattle.rasta_check.proofs.Model.MakeRows.{made_by, after_row, new_made}
-use Rattle.rasta_check.proofs.Model.TakeRows.{take_made, closed_row}
-use Rattle.rasta_check.proofs.Model.Steps.{base, made_more, SameHanded}
-use Rattle.rasta_check.proofs.Model.Counts.{number}
-use Rattle.rasta_check.proofs.Model.ConveyedUnits.{values, values_push}
-use Rattle.rasta_check.proofs.Model.OfferedUnitsAtTake.{values_take}
-use Rattle.rasta_check.proofs.Model.InvariantOfRuns.{All, all_held}
+use Rattle.rasta_check.proofs.Lists.{get_push_cases, all_push, get_front, get_front_within, get_push, slice_get_some}
+use Rattle.rasta_check.proofs.Model.TakeRows.{take_made}
+use Rattle.rasta_check.proofs.Model.Steps.{base, made_more, SameHanded, Grown, same_grown, grown_take}
+use Rattle.rasta_check.proofs.Model.Counts.{answers_in}
+use Rattle.rasta_check.proofs.Model.InvariantOfRuns.{all_held}
 use Rattle.rasta_check.proofs.Script.ScriptsOfRuns.{Both, Sends, turn, told_first, told_step, step_copies, step_front, sends_count, copy_at}
 use Rattle.rasta_check.proofs.Sides.{sided}
-use Rattle.rasta_pdu.specs.Pdu.{is_kind}
-use Rattle.rasta_pdu.specs.declared.kind.Kind.TheVariants.{RetransmissionResponse}
-
--- what of an end stays
-pub record Grown (e e' : EndState) : Type 0 where
-  pub made : (i : ℕ) (m : Made) → slice_get e.made i ≡ Some m → slice_get e'.made i ≡ Some m
-  pub kept : (i v : ℕ) → slice_get (values e) i ≡ Some v → slice_get (values e') i ≡ Some v
-  pub over : has_ended e ≡ true → e' ≡ e
-
-same_grown : (e : EndState) → Grown e e
-same_grown e = record { made = λ i m g. g; kept = λ i v g. g; over = λ h. refl }
 
 both_grown : (a b c : EndState) → Grown a b → Grown b c → Grown a c
 both_grown a b c g h = record { made = λ i m x. h.made i m (g.made i m x); kept = λ i v x. h.kept i v (g.kept i v x); over = λ x. (let e = g.over x in h.over (ap has_ended e ∙ x) ∙ e) }
-
-grown_move : (p : Parameters) (b a a' : Station) (xs ys : List Packet) {move : Move} → Moves p b xs a move a' ys → number (is_kind RetransmissionResponse) a.state.made ≤ length a.state.asks → Grown a.state a'.state
-grown_move p b a a' xs ys (makes x why e' ch res chk bs mk sp rec) l =
-    let ok = passed p a.state x a.clock why mk.0 in
-    let by = made_by p a.state x a.clock why ok in
-    let n : Made = new_made by.row a.state x in
-    subst (λ (e : EndState). Grown a.state e) (after_row a.state x a.clock why by ∙ sym mk.1) (record {
-      made = λ i m g. get_front a.state.made (n ∷ []) i m g;
-      kept = λ i v g. subst (λ vs. slice_get vs i ≡ Some v) (sym (values_push a.state.asks a.state.made n)) (get_front (values a.state) _ i v g);
-      over = λ h. absurd (let z = ok.open_yet in cc);
-    })
-grown_move p b a a' xs ys (takes q m e' c i s t) l =
-    subst (λ (e : EndState). Grown a.state e) (sym t.1) (record {
-      made = λ i n g. subst (λ (ms : List Made). slice_get ms i ≡ Some n) (sym (take_made p a.state m.pdu)) g;
-      kept = λ i v g. subst (λ vs. slice_get vs i ≡ Some v) (sym (values_take p a.state m.pdu l)) g;
-      over = λ h. ap (λ (r : Option TakeRow). effect_by p r a.state m.pdu) (closed_row a.state.side a.state.phase m.pdu.kind (is_in a.state m.pdu) (is_ahead p a.state m.pdu) (is_valid a.state m.pdu) (and_parts (is_closed a.state.phase) _ h).0);
-    })
-grown_move p b a a' xs ys _ l = same_grown a.state
 
 -- what a step does to an end: it hands nothing up as a packet crosses, and makes at most one PDU
 pub record EndStep (crossing : Type 0) (e e' : EndState) : Type 0 where
   pub same : crossing → SameHanded e e'
   pub longer : length e.made ≤ length e'.made
   pub most : length e'.made ≤ suc (length e.made)
+  pub grown : answers_in e.made ≤ length e.asks → Grown e e'
 
 stands_still : (crossing : Type 0) (e : EndState) → EndStep crossing e e
-stands_still crossing e = record { same = λ h. record { positions = refl; pdus = refl }; longer = omega arith; most = omega arith }
+stands_still crossing e = record { same = λ h. record { positions = refl; pdus = refl }; longer = omega arith; most = omega arith; grown = λ h. same_grown e }
 
 pub record Stepped (v w : World) : Type 0 where
   pub less : length v.crossed ≤ length w.crossed
@@ -82,12 +47,11 @@ end_moves p b a a' xs ys (makes x why e' ch res chk bs mk sp rec) =
     let e = ap length m.made in
     let l = length_push a.state.made m.new in
     let z = length_push xs (record { channel = ch; side = a.state.side; payload = bs }) in
-    (omega (arith, z), omega (arith, z), record { same = λ h. m.same; longer = omega (arith, e, l); most = omega (arith, e, l) })
+    (omega (arith, z), omega (arith, z), record { same = λ h. m.same; longer = omega (arith, e, l); most = omega (arith, e, l); grown = λ h. m.grown })
 end_moves p b a a' xs ys (repeats place ch old c s rec) = (let z = length_push xs (record old { channel = ch }) in (omega (arith, z), omega (arith, z), stands_still _ a.state))
 end_moves p b a a' xs ys (takes q m e' c i s t) =
-    let e = ap (λ (e : EndState). length e.made) t.1 in
-    let f = ap length (take_made p a.state m.pdu) in
-    (omega arith, omega arith, record { same = λ h. absurd (omega arith); longer = omega (arith, e, f); most = omega (arith, e, f) })
+    let l = ap length (take_made p a.state m.pdu) in
+    (omega arith, omega arith, rw t.1 (record { same = λ h. absurd (omega arith); longer = omega (arith, l); most = omega (arith, l); grown = grown_take p a.state m.pdu }))
 end_moves p b a a' xs ys _ = (omega arith, omega arith, stands_still _ a.state)
 
 pub stepped : (p : Parameters) (v w : World) → Step p v w → Stepped v w
@@ -95,10 +59,6 @@ stepped p v w (side_moves {a = a} {after = ys} Client m) =
     (let o = end_moves p v.server v.client a v.crossed ys m in record { less = o.0; more = o.1; ends = sided _ o.2 (stands_still _ v.server.state) })
 stepped p v w (side_moves {a = a} {after = ys} Server m) =
     (let o = end_moves p v.client v.server a v.crossed ys m in record { less = o.0; more = o.1; ends = sided _ (stands_still _ v.client.state) o.2 })
-
-grown_step : (p : Parameters) (v w : World) → Step p v w → All v.client v.server → (side : Side) → Grown (end_of v side) (end_of w side)
-grown_step p v w (side_moves {a = a} {after = ys} Client m) g = sided _ (grown_move p v.server v.client a v.crossed ys m g.mine.held.asks.asked) (same_grown v.server.state)
-grown_step p v w (side_moves {a = a} {after = ys} Server m) g = sided _ (same_grown v.client.state) (grown_move p v.client v.server a v.crossed ys m g.theirs.held.asks.asked)
 
 -- of the copies of a list, these are those that had crossed
 pub record HadCrossed (packets : ℕ) (list copies : List FirstCopy) : Type 0 where
@@ -142,7 +102,7 @@ of_both p valid ws w (goes_on {ws = us} {w = u} r st) b = step (of_both p valid 
         let g = told_step p u w st h.0 in
         let cp = step_copies p u w st h.0 in
         let fr = step_front p u w st h.0 in
-        let gr = grown_step p u w st (all_held p us u Client r few) in
+        let gr = λ (side : Side). (sd.ends side).grown (all_held p us u side r few).mine.held.asks.asked in
         let l = sd.less in (
           g,
           all_push {P = λ i v. After p v w Client g.own g.peer} (us ++ u ∷ []) w
@@ -173,14 +133,10 @@ history p valid ws w Server r b =
 pub joined : (p : Parameters) (ws : List World) (w : World) → Reaches p ws w → (i : ℕ) (u v : World) → slice_get (ws ++ w ∷ []) i ≡ Some u → slice_get (ws ++ w ∷ []) (suc i) ≡ Some v → Step p u v
 joined p ws w (begins m n) i u v g h = absurd (cc)
 joined p ws w (goes_on {ws = us} {w = z} r st) i u v g h = ⊎_elim
-    (λ (old : slice_get (us ++ z ∷ []) (suc i) ≡ Some v). (let l = slice_get_within (us ++ z ∷ []) (suc i) v old in
-    ⊎_elim
-    (λ (o : slice_get (us ++ z ∷ []) i ≡ Some u). joined p us z r i u v o old)
-    (λ (n : (i ≡ length (us ++ z ∷ [])) × (w ≡ u)). absurd (omega arith))
-    (get_push_cases (us ++ z ∷ []) w i u g)))
+    (λ (old : slice_get (us ++ z ∷ []) (suc i) ≡ Some v). joined p us z r i u v (sym (get_front_within (us ++ z ∷ []) (w ∷ []) i (omega (arith, slice_get_within (us ++ z ∷ []) (suc i) v old))) ∙ g) old)
     (λ (new : (suc i ≡ length (us ++ z ∷ [])) × (w ≡ v)).
     let same : z ≡ u = grind (arith, g, new.0, length_push us z, get_front (us ++ z ∷ []) (w ∷ []) (length us) z (get_push us z)) in
-    subst (λ (y : World). Step p y v) same (subst (λ (y : World). Step p z y) new.1 st))
+    rw (← new.1, ← same) st)
     (get_push_cases (us ++ z ∷ []) w (suc i) v h)
 
 pub appended : (p : Parameters) (ws : List World) (w : World) → Reaches p ws w → (k : ℕ) → k < length w.crossed → (v next : World) × Appends ws w k v next

@@ -4,20 +4,17 @@ use Rattle.rasta_pcap.specs.declared.fault.Side.{Side}
 use Rattle.rasta_pcap.specs.declared.fault.Side.TheVariants.{Client, Server}
 use Rattle.rasta_udp.specs.Frame.{Packet}
 use Rattle.rasta_pdu.specs.Params.{Parameters}
-use Rattle.rasta_check.specs.Model.World.{Station, World, Move, Moves, Step, side_moves, station_of, other_side, Reaches, begins, goes_on, first_station}
+use Rattle.rasta_check.specs.Model.World.{Station, World, Move, Moves, side_moves, station_of, other_side, Reaches, begins, goes_on, first_station}
 
 -- of the two stations, whichever stands first
 module _ (p : Parameters) (Good : Station → Station → Type 0)
     (turned : (a b : Station) → Good a b → Good b a)
     (first : (m n : ℕ) → Good (first_station p Client m) (first_station p Server n))
     (kept : (b a a' : Station) (xs ys : List Packet) (move : Move) → Moves p b xs a move a' ys → Good a b → Good a' b) where
-  step_keeps : (w w' : World) → Step p w w' → Good w.client w.server → Good w'.client w'.server
-  step_keeps w w' (side_moves {a = a} {after = ys} {move = move} Client m) g = kept w.server w.client a w.crossed ys move m g
-  step_keeps w w' (side_moves {a = a} {after = ys} {move = move} Server m) g = turned a w.client (kept w.client w.server a w.crossed ys move m (turned w.client w.server g))
-
   of_both : (ws : List World) (w : World) → Reaches p ws w → Good w.client w.server
   of_both ws w (begins m n) = first m n
-  of_both ws w (goes_on {ws = vs} {w = v} r s) = step_keeps v w s (of_both vs v r)
+  of_both ws w (goes_on {ws = vs} {w = v} r (side_moves {a = a} {after = ys} {move = move} Client m)) = kept v.server v.client a v.crossed ys move m (of_both vs v r)
+  of_both ws w (goes_on {ws = vs} {w = v} r (side_moves {a = a} {after = ys} {move = move} Server m)) = turned a v.client (kept v.client v.server a v.crossed ys move m (turned v.client v.server (of_both vs v r)))
 
   -- of each side and its peer
   pub always : (ws : List World) (w : World) (side : Side) → Reaches p ws w → Good (station_of w side) (station_of w (other_side side))

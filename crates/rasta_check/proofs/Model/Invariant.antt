@@ -4,16 +4,15 @@ use Rattle.std.specs.Prelude.{not, ◌&&◌, ◌||◌, is_some}
 use Rattle.rasta_pcap.specs.declared.fault.Side.{Side}
 use Rattle.rasta_pcap.specs.declared.fault.Side.TheVariants.{Client, Server}
 use Rattle.rasta_pdu.specs.declared.kind.Kind.{Kind}
-use Rattle.rasta_pdu.specs.declared.kind.Kind.TheVariants.{ConnectionRequest, ConnectionResponse, DisconnectionRequest, RetransmissionRequest, RetransmissionResponse}
+use Rattle.rasta_pdu.specs.declared.kind.Kind.TheVariants.{ConnectionRequest, ConnectionResponse, DisconnectionRequest}
 use Rattle.rasta_end.specs.declared.phase.Phase.{Phase}
 use Rattle.rasta_end.specs.declared.phase.Phase.TheVariants.{Closed, Down, Start, Up, RetrReq, RetrRun}
 use Rattle.rasta_end.specs.declared.owed.Owed.{Owed}
 use Rattle.rasta_end.specs.declared.owed.Owed.TheVariants.{ConnectionResponse as OweConnectionResponse}
 use Rattle.rasta_end.specs.State.{Made, EndState, is_closed, is_client}
 use Rattle.rasta_check.proofs.Model.SequenceNumbers.{Numbered}
-use Rattle.rasta_check.proofs.Model.Counts.{number, owes, is_answer_owed, is_request_owed}
+use Rattle.rasta_check.proofs.Model.Counts.{owes, is_answer_owed, is_request_owed, requests_in, answers_in, IsRequest}
 use Rattle.rasta_check.proofs.Model.NamedPositions.{SnIs}
-use Rattle.rasta_pdu.specs.Pdu.{is_kind}
 
 -- the connection response is owed
 abbrev pub is_response_owed : Owed → Bool
@@ -72,14 +71,14 @@ pub record Opening (s : Side) (ph : Phase) (ms : List Made) (a : ℕ) (os : List
 -- requests and responses
 pub record Asking (s : Side) (ph : Phase) (ms : List Made) (qs : List ℕ) (os : List Owed) (t : ℕ) (peer : List Made) : Type 0 where
   -- a retransmission response answers a request that was taken, and one is owed for each that isn't answered yet
-  pub asked : number (is_kind RetransmissionResponse) ms ≤ length qs
-  pub owing : ended s ph ms ≡ false → number (is_kind RetransmissionResponse) ms + owes is_answer_owed os ≡ length qs
+  pub asked : answers_in ms ≤ length qs
+  pub owing : ended s ph ms ≡ false → answers_in ms + owes is_answer_owed os ≡ length qs
   -- the asks are what the requests of the peer confirm, in order
-  pub answered : (p : ℕ) (m : Made) → slice_get peer p ≡ Some m → is_kind RetransmissionRequest m.pdu.kind ≡ true
-      → (c : ℕ) → slice_get qs (number (is_kind RetransmissionRequest) (take p peer)) ≡ Some c → SnIs ms c m.pdu.cs
-  pub asks_taken : length qs ≤ number (is_kind RetransmissionRequest) (take t peer)
+  pub answered : (p : ℕ) (m : Made) → slice_get peer p ≡ Some m → IsRequest m
+      → (c : ℕ) → slice_get qs (requests_in (take p peer)) ≡ Some c → SnIs ms c m.pdu.cs
+  pub asks_taken : length qs ≤ requests_in (take t peer)
   -- at most one request is unanswered
-  pub open_requests : number (is_kind RetransmissionRequest) ms + owes is_request_owed os ≤ number (is_kind RetransmissionResponse) (take t peer) + open_bit ph
+  pub open_requests : requests_in ms + owes is_request_owed os ≤ answers_in (take t peer) + open_bit ph
 
 -- the last accepted PDU, whose SN is sn, is one of the peer's that was taken; a CS names a PDU that was accepted
 pub record Accepting (ms : List Made) (a sn t : ℕ) (peer : List Made) : Type 0 where

@@ -1,5 +1,5 @@
 -- A make keeps what holds, at both ends.
-use Rattle.std.proofs.Common.{◌≡◌, ℕ, ◌+◌, ◌≤◌, true, false, List, [], ◌∷◌, ◌++◌, length, Some, None, slice_get, take, refl, ap, sym, ◌∙◌, arith, inl, ⊎_elim, subst}
+use Rattle.std.proofs.Common.{◌≡◌, ℕ, ◌+◌, ◌≤◌, true, false, List, [], ◌∷◌, ◌++◌, length, Some, take, refl, ap, sym, ◌∙◌, arith}
 use Rattle.std.specs.Prelude.{drop}
 use Rattle.std.proofs.lemmas.List.{take-append-le, length_push}
 use Rattle.std.proofs.lemmas.Option.{slice_get_within, slice_get_past}
@@ -16,13 +16,13 @@ use Rattle.rasta_end.specs.declared.make_row.MakeRow.{MakeRow}
 use Rattle.rasta_end.specs.declared.owed.Owed.{Owed}
 use Rattle.rasta_end.specs.declared.owed.Owed.TheVariants.{ConnectionResponse as OweConnectionResponse}
 use Rattle.rasta_end.specs.State.{Made, EndState}
-use Rattle.rasta_end.specs.MakeRule.{after_make, phase_after, owed_after}
+use Rattle.rasta_end.specs.MakeRule.{after_make_by, phase_after, owed_after}
 use Rattle.rasta_check.proofs.Lists.{all_push, get_front}
 use Rattle.rasta_check.proofs.Model.SequenceNumbers.{numbered_push}
 use Rattle.rasta_check.proofs.Model.PassedTests.{Passed, un_not, cs_is}
-use Rattle.rasta_check.proofs.Model.MakeRows.{Making, opening, response, first_beat, answer, again, ask, beat, fresh, made_by, after_row, new_made}
-use Rattle.rasta_check.proofs.Model.Counts.{number, owes, tally, number_push, number_take_more, is_answer_owed, is_request_owed}
-use Rattle.rasta_check.proofs.Model.NamedPositions.{SnIs}
+use Rattle.rasta_check.proofs.Model.MakeRows.{Making, opening, response, first_beat, answer, again, ask, beat, fresh, MadeBy, new_made}
+use Rattle.rasta_check.proofs.Model.Counts.{owes, tally, number_push, number_take_more, is_answer_owed, is_request_owed, requests_in, answers_in}
+use Rattle.rasta_check.proofs.Model.NamedPositions.{SnIs_more}
 use Rattle.rasta_check.proofs.Model.Invariant.{Held, Opening, Asking, ended, is_response_owed, is_opener, has_peer, is_named, open_bit, bit_most}
 
 -- how a make changes the phase and what is owed: it ends the connection, opens it, or goes on
@@ -38,16 +38,16 @@ pub data Changed (s : Side) (ph : Phase) (k : Kind) (os : List Owed) : Phase →
 
 -- ---- the rows
 
-pub changed : (s : Side) (ph : Phase) (why : Why) (k : Kind) (os : List Owed) (row : MakeRow) → Making s ph why k os row → Changed s ph k os (phase_after row ph) (owed_after row os)
-changed s ph why k os row opening = opened refl refl refl
-changed s ph why k os row (response {os = rest}) = goes_on refl refl refl (λ _. (rest, refl)) (omega arith)
-changed s ph why k os row first_beat = goes_on refl refl refl (λ e. absurd (cc)) (omega arith)
-changed s ph why k os row (answer r) = goes_on (grind (arith, r)) refl refl (λ e. absurd (cc)) (omega arith)
-changed s ph why k os row (again r) = goes_on (grind (arith, r)) refl refl (λ e. absurd (cc)) (omega arith)
-changed s ph why k os row (ask r) = goes_on (grind (arith, r)) refl refl (λ e. absurd (cc)) (omega arith)
-changed s ph why k os row (beat r) = goes_on (grind (arith, r)) refl refl (λ e. absurd (cc)) (omega arith)
-changed s ph why k os row (fresh r) = goes_on (grind (arith, r)) refl refl (λ e. absurd (cc)) (omega arith)
-changed s ph why k os row _ = over refl
+pub changed : {s : Side} {ph : Phase} {why : Why} {k : Kind} {os : List Owed} {row : MakeRow} → Making s ph why k os row → Changed s ph k os (phase_after row ph) (owed_after row os)
+changed opening = opened refl refl refl
+changed (response {os = rest}) = goes_on refl refl refl (λ _. (rest, refl)) (omega arith)
+changed first_beat = goes_on refl refl refl (λ e. absurd (cc)) (omega arith)
+changed (answer r) = goes_on (grind (arith, r)) refl refl (λ e. absurd (cc)) (omega arith)
+changed (again r) = goes_on (grind (arith, r)) refl refl (λ e. absurd (cc)) (omega arith)
+changed (ask r) = goes_on (grind (arith, r)) refl refl (λ e. absurd (cc)) (omega arith)
+changed (beat r) = goes_on (grind (arith, r)) refl refl (λ e. absurd (cc)) (omega arith)
+changed (fresh r) = goes_on (grind (arith, r)) refl refl (λ e. absurd (cc)) (omega arith)
+changed _ = over refl
 
 -- ---- the parts of an end
 
@@ -61,20 +61,15 @@ pub nothing_made : (s : Side) (ph : Phase) (ms : List Made) → ph ≡ Closed �
 nothing_made s ph [] e h = refl
 nothing_made s ph (m ∷ ms) e h = absurd (grind arith)
 
-pub SnIs_front : (ms : List Made) (m : Made) (i sn : ℕ) → SnIs ms i sn → SnIs (ms ++ m ∷ []) i sn
-SnIs_front ms m i sn s = record { m = s.m; there = get_front ms (m ∷ []) i s.m s.there; same = s.same }
-
 pub push_some : (ms : List Made) (m : Made) → ms ++ m ∷ [] ≡ [] → ⊥
-push_some [] m e = cc
-push_some (x ∷ ms) m e = cc
+push_some ms m e = omega (arith, length_push ms m, ap length e)
 
 -- ---- the peer
 
 -- a make leaves what holds of the peer
 pub peer_make : (f : EndState) (u : ℕ) (ms : List Made) (m : Made) → Held f u ms → Held f u (ms ++ m ∷ [])
 peer_make f u ms m h =
-    let front : (i : ℕ) → i ≤ length ms → take i (ms ++ m ∷ []) ≡ take i ms = λ i l. take-append-le i ms (m ∷ []) l in
-    let taken = front u h.accepts.within in
+    let taken = take-append-le u ms (m ∷ []) h.accepts.within in
     let old = h.asks in
     record {
       list = h.list;
@@ -83,20 +78,19 @@ peer_make f u ms m h =
         asked = old.asked;
         owing = old.owing;
         answered = all_push ms m
-            (λ p n g k c a.
-            old.answered p n g k c (subst (λ (l : List Made). slice_get f.asks (number (is_kind RetransmissionRequest) l) ≡ Some c) (front p (let w = slice_get_within ms p n g in omega (arith, w))) a))
+            (λ p n g k c a. (let l = slice_get_within ms p n g in old.answered p n g k c (rw (take-append-le p ms (m ∷ []) (omega (arith, l))) at a)))
             (λ k c a.
             let all = number_take_more (is_kind RetransmissionRequest) ms u (length ms) h.accepts.within in
-            let past : slice_get f.asks (number (is_kind RetransmissionRequest) (take (length ms) ms)) ≡ None = slice_get_past f.asks _ (omega (arith, all, old.asks_taken)) in
-            absurd (let z = subst (λ (l : List Made). slice_get f.asks (number (is_kind RetransmissionRequest) l) ≡ Some c) (front (length ms) (omega arith)) a in cc));
-        asks_taken = (let same = ap (number (is_kind RetransmissionRequest)) taken in omega (arith, same, old.asks_taken));
-        open_requests = (let same = ap (number (is_kind RetransmissionResponse)) taken in omega (arith, same, old.open_requests));
+            let past = slice_get_past f.asks (requests_in (take (length ms) ms)) (omega (arith, all, old.asks_taken)) in
+            absurd (let z = rw (take-append-le (length ms) ms (m ∷ []) (omega arith)) at a in cc));
+        asks_taken = omega (arith, ap requests_in taken, old.asks_taken);
+        open_requests = omega (arith, ap answers_in taken, old.open_requests);
       };
       accepts = record {
         reached = h.accepts.reached;
         within = omega (arith, h.accepts.within, length_push ms m);
-        last = λ i e. SnIs_front ms m i f.last_sn (h.accepts.last i e);
-        named = λ p n e k. (let r = h.accepts.named p n e k in (r.0, r.1, SnIs_front ms m r.0 n.pdu.cs r.2));
+        last = λ i e. SnIs_more (get_front ms (m ∷ [])) (h.accepts.last i e);
+        named = λ p n e k. (let r = h.accepts.named p n e k in (r.0, r.1, SnIs_more (get_front ms (m ∷ [])) r.2));
       };
       confirmed = h.confirmed;
     }
@@ -104,76 +98,53 @@ peer_make f u ms m h =
 -- ---- the maker
 
 module _ (s : Side) (ph : Phase) (ms : List Made) (m : Made) (a : ℕ) (os : List Owed) (open_yet : ended s ph ms ≡ false) (h : Opening s ph ms a os) where
-  make_opening : (ph' : Phase) (os' : List Owed) → Changed s ph m.pdu.kind os ph' os' → Opening s ph' (ms ++ m ∷ []) a os'
-  make_opening ph' os' (over d) =
-      record { down = λ v. absurd (cc); starting = λ _ v. absurd (cc); unmade = λ _ v. absurd (push_some ms m v); response_due = inl refl; connected = λ v. absurd (cc) }
-  make_opening ph' os' (opened b c d) =
+  make_opening : {ph' : Phase} {os' : List Owed} → Changed s ph m.pdu.kind os ph' os' → Opening s ph' (ms ++ m ∷ []) a os'
+  make_opening (over d) = grind (arith, push_some ms m)
+  make_opening (opened b c d) =
       let u = h.unmade c (nothing_made s ph ms b open_yet) in
-      let off : has_peer s Start ≡ false = ap (λ z. has_peer z Start) c in
-      record { down = λ v. absurd (cc); starting = λ _ _. u.0; unmade = λ _ v. absurd (push_some ms m v); response_due = inl (ap (owes is_response_owed) u.1); connected = λ v. absurd (cc) }
-  make_opening ph' os' (goes_on on b c d r) =
-      record {
-        down = λ v. absurd (let z = ap (has_peer s) v in cc);
-        starting = h.starting;
-        unmade = λ _ v. absurd (push_some ms m v);
-        response_due = ⊎_elim
-            (λ (none : owes is_response_owed os ≡ 0). inl (omega arith))
-            (λ (one : (ms ≡ []) × (os ≡ OweConnectionResponse ∷ [])). inl (ap (λ l. owes is_response_owed (drop 1 l)) one.1))
-            h.response_due;
-        connected = h.connected;
-      }
+      grind (arith, push_some ms m, u, c)
+  make_opening (goes_on on b c d r) = grind (arith, push_some ms m, on, r, h)
 
-  make_asking : (ph' : Phase) (os' : List Owed) (qs : List ℕ) (t : ℕ) (peer : List Made) → Changed s ph m.pdu.kind os ph' os' → Asking s ph ms qs os t peer → Asking s ph' (ms ++ m ∷ []) qs os' t peer
-  make_asking ph' os' qs t peer how w =
-      record {
-        asked = (counts how).0;
-        owing = (counts how).1;
-        answered = λ p n g k c x. SnIs_front ms m c n.pdu.cs (w.answered p n g k c x);
-        asks_taken = w.asks_taken;
-        open_requests = (counts how).2;
-      }
-    where
-      counts : {ph' : Phase} {os' : List Owed} → Changed s ph m.pdu.kind os ph' os' → (number (is_kind RetransmissionResponse) (ms ++ m ∷ []) ≤ length qs)
-          × (ended s ph' (ms ++ m ∷ []) ≡ false → number (is_kind RetransmissionResponse) (ms ++ m ∷ []) + owes is_answer_owed os' ≡ length qs)
-          × (number (is_kind RetransmissionRequest) (ms ++ m ∷ []) + owes is_request_owed os' ≤ number (is_kind RetransmissionResponse) (take t peer) + open_bit ph')
-      counts (over d) =
-          (grind (arith, number_push, w.asked, d), λ v. absurd (let z = over_after s Closed ms m refl in cc), grind (arith, number_push, w.open_requests, bit_most ph, d))
-      counts (opened b c d) =
-          let none = nothing_made s ph ms b open_yet in
-          let owed = ap (owes is_request_owed) (h.unmade c none).1 in
-          (grind (arith, number_push, w.asked, d), λ v. grind (arith, number_push, w.owing open_yet, d), grind (arith, number_push, none, owed, d))
-      counts (goes_on on b c d r) =
-          (grind (arith, number_push, b, w.owing open_yet), λ v. grind (arith, number_push, b, w.owing open_yet), grind (arith, number_push, c, w.open_requests))
+  asking_push : {ph' : Phase} {os' : List Owed} {qs : List ℕ} {t : ℕ} {peer : List Made} → Asking s ph ms qs os t peer → answers_in (ms ++ m ∷ []) ≤ length qs
+      → (ended s ph' (ms ++ m ∷ []) ≡ false → answers_in (ms ++ m ∷ []) + owes is_answer_owed os' ≡ length qs)
+      → requests_in (ms ++ m ∷ []) + owes is_request_owed os' ≤ answers_in (take t peer) + open_bit ph' → Asking s ph' (ms ++ m ∷ []) qs os' t peer
+  asking_push w asked owing open_requests =
+      record { asked = asked; owing = owing; answered = λ p n g k c x. SnIs_more (get_front ms (m ∷ [])) (w.answered p n g k c x); asks_taken = w.asks_taken; open_requests = open_requests }
 
-  make_opener : (ph' : Phase) (os' : List Owed) → Changed s ph m.pdu.kind os ph' os' → is_opener m.pdu.kind ≡ true → ms ≡ []
-  make_opener ph' os' (over d) k = absurd (let z = ap is_opener d in cc)
-  make_opener ph' os' (opened b c d) k = nothing_made s ph ms b open_yet
-  make_opener ph' os' (goes_on on b c d r) k =
-      ⊎_elim
-      (λ (none : owes is_response_owed os ≡ 0). absurd (let q = ap (owes is_response_owed) (d k).1 in omega (arith, q)))
-      (λ (one : (ms ≡ []) × (os ≡ OweConnectionResponse ∷ [])). one.0)
-      h.response_due
+  make_asking : {ph' : Phase} {os' : List Owed} (qs : List ℕ) (t : ℕ) (peer : List Made) → Changed s ph m.pdu.kind os ph' os' → Asking s ph ms qs os t peer → Asking s ph' (ms ++ m ∷ []) qs os' t peer
+  make_asking qs t peer (over d) w =
+      asking_push w (grind (arith, number_push, w.asked, d)) (λ v. absurd (let z = over_after s Closed ms m refl in cc)) (grind (arith, number_push, w.open_requests, bit_most ph, d))
+  make_asking qs t peer (opened b c d) w =
+      let none = nothing_made s ph ms b open_yet in
+      let owed = ap (owes is_request_owed) (h.unmade c none).1 in
+      asking_push w (grind (arith, number_push, w.asked, d)) (λ v. grind (arith, number_push, w.owing open_yet, d)) (grind (arith, number_push, none, owed, d))
+  make_asking qs t peer (goes_on on b c d r) w =
+      asking_push w (grind (arith, number_push, b, w.owing open_yet)) (λ v. grind (arith, number_push, b, w.owing open_yet)) (grind (arith, number_push, c, w.open_requests))
+
+  make_opener : {ph' : Phase} {os' : List Owed} → Changed s ph m.pdu.kind os ph' os' → is_opener m.pdu.kind ≡ true → ms ≡ []
+  make_opener (over d) k = absurd (grind (arith, d))
+  make_opener (opened b c d) k = nothing_made s ph ms b open_yet
+  make_opener (goes_on on b c d r) k = grind (arith, h.response_due, ap (owes is_response_owed) (d k).1)
 
 -- an end that makes a PDU whose CS names one of the peer's has accepted something
 named_connected : {s : Side} {ph ph' : Phase} {k : Kind} {os os' : List Owed} → Changed s ph k os ph' os' → is_named k ≡ true → has_peer s ph ≡ true
-named_connected (over d) h = absurd (let z = ap is_named d in cc)
-named_connected (opened a s d) h = absurd (let z = ap is_named d in cc)
 named_connected (goes_on on b c d r) h = on
+named_connected (over d) h = grind (arith, d)
+named_connected (opened a s d) h = grind (arith, d)
 
 -- a make keeps what holds of the maker
-pub own_make : (p : Parameters) (e : EndState) (x : SafetyPdu) (clock : ℕ) (why : Why) (t : ℕ) (peer : List Made)
-    → Passed p e x clock why → Held e t peer → Held (after_make e x clock why) t peer
-own_make p e x clock why t peer pass h =
-    let by = made_by p e x clock why pass in
+pub own_make : (p : Parameters) (e : EndState) (x : SafetyPdu) (clock : ℕ) (why : Why) (t : ℕ) (peer : List Made) (by : MadeBy e x why)
+    → Passed p e x clock why → Held e t peer → Held (after_make_by (Some by.row) e x clock) t peer
+own_make p e x clock why t peer by pass h =
     let n : Made = new_made by.row e x in
-    let how = changed e.side e.phase why x.kind e.owed by.row by.how in
-    subst (λ (e' : EndState). Held e' t peer) (after_row e x clock why by) (record {
+    let how = changed by.how in
+    record {
       list = record {
         numbered = numbered_push e.made n h.list.numbered (un_not _ pass.sn);
-        openers = all_push e.made n h.list.openers (λ k. ap length (make_opener e.side e.phase e.made n e.accepted e.owed pass.open_yet h.opening _ _ how k));
+        openers = all_push e.made n h.list.openers (λ k. ap length (make_opener e.side e.phase e.made n e.accepted e.owed pass.open_yet h.opening how k));
       };
-      opening = make_opening e.side e.phase e.made n e.accepted e.owed pass.open_yet h.opening _ _ how;
-      asks = make_asking e.side e.phase e.made n e.accepted e.owed pass.open_yet h.opening _ _ e.asks t peer how h.asks;
+      opening = make_opening e.side e.phase e.made n e.accepted e.owed pass.open_yet h.opening how;
+      asks = make_asking e.side e.phase e.made n e.accepted e.owed pass.open_yet h.opening e.asks t peer how h.asks;
       accepts = record {
         reached = h.accepts.reached;
         within = h.accepts.within;
@@ -184,5 +155,5 @@ own_make p e x clock why t peer pass h =
             let l = h.accepts.last a.0 a.1 in
             (a.0, omega (arith, a.1), record { m = l.m; there = l.there; same = l.same ∙ sym (cs_is e x.kind x.cs (grind (arith, k)) pass.cs).1 }));
       };
-      confirmed = (let len = length_push e.made n in omega (arith, h.confirmed, len));
-    })
+      confirmed = omega (arith, h.confirmed, length_push e.made n);
+    }

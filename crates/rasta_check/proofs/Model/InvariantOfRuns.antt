@@ -1,38 +1,31 @@
 -- Every run keeps what holds.
-use Rattle.std.proofs.Common.{◌≡◌, ℕ, zero, suc, ◌≤◌, Bool, false, List, [], ◌∷◌, ◌++◌, length, Option, Some, None, slice_get, refl, ap, sym, subst, ◌∙◌, arith, inl, inr}
+use Rattle.std.proofs.Common.{◌≡◌, ℕ, suc, ◌≤◌, false, List, [], ◌∷◌, length, Option, Some, None, slice_get, refl, ap, sym, subst, ◌∙◌, arith, inr}
 use Rattle.std.proofs.lemmas.List.{length_push}
-use Rattle.rasta_pcap.specs.Fault.{reply_owed, past_deadline}
 use Rattle.rasta_pcap.specs.declared.fault.Side.{Side}
 use Rattle.rasta_pcap.specs.declared.fault.Side.TheVariants.{Client, Server}
 use Rattle.rasta_udp.specs.Frame.{Packet}
 use Rattle.rasta_pdu.specs.Params.{Parameters}
 use Rattle.rasta_pdu.specs.declared.quiet_point.Quiet.{Quiet}
 use Rattle.rasta_pdu.specs.declared.quiet_point.QuietEnd.{QuietEnd}
-use Rattle.rasta_end.specs.declared.phase.Phase.{Phase}
-use Rattle.rasta_end.specs.declared.phase.Phase.TheVariants.{Closed, Down, RetrReq}
-use Rattle.rasta_end.specs.declared.owed.Owed.{Owed}
-use Rattle.rasta_end.specs.State.{Made, EndState, is_owing, is_closed, is_connected, carries_unit}
-use Rattle.rasta_end.specs.MakeRule.{first_that_holds, is_past, after_make}
-use Rattle.rasta_end.specs.TakeRule.{take_fault, after_take}
-use Rattle.rasta_end.specs.Starts.{fresh_end, sn_before, quiet_pdu, quiet_end, start_by}
+use Rattle.rasta_end.specs.State.{Made, EndState, is_closed}
+use Rattle.rasta_end.specs.MakeRule.{after_make_by}
+use Rattle.rasta_end.specs.TakeRule.{take_fault}
+use Rattle.rasta_end.specs.Starts.{sn_before, quiet_pdu, quiet_end, start_by}
 use Rattle.rasta_check.specs.Model.World.{Station, World, Move, Moves, makes, repeats, arrives, takes, waits, station_of, end_of, other_side, Reaches, IsWithin}
 use Rattle.rasta_check.proofs.Model.PassedTests.{passed}
 use Rattle.rasta_check.proofs.Model.MakeRows.{made_by, after_row, new_made}
 use Rattle.rasta_check.proofs.Model.TakeRows.{take_made}
 use Rattle.rasta_check.proofs.Model.NamedPositions.{SnIs}
-use Rattle.rasta_check.proofs.Model.Invariant.{Held, has_peer}
+use Rattle.rasta_check.proofs.Model.Invariant.{Held}
 use Rattle.rasta_check.proofs.Model.InvariantAtMake.{own_make, peer_make}
 use Rattle.rasta_check.proofs.Model.InvariantAtTake.{Taken, own_take}
 use Rattle.rasta_check.proofs.Model.OfferedUnits.{Valued}
 use Rattle.rasta_check.proofs.Model.OfferedUnitsAtMake.{valued_make}
-use Rattle.rasta_check.proofs.Model.OfferedUnitsAtTake.{valued_take, values_take}
-use Rattle.rasta_check.proofs.Model.HandedUnits.{Handed, handed_make, handed_peer_make, handed_take, handed_peer_take}
+use Rattle.rasta_check.proofs.Model.OfferedUnitsAtTake.{valued_take}
+use Rattle.rasta_check.proofs.Model.HandedUnits.{Handed, handed_make, handed_peer, handed_take}
 use Rattle.rasta_check.proofs.Model.ShownUnits.{Shown, shown_make, shown_peer_make, shown_take, shown_peer_take}
-use Rattle.rasta_check.proofs.Model.SequenceNumbers.{numbered_once}
 use Rattle.rasta_check.proofs.Model.Induction.{always}
-use Rattle.rasta_check.proofs.Model.Steps.{start_base, base_small}
-use Rattle.rasta_pdu.specs.Pdu.{is_kind}
-use Rattle.rasta_pdu.specs.declared.kind.Kind.TheVariants.{Data}
+use Rattle.rasta_check.proofs.Model.Steps.{start_base, base_small, grown_make, grown_take}
 
 -- all that holds of an end e that took its peer's PDUs up to position t, and of this peer f
 pub record InRun (e : EndState) (t : ℕ) (f : EndState) : Type 0 where
@@ -48,102 +41,39 @@ pub record All (a b : Station) : Type 0 where
 
 -- ---- the start: a fresh end, or one at a quiet point
 
-nothing_at : {A B : Type 0} (i : ℕ) (x : A) → slice_get [] i ≡ Some x → B
-nothing_at i x e = absurd (cc)
-
-fresh_in_run : (side other : Side) (phase theirs : Phase) → (phase ≡ Down → side ≡ Server) → has_peer side phase ≡ false → is_connected phase ≡ false → is_connected theirs ≡ false → (phase ≡ RetrReq → ⊥)
-    → InRun (fresh_end side phase) 0 (fresh_end other theirs)
-fresh_in_run side other phase theirs down peer apart they_apart asking =
-    record {
-      held = record {
-        list = record { numbered = λ i m e. nothing_at (suc i) m e; openers = λ i m e. nothing_at i m e };
-        opening = record { down = λ e. (refl, down e, refl); starting = λ _ _. refl; unmade = λ _ _. (refl, refl); response_due = inl refl; connected = λ v. absurd (cc) };
-        asks = record { asked = omega arith; owing = λ _. refl; answered = λ i m e. nothing_at i m e; asks_taken = omega arith; open_requests = omega arith };
-        accepts = record { reached = omega arith; within = omega arith; last = λ i v. absurd (cc); named = λ i m e. nothing_at i m e };
-        confirmed = omega arith;
-      };
-      values = record {
-        due = λ _. refl;
-        grown = λ v. absurd (cc);
-        positions = record { bounded = λ i v e. nothing_at i v e; units = λ i m e. nothing_at i m e; others = λ i m e. nothing_at i m e; zeroth = refl };
-        returns = record { jumps = λ i m e. nothing_at i m e; asks_within = λ i d e. nothing_at i d e };
-        contents = record { counted = refl; fresh = λ i m e. nothing_at i m e; carried = λ i m e. nothing_at i m e };
-      };
-      handed = record { count = refl; labels = λ i m g. nothing_at i m g; as_many = refl; awaited = λ v. absurd (asking v) };
-      shown = record {
-        shown = λ i m g. nothing_at i m g;
-        judged = λ i m g. nothing_at i m g;
-        first_words = λ _ _ i m g. nothing_at i m g;
-        ready_run = λ r. absurd (cc);
-        ready_offer = λ l. omega arith;
-      };
-    }
-
 -- the only one of a list of one
 only_at : (x m : Made) (i : ℕ) → slice_get (x ∷ []) i ≡ Some m → (i ≡ 0) × (x ≡ m)
-only_at x m zero e = (refl, cc)
-only_at x m (suc i) e = nothing_at i m e
-
-zero_at : (i v : ℕ) → slice_get (0 ∷ []) i ≡ Some v → v ≤ 0
-zero_at zero v e = (let z : 0 ≡ v = cc in omega arith)
-zero_at (suc i) v e = nothing_at i v e
-
-quiet_sn : (side : Side) (own other : QuietEnd) (i sn : ℕ) → i ≡ 0 → sn ≡ sn_before own.next_sn → SnIs ((quiet_end side own other).made) i sn
-quiet_sn side own other i sn e f =
-    let m : Made = record { pdu = quiet_pdu own other; unit = None } in
-    record { m = m; there = subst (λ j. slice_get ((quiet_end side own other).made) j ≡ Some m) (sym e) refl; same = sym f }
-
-quiet_cs : (own other : QuietEnd) (m : Made) → record { pdu = quiet_pdu own other; unit = None } ≡ m → m.pdu.cs ≡ sn_before other.next_sn
-quiet_cs own other m e = ap (λ (n : Made). n.pdu.cs) (sym e)
+only_at x m i e = grind arith
 
 -- each quiet PDU confirms the other
 quiet_in_run : (side peer : Side) (own other : QuietEnd) → InRun (quiet_end side own other) 1 (quiet_end peer other own)
 quiet_in_run side peer own other =
-    let confirms : (i : ℕ) (m : Made) → slice_get ((quiet_end side own other).made) i ≡ Some m → SnIs ((quiet_end peer other own).made) 0 m.pdu.cs =
-    λ i m e. quiet_sn peer other own 0 m.pdu.cs refl (quiet_cs own other m (only_at _ m i e).1) in
+    let first : SnIs (quiet_end peer other own).made 0 (sn_before other.next_sn) = record { m = record { pdu = quiet_pdu other own; unit = None }; there = refl; same = refl } in
+    let confirms : (i : ℕ) (m : Made) → slice_get (quiet_end side own other).made i ≡ Some m → SnIs (quiet_end peer other own).made 0 m.pdu.cs =
+    λ i m e. (let z = ap (λ (n : Made). n.pdu.cs) (only_at _ m i e).1 in rw (sym z) first) in
     record {
       held = record {
-        list = record { numbered = λ i m e. nothing_at i m e; openers = λ i m e k. (only_at _ m i e).0 };
-        opening = record { down = λ e. absurd (cc); starting = λ _ v. absurd (cc); unmade = λ _ v. absurd (cc); response_due = inl refl; connected = λ v. (0, refl) };
-        asks = record { asked = omega arith; owing = λ _. refl; answered = λ i m e k c g. absurd (cc); asks_taken = omega arith; open_requests = omega arith };
-        accepts = record { reached = omega arith; within = omega arith; last = λ i v. quiet_sn peer other own i _ (omega arith) refl; named = λ i m e k. (0, omega arith, confirms i m e) };
+        list = grind (arith, only_at);
+        opening = grind arith;
+        asks = grind arith;
+        accepts = record { reached = omega arith; within = omega arith; last = λ i v. (let z : i ≡ 0 = omega arith in rw z first); named = λ i m e k. (0, omega arith, confirms i m e) };
         confirmed = omega arith;
       };
-      values = record {
-        due = λ _. refl;
-        grown = λ v. omega arith;
-        positions = record {
-          bounded = λ i v e. zero_at i v e;
-          units = λ i m e k. absurd (let z = ap (λ (n : Made). carries_unit n.pdu.kind) (only_at _ m i e).1 in cc);
-          others = λ i m e k j s. absurd (let z = (only_at _ m i e).0 in omega arith);
-          zeroth = refl;
-        };
-        returns = record { jumps = λ i m e k d g. absurd (cc); asks_within = λ i d e. nothing_at i d e };
-        contents = record {
-          counted = refl;
-          fresh = λ i m e k. absurd (let z = ap (λ (n : Made). is_kind Data n.pdu.kind) (only_at _ m i e).1 in cc);
-          carried = λ i m e k u. absurd (let z = ap (λ (n : Made). n.unit) (only_at _ m i e).1 in cc);
-        };
-      };
-      handed = record { count = refl; labels = λ i m g. nothing_at i m g; as_many = refl; awaited = λ v. absurd (cc) };
+      values = grind (arith, only_at);
+      handed = grind arith;
       shown = record {
-        shown = λ i m g k j v t u. zero_at j v u;
-        judged = λ i m g k. inr (0, omega arith, confirms i m g);
-        first_words = λ z. absurd (omega arith);
-        ready_run = λ _. omega arith;
-        ready_offer = λ _. omega arith;
+        shown = λ i m g k. inr (record { at = 0; units = 0; named = confirms i m g; conveyed = refl; most = omega arith });
+        first_words = grind arith;
+        ready_run = grind arith;
+        ready_offer = grind arith;
       };
     }
 
 -- ---- the steps
 
-free_by : (owed : List Owed) (past : Bool) → first_that_holds ((is_owing owed, reply_owed) ∷ (past, past_deadline) ∷ []) ≡ None → owed ≡ []
-free_by [] past e = refl
-free_by (o ∷ os) past e = absurd (cc)
-
 -- an end that takes something owes nothing
 pub free : (p : Parameters) (e : EndState) (clock : ℕ) → take_fault p e clock ≡ None → is_closed e.phase ≡ false → e.owed ≡ []
-free p e clock h c = free_by e.owed (is_past p e.deadline clock) (rw c at h)
+free p e clock h c = grind (arith, h, c)
 
 abbrev Whole : Station → Station → Type 0
 Whole a b = length a.state.made ≤ 1000001 → length b.state.made ≤ 1000001 → All a b
@@ -152,41 +82,34 @@ all_kept : (p : Parameters) (b a a' : Station) (xs ys : List Packet) (move : Mov
 all_kept p b a a' xs ys move (makes x why after channel reserve check bytes mk sp rec) g = λ l r. (
     let ok = passed p a.state x a.clock why mk.0 in
     let by = made_by p a.state x a.clock why ok in
-    let n : Made = new_made by.row a.state x in
-    let now : after_make a.state x a.clock why ≡ after = sym mk.1 in
-    let made : (after_make a.state x a.clock why).made ≡ a.state.made ++ n ∷ [] = ap (λ (e : EndState). e.made) (sym (after_row a.state x a.clock why by)) in
-    let few : length (after_make a.state x a.clock why).made ≤ 1000001 = subst (λ (e : EndState). length e.made ≤ 1000001) (sym now) l in
-    let h = g (let longer = ap (λ (ms : List Made). length ms) made in omega (arith, longer, few, length_push a.state.made n)) r in
-    let mine = own_make p a.state x a.clock why a.taken b.state.made ok h.mine.held in
-    let values = valued_make p a.state x a.clock why a.taken b.state.made ok h.mine.held h.mine.values in
-    let P : EndState → Type 0 = λ e. All (record a { state = e }) b in
-    subst P now (record {
+    let now : after_make_by (Some by.row) a.state x a.clock ≡ after = after_row a.state x a.clock why by ∙ sym mk.1 in
+    let longer = length_push a.state.made (new_made by.row a.state x) in
+    let h = g (omega (arith, l, longer, ap (λ (e : EndState). length e.made) now)) r in
+    let grown = grown_make p a.state x a.clock why by ok in
+    subst (λ (e : EndState). All (record a { state = e }) b) now (record {
       mine = record {
-        held = mine;
-        values = values;
-        handed = handed_make p a.state b.state x a.clock why a.taken ok h.mine.held h.mine.handed;
-        shown = shown_make p a.state b.state x a.clock why a.taken ok h.mine.held (numbered_once b.state.made r h.theirs.held.list.numbered) h.theirs.values h.mine.handed h.mine.shown;
+        held = own_make p a.state x a.clock why a.taken b.state.made by ok h.mine.held;
+        values = valued_make p a.state x a.clock why a.taken b.state.made by ok h.mine.held h.mine.values;
+        handed = handed_make p a.state b.state x a.clock why a.taken by ok h.mine.held h.mine.handed;
+        shown = shown_make p a.state b.state x a.clock why a.taken by ok h.mine.held h.mine.handed h.mine.shown;
       };
       theirs = record {
-        held = subst (λ (ms : List Made). Held b.state b.taken ms) (sym made) (peer_make b.state b.taken a.state.made n h.theirs.held);
+        held = peer_make b.state b.taken a.state.made _ h.theirs.held;
         values = h.theirs.values;
-        handed = handed_peer_make b.state a.state x a.clock why (let z = h.theirs.held.accepts in omega (arith, z.reached, z.within)) h.theirs.handed;
-        shown = shown_peer_make p b.state a.state x a.clock why ok values (numbered_once (after_make a.state x a.clock why).made few mine.list.numbered) h.theirs.shown;
+        handed = handed_peer b.state a.state _ (let z = h.theirs.held.accepts in omega (arith, z.reached, z.within)) grown h.theirs.handed;
+        shown = shown_peer_make b.state a.state x a.clock why by grown h.theirs.shown;
       };
     }))
 all_kept p b a a' xs ys move (repeats place channel old there s rec) g = g
 all_kept p b a a' xs ys move (arrives position i j) g = λ l r. (let h = g l r in record { mine = h.mine; theirs = h.theirs })
 all_kept p b a a' xs ys move (takes position m after c i s t) g = λ l r. (
     let same : after.made ≡ a.state.made = ap (λ (e : EndState). e.made) t.1 ∙ take_made p a.state m.pdu in
-    let few : length a.state.made ≤ 1000001 = subst (λ (ms : List Made). length ms ≤ 1000001) same l in
+    let few : length a.state.made ≤ 1000001 = rw same at l in
     let h = g few r in
-    let now : after_take p a.state m.pdu ≡ after = sym t.1 in
     let k : Taken a.state b.state a.taken b.taken m position = record { mine = h.mine.held; theirs = h.theirs.held; there = s; above = i; few = few; few_theirs = r } in
-    let P : EndState → Type 0 = λ e. All (record a { state = e; taken = suc position }) b in
     let fr = free p a.state a.clock t.0 in
-    let made = take_made p a.state m.pdu in
-    let same_values = values_take p a.state m.pdu h.mine.held.asks.asked in
-    subst P now (record {
+    let grown = grown_take p a.state m.pdu h.mine.held.asks.asked in
+    subst (λ (e : EndState). All (record a { state = e; taken = suc position }) b) (sym t.1) (record {
       mine = record {
         held = own_take p a.state b.state a.taken b.taken m position k fr;
         values = valued_take p a.state b.state a.taken b.taken m position k h.mine.values fr;
@@ -194,27 +117,21 @@ all_kept p b a a' xs ys move (takes position m after c i s t) g = λ l r. (
         shown = shown_take p a.state b.state m.pdu a.taken h.mine.held h.mine.shown;
       };
       theirs = record {
-        held = subst (λ (ms : List Made). Held b.state b.taken ms) (sym made) h.theirs.held;
+        held = rw (take_made p a.state m.pdu) h.theirs.held;
         values = h.theirs.values;
-        handed = handed_peer_take b.state a.state (after_take p a.state m.pdu) made same_values h.theirs.handed;
-        shown = shown_peer_take p b.state a.state b.taken m position h.theirs.held s same_values h.theirs.shown;
+        handed = handed_peer b.state a.state _ (let z = h.theirs.held.accepts in omega (arith, z.reached, z.within)) grown h.theirs.handed;
+        shown = shown_peer_take p b.state a.state b.taken m position h.theirs.held s grown h.theirs.shown;
       };
     }))
 all_kept p b a a' xs ys move (waits clock i) g = λ l r. (let h = g l r in record { mine = h.mine; theirs = h.theirs })
 
 -- ---- every run
 
-station_by : Option Quiet → Side → ℕ → Station
-station_by quiet side number = record { state = start_by quiet side; clock = (start_by quiet side).clock; arrived = []; taken = (start_by quiet side).base; first_number = number }
-
-first_all : (quiet : Option Quiet) (m n : ℕ) → All (station_by quiet Client m) (station_by quiet Server n)
-unfolding station_by
-first_all None m n =
-    record {
-      mine = fresh_in_run Client Server Closed Down (λ e. absurd (cc)) refl refl refl (λ e. cc (e));
-      theirs = fresh_in_run Server Client Down Closed (λ _. refl) refl refl refl (λ e. cc (e));
-    }
-first_all (Some quiet) m n = record { mine = quiet_in_run Client Server quiet.client quiet.server; theirs = quiet_in_run Server Client quiet.server quiet.client }
+first_in_run : (quiet : Option Quiet) (side : Side) → InRun (start_by quiet side) (start_by quiet side).base (start_by quiet (other_side side))
+first_in_run None Client = grind arith
+first_in_run None Server = grind arith
+first_in_run (Some q) Client = quiet_in_run Client Server q.client q.server
+first_in_run (Some q) Server = quiet_in_run Server Client q.server q.client
 
 -- no end has made more than 1,000,001 PDUs
 pub few_made : (p : Parameters) (w : World) → IsWithin p w → (side : Side) → length (end_of w side).made ≤ 1000001
@@ -224,6 +141,6 @@ turned : (a b : Station) → Whole a b → Whole b a
 turned a b g l m = (let h = g m l in record { mine = h.theirs; theirs = h.mine })
 
 pub all_held : (p : Parameters) (ws : List World) (w : World) (side : Side) → Reaches p ws w → IsWithin p w → All (station_of w side) (station_of w (other_side side))
-unfolding station_by
 all_held p ws w side r within =
-    always p Whole turned (λ m n l k. first_all p.quiet m n) (all_kept p) ws w side r (few_made p w within side) (few_made p w within (other_side side))
+    always p Whole turned (λ m n l k. record { mine = first_in_run p.quiet Client; theirs = first_in_run p.quiet Server }) (all_kept p) ws w side r
+    (few_made p w within side) (few_made p w within (other_side side))

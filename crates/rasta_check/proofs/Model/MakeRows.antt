@@ -1,6 +1,5 @@
 -- The rows of the make table, one by one.
 use Rattle.std.proofs.Common.{◌≡◌, ℕ, Bool, true, false, List, [], ◌∷◌, Some, refl, ap, sym, arith}
-use Rattle.std.specs.Prelude.{not, ◌&&◌, ◌==◌}
 use Rattle.std.proofs.lemmas.Bool.{and_parts}
 use Rattle.std.proofs.lemmas.Bool.Decides.{nat_tests}
 use Rattle.std.specs.Bool.{then_some}
@@ -20,9 +19,9 @@ use Rattle.rasta_end.specs.declared.owed.Owed.{Owed}
 use Rattle.rasta_end.specs.declared.owed.Owed.TheVariants.{ConnectionResponse as OweConnectionResponse, FirstHeartbeat as OweFirstHeartbeat, RetransmissionResponse as OweRetransmissionResponse, Resend as OweResend, RetransmissionRequest as OweRetransmissionRequest}
 use Rattle.rasta_end.specs.declared.owed.Demand.{Demand}
 use Rattle.rasta_end.specs.declared.owed.Demand.TheVariants.{First, Nothing, Anything}
-use Rattle.rasta_end.specs.State.{Made, EndState, is_client, is_closed, is_start, is_up, is_connected, is_active, reason_of}
-use Rattle.rasta_end.specs.MakeRule.{make_row, demand_of, same_owed, lacks, owes_else, is_refused_row, is_owing_else, row_of, unit_of, after_make, after_make_by}
-use Rattle.rasta_check.proofs.Model.PassedTests.{Passed, un_not}
+use Rattle.rasta_end.specs.State.{Made, EndState, is_connected, is_active, reason_of}
+use Rattle.rasta_end.specs.MakeRule.{make_row, demand_of, lacks, owes_else, is_refused_row, is_owing_else, row_of, unit_of, after_make, after_make_by}
+use Rattle.rasta_check.proofs.Model.PassedTests.{Passed}
 
 -- which row allows a make: side, phase, why, type, what is owed, and the row
 pub data Making : Side → Phase → Why → Kind → List Owed → MakeRow → Type 0 where
@@ -45,54 +44,41 @@ Met Anything os = Unit {0}
 
 -- ---- each row in turn
 
-same_is : (q o : Owed) → same_owed q o ≡ true → q ≡ o
-same_is q o h = grind (arith, nat_tests)
-
 meets : (d : Demand) (os : List Owed) → lacks d os ≡ false → owes_else d os ≡ false → Met d os
 unfolding Met
 meets (First o) [] e f = absurd (cc)
-meets (First o) (q ∷ os) e f = (os, ap (λ p. p ∷ os) (same_is q o (un_not _ f)))
+meets (First o) (q ∷ os) e f = (os, grind (arith, nat_tests, f))
 meets Nothing [] e f = refl
 meets Nothing (q ∷ os) e f = absurd (cc)
 meets Anything os e f = tt
 
-met : (row : MakeRow) (b : Bool) (os : List Owed) → is_refused_row (then_some b row) os ≡ false → is_owing_else (then_some b row) os ≡ false → (b ≡ true) × Met (demand_of row) os
-met row false os e f = absurd (cc)
-met row true os e f = (refl, meets (demand_of row) os e f)
-
-open_row : (s : Side) (ph : Phase) (os : List Owed) → (is_client s && is_closed ph) ≡ true → Making s ph Open ConnectionRequest os Opens
-open_row Client Closed os e = opening
-open_row _ _ os e = absurd (cc)
-
-response_row : (s : Side) (ph : Phase) (os : List Owed) → (not (is_client s) && is_start ph) ≡ true → Making s ph Reply ConnectionResponse (OweConnectionResponse ∷ os) Answers
-response_row Server Start os e = response
-response_row _ _ os e = absurd (cc)
-
-first_beat_row : (s : Side) (ph : Phase) (os : List Owed) → (is_client s && is_up ph) ≡ true → Making s ph Reply Heartbeat (OweFirstHeartbeat ∷ os) StartsBeating
-first_beat_row Client Up os e = first_beat
-first_beat_row _ _ os e = absurd (cc)
+-- the row that a test lets through
+row_by : {s : Side} {ph : Phase} {why : Why} {k : Kind} (row : MakeRow) (b : Bool) (os : List Owed) → is_refused_row (then_some b row) os ≡ false → is_owing_else (then_some b row) os ≡ false
+    → (b ≡ true → Met (demand_of row) os → Making s ph why k os row) → (r : MakeRow) × (then_some b row ≡ Some r) × Making s ph why k os r
+row_by row false os e f how = absurd (cc)
+row_by row true os e f how = (row, refl, how refl (meets (demand_of row) os e f))
 
 -- the row of a make that is neither refused nor kept back by what is owed
 pub making : (s : Side) (ph : Phase) (reason : ℕ) (why : Why) (k : Kind) (os : List Owed)
     → is_refused_row (make_row s ph reason why k) os ≡ false → is_owing_else (make_row s ph reason why k) os ≡ false
     → (row : MakeRow) × (make_row s ph reason why k ≡ Some row) × Making s ph why k os row
 unfolding Met
-making s ph reason Open ConnectionRequest os e f = let m = met Opens _ os e f in (Opens, ap (λ b. then_some b Opens) m.0, open_row s ph os m.0)
-making s ph reason Reply ConnectionResponse os e f = let m = met Answers _ os e f in (Answers, ap (λ b. then_some b Answers) m.0, rw (m.1.1) (response_row s ph m.1.0 m.0))
-making s ph reason Reply Heartbeat os e f = let m = met StartsBeating _ os e f in (StartsBeating, ap (λ b. then_some b StartsBeating) m.0, rw (m.1.1) (first_beat_row s ph m.1.0 m.0))
-making s ph reason Reply RetransmissionResponse os e f = let m = met Returns (is_connected ph) os e f in (Returns, ap (λ b. then_some b Returns) m.0, rw (m.1.1) (answer m.0))
-making s ph reason (Again j) RetransmittedData os e f = let m = met (Resends j) (is_connected ph) os e f in (Resends j, ap (λ b. then_some b (Resends j)) m.0, rw (m.1.1) (again m.0))
-making s ph reason Ask RetransmissionRequest os e f = let m = met Requests (is_connected ph) os e f in (Requests, ap (λ b. then_some b Requests) m.0, rw (m.1.1) (ask m.0))
-making s ph reason Beat Heartbeat os e f = let m = met Beats (is_connected ph) os e f in (Beats, ap (λ b. then_some b Beats) m.0, rw (m.1) (beat m.0))
-making s ph reason Fresh Data os e f = let m = met Offers (is_connected ph) os e f in (Offers, ap (λ b. then_some b Offers) m.0, rw (m.1) (fresh m.0))
-making s ph reason Bye DisconnectionRequest os e f = let m = met Leaves (is_active ph && not (reason == 4)) os e f in (Leaves, ap (λ b. then_some b Leaves) m.0, bye (and_parts _ _ m.0).0)
-making s ph reason Expired DisconnectionRequest os e f = let m = met TimesOut (is_active ph && (reason == 4)) os e f in (TimesOut, ap (λ b. then_some b TimesOut) m.0, expired (and_parts _ _ m.0).0)
+making s ph reason Open ConnectionRequest os e f = row_by Opens _ os e f (λ b m. (let z : (s ≡ Client) × (ph ≡ Closed) = grind (arith, b) in rw (z.0, z.1) opening))
+making s ph reason Reply ConnectionResponse os e f = row_by Answers _ os e f (λ b m. (let z : (s ≡ Server) × (ph ≡ Start) = grind (arith, b) in rw (z.0, z.1, m.1) response))
+making s ph reason Reply Heartbeat os e f = row_by StartsBeating _ os e f (λ b m. (let z : (s ≡ Client) × (ph ≡ Up) = grind (arith, b) in rw (z.0, z.1, m.1) first_beat))
+making s ph reason Reply RetransmissionResponse os e f = row_by Returns _ os e f (λ b m. rw m.1 (answer b))
+making s ph reason (Again j) RetransmittedData os e f = row_by (Resends j) _ os e f (λ b m. rw m.1 (again b))
+making s ph reason Ask RetransmissionRequest os e f = row_by Requests _ os e f (λ b m. rw m.1 (ask b))
+making s ph reason Beat Heartbeat os e f = row_by Beats _ os e f (λ b m. rw m (beat b))
+making s ph reason Fresh Data os e f = row_by Offers _ os e f (λ b m. rw m (fresh b))
+making s ph reason Bye DisconnectionRequest os e f = row_by Leaves _ os e f (λ b m. bye (and_parts _ _ b).0)
+making s ph reason Expired DisconnectionRequest os e f = row_by TimesOut _ os e f (λ b m. expired (and_parts _ _ b).0)
 making s ph reason _ _ os e f = absurd (cc)
 
 -- a connection request is made by a closed client
-pub opening_is : (s : Side) (ph : Phase) (why : Why) (k : Kind) (os : List Owed) (row : MakeRow) → Making s ph why k os row → is_kind ConnectionRequest k ≡ true → (s ≡ Client) × (ph ≡ Closed) × (row ≡ Opens)
-opening_is s ph why k os row opening h = (refl, refl, refl)
-opening_is s ph why k os row _ h = absurd (cc)
+pub opening_is : {s : Side} {ph : Phase} {why : Why} {k : Kind} {os : List Owed} {row : MakeRow} → Making s ph why k os row → is_kind ConnectionRequest k ≡ true → (s ≡ Client) × (ph ≡ Closed) × (row ≡ Opens)
+opening_is opening h = (refl, refl, refl)
+opening_is _ h = absurd (cc)
 
 -- ---- the row of a make
 

@@ -3,9 +3,7 @@ use Rattle.std.proofs.Common.{◌≡◌, ℕ, suc, ◌+◌, ◌%◌, ◌^◌, �
 use Rattle.std.specs.Prelude.{nat_lt}
 use Rattle.std.proofs.lemmas.Bool.Decides.{nat_tests}
 use Rattle.std.proofs.lemmas.Option.{slice_get_within}
-use Rattle.rasta_pdu.specs.Pdu.{SafetyPdu}
-use Rattle.rasta_end.specs.State.{Made, EndState, ahead_by, first_sn, sn_at}
-use Rattle.rasta_end.specs.TakeRule.{is_valid, position_confirmed}
+use Rattle.rasta_end.specs.State.{Made, ahead_by, first_sn, sn_at}
 use Rattle.rasta_check.proofs.Model.SequenceNumbers.{Numbered, sn_from_first}
 
 -- the PDU at this position has this SN
@@ -13,6 +11,10 @@ pub record SnIs (ms : List Made) (i sn : ℕ) : Type 0 where
   pub m : Made
   pub there : slice_get ms i ≡ Some m
   pub same : m.pdu.sn ≡ sn
+
+-- it has it in a list that goes on
+pub SnIs_more : {ms ms' : List Made} {i sn : ℕ} → ((j : ℕ) (m : Made) → slice_get ms j ≡ Some m → slice_get ms' j ≡ Some m) → SnIs ms i sn → SnIs ms' i sn
+SnIs_more more s = record { m = s.m; there = more _ s.m s.there; same = s.same }
 
 -- modulo 2^32 an SN is the first one and its position
 pub sn_mod : (ms : List Made) (i sn : ℕ) → Numbered ms → SnIs ms i sn → sn % 2 ^ 32 ≡ (first_sn ms + i) % 2 ^ 32
@@ -25,14 +27,10 @@ position_is ms i p u v h b x y l =
     omega (arith, sn_mod ms p u h x, sn_mod ms i v h y)
 
 -- a valid SN of a position lies as far after the confirmed one as the position does
-valid_at : (ms : List Made) (c j u : ℕ) → Numbered ms → length ms ≤ 1000001 → c ≤ length ms → SnIs ms j u
+pub valid_at : (ms : List Made) (c j u : ℕ) → Numbered ms → length ms ≤ 1000001 → c ≤ length ms → SnIs ms j u
     → nat_lt (ahead_by u (sn_at ms c)) (ahead_by (sn_at ms (length ms)) (sn_at ms c)) ≡ true → c + ahead_by u (sn_at ms c) ≡ j
 valid_at [] c j u h b l s v = absurd (let e = s.there in cc)
 valid_at (m ∷ ms) c j u h b l s v =
     let w : j < length (m ∷ ms) = slice_get_within (m ∷ ms) j s.m s.there in
     let t : ahead_by u ((m.pdu.sn + c) % 2 ^ 32) < ahead_by ((m.pdu.sn + length (m ∷ ms)) % 2 ^ 32) ((m.pdu.sn + c) % 2 ^ 32) = grind (arith, nat_tests) in
     omega (arith, sn_mod (m ∷ ms) j u h s, l, w, b, t)
-
--- a valid CS confirms the position that it names
-pub confirms_is : (e : EndState) (x : SafetyPdu) (j : ℕ) → Numbered e.made → length e.made ≤ 1000001 → e.confirmed ≤ length e.made → SnIs e.made j x.cs → is_valid e x ≡ true → position_confirmed e x ≡ j
-confirms_is e x j h b l s v = valid_at e.made e.confirmed j x.cs h b l s v

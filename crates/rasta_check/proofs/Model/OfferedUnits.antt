@@ -1,6 +1,7 @@
 -- The units that an end offered: what it owes leads to them, its positions convey them, its PDUs carry them.
-use Rattle.std.proofs.Common.{◌≡◌, ℕ, zero, suc, ◌+◌, ◌-◌, ◌<◌, ◌≤◌, true, false, List, [], ◌∷◌, ◌++◌, length, Some, slice_get, take, refl, arith, subst}
+use Rattle.std.proofs.Common.{◌≡◌, ℕ, zero, suc, ◌+◌, ◌-◌, ◌<◌, ◌≤◌, true, false, List, [], ◌∷◌, ◌++◌, length, Some, slice_get, take, refl, arith}
 use Rattle.std.specs.Prelude.{slice_index_or}
+use Rattle.std.proofs.lemmas.Option.{unwrap_or-slice_get}
 use Rattle.rasta_pcap.specs.declared.fault.Side.{Side}
 use Rattle.rasta_end.specs.declared.phase.Phase.{Phase}
 use Rattle.rasta_end.specs.declared.owed.Owed.{Owed}
@@ -9,11 +10,11 @@ use Rattle.rasta_end.specs.State.{Made, EndState, kinds, is_connected, carries_u
 use Rattle.rasta_end.specs.Units.{last_of, units_at, all_units_conveyed}
 use Rattle.rasta_end.specs.MakeRule.{contents}
 use Rattle.rasta_end.specs.TakeRule.{resends}
-use Rattle.rasta_check.proofs.Model.Counts.{number}
+use Rattle.rasta_check.proofs.Model.Counts.{answers_in, IsAnswer}
 use Rattle.rasta_check.proofs.Model.ConveyedUnits.{is_plain}
 use Rattle.rasta_check.proofs.Model.Invariant.{ended}
 use Rattle.rasta_pdu.specs.Pdu.{is_kind}
-use Rattle.rasta_pdu.specs.declared.kind.Kind.TheVariants.{Data, RetransmissionResponse}
+use Rattle.rasta_pdu.specs.declared.kind.Kind.TheVariants.{Data}
 
 -- from v units conveyed, what is owed leads to n
 abbrev pub DueRest : ℕ → ℕ → List Owed → Type 0
@@ -40,8 +41,8 @@ pub record Conveying (vs : List ℕ) (ms : List Made) (n : ℕ) : Type 0 where
 
 -- a retransmission response goes back to its ask; asks are own positions
 pub record Returning (vs : List ℕ) (ms : List Made) (qs : List ℕ) : Type 0 where
-  pub jumps : (p : ℕ) (m : Made) → slice_get ms p ≡ Some m → is_kind RetransmissionResponse m.pdu.kind ≡ true
-      → (c : ℕ) → slice_get qs (number (is_kind RetransmissionResponse) (take p ms)) ≡ Some c → (c < p) × (slice_get vs p ≡ slice_get vs c)
+  pub jumps : (p : ℕ) (m : Made) → slice_get ms p ≡ Some m → IsAnswer m
+      → (c : ℕ) → slice_get qs (answers_in (take p ms)) ≡ Some c → (c < p) × (slice_get vs p ≡ slice_get vs c)
   pub asks_within : (i c : ℕ) → slice_get qs i ≡ Some c → c < length ms
 
 -- the k-th data PDU carries unit k, and whatever carries unit k has its content
@@ -52,7 +53,7 @@ pub record Carrying (ms : List Made) (n : ℕ) : Type 0 where
 
 pub record Offers (s : Side) (ph : Phase) (ms : List Made) (qs : List ℕ) (n : ℕ) (os : List Owed) : Type 0 where
   -- what is owed leads from the units conveyed to those offered
-  pub due : ended s ph ms ≡ false → Due (units_at (all_units_conveyed qs (kinds ms)) (slice_get qs (number (is_kind RetransmissionResponse) ms))) (last_of (all_units_conveyed qs (kinds ms))) n os
+  pub due : ended s ph ms ≡ false → Due (units_at (all_units_conveyed qs (kinds ms)) (slice_get qs (answers_in ms))) (last_of (all_units_conveyed qs (kinds ms))) n os
   pub grown : is_connected ph ≡ true → 0 < length ms
   pub positions : Conveying (all_units_conveyed qs (kinds ms)) ms n
   pub returns : Returning (all_units_conveyed qs (kinds ms)) ms qs
@@ -62,15 +63,12 @@ abbrev pub Valued : EndState → Type 0
 Valued e = Offers e.side e.phase e.made e.asks e.offered e.owed
 
 pub conveyed_most : (vs : List ℕ) (n c : ℕ) → ((p v : ℕ) → slice_get vs p ≡ Some v → v ≤ n) → slice_index_or vs c 0 ≤ n
-conveyed_most [] n c h = omega arith
-conveyed_most (v ∷ vs) n zero h = h 0 v refl
-conveyed_most (v ∷ vs) n (suc c) h = conveyed_most vs n c (λ p w g. h (suc p) w g)
+conveyed_most vs n c h = grind (arith, h, unwrap_or-slice_get vs c 0)
 
 -- What is owed.
 
 pub bare_rest : (u v n : ℕ) (os : List Owed) → os ≡ [] → Due u v n os → v ≡ n
-bare_rest u v n [] e d = d
-bare_rest u v n (o ∷ os) e d = absurd (cc)
+bare_rest u v n os e d = rw e at d
 
 pub rest_due : (u v n : ℕ) (os : List Owed) → DueRest v n os → Due u v n os
 rest_due u v n (OweRetransmissionResponse ∷ os) h = absurd h
@@ -78,12 +76,10 @@ rest_due u v n _ h = h
 
 pub due_le : (v n : ℕ) (os : List Owed) → DueRest v n os → v ≤ n
 due_le v n [] h = omega arith
-due_le v n (OweResend k ∷ os) h = (let l = due_le (suc v) n os h.1 in omega (arith, l))
-due_le v n (OweRetransmissionResponse ∷ os) h = absurd h
-due_le v n (_ ∷ os) h = due_le v n os h
+due_le v n (o ∷ os) h = grind (arith, h, due_le v n os, due_le (suc v) n os)
 
 resends_due_at : (u d n : ℕ) (tail : List Owed) → u + d ≡ n → DueRest n n tail → DueRest u n (resends u d ++ tail)
-resends_due_at u zero n tail e h = let s : n ≡ u = omega (arith, e) in subst (λ v. DueRest v n tail) s h
+resends_due_at u zero n tail e h = (let s : u ≡ n = omega (arith, e) in rw s h)
 resends_due_at u (suc d) n tail e h = (refl, resends_due_at (suc u) d n tail (omega (arith, e)) h)
 
 -- what a retransmission burst owes leads to the units offered

@@ -1,15 +1,14 @@
 -- A make keeps what holds of the units offered.
-use Rattle.std.proofs.Common.{◌≡◌, ℕ, suc, ◌-◌, ◌<◌, ◌≤◌, ◌⊎◌, true, false, List, [], ◌∷◌, ◌++◌, length, Option, Some, slice_get, take, refl, ap, sym, ◌∙◌, arith, inl, inr, ⊎_elim, subst}
-use Rattle.std.specs.Prelude.{slice_index_or, map, filter}
+use Rattle.std.proofs.Common.{◌≡◌, ℕ, suc, ◌-◌, ◌<◌, ◌≤◌, ◌⊎◌, true, false, List, [], ◌∷◌, ◌++◌, length, Option, Some, slice_get, refl, ap, sym, ◌∙◌, arith, inr, ⊎_elim}
 use Rattle.std.proofs.Math.Seq.{take-append_seam}
-use Rattle.std.proofs.lemmas.List.{take-append-le, append-nil, length_push, map-append}
-use Rattle.std.proofs.lemmas.List.Elements.{filter-append}
+use Rattle.std.proofs.lemmas.List.{take-append-le, append-nil, length_push}
+use Rattle.std.proofs.Common.{length-append, ◌+◌}
 use Rattle.std.proofs.lemmas.Option.{slice_get_within, slice_get-get_or}
 use Rattle.std.proofs.lemmas.Slice.Eq.{bytes_eq-Decides}
 use Rattle.rasta_pcap.specs.declared.fault.Side.{Side}
 use Rattle.rasta_pcap.specs.declared.fault.Side.TheVariants.{Client}
 use Rattle.rasta_pdu.specs.declared.kind.Kind.{Kind}
-use Rattle.rasta_pdu.specs.declared.kind.Kind.TheVariants.{RetransmissionResponse, Data}
+use Rattle.rasta_pdu.specs.declared.kind.Kind.TheVariants.{Data}
 use Rattle.rasta_pdu.specs.Params.{Parameters}
 use Rattle.rasta_pdu.specs.Pdu.{SafetyPdu, is_kind}
 use Rattle.rasta_end.specs.declared.phase.Phase.{Phase}
@@ -18,17 +17,16 @@ use Rattle.rasta_end.specs.declared.why.Why.{Why}
 use Rattle.rasta_end.specs.declared.make_row.MakeRow.{MakeRow}
 use Rattle.rasta_end.specs.declared.owed.Owed.{Owed}
 use Rattle.rasta_end.specs.State.{Made, EndState, is_connected, carries_unit, content_of}
-use Rattle.rasta_end.specs.Units.{units_after, units_at, last_of}
-use Rattle.rasta_end.specs.MakeRule.{has_ended, contents, differs, unit_of, phase_after, owed_after, offered_after, after_make, after_make_by}
+use Rattle.rasta_end.specs.Units.{units_after, last_of}
+use Rattle.rasta_end.specs.MakeRule.{has_ended, contents, differs, unit_of, phase_after, owed_after, offered_after, after_make_by}
 use Rattle.rasta_check.proofs.Lists.{all_push, get_front, get_front_within, get_push}
-use Rattle.rasta_check.proofs.Model.Counts.{number}
+use Rattle.rasta_check.proofs.Model.Counts.{answers_in}
 use Rattle.rasta_check.proofs.Model.PassedTests.{Passed}
-use Rattle.rasta_check.proofs.Model.MakeRows.{Making, opening, answer, again, fresh, bye, expired, MadeBy, made_by, after_row, new_made}
+use Rattle.rasta_check.proofs.Model.MakeRows.{Making, opening, answer, again, fresh, MadeBy, new_made}
 use Rattle.rasta_check.proofs.Model.Invariant.{Held}
 use Rattle.rasta_check.proofs.Model.InvariantAtMake.{over_after, nothing_made}
 use Rattle.rasta_check.proofs.Model.ConveyedUnits.{values, jump, is_plain, last_push, last_get, values_push, length-values, units_next, after_is}
-use Rattle.rasta_check.proofs.Model.TakeRows.{kind_is}
-use Rattle.rasta_check.proofs.Model.OfferedUnits.{Valued, Conveying, Returning, Carrying, Due, DueRest, rest_due, due_le, bare_rest}
+use Rattle.rasta_check.proofs.Model.OfferedUnits.{Valued, Carrying, Due, DueRest, rest_due, due_le, bare_rest}
 
 -- What a row does: u are the units at the ask that is answered next, v the units conveyed so far, n those offered.
 
@@ -36,25 +34,21 @@ use Rattle.rasta_check.proofs.Model.OfferedUnits.{Valued, Conveying, Returning, 
 abbrev Leads : ℕ → ℕ → ℕ → Phase → Kind → MakeRow → List Owed → Type 0
 Leads u v n ph k row os = ((phase_after row ph ≡ Closed) × (is_plain k ≡ true)) ⊎ DueRest (units_next u v k) (offered_after row n) (owed_after row os)
 
-leads : (s : Side) (ph : Phase) (why : Why) (k : Kind) (os : List Owed) (row : MakeRow) (u v n : ℕ) → (s ≡ Client → ph ≡ Closed → os ≡ []) → Making s ph why k os row → Due u v n os → Leads u v n ph k row os
-leads s ph why k os row u v n free opening d = inr (subst (DueRest v n) (sym (free refl refl)) (bare_rest u v n os (free refl refl) d))
-leads s ph why k os row u v n free (again r) d = inr d.1
-leads s ph why k os row u v n free (fresh r) d = inr (ap suc d)
-leads s ph why k os row u v n free (bye r) d = inl (refl, refl)
-leads s ph why k os row u v n free (expired r) d = inl (refl, refl)
-leads s ph why k os row u v n free _ d = inr d
+leads : {s : Side} {ph : Phase} {why : Why} {k : Kind} {os : List Owed} {row : MakeRow} (u v n : ℕ) → (s ≡ Client → ph ≡ Closed → os ≡ []) → Making s ph why k os row → Due u v n os → Leads u v n ph k row os
+leads {os = os} u v n free opening d = (let none = free refl refl in inr (rw none (bare_rest u v n os none d)))
+leads u v n free _ d = grind (arith, d)
 
 -- a unit is made by an end that is connected; it is the next one
-unit_made : (s : Side) (ph : Phase) (why : Why) (k : Kind) (os : List Owed) (row : MakeRow) (u v n : ℕ) → Making s ph why k os row → Due u v n os → carries_unit k ≡ true → unit_of row n ≡ Some v
-unit_made s ph why k os row u v n (again r) d h = ap Some d.0
-unit_made s ph why k os row u v n (fresh r) d h = ap Some (sym d)
-unit_made s ph why k os row u v n _ d h = absurd (cc)
+unit_made : {s : Side} {ph : Phase} {why : Why} {k : Kind} {os : List Owed} {row : MakeRow} (u v n : ℕ) → Making s ph why k os row → Due u v n os → carries_unit k ≡ true → unit_of row n ≡ Some v
+unit_made u v n (again r) d h = ap Some d.0
+unit_made u v n (fresh r) d h = ap Some (sym d)
+unit_made u v n _ d h = absurd (cc)
 
-unit_runs : (s : Side) (ph : Phase) (why : Why) (k : Kind) (os : List Owed) (row : MakeRow) → Making s ph why k os row → is_plain k ≡ false → is_connected ph ≡ true
-unit_runs s ph why k os row (answer r) h = r
-unit_runs s ph why k os row (again r) h = r
-unit_runs s ph why k os row (fresh r) h = r
-unit_runs s ph why k os row _ h = absurd (cc)
+unit_runs : {s : Side} {ph : Phase} {why : Why} {k : Kind} {os : List Owed} {row : MakeRow} → Making s ph why k os row → is_plain k ≡ false → is_connected ph ≡ true
+unit_runs (answer r) h = r
+unit_runs (again r) h = r
+unit_runs (fresh r) h = r
+unit_runs _ h = absurd (cc)
 
 offered_least : (row : MakeRow) (n : ℕ) → n ≤ offered_after row n
 offered_least row n = grind arith
@@ -65,62 +59,38 @@ last_most (v ∷ vs) n h = h (length vs) (last_of (v ∷ vs)) (last_get (v ∷ v
 
 -- What a row adds to the contents of the units offered: nothing, or one.
 
-data Adds (ms : List Made) (n : ℕ) (k : Kind) (content : List ℕ) (unit : Option ℕ) (n' : ℕ) : Type 0 where
-  none : is_kind Data k ≡ false → n' ≡ n → ((j : ℕ) → unit ≡ Some j → (carries_unit k ≡ true) × (slice_get (contents ms) j ≡ Some content)) → Adds ms n k content unit n'
-  one : k ≡ Data → n' ≡ suc n → unit ≡ Some n → Adds ms n k content unit n'
+abbrev added : Kind → List ℕ → List (List ℕ)
+added Data content = content ∷ []
+added _ content = []
 
-adds : (s : Side) (ph : Phase) (why : Why) (k : Kind) (os : List Owed) (row : MakeRow) (ms : List Made) (n : ℕ) (content : List ℕ)
-    → Making s ph why k os row → differs ms (Some row) content ≡ false → Adds ms n k content (unit_of row n) (offered_after row n)
-adds s ph why k os row ms n content (again {k = j} r) d =
-    none refl refl (λ i u. (refl, grind (arith, bytes_eq-Decides, d, u)))
-adds s ph why k os row ms n content (fresh r) d = one refl refl refl
-adds s ph why k os row ms n content _ d = none refl refl (λ i u. absurd (cc))
+record Adds (ms : List Made) (n : ℕ) (k : Kind) (content : List ℕ) (unit : Option ℕ) (n' : ℕ) : Type 0 where
+  size : n' ≡ n + length (added k content)
+  number_is : is_kind Data k ≡ true → unit ≡ Some n
+  has : (j : ℕ) → unit ≡ Some j → (carries_unit k ≡ true) × (slice_get (contents ms ++ added k content) j ≡ Some content)
 
-contents_push : (ms : List Made) (m : Made) → contents (ms ++ m ∷ []) ≡ contents ms ++ contents (m ∷ [])
-contents_push ms m =
-    ap (map (λ (n : Made). content_of n.pdu.body)) (filter-append (λ (n : Made). is_kind Data n.pdu.kind) ms (m ∷ []))
-    ∙ map-append (λ (n : Made). content_of n.pdu.body) (filter (λ (n : Made). is_kind Data n.pdu.kind) ms) (filter (λ (n : Made). is_kind Data n.pdu.kind) (m ∷ []))
+adds : {s : Side} {ph : Phase} {why : Why} {k : Kind} {os : List Owed} {row : MakeRow} (ms : List Made) (n : ℕ) (content : List ℕ)
+    → length (contents ms) ≡ n → Making s ph why k os row → differs ms (Some row) content ≡ false → Adds ms n k content (unit_of row n) (offered_after row n)
+adds ms n content l (again {k = j} r) d = record { size = omega arith; number_is = λ z. absurd (cc); has = λ i u. (refl, grind (arith, bytes_eq-Decides, d, u, append-nil (contents ms))) }
+adds ms n content l (fresh r) d = record { size = omega arith; number_is = λ _. refl; has = λ i u. (refl, grind (arith, l, u, get_push (contents ms) content)) }
+adds ms n content l _ d = record { size = omega arith; number_is = λ z. absurd (cc); has = λ i u. absurd (cc) }
 
-module _ (ms : List Made) (m : Made) (n : ℕ) (w : Carrying ms n) where
-  front : (i : ℕ) → i ≤ length ms → take i (ms ++ m ∷ []) ≡ take i ms
-  front i l = take-append-le i ms (m ∷ []) l
+contents_push : (ms : List Made) (m : Made) → contents (ms ++ m ∷ []) ≡ contents ms ++ added m.pdu.kind (content_of m.pdu.body)
+contents_push [] m = grind arith
+contents_push (x ∷ ms) m = grind (arith, contents_push ms m)
 
-  whole : take (length ms) (ms ++ m ∷ []) ≡ ms
-  whole = take-append_seam ms (m ∷ [])
+carries : (ms : List Made) (m : Made) (n n' : ℕ) → Carrying ms n → Adds ms n m.pdu.kind (content_of m.pdu.body) m.unit n' → Carrying (ms ++ m ∷ []) n'
+carries ms m n n' w a =
+    record {
+      counted = (let l = ap length (contents_push ms m) in omega (arith, l, length-append (contents ms) (added m.pdu.kind (content_of m.pdu.body)), a.size, w.counted));
+      fresh = all_push ms m
+          (λ i y g d. (let l = slice_get_within ms i y g in rw (take-append-le i ms (m ∷ []) (omega (arith, l))) (w.fresh i y g d)))
+          (λ k. rw (take-append_seam ms (m ∷ []), w.counted) (a.number_is k));
+      carried = all_push ms m
+          (λ i y g k u. (let r = w.carried i y g k u in (r.0, rw (contents_push ms m) (get_front (contents ms) _ k (content_of y.pdu.body) r.1))))
+          (λ k u. rw (contents_push ms m) (a.has k u));
+    }
 
-  old_fresh : (i : ℕ) (y : Made) → slice_get ms i ≡ Some y → is_kind Data y.pdu.kind ≡ true → y.unit ≡ Some (length (contents (take i (ms ++ m ∷ []))))
-  old_fresh i y g d = (let l = slice_get_within ms i y g in w.fresh i y g d ∙ ap (λ (l : List Made). Some (length (contents l))) (sym (front i (omega (arith, l)))))
-
-  more_contents : (k : ℕ) (content : List ℕ) → slice_get (contents ms) k ≡ Some content → slice_get (contents (ms ++ m ∷ [])) k ≡ Some content
-  more_contents k content g = subst (λ (cs : List (List ℕ)). slice_get cs k ≡ Some content) (sym (contents_push ms m)) (get_front (contents ms) (contents (m ∷ [])) k content g)
-
-  old_carried : (i : ℕ) (y : Made) → slice_get ms i ≡ Some y → (k : ℕ) → y.unit ≡ Some k → (carries_unit y.pdu.kind ≡ true) × (slice_get (contents (ms ++ m ∷ [])) k ≡ Some (content_of y.pdu.body))
-  old_carried i y g k u = (let r = w.carried i y g k u in (r.0, more_contents k (content_of y.pdu.body) r.1))
-
-  carries : (n' : ℕ) → Adds ms n m.pdu.kind (content_of m.pdu.body) m.unit n' → Carrying (ms ++ m ∷ []) n'
-  carries n' (none d s old) =
-      let empty : contents (m ∷ []) ≡ [] = rw d refl in
-      let still : contents (ms ++ m ∷ []) ≡ contents ms = contents_push ms m ∙ (ap (λ (cs : List (List ℕ)). contents ms ++ cs) empty ∙ append-nil (contents ms)) in
-      record {
-        counted = ap length still ∙ (w.counted ∙ sym s);
-        fresh = all_push ms m old_fresh (λ k. absurd (cc));
-        carried = all_push ms m old_carried (λ k u. (let r = old k u in (r.0, more_contents k (content_of m.pdu.body) r.1)));
-      }
-  carries n' (one d s unit) =
-      let data_is : is_kind Data m.pdu.kind ≡ true = ap (is_kind Data) d in
-      let new : contents (m ∷ []) ≡ content_of m.pdu.body ∷ [] = rw data_is refl in
-      let more : contents (ms ++ m ∷ []) ≡ contents ms ++ content_of m.pdu.body ∷ [] = contents_push ms m ∙ ap (λ (cs : List (List ℕ)). contents ms ++ cs) new in
-      let unit_is : m.unit ≡ Some (length (contents ms)) = unit ∙ ap Some (sym w.counted) in
-      record {
-        counted = (let l = ap length more in let k = length_push (contents ms) (content_of m.pdu.body) in omega (arith, l, k, s, w.counted));
-        fresh = all_push ms m old_fresh (λ k. unit_is ∙ ap (λ (l : List Made). Some (length (contents l))) (sym whole));
-        carried = all_push ms m old_carried (λ k u. (ap carries_unit d, grind (arith, more, unit_is, u, get_push (contents ms) (content_of m.pdu.body))));
-      }
-
-module _ (p : Parameters) (e : EndState) (x : SafetyPdu) (clock : ℕ) (why : Why) (t : ℕ) (peer : List Made) (pass : Passed p e x clock why) (h : Held e t peer) (w : Valued e) where
-  b : MadeBy e x why
-  b = made_by p e x clock why pass
-
+module _ (p : Parameters) (e : EndState) (x : SafetyPdu) (clock : ℕ) (why : Why) (t : ℕ) (peer : List Made) (b : MadeBy e x why) (pass : Passed p e x clock why) (h : Held e t peer) (w : Valued e) where
   abbrev after : EndState
   after = after_make_by (Some b.row) e x clock
 
@@ -128,7 +98,7 @@ module _ (p : Parameters) (e : EndState) (x : SafetyPdu) (clock : ℕ) (why : Wh
   new = new_made b.row e x
 
   abbrev value : ℕ
-  value = units_after e.asks (values e) (number (is_kind RetransmissionResponse) e.made) x.kind
+  value = units_after e.asks (values e) (answers_in e.made) x.kind
 
   pushed : values after ≡ values e ++ value ∷ []
   pushed = values_push e.asks e.made new
@@ -136,28 +106,19 @@ module _ (p : Parameters) (e : EndState) (x : SafetyPdu) (clock : ℕ) (why : Wh
   long : length (values e) ≡ length e.made
   long = length-values e.asks e.made
 
-  some_made : is_plain x.kind ≡ false → 0 < length e.made
-  some_made u = w.grown (unit_runs e.side e.phase why x.kind e.owed b.row b.how u)
-
   abbrev next : ℕ
   next = units_next (jump e) (last_of (values e)) x.kind
 
   value_is : value ≡ next
-  value_is = after_is e.asks (values e) (number (is_kind RetransmissionResponse) e.made) x.kind (λ u. omega (arith, long, some_made u))
+  value_is = after_is e.asks (values e) (answers_in e.made) x.kind (λ u. omega (arith, long, w.grown (unit_runs b.how u)))
 
   step : Leads (jump e) (last_of (values e)) e.offered e.phase x.kind b.row e.owed
   step =
       -- a client that has made nothing owes nothing
-      leads e.side e.phase why x.kind e.owed b.row (jump e) (last_of (values e)) e.offered (λ s c. (h.opening.unmade s (nothing_made e.side e.phase e.made c pass.open_yet)).1) b.how (w.due pass.open_yet)
+      leads (jump e) (last_of (values e)) e.offered (λ s c. (h.opening.unmade s (nothing_made e.side e.phase e.made c pass.open_yet)).1) b.how (w.due pass.open_yet)
 
   value_most : value ≤ after.offered
-  value_most =
-      ⊎_elim
-      (λ (o : (after.phase ≡ Closed) × (is_plain x.kind ≡ true)).
-      let z : value ≡ last_of (values e) = grind (arith, value_is, o.1) in
-      omega (arith, z, last_most (values e) e.offered w.positions.bounded, offered_least b.row e.offered))
-      (λ (d : DueRest next after.offered after.owed). omega (arith, value_is, due_le next after.offered after.owed d))
-      step
+  value_most = grind (arith, step, value_is, last_most (values e) e.offered w.positions.bounded, offered_least b.row e.offered, due_le next after.offered after.owed)
 
   due_after : has_ended after ≡ false → Due (jump after) (last_of (values after)) after.offered after.owed
   due_after o =
@@ -165,62 +126,49 @@ module _ (p : Parameters) (e : EndState) (x : SafetyPdu) (clock : ℕ) (why : Wh
       (λ (c : (after.phase ≡ Closed) × (is_plain x.kind ≡ true)). absurd (let z = over_after e.side after.phase e.made new c.0 in cc))
       (λ (d : DueRest next after.offered after.owed).
       let l : next ≡ last_of (values after) = sym value_is ∙ sym (ap last_of pushed ∙ last_push (values e) value) in
-      rest_due (jump after) (last_of (values after)) after.offered after.owed (subst (λ z. DueRest z after.offered after.owed) l d))
+      rest_due (jump after) (last_of (values after)) after.offered after.owed (rw l at d))
       step
 
   -- The units conveyed through each position.
 
-  old : (i v : ℕ) → slice_get (values e) i ≡ Some v → slice_get (values e ++ value ∷ []) i ≡ Some v
-  old i v g = get_front (values e) (value ∷ []) i v g
-
   at_new : slice_get (values e ++ value ∷ []) (length e.made) ≡ Some value
-  at_new = subst (λ n. slice_get (values e ++ value ∷ []) n ≡ Some value) long (get_push (values e) value)
+  at_new = rw (← long) (get_push (values e) value)
 
   both_old : (i j : ℕ) → slice_get (values e) i ≡ slice_get (values e) j → i < length e.made → j < length e.made → slice_get (values e ++ value ∷ []) i ≡ slice_get (values e ++ value ∷ []) j
   both_old i j g a c = get_front_within (values e) (value ∷ []) i (omega (arith, long, a)) ∙ (g ∙ sym (get_front_within (values e) (value ∷ []) j (omega (arith, long, c))))
 
   previous : (i : ℕ) → length e.made ≡ suc i → slice_get (values e ++ value ∷ []) i ≡ Some (last_of (values e))
-  previous i g = old i _ (last_get (values e) i (long ∙ g))
+  previous i g = get_front (values e) (value ∷ []) i _ (last_get (values e) i (long ∙ g))
 
-  conveys : Conveying (values e ++ value ∷ []) (e.made ++ new ∷ []) after.offered
-  conveys =
-      record {
-        bounded = all_push {P = λ i v. v ≤ after.offered} (values e) value (λ i v g. omega (arith, w.positions.bounded i v g, offered_least b.row e.offered)) value_most;
-        units = all_push e.made new
-            (λ i n g u. (let r = w.positions.units i n g u in (r.0, r.1, r.2, r.3, old r.0 r.1 r.4, old i (suc r.1) r.5)))
-            (λ u.
-            let last : length e.made ≡ suc (length e.made - 1) = omega (arith, some_made (grind arith)) in
-            let unit = unit_made e.side e.phase why x.kind e.owed b.row (jump e) (last_of (values e)) e.offered b.how (w.due pass.open_yet) u in
-            (length e.made - 1, last_of (values e), last, unit, previous (length e.made - 1) last, at_new ∙ ap Some (grind (arith, value_is))));
-        others = all_push e.made new
-            (λ i n g u q s. (let l = slice_get_within e.made i n g in both_old i q (w.positions.others i n g u q s) l (omega (arith, l, s))))
-            (λ u q s. grind (arith, at_new, value_is, u, previous q s));
-        zeroth = grind (arith, w.positions.zeroth);
-      }
-
-  returns : Returning (values e ++ value ∷ []) (e.made ++ new ∷ []) e.asks
-  returns =
-      record {
-        jumps = all_push e.made new
-            (λ i n g u c a.
-            let l = slice_get_within e.made i n g in
-            let r = w.returns.jumps i n g u c (subst (λ (ms : List Made). slice_get e.asks (number (is_kind RetransmissionResponse) ms) ≡ Some c) (front e.made new e.offered w.contents i (omega (arith, l))) a) in
-            (r.0, both_old i c r.1 l (omega (arith, l, r.0))))
-            (λ u c a.
-            let a' : slice_get e.asks (number (is_kind RetransmissionResponse) e.made) ≡ Some c = subst (λ (ms : List Made). slice_get e.asks (number (is_kind RetransmissionResponse) ms) ≡ Some c) (whole e.made new e.offered w.contents) a in
-            let l = w.returns.asks_within (number (is_kind RetransmissionResponse) e.made) c a' in
-            let back : value ≡ slice_index_or (values e) c 0 = value_is ∙ (ap (units_next (jump e) (last_of (values e))) (kind_is RetransmissionResponse x.kind u) ∙ ap (units_at (values e)) a') in
-            (l, at_new ∙ (ap Some back ∙ sym (old c _ (slice_get-get_or (values e) c 0 (omega (arith, long, l)))))));
-        asks_within = λ i c g. (let l = w.returns.asks_within i c g in omega (arith, l, length_push e.made new));
-      }
-
-  pub valued_make : Valued (after_make e x clock why)
+  pub valued_make : Valued after
   valued_make =
-      subst Valued (after_row e x clock why b) (record {
+      record {
         due = due_after;
         grown = λ _. omega (arith, length_push e.made new);
-        positions = subst (λ vs. Conveying vs after.made after.offered) (sym pushed) conveys;
-        returns = subst (λ vs. Returning vs after.made e.asks) (sym pushed) returns;
-        contents = carries e.made new e.offered w.contents after.offered
-            (adds e.side e.phase why x.kind e.owed b.row e.made e.offered (content_of x.body) b.how (subst (λ (row : Option MakeRow). differs e.made row (content_of x.body) ≡ false) b.is pass.same));
-      })
+        positions = rw pushed (record {
+          bounded = all_push {P = λ i v. v ≤ after.offered} (values e) value (λ i v g. omega (arith, w.positions.bounded i v g, offered_least b.row e.offered)) value_most;
+          units = all_push e.made new
+              (λ i n g u. (let r = w.positions.units i n g u in (r.0, r.1, r.2, r.3, get_front (values e) (value ∷ []) r.0 r.1 r.4, get_front (values e) (value ∷ []) i (suc r.1) r.5)))
+              (λ u.
+              let last : length e.made ≡ suc (length e.made - 1) = omega (arith, w.grown (unit_runs b.how (grind arith))) in
+              let unit = unit_made (jump e) (last_of (values e)) e.offered b.how (w.due pass.open_yet) u in
+              (length e.made - 1, last_of (values e), last, unit, previous (length e.made - 1) last, at_new ∙ ap Some (grind (arith, value_is))));
+          others = all_push e.made new
+              (λ i n g u q s. (let l = slice_get_within e.made i n g in both_old i q (w.positions.others i n g u q s) l (omega (arith, l, s))))
+              (λ u q s. grind (arith, at_new, value_is, u, previous q s));
+          zeroth = grind (arith, w.positions.zeroth);
+        });
+        returns = rw pushed (record {
+          jumps = all_push e.made new
+              (λ i n g u c a.
+              let l = slice_get_within e.made i n g in
+              let r = w.returns.jumps i n g u c (rw (take-append-le i e.made (new ∷ []) (omega (arith, l))) at a) in
+              (r.0, both_old i c r.1 l (omega (arith, l, r.0))))
+              (λ u c a.
+              let a' : slice_get e.asks (answers_in e.made) ≡ Some c = rw (take-append_seam e.made (new ∷ [])) at a in
+              let l = w.returns.asks_within (answers_in e.made) c a' in
+              (l, grind (arith, at_new, value_is, u, a', get_front_within (values e) (value ∷ []) c, long, slice_get-get_or (values e) c 0 (omega (arith, long, l)))));
+          asks_within = λ i c g. omega (arith, w.returns.asks_within i c g, length_push e.made new);
+        });
+        contents = carries e.made new e.offered after.offered w.contents (adds e.made e.offered (content_of x.body) w.contents.counted b.how (rw b.is at pass.same));
+      }

@@ -23,20 +23,7 @@ pub record Passed (p : Parameters) (e : EndState) (x : SafetyPdu) (clock : ℕ) 
   pub same : differs e.made (row_of e x why) (content_of x.body) ≡ false
 
 pub passed : (p : Parameters) (e : EndState) (x : SafetyPdu) (clock : ℕ) (why : Why) → All IsFalse (make_tests p e x clock why) → Passed p e x clock why
-passed p e x clock why h =
-    record {
-      open_yet = h 0 true (omega arith);
-      row = h 1 true (omega arith);
-      owed = h 2 true (omega arith);
-      sn = h 3 true (omega arith);
-      stamp = h 4 true (omega arith);
-      rises = h 5 true (omega arith);
-      in_time = h 6 true (omega arith);
-      late = h 7 true (omega arith);
-      cs = h 8 true (omega arith);
-      cts = h 9 true (omega arith);
-      same = h 10 true (omega arith);
-    }
+passed p e x clock why h = search (arith, h 0 true, h 1 true, h 2 true, h 3 true, h 4 true, h 5 true, h 6 true, h 7 true, h 8 true, h 9 true, h 10 true)
 
 pub un_not : (b : Bool) → not b ≡ false → b ≡ true
 un_not b e = grind arith

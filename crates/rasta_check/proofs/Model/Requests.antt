@@ -1,7 +1,6 @@
 -- What an end was asked, and what its retransmission responses answer.
-use Rattle.std.proofs.Common.{◌≡◌, ℕ, zero, suc, ◌<◌, Bool, true, false, List, [], ◌∷◌, ◌++◌, length, Some, slice_get, take, refl, ap, sym, ◌∙◌, arith, subst}
-use Rattle.std.specs.Prelude.{slice_index_or, if◌then◌else◌, ◌==◌}
-use Rattle.std.specs.Option.{option_map}
+use Rattle.std.proofs.Common.{◌≡◌, ℕ, zero, suc, ◌<◌, Bool, true, false, List, [], ◌∷◌, length, Some, slice_get, take, refl, ap, sym, ◌∙◌, arith, subst}
+use Rattle.std.specs.Prelude.{filter, slice_index_or}
 use Rattle.std.proofs.Math.Seq.{take-append_seam}
 use Rattle.std.proofs.lemmas.Bool.Decides.{nat_tests}
 use Rattle.std.proofs.lemmas.Option.{slice_get_within, slice_get-get_or}
@@ -12,13 +11,13 @@ use Rattle.rasta_end.specs.State.{Made, EndState, kinds}
 use Rattle.rasta_end.specs.Units.{responses_in}
 use Rattle.rasta_check.specs.Model.Taken.{pdus_made, position_with, asked_positions}
 use Rattle.rasta_check.specs.Model.Laws.{NamesOne, requests_of, AnswersInOrder}
-use Rattle.rasta_check.proofs.Model.Counts.{number, tally, number_take_all, number_take_at}
+use Rattle.rasta_check.proofs.Model.Counts.{number, tally, number_take_all, number_take_at, requests_in, answers_in, IsRequest}
 use Rattle.rasta_check.proofs.Model.TakeRows.{kind_is}
 use Rattle.rasta_check.proofs.Model.NamedPositions.{SnIs}
 use Rattle.rasta_check.proofs.Model.Invariant.{Held, is_named}
 use Rattle.rasta_check.proofs.Model.ConveyedUnits.{answers_number}
 use Rattle.rasta_check.proofs.Model.OfferedUnits.{Valued}
-use Rattle.rasta_check.proofs.Lists.{begins_with, get_next, mapped_some}
+use Rattle.rasta_check.proofs.Lists.{begins_with, get_next}
 
 -- ---- the position that a CS confirms
 
@@ -32,23 +31,14 @@ named_position [] c sn once s = absurd (let e = s.there in cc)
 named_position (x ∷ ms) zero sn once s =
     grind (arith, nat_tests, s.there, s.same)
 named_position (x ∷ ms) (suc c) sn once s =
-    let later = named_position ms c sn (λ i j m n e f g. (let same = once (suc i) (suc j) m n e f g in omega (arith, same))) (record { m = s.m; there = s.there; same = s.same }) in
+    let later = named_position ms c sn (λ i j m n e f g. omega (arith, once (suc i) (suc j) m n e f g)) (record { m = s.m; there = s.there; same = s.same }) in
     grind (arith, nat_tests, later, s.same, once 0 (suc c) x s.m refl s.there)
 
 -- the position that a CS confirms has this SN
 pub found_position : (ms : List Made) (sn c : ℕ) → position_with (pdus_made ms) sn ≡ Some c → SnIs ms c sn
 found_position [] sn c g = absurd (cc)
-found_position (m ∷ ms) sn c g = by (m.pdu.sn == sn) refl g (found_position ms sn)
-  where
-    by : (b : Bool) → (m.pdu.sn == sn) ≡ b → (if b then Some 0 else option_map suc (position_with (pdus_made ms) sn)) ≡ Some c
-        → ((d : ℕ) → position_with (pdus_made ms) sn ≡ Some d → SnIs ms d sn) → SnIs (m ∷ ms) c sn
-    by true e h rest =
-        let first : 0 ≡ c = cc in
-        subst (λ i. SnIs (m ∷ ms) i sn) first (record { m = m; there = refl; same = grind (arith, nat_tests) })
-    by false e h rest =
-        let d = mapped_some suc (position_with (pdus_made ms) sn) c h in
-        let s = rest d.0 d.1 in
-        subst (λ i. SnIs (m ∷ ms) i sn) d.2 (record { m = s.m; there = s.there; same = s.same })
+found_position (m ∷ ms) sn zero g = record { m = m; there = refl; same = grind (arith, nat_tests, g) }
+found_position (m ∷ ms) sn (suc c) g = (let s = found_position ms sn c (grind (arith, g)) in record { m = s.m; there = s.there; same = s.same })
 
 -- ---- the k-th of a kind
 
@@ -59,34 +49,26 @@ pub record Found (f : Kind → Bool) (ms : List Made) (k : ℕ) : Type 0 where
   pub there : slice_get ms at ≡ Some m
   pub is : f m.pdu.kind ≡ true
   pub before : number f (take at ms) ≡ k
-
-found_by : (f : Kind → Bool) (x : Made) (ms : List Made) (b : Bool) → f x.pdu.kind ≡ b → ((k : ℕ) → k < number f ms → Found f ms k) → (k : ℕ) → k < tally b (number f ms) → Found f (x ∷ ms) k
-found_by f x ms true e rest zero l = record { at = 0; m = x; there = refl; is = e; before = refl }
-found_by f x ms true e rest (suc k) l =
-    let r = rest k (omega (arith, l)) in
-    record { at = suc r.at; m = r.m; there = r.there; is = r.is; before = grind (arith, r.before) }
-found_by f x ms false e rest k l = (let r = rest k l in record { at = suc r.at; m = r.m; there = r.there; is = r.is; before = grind (arith, r.before) })
+  pub listed : slice_get (filter (λ (n : Made). f n.pdu.kind) ms) k ≡ Some m
 
 pub found : (f : Kind → Bool) (ms : List Made) (k : ℕ) → k < number f ms → Found f ms k
 found f [] k l = absurd (omega (arith, l))
-found f (x ∷ ms) k l = found_by f x ms (f x.pdu.kind) refl (found f ms) k l
+found f (x ∷ ms) k l = by (f x.pdu.kind) refl k l (found f ms)
+  where
+    by : (b : Bool) → f x.pdu.kind ≡ b → (k : ℕ) → k < tally b (number f ms) → ((j : ℕ) → j < number f ms → Found f ms j) → Found f (x ∷ ms) k
+    by true e zero l rest = record { at = 0; m = x; there = refl; is = e; before = refl; listed = grind (arith, e) }
+    by true e (suc k) l rest = (let r = rest k (omega (arith, l)) in record { at = suc r.at; m = r.m; there = r.there; is = r.is; before = grind (arith, r.before); listed = grind (arith, e, r.listed) })
+    by false e k l rest = (let r = rest k l in record { at = suc r.at; m = r.m; there = r.there; is = r.is; before = grind (arith, r.before); listed = grind (arith, e, r.listed) })
 
 -- ---- what each request confirms
 
--- the k-th request, by its position
-pub request_at : (ms : List Made) (p : ℕ) (m : Made) → slice_get ms p ≡ Some m → is_kind RetransmissionRequest m.pdu.kind ≡ true
-    → slice_get (requests_of ms) (number (is_kind RetransmissionRequest) (take p ms)) ≡ Some m
-request_at [] p m e r = absurd (cc)
-request_at (x ∷ ms) zero m e r = grind arith
-request_at (x ∷ ms) (suc p) m e r = grind (arith, request_at ms p m e r)
-
 -- each request confirms a position
 abbrev pub AllNamed : List SafetyPdu → List Made → Type 0
-AllNamed own ms = (p : ℕ) (m : Made) → slice_get ms p ≡ Some m → is_kind RetransmissionRequest m.pdu.kind ≡ true → (d : ℕ) × (position_with own m.pdu.cs ≡ Some d)
+AllNamed own ms = (p : ℕ) (m : Made) → slice_get ms p ≡ Some m → IsRequest m → (d : ℕ) × (position_with own m.pdu.cs ≡ Some d)
 
 -- the position that the k-th request confirms, by the position of the request
-pub asked_at : (own : List SafetyPdu) (ms : List Made) → AllNamed own ms → (p : ℕ) (m : Made) (c : ℕ) → slice_get ms p ≡ Some m → is_kind RetransmissionRequest m.pdu.kind ≡ true
-    → position_with own m.pdu.cs ≡ Some c → slice_get (asked_positions own (pdus_made ms)) (number (is_kind RetransmissionRequest) (take p ms)) ≡ Some c
+pub asked_at : (own : List SafetyPdu) (ms : List Made) → AllNamed own ms → (p : ℕ) (m : Made) (c : ℕ) → slice_get ms p ≡ Some m → IsRequest m
+    → position_with own m.pdu.cs ≡ Some c → slice_get (asked_positions own (pdus_made ms)) (requests_in (take p ms)) ≡ Some c
 asked_at own [] all p m c e r h = absurd (cc)
 asked_at own (x ∷ ms) all zero m c e r h = grind (arith, e, r, h)
 asked_at own (x ∷ ms) all (suc p) m c e r h = grind (arith, all 0 x refl, asked_at own ms (λ q n g. all (suc q) n g) p m c e r h)
@@ -103,33 +85,27 @@ module _ (e f : EndState) (t u : ℕ) (h : Held e t f.made) (peer : Held f u e.m
   ask_at k c g =
       let few = slice_get_within e.asks k c g in
       let r = found (is_kind RetransmissionRequest) f.made k (omega (arith, few, h.asks.asks_taken, number_take_all (is_kind RetransmissionRequest) f.made t)) in
-      let g' = subst (λ n. slice_get e.asks n ≡ Some c) (sym r.before) g in
+      let g' = rw (← r.before) at g in
       let at = named_position e.made c r.m.pdu.cs once (h.asks.answered r.at r.m r.there r.is c g') in (
         r.m,
-        subst (λ n. slice_get (requests_of f.made) n ≡ Some r.m) r.before (request_at f.made r.at r.m r.there r.is),
+        r.listed,
         at,
-        subst (λ n. slice_get (asked_positions (pdus_made e.made) (pdus_made f.made)) n ≡ Some c) r.before (asked_at (pdus_made e.made) f.made all_named r.at r.m c r.there r.is at),
+        rw r.before at (asked_at (pdus_made e.made) f.made all_named r.at r.m c r.there r.is at),
       )
-
-  answer_at : (before after : List Made) (m : Made) → e.made ≡ before ++ m ∷ after → is_kind RetransmissionResponse m.pdu.kind ≡ true
-      → (ask : ℕ) × (request : Made) × (slice_get e.asks (responses_in (kinds before)) ≡ Some ask) × (ask < length before)
-      × (slice_get (requests_of f.made) (responses_in (kinds before)) ≡ Some request) × (position_with (pdus_made e.made) request.pdu.cs ≡ Some ask)
-  answer_at before after m is r =
-      let there : slice_get e.made (length before) ≡ Some m = subst (λ (ms : List Made). slice_get ms (length before) ≡ Some m) (sym is) (get_next before (m ∷ after)) in
-      let front : take (length before) e.made ≡ before = ap (take (length before)) is ∙ take-append_seam before (m ∷ after) in
-      let n = responses_in (kinds before) in
-      let n_is : n ≡ number (is_kind RetransmissionResponse) (take (length before) e.made) = answers_number before ∙ ap (number (is_kind RetransmissionResponse)) (sym front) in
-      let one = number_take_at (is_kind RetransmissionResponse) e.made (length before) m there r in
-      let all = number_take_all (is_kind RetransmissionResponse) e.made (suc (length before)) in
-      let ask = slice_index_or e.asks n 0 in
-      let asked = slice_get-get_or e.asks n 0 (omega (arith, n_is, one, all, h.asks.asked)) in
-      let request = ask_at n ask asked in
-      let jump = w.returns.jumps (length before) m there r ask (subst (λ k. slice_get e.asks k ≡ Some ask) n_is asked) in
-      (ask, request.0, asked, jump.0, request.1, request.2)
 
   pub in_order : AnswersInOrder e f
   in_order = record {
     named = all_named;
     beginning = begins_with e.asks (asked_positions (pdus_made e.made) (pdus_made f.made)) (λ k c g. (ask_at k c g).3);
-    answers = answer_at;
+    answers = λ before after m is r.
+        let there : slice_get e.made (length before) ≡ Some m = subst (λ (ms : List Made). slice_get ms (length before) ≡ Some m) (sym is) (get_next before (m ∷ after)) in
+        let front : take (length before) e.made ≡ before = ap (take (length before)) is ∙ take-append_seam before (m ∷ after) in
+        let n = responses_in (kinds before) in
+        let n_is : n ≡ answers_in (take (length before) e.made) = answers_number before ∙ ap answers_in (sym front) in
+        let one = number_take_at (is_kind RetransmissionResponse) e.made (length before) m there r in
+        let ask = slice_index_or e.asks n 0 in
+        let asked = slice_get-get_or e.asks n 0 (omega (arith, number_take_all, n_is, one, h.asks.asked)) in
+        let request = ask_at n ask asked in
+        let jump = w.returns.jumps (length before) m there r ask (subst (λ k. slice_get e.asks k ≡ Some ask) n_is asked) in
+        (ask, request.0, asked, jump.0, request.1, request.2);
   }

@@ -1,17 +1,40 @@
--- What a make adds and leaves alone, and what holds at the start.
-use Rattle.std.proofs.Common.{◌≡◌, ℕ, ◌≤◌, [], ◌∷◌, ◌++◌, length, Option, Some, None, refl, ap, sym, ◌∙◌, arith}
+-- What a step adds and leaves alone, and what holds at the start.
+use Rattle.std.proofs.Common.{◌≡◌, ℕ, ◌≤◌, true, [], ◌∷◌, ◌++◌, length, Option, Some, None, slice_get, refl, sym, ◌∙◌, arith}
 use Rattle.std.proofs.lemmas.Bool.Decides.{nat_tests}
 use Rattle.rasta_pcap.specs.declared.fault.Side.{Side}
-use Rattle.rasta_pcap.specs.declared.fault.Side.TheVariants.{Client, Server}
 use Rattle.rasta_pdu.specs.Params.{Parameters}
 use Rattle.rasta_pdu.specs.Pdu.{SafetyPdu}
+use Rattle.rasta_end.specs.declared.take_row.TakeRow.{TakeRow}
+use Rattle.rasta_end.specs.declared.take_row.TakeRow.TheVariants.{Requested}
+use Rattle.rasta_end.specs.TakeRule.{position_confirmed, effect, after_take}
 use Rattle.rasta_pdu.specs.declared.quiet_point.Quiet.{Quiet}
 use Rattle.rasta_end.specs.declared.why.Why.{Why}
 use Rattle.rasta_end.specs.State.{Made, EndState}
-use Rattle.rasta_end.specs.MakeRule.{Makes, after_make_by}
+use Rattle.rasta_end.specs.MakeRule.{Makes, has_ended, after_make_by}
 use Rattle.rasta_end.specs.Starts.{start_by}
-use Rattle.rasta_check.proofs.Model.PassedTests.{passed}
-use Rattle.rasta_check.proofs.Model.MakeRows.{made_by, after_row, new_made}
+use Rattle.rasta_check.proofs.Lists.{get_front}
+use Rattle.rasta_check.proofs.Model.Counts.{answers_in}
+use Rattle.rasta_check.proofs.Model.ConveyedUnits.{values, values_push, values_asks}
+use Rattle.rasta_check.proofs.Model.TakeRows.{take_by, take_made}
+use Rattle.rasta_check.proofs.Model.PassedTests.{Passed, passed}
+use Rattle.rasta_check.proofs.Model.MakeRows.{MadeBy, made_by, after_row, new_made}
+
+-- what of an end stays
+pub record Grown (e e' : EndState) : Type 0 where
+  pub made : (i : ℕ) (m : Made) → slice_get e.made i ≡ Some m → slice_get e'.made i ≡ Some m
+  pub kept : (i v : ℕ) → slice_get (values e) i ≡ Some v → slice_get (values e') i ≡ Some v
+  pub over : has_ended e ≡ true → e' ≡ e
+
+pub same_grown : (e : EndState) → Grown e e
+same_grown e = record { made = λ i m g. g; kept = λ i v g. g; over = λ h. refl }
+
+pub grown_make : (p : Parameters) (e : EndState) (x : SafetyPdu) (clock : ℕ) (why : Why) (b : MadeBy e x why) → Passed p e x clock why → Grown e (after_make_by (Some b.row) e x clock)
+grown_make p e x clock why b pass =
+    record {
+      made = get_front e.made (new_made b.row e x ∷ []);
+      kept = λ i v g. rw (values_push e.asks e.made (new_made b.row e x)) (get_front (values e) _ i v g);
+      over = λ h. absurd (let z = pass.open_yet in cc);
+    }
 
 -- nothing more was handed up
 pub record SameHanded (e e' : EndState) : Type 0 where
@@ -28,21 +51,39 @@ pub record AfterMake (e : EndState) (x : SafetyPdu) (clock : ℕ) (e' : EndState
   pub side : e'.side ≡ e.side
   pub base : e'.base ≡ e.base
   pub same : SameHanded e e'
+  pub grown : Grown e e'
 
 pub made_more : (p : Parameters) (e : EndState) (x : SafetyPdu) (clock : ℕ) (why : Why) (e' : EndState) → Makes p e x clock why e' → AfterMake e x clock e'
 made_more p e x clock why e' mk =
     let pass = passed p e x clock why mk.0 in
     let m = made_by p e x clock why pass in
     let after : e' ≡ after_make_by (Some m.row) e x clock = mk.1 ∙ sym (after_row e x clock why m) in
-    record {
+    rw after (record {
       new = new_made m.row e x;
       pdu = refl;
-      made = ap (λ (z : EndState). z.made) after;
-      now = ap (λ (z : EndState). z.clock) after;
+      made = refl;
+      now = refl;
       rises = grind (arith, nat_tests, pass.rises);
-      side = ap (λ (z : EndState). z.side) after;
-      base = ap (λ (z : EndState). z.base) after;
-      same = record { positions = ap (λ (z : EndState). z.handed) after; pdus = ap (λ (z : EndState). z.handed_pdus) after };
+      side = refl;
+      base = refl;
+      same = record { positions = refl; pdus = refl };
+      grown = grown_make p e x clock why m pass;
+    })
+
+-- a take leaves the units conveyed through each position
+values_take : (q : Parameters) (e : EndState) (x : SafetyPdu) → answers_in e.made ≤ length e.asks → values (after_take q e x) ≡ values e
+values_take q e x h = take_by q e x (λ g. values g ≡ values e) refl (λ r away knows. by r)
+  where
+    by : (r : TakeRow) → values (effect q r e x) ≡ values e
+    by Requested = cc (values_asks e.asks (position_confirmed e x) e.made h)
+    by _ = grind (arith, values_asks e.asks (position_confirmed e x) e.made h)
+
+pub grown_take : (q : Parameters) (e : EndState) (x : SafetyPdu) → answers_in e.made ≤ length e.asks → Grown e (after_take q e x)
+grown_take q e x h =
+    record {
+      made = λ i m g. rw (take_made q e x) g;
+      kept = λ i v g. rw (values_take q e x h) g;
+      over = take_by q e x (λ e'. has_ended e ≡ true → e' ≡ e) (λ _. refl) (λ r away knows o. absurd (grind arith));
     }
 
 -- the position of the first PDU of a sent list: 0, or 1 from a quiet point
@@ -54,15 +95,11 @@ abbrev pub base : Parameters → ℕ
 base p = base_by p.quiet
 
 pub base_small : (q : Option Quiet) → base_by q ≤ 1
-base_small None = omega arith
-base_small (Some q) = omega arith
+base_small q = grind arith
 
 -- a quiet point counts as one PDU made, and nothing is handed up before the start
 pub start_is : (q : Option Quiet) (s : Side) → ((start_by q s).base ≡ base_by q) × (length (start_by q s).made ≡ base_by q) × ((start_by q s).side ≡ s) × (length (start_by q s).handed ≡ 0)
-start_is None Client = (refl, refl, refl, refl)
-start_is None Server = (refl, refl, refl, refl)
-start_is (Some q) Client = (refl, refl, refl, refl)
-start_is (Some q) Server = (refl, refl, refl, refl)
+start_is q s = grind arith
 
 pub start_base : (q : Option Quiet) (s : Side) → (start_by q s).base ≡ base_by q
 start_base q s = (start_is q s).0

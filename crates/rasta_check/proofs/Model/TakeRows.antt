@@ -1,5 +1,5 @@
 -- The rows of the take table: what each of them knows, and what a take leaves alone.
-use Rattle.std.proofs.Common.{◌≡◌, ℕ, Bool, true, false, List, Option, Some, None, refl, arith}
+use Rattle.std.proofs.Common.{◌≡◌, ℕ, Bool, true, false, Option, Some, None, refl, arith}
 use Rattle.std.specs.Prelude.{if◌then◌else◌}
 use Rattle.rasta_pcap.specs.declared.fault.Side.{Side}
 use Rattle.rasta_pcap.specs.declared.fault.Side.TheVariants.{Client, Server}
@@ -11,7 +11,7 @@ use Rattle.rasta_end.specs.declared.phase.Phase.{Phase}
 use Rattle.rasta_end.specs.declared.phase.Phase.TheVariants.{Down, Start, Up, RetrReq, RetrRun}
 use Rattle.rasta_end.specs.declared.take_row.TakeRow.{TakeRow}
 use Rattle.rasta_end.specs.declared.take_row.TakeRow.TheVariants.{Opened, Answered, FirstHeartbeat, InSequence, ResentInSequence, Gap, GapInRetransmission, Resumed, Requested, RequestedAhead, RequestedAgain, Disconnected}
-use Rattle.rasta_end.specs.State.{Made, EndState, is_closed, is_flowing, is_active, is_timed, carries_unit}
+use Rattle.rasta_end.specs.State.{EndState, is_closed, is_flowing, is_active, is_timed, carries_unit}
 use Rattle.rasta_end.specs.MakeRule.{first_that_holds}
 use Rattle.rasta_end.specs.TakeRule.{is_heartbeat_or_data, take_rows, is_in, is_ahead, is_valid, take_row, effect, effect_by, accept, enter, hand_up, after_take}
 
@@ -55,28 +55,24 @@ pub not_closed : (p : Parameters) (e : EndState) (x : SafetyPdu) (row : TakeRow)
 not_closed p e x row h = grind (arith, closed_row e.side e.phase x.kind (is_in e x) (is_ahead p e x) (is_valid e x))
 
 -- what a take leaves as it was
-pub record AreSame (s s' : Side) (b b' : ℕ) (ms ms' : List Made) (n n' now now' : ℕ) : Type 0 where
-  pub side : s' ≡ s
-  pub base : b' ≡ b
-  pub made : ms' ≡ ms
-  pub offered : n' ≡ n
-  pub clock : now' ≡ now
+pub record LeftAlone (e e' : EndState) : Type 0 where
+  pub side : e'.side ≡ e.side
+  pub base : e'.base ≡ e.base
+  pub made : e'.made ≡ e.made
+  pub offered : e'.offered ≡ e.offered
+  pub clock : e'.clock ≡ e.clock
 
-abbrev pub LeftAlone : EndState → EndState → Type 0
-LeftAlone e e' = AreSame e.side e'.side e.base e'.base e.made e'.made e.offered e'.offered e.clock e'.clock
+-- a unit is handed up, another PDU isn't
+pub by_unit : (P : EndState → Type 0) (b : Bool) (i : ℕ) (e : EndState) (x : SafetyPdu) → (b ≡ true → P (hand_up i e x)) → (b ≡ false → P e) → P (if b then hand_up i e x else e)
+by_unit P true i e x h l = h refl
+by_unit P false i e x h l = l refl
 
--- what holds of an end, and still does once it has handed up a unit, holds where it may hand one up
-pub handed_or : (P : EndState → Type 0) (b : Bool) (i : ℕ) (e : EndState) (x : SafetyPdu) → P e → (P e → P (hand_up i e x)) → P (if b then hand_up i e x else e)
-handed_or P true i e x h more = more h
-handed_or P false i e x h more = h
-
-leaves_by : (p : Parameters) (row : Option TakeRow) (e : EndState) (x : SafetyPdu) → LeftAlone e (effect_by p row e x)
-leaves_by p (Some InSequence) e x = handed_or (LeftAlone e) (carries_unit x.kind) e.accepted (enter Up (accept p e x)) x (record { side = refl; base = refl; made = refl; offered = refl; clock = refl }) (λ h. h)
-leaves_by p (Some ResentInSequence) e x = handed_or (LeftAlone e) (carries_unit x.kind) e.accepted (accept p e x) x (record { side = refl; base = refl; made = refl; offered = refl; clock = refl }) (λ h. h)
-leaves_by p _ e x = record { side = refl; base = refl; made = refl; offered = refl; clock = refl }
+pub effect_leaves : (p : Parameters) (row : Option TakeRow) (e : EndState) (x : SafetyPdu) → LeftAlone e (effect_by p row e x)
+effect_leaves p (Some InSequence) e x = grind arith
+effect_leaves p _ e x = grind arith
 
 pub take_leaves : (p : Parameters) (e : EndState) (x : SafetyPdu) → LeftAlone e (after_take p e x)
-take_leaves p e x = leaves_by p (take_row p e x) e x
+take_leaves p e x = effect_leaves p (take_row p e x) e x
 
 -- what holds where the end takes by no row, and by each row that it may take by, holds after a take
 pub take_by : (p : Parameters) (e : EndState) (x : SafetyPdu) (P : EndState → Type 0) → P e → ((row : TakeRow) → is_closed e.phase ≡ false → Knows p row e x → P (effect p row e x)) → P (after_take p e x)
@@ -86,8 +82,21 @@ take_by p e x P none each = by (take_row p e x) refl
     by None h = none
     by (Some row) h = each row (not_closed p e x row h) (row_known p e x row h)
 
-pub effect_made : (p : Parameters) (row : TakeRow) (e : EndState) (x : SafetyPdu) → (effect p row e x).made ≡ e.made
-effect_made p row e x = (let h = leaves_by p (Some row) e x in h.made)
+-- what a row does but for what it hands up
+abbrev pub bare_effect : Parameters → TakeRow → EndState → SafetyPdu → EndState
+bare_effect p InSequence e x = enter Up (accept p e x)
+bare_effect p ResentInSequence e x = accept p e x
+bare_effect p row e x = effect p row e x
+
+-- what handing up keeps holds after a take where it holds but for what is handed up
+pub take_bare : (p : Parameters) (e : EndState) (x : SafetyPdu) (P : EndState → Type 0) → ((i : ℕ) (g : EndState) → P g → P (hand_up i g x)) → P e
+    → ((row : TakeRow) → is_closed e.phase ≡ false → Knows p row e x → P (bare_effect p row e x)) → P (after_take p e x)
+take_bare p e x P more none each = take_by p e x P none (λ row away w. by row (each row away w))
+  where
+    by : (row : TakeRow) → P (bare_effect p row e x) → P (effect p row e x)
+    by InSequence h = by_unit P (carries_unit x.kind) e.accepted _ x (λ _. more e.accepted _ h) (λ _. h)
+    by ResentInSequence h = by_unit P (carries_unit x.kind) e.accepted _ x (λ _. more e.accepted _ h) (λ _. h)
+    by _ h = h
 
 pub take_made : (p : Parameters) (e : EndState) (x : SafetyPdu) → (after_take p e x).made ≡ e.made
 take_made p e x = (let h = take_leaves p e x in h.made)

@@ -71,7 +71,7 @@ module _ (p : Parameters) (s : Side) (e f : EndState) (t u : ℕ) (own : List Fi
       let x = m.c.pdu.safety in
       let b = made_by p m.e x m.clock m.why (passed p m.e x m.clock m.why m.makes.0) in
       let after : e ≡ after_make_by (Some b.row) m.e x m.clock = m.makes.1 ∙ sym (after_row m.e x m.clock m.why b) in
-      let row = opening_is m.e.side m.e.phase m.why ConnectionRequest m.e.owed b.row (subst (λ (z : Kind). Making m.e.side m.e.phase m.why z m.e.owed b.row) q b.how) refl in
+      let row = opening_is (subst (λ (z : Kind). Making m.e.side m.e.phase m.why z m.e.owed b.row) q b.how) refl in
       let es : e.side ≡ Client = ap (λ (z : EndState). z.side) after ∙ row.0 in
       let ph : e.phase ≡ Start = ap (λ (z : EndState). z.phase) after ∙ ap (λ r. phase_after r m.e.phase) row.2 in
       absurd (let z = h.opening.starting es ph in omega arith)

@@ -1,7 +1,6 @@
 -- What a PDU shows was handed up before it crossed.
-use Rattle.std.proofs.Common.{◌≡◌, ℕ, suc, ◌+◌, ◌<◌, ◌≤◌, Bool, true, false, List, [], ◌∷◌, length, Some, slice_get, refl, ap, sym, ◌∙◌, arith, ⊎_elim, subst}
-use Rattle.std.specs.Prelude.{slice_index_or, is_some, not, ◌&&◌, ◌||◌}
-use Rattle.std.proofs.lemmas.Option.{slice_get_within, slice_get-get_or}
+use Rattle.std.proofs.Common.{◌≡◌, ℕ, suc, ◌+◌, ◌<◌, ◌≤◌, Bool, true, false, List, [], ◌∷◌, length, Some, slice_get, refl, ap, ◌∙◌, arith}
+use Rattle.std.specs.Prelude.{is_some, not, ◌&&◌, ◌||◌}
 use Rattle.rasta_pcap.specs.declared.fault.Side.{Side}
 use Rattle.rasta_pdu.specs.Params.{Parameters}
 use Rattle.rasta_end.specs.declared.phase.Phase.{Phase}
@@ -15,12 +14,14 @@ use Rattle.rasta_check.proofs.Model.Steps.{base}
 use Rattle.rasta_check.proofs.Model.NamedPositions.{SnIs}
 use Rattle.rasta_check.proofs.Model.SequenceNumbers.{numbered_once}
 use Rattle.rasta_check.proofs.Model.Invariant.{Held}
-use Rattle.rasta_check.proofs.Model.ConveyedUnits.{values, length-values}
+use Rattle.rasta_check.proofs.Model.ConveyedUnits.{values}
 use Rattle.rasta_check.proofs.Model.OfferedUnits.{Valued}
-use Rattle.rasta_check.proofs.Model.ShownUnits.{Shown}
+use Rattle.rasta_check.proofs.Model.ShownUnits.{Shown, shows_grown, shown_most}
+use Rattle.std.proofs.Math.Logic.{⊎_map}
 use Rattle.rasta_check.proofs.Theorem.ShowingPdus.{shows_most}
 use Rattle.rasta_check.proofs.Model.InvariantOfRuns.{all_held}
-use Rattle.rasta_check.proofs.Model.History.{Grown, stepped, joined, made_at}
+use Rattle.rasta_check.proofs.Model.Steps.{Grown}
+use Rattle.rasta_check.proofs.Model.History.{stepped, joined, made_at}
 use Rattle.rasta_check.proofs.Theorem.SentRuns.{known, before}
 use Rattle.rasta_pdu.specs.Pdu.{is_kind}
 use Rattle.rasta_pdu.specs.declared.kind.Kind.TheVariants.{ConnectionRequest}
@@ -41,19 +42,8 @@ module _ (e0 f0 e f : EndState) (t : ℕ) (w0 : Shown e0 f0) (w : Shown e f) (g 
   unheard k a false c = absurd (let z = w0.first_words a c q m there in cc)
 
   in_time_at : is_kind ConnectionRequest m.pdu.kind ≡ false → (c v : ℕ) → SnIs f.made c m.pdu.cs → slice_get (values f) c ≡ Some v → v ≤ length e0.handed
-  in_time_at k c v s h = ⊎_elim
-      (λ (a : e0.accepted ≡ 0). (let z = unheard k a (is_closed e0.phase) refl in let b = vf.positions.bounded c v h in omega arith))
-      (λ (z : (i : ℕ) × (i < e0.accepted) × SnIs f0.made i m.pdu.cs).
-      let old = z.2 in
-      let same : c ≡ z.0 = numbered_once f.made few g.list.numbered c z.0 s.m old.m s.there (gf.made z.0 old.m old.there) (s.same ∙ sym old.same) in
-      let l = slice_get_within f0.made z.0 old.m old.there in
-      let len = length-values f0.asks f0.made in
-      let at : slice_get (values f0) z.0 ≡ Some (slice_index_or (values f0) z.0 0) = slice_get-get_or (values f0) z.0 0 (omega arith) in
-      let now = gf.kept z.0 _ at in
-      let eq : slice_index_or (values f0) z.0 0 ≡ v = (let h' : slice_get (values f) z.0 ≡ Some v = subst (λ j. slice_get (values f) j ≡ Some v) same h in cc) in
-      let low = w0.shown q m there k z.0 (slice_index_or (values f0) z.0 0) old at in
-      omega (arith, low, eq))
-      (w0.judged q m there k)
+  in_time_at k =
+      shown_most f (length e0.handed) e0.accepted m.pdu.cs (numbered_once f.made few g.list.numbered) vf (λ a. unheard k a (is_closed e0.phase) refl) (⊎_map (λ z. z) (shows_grown f0 f _ _ m.pdu.cs (omega arith) gf) (w0.shown q m there k))
 
 -- what a PDU of the peer shows had been handed up in the world to which its packet is appended
 pub timed : (p : Parameters) (ws : List World) (w : World) (side : Side) (own peer : List FirstCopy) → Reaches p ws w

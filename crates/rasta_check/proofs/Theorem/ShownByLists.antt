@@ -13,7 +13,7 @@ use Rattle.rasta_check.proofs.Lists.{get_past, get_mapped}
 use Rattle.rasta_check.proofs.Model.Invariant.{Held}
 use Rattle.rasta_check.proofs.Model.ConveyedUnits.{values, answers_number}
 use Rattle.rasta_check.proofs.Model.OfferedUnits.{Valued}
-use Rattle.rasta_check.proofs.Model.ShownUnits.{Shown}
+use Rattle.rasta_check.proofs.Model.ShownUnits.{Shown, shown_most}
 use Rattle.rasta_check.proofs.Model.Requests.{in_order}
 use Rattle.rasta_check.proofs.Theorem.ShowingPdus.{shows_most}
 use Rattle.rasta_pdu.specs.declared.kind.Kind.TheVariants.{RetransmissionRequest}
@@ -48,7 +48,8 @@ module _ (e f : EndState) (t u : ℕ) (h : Held e t f.made) (peer : Held f u e.m
       subst
       (λ (y : SafetyPdu). units_shown (pdus_made e.made) ps y ≤ length f.handed)
       m.2
-      (shows_most e (pdus_made e.made) ps refl values_agree (length f.handed) m.0.pdu (s.shown (length first + i) m.0 m.1))
+      (shows_most e (pdus_made e.made) ps refl values_agree (length f.handed) m.0.pdu
+      (λ k. shown_most e (length f.handed) f.accepted m.0.pdu.cs once w (λ a. grind (arith, s.ready_offer)) (s.shown (length first + i) m.0 m.1 k)))
 
   -- the units that the lists show were handed up
   pub necessary : Shown f e → units_taken (pdus_made e.made) ps ≤ length f.handed

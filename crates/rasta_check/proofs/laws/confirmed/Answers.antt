@@ -1,10 +1,9 @@
-use Rattle.std.proofs.Common.{◌≡◌, ℕ, suc, Bool, true, false, List, refl, sym, ◌∙◌, arith}
+use Rattle.std.proofs.Common.{◌≡◌, ℕ, suc, true, false, List, sym, ◌∙◌, arith}
 use Rattle.rasta_pdu.specs.Pdu.{SafetyPdu, is_kind}
 use Rattle.rasta_pdu.specs.Params.{Parameters}
 use Rattle.rasta_end.specs.declared.why.Why.{Why}
 use Rattle.rasta_end.specs.State.{Made, EndState}
 use Rattle.rasta_check.specs.Model.World.{station_of, end_of, other_side}
-use Rattle.rasta_check.specs.Model.Laws.{NamesOne, ConfirmsAccepted}
 use Rattle.rasta_check.proofs.Model.PassedTests.{Passed, passed, cs_is}
 use Rattle.rasta_check.proofs.Model.MakeRows.{made_by, opening_is}
 use Rattle.rasta_check.proofs.Model.SequenceNumbers.{numbered_once}
@@ -16,26 +15,21 @@ use Rattle.rasta_check.proofs.laws.confirmed.Goals as goal
 use Rattle.rasta_pdu.specs.declared.kind.Kind.TheVariants.{ConnectionRequest}
 
 -- an end that has accepted something makes no connection request
-not_opening : (p : Parameters) (e : EndState) (x : SafetyPdu) (clock : ℕ) (why : Why) (t i : ℕ) (peer : List Made) → Passed p e x clock why → Held e t peer → e.accepted ≡ suc i
-    → (b : Bool) → is_kind ConnectionRequest x.kind ≡ b → is_kind ConnectionRequest x.kind ≡ false
-not_opening p e x clock why t i peer pass h a false b = b
-not_opening p e x clock why t i peer pass h a true b =
-    let by = made_by p e x clock why pass in
-    let o = opening_is e.side e.phase why x.kind e.owed by.row by.how b in
+not_opening : (p : Parameters) (e : EndState) (x : SafetyPdu) (clock : ℕ) (why : Why) (t i : ℕ) (peer : List Made) → Passed p e x clock why → Held e t peer → e.accepted ≡ suc i → is_kind ConnectionRequest x.kind ≡ true → ⊥
+not_opening p e x clock why t i peer pass h a b =
+    let o = opening_is (made_by p e x clock why pass).how b in
     let none = h.opening.unmade o.0 (nothing_made e.side e.phase e.made o.1 pass.open_yet) in
-    absurd (omega (arith, a, none.0))
-
-confirms : (p : Parameters) (e peer : EndState) (t : ℕ) → Held e t peer.made → NamesOne peer e → ConfirmsAccepted p e peer
-confirms p e peer t h once x clock why after i mk a =
-    let pass = passed p e x clock why mk.0 in
-    let opens = not_opening p e x clock why t i peer.made pass h a (is_kind ConnectionRequest x.kind) refl in
-    let judged = judged_after e x.kind i a opens in
-    let cs = (cs_is e x.kind x.cs judged pass.cs).1 in
-    let last = h.accepts.last i a in
-    ((last.m, last.there, last.same ∙ sym cs), λ j n there same. once j i n last.m there last.there (same ∙ (cs ∙ sym last.same)))
+    omega (arith, a, none.0)
 
 pub returns : goal.returns
-returns c p ws w side r within =
-    let g = all_held p ws w side r within in
+returns c p ws w side r within x clock why after i mk a =
+    let e = end_of w side in
     let peer = end_of w (other_side side) in
-    confirms p (end_of w side) peer (station_of w side).taken g.mine.held (numbered_once peer.made (few_made p w within (other_side side)) g.theirs.held.list.numbered)
+    let g = all_held p ws w side r within in
+    let h = g.mine.held in
+    let pass = passed p e x clock why mk.0 in
+    let opens : is_kind ConnectionRequest x.kind ≡ false = grind (arith, not_opening p e x clock why (station_of w side).taken i peer.made pass h a) in
+    let cs = (cs_is e x.kind x.cs (judged_after e x.kind i a opens) pass.cs).1 in
+    let last = h.accepts.last i a in
+    let once = numbered_once peer.made (few_made p w within (other_side side)) g.theirs.held.list.numbered in
+    ((last.m, last.there, last.same ∙ sym cs), λ j n there same. once j i n last.m there last.there (same ∙ (cs ∙ sym last.same)))
