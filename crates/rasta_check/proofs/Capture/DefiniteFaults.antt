@@ -1,5 +1,5 @@
 -- A fault of a side is definite, over the records of a file.
-use Rattle.std.proofs.Common.{◌≡◌, ℕ, suc, ◌-◌, ◌≤◌, List, [], ◌∷◌, ◌++◌, length, append_assoc, Option, Some, Result, Ok, Err, ap, sym, ◌∙◌, arith, subst, inl, inr}
+use Rattle.std.proofs.Common.{◌≡◌, ℕ, suc, ◌-◌, ◌≤◌, List, [], ◌∷◌, ◌++◌, length, append_assoc, Option, Some, Result, Ok, Err, ap, sym, ◌∙◌, arith, subst, le-ltb, inl, inr}
 use Rattle.std.specs.Prelude.{IsSome, IfErr}
 use Rattle.std.specs.List.{cons_option}
 use Rattle.std.proofs.lemmas.List.{drop-append-le, length_push}
@@ -21,7 +21,8 @@ use Rattle.rasta_check.specs.Capture.Faults.{AreFaultless, HasFault, in_frame, i
 use Rattle.rasta_check.proofs.Capture.PacketFaults.{faultless}
 use Rattle.rasta_check.proofs.Capture.NextPackets.{definite}
 use Rattle.rasta_check.proofs.Capture.ListForms.{to_record}
-use Rattle.rasta_check.proofs.Capture.Readings.{packets_in}
+use Rattle.rasta_check.proofs.Capture.FaultlessCaptures.{sent_at}
+use Rattle.rasta_check.proofs.Capture.Readings.{packets_with}
 use Rattle.rasta_check.proofs.Capture.RefusedCaptures.{Answers, is_refused}
 
 -- after packets of which its side sent this list, no run goes on with one that has a fault
@@ -33,10 +34,6 @@ impossible_with p packets own a number h sent some ws w rest r e =
     let here : w.crossed ≡ packets ++ a ∷ rest = e ∙ append_assoc packets (a ∷ []) rest in
     let none = faultless p packets a.side own a h mine (omega arith) (definite p h.valid ws w packets rest a own r here mine (omega arith)) in
     absurd (cc)
-
-sent_at : (p : Parameters) (records : List (List ℕ)) (c s : List FirstCopy) → AreFaultless p records c s → (side : Side)
-    → Sent p (crossing_list p records) side (sent_of side c s) × (length (sent_of side c s) ≤ 1000000)
-sent_at p records c s h side = grind arith
 
 -- a fault that speaks of a side is that of a packet
 of_packet : (p : Parameters) (records : List (List ℕ)) (c s : List FirstCopy) (frame : List ℕ) (number : ℕ) (end : Option Side) → HasFault p records c s frame number end → IsSome end
@@ -59,10 +56,7 @@ definite_by p file f h (in_record records c s frame number end faultless capture
     let top = h.valid.window.last_most in
     let w = of_packet p records c s frame number end fault is in
     let read = (reading_of-IsCapture n file (records ++ frame ∷ []) (omega (arith, top, high)) capture).0 in
-    let packets : packets_through p file n ≡ crossing_list p records ++ w.0 ∷ [] =
-    ap (crossing_list p) read ∙ ap (packets_in p) (drop-append-le (p.first_record - 1) records (frame ∷ []) (omega arith))
-    ∙ filter_map-append (λ (fr : List ℕ). option_flatten (result_ok (packet_in p.channels fr))) _ (frame ∷ [])
-    ∙ ap (λ (o : Result (Option Packet) Fault). crossing_list p records ++ cons_option (option_flatten (result_ok o)) []) w.1 in
+    let packets : packets_through p file n ≡ crossing_list p records ++ w.0 ∷ [] = ap (crossing_list p) read ∙ packets_with p records frame [] (le-ltb n p.first_record low) (Some w.0) w.1 in
     record {
       impossible = subst (Impossible p) (sym packets) (impossible_with p (crossing_list p records) _ w.0 number h (sent_at p records c s faultless w.0.side) w.2);
       capture = subst (IsCapture n file) (sym read) capture;

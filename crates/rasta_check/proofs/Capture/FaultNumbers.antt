@@ -15,8 +15,8 @@ use Rattle.rasta_pdu.specs.Params.{Parameters}
 use Rattle.rasta_pdu.specs.declared.kind.Kind.{Kind}
 use Rattle.rasta_pdu.specs.Pdu.{decode_kind, decode_of}
 use Rattle.rasta_check.specs.Capture.Crossing.{FirstCopy, packet_fault}
-use Rattle.rasta_check.specs.Capture.Reading.{Crossing, crossing_of, nothing_crossed, sent_by}
-use Rattle.rasta_check.proofs.Capture.Readings.{Step, bad_frame, bad_packet, no_room, breaks}
+use Rattle.rasta_check.specs.Capture.Reading.{Crossing, crossing_of, sent_by}
+use Rattle.rasta_check.proofs.Capture.Readings.{Leads, Step, bad_frame, bad_packet, no_room, file_leads}
 use Rattle.rasta_check.proofs.Capture.RefusedCaptures.{Answers}
 
 -- ---- faults that name no side
@@ -87,10 +87,7 @@ step_sided k r f (bad_packet a n t found some) = ((λ is. subst (λ (o : Option 
 step_sided k r f (no_room a t found none full) = sideless f (omega arith, omega arith) refl
 
 pub file_sided : (p : Parameters) (file : List ℕ) (f : Fault) → crossing_of p file ≡ Err f → IsSided f
-file_sided p file f e =
-    let r = reading_of p.last_record file in
-    let b = breaks (nothing_crossed p) r.records r.fault f e in
-    ⊎_elim (λ w. reading_sided p.last_record file f w.1) (λ w. step_sided b.last w.0 f w.3) b.how
+file_sided p file f e = elim (subst (Leads p _ _) e (file_leads p file)) [ inl w ↦ reading_sided p.last_record file f w.2 | inr w ↦ step_sided _ _ f w.step ]
 
 -- it names a side exactly where it is one of a packet
 abbrev pub NamesSide : Fault → Type 0

@@ -21,7 +21,7 @@ use Rattle.rasta_check.specs.Internals.Stored.{Decode, HavePositions, IsJudged, 
 use Rattle.rasta_check.proofs.Capture.Crossings.{list_of}
 use Rattle.rasta_check.proofs.Lists.{get_front, get_push, slice_get_some, all_push}
 use Rattle.rasta_check.proofs.Capture.Positions.{place_pushed, place_missing, place_named}
-use Rattle.rasta_check.proofs.Capture.FaultlessCaptures.{nothing_is}
+use Rattle.rasta_check.proofs.Capture.Readings.{nothing_is}
 use Rattle.rasta_check.proofs.Capture.Readings.{grown_is}
 use Rattle.rasta_check.proofs.Internals.StoreLists.{count_of, kept_at, sent_is, ordered_of}
 
