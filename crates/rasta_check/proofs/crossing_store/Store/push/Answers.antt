@@ -30,7 +30,7 @@ both c =
           let j = subst (λ (k : Crossing). IsJudged k a (Some w.in-Some.position)) (sym c.self.view_is) judged in
           let all = c.push_reserved.ensures.items ∙ ap (λ (y : Inside). y.packets.items ++ stored c.match-known.position ∷ []) w.self-inside-is
           ∙ ap (λ (xs : List StoredPacket). xs ++ stored c.match-known.position ∷ []) kept ∙ ap (λ (n : ℕ). old.packets.items ++ stored n ∷ []) w.position-is in
-          let r = grown_copy old.params old.datagrams old.packets.items c.self.invariant a crossing _ w.in-Some.position j all in
+          let r = grown_copy old.params old.datagrams old.packets.items c.self.invariant a crossing w.in-Some.position _ j all in
           (_, w.self-inside-is, r.0, r.1 ∙ after)
       | in-None+in_ok-push-in-None w ↦
           let judged = subst (λ (o : Option ℕ). IsJudged c.args.self.now a o) w.in-None.is c.requires.judged in
@@ -38,7 +38,7 @@ both c =
           let all = c.push_reserved.ensures.items ∙ ap (λ (y : Inside). y.packets.items ++ stored c.match-known.position ∷ []) w.self-inside-is
           ∙ ap (λ (xs : List StoredPacket). xs ++ stored c.match-known.position ∷ []) kept ∙ ap (λ (n : ℕ). old.packets.items ++ stored n ∷ []) w.position-is in
           let place : w.len-place.result ≡ length old.packets.items = (let q = w.len-place.ensures in let l = ap length kept in omega arith) in
-          let r = grown_new old.params old.datagrams old.packets.items c.self.invariant a crossing _ w.len-position.result w.len-place.result _ place w.len-position.ensures j
+          let r = grown_new old.params old.datagrams old.packets.items c.self.invariant a crossing w.len-position.result w.len-place.result _ _ place w.len-position.ensures j
           w.in_ok-push-in-None.ensures.ok all in
           (_, w.self-inside-is, r.0, r.1 ∙ after)
     ]
