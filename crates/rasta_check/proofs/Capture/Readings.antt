@@ -138,10 +138,6 @@ module _ (p : Parameters) (frames : List (List ℕ)) (frame : List ℕ) (later :
       ap (packets_in p) window_with ∙ filter_map-append (λ (f : List ℕ). option_flatten (result_ok (packet_in p.channels f))) (window p frames) (frame ∷ later)
       ∙ ap (λ (q : Result (Option Packet) Fault). crossing_list p frames ++ cons_option (option_flatten (result_ok q)) (packets_in p later)) found
 
--- before the window there is none
-window_before : (p : Parameters) (frames : List (List ℕ)) → length frames < p.first_record → window p frames ≡ []
-window_before p frames low = drop_of_length-le {A = List ℕ} frames (omega arith)
-
 -- ---- records without a fault
 
 -- what crosses by records in which the sides sent these lists
@@ -153,10 +149,6 @@ pub record Crossed (p : Parameters) (frames : List (List ℕ)) (k : Crossing) : 
   pub same : k ≡ crossing_by p frames k.client k.server
   pub sound : AreSound p (window p frames)
   pub is : OfConnection p → AllBytes frames → IsCrossing k
-
-pub grown_is : (k : Crossing) (a : Packet) (side : Side) (own : List FirstCopy)
-    → ((crossing_with k a side own).packets ≡ k.packets ++ a ∷ []) × ((crossing_with k a side own).params ≡ k.params)
-grown_is k a side own = grind arith
 
 pub grown_same : (k : Crossing) (a : Packet) (side : Side) (own : List FirstCopy)
     → crossing_with k a side own ≡ record { params = k.params; packets = k.packets ++ a ∷ []; client = (crossing_with k a side own).client; server = (crossing_with k a side own).server }
@@ -178,7 +170,7 @@ module _ (p : Parameters) (front : List (List ℕ)) (frame : List ℕ) (c s : Li
   crossed_more next (before t) =
       let low : suc (length front) < p.first_record = grind (arith, nat_tests) in
       let size = length_push front frame in
-      crossed_with [] next (window_before p (front ++ frame ∷ []) (omega arith) ∙ sym (window_before p front (omega arith)) ∙ sym (append-nil (window p front))) tt
+      crossed_with [] next (drop_of_length-le (front ++ frame ∷ []) (omega arith) ∙ sym (append-nil (window p front) ∙ drop_of_length-le front (omega arith))) tt
       (λ i. record { params = p; packets = sym (append-nil (crossing_list p front)) i; client = c; server = s }) (λ h are is. is)
   crossed_more next (empty t g) =
       crossed_with (frame ∷ []) next (window_with p front frame [] t) (rw g refl, tt)
@@ -237,8 +229,9 @@ records_lead p frames end =
     })
 
 pub file_leads : (p : Parameters) (file : List ℕ) → Leads p (bytes_of (reading_of p.last_record file)) (reading_of p.last_record file).fault (crossing_of p file)
-file_leads p file = (let r = reading_of p.last_record file in
-  subst (λ (rs : List Numbered). Leads p (bytes_of r) r.fault (after_records (nothing_crossed p) rs r.fault)) (sym (numbered_of p.last_record file)) (records_lead p (bytes_of r) r.fault))
+file_leads p file =
+    let r = reading_of p.last_record file in
+    subst (λ (rs : List Numbered). Leads p (bytes_of r) r.fault (after_records (nothing_crossed p) rs r.fault)) (sym (numbered_of p.last_record file)) (records_lead p (bytes_of r) r.fault)
 
 -- a file that is read: its records, and the packets that they hold
 pub file_by : (p : Parameters) (file : List ℕ) (k : Crossing) → crossing_of p file ≡ Ok k
