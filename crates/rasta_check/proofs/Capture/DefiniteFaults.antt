@@ -23,7 +23,7 @@ use Rattle.rasta_check.proofs.Capture.NextPackets.{definite}
 use Rattle.rasta_check.proofs.Capture.ListForms.{to_record}
 use Rattle.rasta_check.proofs.Capture.FaultlessCaptures.{sent_at}
 use Rattle.rasta_check.proofs.Capture.Readings.{packets_with}
-use Rattle.rasta_check.proofs.Capture.RefusedCaptures.{Answers, is_refused}
+use Rattle.rasta_check.proofs.Capture.RefusedCaptures.{is_refused}
 
 -- after packets of which its side sent this list, no run goes on with one that has a fault
 impossible_with : (p : Parameters) (packets : List Packet) (own : List FirstCopy) (a : Packet) (number : ℕ) → OfConnection p → Sent p packets a.side own × (length own ≤ 1000000)
@@ -35,13 +35,6 @@ impossible_with p packets own a number h sent some ws w rest r e =
     let none = faultless p packets a.side own a h mine (omega arith) (definite p h.valid ws w packets rest a own r here mine (omega arith)) in
     absurd (cc)
 
--- a fault that speaks of a side is that of a packet
-of_packet : (p : Parameters) (records : List (List ℕ)) (c s : List FirstCopy) (frame : List ℕ) (number : ℕ) (end : Option Side) → HasFault p records c s frame number end → IsSome end
-    → (a : Packet) × (packet_in p.channels frame ≡ Ok (Some a)) × (packet_fault p (sent_of a.side c s) a ≡ Some number)
-of_packet p records c s frame number end (in_frame g found) is = absurd (cc)
-of_packet p records c s frame number end (in_packet a n found some) is = (a, found, some)
-of_packet p records c s frame number end (in_limits a found none last) is = absurd (cc)
-
 -- a fault of a side names a record of the file, and no run sends what the records up to it hold
 pub record IsDefinite (p : Parameters) (file : List ℕ) (f : Fault) : Type 0 where
   pub impossible : Impossible p (packets_through p file f.place)
@@ -51,28 +44,21 @@ pub record IsDefinite (p : Parameters) (file : List ℕ) (f : Fault) : Type 0 wh
 definite_by : (p : Parameters) (file : List ℕ) (f : Fault) → OfConnection p → IsRefusedCapture p file f → IsSome f.end → IsDefinite p file f
 definite_by p file f h (in_header g e) is = absurd (let none = ap (λ (x : Fault). x.end) (opening-fault_place file g e) in cc)
 definite_by p file f h (in_reading records c s g faultless refused) is = absurd (let none = ap (λ (x : Fault). x.end) (IsRefused-place p.last_record file records g refused) in cc)
-definite_by p file f h (in_record records c s frame number end faultless capture low high fault) is =
+definite_by p file f h (in_record records c s frame number end faultless capture low high (in_frame g found)) is = absurd (cc)
+definite_by p file f h (in_record records c s frame number end faultless capture low high (in_limits a found none last)) is = absurd (cc)
+definite_by p file f h (in_record records c s frame number end faultless capture low high (in_packet a m found some)) is =
     let n = suc (length records) in
     let top = h.valid.window.last_most in
-    let w = of_packet p records c s frame number end fault is in
     let read = (reading_of-IsCapture n file (records ++ frame ∷ []) (omega (arith, top, high)) capture).0 in
-    let packets : packets_through p file n ≡ crossing_list p records ++ w.0 ∷ [] = ap (crossing_list p) read ∙ packets_with p records frame [] (le-ltb n p.first_record low) (Some w.0) w.1 in
+    let packets : packets_through p file n ≡ crossing_list p records ++ a ∷ [] = ap (crossing_list p) read ∙ packets_with p records frame [] (le-ltb n p.first_record low) (Some a) found in
     record {
-      impossible = subst (Impossible p) (sym packets) (impossible_with p (crossing_list p records) _ w.0 number h (sent_at p records c s faultless w.0.side) w.2);
+      impossible = subst (Impossible p) (sym packets) (impossible_with p (crossing_list p records) _ a m h (sent_at p records c s faultless a.side) some);
       capture = subst (IsCapture n file) (sym read) capture;
       count = ap length read ∙ (let l = length_push records frame in omega arith);
     }
 
 pub is_definite : (p : Parameters) (file : List ℕ) (f : Fault) → OfConnection p → AreBytes file → crossing_of p file ≡ Err f → IsSome f.end → IsDefinite p file f
 is_definite p file f h are e is = definite_by p file f h (is_refused p file h are f e) is
-
--- ---- answers for a file
-
-pub answer_definite : (p : Parameters) (file : List ℕ) (r : Result Crossing Fault) → OfConnection p → AreBytes file → Answers p file r
-    → IfErr r (λ f. IsSome f.end → Impossible p (packets_through p file f.place))
-answer_definite p file (Ok s) h are a = tt
-answer_definite p file (Err f) h are (inl e) = λ is. absurd (let none = ap (λ (x : Fault). x.end) e in cc)
-answer_definite p file (Err f) h are (inr e) = λ is. (is_definite p file f h are e is).impossible
 
 -- the fault of a file's header speaks of no side
 pub opening_definite : (p : Parameters) (file : List ℕ) (f : Fault) → opening file ≡ Err f → IsSome f.end → Impossible p (packets_through p file f.place)

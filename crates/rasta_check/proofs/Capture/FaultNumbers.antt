@@ -5,7 +5,7 @@ use native.Mathlib.Decide.{dec_lt}
 use Prim.{yes, no}
 use Rattle.rasta_pcap.specs.declared.fault.Fault.{Fault}
 use Rattle.rasta_pcap.specs.declared.fault.Side.{Side}
-use Rattle.rasta_pcap.specs.Fault.{not_pcap, redundancy_length, number_gap}
+use Rattle.rasta_pcap.specs.Fault.{no_memory, not_pcap, redundancy_length, number_gap}
 use Rattle.rasta_pcap.specs.Capture.{Cursor, Numbered, next, opening, reading_of}
 use Rattle.rasta_pcap.proofs.Captures.{IsRefused-place, IsRefused-reading_of, opening-by_reading_of}
 use Rattle.rasta_pcap.proofs.Headers.{opening-fault_place}
@@ -17,7 +17,6 @@ use Rattle.rasta_pdu.specs.Pdu.{decode_kind, decode_of}
 use Rattle.rasta_check.specs.Capture.Crossing.{FirstCopy, packet_fault}
 use Rattle.rasta_check.specs.Capture.Reading.{Crossing, crossing_of, sent_by}
 use Rattle.rasta_check.proofs.Capture.Readings.{Leads, Step, bad_frame, bad_packet, no_room, file_leads}
-use Rattle.rasta_check.proofs.Capture.RefusedCaptures.{Answers}
 
 -- ---- faults that name no side
 
@@ -99,10 +98,5 @@ names_side f h = grind arith
 pub file_names_side : (p : Parameters) (file : List ℕ) (f : Fault) → crossing_of p file ≡ Err f → NamesSide f
 file_names_side p file f e = names_side f (file_sided p file f e)
 
-pub opening_names_side : (file : List ℕ) (f : Fault) → opening file ≡ Err f → NamesSide f
-opening_names_side file f e = names_side f (opening_sided file f e)
-
-pub answer_names_side : (p : Parameters) (file : List ℕ) (r : Result Crossing Fault) → Answers p file r → IfErr r NamesSide
-answer_names_side p file (Ok s) a = tt
-answer_names_side p file (Err f) (inl e) = subst NamesSide (sym e) (λ some. absurd (cc), λ w. absurd (let low = w.0 in omega arith))
-answer_names_side p file (Err f) (inr e) = file_names_side p file f e
+pub memory_names_side : (f : Fault) → f ≡ no_memory → NamesSide f
+memory_names_side f e = grind arith

@@ -162,26 +162,13 @@ module _ (p : Parameters) (file : List ℕ) (h : OfConnection p) (are : AreBytes
   pub not_both : (c s : List FirstCopy) (f : Fault) → IsFaultlessCapture p file c s → IsRefusedCapture p file f → ⊥
   not_both c s f a b = absurd (let both : Ok _ ≡ Err f = sym (faultless_is_read p file c s h are a) ∙ refused_is_read f b in cc)
 
--- a file whose header is refused is no capture
+-- a file that is refused is no capture without a fault
+pub read_is_faulty : (p : Parameters) (file : List ℕ) (f : Fault) → OfConnection p → AreBytes file → crossing_of p file ≡ Err f → IsFaulty p file
+read_is_faulty p file f h are e client server is = (let z = faultless_is_read p file client server h are is in cc)
+
+-- nor is one whose header is
 pub opening_faulty : (p : Parameters) (file : List ℕ) (f : Fault) → AreParameters p → opening file ≡ Err f → IsFaulty p file
 opening_faulty p file f valid e client server is =
     let none = (reading_of-IsCapture p.last_record file is.records valid.window.last_most is.capture).1 in
     let some = (reading_of-header_fault p.last_record file f e).0 in
     cc
-
--- ---- answers for a file
-
--- this is its answer, memory aside
-abbrev pub Answers : Parameters → List ℕ → Result Crossing Fault → Type 0
-Answers p file r = MatchResult r (λ s. crossing_of p file ≡ Ok s) (λ f. (f ≡ no_memory) ⊎ (crossing_of p file ≡ Err f))
-
-pub answer_is : (p : Parameters) (file : List ℕ) (r : Result Crossing Fault) → OfConnection p → AreBytes file → Answers p file r
-    → MatchResult r (λ s. CrossedIn p file s) (λ f. (f ≡ no_memory) ⊎ IsRefusedCapture p file f)
-answer_is p file (Ok s) h are a = crossed_in p file s h are a
-answer_is p file (Err f) h are (inl e) = inl e
-answer_is p file (Err f) h are (inr e) = inr (is_refused p file h are f e)
-
-pub answer_only : (p : Parameters) (file : List ℕ) (r : Result Crossing Fault) → OfConnection p → AreBytes file → Answers p file r → IfErr r (λ f. (f ≡ no_memory) ⊎ IsFaulty p file)
-answer_only p file (Ok s) h are a = tt
-answer_only p file (Err f) h are (inl e) = inl e
-answer_only p file (Err f) h are (inr e) = inr (λ c s is. not_both p file h are c s f is (is_refused p file h are f e))

@@ -14,8 +14,8 @@ use Rattle.rasta_check.specs.Capture.Reading.{Crossing, after_reading, after_rec
 use Rattle.rasta_check.specs.Internals.Storing.{AddsRecord, IsFailure, IsRefusedSo, IsStored, crossing_left}
 use Rattle.rasta_check.specs.Model.Theorem.{OfConnection}
 use Rattle.rasta_check.proofs.Capture.FaultNumbers.{NamesSide, file_names_side}
-use Rattle.rasta_check.proofs.Capture.FaultlessCaptures.{faultless_is_read, read_is_faultless}
-use Rattle.rasta_check.proofs.Capture.RefusedCaptures.{opening_faulty}
+use Rattle.rasta_check.proofs.Capture.FaultlessCaptures.{read_is_faultless}
+use Rattle.rasta_check.proofs.Capture.RefusedCaptures.{opening_faulty, read_is_faulty}
 use Rattle.rasta_check.proofs.Capture.Readings.{after-end, after-fault, after-none_left, after-opened, after-record, after-refused, left-after}
 use Rattle.rasta_check.proofs.Capture.DefiniteFaults.{is_definite, opening_definite}
 
@@ -148,7 +148,7 @@ why_begun most r room f old_count new_count old new (inr (inr refused)) = (refus
 file_refused : (p : Parameters) (file : List ℕ) (f : Fault) → OfConnection p → crossing_of p file ≡ Err f → IsRefusedSo p f file
 file_refused p file f h e = record {
   value = e;
-  only = λ are client server is. (let z = faultless_is_read p file client server h are is in cc);
+  only = λ are. read_is_faulty p file f h are e;
   definite = λ are is. (is_definite p file f h are e is).impossible;
 }
 
@@ -161,20 +161,12 @@ header_refused p file f valid e = record {
 
 module _ (p : Parameters) (h : OfConnection p) (rest : List ℕ → Result Crossing Fault) (old mid new : Option (List ℕ))
     (u : IsUnderway (crossing_of p) rest old mid) where
-  pub stored_answer : (r : Result Crossing Fault) → IfOk r (λ k. ReadsSo (λ bytes. rest bytes ≡ Ok k) mid new)
-      → IfOk r (λ k. ReadsSo (IsStored p k) old new)
-  stored_answer (Ok k) e = ReadsSo-after (λ bytes. rest bytes ≡ Ok k) (IsStored p k) u.bytes old mid new u.consumed
+  pub stored : (k : Crossing) → ReadsSo (λ bytes. rest bytes ≡ Ok k) mid new → ReadsSo (IsStored p k) old new
+  stored k e = ReadsSo-after (λ bytes. rest bytes ≡ Ok k) (IsStored p k) u.bytes old mid new u.consumed
       (λ more is. (let e = u.each more ∙ is in record { value = e; read = λ are. read_is_faultless p (u.bytes ++ more) k h are e })) e
-  stored_answer (Err f) e = tt
 
-  pub refused_answer : (first_count old_count new_count : ℕ) → old_count ≡ first_count → (r : Result Crossing Fault)
-      → IfErr r (λ f. IsFailure f old_count new_count ⊎ ReadsSo (λ bytes. rest bytes ≡ Err f) mid new)
-      → IfErr r (λ f. IsFailure f first_count new_count ⊎ ReadsSo (IsRefusedSo p f) old new)
-  refused_answer first_count old_count new_count steady (Ok k) e = tt
-  refused_answer first_count old_count new_count steady (Err f) (inl failed) = inl (subst (λ n. IsFailure f n new_count) steady failed)
-  refused_answer first_count old_count new_count steady (Err f) (inr e) =
-      inr (ReadsSo-after (λ bytes. rest bytes ≡ Err f) (IsRefusedSo p f) u.bytes old mid new u.consumed
-      (λ more is. file_refused p (u.bytes ++ more) f h (u.each more ∙ is)) e)
+  pub refused : (f : Fault) → ReadsSo (λ bytes. rest bytes ≡ Err f) mid new → ReadsSo (IsRefusedSo p f) old new
+  refused f e = ReadsSo-after (λ bytes. rest bytes ≡ Err f) (IsRefusedSo p f) u.bytes old mid new u.consumed (λ more is. file_refused p (u.bytes ++ more) f h (u.each more ∙ is)) e
 
 pub header_answer : (p : Parameters) (most : ℕ) (f : Fault) (old_count new_count : ℕ) (old new : Option (List ℕ)) → AreParameters p
     → FailsWithin most f old_count new_count old new ⊎ RefusesHeader f old new
@@ -196,8 +188,3 @@ pub refused_names_side : (p : Parameters) (f : Fault) (old_count new_count : ℕ
     → IsFailure f old_count new_count ⊎ ReadsSo (IsRefusedSo p f) old new → NamesSide f
 refused_names_side p f old_count new_count old new (inl failed) = failure_names_side f old_count new_count failed
 refused_names_side p f old_count new_count old new (inr e) = file_names_side p (e.bytes ++ []) f (e.each [] (λ met. refl)).value
-
-pub answer_sided : (p : Parameters) (old_count new_count : ℕ) (old new : Option (List ℕ)) (r : Result Crossing Fault)
-    → IfErr r (λ f. IsFailure f old_count new_count ⊎ ReadsSo (IsRefusedSo p f) old new) → IfErr r NamesSide
-answer_sided p old_count new_count old new (Ok k) e = tt
-answer_sided p old_count new_count old new (Err f) e = refused_names_side p f old_count new_count old new e
