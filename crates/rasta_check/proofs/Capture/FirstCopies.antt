@@ -72,58 +72,57 @@ sent_first p xs k s own d f h cf side sp num =
 pub sent_none : (p : Parameters) (s : Side) → AreParameters p → IsSent p [] s []
 sent_none p s valid = record { valid = valid; firsts = λ i c g. absurd (cc); rising = λ i a b x y. absurd (cc); numbers = λ i a b x y. absurd (cc); copies = λ k a g e. absurd (cc) }
 
--- two lists of first copies that agree p below i: the place of the one's i-th is not below that of the other's
-module _ (p : Parameters) (xs : List Packet) (s : Side) (c d : List FirstCopy) (hc : IsSent p xs s c) (hd : IsSent p xs s d) where
-  abbrev Agree : ℕ → Type 0
-  Agree i = (j : ℕ) → j < i → slice_get c j ≡ slice_get d j
-
-  -- c has an i-th; all copies of d at or below its place come before i
-  absent : (i : ℕ) (a : FirstCopy) → i < 4294967296 → Agree i → slice_get c i ≡ Some a → ((j : ℕ) (b : FirstCopy) → slice_get d j ≡ Some b → b.place ≤ a.place → j < i) → ⊥
-  absent i a l ag g all =
-      let f = hc.firsts i a g in
-      let w = hd.copies a.place f.0 f.1 f.2 in
-      let low = all w.0 w.1 w.2 w.3 in
-      let mine : slice_get c w.0 ≡ Some w.1 = ag w.0 low ∙ w.2 in
-      let same : w.1.pdu ≡ a.pdu = read_once p hc.valid s w.1.pdu a.pdu f.0.payload w.4 f.3 in
-      let lc = slice_get_within c i a g in
-      let head = slice_get_some c 0 (omega arith) in
-      not_again head.0.pdu.number w.0 i w.1.pdu.number a.pdu.number (hc.numbers w.0 head.0 w.1 head.1 mine) (hc.numbers i head.0 a head.1 g) low l (ap (λ (z : RedundancyPdu). z.number) same)
-
+-- no member from one that crosses later on crosses as early
 pub below_by : (p : Parameters) (xs : List Packet) (s : Side) (d : List FirstCopy) → IsSent p xs s d → (i j : ℕ) (a b e : FirstCopy) → slice_get d i ≡ Some e → a.place < e.place → slice_get d j ≡ Some b → b.place ≤ a.place → j < i
 below_by p xs s d h i j a b e at l g m =
     let later : i < j → ⊥ = λ y. (let r = places_rise d (ordered h) i j e b at g y in omega arith) in
     let same : i ≡ j → ⊥ = λ q. (let z : e ≡ b = cc in let w = ap (λ (u : FirstCopy). u.place) z in omega arith) in
     omega (arith, later, same)
 
-at_same : (p : Parameters) (xs : List Packet) (s : Side) (c d : List FirstCopy) → IsSent p xs s c → IsSent p xs s d → (i : ℕ) (a b : FirstCopy) → slice_get c i ≡ Some a → slice_get d i ≡ Some b → a.place ≡ b.place → a ≡ b
-at_same p xs s c d hc hd i a b g k e =
+-- where two lists of first copies agree before a member of one, the other has one there, which crossed no later
+reached : (p : Parameters) (xs : List Packet) (s : Side) (c d : List FirstCopy) → IsSent p xs s c → IsSent p xs s d → (i : ℕ) (a : FirstCopy) → i < 4294967296
+    → ((j : ℕ) → j < i → slice_get c j ≡ slice_get d j) → slice_get c i ≡ Some a → (b : FirstCopy) × (slice_get d i ≡ Some b) × (b.place ≤ a.place)
+reached p xs s c d hc hd i a l ag g =
     let f = hc.firsts i a g in
-    let f' = hd.firsts i b k in
-    let same : f.0 ≡ f'.0 = (let z : slice_get xs b.place ≡ Some f.0 = subst (λ (t : ℕ). slice_get xs t ≡ Some f.0) e f.1 in let y = f'.1 in cc) in
-    let sp : Spells p s b.pdu f.0.payload = subst (λ (z : Packet). Spells p s b.pdu z.payload) (sym same) f'.3 in
-    let dat = read_once p hc.valid s a.pdu b.pdu f.0.payload f.3 sp in
-    (λ t. record { place = e t; pdu = dat t })
+    let w = hd.copies a.place f.0 f.1 f.2 in
+    let same : w.1.pdu ≡ a.pdu = read_once p hc.valid s w.1.pdu a.pdu f.0.payload w.4 f.3 in
+    let lc = slice_get_within c i a g in
+    let ld = slice_get_within d w.0 w.1 w.2 in
+    let head = slice_get_some c 0 (omega arith) in
+    let up : w.0 < i → ⊥ = λ low. not_again head.0.pdu.number w.0 i w.1.pdu.number a.pdu.number (hc.numbers w.0 head.0 w.1 head.1 (ag w.0 low ∙ w.2)) (hc.numbers i head.0 a head.1 g) low l (ap (λ (z : RedundancyPdu). z.number) same) in
+    let b = slice_get_some d i (omega (arith, up)) in
+    let high : a.place < b.0.place → ⊥ = λ y. up (below_by p xs s d hd i w.0 a w.1 b.0 b.1 y w.2 w.3) in
+    (b.0, b.1, omega (arith, high))
 
-agree_at : (p : Parameters) (xs : List Packet) (s : Side) (c d : List FirstCopy) (hc : IsSent p xs s c) (hd : IsSent p xs s d) (i : ℕ) → i < 4294967296 → ((j : ℕ) → j < i → slice_get c j ≡ slice_get d j)
-    → (u v : Option FirstCopy) → slice_get c i ≡ u → slice_get d i ≡ v → u ≡ v
-agree_at p xs s c d hc hd i l ag None None x y = refl
-agree_at p xs s c d hc hd i l ag (Some a) None x y = absurd (absent p xs s c d hc hd i a l ag x (λ j b g p. (let w = slice_get_within d j b g in elim (dec_lt j i) [ yes z ↦ z | no z ↦ absurd (let r = slice_get_some d i (omega arith) in let e = r.1 in cc) ])))
-agree_at p xs s c d hc hd i l ag None (Some b) x y = absurd (absent p xs s d c hd hc i b l (λ j k. sym (ag j k)) y (λ j a g p. (let w = slice_get_within c j a g in elim (dec_lt j i) [ yes z ↦ z | no z ↦ absurd (let r = slice_get_some c i (omega arith) in let e = r.1 in cc) ])))
-agree_at p xs s c d hc hd i l ag (Some a) (Some b) x y =
-    let not_low : a.place < b.place → ⊥ = λ w. absent p xs s c d hc hd i a l ag x (λ j e g u. below_by p xs s d hd i j a e b y w g u) in
-    let not_high : b.place < a.place → ⊥ = λ w. absent p xs s d c hd hc i b l (λ j k. sym (ag j k)) y (λ j e g u. below_by p xs s c hc i j b e a x w g u) in
-    let same : a.place ≡ b.place = omega (arith, not_low, not_high) in
-    ap Some (at_same p xs s c d hc hd i a b x y same)
+module _ (p : Parameters) (xs : List Packet) (s : Side) (c d : List FirstCopy) (hc : IsSent p xs s c) (hd : IsSent p xs s d) where
+  at_same : (i : ℕ) (a b : FirstCopy) → slice_get c i ≡ Some a → slice_get d i ≡ Some b → a.place ≡ b.place → a ≡ b
+  at_same i a b g k e =
+      let f = hc.firsts i a g in
+      let f' = hd.firsts i b k in
+      let same : f.0 ≡ f'.0 = (let z = f.1 in let y = f'.1 in cc) in
+      let sp : Spells p s b.pdu f.0.payload = subst (λ (z : Packet). Spells p s b.pdu z.payload) (sym same) f'.3 in
+      let dat = read_once p hc.valid s a.pdu b.pdu f.0.payload f.3 sp in
+      (λ t. record { place = e t; pdu = dat t })
 
-agree : (p : Parameters) (xs : List Packet) (s : Side) (c d : List FirstCopy) → IsSent p xs s c → IsSent p xs s d → (n : ℕ) → n ≤ 4294967296 → (j : ℕ) → j < n → slice_get c j ≡ slice_get d j
-agree p xs s c d hc hd zero l j k = absurd (omega arith)
-agree p xs s c d hc hd (suc n) l j k =
-    elim (dec_lt j n) [
-      | yes z ↦ agree p xs s c d hc hd n (omega arith) j z
-      | no z ↦ (let e : j ≡ n = omega arith in subst (λ (t : ℕ). slice_get c t ≡ slice_get d t) (sym e) (agree_at p xs s c d hc hd n (omega arith) (agree p xs s c d hc hd n (omega arith)) (slice_get c n) (slice_get d n) refl refl))
-    ]
+  agree_at : (i : ℕ) → i < 4294967296 → ((j : ℕ) → j < i → slice_get c j ≡ slice_get d j) → (u v : Option FirstCopy) → slice_get c i ≡ u → slice_get d i ≡ v → u ≡ v
+  agree_at i l ag None None x y = refl
+  agree_at i l ag (Some a) v x y =
+      let w = reached p xs s c d hc hd i a l ag x in
+      let z = reached p xs s d c hd hc i w.0 l (λ j k. sym (ag j k)) w.1 in
+      let back : z.0 ≡ a = (let q = z.1 in cc) in
+      let at : a.place ≡ w.0.place = (let low = w.2 in let high = z.2 in let q = ap (λ (u : FirstCopy). u.place) back in omega arith) in
+      ap Some (at_same i a w.0 x w.1 at) ∙ sym w.1 ∙ y
+  agree_at i l ag None (Some b) x y = absurd (let w = (reached p xs s d c hd hc i b l (λ j k. sym (ag j k)) y).1 in cc)
 
--- lists that agree p up to and with the end of one are equal
+  agree : (n : ℕ) → n ≤ 4294967296 → (j : ℕ) → j < n → slice_get c j ≡ slice_get d j
+  agree zero l j k = absurd (omega arith)
+  agree (suc n) l j k =
+      elim (dec_lt j n) [
+        | yes z ↦ agree n (omega arith) j z
+        | no z ↦ (let e : n ≡ j = omega arith in subst (λ (t : ℕ). slice_get c t ≡ slice_get d t) e (agree_at n (omega arith) (agree n (omega arith)) (slice_get c n) (slice_get d n) refl refl))
+      ]
+
+-- lists that agree up to and with the end of one are equal
 equal_by : {A : Type 0} (xs ys : List A) → ((j : ℕ) → j < suc (length xs) → slice_get xs j ≡ slice_get ys j) → xs ≡ ys
 equal_by [] [] h = refl
 equal_by [] (y ∷ ys) h = absurd (let z = h 0 (omega arith) in cc)
