@@ -1,5 +1,5 @@
 -- Positions in ordered lists of first copies.
-use Rattle.std.proofs.Common.{◌≡◌, ℕ, zero, suc, ◌+◌, ◌-◌, ◌%◌, ◌^◌, ◌<◌, ◌≤◌, ◌++◌, Bool, false, nat_eq, List, [], ◌∷◌, Some, None, length, get_or, slice_get, position, ap, sym, ◌∙◌, arith, subst, if◌then◌else◌, take, drop}
+use Rattle.std.proofs.Common.{◌≡◌, ℕ, zero, suc, ◌+◌, ◌-◌, ◌%◌, ◌^◌, ◌<◌, ◌≤◌, ◌++◌, Bool, false, nat_eq, List, [], ◌∷◌, Some, None, length, get_or, slice_get, position, refl, ap, sym, ◌∙◌, arith, subst, if◌then◌else◌, take, drop}
 use Rattle.std.specs.List.{position_or_len}
 use Rattle.std.specs.Option.{option_map}
 use Rattle.std.proofs.lemmas.Bool.Decides.{nat_tests}
@@ -15,21 +15,17 @@ use Rattle.rasta_check.proofs.Lists.{get_front, get_mapped, get_push, map_at, ma
 
 -- ---- the first position of a number in a list of numbers
 
-module _ (n : ℕ) (xs : List ℕ) where
-  before : (i : ℕ) → i ≤ length xs → ((j y : ℕ) → j < i → slice_get xs j ≡ Some y → y ≡ n → ⊥) → (k : ℕ) → k < i → nat_eq n (get_or xs k 0) ≡ false
-  before i l fails k b = (let other : get_or xs k 0 ≡ n → ⊥ = fails k (get_or xs k 0) b (slice_get-get_or xs k 0 (omega arith)) in grind (arith, nat_tests))
+pub position_at : (n : ℕ) (xs : List ℕ) (i : ℕ) → slice_get xs i ≡ Some n → ((j y : ℕ) → j < i → slice_get xs j ≡ Some y → y ≡ n → ⊥) → position (nat_eq n) xs ≡ Some i
+position_at n [] i g fails = absurd (cc)
+position_at n (x ∷ xs) zero g fails = (let here : x ≡ n = cc in grind (arith, nat_tests))
+position_at n (x ∷ xs) (suc i) g fails =
+    let other = fails 0 x (omega arith) refl in
+    let more = position_at n xs i g (λ j y l. fails (suc j) y (omega arith)) in
+    grind (arith, nat_tests)
 
-  pub position_at : (i : ℕ) → slice_get xs i ≡ Some n → ((j y : ℕ) → j < i → slice_get xs j ≡ Some y → y ≡ n → ⊥) → position (nat_eq n) xs ≡ Some i
-  position_at i g fails =
-      let l = slice_get_within xs i n g in
-      let here : get_or xs i 0 ≡ n = (let z = slice_get-get_or xs i 0 l in cc) in
-      let e : position_or_len (nat_eq n) xs ≡ i = position_or_len_is (nat_eq n) xs i 0 (omega arith) (before i (omega arith) fails) (λ z. grind (arith, nat_tests)) in
-      grind (arith, nat_tests)
-
-  pub position_none : ((j y : ℕ) → slice_get xs j ≡ Some y → y ≡ n → ⊥) → position (nat_eq n) xs ≡ None
-  position_none fails =
-      let e : position_or_len (nat_eq n) xs ≡ length xs = position_or_len_is (nat_eq n) xs (length xs) 0 (omega arith) (before (length xs) (omega arith) (λ j y b. fails j y)) (λ z. absurd (omega arith)) in
-      grind (arith, nat_tests)
+pub position_none : (n : ℕ) (xs : List ℕ) → ((j y : ℕ) → slice_get xs j ≡ Some y → y ≡ n → ⊥) → position (nat_eq n) xs ≡ None
+position_none n [] fails = refl
+position_none n (x ∷ xs) fails = (let other = fails 0 x refl in let more = position_none n xs (λ j. fails (suc j)) in grind (arith, nat_tests))
 
 -- ---- the member that is named
 
@@ -47,13 +43,10 @@ place_found cs place i e = get_mapped (λ (c : FirstCopy). c.place) cs i place (
 
 -- ---- a list that goes on
 
-or_len_most : (p : ℕ → Bool) (xs : List ℕ) → position_or_len p xs ≤ length xs
-or_len_most p [] = omega arith
-or_len_most p (x ∷ xs) = (let more = or_len_most p xs in grind arith)
-
 -- a member that doesn't pass changes nothing
 pub position_push : (p : ℕ → Bool) (xs : List ℕ) (y : ℕ) → p y ≡ false → position p (xs ++ y ∷ []) ≡ position p xs
-position_push p xs y fails = (let size = length_push xs y in let most = or_len_most p xs in let more = position_or_len_push p xs y in grind (arith, nat_tests))
+position_push p [] y fails = grind arith
+position_push p (x ∷ xs) y fails = (let more = position_push p xs y fails in let size = length_push xs y in grind (arith, nat_tests))
 
 -- ---- ordered lists
 
