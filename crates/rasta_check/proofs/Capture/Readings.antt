@@ -15,8 +15,8 @@ use Rattle.rasta_pcap.proofs.Captures.{IsCapture-reading_of, reading_of-IsCaptur
 use Rattle.rasta_udp.specs.Frame.{Packet, packet_in}
 use Rattle.rasta_check.specs.Capture.Crossing.{FirstCopy, crossing_list, packet_fault}
 use Rattle.rasta_pcap.specs.declared.fault.Fault.{Fault}
-use Rattle.rasta_pcap.specs.Capture.{Cursor, Numbered, IsCapture, next, cursor_after, opening, reading, reading_of, bytes_of}
-use Rattle.rasta_pcap.proofs.Steps.{reading-record, reading-end, reading-fault, reading-none_left, reading_of-opened, reading_of-refused}
+use Rattle.rasta_pcap.specs.Capture.{Cursor, Numbered, IsCapture, next, cursor_after, opening, read_step, reading, reading_of, bytes_of}
+use Rattle.rasta_pcap.proofs.Steps.{reading_of-opened, reading_of-refused}
 use Rattle.rasta_pdu.specs.Params.{Parameters, AreParameters}
 use Rattle.rasta_check.specs.Capture.Reading.{Crossing, IsCrossing, and_then, at_end, after_frame, after_judged, after_packet, after_record, after_records, after_reading, crossing_of, crossing_with, is_within, nothing_crossed, sent_after, sent_by, with_packet}
 use Rattle.rasta_check.proofs.Capture.Channels.{is_recorded}
@@ -27,22 +27,10 @@ use Rattle.rasta_check.proofs.Capture.FirstCopies.{sent_none}
 use Rattle.rasta_check.proofs.Lists.{all_append, all_at, all_front}
 use Rattle.rasta_check.proofs.Capture.RecordBytes.{AllBytes, payload_bytes}
 
-pub after-end : (k : Crossing) (left : ℕ) (c : Cursor) → next c ≡ Ok None → after_reading k (reading (suc left) c) ≡ Ok k
-unfolding after_records
-after-end k left c h = ap (after_reading k) (reading-end left c h)
-
-pub after-fault : (k : Crossing) (left : ℕ) (c : Cursor) (f : Fault) → next c ≡ Err f → after_reading k (reading (suc left) c) ≡ Err f
-unfolding after_records
-after-fault k left c f h = ap (after_reading k) (reading-fault left c f h)
-
-pub after-record : (k : Crossing) (left : ℕ) (c : Cursor) (r : Numbered) → next c ≡ Ok (Some r)
-    → after_reading k (reading (suc left) c) ≡ and_then (after_record k r) (λ (n : Crossing). after_reading n (reading left (cursor_after c)))
-unfolding after_records
-after-record k left c r h = ap (after_reading k) (reading-record left c r h)
-
-pub after-none_left : (k : Crossing) (c : Cursor) → after_reading k (reading zero c) ≡ Ok k
-unfolding after_records
-after-none_left k c = ap (after_reading k) (reading-none_left c)
+-- what is next leads on
+pub after-next : (k : Crossing) (left : ℕ) (c : Cursor) (o : Result (Option Numbered) Fault) → next c ≡ o → after_reading k (reading (suc left) c) ≡ after_reading k (read_step o (reading left (cursor_after c)))
+unfolding reading
+after-next k left c o h = ap (λ (q : Result (Option Numbered) Fault). after_reading k (read_step q (reading left (cursor_after c)))) h
 
 pub after-opened : (p : Parameters) (file : List ℕ) (c : Cursor) → opening file ≡ Ok c → crossing_of p file ≡ after_reading (nothing_crossed p) (reading p.last_record c)
 after-opened p file c h = ap (after_reading (nothing_crossed p)) (reading_of-opened p.last_record file c h)

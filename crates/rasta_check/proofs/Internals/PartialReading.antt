@@ -10,13 +10,13 @@ use Rattle.rasta_pcap.specs.Stream.{FailsWithin, LacksMemory, MeetsEnd, Opens, R
 use Rattle.rasta_pcap.proofs.Steps.{next-nil}
 use Rattle.rasta_pcap.proofs.Streams.{ReadsSo-after}
 use Rattle.rasta_pdu.specs.Params.{Parameters, AreParameters}
-use Rattle.rasta_check.specs.Capture.Reading.{Crossing, after_reading, after_record, and_then, crossing_of, nothing_crossed}
+use Rattle.rasta_check.specs.Capture.Reading.{Crossing, after_reading, after_record, after_records, and_then, crossing_of, nothing_crossed}
 use Rattle.rasta_check.specs.Internals.Storing.{AddsRecord, IsFailure, IsRefusedSo, IsStored, crossing_left}
 use Rattle.rasta_check.specs.Model.Theorem.{OfConnection}
 use Rattle.rasta_check.proofs.Capture.FaultNumbers.{NamesSide, file_names_side}
 use Rattle.rasta_check.proofs.Capture.FaultlessCaptures.{read_is_faultless}
 use Rattle.rasta_check.proofs.Capture.RefusedCaptures.{opening_faulty, read_is_faulty}
-use Rattle.rasta_check.proofs.Capture.Readings.{after-end, after-fault, after-none_left, after-opened, after-record, after-refused, left-after}
+use Rattle.rasta_check.proofs.Capture.Readings.{after-next, after-opened, after-refused, left-after}
 use Rattle.rasta_check.proofs.Capture.DefiniteFaults.{is_definite, opening_definite}
 
 -- bytes were read: of every input that begins so, what crosses is what crosses by the rest
@@ -24,9 +24,6 @@ pub record IsUnderway (whole rest : List ℕ → Result Crossing Fault) (old new
   pub bytes : List ℕ
   pub consumed : Consumes old new bytes
   pub each : (more : List ℕ) → whole (bytes ++ more) ≡ rest more
-
-pub Underway-start : (whole : List ℕ → Result Crossing Fault) (i : Option (List ℕ)) → IsUnderway whole whole i i
-Underway-start whole i = record { bytes = []; consumed = Consumes-nil i; each = λ more. refl }
 
 -- after a header what crosses by a file crosses by the bytes that are left
 pub Underway-opened : (p : Parameters) (k : Crossing) (r : RecordReader) (last : ℕ) (old new : Option (List ℕ)) → Opens (order_in r) old new
@@ -48,12 +45,12 @@ Underway-left whole k r end counter old new below h =
 
 added_left : (k next : Crossing) (r n : RecordReader) (left : ℕ) (old new : Option (List ℕ)) (a : AddsRecord k next r n old new) (more : List ℕ)
     → crossing_left k r (suc left) (a.read.bytes ++ more) ≡ crossing_left next n left more
+unfolding after_records
 added_left k next r n left old new a more =
     let c = cursor_at (order_in r) (a.read.bytes ++ more) (count_in r) in
-    after-record k left c (count_in n, a.bytes) (a.read.each more).0
+    after-next k left c _ (a.read.each more).0
     ∙ ap (λ q. and_then q (λ (m : Crossing). after_reading m (reading left (cursor_after c)))) a.added
-    ∙ ap (λ (d : Cursor). after_reading next (reading left d)) (a.read.each more).1
-    ∙ ap (λ o. after_reading next (reading left (cursor_at o more (count_in n)))) (sym a.order)
+    ∙ (λ i. after_reading next (reading left ((a.read.each more).1 i))) ∙ (λ i. after_reading next (reading left (cursor_at (sym a.order i) more (count_in n))))
 
 pub Underway-record : (whole : List ℕ → Result Crossing Fault) (k next : Crossing) (r n : RecordReader) (left : ℕ) (old mid new : Option (List ℕ))
     → IsUnderway whole (crossing_left k r (suc left)) old mid → AddsRecord k next r n mid new → IsUnderway whole (crossing_left next n left) old new
@@ -80,23 +77,18 @@ Underway-begun whole rest old mid new h more = (h.bytes ++ more.0, Consumes-tran
 
 pub all_at_end : (k : Crossing) (r : RecordReader) (left : ℕ) (old new : Option (List ℕ)) → MeetsEnd old new
     → ReadsSo (λ rest. crossing_left k r (suc left) rest ≡ Ok k) old new
+unfolding after_records
 all_at_end k r left old new h = record {
   bytes = [];
   met_end = true;
   consumed = h.0;
   at_end = λ e. h.1;
-  each = λ more follows. ap (crossing_left k r (suc left)) (follows refl)
-      ∙ (let c = cursor_at (order_in r) [] (count_in r) in after-end k left c (next-nil c refl));
+  each = λ more follows. (let c = cursor_at (order_in r) [] (count_in r) in ap (crossing_left k r (suc left)) (follows refl) ∙ after-next k left c _ (next-nil c refl));
 }
 
 pub all_with_window : (k : Crossing) (r : RecordReader) (i : Option (List ℕ)) → ReadsSo (λ rest. crossing_left k r zero rest ≡ Ok k) i i
-all_with_window k r i = record {
-  bytes = [];
-  met_end = false;
-  consumed = Consumes-nil i;
-  at_end = λ e. absurd (cc);
-  each = λ more follows. after-none_left k (cursor_at (order_in r) more (count_in r));
-}
+unfolding after_records reading
+all_with_window k r i = record { bytes = []; met_end = false; consumed = Consumes-nil i; at_end = λ e. absurd (cc); each = λ more follows. refl }
 
 -- ---- the next record has a fault
 
@@ -106,10 +98,12 @@ FaultsNext k r f old new = ReadsSo (λ rest. (left : ℕ) → crossing_left k r 
 
 pub next_refused : (k : Crossing) (r : RecordReader) (f : Fault) (old new : Option (List ℕ)) → RefusesRecord (order_in r) (count_in r) f old new
     → FaultsNext k r f old new
-next_refused k r f old new h = ReadsSo-then old new (λ bytes is left. after-fault k left (cursor_at (order_in r) bytes (count_in r)) f is) h
+unfolding after_records
+next_refused k r f old new h = ReadsSo-then old new (λ bytes is left. after-next k left (cursor_at (order_in r) bytes (count_in r)) _ is) h
 
 pub next_faulty : (k : Crossing) (r : RecordReader) (number : ℕ) (bytes : List ℕ) (f : Fault) (old new : Option (List ℕ))
     → ReadsRecord (order_in r) (count_in r) (number, bytes) old new → after_record k (number, bytes) ≡ Err f → FaultsNext k r f old new
+unfolding after_records
 next_faulty k r number bytes f old new h e = record {
   bytes = h.bytes;
   met_end = false;
@@ -117,7 +111,7 @@ next_faulty k r number bytes f old new h e = record {
   at_end = λ e. absurd (cc);
   each = λ more follows left.
       let c = cursor_at (order_in r) (h.bytes ++ more) (count_in r) in
-      after-record k left c (number, bytes) (h.each more).0
+      after-next k left c _ (h.each more).0
       ∙ ap (λ q. and_then q (λ (m : Crossing). after_reading m (reading left (cursor_after c)))) e;
 }
 
@@ -131,17 +125,12 @@ abbrev pub WhyNone : ℕ → RecordReader → ℕ → Fault → ℕ → ℕ → 
 WhyNone most r room f old_count new_count old new = FailsWithin most f old_count new_count old new
     ⊎ (LacksMemory (order_in r) room f old new ⊎ RefusesRecord (order_in r) (count_in r) f old new)
 
-pub why_faulty : (k : Crossing) (most : ℕ) (r : RecordReader) (room : ℕ) (f : Fault) (old_count new_count : ℕ) (old new : Option (List ℕ))
-    → WhyNone most r room f old_count new_count old new → IsFailure f old_count new_count ⊎ FaultsNext k r f old new
-why_faulty k most r room f old_count new_count old new (inl failed) = inl (inr (failed.0, failed.1))
-why_faulty k most r room f old_count new_count old new (inr (inl lacking)) = inl (inl lacking.0)
-why_faulty k most r room f old_count new_count old new (inr (inr refused)) = inr (next_refused k r f old new refused)
-
-pub why_begun : (most : ℕ) (r : RecordReader) (room : ℕ) (f : Fault) (old_count new_count : ℕ) (old new : Option (List ℕ))
-    → WhyNone most r room f old_count new_count old new → (bs : List ℕ) × Consumes old new bs
-why_begun most r room f old_count new_count old new (inl failed) = (failed.2.0, failed.2.1)
-why_begun most r room f old_count new_count old new (inr (inl lacking)) = (lacking.1.bytes, lacking.1.consumed)
-why_begun most r room f old_count new_count old new (inr (inr refused)) = (refused.bytes, refused.consumed)
+-- bytes were read; it is a failure, or the next record has this fault
+pub why : (k : Crossing) (most : ℕ) (r : RecordReader) (room : ℕ) (f : Fault) (old_count new_count : ℕ) (old new : Option (List ℕ))
+    → WhyNone most r room f old_count new_count old new → ((bs : List ℕ) × Consumes old new bs) × (IsFailure f old_count new_count ⊎ FaultsNext k r f old new)
+why k most r room f old_count new_count old new (inl failed) = ((failed.2.0, failed.2.1), inl (inr (failed.0, failed.1)))
+why k most r room f old_count new_count old new (inr (inl lacking)) = ((lacking.1.bytes, lacking.1.consumed), inl (inl lacking.0))
+why k most r room f old_count new_count old new (inr (inr refused)) = ((refused.bytes, refused.consumed), inr (next_refused k r f old new refused))
 
 -- ---- a whole file
 
@@ -170,14 +159,9 @@ module _ (p : Parameters) (h : OfConnection p) (rest : List ℕ → Result Cross
 
 pub header_answer : (p : Parameters) (most : ℕ) (f : Fault) (old_count new_count : ℕ) (old new : Option (List ℕ)) → AreParameters p
     → FailsWithin most f old_count new_count old new ⊎ RefusesHeader f old new
-    → IsFailure f old_count new_count ⊎ ReadsSo (IsRefusedSo p f) old new
-header_answer p most f old_count new_count old new valid (inl failed) = inl (inr (failed.0, failed.1))
-header_answer p most f old_count new_count old new valid (inr h) = inr (ReadsSo-then old new (λ bytes is. header_refused p bytes f valid is) h)
-
-pub header_begun : (most : ℕ) (f : Fault) (old_count new_count : ℕ) (old new : Option (List ℕ))
-    → FailsWithin most f old_count new_count old new ⊎ RefusesHeader f old new → (bs : List ℕ) × Consumes old new bs
-header_begun most f old_count new_count old new (inl failed) = (failed.2.0, failed.2.1)
-header_begun most f old_count new_count old new (inr h) = (h.bytes, h.consumed)
+    → ((bs : List ℕ) × Consumes old new bs) × (IsFailure f old_count new_count ⊎ ReadsSo (IsRefusedSo p f) old new)
+header_answer p most f old_count new_count old new valid (inl failed) = ((failed.2.0, failed.2.1), inl (inr (failed.0, failed.1)))
+header_answer p most f old_count new_count old new valid (inr h) = ((h.bytes, h.consumed), inr (ReadsSo-then old new (λ bytes is. header_refused p bytes f valid is) h))
 
 -- ---- the fault speaks of a side where its number says so
 

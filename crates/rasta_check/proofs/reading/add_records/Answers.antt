@@ -1,8 +1,8 @@
 use Rattle.std.proofs.Common.{◌≡◌, ◌∙◌, ◌+◌, ◌-◌, ℕ, Ok, ap, sym, inl, inr, ⊎_elim, arith}
 use Rattle.rasta_pcap.specs.Capture.{reading}
-use Rattle.rasta_check.specs.Capture.Reading.{after_reading}
+use Rattle.rasta_check.specs.Capture.Reading.{after_reading, after_records}
 use Rattle.rasta_check.specs.Internals.Packets.{after_next}
-use Rattle.rasta_check.proofs.Capture.Readings.{after-none_left, left-after}
+use Rattle.rasta_check.proofs.Capture.Readings.{left-after}
 use Rattle.rasta_check.proofs.reading.add_records.Goals as goal
 use Rattle.rasta_check.proofs.reading.add_records.Goals.{else-loop-test, then-loop-test+in-Ok-false}
 
@@ -20,10 +20,11 @@ loop-preserved c =
     ∙ ap (λ b. after_next b c.add_next.new.sent (reading more c.add_next.new.pcap)) c.in-Ok-true.field-0-test)
 
 pub returns : goal.returns
+unfolding after_records reading
 returns c = elim c.loop-test.branch [
   | else-loop-test w ↦
       let zero_left : c.args.last - c.loop.counter ≡ 0 = omega (arith, w.loop-test.false) in
-      c.loop.invariant ∙ (ap (λ n. after_reading c.loop.sent (reading n c.loop.pcap)) zero_left ∙ (after-none_left c.loop.sent c.loop.pcap ∙ ap Ok (sym w.sent-is)))
+      c.loop.invariant ∙ (ap (λ n. after_reading c.loop.sent (reading n c.loop.pcap)) zero_left ∙ ap Ok (sym w.sent-is))
   | then-loop-test+in-Ok-false w ↦
       let more : ℕ = c.args.last - (c.loop.counter + 1) in
       let left = c.loop.invariant ∙ ap (λ n. after_reading c.loop.sent (reading n c.loop.pcap)) (left-after c.args.last c.loop.counter w.loop-test.true) in

@@ -4,7 +4,7 @@ use Rattle.rasta_pcap.proofs.Extents.{HasRead-opened, ReadsUpToRecord-header}
 use Rattle.rasta_check.specs.Capture.Reading.{Crossing, crossing_of}
 use Rattle.rasta_check.specs.Internals.Storing.{crossing_left}
 use Rattle.rasta_check.specs.Model.Theorem.{OfConnection}
-use Rattle.rasta_check.proofs.Internals.PartialReading.{IsUnderway, Underway-begun, Underway-opened, header_answer, header_begun, refused, refused_names_side, stored}
+use Rattle.rasta_check.proofs.Internals.PartialReading.{IsUnderway, Underway-begun, Underway-opened, header_answer, refused, refused_names_side, stored}
 use Rattle.rasta_check.proofs.storing.store.Given.{Over}
 use Rattle.rasta_check.proofs.storing.store.Goals as goal
 
@@ -34,13 +34,13 @@ pub returns-in-Ok-clause-bounded : goal.returns-in-Ok-clause-bounded
 returns-in-Ok-clause-bounded g c = rw (← c.last_record-last.ensures.value) (c.add_records.ensures.bounded _ (HasRead-opened _ _ _ c.in-Ok.ensures.opened))
 
 pub returns-in-Err-clause-err : goal.returns-in-Err-clause-err
-returns-in-Err-clause-err g c = header_answer c.args.p _ c.in-Err.fault _ _ _ _ c.last_record-last.ensures.valid c.in-Err.ensures.err
+returns-in-Err-clause-err g c = (header_answer c.args.p _ c.in-Err.fault _ _ _ _ c.last_record-last.ensures.valid c.in-Err.ensures.err).1
 
 pub returns-in-Err-clause-side : goal.returns-in-Err-clause-side
 returns-in-Err-clause-side g c = refused_names_side c.args.p c.in-Err.fault _ _ _ _ (returns-in-Err-clause-err g c)
 
 pub returns-in-Err-clause-begun : goal.returns-in-Err-clause-begun
-returns-in-Err-clause-begun g c = header_begun _ c.in-Err.fault _ _ _ _ c.in-Err.ensures.err
+returns-in-Err-clause-begun g c = (header_answer c.args.p _ c.in-Err.fault _ _ _ _ c.last_record-last.ensures.valid c.in-Err.ensures.err).0
 
 pub returns-in-Err-clause-bounded : goal.returns-in-Err-clause-bounded
 returns-in-Err-clause-bounded g c = ReadsUpToRecord-header c.args.p.last_record _ _ c.in-Err.ensures.bounded
