@@ -30,16 +30,14 @@ pub record Begins (big own : List FirstCopy) (n : ℕ) : Type 0 where
   pub whole : big ≡ own ++ later
   pub place : (c : FirstCopy) → slice_get later 0 ≡ Some c → n ≤ c.place
 
-AreBelow : ℕ → List FirstCopy → Type 0
+abbrev AreBelow : ℕ → List FirstCopy → Type 0
 AreBelow n own = (i : ℕ) (c : FirstCopy) → slice_get own i ≡ Some c → c.place < n
 
 below_more : (n : ℕ) (c : FirstCopy) (own : List FirstCopy) → c.place < n → AreBelow n own → AreBelow n (c ∷ own)
-unfolding AreBelow
 below_more n c own l h zero d g = (let same : c ≡ d = cc in let e = ap (λ (z : FirstCopy). z.place) same in omega arith)
 below_more n c own l h (suc i) d g = h i d g
 
 split_at : (n : ℕ) (big : List FirstCopy) → (own : List FirstCopy) × AreBelow n own × Begins big own n
-unfolding AreBelow
 split_at n [] = ([], λ i c g. absurd (cc), record { later = []; whole = refl; place = λ c g. absurd (cc) })
 split_at n (c ∷ cs) = elim (dec_lt c.place n) [
   | yes l ↦ (let r = split_at n cs in (c ∷ r.0, below_more n c r.0 l r.1, record { later = r.2.later; whole = ap (λ (xs : List FirstCopy). c ∷ xs) r.2.whole; place = r.2.place }))
@@ -66,7 +64,6 @@ module _ (p : Parameters) (xs ys : List Packet) (s : Side) (own later : List Fir
       omega (arith, not_high)
 
   sent_part : AreBelow (length xs) own → IsSent p xs s own
-  unfolding AreBelow
   sent_part low =
       record {
         valid = h.valid;
