@@ -22,7 +22,7 @@ use Rattle.rasta_check.proofs.Capture.Crossings.{list_of}
 use Rattle.rasta_check.proofs.Lists.{get_front, get_push, slice_get_some, all_push}
 use Rattle.rasta_check.proofs.Capture.Positions.{place_pushed, place_missing, place_named}
 use Rattle.rasta_check.proofs.Capture.Readings.{grown_same, nothing_is}
-use Rattle.rasta_check.proofs.Internals.StoreLists.{count_of, kept_at, ordered_of}
+use Rattle.rasta_check.proofs.Internals.StoreLists.{count_of, kept_at, ordered_of, sent_is}
 
 -- ---- the packets that are there
 
@@ -49,12 +49,13 @@ positions_more : (d e : KeptDatagrams) → Among d e → (xs : List StoredPacket
 positions_more d e h xs x l last =
     all_push xs x (λ i y o. (let w = slice_get_some (kept_by d y.side) y.position (l i y o) in slice_get_within (kept_by e y.side) y.position w.0 (h y.side y.position w.0 w.1))) last
 
-decode_with : (p : Parameters) (d : KeptDatagrams) (side : Side) (y : Kept) (pdu : RedundancyPdu) → ((s : Side) → Decode p s (kept_by d s)) → decode_of p side y.bytes ≡ Ok pdu → Spells p side pdu y.bytes
-    → (s : Side) → Decode p s (kept_by (keeping d side y) s)
-decode_with p d Client y pdu h reads spelled Client = all_push d.client y (h Client) (pdu, reads, spelled)
-decode_with p d Client y pdu h reads spelled Server = h Server
-decode_with p d Server y pdu h reads spelled Client = h Client
-decode_with p d Server y pdu h reads spelled Server = all_push d.server y (h Server) (pdu, reads, spelled)
+-- what holds of the longer lists of one side, and of the lists that are there, holds of both sides' lists
+with_more : (P : Side → List Kept → List FirstCopy → Type 0) (d : KeptDatagrams) (y : Kept) (k : Crossing) (a : Packet) (side : Side) (own : List FirstCopy) → P side (kept_by d side ++ y ∷ []) own
+    → ((s : Side) → P s (kept_by d s) (sent_by k s)) → (s : Side) → P s (kept_by (keeping d side y) s) (sent_by (crossing_with k a side own) s)
+with_more P d y k a Client own new old Client = new
+with_more P d y k a Client own new old Server = old Server
+with_more P d y k a Server own new old Client = old Client
+with_more P d y k a Server own new old Server = new
 
 -- ---- the bytes of first copies
 
@@ -76,13 +77,6 @@ copies_more k l place (x ∷ xs) a end h e =
 lower_place : (place end n : ℕ) (o q : Option ℕ) → place < end → q ≡ (if nat_eq place end then Some n else o) → q ≡ o
 lower_place place end n o q l e = (let t : nat_eq place end ≡ false = grind (arith, nat_tests) in e ∙ ap (λ (b : Bool). if b then Some n else o) t)
 
--- the list of one side goes on at the end
-places_with : (k : Crossing) (a : Packet) (side : Side) (c : FirstCopy) → c.place ≡ length k.packets → IsOrdered (sent_by k side ++ c ∷ []) → SamePlaces k (crossing_with k a side (sent_by k side ++ c ∷ [])) (length k.packets)
-places_with k a Client c at o Client place l = lower_place place c.place (length k.client) (position_of_place k.client place) _ (omega arith) (place_pushed k.client c o place)
-places_with k a Client c at o Server place l = refl
-places_with k a Server c at o Client place l = refl
-places_with k a Server c at o Server place l = lower_place place c.place (length k.server) (position_of_place k.server place) _ (omega arith) (place_pushed k.server c o place)
-
 places_same : (k : Crossing) (a : Packet) (side : Side) (end : ℕ) → SamePlaces k (crossing_with k a side (sent_by k side)) end
 places_same k a side end s place l = grind arith
 
@@ -96,13 +90,6 @@ no_place k h side =
 -- the lists of both sides, by these datagrams
 abbrev HaveLists : Parameters → KeptDatagrams → Crossing → Type 0
 HaveLists p e l = (s : Side) → map (copy_in p s) (kept_by e s) ≡ sent_by l s
-
-lists_with : (p : Parameters) (d : KeptDatagrams) (packets : List StoredPacket) (a : Packet) (side : Side) (y : Kept) (c : FirstCopy) → copy_in p side y ≡ c
-    → HaveLists p (keeping d side y) (crossing_with (crossing_by p d packets) a side (sent_by (crossing_by p d packets) side ++ c ∷ []))
-lists_with p d packets a Client y c e Client = map-append (copy_in p Client) d.client (y ∷ []) ∙ ap (λ (z : FirstCopy). map (copy_in p Client) d.client ++ z ∷ []) e
-lists_with p d packets a Client y c e Server = refl
-lists_with p d packets a Server y c e Client = refl
-lists_with p d packets a Server y c e Server = map-append (copy_in p Server) d.server (y ∷ []) ∙ ap (λ (z : FirstCopy). map (copy_in p Server) d.server ++ z ∷ []) e
 
 lists_same : (p : Parameters) (d : KeptDatagrams) (packets : List StoredPacket) (a : Packet) (side : Side) → HaveLists p d (crossing_with (crossing_by p d packets) a side (sent_by (crossing_by p d packets) side))
 lists_same p d packets a side s = grind arith
@@ -172,9 +159,13 @@ module _ (p : Parameters) (d : KeptDatagrams) (packets : List StoredPacket) (st 
       let some = ap (λ (o : Option ℕ). if is_some o then a.payload else [])
       (ap (λ (xs : List FirstCopy). position_of_place xs (length k.packets)) (sent_with k a a.side own) ∙ place_named own ordered (length (sent_by k a.side)) c (get_push (sent_by k a.side) c)) in
       let size = length_push (kept_by d a.side) y in
-      rw (e, m) (grown (keeping d a.side y) (stored position) own j.3 (among_keeping d a.side y) here
-      (lists_with p d packets a a.side y c (λ i. record { place = n i; pdu = ap pdu_in j.1 i })) (decode_with p d a.side y j.0 st.decode j.1 j.2)
-      (subst (λ (xs : List Kept). position < length xs) (sym kept.0) (omega arith)) (places_with k a a.side c refl ordered) (kept.1 ∙ ap (λ (bs : List ℕ). d.bytes ++ bs) (sym some)))
+      let lists = with_more (λ s kept sent. map (copy_in p s) kept ≡ sent) d y k a a.side own
+      (map-append (copy_in p a.side) (kept_by d a.side) (y ∷ []) ∙ (λ i. sym (sent_is p d packets a.side) i ++ record { place = n i; pdu = ap pdu_in j.1 i } ∷ [])) (λ s. sym (sent_is p d packets s)) in
+      let decode = with_more (λ s kept sent. Decode p s kept) d y k a a.side own (all_push (kept_by d a.side) y (st.decode a.side) (j.0, j.1, j.2)) st.decode in
+      let places = with_more (λ s kept sent. (q : ℕ) → q < length k.packets → position_of_place sent q ≡ position_of_place (sent_by k s) q) d y k a a.side own
+      (λ q l. lower_place q (length k.packets) (length (sent_by k a.side)) _ _ l (place_pushed (sent_by k a.side) c ordered q)) (λ s q l. refl) in
+      rw (e, m) (grown (keeping d a.side y) (stored position) own j.3 (among_keeping d a.side y) here lists decode
+      (subst (λ (xs : List Kept). position < length xs) (sym kept.0) (omega arith)) places (kept.1 ∙ ap (λ (bs : List ℕ). d.bytes ++ bs) (sym some)))
 
 -- ---- as the code adds it
 

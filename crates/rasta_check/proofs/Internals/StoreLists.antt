@@ -34,18 +34,6 @@ pub record IsFirst (p : Parameters) (side : Side) (x : Kept) (own : List FirstCo
   pub spelled : Spells p side pdu x.bytes
   pub there : slice_get own position ≡ Some (record { place = x.place; pdu = pdu })
 
-first_in : (p : Parameters) (side : Side) (kept : List Kept) → Decode p side kept → (position : ℕ) (x : Kept) → slice_get kept position ≡ Some x
-    → IsFirst p side x (map (copy_in p side) kept) position
-first_in p side kept h position x g =
-    let w = h position x g in
-    record {
-      pdu = w.0;
-      reads = w.1;
-      spelled = w.2;
-      there = map_at (copy_in p side) kept position x g
-          ∙ ap (λ (r : Result RedundancyPdu Fault). Some (record { place = x.place; pdu = pdu_in r })) w.1;
-    }
-
 module _ (p : Parameters) (d : KeptDatagrams) (packets : List StoredPacket) where
   abbrev whole : Crossing
   whole = crossing_by p d packets
@@ -55,7 +43,15 @@ module _ (p : Parameters) (d : KeptDatagrams) (packets : List StoredPacket) wher
 
   pub kept_at : IsStore p d packets → (side : Side) (position : ℕ) (x : Kept) → slice_get (kept_by d side) position ≡ Some x
       → IsFirst p side x (sent_by whole side) position
-  kept_at st side position x g = subst (λ (own : List FirstCopy). IsFirst p side x own position) (sym (sent_is side)) (first_in p side (kept_by d side) (st.decode side) position x g)
+  kept_at st side position x g =
+      let w = st.decode side position x g in
+      record {
+        pdu = w.0;
+        reads = w.1;
+        spelled = w.2;
+        there = ap (λ (own : List FirstCopy). slice_get own position) (sent_is side) ∙ map_at (copy_in p side) (kept_by d side) position x g
+            ∙ ap (λ (r : Result RedundancyPdu Fault). Some (record { place = x.place; pdu = pdu_in r })) w.1;
+      }
 
   pub count_of : (side : Side) → length (sent_by whole side) ≡ length (kept_by d side)
   count_of side = ap length (sent_is side) ∙ length-map (kept_by d side) (copy_in p side)
@@ -162,11 +158,6 @@ module _ (k : Crossing) (a : Packet) (pdu : RedundancyPdu) (reads : decode_of k.
   sent = sent_by k a.side
 
   -- its bytes are compared
-  repeats : (position : ℕ) (r : Bool) → position_of_number sent pdu.number ≡ Some position → (c : FirstCopy) → slice_get sent position ≡ Some c
-      → r ≡ bytes_eq (redundancy_bytes k.params a.side c.pdu) a.payload
-      → (packet_fault k.params sent a ≡ (if r then None else Some copy_differs)) × (sent_after k a ≡ sent)
-  repeats position r e c g f = rw f (known_by k a pdu (Some c) reads (copy_of_position sent pdu.number position e ∙ g))
-
   pub repeats_at : (position : ℕ) (r : Bool) → position_of_number sent pdu.number ≡ Some position
       → IfSome (slice_get sent position) (λ (c : FirstCopy). r ≡ bytes_eq (redundancy_bytes k.params a.side c.pdu) a.payload)
       → (c : FirstCopy) × (slice_get sent position ≡ Some c) × (packet_fault k.params sent a ≡ (if r then None else Some copy_differs)) × (sent_after k a ≡ sent)
@@ -174,8 +165,8 @@ module _ (k : Crossing) (a : Packet) (pdu : RedundancyPdu) (reads : decode_of k.
   repeats_at position r e h =
       let f = number_found sent pdu.number position e in
       let same = subst (λ (o : Option FirstCopy). IfSome o (λ (c : FirstCopy). r ≡ bytes_eq (redundancy_bytes k.params a.side c.pdu) a.payload)) f.1 h in
-      let w = repeats position r e f.0 f.1 same in
-      (f.0, f.1, w.0, w.1, λ is. sym ((bytes_eq-Decides (redundancy_bytes k.params a.side f.0.pdu) a.payload).0 (sym same ∙ is)))
+      let w = known_by k a pdu (Some f.0) reads (copy_of_position sent pdu.number position e ∙ f.1) in
+      (f.0, f.1, rw same w.0, w.1, λ is. sym ((bytes_eq-Decides (redundancy_bytes k.params a.side f.0.pdu) a.payload).0 (sym same ∙ is)))
 
   -- no first copy has its number, which isn't the next
   pub skips : position_of_number sent pdu.number ≡ None → is_next_number sent pdu.number ≡ false → packet_fault k.params sent a ≡ Some number_gap
