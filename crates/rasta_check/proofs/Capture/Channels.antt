@@ -2,9 +2,7 @@
 use Rattle.std.proofs.Common.{◌≡◌, ℕ, ◌+◌, ◌<◌, ◌≤◌, List, [], ◌∷◌, ◌++◌, length, Option, Some, Result, Ok, refl, ap, sym, ◌∙◌, arith, subst}
 use Rattle.std.specs.Prelude.{slice_range, if◌then◌else◌, true, false, None, Err, IfOk, IfSome}
 use Rattle.std.specs.List.{find}
-use Rattle.std.specs.Option.{option_map}
 use Rattle.rasta_pcap.specs.declared.fault.Fault.{Fault}
-use Rattle.rasta_pcap.specs.declared.fault.Side.TheVariants.{Client, Server}
 use Rattle.rasta_udp.specs.declared.channel.Channel.{Channel}
 use Rattle.rasta_udp.specs.declared.channel.Datagram.{Datagram}
 use Rattle.rasta_udp.specs.Frame.{Direction, Fields, Found, Packet, directions_from, direction_of, fields_of, goes, found_by, is_tagged, map_found, untagged_of, without_tag, moved_on, datagram_of, packet_at, packet_in, packet_of}

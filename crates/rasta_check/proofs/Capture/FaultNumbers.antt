@@ -1,5 +1,5 @@
 -- The numbers of a capture's faults: those of a packet are 20 to 28 and name its side, all others are lower and name none.
-use Rattle.std.proofs.Common.{◌≡◌, ℕ, ◌<◌, ◌≤◌, List, length, Option, Some, None, Result, Ok, Err, refl, ap, sym, arith, subst, ⊎_elim, inl, inr}
+use Rattle.std.proofs.Common.{◌≡◌, ℕ, ◌<◌, ◌≤◌, List, length, Option, Some, None, Result, Err, refl, ap, arith, subst, inl, inr}
 use Rattle.std.specs.Prelude.{IsSome, IfErr, IfSome, ◌↔◌}
 use native.Mathlib.Decide.{dec_lt}
 use Prim.{yes, no}

@@ -1,18 +1,13 @@
 -- A capture is read without a fault exactly where it has none.
-use Rattle.std.proofs.Common.{◌≡◌, ◌⊎◌, ℕ, suc, ◌+◌, ◌-◌, ◌≤◌, List, [], ◌∷◌, ◌++◌, length, drop, append_assoc, length-append, Option, Some, None, Result, Ok, Err, Bool, true, false, refl, ap, sym, ◌∙◌, arith, subst, nat_lt, if◌then◌else◌, inl, inr}
+use Rattle.std.proofs.Common.{◌≡◌, ℕ, suc, ◌≤◌, List, [], ◌∷◌, ◌++◌, length, append_assoc, length-append, Option, Some, None, Result, Ok, Err, true, false, refl, ap, sym, ◌∙◌, arith, subst, nat_lt, inl, inr}
 use Rattle.std.specs.Prelude.{IsOk}
-use Rattle.std.specs.List.{AllByRecursion, cons_option}
 use Rattle.std.proofs.lemmas.List.{length_push}
-use Rattle.std.proofs.lemmas.List.Elements.{filter_map-append}
-use Rattle.std.proofs.lemmas.Grind.{flat_map-append}
 use Rattle.std.proofs.lemmas.Bool.Decides.{nat_tests}
-use Rattle.std.specs.Option.{option_flatten}
-use Rattle.std.specs.Result.{result_ok}
 use Rattle.rasta_pcap.specs.declared.fault.Fault.{Fault}
 use Rattle.rasta_pcap.specs.declared.fault.Side.{Side}
 use Rattle.rasta_pcap.specs.declared.fault.Side.TheVariants.{Client, Server}
-use Rattle.rasta_pcap.specs.Capture.{Numbered, reading_of, bytes_of}
-use Rattle.rasta_pcap.proofs.Captures.{numbers-reading_of, reading_of-IsCapture, IsCapture-reading_of}
+use Rattle.rasta_pcap.specs.Capture.{reading_of, bytes_of}
+use Rattle.rasta_pcap.proofs.Captures.{reading_of-IsCapture, IsCapture-reading_of}
 use Rattle.rasta_udp.specs.Frame.{Packet, packet_in}
 use Rattle.rasta_pdu.specs.Params.{Parameters, AreParameters}
 use Rattle.rasta_pdu.specs.Messages.{AreBytes}
@@ -22,14 +17,14 @@ use Rattle.rasta_check.specs.Model.World.{most_sent}
 use Rattle.rasta_check.specs.Capture.Reading.{Crossing, IsCrossing, after_records, at_end, crossing_of, is_within, nothing_crossed, sent_after, sent_by, with_packet}
 use Rattle.rasta_check.specs.Capture.Faults.{AreFaultless, CrossedIn, IsFaultlessCapture, sent_of}
 use Rattle.rasta_check.proofs.Capture.FaultlessLists.{IsSent}
-use Rattle.rasta_check.proofs.Capture.Crossings.{crossing_of_lists, list_of, few_of, is_read, goes_on}
+use Rattle.rasta_check.proofs.Capture.Crossings.{list_of, few_of, is_read, goes_on}
 use Rattle.rasta_check.proofs.Capture.PacketFaults.{faultless}
 use Rattle.rasta_check.proofs.Capture.NextPackets.{can_follow, cut}
 use Rattle.rasta_check.proofs.Capture.ListForms.{to_record}
 use Rattle.rasta_check.proofs.Capture.RecordBytes.{AllBytes, file_bytes, payload_bytes}
 use Rattle.rasta_check.proofs.Capture.Readings.{AreSound, Crossed, Leads, Step, bad_frame, bad_packet, no_room, crossing_by, file_leads, numbered, numbered_of, packets_in, packets_with, records_lead, window, window_with}
 use Rattle.rasta_check.proofs.Lists.{all_at, all_front}
-use Rattle.rasta_check.proofs.Capture.FirstCopies.{sent_none, sent_once}
+use Rattle.rasta_check.proofs.Capture.FirstCopies.{sent_once}
 
 -- ---- what is read without a fault
 

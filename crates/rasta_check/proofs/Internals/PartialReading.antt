@@ -1,11 +1,10 @@
 -- What was read of a capture and added so far, and what that says of every file that begins so.
 use Rattle.std.proofs.Common.{◌≡◌, ◌∙◌, ◌⊎◌, inl, inr, ◌++◌, append_assoc, ◌+◌, ◌-◌, ◌<◌, ℕ, zero, suc, List, [], Option, Result, Ok, Err, true, false, refl, ap, sym, subst, arith}
-use Rattle.std.specs.Prelude.{IfOk, IfErr}
 use Rattle.std.specs.Io.KnownBytes.{Consumes}
 use Rattle.std.proofs.KnownBytes.{Consumes-nil, Consumes-trans}
 use Rattle.rasta_pcap.specs.declared.fault.Fault.{Fault}
 use Rattle.rasta_pcap.specs.declared.stream.RecordReader.{RecordReader}
-use Rattle.rasta_pcap.specs.Capture.{Cursor, cursor_after, cursor_at, opening, reading}
+use Rattle.rasta_pcap.specs.Capture.{cursor_after, cursor_at, opening, reading}
 use Rattle.rasta_pcap.specs.Stream.{FailsWithin, LacksMemory, MeetsEnd, Opens, ReadsRecord, ReadsSo, RefusesHeader, RefusesRecord, count_in, order_in}
 use Rattle.rasta_pcap.proofs.Steps.{next-nil}
 use Rattle.rasta_pcap.proofs.Streams.{ReadsSo-after}

@@ -1,8 +1,7 @@
 -- A store with one packet more.
-use Rattle.std.proofs.Common.{◌≡◌, ℕ, suc, ◌+◌, ◌<◌, ◌≤◌, List, [], ◌∷◌, ◌++◌, append_assoc, length, map, Bool, false, not, nat_eq, Option, Some, None, slice_get, refl, ap, sym, ◌∙◌, subst, arith, if◌then◌else◌}
-use Rattle.std.specs.Prelude.{Result, Ok, is_some}
+use Rattle.std.proofs.Common.{◌≡◌, ℕ, suc, ◌+◌, ◌<◌, List, [], ◌∷◌, ◌++◌, append_assoc, length, map, Bool, false, not, nat_eq, Option, Some, None, slice_get, refl, ap, sym, ◌∙◌, subst, arith, if◌then◌else◌}
+use Rattle.std.specs.Prelude.{is_some}
 use Rattle.rasta_check.specs.Model.Theorem.{OfConnection}
-use Rattle.rasta_pcap.specs.declared.fault.Fault.{Fault}
 use Rattle.std.proofs.lemmas.Bool.Decides.{nat_tests}
 use Rattle.std.proofs.lemmas.List.{append-nil, length-map, length_push, map-append}
 use Rattle.std.proofs.lemmas.Option.{slice_get_within}
@@ -11,7 +10,7 @@ use Rattle.rasta_pcap.specs.declared.fault.Side.TheVariants.{Client, Server}
 use Rattle.rasta_udp.specs.Frame.{Packet}
 use Rattle.rasta_pdu.specs.Params.{Parameters, AreParameters}
 use Rattle.rasta_pdu.proofs.Spellings.{length-redundancy_bytes}
-use Rattle.rasta_pdu.specs.Pdu.{RedundancyPdu, redundancy_bytes, decode_of}
+use Rattle.rasta_pdu.specs.Pdu.{RedundancyPdu, redundancy_bytes}
 use Rattle.rasta_check.specs.declared.crossing_store.StoredPacket.{StoredPacket}
 use Rattle.rasta_check.specs.Capture.Crossing.{FirstCopy, Spells}
 use Rattle.rasta_check.specs.Internals.Datagrams.{Kept, KeptDatagrams, keeping, kept_by, nothing_kept}

@@ -1,5 +1,5 @@
 -- What a store keeps at its positions and places.
-use Rattle.std.proofs.Common.{◌≡◌, ℕ, ◌<◌, ◌≤◌, List, [], ◌∷◌, length, map, Bool, true, false, nat_eq, Option, Some, None, slice_get, refl, ap, sym, ◌∙◌, subst, arith, IfSome, if◌then◌else◌}
+use Rattle.std.proofs.Common.{◌≡◌, ℕ, ◌≤◌, List, [], ◌∷◌, length, map, Bool, true, false, nat_eq, Option, Some, None, slice_get, refl, ap, sym, ◌∙◌, subst, arith, IfSome, if◌then◌else◌}
 use Rattle.std.specs.Prelude.{Ok, Result}
 use Rattle.std.specs.List.{position_or_len}
 use Rattle.std.specs.Option.{option_map}
@@ -7,7 +7,7 @@ use Rattle.std.specs.Str.{bytes_eq}
 use Rattle.std.proofs.lemmas.Bool.Decides.{nat_tests}
 use Rattle.std.proofs.lemmas.Slice.Eq.{bytes_eq-Decides}
 use Rattle.std.proofs.lemmas.List.{length-map}
-use Rattle.std.proofs.lemmas.Option.{cond_some, slice_get-map, slice_get_past}
+use Rattle.std.proofs.lemmas.Option.{cond_some, slice_get_past}
 use Rattle.rasta_pcap.specs.declared.fault.Fault.{Fault}
 use Rattle.rasta_pcap.specs.declared.fault.Side.{Side}
 use Rattle.rasta_pcap.specs.Fault.{copy_differs, number_gap}
@@ -19,7 +19,7 @@ use Rattle.rasta_check.specs.Capture.Crossing.{FirstCopy, Spells, copy_with, is_
 use Rattle.rasta_check.specs.Internals.Datagrams.{Kept, KeptDatagrams, kept_by}
 use Rattle.rasta_check.specs.Capture.Lists.{IsOrdered, numbers_of, position_of_number, position_of_place}
 use Rattle.rasta_check.specs.Capture.Reading.{Crossing, IsCrossing, sent_by, sent_after}
-use Rattle.rasta_check.specs.Internals.Stored.{IsStore, Decode, bytes_of, copy_in, pdu_in, packet_by, crossing_by}
+use Rattle.rasta_check.specs.Internals.Stored.{IsStore, bytes_of, copy_in, pdu_in, packet_by, crossing_by}
 use Rattle.rasta_check.proofs.Capture.Crossings.{few_of, known_by, list_of}
 use Rattle.rasta_check.proofs.Capture.Spellings.{read_once}
 use Rattle.rasta_check.proofs.Lists.{get_mapped, slice_get_some, map_at}

@@ -1,4 +1,4 @@
-use Rattle.std.proofs.Common.{◌≡◌, ℕ, List, [], ◌∷◌, ◌++◌, Option, None, Some, length, ap, sym, ◌∙◌, subst, arith}
+use Rattle.std.proofs.Common.{◌≡◌, ℕ, [], ◌∷◌, ◌++◌, Option, length, ap, sym, ◌∙◌, subst, arith}
 use Rattle.rasta_udp.specs.Frame.{packet_of}
 use Rattle.rasta_check.specs.declared.crossing_store.Store.TheInside.{Inside}
 use Rattle.rasta_check.specs.declared.crossing_store.StoredPacket.{StoredPacket}

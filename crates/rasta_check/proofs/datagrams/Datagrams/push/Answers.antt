@@ -1,6 +1,5 @@
-use Rattle.std.proofs.Common.{ap, sym, ◌∙◌, [], ◌∷◌, ◌++◌}
-use Rattle.rasta_pcap.specs.declared.fault.Side.{Side}
-use Rattle.rasta_check.specs.Internals.Datagrams.{Kept, KeptDatagrams, keeping}
+use Rattle.std.proofs.Common.{sym, ◌∙◌}
+use Rattle.rasta_check.specs.Internals.Datagrams.{Kept, keeping}
 use Rattle.rasta_check.proofs.Internals.DatagramGrowth.{both_ok, kept_grown, same_kept}
 use Rattle.rasta_check.proofs.datagrams.Datagrams.push.Goals as goal
 
