@@ -12,7 +12,7 @@ use Rattle.rasta_udp.specs.Frame.{Packet}
 use Rattle.rasta_check.specs.Model.World.{World, Reaches}
 use Rattle.rasta_check.proofs.Capture.FaultlessLists.{IsSent, ordered}
 use Rattle.rasta_end.proofs.Lists.{get_front, get_front_within}
-use Rattle.rasta_check.proofs.Capture.FirstCopies.{below_by, sent_once, Counts_from}
+use Rattle.rasta_check.proofs.Capture.FirstCopies.{sent_once, Counts_from}
 use Rattle.rasta_check.proofs.Script.ScriptsOfRuns.{told_by}
 use Rattle.rasta_check.proofs.Lists.{slice_get_some, get_next}
 use Rattle.rasta_check.proofs.Capture.Positions.{places_rise}
@@ -53,14 +53,18 @@ split_at n (c ∷ cs) = elim (dec_lt c.place n) [
 ]
 
 module _ (p : Parameters) (xs ys : List Packet) (s : Side) (own later : List FirstCopy) (h : IsSent p (xs ++ ys) s (own ++ later)) (high : (c : FirstCopy) → slice_get later 0 ≡ Some c → length xs ≤ c.place) where
-  within_own : (i : ℕ) (c : FirstCopy) → slice_get (own ++ later) i ≡ Some c → c.place < length xs → i < length own
-  within_own i c g l =
-      let not_high : length own ≤ i → ⊥ = λ m.
-      (let n = slice_get_within (own ++ later) i c g in
+  -- a member at the next place or before it is among the first, or the next
+  next_at : (i : ℕ) (c : FirstCopy) → slice_get (own ++ later) i ≡ Some c → c.place ≤ length xs → length own ≤ i → i ≡ length own
+  next_at i c g low m =
+      let n = slice_get_within (own ++ later) i c g in
       let f = slice_get_some (own ++ later) (length own) (omega arith) in
       let first = high f.0 (sym (get_next own later) ∙ f.1) in
-      let low = below_by p (xs ++ ys) s (own ++ later) h (length own) i c c f.0 f.1 (omega arith) g (omega arith) in
-      omega arith) in
+      let not_later : length own < i → ⊥ = λ l. (let r = places_rise (own ++ later) (ordered h) (length own) i f.0 c f.1 g l in omega arith) in
+      omega (arith, not_later)
+
+  within_own : (i : ℕ) (c : FirstCopy) → slice_get (own ++ later) i ≡ Some c → c.place < length xs → i < length own
+  within_own i c g l =
+      let not_high : length own ≤ i → ⊥ = λ m. (let first = high c (sym (get_next own later) ∙ rw (next_at i c g (omega arith) m) at g) in omega arith) in
       omega (arith, not_high)
 
   sent_part : AreBelow (length xs) own → IsSent p xs s own
@@ -75,18 +79,6 @@ module _ (p : Parameters) (xs ys : List Packet) (s : Side) (own later : List Fir
             (w.0, w.1, sym (get_front_within own later w.0 (within_own w.0 w.1 w.2 (let q = w.3 in omega arith))) ∙ w.2, w.3, w.4));
       }
 
-  -- the first copy at the next place comes next
-  next_copy : IsSent p xs s own → (i : ℕ) (c : FirstCopy) → slice_get (own ++ later) i ≡ Some c → c.place ≡ length xs → i ≡ length own
-  next_copy mine i c g at =
-      let not_low : i < length own → ⊥ = λ l. (let w = mine.firsts i c (sym (get_front_within own later i l) ∙ g) in let m = slice_get_within xs c.place w.0 w.1 in absurd (omega arith)) in
-      let not_high : length own < i → ⊥ = λ l.
-      (let n = slice_get_within (own ++ later) i c g in
-      let f = slice_get_some (own ++ later) (length own) (omega arith) in
-      let first = high f.0 (sym (get_next own later) ∙ f.1) in
-      let r = places_rise (own ++ later) (ordered h) (length own) i f.0 c f.1 g l in
-      absurd (omega arith)) in
-      omega (arith, not_low, not_high)
-
 -- the sent list of more packets begins with that of these
 pub cut : (p : Parameters) (ys xs : List Packet) (s : Side) (big : List FirstCopy) → IsSent p (xs ++ ys) s big → (own : List FirstCopy) × IsSent p xs s own × Begins big own (length xs)
 cut p ys xs s big h =
@@ -94,17 +86,16 @@ cut p ys xs s big h =
     (w.0, sent_part p xs ys s w.0 w.2.later (subst (λ (cs : List FirstCopy). IsSent p (xs ++ ys) s cs) w.2.whole h) w.2.place w.1, w.2)
 
 -- it spells the PDU of a member, which crossed before, or is the next
-follow_by : (p : Parameters) (xs rest : List Packet) (s : Side) (own later : List FirstCopy) (a : Packet) → IsSent p xs s own → IsSent p (xs ++ a ∷ rest) s (own ++ later)
+follow_by : (p : Parameters) (xs rest : List Packet) (s : Side) (own later : List FirstCopy) (a : Packet) → IsSent p (xs ++ a ∷ rest) s (own ++ later)
     → ((c : FirstCopy) → slice_get later 0 ≡ Some c → length xs ≤ c.place) → a.side ≡ s → CanFollow p xs s own a
-follow_by p xs rest s own later a h g high sd =
+follow_by p xs rest s own later a g high sd =
     let w = g.copies (length xs) a (get_next xs (a ∷ rest)) sd in (
       w.1.pdu,
       w.4,
-      elim (dec_lt w.1.place (length xs)) [
-        | yes l ↦ inl (w.0, w.1, sym (get_front_within own later w.0 (within_own p xs (a ∷ rest) s own later g high w.0 w.1 w.2 l)) ∙ w.2, refl)
-        | no l ↦ inr (λ c x. (let at = w.3 in
-            let n = next_copy p xs (a ∷ rest) s own later g high h w.0 w.1 w.2 (omega arith) in
-            g.numbers w.0 c w.1 (get_front own later 0 c x) w.2 ∙ ap (λ m. wrapped (c.pdu.number + m)) n))
+      elim (dec_lt w.0 (length own)) [
+        | yes l ↦ inl (w.0, w.1, sym (get_front_within own later w.0 l) ∙ w.2, refl)
+        | no l ↦ inr (λ c x.
+            g.numbers w.0 c w.1 (get_front own later 0 c x) w.2 ∙ ap (λ m. wrapped (c.pdu.number + m)) (next_at p xs (a ∷ rest) s own later g high w.0 w.1 w.2 w.3 (omega arith)))
       ],
     )
 
@@ -114,7 +105,7 @@ can_follow p xs rest s own a h l sd more g =
     let later = r.2.later in
     let whole : more ≡ own ++ later = r.2.whole ∙ ap (λ (cs : List FirstCopy). cs ++ later) (sym (sent_once p xs s own r.0 h r.1 l)) in
     let goes : IsSent p (xs ++ a ∷ rest) s (own ++ later) = subst (λ (cs : List FirstCopy). IsSent p (xs ++ a ∷ rest) s cs) whole g in
-    follow_by p xs rest s own later a h goes r.2.place sd
+    follow_by p xs rest s own later a goes r.2.place sd
 
 -- the numbers of a list, and the next
 pub counted : (p : Parameters) (xs : List Packet) (s : Side) (own : List FirstCopy) (d : RedundancyPdu) → IsSent p xs s own → d.number < 2 ^ 32
