@@ -69,15 +69,12 @@ packet_between p sent a = (let d = decode_between p a.side a.payload in grind ar
 sideless : (f : Fault) → IsLow f → f.end ≡ None → IsSided f
 sideless f low none = grind arith
 
-opening_sided : (file : List ℕ) (f : Fault) → opening file ≡ Err f → IsSided f
-opening_sided file f e = sideless f (opening_low file f e) (ap (λ (g : Fault). g.end) (opening-fault_place file f e))
-
 -- the fault that ends a reading
 reading_sided : (limit : ℕ) (file : List ℕ) (f : Fault) → (reading_of limit file).fault ≡ Some f → IsSided f
 reading_sided limit file f e = elim (dec_lt 0 f.place) [
   | yes l ↦ (let w = IsRefused-reading_of limit file f e l in
       sideless f (next_low (record { order = w.order; rest = w.rest; count = length w.entries }) f w.refused) (ap (λ (g : Fault). g.end) (IsRefused-place limit file _ f w)))
-  | no l ↦ opening_sided file f (opening-by_reading_of limit file f e (omega arith))
+  | no l ↦ (let e = opening-by_reading_of limit file f e (omega arith) in sideless f (opening_low file f e) (ap (λ (g : Fault). g.end) (opening-fault_place file f e)))
 ]
 
 step_sided : (k : Crossing) (r : Numbered) (f : Fault) → Step k r (Err f) → IsSided f

@@ -1,7 +1,7 @@
 -- The first copies of a growing list of packets, and that a list of packets has one list of first copies.
-use Rattle.std.proofs.Common.{◌≡◌, ℕ, zero, suc, ◌+◌, ◌<◌, ◌≤◌, List, [], ◌∷◌, ◌++◌, length, Option, Some, None, slice_get, refl, ap, sym, ◌∙◌, arith, ⊎_elim, subst}
+use Rattle.std.proofs.Common.{◌≡◌, ℕ, zero, suc, ◌+◌, ◌<◌, ◌≤◌, List, [], ◌∷◌, ◌++◌, length, Option, Some, None, slice_get, append-nil, refl, ap, sym, ◌∙◌, arith, ⊎_elim, subst}
 use Rattle.std.proofs.lemmas.List.{length_push}
-use Rattle.std.proofs.lemmas.Option.{slice_get_within}
+use Rattle.std.proofs.lemmas.Option.{slice_get_past, slice_get_within}
 use native.Mathlib.Decide.{dec_lt}
 use Prim.{yes, no}
 use Rattle.rasta_pcap.specs.declared.fault.Side.{Side}
@@ -9,9 +9,8 @@ use Rattle.rasta_end.specs.State.{wrapped}
 use Rattle.rasta_pdu.specs.Pdu.{RedundancyPdu}
 use Rattle.rasta_check.specs.Capture.Crossing.{Spells, FirstCopy}
 use Rattle.rasta_udp.specs.Frame.{Packet}
-use Rattle.rasta_check.proofs.Capture.FaultlessLists.{IsSent, ordered}
-use Rattle.rasta_check.proofs.Lists.{all_push, get_push_cases, get_front, get_front_within, get_push, slice_get_some}
-use Rattle.rasta_check.proofs.Capture.Spellings.{read_once}
+use Rattle.rasta_check.proofs.Capture.FaultlessLists.{IsSent, ordered, read_once}
+use Rattle.rasta_check.proofs.Lists.{all_push, begins_with, get_next, get_push_cases, get_front, get_front_within, get_push, slice_get_some}
 use Rattle.rasta_check.proofs.Capture.Positions.{not_again, places_rise}
 use Rattle.rasta_pdu.specs.Params.{Parameters, AreParameters}
 
@@ -122,16 +121,14 @@ module _ (p : Parameters) (xs : List Packet) (s : Side) (c d : List FirstCopy) (
         | no z ↦ (let e : n ≡ j = omega arith in subst (λ (t : ℕ). slice_get c t ≡ slice_get d t) e (agree_at n (omega arith) (agree n (omega arith)) (slice_get c n) (slice_get d n) refl refl))
       ]
 
--- lists that agree up to and with the end of one are equal
-equal_by : {A : Type 0} (xs ys : List A) → ((j : ℕ) → j < suc (length xs) → slice_get xs j ≡ slice_get ys j) → xs ≡ ys
-equal_by [] [] h = refl
-equal_by [] (y ∷ ys) h = absurd (let z = h 0 (omega arith) in cc)
-equal_by (x ∷ xs) [] h = absurd (let z = h 0 (omega arith) in cc)
-equal_by (x ∷ xs) (y ∷ ys) h =
-    let e : x ≡ y = (let z = h 0 (omega arith) in cc) in
-    let r = equal_by xs ys (λ j l. h (suc j) (omega arith)) in
-    (λ i. e i ∷ r i)
+none_first : {A : Type 0} (xs : List A) → slice_get xs 0 ≡ None → xs ≡ []
+none_first [] e = refl
+none_first (x ∷ xs) e = absurd (cc)
 
 -- a list of packets has one list of first copies
 pub sent_once : (p : Parameters) (xs : List Packet) (s : Side) (c d : List FirstCopy) → IsSent p xs s c → IsSent p xs s d → length c < 4294967296 → c ≡ d
-sent_once p xs s c d hc hd l = equal_by c d (agree p xs s c d hc hd (suc (length c)) l)
+sent_once p xs s c d hc hd l =
+    let same = agree p xs s c d hc hd (suc (length c)) l in
+    let w = begins_with c d (λ k a e. (let b = slice_get_within c k a e in sym (same k (omega arith)) ∙ e)) in
+    let none = none_first w.0 (sym (get_next c w.0) ∙ ap (λ (z : List FirstCopy). slice_get z (length c)) (sym w.1) ∙ sym (same (length c) (omega arith)) ∙ slice_get_past c (length c) (omega arith)) in
+    sym (w.1 ∙ ap (λ (z : List FirstCopy). c ++ z) none ∙ append-nil c)

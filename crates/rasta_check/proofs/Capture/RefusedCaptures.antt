@@ -8,7 +8,7 @@ use Rattle.std.proofs.lemmas.Bool.Decides.{nat_tests}
 use Rattle.rasta_pcap.specs.declared.fault.Fault.{Fault}
 use Rattle.rasta_pcap.specs.declared.fault.Side.{Side}
 use Rattle.rasta_pcap.specs.Fault.{fault_at, too_many}
-use Rattle.rasta_pcap.specs.Capture.{Cursor, IsCapture, cursor_after, opening, reading, reading_of, reading_opened, bytes_of}
+use Rattle.rasta_pcap.specs.Capture.{Cursor, IsCapture, Reading, cursor_after, opening, reading, reading_of, reading_opened, bytes_of}
 use Rattle.rasta_pcap.proofs.Captures.{IsCapture-reading_of, IsRefused-reading_of, opening-by_reading_of, reading_of-IsCapture, reading_of-IsRefused, reading_of-header_fault}
 use Rattle.rasta_pdu.specs.Params.{Parameters, AreParameters}
 use Rattle.rasta_pdu.specs.Messages.{AreBytes}
@@ -23,40 +23,35 @@ use Rattle.rasta_check.proofs.Capture.FaultlessCaptures.{IsFaulty, faultless_is_
 
 -- ---- the first records of a file
 
-reading_front : (n m : ℕ) (c : Cursor) → n ≤ m → bytes_of (reading n c) ≡ take n (bytes_of (reading m c))
+-- as they stand among more, no more than are asked for, and where there are as many, no fault
+reading_front : (n m : ℕ) (c : Cursor) → n ≤ m
+    → (bytes_of (reading n c) ≡ take n (bytes_of (reading m c))) × (length (bytes_of (reading n c)) ≤ n) × (length (bytes_of (reading n c)) ≡ n → (reading n c).fault ≡ None)
 unfolding reading
-reading_front zero m c l = refl
+reading_front zero m c l = (refl, omega arith, λ e. refl)
 reading_front (suc n) zero c l = absurd (omega arith)
 reading_front (suc n) (suc m) c l = (let more = reading_front n m (cursor_after c) (omega arith) in grind arith)
 
-opened_front : (n m : ℕ) (o : Result Cursor Fault) → n ≤ m → bytes_of (reading_opened n o) ≡ take n (bytes_of (reading_opened m o))
-opened_front zero m (Err f) l = refl
-opened_front (suc n) m (Err f) l = refl
-opened_front n m (Ok c) l = reading_front n m c l
+abbrev IsFront : ℕ → Reading → Reading → Type 0
+IsFront n r all = (bytes_of r ≡ take n (bytes_of all)) × (length (bytes_of r) ≤ n) × (1 ≤ n → length (bytes_of r) ≡ n → r.fault ≡ None)
 
-file_front : (n m : ℕ) (file : List ℕ) → n ≤ m → bytes_of (reading_of n file) ≡ take n (bytes_of (reading_of m file))
+opened_front : (n m : ℕ) (o : Result Cursor Fault) → n ≤ m → IsFront n (reading_opened n o) (reading_opened m o)
+opened_front zero m (Err f) l = (refl, omega arith, λ a e. absurd (omega arith))
+opened_front (suc n) m (Err f) l = (refl, omega arith, λ a e. absurd (omega arith))
+opened_front n m (Ok c) l = (let w = reading_front n m c l in (w.0, w.1, λ a. w.2))
+
+file_front : (n m : ℕ) (file : List ℕ) → n ≤ m → IsFront n (reading_of n file) (reading_of m file)
 unfolding reading_of
 file_front n m file l = opened_front n m (opening file) l
-
--- there are no more records than are asked for; where there are as many, there is no fault
-reading_most : (n : ℕ) (c : Cursor) → (length (bytes_of (reading n c)) ≤ n) × (length (bytes_of (reading n c)) ≡ n → (reading n c).fault ≡ None)
-unfolding reading
-reading_most zero c = (omega arith, λ e. refl)
-reading_most (suc n) c = (let more = reading_most n (cursor_after c) in grind arith)
-
-file_most : (n : ℕ) (file : List ℕ) → (length (bytes_of (reading_of n file)) ≤ n) × (1 ≤ n → length (bytes_of (reading_of n file)) ≡ n → (reading_of n file).fault ≡ None)
-unfolding reading_of
-file_most n file = grind (arith, reading_most)
 
 -- the records up to one of the file's
 capture_front : (last : ℕ) (file : List ℕ) (front : List (List ℕ)) (frame : List ℕ) (later : List (List ℕ)) → bytes_of (reading_of last file) ≡ front ++ frame ∷ later
     → (suc (length front) ≤ last) × IsCapture (suc (length front)) file (front ++ frame ∷ [])
 capture_front last file front frame later same =
     let n = suc (length front) in
-    let few = (file_most last file).0 in
+    let few = (file_front last last file (omega arith)).1 in
     let high : n ≤ last = omega (arith, few, ap length same, length-append front (frame ∷ later)) in
-    let these : bytes_of (reading_of n file) ≡ front ++ frame ∷ [] = file_front n last file high ∙ (ap (take n) same ∙ rw add-one at (take-append-add front (frame ∷ later) 1)) in
-    (high, subst (IsCapture n file) these (IsCapture-reading_of n file ((file_most n file).1 (omega arith) (omega (arith, ap length these, length_push front frame)))))
+    let these : bytes_of (reading_of n file) ≡ front ++ frame ∷ [] = (file_front n last file high).0 ∙ (ap (take n) same ∙ rw add-one at (take-append-add front (frame ∷ later) 1)) in
+    (high, subst (IsCapture n file) these (IsCapture-reading_of n file ((file_front n last file high).2 (omega arith) (omega (arith, ap length these, length_push front frame)))))
 
 -- the records after these are added to what crossed by them
 goes_on : (k last : Crossing) (front later : List (List ℕ)) (end : Option Fault) (n m : ℕ) → m ≡ length front + n → after_records k (numbered n front) None ≡ Ok last
@@ -136,7 +131,7 @@ module _ (p : Parameters) (file : List ℕ) (h : OfConnection p) (are : AreBytes
       let read = (reading_of-IsCapture n file (records ++ frame ∷ []) (omega (arith, top, high)) capture).0 in
       let bytes = subst AllBytes read (file_bytes n file are) in
       let whole : bytes_of all ≡ records ++ frame ∷ later =
-      sym (take-append-drop n (bytes_of all)) ∙ ap (λ (xs : List (List ℕ)). xs ++ later) (sym (file_front n p.last_record file high) ∙ read) ∙ append_assoc records (frame ∷ []) later in
+      sym (take-append-drop n (bytes_of all)) ∙ ap (λ (xs : List (List ℕ)). xs ++ later) (sym (file_front n p.last_record file high).0 ∙ read) ∙ append_assoc records (frame ∷ []) later in
       let before = records_are_read p records None c s h (all_front AreBytes records (frame ∷ []) bytes) faultless in
       let x = (subst (Leads p records None) before (records_lead p records None)).1 in
       (λ i. after_records (nothing_crossed p) (numbered_of p.last_record file i) all.fault)

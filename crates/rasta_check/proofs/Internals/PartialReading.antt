@@ -150,11 +150,10 @@ header_refused p file f valid e = record {
 module _ (p : Parameters) (h : OfConnection p) (rest : List ℕ → Result Crossing Fault) (old mid new : Option (List ℕ))
     (u : IsUnderway (crossing_of p) rest old mid) where
   pub stored : (k : Crossing) → ReadsSo (λ bytes. rest bytes ≡ Ok k) mid new → ReadsSo (IsStored p k) old new
-  stored k e = ReadsSo-after (λ bytes. rest bytes ≡ Ok k) (IsStored p k) u.bytes old mid new u.consumed
-      (λ more is. (let e = u.each more ∙ is in record { value = e; read = λ are. read_is_faultless p (u.bytes ++ more) k h are e })) e
+  stored k e = ReadsSo-then old new (λ bytes e. record { value = e; read = λ are. read_is_faultless p bytes k h are e }) (Underway-ends (crossing_of p) rest (Ok k) old mid new u e)
 
   pub refused : (f : Fault) → ReadsSo (λ bytes. rest bytes ≡ Err f) mid new → ReadsSo (IsRefusedSo p f) old new
-  refused f e = ReadsSo-after (λ bytes. rest bytes ≡ Err f) (IsRefusedSo p f) u.bytes old mid new u.consumed (λ more is. file_refused p (u.bytes ++ more) f h (u.each more ∙ is)) e
+  refused f e = ReadsSo-then old new (λ bytes. file_refused p bytes f h) (Underway-ends (crossing_of p) rest (Err f) old mid new u e)
 
 pub header_answer : (p : Parameters) (most : ℕ) (f : Fault) (old_count new_count : ℕ) (old new : Option (List ℕ)) → AreParameters p
     → FailsWithin most f old_count new_count old new ⊎ RefusesHeader f old new

@@ -44,10 +44,6 @@ kept_with d side y = grind arith
 sent_with : (k : Crossing) (a : Packet) (side : Side) (own : List FirstCopy) → sent_by (crossing_with k a side own) side ≡ own
 sent_with k a side own = grind arith
 
-positions_more : (d e : KeptDatagrams) → Among d e → (xs : List StoredPacket) (x : StoredPacket) → HavePositions d xs → x.position < length (kept_by e x.side) → HavePositions e (xs ++ x ∷ [])
-positions_more d e h xs x l last =
-    all_push xs x (λ i y o. (let w = slice_get_some (kept_by d y.side) y.position (l i y o) in slice_get_within (kept_by e y.side) y.position w.0 (h y.side y.position w.0 w.1))) last
-
 -- what holds of the longer lists of one side, and of the lists that are there, holds of both sides' lists
 with_more : (P : Side → List Kept → List FirstCopy → Type 0) (d : KeptDatagrams) (y : Kept) (k : Crossing) (a : Packet) (side : Side) (own : List FirstCopy) → P side (kept_by d side ++ y ∷ []) own
     → ((s : Side) → P s (kept_by d s) (sent_by k s)) → (s : Side) → P s (kept_by (keeping d side y) s) (sent_by (crossing_with k a side own) s)
@@ -113,7 +109,7 @@ module _ (p : Parameters) (d : KeptDatagrams) (packets : List StoredPacket) (st 
           record {
             crossing = subst IsCrossing (sym view) h;
             decode = decode;
-            positions = positions_more d e among packets x st.positions within;
+            positions = all_push packets x (λ i y o. (let w = slice_get_some (kept_by d y.side) y.position (st.positions i y o) in slice_get_within (kept_by e y.side) y.position w.0 (among y.side y.position w.0 w.1))) within;
             bytes = bytes ∙ (λ i. st.bytes i ++ first_part l a (length k.packets)) ∙ sym (copies_more k l 0 k.packets a (length k.packets) places (omega arith))
                 ∙ ap (first_copies_from l 0) (sym (ap (λ (q : Crossing). q.packets) (grown_same k a a.side own))) ∙ sym (ap (λ (q : Crossing). first_copies_from q 0 q.packets) grown_view);
           },

@@ -21,10 +21,9 @@ use Rattle.rasta_check.specs.Capture.Lists.{IsOrdered, numbers_of, position_of_n
 use Rattle.rasta_check.specs.Capture.Reading.{Crossing, IsCrossing, sent_by, sent_after}
 use Rattle.rasta_check.specs.Internals.Stored.{IsStore, bytes_of, copy_in, pdu_in, packet_by, crossing_by}
 use Rattle.rasta_check.proofs.Capture.Crossings.{few_of, known_by, list_of}
-use Rattle.rasta_check.proofs.Capture.Spellings.{read_once}
 use Rattle.rasta_check.proofs.Lists.{get_mapped, slice_get_some, map_at}
 use Rattle.rasta_check.proofs.Capture.Positions.{number_found, number_once, place_missing, place_named}
-use Rattle.rasta_check.proofs.Capture.FaultlessLists.{ordered}
+use Rattle.rasta_check.proofs.Capture.FaultlessLists.{ordered, read_once}
 
 -- ---- a datagram and the first copy that it spells
 
