@@ -39,10 +39,6 @@ pub after-refused : (p : Parameters) (file : List ℕ) (f : Fault) → opening f
 unfolding after_records
 after-refused p file f h = ap (after_reading (nothing_crossed p)) (reading_of-refused p.last_record file f h)
 
--- one step of a loop that has so many to go
-pub left-after : (end counter : ℕ) → counter < end → end - counter ≡ suc (end - (counter + 1))
-left-after end counter h = omega arith
-
 -- ---- one record
 
 -- what a record leads to

@@ -15,7 +15,7 @@ use Rattle.rasta_check.specs.Model.Theorem.{OfConnection}
 use Rattle.rasta_check.proofs.Capture.FaultNumbers.{NamesSide, file_names_side}
 use Rattle.rasta_check.proofs.Capture.FaultlessCaptures.{read_is_faultless}
 use Rattle.rasta_check.proofs.Capture.RefusedCaptures.{opening_faulty, read_is_faulty}
-use Rattle.rasta_check.proofs.Capture.Readings.{after-next, after-opened, after-refused, left-after}
+use Rattle.rasta_check.proofs.Capture.Readings.{after-next, after-opened, after-refused}
 use Rattle.rasta_check.proofs.Capture.DefiniteFaults.{is_definite, opening_definite}
 
 -- bytes were read: of every input that begins so, what crosses is what crosses by the rest
@@ -35,12 +35,6 @@ Underway-opened p k r last old new h none nothing all = record {
 }
 
 -- ---- a record more
-
--- a record is left where not all were counted
-pub Underway-left : (whole : List ℕ → Result Crossing Fault) (k : Crossing) (r : RecordReader) (end counter : ℕ) (old new : Option (List ℕ)) → counter < end
-    → IsUnderway whole (crossing_left k r (end - counter)) old new → IsUnderway whole (crossing_left k r (suc (end - (counter + 1)))) old new
-Underway-left whole k r end counter old new below h =
-    subst (λ n. IsUnderway whole (crossing_left k r n) old new) (left-after end counter below) h
 
 added_left : (k next : Crossing) (r n : RecordReader) (left : ℕ) (old new : Option (List ℕ)) (a : AddsRecord k next r n old new) (more : List ℕ)
     → crossing_left k r (suc left) (a.read.bytes ++ more) ≡ crossing_left next n left more
