@@ -71,13 +71,6 @@ sent_first p xs k s own d f h cf side sp num =
 pub sent_none : (p : Parameters) (s : Side) → AreParameters p → IsSent p [] s []
 sent_none p s valid = record { valid = valid; firsts = λ i c g. absurd (cc); rising = λ i a b x y. absurd (cc); numbers = λ i a b x y. absurd (cc); copies = λ k a g e. absurd (cc) }
 
--- no member from one that crosses later on crosses as early
-pub below_by : (p : Parameters) (xs : List Packet) (s : Side) (d : List FirstCopy) → IsSent p xs s d → (i j : ℕ) (a b e : FirstCopy) → slice_get d i ≡ Some e → a.place < e.place → slice_get d j ≡ Some b → b.place ≤ a.place → j < i
-below_by p xs s d h i j a b e at l g m =
-    let later : i < j → ⊥ = λ y. (let r = places_rise d (ordered h) i j e b at g y in omega arith) in
-    let same : i ≡ j → ⊥ = λ q. (let z : e ≡ b = cc in let w = ap (λ (u : FirstCopy). u.place) z in omega arith) in
-    omega (arith, later, same)
-
 -- where two lists of first copies agree before a member of one, the other has one there, which crossed no later
 reached : (p : Parameters) (xs : List Packet) (s : Side) (c d : List FirstCopy) → IsSent p xs s c → IsSent p xs s d → (i : ℕ) (a : FirstCopy) → i < 4294967296
     → ((j : ℕ) → j < i → slice_get c j ≡ slice_get d j) → slice_get c i ≡ Some a → (b : FirstCopy) × (slice_get d i ≡ Some b) × (b.place ≤ a.place)
@@ -90,8 +83,10 @@ reached p xs s c d hc hd i a l ag g =
     let head = slice_get_some c 0 (omega arith) in
     let up : w.0 < i → ⊥ = λ low. not_again head.0.pdu.number w.0 i w.1.pdu.number a.pdu.number (hc.numbers w.0 head.0 w.1 head.1 (ag w.0 low ∙ w.2)) (hc.numbers i head.0 a head.1 g) low l (ap (λ (z : RedundancyPdu). z.number) same) in
     let b = slice_get_some d i (omega (arith, up)) in
-    let high : a.place < b.0.place → ⊥ = λ y. up (below_by p xs s d hd i w.0 a w.1 b.0 b.1 y w.2 w.3) in
-    (b.0, b.1, omega (arith, high))
+    (b.0, b.1, elim (dec_lt i w.0) [
+      | yes y ↦ (let rise = places_rise d (ordered hd) i w.0 b.0 w.1 b.1 w.2 y in let low = w.3 in omega arith)
+      | no y ↦ (let at : i ≡ w.0 = omega (arith, up) in let one : b.0 ≡ w.1 = (let x = b.1 in let z = w.2 in cc) in rw one w.3)
+    ])
 
 module _ (p : Parameters) (xs : List Packet) (s : Side) (c d : List FirstCopy) (hc : IsSent p xs s c) (hd : IsSent p xs s d) where
   at_same : (i : ℕ) (a b : FirstCopy) → slice_get c i ≡ Some a → slice_get d i ≡ Some b → a.place ≡ b.place → a ≡ b

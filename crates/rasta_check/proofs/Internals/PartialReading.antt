@@ -89,11 +89,6 @@ all_with_window k r i = record { bytes = []; met_end = false; consumed = Consume
 abbrev pub FaultsNext : Crossing → RecordReader → Fault → Option (List ℕ) → Option (List ℕ) → Type 0
 FaultsNext k r f old new = ReadsSo (λ rest. (left : ℕ) → crossing_left k r (suc left) rest ≡ Err f) old new
 
-pub next_refused : (k : Crossing) (r : RecordReader) (f : Fault) (old new : Option (List ℕ)) → RefusesRecord (order_in r) (count_in r) f old new
-    → FaultsNext k r f old new
-unfolding after_records
-next_refused k r f old new h = ReadsSo-then old new (λ bytes is left. after-next k left (cursor_at (order_in r) bytes (count_in r)) _ is) h
-
 pub next_faulty : (k : Crossing) (r : RecordReader) (number : ℕ) (bytes : List ℕ) (f : Fault) (old new : Option (List ℕ))
     → ReadsRecord (order_in r) (count_in r) (number, bytes) old new → after_record k (number, bytes) ≡ Err f → FaultsNext k r f old new
 unfolding after_records
@@ -121,9 +116,10 @@ WhyNone most r room f old_count new_count old new = FailsWithin most f old_count
 -- bytes were read; it is a failure, or the next record has this fault
 pub why : (k : Crossing) (most : ℕ) (r : RecordReader) (room : ℕ) (f : Fault) (old_count new_count : ℕ) (old new : Option (List ℕ))
     → WhyNone most r room f old_count new_count old new → ((bs : List ℕ) × Consumes old new bs) × (IsFailure f old_count new_count ⊎ FaultsNext k r f old new)
+unfolding after_records
 why k most r room f old_count new_count old new (inl failed) = ((failed.2.0, failed.2.1), inl (inr (failed.0, failed.1)))
 why k most r room f old_count new_count old new (inr (inl lacking)) = ((lacking.1.bytes, lacking.1.consumed), inl (inl lacking.0))
-why k most r room f old_count new_count old new (inr (inr refused)) = ((refused.bytes, refused.consumed), inr (next_refused k r f old new refused))
+why k most r room f old_count new_count old new (inr (inr refused)) = ((refused.bytes, refused.consumed), inr (ReadsSo-then old new (λ bytes is left. after-next k left (cursor_at (order_in r) bytes (count_in r)) _ is) refused))
 
 -- ---- a whole file
 
@@ -157,10 +153,7 @@ header_answer p most f old_count new_count old new valid (inr h) = ((h.bytes, h.
 
 -- ---- the fault speaks of a side where its number says so
 
-failure_names_side : (f : Fault) (old_count new_count : ℕ) → IsFailure f old_count new_count → NamesSide f
-failure_names_side f old_count new_count h = grind arith
-
 pub refused_names_side : (p : Parameters) (f : Fault) (old_count new_count : ℕ) (old new : Option (List ℕ))
     → IsFailure f old_count new_count ⊎ ReadsSo (IsRefusedSo p f) old new → NamesSide f
-refused_names_side p f old_count new_count old new (inl failed) = failure_names_side f old_count new_count failed
+refused_names_side p f old_count new_count old new (inl failed) = grind arith
 refused_names_side p f old_count new_count old new (inr e) = file_names_side p (e.bytes ++ []) f (e.each [] (λ met. refl)).value

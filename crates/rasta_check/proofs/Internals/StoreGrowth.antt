@@ -21,7 +21,7 @@ use Rattle.rasta_check.proofs.Capture.Crossings.{list_of}
 use Rattle.rasta_check.proofs.Lists.{get_front, get_push, slice_get_some, all_push}
 use Rattle.rasta_check.proofs.Capture.Positions.{place_pushed, place_missing, place_named}
 use Rattle.rasta_check.proofs.Capture.Readings.{grown_same, nothing_is}
-use Rattle.rasta_check.proofs.Internals.StoreLists.{count_of, kept_at, ordered_of, sent_is}
+use Rattle.rasta_check.proofs.Internals.StoreLists.{kept_at, ordered_of, sent_is}
 
 -- ---- the packets that are there
 
@@ -72,8 +72,8 @@ copies_more k l place (x ∷ xs) a end h e =
 lower_place : (place end n : ℕ) (o q : Option ℕ) → place < end → q ≡ (if nat_eq place end then Some n else o) → q ≡ o
 lower_place place end n o q l e = (let t : nat_eq place end ≡ false = grind (arith, nat_tests) in e ∙ ap (λ (b : Bool). if b then Some n else o) t)
 
-places_same : (k : Crossing) (a : Packet) (side : Side) (end : ℕ) → SamePlaces k (crossing_with k a side (sent_by k side)) end
-places_same k a side end s place l = grind arith
+sent_same : (k : Crossing) (a : Packet) (side s : Side) → sent_by (crossing_with k a side (sent_by k side)) s ≡ sent_by k s
+sent_same k a side s = grind arith
 
 no_place : (k : Crossing) → IsCrossing k → (side : Side) → position_of_place (sent_by k side) (length k.packets) ≡ None
 no_place k h side =
@@ -85,9 +85,6 @@ no_place k h side =
 -- the lists of both sides, by these datagrams
 abbrev HaveLists : Parameters → KeptDatagrams → Crossing → Type 0
 HaveLists p e l = (s : Side) → map (copy_in p s) (kept_by e s) ≡ sent_by l s
-
-lists_same : (p : Parameters) (d : KeptDatagrams) (packets : List StoredPacket) (a : Packet) (side : Side) → HaveLists p d (crossing_with (crossing_by p d packets) a side (sent_by (crossing_by p d packets) side))
-lists_same p d packets a side s = grind arith
 
 module _ (p : Parameters) (d : KeptDatagrams) (packets : List StoredPacket) (st : IsStore p d packets) (a : Packet) (h : IsCrossing (with_packet (crossing_by p d packets) a)) where
   abbrev k : Crossing
@@ -126,7 +123,7 @@ module _ (p : Parameters) (d : KeptDatagrams) (packets : List StoredPacket) (st 
   pub grown_copy : (position : ℕ) (all : List StoredPacket) → IsJudged k a (Some position) → all ≡ packets ++ stored position ∷ []
       → IsStore p d all × (crossing_by p d all ≡ with_packet k a)
   grown_copy position all j e =
-      let within : position < length (kept_by d a.side) = (let l = slice_get_within (sent_by k a.side) position j.0 j.1 in let n = count_of p d packets a.side in omega arith) in
+      let within : position < length (kept_by d a.side) = (let l = slice_get_within (sent_by k a.side) position j.0 j.1 in let n = ap length (sent_is p d packets a.side) ∙ length-map (kept_by d a.side) (copy_in p a.side) in omega arith) in
       let w = slice_get_some (kept_by d a.side) position within in
       let f = kept_at p d packets st a.side position w.0 w.1 in
       let there = f.there in
@@ -135,7 +132,7 @@ module _ (p : Parameters) (d : KeptDatagrams) (packets : List StoredPacket) (st 
       ap (λ (o : Option Kept). packet_with (bytes_of o)) w.1 ∙ ap packet_with (f.spelled.same ∙ ap (λ (z : FirstCopy). redundancy_bytes p a.side z.pdu) one ∙ sym j.2) in
       let none = ap (λ (o : Option ℕ). if is_some o then a.payload else [])
       (ap (λ (own : List FirstCopy). position_of_place own (length k.packets)) (sent_with k a a.side (sent_by k a.side)) ∙ no_place k st.crossing a.side) in
-      rw e (grown d (stored position) (sent_by k a.side) j.3 (λ side i x g. g) here (lists_same p d packets a a.side) st.decode within (places_same k a a.side (length k.packets))
+      rw e (grown d (stored position) (sent_by k a.side) j.3 (λ side i x g. g) here (λ s. sym (sent_same k a a.side s ∙ sent_is p d packets s)) st.decode within (λ s q l. ap (λ (own : List FirstCopy). position_of_place own q) (sent_same k a a.side s))
       (sym (ap (λ (bs : List ℕ). d.bytes ++ bs) none ∙ append-nil d.bytes)))
 
   -- the bytes of one whose number is new come last

@@ -52,9 +52,6 @@ module _ (p : Parameters) (d : KeptDatagrams) (packets : List StoredPacket) wher
             ∙ ap (λ (r : Result RedundancyPdu Fault). Some (record { place = x.place; pdu = pdu_in r })) w.1;
       }
 
-  pub count_of : (side : Side) → length (sent_by whole side) ≡ length (kept_by d side)
-  count_of side = ap length (sent_is side) ∙ length-map (kept_by d side) (copy_in p side)
-
   -- a packet's payload is that of its first copy
   pub payload_at : (place : ℕ) (x : StoredPacket) (y : Kept) → slice_get packets place ≡ Some x → slice_get (kept_by d x.side) x.position ≡ Some y
       → slice_get whole.packets place ≡ Some (record { channel = x.channel; side = x.side; payload = y.bytes })
