@@ -71,13 +71,11 @@ goes_on p packets own a sent w n =
     subst (λ (r : Result RedundancyPdu Fault). IsSent p (packets ++ a ∷ []) a.side (after_read own (length packets) r)) (sym w.1)
     (by_copy p packets a.side own a sent refl w.0 w.2 (copy_with own w.0.number) refl (sym (ap (read_fault p a.side own a.payload) w.1) ∙ n))
 
-after_few : (own : List FirstCopy) (place : ℕ) (r : Result RedundancyPdu Fault) → length (after_read own place r) ≤ length own + 1
-after_few own place r = grind (arith, length_push)
-
 pub goes_on_sent : (p : Parameters) (packets : List Packet) (own : List FirstCopy) (a : Packet) → IsSent p packets a.side own → length own ≤ 1000000 → IsRead p a
     → packet_fault p own a ≡ None → Sent p (packets ++ a ∷ []) a.side (after_read own (length packets) (decode_of p a.side a.payload))
 goes_on_sent p packets own a sent few w n =
-    let l = after_few own (length packets) (decode_of p a.side a.payload) in of_record p (packets ++ a ∷ []) a.side _ (goes_on p packets own a sent w n) (omega arith)
+    let l : length (after_read own (length packets) (decode_of p a.side a.payload)) ≤ length own + 1 = grind (arith, length_push) in
+    of_record p (packets ++ a ∷ []) a.side _ (goes_on p packets own a sent w n) (omega arith)
 
 -- ---- packets of known numbers
 

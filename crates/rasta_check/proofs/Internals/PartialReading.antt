@@ -36,21 +36,16 @@ Underway-opened p k r last old new h none nothing all = record {
 
 -- ---- a record more
 
-added_left : (k next : Crossing) (r n : RecordReader) (left : ℕ) (old new : Option (List ℕ)) (a : AddsRecord k next r n old new) (more : List ℕ)
-    → crossing_left k r (suc left) (a.read.bytes ++ more) ≡ crossing_left next n left more
-unfolding after_records
-added_left k next r n left old new a more =
-    let c = cursor_at (order_in r) (a.read.bytes ++ more) (count_in r) in
-    after-next k left c _ (a.read.each more).0
-    ∙ ap (λ q. and_then q (λ (m : Crossing). after_reading m (reading left (cursor_after c)))) a.added
-    ∙ (λ i. after_reading next (reading left ((a.read.each more).1 i))) ∙ (λ i. after_reading next (reading left (cursor_at (sym a.order i) more (count_in n))))
-
 pub Underway-record : (whole : List ℕ → Result Crossing Fault) (k next : Crossing) (r n : RecordReader) (left : ℕ) (old mid new : Option (List ℕ))
     → IsUnderway whole (crossing_left k r (suc left)) old mid → AddsRecord k next r n mid new → IsUnderway whole (crossing_left next n left) old new
+unfolding after_records
 Underway-record whole k next r n left old mid new h a = record {
   bytes = h.bytes ++ a.read.bytes;
   consumed = Consumes-trans old mid new h.bytes a.read.bytes h.consumed a.read.consumed;
-  each = λ more. ap whole (append_assoc h.bytes a.read.bytes more) ∙ h.each (a.read.bytes ++ more) ∙ added_left k next r n left mid new a more;
+  each = λ more. (let c = cursor_at (order_in r) (a.read.bytes ++ more) (count_in r) in
+      ap whole (append_assoc h.bytes a.read.bytes more) ∙ h.each (a.read.bytes ++ more) ∙ after-next k left c _ (a.read.each more).0
+      ∙ ap (λ q. and_then q (λ (m : Crossing). after_reading m (reading left (cursor_after c)))) a.added
+      ∙ (λ i. after_reading next (reading left ((a.read.each more).1 i))) ∙ (λ i. after_reading next (reading left (cursor_at (sym a.order i) more (count_in n)))));
 }
 
 -- ---- the reading ends

@@ -69,9 +69,6 @@ copies_more k l place (x ∷ xs) a end h e =
     (λ i. (if is_some (h x.side place (omega arith) i) then x.payload else []) ++ copies_more k l (suc place) xs a end h (omega arith) i)
     ∙ sym (append_assoc (first_part k x place) (first_copies_from k (suc place) xs) (first_part l a end))
 
-lower_place : (place end n : ℕ) (o q : Option ℕ) → place < end → q ≡ (if nat_eq place end then Some n else o) → q ≡ o
-lower_place place end n o q l e = (let t : nat_eq place end ≡ false = grind (arith, nat_tests) in e ∙ ap (λ (b : Bool). if b then Some n else o) t)
-
 sent_same : (k : Crossing) (a : Packet) (side s : Side) → sent_by (crossing_with k a side (sent_by k side)) s ≡ sent_by k s
 sent_same k a side s = grind arith
 
@@ -155,7 +152,7 @@ module _ (p : Parameters) (d : KeptDatagrams) (packets : List StoredPacket) (st 
       (map-append (copy_in p a.side) (kept_by d a.side) (y ∷ []) ∙ (λ i. sym (sent_is p d packets a.side) i ++ record { place = n i; pdu = ap pdu_in j.1 i } ∷ [])) (λ s. sym (sent_is p d packets s)) in
       let decode = with_more (λ s kept sent. Decode p s kept) d y k a a.side own (all_push (kept_by d a.side) y (st.decode a.side) (j.0, j.1, j.2)) st.decode in
       let places = with_more (λ s kept sent. (q : ℕ) → q < length k.packets → position_of_place sent q ≡ position_of_place (sent_by k s) q) d y k a a.side own
-      (λ q l. lower_place q (length k.packets) (length (sent_by k a.side)) _ _ l (place_pushed (sent_by k a.side) c ordered q)) (λ s q l. refl) in
+      (λ q l. (let t : nat_eq q (length k.packets) ≡ false = grind (arith, nat_tests) in rw t at (place_pushed (sent_by k a.side) c ordered q))) (λ s q l. refl) in
       rw (e, m) (grown (keeping d a.side y) (stored position) own j.3 (among_keeping d a.side y) here lists decode
       (subst (λ (xs : List Kept). position < length xs) (sym kept.0) (omega arith)) places (kept.1 ∙ ap (λ (bs : List ℕ). d.bytes ++ bs) (sym some)))
 
