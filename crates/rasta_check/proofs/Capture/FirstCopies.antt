@@ -82,11 +82,14 @@ reached p xs s c d hc hd i a l ag g =
     let ld = slice_get_within d w.0 w.1 w.2 in
     let head = slice_get_some c 0 (omega arith) in
     let up : w.0 < i → ⊥ = λ low. not_again head.0.pdu.number w.0 i w.1.pdu.number a.pdu.number (hc.numbers w.0 head.0 w.1 head.1 (ag w.0 low ∙ w.2)) (hc.numbers i head.0 a head.1 g) low l (ap (λ (z : RedundancyPdu). z.number) same) in
-    let b = slice_get_some d i (omega (arith, up)) in
-    (b.0, b.1, elim (dec_lt i w.0) [
-      | yes y ↦ (let rise = places_rise d (ordered hd) i w.0 b.0 w.1 b.1 w.2 y in let low = w.3 in omega arith)
-      | no y ↦ (let at : i ≡ w.0 = omega (arith, up) in let one : b.0 ≡ w.1 = (let x = b.1 in let z = w.2 in cc) in rw one w.3)
-    ])
+    let b = slice_get_some d i (omega (arith, up)) in (
+      b.0,
+      b.1,
+      elim (dec_lt i w.0) [
+        | yes y ↦ (let rise = places_rise d (ordered hd) i w.0 b.0 w.1 b.1 w.2 y in let low = w.3 in omega arith)
+        | no y ↦ (let at : i ≡ w.0 = omega (arith, up) in let one : b.0 ≡ w.1 = (let x = b.1 in let z = w.2 in cc) in rw one w.3)
+      ],
+    )
 
 module _ (p : Parameters) (xs : List Packet) (s : Side) (c d : List FirstCopy) (hc : IsSent p xs s c) (hd : IsSent p xs s d) where
   at_same : (i : ℕ) (a b : FirstCopy) → slice_get c i ≡ Some a → slice_get d i ≡ Some b → a.place ≡ b.place → a ≡ b

@@ -1,5 +1,5 @@
 -- What was read of a capture and added so far, and what that says of every file that begins so.
-use Rattle.std.proofs.Common.{◌≡◌, ◌∙◌, ◌⊎◌, inl, inr, ◌++◌, append_assoc, ◌+◌, ◌-◌, ◌<◌, ℕ, zero, suc, List, [], Option, Result, Ok, Err, true, false, refl, ap, sym, subst, arith}
+use Rattle.std.proofs.Common.{◌≡◌, ◌∙◌, ◌⊎◌, inl, inr, ◌++◌, append_assoc, ℕ, zero, suc, List, [], Option, Result, Ok, Err, true, false, refl, ap, sym, arith}
 use Rattle.std.specs.Io.KnownBytes.{Consumes}
 use Rattle.std.proofs.KnownBytes.{Consumes-nil, Consumes-trans}
 use Rattle.rasta_pcap.specs.declared.fault.Fault.{Fault}

@@ -1,4 +1,4 @@
-use Rattle.std.proofs.Common.{◌≡◌, ◌∙◌, ◌+◌, ◌-◌, ℕ, suc, refl, subst, inl, inr, ⊎_elim, arith}
+use Rattle.std.proofs.Common.{◌∙◌, ◌+◌, ◌-◌, ℕ, suc, refl, subst, inl, inr, ⊎_elim, arith}
 use Rattle.rasta_pcap.proofs.Extents.{HasRead-more, ReadsUpToRecord-part, ReadsUpToRecord-whole}
 use Rattle.rasta_check.specs.Internals.Storing.{IsFailure}
 use Rattle.rasta_check.proofs.Internals.PartialReading.{Underway-begun, Underway-ends, Underway-record, all_at_end, all_with_window, every_left}
