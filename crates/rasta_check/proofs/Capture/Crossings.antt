@@ -55,14 +55,13 @@ module _ (p : Parameters) (packets : List Packet) (side : Side) (own : List Firs
 abbrev pub IsRead : Parameters → Packet → Type 0
 IsRead p a = (d : RedundancyPdu) × (decode_of p a.side a.payload ≡ Ok d) × Spells p a.side d a.payload
 
-read_by : (p : Parameters) (own : List FirstCopy) (a : Packet) (r : Result RedundancyPdu Fault) → decode_of p a.side a.payload ≡ r → AreParameters p → AreBytes a.payload
-    → read_fault p a.side own a.payload r ≡ None → IsRead p a
-read_by p own a (Err fault) e valid are n = absurd (cc)
-read_by p own a (Ok d) e valid are n = (let is = decode_of-Ok p a.side a.payload d valid are e in (d, e, record { fits = is.is; same = is.spelled }))
-
 -- a packet without a fault is read
 pub is_read : (p : Parameters) (own : List FirstCopy) (a : Packet) → AreParameters p → AreBytes a.payload → packet_fault p own a ≡ None → IsRead p a
-is_read p own a valid are n = read_by p own a (decode_of p a.side a.payload) refl valid are n
+is_read p own a valid are n = by (decode_of p a.side a.payload) refl n
+  where
+    by : (r : Result RedundancyPdu Fault) → decode_of p a.side a.payload ≡ r → read_fault p a.side own a.payload r ≡ None → IsRead p a
+    by (Err fault) e none = absurd (cc)
+    by (Ok d) e none = (let is = decode_of-Ok p a.side a.payload d valid are e in (d, e, record { fits = is.is; same = is.spelled }))
 
 -- the sent list of its sender goes on
 pub goes_on : (p : Parameters) (packets : List Packet) (own : List FirstCopy) (a : Packet) → IsSent p packets a.side own → IsRead p a

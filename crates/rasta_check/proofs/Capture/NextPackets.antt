@@ -86,26 +86,21 @@ cut p ys xs s big h =
     (w.0, sent_part p xs ys s w.0 w.2.later (subst (λ (cs : List FirstCopy). IsSent p (xs ++ ys) s cs) w.2.whole h) w.2.place w.1, w.2)
 
 -- it spells the PDU of a member, which crossed before, or is the next
-follow_by : (p : Parameters) (xs rest : List Packet) (s : Side) (own later : List FirstCopy) (a : Packet) → IsSent p (xs ++ a ∷ rest) s (own ++ later)
-    → ((c : FirstCopy) → slice_get later 0 ≡ Some c → length xs ≤ c.place) → a.side ≡ s → CanFollow p xs s own a
-follow_by p xs rest s own later a g high sd =
-    let w = g.copies (length xs) a (get_next xs (a ∷ rest)) sd in (
-      w.1.pdu,
-      w.4,
-      elim (dec_lt w.0 (length own)) [
-        | yes l ↦ inl (w.0, w.1, sym (get_front_within own later w.0 l) ∙ w.2, refl)
-        | no l ↦ inr (λ c x.
-            g.numbers w.0 c w.1 (get_front own later 0 c x) w.2 ∙ ap (λ m. wrapped (c.pdu.number + m)) (next_at p xs (a ∷ rest) s own later g high w.0 w.1 w.2 w.3 (omega arith)))
-      ],
-    )
-
 pub can_follow : (p : Parameters) (xs rest : List Packet) (s : Side) (own : List FirstCopy) (a : Packet) → IsSent p xs s own → length own < 2 ^ 32 → a.side ≡ s → (more : List FirstCopy) → IsSent p (xs ++ a ∷ rest) s more → CanFollow p xs s own a
 can_follow p xs rest s own a h l sd more g =
     let r = cut p (a ∷ rest) xs s more g in
     let later = r.2.later in
     let whole : more ≡ own ++ later = r.2.whole ∙ ap (λ (cs : List FirstCopy). cs ++ later) (sym (sent_once p xs s own r.0 h r.1 l)) in
-    let goes : IsSent p (xs ++ a ∷ rest) s (own ++ later) = subst (λ (cs : List FirstCopy). IsSent p (xs ++ a ∷ rest) s cs) whole g in
-    follow_by p xs rest s own later a goes r.2.place sd
+    let goes = subst (λ (cs : List FirstCopy). IsSent p (xs ++ a ∷ rest) s cs) whole g in
+    let w = goes.copies (length xs) a (get_next xs (a ∷ rest)) sd in (
+      w.1.pdu,
+      w.4,
+      elim (dec_lt w.0 (length own)) [
+        | yes b ↦ inl (w.0, w.1, sym (get_front_within own later w.0 b) ∙ w.2, refl)
+        | no b ↦ inr (λ c x.
+            goes.numbers w.0 c w.1 (get_front own later 0 c x) w.2 ∙ ap (λ m. wrapped (c.pdu.number + m)) (next_at p xs (a ∷ rest) s own later goes r.2.place w.0 w.1 w.2 w.3 (omega arith)))
+      ],
+    )
 
 -- the numbers of a list, and the next
 pub counted : (p : Parameters) (xs : List Packet) (s : Side) (own : List FirstCopy) (d : RedundancyPdu) → IsSent p xs s own → d.number < 2 ^ 32
