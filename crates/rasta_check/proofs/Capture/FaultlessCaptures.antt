@@ -117,7 +117,8 @@ records_are_read p frames end client server h are all = by _ (records_lead p fra
         rw w.0 (ap Ok (w.1.same ∙ (λ i. crossing_by p frames (same Client i) (same Server i))))
     by (Err f) (inl w) = rw w.2
     by (Err f) (inr w) =
-        absurd (not_refused p h w.front w.frame w.later (subst AllBytes w.split are) w.client w.server w.crossed client server (subst (λ (fs : List (List ℕ)). AreFaultless p fs client server) w.split all) f w.step)
+        absurd (not_refused p h w.front w.frame w.later (subst AllBytes w.split are) w.client w.server w.crossed client server
+        (subst (λ (fs : List (List ℕ)). AreFaultless p fs client server) w.split all) f w.step)
 
 pub faultless_is_read : (p : Parameters) (file : List ℕ) (client server : List FirstCopy) → OfConnection p → AreBytes file → (f : IsFaultlessCapture p file client server)
     → crossing_of p file ≡ Ok (crossing_by p f.records client server)

@@ -81,7 +81,8 @@ reached p xs s c d hc hd i a l ag g =
     let lc = slice_get_within c i a g in
     let ld = slice_get_within d w.0 w.1 w.2 in
     let head = slice_get_some c 0 (omega arith) in
-    let up : w.0 < i → ⊥ = λ low. not_again head.0.pdu.number w.0 i w.1.pdu.number a.pdu.number (hc.numbers w.0 head.0 w.1 head.1 (ag w.0 low ∙ w.2)) (hc.numbers i head.0 a head.1 g) low l (ap (λ (z : RedundancyPdu). z.number) same) in
+    let up : w.0 < i → ⊥ = λ low.
+    not_again head.0.pdu.number w.0 i w.1.pdu.number a.pdu.number (hc.numbers w.0 head.0 w.1 head.1 (ag w.0 low ∙ w.2)) (hc.numbers i head.0 a head.1 g) low l (ap (λ (z : RedundancyPdu). z.number) same) in
     let b = slice_get_some d i (omega (arith, up)) in (
       b.0,
       b.1,

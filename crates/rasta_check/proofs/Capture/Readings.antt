@@ -28,7 +28,8 @@ use Rattle.rasta_check.proofs.Lists.{all_append, all_at, all_front}
 use Rattle.rasta_check.proofs.Capture.RecordBytes.{AllBytes, payload_bytes}
 
 -- what is next leads on
-pub after-next : (k : Crossing) (left : ℕ) (c : Cursor) (o : Result (Option Numbered) Fault) → next c ≡ o → after_reading k (reading (suc left) c) ≡ after_reading k (read_step o (reading left (cursor_after c)))
+pub after-next : (k : Crossing) (left : ℕ) (c : Cursor) (o : Result (Option Numbered) Fault) → next c ≡ o
+    → after_reading k (reading (suc left) c) ≡ after_reading k (read_step o (reading left (cursor_after c)))
 unfolding reading
 after-next k left c o h = ap (λ (q : Result (Option Numbered) Fault). after_reading k (read_step q (reading left (cursor_after c)))) h
 
@@ -105,6 +106,9 @@ numbered_of limit file = is_numbered 1 (reading_of limit file).records (numbers-
 abbrev pub packets_in : Parameters → List (List ℕ) → List Packet
 packets_in p frames = filter_map (λ (frame : List ℕ). option_flatten (result_ok (packet_in p.channels frame))) frames
 
+packets_append : (p : Parameters) (xs ys : List (List ℕ)) → packets_in p (xs ++ ys) ≡ packets_in p xs ++ packets_in p ys
+packets_append p xs ys = filter_map-append (λ (frame : List ℕ). option_flatten (result_ok (packet_in p.channels frame))) xs ys
+
 abbrev pub AreSound : Parameters → List (List ℕ) → Type 0
 AreSound p frames = AllByRecursion (λ (frame : List ℕ). IsOk (packet_in p.channels frame)) frames
 
@@ -119,7 +123,7 @@ module _ (p : Parameters) (frames : List (List ℕ)) (frame : List ℕ) (later :
   -- what a record of the window holds follows what crossed before
   pub packets_with : (o : Option Packet) → packet_in p.channels frame ≡ Ok o → crossing_list p (frames ++ frame ∷ later) ≡ crossing_list p frames ++ cons_option o (packets_in p later)
   packets_with o found =
-      ap (packets_in p) window_with ∙ filter_map-append (λ (f : List ℕ). option_flatten (result_ok (packet_in p.channels f))) (window p frames) (frame ∷ later)
+      ap (packets_in p) window_with ∙ packets_append p (window p frames) (frame ∷ later)
       ∙ ap (λ (q : Result (Option Packet) Fault). crossing_list p frames ++ cons_option (option_flatten (result_ok q)) (packets_in p later)) found
 
 -- ---- records without a fault
@@ -145,7 +149,7 @@ module _ (p : Parameters) (front : List (List ℕ)) (frame : List ℕ) (c s : Li
       → next ≡ record { params = p; packets = crossing_list p front ++ packets_in p w; client = next.client; server = next.server }
       → (OfConnection p → AreBytes frame → IsCrossing (crossing_by p front c s) → IsCrossing next) → Crossed p (front ++ frame ∷ []) next
   crossed_with w next e sound same is = record {
-    same = same ∙ (λ i. record { params = p; packets = (sym (filter_map-append (λ (f : List ℕ). option_flatten (result_ok (packet_in p.channels f))) (window p front) w) ∙ ap (packets_in p) (sym e)) i; client = next.client; server = next.server });
+    same = same ∙ (λ i. record { params = p; packets = sym (ap (packets_in p) e ∙ packets_append p (window p front) w) i; client = next.client; server = next.server });
     sound = rw e (all_append _ (window p front) w x.sound sound);
     is = λ h are. is h (all_at AreBytes front frame [] are) (x.is h (all_front AreBytes front (frame ∷ []) are));
   }
@@ -198,7 +202,8 @@ module _ (p : Parameters) (end : Option Fault) where
           → Leads p (front ++ frame ∷ frames) end (and_then o (λ (next : Crossing). after_records next (numbered (n + 1) frames) end))
       by (Err f) step more = inr (record { front = front; frame = frame; later = frames; client = k.client; server = k.server; split = refl; crossed = here; step = step })
       by (Ok next) step more =
-          subst (λ (fs : List (List ℕ)). Leads p fs end (after_records next (numbered (n + 1) frames) end)) (append_assoc front (frame ∷ []) frames) (more next (crossed_more p front frame k.client k.server here next step))
+          subst (λ (fs : List (List ℕ)). Leads p fs end (after_records next (numbered (n + 1) frames) end)) (append_assoc front (frame ∷ []) frames)
+          (more next (crossed_more p front frame k.client k.server here next step))
 
 pub nothing_is : (p : Parameters) → OfConnection p → IsCrossing (nothing_crossed p)
 nothing_is p h = crossing_of_lists (nothing_crossed p) h (λ place a g. absurd (cc)) refl (sent_none p Client h.valid) (sent_none p Server h.valid)

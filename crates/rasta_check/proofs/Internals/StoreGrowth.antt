@@ -88,10 +88,12 @@ module _ (p : Parameters) (d : KeptDatagrams) (packets : List StoredPacket) (st 
   k = crossing_by p d packets
 
   -- with these datagrams, the last of which its payload may be
-  module _ (e : KeptDatagrams) (x : StoredPacket) (own : List FirstCopy) (after : sent_after k a ≡ own) (among : Among d e) (here : packet_by e x ≡ a) (lists : HaveLists p e (crossing_with k a a.side own)) where
+  module _ (e : KeptDatagrams) (x : StoredPacket) (own : List FirstCopy) (after : sent_after k a ≡ own) (among : Among d e) (here : packet_by e x ≡ a)
+      (lists : HaveLists p e (crossing_with k a a.side own)) where
     grown_view : crossing_by p e (packets ++ x ∷ []) ≡ crossing_with k a a.side own
     grown_view =
-        (λ i. record { params = p; packets = (map-append (packet_by e) packets (x ∷ []) ∙ (λ j. same_packets d e among packets st.positions j ++ here j ∷ [])) i; client = lists Client i; server = lists Server i })
+        let all = map-append (packet_by e) packets (x ∷ []) ∙ (λ i. same_packets d e among packets st.positions i ++ here i ∷ []) in
+        (λ i. record { params = p; packets = all i; client = lists Client i; server = lists Server i })
         ∙ sym (grown_same k a a.side own)
 
     grown : ((s : Side) → Decode p s (kept_by e s)) → x.position < length (kept_by e x.side) → SamePlaces k (crossing_with k a a.side own) (length k.packets)
@@ -103,7 +105,8 @@ module _ (p : Parameters) (d : KeptDatagrams) (packets : List StoredPacket) (st 
           record {
             crossing = subst IsCrossing (sym view) h;
             decode = decode;
-            positions = all_push packets x (λ i y o. (let w = slice_get_some (kept_by d y.side) y.position (st.positions i y o) in slice_get_within (kept_by e y.side) y.position w.0 (among y.side y.position w.0 w.1))) within;
+            positions = all_push packets x
+                (λ i y o. (let w = slice_get_some (kept_by d y.side) y.position (st.positions i y o) in slice_get_within (kept_by e y.side) y.position w.0 (among y.side y.position w.0 w.1))) within;
             bytes = bytes ∙ (λ i. st.bytes i ++ first_part l a (length k.packets)) ∙ sym (copies_more k l 0 k.packets a (length k.packets) places (omega arith))
                 ∙ ap (first_copies_from l 0) (sym (ap (λ (q : Crossing). q.packets) (grown_same k a a.side own))) ∙ sym (ap (λ (q : Crossing). first_copies_from q 0 q.packets) grown_view);
           },
@@ -120,7 +123,8 @@ module _ (p : Parameters) (d : KeptDatagrams) (packets : List StoredPacket) (st 
   pub grown_copy : (position : ℕ) (all : List StoredPacket) → IsJudged k a (Some position) → all ≡ packets ++ stored position ∷ []
       → IsStore p d all × (crossing_by p d all ≡ with_packet k a)
   grown_copy position all j e =
-      let within : position < length (kept_by d a.side) = (let l = slice_get_within (sent_by k a.side) position j.0 j.1 in let n = ap length (sent_is p d packets a.side) ∙ length-map (kept_by d a.side) (copy_in p a.side) in omega arith) in
+      let size = ap length (sent_is p d packets a.side) ∙ length-map (kept_by d a.side) (copy_in p a.side) in
+      let within : position < length (kept_by d a.side) = (let l = slice_get_within (sent_by k a.side) position j.0 j.1 in omega arith) in
       let w = slice_get_some (kept_by d a.side) position within in
       let f = kept_at p d packets st a.side position w.0 w.1 in
       let there = f.there in
@@ -129,7 +133,8 @@ module _ (p : Parameters) (d : KeptDatagrams) (packets : List StoredPacket) (st 
       ap (λ (o : Option Kept). packet_with (bytes_of o)) w.1 ∙ ap packet_with (f.spelled.same ∙ ap (λ (z : FirstCopy). redundancy_bytes p a.side z.pdu) one ∙ sym j.2) in
       let none = ap (λ (o : Option ℕ). if is_some o then a.payload else [])
       (ap (λ (own : List FirstCopy). position_of_place own (length k.packets)) (sent_with k a a.side (sent_by k a.side)) ∙ no_place k st.crossing a.side) in
-      rw e (grown d (stored position) (sent_by k a.side) j.3 (λ side i x g. g) here (λ s. sym (sent_same k a a.side s ∙ sent_is p d packets s)) st.decode within (λ s q l. ap (λ (own : List FirstCopy). position_of_place own q) (sent_same k a a.side s))
+      rw e (grown d (stored position) (sent_by k a.side) j.3 (λ side i x g. g) here (λ s. sym (sent_same k a a.side s ∙ sent_is p d packets s)) st.decode within
+      (λ s q l. ap (λ (own : List FirstCopy). position_of_place own q) (sent_same k a a.side s))
       (sym (ap (λ (bs : List ℕ). d.bytes ++ bs) none ∙ append-nil d.bytes)))
 
   -- the bytes of one whose number is new come last

@@ -33,8 +33,8 @@ both c =
       | in-None+in_ok-push-in-None w ↦
           let all = c.push_reserved.ensures.items ∙ (λ i. (w.self-inside-is i).packets.items ++ stored (w.position-is i) ∷ []) ∙ (λ i. kept i ++ stored w.len-position.result ∷ []) in
           let place : w.len-place.result ≡ length old.packets.items = (let q = w.len-place.ensures in let l = ap length kept in omega arith) in
-          let r = grown_new old.params old.datagrams old.packets.items c.self.invariant a crossing w.len-position.result w.len-place.result _ _ place w.len-position.ensures (subst (IsJudged _ a) w.in-None.is judged)
-          w.in_ok-push-in-None.ensures.ok all in
+          let r = grown_new old.params old.datagrams old.packets.items c.self.invariant a crossing w.len-position.result w.len-place.result _ _ place w.len-position.ensures
+          (subst (IsJudged _ a) w.in-None.is judged) w.in_ok-push-in-None.ensures.ok all in
           (_, w.self-inside-is, r.0, r.1 ∙ after)
     ]
 
