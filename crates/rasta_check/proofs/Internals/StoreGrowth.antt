@@ -18,10 +18,11 @@ use Rattle.rasta_check.specs.Capture.Lists.{IsOrdered, position_of_place}
 use Rattle.rasta_check.specs.Capture.Reading.{Crossing, IsCrossing, crossing_with, sent_by, sent_after, with_packet}
 use Rattle.rasta_check.specs.Internals.Stored.{Decode, HavePositions, IsJudged, IsStore, bytes_of, copy_in, crossing_by, first_copies_from, packet_by, pdu_in}
 use Rattle.rasta_check.proofs.Capture.Crossings.{list_of}
+use Rattle.rasta_check.proofs.Capture.FaultlessLists.{ordered}
 use Rattle.rasta_check.proofs.Lists.{get_front, get_push, slice_get_some, all_push}
 use Rattle.rasta_check.proofs.Capture.Positions.{place_pushed, place_missing, place_named}
 use Rattle.rasta_check.proofs.Capture.Readings.{grown_same, nothing_is}
-use Rattle.rasta_check.proofs.Internals.StoreLists.{kept_at, ordered_of, sent_is}
+use Rattle.rasta_check.proofs.Internals.StoreLists.{kept_at, sent_is}
 
 -- ---- the packets that are there
 
@@ -149,15 +150,15 @@ module _ (p : Parameters) (d : KeptDatagrams) (packets : List StoredPacket) (st 
       let kept = kept_with d a.side y in
       let here : packet_by (keeping d a.side y) (stored position) ≡ a =
       ap (λ (o : Option Kept). packet_with (bytes_of o)) ((λ i. slice_get (kept.0 i) (last i)) ∙ get_push (kept_by d a.side) y) in
-      let ordered = subst IsOrdered (sent_with k a a.side own) (ordered_of (crossing_with k a a.side own) (subst IsCrossing (ap (crossing_with k a a.side) j.3) h) a.side) in
+      let goes = subst IsOrdered (sent_with k a a.side own) (ordered (list_of (crossing_with k a a.side own) (subst IsCrossing (ap (crossing_with k a a.side) j.3) h) a.side)) in
       let some = ap (λ (o : Option ℕ). if is_some o then a.payload else [])
-      (ap (λ (xs : List FirstCopy). position_of_place xs (length k.packets)) (sent_with k a a.side own) ∙ place_named own ordered (length (sent_by k a.side)) c (get_push (sent_by k a.side) c)) in
+      (ap (λ (xs : List FirstCopy). position_of_place xs (length k.packets)) (sent_with k a a.side own) ∙ place_named own goes (length (sent_by k a.side)) c (get_push (sent_by k a.side) c)) in
       let size = length_push (kept_by d a.side) y in
       let lists = with_more (λ s kept sent. map (copy_in p s) kept ≡ sent) d y k a a.side own
       (map-append (copy_in p a.side) (kept_by d a.side) (y ∷ []) ∙ (λ i. sym (sent_is p d packets a.side) i ++ record { place = n i; pdu = ap pdu_in j.1 i } ∷ [])) (λ s. sym (sent_is p d packets s)) in
       let decode = with_more (λ s kept sent. Decode p s kept) d y k a a.side own (all_push (kept_by d a.side) y (st.decode a.side) (j.0, j.1, j.2)) st.decode in
       let places = with_more (λ s kept sent. (q : ℕ) → q < length k.packets → position_of_place sent q ≡ position_of_place (sent_by k s) q) d y k a a.side own
-      (λ q l. (let t : nat_eq q (length k.packets) ≡ false = grind (arith, nat_tests) in rw t at (place_pushed (sent_by k a.side) c ordered q))) (λ s q l. refl) in
+      (λ q l. (let t : nat_eq q (length k.packets) ≡ false = grind (arith, nat_tests) in rw t at (place_pushed (sent_by k a.side) c goes q))) (λ s q l. refl) in
       rw (e, m) (grown (keeping d a.side y) (stored position) own j.3 (among_keeping d a.side y) here lists decode
       (subst (λ (xs : List Kept). position < length xs) (sym kept.0) (omega arith)) places (kept.1 ∙ ap (λ (bs : List ℕ). d.bytes ++ bs) (sym some)))
 

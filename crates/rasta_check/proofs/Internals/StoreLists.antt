@@ -62,11 +62,6 @@ module _ (p : Parameters) (d : KeptDatagrams) (packets : List StoredPacket) wher
 pub packet_read : (packets xs : List StoredPacket) (place : ℕ) (o q : Option StoredPacket) → xs ≡ packets → o ≡ slice_get xs place → o ≡ q → slice_get packets place ≡ q
 packet_read packets xs place o q e f g = cc
 
--- ---- lists of a crossing are ordered
-
-pub ordered_of : (k : Crossing) → IsCrossing k → (side : Side) → IsOrdered (sent_by k side)
-ordered_of k h side = ordered (list_of k h side)
-
 module _ (p : Parameters) (d : KeptDatagrams) (packets : List StoredPacket) (st : IsStore p d packets) where
   abbrev all : Crossing
   all = crossing_by p d packets
@@ -94,7 +89,7 @@ module _ (p : Parameters) (d : KeptDatagrams) (packets : List StoredPacket) (st 
       let one : mine.pdu ≡ c.pdu = read_once p st.crossing.valid.valid side mine.pdu c.pdu r.0.bytes mine.spelled
       (subst (λ (bs : List ℕ). Spells p side c.pdu bs) (sym bytes) w.3) in
       let few = few_of all st.crossing side in
-      let same : i ≡ x.position = number_once (sent_by all side) (ordered_of all st.crossing side) (omega arith) i x.position c _ f mine.there (ap (λ (z : RedundancyPdu). z.number) (sym one)) in
+      let same : i ≡ x.position = number_once (sent_by all side) (ordered (list_of all st.crossing side)) (omega arith) i x.position c _ f mine.there (ap (λ (z : RedundancyPdu). z.number) (sym one)) in
       let here = mine.there in
       let copy : record { place = r.0.place; pdu = mine.pdu } ≡ c = cc in
       (x, r.0, (q.1, at, there), same, ap (λ (z : FirstCopy). z.place) copy)
@@ -111,7 +106,7 @@ module _ (p : Parameters) (d : KeptDatagrams) (packets : List StoredPacket) (st 
   pub first_there : (side : Side) (place : ℕ) (x : StoredPacket) (y : Kept) → IsHeld side place x y → y.place ≡ place → position_of_place (sent_by all side) place ≡ Some x.position
   first_there side place x y h e =
       subst (λ (n : ℕ). position_of_place (sent_by all side) n ≡ Some x.position) e
-      (place_named (sent_by all side) (ordered_of all st.crossing side) x.position _ (kept_at p d packets st side x.position y h.2).there)
+      (place_named (sent_by all side) (ordered (list_of all st.crossing side)) x.position _ (kept_at p d packets st side x.position y h.2).there)
 
   pub copy_there : (side : Side) (place : ℕ) (x : StoredPacket) (y : Kept) → IsHeld side place x y → (y.place ≡ place → ⊥) → position_of_place (sent_by all side) place ≡ None
   copy_there side place x y h differ =
