@@ -80,17 +80,13 @@ no_place k h side =
 
 -- ---- a store with one packet more
 
--- the lists of both sides, by these datagrams
-abbrev HaveLists : Parameters → KeptDatagrams → Crossing → Type 0
-HaveLists p e l = (s : Side) → map (copy_in p s) (kept_by e s) ≡ sent_by l s
-
 module _ (p : Parameters) (d : KeptDatagrams) (packets : List StoredPacket) (st : IsStore p d packets) (a : Packet) (h : IsCrossing (with_packet (crossing_by p d packets) a)) where
   abbrev k : Crossing
   k = crossing_by p d packets
 
   -- with these datagrams, the last of which its payload may be
   module _ (e : KeptDatagrams) (x : StoredPacket) (own : List FirstCopy) (after : sent_after k a ≡ own) (among : Among d e) (here : packet_by e x ≡ a)
-      (lists : HaveLists p e (crossing_with k a a.side own)) where
+      (lists : (s : Side) → map (copy_in p s) (kept_by e s) ≡ sent_by (crossing_with k a a.side own) s) where
     grown_view : crossing_by p e (packets ++ x ∷ []) ≡ crossing_with k a a.side own
     grown_view =
         let all = map-append (packet_by e) packets (x ∷ []) ∙ (λ i. same_packets d e among packets st.positions i ++ here i ∷ []) in
