@@ -51,7 +51,7 @@ Underway-record whole k next r n left old mid new h a = record {
 -- ---- the reading ends
 
 -- what holds of every input that begins so
-ReadsSo-then : {P Q : List ℕ → Type 0} (old new : Option (List ℕ)) → ((bytes : List ℕ) → P bytes → Q bytes) → ReadsSo P old new → ReadsSo Q old new
+pub ReadsSo-then : {P Q : List ℕ → Type 0} (old new : Option (List ℕ)) → ((bytes : List ℕ) → P bytes → Q bytes) → ReadsSo P old new → ReadsSo Q old new
 ReadsSo-then {P = P} {Q = Q} old new lift h = ReadsSo-after P Q [] old old new (Consumes-nil old) lift h
 
 pub Underway-ends : (whole rest : List ℕ → Result Crossing Fault) (answer : Result Crossing Fault) (old mid new : Option (List ℕ))
@@ -97,11 +97,6 @@ next_faulty k r number bytes f old new h e = record {
       after-next k left c _ (h.each more).0
       ∙ ap (λ q. and_then q (λ (m : Crossing). after_reading m (reading left (cursor_after c)))) e;
 }
-
--- with so many records left after it
-pub every_left : (k : Crossing) (r : RecordReader) (left : ℕ) (f : Fault) (old new : Option (List ℕ)) → FaultsNext k r f old new
-    → ReadsSo (λ rest. crossing_left k r (suc left) rest ≡ Err f) old new
-every_left k r left f old new h = ReadsSo-then old new (λ bytes faults. faults left) h
 
 -- why there was no record
 abbrev pub WhyNone : ℕ → RecordReader → ℕ → Fault → ℕ → ℕ → Option (List ℕ) → Option (List ℕ) → Type 0

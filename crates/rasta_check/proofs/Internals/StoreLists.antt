@@ -17,8 +17,8 @@ use Rattle.rasta_pdu.specs.Pdu.{RedundancyPdu, redundancy_bytes, decode_of}
 use Rattle.rasta_check.specs.declared.crossing_store.StoredPacket.{StoredPacket}
 use Rattle.rasta_check.specs.Capture.Crossing.{FirstCopy, Spells, copy_with, is_next_number, packet_fault}
 use Rattle.rasta_check.specs.Internals.Datagrams.{Kept, KeptDatagrams, kept_by}
-use Rattle.rasta_check.specs.Capture.Lists.{IsOrdered, numbers_of, position_of_number, position_of_place}
-use Rattle.rasta_check.specs.Capture.Reading.{Crossing, IsCrossing, sent_by, sent_after}
+use Rattle.rasta_check.specs.Capture.Lists.{numbers_of, position_of_number, position_of_place}
+use Rattle.rasta_check.specs.Capture.Reading.{Crossing, sent_by, sent_after}
 use Rattle.rasta_check.specs.Internals.Stored.{IsStore, bytes_of, copy_in, pdu_in, packet_by, crossing_by}
 use Rattle.rasta_check.proofs.Capture.Crossings.{few_of, known_by, list_of}
 use Rattle.rasta_check.proofs.Lists.{get_mapped, slice_get_some, map_at}

@@ -1,7 +1,7 @@
 use Rattle.std.proofs.Common.{◌∙◌, ◌+◌, ◌-◌, ℕ, suc, refl, subst, inl, inr, ⊎_elim, arith}
 use Rattle.rasta_pcap.proofs.Extents.{HasRead-more, ReadsUpToRecord-part, ReadsUpToRecord-whole}
 use Rattle.rasta_check.specs.Internals.Storing.{IsFailure}
-use Rattle.rasta_check.proofs.Internals.PartialReading.{Underway-begun, Underway-ends, Underway-record, all_at_end, all_with_window, every_left}
+use Rattle.rasta_check.proofs.Internals.PartialReading.{Underway-begun, Underway-ends, Underway-record, all_at_end, all_with_window, ReadsSo-then}
 use Rattle.rasta_check.proofs.storing.add_records.Goals as goal
 use Rattle.rasta_check.proofs.storing.add_records.Goals.{else-loop-test, then-loop-test+in-Ok-false}
 
@@ -10,7 +10,7 @@ returns-in-Err-clause-err g c =
     let more : ℕ = c.args.last - (c.loop.counter + 1) in
     ⊎_elim
     (λ e. inl (subst (λ n. IsFailure c.in-Err.fault n (g.R.Source.failure_count c.add_next.new.reader)) c.loop.invariant.1 e))
-    (λ e. inr (Underway-ends _ _ _ _ _ _ (c.loop.invariant.0 (suc more) (omega (arith, c.loop-test.true))) (every_left c.loop.store c.loop.records more c.in-Err.fault _ _ e)))
+    (λ e. inr (Underway-ends _ _ _ _ _ _ (c.loop.invariant.0 (suc more) (omega (arith, c.loop-test.true))) (ReadsSo-then _ _ (λ bytes faults. faults more) e)))
     c.in-Err.ensures.err
 
 pub returns-in-Err-clause-begun : goal.returns-in-Err-clause-begun
