@@ -11,6 +11,5 @@ pub mod RecordBytes
 pub mod Readings
 pub mod RefusedCaptures
 pub mod FirstCopies
-pub mod Spellings
 pub mod DefiniteFaults
 pub mod Positions

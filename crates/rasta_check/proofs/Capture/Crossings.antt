@@ -55,14 +55,13 @@ module _ (p : Parameters) (packets : List Packet) (side : Side) (own : List Firs
 abbrev pub IsRead : Parameters → Packet → Type 0
 IsRead p a = (d : RedundancyPdu) × (decode_of p a.side a.payload ≡ Ok d) × Spells p a.side d a.payload
 
-read_by : (p : Parameters) (own : List FirstCopy) (a : Packet) (r : Result RedundancyPdu Fault) → decode_of p a.side a.payload ≡ r → AreParameters p → AreBytes a.payload
-    → read_fault p a.side own a.payload r ≡ None → IsRead p a
-read_by p own a (Err fault) e valid are n = absurd (cc)
-read_by p own a (Ok d) e valid are n = (let is = decode_of-Ok p a.side a.payload d valid are e in (d, e, record { fits = is.is; same = is.spelled }))
-
 -- a packet without a fault is read
 pub is_read : (p : Parameters) (own : List FirstCopy) (a : Packet) → AreParameters p → AreBytes a.payload → packet_fault p own a ≡ None → IsRead p a
-is_read p own a valid are n = read_by p own a (decode_of p a.side a.payload) refl valid are n
+is_read p own a valid are n = by (decode_of p a.side a.payload) refl n
+  where
+    by : (r : Result RedundancyPdu Fault) → decode_of p a.side a.payload ≡ r → read_fault p a.side own a.payload r ≡ None → IsRead p a
+    by (Err fault) e none = absurd (cc)
+    by (Ok d) e none = (let is = decode_of-Ok p a.side a.payload d valid are e in (d, e, record { fits = is.is; same = is.spelled }))
 
 -- the sent list of its sender goes on
 pub goes_on : (p : Parameters) (packets : List Packet) (own : List FirstCopy) (a : Packet) → IsSent p packets a.side own → IsRead p a
@@ -71,13 +70,11 @@ goes_on p packets own a sent w n =
     subst (λ (r : Result RedundancyPdu Fault). IsSent p (packets ++ a ∷ []) a.side (after_read own (length packets) r)) (sym w.1)
     (by_copy p packets a.side own a sent refl w.0 w.2 (copy_with own w.0.number) refl (sym (ap (read_fault p a.side own a.payload) w.1) ∙ n))
 
-after_few : (own : List FirstCopy) (place : ℕ) (r : Result RedundancyPdu Fault) → length (after_read own place r) ≤ length own + 1
-after_few own place r = grind (arith, length_push)
-
 pub goes_on_sent : (p : Parameters) (packets : List Packet) (own : List FirstCopy) (a : Packet) → IsSent p packets a.side own → length own ≤ 1000000 → IsRead p a
     → packet_fault p own a ≡ None → Sent p (packets ++ a ∷ []) a.side (after_read own (length packets) (decode_of p a.side a.payload))
 goes_on_sent p packets own a sent few w n =
-    let l = after_few own (length packets) (decode_of p a.side a.payload) in of_record p (packets ++ a ∷ []) a.side _ (goes_on p packets own a sent w n) (omega arith)
+    let l : length (after_read own (length packets) (decode_of p a.side a.payload)) ≤ length own + 1 = grind (arith, length_push) in
+    of_record p (packets ++ a ∷ []) a.side _ (goes_on p packets own a sent w n) (omega arith)
 
 -- ---- packets of known numbers
 
@@ -104,10 +101,7 @@ place_within k side number place h e = (let w = first_packet k side number place
 -- what is known of a packet whose PDU is read
 pub known_by : (k : Crossing) (a : Packet) (d : RedundancyPdu) (o : Option FirstCopy) → decode_of k.params a.side a.payload ≡ Ok d → copy_with (sent_by k a.side) d.number ≡ o
     → (packet_fault k.params (sent_by k a.side) a ≡ number_fault k.params a.side (sent_by k a.side) a.payload d o) × (sent_after k a ≡ after_pdu (sent_by k a.side) (length k.packets) d o)
-known_by k a d o reads e = (let own = sent_by k a.side in (
-  ap (read_fault k.params a.side own a.payload) reads ∙ ap (number_fault k.params a.side own a.payload d) e,
-  ap (after_read own (length k.packets)) reads ∙ ap (after_pdu own (length k.packets) d) e,
-))
+known_by k a d o reads e = rw (reads, e) (refl, refl)
 
 -- a packet of a known number has no fault exactly where its bytes are those of the first copy
 pub repeated : (k : Crossing) (a : Packet) (d : RedundancyPdu) (place : ℕ) (r : Bool) → IsCrossing k → decode_of k.params a.side a.payload ≡ Ok d
@@ -115,9 +109,8 @@ pub repeated : (k : Crossing) (a : Packet) (d : RedundancyPdu) (place : ℕ) (r 
     → (packet_fault k.params (sent_by k a.side) a ≡ (if r then None else Some copy_differs)) × (sent_after k a ≡ sent_by k a.side)
 repeated k a d place r h e f g =
     let w = first_packet k a.side d.number place h f in
-    let test : r ≡ bytes_eq w.1.payload a.payload = subst (λ (o : Option Packet). IfSome o (λ (b : Packet). r ≡ bytes_eq b.payload a.payload)) w.3 g in
-    let same : r ≡ bytes_eq (redundancy_bytes k.params a.side w.0.pdu) a.payload = test ∙ ap (λ (bs : List ℕ). bytes_eq bs a.payload) w.4 in
-    rw same (known_by k a d (Some w.0) e w.2)
+    let test : r ≡ bytes_eq w.1.payload a.payload = rw w.3 at g in
+    rw (test, w.4) (known_by k a d (Some w.0) e w.2)
 
 -- the next number is no known one
 next_unknown : (k : Crossing) (side : Side) (n : ℕ) → IsCrossing k → is_next_number (sent_by k side) n ≡ true → (o : Option FirstCopy) → copy_with (sent_by k side) n ≡ o → o ≡ None
@@ -132,11 +125,7 @@ next_unknown k side n h e (Some c) f =
 pub is_next_pdu : (k : Crossing) (a : Packet) (pdu : Pdu) → IsCrossing k → decode_of k.params a.side a.payload ≡ Ok (value_of pdu)
     → is_next_number (sent_by k a.side) (value_of pdu).number ≡ true
     → (packet_fault k.params (sent_by k a.side) a ≡ None) × (sent_after k a ≡ with_new (sent_by k a.side) (length k.packets) (Some pdu))
-is_next_pdu k a pdu h reads e =
-    let own = sent_by k a.side in
-    let d = value_of pdu in
-    let w = known_by k a d None reads (next_unknown k a.side d.number h e (copy_with own d.number) refl) in
-    (w.0 ∙ ap (λ (b : Bool). if b then None else Some number_gap) e, w.1)
+is_next_pdu k a pdu h reads e = rw (reads, next_unknown k a.side (value_of pdu).number h e _ refl, e) (refl, refl)
 
 -- ---- the limits
 

@@ -1,28 +1,24 @@
 -- A fault of a side is definite, over the records of a file.
-use Rattle.std.proofs.Common.{◌≡◌, ℕ, suc, ◌-◌, ◌≤◌, List, [], ◌∷◌, ◌++◌, length, append_assoc, Option, Some, Result, Ok, Err, ap, sym, ◌∙◌, arith, subst, inl, inr}
-use Rattle.std.specs.Prelude.{IsSome, IfErr}
-use Rattle.std.specs.List.{cons_option}
-use Rattle.std.proofs.lemmas.List.{drop-append-le, length_push}
-use Rattle.std.proofs.lemmas.List.Elements.{filter_map-append}
-use Rattle.std.specs.Option.{option_flatten}
-use Rattle.std.specs.Result.{result_ok}
+use Rattle.std.proofs.Common.{◌≡◌, ℕ, suc, ◌≤◌, List, [], ◌∷◌, ◌++◌, length, append_assoc, Some, Err, ap, sym, ◌∙◌, arith, subst, le-ltb}
+use Rattle.std.specs.Prelude.{IsSome}
+use Rattle.std.proofs.lemmas.List.{length_push}
 use Rattle.rasta_pcap.specs.declared.fault.Fault.{Fault}
-use Rattle.rasta_pcap.specs.declared.fault.Side.{Side}
 use Rattle.rasta_pcap.specs.Capture.{IsCapture, opening, reading_of, bytes_of}
 use Rattle.rasta_pcap.proofs.Headers.{opening-fault_place}
 use Rattle.rasta_pcap.proofs.Captures.{IsRefused-place, reading_of-IsCapture}
-use Rattle.rasta_udp.specs.Frame.{Packet, packet_in}
+use Rattle.rasta_udp.specs.Frame.{Packet}
 use Rattle.rasta_pdu.specs.Params.{Parameters}
 use Rattle.rasta_pdu.specs.Messages.{AreBytes}
 use Rattle.rasta_check.specs.Capture.Crossing.{FirstCopy, Sent, crossing_list, packet_fault}
 use Rattle.rasta_check.specs.Model.Theorem.{OfConnection}
-use Rattle.rasta_check.specs.Capture.Reading.{Crossing, crossing_of}
-use Rattle.rasta_check.specs.Capture.Faults.{AreFaultless, HasFault, in_frame, in_packet, in_limits, Impossible, IsRefusedCapture, in_header, in_reading, in_record, packets_through, sent_of}
+use Rattle.rasta_check.specs.Capture.Reading.{crossing_of}
+use Rattle.rasta_check.specs.Capture.Faults.{in_frame, in_packet, in_limits, Impossible, IsRefusedCapture, in_header, in_reading, in_record, packets_through}
 use Rattle.rasta_check.proofs.Capture.PacketFaults.{faultless}
 use Rattle.rasta_check.proofs.Capture.NextPackets.{definite}
 use Rattle.rasta_check.proofs.Capture.ListForms.{to_record}
-use Rattle.rasta_check.proofs.Capture.Readings.{packets_in}
-use Rattle.rasta_check.proofs.Capture.RefusedCaptures.{Answers, is_refused}
+use Rattle.rasta_check.proofs.Capture.FaultlessCaptures.{sent_at}
+use Rattle.rasta_check.proofs.Capture.Readings.{packets_with}
+use Rattle.rasta_check.proofs.Capture.RefusedCaptures.{is_refused}
 
 -- after packets of which its side sent this list, no run goes on with one that has a fault
 impossible_with : (p : Parameters) (packets : List Packet) (own : List FirstCopy) (a : Packet) (number : ℕ) → OfConnection p → Sent p packets a.side own × (length own ≤ 1000000)
@@ -34,17 +30,6 @@ impossible_with p packets own a number h sent some ws w rest r e =
     let none = faultless p packets a.side own a h mine (omega arith) (definite p h.valid ws w packets rest a own r here mine (omega arith)) in
     absurd (cc)
 
-sent_at : (p : Parameters) (records : List (List ℕ)) (c s : List FirstCopy) → AreFaultless p records c s → (side : Side)
-    → Sent p (crossing_list p records) side (sent_of side c s) × (length (sent_of side c s) ≤ 1000000)
-sent_at p records c s h side = grind arith
-
--- a fault that speaks of a side is that of a packet
-of_packet : (p : Parameters) (records : List (List ℕ)) (c s : List FirstCopy) (frame : List ℕ) (number : ℕ) (end : Option Side) → HasFault p records c s frame number end → IsSome end
-    → (a : Packet) × (packet_in p.channels frame ≡ Ok (Some a)) × (packet_fault p (sent_of a.side c s) a ≡ Some number)
-of_packet p records c s frame number end (in_frame g found) is = absurd (cc)
-of_packet p records c s frame number end (in_packet a n found some) is = (a, found, some)
-of_packet p records c s frame number end (in_limits a found none last) is = absurd (cc)
-
 -- a fault of a side names a record of the file, and no run sends what the records up to it hold
 pub record IsDefinite (p : Parameters) (file : List ℕ) (f : Fault) : Type 0 where
   pub impossible : Impossible p (packets_through p file f.place)
@@ -54,31 +39,21 @@ pub record IsDefinite (p : Parameters) (file : List ℕ) (f : Fault) : Type 0 wh
 definite_by : (p : Parameters) (file : List ℕ) (f : Fault) → OfConnection p → IsRefusedCapture p file f → IsSome f.end → IsDefinite p file f
 definite_by p file f h (in_header g e) is = absurd (let none = ap (λ (x : Fault). x.end) (opening-fault_place file g e) in cc)
 definite_by p file f h (in_reading records c s g faultless refused) is = absurd (let none = ap (λ (x : Fault). x.end) (IsRefused-place p.last_record file records g refused) in cc)
-definite_by p file f h (in_record records c s frame number end faultless capture low high fault) is =
+definite_by p file f h (in_record records c s frame number end faultless capture low high (in_frame g found)) is = absurd (cc)
+definite_by p file f h (in_record records c s frame number end faultless capture low high (in_limits a found none last)) is = absurd (cc)
+definite_by p file f h (in_record records c s frame number end faultless capture low high (in_packet a m found some)) is =
     let n = suc (length records) in
     let top = h.valid.window.last_most in
-    let w = of_packet p records c s frame number end fault is in
     let read = (reading_of-IsCapture n file (records ++ frame ∷ []) (omega (arith, top, high)) capture).0 in
-    let packets : packets_through p file n ≡ crossing_list p records ++ w.0 ∷ [] =
-    ap (crossing_list p) read ∙ ap (packets_in p) (drop-append-le (p.first_record - 1) records (frame ∷ []) (omega arith))
-    ∙ filter_map-append (λ (fr : List ℕ). option_flatten (result_ok (packet_in p.channels fr))) _ (frame ∷ [])
-    ∙ ap (λ (o : Result (Option Packet) Fault). crossing_list p records ++ cons_option (option_flatten (result_ok o)) []) w.1 in
+    let packets : packets_through p file n ≡ crossing_list p records ++ a ∷ [] = ap (crossing_list p) read ∙ packets_with p records frame [] (le-ltb n p.first_record low) (Some a) found in
     record {
-      impossible = subst (Impossible p) (sym packets) (impossible_with p (crossing_list p records) _ w.0 number h (sent_at p records c s faultless w.0.side) w.2);
+      impossible = subst (Impossible p) (sym packets) (impossible_with p (crossing_list p records) _ a m h (sent_at p records c s faultless a.side) some);
       capture = subst (IsCapture n file) (sym read) capture;
       count = ap length read ∙ (let l = length_push records frame in omega arith);
     }
 
 pub is_definite : (p : Parameters) (file : List ℕ) (f : Fault) → OfConnection p → AreBytes file → crossing_of p file ≡ Err f → IsSome f.end → IsDefinite p file f
 is_definite p file f h are e is = definite_by p file f h (is_refused p file h are f e) is
-
--- ---- answers for a file
-
-pub answer_definite : (p : Parameters) (file : List ℕ) (r : Result Crossing Fault) → OfConnection p → AreBytes file → Answers p file r
-    → IfErr r (λ f. IsSome f.end → Impossible p (packets_through p file f.place))
-answer_definite p file (Ok s) h are a = tt
-answer_definite p file (Err f) h are (inl e) = λ is. absurd (let none = ap (λ (x : Fault). x.end) e in cc)
-answer_definite p file (Err f) h are (inr e) = λ is. (is_definite p file f h are e is).impossible
 
 -- the fault of a file's header speaks of no side
 pub opening_definite : (p : Parameters) (file : List ℕ) (f : Fault) → opening file ≡ Err f → IsSome f.end → Impossible p (packets_through p file f.place)

@@ -1,11 +1,11 @@
 -- The numbers of a capture's faults: those of a packet are 20 to 28 and name its side, all others are lower and name none.
-use Rattle.std.proofs.Common.{◌≡◌, ℕ, ◌<◌, ◌≤◌, List, length, Option, Some, None, Result, Ok, Err, refl, ap, sym, arith, subst, ⊎_elim, inl, inr}
+use Rattle.std.proofs.Common.{◌≡◌, ℕ, ◌<◌, ◌≤◌, List, length, Option, Some, None, Result, Err, refl, ap, arith, subst, inl, inr}
 use Rattle.std.specs.Prelude.{IsSome, IfErr, IfSome, ◌↔◌}
 use native.Mathlib.Decide.{dec_lt}
 use Prim.{yes, no}
 use Rattle.rasta_pcap.specs.declared.fault.Fault.{Fault}
 use Rattle.rasta_pcap.specs.declared.fault.Side.{Side}
-use Rattle.rasta_pcap.specs.Fault.{not_pcap, redundancy_length, number_gap}
+use Rattle.rasta_pcap.specs.Fault.{no_memory, not_pcap, redundancy_length, number_gap}
 use Rattle.rasta_pcap.specs.Capture.{Cursor, Numbered, next, opening, reading_of}
 use Rattle.rasta_pcap.proofs.Captures.{IsRefused-place, IsRefused-reading_of, opening-by_reading_of}
 use Rattle.rasta_pcap.proofs.Headers.{opening-fault_place}
@@ -15,9 +15,8 @@ use Rattle.rasta_pdu.specs.Params.{Parameters}
 use Rattle.rasta_pdu.specs.declared.kind.Kind.{Kind}
 use Rattle.rasta_pdu.specs.Pdu.{decode_kind, decode_of}
 use Rattle.rasta_check.specs.Capture.Crossing.{FirstCopy, packet_fault}
-use Rattle.rasta_check.specs.Capture.Reading.{Crossing, crossing_of, nothing_crossed, sent_by}
-use Rattle.rasta_check.proofs.Capture.Readings.{Step, bad_frame, bad_packet, no_room, breaks}
-use Rattle.rasta_check.proofs.Capture.RefusedCaptures.{Answers}
+use Rattle.rasta_check.specs.Capture.Reading.{Crossing, crossing_of, sent_by}
+use Rattle.rasta_check.proofs.Capture.Readings.{Leads, Step, bad_frame, bad_packet, no_room, file_leads}
 
 -- ---- faults that name no side
 
@@ -70,15 +69,12 @@ packet_between p sent a = (let d = decode_between p a.side a.payload in grind ar
 sideless : (f : Fault) → IsLow f → f.end ≡ None → IsSided f
 sideless f low none = grind arith
 
-opening_sided : (file : List ℕ) (f : Fault) → opening file ≡ Err f → IsSided f
-opening_sided file f e = sideless f (opening_low file f e) (ap (λ (g : Fault). g.end) (opening-fault_place file f e))
-
 -- the fault that ends a reading
 reading_sided : (limit : ℕ) (file : List ℕ) (f : Fault) → (reading_of limit file).fault ≡ Some f → IsSided f
 reading_sided limit file f e = elim (dec_lt 0 f.place) [
   | yes l ↦ (let w = IsRefused-reading_of limit file f e l in
       sideless f (next_low (record { order = w.order; rest = w.rest; count = length w.entries }) f w.refused) (ap (λ (g : Fault). g.end) (IsRefused-place limit file _ f w)))
-  | no l ↦ opening_sided file f (opening-by_reading_of limit file f e (omega arith))
+  | no l ↦ (let e = opening-by_reading_of limit file f e (omega arith) in sideless f (opening_low file f e) (ap (λ (g : Fault). g.end) (opening-fault_place file f e)))
 ]
 
 step_sided : (k : Crossing) (r : Numbered) (f : Fault) → Step k r (Err f) → IsSided f
@@ -87,10 +83,7 @@ step_sided k r f (bad_packet a n t found some) = ((λ is. subst (λ (o : Option 
 step_sided k r f (no_room a t found none full) = sideless f (omega arith, omega arith) refl
 
 pub file_sided : (p : Parameters) (file : List ℕ) (f : Fault) → crossing_of p file ≡ Err f → IsSided f
-file_sided p file f e =
-    let r = reading_of p.last_record file in
-    let b = breaks (nothing_crossed p) r.records r.fault f e in
-    ⊎_elim (λ w. reading_sided p.last_record file f w.1) (λ w. step_sided b.last w.0 f w.3) b.how
+file_sided p file f e = elim (subst (Leads p _ _) e (file_leads p file)) [ inl w ↦ reading_sided p.last_record file f w.2 | inr w ↦ step_sided _ _ f w.step ]
 
 -- it names a side exactly where it is one of a packet
 abbrev pub NamesSide : Fault → Type 0
@@ -102,10 +95,5 @@ names_side f h = grind arith
 pub file_names_side : (p : Parameters) (file : List ℕ) (f : Fault) → crossing_of p file ≡ Err f → NamesSide f
 file_names_side p file f e = names_side f (file_sided p file f e)
 
-pub opening_names_side : (file : List ℕ) (f : Fault) → opening file ≡ Err f → NamesSide f
-opening_names_side file f e = names_side f (opening_sided file f e)
-
-pub answer_names_side : (p : Parameters) (file : List ℕ) (r : Result Crossing Fault) → Answers p file r → IfErr r NamesSide
-answer_names_side p file (Ok s) a = tt
-answer_names_side p file (Err f) (inl e) = subst NamesSide (sym e) (λ some. absurd (cc), λ w. absurd (let low = w.0 in omega arith))
-answer_names_side p file (Err f) (inr e) = file_names_side p file f e
+pub memory_names_side : (f : Fault) → f ≡ no_memory → NamesSide f
+memory_names_side f e = grind arith

@@ -1,8 +1,10 @@
 -- Sent lists as the proofs use them: the list and the absence of faults in one record.
-use Rattle.std.proofs.Common.{◌≡◌, ℕ, suc, ◌+◌, ◌<◌, ◌≤◌, List, Some, slice_get}
+use Rattle.std.proofs.Common.{◌≡◌, ℕ, suc, ◌+◌, ◌<◌, ◌≤◌, List, Some, slice_get, sym, ◌∙◌}
 use Rattle.rasta_pcap.specs.declared.fault.Side.{Side}
 use Rattle.rasta_udp.specs.Frame.{Packet}
 use Rattle.rasta_pdu.specs.Params.{Parameters, AreParameters}
+use Rattle.rasta_pdu.specs.Pdu.{RedundancyPdu}
+use Rattle.rasta_pdu.proofs.Spellings.{redundancy_bytes-injective}
 use Rattle.rasta_end.specs.State.{wrapped}
 use Rattle.rasta_check.specs.Capture.Crossing.{FirstCopy, Spells}
 use Rattle.rasta_check.specs.Capture.Lists.{IsOrdered}
@@ -19,3 +21,7 @@ pub record IsSent (p : Parameters) (packets : List Packet) (side : Side) (sent :
 -- places rise, and numbers go on
 pub ordered : {p : Parameters} {packets : List Packet} {side : Side} {sent : List FirstCopy} → IsSent p packets side sent → IsOrdered sent
 ordered h = record { places = h.rising; numbers = h.numbers }
+
+-- bytes of a side spell one PDU
+pub read_once : (p : Parameters) → AreParameters p → (s : Side) (d e : RedundancyPdu) (bytes : List ℕ) → Spells p s d bytes → Spells p s e bytes → d ≡ e
+read_once p valid s d e bytes x y = redundancy_bytes-injective p s d e valid x.fits y.fits (sym x.same ∙ y.same)

@@ -1,7 +1,7 @@
 -- The first copies of a growing list of packets, and that a list of packets has one list of first copies.
-use Rattle.std.proofs.Common.{◌≡◌, ℕ, zero, suc, ◌+◌, ◌<◌, ◌≤◌, List, [], ◌∷◌, ◌++◌, length, Option, Some, None, slice_get, refl, ap, sym, ◌∙◌, arith, ⊎_elim, subst}
+use Rattle.std.proofs.Common.{◌≡◌, ℕ, zero, suc, ◌+◌, ◌<◌, ◌≤◌, List, [], ◌∷◌, ◌++◌, length, Option, Some, None, slice_get, append-nil, refl, ap, sym, ◌∙◌, arith, ⊎_elim, subst}
 use Rattle.std.proofs.lemmas.List.{length_push}
-use Rattle.std.proofs.lemmas.Option.{slice_get_within}
+use Rattle.std.proofs.lemmas.Option.{slice_get_past, slice_get_within}
 use native.Mathlib.Decide.{dec_lt}
 use Prim.{yes, no}
 use Rattle.rasta_pcap.specs.declared.fault.Side.{Side}
@@ -9,9 +9,8 @@ use Rattle.rasta_end.specs.State.{wrapped}
 use Rattle.rasta_pdu.specs.Pdu.{RedundancyPdu}
 use Rattle.rasta_check.specs.Capture.Crossing.{Spells, FirstCopy}
 use Rattle.rasta_udp.specs.Frame.{Packet}
-use Rattle.rasta_check.proofs.Capture.FaultlessLists.{IsSent, ordered}
-use Rattle.rasta_check.proofs.Lists.{all_push, get_push_cases, get_front, get_front_within, get_push, slice_get_some}
-use Rattle.rasta_check.proofs.Capture.Spellings.{read_once}
+use Rattle.rasta_check.proofs.Capture.FaultlessLists.{IsSent, ordered, read_once}
+use Rattle.rasta_check.proofs.Lists.{all_push, begins_with, get_next, get_push_cases, get_front, get_front_within, get_push, slice_get_some}
 use Rattle.rasta_check.proofs.Capture.Positions.{not_again, places_rise}
 use Rattle.rasta_pdu.specs.Params.{Parameters, AreParameters}
 
@@ -72,67 +71,63 @@ sent_first p xs k s own d f h cf side sp num =
 pub sent_none : (p : Parameters) (s : Side) → AreParameters p → IsSent p [] s []
 sent_none p s valid = record { valid = valid; firsts = λ i c g. absurd (cc); rising = λ i a b x y. absurd (cc); numbers = λ i a b x y. absurd (cc); copies = λ k a g e. absurd (cc) }
 
--- two lists of first copies that agree p below i: the place of the one's i-th is not below that of the other's
-module _ (p : Parameters) (xs : List Packet) (s : Side) (c d : List FirstCopy) (hc : IsSent p xs s c) (hd : IsSent p xs s d) where
-  abbrev Agree : ℕ → Type 0
-  Agree i = (j : ℕ) → j < i → slice_get c j ≡ slice_get d j
-
-  -- c has an i-th; all copies of d at or below its place come before i
-  absent : (i : ℕ) (a : FirstCopy) → i < 4294967296 → Agree i → slice_get c i ≡ Some a → ((j : ℕ) (b : FirstCopy) → slice_get d j ≡ Some b → b.place ≤ a.place → j < i) → ⊥
-  absent i a l ag g all =
-      let f = hc.firsts i a g in
-      let w = hd.copies a.place f.0 f.1 f.2 in
-      let low = all w.0 w.1 w.2 w.3 in
-      let mine : slice_get c w.0 ≡ Some w.1 = ag w.0 low ∙ w.2 in
-      let same : w.1.pdu ≡ a.pdu = read_once p hc.valid s w.1.pdu a.pdu f.0.payload w.4 f.3 in
-      let lc = slice_get_within c i a g in
-      let head = slice_get_some c 0 (omega arith) in
-      not_again head.0.pdu.number w.0 i w.1.pdu.number a.pdu.number (hc.numbers w.0 head.0 w.1 head.1 mine) (hc.numbers i head.0 a head.1 g) low l (ap (λ (z : RedundancyPdu). z.number) same)
-
-pub below_by : (p : Parameters) (xs : List Packet) (s : Side) (d : List FirstCopy) → IsSent p xs s d → (i j : ℕ) (a b e : FirstCopy) → slice_get d i ≡ Some e → a.place < e.place → slice_get d j ≡ Some b → b.place ≤ a.place → j < i
-below_by p xs s d h i j a b e at l g m =
-    let later : i < j → ⊥ = λ y. (let r = places_rise d (ordered h) i j e b at g y in omega arith) in
-    let same : i ≡ j → ⊥ = λ q. (let z : e ≡ b = cc in let w = ap (λ (u : FirstCopy). u.place) z in omega arith) in
-    omega (arith, later, same)
-
-at_same : (p : Parameters) (xs : List Packet) (s : Side) (c d : List FirstCopy) → IsSent p xs s c → IsSent p xs s d → (i : ℕ) (a b : FirstCopy) → slice_get c i ≡ Some a → slice_get d i ≡ Some b → a.place ≡ b.place → a ≡ b
-at_same p xs s c d hc hd i a b g k e =
+-- where two lists of first copies agree before a member of one, the other has one there, which crossed no later
+reached : (p : Parameters) (xs : List Packet) (s : Side) (c d : List FirstCopy) → IsSent p xs s c → IsSent p xs s d → (i : ℕ) (a : FirstCopy) → i < 4294967296
+    → ((j : ℕ) → j < i → slice_get c j ≡ slice_get d j) → slice_get c i ≡ Some a → (b : FirstCopy) × (slice_get d i ≡ Some b) × (b.place ≤ a.place)
+reached p xs s c d hc hd i a l ag g =
     let f = hc.firsts i a g in
-    let f' = hd.firsts i b k in
-    let same : f.0 ≡ f'.0 = (let z : slice_get xs b.place ≡ Some f.0 = subst (λ (t : ℕ). slice_get xs t ≡ Some f.0) e f.1 in let y = f'.1 in cc) in
-    let sp : Spells p s b.pdu f.0.payload = subst (λ (z : Packet). Spells p s b.pdu z.payload) (sym same) f'.3 in
-    let dat = read_once p hc.valid s a.pdu b.pdu f.0.payload f.3 sp in
-    (λ t. record { place = e t; pdu = dat t })
+    let w = hd.copies a.place f.0 f.1 f.2 in
+    let same : w.1.pdu ≡ a.pdu = read_once p hc.valid s w.1.pdu a.pdu f.0.payload w.4 f.3 in
+    let lc = slice_get_within c i a g in
+    let ld = slice_get_within d w.0 w.1 w.2 in
+    let head = slice_get_some c 0 (omega arith) in
+    let up : w.0 < i → ⊥ = λ low.
+    not_again head.0.pdu.number w.0 i w.1.pdu.number a.pdu.number (hc.numbers w.0 head.0 w.1 head.1 (ag w.0 low ∙ w.2)) (hc.numbers i head.0 a head.1 g) low l (ap (λ (z : RedundancyPdu). z.number) same) in
+    let b = slice_get_some d i (omega (arith, up)) in (
+      b.0,
+      b.1,
+      elim (dec_lt i w.0) [
+        | yes y ↦ (let rise = places_rise d (ordered hd) i w.0 b.0 w.1 b.1 w.2 y in let low = w.3 in omega arith)
+        | no y ↦ (let at : i ≡ w.0 = omega (arith, up) in let one : b.0 ≡ w.1 = (let x = b.1 in let z = w.2 in cc) in rw one w.3)
+      ],
+    )
 
-agree_at : (p : Parameters) (xs : List Packet) (s : Side) (c d : List FirstCopy) (hc : IsSent p xs s c) (hd : IsSent p xs s d) (i : ℕ) → i < 4294967296 → ((j : ℕ) → j < i → slice_get c j ≡ slice_get d j)
-    → (u v : Option FirstCopy) → slice_get c i ≡ u → slice_get d i ≡ v → u ≡ v
-agree_at p xs s c d hc hd i l ag None None x y = refl
-agree_at p xs s c d hc hd i l ag (Some a) None x y = absurd (absent p xs s c d hc hd i a l ag x (λ j b g p. (let w = slice_get_within d j b g in elim (dec_lt j i) [ yes z ↦ z | no z ↦ absurd (let r = slice_get_some d i (omega arith) in let e = r.1 in cc) ])))
-agree_at p xs s c d hc hd i l ag None (Some b) x y = absurd (absent p xs s d c hd hc i b l (λ j k. sym (ag j k)) y (λ j a g p. (let w = slice_get_within c j a g in elim (dec_lt j i) [ yes z ↦ z | no z ↦ absurd (let r = slice_get_some c i (omega arith) in let e = r.1 in cc) ])))
-agree_at p xs s c d hc hd i l ag (Some a) (Some b) x y =
-    let not_low : a.place < b.place → ⊥ = λ w. absent p xs s c d hc hd i a l ag x (λ j e g u. below_by p xs s d hd i j a e b y w g u) in
-    let not_high : b.place < a.place → ⊥ = λ w. absent p xs s d c hd hc i b l (λ j k. sym (ag j k)) y (λ j e g u. below_by p xs s c hc i j b e a x w g u) in
-    let same : a.place ≡ b.place = omega (arith, not_low, not_high) in
-    ap Some (at_same p xs s c d hc hd i a b x y same)
+module _ (p : Parameters) (xs : List Packet) (s : Side) (c d : List FirstCopy) (hc : IsSent p xs s c) (hd : IsSent p xs s d) where
+  at_same : (i : ℕ) (a b : FirstCopy) → slice_get c i ≡ Some a → slice_get d i ≡ Some b → a.place ≡ b.place → a ≡ b
+  at_same i a b g k e =
+      let f = hc.firsts i a g in
+      let f' = hd.firsts i b k in
+      let same : f.0 ≡ f'.0 = (let z = f.1 in let y = f'.1 in cc) in
+      let sp : Spells p s b.pdu f.0.payload = subst (λ (z : Packet). Spells p s b.pdu z.payload) (sym same) f'.3 in
+      let dat = read_once p hc.valid s a.pdu b.pdu f.0.payload f.3 sp in
+      (λ t. record { place = e t; pdu = dat t })
 
-agree : (p : Parameters) (xs : List Packet) (s : Side) (c d : List FirstCopy) → IsSent p xs s c → IsSent p xs s d → (n : ℕ) → n ≤ 4294967296 → (j : ℕ) → j < n → slice_get c j ≡ slice_get d j
-agree p xs s c d hc hd zero l j k = absurd (omega arith)
-agree p xs s c d hc hd (suc n) l j k =
-    elim (dec_lt j n) [
-      | yes z ↦ agree p xs s c d hc hd n (omega arith) j z
-      | no z ↦ (let e : j ≡ n = omega arith in subst (λ (t : ℕ). slice_get c t ≡ slice_get d t) (sym e) (agree_at p xs s c d hc hd n (omega arith) (agree p xs s c d hc hd n (omega arith)) (slice_get c n) (slice_get d n) refl refl))
-    ]
+  agree_at : (i : ℕ) → i < 4294967296 → ((j : ℕ) → j < i → slice_get c j ≡ slice_get d j) → (u v : Option FirstCopy) → slice_get c i ≡ u → slice_get d i ≡ v → u ≡ v
+  agree_at i l ag None None x y = refl
+  agree_at i l ag (Some a) v x y =
+      let w = reached p xs s c d hc hd i a l ag x in
+      let z = reached p xs s d c hd hc i w.0 l (λ j k. sym (ag j k)) w.1 in
+      let back : z.0 ≡ a = (let q = z.1 in cc) in
+      let at : a.place ≡ w.0.place = (let low = w.2 in let high = z.2 in let q = ap (λ (u : FirstCopy). u.place) back in omega arith) in
+      ap Some (at_same i a w.0 x w.1 at) ∙ sym w.1 ∙ y
+  agree_at i l ag None (Some b) x y = absurd (let w = (reached p xs s d c hd hc i b l (λ j k. sym (ag j k)) y).1 in cc)
 
--- lists that agree p up to and with the end of one are equal
-equal_by : {A : Type 0} (xs ys : List A) → ((j : ℕ) → j < suc (length xs) → slice_get xs j ≡ slice_get ys j) → xs ≡ ys
-equal_by [] [] h = refl
-equal_by [] (y ∷ ys) h = absurd (let z = h 0 (omega arith) in cc)
-equal_by (x ∷ xs) [] h = absurd (let z = h 0 (omega arith) in cc)
-equal_by (x ∷ xs) (y ∷ ys) h =
-    let e : x ≡ y = (let z = h 0 (omega arith) in cc) in
-    let r = equal_by xs ys (λ j l. h (suc j) (omega arith)) in
-    (λ i. e i ∷ r i)
+  agree : (n : ℕ) → n ≤ 4294967296 → (j : ℕ) → j < n → slice_get c j ≡ slice_get d j
+  agree zero l j k = absurd (omega arith)
+  agree (suc n) l j k =
+      elim (dec_lt j n) [
+        | yes z ↦ agree n (omega arith) j z
+        | no z ↦ (let e : n ≡ j = omega arith in subst (λ (t : ℕ). slice_get c t ≡ slice_get d t) e (agree_at n (omega arith) (agree n (omega arith)) (slice_get c n) (slice_get d n) refl refl))
+      ]
+
+none_first : {A : Type 0} (xs : List A) → slice_get xs 0 ≡ None → xs ≡ []
+none_first [] e = refl
+none_first (x ∷ xs) e = absurd (cc)
 
 -- a list of packets has one list of first copies
 pub sent_once : (p : Parameters) (xs : List Packet) (s : Side) (c d : List FirstCopy) → IsSent p xs s c → IsSent p xs s d → length c < 4294967296 → c ≡ d
-sent_once p xs s c d hc hd l = equal_by c d (agree p xs s c d hc hd (suc (length c)) l)
+sent_once p xs s c d hc hd l =
+    let same = agree p xs s c d hc hd (suc (length c)) l in
+    let w = begins_with c d (λ k a e. (let b = slice_get_within c k a e in sym (same k (omega arith)) ∙ e)) in
+    let none = none_first w.0 (sym (get_next c w.0) ∙ ap (λ (z : List FirstCopy). slice_get z (length c)) (sym w.1) ∙ sym (same (length c) (omega arith)) ∙ slice_get_past c (length c) (omega arith)) in
+    sym (w.1 ∙ ap (λ (z : List FirstCopy). c ++ z) none ∙ append-nil c)

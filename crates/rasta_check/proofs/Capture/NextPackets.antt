@@ -12,7 +12,7 @@ use Rattle.rasta_udp.specs.Frame.{Packet}
 use Rattle.rasta_check.specs.Model.World.{World, Reaches}
 use Rattle.rasta_check.proofs.Capture.FaultlessLists.{IsSent, ordered}
 use Rattle.rasta_end.proofs.Lists.{get_front, get_front_within}
-use Rattle.rasta_check.proofs.Capture.FirstCopies.{below_by, sent_once, Counts_from}
+use Rattle.rasta_check.proofs.Capture.FirstCopies.{sent_once, Counts_from}
 use Rattle.rasta_check.proofs.Script.ScriptsOfRuns.{told_by}
 use Rattle.rasta_check.proofs.Lists.{slice_get_some, get_next}
 use Rattle.rasta_check.proofs.Capture.Positions.{places_rise}
@@ -30,16 +30,14 @@ pub record Begins (big own : List FirstCopy) (n : ℕ) : Type 0 where
   pub whole : big ≡ own ++ later
   pub place : (c : FirstCopy) → slice_get later 0 ≡ Some c → n ≤ c.place
 
-AreBelow : ℕ → List FirstCopy → Type 0
+abbrev AreBelow : ℕ → List FirstCopy → Type 0
 AreBelow n own = (i : ℕ) (c : FirstCopy) → slice_get own i ≡ Some c → c.place < n
 
 below_more : (n : ℕ) (c : FirstCopy) (own : List FirstCopy) → c.place < n → AreBelow n own → AreBelow n (c ∷ own)
-unfolding AreBelow
 below_more n c own l h zero d g = (let same : c ≡ d = cc in let e = ap (λ (z : FirstCopy). z.place) same in omega arith)
 below_more n c own l h (suc i) d g = h i d g
 
 split_at : (n : ℕ) (big : List FirstCopy) → (own : List FirstCopy) × AreBelow n own × Begins big own n
-unfolding AreBelow
 split_at n [] = ([], λ i c g. absurd (cc), record { later = []; whole = refl; place = λ c g. absurd (cc) })
 split_at n (c ∷ cs) = elim (dec_lt c.place n) [
   | yes l ↦ (let r = split_at n cs in (c ∷ r.0, below_more n c r.0 l r.1, record { later = r.2.later; whole = ap (λ (xs : List FirstCopy). c ∷ xs) r.2.whole; place = r.2.place }))
@@ -55,18 +53,21 @@ split_at n (c ∷ cs) = elim (dec_lt c.place n) [
 ]
 
 module _ (p : Parameters) (xs ys : List Packet) (s : Side) (own later : List FirstCopy) (h : IsSent p (xs ++ ys) s (own ++ later)) (high : (c : FirstCopy) → slice_get later 0 ≡ Some c → length xs ≤ c.place) where
-  within_own : (i : ℕ) (c : FirstCopy) → slice_get (own ++ later) i ≡ Some c → c.place < length xs → i < length own
-  within_own i c g l =
-      let not_high : length own ≤ i → ⊥ = λ m.
-      (let n = slice_get_within (own ++ later) i c g in
+  -- a member at the next place or before it is among the first, or the next
+  next_at : (i : ℕ) (c : FirstCopy) → slice_get (own ++ later) i ≡ Some c → c.place ≤ length xs → length own ≤ i → i ≡ length own
+  next_at i c g low m =
+      let n = slice_get_within (own ++ later) i c g in
       let f = slice_get_some (own ++ later) (length own) (omega arith) in
       let first = high f.0 (sym (get_next own later) ∙ f.1) in
-      let low = below_by p (xs ++ ys) s (own ++ later) h (length own) i c c f.0 f.1 (omega arith) g (omega arith) in
-      omega arith) in
+      let not_later : length own < i → ⊥ = λ l. (let r = places_rise (own ++ later) (ordered h) (length own) i f.0 c f.1 g l in omega arith) in
+      omega (arith, not_later)
+
+  within_own : (i : ℕ) (c : FirstCopy) → slice_get (own ++ later) i ≡ Some c → c.place < length xs → i < length own
+  within_own i c g l =
+      let not_high : length own ≤ i → ⊥ = λ m. (let first = high c (sym (get_next own later) ∙ rw (next_at i c g (omega arith) m) at g) in omega arith) in
       omega (arith, not_high)
 
   sent_part : AreBelow (length xs) own → IsSent p xs s own
-  unfolding AreBelow
   sent_part low =
       record {
         valid = h.valid;
@@ -78,18 +79,6 @@ module _ (p : Parameters) (xs ys : List Packet) (s : Side) (own later : List Fir
             (w.0, w.1, sym (get_front_within own later w.0 (within_own w.0 w.1 w.2 (let q = w.3 in omega arith))) ∙ w.2, w.3, w.4));
       }
 
-  -- the first copy at the next place comes next
-  next_copy : IsSent p xs s own → (i : ℕ) (c : FirstCopy) → slice_get (own ++ later) i ≡ Some c → c.place ≡ length xs → i ≡ length own
-  next_copy mine i c g at =
-      let not_low : i < length own → ⊥ = λ l. (let w = mine.firsts i c (sym (get_front_within own later i l) ∙ g) in let m = slice_get_within xs c.place w.0 w.1 in absurd (omega arith)) in
-      let not_high : length own < i → ⊥ = λ l.
-      (let n = slice_get_within (own ++ later) i c g in
-      let f = slice_get_some (own ++ later) (length own) (omega arith) in
-      let first = high f.0 (sym (get_next own later) ∙ f.1) in
-      let r = places_rise (own ++ later) (ordered h) (length own) i f.0 c f.1 g l in
-      absurd (omega arith)) in
-      omega (arith, not_low, not_high)
-
 -- the sent list of more packets begins with that of these
 pub cut : (p : Parameters) (ys xs : List Packet) (s : Side) (big : List FirstCopy) → IsSent p (xs ++ ys) s big → (own : List FirstCopy) × IsSent p xs s own × Begins big own (length xs)
 cut p ys xs s big h =
@@ -97,27 +86,21 @@ cut p ys xs s big h =
     (w.0, sent_part p xs ys s w.0 w.2.later (subst (λ (cs : List FirstCopy). IsSent p (xs ++ ys) s cs) w.2.whole h) w.2.place w.1, w.2)
 
 -- it spells the PDU of a member, which crossed before, or is the next
-follow_by : (p : Parameters) (xs rest : List Packet) (s : Side) (own later : List FirstCopy) (a : Packet) → IsSent p xs s own → IsSent p (xs ++ a ∷ rest) s (own ++ later)
-    → ((c : FirstCopy) → slice_get later 0 ≡ Some c → length xs ≤ c.place) → a.side ≡ s → CanFollow p xs s own a
-follow_by p xs rest s own later a h g high sd =
-    let w = g.copies (length xs) a (get_next xs (a ∷ rest)) sd in (
-      w.1.pdu,
-      w.4,
-      elim (dec_lt w.1.place (length xs)) [
-        | yes l ↦ inl (w.0, w.1, sym (get_front_within own later w.0 (within_own p xs (a ∷ rest) s own later g high w.0 w.1 w.2 l)) ∙ w.2, refl)
-        | no l ↦ inr (λ c x. (let at = w.3 in
-            let n = next_copy p xs (a ∷ rest) s own later g high h w.0 w.1 w.2 (omega arith) in
-            g.numbers w.0 c w.1 (get_front own later 0 c x) w.2 ∙ ap (λ m. wrapped (c.pdu.number + m)) n))
-      ],
-    )
-
 pub can_follow : (p : Parameters) (xs rest : List Packet) (s : Side) (own : List FirstCopy) (a : Packet) → IsSent p xs s own → length own < 2 ^ 32 → a.side ≡ s → (more : List FirstCopy) → IsSent p (xs ++ a ∷ rest) s more → CanFollow p xs s own a
 can_follow p xs rest s own a h l sd more g =
     let r = cut p (a ∷ rest) xs s more g in
     let later = r.2.later in
     let whole : more ≡ own ++ later = r.2.whole ∙ ap (λ (cs : List FirstCopy). cs ++ later) (sym (sent_once p xs s own r.0 h r.1 l)) in
-    let goes : IsSent p (xs ++ a ∷ rest) s (own ++ later) = subst (λ (cs : List FirstCopy). IsSent p (xs ++ a ∷ rest) s cs) whole g in
-    follow_by p xs rest s own later a h goes r.2.place sd
+    let goes = subst (λ (cs : List FirstCopy). IsSent p (xs ++ a ∷ rest) s cs) whole g in
+    let w = goes.copies (length xs) a (get_next xs (a ∷ rest)) sd in (
+      w.1.pdu,
+      w.4,
+      elim (dec_lt w.0 (length own)) [
+        | yes b ↦ inl (w.0, w.1, sym (get_front_within own later w.0 b) ∙ w.2, refl)
+        | no b ↦ inr (λ c x.
+            goes.numbers w.0 c w.1 (get_front own later 0 c x) w.2 ∙ ap (λ m. wrapped (c.pdu.number + m)) (next_at p xs (a ∷ rest) s own later goes r.2.place w.0 w.1 w.2 w.3 (omega arith)))
+      ],
+    )
 
 -- the numbers of a list, and the next
 pub counted : (p : Parameters) (xs : List Packet) (s : Side) (own : List FirstCopy) (d : RedundancyPdu) → IsSent p xs s own → d.number < 2 ^ 32

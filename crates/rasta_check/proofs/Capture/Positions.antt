@@ -1,59 +1,49 @@
 -- Positions in ordered lists of first copies.
-use Rattle.std.proofs.Common.{◌≡◌, ℕ, zero, suc, ◌+◌, ◌-◌, ◌%◌, ◌^◌, ◌<◌, ◌≤◌, ◌++◌, Bool, false, nat_eq, List, [], ◌∷◌, Some, None, length, get_or, slice_get, position, ap, sym, ◌∙◌, arith, subst, if◌then◌else◌, take, drop}
-use Rattle.std.specs.List.{position_or_len}
+use Rattle.std.proofs.Common.{◌≡◌, ℕ, zero, suc, ◌+◌, ◌-◌, ◌%◌, ◌^◌, ◌<◌, ◌≤◌, ◌++◌, Bool, false, nat_eq, List, [], ◌∷◌, Some, None, length, get_or, map, slice_get, position, refl, ap, sym, ◌∙◌, arith, subst, if◌then◌else◌, take, drop}
 use Rattle.std.specs.Option.{option_map}
 use Rattle.std.proofs.lemmas.Bool.Decides.{nat_tests}
 use Rattle.std.proofs.lemmas.List.{length_push, map-append, take-append-drop}
 use Rattle.std.proofs.lemmas.List.Quantifiers.{position-Some}
-use Rattle.std.proofs.lemmas.List.Sums.{position_or_len_is}
-use Rattle.std.proofs.lemmas.List.Folds.{position_or_len_push}
 use Rattle.std.proofs.lemmas.Option.{slice_get_within, slice_get-get_or}
 use Rattle.rasta_end.specs.State.{wrapped}
 use Rattle.rasta_check.specs.Capture.Crossing.{FirstCopy}
-use Rattle.rasta_check.specs.Capture.Lists.{IsOrdered, places_of, numbers_of, position_of_number, position_of_place, AreMarks, marked}
-use Rattle.rasta_check.proofs.Lists.{get_front, get_mapped, get_push, map_at, mapped_some, slice_get_some}
+use Rattle.rasta_check.specs.Capture.Lists.{IsOrdered, places_of, position_of_number, position_of_place, AreMarks, marked}
+use Rattle.rasta_check.proofs.Lists.{get_front, get_mapped, get_push, mapped_some, slice_get_some}
 
--- ---- the first position of a number in a list of numbers
+-- ---- the first member with a number
 
-module _ (n : ℕ) (xs : List ℕ) where
-  before : (i : ℕ) → i ≤ length xs → ((j y : ℕ) → j < i → slice_get xs j ≡ Some y → y ≡ n → ⊥) → (k : ℕ) → k < i → nat_eq n (get_or xs k 0) ≡ false
-  before i l fails k b = (let other : get_or xs k 0 ≡ n → ⊥ = fails k (get_or xs k 0) b (slice_get-get_or xs k 0 (omega arith)) in grind (arith, nat_tests))
-
-  pub position_at : (i : ℕ) → slice_get xs i ≡ Some n → ((j y : ℕ) → j < i → slice_get xs j ≡ Some y → y ≡ n → ⊥) → position (nat_eq n) xs ≡ Some i
-  position_at i g fails =
-      let l = slice_get_within xs i n g in
-      let here : get_or xs i 0 ≡ n = (let z = slice_get-get_or xs i 0 l in cc) in
-      let e : position_or_len (nat_eq n) xs ≡ i = position_or_len_is (nat_eq n) xs i 0 (omega arith) (before i (omega arith) fails) (λ z. grind (arith, nat_tests)) in
+module _ (f : FirstCopy → ℕ) (n : ℕ) where
+  first_of : (sent : List FirstCopy) (i : ℕ) (c : FirstCopy) → slice_get sent i ≡ Some c → f c ≡ n → ((j : ℕ) (d : FirstCopy) → j < i → slice_get sent j ≡ Some d → f d ≡ n → ⊥)
+      → position (nat_eq n) (map f sent) ≡ Some i
+  first_of [] i c g e fails = absurd (cc)
+  first_of (x ∷ sent) zero c g e fails = (let same : x ≡ c = cc in let here : f x ≡ n = ap f same ∙ e in grind (arith, nat_tests))
+  first_of (x ∷ sent) (suc i) c g e fails =
+      let other = fails 0 x (omega arith) refl in
+      let more = first_of sent i c g e (λ j d l. fails (suc j) d (omega arith)) in
       grind (arith, nat_tests)
 
-  pub position_none : ((j y : ℕ) → slice_get xs j ≡ Some y → y ≡ n → ⊥) → position (nat_eq n) xs ≡ None
-  position_none fails =
-      let e : position_or_len (nat_eq n) xs ≡ length xs = position_or_len_is (nat_eq n) xs (length xs) 0 (omega arith) (before (length xs) (omega arith) (λ j y b. fails j y)) (λ z. absurd (omega arith)) in
-      grind (arith, nat_tests)
+  none_of : (sent : List FirstCopy) → ((j : ℕ) (d : FirstCopy) → slice_get sent j ≡ Some d → f d ≡ n → ⊥) → position (nat_eq n) (map f sent) ≡ None
+  none_of [] fails = refl
+  none_of (x ∷ sent) fails = (let other = fails 0 x refl in let more = none_of sent (λ j. fails (suc j)) in grind (arith, nat_tests))
 
--- ---- the member that is named
-
-found_in : (n : ℕ) (xs : List ℕ) (i : ℕ) → position (nat_eq n) xs ≡ Some i → slice_get xs i ≡ Some n
-found_in n xs i e =
-    let f = position-Some (nat_eq n) xs i 0 e in
-    let same : get_or xs i 0 ≡ n = (let t = f.1 in grind (arith, nat_tests)) in
-    slice_get-get_or xs i 0 f.0 ∙ ap Some same
+  member_of : (sent : List FirstCopy) (i : ℕ) → position (nat_eq n) (map f sent) ≡ Some i → (c : FirstCopy) × (slice_get sent i ≡ Some c) × (f c ≡ n)
+  member_of sent i e =
+      let w = position-Some (nat_eq n) (map f sent) i 0 e in
+      let same : get_or (map f sent) i 0 ≡ n = (let t = w.1 in grind (arith, nat_tests)) in
+      get_mapped f sent i n (slice_get-get_or (map f sent) i 0 w.0 ∙ ap Some same)
 
 pub number_found : (cs : List FirstCopy) (number i : ℕ) → position_of_number cs number ≡ Some i → (c : FirstCopy) × (slice_get cs i ≡ Some c) × (c.pdu.number ≡ number)
-number_found cs number i e = get_mapped (λ (c : FirstCopy). c.pdu.number) cs i number (found_in number (numbers_of cs) i e)
+number_found cs number i e = member_of (λ (c : FirstCopy). c.pdu.number) number cs i e
 
 pub place_found : (cs : List FirstCopy) (place i : ℕ) → position_of_place cs place ≡ Some i → (c : FirstCopy) × (slice_get cs i ≡ Some c) × (c.place ≡ place)
-place_found cs place i e = get_mapped (λ (c : FirstCopy). c.place) cs i place (found_in place (places_of cs) i e)
+place_found cs place i e = member_of (λ (c : FirstCopy). c.place) place cs i e
 
 -- ---- a list that goes on
 
-or_len_most : (p : ℕ → Bool) (xs : List ℕ) → position_or_len p xs ≤ length xs
-or_len_most p [] = omega arith
-or_len_most p (x ∷ xs) = (let more = or_len_most p xs in grind arith)
-
 -- a member that doesn't pass changes nothing
 pub position_push : (p : ℕ → Bool) (xs : List ℕ) (y : ℕ) → p y ≡ false → position p (xs ++ y ∷ []) ≡ position p xs
-position_push p xs y fails = (let size = length_push xs y in let most = or_len_most p xs in let more = position_or_len_push p xs y in grind (arith, nat_tests))
+position_push p [] y fails = grind arith
+position_push p (x ∷ xs) y fails = (let more = position_push p xs y fails in let size = length_push xs y in grind (arith, nat_tests))
 
 -- ---- ordered lists
 
@@ -73,8 +63,7 @@ number_once sent h few i j c d x y e =
 -- the number of a member names its position
 pub number_named : (sent : List FirstCopy) → IsOrdered sent → length sent < 4294967296 → (i : ℕ) (c : FirstCopy) → slice_get sent i ≡ Some c → position_of_number sent c.pdu.number ≡ Some i
 number_named sent h few i c g =
-    position_at c.pdu.number (numbers_of sent) i (map_at (λ (x : FirstCopy). x.pdu.number) sent i c g)
-    (λ j y l k e. (let d = get_mapped (λ (x : FirstCopy). x.pdu.number) sent j y k in let same = number_once sent h few j i d.0 c d.1 g (d.2 ∙ e) in omega (arith, same, l)))
+    first_of (λ (x : FirstCopy). x.pdu.number) c.pdu.number sent i c g refl (λ j d l k e. (let same = number_once sent h few j i d c k g e in omega (arith, same, l)))
 
 -- the number that comes next is new
 pub next_new : (sent : List FirstCopy) → IsOrdered sent → length sent < 4294967296 → (n : ℕ) → ((c : FirstCopy) → slice_get sent 0 ≡ Some c → n ≡ wrapped (c.pdu.number + length sent))
@@ -106,8 +95,7 @@ place_once sent h i j a b x y e =
 
 -- the place of a member names its position, where none before it has that place
 pub place_first : (sent : List FirstCopy) (i : ℕ) (c : FirstCopy) → slice_get sent i ≡ Some c → ((j : ℕ) (d : FirstCopy) → j < i → slice_get sent j ≡ Some d → d.place ≡ c.place → ⊥) → position_of_place sent c.place ≡ Some i
-place_first sent i c g none =
-    position_at c.place (places_of sent) i (map_at (λ (x : FirstCopy). x.place) sent i c g) (λ j y l k e. (let d = get_mapped (λ (x : FirstCopy). x.place) sent j y k in none j d.0 l d.1 (d.2 ∙ e)))
+place_first sent i c g none = first_of (λ (x : FirstCopy). x.place) c.place sent i c g refl none
 
 -- and so it does in an ordered list
 pub place_named : (sent : List FirstCopy) → IsOrdered sent → (i : ℕ) (c : FirstCopy) → slice_get sent i ≡ Some c → position_of_place sent c.place ≡ Some i
@@ -115,7 +103,7 @@ place_named sent h i c g = place_first sent i c g (λ j d l k e. (let low = plac
 
 -- a place that no member has names none
 pub place_missing : (sent : List FirstCopy) (place : ℕ) → ((i : ℕ) (c : FirstCopy) → slice_get sent i ≡ Some c → c.place ≡ place → ⊥) → position_of_place sent place ≡ None
-place_missing sent place none = position_none place (places_of sent) (λ j y g e. (let d = get_mapped (λ (x : FirstCopy). x.place) sent j y g in none j d.0 d.1 (d.2 ∙ e)))
+place_missing sent place none = none_of (λ (x : FirstCopy). x.place) place sent none
 
 -- ---- a beginning of a list
 
@@ -171,7 +159,7 @@ module _ (sent : List FirstCopy) (h : IsOrdered sent) (few : length sent < 42949
 
   pub far : length sent ≤ (n + (4294967296 - first)) % 4294967296 → position_of_number sent n ≡ None
   far l =
-      position_none n (numbers_of sent) (λ j y g q. (let w = get_mapped (λ (z : FirstCopy). z.pdu.number) sent j y g in
-      let m = slice_get_within sent j w.0 w.1 in
+      none_of (λ (z : FirstCopy). z.pdu.number) n sent (λ j c g q.
+      (let m = slice_get_within sent j c g in
       let few_first = first_small in
-      let number = sym (w.2 ∙ q) ∙ number_at j w.0 w.1 in omega arith))
+      let number = sym q ∙ number_at j c g in omega arith))

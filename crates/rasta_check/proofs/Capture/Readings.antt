@@ -1,42 +1,37 @@
 -- Crossings record by record.
-use Rattle.std.proofs.Common.{◌≡◌, ◌⊎◌, ℕ, List, [], ◌∷◌, ◌++◌, zero, suc, ◌+◌, ◌-◌, ◌<◌, length, map, drop, append_assoc, append-nil, Option, Some, None, Result, Ok, Err, Bool, true, false, refl, ap, sym, ◌∙◌, arith, subst, nat_lt, lt-ltb, le-ltb, if◌then◌else◌, inl, inr, ⊎_elim}
+use Rattle.std.proofs.Common.{◌≡◌, ◌⊎◌, ℕ, List, [], ◌∷◌, ◌++◌, suc, ◌+◌, ◌-◌, ◌<◌, length, map, drop, append_assoc, append-nil, Option, Some, None, Result, Ok, Err, Bool, true, false, refl, ap, sym, ◌∙◌, arith, subst, nat_lt, if◌then◌else◌, inl, inr}
 use Rattle.std.specs.Prelude.{IsOk}
-use Rattle.std.specs.List.{AllByRecursion, flat_map, filter_map, range_with_len, cons_option}
+use Rattle.std.specs.List.{AllByRecursion, filter_map, range_with_len, cons_option}
 use Rattle.std.proofs.Math.ListN.{drop_of_length-le}
-use native.Mathlib.Decide.{dec_lt}
-use Prim.{yes, no}
+use Rattle.std.proofs.lemmas.Bool.Decides.{nat_tests}
+use Rattle.std.proofs.lemmas.List.{drop-append-le, length_push}
+use Rattle.std.proofs.lemmas.List.Elements.{filter_map-append}
 use Rattle.std.specs.Option.{option_flatten}
 use Rattle.std.specs.Result.{result_ok}
 use Rattle.rasta_pcap.specs.declared.fault.Side.{Side}
+use Rattle.rasta_pcap.specs.declared.fault.Side.TheVariants.{Client, Server}
 use Rattle.rasta_pcap.specs.Fault.{fault_at, fault_of_end, too_many}
 use Rattle.rasta_pcap.proofs.Captures.{IsCapture-reading_of, reading_of-IsCapture, numbers-reading_of}
 use Rattle.rasta_udp.specs.Frame.{Packet, packet_in}
 use Rattle.rasta_check.specs.Capture.Crossing.{FirstCopy, crossing_list, packet_fault}
 use Rattle.rasta_pcap.specs.declared.fault.Fault.{Fault}
-use Rattle.rasta_pcap.specs.Capture.{Cursor, Numbered, IsCapture, next, cursor_after, opening, reading, reading_of, bytes_of}
-use Rattle.rasta_pcap.proofs.Steps.{reading-record, reading-end, reading-fault, reading-none_left, reading_of-opened, reading_of-refused}
+use Rattle.rasta_pcap.specs.Capture.{Cursor, Numbered, IsCapture, next, cursor_after, opening, read_step, reading, reading_of, bytes_of}
+use Rattle.rasta_pcap.proofs.Steps.{reading_of-opened, reading_of-refused}
 use Rattle.rasta_pdu.specs.Params.{Parameters, AreParameters}
-use Rattle.rasta_check.specs.Capture.Reading.{Crossing, IsCrossing, and_then, after_frame, after_judged, after_packet, after_record, after_records, after_reading, crossing_of, crossing_with, is_within, nothing_crossed, sent_after, sent_by, with_packet}
+use Rattle.rasta_check.specs.Capture.Reading.{Crossing, IsCrossing, and_then, at_end, after_frame, after_judged, after_packet, after_record, after_records, after_reading, crossing_of, crossing_with, is_within, nothing_crossed, sent_after, sent_by, with_packet}
 use Rattle.rasta_check.proofs.Capture.Channels.{is_recorded}
-use Rattle.rasta_check.proofs.Capture.Crossings.{is_read, grown_crossing}
+use Rattle.rasta_pdu.specs.Messages.{AreBytes}
+use Rattle.rasta_check.specs.Model.Theorem.{OfConnection}
+use Rattle.rasta_check.proofs.Capture.Crossings.{crossing_of_lists, is_read, grown_crossing}
+use Rattle.rasta_check.proofs.Capture.FirstCopies.{sent_none}
+use Rattle.rasta_check.proofs.Lists.{all_append, all_at, all_front}
 use Rattle.rasta_check.proofs.Capture.RecordBytes.{AllBytes, payload_bytes}
 
-pub after-end : (k : Crossing) (left : ℕ) (c : Cursor) → next c ≡ Ok None → after_reading k (reading (suc left) c) ≡ Ok k
-unfolding after_records
-after-end k left c h = ap (after_reading k) (reading-end left c h)
-
-pub after-fault : (k : Crossing) (left : ℕ) (c : Cursor) (f : Fault) → next c ≡ Err f → after_reading k (reading (suc left) c) ≡ Err f
-unfolding after_records
-after-fault k left c f h = ap (after_reading k) (reading-fault left c f h)
-
-pub after-record : (k : Crossing) (left : ℕ) (c : Cursor) (r : Numbered) → next c ≡ Ok (Some r)
-    → after_reading k (reading (suc left) c) ≡ and_then (after_record k r) (λ (n : Crossing). after_reading n (reading left (cursor_after c)))
-unfolding after_records
-after-record k left c r h = ap (after_reading k) (reading-record left c r h)
-
-pub after-none_left : (k : Crossing) (c : Cursor) → after_reading k (reading zero c) ≡ Ok k
-unfolding after_records
-after-none_left k c = ap (after_reading k) (reading-none_left c)
+-- what is next leads on
+pub after-next : (k : Crossing) (left : ℕ) (c : Cursor) (o : Result (Option Numbered) Fault) → next c ≡ o
+    → after_reading k (reading (suc left) c) ≡ after_reading k (read_step o (reading left (cursor_after c)))
+unfolding reading
+after-next k left c o h = ap (λ (q : Result (Option Numbered) Fault). after_reading k (read_step q (reading left (cursor_after c)))) h
 
 pub after-opened : (p : Parameters) (file : List ℕ) (c : Cursor) → opening file ≡ Ok c → crossing_of p file ≡ after_reading (nothing_crossed p) (reading p.last_record c)
 after-opened p file c h = ap (after_reading (nothing_crossed p)) (reading_of-opened p.last_record file c h)
@@ -44,10 +39,6 @@ after-opened p file c h = ap (after_reading (nothing_crossed p)) (reading_of-ope
 pub after-refused : (p : Parameters) (file : List ℕ) (f : Fault) → opening file ≡ Err f → crossing_of p file ≡ Err f
 unfolding after_records
 after-refused p file f h = ap (after_reading (nothing_crossed p)) (reading_of-refused p.last_record file f h)
-
--- one step of a loop that has so many to go
-pub left-after : (end counter : ℕ) → counter < end → end - counter ≡ suc (end - (counter + 1))
-left-after end counter h = omega arith
 
 -- ---- one record
 
@@ -64,153 +55,183 @@ pub data Step (k : Crossing) (r : Numbered) : Result Crossing Fault → Type 0 w
       → is_within (with_packet k a) ≡ false → Step k r (Err (fault_at too_many r.0))
 
 module _ (k : Crossing) (r : Numbered) where
-  judged_step : (a : Packet) (o : Option ℕ) → nat_lt r.0 k.params.first_record ≡ false → packet_in k.params.channels r.1 ≡ Ok (Some a)
-      → packet_fault k.params (sent_by k a.side) a ≡ o → Step k r (after_judged k r.0 a o)
-  judged_step a (Some number) t g n = bad_packet a number t g n
-  judged_step a None t g n = by (is_within (with_packet k a)) refl
-    where
-      by : (b : Bool) → is_within (with_packet k a) ≡ b → Step k r (if b then Ok (with_packet k a) else Err (fault_at too_many r.0))
-      by true e = joined a t g n e
-      by false e = no_room a t g n e
+  judged_step : (a : Packet) (o : Option ℕ) (within : Bool) → nat_lt r.0 k.params.first_record ≡ false → packet_in k.params.channels r.1 ≡ Ok (Some a)
+      → packet_fault k.params (sent_by k a.side) a ≡ o → is_within (with_packet k a) ≡ within → Step k r (after_judged k r.0 a o)
+  judged_step a (Some number) within t g n e = bad_packet a number t g n
+  judged_step a None true t g n e = rw e (joined a t g n e)
+  judged_step a None false t g n e = rw e (no_room a t g n e)
 
-  frame_step : (o : Result (Option Packet) Fault) → nat_lt r.0 k.params.first_record ≡ false → packet_in k.params.channels r.1 ≡ o → Step k r (after_frame k r.0 o)
+  frame_step : (early : Bool) (o : Result (Option Packet) Fault) → nat_lt r.0 k.params.first_record ≡ early → packet_in k.params.channels r.1 ≡ o
+      → Step k r (if early then Ok k else after_frame k r.0 o)
   unfolding after_packet
-  frame_step (Ok None) t g = empty t g
-  frame_step (Ok (Some a)) t g = judged_step a (packet_fault k.params (sent_by k a.side) a) t g refl
-  frame_step (Err f) t g = bad_frame f t g
+  frame_step true o t g = before t
+  frame_step false (Ok None) t g = empty t g
+  frame_step false (Ok (Some a)) t g = judged_step a _ _ t g refl refl
+  frame_step false (Err f) t g = bad_frame f t g
 
   pub step_of : Step k r (after_record k r)
   unfolding after_record
-  step_of = by (nat_lt r.0 k.params.first_record) refl
-    where
-      by : (b : Bool) → nat_lt r.0 k.params.first_record ≡ b → Step k r (if b then Ok k else after_frame k r.0 (packet_in k.params.channels r.1))
-      by true t = before t
-      by false t = frame_step (packet_in k.params.channels r.1) t refl
+  step_of = frame_step _ _ refl refl
 
--- ---- records without a fault
-
-abbrev pub frames_of : List Numbered → List (List ℕ)
-frames_of rs = map (λ (r : Numbered). r.1) rs
-
--- the frames of those in the window
-abbrev pub window : Parameters → List Numbered → List (List ℕ)
-window p rs = flat_map (λ (r : Numbered). if nat_lt r.0 p.first_record then [] else r.1 ∷ []) rs
-
-abbrev pub packets_in : Parameters → List (List ℕ) → List Packet
-packets_in p frames = filter_map (λ (frame : List ℕ). option_flatten (result_ok (packet_in p.channels frame))) frames
-
-abbrev pub AreSound : Parameters → List (List ℕ) → Type 0
-AreSound p frames = AllByRecursion (λ (frame : List ℕ). IsOk (packet_in p.channels frame)) frames
-
--- these records were added, whose frames in the window are these
-pub record Adds (k last : Crossing) (rs : List Numbered) (frames : List (List ℕ)) : Type 0 where
-  pub packets : last.packets ≡ k.packets ++ packets_in k.params frames
-  pub params : last.params ≡ k.params
-  pub sound : AreSound k.params frames
-  pub crossing : IsCrossing k → AllBytes rs → IsCrossing last
-
-pub grown_is : (k : Crossing) (a : Packet) (side : Side) (own : List FirstCopy) → ((crossing_with k a side own).packets ≡ k.packets ++ a ∷ []) × ((crossing_with k a side own).params ≡ k.params)
-grown_is k a side own = grind arith
-
-adds_first : (k next last : Crossing) (r : Numbered) (rs : List Numbered) → Step k r (Ok next) → Adds next last rs (window next.params rs) → Adds k last (r ∷ rs) (window k.params (r ∷ rs))
-adds_first k next last r rs (before t) more =
-    rw t (record { packets = more.packets; params = more.params; sound = more.sound; crossing = λ h are. more.crossing h are.1 })
-adds_first k next last r rs (empty t g) more =
-    rw t (record {
-      packets = more.packets ∙ ap (λ (o : Result (Option Packet) Fault). k.packets ++ cons_option (option_flatten (result_ok o)) (packets_in k.params (window k.params rs))) (sym g);
-      params = more.params;
-      sound = (subst IsOk (sym g) refl, more.sound);
-      crossing = λ h are. more.crossing h are.1;
-    })
-adds_first k next last r rs (joined a t g n e) more =
-    let w = grown_is k a a.side (sent_after k a) in
-    rw t (record {
-      packets = more.packets ∙ (λ i. w.0 i ++ packets_in (w.1 i) (window (w.1 i) rs)) ∙ append_assoc k.packets (a ∷ []) (packets_in k.params (window k.params rs))
-          ∙ ap (λ (o : Result (Option Packet) Fault). k.packets ++ cons_option (option_flatten (result_ok o)) (packets_in k.params (window k.params rs))) (sym g);
-      params = more.params ∙ w.1;
-      sound = (subst IsOk (sym g) refl, subst (λ (p : Parameters). AreSound p (window p rs)) w.1 more.sound);
-      crossing = λ h are. more.crossing
-          (grown_crossing k a h (is_recorded k.params r.1 a g) (is_read k.params (sent_by k a.side) a h.valid.valid (payload_bytes k.params r.1 a g are.0) n) n e) are.1;
-    })
+  -- a record leads nowhere else
+  pub step_is : (o : Result Crossing Fault) → Step k r o → after_record k r ≡ o
+  unfolding after_record after_packet
+  step_is o (before t) = rw t
+  step_is o (empty t g) = rw (t, g)
+  step_is o (joined a t g n e) = rw (t, g, n, e)
+  step_is o (bad_frame f t g) = rw (t, g)
+  step_is o (bad_packet a number t g n) = rw (t, g, n)
+  step_is o (no_room a t g n e) = rw (t, g, n, e)
 
 pub then_by : (q : Result Crossing Fault) (f : Crossing → Result Crossing Fault) (last : Crossing) → and_then q f ≡ Ok last → (next : Crossing) × (q ≡ Ok next) × (f next ≡ Ok last)
 then_by q f last e = grind arith
 
-pub records_add : (k last : Crossing) (rs : List Numbered) (end : Option Fault) → after_records k rs end ≡ Ok last → (end ≡ None) × Adds k last rs (window k.params rs)
-unfolding after_records
-records_add k last [] end e =
-    let w : (end ≡ None) × (k ≡ last) = grind arith in
-    (w.0, subst (λ (q : Crossing). Adds k q [] []) w.1 (record { packets = sym (append-nil k.packets); params = refl; sound = tt; crossing = λ h are. h }))
-records_add k last (r ∷ rs) end e =
-    let w = then_by (after_record k r) (λ (next : Crossing). after_records next rs end) last e in
-    let more = records_add w.0 last rs end w.2 in
-    (more.0, adds_first k w.0 last r rs (subst (Step k r) w.1 (step_of k r)) more.1)
+-- ---- records of a file
 
--- ---- where a reading breaks off
+-- numbered from here
+abbrev pub numbered : ℕ → List (List ℕ) → List Numbered
+numbered n [] = []
+numbered n (frame ∷ frames) = (n, frame) ∷ numbered (n + 1) frames
 
--- some records are read without a fault, and then comes the end's fault, or that of the next record
-pub record Breaks (k : Crossing) (rs : List Numbered) (end : Option Fault) (f : Fault) : Type 0 where
-  pub front : List Numbered
-  pub last : Crossing
-  pub read : after_records k front None ≡ Ok last
-  pub how : ((front ≡ rs) × (end ≡ Some f)) ⊎ ((r : Numbered) × (later : List Numbered) × (rs ≡ front ++ r ∷ later) × Step last r (Err f))
-
-pub breaks : (k : Crossing) (rs : List Numbered) (end : Option Fault) (f : Fault) → after_records k rs end ≡ Err f → Breaks k rs end f
-unfolding after_records
-breaks k [] end f e = record { front = []; last = k; read = refl; how = inl (refl, grind arith) }
-breaks k (r ∷ rs) end f e = by (after_record k r) refl e (λ next s. breaks next rs end f s)
-  where
-    by : (o : Result Crossing Fault) → after_record k r ≡ o → and_then o (λ (next : Crossing). after_records next rs end) ≡ Err f
-        → ((next : Crossing) → after_records next rs end ≡ Err f → Breaks next rs end f) → Breaks k (r ∷ rs) end f
-    by (Err g) n s more = record { front = []; last = k; read = refl; how = inr (r, rs, refl, subst (Step k r) (n ∙ s) (step_of k r)) }
-    by (Ok next) n s more =
-        let z = more next s in
-        record {
-          front = r ∷ z.front;
-          last = z.last;
-          read = ap (λ (q : Result Crossing Fault). and_then q (λ (m : Crossing). after_records m z.front None)) n ∙ z.read;
-          how = ⊎_elim
-              (λ (a : (z.front ≡ rs) × (end ≡ Some f)). inl (ap (λ (xs : List Numbered). r ∷ xs) a.0, a.1))
-              (λ (b : (s : Numbered) × (later : List Numbered) × (rs ≡ z.front ++ s ∷ later) × Step z.last s (Err f)). inr (b.0, b.1, ap (λ (xs : List Numbered). r ∷ xs) b.2, b.3))
-              z.how;
-        }
-
--- ---- the records of a file
-
--- records that are numbered from here
-abbrev pub AreFrom : ℕ → List Numbered → Type 0
-AreFrom n rs = map (λ (r : Numbered). r.0) rs ≡ range_with_len n (length rs)
-
-pub window_is : (p : Parameters) (rs : List Numbered) (n : ℕ) → AreFrom n rs → window p rs ≡ drop (p.first_record - n) (frames_of rs)
-window_is p [] n e = sym (drop_of_length-le {A = List ℕ} [] (omega arith))
-window_is p (r ∷ rs) n e =
+is_numbered : (n : ℕ) (rs : List Numbered) → map (λ (r : Numbered). r.0) rs ≡ range_with_len n (length rs) → rs ≡ numbered n (map (λ (r : Numbered). r.1) rs)
+is_numbered n [] e = refl
+is_numbered n (r ∷ rs) e =
     let head : r.0 ≡ n = cc in
-    let tail : AreFrom (n + 1) rs = cc in
-    let more = window_is p rs (n + 1) tail in elim (dec_lt n p.first_record) [
-      | yes low ↦
-          let left : p.first_record - n ≡ suc (p.first_record - (n + 1)) = omega arith in
-          ap (λ (b : Bool). (if b then [] else r.1 ∷ []) ++ window p rs) (lt-ltb r.0 p.first_record (omega arith)) ∙ more ∙ ap (λ (m : ℕ). drop m (frames_of (r ∷ rs))) (sym left)
-      | no high ↦
-          let all : p.first_record - (n + 1) ≡ 0 = omega arith in
-          let none : 0 ≡ p.first_record - n = omega arith in
-          ap (λ (b : Bool). (if b then [] else r.1 ∷ []) ++ window p rs) (le-ltb r.0 p.first_record (omega arith))
-          ∙ ap (λ (xs : List (List ℕ)). r.1 ∷ xs) (more ∙ ap (λ (m : ℕ). drop m (frames_of rs)) all) ∙ ap (λ (m : ℕ). drop m (frames_of (r ∷ rs))) none
-    ]
+    let tail : map (λ (x : Numbered). x.0) rs ≡ range_with_len (n + 1) (length rs) = cc in
+    (λ i. (head i, r.1) ∷ is_numbered (n + 1) rs tail i)
+
+pub numbered_of : (limit : ℕ) (file : List ℕ) → (reading_of limit file).records ≡ numbered 1 (bytes_of (reading_of limit file))
+numbered_of limit file = is_numbered 1 (reading_of limit file).records (numbers-reading_of limit file)
+
+abbrev pub packets_in : Parameters → List (List ℕ) → List Packet
+packets_in p frames = filter_map (λ (frame : List ℕ). option_flatten (result_ok (packet_in p.channels frame))) frames
+
+packets_append : (p : Parameters) (xs ys : List (List ℕ)) → packets_in p (xs ++ ys) ≡ packets_in p xs ++ packets_in p ys
+packets_append p xs ys = filter_map-append (λ (frame : List ℕ). option_flatten (result_ok (packet_in p.channels frame))) xs ys
+
+abbrev pub AreSound : Parameters → List (List ℕ) → Type 0
+AreSound p frames = AllByRecursion (λ (frame : List ℕ). IsOk (packet_in p.channels frame)) frames
+
+-- the frames of those in the window
+abbrev pub window : Parameters → List (List ℕ) → List (List ℕ)
+window p frames = drop (p.first_record - 1) frames
+
+module _ (p : Parameters) (frames : List (List ℕ)) (frame : List ℕ) (later : List (List ℕ)) (inside : nat_lt (suc (length frames)) p.first_record ≡ false) where
+  pub window_with : window p (frames ++ frame ∷ later) ≡ window p frames ++ frame ∷ later
+  window_with = drop-append-le (p.first_record - 1) frames (frame ∷ later) (grind (arith, nat_tests))
+
+  -- what a record of the window holds follows what crossed before
+  pub packets_with : (o : Option Packet) → packet_in p.channels frame ≡ Ok o → crossing_list p (frames ++ frame ∷ later) ≡ crossing_list p frames ++ cons_option o (packets_in p later)
+  packets_with o found =
+      ap (packets_in p) window_with ∙ packets_append p (window p frames) (frame ∷ later)
+      ∙ ap (λ (q : Result (Option Packet) Fault). crossing_list p frames ++ cons_option (option_flatten (result_ok q)) (packets_in p later)) found
+
+-- ---- records without a fault
+
+-- what crosses by records in which the sides sent these lists
+abbrev pub crossing_by : Parameters → List (List ℕ) → List FirstCopy → List FirstCopy → Crossing
+crossing_by p records client server = record { params = p; packets = crossing_list p records; client = client; server = server }
+
+-- this crossed in records without a fault
+pub record Crossed (p : Parameters) (frames : List (List ℕ)) (k : Crossing) : Type 0 where
+  pub same : k ≡ crossing_by p frames k.client k.server
+  pub sound : AreSound p (window p frames)
+  pub is : OfConnection p → AllBytes frames → IsCrossing k
+
+pub grown_same : (k : Crossing) (a : Packet) (side : Side) (own : List FirstCopy)
+    → crossing_with k a side own ≡ record { params = k.params; packets = k.packets ++ a ∷ []; client = (crossing_with k a side own).client; server = (crossing_with k a side own).server }
+grown_same k a Client own = refl
+grown_same k a Server own = refl
+
+module _ (p : Parameters) (front : List (List ℕ)) (frame : List ℕ) (c s : List FirstCopy) (x : Crossed p front (crossing_by p front c s)) where
+  -- the window has these frames more, and what they hold was added
+  crossed_with : (w : List (List ℕ)) (next : Crossing) → window p (front ++ frame ∷ []) ≡ window p front ++ w → AreSound p w
+      → next ≡ record { params = p; packets = crossing_list p front ++ packets_in p w; client = next.client; server = next.server }
+      → (OfConnection p → AreBytes frame → IsCrossing (crossing_by p front c s) → IsCrossing next) → Crossed p (front ++ frame ∷ []) next
+  crossed_with w next e sound same is = record {
+    same = same ∙ (λ i. record { params = p; packets = sym (ap (packets_in p) e ∙ packets_append p (window p front) w) i; client = next.client; server = next.server });
+    sound = rw e (all_append _ (window p front) w x.sound sound);
+    is = λ h are. is h (all_at AreBytes front frame [] are) (x.is h (all_front AreBytes front (frame ∷ []) are));
+  }
+
+  pub crossed_more : (next : Crossing) → Step (crossing_by p front c s) (suc (length front), frame) (Ok next) → Crossed p (front ++ frame ∷ []) next
+  crossed_more next (before t) =
+      let low : suc (length front) < p.first_record = grind (arith, nat_tests) in
+      let size = length_push front frame in
+      crossed_with [] next (drop_of_length-le (front ++ frame ∷ []) (omega arith) ∙ sym (append-nil (window p front) ∙ drop_of_length-le front (omega arith))) tt
+      (λ i. record { params = p; packets = sym (append-nil (crossing_list p front)) i; client = c; server = s }) (λ h are is. is)
+  crossed_more next (empty t g) =
+      crossed_with (frame ∷ []) next (window_with p front frame [] t) (rw g refl, tt)
+      (rw g (λ i. record { params = p; packets = sym (append-nil (crossing_list p front)) i; client = c; server = s })) (λ h are is. is)
+  crossed_more next (joined a t g n e) =
+      let k = crossing_by p front c s in
+      crossed_with (frame ∷ []) next (window_with p front frame [] t) (rw g refl, tt) (rw g (grown_same k a a.side (sent_after k a)))
+      (λ h are is. grown_crossing k a is (is_recorded p frame a g) (is_read p (sent_by k a.side) a h.valid (payload_bytes p frame a g are) n) n e)
+
+-- the first fault of records: in which the sides sent these lists up to the record that has it
+pub record FirstFault (p : Parameters) (frames : List (List ℕ)) (f : Fault) : Type 0 where
+  pub front : List (List ℕ)
+  pub frame : List ℕ
+  pub later : List (List ℕ)
+  pub client : List FirstCopy
+  pub server : List FirstCopy
+  pub split : frames ≡ front ++ frame ∷ later
+  pub crossed : Crossed p front (crossing_by p front client server)
+  pub step : Step (crossing_by p front client server) (suc (length front), frame) (Err f)
+
+-- where records lead: all are read without a fault, and then comes the end's; or one has a fault
+abbrev pub Leads : Parameters → List (List ℕ) → Option Fault → Result Crossing Fault → Type 0
+Leads p frames end (Ok k) = (end ≡ None) × Crossed p frames k
+Leads p frames end (Err f) = ((k : Crossing) × Crossed p frames k × (end ≡ Some f)) ⊎ FirstFault p frames f
+
+module _ (p : Parameters) (end : Option Fault) where
+  walk : (frames front : List (List ℕ)) (n : ℕ) (k : Crossing) → n ≡ suc (length front) → Crossed p front k → Leads p (front ++ frames) end (after_records k (numbered n frames) end)
+  unfolding after_records
+  walk [] front n k e x =
+      let all = subst (λ (fs : List (List ℕ)). Crossed p fs k) (sym (append-nil front)) x in
+      elim end as (λ (o : Option Fault). Leads p (front ++ []) o (at_end k o)) [ None ↦ (refl, all) | Some f ↦ inl (k, all, refl) ]
+  walk (frame ∷ frames) front n k e x =
+      by (after_record k (n, frame)) (subst (λ (z : Crossing × ℕ). Step z.0 (z.1, frame) (after_record k (n, frame))) (λ i. (x.same i, e i)) (step_of k (n, frame)))
+      (λ next y. walk frames (front ++ frame ∷ []) (n + 1) next (omega (arith, length_push front frame)) y)
+    where
+      here : Crossed p front (crossing_by p front k.client k.server)
+      here = subst (Crossed p front) x.same x
+
+      by : (o : Result Crossing Fault) → Step (crossing_by p front k.client k.server) (suc (length front), frame) o
+          → ((next : Crossing) → Crossed p (front ++ frame ∷ []) next → Leads p ((front ++ frame ∷ []) ++ frames) end (after_records next (numbered (n + 1) frames) end))
+          → Leads p (front ++ frame ∷ frames) end (and_then o (λ (next : Crossing). after_records next (numbered (n + 1) frames) end))
+      by (Err f) step more = inr (record { front = front; frame = frame; later = frames; client = k.client; server = k.server; split = refl; crossed = here; step = step })
+      by (Ok next) step more =
+          subst (λ (fs : List (List ℕ)). Leads p fs end (after_records next (numbered (n + 1) frames) end)) (append_assoc front (frame ∷ []) frames)
+          (more next (crossed_more p front frame k.client k.server here next step))
+
+pub nothing_is : (p : Parameters) → OfConnection p → IsCrossing (nothing_crossed p)
+nothing_is p h = crossing_of_lists (nothing_crossed p) h (λ place a g. absurd (cc)) refl (sent_none p Client h.valid) (sent_none p Server h.valid)
+
+pub records_lead : (p : Parameters) (frames : List (List ℕ)) (end : Option Fault) → Leads p frames end (after_records (nothing_crossed p) (numbered 1 frames) end)
+records_lead p frames end =
+    let none : window p [] ≡ [] = drop_of_length-le {A = List ℕ} [] (omega arith) in
+    walk p end frames [] 1 (nothing_crossed p) refl (record {
+      same = (λ i. record { params = p; packets = packets_in p (sym none i); client = []; server = [] });
+      sound = rw none tt;
+      is = λ h are. nothing_is p h;
+    })
+
+pub file_leads : (p : Parameters) (file : List ℕ) → Leads p (bytes_of (reading_of p.last_record file)) (reading_of p.last_record file).fault (crossing_of p file)
+file_leads p file =
+    let r = reading_of p.last_record file in
+    subst (λ (rs : List Numbered). Leads p (bytes_of r) r.fault (after_records (nothing_crossed p) rs r.fault)) (sym (numbered_of p.last_record file)) (records_lead p (bytes_of r) r.fault)
 
 -- a file that is read: its records, and the packets that they hold
-pub file_by : (p : Parameters) (file : List ℕ) (k : Crossing) → AreParameters p → crossing_of p file ≡ Ok k
+pub file_by : (p : Parameters) (file : List ℕ) (k : Crossing) → crossing_of p file ≡ Ok k
     → (records : List (List ℕ)) × IsCapture p.last_record file records × (k.packets ≡ crossing_list p records) × (k.params ≡ p)
-file_by p file k valid e =
-    let r = reading_of p.last_record file in
-    let w = records_add (nothing_crossed p) k r.records r.fault e in
-    (bytes_of r, IsCapture-reading_of p.last_record file w.0, w.1.packets ∙ ap (packets_in p) (window_is p r.records 1 (numbers-reading_of p.last_record file)), w.1.params)
+file_by p file k e =
+    let w = rw e at (file_leads p file) in
+    (_, IsCapture-reading_of p.last_record file w.0, ap (λ (q : Crossing). q.packets) w.1.same, ap (λ (q : Crossing). q.params) w.1.same)
 
 -- the same of all lists of records
 pub file_records : (p : Parameters) (file : List ℕ) (k : Crossing) (records : List (List ℕ)) → AreParameters p → crossing_of p file ≡ Ok k → IsCapture p.last_record file records
     → k.packets ≡ crossing_list p records
 file_records p file k records valid e is =
-    let w = file_by p file k valid e in
-    let top = valid.window.last_most in
-    let a = (reading_of-IsCapture p.last_record file records top is).0 in
-    let b = (reading_of-IsCapture p.last_record file w.0 top w.1).0 in
-    w.2 ∙ ap (crossing_list p) (sym b ∙ a)
+    let w = rw e at (file_leads p file) in
+    ap (λ (q : Crossing). q.packets) w.1.same ∙ ap (crossing_list p) (reading_of-IsCapture p.last_record file records valid.window.last_most is).0

@@ -2,7 +2,7 @@
 use Rattle.std.proofs.Common.{◌≡◌, ℕ, zero, suc, ◌-◌, List, drop, Option, Some, None, Result, Ok, Err, refl, ap, sym, subst}
 use Rattle.std.specs.List.{AllByRecursion}
 use Rattle.rasta_pcap.specs.declared.fault.Fault.{Fault}
-use Rattle.rasta_pcap.specs.Capture.{Cursor, Numbered, next, cursor_after, next_length, opening, read_step, reading, reading_of, reading_opened}
+use Rattle.rasta_pcap.specs.Capture.{Cursor, Numbered, next, cursor_after, next_length, opening, read_step, reading, reading_of, reading_opened, bytes_of}
 use Rattle.rasta_pcap.proofs.Steps.{next-is_next_entry}
 use Rattle.rasta_pcap.proofs.Headers.{opening-is_header}
 use Rattle.rasta_udp.specs.Frame.{Packet, packet_in}
@@ -11,27 +11,27 @@ use Rattle.rasta_pdu.specs.Messages.{AreBytes}
 use Rattle.rasta_pdu.proofs.Numbers.{AreBytes-take, AreBytes-drop}
 use Rattle.rasta_check.proofs.Capture.Channels.{in_range}
 
-abbrev pub AllBytes : List Numbered → Type 0
-AllBytes rs = AllByRecursion (λ (r : Numbered). AreBytes r.1) rs
+abbrev pub AllBytes : List (List ℕ) → Type 0
+AllBytes frames = AllByRecursion AreBytes frames
 
-step_bytes : (left : ℕ) (c : Cursor) (o : Result (Option Numbered) Fault) → next c ≡ o → AreBytes c.rest → AllBytes (reading left (cursor_after c)).records → AllBytes (read_step o (reading left (cursor_after c))).records
+step_bytes : (left : ℕ) (c : Cursor) (o : Result (Option Numbered) Fault) → next c ≡ o → AreBytes c.rest → AllBytes (bytes_of (reading left (cursor_after c))) → AllBytes (bytes_of (read_step o (reading left (cursor_after c))))
 step_bytes left c (Err f) e are more = tt
 step_bytes left c (Ok None) e are more = tt
 step_bytes left c (Ok (Some r)) e are more =
     let bytes = (next-is_next_entry c r e).is in
     (subst AreBytes (sym (ap (λ (x : Numbered). x.1) bytes)) (AreBytes-take (next_length c) (drop 16 c.rest) (AreBytes-drop 16 c.rest are)), more)
 
-reading_bytes : (left : ℕ) (c : Cursor) → AreBytes c.rest → AllBytes (reading left c).records
+reading_bytes : (left : ℕ) (c : Cursor) → AreBytes c.rest → AllBytes (bytes_of (reading left c))
 unfolding reading
 reading_bytes zero c are = tt
 reading_bytes (suc left) c are = step_bytes left c (next c) refl are (reading_bytes left (cursor_after c) (AreBytes-drop (next_length c) (drop 16 c.rest) (AreBytes-drop 16 c.rest are)))
 
-opened_bytes : (limit : ℕ) (file : List ℕ) (o : Result Cursor Fault) → opening file ≡ o → AreBytes file → AllBytes (reading_opened limit o).records
+opened_bytes : (limit : ℕ) (file : List ℕ) (o : Result Cursor Fault) → opening file ≡ o → AreBytes file → AllBytes (bytes_of (reading_opened limit o))
 opened_bytes limit file (Err f) e are = tt
 opened_bytes limit file (Ok c) e are =
     reading_bytes limit c (subst AreBytes (sym (ap (λ (k : Cursor). k.rest) (opening-is_header file c e).1)) (AreBytes-drop 24 file are))
 
-pub file_bytes : (limit : ℕ) (file : List ℕ) → AreBytes file → AllBytes (reading_of limit file).records
+pub file_bytes : (limit : ℕ) (file : List ℕ) → AreBytes file → AllBytes (bytes_of (reading_of limit file))
 unfolding reading_of
 file_bytes limit file are = opened_bytes limit file (opening file) refl are
 

@@ -1,22 +1,21 @@
 -- What was read of a capture and added so far, and what that says of every file that begins so.
-use Rattle.std.proofs.Common.{◌≡◌, ◌∙◌, ◌⊎◌, inl, inr, ◌++◌, append_assoc, ◌+◌, ◌-◌, ◌<◌, ℕ, zero, suc, List, [], Option, Result, Ok, Err, true, false, refl, ap, sym, subst, arith}
-use Rattle.std.specs.Prelude.{IfOk, IfErr}
+use Rattle.std.proofs.Common.{◌≡◌, ◌∙◌, ◌⊎◌, inl, inr, ◌++◌, append_assoc, ℕ, zero, suc, List, [], Option, Result, Ok, Err, true, false, refl, ap, sym, arith}
 use Rattle.std.specs.Io.KnownBytes.{Consumes}
 use Rattle.std.proofs.KnownBytes.{Consumes-nil, Consumes-trans}
 use Rattle.rasta_pcap.specs.declared.fault.Fault.{Fault}
 use Rattle.rasta_pcap.specs.declared.stream.RecordReader.{RecordReader}
-use Rattle.rasta_pcap.specs.Capture.{Cursor, cursor_after, cursor_at, opening, reading}
+use Rattle.rasta_pcap.specs.Capture.{cursor_after, cursor_at, opening, reading}
 use Rattle.rasta_pcap.specs.Stream.{FailsWithin, LacksMemory, MeetsEnd, Opens, ReadsRecord, ReadsSo, RefusesHeader, RefusesRecord, count_in, order_in}
 use Rattle.rasta_pcap.proofs.Steps.{next-nil}
 use Rattle.rasta_pcap.proofs.Streams.{ReadsSo-after}
 use Rattle.rasta_pdu.specs.Params.{Parameters, AreParameters}
-use Rattle.rasta_check.specs.Capture.Reading.{Crossing, after_reading, after_record, and_then, crossing_of, nothing_crossed}
+use Rattle.rasta_check.specs.Capture.Reading.{Crossing, after_reading, after_record, after_records, and_then, crossing_of, nothing_crossed}
 use Rattle.rasta_check.specs.Internals.Storing.{AddsRecord, IsFailure, IsRefusedSo, IsStored, crossing_left}
 use Rattle.rasta_check.specs.Model.Theorem.{OfConnection}
 use Rattle.rasta_check.proofs.Capture.FaultNumbers.{NamesSide, file_names_side}
-use Rattle.rasta_check.proofs.Capture.FaultlessCaptures.{faultless_is_read, read_is_faultless}
-use Rattle.rasta_check.proofs.Capture.RefusedCaptures.{opening_faulty}
-use Rattle.rasta_check.proofs.Capture.Readings.{after-end, after-fault, after-none_left, after-opened, after-record, after-refused, left-after}
+use Rattle.rasta_check.proofs.Capture.FaultlessCaptures.{read_is_faultless}
+use Rattle.rasta_check.proofs.Capture.RefusedCaptures.{opening_faulty, read_is_faulty}
+use Rattle.rasta_check.proofs.Capture.Readings.{after-next, after-opened, after-refused}
 use Rattle.rasta_check.proofs.Capture.DefiniteFaults.{is_definite, opening_definite}
 
 -- bytes were read: of every input that begins so, what crosses is what crosses by the rest
@@ -24,9 +23,6 @@ pub record IsUnderway (whole rest : List ℕ → Result Crossing Fault) (old new
   pub bytes : List ℕ
   pub consumed : Consumes old new bytes
   pub each : (more : List ℕ) → whole (bytes ++ more) ≡ rest more
-
-pub Underway-start : (whole : List ℕ → Result Crossing Fault) (i : Option (List ℕ)) → IsUnderway whole whole i i
-Underway-start whole i = record { bytes = []; consumed = Consumes-nil i; each = λ more. refl }
 
 -- after a header what crosses by a file crosses by the bytes that are left
 pub Underway-opened : (p : Parameters) (k : Crossing) (r : RecordReader) (last : ℕ) (old new : Option (List ℕ)) → Opens (order_in r) old new
@@ -40,33 +36,22 @@ Underway-opened p k r last old new h none nothing all = record {
 
 -- ---- a record more
 
--- a record is left where not all were counted
-pub Underway-left : (whole : List ℕ → Result Crossing Fault) (k : Crossing) (r : RecordReader) (end counter : ℕ) (old new : Option (List ℕ)) → counter < end
-    → IsUnderway whole (crossing_left k r (end - counter)) old new → IsUnderway whole (crossing_left k r (suc (end - (counter + 1)))) old new
-Underway-left whole k r end counter old new below h =
-    subst (λ n. IsUnderway whole (crossing_left k r n) old new) (left-after end counter below) h
-
-added_left : (k next : Crossing) (r n : RecordReader) (left : ℕ) (old new : Option (List ℕ)) (a : AddsRecord k next r n old new) (more : List ℕ)
-    → crossing_left k r (suc left) (a.read.bytes ++ more) ≡ crossing_left next n left more
-added_left k next r n left old new a more =
-    let c = cursor_at (order_in r) (a.read.bytes ++ more) (count_in r) in
-    after-record k left c (count_in n, a.bytes) (a.read.each more).0
-    ∙ ap (λ q. and_then q (λ (m : Crossing). after_reading m (reading left (cursor_after c)))) a.added
-    ∙ ap (λ (d : Cursor). after_reading next (reading left d)) (a.read.each more).1
-    ∙ ap (λ o. after_reading next (reading left (cursor_at o more (count_in n)))) (sym a.order)
-
 pub Underway-record : (whole : List ℕ → Result Crossing Fault) (k next : Crossing) (r n : RecordReader) (left : ℕ) (old mid new : Option (List ℕ))
     → IsUnderway whole (crossing_left k r (suc left)) old mid → AddsRecord k next r n mid new → IsUnderway whole (crossing_left next n left) old new
+unfolding after_records
 Underway-record whole k next r n left old mid new h a = record {
   bytes = h.bytes ++ a.read.bytes;
   consumed = Consumes-trans old mid new h.bytes a.read.bytes h.consumed a.read.consumed;
-  each = λ more. ap whole (append_assoc h.bytes a.read.bytes more) ∙ h.each (a.read.bytes ++ more) ∙ added_left k next r n left mid new a more;
+  each = λ more. (let c = cursor_at (order_in r) (a.read.bytes ++ more) (count_in r) in
+      ap whole (append_assoc h.bytes a.read.bytes more) ∙ h.each (a.read.bytes ++ more) ∙ after-next k left c _ (a.read.each more).0
+      ∙ ap (λ q. and_then q (λ (m : Crossing). after_reading m (reading left (cursor_after c)))) a.added
+      ∙ (λ i. after_reading next (reading left ((a.read.each more).1 i))) ∙ (λ i. after_reading next (reading left (cursor_at (sym a.order i) more (count_in n)))));
 }
 
 -- ---- the reading ends
 
 -- what holds of every input that begins so
-ReadsSo-then : {P Q : List ℕ → Type 0} (old new : Option (List ℕ)) → ((bytes : List ℕ) → P bytes → Q bytes) → ReadsSo P old new → ReadsSo Q old new
+pub ReadsSo-then : {P Q : List ℕ → Type 0} (old new : Option (List ℕ)) → ((bytes : List ℕ) → P bytes → Q bytes) → ReadsSo P old new → ReadsSo Q old new
 ReadsSo-then {P = P} {Q = Q} old new lift h = ReadsSo-after P Q [] old old new (Consumes-nil old) lift h
 
 pub Underway-ends : (whole rest : List ℕ → Result Crossing Fault) (answer : Result Crossing Fault) (old mid new : Option (List ℕ))
@@ -80,23 +65,18 @@ Underway-begun whole rest old mid new h more = (h.bytes ++ more.0, Consumes-tran
 
 pub all_at_end : (k : Crossing) (r : RecordReader) (left : ℕ) (old new : Option (List ℕ)) → MeetsEnd old new
     → ReadsSo (λ rest. crossing_left k r (suc left) rest ≡ Ok k) old new
+unfolding after_records
 all_at_end k r left old new h = record {
   bytes = [];
   met_end = true;
   consumed = h.0;
   at_end = λ e. h.1;
-  each = λ more follows. ap (crossing_left k r (suc left)) (follows refl)
-      ∙ (let c = cursor_at (order_in r) [] (count_in r) in after-end k left c (next-nil c refl));
+  each = λ more follows. (let c = cursor_at (order_in r) [] (count_in r) in ap (crossing_left k r (suc left)) (follows refl) ∙ after-next k left c _ (next-nil c refl));
 }
 
 pub all_with_window : (k : Crossing) (r : RecordReader) (i : Option (List ℕ)) → ReadsSo (λ rest. crossing_left k r zero rest ≡ Ok k) i i
-all_with_window k r i = record {
-  bytes = [];
-  met_end = false;
-  consumed = Consumes-nil i;
-  at_end = λ e. absurd (cc);
-  each = λ more follows. after-none_left k (cursor_at (order_in r) more (count_in r));
-}
+unfolding after_records reading
+all_with_window k r i = record { bytes = []; met_end = false; consumed = Consumes-nil i; at_end = λ e. absurd (cc); each = λ more follows. refl }
 
 -- ---- the next record has a fault
 
@@ -104,12 +84,9 @@ all_with_window k r i = record {
 abbrev pub FaultsNext : Crossing → RecordReader → Fault → Option (List ℕ) → Option (List ℕ) → Type 0
 FaultsNext k r f old new = ReadsSo (λ rest. (left : ℕ) → crossing_left k r (suc left) rest ≡ Err f) old new
 
-pub next_refused : (k : Crossing) (r : RecordReader) (f : Fault) (old new : Option (List ℕ)) → RefusesRecord (order_in r) (count_in r) f old new
-    → FaultsNext k r f old new
-next_refused k r f old new h = ReadsSo-then old new (λ bytes is left. after-fault k left (cursor_at (order_in r) bytes (count_in r)) f is) h
-
 pub next_faulty : (k : Crossing) (r : RecordReader) (number : ℕ) (bytes : List ℕ) (f : Fault) (old new : Option (List ℕ))
     → ReadsRecord (order_in r) (count_in r) (number, bytes) old new → after_record k (number, bytes) ≡ Err f → FaultsNext k r f old new
+unfolding after_records
 next_faulty k r number bytes f old new h e = record {
   bytes = h.bytes;
   met_end = false;
@@ -117,38 +94,30 @@ next_faulty k r number bytes f old new h e = record {
   at_end = λ e. absurd (cc);
   each = λ more follows left.
       let c = cursor_at (order_in r) (h.bytes ++ more) (count_in r) in
-      after-record k left c (number, bytes) (h.each more).0
+      after-next k left c _ (h.each more).0
       ∙ ap (λ q. and_then q (λ (m : Crossing). after_reading m (reading left (cursor_after c)))) e;
 }
-
--- with so many records left after it
-pub every_left : (k : Crossing) (r : RecordReader) (left : ℕ) (f : Fault) (old new : Option (List ℕ)) → FaultsNext k r f old new
-    → ReadsSo (λ rest. crossing_left k r (suc left) rest ≡ Err f) old new
-every_left k r left f old new h = ReadsSo-then old new (λ bytes faults. faults left) h
 
 -- why there was no record
 abbrev pub WhyNone : ℕ → RecordReader → ℕ → Fault → ℕ → ℕ → Option (List ℕ) → Option (List ℕ) → Type 0
 WhyNone most r room f old_count new_count old new = FailsWithin most f old_count new_count old new
     ⊎ (LacksMemory (order_in r) room f old new ⊎ RefusesRecord (order_in r) (count_in r) f old new)
 
-pub why_faulty : (k : Crossing) (most : ℕ) (r : RecordReader) (room : ℕ) (f : Fault) (old_count new_count : ℕ) (old new : Option (List ℕ))
-    → WhyNone most r room f old_count new_count old new → IsFailure f old_count new_count ⊎ FaultsNext k r f old new
-why_faulty k most r room f old_count new_count old new (inl failed) = inl (inr (failed.0, failed.1))
-why_faulty k most r room f old_count new_count old new (inr (inl lacking)) = inl (inl lacking.0)
-why_faulty k most r room f old_count new_count old new (inr (inr refused)) = inr (next_refused k r f old new refused)
-
-pub why_begun : (most : ℕ) (r : RecordReader) (room : ℕ) (f : Fault) (old_count new_count : ℕ) (old new : Option (List ℕ))
-    → WhyNone most r room f old_count new_count old new → (bs : List ℕ) × Consumes old new bs
-why_begun most r room f old_count new_count old new (inl failed) = (failed.2.0, failed.2.1)
-why_begun most r room f old_count new_count old new (inr (inl lacking)) = (lacking.1.bytes, lacking.1.consumed)
-why_begun most r room f old_count new_count old new (inr (inr refused)) = (refused.bytes, refused.consumed)
+-- bytes were read; it is a failure, or the next record has this fault
+pub why : (k : Crossing) (most : ℕ) (r : RecordReader) (room : ℕ) (f : Fault) (old_count new_count : ℕ) (old new : Option (List ℕ))
+    → WhyNone most r room f old_count new_count old new → ((bs : List ℕ) × Consumes old new bs) × (IsFailure f old_count new_count ⊎ FaultsNext k r f old new)
+unfolding after_records
+why k most r room f old_count new_count old new (inl failed) = ((failed.2.0, failed.2.1), inl (inr (failed.0, failed.1)))
+why k most r room f old_count new_count old new (inr (inl lacking)) = ((lacking.1.bytes, lacking.1.consumed), inl (inl lacking.0))
+why k most r room f old_count new_count old new (inr (inr refused)) =
+    ((refused.bytes, refused.consumed), inr (ReadsSo-then old new (λ bytes is left. after-next k left (cursor_at (order_in r) bytes (count_in r)) _ is) refused))
 
 -- ---- a whole file
 
 file_refused : (p : Parameters) (file : List ℕ) (f : Fault) → OfConnection p → crossing_of p file ≡ Err f → IsRefusedSo p f file
 file_refused p file f h e = record {
   value = e;
-  only = λ are client server is. (let z = faultless_is_read p file client server h are is in cc);
+  only = λ are. read_is_faulty p file f h are e;
   definite = λ are is. (is_definite p file f h are e is).impossible;
 }
 
@@ -161,43 +130,21 @@ header_refused p file f valid e = record {
 
 module _ (p : Parameters) (h : OfConnection p) (rest : List ℕ → Result Crossing Fault) (old mid new : Option (List ℕ))
     (u : IsUnderway (crossing_of p) rest old mid) where
-  pub stored_answer : (r : Result Crossing Fault) → IfOk r (λ k. ReadsSo (λ bytes. rest bytes ≡ Ok k) mid new)
-      → IfOk r (λ k. ReadsSo (IsStored p k) old new)
-  stored_answer (Ok k) e = ReadsSo-after (λ bytes. rest bytes ≡ Ok k) (IsStored p k) u.bytes old mid new u.consumed
-      (λ more is. (let e = u.each more ∙ is in record { value = e; read = λ are. read_is_faultless p (u.bytes ++ more) k h are e })) e
-  stored_answer (Err f) e = tt
+  pub stored : (k : Crossing) → ReadsSo (λ bytes. rest bytes ≡ Ok k) mid new → ReadsSo (IsStored p k) old new
+  stored k e = ReadsSo-then old new (λ bytes e. record { value = e; read = λ are. read_is_faultless p bytes k h are e }) (Underway-ends (crossing_of p) rest (Ok k) old mid new u e)
 
-  pub refused_answer : (first_count old_count new_count : ℕ) → old_count ≡ first_count → (r : Result Crossing Fault)
-      → IfErr r (λ f. IsFailure f old_count new_count ⊎ ReadsSo (λ bytes. rest bytes ≡ Err f) mid new)
-      → IfErr r (λ f. IsFailure f first_count new_count ⊎ ReadsSo (IsRefusedSo p f) old new)
-  refused_answer first_count old_count new_count steady (Ok k) e = tt
-  refused_answer first_count old_count new_count steady (Err f) (inl failed) = inl (subst (λ n. IsFailure f n new_count) steady failed)
-  refused_answer first_count old_count new_count steady (Err f) (inr e) =
-      inr (ReadsSo-after (λ bytes. rest bytes ≡ Err f) (IsRefusedSo p f) u.bytes old mid new u.consumed
-      (λ more is. file_refused p (u.bytes ++ more) f h (u.each more ∙ is)) e)
+  pub refused : (f : Fault) → ReadsSo (λ bytes. rest bytes ≡ Err f) mid new → ReadsSo (IsRefusedSo p f) old new
+  refused f e = ReadsSo-then old new (λ bytes. file_refused p bytes f h) (Underway-ends (crossing_of p) rest (Err f) old mid new u e)
 
 pub header_answer : (p : Parameters) (most : ℕ) (f : Fault) (old_count new_count : ℕ) (old new : Option (List ℕ)) → AreParameters p
     → FailsWithin most f old_count new_count old new ⊎ RefusesHeader f old new
-    → IsFailure f old_count new_count ⊎ ReadsSo (IsRefusedSo p f) old new
-header_answer p most f old_count new_count old new valid (inl failed) = inl (inr (failed.0, failed.1))
-header_answer p most f old_count new_count old new valid (inr h) = inr (ReadsSo-then old new (λ bytes is. header_refused p bytes f valid is) h)
-
-pub header_begun : (most : ℕ) (f : Fault) (old_count new_count : ℕ) (old new : Option (List ℕ))
-    → FailsWithin most f old_count new_count old new ⊎ RefusesHeader f old new → (bs : List ℕ) × Consumes old new bs
-header_begun most f old_count new_count old new (inl failed) = (failed.2.0, failed.2.1)
-header_begun most f old_count new_count old new (inr h) = (h.bytes, h.consumed)
+    → ((bs : List ℕ) × Consumes old new bs) × (IsFailure f old_count new_count ⊎ ReadsSo (IsRefusedSo p f) old new)
+header_answer p most f old_count new_count old new valid (inl failed) = ((failed.2.0, failed.2.1), inl (inr (failed.0, failed.1)))
+header_answer p most f old_count new_count old new valid (inr h) = ((h.bytes, h.consumed), inr (ReadsSo-then old new (λ bytes is. header_refused p bytes f valid is) h))
 
 -- ---- the fault speaks of a side where its number says so
 
-failure_names_side : (f : Fault) (old_count new_count : ℕ) → IsFailure f old_count new_count → NamesSide f
-failure_names_side f old_count new_count h = grind arith
-
 pub refused_names_side : (p : Parameters) (f : Fault) (old_count new_count : ℕ) (old new : Option (List ℕ))
     → IsFailure f old_count new_count ⊎ ReadsSo (IsRefusedSo p f) old new → NamesSide f
-refused_names_side p f old_count new_count old new (inl failed) = failure_names_side f old_count new_count failed
+refused_names_side p f old_count new_count old new (inl failed) = grind arith
 refused_names_side p f old_count new_count old new (inr e) = file_names_side p (e.bytes ++ []) f (e.each [] (λ met. refl)).value
-
-pub answer_sided : (p : Parameters) (old_count new_count : ℕ) (old new : Option (List ℕ)) (r : Result Crossing Fault)
-    → IfErr r (λ f. IsFailure f old_count new_count ⊎ ReadsSo (IsRefusedSo p f) old new) → IfErr r NamesSide
-answer_sided p old_count new_count old new (Ok k) e = tt
-answer_sided p old_count new_count old new (Err f) e = refused_names_side p f old_count new_count old new e

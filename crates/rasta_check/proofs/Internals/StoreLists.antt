@@ -1,5 +1,5 @@
 -- What a store keeps at its positions and places.
-use Rattle.std.proofs.Common.{◌≡◌, ℕ, ◌<◌, ◌≤◌, List, [], ◌∷◌, length, map, Bool, true, false, nat_eq, Option, Some, None, slice_get, refl, ap, sym, ◌∙◌, subst, arith, IfSome, if◌then◌else◌}
+use Rattle.std.proofs.Common.{◌≡◌, ℕ, ◌≤◌, List, [], ◌∷◌, length, map, Bool, true, false, nat_eq, Option, Some, None, slice_get, refl, ap, sym, ◌∙◌, subst, arith, IfSome, if◌then◌else◌}
 use Rattle.std.specs.Prelude.{Ok, Result}
 use Rattle.std.specs.List.{position_or_len}
 use Rattle.std.specs.Option.{option_map}
@@ -7,7 +7,7 @@ use Rattle.std.specs.Str.{bytes_eq}
 use Rattle.std.proofs.lemmas.Bool.Decides.{nat_tests}
 use Rattle.std.proofs.lemmas.Slice.Eq.{bytes_eq-Decides}
 use Rattle.std.proofs.lemmas.List.{length-map}
-use Rattle.std.proofs.lemmas.Option.{cond_some, slice_get-map, slice_get_past}
+use Rattle.std.proofs.lemmas.Option.{cond_some, slice_get_past}
 use Rattle.rasta_pcap.specs.declared.fault.Fault.{Fault}
 use Rattle.rasta_pcap.specs.declared.fault.Side.{Side}
 use Rattle.rasta_pcap.specs.Fault.{copy_differs, number_gap}
@@ -17,14 +17,13 @@ use Rattle.rasta_pdu.specs.Pdu.{RedundancyPdu, redundancy_bytes, decode_of}
 use Rattle.rasta_check.specs.declared.crossing_store.StoredPacket.{StoredPacket}
 use Rattle.rasta_check.specs.Capture.Crossing.{FirstCopy, Spells, copy_with, is_next_number, packet_fault}
 use Rattle.rasta_check.specs.Internals.Datagrams.{Kept, KeptDatagrams, kept_by}
-use Rattle.rasta_check.specs.Capture.Lists.{IsOrdered, numbers_of, position_of_number, position_of_place}
-use Rattle.rasta_check.specs.Capture.Reading.{Crossing, IsCrossing, sent_by, sent_after}
-use Rattle.rasta_check.specs.Internals.Stored.{IsStore, Decode, bytes_of, copy_in, pdu_in, packet_by, crossing_by}
+use Rattle.rasta_check.specs.Capture.Lists.{numbers_of, position_of_number, position_of_place}
+use Rattle.rasta_check.specs.Capture.Reading.{Crossing, sent_by, sent_after}
+use Rattle.rasta_check.specs.Internals.Stored.{IsStore, bytes_of, copy_in, pdu_in, packet_by, crossing_by}
 use Rattle.rasta_check.proofs.Capture.Crossings.{few_of, known_by, list_of}
-use Rattle.rasta_check.proofs.Capture.Spellings.{read_once}
-use Rattle.rasta_check.proofs.Lists.{slice_get_some, map_at}
+use Rattle.rasta_check.proofs.Lists.{get_mapped, slice_get_some, map_at}
 use Rattle.rasta_check.proofs.Capture.Positions.{number_found, number_once, place_missing, place_named}
-use Rattle.rasta_check.proofs.Capture.FaultlessLists.{ordered}
+use Rattle.rasta_check.proofs.Capture.FaultlessLists.{ordered, read_once}
 
 -- ---- a datagram and the first copy that it spells
 
@@ -33,18 +32,6 @@ pub record IsFirst (p : Parameters) (side : Side) (x : Kept) (own : List FirstCo
   pub reads : decode_of p side x.bytes ≡ Ok pdu
   pub spelled : Spells p side pdu x.bytes
   pub there : slice_get own position ≡ Some (record { place = x.place; pdu = pdu })
-
-first_in : (p : Parameters) (side : Side) (kept : List Kept) → Decode p side kept → (position : ℕ) (x : Kept) → slice_get kept position ≡ Some x
-    → IsFirst p side x (map (copy_in p side) kept) position
-first_in p side kept h position x g =
-    let w = h position x g in
-    record {
-      pdu = w.0;
-      reads = w.1;
-      spelled = w.2;
-      there = map_at (copy_in p side) kept position x g
-          ∙ ap (λ (r : Result RedundancyPdu Fault). Some (record { place = x.place; pdu = pdu_in r })) w.1;
-    }
 
 module _ (p : Parameters) (d : KeptDatagrams) (packets : List StoredPacket) where
   abbrev whole : Crossing
@@ -55,106 +42,89 @@ module _ (p : Parameters) (d : KeptDatagrams) (packets : List StoredPacket) wher
 
   pub kept_at : IsStore p d packets → (side : Side) (position : ℕ) (x : Kept) → slice_get (kept_by d side) position ≡ Some x
       → IsFirst p side x (sent_by whole side) position
-  kept_at st side position x g = subst (λ (own : List FirstCopy). IsFirst p side x own position) (sym (sent_is side)) (first_in p side (kept_by d side) (st.decode side) position x g)
+  kept_at st side position x g =
+      let w = st.decode side position x g in
+      record {
+        pdu = w.0;
+        reads = w.1;
+        spelled = w.2;
+        there = ap (λ (own : List FirstCopy). slice_get own position) (sent_is side) ∙ map_at (copy_in p side) (kept_by d side) position x g
+            ∙ ap (λ (r : Result RedundancyPdu Fault). Some (record { place = x.place; pdu = pdu_in r })) w.1;
+      }
 
-  pub count_of : (side : Side) → length (sent_by whole side) ≡ length (kept_by d side)
-  count_of side = ap length (sent_is side) ∙ length-map (kept_by d side) (copy_in p side)
-
-  -- the packet at a place
-  pub packet_there : (place : ℕ) (x : StoredPacket) → slice_get packets place ≡ Some x → slice_get whole.packets place ≡ Some (packet_by d x)
-  packet_there place x g = map_at (packet_by d) packets place x g
-
-  pub no_packet : (place : ℕ) → slice_get packets place ≡ None → slice_get whole.packets place ≡ None
-  no_packet place g = slice_get-map (packet_by d) packets place ∙ ap (option_map (packet_by d)) g
-
-  -- its payload is that of its first copy
-  pub payload_at : (place position : ℕ) (x : StoredPacket) (y : Kept) → slice_get packets place ≡ Some x → slice_get (kept_by d x.side) x.position ≡ Some y
+  -- a packet's payload is that of its first copy
+  pub payload_at : (place : ℕ) (x : StoredPacket) (y : Kept) → slice_get packets place ≡ Some x → slice_get (kept_by d x.side) x.position ≡ Some y
       → slice_get whole.packets place ≡ Some (record { channel = x.channel; side = x.side; payload = y.bytes })
-  payload_at place position x y g h =
-      packet_there place x g ∙ ap (λ (o : Option Kept). Some (record { channel = x.channel; side = x.side; payload = bytes_of o })) h
+  payload_at place x y g h =
+      map_at (packet_by d) packets place x g ∙ ap (λ (o : Option Kept). Some (record { channel = x.channel; side = x.side; payload = bytes_of o })) h
 
--- ---- lists of a crossing are ordered
-
-pub ordered_of : (k : Crossing) → IsCrossing k → (side : Side) → IsOrdered (sent_by k side)
-ordered_of k h side = ordered (list_of k h side)
+-- a packet as the code reads it
+pub packet_read : (packets xs : List StoredPacket) (place : ℕ) (o q : Option StoredPacket) → xs ≡ packets → o ≡ slice_get xs place → o ≡ q → slice_get packets place ≡ q
+packet_read packets xs place o q e f g = cc
 
 module _ (p : Parameters) (d : KeptDatagrams) (packets : List StoredPacket) (st : IsStore p d packets) where
   abbrev all : Crossing
   all = crossing_by p d packets
 
+  -- each packet has the position of a datagram
+  pub datagram_of : (place : ℕ) (x : StoredPacket) → slice_get packets place ≡ Some x → (y : Kept) × (slice_get (kept_by d x.side) x.position ≡ Some y)
+  datagram_of place x g = slice_get_some (kept_by d x.side) x.position (st.positions place x g)
+
+  -- a packet and its datagram
+  abbrev pub IsHeld : Side → ℕ → StoredPacket → Kept → Type 0
+  IsHeld side place x y = (slice_get packets place ≡ Some x) × (x.side ≡ side) × (slice_get (kept_by d side) x.position ≡ Some y)
+
+  -- a first copy is that of the packet at its place
+  copy_held : (side : Side) (i : ℕ) (c : FirstCopy) → slice_get (sent_by all side) i ≡ Some c
+      → (x : StoredPacket) × (y : Kept) × IsHeld side c.place x y × (i ≡ x.position) × (y.place ≡ c.place)
+  copy_held side i c f =
+      let w = (list_of all st.crossing side).firsts i c f in
+      let q = get_mapped (packet_by d) packets c.place w.0 w.1 in
+      let x = q.0 in
+      let at : x.side ≡ side = ap (λ (a : Packet). a.side) q.2 ∙ w.2 in
+      let r = datagram_of c.place x q.1 in
+      let there : slice_get (kept_by d side) x.position ≡ Some r.0 = subst (λ (t : Side). slice_get (kept_by d t) x.position ≡ Some r.0) at r.1 in
+      let mine = kept_at p d packets st side x.position r.0 there in
+      let bytes : r.0.bytes ≡ w.0.payload = ap (λ (o : Option Kept). bytes_of o) (sym r.1) ∙ ap (λ (a : Packet). a.payload) q.2 in
+      let one : mine.pdu ≡ c.pdu = read_once p st.crossing.valid.valid side mine.pdu c.pdu r.0.bytes mine.spelled
+      (subst (λ (bs : List ℕ). Spells p side c.pdu bs) (sym bytes) w.3) in
+      let few = few_of all st.crossing side in
+      let same : i ≡ x.position = number_once (sent_by all side) (ordered (list_of all st.crossing side)) (omega arith) i x.position c _ f mine.there (ap (λ (z : RedundancyPdu). z.number) (sym one)) in
+      let here = mine.there in
+      let copy : record { place = r.0.place; pdu = mine.pdu } ≡ c = cc in
+      (x, r.0, (q.1, at, there), same, ap (λ (z : FirstCopy). z.place) copy)
+
   -- no packet, no copy
   pub not_placed : (side : Side) (place : ℕ) → slice_get packets place ≡ None → position_of_place (sent_by all side) place ≡ None
-  not_placed side place g =
-      place_missing (sent_by all side) place (λ i c f e.
-      (let w = (list_of all st.crossing side).firsts i c f in
-      let here : slice_get all.packets place ≡ Some w.0 = subst (λ (n : ℕ). slice_get all.packets n ≡ Some w.0) e w.1 in
-      let none = no_packet p d packets place g in cc))
+  not_placed side place g = place_missing (sent_by all side) place (λ i c f e. (let w = (copy_held side i c f).2.0 in cc))
 
   -- a packet of the other side is no copy of this
   pub other_side : (side : Side) (place : ℕ) (x : StoredPacket) → slice_get packets place ≡ Some x → (x.side ≡ side → ⊥) → position_of_place (sent_by all side) place ≡ None
   other_side side place x g differ =
-      place_missing (sent_by all side) place (λ i c f e.
-      (let w = (list_of all st.crossing side).firsts i c f in
-      let here : slice_get all.packets place ≡ Some w.0 = subst (λ (n : ℕ). slice_get all.packets n ≡ Some w.0) e w.1 in
-      let there = packet_there p d packets place x g in
-      let same : packet_by d x ≡ w.0 = cc in
-      differ (ap (λ (a : Packet). a.side) same ∙ w.2)))
+      place_missing (sent_by all side) place (λ i c f e. (let w = copy_held side i c f in let h = w.2.0 in let same : w.0 ≡ x = cc in differ (sym (ap (λ (z : StoredPacket). z.side) same) ∙ w.2.1)))
 
-  -- the copy at a packet's place is the one at its position, if any
-  pub position_is : (side : Side) (place : ℕ) (x : StoredPacket) (y : Kept) → slice_get packets place ≡ Some x → x.side ≡ side
-      → slice_get (kept_by d side) x.position ≡ Some y → (i : ℕ) (c : FirstCopy) → slice_get (sent_by all side) i ≡ Some c → c.place ≡ place → i ≡ x.position
-  position_is side place x y g s h i c f e =
-      let mine = kept_at p d packets st side x.position y h in
-      let w = (list_of all st.crossing side).firsts i c f in
-      let here : slice_get all.packets place ≡ Some w.0 = subst (λ (n : ℕ). slice_get all.packets n ≡ Some w.0) e w.1 in
-      let there = payload_at p d packets place x.position x y g (ap (λ (t : Side). slice_get (kept_by d t) x.position) s ∙ h) in
-      let same : record { channel = x.channel; side = x.side; payload = y.bytes } ≡ w.0 = cc in
-      let bytes : y.bytes ≡ w.0.payload = ap (λ (a : Packet). a.payload) same in
-      let one : mine.pdu ≡ c.pdu = read_once p st.crossing.valid.valid side mine.pdu c.pdu y.bytes mine.spelled
-      (subst (λ (bs : List ℕ). Spells p side c.pdu bs) (sym bytes) w.3) in
-      let number : mine.pdu.number ≡ c.pdu.number = ap (λ (r : RedundancyPdu). r.number) one in
-      let few = few_of all st.crossing side in
-      number_once (sent_by all side) (ordered_of all st.crossing side) (omega arith) i x.position c _ f mine.there (sym number)
+  pub first_there : (side : Side) (place : ℕ) (x : StoredPacket) (y : Kept) → IsHeld side place x y → y.place ≡ place → position_of_place (sent_by all side) place ≡ Some x.position
+  first_there side place x y h e =
+      subst (λ (n : ℕ). position_of_place (sent_by all side) n ≡ Some x.position) e
+      (place_named (sent_by all side) (ordered (list_of all st.crossing side)) x.position _ (kept_at p d packets st side x.position y h.2).there)
 
-  -- each packet has the position of a datagram
-  pub not_stored : (side : Side) (place : ℕ) (x : StoredPacket) → slice_get packets place ≡ Some x → x.side ≡ side → slice_get (kept_by d side) x.position ≡ None → ⊥
-  not_stored side place x g s e =
-      let l = st.positions place x g in
-      let w = slice_get_some (kept_by d side) x.position (subst (λ (t : Side). x.position < length (kept_by d t)) s l) in
-      let h = w.1 in cc
+  pub copy_there : (side : Side) (place : ℕ) (x : StoredPacket) (y : Kept) → IsHeld side place x y → (y.place ≡ place → ⊥) → position_of_place (sent_by all side) place ≡ None
+  copy_there side place x y h differ =
+      place_missing (sent_by all side) place (λ i c f e. (let w = copy_held side i c f in
+      let g = w.2 in
+      let one : w.0 ≡ x = cc in
+      let same : w.1 ≡ y = cc in
+      differ (sym (ap (λ (z : Kept). z.place) same) ∙ w.4 ∙ e)))
 
   -- the packet that a place holds, and its number
   pub stored_packet : (place : ℕ) (x : StoredPacket) → slice_get packets place ≡ Some x → (number : ℕ)
       → option_map (λ (c : FirstCopy). c.pdu.number) (slice_get (sent_by all x.side) x.position) ≡ Some number
       → (a : Packet) × (r : RedundancyPdu) × (slice_get all.packets place ≡ Some a) × Spells p a.side r a.payload × ◌≡◌ {A = Side × ℕ} (x.side, number) (a.side, r.number)
   stored_packet place x g number e =
-      let w = slice_get_some (kept_by d x.side) x.position (st.positions place x g) in
+      let w = datagram_of place x g in
       let mine = kept_at p d packets st x.side x.position w.0 w.1 in
-      let same : mine.pdu.number ≡ number = (let z = sym (ap (option_map (λ (c : FirstCopy). c.pdu.number)) mine.there) ∙ e in cc) in (
-        record { channel = x.channel; side = x.side; payload = w.0.bytes },
-        mine.pdu,
-        payload_at p d packets place x.position x w.0 g w.1,
-        mine.spelled,
-        (λ i. (x.side, sym same i)),
-      )
-
-  pub first_there : (side : Side) (place : ℕ) (x : StoredPacket) (y : Kept) → slice_get packets place ≡ Some x → x.side ≡ side
-      → slice_get (kept_by d side) x.position ≡ Some y → y.place ≡ place → position_of_place (sent_by all side) place ≡ Some x.position
-  first_there side place x y g s h e =
-      let mine = kept_at p d packets st side x.position y h in
-      subst (λ (n : ℕ). position_of_place (sent_by all side) n ≡ Some x.position) e
-      (place_named (sent_by all side) (ordered_of all st.crossing side) x.position (record { place = y.place; pdu = mine.pdu }) mine.there)
-
-  pub copy_there : (side : Side) (place : ℕ) (x : StoredPacket) (y : Kept) → slice_get packets place ≡ Some x → x.side ≡ side
-      → slice_get (kept_by d side) x.position ≡ Some y → (y.place ≡ place → ⊥) → position_of_place (sent_by all side) place ≡ None
-  copy_there side place x y g s h differ =
-      let mine = kept_at p d packets st side x.position y h in
-      place_missing (sent_by all side) place (λ i c f e.
-      (let same = position_is side place x y g s h i c f e in
-      let here : slice_get (sent_by all side) x.position ≡ Some c = subst (λ (n : ℕ). slice_get (sent_by all side) n ≡ Some c) same f in
-      let there = mine.there in
-      let one : record { place = y.place; pdu = mine.pdu } ≡ c = cc in
-      differ (ap (λ (z : FirstCopy). z.place) one ∙ e)))
+      let same : mine.pdu.number ≡ number = (let z = sym (ap (option_map (λ (c : FirstCopy). c.pdu.number)) mine.there) ∙ e in cc) in
+      (_, mine.pdu, payload_at p d packets place x w.0 g w.1, mine.spelled, (λ i. (x.side, sym same i)))
 
 -- ---- packets of known numbers
 
@@ -179,11 +149,6 @@ module _ (k : Crossing) (a : Packet) (pdu : RedundancyPdu) (reads : decode_of k.
   sent = sent_by k a.side
 
   -- its bytes are compared
-  repeats : (position : ℕ) (r : Bool) → position_of_number sent pdu.number ≡ Some position → (c : FirstCopy) → slice_get sent position ≡ Some c
-      → r ≡ bytes_eq (redundancy_bytes k.params a.side c.pdu) a.payload
-      → (packet_fault k.params sent a ≡ (if r then None else Some copy_differs)) × (sent_after k a ≡ sent)
-  repeats position r e c g f = rw f (known_by k a pdu (Some c) reads (copy_of_position sent pdu.number position e ∙ g))
-
   pub repeats_at : (position : ℕ) (r : Bool) → position_of_number sent pdu.number ≡ Some position
       → IfSome (slice_get sent position) (λ (c : FirstCopy). r ≡ bytes_eq (redundancy_bytes k.params a.side c.pdu) a.payload)
       → (c : FirstCopy) × (slice_get sent position ≡ Some c) × (packet_fault k.params sent a ≡ (if r then None else Some copy_differs)) × (sent_after k a ≡ sent)
@@ -191,8 +156,8 @@ module _ (k : Crossing) (a : Packet) (pdu : RedundancyPdu) (reads : decode_of k.
   repeats_at position r e h =
       let f = number_found sent pdu.number position e in
       let same = subst (λ (o : Option FirstCopy). IfSome o (λ (c : FirstCopy). r ≡ bytes_eq (redundancy_bytes k.params a.side c.pdu) a.payload)) f.1 h in
-      let w = repeats position r e f.0 f.1 same in
-      (f.0, f.1, w.0, w.1, λ is. sym ((bytes_eq-Decides (redundancy_bytes k.params a.side f.0.pdu) a.payload).0 (sym same ∙ is)))
+      let w = known_by k a pdu (Some f.0) reads (copy_of_position sent pdu.number position e ∙ f.1) in
+      (f.0, f.1, rw same w.0, w.1, λ is. sym ((bytes_eq-Decides (redundancy_bytes k.params a.side f.0.pdu) a.payload).0 (sym same ∙ is)))
 
   -- no first copy has its number, which isn't the next
   pub skips : position_of_number sent pdu.number ≡ None → is_next_number sent pdu.number ≡ false → packet_fault k.params sent a ≡ Some number_gap

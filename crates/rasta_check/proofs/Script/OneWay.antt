@@ -5,8 +5,7 @@ use Rattle.rasta_check.proofs.Prelude.{Side, Packet, Parameters, RedundancyPdu, 
 use Rattle.rasta_end.specs.MakeRule.{after_make}
 use Rattle.rasta_end.specs.TakeRule.{after_take}
 use Rattle.rasta_check.specs.Capture.Crossing.{Spells, IsCarried, IsKnown}
-use Rattle.rasta_check.proofs.Capture.FaultlessLists.{IsSent, ordered}
-use Rattle.rasta_check.proofs.Capture.Spellings.{read_once}
+use Rattle.rasta_check.proofs.Capture.FaultlessLists.{IsSent, ordered, read_once}
 use Rattle.rasta_check.proofs.Capture.Positions.{number_once}
 
 -- each member is a packet of the side, which spells its PDU

@@ -3,23 +3,23 @@ use Rattle.std.proofs.Common.{◌≡◌, ℕ, ◌≤◌, List, length, Result, O
 use Rattle.rasta_pcap.specs.declared.fault.Fault.{Fault}
 use Rattle.rasta_pcap.specs.declared.fault.Side.{Side}
 use Rattle.rasta_pcap.specs.declared.fault.Side.TheVariants.{Client, Server}
-use Rattle.rasta_pcap.specs.Capture.{IsCapture, reading_of}
+use Rattle.rasta_pcap.specs.Capture.{IsCapture}
 use Rattle.rasta_pcap.proofs.Captures.{reading_of-IsCapture}
 use Rattle.rasta_udp.specs.Frame.{Packet}
 use Rattle.rasta_pdu.specs.Params.{Parameters, AreParameters}
 use Rattle.rasta_cert.specs.Certificate.{Scripts}
 use Rattle.rasta_check.specs.Capture.Crossing.{FirstCopy, Sent, crossing_list}
-use Rattle.rasta_check.specs.Capture.Reading.{Crossing, IsCrossing, crossing_of, nothing_crossed}
+use Rattle.rasta_check.specs.Capture.Reading.{Crossing, IsCrossing, crossing_of}
 use Rattle.rasta_check.specs.Capture.Faults.{CrossedIn}
 use Rattle.rasta_check.specs.Verdict.Report.{Explained, BothFit, Explains, IsFileVerdict, IsScriptVerdict, judged, report_of}
 use Rattle.rasta_check.specs.Verdict.Headline.{Headline}
 use Rattle.rasta_check.proofs.Capture.ListForms.{to_record}
-use Rattle.rasta_check.proofs.Capture.Readings.{records_add}
+use Rattle.rasta_check.proofs.Capture.Readings.{file_by}
 use Rattle.rasta_check.proofs.Capture.FirstCopies.{sent_once}
 
 -- what is read has the parameters by which it is read
 pub same_params : (p : Parameters) (file : List ℕ) (k : Crossing) → crossing_of p file ≡ Ok k → k.params ≡ p
-same_params p file k e = (records_add (nothing_crossed p) k (reading_of p.last_record file).records (reading_of p.last_record file).fault e).1.params
+same_params p file k e = (file_by p file k e).3
 
 -- the verdict on a capture without a fault is that on what crossed in it
 pub verdict_is : (p : Parameters) (file : List ℕ) (k : Crossing) → CrossedIn p file k → (scripts : Scripts) (verdict : Result Explained Fault)

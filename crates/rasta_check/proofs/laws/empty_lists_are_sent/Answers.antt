@@ -1,5 +1,5 @@
 use Rattle.std.proofs.Common.{[], refl}
-use Rattle.rasta_check.proofs.Capture.FaultlessCaptures.{nothing_is}
+use Rattle.rasta_check.proofs.Capture.Readings.{nothing_is}
 use Rattle.rasta_check.proofs.laws.empty_lists_are_sent.Goals as goal
 
 pub returns : goal.returns

@@ -1,9 +1,8 @@
-use Rattle.std.proofs.Common.{◌≡◌, ◌-◌}
+use Rattle.std.proofs.Common.{◌≡◌, ◌-◌, ℕ}
 use Rattle.rasta_pcap.specs.Capture.{reading}
 use Rattle.rasta_check.specs.Capture.Reading.{after_reading}
 use Rattle.rasta_check.proofs.reading.add_records.Given as goal
 
 -- what crosses by the records that are left crosses by all
 abbrev pub invariant-loop : goal.invariant-loop
-invariant-loop l =
-    (after_reading l.fn.sent (reading l.last l.fn.pcap) ≡ after_reading l.sent (reading (l.last - l.counter) l.pcap))
+invariant-loop l = (left : ℕ) → left ≡ l.last - l.counter → after_reading l.fn.sent (reading l.last l.fn.pcap) ≡ after_reading l.sent (reading left l.pcap)

@@ -1,4 +1,5 @@
-use Rattle.std.proofs.Common.{◌≡◌, ◌∙◌, ◌⊎◌, Ok, Err, Result, sym, inr, subst, MatchResult, arith}
+use Rattle.std.proofs.Common.{◌≡◌, ◌∙◌, ◌⊎◌, Ok, Err, Result, ap, sym, inl, inr, ⊎_elim, subst, MatchResult, arith}
+use Rattle.std.proofs.lemmas.Result.{MatchResult-weaker}
 use Rattle.rasta_pcap.specs.declared.fault.Fault.{Fault}
 use Rattle.rasta_pcap.specs.Fault.{no_memory}
 use Rattle.rasta_pcap.specs.Capture.{reading}
@@ -6,10 +7,11 @@ use Rattle.rasta_pdu.specs.Messages.{AreBytes}
 use Rattle.rasta_check.specs.Capture.Reading.{Crossing, after_reading, crossing_of}
 use Rattle.rasta_check.specs.Model.Theorem.{OfConnection}
 use Rattle.rasta_check.specs.Capture.Faults.{in_header}
-use Rattle.rasta_check.proofs.Capture.Readings.{after-opened}
-use Rattle.rasta_check.proofs.Capture.DefiniteFaults.{answer_definite, opening_definite}
-use Rattle.rasta_check.proofs.Capture.RefusedCaptures.{Answers, answer_is, answer_only, opening_faulty}
-use Rattle.rasta_check.proofs.Capture.FaultNumbers.{answer_names_side, opening_names_side}
+use Rattle.rasta_check.proofs.Capture.Readings.{after-opened, after-refused}
+use Rattle.rasta_check.proofs.Capture.DefiniteFaults.{is_definite, opening_definite}
+use Rattle.rasta_check.proofs.Capture.FaultlessCaptures.{crossed_in}
+use Rattle.rasta_check.proofs.Capture.RefusedCaptures.{is_refused, opening_faulty, read_is_faulty}
+use Rattle.rasta_check.proofs.Capture.FaultNumbers.{file_names_side, memory_names_side}
 use Rattle.rasta_check.proofs.reading.sent.Goals as goal
 
 connection : (c : goal.After-add_records) → OfConnection c.args.p
@@ -18,23 +20,29 @@ connection c = subst (λ (k : Crossing). OfConnection k.params) c.new.ensures.va
 bytes : (c : goal.After-add_records) → AreBytes c.args.file.now
 bytes c = record { fits = λ i. omega (arith, c.type_inv.file i) }
 
-all_read : (c : goal.After-add_records) → Answers c.args.p c.args.file.now c.add_records.result
+-- memory aside, this is what the file reads as
+all_read : (c : goal.After-add_records) → MatchResult c.add_records.result (λ s. crossing_of c.args.p c.args.file.now ≡ Ok s) (λ f. (f ≡ no_memory) ⊎ (crossing_of c.args.p c.args.file.now ≡ Err f))
 all_read c =
     let all : crossing_of c.args.p c.args.file.now ≡ after_reading c.new.result (reading c.last_record-last.result c.in-Ok.pcap) =
     after-opened c.args.p c.args.file.now c.in-Ok.pcap (sym c.in-Ok.ensures) ∙ sym (λ i. after_reading (c.new.ensures.value i) (reading (c.last_record-last.ensures.value i) c.in-Ok.pcap)) in
     subst (λ (x : Result Crossing Fault). MatchResult c.add_records.result (λ s. x ≡ Ok s) (λ f. (f ≡ no_memory) ⊎ (x ≡ Err f))) (sym all) c.add_records.ensures
 
 pub returns-in-Ok-clause-value : goal.returns-in-Ok-clause-value
-returns-in-Ok-clause-value c = answer_is c.args.p c.args.file.now c.add_records.result (connection c) (bytes c) (all_read c)
+returns-in-Ok-clause-value c =
+    MatchResult-weaker c.add_records.result (all_read c) (λ s. crossed_in c.args.p c.args.file.now s (connection c) (bytes c))
+    (λ f. ⊎_elim (λ e. inl e) (λ e. inr (is_refused c.args.p c.args.file.now (connection c) (bytes c) f e)))
 
 pub returns-in-Ok-clause-only : goal.returns-in-Ok-clause-only
-returns-in-Ok-clause-only c = answer_only c.args.p c.args.file.now c.add_records.result (connection c) (bytes c) (all_read c)
+returns-in-Ok-clause-only c =
+    MatchResult-weaker c.add_records.result (all_read c) (λ s e. tt) (λ f. ⊎_elim (λ e. inl e) (λ e. inr (read_is_faulty c.args.p c.args.file.now f (connection c) (bytes c) e)))
 
 pub returns-in-Ok-clause-side : goal.returns-in-Ok-clause-side
-returns-in-Ok-clause-side c = answer_names_side c.args.p c.args.file.now c.add_records.result (all_read c)
+returns-in-Ok-clause-side c = MatchResult-weaker c.add_records.result (all_read c) (λ s e. tt) (λ f. ⊎_elim (memory_names_side f) (file_names_side c.args.p c.args.file.now f))
 
 pub returns-in-Ok-clause-definite : goal.returns-in-Ok-clause-definite
-returns-in-Ok-clause-definite c = answer_definite c.args.p c.args.file.now c.add_records.result (connection c) (bytes c) (all_read c)
+returns-in-Ok-clause-definite c =
+    MatchResult-weaker c.add_records.result (all_read c) (λ s e. tt)
+    (λ f. ⊎_elim (λ e is. absurd (let none = ap (λ (x : Fault). x.end) e in cc)) (λ e is. (is_definite c.args.p c.args.file.now f (connection c) (bytes c) e is).impossible))
 
 pub returns-in-Err-clause-value : goal.returns-in-Err-clause-value
 returns-in-Err-clause-value c = inr (in_header c.in-Err.fault (sym c.in-Err.ensures))
@@ -43,7 +51,7 @@ pub returns-in-Err-clause-only : goal.returns-in-Err-clause-only
 returns-in-Err-clause-only c = inr (opening_faulty c.args.p c.args.file.now c.in-Err.fault c.last_record-last.ensures.valid (sym c.in-Err.ensures))
 
 pub returns-in-Err-clause-side : goal.returns-in-Err-clause-side
-returns-in-Err-clause-side c = opening_names_side c.args.file.now c.in-Err.fault (sym c.in-Err.ensures)
+returns-in-Err-clause-side c = file_names_side c.args.p c.args.file.now c.in-Err.fault (after-refused c.args.p c.args.file.now c.in-Err.fault (sym c.in-Err.ensures))
 
 pub returns-in-Err-clause-definite : goal.returns-in-Err-clause-definite
 returns-in-Err-clause-definite c = opening_definite c.args.p c.args.file.now c.in-Err.fault (sym c.in-Err.ensures)

@@ -1,6 +1,6 @@
 use Rattle.std.proofs.Common.{◌∙◌, ap, inl, inr, sym, ⊎_elim}
 use Rattle.rasta_check.specs.Capture.Reading.{after_record}
-use Rattle.rasta_check.proofs.Internals.PartialReading.{next_faulty, why_begun, why_faulty}
+use Rattle.rasta_check.proofs.Internals.PartialReading.{next_faulty, why}
 use Rattle.rasta_check.proofs.storing.add_next.Goals as goal
 
 pub returns-in-Err-add_record-clause-err : goal.returns-in-Err-add_record-clause-err
@@ -13,7 +13,7 @@ returns-in-Err-add_record-clause-err g c =
     c.in-Err-add_record.ensures
 
 pub returns-in-Err-clause-err : goal.returns-in-Err-clause-err
-returns-in-Err-clause-err g c = why_faulty c.args.store.now _ c.args.records.now _ c.in-Err.fault _ _ _ _ (c.in-Err.ensures.step.err c.requires)
+returns-in-Err-clause-err g c = (why c.args.store.now _ c.args.records.now _ c.in-Err.fault _ _ _ _ (c.in-Err.ensures.step.err c.requires)).1
 
 pub returns-in-Err-clause-begun : goal.returns-in-Err-clause-begun
-returns-in-Err-clause-begun g c = why_begun _ c.args.records.now _ c.in-Err.fault _ _ _ _ (c.in-Err.ensures.step.err c.requires)
+returns-in-Err-clause-begun g c = (why c.args.store.now _ c.args.records.now _ c.in-Err.fault _ _ _ _ (c.in-Err.ensures.step.err c.requires)).0

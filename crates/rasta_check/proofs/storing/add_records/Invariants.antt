@@ -10,8 +10,8 @@ use Rattle.rasta_check.proofs.storing.add_records.Given as goal
 -- as were counted
 abbrev pub invariant-loop : goal.invariant-loop
 invariant-loop g l =
-    IsUnderway (crossing_left l.fn.store l.fn.records l.last) (crossing_left l.store l.records (l.last - l.counter))
-    (g.R.Source.remaining l.fn.reader) (g.R.Source.remaining l.reader)
+    ((left : ℕ) → left ≡ l.last - l.counter → IsUnderway (crossing_left l.fn.store l.fn.records l.last) (crossing_left l.store l.records left)
+    (g.R.Source.remaining l.fn.reader) (g.R.Source.remaining l.reader))
     × (g.R.Source.failure_count l.reader ≡ g.R.Source.failure_count l.fn.reader)
     × (progress_of l.records ≡ Reading)
     × (l.counter ≤ l.last)

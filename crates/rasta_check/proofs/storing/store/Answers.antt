@@ -1,10 +1,10 @@
-use Rattle.std.proofs.Common.{subst}
+use Rattle.std.proofs.Common.{inl, inr, ⊎_elim, subst}
+use Rattle.std.proofs.lemmas.Result.{IfOk-weaker, MatchResult-weaker, on_err_weaker}
 use Rattle.rasta_pcap.proofs.Extents.{HasRead-opened, ReadsUpToRecord-header}
-use Rattle.rasta_pcap.proofs.Sending.{on_err_map}
 use Rattle.rasta_check.specs.Capture.Reading.{Crossing, crossing_of}
 use Rattle.rasta_check.specs.Internals.Storing.{crossing_left}
 use Rattle.rasta_check.specs.Model.Theorem.{OfConnection}
-use Rattle.rasta_check.proofs.Internals.PartialReading.{IsUnderway, Underway-begun, Underway-opened, answer_sided, header_answer, header_begun, refused_answer, refused_names_side, stored_answer}
+use Rattle.rasta_check.proofs.Internals.PartialReading.{IsUnderway, Underway-begun, Underway-opened, header_answer, refused, refused_names_side, stored}
 use Rattle.rasta_check.proofs.storing.store.Given.{Over}
 use Rattle.rasta_check.proofs.storing.store.Goals as goal
 
@@ -17,30 +17,30 @@ opened g c = Underway-opened c.args.p c.new.result c.in-Ok.records c.last_record
     c.new.ensures.value c.last_record-last.ensures.value
 
 pub returns-in-Ok-clause-value : goal.returns-in-Ok-clause-value
-returns-in-Ok-clause-value g c =
-    stored_answer c.args.p (connection g c) _ _ _ _ (opened g c) c.add_records.result c.add_records.ensures.value
+returns-in-Ok-clause-value g c = IfOk-weaker c.add_records.result _ _ (stored c.args.p (connection g c) _ _ _ _ (opened g c)) c.add_records.ensures.value
 
 pub returns-in-Ok-clause-err : goal.returns-in-Ok-clause-err
 returns-in-Ok-clause-err g c =
-    refused_answer c.args.p (connection g c) _ _ _ _ (opened g c) _ _ _ c.in-Ok.ensures.steady c.add_records.result c.add_records.ensures.err
+    MatchResult-weaker c.add_records.result c.add_records.ensures.err (λ k e. tt)
+    (λ f. ⊎_elim (λ e. inl (rw c.in-Ok.ensures.steady at e)) (λ e. inr (refused c.args.p (connection g c) _ _ _ _ (opened g c) f e)))
 
 pub returns-in-Ok-clause-side : goal.returns-in-Ok-clause-side
-returns-in-Ok-clause-side g c = answer_sided c.args.p _ _ _ _ c.add_records.result (returns-in-Ok-clause-err g c)
+returns-in-Ok-clause-side g c = MatchResult-weaker c.add_records.result (returns-in-Ok-clause-err g c) (λ k e. tt) (λ f. refused_names_side c.args.p f _ _ _ _)
 
 pub returns-in-Ok-clause-begun : goal.returns-in-Ok-clause-begun
-returns-in-Ok-clause-begun g c = on_err_map c.add_records.result (Underway-begun _ _ _ _ _ (opened g c)) c.add_records.ensures.begun
+returns-in-Ok-clause-begun g c = on_err_weaker c.add_records.result (Underway-begun _ _ _ _ _ (opened g c)) c.add_records.ensures.begun
 
 pub returns-in-Ok-clause-bounded : goal.returns-in-Ok-clause-bounded
 returns-in-Ok-clause-bounded g c = rw (← c.last_record-last.ensures.value) (c.add_records.ensures.bounded _ (HasRead-opened _ _ _ c.in-Ok.ensures.opened))
 
 pub returns-in-Err-clause-err : goal.returns-in-Err-clause-err
-returns-in-Err-clause-err g c = header_answer c.args.p _ c.in-Err.fault _ _ _ _ c.last_record-last.ensures.valid c.in-Err.ensures.err
+returns-in-Err-clause-err g c = (header_answer c.args.p _ c.in-Err.fault _ _ _ _ c.last_record-last.ensures.valid c.in-Err.ensures.err).1
 
 pub returns-in-Err-clause-side : goal.returns-in-Err-clause-side
 returns-in-Err-clause-side g c = refused_names_side c.args.p c.in-Err.fault _ _ _ _ (returns-in-Err-clause-err g c)
 
 pub returns-in-Err-clause-begun : goal.returns-in-Err-clause-begun
-returns-in-Err-clause-begun g c = header_begun _ c.in-Err.fault _ _ _ _ c.in-Err.ensures.err
+returns-in-Err-clause-begun g c = (header_answer c.args.p _ c.in-Err.fault _ _ _ _ c.last_record-last.ensures.valid c.in-Err.ensures.err).0
 
 pub returns-in-Err-clause-bounded : goal.returns-in-Err-clause-bounded
 returns-in-Err-clause-bounded g c = ReadsUpToRecord-header c.args.p.last_record _ _ c.in-Err.ensures.bounded

@@ -1,7 +1,7 @@
 use Rattle.std.proofs.Common.{map, sym, subst, arith}
 use Rattle.rasta_udp.specs.Frame.{packet_of}
 use Rattle.rasta_check.specs.Capture.Reading.{IsCrossing}
-use Rattle.rasta_check.proofs.Capture.FaultlessCaptures.{nothing_is}
+use Rattle.rasta_check.proofs.Capture.Readings.{nothing_is}
 use Rattle.rasta_check.proofs.crossing.Sent.new.Goals as goal
 
 made : (c : goal.After-new-3) → IsCrossing (record { params = c.args.params; packets = map packet_of c.new.result.items; client = c.new-2.result; server = c.new-3.result })

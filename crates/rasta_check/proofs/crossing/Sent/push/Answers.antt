@@ -1,6 +1,6 @@
-use Rattle.std.proofs.Common.{◌≡◌, List, [], ◌∷◌, ◌++◌, Option, length, map, ap, sym, ◌∙◌, subst, arith}
+use Rattle.std.proofs.Common.{◌≡◌, ℕ, [], ◌∷◌, ◌++◌, Option, length, map, ap, sym, ◌∙◌, subst, arith}
 use Rattle.std.proofs.lemmas.List.{length-map}
-use Rattle.rasta_udp.specs.declared.channel.Datagram.{Datagram}
+use Rattle.std.specs.Vec.{vec_len}
 use Rattle.rasta_udp.specs.Frame.{packet_of}
 use Rattle.rasta_pdu.specs.declared.pdu.Pdu.{Pdu}
 use Rattle.rasta_check.specs.declared.crossing.Sent.TheInside.{Inside}
@@ -24,17 +24,15 @@ invariant_of-self-2 c =
     (rw c.requires.judged at c.requires.crossing) in
     let parts : Inside → Crossing = λ (y : Inside). record { params = y.params; packets = map packet_of c.push_reserved.new.self.items; client = y.client; server = y.server } in
     let kept : c.try_reserve.new.self.items ≡ items = c.in_ok-try_reserve.ensures.items in
-    let count : length (map packet_of items) ≡ length items = length-map items packet_of in
+    let all : (y : Inside) → c.match-new.self-inside ≡ y → y.packets.items ≡ items → map packet_of c.push_reserved.new.self.items ≡ k.packets ++ a ∷ [] =
+    λ y e f. map_push packet_of items _ x (c.push_reserved.ensures.items ∙ (λ i. (e i).packets.items ++ x ∷ []) ∙ (λ i. f i ++ x ∷ [])) in
+    let last : (n : ℕ) → n ≡ vec_len c.try_reserve.new.self → n ≡ length k.packets = λ n e. (let q = ap length kept in let m = length-map items packet_of in omega arith) in
     elim c.match-new.branch [
       | in-Some+in-Client+in_ok-push-in-Client w ↦
-          let all = map_push packet_of items _ x (c.push_reserved.ensures.items ∙ (ap (λ (y : Inside). y.packets.items ++ x ∷ []) w.self-inside-is ∙ ap (λ (xs : List Datagram). xs ++ x ∷ []) kept)) in
-          let place : w.len-place.result ≡ length k.packets = (let p = w.len-place.ensures in let q = ap length kept in omega arith) in
-          subst IsCrossing (sym (ap parts w.self-inside-is ∙ (after_client k a _ all w.len-place.result w.in-Some.pdu _ w.in-Client.is place w.in_ok-push-in-Client.ensures.ok ∙ ap whole (sym w.in-Some.is)))) may
+          let made = after_client k a _ (all _ w.self-inside-is kept) w.len-place.result w.in-Some.pdu _ w.in-Client.is (last _ w.len-place.ensures) w.in_ok-push-in-Client.ensures.ok in
+          subst IsCrossing (sym (ap parts w.self-inside-is ∙ (made ∙ ap whole (sym w.in-Some.is)))) may
       | in-Some+in-Server+in_ok-push-in-Server w ↦
-          let all = map_push packet_of items _ x (c.push_reserved.ensures.items ∙ (ap (λ (y : Inside). y.packets.items ++ x ∷ []) w.self-inside-is ∙ ap (λ (xs : List Datagram). xs ++ x ∷ []) kept)) in
-          let place : w.len-place.result ≡ length k.packets = (let p = w.len-place.ensures in let q = ap length kept in omega arith) in
-          subst IsCrossing (sym (ap parts w.self-inside-is ∙ (after_server k a _ all w.len-place.result w.in-Some.pdu _ w.in-Server.is place w.in_ok-push-in-Server.ensures.ok ∙ ap whole (sym w.in-Some.is)))) may
-      | in_default w ↦
-          let all = map_push packet_of items _ x (c.push_reserved.ensures.items ∙ (ap (λ (y : Inside). y.packets.items ++ x ∷ []) w.self-inside-is ∙ ap (λ (xs : List Datagram). xs ++ x ∷ []) kept)) in
-          subst IsCrossing (sym (ap parts w.self-inside-is ∙ (after_repeat k a _ all ∙ ap whole (sym w.in_default.is)))) may
+          let made = after_server k a _ (all _ w.self-inside-is kept) w.len-place.result w.in-Some.pdu _ w.in-Server.is (last _ w.len-place.ensures) w.in_ok-push-in-Server.ensures.ok in
+          subst IsCrossing (sym (ap parts w.self-inside-is ∙ (made ∙ ap whole (sym w.in-Some.is)))) may
+      | in_default w ↦ subst IsCrossing (sym (ap parts w.self-inside-is ∙ (after_repeat k a _ (all _ w.self-inside-is kept) ∙ ap whole (sym w.in_default.is)))) may
     ]

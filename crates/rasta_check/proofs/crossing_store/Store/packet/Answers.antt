@@ -1,16 +1,15 @@
-use Rattle.std.proofs.Common.{List, slice_get, ap, sym, ◌∙◌, subst}
+use Rattle.std.proofs.Common.{slice_get, ap, sym, ◌∙◌, subst}
 use Rattle.std.specs.Option.{option_map}
-use Rattle.rasta_check.specs.declared.crossing_store.StoredPacket.{StoredPacket}
 use Rattle.rasta_check.specs.Capture.Crossing.{Spells, FirstCopy}
 use Rattle.rasta_check.specs.Capture.Reading.{Crossing, sent_by}
-use Rattle.rasta_check.proofs.Internals.StoreLists.{stored_packet}
+use Rattle.rasta_check.proofs.Internals.StoreLists.{packet_read, stored_packet}
 use Rattle.rasta_check.proofs.crossing_store.Store.packet.Goals as goal
 
 pub returns-clause-value : goal.returns-clause-value
 returns-clause-value c =
     let s = c.self.inside in
     let x = c.in_ok-packet.packet in
-    let there = ap (λ (xs : List StoredPacket). slice_get xs c.args.place) (sym c.deref.ensures.value) ∙ sym c.packet_at.ensures ∙ c.in_ok-packet.was in
+    let there = packet_read _ _ _ _ _ c.deref.ensures.value c.packet_at.ensures c.in_ok-packet.was in
     let w = stored_packet s.params s.datagrams s.packets.items c.self.invariant c.args.place x there c.in_ok-number.number
     (ap (λ (k : Crossing). option_map (λ (z : FirstCopy). z.pdu.number) (slice_get (sent_by k x.side) x.position)) c.self.view_is ∙ sym c.number_at.ensures.value ∙ c.in_ok-number.was) in (
       w.0,

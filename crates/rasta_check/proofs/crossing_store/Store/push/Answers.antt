@@ -1,4 +1,4 @@
-use Rattle.std.proofs.Common.{◌≡◌, ℕ, List, [], ◌∷◌, ◌++◌, Option, None, Some, length, ap, sym, ◌∙◌, subst, arith}
+use Rattle.std.proofs.Common.{◌≡◌, ℕ, [], ◌∷◌, ◌++◌, Option, length, ap, sym, ◌∙◌, subst, arith}
 use Rattle.rasta_udp.specs.Frame.{packet_of}
 use Rattle.rasta_check.specs.declared.crossing_store.Store.TheInside.{Inside}
 use Rattle.rasta_check.specs.declared.crossing_store.StoredPacket.{StoredPacket}
@@ -21,25 +21,20 @@ both c =
     let old = c.self.inside in
     let a = packet_of c.args.found.now in
     let crossing = subst (λ (k : Crossing). IsCrossing (with_packet k a)) (sym c.self.view_is) c.requires.crossing in
+    let judged = subst (λ (k : Crossing). IsJudged k a c.args.known) (sym c.self.view_is) c.requires.judged in
     let kept : c.try_reserve.new.self.items ≡ old.packets.items = c.in_ok-try_reserve.ensures.items in
     let stored : ℕ → StoredPacket = λ (n : ℕ). record { position = n; channel = a.channel; side = a.side } in
     let after = ap (λ (k : Crossing). with_packet k a) c.self.view_is in
     elim c.match-known.branch [
       | in-Some w ↦
-          let judged = subst (λ (o : Option ℕ). IsJudged c.args.self.now a o) w.in-Some.is c.requires.judged in
-          let j = subst (λ (k : Crossing). IsJudged k a (Some w.in-Some.position)) (sym c.self.view_is) judged in
-          let all = c.push_reserved.ensures.items ∙ ap (λ (y : Inside). y.packets.items ++ stored c.match-known.position ∷ []) w.self-inside-is
-          ∙ ap (λ (xs : List StoredPacket). xs ++ stored c.match-known.position ∷ []) kept ∙ ap (λ (n : ℕ). old.packets.items ++ stored n ∷ []) w.position-is in
-          let r = grown_copy old.params old.datagrams old.packets.items c.self.invariant a crossing _ w.in-Some.position j all in
+          let all = c.push_reserved.ensures.items ∙ (λ i. (w.self-inside-is i).packets.items ++ stored (w.position-is i) ∷ []) ∙ (λ i. kept i ++ stored w.in-Some.position ∷ []) in
+          let r = grown_copy old.params old.datagrams old.packets.items c.self.invariant a crossing w.in-Some.position _ (subst (IsJudged _ a) w.in-Some.is judged) all in
           (_, w.self-inside-is, r.0, r.1 ∙ after)
       | in-None+in_ok-push-in-None w ↦
-          let judged = subst (λ (o : Option ℕ). IsJudged c.args.self.now a o) w.in-None.is c.requires.judged in
-          let j = subst (λ (k : Crossing). IsJudged k a None) (sym c.self.view_is) judged in
-          let all = c.push_reserved.ensures.items ∙ ap (λ (y : Inside). y.packets.items ++ stored c.match-known.position ∷ []) w.self-inside-is
-          ∙ ap (λ (xs : List StoredPacket). xs ++ stored c.match-known.position ∷ []) kept ∙ ap (λ (n : ℕ). old.packets.items ++ stored n ∷ []) w.position-is in
+          let all = c.push_reserved.ensures.items ∙ (λ i. (w.self-inside-is i).packets.items ++ stored (w.position-is i) ∷ []) ∙ (λ i. kept i ++ stored w.len-position.result ∷ []) in
           let place : w.len-place.result ≡ length old.packets.items = (let q = w.len-place.ensures in let l = ap length kept in omega arith) in
-          let r = grown_new old.params old.datagrams old.packets.items c.self.invariant a crossing _ w.len-position.result w.len-place.result _ place w.len-position.ensures j
-          w.in_ok-push-in-None.ensures.ok all in
+          let r = grown_new old.params old.datagrams old.packets.items c.self.invariant a crossing w.len-position.result w.len-place.result _ _ place w.len-position.ensures
+          (subst (IsJudged _ a) w.in-None.is judged) w.in_ok-push-in-None.ensures.ok all in
           (_, w.self-inside-is, r.0, r.1 ∙ after)
     ]
 

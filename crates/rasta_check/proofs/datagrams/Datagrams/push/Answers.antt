@@ -1,6 +1,5 @@
-use Rattle.std.proofs.Common.{ap, sym, ◌∙◌, [], ◌∷◌, ◌++◌}
-use Rattle.rasta_pcap.specs.declared.fault.Side.{Side}
-use Rattle.rasta_check.specs.Internals.Datagrams.{Kept, KeptDatagrams, keeping}
+use Rattle.std.proofs.Common.{sym, ◌∙◌}
+use Rattle.rasta_check.specs.Internals.Datagrams.{Kept, keeping}
 use Rattle.rasta_check.proofs.Internals.DatagramGrowth.{both_ok, kept_grown, same_kept}
 use Rattle.rasta_check.proofs.datagrams.Datagrams.push.Goals as goal
 
@@ -14,8 +13,7 @@ returns-in-Client-clause-ok c =
       client = kept_grown old.bytes.items c.keep.new.bytes.items c.args.datagram.now old.client.items c.keep.new.spans.items c.args.place c.self.invariant.0 all new i;
       server = same_kept old.bytes.items c.keep.new.bytes.items c.args.datagram.now old.server.items c.self.invariant.1 all i;
     })
-    ∙ ap (λ (d : KeptDatagrams). record { bytes = d.bytes ++ x.bytes; client = d.client ++ x ∷ []; server = d.server }) c.self.view_is
-    ∙ ap (λ (side : Side). keeping c.args.self.now side x) (sym c.in-Client.is))
+    ∙ (λ i. keeping (c.self.view_is i) (sym c.in-Client.is i) x))
     c.keep.ensures.bytes c.keep.ensures.spans
 
 pub returns-in-Server-clause-ok : goal.returns-in-Server-clause-ok
@@ -28,6 +26,5 @@ returns-in-Server-clause-ok c =
       client = same_kept old.bytes.items c.keep-in-Server.new.bytes.items c.args.datagram.now old.client.items c.self.invariant.0 all i;
       server = kept_grown old.bytes.items c.keep-in-Server.new.bytes.items c.args.datagram.now old.server.items c.keep-in-Server.new.spans.items c.args.place c.self.invariant.1 all new i;
     })
-    ∙ ap (λ (d : KeptDatagrams). record { bytes = d.bytes ++ x.bytes; client = d.client; server = d.server ++ x ∷ [] }) c.self.view_is
-    ∙ ap (λ (side : Side). keeping c.args.self.now side x) (sym c.in-Server.is))
+    ∙ (λ i. keeping (c.self.view_is i) (sym c.in-Server.is i) x))
     c.keep-in-Server.ensures.bytes c.keep-in-Server.ensures.spans
