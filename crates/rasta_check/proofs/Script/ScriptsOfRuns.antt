@@ -202,6 +202,11 @@ but_last own c = record {
 abbrev pub Kept : Parameters → Side → Side → ℕ → List Packet → Station → Station → List FirstCopy → List FirstCopy → Type 0
 Kept p s r n ys a b own peer = (g : Both p s r ys a b) × HadCrossed n g.own own × HadCrossed n g.peer peer
 
+-- where nothing crosses, both lists stay
+stay : (p : Parameters) (s r : Side) (xs : List Packet) (a a' b : Station) (g : Both p s r xs a b) → Sends p s xs g.own a'.state a'.first_number → Told p s (length xs) g.own g.peer a'.state a'.clock a'.taken
+    → Kept p s r (length xs) xs a' b g.own g.peer
+stay p s r xs a a' b g sends told = (record { own = g.own; peer = g.peer; sends = sends; their_sends = g.their_sends; told = told; their_told = g.their_told }, all_crossed _ g.own, all_crossed _ g.peer)
+
 both_kept : (p : Parameters) (s r : Side) (xs ys : List Packet) (a a' b : Station) → (s ≡ r → ⊥) → {move : Move} → Moves p b xs a move a' ys → (g : Both p s r xs a b) → Kept p s r (length xs) ys a' b g.own g.peer
 both_kept p s r xs ys a a' b apart (makes x why e' ch res chk bs mk sp rec) g =
     let c : FirstCopy = copy p s xs g.own g.peer a.state e' a.first_number a.clock a.taken ch res chk bs x why mk sp g.sends g.told in
@@ -231,34 +236,16 @@ both_kept p s r xs ys a a' b apart (repeats place ch old at sd rec) g =
       all_crossed _ g.own,
       all_crossed _ g.peer,
     )
-both_kept p s r xs ys a a' b apart (arrives q low l) g = (record { own = g.own; peer = g.peer; sends = g.sends; their_sends = g.their_sends; told = g.told; their_told = g.their_told }, all_crossed _ g.own, all_crossed _ g.peer)
+both_kept p s r xs ys a a' b apart (arrives q low l) g = stay p s r xs a a' b g g.sends g.told
 both_kept p s r xs ys a a' b apart (takes q m e' c l at tk) g =
     let left = take_leaves p a.state m.pdu in
-    let same : e'.made ≡ a.state.made = ap (λ (z : EndState). z.made) tk.1 ∙ left.made in (
-      record {
-        own = g.own;
-        peer = g.peer;
-        sends = record { sent = g.sends.sent; same = ap pdus_made same ∙ g.sends.same; numbers = g.sends.numbers; side = ap (λ (z : EndState). z.side) tk.1 ∙ (left.side ∙ g.sends.side) };
-        their_sends = g.their_sends;
-        told = took p s r xs g.own g.peer a.state e' b.state a.clock a.taken q b.first_number m tk l at g.their_sends g.told;
-        their_told = g.their_told;
-      },
-      all_crossed _ g.own,
-      all_crossed _ g.peer,
-    )
+    let same : e'.made ≡ a.state.made = ap (λ (z : EndState). z.made) tk.1 ∙ left.made in
+    stay p s r xs a a' b g
+    (record { sent = g.sends.sent; same = ap pdus_made same ∙ g.sends.same; numbers = g.sends.numbers; side = ap (λ (z : EndState). z.side) tk.1 ∙ (left.side ∙ g.sends.side) })
+    (took p s r xs g.own g.peer a.state e' b.state a.clock a.taken q b.first_number m tk l at g.their_sends g.told)
 both_kept p s r xs ys a a' b apart (waits c l) g =
-    let t = g.told in (
-      record {
-        own = g.own;
-        peer = g.peer;
-        sends = g.sends;
-        their_sends = g.their_sends;
-        told = record { es = t.es; level = t.level; taken = t.taken; low = t.low; leads = t.leads; mark = t.mark; clock = (let z = t.clock in omega arith); clocks = t.clocks };
-        their_told = g.their_told;
-      },
-      all_crossed _ g.own,
-      all_crossed _ g.peer,
-    )
+    let t = g.told in
+    stay p s r xs a a' b g g.sends (record { es = t.es; level = t.level; taken = t.taken; low = t.low; leads = t.leads; mark = t.mark; clock = (let z = t.clock in omega arith); clocks = t.clocks })
 
 abbrev pub turn : (p : Parameters) (s r : Side) (xs : List Packet) (a b : Station) → Both p s r xs a b → Both p r s xs b a
 turn p s r xs a b g = record { own = g.peer; peer = g.own; sends = g.their_sends; their_sends = g.sends; told = g.their_told; their_told = g.told }
