@@ -2,7 +2,7 @@
 use Rattle.std.proofs.Common.{◌≡◌, ◌⊎◌, ℕ, zero, suc, ◌+◌, ◌<◌, ◌≤◌, Bool, true, false, List, [], ◌∷◌, ◌++◌, length, Option, Some, slice_get, take, drop, refl, ap, sym, ◌∙◌, arith, inl, inr, ⊎_elim, subst}
 use Rattle.std.specs.Prelude.{map, filter, fold, max, nat_lt, if◌then◌else◌}
 use Rattle.std.proofs.lemmas.Bool.Decides.{nat_tests}
-use Rattle.std.proofs.lemmas.List.{append-nil, length-append, length-map, length-take, length-take-le, take-append-drop}
+use Rattle.std.proofs.lemmas.List.{append-nil, length-append, length-map, length-take-le}
 use Rattle.std.proofs.lemmas.Option.{slice_get_within}
 use Rattle.rasta_pcap.specs.declared.fault.Side.{Side}
 use Rattle.rasta_pdu.specs.declared.quiet_point.Quiet.{Quiet}
@@ -14,7 +14,7 @@ use Rattle.rasta_check.specs.Capture.Crossing.{FirstCopy}
 use Rattle.rasta_check.specs.Model.Taken.{pdus_made, pdus_of, all_made, units_shown, units_taken, TakenUnit, proof_place, units_from, data_copies, surely_taken}
 use Rattle.rasta_check.specs.Model.Theorem.{HandsUpUnits, units_handed, units_listed}
 use Rattle.std.proofs.lemmas.List.Elements.{filter-append}
-use Rattle.rasta_check.proofs.Lists.{get_front, get_mapped, slice_get_some, begins_with, map_at}
+use Rattle.rasta_check.proofs.Lists.{get_front, get_mapped, get_take, slice_get_some, begins_with, map_at}
 use Rattle.rasta_pdu.specs.declared.kind.Kind.TheVariants.{Data}
 
 -- ---- members
@@ -40,10 +40,6 @@ member own peer k (u ∷ us) (suc i) t g =
 length-units_from : (own : List SafetyPdu) (peer : List FirstCopy) (k : ℕ) (us : List FirstCopy) → length (units_from own peer k us) ≡ length us
 length-units_from own peer k [] = refl
 length-units_from own peer k (u ∷ us) = ap suc (length-units_from own peer (suc k) us)
-
-get_take : (us : List FirstCopy) (n i : ℕ) (c : FirstCopy) → slice_get (take n us) i ≡ Some c → (i < n) × (slice_get us i ≡ Some c)
-get_take us n i c g =
-    (omega (arith, slice_get_within (take n us) i c g, length-take n us), subst (λ (xs : List FirstCopy). slice_get xs i ≡ Some c) (take-append-drop n us) (get_front (take n us) (drop n us) i c g))
 
 -- ---- proofs
 

@@ -32,7 +32,7 @@ use Rattle.rasta_check.proofs.Theorem.SentRuns.{Known, known}
 use Rattle.rasta_check.proofs.Script.CutScripts.{sharp}
 use Rattle.rasta_check.proofs.Theorem.Necessity.{hands_up, first, proof_appended, in_time_through}
 use Rattle.rasta_check.proofs.Theorem.FirstUnits.{offered_first}
-use Rattle.rasta_check.proofs.Theorem.JoinedMessages.{joined, joined-append, up_joined, listed_joined, of_listed, of_message}
+use Rattle.rasta_check.proofs.Theorem.JoinedMessages.{joined, joined-append, up_joined, listed_joined, of_listed, message_up}
 use Rattle.rasta_check.proofs.Verdict.Reports.{units_named, first_small, are_proofs, units_are}
 use Rattle.rasta_pdu.specs.Pdu.{is_kind}
 use Rattle.rasta_pdu.specs.declared.kind.Kind.TheVariants.{ConnectionRequest}
@@ -113,18 +113,12 @@ module _ (p : Parameters) (packets : List Packet) (c s : List FirstCopy) (h : Is
             up_joined f.handed_pdus ∙ (ap joined first.1 ∙ (joined-append (units_listed us) first.0 ∙ ap (λ ms. ms ++ joined first.0) (sym (listed_joined us) ∙ ap messages_in_list (sym is)))),
           );
           appended = λ i m g.
-              (let l = of_listed 0 (messages_taken us) i m (subst (λ (xs : List ListedMessage). slice_get xs i ≡ Some m) is g) in
-              let o = of_message us i l.0 l.1 in
-              subst (λ k. (v next : World) × Appends ws w k v next) (sym (l.3 ∙ o.place))
-              (proof_appended p ws w side own peer r (run_sent side) (run_sent (other_side side)) (few_of k h side) (few_of k h (other_side side)) o.i o.u o.there));
+              (let o = of_listed us i m (rw is at g) in
+              rw o.place (proof_appended p ws w side own peer r (run_sent side) (run_sent (other_side side)) (few_of k h side) (few_of k h (other_side side)) o.i o.u o.there));
           in_time = λ i m v next g a.
-              (let l = of_listed 0 (messages_taken us) i m (subst (λ (xs : List ListedMessage). slice_get xs i ≡ Some m) is g) in
-              let o = of_message us i l.0 l.1 in
-              let at : Appends ws w o.u.proof_place v next = subst (λ k. Appends ws w k v next) (l.3 ∙ o.place) a in
-              ap (λ (xs : List (List ℕ)). slice_get xs i) (up_joined (end_of v (other_side side)).handed_pdus)
-              ∙ (o.up (units_handed (end_of v (other_side side))) (λ j t low gt.
-              in_time_through p ws w side own peer r (run_sent side) (run_sent (other_side side)) (few_of k h side) (few_of k h (other_side side))
-              o.i j o.u t v next low o.there gt at) ∙ ap Some (sym l.2)));
+              (let o = of_listed us i m (rw is at g) in
+              rw up_joined (message_up us i m.proof_place m.message o (units_handed (end_of v (other_side side))) (λ j t low gt.
+              in_time_through p ws w side own peer r (run_sent side) (run_sent (other_side side)) (few_of k h side) (few_of k h (other_side side)) o.i j o.u t v next low o.there gt (rw o.place at a))));
         }
 
   -- ---- the lists of the report
