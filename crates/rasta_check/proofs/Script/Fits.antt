@@ -17,7 +17,7 @@ use Rattle.rasta_check.specs.Script.Laws.{HasOneAnswer}
 use native.Mathlib.Decide.{dec_lt}
 use Prim.{yes, no}
 use Rattle.rasta_check.specs.Internals.Checking.{unless, take_found, make_of, make_found, next_cursor, then_follow, follow_from, follow, where_followed, verdict_of}
-use Rattle.rasta_check.specs.Verdict.Report.{Explained, IsScriptVerdict, both_fit, client_refused, server_refused, report_of}
+use Rattle.rasta_check.specs.Verdict.Report.{Explained, BothFit, IsScriptVerdict, both_fit, client_refused, server_refused, report_of}
 use Rattle.rasta_check.proofs.Script.FollowedScripts.{Goes, takes, makes, goes, gone, follow_fits, fits_follow}
 use Rattle.rasta_check.proofs.Internals.StoreLists.{copy_of_position, no_copy}
 use Rattle.rasta_check.proofs.Lists.{slice_get_some, get_past}
@@ -348,3 +348,13 @@ module _ (p : Parameters) (packets : ℕ) (c s : List FirstCopy) (scripts : Scri
 
   pub one_answer : (a b : Result Explained Fault) → IsScriptVerdict p packets c s scripts a → IsScriptVerdict p packets c s scripts b → a ≡ b
   one_answer a b h k = sym (verdict_is_of a h) ∙ verdict_is_of b k
+
+  -- where it is a report, both scripts fit
+  pub verdict_fits : (report : Explained) → verdict_of p packets c s scripts ≡ Ok report → BothFit p packets c s scripts × (report ≡ report_of p packets c s)
+  verdict_fits report e = by report (is_verdict (Ok report) e)
+    where
+      by : (report : Explained) → IsScriptVerdict p packets c s scripts (Ok report) → BothFit p packets c s scripts × (report ≡ report_of p packets c s)
+      by _ (both_fit fits) = (fits, refl)
+
+  pub verdict_refuses : (fault : Fault) → verdict_of p packets c s scripts ≡ Err fault → BothFit p packets c s scripts → ⊥
+  verdict_refuses fault e fits = (let z = verdict_is_of _ (both_fit fits) in absurd (cc))

@@ -25,7 +25,7 @@ use Rattle.rasta_check.specs.Verdict.Headline.{messages_in_list, units_offered, 
 use Rattle.rasta_check.proofs.Capture.FaultlessLists.{IsSent}
 use Rattle.rasta_check.proofs.Capture.Crossings.{few_of, list_of}
 use Rattle.rasta_check.proofs.Script.FollowedScripts.{follow_fits}
-use Rattle.rasta_check.proofs.Script.Fits.{fits_is, is_fits}
+use Rattle.rasta_check.proofs.Script.Fits.{fits_follows, verdict_fits}
 use Rattle.rasta_check.proofs.Run.Simulation.{simulated}
 use Rattle.rasta_check.proofs.Model.ConveyedUnits.{values, length-values}
 use Rattle.rasta_check.proofs.Theorem.SentRuns.{Known, known}
@@ -36,25 +36,6 @@ use Rattle.rasta_check.proofs.Theorem.JoinedMessages.{joined, joined-append, up_
 use Rattle.rasta_check.proofs.Verdict.Reports.{units_named, first_small, are_proofs, units_are}
 use Rattle.rasta_pdu.specs.Pdu.{is_kind}
 use Rattle.rasta_pdu.specs.declared.kind.Kind.TheVariants.{ConnectionRequest}
-
--- ---- verdicts and scripts that fit
-
--- where a verdict is a report, both scripts are followed to an end
-pub record Ends (p : Parameters) (packets : ℕ) (c s : List FirstCopy) (scripts : Scripts) (report : Explained) : Type 0 where
-  pub a : EndState
-  pub b : EndState
-  pub client : follow p Client packets c s scripts.client ≡ Ok a
-  pub server : follow p Server packets s c scripts.server ≡ Ok b
-  pub says : report ≡ report_of p packets c s
-
-pub ends : (p : Parameters) (packets : ℕ) (c s : List FirstCopy) (scripts : Scripts) (report : Explained) → verdict_of p packets c s scripts ≡ Ok report → Ends p packets c s scripts report
-ends p packets c s scripts report h = by (follow p Client packets c s scripts.client) refl (follow p Server packets s c scripts.server) refl h
-  where
-    by : (x : Result EndState Fault) → follow p Client packets c s scripts.client ≡ x → (y : Result EndState Fault) → follow p Server packets s c scripts.server ≡ y
-        → where_followed x (where_followed y (Ok (report_of p packets c s))) ≡ Ok report → Ends p packets c s scripts report
-    by (Ok a) e (Ok b) f g = record { a = a; b = b; client = e; server = f; says = sym (cc) }
-    by (Ok a) e (Err fault) f g = absurd (cc)
-    by (Err fault) e y f g = absurd (cc)
 
 twice : (side : Side) → other_side (other_side side) ≡ side
 twice side = grind arith
@@ -144,52 +125,39 @@ module _ (p : Parameters) (packets : List Packet) (c s : List FirstCopy) (h : Is
       (λ i. where_followed (a_is i) (where_followed (b_is i) (Ok (report_of p n c s))))
       ∙ sym (ap Ok (says ∙ (λ i. record { packets = n; client_taken = l.0 i; server_taken = l.1 i })))
 
-  module _ (scripts : Scripts) where
-    pub verdict_fits : (report : Explained) → verdict_of p (length packets) c s scripts ≡ Ok report → BothFit p (length packets) c s scripts
-    verdict_fits report e =
-        let z = ends p (length packets) c s scripts report e in
-        ((z.a, is_fits p (length packets) c s Client scripts.client z.a z.client), (z.b, is_fits p (length packets) s c Server scripts.server z.b z.server))
+  -- ---- the headline
 
-    pub verdict_refuses : (fault : Fault) → verdict_of p (length packets) c s scripts ≡ Err fault → BothFit p (length packets) c s scripts → ⊥
-    verdict_refuses fault e f =
-        let a = fits_is p (length packets) c s Client scripts.client f.0.0 f.0.1 in
-        let b = fits_is p (length packets) s c Server scripts.server f.1.0 f.1.1 in
-        absurd (let z : Ok (report_of p (length packets) c s) ≡ Err fault = sym (λ i. where_followed (a i) (where_followed (b i) (Ok (report_of p (length packets) c s)))) ∙ e in cc)
+  module _ (scripts : Scripts) (report : Explained) (e : verdict_of p (length packets) c s scripts ≡ Ok report) where
+    fits : BothFit p (length packets) c s scripts × (report ≡ report_of p (length packets) c s)
+    fits = verdict_fits p (length packets) c s scripts report e
 
-    -- ---- the headline
+    fits_c : Follows p Client (length packets) c s scripts.client fits.0.0.0
+    fits_c = fits_follows p (length packets) c s Client scripts.client fits.0.0.0 fits.0.0.1
 
-    module _ (report : Explained) (e : verdict_of p (length packets) c s scripts ≡ Ok report) where
-      ended : Ends p (length packets) c s scripts report
-      ended = ends p (length packets) c s scripts report e
+    fits_s : Follows p Server (length packets) s c scripts.server fits.0.1.0
+    fits_s = fits_follows p (length packets) s c Server scripts.server fits.0.1.0 fits.0.1.1
 
-      fits_c : Follows p Client (length packets) c s scripts.client ended.a
-      fits_c = follow_fits p (length packets) c s Client scripts.client ended.a ended.client
+    to_server : report.server_taken ≡ listed p Client c s
+    to_server = ap (λ (x : Explained). x.server_taken) fits.1
 
-      fits_s : Follows p Server (length packets) s c scripts.server ended.b
-      fits_s = follow_fits p (length packets) s c Server scripts.server ended.b ended.server
+    to_client : report.client_taken ≡ listed p Server s c
+    to_client = ap (λ (x : Explained). x.client_taken) fits.1
 
-      some_run : (ws : List World) × (w : World) × Reaches p ws w × (w.crossed ≡ packets)
-      some_run = (let r = simulated p packets c s scripts.client scripts.server ended.a ended.b h.recorded (list_of k h Client) (list_of k h Server) fits_c fits_s in (r.0, r.1, r.2, r.3))
+    pub headline : Headline p packets report
+    headline =
+        let r = simulated p packets c s scripts.client scripts.server fits.0.0.0 fits.0.1.0 h.recorded (list_of k h Client) (list_of k h Server) fits_c fits_s in
+        record { some_run = (r.0, r.1, r.2, r.3); every_run = λ ws w r same. (peer_up ws w r same Client report.server_taken to_server, peer_up ws w r same Server report.client_taken to_client) }
 
-      to_server : report.server_taken ≡ listed p Client c s
-      to_server = ap (λ (x : Explained). x.server_taken) ended.says
-
-      to_client : report.client_taken ≡ listed p Server s c
-      to_client = ap (λ (x : Explained). x.client_taken) ended.says
-
-      pub headline : Headline p packets report
-      headline = record { some_run = some_run; every_run = λ ws w r same. (peer_up ws w r same Client report.server_taken to_server, peer_up ws w r same Server report.client_taken to_client) }
-
-      pub is_sharp : IsSharp p packets report
-      is_sharp =
-          let r = sharp p packets c s scripts.client scripts.server ended.a ended.b h.recorded (list_of k h Client) (list_of k h Server) h.sent.few_client h.sent.few_server fits_c fits_s in (
-            r.0,
-            r.1,
-            r.2,
-            r.3,
-            up_joined r.1.server.state.handed_pdus ∙ (ap joined r.4 ∙ (sym (listed_joined (surely_taken p Client c s)) ∙ ap messages_in_list (sym to_server))),
-            up_joined r.1.client.state.handed_pdus ∙ (ap joined r.5 ∙ (sym (listed_joined (surely_taken p Server s c)) ∙ ap messages_in_list (sym to_client))),
-          )
+    pub is_sharp : IsSharp p packets report
+    is_sharp =
+        let r = sharp p packets c s scripts.client scripts.server fits.0.0.0 fits.0.1.0 h.recorded (list_of k h Client) (list_of k h Server) h.sent.few_client h.sent.few_server fits_c fits_s in (
+          r.0,
+          r.1,
+          r.2,
+          r.3,
+          up_joined r.1.server.state.handed_pdus ∙ (ap joined r.4 ∙ (sym (listed_joined (surely_taken p Client c s)) ∙ ap messages_in_list (sym to_server))),
+          up_joined r.1.client.state.handed_pdus ∙ (ap joined r.5 ∙ (sym (listed_joined (surely_taken p Server s c)) ∙ ap messages_in_list (sym to_client))),
+        )
 
 -- what is lent of a crossing is a crossing
 pub lent : (k : Crossing) (p : Parameters) (c s : List FirstCopy) → k.params ≡ p → c ≡ k.client → s ≡ k.server → IsCrossing k
