@@ -119,11 +119,8 @@ module _ (p : Parameters) (packets : List Packet) (c s : List FirstCopy) (h : Is
       → follow p Client n c s cs ≡ Ok a → follow p Server n s c ss ≡ Ok b
       → report ≡ record { packets = n; client_taken = listed_by b s c; server_taken = listed_by a c s } → verdict_of p n c s scripts ≡ Ok report
   verdict_of_ends scripts n cs ss a b report count same_c same_s e f says =
-      let l = lists_are cs ss a b (subst (λ m. follow p Client m c s cs ≡ Ok a) (sym count) e) (subst (λ m. follow p Server m s c ss ≡ Ok b) (sym count) f) in
-      let a_is = ap (follow p Client n c s) (sym same_c) ∙ e in
-      let b_is = ap (follow p Server n s c) (sym same_s) ∙ f in
-      (λ i. where_followed (a_is i) (where_followed (b_is i) (Ok (report_of p n c s))))
-      ∙ sym (ap Ok (says ∙ (λ i. record { packets = n; client_taken = l.0 i; server_taken = l.1 i })))
+      let l = lists_are cs ss a b (rw (sym count) at e) (rw (sym count) at f) in
+      rw (sym same_c, sym same_s, e, f, says) (sym (λ i. Ok (record { packets = n; client_taken = l.0 i; server_taken = l.1 i })))
 
   -- ---- the headline
 

@@ -16,30 +16,17 @@ use Rattle.rasta_check.specs.Capture.Crossing.{FirstCopy}
 use Rattle.rasta_check.specs.Model.Taken.{position_with, pdus_of, pdus_made, units_shown, units_taken, proof_place, units_from, data_copies}
 use Rattle.rasta_check.specs.Internals.Listing.{shown_by, with_proofs, proofs_from, proved_unit, with_unit, proved_units}
 use Rattle.rasta_check.proofs.Lists.{get_front, slice_get_some, get_mapped, get_past}
-use Rattle.rasta_check.proofs.Model.SequenceNumbers.{Numbered}
-use Rattle.rasta_check.proofs.Model.NamedPositions.{SnIs, sn_mod}
+use Rattle.rasta_check.proofs.Model.SequenceNumbers.{Numbered, numbered_once}
+use Rattle.rasta_check.proofs.Model.NamedPositions.{sn_mod}
 use Rattle.rasta_check.proofs.Model.ConveyedUnits.{get_or_none}
-use Rattle.rasta_check.proofs.Model.Requests.{found_position}
+use Rattle.rasta_check.proofs.Model.Requests.{found_position, named_position}
 
 -- ---- the position that a CS names
-
--- where no member has this SN, none is at a position
-none_has : (ms : List Made) (sn i : ℕ) (m : Made) → position_with (pdus_made ms) sn ≡ None → slice_get ms i ≡ Some m → m.pdu.sn ≡ sn → ⊥
-none_has [] sn i m n g e = absurd (cc)
-none_has (x ∷ ms) sn zero m n g e = (let f : x ≡ m = cc in absurd (grind (arith, nat_tests)))
-none_has (x ∷ ms) sn (suc i) m n g e = none_has ms sn i m (grind (arith, nat_tests)) g e
-
--- a named position lies as far after the first SN as the SN does
-distance : (ms : List Made) (sn i : ℕ) → Numbered ms → length ms ≤ 1000001 → SnIs ms i sn → ahead_by sn (first_sn ms) ≡ i
-distance ms sn i h b s = (let z = sn_mod ms i sn h s in let l = slice_get_within ms i s.m s.there in omega arith)
 
 -- a position as far after the first SN as an SN has that SN
 at_distance : (ms : List Made) (sn i : ℕ) (m : Made) → Numbered ms → first_sn ms < 2 ^ 32 → sn < 2 ^ 32 → slice_get ms i ≡ Some m → ahead_by sn (first_sn ms) ≡ i → m.pdu.sn ≡ sn
 at_distance [] sn i m h f l g d = absurd (cc)
-at_distance (x ∷ ms) sn zero m h f l g d =
-    let a : x ≡ m = cc in
-    let b : x.pdu.sn ≡ m.pdu.sn = ap (λ (k : Made). k.pdu.sn) a in
-    omega arith
+at_distance (x ∷ ms) sn zero m h f l g d = (let b : x.pdu.sn ≡ m.pdu.sn = ap (λ (k : Made). k.pdu.sn) (same_Some x m g) in omega arith)
 at_distance (x ∷ ms) sn (suc i) m h f l g d = (let a : m.pdu.sn ≡ (x.pdu.sn + suc i) % 2 ^ 32 = h i m g in omega arith)
 
 -- the units at the position that a CS names are those at its distance
@@ -47,31 +34,26 @@ pub units_named : (ms : List Made) (vs : List ℕ) (cs : ℕ) → Numbered ms �
     → slice_index_or vs (ahead_by cs (first_sn ms)) 0 ≡ units_at vs (position_with (pdus_made ms) cs)
 units_named ms vs cs h b l f small = by (position_with (pdus_made ms) cs) refl
   where
-    beyond : position_with (pdus_made ms) cs ≡ None → (o : Option ℕ) → slice_get vs (ahead_by cs (first_sn ms)) ≡ o → slice_index_or vs (ahead_by cs (first_sn ms)) 0 ≡ 0
-    beyond n None g = get_or_none vs (ahead_by cs (first_sn ms)) g
-    beyond n (Some v) g =
-        let w = slice_get_within vs (ahead_by cs (first_sn ms)) v g in
-        let m = slice_get_some ms (ahead_by cs (first_sn ms)) (omega (arith, w, l)) in
-        absurd (none_has ms cs (ahead_by cs (first_sn ms)) m.0 n m.1 (at_distance ms cs (ahead_by cs (first_sn ms)) m.0 h f small m.1 refl))
-
-    by : (o : Option ℕ) → position_with (pdus_made ms) cs ≡ o → slice_index_or vs (ahead_by cs (first_sn ms)) 0 ≡ units_at vs (position_with (pdus_made ms) cs)
-    by None e = beyond e (slice_get vs (ahead_by cs (first_sn ms))) refl ∙ ap (units_at vs) (sym e)
-    by (Some i) e = ap (λ k. slice_index_or vs k 0) (distance ms cs i h b (found_position ms cs i e)) ∙ ap (units_at vs) (sym e)
+    by : (o : Option ℕ) → position_with (pdus_made ms) cs ≡ o → slice_index_or vs (ahead_by cs (first_sn ms)) 0 ≡ units_at vs o
+    by None n =
+        let i = ahead_by cs (first_sn ms) in
+        let past : i < length ms → ⊥ = λ w.
+        (let m = slice_get_some ms i w in
+        let named = named_position ms i cs (numbered_once ms b h) (record { m = m.0; there = m.1; same = at_distance ms cs i m.0 h f small m.1 refl }) in
+        absurd (cc)) in
+        get_or_none vs i (slice_get_past vs i (omega (arith, past)))
+    by (Some i) e =
+        let s = found_position ms cs i e in
+        let z = sn_mod ms i cs h s in
+        let w = slice_get_within ms i s.m s.there in
+        ap (λ k. slice_index_or vs k 0) (omega arith)
 
 -- the first SN of what an end made has 32 bits
 pub first_small : (q : Option Quiet) (s : Side) (ms : List Made) (own : List FirstCopy) → pdus_made ms ≡ pdus_made (start_by q s).made ++ pdus_of own
     → ((i : ℕ) (c : FirstCopy) → slice_get own i ≡ Some c → c.pdu.safety.sn < 2 ^ 32) → first_sn ms < 2 ^ 32
 first_small q s [] own e h = omega arith
-first_small q s (m ∷ ms) own e h = head q s (ap (λ (xs : List SafetyPdu). slice_get xs 0) (sym e))
-  where
-    of_copies : slice_get (pdus_of own) 0 ≡ Some m.pdu → m.pdu.sn < 2 ^ 32
-    of_copies g = (let c = get_mapped (λ (d : FirstCopy). d.pdu.safety) own 0 m.pdu g in let a = h 0 c.0 c.1 in let b = ap (λ (x : SafetyPdu). x.sn) c.2 in omega arith)
-
-    head : (q : Option Quiet) (s : Side) → slice_get (pdus_made (start_by q s).made ++ pdus_of own) 0 ≡ Some m.pdu → m.pdu.sn < 2 ^ 32
-    head None Client g = of_copies g
-    head None Server g = of_copies g
-    head (Some q) Client g = (let a = ap (λ (x : SafetyPdu). x.sn) (same_Some _ _ g) in omega arith)
-    head (Some q) Server g = (let a = ap (λ (x : SafetyPdu). x.sn) (same_Some _ _ g) in omega arith)
+first_small q s (m ∷ ms) [] e h = grind arith
+first_small q s (m ∷ ms) (c ∷ own) e h = (let z = h 0 c refl in grind arith)
 
 -- ---- places of proofs, by what each PDU shows
 
