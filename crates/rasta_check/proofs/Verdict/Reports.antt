@@ -3,6 +3,8 @@ use Rattle.std.proofs.Common.{◌≡◌, ℕ, zero, suc, ◌+◌, ◌-◌, ◌%�
 use Rattle.std.specs.Prelude.{fold, max, nat_lt, slice_index_or}
 use Rattle.std.proofs.lemmas.Bool.Decides.{nat_tests}
 use Rattle.std.proofs.Math.Seq.{take-nil}
+use native.Mathlib.Decide.{dec_lt}
+use Prim.{yes, no}
 use Rattle.std.proofs.lemmas.List.{get_or-replicate, length-append, length-replicate}
 use Rattle.std.proofs.lemmas.Option.{slice_get-get_or, slice_get_past, slice_get_within, same_Some}
 use Rattle.rasta_pcap.specs.declared.fault.Side.{Side}
@@ -119,18 +121,10 @@ module _ (own : List SafetyPdu) (peer : List FirstCopy) (places : List ℕ) (h :
   pub units_are : (unit : ℕ) (copies : List FirstCopy) → proved_units places unit copies ≡ units_from own peer unit (take (length places - unit) (data_copies copies))
   unfolding proved_units
   units_are unit [] = ap (units_from own peer unit) (sym (take-nil (length places - unit)))
-  units_are unit (c ∷ copies) = (let r = listed (units_are (suc unit) copies) (nat_lt unit (length places)) refl in let s = units_are unit copies in grind arith)
-    where
-      listed : proved_units places (suc unit) copies ≡ units_from own peer (suc unit) (take (length places - suc unit) (data_copies copies)) → (b : Bool) → nat_lt unit (length places) ≡ b
-          → with_unit c (slice_get places unit) (proved_units places (suc unit) copies) ≡ units_from own peer unit (take (length places - unit) (c ∷ data_copies copies))
-      listed r true e =
-          let l : unit < length places = grind (arith, nat_tests) in
-          let n : suc (length places - suc unit) ≡ length places - unit = omega (arith, l) in
-          ap (λ o. with_unit c o (proved_units places (suc unit) copies)) (h.each unit l)
-          ∙ (ap (λ us. proved_unit c (proof_place own (pdus_of peer) unit peer) ∷ us) r
-          ∙ ap (λ k. units_from own peer unit (take k (c ∷ data_copies copies))) n)
-      listed r false e =
-          let l : length places ≤ unit = grind (arith, nat_tests) in
-          let n : 0 ≡ length places - unit = omega (arith, l) in
-          ap (λ o. with_unit c o (proved_units places (suc unit) copies)) (slice_get_past places unit l)
-          ∙ ap (λ k. units_from own peer unit (take k (c ∷ data_copies copies))) n
+  units_are unit (c ∷ copies) =
+      let r = units_are (suc unit) copies in
+      let s = units_are unit copies in
+      elim (dec_lt unit (length places)) [
+        | yes l ↦ (let n : length places - unit ≡ suc (length places - suc unit) = omega arith in let z = rw n at s in rw (h.each unit l, n) (grind arith))
+        | no q ↦ (let n : length places - unit ≡ 0 = omega (arith, q) in let z = rw n at s in rw (slice_get_past places unit (omega (arith, q)), n) (grind arith))
+      ]
