@@ -14,7 +14,7 @@ use Rattle.rasta_check.proofs.Model.InvariantOfRuns.{all_held}
 use Rattle.rasta_check.proofs.Model.History.{appended}
 use Rattle.rasta_check.proofs.Theorem.SentRuns.{Known, known, before}
 use Rattle.rasta_check.proofs.Theorem.ProofsInTime.{timed}
-use Rattle.rasta_check.proofs.Theorem.ListedUnits.{proof_of, HandsUpData, of_units, data_grown, unit_handed, listed_below, listed_first}
+use Rattle.rasta_check.proofs.Theorem.ListedUnits.{proof_of, HandsUpFirst, of_units, still_first, unit_handed, listed_below, listed_first}
 
 module _ (p : Parameters) (ws : List World) (w : World) (side : Side) (own peer : List FirstCopy) (r : Reaches p ws w) (mine : IsSent p w.crossed side own) (theirs : IsSent p w.crossed (other_side side) peer)
     (few : length own ≤ 1000000) (few_theirs : length peer ≤ 1000000) where
@@ -56,7 +56,7 @@ module _ (p : Parameters) (ws : List World) (w : World) (side : Side) (own peer 
       let more = shown.more in
       let b = before p ws w side own peer r mine theirs few few_theirs a.i v a.here in
       let all = all_held p b.us v side b.reached b.few in
-      let h : HandsUpData y e = data_grown y x e (b.grown side).made (of_units y x (hands_up_units y x all.mine.values all.theirs.handed)) in
+      let h : HandsUpFirst y e = still_first y x e (b.grown side).made (of_units y x (hands_up_units y x all.mine.values all.theirs.handed)) in
       unit_handed p side y e own peer kn.sends.same h j t (omega (arith, z, more, low)) gt
 
   pub in_time : (i : ℕ) (u : TakenUnit) (v next : World) → slice_get (surely_taken p side own peer) i ≡ Some u → Appends ws w u.proof_place v next → HasHandedUp (end_of v (other_side side)) i u.messages
