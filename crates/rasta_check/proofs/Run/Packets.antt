@@ -17,8 +17,8 @@ use Rattle.rasta_check.proofs.Script.Tracks.{Tracks, Drained, next_number, next_
 use Rattle.rasta_check.proofs.Model.Steps.{base, made_more}
 use Rattle.rasta_check.specs.Run.Lines.{lines_of_move, number_of}
 use Rattle.rasta_check.specs.Run.Levels.{makes_at, make_line, waited_line, side_lines}
-use Rattle.rasta_check.proofs.Run.Entries.{takes_past, makes_here, makes_other, below}
-use Rattle.rasta_check.proofs.Run.Rests.{Above, Says, says_all, lead_above, places_above, no_makes}
+use Rattle.rasta_check.proofs.Run.Entries.{makes_here}
+use Rattle.rasta_check.proofs.Run.Rests.{Above, says_all, says_make, lead_above, places_above, no_makes, Left}
 use Rattle.rasta_check.proofs.Run.Moves.{Many, stays, moves, recast}
 use Rattle.rasta_check.proofs.Run.Takes.{ahead}
 use Rattle.rasta_check.proofs.Capture.Positions.{place_missing, place_named, place_once}
@@ -26,13 +26,9 @@ use Rattle.rasta_check.proofs.Capture.Positions.{place_missing, place_named, pla
 module _ (p : Parameters) (packets : List Packet) (k : ℕ) (s : Side) (own peer : List FirstCopy) (sent : IsSent p packets s own) (recorded : CrossRecorded p packets) (last : Cursor) (whole : last.made ≡ length own)
     (b : Station) (here : Packet) (at : slice_get packets k ≡ Some here) where
   -- what the packet of a side leaves, made or copied: its lines are those of the packet, and of later levels the rest says what the script says
-  pub record Crossed (from : List Entry) (a : Station) : Type 0 where
-    pub rest : List Entry
-    pub station : Station
-    pub many : Many p b s (take k packets) a (side_lines k s (number_of here) own from) station (take (suc k) packets)
-    pub tracks : Tracks p (length packets) (suc k) s own peer rest last station
-    pub above : Above (suc k) rest
-    pub says : Says (suc k) (suc k) from rest
+  abbrev pub Crossed : List Entry → Station → Type 0
+  Crossed from a = (station : Station) × Many p b s (take k packets) a (side_lines k s (number_of here) own from) station (take (suc k) packets)
+      × Left p (length packets) (suc k) s own peer last (Above (suc k)) (suc k) (suc k) from station
 
   long : length (take k packets) ≡ k
   long = length-take-le k packets (let l = slice_get_within packets k here at in omega (arith, l))
@@ -66,35 +62,32 @@ module _ (p : Parameters) (packets : List Packet) (k : ℕ) (s : Side) (own peer
       rw (pl, makes_here k clock why es, no_makes k (suc k) es (omega arith) after) refl in
       let line : waited_line (length (take k packets)) s clock ∷ make_line (length (take k packets)) s (wrapped (a.first_number + length a.state.made)) (clock, why) ∷ [] ≡ side_lines k s (number_of here) own (Make c.place clock why ∷ es) =
       rw (long, shown, found, makes_now) refl in
-      record {
-        rest = es;
-        station = record waited { state = e' };
-        many = recast line (next_packet packets k first.0 a.state.side (f.side ∙ sym first.2) there)
+      let tracks : Tracks p (length packets) (suc k) s own peer es last (record waited { state = e' }) = record {
+        level = suc c.place;
+        made = suc f.made;
+        taken = f.taken;
+        low = omega arith;
+        fits = rest;
+        based = made.base ∙ f.based;
+        count = omega (arith, count);
+        mark = f.mark;
+        clock = sym made.now;
+        number = f.number;
+        before = λ i d h v. (let x = f.before i d h in let y = place_once own (ordered sent) i f.made d c h mine in grind (arith, x, y, pl, v));
+        after = λ i d h v. elim (dec_lt i f.made) [ yes l ↦ (let z = f.after i d h l in omega (arith, z)) | no l ↦ (let q = ap (λ (z : FirstCopy). z.place) (newest i d h v l) in omega (arith, q)) ];
+        same = λ i d h v. elim (dec_lt i f.made) [
+          | yes l ↦ (let z = f.same i d h l in (z.0, ap (λ (ms : List Made). slice_get ms (base p + i)) now ∙ get_front a.state.made (n ∷ []) (base p + i) z.0 z.1, z.2))
+          | no l ↦ (let at_end : base p + i ≡ length a.state.made = omega (arith, f.count, v, l) in
+              (n, ap (λ (ms : List Made). slice_get ms (base p + i)) now ∙ rw at_end (get_push a.state.made n), made.pdu ∙ ap (λ (z : FirstCopy). z.pdu.safety) (sym (newest i d h v l))))
+        ];
+        side = made.side ∙ f.side;
+      } in (
+        record waited { state = e' },
+        recast line (next_packet packets k first.0 a.state.side (f.side ∙ sym first.2) there)
             (moves (waiting clock) (waits clock (let z = f.clock in omega (arith, z, made.rises)))
-            (moves (making c.pdu.safety why first.0.channel c.pdu.reserve c.pdu.check_bytes) (makes {a = waited} c.pdu.safety why e' first.0.channel c.pdu.reserve c.pdu.check_bytes first.0.payload mk said (recorded c.place first.0 first.1)) stays));
-        above = after;
-        says = record { takes = λ j l. takes_past j c.place clock why es; makes = λ j l. makes_other j c.place clock why es (below c.place j (omega (arith, pl, l))) };
-        tracks = record {
-          level = suc c.place;
-          made = suc f.made;
-          taken = f.taken;
-          low = omega arith;
-          fits = rest;
-          based = made.base ∙ f.based;
-          count = omega (arith, count);
-          mark = f.mark;
-          clock = sym made.now;
-          number = f.number;
-          before = λ i d h v. (let x = f.before i d h in let y = place_once own (ordered sent) i f.made d c h mine in grind (arith, x, y, pl, v));
-          after = λ i d h v. elim (dec_lt i f.made) [ yes l ↦ (let z = f.after i d h l in omega (arith, z)) | no l ↦ (let q = ap (λ (z : FirstCopy). z.place) (newest i d h v l) in omega (arith, q)) ];
-          same = λ i d h v. elim (dec_lt i f.made) [
-            | yes l ↦ (let z = f.same i d h l in (z.0, ap (λ (ms : List Made). slice_get ms (base p + i)) now ∙ get_front a.state.made (n ∷ []) (base p + i) z.0 z.1, z.2))
-            | no l ↦ (let at_end : base p + i ≡ length a.state.made = omega (arith, f.count, v, l) in
-                (n, ap (λ (ms : List Made). slice_get ms (base p + i)) now ∙ rw at_end (get_push a.state.made n), made.pdu ∙ ap (λ (z : FirstCopy). z.pdu.safety) (sym (newest i d h v l))))
-          ];
-          side = made.side ∙ f.side;
-        };
-      }
+            (moves (making c.pdu.safety why first.0.channel c.pdu.reserve c.pdu.check_bytes) (makes {a = waited} c.pdu.safety why e' first.0.channel c.pdu.reserve c.pdu.check_bytes first.0.payload mk said (recorded c.place first.0 first.1)) stays)),
+        record { rest = es; tracks = tracks; ready = after; says = says_make (suc k) (suc k) c.place clock why es (omega (arith, pl)) },
+      )
 
   copy_moves : (es : List Entry) (a : Station) → position_of_place own k ≡ None → here.side ≡ a.state.side
       → (j : ℕ) (old : Packet) → j < k → slice_get packets j ≡ Some old → old.side ≡ here.side → old.payload ≡ here.payload → Many p b s (take k packets) a (side_lines k s (number_of here) own es) a (take (suc k) packets)
@@ -115,14 +108,11 @@ module _ (p : Parameters) (packets : List Packet) (k : ℕ) (s : Side) (own peer
       let w = sent.copies k here at hs in
       let o = sent.firsts w.0 w.1 w.2 in
       let earlier : w.1.place < k = (let apart = no_first w.0 w.1 w.2 in let low = w.3 in omega (arith, apart)) in
-      record {
-        rest = es;
-        station = a;
-        many = copy_moves es a (place_missing own k no_first) (hs ∙ sym f.side) w.1.place o.0 earlier o.1 (o.2 ∙ sym hs) (o.3.same ∙ sym w.4.same);
-        tracks = untouched p (length packets) k s own peer es last a f no_first;
-        above = above;
-        says = says_all (suc k) (suc k) es;
-      }
+      (
+        a,
+        copy_moves es a (place_missing own k no_first) (hs ∙ sym f.side) w.1.place o.0 earlier o.1 (o.2 ∙ sym hs) (o.3.same ∙ sym w.4.same),
+        record { rest = es; tracks = untouched p (length packets) k s own peer es last a f no_first; ready = above; says = says_all (suc k) (suc k) es },
+      )
 
   pub next_is : (es : List Entry) (a : Station) → here.side ≡ s → Drained k es → Tracks p (length packets) k s own peer es last a → Crossed es a
   next_is [] a hs dr f = copied [] a hs tt f
@@ -131,5 +121,5 @@ module _ (p : Parameters) (packets : List Packet) (k : ℕ) (s : Side) (own peer
       let z = ahead p (length packets) s own peer last k k (Make place clock why) es a (omega arith) (omega arith) f tt in
       elim (dec_lt k place) [
         | yes l ↦ copied (Make place clock why ∷ es) a hs (l, z.1) f
-        | no l ↦ make_one place clock why es a f.fits.0 (omega (arith, z.0.0)) f f.fits.1 f.fits.2
+        | no l ↦ make_one place clock why es a f.fits.0 (omega (arith, z.0)) f f.fits.1 f.fits.2
       ]
