@@ -8,7 +8,7 @@ use Rattle.rasta_check.proofs.Prelude.{Takes, FirstCopy, Station, Cursor, Advanc
 use Rattle.rasta_check.specs.Model.World.{arriving, taking, arrives, takes}
 use Rattle.rasta_check.specs.Run.Levels.{takes_at, take_line, brought_line, each_take, takes_lines}
 use Rattle.rasta_check.proofs.Capture.FaultlessLists.{IsSent}
-use Rattle.rasta_check.proofs.Script.Tracks.{Tracks, Drained, moved_made, next_number}
+use Rattle.rasta_check.proofs.Script.Tracks.{Tracks, Drained, next_number}
 use Rattle.rasta_check.proofs.Model.Steps.{base}
 use Rattle.rasta_check.proofs.Model.TakeRows.{take_leaves}
 use Rattle.rasta_check.proofs.Run.Entries.{takes_here, takes_none, takes_past}
@@ -78,7 +78,7 @@ module _ (p : Parameters) (packets : List Packet) (n k : ℕ) (s r : Side) (own 
           number = f.number;
           before = f.before;
           after = f.after;
-          same = λ i d h v. moved_made a.state.made e'.made (base p + i) (λ (y : Made). y.pdu ≡ d.pdu.safety) same_made (f.same i d h v);
+          same = λ i d h v. (let z = f.same i d h v in (z.0, rw same_made z.1, z.2));
           side = ap (λ (e : EndState). e.side) t.1 ∙ (left.side ∙ f.side);
         },
       )

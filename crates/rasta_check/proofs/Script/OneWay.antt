@@ -35,34 +35,22 @@ new_is_first p xs s own h k a d g e spelled new =
     (w.0, w.1, w.2, (let at = w.3 in omega (arith, last)))
 
 module _ (p : Parameters) (n : ℕ) (packets : List Packet) (r : Side) (own peer : List FirstCopy) (sent : IsSent p packets r peer) (few : length peer < 4294967296) where
-  -- what an entry says of the cursor behind it
-  abbrev Led : Cursor → Entry → Cursor → Type 0
-  Led u (Take slot number) v =
-      (i : ℕ) × (c : FirstCopy) × (slice_get peer i ≡ Some c) × (c.pdu.number ≡ number) × (v ≡ record { level = slot; made = u.made; taken = suc i; state = after_take p u.state c.pdu.safety })
-  Led u (Make place clock why) v =
-      (c : FirstCopy) × (slice_get own u.made ≡ Some c) × (v ≡ record { level = suc place; made = suc u.made; taken = u.taken; state = after_make u.state c.pdu.safety clock why })
-
-  led : (u v : Cursor) (x : Entry) → Advances p n own peer u x v → Led u x v
-  led u v x (takes_next slot i c e a b g d f t) = (i, c, g, refl, ap (λ (z : EndState). record { level = slot; made = u.made; taken = suc i; state = z }) t.1)
-  led u v x (makes_next c clock why e a g m) = (c, g, ap (λ (z : EndState). record { level = suc c.place; made = suc u.made; taken = u.taken; state = z }) m.1)
-
-  same_led : (u v w : Cursor) (x : Entry) → Led u x v → Led u x w → v ≡ w
-  same_led u v w (Take slot number) a b =
-      let i : a.0 ≡ b.0 = number_once peer (ordered sent) few a.0 b.0 a.1 b.1 a.2 b.2 (a.3 ∙ sym b.3) in
-      let c : a.1 ≡ b.1 = (let z = ap (slice_get peer) i in let x = a.2 in let y = b.2 in cc) in
-      cc (a.4, b.4)
-  same_led u v w (Make place clock why) a b =
-      let c : a.0 ≡ b.0 = (let x = a.1 in let y = b.1 in cc) in
-      cc (a.2, b.2)
-
-  pub advances_once : (u v w : Cursor) (x : Entry) → Advances p n own peer u x v → Advances p n own peer u x w → v ≡ w
-  advances_once u v w x a b = same_led u v w x (led u v x a) (led u w x b)
+  -- an entry leads to one cursor
+  once : (u v w : Cursor) (x y : Entry) → x ≡ y → Advances p n own peer u x v → Advances p n own peer u y w → v ≡ w
+  once u v w x y e (takes_next slot i c z a b g d f t) (takes_next slot' i' c' z' a' b' g' d' f' t') =
+      let number : c.pdu.number ≡ c'.pdu.number = cc in
+      let position = number_once peer (ordered sent) few i i' c c' g g' number in
+      let same : c ≡ c' = (let z = ap (slice_get peer) position in cc) in
+      cc (t.1, t'.1)
+  once u v w x y e (makes_next c clock why z a g m) (makes_next c' clock' why' z' a' g' m') = (let same : c ≡ c' = cc in cc (m.1, m'.1))
+  once u v w x y e (takes_next slot i c z a b g d f t) (makes_next c' clock' why' z' a' g' m') = absurd (cc)
+  once u v w x y e (makes_next c clock why z a g m) (takes_next slot' i' c' z' a' b' g' d' f' t') = absurd (cc)
 
   -- what leads to v, and the rest of a longer script
   leads_rest : (u v w : Cursor) (es rest : List Entry) → Leads p n own peer u es v → Leads p n own peer u (es ++ rest) w → Leads p n own peer v rest w
   leads_rest u v w [] rest f g = subst (λ (z : Cursor). Leads p n own peer z rest w) f g
   leads_rest u v w (x ∷ es) rest f g =
-      let same : g.0 ≡ f.0 = advances_once u g.0 f.0 x g.1 f.1 in
+      let same : g.0 ≡ f.0 = once u g.0 f.0 x x refl g.1 f.1 in
       leads_rest f.0 v w es rest f.2 (subst (λ (z : Cursor). Leads p n own peer z (es ++ rest) w) same g.2)
 
   pub stuck : (u v w : Cursor) (es rest : List Entry) (x : Entry) → Leads p n own peer u es v → ((z : Cursor) → Advances p n own peer v x z → ⊥) → Leads p n own peer u (es ++ x ∷ rest) w → ⊥

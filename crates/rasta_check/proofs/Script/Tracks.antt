@@ -38,10 +38,6 @@ Drained k [] = Unit {0}
 Drained k (Take slot number ∷ es) = k < slot
 Drained k (Make place clock why ∷ es) = Unit {0}
 
--- what a station has made, at another length
-pub moved_made : (ms ns : List Made) (i : ℕ) (P : Made → Type 0) → ns ≡ ms → ((m : Made) × (slice_get ms i ≡ Some m) × P m) → (m : Made) × (slice_get ns i ≡ Some m) × P m
-moved_made ms ns i P e z = (z.0, subst (λ (xs : List Made). slice_get xs i ≡ Some z.0) (sym e) z.1, z.2)
-
 packet_is : (k : Packet) (sd : Side) (e : sd ≡ k.side) → record { channel = k.channel; side = sd; payload = k.payload } ≡ k
 packet_is k sd e = λ i. record { channel = k.channel; side = e i; payload = k.payload }
 
@@ -84,16 +80,14 @@ module _ (p : Parameters) (packets : List Packet) (k : ℕ) (s : Side) (own peer
   -- when all packets have crossed and all takes that are due are done, nothing is left
   pub nothing_left : (a : Station) (es : List Entry) → length packets ≡ k → Drained k es → Tracks p (length packets) k s own peer es last a → a.state ≡ last.state
   nothing_left a [] e dr f = ap (λ (u : Cursor). u.state) f.fits
-  nothing_left a (x ∷ es) e dr f = absurd (by x dr f.fits.0 f.made f.level f.taken f.before f.fits.1)
+  nothing_left a (x ∷ es) e dr f = absurd (by _ f.fits.0 x f.fits.1 f.before dr)
     where
-      by : (x : Entry) → Drained k (x ∷ es) → (m : Cursor) (made level taken : ℕ) → ((i : ℕ) (c : FirstCopy) → slice_get own i ≡ Some c → c.place < k → i < made)
-          → Advances p (length packets) own peer (record { level = level; made = made; taken = taken; state = a.state }) x m → ⊥
-      by (Take slot number) dr m made level taken h (takes_next slot' position d e' lv le there below above t) = omega (arith, e, le, dr)
-      by (Make place clock why) dr m made level taken h (makes_next c clock' why' e' lv mine mk) =
-          let r = sent.firsts made c mine in
+      by : (u v : Cursor) (x : Entry) → Advances p (length packets) own peer u x v → ((i : ℕ) (c : FirstCopy) → slice_get own i ≡ Some c → c.place < k → i < u.made) → Drained k (x ∷ es) → ⊥
+      by u v x (takes_next slot position d e' lv le there below above t) h dr = omega (arith, e, le, dr)
+      by u v x (makes_next c clock why e' lv mine mk) h dr =
+          let r = sent.firsts u.made c mine in
           let l = slice_get_within packets c.place r.0 r.1 in
-          let z = h made c mine (omega (arith, e)) in
-          omega (arith, z)
+          omega (arith, h u.made c mine (omega (arith, e)))
 
 -- a first number so that the first PDU of the list has its own
 pub first_number_of : ℕ → List FirstCopy → ℕ

@@ -7,7 +7,7 @@ use Rattle.std.proofs.lemmas.Option.{slice_get_within}
 use Rattle.std.specs.Option.{option_map_or}
 use Rattle.std.specs.Str.{bytes_eq}
 use Rattle.rasta_check.proofs.Prelude.{Side, Packet, Kind, Parameters, SafetyPdu, Entry, Phase, Owed, Why, Made}
-use Rattle.rasta_check.proofs.Prelude.{EndState, Makes, start_of, FirstCopy, Cursor, Advances, takes_next, makes_next, Leads, at_start}
+use Rattle.rasta_check.proofs.Prelude.{EndState, Makes, start_of, FirstCopy, Cursor, takes_next, makes_next, Leads, at_start}
 use Rattle.rasta_pdu.specs.Pdu.{is_kind}
 use Rattle.rasta_end.specs.declared.why.Why.TheVariants.{Again}
 use Rattle.rasta_end.specs.declared.make_row.MakeRow.{MakeRow}
@@ -55,25 +55,19 @@ most_clock = 18446744073709551615
 
 module _ (p : Parameters) (packets : List Packet) (side other : Side) (own peer : List FirstCopy) (sent : IsSent p packets side own) (theirs : IsSent p packets other peer)
     (few : length packets ≤ 16000000) (short : length own ≤ 1000000) where
-  entry_fits : (u v : Cursor) (x : Entry) (es : List Entry) → length u.state.made ≡ base p + u.made → Advances p (length packets) own peer u x v → ClocksWithin most_clock (x ∷ es)
-      → IsEntry x × (length v.state.made ≡ base p + v.made) × ClocksWithin most_clock es
-  entry_fits u v x es n (takes_next slot position c after a b g d f t) h =
+  entries_fit : (u v : Cursor) (es : List Entry) → length u.state.made ≡ base p + u.made → Leads p (length packets) own peer u es v → ClocksWithin most_clock es → AreEntries es
+  entries_fit u v [] n f h = tt
+  entries_fit u v (x ∷ es) n (_, takes_next slot position c after a b g d f t, r) h =
       let w = theirs.firsts position c g in
-      ((omega arith, w.3.fits.number), ap (λ (z : EndState). length z.made) t.1 ∙ (ap length (take_leaves p u.state c.pdu.safety).made ∙ n), h)
-  entry_fits u v x es n (makes_next c clock why after a g mk) h =
+      ((omega arith, w.3.fits.number), entries_fit _ v es (ap (λ (z : EndState). length z.made) t.1 ∙ (ap length (take_leaves p u.state c.pdu.safety).made ∙ n)) r h)
+  entries_fit u v (x ∷ es) n (_, makes_next c clock why after a g mk, r) h =
       let w = sent.firsts u.made c g in
       let i = slice_get_within packets c.place w.0 w.1 in
       let j = slice_get_within own u.made c g in
       let m = made_more p u.state c.pdu.safety clock why after mk in
       let q = base_small p.quiet in
       let k = length_push u.state.made m.new in
-      ((omega arith, (let z = h.0 in omega arith), reason_fits p u.state after c.pdu.safety clock why mk (omega arith)), ap length m.made ∙ (k ∙ omega arith), h.1)
-
-  entries_fit : (u v : Cursor) (es : List Entry) → length u.state.made ≡ base p + u.made → Leads p (length packets) own peer u es v → ClocksWithin most_clock es → AreEntries es
-  entries_fit u v [] n f h = tt
-  entries_fit u v (e ∷ es) n f h =
-      let one = entry_fits u f.0 e es n f.1 h in
-      (one.0, entries_fit f.0 v es one.1 f.2 one.2)
+      ((omega arith, omega (arith, h.0), reason_fits p u.state after c.pdu.safety clock why mk (omega arith)), entries_fit _ v es (ap length m.made ∙ (k ∙ omega arith)) r h.1)
 
   pub script_fits : (v : Cursor) (es : List Entry) → Leads p (length packets) own peer (at_start (start_of p side)) es v → ClocksWithin most_clock es → AreEntries es
   script_fits v es f h = entries_fit (at_start (start_of p side)) v es (let z = start_made p.quiet side in omega arith) f h
