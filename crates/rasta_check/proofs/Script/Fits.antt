@@ -8,15 +8,15 @@ use Rattle.std.proofs.lemmas.Option.{slice_get_within}
 use Rattle.rasta_check.proofs.Prelude.{Fault, Side, Client, Server, Parameters, Entry, Take, Make, EndState, Makes, start_of, FirstCopy, Cursor, at_start, Follows}
 use Rattle.rasta_pcap.specs.Fault.{fault_of_end, slot_order, not_first_copy, make_missing, not_yet_crossed, not_rising}
 use Rattle.rasta_cert.specs.Certificate.{Scripts}
-use Rattle.rasta_end.specs.MakeRule.{make_fault, first_that_holds, is_there}
-use Rattle.rasta_end.specs.TakeRule.{take_fault}
+use Rattle.rasta_end.specs.MakeRule.{make_fault, after_make, first_that_holds}
+use Rattle.rasta_end.specs.TakeRule.{take_fault, after_take}
 use Rattle.rasta_check.specs.Capture.Crossing.{copy_with}
 use Rattle.rasta_check.specs.Capture.Lists.{IsOrdered, places_of, position_of_number, position_of_place}
 use Rattle.rasta_check.specs.Script.Fitting.{places_made, AreInOrder, AreNamed, Joins, Fits, level_after, position_after, entry_tests, end_fault, FirstFault, at_entry, after_last}
 use Rattle.rasta_check.specs.Script.Laws.{HasOneAnswer}
 use native.Mathlib.Decide.{dec_lt}
 use Prim.{yes, no}
-use Rattle.rasta_check.specs.Internals.Checking.{unless, take_found, make_of, make_found, next_cursor, then_follow, follow_from, follow, where_followed, verdict_of}
+use Rattle.rasta_check.specs.Internals.Checking.{unless, take_entry, make_entry, taken_there, made_there, next_cursor, then_follow, follow_from, follow, where_followed, verdict_of}
 use Rattle.rasta_check.specs.Verdict.Report.{Explained, BothFit, IsScriptVerdict, both_fit, client_refused, server_refused, report_of}
 use Rattle.rasta_check.proofs.Script.FollowedScripts.{Goes, takes, makes, goes, gone, follow_fits, fits_follow}
 use Rattle.rasta_check.proofs.Internals.StoreLists.{copy_of_position, no_copy}
@@ -149,47 +149,33 @@ module _ (p : Parameters) (packets : ℕ) (own peer : List FirstCopy) where
   fault_of (Ok v) = None
   fault_of (Err n) = Some n
 
-  step : (b : Bool) (n : ℕ) (r : Result Cursor ℕ) (first o : Option ℕ) → fault_of r ≡ option_or first o → fault_of (if b then Err n else r) ≡ option_or (if b then Some n else first) o
-  step true n r first o s = refl
-  step false n r first o s = s
-
   by_rules : (o : Option ℕ) (v : Cursor) → fault_of (unless o v) ≡ o
   by_rules None v = refl
   by_rules (Some n) v = refl
 
   judged : (w : Cursor) (left : List FirstCopy) (x : Entry) → Rests w left → fault_of (next_cursor p packets own peer w x) ≡ entry_fault w left x
   unfolding next_cursor
-  judged w left (Take slot number) r =
-      step (nat_lt slot w.level || nat_lt packets slot) slot_order _ _ (take_fault p w.state w.state.clock) (by (position_of_number peer number) refl)
+  judged w left (Take slot number) r = by (position_of_number peer number) refl
     where
-      by : (o : Option ℕ) → position_of_number peer number ≡ o → fault_of (take_found p peer w slot o)
-          ≡ option_or (first_that_holds ((not (option_map_or (λ (c : FirstCopy). nat_lt c.place slot) (copy_with peer number) false), not_yet_crossed)
-          ∷ (option_map_or (λ (position : ℕ). nat_lt position w.taken) o false, not_rising) ∷ []))
-          (take_fault p w.state w.state.clock)
-      by None e = rw (no_copy peer number e) refl
+      by : (o : Option ℕ) → position_of_number peer number ≡ o → fault_of (take_entry p packets peer w slot number) ≡ entry_fault w left (Take slot number)
+      by None e = (let n = no_copy peer number e in grind arith)
       by (Some i) e =
           let f = number_found peer number i e in
-          rw (copy_of_position peer number i e, f.1)
-          (step (not (nat_lt f.0.place slot)) not_yet_crossed _ _ (take_fault p w.state w.state.clock)
-          (step (nat_lt i w.taken) not_rising _ None (take_fault p w.state w.state.clock) (by_rules (take_fault p w.state w.state.clock) _)))
-  judged w left (Make place clock why) r =
-      step (nat_lt place w.level) slot_order _ _ (end_fault p w.state left (Make place clock why)) (by (position_of_place own place) refl)
+          let c = copy_of_position peer number i e ∙ f.1 in
+          let z = by_rules (take_fault p w.state w.state.clock) (taken_there w slot i (after_take p w.state f.0.pdu.safety)) in
+          rw (e, f.1, c) (grind arith)
+  judged w left (Make place clock why) r = by left r (position_of_place own place) refl
     where
-      on : (i : ℕ) (cs : List FirstCopy) → Rests w cs → position_of_place own place ≡ Some i → (b : Bool) → (i == w.made) ≡ b
-          → fault_of (if b then make_of p w place clock why (slice_get own i) else Err make_missing) ≡ option_or (first_that_holds ((not b, make_missing) ∷ [])) (end_fault p w.state cs (Make place clock why))
-      on i cs q k false e = refl
-      on i [] q k true e =
+      by : (cs : List FirstCopy) → Rests w cs → (o : Option ℕ) → position_of_place own place ≡ o → fault_of (make_entry p own w place clock why) ≡ entry_fault w cs (Make place clock why)
+      by cs q None k = grind arith
+      by [] q (Some i) k =
           let f = place_found own place i k in
-          let at : i ≡ w.made = grind (arith, nat_tests, e) in
-          absurd (none_there w f.0 q (sym (ap (slice_get own) at) ∙ f.1))
-      on i (d ∷ cs) q k true e =
-          let at : i ≡ w.made = grind (arith, nat_tests, e) in
-          rw (ap (slice_get own) at ∙ head_rests w d cs q) (by_rules (make_fault p w.state d.pdu.safety clock why) _)
-
-      by : (o : Option ℕ) → position_of_place own place ≡ o → fault_of (make_found p own w place clock why o)
-          ≡ option_or (first_that_holds ((is_none o, not_first_copy) ∷ (not (is_there o w.made), make_missing) ∷ [])) (end_fault p w.state left (Make place clock why))
-      by None e = refl
-      by (Some i) e = on i left r e (i == w.made) refl
+          let none : i ≡ w.made → ⊥ = λ at. none_there w f.0 q (sym (ap (slice_get own) at) ∙ f.1) in
+          rw k (grind (arith, nat_tests))
+      by (d ∷ cs) q (Some i) k =
+          let there : i ≡ w.made → slice_get own i ≡ Some d = λ at. ap (slice_get own) at ∙ head_rests w d cs q in
+          let z = by_rules (make_fault p w.state d.pdu.safety clock why) (made_there w place (after_make w.state d.pdu.safety clock why)) in
+          rw k (grind (arith, nat_tests))
 
   -- the code refuses an entry by the first test that holds
   refuses : (w : Cursor) (left : List FirstCopy) (x : Entry) (n : ℕ) → Rests w left → entry_fault w left x ≡ Some n → next_cursor p packets own peer w x ≡ Err n
