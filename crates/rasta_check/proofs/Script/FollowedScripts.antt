@@ -70,15 +70,17 @@ module _ (p : Parameters) (packets : ℕ) (own peer : List FirstCopy) where
   leads_on u v x (makes place clock why c after low at g same m) =
       subst (λ n. Advances p packets own peer u (Make n clock why) (record { level = suc n; made = suc u.made; taken = u.taken; state = after })) same (makes_next c clock why after (omega arith) g m)
 
-  leads_from : (side : Side) (entry : ℕ) (u : Cursor) (es : List Entry) (e : EndState) → follow_from p side packets own peer entry u es ≡ Ok e
-      → (v : Cursor) × Leads p packets own peer u es v × (v.made ≡ length own) × (v.state ≡ e)
+  -- these entries lead from here to an end, and make the whole list
+  abbrev Ends : Cursor → List Entry → EndState → Type 0
+  Ends u es e = (v : Cursor) × Leads p packets own peer u es v × (v.made ≡ length own) × (v.state ≡ e)
+
+  leads_from : (side : Side) (entry : ℕ) (u : Cursor) (es : List Entry) (e : EndState) → follow_from p side packets own peer entry u es ≡ Ok e → Ends u es e
   unfolding follow_from
   leads_from side entry u [] e h = (let all : u.made ≡ length own = grind (arith, nat_tests) in (u, refl, all, grind arith))
   leads_from side entry u (x ∷ xs) e h = by (next_cursor p packets own peer u x) refl h (λ v k. leads_from side (suc entry) v xs e k)
     where
       by : (r : Result Cursor ℕ) → next_cursor p packets own peer u x ≡ r → then_follow (λ v. follow_from p side packets own peer (suc entry) v xs) entry side r ≡ Ok e
-          → ((v : Cursor) → follow_from p side packets own peer (suc entry) v xs ≡ Ok e → (w : Cursor) × Leads p packets own peer v xs w × (w.made ≡ length own) × (w.state ≡ e))
-          → (w : Cursor) × Leads p packets own peer u (x ∷ xs) w × (w.made ≡ length own) × (w.state ≡ e)
+          → ((v : Cursor) → follow_from p side packets own peer (suc entry) v xs ≡ Ok e → Ends v xs e) → Ends u (x ∷ xs) e
       by (Err f) k g rest = absurd (cc)
       by (Ok v) k g rest = (let r = rest v g in (r.0, (v, leads_on u v x (goes u v x k), r.1), r.2, r.3))
 
@@ -92,16 +94,8 @@ module _ (p : Parameters) (packets : ℕ) (own peer : List FirstCopy) where
   -- and where it goes on, the cursor is next
   pub gone : (u v : Cursor) (x : Entry) → Goes p packets own peer u x v → next_cursor p packets own peer u x ≡ Ok v
   unfolding next_cursor
-  gone u v x (takes slot number position c after low high at g front up t) =
-      let first : (nat_lt slot u.level || nat_lt packets slot) ≡ false = grind (arith, nat_tests, low, high) in
-      let crossed : nat_lt c.place slot ≡ true = grind (arith, nat_tests, front) in
-      let rising : nat_lt position u.taken ≡ false = grind (arith, nat_tests, up) in
-      rw (first, at, g, crossed, rising, t.0) (ap (λ (z : EndState). Ok (record { level = slot; made = u.made; taken = suc position; state = z })) (sym t.1))
-  gone u v x (makes place clock why c after low at g same m) =
-      let first : nat_lt place u.level ≡ false = grind (arith, nat_tests, low) in
-      let next : (u.made == u.made) ≡ true = grind (arith, nat_tests) in
-      rw (first, at, next, g, no_fault p u.state c.pdu.safety clock why m.0)
-      (ap (λ (z : EndState). Ok (record { level = suc place; made = suc u.made; taken = u.taken; state = z })) (sym m.1))
+  gone u v x (takes slot number position c after low high at g front up t) = rw (at, g, t.0, t.1) (grind (arith, nat_tests, low, high, front, up))
+  gone u v x (makes place clock why c after low at g same m) = rw (at, g, no_fault p u.state c.pdu.safety clock why m.0, m.1) (grind (arith, nat_tests, low))
 
 module _ (p : Parameters) (packets : ℕ) (own peer : List FirstCopy) (mine : IsOrdered own) (theirs : IsOrdered peer) (few : length peer < 4294967296) where
   -- where an entry leads, the checker goes
