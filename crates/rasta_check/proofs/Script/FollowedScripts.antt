@@ -66,9 +66,8 @@ module _ (p : Parameters) (packets : ℕ) (own peer : List FirstCopy) where
   leads_on u v x (takes slot number position c after low high at g front up t) =
       let f = number_found peer number position at in
       let named : c.pdu.number ≡ number = (let same : f.0 ≡ c = cc (f.1) in cc (f.2)) in
-      subst (λ n. Advances p packets own peer u (Take slot n) (record { level = slot; made = u.made; taken = suc position; state = after })) named (takes_next slot position c after low high g front up t)
-  leads_on u v x (makes place clock why c after low at g same m) =
-      subst (λ n. Advances p packets own peer u (Make n clock why) (record { level = suc n; made = suc u.made; taken = u.taken; state = after })) same (makes_next c clock why after (omega arith) g m)
+      rw (sym named) (takes_next slot position c after low high g front up t)
+  leads_on u v x (makes place clock why c after low at g same m) = rw (sym same) (makes_next {u = u} c clock why after (omega arith) g m)
 
   -- these entries lead from here to an end, and make the whole list
   abbrev Ends : Cursor → List Entry → EndState → Type 0

@@ -44,9 +44,8 @@ module _ (p : Parameters) (ws : List World) (w : World) (side : Side) (own peer 
       let e = end_of w side in
       let f = end_of w (other_side side) in
       let g = told_of p ws w side own peer r mine theirs few few_theirs in
-      let sends : Sends p side w.crossed own e (station_of w side).first_number = subst (λ (o : List FirstCopy). Sends p side w.crossed o e (station_of w side).first_number) g.1 g.0.sends in
-      let their_sends : Sends p (other_side side) w.crossed peer f (station_of w (other_side side)).first_number =
-      subst (λ (o : List FirstCopy). Sends p (other_side side) w.crossed o f (station_of w (other_side side)).first_number) g.2 g.0.their_sends in
+      let sends = rw g.1 at g.0.sends in
+      let their_sends = rw g.2 at g.0.their_sends in
       let within : IsWithin p w = both_within p w side (within_by p w side own sends few) (within_by p w (other_side side) peer their_sends few_theirs) in
       let all = all_held p ws w side r within in
       let once = numbered_once e.made (few_made p w within side) all.mine.held.list.numbered in
@@ -69,4 +68,4 @@ module _ (p : Parameters) (ws : List World) (w : World) (side : Side) (own peer 
       let h = history p mine.valid ws w side r known.within in
       let same : h.0.own ≡ own = sym (sent_once p w.crossed side own h.0.own mine h.0.sends.sent (omega arith)) in
       let their_same : h.0.peer ≡ peer = sym (sent_once p w.crossed (other_side side) peer h.0.peer theirs h.0.their_sends.sent (omega arith)) in
-      subst (λ (o : List FirstCopy). After p v w side o peer) same (subst (λ (o : List FirstCopy). After p v w side h.0.own o) their_same (h.1 i v g))
+      rw (same, their_same) at (h.1 i v g)
