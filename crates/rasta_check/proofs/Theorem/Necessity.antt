@@ -58,6 +58,3 @@ module _ (p : Parameters) (ws : List World) (w : World) (side : Side) (own peer 
       let all = all_held p b.us v side b.reached b.few in
       let h : HandsUpFirst y e = still_first y x e (b.grown side).made (of_units y x (hands_up_units y x all.mine.values all.theirs.handed)) in
       unit_handed p side y e own peer kn.sends.same h j t (omega (arith, z, more, low)) gt
-
-  pub in_time : (i : ℕ) (u : TakenUnit) (v next : World) → slice_get (surely_taken p side own peer) i ≡ Some u → Appends ws w u.proof_place v next → HasHandedUp (end_of v (other_side side)) i u.messages
-  in_time i u v next g a = in_time_through i i u u v next (omega arith) g g a

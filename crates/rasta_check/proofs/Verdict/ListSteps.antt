@@ -66,10 +66,7 @@ module _ (old new : List Taken) (added more : List TakenMessage) where
 
   pub added_more : map listed_of new ≡ map listed_of old ++ numbered_from (length old) added
       → map listed_of new ++ numbered_from (length new) more ≡ map listed_of old ++ numbered_from (length old) (added ++ more)
-  added_more e =
-      (let n = counted e in
-      ((λ i. e i ++ numbered_from (n i) more) ∙ append_assoc (map listed_of old) (numbered_from (length old) added) (numbered_from (length old + length added) more))
-      ∙ ap (λ (xs : List ListedMessage). map listed_of old ++ xs) (sym (numbered-append (length old) added more)))
+  added_more e = (let n = counted e in rw (e, n) (simp (numbered-append, append_assoc)))
 
 -- ---- first copies that are left
 
