@@ -54,17 +54,14 @@ module _ (p : Parameters) (packets : List Packet) (n k : ℕ) (s r : Side) (own 
       let left = take_leaves p a.state x.0.pdu in
       let same_made : e'.made ≡ a.state.made = ap (λ (e : EndState). e.made) t.1 ∙ left.made in
       let q : ℕ = base p + position in
-      let arrived : Station = record a { arrived = q ∷ a.arrived } in
       let low : b.state.base ≤ q = (let z = g.based in omega arith) in
-      let within : q < length b.state.made = omega (arith, g.count, w) in
       let passed_mark : a.taken ≤ q = omega (arith, f.mark, above) in
-      let inside = slice_get_within peer position c there in
-      let head = slice_get_some peer 0 (omega (arith, inside)) in
+      let head = slice_get_some peer 0 (omega (arith, slice_get_within peer position c there)) in
       let numbered : wrapped (b.first_number + q) ≡ c.pdu.number =
       next_number b.first_number (base p) position q head.0.pdu.number refl (g.number head.0 head.1) ∙ sym (sent.numbers position head.0 c head.1 there) in (
-        record arrived { state = e'; taken = suc q },
+        record a { arrived = q ∷ a.arrived; state = e'; taken = suc q },
         recast (λ i. brought_line (long i) s (numbered i) ∷ take_line (long i) s (numbered i) ∷ []) refl
-            (moves (arriving q) (arrives q low within) (moves (taking q) (takes q x.0 e' (0, omega arith, refl) passed_mark x.1 t) stays)),
+            (moves (arriving q) (arrives q low (omega (arith, g.count, w))) (moves (taking q) (takes q x.0 e' (0, omega arith, refl) passed_mark x.1 t) stays)),
         record {
           level = slot;
           made = f.made;

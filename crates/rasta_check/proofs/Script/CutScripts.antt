@@ -93,8 +93,7 @@ module _ (p : Parameters) (s : Side) (e f : EndState) (t u : ℕ) (own : List Fi
       let at : position_with M x.cs ≡ Some i = rw (sym told_f) (named_position f.made i x.cs once (record { m = l.m; there = l.there; same = l.same ∙ sym cs })) in
       let v : units_shown M (pdus_of own) x ≡ units_at (values f) (Some i) = rw (k, at, along) refl in
       let big = fold_member (units_shown M (pdus_of own)) 0 (pdus_of own) m.i x (map_at (λ (c : FirstCopy). c.pdu.safety) own m.i m.c m.there) in
-      let c = hd.count ∙ ap (worth (values f)) a in
-      omega (arith, big, v, c)
+      omega (arith, big, v, hd.count ∙ ap (worth (values f)) a)
 
   pub no_more : (e ≡ start_of p s) ⊎ JustMade p own e → length e.handed ≤ units_taken M (pdus_of own)
   no_more (inl q) = (let z = ap (λ (x : EndState). length x.handed) q in let y = (start_is p.quiet s).3 in omega arith)

@@ -161,9 +161,8 @@ module _ (p : Parameters) (packets : ℕ) (own peer : List FirstCopy) where
       by None e = (let n = no_copy peer number e in grind arith)
       by (Some i) e =
           let f = number_found peer number i e in
-          let c = copy_of_position peer number i e ∙ f.1 in
           let z = by_rules (take_fault p w.state w.state.clock) (taken_there w slot i (after_take p w.state f.0.pdu.safety)) in
-          rw (e, f.1, c) (grind arith)
+          rw (e, f.1, copy_of_position peer number i e ∙ f.1) (grind arith)
   judged w left (Make place clock why) r = by left r (position_of_place own place) refl
     where
       by : (cs : List FirstCopy) → Rests w cs → (o : Option ℕ) → position_of_place own place ≡ o → fault_of (make_entry p own w place clock why) ≡ entry_fault w cs (Make place clock why)
@@ -258,9 +257,8 @@ module _ (p : Parameters) (packets : ℕ) (own peer : List FirstCopy) where
   pub fits_is : (side : Side) (es : List Entry) (e : EndState) → Fits p side packets own peer es e → follow p side packets own peer es ≡ Ok e
   unfolding follow_from
   fits_is side es e f =
-      let z = from_start side es [] own [] e (sym (append-nil own)) f in
       let all : (length own == length own) ≡ true = grind (arith, nat_tests) in
-      (rw append-nil at z) ∙ rw all refl
+      (rw append-nil at (from_start side es [] own [] e (sym (append-nil own)) f)) ∙ rw all refl
 
   by_code : (side : Side) (es : List Entry) (r : Result EndState Fault) → follow p side packets own peer es ≡ r → Answered side 1 (at_start (start_of p side)) es own r
   by_code side es r h = subst (Answered side 1 (at_start (start_of p side)) es own) h (answered side 1 (at_start (start_of p side)) es own (λ j. let z : 0 + j ≡ j = omega arith in ap (slice_get own) z) (omega arith))

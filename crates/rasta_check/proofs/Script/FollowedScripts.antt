@@ -125,8 +125,7 @@ module _ (p : Parameters) (packets : ℕ) (own peer : List FirstCopy) (side : Si
       → next_cursor f.params packets own peer f.cursor (get_or es i d) ≡ Ok f'.cursor → f' ≡ moved_to f f'.cursor
       → follow_from p side packets own peer f'.entry f'.cursor (drop (i + 1) es) ≡ follow_from p side packets own peer f.entry f.cursor (drop i es)
   loop_on f f' es i d l same_p same_s n m =
-      let number : f'.entry ≡ suc f.entry = ap (λ (g : Followed). g.entry) m in
-      rw (number, add-one) (sym (step_by f.entry f.cursor es i (get_or es i d) (Ok f'.cursor) (slice_get-get_or es i d l) (rw same_p at n)))
+      rw (ap (λ (g : Followed). g.entry) m, add-one) (sym (step_by f.entry f.cursor es i (get_or es i d) (Ok f'.cursor) (slice_get-get_or es i d l) (rw same_p at n)))
 
   -- an entry that is refused is the answer of the whole script
   pub loop_off : (f : Followed) (es : List Entry) (i : ℕ) (d : Entry) (fault : Fault) → i < length es → f.params ≡ p → f.side ≡ side

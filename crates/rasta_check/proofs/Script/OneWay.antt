@@ -48,14 +48,12 @@ module _ (p : Parameters) (n : ℕ) (packets : List Packet) (r : Side) (own peer
 
   -- what leads to v, and the rest of a longer script
   leads_rest : (u v w : Cursor) (es rest : List Entry) → Leads p n own peer u es v → Leads p n own peer u (es ++ rest) w → Leads p n own peer v rest w
-  leads_rest u v w [] rest f g = subst (λ (z : Cursor). Leads p n own peer z rest w) f g
-  leads_rest u v w (x ∷ es) rest f g =
-      let same : g.0 ≡ f.0 = once u g.0 f.0 x x refl g.1 f.1 in
-      leads_rest f.0 v w es rest f.2 (subst (λ (z : Cursor). Leads p n own peer z (es ++ rest) w) same g.2)
+  leads_rest u v w [] rest f g = rw f at g
+  leads_rest u v w (x ∷ es) rest f g = leads_rest f.0 v w es rest f.2 (rw (once u g.0 f.0 x x refl g.1 f.1) at g.2)
 
   pub stuck : (u v w : Cursor) (es rest : List Entry) (x : Entry) → Leads p n own peer u es v → ((z : Cursor) → Advances p n own peer v x z → ⊥) → Leads p n own peer u (es ++ x ∷ rest) w → ⊥
   stuck u v w es rest x f h g = (let r = leads_rest u v w es (x ∷ rest) f g in h r.0 r.1)
 
   -- a script leads to one cursor
   pub leads_once : (u v w : Cursor) (es : List Entry) → Leads p n own peer u es v → Leads p n own peer u es w → v ≡ w
-  leads_once u v w es f g = leads_rest u v w es [] f (subst (λ (xs : List Entry). Leads p n own peer u xs w) (sym (append-nil es)) g)
+  leads_once u v w es f g = leads_rest u v w es [] f (rw append-nil g)

@@ -26,10 +26,7 @@ use Rattle.rasta_pdu.specs.declared.kind.Kind.TheVariants.{Data}
 -- ---- units of resends
 
 length_contents : (made : List Made) → length (contents made) ≤ length made
-length_contents made =
-    let of_data : Made → Bool = λ (n : Made). is_kind Data n.pdu.kind in
-    let c = count_by-le-length of_data made in
-    simp (length-map, length-filter) c
+length_contents made = simp (length-map, length-filter) (count_by-le-length (λ (n : Made). is_kind Data n.pdu.kind) made)
 
 unit_there : (made : List Made) (unit : ℕ) (content : List ℕ) (o : Option (List ℕ)) → slice_get (contents made) unit ≡ o → not (option_map_or (λ (own : List ℕ). bytes_eq own content) o false) ≡ false → unit < length made
 unit_there made unit content None e d = absurd (cc)

@@ -40,9 +40,7 @@ module _ (p : Parameters) (ws : List World) (w : World) (side : Side) (own peer 
       let below = listed_below p side f e own peer kn.sends.same (of_units f e hands_up) i u g in
       let shown = proof_of (all_made p side own) peer i below.0 in
       let q = theirs.firsts shown.j shown.d shown.there in
-      let z = slice_get_within w.crossed shown.d.place q.0 q.1 in
-      let same = below.1 ∙ shown.place in
-      appended p ws w r u.proof_place (omega (arith, z, same))
+      appended p ws w r u.proof_place (omega (arith, slice_get_within w.crossed shown.d.place q.0 q.1, below.1 ∙ shown.place))
 
   -- with a unit those before it were handed up
   pub in_time_through : (i j : ℕ) (u t : TakenUnit) (v next : World) → j ≤ i → slice_get (surely_taken p side own peer) i ≡ Some u → slice_get (surely_taken p side own peer) j ≡ Some t
@@ -53,8 +51,7 @@ module _ (p : Parameters) (ws : List World) (w : World) (side : Side) (own peer 
       let below = listed_below p side f e own peer kn.sends.same (of_units f e hands_up) i u g in
       let shown = proof_of (all_made p side own) peer i below.0 in
       let z = timed p ws w side own peer r mine theirs few few_theirs shown.j shown.d v next (subst (λ k. Appends ws w k v next) (below.1 ∙ shown.place) a) shown.there in
-      let more = shown.more in
       let b = before p ws w side own peer r mine theirs few few_theirs a.i v a.here in
       let all = all_held p b.us v side b.reached b.few in
       let h : HandsUpFirst y e = still_first y x e (b.grown side).made (of_units y x (hands_up_units y x all.mine.values all.theirs.handed)) in
-      unit_handed p side y e own peer kn.sends.same h j t (omega (arith, z, more, low)) gt
+      unit_handed p side y e own peer kn.sends.same h j t (omega (arith, z, shown.more, low)) gt

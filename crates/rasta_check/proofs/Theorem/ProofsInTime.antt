@@ -34,8 +34,7 @@ module _ (e0 f0 e f : EndState) (t : ℕ) (w0 : Shown e0 f0) (w : Shown e f) (g 
     (q : ℕ) (m : Made) (there : slice_get e0.made q ≡ Some m) where
   unheard : is_kind ConnectionRequest m.pdu.kind ≡ false → e0.accepted ≡ 0 → (b : Bool) → is_closed e0.phase ≡ b → f.offered ≡ 0
   unheard k a true c =
-      let s : e ≡ e0 = ge.over (made_over e0.side e0.phase e0.made q m there c) in
-      let n : e.accepted ≡ 0 = ap (λ (z : EndState). z.accepted) s ∙ a in
+      let n : e.accepted ≡ 0 = ap (λ (z : EndState). z.accepted) (ge.over (made_over e0.side e0.phase e0.made q m there c)) ∙ a in
       let none : 0 < f.offered → ⊥ = λ l. (let z = w.ready_offer l in omega arith) in
       omega (arith, none)
   unheard k a false c = absurd (let z = w0.first_words a c q m there in cc)
@@ -51,8 +50,7 @@ module _ (e0 f0 e f : EndState) (t : ℕ) (w0 : Shown e0 f0) (w : Shown e f) (g 
       let at : slice_get (values f0) z.0 ≡ Some (slice_index_or (values f0) z.0 0) = slice_get-get_or (values f0) z.0 0 (omega arith) in
       let now = gf.kept z.0 _ at in
       let eq : slice_index_or (values f0) z.0 0 ≡ v = (let h' : slice_get (values f) z.0 ≡ Some v = subst (λ j. slice_get (values f) j ≡ Some v) same h in cc) in
-      let low = w0.shown q m there k z.0 (slice_index_or (values f0) z.0 0) old at in
-      omega (arith, low, eq))
+      omega (arith, w0.shown q m there k z.0 (slice_index_or (values f0) z.0 0) old at, eq))
       (w0.judged q m there k)
 
 -- what a PDU of the peer shows had been handed up in the world to which its packet is appended

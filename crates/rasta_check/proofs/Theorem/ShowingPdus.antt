@@ -29,8 +29,7 @@ module _ (f : EndState) (own peer : List SafetyPdu) (told : pdus_made f.made ≡
       let len = length-values f.asks f.made in
       let v = slice_index_or (values f) c 0 in
       let b = most k c v s (slice_get-get_or (values f) c 0 (omega (arith, l, len))) in
-      let same : units_at (units_along own peer) (Some c) ≡ v = ap (λ (vs : List ℕ). slice_index_or vs c 0) along in
-      omega (arith, b, same)
+      omega (arith, b, ap (λ (vs : List ℕ). slice_index_or vs c 0) along)
 
   -- a PDU shows at most n units where each position that it confirms conveys at most n
   pub shows_most : units_shown own peer x ≤ n

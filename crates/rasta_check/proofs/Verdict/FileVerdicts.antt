@@ -57,16 +57,14 @@ module _ (p : Parameters) (file : List ℕ) (k : Crossing) (x : CrossedIn p file
   same_list : (side : Side) (records : List (List ℕ)) (sent own : List FirstCopy) → IsCapture p.last_record file records → Sent p (crossing_list p records) side sent
       → Sent k.params k.packets side own → length own ≤ 1000000 → own ≡ sent
   same_list side records sent own c g o few =
-      let mine = rw x.params at o in
       let theirs : Sent p k.packets side sent = rw (packets_of records c) g in
-      sent_once p k.packets side own sent (to_record p k.packets side own valid mine) (to_record p k.packets side sent valid theirs) (omega arith)
+      sent_once p k.packets side own sent (to_record p k.packets side own valid (rw x.params at o)) (to_record p k.packets side sent valid theirs) (omega arith)
 
   pub not_explained : (scripts : Scripts) → (BothFit p (length k.packets) k.client k.server scripts → ⊥) → Explains p file scripts → ⊥
   not_explained scripts unfit e =
       let c = same_list Client e.capture.records e.client k.client e.capture.capture e.capture.faultless.sent.client_sent h.sent.client_sent h.sent.few_client in
       let s = same_list Server e.capture.records e.server k.server e.capture.capture e.capture.faultless.sent.server_sent h.sent.server_sent h.sent.few_server in
-      let n = ap length (packets_of e.capture.records e.capture.capture) in
-      unfit (rw (sym n, sym c, sym s) at e.fits)
+      unfit (rw (sym (ap length (packets_of e.capture.records e.capture.capture)), sym c, sym s) at e.fits)
 
   pub headline_is : (report : Explained) (records : List (List ℕ)) → IsCapture p.last_record file records → Headline p k.packets report → Headline p (crossing_list p records) report
   headline_is report records c g = rw (packets_of records c) at g

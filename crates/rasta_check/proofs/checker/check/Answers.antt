@@ -25,28 +25,24 @@ returns-clause-verdict c =
 
 pub returns-clause-explains : goal.returns-clause-explains
 returns-clause-explains c =
-    let k = c.in_ok-sent.sent in
     let h = subst IsCrossing c.sent-2.view_is c.sent-2.invariant in
     still_ok c.check_sent.result _ _ c.check_sent.ensures.fits
-    (λ fits. explains c.args.p.now c.args.file.now k c.in_ok-sent.ensures.value h c.args.certificate.now fits)
+    (λ fits. explains c.args.p.now c.args.file.now c.in_ok-sent.sent c.in_ok-sent.ensures.value h c.args.certificate.now fits)
 
 pub returns-clause-exact : goal.returns-clause-exact
 returns-clause-exact c =
-    let k = c.in_ok-sent.sent in
     let h = subst IsCrossing c.sent-2.view_is c.sent-2.invariant in
     if_ok c.check_sent.result _ _ c.check_sent.ensures.exact
-    (λ r x. exactly c.args.p.now c.args.file.now k c.in_ok-sent.ensures.value h c.args.certificate.now (explained r) x.0 x.1)
+    (λ r x. exactly c.args.p.now c.args.file.now c.in_ok-sent.sent c.in_ok-sent.ensures.value h c.args.certificate.now (explained r) x.0 x.1)
 
 pub returns-clause-refused : goal.returns-clause-refused
 returns-clause-refused c =
-    let k = c.in_ok-sent.sent in
     let h = subst IsCrossing c.sent-2.view_is c.sent-2.invariant in
     if_err c.check_sent.result _ _ c.check_sent.ensures.refused
-    (λ f why. ⊎_elim (λ none. inl (not_explained c.args.p.now c.args.file.now k c.in_ok-sent.ensures.value h c.args.certificate.now none)) (λ e. inr e) why)
+    (λ f why. ⊎_elim (λ none. inl (not_explained c.args.p.now c.args.file.now c.in_ok-sent.sent c.in_ok-sent.ensures.value h c.args.certificate.now none)) (λ e. inr e) why)
 
 pub returns-clause-headline : goal.returns-clause-headline
 returns-clause-headline c =
-    let k = c.in_ok-sent.sent in
     let h = subst IsCrossing c.sent-2.view_is c.sent-2.invariant in
     if_ok c.check_sent.result _ _ c.check_sent.ensures.headline
-    (λ r g records is. headline_is c.args.p.now c.args.file.now k c.in_ok-sent.ensures.value h (explained r) records is g)
+    (λ r g records is. headline_is c.args.p.now c.args.file.now c.in_ok-sent.sent c.in_ok-sent.ensures.value h (explained r) records is g)
