@@ -25,12 +25,10 @@ apart : (x : Side) → x ≡ other_side x → ⊥
 apart x e = grind arith
 
 unmoved : (w : World) (x : Side) → w ≡ moved w x (station_of w x) w.crossed
-unmoved w Client = refl
-unmoved w Server = refl
+unmoved w x = grind arith
 
 crossed_then : (w : World) (x : Side) (a : Station) (ys : List Packet) → (moved w x a ys).crossed ≡ ys
-crossed_then w Client a ys = refl
-crossed_then w Server a ys = refl
+crossed_then w x a ys = grind arith
 
 -- what holds of the station that moved and of that which stood still holds of both
 both : (P : Side → Station → Type 0) (w : World) (x : Side) (a : Station) (ys : List Packet) → P x a → P (other_side x) (station_of w (other_side x)) → (y : Side) → P y (station_of (moved w x a ys) y)

@@ -62,12 +62,9 @@ module _ (p : Parameters) (packets : ℕ) (own peer : List FirstCopy) where
 
   behind_on : (u v : Cursor) (c : FirstCopy) → v.made ≡ suc u.made → v.level ≡ suc c.place → u.level ≤ c.place → slice_get own u.made ≡ Some c → Behind u → Behind v
   behind_on u v c m l low g h j d b k =
-      elim (dec_lt j u.made) [
-        | yes q ↦ (let r = h j d q k in omega (arith, r, l, low))
-        | no q ↦ (let at : j ≡ u.made = omega (arith, q, b, m) in
-            let same : d ≡ c = (let z = ap (slice_get own) at in cc) in
-            let y = ap (λ (x : FirstCopy). x.place) same in omega (arith, y, l))
-      ]
+      let same : j ≡ u.made → d ≡ c = λ e. (let z = ap (slice_get own) e in cc) in
+      let r : j < u.made → d.place < u.level = λ q. h j d q k in
+      grind (arith, m, b)
 
   -- entries that fit are followed, whatever comes behind them
   runs : (side : Side) (entry : ℕ) (u : Cursor) (xs rest : List Entry) (made left : List FirstCopy) (taken : List ℕ) (e : EndState)
@@ -181,8 +178,7 @@ module _ (p : Parameters) (packets : ℕ) (own peer : List FirstCopy) where
   refuses w left x n r h = by (next_cursor p packets own peer w x) (judged w left x r ∙ h)
     where
       by : (o : Result Cursor ℕ) → fault_of o ≡ Some n → o ≡ Err n
-      by (Ok v) s = absurd (cc)
-      by (Err m) s = cc
+      by o s = grind arith
 
   -- ---- what the code answers is the first fault
 
@@ -220,13 +216,14 @@ module _ (p : Parameters) (packets : ℕ) (own peer : List FirstCopy) where
   answered : (side : Side) (entry : ℕ) (u : Cursor) (xs : List Entry) (left : List FirstCopy) → Rests u left → u.made ≤ length own
       → Answered side entry u xs left (follow_from p side packets own peer entry u xs)
   unfolding follow_from
-  answered side entry u [] left r l = by left r (u.made == length own) refl
-    where
-      by : (left : List FirstCopy) → Rests u left → (b : Bool) → (u.made == length own) ≡ b → Answered side entry u [] left (if b then Ok u.state else Err (fault_of_end make_missing entry side))
-      by [] r true e = ([], here u)
-      by [] r false e = absurd (let f = slice_get_some own u.made (grind (arith, nat_tests, e, l)) in none_there u f.0 r f.1)
-      by (c ∷ left) r true e = absurd (let m = slice_get_within own u.made c (head_rests u c left r) in grind (arith, nat_tests, e, m))
-      by (c ∷ left) r false e = none_left [] left c [] u.state (here u) refl
+  answered side entry u [] [] r l =
+      let none : u.made < length own → ⊥ = λ q. (let f = slice_get_some own u.made q in none_there u f.0 r f.1) in
+      let all : (u.made == length own) ≡ true = grind (arith, nat_tests) in
+      rw all ([], here u)
+  answered side entry u [] (c ∷ left) r l =
+      let m = slice_get_within own u.made c (head_rests u c left r) in
+      let more : (u.made == length own) ≡ false = grind (arith, nat_tests) in
+      rw more (none_left [] left c [] u.state (here u) refl)
   answered side entry u (x ∷ xs) left r l = by (next_cursor p packets own peer u x) refl (λ v cs q m. answered side (suc entry) v xs cs q m)
     where
       by : (o : Result Cursor ℕ) → next_cursor p packets own peer u x ≡ o

@@ -19,8 +19,7 @@ use Rattle.rasta_check.proofs.Capture.Positions.{number_found, number_named, pla
 -- ---- one entry that is allowed leads on
 
 allowed : (fault : Option ℕ) (w v : Cursor) → unless fault w ≡ Ok v → (fault ≡ None) × (w ≡ v)
-allowed None w v e = (refl, cc)
-allowed (Some f) w v e = absurd (cc)
+allowed fault w v e = grind arith
 
 module _ (p : Parameters) (packets : ℕ) (own peer : List FirstCopy) where
   -- the code goes on with an entry: from here to there
