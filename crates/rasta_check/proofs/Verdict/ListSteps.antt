@@ -51,9 +51,7 @@ proved_copy places unit place c copies k g = (let n : suc unit ≡ unit + 1 = om
 
 pub numbered-append : (n : ℕ) (xs ys : List TakenMessage) → numbered_from n (xs ++ ys) ≡ numbered_from n xs ++ numbered_from (n + length xs) ys
 numbered-append n [] ys = ap (λ k. numbered_from k ys) (omega arith)
-numbered-append n (x ∷ xs) ys =
-    ap (λ ms. record { number = n; data_place = x.data_place; proof_place = x.proof_place; message = x.message } ∷ ms)
-    (numbered-append (suc n) xs ys ∙ ap (λ k. numbered_from (suc n) xs ++ numbered_from k ys) (omega arith))
+numbered-append n (x ∷ xs) ys = (let more = numbered-append (suc n) xs ys in let e : suc n + length xs ≡ n + suc (length xs) = omega arith in grind arith)
 
 length-numbered : (n : ℕ) (xs : List TakenMessage) → length (numbered_from n xs) ≡ length xs
 length-numbered n [] = refl
