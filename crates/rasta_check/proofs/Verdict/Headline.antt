@@ -73,7 +73,7 @@ module _ (p : Parameters) (packets : List Packet) (c s : List FirstCopy) (h : Is
     list_is =
         let e = end_of w side in
         let proofs = are_proofs e (all_made p side own) peer shown in
-        let count : length (proofs_from e [] peer) - 0 ≡ units_taken (all_made p side own) (pdus_of peer) = (let z = proofs.count in omega (arith, z)) in
+        let count : length (proofs_from e [] peer) - 0 ≡ units_taken (all_made p side own) (pdus_of peer) = omega (arith, proofs.count) in
         ap (λ us. numbered_from 0 (messages_taken us))
         (units_are (all_made p side own) peer (proofs_from e [] peer) proofs 0 own ∙ ap (λ n. units_from (all_made p side own) peer 0 (take n (data_copies own))) count)
 
@@ -87,12 +87,9 @@ module _ (p : Parameters) (packets : List Packet) (c s : List FirstCopy) (h : Is
         let offered = offered_first f e up in
         let first = first p ws w side own peer r (run_sent side) (run_sent (other_side side)) (few_of k h side) (few_of k h (other_side side)) in
         record {
-          labels = subst (λ (x : Side). HandsUp f (end_of w x)) (sym (twice side)) up.labels;
-          units = (offered.0, subst (λ (x : Side). units_offered (end_of w x) ≡ units_handed f ++ offered.0) (sym (twice side)) offered.1);
-          first = (
-            joined first.0,
-            up_joined f.handed_pdus ∙ (ap joined first.1 ∙ (joined-append (units_listed us) first.0 ∙ ap (λ ms. ms ++ joined first.0) (sym (listed_joined us) ∙ ap messages_in_list (sym is)))),
-          );
+          labels = rw (twice side) up.labels;
+          units = (offered.0, rw (twice side) offered.1);
+          first = (joined first.0, rw (up_joined, first.1, is, listed_joined) (joined-append (units_listed us) first.0));
           appended = λ i m g.
               (let o = of_listed us i m (rw is at g) in
               rw o.place (proof_appended p ws w side own peer r (run_sent side) (run_sent (other_side side)) (few_of k h side) (few_of k h (other_side side)) o.i o.u o.there));
@@ -109,10 +106,8 @@ module _ (p : Parameters) (packets : List Packet) (c s : List FirstCopy) (h : Is
       → (listed_by b s c ≡ listed p Server s c) × (listed_by a c s ≡ listed p Client c s)
   lists_are cs ss a b e f =
       let r = simulated p packets c s cs ss a b h.recorded (list_of k h Client) (list_of k h Server)
-      (follow_fits p (length packets) c s Client cs a e) (follow_fits p (length packets) s c Server ss b f) in (
-        ap (λ (x : EndState). listed_by x s c) (sym r.5) ∙ list_is r.0 r.1 r.2 r.3 Server,
-        ap (λ (x : EndState). listed_by x c s) (sym r.4) ∙ list_is r.0 r.1 r.2 r.3 Client,
-      )
+      (follow_fits p (length packets) c s Client cs a e) (follow_fits p (length packets) s c Server ss b f) in
+      (rw (sym r.5) (list_is r.0 r.1 r.2 r.3 Server), rw (sym r.4) (list_is r.0 r.1 r.2 r.3 Client))
 
   -- the report that is worked out from both ends is the verdict
   pub verdict_of_ends : (scripts : Scripts) (n : ℕ) (cs ss : List Entry) (a b : EndState) (report : Explained) → length packets ≡ n → cs ≡ scripts.client → ss ≡ scripts.server
@@ -128,33 +123,23 @@ module _ (p : Parameters) (packets : List Packet) (c s : List FirstCopy) (h : Is
     fits : BothFit p (length packets) c s scripts × (report ≡ report_of p (length packets) c s)
     fits = verdict_fits p (length packets) c s scripts report e
 
-    fits_c : Follows p Client (length packets) c s scripts.client fits.0.0.0
-    fits_c = fits_follows p (length packets) c s Client scripts.client fits.0.0.0 fits.0.0.1
-
-    fits_s : Follows p Server (length packets) s c scripts.server fits.0.1.0
-    fits_s = fits_follows p (length packets) s c Server scripts.server fits.0.1.0 fits.0.1.1
-
     to_server : report.server_taken ≡ listed p Client c s
     to_server = ap (λ (x : Explained). x.server_taken) fits.1
 
     to_client : report.client_taken ≡ listed p Server s c
     to_client = ap (λ (x : Explained). x.client_taken) fits.1
 
-    pub headline : Headline p packets report
-    headline =
-        let r = simulated p packets c s scripts.client scripts.server fits.0.0.0 fits.0.1.0 h.recorded (list_of k h Client) (list_of k h Server) fits_c fits_s in
-        record { some_run = (r.0, r.1, r.2, r.3); every_run = λ ws w r same. (peer_up ws w r same Client report.server_taken to_server, peer_up ws w r same Server report.client_taken to_client) }
-
     pub is_sharp : IsSharp p packets report
     is_sharp =
-        let r = sharp p packets c s scripts.client scripts.server fits.0.0.0 fits.0.1.0 h.recorded (list_of k h Client) (list_of k h Server) h.sent.few_client h.sent.few_server fits_c fits_s in (
-          r.0,
-          r.1,
-          r.2,
-          r.3,
-          up_joined r.1.server.state.handed_pdus ∙ (ap joined r.4 ∙ (sym (listed_joined (surely_taken p Client c s)) ∙ ap messages_in_list (sym to_server))),
-          up_joined r.1.client.state.handed_pdus ∙ (ap joined r.5 ∙ (sym (listed_joined (surely_taken p Server s c)) ∙ ap messages_in_list (sym to_client))),
-        )
+        let r = sharp p packets c s scripts.client scripts.server fits.0.0.0 fits.0.1.0 h.recorded (list_of k h Client) (list_of k h Server) h.sent.few_client h.sent.few_server
+        (fits_follows p (length packets) c s Client scripts.client fits.0.0.0 fits.0.0.1) (fits_follows p (length packets) s c Server scripts.server fits.0.1.0 fits.0.1.1) in
+        (r.0, r.1, r.2, r.3, rw (up_joined, r.4, to_server, listed_joined) refl, rw (up_joined, r.5, to_client, listed_joined) refl)
+
+    pub headline : Headline p packets report
+    headline = (let r = is_sharp in record {
+      some_run = (r.0, r.1, r.2, r.3);
+      every_run = λ ws w r same. (peer_up ws w r same Client report.server_taken to_server, peer_up ws w r same Server report.client_taken to_client);
+    })
 
 -- what is lent of a crossing is a crossing
 pub lent : (k : Crossing) (p : Parameters) (c s : List FirstCopy) → k.params ≡ p → c ≡ k.client → s ≡ k.server → IsCrossing k
