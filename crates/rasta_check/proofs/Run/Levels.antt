@@ -113,7 +113,7 @@ module _ (p : Parameters) (packets : List Packet) where
         let other = follows (other_side x) in
         let m = next_is p packets k x (lists x) (lists (other_side x)) (sent x) recorded own.0 own.2 (station_of d.world (other_side x)) here at h.rest (station_of d.world x) refl h.ready h.tracks in
         let still = passed_by p packets k (other_side x) (lists (other_side x)) (lists (other_side (other_side x))) (sent (other_side x)) other.0 g.rest (station_of d.world (other_side x)) here at (apart x) g.tracks in
-        let many = subst (λ (xs : List Packet). Many p (station_of d.world (other_side x)) x xs (station_of d.world x) (side_lines k x (number_of here) (lists x) h.rest) m.0 (take (suc k) packets)) (sym d.crossed) m.1 in
+        let many = rw (sym d.crossed) at m.1 in
         let made = goes_on {k = suc k} (Before (suc k)) d x many refl (left_on h.says (omega arith) (omega arith) m.2)
         (record {
           rest = g.rest;

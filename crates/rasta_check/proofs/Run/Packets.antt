@@ -53,7 +53,7 @@ module _ (p : Parameters) (packets : List Packet) (k : ℕ) (s : Side) (own peer
       let newest : (i : ℕ) (d : FirstCopy) → slice_get own i ≡ Some d → i < suc f.made → (i < f.made → ⊥) → d ≡ c =
       λ i d h v no. (let last : i ≡ f.made = omega (arith, v, no) in let z = ap (slice_get own) last in cc) in
       let after : Above (suc k) es = lead_above p (length packets) (suc k) own peer _ last es rest (omega (arith, pl)) in
-      let there : slice_get packets k ≡ Some first.0 = subst (λ (j : ℕ). slice_get packets j ≡ Some first.0) pl first.1 in
+      let there : slice_get packets k ≡ Some first.0 = ap (slice_get packets) (sym pl) ∙ first.1 in
       let same_packet : first.0 ≡ here = cc in
       let shown : wrapped (a.first_number + length a.state.made) ≡ number_of here =
       sym numbered ∙ (sym (number_spelled p s c.pdu first.0.payload first.3) ∙ ap (λ (x : Packet). number_of x) same_packet) in

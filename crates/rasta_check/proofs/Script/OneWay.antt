@@ -19,7 +19,7 @@ first_is_new p xs s own h l i c g w =
     let r = h.copies w.earlier.place w.carried.packet w.carried.there w.carried.of_side in
     let same : r.1.pdu ≡ w.earlier.pdu = read_once p h.valid s r.1.pdu w.earlier.pdu w.carried.packet.payload r.4 w.carried.spelled in
     let q : i ≡ r.0 = number_once own (ordered h) l i r.0 c r.1 g r.2 (sym (ap (λ (d : RedundancyPdu). d.number) same ∙ w.same_number)) in
-    let e : c ≡ r.1 = (let z : slice_get own i ≡ Some r.1 = subst (λ j. slice_get own j ≡ Some r.1) (sym q) r.2 in cc) in
+    let e : c ≡ r.1 = (let z = rw (sym q) at r.2 in cc) in
     let at = ap (λ (x : FirstCopy). x.place) e in
     let before = w.before in
     let behind = r.3 in

@@ -31,7 +31,7 @@ leads_wider p n n' own own' peer peer' u v (x ∷ es) l k h (m, makes_next c clo
     (_, makes_next c clock why e a (k _ c g) mk, leads_wider p n n' own own' peer peer' _ v es l k h r)
 
 pub leads_more : (p : Parameters) (n : ℕ) (own peer : List FirstCopy) (u v w : Cursor) (es : List Entry) (x : Entry) → Leads p n own peer u es v → Advances p n own peer v x w → Leads p n own peer u (es ++ x ∷ []) w
-leads_more p n own peer u v w [] x f a = (w, subst (λ (z : Cursor). Advances p n own peer z x w) (sym f) a, refl)
+leads_more p n own peer u v w [] x f a = (w, rw f a, refl)
 leads_more p n own peer u v w (y ∷ es) x f a = (f.0, f.1, leads_more p n own peer f.0 v w es x f.2 a)
 
 -- each make's clock is at most n
@@ -137,7 +137,7 @@ module _ (p : Parameters) (s : Side) (xs : List Packet) (own peer : List FirstCo
 
   made_sends : Sends p s (xs ++ packet ∷ []) (own ++ copy ∷ []) e' first
   made_sends =
-      let r = sent_first p xs packet s own datagram (first + base p) h.sent h.numbers h.side (subst (λ (z : Side). Spells p z datagram bytes) h.side sp) (ap (λ n. wrapped n) (let z = sends_count p s xs own e first h in omega arith)) in
+      let r = sent_first p xs packet s own datagram (first + base p) h.sent h.numbers h.side (rw h.side at sp) (ap (λ n. wrapped n) (let z = sends_count p s xs own e first h in omega arith)) in
       let made = made_more p e x clock why e' mk in
       record {
         sent = r.0;

@@ -74,7 +74,7 @@ module _ (p : Parameters) (packets : List Packet) (k : ℕ) (s : Side) (own peer
   passed_by es a here at no_side f =
       untouched p (length packets) k s own peer es last a f (λ i c g e.
       let first = sent.firsts i c g in
-      let same : first.0 ≡ here = (let there : slice_get packets k ≡ Some first.0 = subst (λ (j : ℕ). slice_get packets j ≡ Some first.0) e first.1 in cc) in
+      let same : first.0 ≡ here = (let there : slice_get packets k ≡ Some first.0 = ap (slice_get packets) (sym e) ∙ first.1 in cc) in
       no_side (sym (ap (λ (x : Packet). x.side) same) ∙ first.2))
 
   -- when all packets have crossed and all takes that are due are done, nothing is left

@@ -40,7 +40,7 @@ reason_fits p e e' x clock (Again unit) mk l =
     let pass = passed p e x clock (Again unit) mk.0 in
     let m = made_by p e x clock (Again unit) pass in
     let row : row_of e x (Again unit) ≡ Some (Resends unit) = m.is ∙ ap Some (again_row e.side e.phase unit x.kind e.owed m.row m.how) in
-    let w = unit_there e.made unit (content_of x.body) (slice_get (contents e.made) unit) refl (subst (λ (r : Option MakeRow). differs e.made r (content_of x.body) ≡ false) row pass.same) in
+    let w = unit_there e.made unit (content_of x.body) (slice_get (contents e.made) unit) refl (rw row at pass.same) in
     omega arith
 reason_fits p e e' x clock _ mk l = tt
 

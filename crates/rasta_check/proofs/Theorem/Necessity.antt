@@ -50,7 +50,7 @@ module _ (p : Parameters) (ws : List World) (w : World) (side : Side) (own peer 
       let y = end_of v (other_side side) in
       let below = listed_below p side f e own peer kn.sends.same (of_units f e hands_up) i u g in
       let shown = proof_of (all_made p side own) peer i below.0 in
-      let z = timed p ws w side own peer r mine theirs few few_theirs shown.j shown.d v next (subst (λ k. Appends ws w k v next) (below.1 ∙ shown.place) a) shown.there in
+      let z = timed p ws w side own peer r mine theirs few few_theirs shown.j shown.d v next (rw (below.1 ∙ shown.place) at a) shown.there in
       let b = before p ws w side own peer r mine theirs few few_theirs a.i v a.here in
       let all = all_held p b.us v side b.reached b.few in
       let h : HandsUpFirst y e = still_first y x e (b.grown side).made (of_units y x (hands_up_units y x all.mine.values all.theirs.handed)) in

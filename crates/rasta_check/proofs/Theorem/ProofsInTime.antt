@@ -49,7 +49,7 @@ module _ (e0 f0 e f : EndState) (t : ℕ) (w0 : Shown e0 f0) (w : Shown e f) (g 
       let len = length-values f0.asks f0.made in
       let at : slice_get (values f0) z.0 ≡ Some (slice_index_or (values f0) z.0 0) = slice_get-get_or (values f0) z.0 0 (omega arith) in
       let now = gf.kept z.0 _ at in
-      let eq : slice_index_or (values f0) z.0 0 ≡ v = (let h' : slice_get (values f) z.0 ≡ Some v = subst (λ j. slice_get (values f) j ≡ Some v) same h in cc) in
+      let eq : slice_index_or (values f0) z.0 0 ≡ v = (let h' = rw same at h in cc) in
       omega (arith, w0.shown q m there k z.0 (slice_index_or (values f0) z.0 0) old at, eq))
       (w0.judged q m there k)
 

@@ -15,7 +15,7 @@ use Rattle.rasta_check.proofs.Model.ConveyedUnits.{values}
 use Rattle.rasta_check.proofs.Capture.FirstCopies.{sent_once}
 use Rattle.rasta_check.proofs.Model.History.{After, history}
 use Rattle.rasta_check.proofs.Model.InvariantOfRuns.{All, all_held, few_made}
-use Rattle.rasta_check.proofs.Theorem.ShownByLists.{values_agree, necessary}
+use Rattle.rasta_check.proofs.Theorem.ShownByLists.{necessary}
 use Rattle.rasta_check.proofs.Theorem.ShowingPdus.{quiet_asks}
 use Rattle.rasta_check.proofs.Script.ScriptsOfRuns.{Sends, sends_count, told_of}
 
@@ -49,6 +49,8 @@ module _ (p : Parameters) (ws : List World) (w : World) (side : Side) (own peer 
       let within : IsWithin p w = both_within p w side (within_by p w side own sends few) (within_by p w (other_side side) peer their_sends few_theirs) in
       let all = all_held p ws w side r within in
       let once = numbered_once e.made (few_made p w within side) all.mine.held.list.numbered in
+      let shown = rw sends.same at (necessary e f (station_of w side).taken (station_of w (other_side side)).taken all.mine.held all.theirs.held all.mine.values once
+      (pdus_made (start_of p (other_side side)).made) (pdus_of peer) their_sends.same (quiet_asks p.quiet (other_side side) _) all.theirs.shown) in
       record {
         within = within;
         all = all;
@@ -56,10 +58,8 @@ module _ (p : Parameters) (ws : List World) (w : World) (side : Side) (own peer 
         sends = sends;
         their_sends = their_sends;
         once = once;
-        along = ap (λ (ms : List SafetyPdu). units_along ms (pdus_of peer)) (sym sends.same)
-            ∙ values_agree e f (station_of w side).taken (station_of w (other_side side)).taken all.mine.held all.theirs.held all.mine.values once (pdus_made (start_of p (other_side side)).made) (pdus_of peer) their_sends.same (quiet_asks p.quiet (other_side side) _);
-        taken = subst (λ (ms : List SafetyPdu). units_taken ms (pdus_of peer) ≤ length f.handed) sends.same
-            (necessary e f (station_of w side).taken (station_of w (other_side side)).taken all.mine.held all.theirs.held all.mine.values once (pdus_made (start_of p (other_side side)).made) (pdus_of peer) their_sends.same (quiet_asks p.quiet (other_side side) _) all.theirs.shown);
+        along = shown.0;
+        taken = shown.1;
       }
 
   -- each earlier world of the run

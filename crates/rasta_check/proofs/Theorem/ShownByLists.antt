@@ -33,7 +33,7 @@ asked-append own xs ys =
 module _ (e f : EndState) (t u : ℕ) (h : Held e t f.made) (peer : Held f u e.made) (w : Valued e) (once : NamesOne e f) (first ps : List SafetyPdu)
     (made : pdus_made f.made ≡ first ++ ps) (none : asked_positions (pdus_made e.made) first ≡ []) where
   -- the units along a list by all requests of its peer are those by the asks
-  pub values_agree : units_along (pdus_made e.made) ps ≡ values e
+  values_agree : units_along (pdus_made e.made) ps ≡ values e
   values_agree =
       let b = (in_order e f t u h peer w once).beginning in
       let all : asked_positions (pdus_made e.made) ps ≡ asked_positions (pdus_made e.made) (pdus_made f.made) =
@@ -42,16 +42,15 @@ module _ (e f : EndState) (t u : ℕ) (h : Held e t f.made) (peer : Held f u e.m
       ∙ (ap (all_units_conveyed (e.asks ++ b.0)) (map-map (λ (x : SafetyPdu). x.kind) (λ (m : Made). m.pdu) e.made) ∙ more_asks e.asks b.0 (kinds e.made) (omega (arith, answers_number e.made, h.asks.asked)))
 
   -- a PDU of f shows no more units than f has handed up
-  pub shows_handed : Shown f e → (i : ℕ) (x : SafetyPdu) → slice_get ps i ≡ Some x → units_shown (pdus_made e.made) ps x ≤ length f.handed
+  shows_handed : Shown f e → (i : ℕ) (x : SafetyPdu) → slice_get ps i ≡ Some x → units_shown (pdus_made e.made) ps x ≤ length f.handed
   shows_handed s i x g =
       let m = get_mapped (λ (n : Made). n.pdu) f.made (length first + i) x (ap (λ (xs : List SafetyPdu). slice_get xs (length first + i)) made ∙ (get_past first ps i ∙ g)) in
-      subst
-      (λ (y : SafetyPdu). units_shown (pdus_made e.made) ps y ≤ length f.handed)
-      m.2
-      (shows_most e (pdus_made e.made) ps refl values_agree (length f.handed) m.0.pdu (s.shown (length first + i) m.0 m.1))
+      rw m.2 at (shows_most e (pdus_made e.made) ps refl values_agree (length f.handed) m.0.pdu (s.shown (length first + i) m.0 m.1))
 
-  -- the units that the lists show were handed up
-  pub necessary : Shown f e → units_taken (pdus_made e.made) ps ≤ length f.handed
-  necessary s =
-      fold_max_le (map (units_shown (pdus_made e.made) ps) ps) (length f.handed) 0 (omega arith)
-      (λ k n g. (let r = get_mapped (units_shown (pdus_made e.made) ps) ps k n g in let l = shows_handed s k r.0 r.1 in omega (arith, r.2, l)))
+  -- the units that the lists show were handed up; and they are counted so
+  pub necessary : Shown f e → (units_along (pdus_made e.made) ps ≡ values e) × (units_taken (pdus_made e.made) ps ≤ length f.handed)
+  necessary s = (
+    values_agree,
+    fold_max_le (map (units_shown (pdus_made e.made) ps) ps) (length f.handed) 0 (omega arith)
+        (λ k n g. (let r = get_mapped (units_shown (pdus_made e.made) ps) ps k n g in let l = shows_handed s k r.0 r.1 in omega (arith, r.2, l))),
+  )

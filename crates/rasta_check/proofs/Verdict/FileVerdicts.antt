@@ -25,7 +25,7 @@ same_params p file k e = (records_add (nothing_crossed p) k (reading_of p.last_r
 pub verdict_is : (p : Parameters) (file : List ℕ) (k : Crossing) → CrossedIn p file k → (scripts : Scripts) (verdict : Result Explained Fault)
     → IsScriptVerdict p (length k.packets) k.client k.server scripts verdict → IsFileVerdict p file scripts verdict
 verdict_is p file k x scripts verdict g =
-    judged k.client k.server x.capture verdict (subst (λ (xs : List Packet). IsScriptVerdict p (length xs) k.client k.server scripts verdict) x.packets g)
+    judged k.client k.server x.capture verdict (rw x.packets at g)
 
 module _ (p : Parameters) (file : List ℕ) (k : Crossing) (x : CrossedIn p file k) (h : IsCrossing k) where
   valid : AreParameters p
@@ -43,7 +43,7 @@ module _ (p : Parameters) (file : List ℕ) (k : Crossing) (x : CrossedIn p file
         client = k.client;
         server = k.server;
         capture = x.capture;
-        fits = subst (λ (xs : List Packet). BothFit p (length xs) k.client k.server scripts) x.packets fits;
+        fits = rw x.packets at fits;
       }
 
   -- a report on what crossed is that on the lists of a capture that is explained

@@ -55,7 +55,7 @@ module _ (p : Parameters) (packets : List Packet) (c s : List FirstCopy) (h : Is
     peer = sent_by k (other_side side)
 
     run_sent : (side : Side) → IsSent p w.crossed side (sent_by k side)
-    run_sent side = subst (λ (xs : List Packet). IsSent p xs side (sent_by k side)) (sym same) (list_of k h side)
+    run_sent side = rw same (list_of k h side)
 
     kn : Known p w side own peer
     kn = known p ws w side own peer r (run_sent side) (run_sent (other_side side)) (few_of k h side) (few_of k h (other_side side))
