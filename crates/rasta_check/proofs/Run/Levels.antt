@@ -96,8 +96,7 @@ module _ (p : Parameters) (packets : List Packet) where
     here_lines k here rest at m = rw (at, sym m) (by here.side)
       where
         by : (x : Side) → side_lines k x (number_of here) (lists x) (scripts x) ≡ by_side_lines k (number_of here) (lists Client) (lists Server) (scripts Client) (scripts Server) x
-        by Client = refl
-        by Server = refl
+        by x = grind arith
 
     abbrev level_at : ℕ → List Line
     level_at k = level_lines packets (lists Client) (lists Server) (scripts Client) (scripts Server) k

@@ -1,8 +1,8 @@
 -- The packet of a level: its end makes it, or it is a copy, with its lines.
 use Rattle.std.proofs.Common.{◌≡◌, ℕ, suc, ◌+◌, ◌<◌, List, [], ◌∷◌, ◌++◌, length, Some, slice_get, take, refl, ap, sym, ◌∙◌, arith, subst}
-use Rattle.std.specs.Prelude.{slice_index_or, None}
-use Rattle.std.proofs.lemmas.List.{length_push, length-take-le, get_or-take}
-use Rattle.std.proofs.lemmas.Option.{slice_get_within, slice_get-get_or, get_or_from_slice_get}
+use Rattle.std.specs.Prelude.{None, drop}
+use Rattle.std.proofs.lemmas.List.{length_push, length-take-le, take-append-drop}
+use Rattle.std.proofs.lemmas.Option.{slice_get_within}
 use native.Mathlib.Decide.{dec_lt}
 use Prim.{yes, no}
 use Rattle.rasta_check.proofs.Prelude.{Side, Packet, Parameters, Entry, Take, Make, Why, Made}
@@ -12,7 +12,7 @@ use Rattle.rasta_check.specs.Capture.Lists.{position_of_place}
 use Rattle.rasta_check.specs.Model.World.{making, repeating, waiting, makes, repeats, waits}
 use Rattle.rasta_check.proofs.Capture.FaultlessLists.{IsSent, ordered}
 use Rattle.rasta_check.proofs.Capture.Crossings.{number_spelled}
-use Rattle.rasta_check.proofs.Lists.{get_front, get_push, slice_get_some}
+use Rattle.rasta_check.proofs.Lists.{get_front, get_front_within, get_push, slice_get_some}
 use Rattle.rasta_check.proofs.Script.Tracks.{Tracks, Drained, next_number, next_packet, untouched}
 use Rattle.rasta_check.proofs.Model.Steps.{base, made_more}
 use Rattle.rasta_check.specs.Run.Lines.{lines_of_move, number_of}
@@ -44,12 +44,11 @@ module _ (p : Parameters) (packets : List Packet) (k : ℕ) (s : Side) (own peer
       let n : Made = made.new in
       let waited : Station = record a { clock = clock } in
       let now : e'.made ≡ a.state.made ++ n ∷ [] = made.made in
-      let len = length_push a.state.made n in
       let numbered : c.pdu.number ≡ wrapped (a.first_number + length a.state.made) =
       sent.numbers f.made head.0 c head.1 mine ∙ sym (next_number a.first_number (base p) f.made (length a.state.made) head.0.pdu.number f.count (f.number head.0 head.1)) in
       let said : Spells p a.state.side (record { number = wrapped (a.first_number + length a.state.made); reserve = c.pdu.reserve; safety = c.pdu.safety; check_bytes = c.pdu.check_bytes }) first.0.payload =
       rw (f.side, sym numbered) first.3 in
-      let count : length e'.made ≡ suc (base p + f.made) = ap length now ∙ (len ∙ (omega (arith, f.count))) in
+      let count : length e'.made ≡ suc (base p + f.made) = ap length now ∙ (length_push a.state.made n ∙ (omega (arith, f.count))) in
       let newest : (i : ℕ) (d : FirstCopy) → slice_get own i ≡ Some d → i < suc f.made → (i < f.made → ⊥) → d ≡ c =
       λ i d h v no. (let last : i ≡ f.made = omega (arith, v, no) in let z = ap (slice_get own) last in cc) in
       let after : Above (suc k) es = lead_above p (length packets) (suc k) own peer _ last es rest (omega (arith, pl)) in
@@ -58,10 +57,8 @@ module _ (p : Parameters) (packets : List Packet) (k : ℕ) (s : Side) (own peer
       let shown : wrapped (a.first_number + length a.state.made) ≡ number_of here =
       sym numbered ∙ (sym (number_spelled p s c.pdu first.0.payload first.3) ∙ ap (λ (x : Packet). number_of x) same_packet) in
       let found : position_of_place own k ≡ Some f.made = ap (position_of_place own) (sym pl) ∙ place_named own (ordered sent) f.made c mine in
-      let makes_now : makes_at k (Make c.place clock why ∷ es) ≡ (clock, why) ∷ [] =
-      rw (pl, makes_here k clock why es, no_makes k (suc k) es (omega arith) after) refl in
       let line : waited_line (length (take k packets)) s clock ∷ make_line (length (take k packets)) s (wrapped (a.first_number + length a.state.made)) (clock, why) ∷ [] ≡ side_lines k s (number_of here) own (Make c.place clock why ∷ es) =
-      rw (long, shown, found, makes_now) refl in
+      rw (long, shown, found, pl, makes_here k clock why es, no_makes k (suc k) es (omega arith) after) refl in
       let tracks : Tracks p (length packets) (suc k) s own peer es last (record waited { state = e' }) = record {
         level = suc c.place;
         made = suc f.made;
@@ -92,12 +89,9 @@ module _ (p : Parameters) (packets : List Packet) (k : ℕ) (s : Side) (own peer
   copy_moves : (es : List Entry) (a : Station) → position_of_place own k ≡ None → here.side ≡ a.state.side
       → (j : ℕ) (old : Packet) → j < k → slice_get packets j ≡ Some old → old.side ≡ here.side → old.payload ≡ here.payload → Many p b s (take k packets) a (side_lines k s (number_of here) own es) a (take (suc k) packets)
   copy_moves es a no_first sd j old l g os ob =
-      let n : k < length packets = slice_get_within packets k here at in
-      let lt : j < length (take k packets) = omega (arith, length-take-le k packets (omega arith)) in
-      let get : slice_index_or (take k packets) j old ≡ old = get_or-take k packets j old l ∙ get_or_from_slice_get packets j old old g in
       let whole : record old { channel = here.channel } ≡ here = (λ i. record { channel = here.channel; side = os i; payload = ob i }) in
       let next : take k packets ++ record old { channel = here.channel } ∷ [] ≡ take (suc k) packets = ap (λ (x : Packet). take k packets ++ x ∷ []) whole ∙ next_packet packets k here here.side refl at in
-      let there : slice_get (take k packets) j ≡ Some old = slice_get-get_or (take k packets) j old lt ∙ ap Some get in
+      let there : slice_get (take k packets) j ≡ Some old = sym (get_front_within (take k packets) (drop k packets) j (omega (arith, l, long))) ∙ rw take-append-drop g in
       let line : lines_of_move s a b (take k packets) (repeating j here.channel) ++ [] ≡ side_lines k s (number_of here) own es = rw (there, no_first, long, ob) refl in
       recast line next (moves (repeating j here.channel) (repeats {a = a} j here.channel old there (os ∙ sd) (recorded k here at)) stays)
 
