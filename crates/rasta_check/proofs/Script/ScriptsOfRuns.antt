@@ -20,16 +20,7 @@ use Rattle.rasta_check.proofs.Lists.{get_push_cases, get_front, get_push, get_pa
 use Rattle.rasta_check.proofs.Model.TakeRows.{take_leaves}
 use Rattle.rasta_check.proofs.Capture.FirstCopies.{Counts_from, sent_other, sent_copy, sent_first, sent_none, sent_once}
 
--- scripts in a wider setting, and one entry more
-leads_wider : (p : Parameters) (n n' : ℕ) (own own' peer peer' : List FirstCopy) (u v : Cursor) (es : List Entry) → n ≤ n'
-    → ((i : ℕ) (c : FirstCopy) → slice_get own i ≡ Some c → slice_get own' i ≡ Some c) → ((i : ℕ) (c : FirstCopy) → slice_get peer i ≡ Some c → slice_get peer' i ≡ Some c)
-    → Leads p n own peer u es v → Leads p n' own' peer' u es v
-leads_wider p n n' own own' peer peer' u v [] l k h f = f
-leads_wider p n n' own own' peer peer' u v (x ∷ es) l k h (m, takes_next slot position c e a b g d f t, r) =
-    (_, takes_next slot position c e a (omega arith) (h position c g) d f t, leads_wider p n n' own own' peer peer' _ v es l k h r)
-leads_wider p n n' own own' peer peer' u v (x ∷ es) l k h (m, makes_next c clock why e a g mk, r) =
-    (_, makes_next c clock why e a (k _ c g) mk, leads_wider p n n' own own' peer peer' _ v es l k h r)
-
+-- one entry more
 pub leads_more : (p : Parameters) (n : ℕ) (own peer : List FirstCopy) (u v w : Cursor) (es : List Entry) (x : Entry) → Leads p n own peer u es v → Advances p n own peer v x w → Leads p n own peer u (es ++ x ∷ []) w
 leads_more p n own peer u v w [] x f a = (w, rw f a, refl)
 leads_more p n own peer u v w (y ∷ es) x f a = (f.0, f.1, leads_more p n own peer f.0 v w es x f.2 a)
@@ -74,13 +65,17 @@ pub record Sends (p : Parameters) (s : Side) (xs : List Packet) (own : List Firs
   pub numbers : Counts_from (first + base p) own
   pub side : e.side ≡ s
 
--- a script for it
+-- the members of the one list stand at their positions in the other
+abbrev StandIn : List FirstCopy → List FirstCopy → Type 0
+StandIn xs ys = (i : ℕ) (c : FirstCopy) → slice_get xs i ≡ Some c → slice_get ys i ≡ Some c
+
+-- a script for it; it leads there too where more has crossed
 pub record Told (p : Parameters) (s : Side) (n : ℕ) (own peer : List FirstCopy) (e : EndState) (moment passed_mark : ℕ) : Type 0 where
   pub es : List Entry
   pub level : ℕ
   pub taken : ℕ
   pub low : level ≤ n
-  pub leads : Leads p n own peer (at_start (start_of p s)) es (record { level = level; made = length own; taken = taken; state = e })
+  pub leads : (n' : ℕ) (own' peer' : List FirstCopy) → n ≤ n' → StandIn own own' → StandIn peer peer' → Leads p n' own' peer' (at_start (start_of p s)) es (record { level = level; made = length own; taken = taken; state = e })
   pub mark : passed_mark ≡ base p + taken
   pub clock : e.clock ≤ moment
   pub clocks : ClocksWithin e.clock es
@@ -108,7 +103,7 @@ copy_at p s xs own e f i m h g =
 sends_other : (p : Parameters) (s : Side) (xs : List Packet) (k : Packet) (own : List FirstCopy) (e : EndState) (f : ℕ) → Sends p s xs own e f → (k.side ≡ s → ⊥) → Sends p s (xs ++ k ∷ []) own e f
 sends_other p s xs k own e f h apart = record { sent = sent_other p xs k s own h.sent apart; same = h.same; numbers = h.numbers; side = h.side }
 
-told_wider : (p : Parameters) (s : Side) (n n' : ℕ) (own peer peer' : List FirstCopy) (e : EndState) (clock taken : ℕ) → n ≤ n' → ((i : ℕ) (c : FirstCopy) → slice_get peer i ≡ Some c → slice_get peer' i ≡ Some c)
+told_wider : (p : Parameters) (s : Side) (n n' : ℕ) (own peer peer' : List FirstCopy) (e : EndState) (clock taken : ℕ) → n ≤ n' → StandIn peer peer'
     → Told p s n own peer e clock taken → Told p s n' own peer' e clock taken
 told_wider p s n n' own peer peer' e clock taken l more h =
     record {
@@ -116,7 +111,7 @@ told_wider p s n n' own peer peer' e clock taken l more h =
       level = h.level;
       taken = h.taken;
       low = omega (arith, h.low);
-      leads = leads_wider p n n' own own peer peer' _ _ h.es l (λ i c g. g) more h.leads;
+      leads = λ m own' peer'' k mine theirs. h.leads m own' peer'' (omega arith) mine (λ i c g. theirs i c (more i c g));
       mark = h.mark;
       clock = h.clock;
       clocks = h.clocks;
@@ -150,13 +145,13 @@ module _ (p : Parameters) (s : Side) (xs : List Packet) (own peer : List FirstCo
   made_told =
       let len = length_push xs packet in
       let made = made_more p e x clock why e' mk in
-      let wide = leads_wider p (length xs) (length (xs ++ packet ∷ [])) own (own ++ copy ∷ []) peer peer _ _ t.es (omega arith) (λ i c g. get_front own (copy ∷ []) i c g) (λ i c g. g) t.leads in
       record {
         es = t.es ++ Make (length xs) clock why ∷ [];
         level = suc (length xs);
         taken = t.taken;
         low = omega arith;
-        leads = rw (length_push own copy, add-one) (leads_more p _ (own ++ copy ∷ []) peer _ _ _ t.es _ wide (makes_next copy clock why e' t.low (get_push own copy) mk));
+        leads = rw (length_push own copy, add-one) (λ n own' peer' k mine theirs.
+        leads_more p n own' peer' _ _ _ t.es _ (t.leads n own' peer' (omega arith) (λ i c g. mine i c (get_front own (copy ∷ []) i c g)) theirs) (makes_next copy clock why e' t.low (mine _ copy (get_push own copy)) mk));
         mark = t.mark;
         clock = (let z = made.now in omega arith);
         clocks = rw made.now (clocks_on e.clock clock t.es (Make (length xs) clock why ∷ []) made.rises t.clocks (omega arith, tt));
@@ -176,8 +171,8 @@ took p s r xs own peer e e' f clock taken position their m tk above g hs t =
       level = length xs;
       taken = suc i;
       low = omega arith;
-      leads = leads_more p (length xs) own peer _ _ _ t.es _ t.leads
-          (takes_next (length xs) i c.0 e' t.low (omega arith) c.1 (slice_get_within xs c.0.place fst.0 fst.1) (let z = t.mark in omega arith) (earlier p e e.clock clock t.clock tk.0, rw c.2 tk.1));
+      leads = λ n own' peer' k mine theirs. leads_more p n own' peer' _ _ _ t.es _ (t.leads n own' peer' k mine theirs)
+          (takes_next (length xs) i c.0 e' t.low k (theirs i c.0 c.1) (slice_get_within xs c.0.place fst.0 fst.1) (let z = t.mark in omega arith) (earlier p e e.clock clock t.clock tk.0, rw c.2 tk.1));
       mark = omega arith;
       clock = (let z = t.clock in omega arith);
       clocks = rw same (clocks_on e.clock e.clock t.es (Take (length xs) c.0.pdu.number ∷ []) (omega arith) t.clocks tt);
@@ -254,7 +249,7 @@ first_sends : (p : Parameters) (s : Side) (n : ℕ) → AreParameters p → Send
 first_sends p s n valid = record { sent = sent_none p s valid; same = sym (append-nil (pdus_made (start_of p s).made)); numbers = λ i c g. absurd (cc); side = start_side p.quiet s }
 
 first_told : (p : Parameters) (s : Side) → Told p s 0 [] [] (start_of p s) (start_of p s).clock (start_of p s).base
-first_told p s = record { es = []; level = 0; taken = 0; low = omega arith; leads = refl; mark = (let z = start_base p.quiet s in omega arith); clock = omega arith; clocks = tt }
+first_told p s = record { es = []; level = 0; taken = 0; low = omega arith; leads = λ n own peer l mine theirs. refl; mark = (let z = start_base p.quiet s in omega arith); clock = omega arith; clocks = tt }
 
 pub told_step : (p : Parameters) (v w : World) → Step p v w → (g : Both p Client Server v.crossed v.client v.server) → Kept p Client Server (length v.crossed) w.crossed w.client w.server g.own g.peer
 told_step p v w (side_moves {a = a} {after = ys} Client m) g = both_kept p Client Server v.crossed ys v.client a v.server (λ e. cc (e)) m g
@@ -285,9 +280,10 @@ told_of p ws w side own peer r mine theirs few few_theirs =
 told_whole : (p : Parameters) (s : Side) (n : ℕ) (own peer : List FirstCopy) (e : EndState) (clock taken most : ℕ) → Told p s n own peer e clock taken → e.clock ≤ most
     → (es : List Entry) × Follows p s n own peer es e × (length es ≤ length own + length peer) × ClocksWithin most es
 told_whole p s n own peer e clock taken most t l =
-    let a = leads_count p n own peer _ _ t.es t.leads in
-    let b = taken_within p n own peer _ _ t.es t.leads (omega arith) in
-    (t.es, (_, t.leads, refl, refl), omega arith, rw append-nil at (clocks_on _ most t.es [] l t.clocks tt))
+    let f = t.leads n own peer (omega arith) (λ i c g. g) (λ i c g. g) in
+    let a = leads_count p n own peer _ _ t.es f in
+    let b = taken_within p n own peer _ _ t.es f (omega arith) in
+    (t.es, (_, f, refl, refl), omega arith, rw append-nil at (clocks_on _ most t.es [] l t.clocks tt))
 
 pub complete : (p : Parameters) (ws : List World) (w : World) (c s : List FirstCopy) → Reaches p ws w
     → IsSent p w.crossed Client c → IsSent p w.crossed Server s → length c ≤ 1000000 → length s ≤ 1000000
