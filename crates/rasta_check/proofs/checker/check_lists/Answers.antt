@@ -1,7 +1,8 @@
 use Rattle.std.proofs.Common.{Ok, Err, sym, inl, inr, ⊎_elim}
+use Rattle.std.proofs.lemmas.Result.{MatchResult-weaker}
 use Rattle.rasta_cert.proofs.ReadingLemmas.{if_ok as where_ok}
 use Rattle.rasta_check.specs.Verdict.Report.{explained}
-use Rattle.rasta_check.proofs.Verdict.CallAnswers.{both, on_ok, where_err}
+use Rattle.rasta_check.proofs.Verdict.CallAnswers.{on_ok, where_err}
 use Rattle.rasta_check.proofs.Script.Fits.{is_verdict, verdict_fits, verdict_refuses}
 use Rattle.rasta_check.proofs.Verdict.Headline.{headline, is_sharp}
 use Rattle.rasta_check.proofs.checker.check_lists.Goals as goal
@@ -9,7 +10,7 @@ use Rattle.rasta_check.proofs.checker.check_lists.Goals as goal
 pub returns-clause-verdict : goal.returns-clause-verdict
 returns-clause-verdict g c =
     let is = is_verdict c.args.p.now c.args.packets (g.S.SentList.content c.args.client.now) (g.S.SentList.content c.args.server.now) c.args.certificate.now in
-    both c.verdict.result _ _ _ _ c.verdict.ensures (λ x e. is (Ok (explained x)) e) (λ f why. ⊎_elim (λ e. inl (is (Err f) e)) (λ e. inr e) why)
+    MatchResult-weaker c.verdict.result c.verdict.ensures (λ x e. is (Ok (explained x)) e) (λ f why. ⊎_elim (λ e. inl (is (Err f) e)) (λ e. inr e) why)
 
 pub returns-clause-fits : goal.returns-clause-fits
 returns-clause-fits g c =
