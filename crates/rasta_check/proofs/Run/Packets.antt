@@ -101,8 +101,7 @@ module _ (p : Parameters) (packets : List Packet) (k : ℕ) (s : Side) (own peer
       λ i c g e. (let x = f.after i c g in let y = places_above p (length packets) (suc k) own peer _ last es f.fits whole above i c g in grind (arith, x, y, e)) in
       let w = sent.copies k here at hs in
       let o = sent.firsts w.0 w.1 w.2 in
-      let earlier : w.1.place < k = (let apart = no_first w.0 w.1 w.2 in let low = w.3 in omega (arith, apart)) in
-      (
+      let earlier : w.1.place < k = (let apart = no_first w.0 w.1 w.2 in let low = w.3 in omega (arith, apart)) in (
         a,
         copy_moves es a (place_missing own k no_first) (hs ∙ sym f.side) w.1.place o.0 earlier o.1 (o.2 ∙ sym hs) (o.3.same ∙ sym w.4.same),
         record { rest = es; tracks = untouched p (length packets) k s own peer es last a f no_first; ready = above; says = says_all (suc k) (suc k) es },

@@ -151,7 +151,7 @@ module _ (p : Parameters) (s : Side) (xs : List Packet) (own peer : List FirstCo
         taken = t.taken;
         low = omega arith;
         leads = rw (length_push own copy, add-one) (λ n own' peer' k mine theirs.
-        leads_more p n own' peer' _ _ _ t.es _ (t.leads n own' peer' (omega arith) (λ i c g. mine i c (get_front own (copy ∷ []) i c g)) theirs) (makes_next copy clock why e' t.low (mine _ copy (get_push own copy)) mk));
+            leads_more p n own' peer' _ _ _ t.es _ (t.leads n own' peer' (omega arith) (λ i c g. mine i c (get_front own (copy ∷ []) i c g)) theirs) (makes_next copy clock why e' t.low (mine _ copy (get_push own copy)) mk));
         mark = t.mark;
         clock = (let z = made.now in omega arith);
         clocks = rw made.now (clocks_on e.clock clock t.es (Make (length xs) clock why ∷ []) made.rises t.clocks (omega arith, tt));

@@ -38,11 +38,8 @@ Drained k [] = Unit {0}
 Drained k (Take slot number ∷ es) = k < slot
 Drained k (Make place clock why ∷ es) = Unit {0}
 
-packet_is : (k : Packet) (sd : Side) (e : sd ≡ k.side) → record { channel = k.channel; side = sd; payload = k.payload } ≡ k
-packet_is k sd e = λ i. record { channel = k.channel; side = e i; payload = k.payload }
-
 pub next_packet : (packets : List Packet) (k : ℕ) (a : Packet) (sd : Side) → sd ≡ a.side → slice_get packets k ≡ Some a → take k packets ++ record { channel = a.channel; side = sd; payload = a.payload } ∷ [] ≡ take (suc k) packets
-next_packet packets k a sd e g = ap (λ (x : Packet). take k packets ++ x ∷ []) (packet_is a sd e) ∙ (take_one_more k packets a g ∙ ap (λ j. take j packets) (add-one k))
+next_packet packets k a sd e g = rw e (take_one_more k packets a g ∙ ap (λ j. take j packets) (add-one k))
 
 pub next_number : (f b m n c : ℕ) → n ≡ b + m → (f + b) % 2 ^ 32 ≡ c → (f + n) % 2 ^ 32 ≡ (c + m) % 2 ^ 32
 next_number f b m n c e h = omega arith

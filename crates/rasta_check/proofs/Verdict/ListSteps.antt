@@ -76,4 +76,4 @@ unfolding proved_units
 units_end places unit xs i l = ap (proved_units places unit) (drop_all i xs l)
 
 pub listing_ends : (items : List Taken) (units : List TakenUnit) → units ≡ [] → map listed_of items ≡ map listed_of items ++ numbered_from (length items) (messages_taken units)
-listing_ends items units e = sym (append-nil (map listed_of items)) ∙ ap (λ us. map listed_of items ++ numbered_from (length items) (messages_taken us)) (sym e)
+listing_ends items units e = rw (e, append-nil) refl
