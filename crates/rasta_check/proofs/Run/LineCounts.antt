@@ -2,7 +2,7 @@
 use Rattle.std.proofs.Common.{◌≡◌, List, Option, length, refl, ap, arith}
 use Rattle.std.proofs.lemmas.List.{length-append}
 use Rattle.rasta_check.proofs.Prelude.{Side, Packet, Parameters, Station, World}
-use Rattle.rasta_check.specs.Model.World.{Move, Moves, makes, repeats, arrives, takes, waits}
+use Rattle.rasta_check.specs.Model.World.{Move, Moves, repeats}
 use Rattle.rasta_check.specs.Run.Moves.{Happened, Runs, starts, does}
 use Rattle.rasta_check.specs.Run.Lines.{copy_lines, lines_of_move, told}
 use Rattle.rasta_check.proofs.Run.Moves.{told_push}

@@ -1,5 +1,5 @@
 -- Several moves of one station, one after the other, and their lines.
-use Rattle.std.proofs.Common.{◌≡◌, List, [], ◌∷◌, ◌++◌, ap, sym, ◌∙◌, subst}
+use Rattle.std.proofs.Common.{◌≡◌, List, [], ◌∷◌, ◌++◌, ap, sym, ◌∙◌}
 use Rattle.std.proofs.lemmas.List.{append-nil, append_assoc}
 use Rattle.rasta_check.proofs.Prelude.{Side, Client, Server, Packet, Parameters, Station, World, other_side, station_of}
 use Rattle.rasta_check.specs.Model.World.{Move, Moves, moved}

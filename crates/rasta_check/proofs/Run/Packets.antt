@@ -1,5 +1,5 @@
 -- The packet of a level: its end makes it, or it is a copy, with its lines.
-use Rattle.std.proofs.Common.{◌≡◌, ℕ, suc, ◌+◌, ◌<◌, List, [], ◌∷◌, ◌++◌, length, Some, slice_get, take, refl, ap, sym, ◌∙◌, arith, subst}
+use Rattle.std.proofs.Common.{◌≡◌, ℕ, suc, ◌+◌, ◌<◌, List, [], ◌∷◌, ◌++◌, length, Some, slice_get, take, refl, ap, sym, ◌∙◌, arith}
 use Rattle.std.specs.Prelude.{None, drop}
 use Rattle.std.proofs.lemmas.List.{length_push, length-take-le, take-append-drop}
 use Rattle.std.proofs.lemmas.Option.{slice_get_within}
@@ -16,7 +16,7 @@ use Rattle.rasta_check.proofs.Lists.{get_front, get_front_within, get_push, slic
 use Rattle.rasta_check.proofs.Script.Tracks.{Tracks, Drained, next_number, next_packet, untouched}
 use Rattle.rasta_check.proofs.Model.Steps.{base, made_more}
 use Rattle.rasta_check.specs.Run.Lines.{lines_of_move, number_of}
-use Rattle.rasta_check.specs.Run.Levels.{makes_at, make_line, waited_line, side_lines}
+use Rattle.rasta_check.specs.Run.Levels.{make_line, waited_line, side_lines}
 use Rattle.rasta_check.proofs.Run.Entries.{makes_here}
 use Rattle.rasta_check.proofs.Run.Rests.{Above, says_all, says_make, lead_above, places_above, no_makes, Left}
 use Rattle.rasta_check.proofs.Run.Moves.{Many, stays, moves, recast}

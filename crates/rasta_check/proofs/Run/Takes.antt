@@ -3,7 +3,7 @@ use Rattle.std.proofs.Common.{◌≡◌, ℕ, suc, ◌+◌, ◌<◌, ◌≤◌, 
 use Rattle.std.proofs.lemmas.Option.{slice_get_within}
 use native.Mathlib.Decide.{dec_le}
 use Prim.{yes, no}
-use Rattle.rasta_check.proofs.Prelude.{Side, Packet, Parameters, Entry, Take, Make, Made, EndState, wrapped}
+use Rattle.rasta_check.proofs.Prelude.{Side, Packet, Parameters, Entry, Take, Make, EndState, wrapped}
 use Rattle.rasta_check.proofs.Prelude.{Takes, FirstCopy, Station, Cursor, Advances, takes_next, makes_next, Leads}
 use Rattle.rasta_check.specs.Model.World.{arriving, taking, arrives, takes}
 use Rattle.rasta_check.specs.Run.Levels.{takes_at, take_line, brought_line, each_take, takes_lines}

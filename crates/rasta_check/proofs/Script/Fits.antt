@@ -1,12 +1,12 @@
 -- The script that fits is the one that the code follows to its end, and the first fault of another is the one that the code answers.
-use Rattle.std.proofs.Common.{◌≡◌, ℕ, suc, ◌+◌, ◌<◌, ◌≤◌, Bool, true, false, List, [], ◌∷◌, ◌++◌, length, Option, Some, None, Result, Ok, Err, slice_get, ◌⊎◌, inl, inr, refl, ap, sym, ◌∙◌, arith, subst}
-use Rattle.std.specs.Prelude.{not, nat_lt, ◌==◌, ◌||◌, if◌then◌else◌, is_none}
-use Rattle.std.specs.Option.{option_map_or, option_or}
+use Rattle.std.proofs.Common.{◌≡◌, ℕ, suc, ◌+◌, ◌<◌, ◌≤◌, true, false, List, [], ◌∷◌, ◌++◌, length, Option, Some, None, Result, Ok, Err, slice_get, ◌⊎◌, inl, inr, refl, ap, sym, ◌∙◌, arith, subst}
+use Rattle.std.specs.Prelude.{◌==◌}
+use Rattle.std.specs.Option.{option_or}
 use Rattle.std.proofs.lemmas.Bool.Decides.{nat_tests}
 use Rattle.std.proofs.lemmas.List.{append-nil, append_assoc, length-append}
 use Rattle.std.proofs.lemmas.Option.{slice_get_within}
 use Rattle.rasta_check.proofs.Prelude.{Fault, Side, Client, Server, Parameters, Entry, Take, Make, EndState, Makes, start_of, FirstCopy, Cursor, at_start, Follows}
-use Rattle.rasta_pcap.specs.Fault.{fault_of_end, slot_order, not_first_copy, make_missing, not_yet_crossed, not_rising}
+use Rattle.rasta_pcap.specs.Fault.{fault_of_end, make_missing}
 use Rattle.rasta_cert.specs.Certificate.{Scripts}
 use Rattle.rasta_end.specs.MakeRule.{make_fault, after_make, first_that_holds}
 use Rattle.rasta_end.specs.TakeRule.{take_fault, after_take}
@@ -14,8 +14,6 @@ use Rattle.rasta_check.specs.Capture.Crossing.{copy_with}
 use Rattle.rasta_check.specs.Capture.Lists.{IsOrdered, places_of, position_of_number, position_of_place}
 use Rattle.rasta_check.specs.Script.Fitting.{places_made, AreInOrder, AreNamed, Joins, Fits, level_after, position_after, entry_tests, end_fault, FirstFault, at_entry, after_last}
 use Rattle.rasta_check.specs.Script.Laws.{HasOneAnswer}
-use native.Mathlib.Decide.{dec_lt}
-use Prim.{yes, no}
 use Rattle.rasta_check.specs.Internals.Checking.{unless, take_entry, make_entry, taken_there, made_there, next_cursor, then_follow, follow_from, follow, where_followed, verdict_of}
 use Rattle.rasta_check.specs.Verdict.Report.{Explained, BothFit, IsScriptVerdict, both_fit, client_refused, server_refused, report_of}
 use Rattle.rasta_check.proofs.Script.FollowedScripts.{Goes, takes, makes, goes, gone, follow_fits, fits_follow}

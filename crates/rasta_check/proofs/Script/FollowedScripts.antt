@@ -1,12 +1,12 @@
 -- What the checker answers for a script is the end that it leads to, exactly where it fits.
-use Rattle.std.proofs.Common.{◌≡◌, ℕ, suc, ◌+◌, ◌<◌, ◌≤◌, Bool, true, false, List, [], ◌∷◌, drop, length, get_or, Option, Some, None, Result, Ok, Err, slice_get, position, MatchResult, ◌⊎◌, inl, inr, refl, ap, sym, ◌∙◌, arith, subst, add-one}
-use Rattle.std.specs.Prelude.{not, nat_lt, ◌==◌, ◌||◌, if◌then◌else◌}
+use Rattle.std.proofs.Common.{◌≡◌, ℕ, suc, ◌+◌, ◌<◌, ◌≤◌, true, false, List, [], ◌∷◌, drop, length, get_or, Option, Some, None, Result, Ok, Err, slice_get, position, MatchResult, ◌⊎◌, inl, inr, refl, ap, sym, ◌∙◌, arith, subst, add-one}
+use Rattle.std.specs.Prelude.{◌==◌}
 use Rattle.std.proofs.lemmas.Bool.Decides.{nat_tests}
 use Rattle.std.proofs.lemmas.List.{drop_all}
 use Rattle.std.proofs.lemmas.Option.{slice_get-get_or}
 use Rattle.rasta_check.proofs.Prelude.{Fault, Side, Parameters, Entry, Take, Make, Why, EndState, Makes, Takes}
 use Rattle.rasta_check.proofs.Prelude.{start_of, FirstCopy, Cursor, Advances, takes_next, makes_next, Leads, at_start, Follows}
-use Rattle.rasta_pcap.specs.Fault.{fault_of_end, no_memory, slot_order, make_missing, not_yet_crossed, not_rising}
+use Rattle.rasta_pcap.specs.Fault.{fault_of_end, no_memory, make_missing}
 use Rattle.rasta_end.specs.MakeRule.{make_fault, after_make}
 use Rattle.rasta_end.specs.TakeRule.{take_fault, after_take}
 use Rattle.rasta_end.specs.Judged.{JudgedEnd}

@@ -1,13 +1,12 @@
 -- Along a run: the first copies so far, and a script for each end.
-use Rattle.std.proofs.Common.{◌≡◌, ℕ, suc, ◌+◌, ◌-◌, ◌<◌, ◌≤◌, Bool, true, false, List, [], ◌∷◌, ◌++◌, length, Option, Some, None, slice_get, refl, ap, sym, ◌∙◌, arith, ⊎_elim, subst, length-append, add-one}
-use Rattle.std.specs.Prelude.{if◌then◌else◌}
+use Rattle.std.proofs.Common.{◌≡◌, ℕ, suc, ◌+◌, ◌-◌, ◌<◌, ◌≤◌, Bool, false, List, [], ◌∷◌, ◌++◌, length, Option, Some, None, slice_get, refl, ap, sym, ◌∙◌, arith, ⊎_elim, length-append, add-one}
 use Rattle.std.proofs.lemmas.Bool.Decides.{nat_tests}
 use Rattle.std.proofs.lemmas.List.{append-nil, append_assoc, length_push, length-map, map-append}
 use Rattle.std.proofs.lemmas.Option.{slice_get_within}
 use Rattle.rasta_check.proofs.Prelude.{Side, Client, Server, Packet, Parameters, AreParameters, SafetyPdu, RedundancyPdu, Entry, Take, Make, Owed, Why, Made, EndState, wrapped}
 use Rattle.rasta_check.proofs.Prelude.{Makes, Takes, start_of, FirstCopy, Station, World, Reaches, other_side, station_of, Cursor, Advances, takes_next, makes_next, Leads, at_start, Follows}
 use Rattle.rasta_pcap.specs.Fault.{reply_owed, past_deadline}
-use Rattle.rasta_end.specs.State.{is_closed, is_owing}
+use Rattle.rasta_end.specs.State.{is_owing}
 use Rattle.rasta_end.specs.MakeRule.{is_past, first_that_holds}
 use Rattle.rasta_end.specs.TakeRule.{take_fault}
 use Rattle.rasta_check.proofs.Model.Steps.{base, start_base, start_made, start_side, made_more}

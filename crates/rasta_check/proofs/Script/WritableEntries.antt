@@ -1,5 +1,5 @@
 -- Entries of a script that fits have numbers that a certificate can hold.
-use Rattle.std.proofs.Common.{◌≡◌, ℕ, ◌+◌, ◌<◌, ◌≤◌, ◌^◌, Bool, false, List, [], ◌∷◌, Option, Some, None, length, slice_get, refl, ap, ◌∙◌, arith, subst}
+use Rattle.std.proofs.Common.{◌≡◌, ℕ, ◌+◌, ◌<◌, ◌≤◌, ◌^◌, false, List, [], ◌∷◌, Option, Some, None, length, slice_get, refl, ap, ◌∙◌, arith}
 use Rattle.std.specs.Prelude.{not}
 use Rattle.std.proofs.lemmas.List.{length-map, length_push}
 use Rattle.std.proofs.lemmas.List.Sums.{count_by-le-length, length-filter}
@@ -13,8 +13,8 @@ use Rattle.rasta_end.specs.declared.why.Why.TheVariants.{Again}
 use Rattle.rasta_end.specs.declared.make_row.MakeRow.{MakeRow}
 use Rattle.rasta_end.specs.declared.make_row.MakeRow.TheVariants.{Resends}
 use Rattle.rasta_end.specs.State.{content_of}
-use Rattle.rasta_end.specs.MakeRule.{contents, differs, row_of}
-use Rattle.rasta_cert.specs.Certificate.{AreEntries, IsEntry, IsReason}
+use Rattle.rasta_end.specs.MakeRule.{contents, row_of}
+use Rattle.rasta_cert.specs.Certificate.{AreEntries, IsReason}
 use Rattle.rasta_check.proofs.Capture.FaultlessLists.{IsSent}
 use Rattle.rasta_check.proofs.Model.PassedTests.{passed}
 use Rattle.rasta_check.proofs.Model.MakeRows.{made_by, Making, again}

@@ -1,5 +1,5 @@
 -- The units that an end handed up are the first that its peer offered.
-use Rattle.std.proofs.Common.{◌≡◌, ℕ, List, ◌++◌, map, filter, Some, slice_get, ap, sym, ◌∙◌}
+use Rattle.std.proofs.Common.{◌≡◌, ℕ, List, ◌++◌, filter, Some, ap, sym, ◌∙◌}
 use Rattle.rasta_pdu.specs.Pdu.{SafetyPdu, messages_in, is_kind}
 use Rattle.rasta_end.specs.State.{EndState, Made}
 use Rattle.rasta_check.specs.Model.Theorem.{HandsUpUnits, units_handed}

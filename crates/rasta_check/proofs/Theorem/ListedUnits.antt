@@ -1,6 +1,6 @@
 -- The units that two lists show to be taken: their members, their proofs, and that they were handed up.
 use Rattle.std.proofs.Common.{◌≡◌, ℕ, zero, suc, ◌+◌, ◌<◌, ◌≤◌, true, false, List, [], ◌∷◌, ◌++◌, length, Option, Some, slice_get, take, drop, refl, ap, sym, ◌∙◌, arith, append_assoc}
-use Rattle.std.specs.Prelude.{map, filter, fold, max, nat_lt, if◌then◌else◌}
+use Rattle.std.specs.Prelude.{map, filter, fold, max, nat_lt}
 use Rattle.std.specs.Option.{option_map}
 use Rattle.std.proofs.lemmas.Bool.Decides.{nat_tests}
 use Rattle.std.proofs.lemmas.List.{length-map, map-append, take-append-drop, take-append-le, take-map, take_all}

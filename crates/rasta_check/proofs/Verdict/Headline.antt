@@ -1,7 +1,6 @@
 -- The headline of a verdict, from the theorem over runs.
 use Rattle.std.specs.Prelude.{if◌then◌else◌, take}
-use Rattle.std.proofs.Common.{◌≡◌, ℕ, ◌-◌, List, [], ◌++◌, length, Result, Ok, Err, Some, slice_get, refl, ap, sym, ◌∙◌, arith, subst}
-use Rattle.rasta_pcap.specs.declared.fault.Fault.{Fault}
+use Rattle.std.proofs.Common.{◌≡◌, ℕ, ◌-◌, List, [], length, Ok, Some, slice_get, refl, ap, sym, ◌∙◌, arith, subst}
 use Rattle.rasta_pcap.specs.declared.fault.Side.{Side}
 use Rattle.rasta_pcap.specs.declared.fault.Side.TheVariants.{Client, Server}
 use Rattle.rasta_udp.specs.Frame.{Packet}
@@ -13,15 +12,13 @@ use Rattle.rasta_end.specs.Units.{units_at}
 use Rattle.rasta_check.specs.Capture.Crossing.{FirstCopy}
 use Rattle.rasta_check.specs.Model.World.{World, end_of, other_side, Reaches}
 use Rattle.rasta_check.specs.Model.Taken.{surely_taken, position_with, pdus_of, all_made, units_shown, units_taken, units_from, data_copies}
-use Rattle.rasta_check.specs.Model.Laws.{HandsUp}
-use Rattle.rasta_check.specs.Script.Following.{Follows}
-use Rattle.rasta_check.specs.Internals.Checking.{follow, where_followed, verdict_of}
-use Rattle.rasta_check.specs.Model.Theorem.{Appends, units_handed, units_listed}
+use Rattle.rasta_check.specs.Internals.Checking.{follow, verdict_of}
+use Rattle.rasta_check.specs.Model.Theorem.{units_handed, units_listed}
 use Rattle.rasta_check.specs.Capture.Reading.{Crossing, IsCrossing, sent_by}
 use Rattle.rasta_check.specs.Verdict.Listed.{messages_taken, ListedMessage, listed, numbered_from}
 use Rattle.rasta_check.specs.Verdict.Report.{Explained, report_of, BothFit}
 use Rattle.rasta_check.specs.Internals.Listing.{listed_by, shown_by, proofs_from}
-use Rattle.rasta_check.specs.Verdict.Headline.{messages_in_list, units_offered, HandsUpListed, Headline, IsSharp}
+use Rattle.rasta_check.specs.Verdict.Headline.{HandsUpListed, Headline, IsSharp}
 use Rattle.rasta_check.proofs.Capture.FaultlessLists.{IsSent}
 use Rattle.rasta_check.proofs.Capture.Crossings.{few_of, list_of}
 use Rattle.rasta_check.proofs.Script.FollowedScripts.{follow_fits}

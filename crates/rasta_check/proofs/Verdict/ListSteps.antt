@@ -5,7 +5,7 @@ use Rattle.rasta_end.specs.State.{EndState}
 use Rattle.rasta_check.specs.Capture.Crossing.{FirstCopy}
 use Rattle.rasta_check.specs.declared.report.Taken.{Taken}
 use Rattle.rasta_check.specs.Model.Taken.{TakenUnit}
-use Rattle.rasta_check.specs.Verdict.Listed.{TakenMessage, messages_taken, ListedMessage, listed_of, numbered_from}
+use Rattle.rasta_check.specs.Verdict.Listed.{TakenMessage, messages_taken, listed_of, numbered_from}
 use Rattle.rasta_check.specs.Internals.Listing.{shown_by, with_proofs, proofs_from, proved_unit, proved_units}
 use Rattle.rasta_check.proofs.Lists.{drop_one_more}
 use Rattle.rasta_pdu.specs.Pdu.{is_kind}

@@ -1,7 +1,6 @@
 use Rattle.std.proofs.Common.{◌+◌, ◌∙◌, ap, sym, refl}
 use Rattle.rasta_check.specs.Capture.Lists.{copy_of}
-use Rattle.rasta_check.specs.Model.Taken.{TakenUnit}
-use Rattle.rasta_check.specs.Verdict.Listed.{messages_of_unit, messages_taken, listed_of, numbered_from}
+use Rattle.rasta_check.specs.Verdict.Listed.{messages_of_unit, messages_taken}
 use Rattle.rasta_check.specs.Internals.Listing.{proved_unit, proved_units}
 use Rattle.rasta_check.proofs.Verdict.ListSteps.{other_copy, unproved_copy, proved_copy, added_more}
 use Rattle.rasta_check.proofs.surely_taken.add_unit.Goals as goal
