@@ -52,8 +52,8 @@ module _ (p : Parameters) (packets : ℕ) (own peer : List FirstCopy) where
   abbrev Behind : Cursor → Type 0
   Behind u = (j : ℕ) (c : FirstCopy) → j < u.made → slice_get own j ≡ Some c → c.place < u.level
 
-  head_rests : (u : Cursor) (c : FirstCopy) (left : List FirstCopy) → Rests u (c ∷ left) → slice_get own u.made ≡ Some c
-  head_rests u c left h = subst (λ n. slice_get own n ≡ Some c) (omega arith) (h 0)
+  head : (u : Cursor) (left : List FirstCopy) → Rests u left → slice_get own u.made ≡ slice_get left 0
+  head u left h = (let z : u.made + 0 ≡ u.made = omega arith in rw z at (h 0))
 
   rests_on : (u v : Cursor) (c : FirstCopy) (left : List FirstCopy) → v.made ≡ suc u.made → Rests u (c ∷ left) → Rests v left
   rests_on u v c left e h j = ap (slice_get own) (let z = e in omega arith) ∙ h (suc j)
@@ -71,8 +71,7 @@ module _ (p : Parameters) (packets : ℕ) (own peer : List FirstCopy) where
   unfolding follow_from
   runs side entry u [] rest (c ∷ made) left taken e r b f = absurd (let z = f.makes in cc)
   runs side entry u [] rest [] left (j ∷ taken) e r b f = absurd f.takes
-  runs side entry u [] rest [] left [] e r b f =
-      (λ i. follow_from p side packets own peer entry (record { level = u.level; made = u.made; taken = u.taken; state = f.ends i }) rest)
+  runs side entry u [] rest [] left [] e r b f = rw (sym f.ends) refl
   runs side entry u (Take slot number ∷ xs) rest made left [] e r b f = absurd f.takes
   runs side entry u (Take slot number ∷ xs) rest made left (position ∷ taken) e r b f =
       let c = f.ends.0 in
@@ -86,7 +85,7 @@ module _ (p : Parameters) (packets : ℕ) (own peer : List FirstCopy) where
   runs side entry u (Make place clock why ∷ xs) rest (c ∷ made) left taken e r b f =
       let same : place ≡ c.place = (let z = f.makes in cc) in
       let low : u.level ≤ c.place = (let z = f.slots.0 in omega arith) in
-      let there = head_rests u c (made ++ left) r in
+      let there = head u (c ∷ (made ++ left)) r in
       let found = place_first own u.made c there (λ j d l k q. (let y = b j d l k in omega (arith, q, y, low))) in
       let v : Cursor = record { level = suc place; made = suc u.made; taken = u.taken; state = f.ends.0 } in
       rw (gone p packets own peer u v (Make place clock why) (makes place clock why c f.ends.0 f.slots.0 (rw same found) there (sym same) f.ends.1))
@@ -104,9 +103,6 @@ module _ (p : Parameters) (packets : ℕ) (own peer : List FirstCopy) where
     fits : (xs : List Entry) (made : List FirstCopy) (taken : List ℕ) (e : EndState) → FitsFrom v xs made taken e
         → (positions : List ℕ) × FitsFrom u (x ∷ xs) (one ++ made) positions e × (reached u (x ∷ xs) (one ++ made) positions e ≡ reached v xs made taken e)
 
-  none_there : (u : Cursor) (c : FirstCopy) → Rests u [] → slice_get own u.made ≡ Some c → ⊥
-  none_there u c r g = absurd (let z : slice_get own u.made ≡ None = subst (λ n. slice_get own n ≡ None) (omega arith) (r 0) in cc)
-
   consed : (u v : Cursor) (x : Entry) (left : List FirstCopy) → Goes p packets own peer u x v → Rests u left → Consed u v x left
   consed u v x left (takes slot number position c after low high at g front up t) r =
       let named : copy_with peer number ≡ Some c = copy_of_position peer number position at ∙ g in
@@ -122,9 +118,9 @@ module _ (p : Parameters) (packets : ℕ) (own peer : List FirstCopy) where
           refl,
         );
       }
-  consed u v x [] (makes place clock why c after low at g same m) r = absurd (none_there u c r g)
+  consed u v x [] (makes place clock why c after low at g same m) r = absurd (let z = head u [] r in cc)
   consed u v x (d ∷ left) (makes place clock why c after low at g same m) r =
-      let is : c ≡ d = (let there = head_rests u d left r in cc) in
+      let is : c ≡ d = (let there = head u (d ∷ left) r in cc) in
       let here : place ≡ d.place = sym same ∙ ap (λ (z : FirstCopy). z.place) is in
       record {
         one = d ∷ [];
@@ -164,10 +160,10 @@ module _ (p : Parameters) (packets : ℕ) (own peer : List FirstCopy) where
       by cs q None k = grind arith
       by [] q (Some i) k =
           let f = place_found own place i k in
-          let none : i ≡ w.made → ⊥ = λ at. none_there w f.0 q (sym (ap (slice_get own) at) ∙ f.1) in
+          let none : i ≡ w.made → ⊥ = λ at. absurd (let z = ap (slice_get own) at ∙ head w [] q in cc (f.1)) in
           rw k (grind (arith, nat_tests))
       by (d ∷ cs) q (Some i) k =
-          let there : i ≡ w.made → slice_get own i ≡ Some d = λ at. ap (slice_get own) at ∙ head_rests w d cs q in
+          let there : i ≡ w.made → slice_get own i ≡ Some d = λ at. ap (slice_get own) at ∙ head w (d ∷ cs) q in
           let z = by_rules (make_fault p w.state d.pdu.safety clock why) (made_there w place (after_make w.state d.pdu.safety clock why)) in
           rw k (grind (arith, nat_tests))
 
@@ -194,12 +190,11 @@ module _ (p : Parameters) (packets : ℕ) (own peer : List FirstCopy) where
       → FaultFrom side (suc entry) v xs z.others f → FaultFrom side entry u (x ∷ xs) left f
   fault_after side entry u v x xs left f z (one_of front behind y made rest taken e number is parts fits says) =
       let w = z.fits front made taken e fits in
-      one_of (x ∷ front) behind y (z.one ++ made) rest w.0 e number (ap (λ (l : List Entry). x ∷ l) is)
-      (z.is ∙ (ap (λ (l : List FirstCopy). z.one ++ l) parts ∙ sym (append_assoc z.one made rest))) w.1
+      one_of (x ∷ front) behind y (z.one ++ made) rest w.0 e number (ap (λ (l : List Entry). x ∷ l) is) (z.is ∙ rw (parts, append_assoc) refl) w.1
       (subst (λ (q : Cursor). entry_fault q rest y ≡ Some number) (sym w.2) says)
   fault_after side entry u v x xs left f z (none_left made rest c taken e fits parts) =
       let w = z.fits xs made taken e fits in
-      none_left (z.one ++ made) rest c w.0 e w.1 (z.is ∙ (ap (λ (l : List FirstCopy). z.one ++ l) parts ∙ sym (append_assoc z.one made (c ∷ rest))))
+      none_left (z.one ++ made) rest c w.0 e w.1 (z.is ∙ rw (parts, append_assoc) refl)
 
   -- an end that the script fits with, or its first fault
   abbrev Answered : Side → ℕ → Cursor → List Entry → List FirstCopy → Result EndState Fault → Type 0
@@ -215,11 +210,11 @@ module _ (p : Parameters) (packets : ℕ) (own peer : List FirstCopy) where
       → Answered side entry u xs left (follow_from p side packets own peer entry u xs)
   unfolding follow_from
   answered side entry u [] [] r l =
-      let none : u.made < length own → ⊥ = λ q. (let f = slice_get_some own u.made q in none_there u f.0 r f.1) in
+      let none : u.made < length own → ⊥ = λ q. absurd (let f = slice_get_some own u.made q in let z = head u [] r in cc (f.1)) in
       let all : (u.made == length own) ≡ true = grind (arith, nat_tests) in
       rw all ([], here u)
   answered side entry u [] (c ∷ left) r l =
-      let m = slice_get_within own u.made c (head_rests u c left r) in
+      let m = slice_get_within own u.made c (head u (c ∷ left) r) in
       let more : (u.made == length own) ≡ false = grind (arith, nat_tests) in
       rw more (none_left [] left c [] u.state (here u) refl)
   answered side entry u (x ∷ xs) left r l = by (next_cursor p packets own peer u x) refl (λ v cs q m. answered side (suc entry) v xs cs q m)

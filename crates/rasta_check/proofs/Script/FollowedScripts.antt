@@ -42,12 +42,9 @@ module _ (p : Parameters) (packets : ℕ) (own peer : List FirstCopy) where
       by (Some position) k e =
           let f = number_found peer number position k in
           let z = rw (k, f.1) at e in
-          let low : u.level ≤ slot = grind (arith, nat_tests) in
-          let high : slot ≤ packets = grind (arith, nat_tests) in
-          let front : f.0.place < slot = grind (arith, nat_tests) in
-          let up : u.taken ≤ position = grind (arith, nat_tests) in
+          let ok : (u.level ≤ slot) × (slot ≤ packets) × (f.0.place < slot) × (u.taken ≤ position) = grind (arith, nat_tests) in
           let d = allowed (take_fault p u.state u.state.clock) (taken_there u slot position (after_take p u.state f.0.pdu.safety)) v (grind arith) in
-          subst (Goes u (Take slot number)) d.1 (takes slot number position f.0 _ low high k f.1 front up (d.0, refl))
+          subst (Goes u (Take slot number)) d.1 (takes slot number position f.0 _ ok.0 ok.1 k f.1 ok.2 ok.3 (d.0, refl))
   goes u v (Make place clock why) e = by (position_of_place own place) refl e
     where
       by : (o : Option ℕ) → position_of_place own place ≡ o → make_entry p own u place clock why ≡ Ok v → Goes u (Make place clock why) v
