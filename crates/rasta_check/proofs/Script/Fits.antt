@@ -26,9 +26,9 @@ abbrev counted : {A : Type 0} → ℕ → List A → ℕ
 counted n [] = n
 counted n (x ∷ xs) = counted (suc n) xs
 
-counted_is : {A : Type 0} (n : ℕ) (xs : List A) → counted n xs ≡ n + length xs
-counted_is n [] = omega arith
-counted_is n (x ∷ xs) = (let z = counted_is (suc n) xs in omega (arith, z))
+counted_is : {A : Type 0} (n : ℕ) (xs : List A) (m : ℕ) → n + length xs ≡ m → counted n xs ≡ m
+counted_is n [] m e = omega arith
+counted_is n (x ∷ xs) m e = counted_is (suc n) xs m (omega arith)
 
 module _ (p : Parameters) (packets : ℕ) (own peer : List FirstCopy) where
   -- ---- entries from a cursor on
@@ -237,9 +237,7 @@ module _ (p : Parameters) (packets : ℕ) (own peer : List FirstCopy) where
       → follow p side packets own peer (es ++ rest)
       ≡ follow_from p side packets own peer (suc (length es)) (record { level = level_after 0 es; made = length made; taken = position_after 0 f.taken; state = e }) rest
   from_start side es rest made left e parts f =
-      let entry : suc (length es) ≡ counted 1 es = (let z = counted_is 1 es in omega arith) in
-      let count : length made ≡ counted 0 made = (let z = counted_is 0 made in omega arith) in
-      rw (entry, count)
+      rw (sym (counted_is 1 es (suc (length es)) (omega arith)), sym (counted_is 0 made (length made) (omega arith)))
       (runs side 1 (at_start (start_of p side)) es rest made left f.taken e (λ j. (let z : 0 + j ≡ j = omega arith in rw (z, parts) refl)) (λ j c l g. absurd (omega arith))
       (record { makes = f.makes; slots = f.slots; takes = f.takes; ends = f.ends }))
 
@@ -260,14 +258,11 @@ module _ (p : Parameters) (packets : ℕ) (own peer : List FirstCopy) where
   pub is_fault : (side : Side) (es : List Entry) (f : Fault) → follow p side packets own peer es ≡ Err f → FirstFault p side packets own peer es f
   is_fault side es f h = by f (by_code side es (Err f) h)
     where
-      first : (xs : List Entry) → counted 1 xs ≡ suc (length xs)
-      first xs = (let z = counted_is 1 xs in omega arith)
-
       by : (f : Fault) → FaultFrom side 1 (at_start (start_of p side)) es own f → FirstFault p side packets own peer es f
       by f (one_of front behind x made left taken e number is parts fits says) =
-          let made_is : counted 0 made ≡ length made = (let z = counted_is 0 made in omega arith) in
-          rw (first front) (at_entry front behind x made left e (to_start side made front taken e fits) number is parts (rw made_is at says))
-      by f (none_left made left c taken e fits parts) = rw (first es) (after_last made left c e (to_start side made es taken e fits) parts)
+          let made_is = counted_is 0 made (length made) (omega arith) in
+          rw (counted_is 1 front (suc (length front)) (omega arith)) (at_entry front behind x made left e (to_start side made front taken e fits) number is parts (rw made_is at says))
+      by f (none_left made left c taken e fits parts) = rw (counted_is 1 es (suc (length es)) (omega arith)) (after_last made left c e (to_start side made es taken e fits) parts)
 
   pub fault_is : (side : Side) (es : List Entry) (f : Fault) → FirstFault p side packets own peer es f → follow p side packets own peer es ≡ Err f
   unfolding follow_from
