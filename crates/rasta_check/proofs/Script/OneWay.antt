@@ -18,10 +18,7 @@ first_is_new p xs s own h l i c g w =
     let same : r.1.pdu ≡ w.earlier.pdu = read_once p h.valid s r.1.pdu w.earlier.pdu w.carried.packet.payload r.4 w.carried.spelled in
     let q : i ≡ r.0 = number_once own (ordered h) l i r.0 c r.1 g r.2 (sym (ap (λ (d : RedundancyPdu). d.number) same ∙ w.same_number)) in
     let e : c ≡ r.1 = (let z = rw (sym q) at r.2 in cc) in
-    let at = ap (λ (x : FirstCopy). x.place) e in
-    let before = w.before in
-    let behind = r.3 in
-    omega arith
+    omega (arith, ap (λ (x : FirstCopy). x.place) e, w.before, r.3)
 
 -- a packet whose number didn't cross before is that of a member
 pub new_is_first : (p : Parameters) (xs : List Packet) (s : Side) (own : List FirstCopy) → IsSent p xs s own → (k : ℕ) (a : Packet) (d : RedundancyPdu) → slice_get xs k ≡ Some a → a.side ≡ s → Spells p s d a.payload

@@ -46,8 +46,7 @@ module _ (e0 f0 e f : EndState) (t : ℕ) (w0 : Shown e0 f0) (w : Shown e f) (g 
       let old = z.2 in
       let same : c ≡ z.0 = numbered_once f.made few g.list.numbered c z.0 s.m old.m s.there (gf.made z.0 old.m old.there) (s.same ∙ sym old.same) in
       let at = slice_get-get_or (values f0) z.0 0 (omega (arith, slice_get_within f0.made z.0 old.m old.there, length-values f0.asks f0.made)) in
-      let now = gf.kept z.0 _ at in
-      let eq : slice_index_or (values f0) z.0 0 ≡ v = (let h' = rw same at h in cc) in
+      let eq : slice_index_or (values f0) z.0 0 ≡ v = (let h' = rw same at h in cc (gf.kept z.0 _ at)) in
       omega (arith, w0.shown q m there k z.0 (slice_index_or (values f0) z.0 0) old at, eq))
       (w0.judged q m there k)
 

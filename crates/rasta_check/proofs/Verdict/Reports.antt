@@ -45,9 +45,7 @@ units_named ms vs cs h b l f small = by (position_with (pdus_made ms) cs) refl
         get_or_none vs i (slice_get_past vs i (omega (arith, past)))
     by (Some i) e =
         let s = found_position ms cs i e in
-        let z = sn_mod ms i cs h s in
-        let w = slice_get_within ms i s.m s.there in
-        ap (λ k. slice_index_or vs k 0) (omega arith)
+        ap (λ k. slice_index_or vs k 0) (omega (arith, sn_mod ms i cs h s, slice_get_within ms i s.m s.there))
 
 -- the first SN of what an end made has 32 bits
 pub first_small : (q : Option Quiet) (s : Side) (ms : List Made) (own : List FirstCopy) → pdus_made ms ≡ pdus_made (start_by q s).made ++ pdus_of own
