@@ -17,9 +17,6 @@ use Rattle.rasta_check.proofs.Lists.{begins_with, get_front, get_front_within, g
 abbrev pub joined : List (List (List ℕ)) → List (List ℕ)
 joined units = flat_map (λ (ms : List (List ℕ)). ms) units
 
-pub joined-append : (xs ys : List (List (List ℕ))) → joined (xs ++ ys) ≡ joined xs ++ joined ys
-joined-append xs ys = flat_map-append (λ (ms : List (List ℕ)). ms) xs ys
-
 pub up_joined : (xs : List SafetyPdu) → flat_map (λ (x : SafetyPdu). messages_in x.body) xs ≡ joined (map (λ (x : SafetyPdu). messages_in x.body) xs)
 up_joined xs = sym (flat_map-map (λ (ms : List (List ℕ)). ms) (λ (x : SafetyPdu). messages_in x.body) xs)
 
@@ -84,4 +81,4 @@ message_up us m proof message o handed h =
     let first = units_listed (take (suc o.i) us) in
     let r = begins_with first handed
     (λ j ms g. (let u = get_mapped (λ (u : TakenUnit). u.messages) (take (suc o.i) us) j ms g in let x = get_take us (suc o.i) j u.0 u.1 in h j u.0 (omega (arith, x.0)) x.1 ∙ ap Some u.2)) in
-    ap (λ units. slice_get (joined units) m) r.1 ∙ (ap (λ ms. slice_get ms m) (joined-append first r.0) ∙ get_front (joined first) (joined r.0) m message o.first)
+    ap (λ units. slice_get (joined units) m) r.1 ∙ (ap (λ ms. slice_get ms m) (flat_map-append (λ (ms : List (List ℕ)). ms) first r.0) ∙ get_front (joined first) (joined r.0) m message o.first)

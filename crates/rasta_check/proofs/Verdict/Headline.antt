@@ -1,5 +1,6 @@
 -- The headline of a verdict, from the theorem over runs.
 use Rattle.std.specs.Prelude.{if◌then◌else◌, take}
+use Rattle.std.proofs.lemmas.Grind.{flat_map-append}
 use Rattle.std.proofs.Common.{◌≡◌, ℕ, ◌-◌, List, [], length, Ok, Some, slice_get, refl, ap, sym, ◌∙◌, arith, subst}
 use Rattle.rasta_pcap.specs.declared.fault.Side.{Side}
 use Rattle.rasta_pcap.specs.declared.fault.Side.TheVariants.{Client, Server}
@@ -29,7 +30,7 @@ use Rattle.rasta_check.proofs.Theorem.SentRuns.{Known, known}
 use Rattle.rasta_check.proofs.Script.CutScripts.{sharp}
 use Rattle.rasta_check.proofs.Theorem.Necessity.{hands_up, first, proof_appended, in_time_through}
 use Rattle.rasta_check.proofs.Theorem.FirstUnits.{offered_first}
-use Rattle.rasta_check.proofs.Theorem.JoinedMessages.{joined, joined-append, up_joined, listed_joined, of_listed, message_up}
+use Rattle.rasta_check.proofs.Theorem.JoinedMessages.{joined, up_joined, listed_joined, of_listed, message_up}
 use Rattle.rasta_check.proofs.Verdict.Reports.{units_named, first_small, are_proofs, units_are}
 use Rattle.rasta_pdu.specs.Pdu.{is_kind}
 use Rattle.rasta_pdu.specs.declared.kind.Kind.TheVariants.{ConnectionRequest}
@@ -86,7 +87,7 @@ module _ (p : Parameters) (packets : List Packet) (c s : List FirstCopy) (h : Is
         record {
           labels = rw (twice side) up.labels;
           units = (offered.0, rw (twice side) offered.1);
-          first = (joined first.0, rw (up_joined, first.1, is, listed_joined) (joined-append (units_listed us) first.0));
+          first = (joined first.0, rw (up_joined, first.1, is, listed_joined) (flat_map-append (λ (ms : List (List ℕ)). ms) (units_listed us) first.0));
           appended = λ i m g.
               (let o = of_listed us i m (rw is at g) in
               rw o.place (proof_appended p ws w side own peer r (run_sent side) (run_sent (other_side side)) (few_of k h side) (few_of k h (other_side side)) o.i o.u o.there));

@@ -14,14 +14,14 @@ use Rattle.rasta_pdu.specs.declared.kind.Kind.TheVariants.{Data}
 -- ---- what is left of a list
 
 pub left_at : (xs : List FirstCopy) (i : ℕ) (x : FirstCopy) → slice_get xs i ≡ Some x → drop i xs ≡ x ∷ drop (i + 1) xs
-left_at xs i x g = drop_one_more i xs x g ∙ ap (λ k. x ∷ drop k xs) (sym (add-one i))
+left_at xs i x g = rw add-one (drop_one_more i xs x g)
 
 -- ---- places of proofs
 
 pub proofs_more : (e : EndState) (xs : List FirstCopy) (i : ℕ) (x : FirstCopy) (places new : List ℕ) → slice_get xs i ≡ Some x
     → new ≡ with_proofs places (shown_by e x.pdu.safety) x.place → proofs_from e new (drop (i + 1) xs) ≡ proofs_from e places (drop i xs)
 unfolding proofs_from
-proofs_more e xs i x places new g h = ap (λ ps. proofs_from e ps (drop (i + 1) xs)) h ∙ sym (ap (proofs_from e places) (left_at xs i x g))
+proofs_more e xs i x places new g h = rw (h, left_at xs i x g) refl
 
 pub proofs_end : (e : EndState) (xs : List FirstCopy) (i : ℕ) (places : List ℕ) → length xs ≤ i → proofs_from e places (drop i xs) ≡ places
 unfolding proofs_from
@@ -69,7 +69,7 @@ module _ (old new : List Taken) (added more : List TakenMessage) where
 -- ---- first copies that are left
 
 pub units_left : (places : List ℕ) (unit : ℕ) (xs : List FirstCopy) (i : ℕ) (x : FirstCopy) → slice_get xs i ≡ Some x → proved_units places unit (drop i xs) ≡ proved_units places unit (x ∷ drop (i + 1) xs)
-units_left places unit xs i x g = ap (proved_units places unit) (left_at xs i x g)
+units_left places unit xs i x g = rw (left_at xs i x g) refl
 
 pub units_end : (places : List ℕ) (unit : ℕ) (xs : List FirstCopy) (i : ℕ) → length xs ≤ i → proved_units places unit (drop i xs) ≡ []
 unfolding proved_units
