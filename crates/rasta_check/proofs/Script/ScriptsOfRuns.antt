@@ -94,8 +94,7 @@ sends_count p s xs own e f h = (let a = simp (length-append, length-map) at (ap 
 pub copy_at : (p : Parameters) (s : Side) (xs : List Packet) (own : List FirstCopy) (e : EndState) (f i : ℕ) (m : Made) → Sends p s xs own e f → slice_get e.made (base p + i) ≡ Some m → (c : FirstCopy) × (slice_get own i ≡ Some c) × (c.pdu.safety ≡ m.pdu)
 copy_at p s xs own e f i m h g =
     let l : length (pdus_made (start_of p s).made) ≡ base p = length-map (start_of p s).made (λ (x : Made). x.pdu) ∙ start_made p.quiet s in
-    let a : slice_get (pdus_made (start_of p s).made ++ pdus_of own) (base p + i) ≡ Some m.pdu =
-    sym (ap (λ (ps : List SafetyPdu). slice_get ps (base p + i)) h.same) ∙ map_at (λ (x : Made). x.pdu) e.made (base p + i) m g in
+    let a = rw h.same at (map_at (λ (x : Made). x.pdu) e.made (base p + i) m g) in
     get_mapped (λ (c : FirstCopy). c.pdu.safety) own i m.pdu (sym (get_past (pdus_made (start_of p s).made) (pdus_of own) i) ∙ rw l a)
 
 -- a packet of the other side leaves what an end sends

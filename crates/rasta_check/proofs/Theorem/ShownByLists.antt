@@ -25,9 +25,7 @@ fold_max_le [] n a h g = h
 fold_max_le (m ∷ ms) n a h g = fold_max_le ms n (max a m) (let z = g 0 m refl in omega (arith, h, z)) (λ k d s. g (suc k) d s)
 
 asked-append : (own xs ys : List SafetyPdu) → asked_positions own (xs ++ ys) ≡ asked_positions own xs ++ asked_positions own ys
-asked-append own xs ys =
-    ap (filter_map (λ (x : SafetyPdu). position_with own x.cs)) (filter-append (λ (x : SafetyPdu). is_kind RetransmissionRequest x.kind) xs ys)
-    ∙ filter_map-append (λ (x : SafetyPdu). position_with own x.cs) (filter (λ (x : SafetyPdu). is_kind RetransmissionRequest x.kind) xs) (filter (λ (x : SafetyPdu). is_kind RetransmissionRequest x.kind) ys)
+asked-append own xs ys = simp (filter-append, filter_map-append)
 
 -- e made the units, f took them. The list of f may leave out first PDUs that ask for nothing
 module _ (e f : EndState) (t u : ℕ) (h : Held e t f.made) (peer : Held f u e.made) (w : Valued e) (once : NamesOne e f) (first ps : List SafetyPdu)
@@ -36,10 +34,8 @@ module _ (e f : EndState) (t u : ℕ) (h : Held e t f.made) (peer : Held f u e.m
   values_agree : units_along (pdus_made e.made) ps ≡ values e
   values_agree =
       let b = (in_order e f t u h peer w once).beginning in
-      let all : asked_positions (pdus_made e.made) ps ≡ asked_positions (pdus_made e.made) (pdus_made f.made) =
-      sym (ap (asked_positions (pdus_made e.made)) made ∙ (asked-append (pdus_made e.made) first ps ∙ ap (λ ns. ns ++ asked_positions (pdus_made e.made) ps) none)) in
-      ap (λ asks. all_units_conveyed asks (map (λ (x : SafetyPdu). x.kind) (pdus_made e.made))) (all ∙ b.1)
-      ∙ (ap (all_units_conveyed (e.asks ++ b.0)) (map-map (λ (x : SafetyPdu). x.kind) (λ (m : Made). m.pdu) e.made) ∙ more_asks e.asks b.0 (kinds e.made) (omega (arith, answers_number e.made, h.asks.asked)))
+      let all : asked_positions (pdus_made e.made) ps ≡ asked_positions (pdus_made e.made) (pdus_made f.made) = rw (made, asked-append (pdus_made e.made) first ps, none) refl in
+      rw (all, b.1, map-map) (more_asks e.asks b.0 (kinds e.made) (omega (arith, answers_number e.made, h.asks.asked)))
 
   -- a PDU of f shows no more units than f has handed up
   shows_handed : Shown f e → (i : ℕ) (x : SafetyPdu) → slice_get ps i ≡ Some x → units_shown (pdus_made e.made) ps x ≤ length f.handed
