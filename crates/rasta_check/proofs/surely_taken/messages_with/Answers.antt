@@ -13,11 +13,8 @@ loop-position-preserved g c =
     let xs = g.S.SentList.content c.args.own.now in
     elim c.match-get.branch [
       | in-Some+in_ok-unit w ↦
-          (λ i. map listed_of (w.items-is i).items ++ numbered_from (length (w.items-is i).items) (messages_taken (proved_units c.args.proofs.now (w.unit-is i) (drop (c.loop-position.position + 1) xs))))
-          ∙ (w.in_ok-unit.ensures (drop (c.loop-position.position + 1) xs)
-          ∙ (ap (λ (us : _). map listed_of c.loop-position.items.items ++ numbered_from (length c.loop-position.items.items) (messages_taken us))
-          (sym (units_left c.args.proofs.now c.loop-position.unit xs c.loop-position.position (copy_of (w.in-Some.place, w.in-Some.pdu)) (sym w.in-Some.ensures.value)))
-          ∙ c.loop-position.invariant))
+          rw (w.items-is, w.unit-is, w.in_ok-unit.ensures (drop (c.loop-position.position + 1) xs))
+          (rw (sym (units_left c.args.proofs.now c.loop-position.unit xs c.loop-position.position (copy_of (w.in-Some.place, w.in-Some.pdu)) (sym w.in-Some.ensures.value))) c.loop-position.invariant)
       | in_default w ↦ absurd (none_within xs c.loop-position.position
           (let a = c.loop-position-test.true in let b = c.len-position-end.ensures.value in omega arith)
           (ap (option_map copy_of) (sym w.in_default.is) ∙ c.get.ensures.value))
