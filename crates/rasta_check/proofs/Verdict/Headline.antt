@@ -64,8 +64,7 @@ module _ (p : Parameters) (packets : List Packet) (c s : List FirstCopy) (h : Is
         let e = end_of w side in
         let first = first_small p.quiet side e.made own kn.sends.same (λ j x y. ((list_of k h side).firsts j x y).3.fits.sn) in
         ap (λ n. if is_kind ConnectionRequest d.pdu.safety.kind then 0 else n)
-        (units_named e.made (values e) d.pdu.safety.cs kn.all.mine.held.list.numbered kn.few (length-values e.asks e.made) first ((list_of k h (other_side side)).firsts i d g).3.fits.cs
-        ∙ (λ j. units_at (sym kn.along j) (position_with (kn.sends.same j) d.pdu.safety.cs)))
+        (rw (kn.along, sym kn.sends.same) (units_named e.made (values e) d.pdu.safety.cs kn.all.mine.held.list.numbered kn.few (length-values e.asks e.made) first ((list_of k h (other_side side)).firsts i d g).3.fits.cs))
 
     list_is : listed_by (end_of w side) own peer ≡ listed p side own peer
     list_is =

@@ -76,9 +76,7 @@ module _ (e : EndState) (own peer : List SafetyPdu) where
   length-places : (places : List ℕ) (copies : List FirstCopy) → ShowAsMuch copies → length (proofs_from e places copies) ≡ fold max (length places) (map (units_shown own peer) (pdus_of copies))
   unfolding proofs_from
   length-places places [] h = refl
-  length-places places (c ∷ copies) h =
-      length-places (with_proofs places (shown_by e c.pdu.safety) c.place) copies (λ i d g. h (suc i) d g)
-      ∙ ap (λ n. fold max n (map (units_shown own peer) (pdus_of copies))) (length-with_proofs places (shown_by e c.pdu.safety) c.place ∙ ap (max (length places)) (h 0 c refl))
+  length-places places (c ∷ copies) h = rw (length-places (with_proofs places (shown_by e c.pdu.safety) c.place) copies (λ i d g. h (suc i) d g), length-with_proofs, h 0 c refl) refl
 
   -- what has a place keeps it
   place_stays : (places : List ℕ) (copies : List FirstCopy) (k v : ℕ) → slice_get places k ≡ Some v → slice_get (proofs_from e places copies) k ≡ Some v
