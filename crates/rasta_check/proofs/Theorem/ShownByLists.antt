@@ -1,13 +1,12 @@
 -- What two lists of PDUs show was handed up.
-use Rattle.std.proofs.Common.{◌≡◌, ℕ, suc, ◌+◌, ◌≤◌, List, [], ◌∷◌, ◌++◌, length, Some, slice_get, refl, ap, sym, ◌∙◌, arith}
-use Rattle.std.specs.Prelude.{max, map, filter, filter_map, fold}
+use Rattle.std.proofs.Common.{◌≡◌, ℕ, suc, ◌+◌, ◌≤◌, List, [], ◌∷◌, ◌++◌, length, Some, slice_get, refl, ap, ◌∙◌, arith}
+use Rattle.std.specs.Prelude.{max, map, fold}
 use Rattle.std.proofs.lemmas.List.Elements.{filter-append, filter_map-append}
 use Rattle.std.proofs.lemmas.Simd.{map-map}
-use Rattle.rasta_pdu.specs.Pdu.{SafetyPdu, is_kind}
+use Rattle.rasta_pdu.specs.Pdu.{SafetyPdu}
 use Rattle.rasta_end.specs.State.{Made, EndState, kinds}
-use Rattle.rasta_end.specs.Units.{all_units_conveyed}
 use Rattle.rasta_end.proofs.Conveying.{more_asks}
-use Rattle.rasta_check.specs.Model.Taken.{pdus_made, position_with, asked_positions, units_along, units_shown, units_taken}
+use Rattle.rasta_check.specs.Model.Taken.{pdus_made, asked_positions, units_along, units_shown, units_taken}
 use Rattle.rasta_check.specs.Model.Laws.{NamesOne}
 use Rattle.rasta_check.proofs.Lists.{get_past, get_mapped}
 use Rattle.rasta_check.proofs.Model.Invariant.{Held}
@@ -16,7 +15,6 @@ use Rattle.rasta_check.proofs.Model.OfferedUnits.{Valued}
 use Rattle.rasta_check.proofs.Model.ShownUnits.{Shown}
 use Rattle.rasta_check.proofs.Model.Requests.{in_order}
 use Rattle.rasta_check.proofs.Theorem.ShowingPdus.{shows_most}
-use Rattle.rasta_pdu.specs.declared.kind.Kind.TheVariants.{RetransmissionRequest}
 
 -- The greatest of what each shows.
 

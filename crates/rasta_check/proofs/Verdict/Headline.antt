@@ -9,10 +9,9 @@ use Rattle.rasta_pdu.specs.Params.{Parameters}
 use Rattle.rasta_cert.specs.Certificate.{Scripts}
 use Rattle.rasta_cert.specs.declared.entry.Entry.{Entry}
 use Rattle.rasta_end.specs.State.{EndState}
-use Rattle.rasta_end.specs.Units.{units_at}
 use Rattle.rasta_check.specs.Capture.Crossing.{FirstCopy}
 use Rattle.rasta_check.specs.Model.World.{World, end_of, other_side, Reaches}
-use Rattle.rasta_check.specs.Model.Taken.{surely_taken, position_with, pdus_of, all_made, units_shown, units_taken, units_from, data_copies}
+use Rattle.rasta_check.specs.Model.Taken.{surely_taken, pdus_of, all_made, units_shown, units_taken, units_from, data_copies}
 use Rattle.rasta_check.specs.Internals.Checking.{follow, verdict_of}
 use Rattle.rasta_check.specs.Model.Theorem.{units_handed, units_listed}
 use Rattle.rasta_check.specs.Capture.Reading.{Crossing, IsCrossing, sent_by}

@@ -1,8 +1,6 @@
-use Rattle.std.proofs.Common.{◌+◌, ◌++◌, ◌∙◌, ap, sym, arith, drop, length, map}
+use Rattle.std.proofs.Common.{◌+◌, ◌∙◌, ap, sym, arith, drop}
 use Rattle.std.specs.Option.{option_map}
 use Rattle.rasta_check.specs.Capture.Lists.{copy_of}
-use Rattle.rasta_check.specs.Verdict.Listed.{messages_taken, listed_of, numbered_from}
-use Rattle.rasta_check.specs.Internals.Listing.{proved_units}
 use Rattle.rasta_check.proofs.Verdict.ListSteps.{units_left, units_end, listing_ends}
 use Rattle.rasta_check.proofs.Lists.{none_within}
 use Rattle.rasta_check.proofs.surely_taken.messages_with.Goals as goal
