@@ -58,13 +58,11 @@ length-numbered n [] = refl
 length-numbered n (x ∷ xs) = ap suc (length-numbered (suc n) xs)
 
 -- so many are listed, and these messages are added
-module _ (old new : List Taken) (added more : List TakenMessage) where
-  counted : map listed_of new ≡ map listed_of old ++ numbered_from (length old) added → length new ≡ length old + length added
-  counted e = (let a = ap length e in grind (arith, length-map, length-append, length-numbered))
-
-  pub added_more : map listed_of new ≡ map listed_of old ++ numbered_from (length old) added
-      → map listed_of new ++ numbered_from (length new) more ≡ map listed_of old ++ numbered_from (length old) (added ++ more)
-  added_more e = (let n = counted e in rw (e, n) (simp (numbered-append, append_assoc)))
+pub added_more : (old new : List Taken) (added more : List TakenMessage) → map listed_of new ≡ map listed_of old ++ numbered_from (length old) added
+    → map listed_of new ++ numbered_from (length new) more ≡ map listed_of old ++ numbered_from (length old) (added ++ more)
+added_more old new added more e =
+    let n : length new ≡ length old + length added = (let a = ap length e in grind (arith, length-map, length-append, length-numbered)) in
+    rw (e, n) (simp (numbered-append, append_assoc))
 
 -- ---- first copies that are left
 
