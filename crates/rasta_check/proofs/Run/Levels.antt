@@ -93,10 +93,7 @@ module _ (p : Parameters) (packets : List Packet) where
     -- the lines of a side's packet are those of the packet at this place
     here_lines : (k : ℕ) (here : Packet) (rest : List Entry) → slice_get packets k ≡ Some here → makes_at k (scripts here.side) ≡ makes_at k rest
         → side_lines k here.side (number_of here) (lists here.side) rest ≡ packet_lines k (lists Client) (lists Server) (scripts Client) (scripts Server) (slice_get packets k)
-    here_lines k here rest at m = rw (at, sym m) (by here.side)
-      where
-        by : (x : Side) → side_lines k x (number_of here) (lists x) (scripts x) ≡ by_side_lines k (number_of here) (lists Client) (lists Server) (scripts Client) (scripts Server) x
-        by x = grind arith
+    here_lines k here rest at m = rw (at, sym m) (grind arith)
 
     abbrev level_at : ℕ → List Line
     level_at k = level_lines packets (lists Client) (lists Server) (scripts Client) (scripts Server) k

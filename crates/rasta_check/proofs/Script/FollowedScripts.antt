@@ -52,10 +52,9 @@ module _ (p : Parameters) (packets : ℕ) (own peer : List FirstCopy) where
       by (Some position) k e =
           let f = place_found own place position k in
           let z = rw (k, f.1) at e in
-          let low : u.level ≤ place = grind (arith, nat_tests) in
           let same : position ≡ u.made = grind (arith, nat_tests) in
           let d = allowed (make_fault p u.state f.0.pdu.safety clock why) (made_there u place (after_make u.state f.0.pdu.safety clock why)) v (grind arith) in
-          subst (Goes u (Make place clock why)) d.1 (makes place clock why f.0 _ low (k ∙ ap Some same) (ap (slice_get own) (sym same) ∙ f.1) f.2 (no_test p u.state f.0.pdu.safety clock why d.0, refl))
+          subst (Goes u (Make place clock why)) d.1 (makes place clock why f.0 _ (grind (arith, nat_tests)) (k ∙ ap Some same) (ap (slice_get own) (sym same) ∙ f.1) f.2 (no_test p u.state f.0.pdu.safety clock why d.0, refl))
 
   -- what follows by one entry is where it leads
   leads_on : (u v : Cursor) (x : Entry) → Goes u x v → Advances p packets own peer u x v
