@@ -169,10 +169,7 @@ module _ (p : Parameters) (packets : ℕ) (own peer : List FirstCopy) where
 
   -- the code refuses an entry by the first test that holds
   refuses : (w : Cursor) (left : List FirstCopy) (x : Entry) (n : ℕ) → Rests w left → entry_fault w left x ≡ Some n → next_cursor p packets own peer w x ≡ Err n
-  refuses w left x n r h = by (next_cursor p packets own peer w x) (judged w left x r ∙ h)
-    where
-      by : (o : Result Cursor ℕ) → fault_of o ≡ Some n → o ≡ Err n
-      by o s = grind arith
+  refuses w left x n r h = (let z = judged w left x r ∙ h in grind arith)
 
   -- ---- what the code answers is the first fault
 
