@@ -38,8 +38,7 @@ module _ (p : Parameters) (n : ℕ) (packets : List Packet) (r : Side) (own peer
       let same : c ≡ c' = (let z = ap (slice_get peer) position in cc) in
       cc (t.1, t'.1)
   once u v w x y e (makes_next c clock why z a g m) (makes_next c' clock' why' z' a' g' m') = (let same : c ≡ c' = cc in cc (m.1, m'.1))
-  once u v w x y e (takes_next slot i c z a b g d f t) (makes_next c' clock' why' z' a' g' m') = absurd (cc)
-  once u v w x y e (makes_next c clock why z a g m) (takes_next slot' i' c' z' a' b' g' d' f' t') = absurd (cc)
+  once u v w x y e _ _ = absurd (cc)
 
   -- what leads to v, and the rest of a longer script
   leads_rest : (u v w : Cursor) (es rest : List Entry) → Leads p n own peer u es v → Leads p n own peer u (es ++ rest) w → Leads p n own peer v rest w
