@@ -8,7 +8,7 @@ use Rattle.rasta_check.proofs.Prelude.{CrossRecorded, Station, World, other_side
 use Rattle.rasta_check.specs.Model.World.{moved, first_station, first_world}
 use Rattle.rasta_check.specs.Run.Moves.{Happened, Runs, starts}
 use Rattle.rasta_check.specs.Run.Lines.{Line, told, number_of}
-use Rattle.rasta_check.specs.Run.Levels.{makes_at, takes_lines, side_lines, by_side_lines, packet_lines, level_lines, levels_lines, run_lines}
+use Rattle.rasta_check.specs.Run.Levels.{makes_at, takes_lines, side_lines, packet_lines, level_lines, levels_lines, run_lines}
 use Rattle.rasta_check.proofs.Capture.FaultlessLists.{IsSent}
 use Rattle.rasta_check.proofs.Model.Steps.{base}
 use Rattle.rasta_check.proofs.Script.Tracks.{Tracks, Drained, first_number_of, first_tracks, nothing_left, passed_by}
