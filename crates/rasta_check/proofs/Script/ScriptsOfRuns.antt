@@ -1,5 +1,5 @@
 -- Along a run: the first copies so far, and a script for each end.
-use Rattle.std.proofs.Common.{◌≡◌, ℕ, suc, ◌+◌, ◌-◌, ◌<◌, ◌≤◌, Bool, false, List, [], ◌∷◌, ◌++◌, length, Option, Some, None, slice_get, refl, ap, sym, ◌∙◌, arith, ⊎_elim, length-append, add-one}
+use Rattle.std.proofs.Common.{◌≡◌, ℕ, suc, ◌+◌, ◌-◌, ◌<◌, ◌≤◌, Bool, false, List, [], ◌∷◌, ◌++◌, length, Option, Some, None, slice_get, refl, ap, sym, ◌∙◌, arith, subst, ⊎_elim, length-append, add-one}
 use Rattle.std.proofs.lemmas.Bool.Decides.{nat_tests}
 use Rattle.std.proofs.lemmas.List.{append-nil, append_assoc, length_push, length-map, map-append}
 use Rattle.std.proofs.lemmas.Option.{slice_get_within}
@@ -71,11 +71,12 @@ StandIn xs ys = (i : ℕ) (c : FirstCopy) → slice_get xs i ≡ Some c → slic
 -- a script for it; it leads there too where more has crossed
 pub record Told (p : Parameters) (s : Side) (n : ℕ) (own peer : List FirstCopy) (e : EndState) (moment passed_mark : ℕ) : Type 0 where
   pub es : List Entry
-  pub level : ℕ
-  pub taken : ℕ
-  pub low : level ≤ n
-  pub leads : (n' : ℕ) (own' peer' : List FirstCopy) → n ≤ n' → StandIn own own' → StandIn peer peer' → Leads p n' own' peer' (at_start (start_of p s)) es (record { level = level; made = length own; taken = taken; state = e })
-  pub mark : passed_mark ≡ base p + taken
+  pub at : Cursor
+  pub leads : (n' : ℕ) (own' peer' : List FirstCopy) → n ≤ n' → StandIn own own' → StandIn peer peer' → Leads p n' own' peer' (at_start (start_of p s)) es at
+  pub made : at.made ≡ length own
+  pub mark : passed_mark ≡ base p + at.taken
+  pub level : at.level ≤ n
+  pub state : at.state ≡ e
   pub clock : e.clock ≤ moment
   pub clocks : ClocksWithin e.clock es
 
@@ -106,11 +107,12 @@ told_wider : (p : Parameters) (s : Side) (n n' : ℕ) (own peer peer' : List Fir
 told_wider p s n n' own peer peer' e clock taken l more h =
     record {
       es = h.es;
-      level = h.level;
-      taken = h.taken;
-      low = omega (arith, h.low);
+      at = h.at;
       leads = λ m own' peer'' k mine theirs. h.leads m own' peer'' (omega arith) mine (λ i c g. theirs i c (more i c g));
+      made = h.made;
       mark = h.mark;
+      level = omega (arith, h.level);
+      state = h.state;
       clock = h.clock;
       clocks = h.clocks;
     }
@@ -145,12 +147,13 @@ module _ (p : Parameters) (s : Side) (xs : List Packet) (own peer : List FirstCo
       let made = made_more p e x clock why e' mk in
       record {
         es = t.es ++ Make (length xs) clock why ∷ [];
-        level = suc (length xs);
-        taken = t.taken;
-        low = omega arith;
-        leads = rw (length_push own copy, add-one) (λ n own' peer' k mine theirs.
-            leads_more p n own' peer' _ _ _ t.es _ (t.leads n own' peer' (omega arith) (λ i c g. mine i c (get_front own (copy ∷ []) i c g)) theirs) (makes_next copy clock why e' t.low (mine _ copy (get_push own copy)) mk));
+        at = record { level = suc (length xs); made = suc t.at.made; taken = t.at.taken; state = e' };
+        leads = λ n own' peer' k mine theirs. leads_more p n own' peer' _ _ _ t.es _ (t.leads n own' peer' (omega arith) (λ i c g. mine i c (get_front own (copy ∷ []) i c g)) theirs)
+            (makes_next copy clock why e' t.level (mine t.at.made copy (rw t.made (get_push own copy))) (subst (λ (z : EndState). Makes p z x clock why e') (sym t.state) mk));
+        made = (let z = length_push own copy in omega (arith, t.made));
         mark = t.mark;
+        level = omega arith;
+        state = refl;
         clock = (let z = made.now in omega arith);
         clocks = rw made.now (clocks_on e.clock clock t.es (Make (length xs) clock why ∷ []) made.rises t.clocks (omega arith, tt));
       }
@@ -166,12 +169,13 @@ took p s r xs own peer e e' f clock taken position their m tk above g hs t =
     let same : e'.clock ≡ e.clock = ap (λ (z : EndState). z.clock) tk.1 ∙ (take_leaves p e m.pdu).clock in
     record {
       es = t.es ++ Take (length xs) c.0.pdu.number ∷ [];
-      level = length xs;
-      taken = suc i;
-      low = omega arith;
+      at = record { level = length xs; made = t.at.made; taken = suc i; state = e' };
       leads = λ n own' peer' k mine theirs. leads_more p n own' peer' _ _ _ t.es _ (t.leads n own' peer' k mine theirs)
-          (takes_next (length xs) i c.0 e' t.low k (theirs i c.0 c.1) (slice_get_within xs c.0.place fst.0 fst.1) (let z = t.mark in omega arith) (earlier p e e.clock clock t.clock tk.0, rw c.2 tk.1));
+          (takes_next (length xs) i c.0 e' t.level k (theirs i c.0 c.1) (slice_get_within xs c.0.place fst.0 fst.1) (let z = t.mark in omega arith) (rw t.state (earlier p e e.clock clock t.clock tk.0), rw (t.state, c.2) tk.1));
+      made = t.made;
       mark = omega arith;
+      level = omega arith;
+      state = refl;
       clock = (let z = t.clock in omega arith);
       clocks = rw same (clocks_on e.clock e.clock t.es (Take (length xs) c.0.pdu.number ∷ []) (omega arith) t.clocks tt);
     }
@@ -238,7 +242,7 @@ both_kept p s r xs ys a a' b apart (takes q m e' c l at tk) g =
     (took p s r xs g.own g.peer a.state e' b.state a.clock a.taken q b.first_number m tk l at g.their_sends g.told)
 both_kept p s r xs ys a a' b apart (waits c l) g =
     let t = g.told in
-    stay p s r xs a a' b g g.sends (record { es = t.es; level = t.level; taken = t.taken; low = t.low; leads = t.leads; mark = t.mark; clock = (let z = t.clock in omega arith); clocks = t.clocks })
+    stay p s r xs a a' b g g.sends (record { es = t.es; at = t.at; leads = t.leads; made = t.made; mark = t.mark; level = t.level; state = t.state; clock = (let z = t.clock in omega arith); clocks = t.clocks })
 
 abbrev pub turn : (p : Parameters) (s r : Side) (xs : List Packet) (a b : Station) → Both p s r xs a b → Both p r s xs b a
 turn p s r xs a b g = record { own = g.peer; peer = g.own; sends = g.their_sends; their_sends = g.sends; told = g.their_told; their_told = g.told }
@@ -247,7 +251,7 @@ first_sends : (p : Parameters) (s : Side) (n : ℕ) → AreParameters p → Send
 first_sends p s n valid = record { sent = sent_none p s valid; same = sym (append-nil (pdus_made (start_of p s).made)); numbers = λ i c g. absurd (cc); side = start_side p.quiet s }
 
 first_told : (p : Parameters) (s : Side) → Told p s 0 [] [] (start_of p s) (start_of p s).clock (start_of p s).base
-first_told p s = record { es = []; level = 0; taken = 0; low = omega arith; leads = λ n own peer l mine theirs. refl; mark = (let z = start_base p.quiet s in omega arith); clock = omega arith; clocks = tt }
+first_told p s = record { es = []; at = at_start (start_of p s); leads = λ n own peer l mine theirs. refl; made = refl; mark = (let z = start_base p.quiet s in omega arith); level = omega arith; state = refl; clock = omega arith; clocks = tt }
 
 pub told_step : (p : Parameters) (v w : World) → Step p v w → (g : Both p Client Server v.crossed v.client v.server) → Kept p Client Server (length v.crossed) w.crossed w.client w.server g.own g.peer
 told_step p v w (side_moves {a = a} {after = ys} Client m) g = both_kept p Client Server v.crossed ys v.client a v.server (λ e. cc (e)) m g
@@ -281,7 +285,7 @@ told_whole p s n own peer e clock taken most t l =
     let f = t.leads n own peer (omega arith) (λ i c g. g) (λ i c g. g) in
     let a = leads_count p n own peer _ _ t.es f in
     let b = taken_within p n own peer _ _ t.es f (omega arith) in
-    (t.es, (_, f, refl, refl), omega arith, rw append-nil at (clocks_on _ most t.es [] l t.clocks tt))
+    (t.es, (t.at, f, t.made, t.state), omega (arith, t.made), rw append-nil at (clocks_on _ most t.es [] l t.clocks tt))
 
 pub complete : (p : Parameters) (ws : List World) (w : World) (c s : List FirstCopy) → Reaches p ws w
     → IsSent p w.crossed Client c → IsSent p w.crossed Server s → length c ≤ 1000000 → length s ≤ 1000000
