@@ -112,13 +112,13 @@ module _ (p : Parameters) (s : Side) (e f : EndState) (own peer : List FirstCopy
   count = length-map e.handed_pdus (λ (x : SafetyPdu). messages_in x.body) ∙ h.same_count
 
   -- what is listed are the first units that were offered
-  listed : units_listed (surely_taken p s own peer) ≡ take most (units_handed e ++ h.later)
-  listed = messages_listed (all_made p s own) peer 0 _ ∙ (sym (take-map said most (data_copies own)) ∙ ap (take most) (sym (offered_by p s f own told) ∙ h.offered))
+  all_listed : units_listed (surely_taken p s own peer) ≡ take most (units_handed e ++ h.later)
+  all_listed = messages_listed (all_made p s own) peer 0 _ ∙ (sym (take-map said most (data_copies own)) ∙ ap (take most) (sym (offered_by p s f own told) ∙ h.offered))
 
   -- the i-th PDU handed up has the messages of the i-th unit that is listed
   pub unit_handed : (i : ℕ) (u : TakenUnit) → i < length e.handed → slice_get (surely_taken p s own peer) i ≡ Some u → slice_get (units_handed e) i ≡ Some u.messages
   unit_handed i u l g =
-      let a = rw listed at (map_at (λ (t : TakenUnit). t.messages) (surely_taken p s own peer) i u g) in
+      let a = rw all_listed at (map_at (λ (t : TakenUnit). t.messages) (surely_taken p s own peer) i u g) in
       sym (get_front_within (units_handed e) h.later i (omega (arith, l, count))) ∙ (get_take _ most i _ a).1
 
   -- a unit that is listed is one of those that were taken
@@ -128,13 +128,13 @@ module _ (p : Parameters) (s : Side) (e f : EndState) (own peer : List FirstCopy
       ((get_take (data_copies own) most i m.0 m.1).0, ap (λ (t : TakenUnit). t.proof_place) (sym m.2))
 
   -- where as many were handed up as are taken, each of those is listed
-  all_listed : most ≤ length e.handed → units_listed (surely_taken p s own peer) ≡ take most (units_handed e)
-  all_listed l = listed ∙ take-append-le most (units_handed e) h.later (omega (arith, l, count))
+  listed_handed : most ≤ length e.handed → units_listed (surely_taken p s own peer) ≡ take most (units_handed e)
+  listed_handed l = all_listed ∙ take-append-le most (units_handed e) h.later (omega (arith, l, count))
 
   -- and they come first
   pub listed_first : most ≤ length e.handed → (rest : List (List (List ℕ))) × (units_handed e ≡ units_listed (surely_taken p s own peer) ++ rest)
-  listed_first l = (drop most (units_handed e), sym (ap (λ us. us ++ drop most (units_handed e)) (all_listed l) ∙ take-append-drop most (units_handed e)))
+  listed_first l = (drop most (units_handed e), sym (ap (λ us. us ++ drop most (units_handed e)) (listed_handed l) ∙ take-append-drop most (units_handed e)))
 
   -- where no more was handed up than is listed, it is what is listed
   pub exactly_listed : most ≤ length e.handed → length e.handed ≤ most → units_handed e ≡ units_listed (surely_taken p s own peer)
-  exactly_listed l m = sym (all_listed l ∙ take_all most (units_handed e) (omega (arith, m, count)))
+  exactly_listed l m = sym (listed_handed l ∙ take_all most (units_handed e) (omega (arith, m, count)))
