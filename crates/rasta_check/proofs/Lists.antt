@@ -2,7 +2,7 @@
 use Rattle.std.proofs.Common.{◌≡◌, ℕ, zero, suc, ◌+◌, ◌<◌, List, [], ◌∷◌, ◌++◌, length, take, drop, Option, Some, None, slice_get, map, refl, ap, sym, ◌∙◌, arith, ⊎_elim, subst, drop-cons}
 use Rattle.std.specs.List.{AllByRecursion}
 use Rattle.std.specs.Option.{option_map}
-use Rattle.std.proofs.lemmas.List.{map-append, take_more}
+use Rattle.std.proofs.lemmas.List.{length-take, map-append, take_more, take-append-drop}
 use Rattle.std.proofs.lemmas.Option.{get_or_from_slice_get, slice_get-map, slice_get_within}
 use Rattle.rasta_end.proofs.Lists.{get_push_cases}
 pub use Rattle.rasta_end.proofs.Lists.{get_push_cases, get_front, get_push, get_front_within}
@@ -77,6 +77,10 @@ pub map_push : {A B : Type 0} (f : A → B) (xs all : List A) (x : A) → all �
 map_push f xs all x e = ap (map f) e ∙ map-append f xs (x ∷ [])
 
 -- ---- cut
+
+-- an element of the first is one of the list
+pub get_take : {A : Type 0} (xs : List A) (n i : ℕ) (x : A) → slice_get (take n xs) i ≡ Some x → (i < n) × (slice_get xs i ≡ Some x)
+get_take xs n i x g = (omega (arith, slice_get_within (take n xs) i x g, length-take n xs), rw take-append-drop at (get_front (take n xs) (drop n xs) i x g))
 
 -- one more of the first
 pub take_one_more : {A : Type 0} (i : ℕ) (xs : List A) (x : A) → slice_get xs i ≡ Some x → take i xs ++ x ∷ [] ≡ take (i + 1) xs

@@ -19,7 +19,7 @@ use Rattle.rasta_check.proofs.Model.TakeRows.{take_made}
 use Rattle.rasta_check.proofs.Model.Steps.{base, made_more, SameHanded, Grown, same_grown, grown_take}
 use Rattle.rasta_check.proofs.Model.Counts.{answers_in}
 use Rattle.rasta_check.proofs.Model.InvariantOfRuns.{all_held}
-use Rattle.rasta_check.proofs.Script.ScriptsOfRuns.{Both, Sends, turn, told_first, told_step, step_copies, step_front, sends_count, copy_at}
+use Rattle.rasta_check.proofs.Script.ScriptsOfRuns.{Both, Sends, HadCrossed, all_crossed, turn, told_first, told_step, sends_count, copy_at}
 use Rattle.rasta_check.proofs.Sides.{sided}
 
 both_grown : (a b c : EndState) → Grown a b → Grown b c → Grown a c
@@ -60,11 +60,6 @@ stepped p v w (side_moves {a = a} {after = ys} Client m) =
 stepped p v w (side_moves {a = a} {after = ys} Server m) =
     (let o = end_moves p v.client v.server a v.crossed ys m in record { less = o.0; more = o.1; ends = sided _ (stands_still _ v.client.state) o.2 })
 
--- of the copies of a list, these are those that had crossed
-pub record HadCrossed (packets : ℕ) (list copies : List FirstCopy) : Type 0 where
-  pub kept : (j : ℕ) (d : FirstCopy) → slice_get list j ≡ Some d → d.place < packets → slice_get copies j ≡ Some d
-  pub listed : (j : ℕ) (d : FirstCopy) → slice_get copies j ≡ Some d → slice_get list j ≡ Some d
-
 -- an earlier world of the run
 pub record After (p : Parameters) (v w : World) (side : Side) (own peer : List FirstCopy) : Type 0 where
   pub us : List World
@@ -82,8 +77,7 @@ History p ws w = (g : Both p Client Server w.crossed w.client w.server) × ((i :
 
 after_itself : (p : Parameters) (ws : List World) (w : World) → Reaches p ws w → IsWithin p w → (g : Both p Client Server w.crossed w.client w.server) → After p w w Client g.own g.peer
 after_itself p ws w r b g =
-    let all : (list : List FirstCopy) → HadCrossed (length w.crossed) list list = λ list. record { kept = λ j d h l. h; listed = λ j d h. h } in
-    record { us = ws; reached = r; few = b; grown = λ side. same_grown (end_of w side); less = omega arith; told = g; mine = all g.own; theirs = all g.peer }
+    record { us = ws; reached = r; few = b; grown = λ side. same_grown (end_of w side); less = omega arith; told = g; mine = all_crossed _ g.own; theirs = all_crossed _ g.peer }
 
 of_both : (p : Parameters) (valid : AreParameters p) (ws : List World) (w : World) → Reaches p ws w → IsWithin p w → History p ws w
 of_both p valid ws w (begins m n) b =
@@ -99,9 +93,8 @@ of_both p valid ws w (goes_on {ws = us} {w = u} r st) b = step (of_both p valid 
 
     step : History p us u → History p (us ++ u ∷ []) w
     step h =
-        let g = told_step p u w st h.0 in
-        let cp = step_copies p u w st h.0 in
-        let fr = step_front p u w st h.0 in
+        let kept = told_step p u w st h.0 in
+        let g = kept.0 in
         let gr = λ (side : Side). (sd.ends side).grown (all_held p us u side r few).mine.held.asks.asked in
         let l = sd.less in (
           g,
@@ -113,8 +106,8 @@ of_both p valid ws w (goes_on {ws = us} {w = u} r st) b = step (of_both p valid 
                 grown = λ side. both_grown (end_of v side) (end_of u side) (end_of w side) (k.grown side) (gr side);
                 less = (let z = k.less in omega arith);
                 told = k.told;
-                mine = record { kept = λ j d y z. k.mine.kept j d (cp.0 j d y (let q = k.less in omega arith)) z; listed = λ j d y. fr.0 j d (k.mine.listed j d y) };
-                theirs = record { kept = λ j d y z. k.theirs.kept j d (cp.1 j d y (let q = k.less in omega arith)) z; listed = λ j d y. fr.1 j d (k.theirs.listed j d y) };
+                mine = record { kept = λ j d y z. k.mine.kept j d (kept.1.kept j d y (let q = k.less in omega arith)) z; listed = λ j d y. kept.1.listed j d (k.mine.listed j d y) };
+                theirs = record { kept = λ j d y z. k.theirs.kept j d (kept.2.kept j d y (let q = k.less in omega arith)) z; listed = λ j d y. kept.2.listed j d (k.theirs.listed j d y) };
               }))
               (after_itself p (us ++ u ∷ []) w (goes_on r st) b g),
         )

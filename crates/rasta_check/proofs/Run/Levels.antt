@@ -1,5 +1,5 @@
 -- All levels: two scripts that fit tell a run.
-use Rattle.std.proofs.Common.{◌≡◌, ℕ, zero, suc, ◌+◌, ◌≤◌, List, [], ◌++◌, length, Some, slice_get, take, refl, ap, sym, ◌∙◌, arith, subst}
+use Rattle.std.proofs.Common.{◌≡◌, ℕ, zero, suc, ◌+◌, ◌≤◌, List, [], ◌++◌, length, Some, slice_get, take, refl, ap, sym, ◌∙◌, arith}
 use Rattle.std.specs.Prelude.{Option, None}
 use Rattle.std.proofs.lemmas.List.{append-nil, append_assoc, take_all, length-take-le}
 use Rattle.std.proofs.lemmas.Option.{slice_get_within}
@@ -8,11 +8,11 @@ use Rattle.rasta_check.proofs.Prelude.{CrossRecorded, Station, World, other_side
 use Rattle.rasta_check.specs.Model.World.{moved, first_station, first_world}
 use Rattle.rasta_check.specs.Run.Moves.{Happened, Runs, starts}
 use Rattle.rasta_check.specs.Run.Lines.{Line, told, number_of}
-use Rattle.rasta_check.specs.Run.Levels.{makes_at, takes_lines, side_lines, by_side_lines, packet_lines, level_lines, levels_lines, run_lines}
+use Rattle.rasta_check.specs.Run.Levels.{makes_at, takes_lines, side_lines, packet_lines, level_lines, levels_lines, run_lines}
 use Rattle.rasta_check.proofs.Capture.FaultlessLists.{IsSent}
 use Rattle.rasta_check.proofs.Model.Steps.{base}
 use Rattle.rasta_check.proofs.Script.Tracks.{Tracks, Drained, first_number_of, first_tracks, nothing_left, passed_by}
-use Rattle.rasta_check.proofs.Run.Rests.{Above, Says, says_all, says_on, lead_above}
+use Rattle.rasta_check.proofs.Run.Rests.{Above, says_all, says_on, lead_above, Left, left_on}
 use Rattle.rasta_check.proofs.Run.Moves.{Many, many_moves}
 use Rattle.rasta_check.proofs.Run.Takes.{drain, above_next}
 use Rattle.rasta_check.proofs.Run.Packets.{next_is}
@@ -22,16 +22,13 @@ use Rattle.rasta_check.proofs.Sides.{sided}
 -- ---- sides
 
 apart : (x : Side) → x ≡ other_side x → ⊥
-apart Client e = absurd (cc)
-apart Server e = absurd (cc)
+apart x e = grind arith
 
 unmoved : (w : World) (x : Side) → w ≡ moved w x (station_of w x) w.crossed
-unmoved w Client = refl
-unmoved w Server = refl
+unmoved w x = grind arith
 
 crossed_then : (w : World) (x : Side) (a : Station) (ys : List Packet) → (moved w x a ys).crossed ≡ ys
-crossed_then w Client a ys = refl
-crossed_then w Server a ys = refl
+crossed_then w x a ys = grind arith
 
 -- what holds of the station that moved and of that which stood still holds of both
 both : (P : Side → Station → Type 0) (w : World) (x : Side) (a : Station) (ys : List Packet) → P x a → P (other_side x) (station_of w (other_side x)) → (y : Side) → P y (station_of (moved w x a ys) y)
@@ -66,22 +63,12 @@ module _ (p : Parameters) (packets : List Packet) where
 
   module _ (recorded : CrossRecorded p packets) (lists : Side → List FirstCopy) (scripts : Side → List Entry) (ends : Side → EndState)
       (sent : (x : Side) → IsSent p packets x (lists x)) (follows : (x : Side) → Follows p x (length packets) (lists x) (lists (other_side x)) (scripts x) (ends x)) where
-    abbrev Tracked : ℕ → Side → List Entry → Station → Type 0
-    Tracked k x rest a = Tracks p (length packets) k x (lists x) (lists (other_side x)) rest (follows x).0 a
+    -- a side before the takes of a level, and after them
+    abbrev Before : ℕ → Side → Station → Type 0
+    Before k x a = Left p (length packets) k x (lists x) (lists (other_side x)) (follows x).0 (Above k) k k (scripts x) a
 
-    -- a side before the takes of a level
-    record Before (k : ℕ) (x : Side) (a : Station) : Type 0 where
-      pub rest : List Entry
-      pub tracks : Tracked k x rest a
-      pub above : Above k rest
-      pub says : Says k k (scripts x) rest
-
-    -- and after them
-    record After (k : ℕ) (x : Side) (a : Station) : Type 0 where
-      pub rest : List Entry
-      pub tracks : Tracked k x rest a
-      pub drained : Drained k rest
-      pub says : Says (suc k) k (scripts x) rest
+    abbrev After : ℕ → Side → Station → Type 0
+    After k x a = Left p (length packets) k x (lists x) (lists (other_side x)) (follows x).0 (Drained k) (suc k) k (scripts x) a
 
     takes_done : {k : ℕ} {P : Side → Station → Type 0} {lines : List Line} {bs : List Entry} (Q : Side → Station → Type 0) (w : Stage k P lines) (x : Side) → k ≤ length packets → Before k x (station_of w.world x)
         → Tracks p (length packets) k (other_side x) (lists (other_side x)) (lists x) bs (follows (other_side x)).0 (station_of w.world (other_side x))
@@ -89,9 +76,9 @@ module _ (p : Parameters) (packets : List Packet) where
     takes_done {k = k} {lines = lines} {bs = bs} Q w x l h g q still =
         let long : length w.world.crossed ≡ k = ap length w.crossed ∙ length-take-le k packets l in
         let d = drain p packets (length packets) k x (other_side x) (lists x) (lists (other_side x)) (sent (other_side x)) (follows x).0 (follows (other_side x)).0 (station_of w.world (other_side x)) bs g w.world.crossed long
-        h.rest (station_of w.world x) h.above h.tracks in
+        h.rest (station_of w.world x) h.ready h.tracks in
         rw (h.says.takes k (omega arith))
-        (goes_on Q w x d.many w.crossed (q d.station (record { rest = d.rest; tracks = d.tracks; drained = d.drained; says = says_on h.says d.says (omega arith) (omega arith) })) still)
+        (goes_on Q w x d.1 w.crossed (q d.0 (left_on h.says (omega arith) (omega arith) d.2)) still)
 
     -- the client took what is due, and the server hasn't yet
     abbrev Between : ℕ → Side → Station → Type 0
@@ -106,11 +93,7 @@ module _ (p : Parameters) (packets : List Packet) where
     -- the lines of a side's packet are those of the packet at this place
     here_lines : (k : ℕ) (here : Packet) (rest : List Entry) → slice_get packets k ≡ Some here → makes_at k (scripts here.side) ≡ makes_at k rest
         → side_lines k here.side (number_of here) (lists here.side) rest ≡ packet_lines k (lists Client) (lists Server) (scripts Client) (scripts Server) (slice_get packets k)
-    here_lines k here rest at m = rw (at, sym m) (by here.side)
-      where
-        by : (x : Side) → side_lines k x (number_of here) (lists x) (scripts x) ≡ by_side_lines k (number_of here) (lists Client) (lists Server) (scripts Client) (scripts Server) x
-        by Client = refl
-        by Server = refl
+    here_lines k here rest at m = rw (at, sym m) (grind arith)
 
     abbrev level_at : ℕ → List Line
     level_at k = level_lines packets (lists Client) (lists Server) (scripts Client) (scripts Server) k
@@ -124,15 +107,14 @@ module _ (p : Parameters) (packets : List Packet) where
         let g = d.sides (other_side x) in
         let own = follows x in
         let other = follows (other_side x) in
-        let m = next_is p packets k x (lists x) (lists (other_side x)) (sent x) recorded own.0 own.2 (station_of d.world (other_side x)) here at h.rest (station_of d.world x) refl h.drained h.tracks in
+        let m = next_is p packets k x (lists x) (lists (other_side x)) (sent x) recorded own.0 own.2 (station_of d.world (other_side x)) here at h.rest (station_of d.world x) refl h.ready h.tracks in
         let still = passed_by p packets k (other_side x) (lists (other_side x)) (lists (other_side (other_side x))) (sent (other_side x)) other.0 g.rest (station_of d.world (other_side x)) here at (apart x) g.tracks in
-        let many = subst (λ (xs : List Packet). Many p (station_of d.world (other_side x)) x xs (station_of d.world x) (side_lines k x (number_of here) (lists x) h.rest) m.station (take (suc k) packets)) (sym d.crossed) m.many in
-        let made = goes_on {k = suc k} (Before (suc k)) d x many refl
-        (record { rest = m.rest; tracks = m.tracks; above = m.above; says = says_on h.says m.says (omega arith) (omega arith) })
+        let many = rw (sym d.crossed) at m.1 in
+        let made = goes_on {k = suc k} (Before (suc k)) d x many refl (left_on h.says (omega arith) (omega arith) m.2)
         (record {
           rest = g.rest;
           tracks = still;
-          above = above_next p (length packets) (other_side x) (lists (other_side x)) (lists (other_side (other_side x))) other.0 k g.rest (station_of d.world (other_side x)) still g.drained;
+          ready = above_next p (length packets) (other_side x) (lists (other_side x)) (lists (other_side (other_side x))) other.0 k g.rest (station_of d.world (other_side x)) still g.ready;
           says = says_on g.says (says_all (suc k) (suc k) g.rest) (omega arith) (omega arith);
         }) in
         rw (sym (here_lines k here h.rest at (h.says.makes k (omega arith)))) (simp append_assoc at made)
@@ -155,7 +137,7 @@ module _ (p : Parameters) (packets : List Packet) where
           d.world,
           d.reached,
           d.crossed ∙ take_all k packets (omega (arith, last)),
-          λ x. nothing_left p packets k x (lists x) (lists (other_side x)) (sent x) (follows x).0 (station_of d.world x) (d.sides x).rest (sym last) (d.sides x).drained (d.sides x).tracks ∙ (follows x).3,
+          λ x. nothing_left p packets k x (lists x) (lists (other_side x)) (sent x) (follows x).0 (station_of d.world x) (d.sides x).rest (sym last) (d.sides x).ready (d.sides x).tracks ∙ (follows x).3,
           d.shown ∙ (append_assoc lines _ _ ∙ simp (append-nil, no_packet k (slice_get packets k) last refl) at q),
         )
     all_packets (suc left) k lines e w q =
@@ -171,7 +153,7 @@ module _ (p : Parameters) (packets : List Packet) where
         at x = (let f = follows x in record {
           rest = scripts x;
           tracks = first_tracks p packets x (lists x) (lists (other_side x)) (scripts x) f.0 (sent x) f.1;
-          above = lead_above p (length packets) 0 (lists x) (lists (other_side x)) (at_start (start_of p x)) f.0 (scripts x) f.1 (omega arith);
+          ready = lead_above p (length packets) 0 (lists x) (lists (other_side x)) (at_start (start_of p x)) f.0 (scripts x) f.1 (omega arith);
           says = says_all 0 0 (scripts x);
         })
 

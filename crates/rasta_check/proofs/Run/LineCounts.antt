@@ -2,17 +2,14 @@
 use Rattle.std.proofs.Common.{◌≡◌, List, Option, length, refl, ap, arith}
 use Rattle.std.proofs.lemmas.List.{length-append}
 use Rattle.rasta_check.proofs.Prelude.{Side, Packet, Parameters, Station, World}
-use Rattle.rasta_check.specs.Model.World.{Move, Moves, makes, repeats, arrives, takes, waits}
+use Rattle.rasta_check.specs.Model.World.{Move, Moves, repeats}
 use Rattle.rasta_check.specs.Run.Moves.{Happened, Runs, starts, does}
 use Rattle.rasta_check.specs.Run.Lines.{copy_lines, lines_of_move, told}
 use Rattle.rasta_check.proofs.Run.Moves.{told_push}
 
 one_line : {p : Parameters} {b a a' : Station} {xs ys : List Packet} {m : Move} (s : Side) → Moves p b xs a m a' ys → length (lines_of_move s a b xs m) ≡ 1
-one_line s (makes x why after channel reserve check bytes mk sp rec) = refl
 one_line {xs = xs} s (repeats place channel old g sd rec) = ap (λ (o : Option Packet). length (copy_lines (length xs) s o)) g
-one_line s (arrives position low within) = refl
-one_line s (takes position m after h l g t) = refl
-one_line s (waits clock l) = refl
+one_line s _ = refl
 
 pub one_line_each : (p : Parameters) (happened : List Happened) (w : World) → Runs p happened w → length (told happened) ≡ length happened
 one_line_each p hs w (starts m n) = refl

@@ -1,5 +1,5 @@
 -- Several moves of one station, one after the other, and their lines.
-use Rattle.std.proofs.Common.{◌≡◌, List, [], ◌∷◌, ◌++◌, ap, sym, ◌∙◌, subst}
+use Rattle.std.proofs.Common.{◌≡◌, List, [], ◌∷◌, ◌++◌, ap, sym, ◌∙◌}
 use Rattle.std.proofs.lemmas.List.{append-nil, append_assoc}
 use Rattle.rasta_check.proofs.Prelude.{Side, Client, Server, Packet, Parameters, Station, World, other_side, station_of}
 use Rattle.rasta_check.specs.Model.World.{Move, Moves, moved}
@@ -37,9 +37,8 @@ many_moves side w hs (moves {xs = xs} {a = a} {ls = ls} m d k) r =
 
 pub append_many : {p : Parameters} {b : Station} {s : Side} {xs ys zs : List Packet} {a a' a'' : Station} {ls ms : List Line} → Many p b s xs a ls a' ys → Many p b s ys a' ms a'' zs → Many p b s xs a (ls ++ ms) a'' zs
 append_many stays k = k
-append_many {p = p} {b = b} {s = s} {xs = xs} {zs = zs} {a = a} {a'' = a''} {ms = ms} (moves {ls = ls} m d r) k =
-    subst (λ (l : List Line). Many p b s xs a l a'' zs) (sym (append_assoc (lines_of_move s a b xs m) ls ms)) (moves m d (append_many r k))
+append_many (moves m d r) k = rw append_assoc (moves m d (append_many r k))
 
 -- the same moves, with their lines and what has crossed then in another form
 pub recast : {p : Parameters} {b : Station} {s : Side} {xs ys zs : List Packet} {a a' : Station} {ls ms : List Line} → ls ≡ ms → ys ≡ zs → Many p b s xs a ls a' ys → Many p b s xs a ms a' zs
-recast {p = p} {b = b} {s = s} {xs = xs} {a = a} {a' = a'} e f m = subst (λ (w : List Line × List Packet). Many p b s xs a w.0 a' w.1) (λ i. (e i, f i)) m
+recast e f m = rw (sym e, sym f) m

@@ -1,8 +1,8 @@
 -- The packet of a level: its end makes it, or it is a copy, with its lines.
-use Rattle.std.proofs.Common.{◌≡◌, ℕ, suc, ◌+◌, ◌<◌, List, [], ◌∷◌, ◌++◌, length, Some, slice_get, take, refl, ap, sym, ◌∙◌, arith, subst}
-use Rattle.std.specs.Prelude.{slice_index_or, None}
-use Rattle.std.proofs.lemmas.List.{length_push, length-take-le, get_or-take}
-use Rattle.std.proofs.lemmas.Option.{slice_get_within, slice_get-get_or, get_or_from_slice_get}
+use Rattle.std.proofs.Common.{◌≡◌, ℕ, suc, ◌+◌, ◌<◌, List, [], ◌∷◌, ◌++◌, length, Some, slice_get, take, refl, ap, sym, ◌∙◌, arith}
+use Rattle.std.specs.Prelude.{None, drop}
+use Rattle.std.proofs.lemmas.List.{length_push, length-take-le, take-append-drop}
+use Rattle.std.proofs.lemmas.Option.{slice_get_within}
 use native.Mathlib.Decide.{dec_lt}
 use Prim.{yes, no}
 use Rattle.rasta_check.proofs.Prelude.{Side, Packet, Parameters, Entry, Take, Make, Why, Made}
@@ -12,13 +12,13 @@ use Rattle.rasta_check.specs.Capture.Lists.{position_of_place}
 use Rattle.rasta_check.specs.Model.World.{making, repeating, waiting, makes, repeats, waits}
 use Rattle.rasta_check.proofs.Capture.FaultlessLists.{IsSent, ordered}
 use Rattle.rasta_check.proofs.Capture.Crossings.{number_spelled}
-use Rattle.rasta_check.proofs.Lists.{get_front, get_push, slice_get_some}
+use Rattle.rasta_check.proofs.Lists.{get_front, get_front_within, get_push, slice_get_some}
 use Rattle.rasta_check.proofs.Script.Tracks.{Tracks, Drained, next_number, next_packet, untouched}
 use Rattle.rasta_check.proofs.Model.Steps.{base, made_more}
 use Rattle.rasta_check.specs.Run.Lines.{lines_of_move, number_of}
-use Rattle.rasta_check.specs.Run.Levels.{makes_at, make_line, waited_line, side_lines}
-use Rattle.rasta_check.proofs.Run.Entries.{takes_past, makes_here, makes_other, below}
-use Rattle.rasta_check.proofs.Run.Rests.{Above, Says, says_all, lead_above, places_above, no_makes}
+use Rattle.rasta_check.specs.Run.Levels.{make_line, waited_line, side_lines}
+use Rattle.rasta_check.proofs.Run.Entries.{makes_here}
+use Rattle.rasta_check.proofs.Run.Rests.{Above, says_all, says_make, lead_above, places_above, no_makes, Left}
 use Rattle.rasta_check.proofs.Run.Moves.{Many, stays, moves, recast}
 use Rattle.rasta_check.proofs.Run.Takes.{ahead}
 use Rattle.rasta_check.proofs.Capture.Positions.{place_missing, place_named, place_once}
@@ -26,13 +26,9 @@ use Rattle.rasta_check.proofs.Capture.Positions.{place_missing, place_named, pla
 module _ (p : Parameters) (packets : List Packet) (k : ℕ) (s : Side) (own peer : List FirstCopy) (sent : IsSent p packets s own) (recorded : CrossRecorded p packets) (last : Cursor) (whole : last.made ≡ length own)
     (b : Station) (here : Packet) (at : slice_get packets k ≡ Some here) where
   -- what the packet of a side leaves, made or copied: its lines are those of the packet, and of later levels the rest says what the script says
-  pub record Crossed (from : List Entry) (a : Station) : Type 0 where
-    pub rest : List Entry
-    pub station : Station
-    pub many : Many p b s (take k packets) a (side_lines k s (number_of here) own from) station (take (suc k) packets)
-    pub tracks : Tracks p (length packets) (suc k) s own peer rest last station
-    pub above : Above (suc k) rest
-    pub says : Says (suc k) (suc k) from rest
+  abbrev pub Crossed : List Entry → Station → Type 0
+  Crossed from a = (station : Station) × Many p b s (take k packets) a (side_lines k s (number_of here) own from) station (take (suc k) packets)
+      × Left p (length packets) (suc k) s own peer last (Above (suc k)) (suc k) (suc k) from station
 
   long : length (take k packets) ≡ k
   long = length-take-le k packets (let l = slice_get_within packets k here at in omega (arith, l))
@@ -48,63 +44,54 @@ module _ (p : Parameters) (packets : List Packet) (k : ℕ) (s : Side) (own peer
       let n : Made = made.new in
       let waited : Station = record a { clock = clock } in
       let now : e'.made ≡ a.state.made ++ n ∷ [] = made.made in
-      let len = length_push a.state.made n in
       let numbered : c.pdu.number ≡ wrapped (a.first_number + length a.state.made) =
       sent.numbers f.made head.0 c head.1 mine ∙ sym (next_number a.first_number (base p) f.made (length a.state.made) head.0.pdu.number f.count (f.number head.0 head.1)) in
       let said : Spells p a.state.side (record { number = wrapped (a.first_number + length a.state.made); reserve = c.pdu.reserve; safety = c.pdu.safety; check_bytes = c.pdu.check_bytes }) first.0.payload =
       rw (f.side, sym numbered) first.3 in
-      let count : length e'.made ≡ suc (base p + f.made) = ap length now ∙ (len ∙ (omega (arith, f.count))) in
+      let count : length e'.made ≡ suc (base p + f.made) = ap length now ∙ (length_push a.state.made n ∙ (omega (arith, f.count))) in
       let newest : (i : ℕ) (d : FirstCopy) → slice_get own i ≡ Some d → i < suc f.made → (i < f.made → ⊥) → d ≡ c =
       λ i d h v no. (let last : i ≡ f.made = omega (arith, v, no) in let z = ap (slice_get own) last in cc) in
       let after : Above (suc k) es = lead_above p (length packets) (suc k) own peer _ last es rest (omega (arith, pl)) in
-      let there : slice_get packets k ≡ Some first.0 = subst (λ (j : ℕ). slice_get packets j ≡ Some first.0) pl first.1 in
+      let there : slice_get packets k ≡ Some first.0 = ap (slice_get packets) (sym pl) ∙ first.1 in
       let same_packet : first.0 ≡ here = cc in
       let shown : wrapped (a.first_number + length a.state.made) ≡ number_of here =
       sym numbered ∙ (sym (number_spelled p s c.pdu first.0.payload first.3) ∙ ap (λ (x : Packet). number_of x) same_packet) in
       let found : position_of_place own k ≡ Some f.made = ap (position_of_place own) (sym pl) ∙ place_named own (ordered sent) f.made c mine in
-      let makes_now : makes_at k (Make c.place clock why ∷ es) ≡ (clock, why) ∷ [] =
-      rw (pl, makes_here k clock why es, no_makes k (suc k) es (omega arith) after) refl in
       let line : waited_line (length (take k packets)) s clock ∷ make_line (length (take k packets)) s (wrapped (a.first_number + length a.state.made)) (clock, why) ∷ [] ≡ side_lines k s (number_of here) own (Make c.place clock why ∷ es) =
-      rw (long, shown, found, makes_now) refl in
-      record {
-        rest = es;
-        station = record waited { state = e' };
-        many = recast line (next_packet packets k first.0 a.state.side (f.side ∙ sym first.2) there)
+      rw (long, shown, found, pl, makes_here k clock why es, no_makes k (suc k) es (omega arith) after) refl in
+      let tracks : Tracks p (length packets) (suc k) s own peer es last (record waited { state = e' }) = record {
+        level = suc c.place;
+        made = suc f.made;
+        taken = f.taken;
+        low = omega arith;
+        fits = rest;
+        based = made.base ∙ f.based;
+        count = omega (arith, count);
+        mark = f.mark;
+        clock = sym made.now;
+        number = f.number;
+        before = λ i d h v. (let x = f.before i d h in let y = place_once own (ordered sent) i f.made d c h mine in grind (arith, x, y, pl, v));
+        after = λ i d h v. elim (dec_lt i f.made) [ yes l ↦ (let z = f.after i d h l in omega (arith, z)) | no l ↦ (let q = ap (λ (z : FirstCopy). z.place) (newest i d h v l) in omega (arith, q)) ];
+        same = λ i d h v. elim (dec_lt i f.made) [
+          | yes l ↦ (let z = f.same i d h l in (z.0, ap (λ (ms : List Made). slice_get ms (base p + i)) now ∙ get_front a.state.made (n ∷ []) (base p + i) z.0 z.1, z.2))
+          | no l ↦ (let at_end : base p + i ≡ length a.state.made = omega (arith, f.count, v, l) in
+              (n, ap (λ (ms : List Made). slice_get ms (base p + i)) now ∙ rw at_end (get_push a.state.made n), made.pdu ∙ ap (λ (z : FirstCopy). z.pdu.safety) (sym (newest i d h v l))))
+        ];
+        side = made.side ∙ f.side;
+      } in (
+        record waited { state = e' },
+        recast line (next_packet packets k first.0 a.state.side (f.side ∙ sym first.2) there)
             (moves (waiting clock) (waits clock (let z = f.clock in omega (arith, z, made.rises)))
-            (moves (making c.pdu.safety why first.0.channel c.pdu.reserve c.pdu.check_bytes) (makes {a = waited} c.pdu.safety why e' first.0.channel c.pdu.reserve c.pdu.check_bytes first.0.payload mk said (recorded c.place first.0 first.1)) stays));
-        above = after;
-        says = record { takes = λ j l. takes_past j c.place clock why es; makes = λ j l. makes_other j c.place clock why es (below c.place j (omega (arith, pl, l))) };
-        tracks = record {
-          level = suc c.place;
-          made = suc f.made;
-          taken = f.taken;
-          low = omega arith;
-          fits = rest;
-          based = made.base ∙ f.based;
-          count = omega (arith, count);
-          mark = f.mark;
-          clock = sym made.now;
-          number = f.number;
-          before = λ i d h v. (let x = f.before i d h in let y = place_once own (ordered sent) i f.made d c h mine in grind (arith, x, y, pl, v));
-          after = λ i d h v. elim (dec_lt i f.made) [ yes l ↦ (let z = f.after i d h l in omega (arith, z)) | no l ↦ (let q = ap (λ (z : FirstCopy). z.place) (newest i d h v l) in omega (arith, q)) ];
-          same = λ i d h v. elim (dec_lt i f.made) [
-            | yes l ↦ (let z = f.same i d h l in (z.0, ap (λ (ms : List Made). slice_get ms (base p + i)) now ∙ get_front a.state.made (n ∷ []) (base p + i) z.0 z.1, z.2))
-            | no l ↦ (let at_end : base p + i ≡ length a.state.made = omega (arith, f.count, v, l) in
-                (n, ap (λ (ms : List Made). slice_get ms (base p + i)) now ∙ rw at_end (get_push a.state.made n), made.pdu ∙ ap (λ (z : FirstCopy). z.pdu.safety) (sym (newest i d h v l))))
-          ];
-          side = made.side ∙ f.side;
-        };
-      }
+            (moves (making c.pdu.safety why first.0.channel c.pdu.reserve c.pdu.check_bytes) (makes {a = waited} c.pdu.safety why e' first.0.channel c.pdu.reserve c.pdu.check_bytes first.0.payload mk said (recorded c.place first.0 first.1)) stays)),
+        record { rest = es; tracks = tracks; ready = after; says = says_make (suc k) (suc k) c.place clock why es (omega (arith, pl)) },
+      )
 
   copy_moves : (es : List Entry) (a : Station) → position_of_place own k ≡ None → here.side ≡ a.state.side
       → (j : ℕ) (old : Packet) → j < k → slice_get packets j ≡ Some old → old.side ≡ here.side → old.payload ≡ here.payload → Many p b s (take k packets) a (side_lines k s (number_of here) own es) a (take (suc k) packets)
   copy_moves es a no_first sd j old l g os ob =
-      let n : k < length packets = slice_get_within packets k here at in
-      let lt : j < length (take k packets) = omega (arith, length-take-le k packets (omega arith)) in
-      let get : slice_index_or (take k packets) j old ≡ old = get_or-take k packets j old l ∙ get_or_from_slice_get packets j old old g in
       let whole : record old { channel = here.channel } ≡ here = (λ i. record { channel = here.channel; side = os i; payload = ob i }) in
       let next : take k packets ++ record old { channel = here.channel } ∷ [] ≡ take (suc k) packets = ap (λ (x : Packet). take k packets ++ x ∷ []) whole ∙ next_packet packets k here here.side refl at in
-      let there : slice_get (take k packets) j ≡ Some old = slice_get-get_or (take k packets) j old lt ∙ ap Some get in
+      let there : slice_get (take k packets) j ≡ Some old = sym (get_front_within (take k packets) (drop k packets) j (omega (arith, l, long))) ∙ rw take-append-drop g in
       let line : lines_of_move s a b (take k packets) (repeating j here.channel) ++ [] ≡ side_lines k s (number_of here) own es = rw (there, no_first, long, ob) refl in
       recast line next (moves (repeating j here.channel) (repeats {a = a} j here.channel old there (os ∙ sd) (recorded k here at)) stays)
 
@@ -114,15 +101,11 @@ module _ (p : Parameters) (packets : List Packet) (k : ℕ) (s : Side) (own peer
       λ i c g e. (let x = f.after i c g in let y = places_above p (length packets) (suc k) own peer _ last es f.fits whole above i c g in grind (arith, x, y, e)) in
       let w = sent.copies k here at hs in
       let o = sent.firsts w.0 w.1 w.2 in
-      let earlier : w.1.place < k = (let apart = no_first w.0 w.1 w.2 in let low = w.3 in omega (arith, apart)) in
-      record {
-        rest = es;
-        station = a;
-        many = copy_moves es a (place_missing own k no_first) (hs ∙ sym f.side) w.1.place o.0 earlier o.1 (o.2 ∙ sym hs) (o.3.same ∙ sym w.4.same);
-        tracks = untouched p (length packets) k s own peer es last a f no_first;
-        above = above;
-        says = says_all (suc k) (suc k) es;
-      }
+      let earlier : w.1.place < k = (let apart = no_first w.0 w.1 w.2 in let low = w.3 in omega (arith, apart)) in (
+        a,
+        copy_moves es a (place_missing own k no_first) (hs ∙ sym f.side) w.1.place o.0 earlier o.1 (o.2 ∙ sym hs) (o.3.same ∙ sym w.4.same),
+        record { rest = es; tracks = untouched p (length packets) k s own peer es last a f no_first; ready = above; says = says_all (suc k) (suc k) es },
+      )
 
   pub next_is : (es : List Entry) (a : Station) → here.side ≡ s → Drained k es → Tracks p (length packets) k s own peer es last a → Crossed es a
   next_is [] a hs dr f = copied [] a hs tt f
@@ -131,5 +114,5 @@ module _ (p : Parameters) (packets : List Packet) (k : ℕ) (s : Side) (own peer
       let z = ahead p (length packets) s own peer last k k (Make place clock why) es a (omega arith) (omega arith) f tt in
       elim (dec_lt k place) [
         | yes l ↦ copied (Make place clock why ∷ es) a hs (l, z.1) f
-        | no l ↦ make_one place clock why es a f.fits.0 (omega (arith, z.0.0)) f f.fits.1 f.fits.2
+        | no l ↦ make_one place clock why es a f.fits.0 (omega (arith, z.0)) f f.fits.1 f.fits.2
       ]

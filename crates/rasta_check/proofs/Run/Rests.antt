@@ -3,15 +3,20 @@ use Rattle.std.proofs.Common.{◌≡◌, ℕ, ◌<◌, ◌≤◌, List, [], ◌�
 use Rattle.std.proofs.lemmas.Option.{slice_get_within}
 use native.Mathlib.Decide.{dec_lt}
 use Prim.{yes, no}
-use Rattle.rasta_check.proofs.Prelude.{Parameters, Entry, Take, Make, FirstCopy, Cursor, takes_next, makes_next, Leads}
+use Rattle.rasta_check.proofs.Prelude.{Side, Parameters, Entry, Take, Make, Why, FirstCopy, Station, Cursor, takes_next, makes_next, Leads}
 use Rattle.rasta_check.specs.Run.Levels.{takes_at, makes_at}
-use Rattle.rasta_check.proofs.Run.Entries.{above, makes_none, makes_other, makes_past, takes_none, takes_other, takes_past}
+use Rattle.rasta_check.proofs.Script.Tracks.{Tracks}
+use Rattle.rasta_check.proofs.Run.Entries.{above, below, makes_none, makes_other, makes_past, takes_none, takes_other, takes_past}
+
+-- the level of an entry
+abbrev pub place_of : Entry → ℕ
+place_of (Take slot number) = slot
+place_of (Make place clock why) = place
 
 -- no entry lies below this level
 abbrev pub Above : ℕ → List Entry → Type 0
 Above k [] = Unit {0}
-Above k (Take slot number ∷ es) = (k ≤ slot) × Above k es
-Above k (Make place clock why ∷ es) = (k ≤ place) × Above k es
+Above k (x ∷ es) = (k ≤ place_of x) × Above k es
 
 pub lead_above : (p : Parameters) (n k : ℕ) (own peer : List FirstCopy) (u v : Cursor) (es : List Entry) → Leads p n own peer u es v → k ≤ u.level → Above k es
 lead_above p n k own peer u v [] f l = tt
@@ -26,7 +31,7 @@ places_above p n k own peer u v (x ∷ es) (m, takes_next slot position d e lv l
 places_above p n k own peer u v (x ∷ es) (m, makes_next d clock why e lv mine mk, r) w o i c g l =
     elim (dec_lt u.made i) [
       | yes q ↦ places_above p n k own peer _ v es r w o.1 i c g (omega arith)
-      | no q ↦ (let at : u.made ≡ i = omega (arith, l, q) in let same : d ≡ c = (let z = ap (slice_get own) at in cc) in let z = ap (λ (y : FirstCopy). y.place) same in omega (arith, o.0, z))
+      | no q ↦ (let at : u.made ≡ i = omega (arith, l, q) in grind (arith, o.0))
     ]
 
 pub no_takes : (at level : ℕ) (es : List Entry) → at < level → Above level es → takes_at at es ≡ []
@@ -49,3 +54,23 @@ says_all level place es = record { takes = λ j l. refl; makes = λ j l. refl }
 
 pub says_on : {level place level' place' : ℕ} {whole mid es : List Entry} → Says level place whole mid → Says level' place' mid es → level ≤ level' → place ≤ place' → Says level' place' whole es
 says_on a b l m = record { takes = λ j n. a.takes j (omega (arith, l, n)) ∙ b.takes j n; makes = λ j n. a.makes j (omega (arith, m, n)) ∙ b.makes j n }
+
+-- all but an entry says of later levels what the whole says
+pub says_take : (level place slot number : ℕ) (es : List Entry) → slot < level → Says level place (Take slot number ∷ es) es
+says_take level place slot number es l = record { takes = λ j n. takes_other j slot number es (below slot j (omega (arith, l, n))); makes = λ j n. makes_past j slot number es }
+
+pub says_make : (level place index clock : ℕ) (why : Why) (es : List Entry) → index < place → Says level place (Make index clock why ∷ es) es
+says_make level place index clock why es l = record { takes = λ j n. takes_past j index clock why es; makes = λ j n. makes_other j index clock why es (below index j (omega (arith, l, n))) }
+
+-- ---- one side at a level
+
+-- what is left of a script, in this state, says what the whole says: of takes from a level on, and of makes from a place on
+pub record Left (p : Parameters) (n k : ℕ) (s : Side) (own peer : List FirstCopy) (last : Cursor) (Ready : List Entry → Type 0) (level place : ℕ) (whole : List Entry) (a : Station) : Type 0 where
+  pub rest : List Entry
+  pub tracks : Tracks p n k s own peer rest last a
+  pub ready : Ready rest
+  pub says : Says level place whole rest
+
+pub left_on : {p : Parameters} {n k : ℕ} {s : Side} {own peer : List FirstCopy} {last : Cursor} {Ready : List Entry → Type 0} {level place level' place' : ℕ} {whole mid : List Entry} {a : Station}
+    → Says level place whole mid → level ≤ level' → place ≤ place' → Left p n k s own peer last Ready level' place' mid a → Left p n k s own peer last Ready level' place' whole a
+left_on says l m h = record { rest = h.rest; tracks = h.tracks; ready = h.ready; says = says_on says h.says l m }

@@ -3,52 +3,46 @@ use Rattle.std.proofs.Common.{◌≡◌, ℕ, suc, ◌+◌, ◌<◌, ◌≤◌, 
 use Rattle.std.proofs.lemmas.Option.{slice_get_within}
 use native.Mathlib.Decide.{dec_le}
 use Prim.{yes, no}
-use Rattle.rasta_check.proofs.Prelude.{Side, Packet, Parameters, Entry, Take, Make, Made, EndState, wrapped}
+use Rattle.rasta_check.proofs.Prelude.{Side, Packet, Parameters, Entry, Take, Make, EndState, wrapped}
 use Rattle.rasta_check.proofs.Prelude.{Takes, FirstCopy, Station, Cursor, Advances, takes_next, makes_next, Leads}
 use Rattle.rasta_check.specs.Model.World.{arriving, taking, arrives, takes}
 use Rattle.rasta_check.specs.Run.Levels.{takes_at, take_line, brought_line, each_take, takes_lines}
 use Rattle.rasta_check.proofs.Capture.FaultlessLists.{IsSent}
-use Rattle.rasta_check.proofs.Script.Tracks.{Tracks, Drained, moved_made, next_number}
+use Rattle.rasta_check.proofs.Script.Tracks.{Tracks, Drained, next_number}
 use Rattle.rasta_check.proofs.Model.Steps.{base}
 use Rattle.rasta_check.proofs.Model.TakeRows.{take_leaves}
-use Rattle.rasta_check.proofs.Run.Entries.{takes_here, takes_other, takes_past, makes_past, below, above, takes_none}
-use Rattle.rasta_check.proofs.Run.Rests.{Above, Says, says_all, lead_above, no_takes}
+use Rattle.rasta_check.proofs.Run.Entries.{takes_here, takes_none, takes_past}
+use Rattle.rasta_check.proofs.Run.Rests.{place_of, Above, says_all, says_take, lead_above, no_takes, Left, left_on}
 use Rattle.rasta_check.proofs.Run.Moves.{Many, stays, moves, append_many, recast}
 use Rattle.rasta_check.proofs.Lists.{slice_get_some}
 
 module _ (p : Parameters) (n : ℕ) (s : Side) (own peer : List FirstCopy) (last : Cursor) (k : ℕ) where
   -- where no take is due, the next entry lies at this level or above, and all after it above
-  pub ahead : (j : ℕ) (x : Entry) (es : List Entry) (a : Station) → k ≤ j → j ≤ suc k → Tracks p n j s own peer (x ∷ es) last a → Drained k (x ∷ es) → Above j (x ∷ []) × Above (suc k) es
-  ahead j x es a l m f dr = by x f.fits.0 f.made f.level f.taken f.before f.fits.1 dr (λ h. lead_above p n (suc k) own peer f.fits.0 last es f.fits.2 h)
+  pub ahead : (j : ℕ) (x : Entry) (es : List Entry) (a : Station) → k ≤ j → j ≤ suc k → Tracks p n j s own peer (x ∷ es) last a → Drained k (x ∷ es) → (j ≤ place_of x) × Above (suc k) es
+  ahead j x es a l m f dr = (let z = by _ f.fits.0 x f.fits.1 f.before dr in (z.0, lead_above p n (suc k) own peer f.fits.0 last es f.fits.2 z.1))
     where
-      by : (x : Entry) (v : Cursor) (made level taken : ℕ) → ((i : ℕ) (c : FirstCopy) → slice_get own i ≡ Some c → c.place < j → i < made)
-          → Advances p n own peer (record { level = level; made = made; taken = taken; state = a.state }) x v → Drained k (x ∷ es) → (suc k ≤ v.level → Above (suc k) es) → Above j (x ∷ []) × Above (suc k) es
-      by x v made level taken h (takes_next slot position d e' lv le there low above t) dr r = ((omega (arith, dr, m), tt), r (omega (arith, dr)))
-      by x v made level taken h (makes_next c clock why e' lv mine mk) dr r = (let low : j ≤ c.place = (let z = h made c mine in grind (arith, z)) in ((low, tt), r (omega (arith, low, l))))
+      by : (u v : Cursor) (x : Entry) → Advances p n own peer u x v → ((i : ℕ) (c : FirstCopy) → slice_get own i ≡ Some c → c.place < j → i < u.made) → Drained k (x ∷ es)
+          → (j ≤ place_of x) × (suc k ≤ v.level)
+      by u v x (takes_next slot position d e' lv le there low above t) h dr = (omega (arith, dr, m), omega (arith, dr))
+      by u v x (makes_next c clock why e' lv mine mk) h dr = (let low : j ≤ c.place = (let z = h u.made c mine in grind (arith, z)) in (low, omega (arith, low, l)))
 
   -- then the script has no take at this level
   none_due : (es : List Entry) (a : Station) → Tracks p n k s own peer es last a → Drained k es → takes_at k es ≡ []
   none_due [] a f dr = takes_none k
-  none_due (Take slot number ∷ es) a f dr = takes_other k slot number es (above k slot dr) ∙ no_takes k (suc k) es (omega arith) (ahead k (Take slot number) es a (omega arith) (omega arith) f dr).1
+  none_due (Take slot number ∷ es) a f dr = no_takes k (suc k) (Take slot number ∷ es) (omega arith) (dr, (ahead k (Take slot number) es a (omega arith) (omega arith) f dr).1)
   none_due (Make place clock why ∷ es) a f dr = takes_past k place clock why es ∙ no_takes k (suc k) es (omega arith) (ahead k (Make place clock why) es a (omega arith) (omega arith) f dr).1
 
   -- and past the packet, nothing that is left lies below
   pub above_next : (es : List Entry) (a : Station) → Tracks p n (suc k) s own peer es last a → Drained k es → Above (suc k) es
   above_next [] a f dr = tt
-  above_next (Take slot number ∷ es) a f dr = (let z = ahead (suc k) (Take slot number) es a (omega arith) (omega arith) f dr in (z.0.0, z.1))
-  above_next (Make place clock why ∷ es) a f dr = (let z = ahead (suc k) (Make place clock why) es a (omega arith) (omega arith) f dr in (z.0.0, z.1))
+  above_next (x ∷ es) a f dr = ahead (suc k) x es a (omega arith) (omega arith) f dr
 
 -- a side beside its peer, whose station stands still
 module _ (p : Parameters) (packets : List Packet) (n k : ℕ) (s r : Side) (own peer : List FirstCopy) (sent : IsSent p packets r peer) (last last' : Cursor) (b : Station) (bs : List Entry) (g : Tracks p n k r peer own bs last' b)
     (xs : List Packet) (long : length xs ≡ k) where
   -- what the takes of a level leave: the lines are those of the level, and of later levels the rest says what the script says
-  pub record Drain (from : List Entry) (a : Station) : Type 0 where
-    pub rest : List Entry
-    pub station : Station
-    pub many : Many p b s xs a (takes_lines k s from) station xs
-    pub tracks : Tracks p n k s own peer rest last station
-    pub drained : Drained k rest
-    pub says : Says (suc k) k from rest
+  abbrev pub Drain : List Entry → Station → Type 0
+  Drain from a = (station : Station) × Many p b s xs a (takes_lines k s from) station xs × Left p n k s own peer last (Drained k) (suc k) k from station
 
   one_take : (slot number : ℕ) (es : List Entry) (a : Station) (m : Cursor) → (f : Tracks p n k s own peer (Take slot number ∷ es) last a) → slot ≡ k
       → Advances p n own peer (record { level = f.level; made = f.made; taken = f.taken; state = a.state }) (Take slot number) m → Leads p n own peer m es last
@@ -60,17 +54,14 @@ module _ (p : Parameters) (packets : List Packet) (n k : ℕ) (s r : Side) (own 
       let left = take_leaves p a.state x.0.pdu in
       let same_made : e'.made ≡ a.state.made = ap (λ (e : EndState). e.made) t.1 ∙ left.made in
       let q : ℕ = base p + position in
-      let arrived : Station = record a { arrived = q ∷ a.arrived } in
       let low : b.state.base ≤ q = (let z = g.based in omega arith) in
-      let within : q < length b.state.made = omega (arith, g.count, w) in
       let passed_mark : a.taken ≤ q = omega (arith, f.mark, above) in
-      let inside = slice_get_within peer position c there in
-      let head = slice_get_some peer 0 (omega (arith, inside)) in
+      let head = slice_get_some peer 0 (omega (arith, slice_get_within peer position c there)) in
       let numbered : wrapped (b.first_number + q) ≡ c.pdu.number =
       next_number b.first_number (base p) position q head.0.pdu.number refl (g.number head.0 head.1) ∙ sym (sent.numbers position head.0 c head.1 there) in (
-        record arrived { state = e'; taken = suc q },
+        record a { arrived = q ∷ a.arrived; state = e'; taken = suc q },
         recast (λ i. brought_line (long i) s (numbered i) ∷ take_line (long i) s (numbered i) ∷ []) refl
-            (moves (arriving q) (arrives q low within) (moves (taking q) (takes q x.0 e' (0, omega arith, refl) passed_mark x.1 t) stays)),
+            (moves (arriving q) (arrives q low (omega (arith, g.count, w))) (moves (taking q) (takes q x.0 e' (0, omega arith, refl) passed_mark x.1 t) stays)),
         record {
           level = slot;
           made = f.made;
@@ -84,22 +75,14 @@ module _ (p : Parameters) (packets : List Packet) (n k : ℕ) (s r : Side) (own 
           number = f.number;
           before = f.before;
           after = f.after;
-          same = λ i d h v. moved_made a.state.made e'.made (base p + i) (λ (y : Made). y.pdu ≡ d.pdu.safety) same_made (f.same i d h v);
+          same = λ i d h v. (let z = f.same i d h v in (z.0, rw same_made z.1, z.2));
           side = ap (λ (e : EndState). e.side) t.1 ∙ (left.side ∙ f.side);
         },
       )
 
   -- no take is due
   rests : (es : List Entry) (a : Station) → Tracks p n k s own peer es last a → Drained k es → Drain es a
-  rests es a f dr =
-      record {
-        rest = es;
-        station = a;
-        many = recast (ap (λ (l : List ℕ). each_take k s l) (sym (none_due p n s own peer last k es a f dr))) refl stays;
-        tracks = f;
-        drained = dr;
-        says = says_all (suc k) k es;
-      }
+  rests es a f dr = (a, recast (ap (each_take k s) (sym (none_due p n s own peer last k es a f dr))) refl stays, record { rest = es; tracks = f; ready = dr; says = says_all (suc k) k es })
 
   -- all takes that are due
   pub drain : (es : List Entry) (a : Station) → Above k es → Tracks p n k s own peer es last a → Drain es a
@@ -110,13 +93,7 @@ module _ (p : Parameters) (packets : List Packet) (n k : ℕ) (s r : Side) (own 
         | yes l ↦ (let same : slot ≡ k = (let z = ab.0 in omega (arith, l, z)) in
             let o = one_take slot number es a f.fits.0 f same f.fits.1 f.fits.2 in
             let d = drain es o.0 ab.1 o.2 in
-            record {
-              rest = d.rest;
-              station = d.station;
-              many = recast (ap (λ (l : List ℕ). each_take k s l) (sym (ap (λ (j : ℕ). takes_at k (Take j number ∷ es)) same ∙ takes_here k number es))) refl (append_many o.1 d.many);
-              tracks = d.tracks;
-              drained = d.drained;
-              says = record { takes = λ j l. takes_other j slot number es (below slot j (omega (arith, same, l))) ∙ d.says.takes j l; makes = λ j l. makes_past j slot number es ∙ d.says.makes j l };
-            })
+            let here : takes_at k (Take slot number ∷ es) ≡ number ∷ takes_at k es = rw same (takes_here k number es) in
+            (d.0, recast (ap (each_take k s) (sym here)) refl (append_many o.1 d.1), left_on (says_take (suc k) k slot number es (omega (arith, l))) (omega arith) (omega arith) d.2))
         | no l ↦ rests (Take slot number ∷ es) a f (omega (arith, l))
       ]

@@ -1,8 +1,8 @@
 -- Runs with what happened in them and runs of two ends go through the same worlds.
-use Rattle.std.proofs.Common.{◌≡◌, List, [], ◌∷◌, ◌++◌, refl, ap, sym, ◌∙◌, subst}
+use Rattle.std.proofs.Common.{◌≡◌, List, [], ◌∷◌, ◌++◌, refl, ap, ◌∙◌}
 use Rattle.std.proofs.lemmas.List.{map-append}
 use Rattle.rasta_pdu.specs.Params.{Parameters}
-use Rattle.rasta_check.specs.Model.World.{World, Step, side_moves, moved, Reaches, begins, goes_on}
+use Rattle.rasta_check.specs.Model.World.{World, side_moves, Reaches, begins, goes_on}
 use Rattle.rasta_check.specs.Run.Moves.{Happened, Runs, starts, does, worlds_of}
 
 worlds_push : (hs : List Happened) (h : Happened) → worlds_of (hs ++ h ∷ []) ≡ worlds_of hs ++ h.world ∷ []
@@ -12,14 +12,12 @@ worlds_push hs h = map-append (λ (x : Happened). x.world) hs (h ∷ [])
 pub reaches_of : (p : Parameters) (hs : List Happened) (w : World) → Runs p hs w → Reaches p (worlds_of hs) w
 reaches_of p hs w (starts m n) = begins m n
 reaches_of p hs w (does {happened = gs} {w = v} {a = a} {after = ys} side move r d) =
-    subst (λ (ws : List World). Reaches p ws (moved v side a ys)) (sym (worlds_push gs (record { world = v; side = side; move = move }))) (goes_on (reaches_of p gs v r) (side_moves side d))
+    rw (worlds_push gs (record { world = v; side = side; move = move })) (goes_on (reaches_of p gs v r) (side_moves side d))
 
 -- and where a run leads through worlds, something happened in each of them
 pub runs_of : (p : Parameters) (ws : List World) (w : World) → Reaches p ws w → (hs : List Happened) × Runs p hs w × (worlds_of hs ≡ ws)
 runs_of p ws w (begins m n) = ([], starts m n, refl)
-runs_of p ws w (goes_on {ws = vs} {w = v} r s) = by s (runs_of p vs v r)
-  where
-    by : {w' : World} → Step p v w' → ((hs : List Happened) × Runs p hs v × (worlds_of hs ≡ vs)) → (hs : List Happened) × Runs p hs w' × (worlds_of hs ≡ vs ++ v ∷ [])
-    by (side_moves {move = move} side m) z =
-        let h : Happened = record { world = v; side = side; move = move } in
-        (z.0 ++ h ∷ [], does side move z.1 m, worlds_push z.0 h ∙ ap (λ (us : List World). us ++ v ∷ []) z.2)
+runs_of p ws w (goes_on {ws = vs} {w = v} r (side_moves {move = move} side m)) =
+    let z = runs_of p vs v r in
+    let h : Happened = record { world = v; side = side; move = move } in
+    (z.0 ++ h ∷ [], does side move z.1 m, worlds_push z.0 h ∙ ap (λ (us : List World). us ++ v ∷ []) z.2)

@@ -43,14 +43,16 @@ module _ (p : Parameters) (n : ℕ) (own peer : List FirstCopy) where
   done u m x (makes_next c clock why e a g k) = inr (record { e = u.state; i = u.made; c = c; clock = clock; why = why; there = g; makes = k })
 
   -- a script without the takes after its last make
-  cut : (u v : Cursor) (es : List Entry) → Leads p n own peer u es v → (cs : List Entry) × (w : Cursor) × Leads p n own peer u cs w × (w.made ≡ v.made) × ((w ≡ u) ⊎ JustMade p own w.state)
+  abbrev Cut : Cursor → Cursor → Type 0
+  Cut u v = (cs : List Entry) × (w : Cursor) × Leads p n own peer u cs w × (w.made ≡ v.made) × ((w ≡ u) ⊎ JustMade p own w.state)
+
+  cut : (u v : Cursor) (es : List Entry) → Leads p n own peer u es v → Cut u v
   cut u v [] f = ([], u, refl, ap (λ (z : Cursor). z.made) f, inl refl)
   cut u v (x ∷ es) f = by (done u f.0 x f.1) (cut f.0 v es f.2)
     where
-      by : (u.made ≡ f.0.made) ⊎ JustMade p own f.0.state → ((cs : List Entry) × (w : Cursor) × Leads p n own peer f.0 cs w × (w.made ≡ v.made) × ((w ≡ f.0) ⊎ JustMade p own w.state))
-          → (cs : List Entry) × (w : Cursor) × Leads p n own peer u cs w × (w.made ≡ v.made) × ((w ≡ u) ⊎ JustMade p own w.state)
+      by : (u.made ≡ f.0.made) ⊎ JustMade p own f.0.state → Cut f.0 v → Cut u v
       by (inl e) (cs, w, l, m, inl q) = ([], u, refl, e ∙ (ap (λ (z : Cursor). z.made) (sym q) ∙ m), inl refl)
-      by (inr j) (cs, w, l, m, inl q) = (x ∷ cs, w, (f.0, f.1, l), m, inr (subst (λ (z : Cursor). JustMade p own z.state) (sym q) j))
+      by (inr j) (cs, w, l, m, inl q) = (x ∷ cs, w, (f.0, f.1, l), m, inr (rw q j))
       by _ (cs, w, l, m, inr j) = (x ∷ cs, w, (f.0, f.1, l), m, inr j)
 
   -- a script that fits, cut: it leads to an end that is as at the start or has just made something
@@ -86,15 +88,12 @@ module _ (p : Parameters) (s : Side) (e f : EndState) (t u : ℕ) (own : List Fi
       let after : e ≡ after_make_by (Some b.row) m.e x m.clock = m.makes.1 ∙ sym (after_row m.e x m.clock m.why b) in
       let acc : m.e.accepted ≡ suc i = sym (ap (λ (z : EndState). z.accepted) after) ∙ a in
       let k : is_kind ConnectionRequest x.kind ≡ false = no_opening m x.kind refl (omega arith) in
-      let cs : x.cs ≡ m.e.last_sn = (cs_is m.e x.kind x.cs (judged_after m.e x.kind i acc k) ok.cs).1 in
-      let cs' : x.cs ≡ e.last_sn = cs ∙ sym (ap (λ (z : EndState). z.last_sn) after) in
+      let cs : x.cs ≡ e.last_sn = (cs_is m.e x.kind x.cs (judged_after m.e x.kind i acc k) ok.cs).1 ∙ sym (ap (λ (z : EndState). z.last_sn) after) in
       let l = h.accepts.last i a in
-      let at : position_with (pdus_made f.made) x.cs ≡ Some i = named_position f.made i x.cs once (record { m = l.m; there = l.there; same = l.same ∙ sym cs' }) in
-      let at' : position_with M x.cs ≡ Some i = ap (λ (ms : List SafetyPdu). position_with ms x.cs) (sym told_f) ∙ at in
-      let v : units_shown M (pdus_of own) x ≡ units_at (values f) (Some i) = rw (k, at', along) refl in
+      let at : position_with M x.cs ≡ Some i = rw (sym told_f) (named_position f.made i x.cs once (record { m = l.m; there = l.there; same = l.same ∙ sym cs })) in
+      let v : units_shown M (pdus_of own) x ≡ units_at (values f) (Some i) = rw (k, at, along) refl in
       let big = fold_member (units_shown M (pdus_of own)) 0 (pdus_of own) m.i x (map_at (λ (c : FirstCopy). c.pdu.safety) own m.i m.c m.there) in
-      let c = hd.count ∙ ap (worth (values f)) a in
-      omega (arith, big, v, c)
+      omega (arith, big, v, hd.count ∙ ap (worth (values f)) a)
 
   pub no_more : (e ≡ start_of p s) ⊎ JustMade p own e → length e.handed ≤ units_taken M (pdus_of own)
   no_more (inl q) = (let z = ap (λ (x : EndState). length x.handed) q in let y = (start_is p.quiet s).3 in omega arith)
@@ -124,12 +123,6 @@ sharp p packets c s cs ss a b recorded hc hs lc ls fc fs =
     let ks = cut_fits p (length packets) s c Server ss b fs in
     let r = simulated p packets c s kc.0 ks.0 kc.1 ks.1 recorded hc hs kc.2 ks.2 in
     let w = r.1 in
-    let sc = subst (λ (xs : List Packet). IsSent p xs Client c) (sym r.3) hc in
-    let sv = subst (λ (xs : List Packet). IsSent p xs Server s) (sym r.3) hs in (
-      r.0,
-      w,
-      r.2,
-      r.3,
-      exactly p r.0 w Client c s r.2 sc sv lc ls (subst (λ (z : EndState). (z ≡ start_of p Server) ⊎ JustMade p s z) (sym r.5) ks.3),
-      exactly p r.0 w Server s c r.2 sv sc ls lc (subst (λ (z : EndState). (z ≡ start_of p Client) ⊎ JustMade p c z) (sym r.4) kc.3),
-    )
+    let sc : IsSent p w.crossed Client c = rw r.3 hc in
+    let sv : IsSent p w.crossed Server s = rw r.3 hs in
+    (r.0, w, r.2, r.3, exactly p r.0 w Client c s r.2 sc sv lc ls (rw r.5 ks.3), exactly p r.0 w Server s c r.2 sv sc ls lc (rw r.4 kc.3))

@@ -1,23 +1,21 @@
 -- The script that fits is the one that the code follows to its end, and the first fault of another is the one that the code answers.
-use Rattle.std.proofs.Common.{◌≡◌, ℕ, suc, ◌+◌, ◌<◌, ◌≤◌, Bool, true, false, List, [], ◌∷◌, ◌++◌, length, Option, Some, None, Result, Ok, Err, slice_get, ◌⊎◌, inl, inr, refl, ap, sym, ◌∙◌, arith, subst}
-use Rattle.std.specs.Prelude.{not, nat_lt, ◌==◌, ◌||◌, if◌then◌else◌, is_none}
-use Rattle.std.specs.Option.{option_map_or, option_or}
+use Rattle.std.proofs.Common.{◌≡◌, ℕ, suc, ◌+◌, ◌<◌, ◌≤◌, true, false, List, [], ◌∷◌, ◌++◌, length, Option, Some, None, Result, Ok, Err, slice_get, ◌⊎◌, inl, inr, refl, ap, sym, ◌∙◌, arith, subst}
+use Rattle.std.specs.Prelude.{◌==◌}
+use Rattle.std.specs.Option.{option_or}
 use Rattle.std.proofs.lemmas.Bool.Decides.{nat_tests}
 use Rattle.std.proofs.lemmas.List.{append-nil, append_assoc, length-append}
 use Rattle.std.proofs.lemmas.Option.{slice_get_within}
 use Rattle.rasta_check.proofs.Prelude.{Fault, Side, Client, Server, Parameters, Entry, Take, Make, EndState, Makes, start_of, FirstCopy, Cursor, at_start, Follows}
-use Rattle.rasta_pcap.specs.Fault.{fault_of_end, slot_order, not_first_copy, make_missing, not_yet_crossed, not_rising}
+use Rattle.rasta_pcap.specs.Fault.{fault_of_end, make_missing}
 use Rattle.rasta_cert.specs.Certificate.{Scripts}
-use Rattle.rasta_end.specs.MakeRule.{make_fault, first_that_holds, is_there}
-use Rattle.rasta_end.specs.TakeRule.{take_fault}
+use Rattle.rasta_end.specs.MakeRule.{make_fault, after_make, first_that_holds}
+use Rattle.rasta_end.specs.TakeRule.{take_fault, after_take}
 use Rattle.rasta_check.specs.Capture.Crossing.{copy_with}
 use Rattle.rasta_check.specs.Capture.Lists.{IsOrdered, places_of, position_of_number, position_of_place}
 use Rattle.rasta_check.specs.Script.Fitting.{places_made, AreInOrder, AreNamed, Joins, Fits, level_after, position_after, entry_tests, end_fault, FirstFault, at_entry, after_last}
 use Rattle.rasta_check.specs.Script.Laws.{HasOneAnswer}
-use native.Mathlib.Decide.{dec_lt}
-use Prim.{yes, no}
-use Rattle.rasta_check.specs.Internals.Checking.{unless, take_found, make_of, make_found, next_cursor, then_follow, follow_from, follow, where_followed, verdict_of}
-use Rattle.rasta_check.specs.Verdict.Report.{Explained, IsScriptVerdict, both_fit, client_refused, server_refused, report_of}
+use Rattle.rasta_check.specs.Internals.Checking.{unless, take_entry, make_entry, taken_there, made_there, next_cursor, then_follow, follow_from, follow, where_followed, verdict_of}
+use Rattle.rasta_check.specs.Verdict.Report.{Explained, BothFit, IsScriptVerdict, both_fit, client_refused, server_refused, report_of}
 use Rattle.rasta_check.proofs.Script.FollowedScripts.{Goes, takes, makes, goes, gone, follow_fits, fits_follow}
 use Rattle.rasta_check.proofs.Internals.StoreLists.{copy_of_position, no_copy}
 use Rattle.rasta_check.proofs.Lists.{slice_get_some, get_past}
@@ -28,9 +26,9 @@ abbrev counted : {A : Type 0} → ℕ → List A → ℕ
 counted n [] = n
 counted n (x ∷ xs) = counted (suc n) xs
 
-counted_is : {A : Type 0} (n : ℕ) (xs : List A) → counted n xs ≡ n + length xs
-counted_is n [] = omega arith
-counted_is n (x ∷ xs) = (let z = counted_is (suc n) xs in omega (arith, z))
+counted_is : {A : Type 0} (n : ℕ) (xs : List A) (m : ℕ) → n + length xs ≡ m → counted n xs ≡ m
+counted_is n [] m e = omega arith
+counted_is n (x ∷ xs) m e = counted_is (suc n) xs m (omega arith)
 
 module _ (p : Parameters) (packets : ℕ) (own peer : List FirstCopy) where
   -- ---- entries from a cursor on
@@ -54,20 +52,17 @@ module _ (p : Parameters) (packets : ℕ) (own peer : List FirstCopy) where
   abbrev Behind : Cursor → Type 0
   Behind u = (j : ℕ) (c : FirstCopy) → j < u.made → slice_get own j ≡ Some c → c.place < u.level
 
-  head_rests : (u : Cursor) (c : FirstCopy) (left : List FirstCopy) → Rests u (c ∷ left) → slice_get own u.made ≡ Some c
-  head_rests u c left h = subst (λ n. slice_get own n ≡ Some c) (omega arith) (h 0)
+  head : (u : Cursor) (left : List FirstCopy) → Rests u left → slice_get own u.made ≡ slice_get left 0
+  head u left h = (let z : u.made + 0 ≡ u.made = omega arith in rw z at (h 0))
 
   rests_on : (u v : Cursor) (c : FirstCopy) (left : List FirstCopy) → v.made ≡ suc u.made → Rests u (c ∷ left) → Rests v left
   rests_on u v c left e h j = ap (slice_get own) (let z = e in omega arith) ∙ h (suc j)
 
   behind_on : (u v : Cursor) (c : FirstCopy) → v.made ≡ suc u.made → v.level ≡ suc c.place → u.level ≤ c.place → slice_get own u.made ≡ Some c → Behind u → Behind v
   behind_on u v c m l low g h j d b k =
-      elim (dec_lt j u.made) [
-        | yes q ↦ (let r = h j d q k in omega (arith, r, l, low))
-        | no q ↦ (let at : j ≡ u.made = omega (arith, q, b, m) in
-            let same : d ≡ c = (let z = ap (slice_get own) at in cc) in
-            let y = ap (λ (x : FirstCopy). x.place) same in omega (arith, y, l))
-      ]
+      let same : j ≡ u.made → d ≡ c = λ e. (let z = ap (slice_get own) e in cc) in
+      let r : j < u.made → d.place < u.level = λ q. h j d q k in
+      grind (arith, m, b)
 
   -- entries that fit are followed, whatever comes behind them
   runs : (side : Side) (entry : ℕ) (u : Cursor) (xs rest : List Entry) (made left : List FirstCopy) (taken : List ℕ) (e : EndState)
@@ -76,8 +71,7 @@ module _ (p : Parameters) (packets : ℕ) (own peer : List FirstCopy) where
   unfolding follow_from
   runs side entry u [] rest (c ∷ made) left taken e r b f = absurd (let z = f.makes in cc)
   runs side entry u [] rest [] left (j ∷ taken) e r b f = absurd f.takes
-  runs side entry u [] rest [] left [] e r b f =
-      (λ i. follow_from p side packets own peer entry (record { level = u.level; made = u.made; taken = u.taken; state = f.ends i }) rest)
+  runs side entry u [] rest [] left [] e r b f = rw (sym f.ends) refl
   runs side entry u (Take slot number ∷ xs) rest made left [] e r b f = absurd f.takes
   runs side entry u (Take slot number ∷ xs) rest made left (position ∷ taken) e r b f =
       let c = f.ends.0 in
@@ -91,7 +85,7 @@ module _ (p : Parameters) (packets : ℕ) (own peer : List FirstCopy) where
   runs side entry u (Make place clock why ∷ xs) rest (c ∷ made) left taken e r b f =
       let same : place ≡ c.place = (let z = f.makes in cc) in
       let low : u.level ≤ c.place = (let z = f.slots.0 in omega arith) in
-      let there = head_rests u c (made ++ left) r in
+      let there = head u (c ∷ (made ++ left)) r in
       let found = place_first own u.made c there (λ j d l k q. (let y = b j d l k in omega (arith, q, y, low))) in
       let v : Cursor = record { level = suc place; made = suc u.made; taken = u.taken; state = f.ends.0 } in
       rw (gone p packets own peer u v (Make place clock why) (makes place clock why c f.ends.0 f.slots.0 (rw same found) there (sym same) f.ends.1))
@@ -109,9 +103,6 @@ module _ (p : Parameters) (packets : ℕ) (own peer : List FirstCopy) where
     fits : (xs : List Entry) (made : List FirstCopy) (taken : List ℕ) (e : EndState) → FitsFrom v xs made taken e
         → (positions : List ℕ) × FitsFrom u (x ∷ xs) (one ++ made) positions e × (reached u (x ∷ xs) (one ++ made) positions e ≡ reached v xs made taken e)
 
-  none_there : (u : Cursor) (c : FirstCopy) → Rests u [] → slice_get own u.made ≡ Some c → ⊥
-  none_there u c r g = absurd (let z : slice_get own u.made ≡ None = subst (λ n. slice_get own n ≡ None) (omega arith) (r 0) in cc)
-
   consed : (u v : Cursor) (x : Entry) (left : List FirstCopy) → Goes p packets own peer u x v → Rests u left → Consed u v x left
   consed u v x left (takes slot number position c after low high at g front up t) r =
       let named : copy_with peer number ≡ Some c = copy_of_position peer number position at ∙ g in
@@ -127,9 +118,9 @@ module _ (p : Parameters) (packets : ℕ) (own peer : List FirstCopy) where
           refl,
         );
       }
-  consed u v x [] (makes place clock why c after low at g same m) r = absurd (none_there u c r g)
+  consed u v x [] (makes place clock why c after low at g same m) r = absurd (let z = head u [] r in cc)
   consed u v x (d ∷ left) (makes place clock why c after low at g same m) r =
-      let is : c ≡ d = (let there = head_rests u d left r in cc) in
+      let is : c ≡ d = (let there = head u (d ∷ left) r in cc) in
       let here : place ≡ d.place = sym same ∙ ap (λ (z : FirstCopy). z.place) is in
       record {
         one = d ∷ [];
@@ -149,55 +140,36 @@ module _ (p : Parameters) (packets : ℕ) (own peer : List FirstCopy) where
   fault_of (Ok v) = None
   fault_of (Err n) = Some n
 
-  step : (b : Bool) (n : ℕ) (r : Result Cursor ℕ) (first o : Option ℕ) → fault_of r ≡ option_or first o → fault_of (if b then Err n else r) ≡ option_or (if b then Some n else first) o
-  step true n r first o s = refl
-  step false n r first o s = s
-
   by_rules : (o : Option ℕ) (v : Cursor) → fault_of (unless o v) ≡ o
   by_rules None v = refl
   by_rules (Some n) v = refl
 
   judged : (w : Cursor) (left : List FirstCopy) (x : Entry) → Rests w left → fault_of (next_cursor p packets own peer w x) ≡ entry_fault w left x
   unfolding next_cursor
-  judged w left (Take slot number) r =
-      step (nat_lt slot w.level || nat_lt packets slot) slot_order _ _ (take_fault p w.state w.state.clock) (by (position_of_number peer number) refl)
+  judged w left (Take slot number) r = by (position_of_number peer number) refl
     where
-      by : (o : Option ℕ) → position_of_number peer number ≡ o → fault_of (take_found p peer w slot o)
-          ≡ option_or (first_that_holds ((not (option_map_or (λ (c : FirstCopy). nat_lt c.place slot) (copy_with peer number) false), not_yet_crossed)
-          ∷ (option_map_or (λ (position : ℕ). nat_lt position w.taken) o false, not_rising) ∷ []))
-          (take_fault p w.state w.state.clock)
-      by None e = rw (no_copy peer number e) refl
+      by : (o : Option ℕ) → position_of_number peer number ≡ o → fault_of (take_entry p packets peer w slot number) ≡ entry_fault w left (Take slot number)
+      by None e = (let n = no_copy peer number e in grind arith)
       by (Some i) e =
           let f = number_found peer number i e in
-          rw (copy_of_position peer number i e, f.1)
-          (step (not (nat_lt f.0.place slot)) not_yet_crossed _ _ (take_fault p w.state w.state.clock)
-          (step (nat_lt i w.taken) not_rising _ None (take_fault p w.state w.state.clock) (by_rules (take_fault p w.state w.state.clock) _)))
-  judged w left (Make place clock why) r =
-      step (nat_lt place w.level) slot_order _ _ (end_fault p w.state left (Make place clock why)) (by (position_of_place own place) refl)
+          let z = by_rules (take_fault p w.state w.state.clock) (taken_there w slot i (after_take p w.state f.0.pdu.safety)) in
+          rw (e, f.1, copy_of_position peer number i e ∙ f.1) (grind arith)
+  judged w left (Make place clock why) r = by left r (position_of_place own place) refl
     where
-      on : (i : ℕ) (cs : List FirstCopy) → Rests w cs → position_of_place own place ≡ Some i → (b : Bool) → (i == w.made) ≡ b
-          → fault_of (if b then make_of p w place clock why (slice_get own i) else Err make_missing) ≡ option_or (first_that_holds ((not b, make_missing) ∷ [])) (end_fault p w.state cs (Make place clock why))
-      on i cs q k false e = refl
-      on i [] q k true e =
+      by : (cs : List FirstCopy) → Rests w cs → (o : Option ℕ) → position_of_place own place ≡ o → fault_of (make_entry p own w place clock why) ≡ entry_fault w cs (Make place clock why)
+      by cs q None k = grind arith
+      by [] q (Some i) k =
           let f = place_found own place i k in
-          let at : i ≡ w.made = grind (arith, nat_tests, e) in
-          absurd (none_there w f.0 q (sym (ap (slice_get own) at) ∙ f.1))
-      on i (d ∷ cs) q k true e =
-          let at : i ≡ w.made = grind (arith, nat_tests, e) in
-          rw (ap (slice_get own) at ∙ head_rests w d cs q) (by_rules (make_fault p w.state d.pdu.safety clock why) _)
-
-      by : (o : Option ℕ) → position_of_place own place ≡ o → fault_of (make_found p own w place clock why o)
-          ≡ option_or (first_that_holds ((is_none o, not_first_copy) ∷ (not (is_there o w.made), make_missing) ∷ [])) (end_fault p w.state left (Make place clock why))
-      by None e = refl
-      by (Some i) e = on i left r e (i == w.made) refl
+          let none : i ≡ w.made → ⊥ = λ at. absurd (let z = ap (slice_get own) at ∙ head w [] q in cc (f.1)) in
+          rw k (grind (arith, nat_tests))
+      by (d ∷ cs) q (Some i) k =
+          let there : i ≡ w.made → slice_get own i ≡ Some d = λ at. ap (slice_get own) at ∙ head w (d ∷ cs) q in
+          let z = by_rules (make_fault p w.state d.pdu.safety clock why) (made_there w place (after_make w.state d.pdu.safety clock why)) in
+          rw k (grind (arith, nat_tests))
 
   -- the code refuses an entry by the first test that holds
   refuses : (w : Cursor) (left : List FirstCopy) (x : Entry) (n : ℕ) → Rests w left → entry_fault w left x ≡ Some n → next_cursor p packets own peer w x ≡ Err n
-  refuses w left x n r h = by (next_cursor p packets own peer w x) (judged w left x r ∙ h)
-    where
-      by : (o : Result Cursor ℕ) → fault_of o ≡ Some n → o ≡ Err n
-      by (Ok v) s = absurd (cc)
-      by (Err m) s = cc
+  refuses w left x n r h = (let z = judged w left x r ∙ h in grind arith)
 
   -- ---- what the code answers is the first fault
 
@@ -215,12 +187,11 @@ module _ (p : Parameters) (packets : ℕ) (own peer : List FirstCopy) where
       → FaultFrom side (suc entry) v xs z.others f → FaultFrom side entry u (x ∷ xs) left f
   fault_after side entry u v x xs left f z (one_of front behind y made rest taken e number is parts fits says) =
       let w = z.fits front made taken e fits in
-      one_of (x ∷ front) behind y (z.one ++ made) rest w.0 e number (ap (λ (l : List Entry). x ∷ l) is)
-      (z.is ∙ (ap (λ (l : List FirstCopy). z.one ++ l) parts ∙ sym (append_assoc z.one made rest))) w.1
+      one_of (x ∷ front) behind y (z.one ++ made) rest w.0 e number (ap (λ (l : List Entry). x ∷ l) is) (z.is ∙ rw (parts, append_assoc) refl) w.1
       (subst (λ (q : Cursor). entry_fault q rest y ≡ Some number) (sym w.2) says)
   fault_after side entry u v x xs left f z (none_left made rest c taken e fits parts) =
       let w = z.fits xs made taken e fits in
-      none_left (z.one ++ made) rest c w.0 e w.1 (z.is ∙ (ap (λ (l : List FirstCopy). z.one ++ l) parts ∙ sym (append_assoc z.one made (c ∷ rest))))
+      none_left (z.one ++ made) rest c w.0 e w.1 (z.is ∙ rw (parts, append_assoc) refl)
 
   -- an end that the script fits with, or its first fault
   abbrev Answered : Side → ℕ → Cursor → List Entry → List FirstCopy → Result EndState Fault → Type 0
@@ -229,19 +200,20 @@ module _ (p : Parameters) (packets : ℕ) (own peer : List FirstCopy) where
 
   answered_on : (side : Side) (entry : ℕ) (u v : Cursor) (x : Entry) (xs : List Entry) (left : List FirstCopy) (z : Consed u v x left) (r : Result EndState Fault)
       → Answered side (suc entry) v xs z.others r → Answered side entry u (x ∷ xs) left r
-  answered_on side entry u v x xs left z (Ok e) w = (let y = z.fits xs z.others w.0 e w.1 in (y.0, subst (λ (cs : List FirstCopy). FitsFrom u (x ∷ xs) cs y.0 e) (sym z.is) y.1))
+  answered_on side entry u v x xs left z (Ok e) w = (let y = z.fits xs z.others w.0 e w.1 in (y.0, rw z.is y.1))
   answered_on side entry u v x xs left z (Err f) w = fault_after side entry u v x xs left f z w
 
   answered : (side : Side) (entry : ℕ) (u : Cursor) (xs : List Entry) (left : List FirstCopy) → Rests u left → u.made ≤ length own
       → Answered side entry u xs left (follow_from p side packets own peer entry u xs)
   unfolding follow_from
-  answered side entry u [] left r l = by left r (u.made == length own) refl
-    where
-      by : (left : List FirstCopy) → Rests u left → (b : Bool) → (u.made == length own) ≡ b → Answered side entry u [] left (if b then Ok u.state else Err (fault_of_end make_missing entry side))
-      by [] r true e = ([], here u)
-      by [] r false e = absurd (let f = slice_get_some own u.made (grind (arith, nat_tests, e, l)) in none_there u f.0 r f.1)
-      by (c ∷ left) r true e = absurd (let m = slice_get_within own u.made c (head_rests u c left r) in grind (arith, nat_tests, e, m))
-      by (c ∷ left) r false e = none_left [] left c [] u.state (here u) refl
+  answered side entry u [] [] r l =
+      let none : u.made < length own → ⊥ = λ q. absurd (let f = slice_get_some own u.made q in let z = head u [] r in cc (f.1)) in
+      let all : (u.made == length own) ≡ true = grind (arith, nat_tests) in
+      rw all ([], here u)
+  answered side entry u [] (c ∷ left) r l =
+      let m = slice_get_within own u.made c (head u (c ∷ left) r) in
+      let more : (u.made == length own) ≡ false = grind (arith, nat_tests) in
+      rw more (none_left [] left c [] u.state (here u) refl)
   answered side entry u (x ∷ xs) left r l = by (next_cursor p packets own peer u x) refl (λ v cs q m. answered side (suc entry) v xs cs q m)
     where
       by : (o : Result Cursor ℕ) → next_cursor p packets own peer u x ≡ o
@@ -262,9 +234,7 @@ module _ (p : Parameters) (packets : ℕ) (own peer : List FirstCopy) where
       → follow p side packets own peer (es ++ rest)
       ≡ follow_from p side packets own peer (suc (length es)) (record { level = level_after 0 es; made = length made; taken = position_after 0 f.taken; state = e }) rest
   from_start side es rest made left e parts f =
-      let entry : suc (length es) ≡ counted 1 es = (let z = counted_is 1 es in omega arith) in
-      let count : length made ≡ counted 0 made = (let z = counted_is 0 made in omega arith) in
-      rw (entry, count)
+      rw (sym (counted_is 1 es (suc (length es)) (omega arith)), sym (counted_is 0 made (length made) (omega arith)))
       (runs side 1 (at_start (start_of p side)) es rest made left f.taken e (λ j. (let z : 0 + j ≡ j = omega arith in rw (z, parts) refl)) (λ j c l g. absurd (omega arith))
       (record { makes = f.makes; slots = f.slots; takes = f.takes; ends = f.ends }))
 
@@ -272,9 +242,8 @@ module _ (p : Parameters) (packets : ℕ) (own peer : List FirstCopy) where
   pub fits_is : (side : Side) (es : List Entry) (e : EndState) → Fits p side packets own peer es e → follow p side packets own peer es ≡ Ok e
   unfolding follow_from
   fits_is side es e f =
-      let z = from_start side es [] own [] e (sym (append-nil own)) f in
       let all : (length own == length own) ≡ true = grind (arith, nat_tests) in
-      (rw append-nil at z) ∙ rw all refl
+      (rw append-nil at (from_start side es [] own [] e (sym (append-nil own)) f)) ∙ rw all refl
 
   by_code : (side : Side) (es : List Entry) (r : Result EndState Fault) → follow p side packets own peer es ≡ r → Answered side 1 (at_start (start_of p side)) es own r
   by_code side es r h = subst (Answered side 1 (at_start (start_of p side)) es own) h (answered side 1 (at_start (start_of p side)) es own (λ j. let z : 0 + j ≡ j = omega arith in ap (slice_get own) z) (omega arith))
@@ -286,14 +255,11 @@ module _ (p : Parameters) (packets : ℕ) (own peer : List FirstCopy) where
   pub is_fault : (side : Side) (es : List Entry) (f : Fault) → follow p side packets own peer es ≡ Err f → FirstFault p side packets own peer es f
   is_fault side es f h = by f (by_code side es (Err f) h)
     where
-      first : (xs : List Entry) → counted 1 xs ≡ suc (length xs)
-      first xs = (let z = counted_is 1 xs in omega arith)
-
       by : (f : Fault) → FaultFrom side 1 (at_start (start_of p side)) es own f → FirstFault p side packets own peer es f
       by f (one_of front behind x made left taken e number is parts fits says) =
-          let made_is : counted 0 made ≡ length made = (let z = counted_is 0 made in omega arith) in
-          rw (first front) (at_entry front behind x made left e (to_start side made front taken e fits) number is parts (rw made_is at says))
-      by f (none_left made left c taken e fits parts) = rw (first es) (after_last made left c e (to_start side made es taken e fits) parts)
+          let made_is = counted_is 0 made (length made) (omega arith) in
+          rw (counted_is 1 front (suc (length front)) (omega arith)) (at_entry front behind x made left e (to_start side made front taken e fits) number is parts (rw made_is at says))
+      by f (none_left made left c taken e fits parts) = rw (counted_is 1 es (suc (length es)) (omega arith)) (after_last made left c e (to_start side made es taken e fits) parts)
 
   pub fault_is : (side : Side) (es : List Entry) (f : Fault) → FirstFault p side packets own peer es f → follow p side packets own peer es ≡ Err f
   unfolding follow_from
@@ -348,3 +314,13 @@ module _ (p : Parameters) (packets : ℕ) (c s : List FirstCopy) (scripts : Scri
 
   pub one_answer : (a b : Result Explained Fault) → IsScriptVerdict p packets c s scripts a → IsScriptVerdict p packets c s scripts b → a ≡ b
   one_answer a b h k = sym (verdict_is_of a h) ∙ verdict_is_of b k
+
+  -- where it is a report, both scripts fit
+  pub verdict_fits : (report : Explained) → verdict_of p packets c s scripts ≡ Ok report → BothFit p packets c s scripts × (report ≡ report_of p packets c s)
+  verdict_fits report e = by report (is_verdict (Ok report) e)
+    where
+      by : (report : Explained) → IsScriptVerdict p packets c s scripts (Ok report) → BothFit p packets c s scripts × (report ≡ report_of p packets c s)
+      by _ (both_fit fits) = (fits, refl)
+
+  pub verdict_refuses : (fault : Fault) → verdict_of p packets c s scripts ≡ Err fault → BothFit p packets c s scripts → ⊥
+  verdict_refuses fault e fits = (let z = verdict_is_of _ (both_fit fits) in absurd (cc))

@@ -1,35 +1,25 @@
 -- What the checker answers for a script is the end that it leads to, exactly where it fits.
-use Rattle.std.proofs.Common.{◌≡◌, ℕ, suc, ◌+◌, ◌<◌, ◌≤◌, Bool, true, false, List, [], ◌∷◌, drop, length, get_or, Option, Some, None, Result, Ok, Err, slice_get, position, MatchResult, ◌⊎◌, inl, inr, refl, ap, sym, ◌∙◌, arith, subst, add-one}
-use Rattle.std.specs.Prelude.{not, nat_lt, ◌==◌, ◌||◌, if◌then◌else◌}
+use Rattle.std.proofs.Common.{◌≡◌, ℕ, suc, ◌+◌, ◌<◌, ◌≤◌, true, false, List, [], ◌∷◌, drop, length, get_or, Option, Some, None, Result, Ok, Err, slice_get, position, MatchResult, ◌⊎◌, inl, inr, refl, ap, sym, ◌∙◌, arith, subst, add-one}
+use Rattle.std.specs.Prelude.{◌==◌}
 use Rattle.std.proofs.lemmas.Bool.Decides.{nat_tests}
 use Rattle.std.proofs.lemmas.List.{drop_all}
 use Rattle.std.proofs.lemmas.Option.{slice_get-get_or}
 use Rattle.rasta_check.proofs.Prelude.{Fault, Side, Parameters, Entry, Take, Make, Why, EndState, Makes, Takes}
 use Rattle.rasta_check.proofs.Prelude.{start_of, FirstCopy, Cursor, Advances, takes_next, makes_next, Leads, at_start, Follows}
-use Rattle.rasta_pcap.specs.Fault.{fault_of_end, no_memory, slot_order, make_missing, not_yet_crossed, not_rising}
-use Rattle.rasta_end.specs.MakeRule.{make_fault}
-use Rattle.rasta_end.specs.TakeRule.{take_fault}
+use Rattle.rasta_pcap.specs.Fault.{fault_of_end, no_memory, make_missing}
+use Rattle.rasta_end.specs.MakeRule.{make_fault, after_make}
+use Rattle.rasta_end.specs.TakeRule.{take_fault, after_take}
 use Rattle.rasta_end.specs.Judged.{JudgedEnd}
 use Rattle.rasta_end.proofs.MakeTests.{no_fault, no_test}
 use Rattle.rasta_check.specs.Capture.Lists.{IsOrdered, position_of_number, position_of_place}
-use Rattle.rasta_check.specs.Internals.Checking.{unless, take_at, take_found, make_of, make_found, next_cursor, then_follow, follow_from, follow, Followed, moved_to, IsRefused}
+use Rattle.rasta_check.specs.Internals.Checking.{unless, take_entry, make_entry, taken_there, made_there, next_cursor, then_follow, follow_from, follow, Followed, moved_to, IsRefused}
 use Rattle.rasta_check.proofs.Lists.{drop_one_more}
 use Rattle.rasta_check.proofs.Capture.Positions.{number_found, number_named, place_found, place_named}
 
 -- ---- one entry that is allowed leads on
 
--- a test that isn't met is passed
-passes : {A B : Type 0} (b : Bool) (f : B) (r : Result A B) (v : A) → (if b then Err f else r) ≡ Ok v → (b ≡ false) × (r ≡ Ok v)
-passes true f r v e = absurd (cc)
-passes false f r v e = (refl, e)
-
-holds : {A B : Type 0} (b : Bool) (f : B) (r : Result A B) (v : A) → (if b then r else Err f) ≡ Ok v → (b ≡ true) × (r ≡ Ok v)
-holds true f r v e = (refl, e)
-holds false f r v e = absurd (cc)
-
 allowed : (fault : Option ℕ) (w v : Cursor) → unless fault w ≡ Ok v → (fault ≡ None) × (w ≡ v)
-allowed None w v e = (refl, cc)
-allowed (Some f) w v e = absurd (cc)
+allowed fault w v e = grind arith
 
 module _ (p : Parameters) (packets : ℕ) (own peer : List FirstCopy) where
   -- the code goes on with an entry: from here to there
@@ -43,60 +33,48 @@ module _ (p : Parameters) (packets : ℕ) (own peer : List FirstCopy) where
         → Makes p u.state c.pdu.safety clock why after
         → Goes u (Make place clock why) (record { level = suc place; made = suc u.made; taken = u.taken; state = after })
 
-  take_goes : (u v : Cursor) (slot number : ℕ) → u.level ≤ slot → slot ≤ packets → (o : Option ℕ) → position_of_number peer number ≡ o
-      → take_found p peer u slot o ≡ Ok v → Goes u (Take slot number) v
-  take_goes u v slot number low high None e g = absurd (cc)
-  take_goes u v slot number low high (Some position) e g =
-      let f = number_found peer number position e in
-      let at : take_at p u slot position (Some f.0) ≡ Ok v = ap (take_at p u slot position) (sym f.1) ∙ g in
-      let a = passes (not (nat_lt f.0.place slot)) not_yet_crossed _ v at in
-      let b = passes (nat_lt position u.taken) not_rising _ v a.1 in
-      let d = allowed (take_fault p u.state u.state.clock) _ v b.1 in
-      let front : f.0.place < slot = (let t = a.0 in grind (arith, nat_tests)) in
-      let up : u.taken ≤ position = (let t = b.0 in grind (arith, nat_tests)) in
-      subst (Goes u (Take slot number)) d.1 (takes slot number position f.0 _ low high e f.1 front up (d.0, refl))
-
-  make_goes : (u v : Cursor) (place clock : ℕ) (why : Why) → u.level ≤ place → (o : Option ℕ) → position_of_place own place ≡ o
-      → make_found p own u place clock why o ≡ Ok v → Goes u (Make place clock why) v
-  make_goes u v place clock why low None e g = absurd (cc)
-  make_goes u v place clock why low (Some position) e g =
-      let f = place_found own place position e in
-      let h = holds (position == u.made) make_missing _ v g in
-      let same : position ≡ u.made = (let t = h.0 in grind (arith, nat_tests)) in
-      let there : slice_get own u.made ≡ Some f.0 = subst (λ i. slice_get own i ≡ Some f.0) same f.1 in
-      let at : make_of p u place clock why (Some f.0) ≡ Ok v = ap (make_of p u place clock why) (sym f.1) ∙ h.1 in
-      let d = allowed (make_fault p u.state f.0.pdu.safety clock why) _ v at in
-      subst (Goes u (Make place clock why)) d.1 (makes place clock why f.0 _ low (e ∙ ap Some same) there f.2 (no_test p u.state f.0.pdu.safety clock why d.0, refl))
-
   pub goes : (u v : Cursor) (x : Entry) → next_cursor p packets own peer u x ≡ Ok v → Goes u x v
   unfolding next_cursor
-  goes u v (Take slot number) e =
-      let a = passes (nat_lt slot u.level || nat_lt packets slot) slot_order _ v e in
-      let low : u.level ≤ slot = (let t = a.0 in grind (arith, nat_tests)) in
-      let high : slot ≤ packets = (let t = a.0 in grind (arith, nat_tests)) in
-      take_goes u v slot number low high (position_of_number peer number) refl a.1
-  goes u v (Make place clock why) e =
-      let a = passes (nat_lt place u.level) slot_order _ v e in
-      make_goes u v place clock why (let t = a.0 in grind (arith, nat_tests)) (position_of_place own place) refl a.1
+  goes u v (Take slot number) e = by (position_of_number peer number) refl e
+    where
+      by : (o : Option ℕ) → position_of_number peer number ≡ o → take_entry p packets peer u slot number ≡ Ok v → Goes u (Take slot number) v
+      by None k e = absurd (let z = rw k at e in grind arith)
+      by (Some position) k e =
+          let f = number_found peer number position k in
+          let z = rw (k, f.1) at e in
+          let ok : (u.level ≤ slot) × (slot ≤ packets) × (f.0.place < slot) × (u.taken ≤ position) = grind (arith, nat_tests) in
+          let d = allowed (take_fault p u.state u.state.clock) (taken_there u slot position (after_take p u.state f.0.pdu.safety)) v (grind arith) in
+          subst (Goes u (Take slot number)) d.1 (takes slot number position f.0 _ ok.0 ok.1 k f.1 ok.2 ok.3 (d.0, refl))
+  goes u v (Make place clock why) e = by (position_of_place own place) refl e
+    where
+      by : (o : Option ℕ) → position_of_place own place ≡ o → make_entry p own u place clock why ≡ Ok v → Goes u (Make place clock why) v
+      by None k e = absurd (let z = rw k at e in grind arith)
+      by (Some position) k e =
+          let f = place_found own place position k in
+          let z = rw (k, f.1) at e in
+          let same : position ≡ u.made = grind (arith, nat_tests) in
+          let d = allowed (make_fault p u.state f.0.pdu.safety clock why) (made_there u place (after_make u.state f.0.pdu.safety clock why)) v (grind arith) in
+          subst (Goes u (Make place clock why)) d.1 (makes place clock why f.0 _ (grind (arith, nat_tests)) (k ∙ ap Some same) (ap (slice_get own) (sym same) ∙ f.1) f.2 (no_test p u.state f.0.pdu.safety clock why d.0, refl))
 
   -- what follows by one entry is where it leads
   leads_on : (u v : Cursor) (x : Entry) → Goes u x v → Advances p packets own peer u x v
   leads_on u v x (takes slot number position c after low high at g front up t) =
       let f = number_found peer number position at in
       let named : c.pdu.number ≡ number = (let same : f.0 ≡ c = cc (f.1) in cc (f.2)) in
-      subst (λ n. Advances p packets own peer u (Take slot n) (record { level = slot; made = u.made; taken = suc position; state = after })) named (takes_next slot position c after low high g front up t)
-  leads_on u v x (makes place clock why c after low at g same m) =
-      subst (λ n. Advances p packets own peer u (Make n clock why) (record { level = suc n; made = suc u.made; taken = u.taken; state = after })) same (makes_next c clock why after (omega arith) g m)
+      rw (sym named) (takes_next slot position c after low high g front up t)
+  leads_on u v x (makes place clock why c after low at g same m) = rw (sym same) (makes_next {u = u} c clock why after (omega arith) g m)
 
-  leads_from : (side : Side) (entry : ℕ) (u : Cursor) (es : List Entry) (e : EndState) → follow_from p side packets own peer entry u es ≡ Ok e
-      → (v : Cursor) × Leads p packets own peer u es v × (v.made ≡ length own) × (v.state ≡ e)
+  -- these entries lead from here to an end, and make the whole list
+  abbrev Ends : Cursor → List Entry → EndState → Type 0
+  Ends u es e = (v : Cursor) × Leads p packets own peer u es v × (v.made ≡ length own) × (v.state ≡ e)
+
+  leads_from : (side : Side) (entry : ℕ) (u : Cursor) (es : List Entry) (e : EndState) → follow_from p side packets own peer entry u es ≡ Ok e → Ends u es e
   unfolding follow_from
-  leads_from side entry u [] e h = (let a = holds (u.made == length own) (fault_of_end make_missing entry side) _ e h in (u, refl, (let t = a.0 in grind (arith, nat_tests)), (let z = a.1 in cc)))
+  leads_from side entry u [] e h = (let all : u.made ≡ length own = grind (arith, nat_tests) in (u, refl, all, grind arith))
   leads_from side entry u (x ∷ xs) e h = by (next_cursor p packets own peer u x) refl h (λ v k. leads_from side (suc entry) v xs e k)
     where
       by : (r : Result Cursor ℕ) → next_cursor p packets own peer u x ≡ r → then_follow (λ v. follow_from p side packets own peer (suc entry) v xs) entry side r ≡ Ok e
-          → ((v : Cursor) → follow_from p side packets own peer (suc entry) v xs ≡ Ok e → (w : Cursor) × Leads p packets own peer v xs w × (w.made ≡ length own) × (w.state ≡ e))
-          → (w : Cursor) × Leads p packets own peer u (x ∷ xs) w × (w.made ≡ length own) × (w.state ≡ e)
+          → ((v : Cursor) → follow_from p side packets own peer (suc entry) v xs ≡ Ok e → Ends v xs e) → Ends u (x ∷ xs) e
       by (Err f) k g rest = absurd (cc)
       by (Ok v) k g rest = (let r = rest v g in (r.0, (v, leads_on u v x (goes u v x k), r.1), r.2, r.3))
 
@@ -110,16 +88,8 @@ module _ (p : Parameters) (packets : ℕ) (own peer : List FirstCopy) where
   -- and where it goes on, the cursor is next
   pub gone : (u v : Cursor) (x : Entry) → Goes p packets own peer u x v → next_cursor p packets own peer u x ≡ Ok v
   unfolding next_cursor
-  gone u v x (takes slot number position c after low high at g front up t) =
-      let first : (nat_lt slot u.level || nat_lt packets slot) ≡ false = grind (arith, nat_tests, low, high) in
-      let crossed : nat_lt c.place slot ≡ true = grind (arith, nat_tests, front) in
-      let rising : nat_lt position u.taken ≡ false = grind (arith, nat_tests, up) in
-      rw (first, at, g, crossed, rising, t.0) (ap (λ (z : EndState). Ok (record { level = slot; made = u.made; taken = suc position; state = z })) (sym t.1))
-  gone u v x (makes place clock why c after low at g same m) =
-      let first : nat_lt place u.level ≡ false = grind (arith, nat_tests, low) in
-      let next : (u.made == u.made) ≡ true = grind (arith, nat_tests) in
-      rw (first, at, next, g, no_fault p u.state c.pdu.safety clock why m.0)
-      (ap (λ (z : EndState). Ok (record { level = suc place; made = suc u.made; taken = u.taken; state = z })) (sym m.1))
+  gone u v x (takes slot number position c after low high at g front up t) = rw (at, g, t.0, t.1) (grind (arith, nat_tests, low, high, front, up))
+  gone u v x (makes place clock why c after low at g same m) = rw (at, g, no_fault p u.state c.pdu.safety clock why m.0, m.1) (grind (arith, nat_tests, low))
 
 module _ (p : Parameters) (packets : ℕ) (own peer : List FirstCopy) (mine : IsOrdered own) (theirs : IsOrdered peer) (few : length peer < 4294967296) where
   -- where an entry leads, the checker goes
@@ -150,8 +120,7 @@ module _ (p : Parameters) (packets : ℕ) (own peer : List FirstCopy) (side : Si
       → next_cursor f.params packets own peer f.cursor (get_or es i d) ≡ Ok f'.cursor → f' ≡ moved_to f f'.cursor
       → follow_from p side packets own peer f'.entry f'.cursor (drop (i + 1) es) ≡ follow_from p side packets own peer f.entry f.cursor (drop i es)
   loop_on f f' es i d l same_p same_s n m =
-      let number : f'.entry ≡ suc f.entry = ap (λ (g : Followed). g.entry) m in
-      rw (number, add-one) (sym (step_by f.entry f.cursor es i (get_or es i d) (Ok f'.cursor) (slice_get-get_or es i d l) (rw same_p at n)))
+      rw (ap (λ (g : Followed). g.entry) m, add-one) (sym (step_by f.entry f.cursor es i (get_or es i d) (Ok f'.cursor) (slice_get-get_or es i d l) (rw same_p at n)))
 
   -- an entry that is refused is the answer of the whole script
   pub loop_off : (f : Followed) (es : List Entry) (i : ℕ) (d : Entry) (fault : Fault) → i < length es → f.params ≡ p → f.side ≡ side

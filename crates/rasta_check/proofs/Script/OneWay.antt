@@ -1,9 +1,7 @@
 -- Scripts are followed in one way, and first copies are the packets with a new number.
-use Rattle.std.proofs.Common.{◌≡◌, ℕ, suc, ◌<◌, List, [], ◌∷◌, ◌++◌, length, Some, slice_get, refl, ap, sym, ◌∙◌, arith, subst}
+use Rattle.std.proofs.Common.{◌≡◌, ℕ, ◌<◌, List, [], ◌∷◌, ◌++◌, length, Some, slice_get, refl, ap, sym, ◌∙◌, arith}
 use Rattle.std.proofs.lemmas.List.{append-nil}
-use Rattle.rasta_check.proofs.Prelude.{Side, Packet, Parameters, RedundancyPdu, Entry, Take, Make, EndState, FirstCopy, Cursor, Advances, takes_next, makes_next, Leads}
-use Rattle.rasta_end.specs.MakeRule.{after_make}
-use Rattle.rasta_end.specs.TakeRule.{after_take}
+use Rattle.rasta_check.proofs.Prelude.{Side, Packet, Parameters, RedundancyPdu, Entry, FirstCopy, Cursor, Advances, takes_next, makes_next, Leads}
 use Rattle.rasta_check.specs.Capture.Crossing.{Spells, IsCarried, IsKnown}
 use Rattle.rasta_check.proofs.Capture.FaultlessLists.{IsSent, ordered, read_once}
 use Rattle.rasta_check.proofs.Capture.Positions.{number_once}
@@ -18,11 +16,8 @@ first_is_new p xs s own h l i c g w =
     let r = h.copies w.earlier.place w.carried.packet w.carried.there w.carried.of_side in
     let same : r.1.pdu ≡ w.earlier.pdu = read_once p h.valid s r.1.pdu w.earlier.pdu w.carried.packet.payload r.4 w.carried.spelled in
     let q : i ≡ r.0 = number_once own (ordered h) l i r.0 c r.1 g r.2 (sym (ap (λ (d : RedundancyPdu). d.number) same ∙ w.same_number)) in
-    let e : c ≡ r.1 = (let z : slice_get own i ≡ Some r.1 = subst (λ j. slice_get own j ≡ Some r.1) (sym q) r.2 in cc) in
-    let at = ap (λ (x : FirstCopy). x.place) e in
-    let before = w.before in
-    let behind = r.3 in
-    omega arith
+    let e : c ≡ r.1 = (let z = rw (sym q) at r.2 in cc) in
+    omega (arith, ap (λ (x : FirstCopy). x.place) e, w.before, r.3)
 
 -- a packet whose number didn't cross before is that of a member
 pub new_is_first : (p : Parameters) (xs : List Packet) (s : Side) (own : List FirstCopy) → IsSent p xs s own → (k : ℕ) (a : Packet) (d : RedundancyPdu) → slice_get xs k ≡ Some a → a.side ≡ s → Spells p s d a.payload
@@ -34,39 +29,24 @@ new_is_first p xs s own h k a d g e spelled new =
     (w.0, w.1, w.2, (let at = w.3 in omega (arith, last)))
 
 module _ (p : Parameters) (n : ℕ) (packets : List Packet) (r : Side) (own peer : List FirstCopy) (sent : IsSent p packets r peer) (few : length peer < 4294967296) where
-  -- what an entry says of the cursor behind it
-  abbrev Led : Cursor → Entry → Cursor → Type 0
-  Led u (Take slot number) v =
-      (i : ℕ) × (c : FirstCopy) × (slice_get peer i ≡ Some c) × (c.pdu.number ≡ number) × (v ≡ record { level = slot; made = u.made; taken = suc i; state = after_take p u.state c.pdu.safety })
-  Led u (Make place clock why) v =
-      (c : FirstCopy) × (slice_get own u.made ≡ Some c) × (v ≡ record { level = suc place; made = suc u.made; taken = u.taken; state = after_make u.state c.pdu.safety clock why })
-
-  led : (u v : Cursor) (x : Entry) → Advances p n own peer u x v → Led u x v
-  led u v x (takes_next slot i c e a b g d f t) = (i, c, g, refl, ap (λ (z : EndState). record { level = slot; made = u.made; taken = suc i; state = z }) t.1)
-  led u v x (makes_next c clock why e a g m) = (c, g, ap (λ (z : EndState). record { level = suc c.place; made = suc u.made; taken = u.taken; state = z }) m.1)
-
-  same_led : (u v w : Cursor) (x : Entry) → Led u x v → Led u x w → v ≡ w
-  same_led u v w (Take slot number) a b =
-      let i : a.0 ≡ b.0 = number_once peer (ordered sent) few a.0 b.0 a.1 b.1 a.2 b.2 (a.3 ∙ sym b.3) in
-      let c : a.1 ≡ b.1 = (let z = ap (slice_get peer) i in let x = a.2 in let y = b.2 in cc) in
-      cc (a.4, b.4)
-  same_led u v w (Make place clock why) a b =
-      let c : a.0 ≡ b.0 = (let x = a.1 in let y = b.1 in cc) in
-      cc (a.2, b.2)
-
-  pub advances_once : (u v w : Cursor) (x : Entry) → Advances p n own peer u x v → Advances p n own peer u x w → v ≡ w
-  advances_once u v w x a b = same_led u v w x (led u v x a) (led u w x b)
+  -- an entry leads to one cursor
+  once : (u v w : Cursor) (x y : Entry) → x ≡ y → Advances p n own peer u x v → Advances p n own peer u y w → v ≡ w
+  once u v w x y e (takes_next slot i c z a b g d f t) (takes_next slot' i' c' z' a' b' g' d' f' t') =
+      let number : c.pdu.number ≡ c'.pdu.number = cc in
+      let position = number_once peer (ordered sent) few i i' c c' g g' number in
+      let same : c ≡ c' = (let z = ap (slice_get peer) position in cc) in
+      cc (t.1, t'.1)
+  once u v w x y e (makes_next c clock why z a g m) (makes_next c' clock' why' z' a' g' m') = (let same : c ≡ c' = cc in cc (m.1, m'.1))
+  once u v w x y e _ _ = absurd (cc)
 
   -- what leads to v, and the rest of a longer script
   leads_rest : (u v w : Cursor) (es rest : List Entry) → Leads p n own peer u es v → Leads p n own peer u (es ++ rest) w → Leads p n own peer v rest w
-  leads_rest u v w [] rest f g = subst (λ (z : Cursor). Leads p n own peer z rest w) f g
-  leads_rest u v w (x ∷ es) rest f g =
-      let same : g.0 ≡ f.0 = advances_once u g.0 f.0 x g.1 f.1 in
-      leads_rest f.0 v w es rest f.2 (subst (λ (z : Cursor). Leads p n own peer z (es ++ rest) w) same g.2)
+  leads_rest u v w [] rest f g = rw f at g
+  leads_rest u v w (x ∷ es) rest f g = leads_rest f.0 v w es rest f.2 (rw (once u g.0 f.0 x x refl g.1 f.1) at g.2)
 
   pub stuck : (u v w : Cursor) (es rest : List Entry) (x : Entry) → Leads p n own peer u es v → ((z : Cursor) → Advances p n own peer v x z → ⊥) → Leads p n own peer u (es ++ x ∷ rest) w → ⊥
   stuck u v w es rest x f h g = (let r = leads_rest u v w es (x ∷ rest) f g in h r.0 r.1)
 
   -- a script leads to one cursor
   pub leads_once : (u v w : Cursor) (es : List Entry) → Leads p n own peer u es v → Leads p n own peer u es w → v ≡ w
-  leads_once u v w es f g = leads_rest u v w es [] f (subst (λ (xs : List Entry). Leads p n own peer u xs w) (sym (append-nil es)) g)
+  leads_once u v w es f g = leads_rest u v w es [] f (rw append-nil g)

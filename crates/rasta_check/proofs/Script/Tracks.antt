@@ -1,5 +1,5 @@
 -- One side along the packets, as the run of two scripts is built: its script leads on, and it has made what crossed.
-use Rattle.std.proofs.Common.{◌≡◌, ℕ, suc, ◌+◌, ◌-◌, ◌%◌, ◌^◌, ◌<◌, ◌≤◌, List, [], ◌∷◌, ◌++◌, length, Some, slice_get, take, refl, ap, sym, ◌∙◌, arith, subst, add-one}
+use Rattle.std.proofs.Common.{◌≡◌, ℕ, suc, ◌+◌, ◌-◌, ◌%◌, ◌^◌, ◌<◌, ◌≤◌, List, [], ◌∷◌, ◌++◌, length, Some, slice_get, take, refl, ap, sym, ◌∙◌, arith, add-one}
 use Rattle.std.proofs.lemmas.Option.{slice_get_within}
 use Rattle.rasta_pcap.specs.declared.fault.Side.{Side}
 use Rattle.rasta_pdu.specs.Params.{Parameters}
@@ -38,15 +38,8 @@ Drained k [] = Unit {0}
 Drained k (Take slot number ∷ es) = k < slot
 Drained k (Make place clock why ∷ es) = Unit {0}
 
--- what a station has made, at another length
-pub moved_made : (ms ns : List Made) (i : ℕ) (P : Made → Type 0) → ns ≡ ms → ((m : Made) × (slice_get ms i ≡ Some m) × P m) → (m : Made) × (slice_get ns i ≡ Some m) × P m
-moved_made ms ns i P e z = (z.0, subst (λ (xs : List Made). slice_get xs i ≡ Some z.0) (sym e) z.1, z.2)
-
-packet_is : (k : Packet) (sd : Side) (e : sd ≡ k.side) → record { channel = k.channel; side = sd; payload = k.payload } ≡ k
-packet_is k sd e = λ i. record { channel = k.channel; side = e i; payload = k.payload }
-
 pub next_packet : (packets : List Packet) (k : ℕ) (a : Packet) (sd : Side) → sd ≡ a.side → slice_get packets k ≡ Some a → take k packets ++ record { channel = a.channel; side = sd; payload = a.payload } ∷ [] ≡ take (suc k) packets
-next_packet packets k a sd e g = ap (λ (x : Packet). take k packets ++ x ∷ []) (packet_is a sd e) ∙ (take_one_more k packets a g ∙ ap (λ j. take j packets) (add-one k))
+next_packet packets k a sd e g = rw e (take_one_more k packets a g ∙ ap (λ j. take j packets) (add-one k))
 
 pub next_number : (f b m n c : ℕ) → n ≡ b + m → (f + b) % 2 ^ 32 ≡ c → (f + n) % 2 ^ 32 ≡ (c + m) % 2 ^ 32
 next_number f b m n c e h = omega arith
@@ -78,22 +71,20 @@ module _ (p : Parameters) (packets : List Packet) (k : ℕ) (s : Side) (own peer
   passed_by es a here at no_side f =
       untouched p (length packets) k s own peer es last a f (λ i c g e.
       let first = sent.firsts i c g in
-      let same : first.0 ≡ here = (let there : slice_get packets k ≡ Some first.0 = subst (λ (j : ℕ). slice_get packets j ≡ Some first.0) e first.1 in cc) in
+      let same : first.0 ≡ here = (let there : slice_get packets k ≡ Some first.0 = ap (slice_get packets) (sym e) ∙ first.1 in cc) in
       no_side (sym (ap (λ (x : Packet). x.side) same) ∙ first.2))
 
   -- when all packets have crossed and all takes that are due are done, nothing is left
   pub nothing_left : (a : Station) (es : List Entry) → length packets ≡ k → Drained k es → Tracks p (length packets) k s own peer es last a → a.state ≡ last.state
   nothing_left a [] e dr f = ap (λ (u : Cursor). u.state) f.fits
-  nothing_left a (x ∷ es) e dr f = absurd (by x dr f.fits.0 f.made f.level f.taken f.before f.fits.1)
+  nothing_left a (x ∷ es) e dr f = absurd (by _ f.fits.0 x f.fits.1 f.before dr)
     where
-      by : (x : Entry) → Drained k (x ∷ es) → (m : Cursor) (made level taken : ℕ) → ((i : ℕ) (c : FirstCopy) → slice_get own i ≡ Some c → c.place < k → i < made)
-          → Advances p (length packets) own peer (record { level = level; made = made; taken = taken; state = a.state }) x m → ⊥
-      by (Take slot number) dr m made level taken h (takes_next slot' position d e' lv le there below above t) = omega (arith, e, le, dr)
-      by (Make place clock why) dr m made level taken h (makes_next c clock' why' e' lv mine mk) =
-          let r = sent.firsts made c mine in
+      by : (u v : Cursor) (x : Entry) → Advances p (length packets) own peer u x v → ((i : ℕ) (c : FirstCopy) → slice_get own i ≡ Some c → c.place < k → i < u.made) → Drained k (x ∷ es) → ⊥
+      by u v x (takes_next slot position d e' lv le there below above t) h dr = omega (arith, e, le, dr)
+      by u v x (makes_next c clock why e' lv mine mk) h dr =
+          let r = sent.firsts u.made c mine in
           let l = slice_get_within packets c.place r.0 r.1 in
-          let z = h made c mine (omega (arith, e)) in
-          omega (arith, z)
+          omega (arith, h u.made c mine (omega (arith, e)))
 
 -- a first number so that the first PDU of the list has its own
 pub first_number_of : ℕ → List FirstCopy → ℕ

@@ -1,5 +1,5 @@
 -- Entries of a script that fits have numbers that a certificate can hold.
-use Rattle.std.proofs.Common.{◌≡◌, ℕ, ◌+◌, ◌<◌, ◌≤◌, ◌^◌, Bool, false, List, [], ◌∷◌, Option, Some, None, length, slice_get, refl, ap, ◌∙◌, arith, subst}
+use Rattle.std.proofs.Common.{◌≡◌, ℕ, ◌+◌, ◌<◌, ◌≤◌, ◌^◌, false, List, [], ◌∷◌, Option, Some, None, length, slice_get, refl, ap, ◌∙◌, arith}
 use Rattle.std.specs.Prelude.{not}
 use Rattle.std.proofs.lemmas.List.{length-map, length_push}
 use Rattle.std.proofs.lemmas.List.Sums.{count_by-le-length, length-filter}
@@ -7,14 +7,14 @@ use Rattle.std.proofs.lemmas.Option.{slice_get_within}
 use Rattle.std.specs.Option.{option_map_or}
 use Rattle.std.specs.Str.{bytes_eq}
 use Rattle.rasta_check.proofs.Prelude.{Side, Packet, Kind, Parameters, SafetyPdu, Entry, Phase, Owed, Why, Made}
-use Rattle.rasta_check.proofs.Prelude.{EndState, Makes, start_of, FirstCopy, Cursor, Advances, takes_next, makes_next, Leads, at_start}
+use Rattle.rasta_check.proofs.Prelude.{EndState, Makes, start_of, FirstCopy, Cursor, takes_next, makes_next, Leads, at_start}
 use Rattle.rasta_pdu.specs.Pdu.{is_kind}
 use Rattle.rasta_end.specs.declared.why.Why.TheVariants.{Again}
 use Rattle.rasta_end.specs.declared.make_row.MakeRow.{MakeRow}
 use Rattle.rasta_end.specs.declared.make_row.MakeRow.TheVariants.{Resends}
 use Rattle.rasta_end.specs.State.{content_of}
-use Rattle.rasta_end.specs.MakeRule.{contents, differs, row_of}
-use Rattle.rasta_cert.specs.Certificate.{AreEntries, IsEntry, IsReason}
+use Rattle.rasta_end.specs.MakeRule.{contents, row_of}
+use Rattle.rasta_cert.specs.Certificate.{AreEntries, IsReason}
 use Rattle.rasta_check.proofs.Capture.FaultlessLists.{IsSent}
 use Rattle.rasta_check.proofs.Model.PassedTests.{passed}
 use Rattle.rasta_check.proofs.Model.MakeRows.{made_by, Making, again}
@@ -26,10 +26,7 @@ use Rattle.rasta_pdu.specs.declared.kind.Kind.TheVariants.{Data}
 -- ---- units of resends
 
 length_contents : (made : List Made) → length (contents made) ≤ length made
-length_contents made =
-    let of_data : Made → Bool = λ (n : Made). is_kind Data n.pdu.kind in
-    let c = count_by-le-length of_data made in
-    simp (length-map, length-filter) c
+length_contents made = simp (length-map, length-filter) (count_by-le-length (λ (n : Made). is_kind Data n.pdu.kind) made)
 
 unit_there : (made : List Made) (unit : ℕ) (content : List ℕ) (o : Option (List ℕ)) → slice_get (contents made) unit ≡ o → not (option_map_or (λ (own : List ℕ). bytes_eq own content) o false) ≡ false → unit < length made
 unit_there made unit content None e d = absurd (cc)
@@ -43,7 +40,7 @@ reason_fits p e e' x clock (Again unit) mk l =
     let pass = passed p e x clock (Again unit) mk.0 in
     let m = made_by p e x clock (Again unit) pass in
     let row : row_of e x (Again unit) ≡ Some (Resends unit) = m.is ∙ ap Some (again_row e.side e.phase unit x.kind e.owed m.row m.how) in
-    let w = unit_there e.made unit (content_of x.body) (slice_get (contents e.made) unit) refl (subst (λ (r : Option MakeRow). differs e.made r (content_of x.body) ≡ false) row pass.same) in
+    let w = unit_there e.made unit (content_of x.body) (slice_get (contents e.made) unit) refl (rw row at pass.same) in
     omega arith
 reason_fits p e e' x clock _ mk l = tt
 
@@ -55,25 +52,19 @@ most_clock = 18446744073709551615
 
 module _ (p : Parameters) (packets : List Packet) (side other : Side) (own peer : List FirstCopy) (sent : IsSent p packets side own) (theirs : IsSent p packets other peer)
     (few : length packets ≤ 16000000) (short : length own ≤ 1000000) where
-  entry_fits : (u v : Cursor) (x : Entry) (es : List Entry) → length u.state.made ≡ base p + u.made → Advances p (length packets) own peer u x v → ClocksWithin most_clock (x ∷ es)
-      → IsEntry x × (length v.state.made ≡ base p + v.made) × ClocksWithin most_clock es
-  entry_fits u v x es n (takes_next slot position c after a b g d f t) h =
+  entries_fit : (u v : Cursor) (es : List Entry) → length u.state.made ≡ base p + u.made → Leads p (length packets) own peer u es v → ClocksWithin most_clock es → AreEntries es
+  entries_fit u v [] n f h = tt
+  entries_fit u v (x ∷ es) n (_, takes_next slot position c after a b g d f t, r) h =
       let w = theirs.firsts position c g in
-      ((omega arith, w.3.fits.number), ap (λ (z : EndState). length z.made) t.1 ∙ (ap length (take_leaves p u.state c.pdu.safety).made ∙ n), h)
-  entry_fits u v x es n (makes_next c clock why after a g mk) h =
+      ((omega arith, w.3.fits.number), entries_fit _ v es (ap (λ (z : EndState). length z.made) t.1 ∙ (ap length (take_leaves p u.state c.pdu.safety).made ∙ n)) r h)
+  entries_fit u v (x ∷ es) n (_, makes_next c clock why after a g mk, r) h =
       let w = sent.firsts u.made c g in
       let i = slice_get_within packets c.place w.0 w.1 in
       let j = slice_get_within own u.made c g in
       let m = made_more p u.state c.pdu.safety clock why after mk in
       let q = base_small p.quiet in
       let k = length_push u.state.made m.new in
-      ((omega arith, (let z = h.0 in omega arith), reason_fits p u.state after c.pdu.safety clock why mk (omega arith)), ap length m.made ∙ (k ∙ omega arith), h.1)
-
-  entries_fit : (u v : Cursor) (es : List Entry) → length u.state.made ≡ base p + u.made → Leads p (length packets) own peer u es v → ClocksWithin most_clock es → AreEntries es
-  entries_fit u v [] n f h = tt
-  entries_fit u v (e ∷ es) n f h =
-      let one = entry_fits u f.0 e es n f.1 h in
-      (one.0, entries_fit f.0 v es one.1 f.2 one.2)
+      ((omega arith, omega (arith, h.0), reason_fits p u.state after c.pdu.safety clock why mk (omega arith)), entries_fit _ v es (ap length m.made ∙ (k ∙ omega arith)) r h.1)
 
   pub script_fits : (v : Cursor) (es : List Entry) → Leads p (length packets) own peer (at_start (start_of p side)) es v → ClocksWithin most_clock es → AreEntries es
   script_fits v es f h = entries_fit (at_start (start_of p side)) v es (let z = start_made p.quiet side in omega arith) f h

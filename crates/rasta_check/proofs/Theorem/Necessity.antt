@@ -1,5 +1,5 @@
 -- In every run that sends two lists, what they show to be taken was handed up, and in time.
-use Rattle.std.proofs.Common.{◌≡◌, ℕ, ◌≤◌, List, ◌++◌, Some, length, slice_get, ◌∙◌, arith, subst}
+use Rattle.std.proofs.Common.{◌≡◌, ℕ, ◌≤◌, List, ◌++◌, Some, length, slice_get, ◌∙◌, arith}
 use Rattle.std.proofs.lemmas.Option.{slice_get_within}
 use Rattle.rasta_pcap.specs.declared.fault.Side.{Side}
 use Rattle.rasta_pdu.specs.Params.{Parameters}
@@ -14,7 +14,7 @@ use Rattle.rasta_check.proofs.Model.InvariantOfRuns.{all_held}
 use Rattle.rasta_check.proofs.Model.History.{appended}
 use Rattle.rasta_check.proofs.Theorem.SentRuns.{Known, known, before}
 use Rattle.rasta_check.proofs.Theorem.ProofsInTime.{timed}
-use Rattle.rasta_check.proofs.Theorem.ListedUnits.{proof_of, HandsUpData, of_units, data_grown, unit_handed, listed_below, listed_first}
+use Rattle.rasta_check.proofs.Theorem.ListedUnits.{proof_of, HandsUpFirst, of_units, still_first, unit_handed, listed_below, listed_first}
 
 module _ (p : Parameters) (ws : List World) (w : World) (side : Side) (own peer : List FirstCopy) (r : Reaches p ws w) (mine : IsSent p w.crossed side own) (theirs : IsSent p w.crossed (other_side side) peer)
     (few : length own ≤ 1000000) (few_theirs : length peer ≤ 1000000) where
@@ -40,9 +40,7 @@ module _ (p : Parameters) (ws : List World) (w : World) (side : Side) (own peer 
       let below = listed_below p side f e own peer kn.sends.same (of_units f e hands_up) i u g in
       let shown = proof_of (all_made p side own) peer i below.0 in
       let q = theirs.firsts shown.j shown.d shown.there in
-      let z = slice_get_within w.crossed shown.d.place q.0 q.1 in
-      let same = below.1 ∙ shown.place in
-      appended p ws w r u.proof_place (omega (arith, z, same))
+      appended p ws w r u.proof_place (omega (arith, slice_get_within w.crossed shown.d.place q.0 q.1, below.1 ∙ shown.place))
 
   -- with a unit those before it were handed up
   pub in_time_through : (i j : ℕ) (u t : TakenUnit) (v next : World) → j ≤ i → slice_get (surely_taken p side own peer) i ≡ Some u → slice_get (surely_taken p side own peer) j ≡ Some t
@@ -52,12 +50,8 @@ module _ (p : Parameters) (ws : List World) (w : World) (side : Side) (own peer 
       let y = end_of v (other_side side) in
       let below = listed_below p side f e own peer kn.sends.same (of_units f e hands_up) i u g in
       let shown = proof_of (all_made p side own) peer i below.0 in
-      let z = timed p ws w side own peer r mine theirs few few_theirs shown.j shown.d v next (subst (λ k. Appends ws w k v next) (below.1 ∙ shown.place) a) shown.there in
-      let more = shown.more in
+      let z = timed p ws w side own peer r mine theirs few few_theirs shown.j shown.d v next (rw (below.1 ∙ shown.place) at a) shown.there in
       let b = before p ws w side own peer r mine theirs few few_theirs a.i v a.here in
       let all = all_held p b.us v side b.reached b.few in
-      let h : HandsUpData y e = data_grown y x e (b.grown side).made (of_units y x (hands_up_units y x all.mine.values all.theirs.handed)) in
-      unit_handed p side y e own peer kn.sends.same h j t (omega (arith, z, more, low)) gt
-
-  pub in_time : (i : ℕ) (u : TakenUnit) (v next : World) → slice_get (surely_taken p side own peer) i ≡ Some u → Appends ws w u.proof_place v next → HasHandedUp (end_of v (other_side side)) i u.messages
-  in_time i u v next g a = in_time_through i i u u v next (omega arith) g g a
+      let h : HandsUpFirst y e = still_first y x e (b.grown side).made (of_units y x (hands_up_units y x all.mine.values all.theirs.handed)) in
+      unit_handed p side y e own peer kn.sends.same h j t (omega (arith, z, shown.more, low)) gt

@@ -35,8 +35,7 @@ module _ (e0 f0 e f : EndState) (t : ℕ) (w0 : Shown e0 f0) (w : Shown e f) (g 
     (q : ℕ) (m : Made) (there : slice_get e0.made q ≡ Some m) where
   unheard : is_kind ConnectionRequest m.pdu.kind ≡ false → e0.accepted ≡ 0 → (b : Bool) → is_closed e0.phase ≡ b → f.offered ≡ 0
   unheard k a true c =
-      let s : e ≡ e0 = ge.over (made_over e0.side e0.phase e0.made q m there c) in
-      let n : e.accepted ≡ 0 = ap (λ (z : EndState). z.accepted) s ∙ a in
+      let n : e.accepted ≡ 0 = ap (λ (z : EndState). z.accepted) (ge.over (made_over e0.side e0.phase e0.made q m there c)) ∙ a in
       let none : 0 < f.offered → ⊥ = λ l. (let z = w.ready_offer l in omega arith) in
       omega (arith, none)
   unheard k a false c = absurd (let z = w0.first_words a c q m there in cc)

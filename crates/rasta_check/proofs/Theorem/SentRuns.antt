@@ -1,8 +1,7 @@
 -- What is known of a run that sends two given lists.
-use Rattle.std.proofs.Common.{◌≡◌, ℕ, ◌+◌, ◌≤◌, List, [], ◌∷◌, ◌++◌, Some, length, slice_get, ap, ◌∙◌, sym, subst, arith}
+use Rattle.std.proofs.Common.{◌≡◌, ℕ, ◌+◌, ◌≤◌, List, [], ◌∷◌, ◌++◌, Some, length, slice_get, sym, arith}
 use Rattle.rasta_pcap.specs.declared.fault.Side.{Side}
 use Rattle.rasta_pdu.specs.Params.{Parameters}
-use Rattle.rasta_pdu.specs.Pdu.{SafetyPdu}
 use Rattle.rasta_end.specs.Starts.{start_of}
 use Rattle.rasta_check.specs.Capture.Crossing.{FirstCopy}
 use Rattle.rasta_check.specs.Model.World.{World, station_of, end_of, other_side, Reaches, IsWithin}
@@ -15,7 +14,7 @@ use Rattle.rasta_check.proofs.Model.ConveyedUnits.{values}
 use Rattle.rasta_check.proofs.Capture.FirstCopies.{sent_once}
 use Rattle.rasta_check.proofs.Model.History.{After, history}
 use Rattle.rasta_check.proofs.Model.InvariantOfRuns.{All, all_held, few_made}
-use Rattle.rasta_check.proofs.Theorem.ShownByLists.{values_agree, necessary}
+use Rattle.rasta_check.proofs.Theorem.ShownByLists.{necessary}
 use Rattle.rasta_check.proofs.Theorem.ShowingPdus.{quiet_asks}
 use Rattle.rasta_check.proofs.Script.ScriptsOfRuns.{Sends, sends_count, told_of}
 
@@ -44,12 +43,13 @@ module _ (p : Parameters) (ws : List World) (w : World) (side : Side) (own peer 
       let e = end_of w side in
       let f = end_of w (other_side side) in
       let g = told_of p ws w side own peer r mine theirs few few_theirs in
-      let sends : Sends p side w.crossed own e (station_of w side).first_number = subst (λ (o : List FirstCopy). Sends p side w.crossed o e (station_of w side).first_number) g.1 g.0.sends in
-      let their_sends : Sends p (other_side side) w.crossed peer f (station_of w (other_side side)).first_number =
-      subst (λ (o : List FirstCopy). Sends p (other_side side) w.crossed o f (station_of w (other_side side)).first_number) g.2 g.0.their_sends in
+      let sends = rw g.1 at g.0.sends in
+      let their_sends = rw g.2 at g.0.their_sends in
       let within : IsWithin p w = both_within p w side (within_by p w side own sends few) (within_by p w (other_side side) peer their_sends few_theirs) in
       let all = all_held p ws w side r within in
       let once = numbered_once e.made (few_made p w within side) all.mine.held.list.numbered in
+      let shown = rw sends.same at (necessary e f (station_of w side).taken (station_of w (other_side side)).taken all.mine.held all.theirs.held all.mine.values once
+      (pdus_made (start_of p (other_side side)).made) (pdus_of peer) their_sends.same (quiet_asks p.quiet (other_side side) _) all.theirs.shown) in
       record {
         within = within;
         all = all;
@@ -57,10 +57,8 @@ module _ (p : Parameters) (ws : List World) (w : World) (side : Side) (own peer 
         sends = sends;
         their_sends = their_sends;
         once = once;
-        along = ap (λ (ms : List SafetyPdu). units_along ms (pdus_of peer)) (sym sends.same)
-            ∙ values_agree e f (station_of w side).taken (station_of w (other_side side)).taken all.mine.held all.theirs.held all.mine.values once (pdus_made (start_of p (other_side side)).made) (pdus_of peer) their_sends.same (quiet_asks p.quiet (other_side side) _);
-        taken = subst (λ (ms : List SafetyPdu). units_taken ms (pdus_of peer) ≤ length f.handed) sends.same
-            (necessary e f (station_of w side).taken (station_of w (other_side side)).taken all.mine.held all.theirs.held all.mine.values once (pdus_made (start_of p (other_side side)).made) (pdus_of peer) their_sends.same (quiet_asks p.quiet (other_side side) _) all.theirs.shown);
+        along = shown.0;
+        taken = shown.1;
       }
 
   -- each earlier world of the run
@@ -69,4 +67,4 @@ module _ (p : Parameters) (ws : List World) (w : World) (side : Side) (own peer 
       let h = history p mine.valid ws w side r known.within in
       let same : h.0.own ≡ own = sym (sent_once p w.crossed side own h.0.own mine h.0.sends.sent (omega arith)) in
       let their_same : h.0.peer ≡ peer = sym (sent_once p w.crossed (other_side side) peer h.0.peer theirs h.0.their_sends.sent (omega arith)) in
-      subst (λ (o : List FirstCopy). After p v w side o peer) same (subst (λ (o : List FirstCopy). After p v w side h.0.own o) their_same (h.1 i v g))
+      rw (same, their_same) at (h.1 i v g)

@@ -25,12 +25,9 @@ module _ (f : EndState) (own peer : List SafetyPdu) (told : pdus_made f.made ≡
   at_position k None e = omega arith
   at_position k (Some c) e =
       let s = found_position f.made x.cs c (ap (λ (ms : List SafetyPdu). position_with ms x.cs) told ∙ e) in
-      let l = slice_get_within f.made c s.m s.there in
-      let len = length-values f.asks f.made in
       let v = slice_index_or (values f) c 0 in
-      let b = most k c v s (slice_get-get_or (values f) c 0 (omega (arith, l, len))) in
-      let same : units_at (units_along own peer) (Some c) ≡ v = ap (λ (vs : List ℕ). slice_index_or vs c 0) along in
-      omega (arith, b, same)
+      let b = most k c v s (slice_get-get_or (values f) c 0 (omega (arith, slice_get_within f.made c s.m s.there, length-values f.asks f.made))) in
+      omega (arith, b, ap (λ (vs : List ℕ). slice_index_or vs c 0) along)
 
   -- a PDU shows at most n units where each position that it confirms conveys at most n
   pub shows_most : units_shown own peer x ≤ n

@@ -1,13 +1,12 @@
 -- What two lists of PDUs show was handed up.
-use Rattle.std.proofs.Common.{◌≡◌, ℕ, suc, ◌+◌, ◌≤◌, List, [], ◌∷◌, ◌++◌, length, Some, slice_get, refl, ap, sym, ◌∙◌, arith, subst}
-use Rattle.std.specs.Prelude.{max, map, filter, filter_map, fold}
+use Rattle.std.proofs.Common.{◌≡◌, ℕ, suc, ◌+◌, ◌≤◌, List, [], ◌∷◌, ◌++◌, length, Some, slice_get, refl, ap, ◌∙◌, arith}
+use Rattle.std.specs.Prelude.{max, map, fold}
 use Rattle.std.proofs.lemmas.List.Elements.{filter-append, filter_map-append}
 use Rattle.std.proofs.lemmas.Simd.{map-map}
-use Rattle.rasta_pdu.specs.Pdu.{SafetyPdu, is_kind}
+use Rattle.rasta_pdu.specs.Pdu.{SafetyPdu}
 use Rattle.rasta_end.specs.State.{Made, EndState, kinds}
-use Rattle.rasta_end.specs.Units.{all_units_conveyed}
 use Rattle.rasta_end.proofs.Conveying.{more_asks}
-use Rattle.rasta_check.specs.Model.Taken.{pdus_made, position_with, asked_positions, units_along, units_shown, units_taken}
+use Rattle.rasta_check.specs.Model.Taken.{pdus_made, asked_positions, units_along, units_shown, units_taken}
 use Rattle.rasta_check.specs.Model.Laws.{NamesOne}
 use Rattle.rasta_check.proofs.Lists.{get_past, get_mapped}
 use Rattle.rasta_check.proofs.Model.Invariant.{Held}
@@ -16,7 +15,6 @@ use Rattle.rasta_check.proofs.Model.OfferedUnits.{Valued}
 use Rattle.rasta_check.proofs.Model.ShownUnits.{Shown, shown_most}
 use Rattle.rasta_check.proofs.Model.Requests.{in_order}
 use Rattle.rasta_check.proofs.Theorem.ShowingPdus.{shows_most}
-use Rattle.rasta_pdu.specs.declared.kind.Kind.TheVariants.{RetransmissionRequest}
 
 -- The greatest of what each shows.
 
@@ -25,34 +23,29 @@ fold_max_le [] n a h g = h
 fold_max_le (m ∷ ms) n a h g = fold_max_le ms n (max a m) (let z = g 0 m refl in omega (arith, h, z)) (λ k d s. g (suc k) d s)
 
 asked-append : (own xs ys : List SafetyPdu) → asked_positions own (xs ++ ys) ≡ asked_positions own xs ++ asked_positions own ys
-asked-append own xs ys =
-    ap (filter_map (λ (x : SafetyPdu). position_with own x.cs)) (filter-append (λ (x : SafetyPdu). is_kind RetransmissionRequest x.kind) xs ys)
-    ∙ filter_map-append (λ (x : SafetyPdu). position_with own x.cs) (filter (λ (x : SafetyPdu). is_kind RetransmissionRequest x.kind) xs) (filter (λ (x : SafetyPdu). is_kind RetransmissionRequest x.kind) ys)
+asked-append own xs ys = simp (filter-append, filter_map-append)
 
 -- e made the units, f took them. The list of f may leave out first PDUs that ask for nothing
 module _ (e f : EndState) (t u : ℕ) (h : Held e t f.made) (peer : Held f u e.made) (w : Valued e) (once : NamesOne e f) (first ps : List SafetyPdu)
     (made : pdus_made f.made ≡ first ++ ps) (none : asked_positions (pdus_made e.made) first ≡ []) where
   -- the units along a list by all requests of its peer are those by the asks
-  pub values_agree : units_along (pdus_made e.made) ps ≡ values e
+  values_agree : units_along (pdus_made e.made) ps ≡ values e
   values_agree =
       let b = (in_order e f t u h peer w once).beginning in
-      let all : asked_positions (pdus_made e.made) ps ≡ asked_positions (pdus_made e.made) (pdus_made f.made) =
-      sym (ap (asked_positions (pdus_made e.made)) made ∙ (asked-append (pdus_made e.made) first ps ∙ ap (λ ns. ns ++ asked_positions (pdus_made e.made) ps) none)) in
-      ap (λ asks. all_units_conveyed asks (map (λ (x : SafetyPdu). x.kind) (pdus_made e.made))) (all ∙ b.1)
-      ∙ (ap (all_units_conveyed (e.asks ++ b.0)) (map-map (λ (x : SafetyPdu). x.kind) (λ (m : Made). m.pdu) e.made) ∙ more_asks e.asks b.0 (kinds e.made) (omega (arith, answers_number e.made, h.asks.asked)))
+      let all : asked_positions (pdus_made e.made) ps ≡ asked_positions (pdus_made e.made) (pdus_made f.made) = rw (made, asked-append (pdus_made e.made) first ps, none) refl in
+      rw (all, b.1, map-map) (more_asks e.asks b.0 (kinds e.made) (omega (arith, answers_number e.made, h.asks.asked)))
 
   -- a PDU of f shows no more units than f has handed up
-  pub shows_handed : Shown f e → (i : ℕ) (x : SafetyPdu) → slice_get ps i ≡ Some x → units_shown (pdus_made e.made) ps x ≤ length f.handed
+  shows_handed : Shown f e → (i : ℕ) (x : SafetyPdu) → slice_get ps i ≡ Some x → units_shown (pdus_made e.made) ps x ≤ length f.handed
   shows_handed s i x g =
       let m = get_mapped (λ (n : Made). n.pdu) f.made (length first + i) x (ap (λ (xs : List SafetyPdu). slice_get xs (length first + i)) made ∙ (get_past first ps i ∙ g)) in
-      subst
-      (λ (y : SafetyPdu). units_shown (pdus_made e.made) ps y ≤ length f.handed)
-      m.2
-      (shows_most e (pdus_made e.made) ps refl values_agree (length f.handed) m.0.pdu
+      rw m.2 at (shows_most e (pdus_made e.made) ps refl values_agree (length f.handed) m.0.pdu
       (λ k. shown_most e (length f.handed) f.accepted m.0.pdu.cs once w (λ a. grind (arith, s.ready_offer)) (s.shown (length first + i) m.0 m.1 k)))
 
-  -- the units that the lists show were handed up
-  pub necessary : Shown f e → units_taken (pdus_made e.made) ps ≤ length f.handed
-  necessary s =
-      fold_max_le (map (units_shown (pdus_made e.made) ps) ps) (length f.handed) 0 (omega arith)
-      (λ k n g. (let r = get_mapped (units_shown (pdus_made e.made) ps) ps k n g in let l = shows_handed s k r.0 r.1 in omega (arith, r.2, l)))
+  -- the units that the lists show were handed up; and they are counted so
+  pub necessary : Shown f e → (units_along (pdus_made e.made) ps ≡ values e) × (units_taken (pdus_made e.made) ps ≤ length f.handed)
+  necessary s = (
+    values_agree,
+    fold_max_le (map (units_shown (pdus_made e.made) ps) ps) (length f.handed) 0 (omega arith)
+        (λ k n g. (let r = get_mapped (units_shown (pdus_made e.made) ps) ps k n g in let l = shows_handed s k r.0 r.1 in omega (arith, r.2, l))),
+  )

@@ -7,17 +7,8 @@ on_ok r P R T h k = grind arith
 pub where_err : {A B : Type 0} (r : Result A B) (P : A → Type 0) (R S : B → Type 0) → MatchResult r P R → ((f : B) → R f → S f) → IfErr r S
 where_err r P R S h k = grind arith
 
-pub both : {A B : Type 0} (r : Result A B) (P Q : A → Type 0) (R S : B → Type 0) → MatchResult r P R → ((x : A) → P x → Q x) → ((f : B) → R f → S f) → MatchResult r Q S
-both r P Q R S h k l = grind arith
-
 pub if_ok : {A B : Type 0} (r : Result A B) (P Q : A → Type 0) → IfOk r P → ((x : A) → P x → Q x) → IfOk r Q
 if_ok r P Q h k = grind arith
-
-pub if_err : {A B : Type 0} (r : Result A B) (R S : B → Type 0) → IfErr r R → ((f : B) → R f → S f) → IfErr r S
-if_err r R S h k = grind arith
-
-pub still_ok : {A B : Type 0} (r : Result A B) (T U : Type 0) → OnOk r T → (T → U) → OnOk r U
-still_ok r T U h k = grind arith
 
 -- a `?` hands this fault on
 pub err_is : {A B : Type 0} (r : Result A B) (S : B → Type 0) (fault : B) → IsErr r × IsErrAnd r (λ f. f ≡ fault) → S fault → IfErr r S

@@ -25,7 +25,7 @@ same_params p file k e = (file_by p file k e).3
 pub verdict_is : (p : Parameters) (file : List ℕ) (k : Crossing) → CrossedIn p file k → (scripts : Scripts) (verdict : Result Explained Fault)
     → IsScriptVerdict p (length k.packets) k.client k.server scripts verdict → IsFileVerdict p file scripts verdict
 verdict_is p file k x scripts verdict g =
-    judged k.client k.server x.capture verdict (subst (λ (xs : List Packet). IsScriptVerdict p (length xs) k.client k.server scripts verdict) x.packets g)
+    judged k.client k.server x.capture verdict (rw x.packets at g)
 
 module _ (p : Parameters) (file : List ℕ) (k : Crossing) (x : CrossedIn p file k) (h : IsCrossing k) where
   valid : AreParameters p
@@ -43,7 +43,7 @@ module _ (p : Parameters) (file : List ℕ) (k : Crossing) (x : CrossedIn p file
         client = k.client;
         server = k.server;
         capture = x.capture;
-        fits = subst (λ (xs : List Packet). BothFit p (length xs) k.client k.server scripts) x.packets fits;
+        fits = rw x.packets at fits;
       }
 
   -- a report on what crossed is that on the lists of a capture that is explained
@@ -57,18 +57,14 @@ module _ (p : Parameters) (file : List ℕ) (k : Crossing) (x : CrossedIn p file
   same_list : (side : Side) (records : List (List ℕ)) (sent own : List FirstCopy) → IsCapture p.last_record file records → Sent p (crossing_list p records) side sent
       → Sent k.params k.packets side own → length own ≤ 1000000 → own ≡ sent
   same_list side records sent own c g o few =
-      let mine : Sent p k.packets side own = subst (λ (q : Parameters). Sent q k.packets side own) x.params o in
-      let theirs : Sent p k.packets side sent = subst (λ (xs : List Packet). Sent p xs side sent) (sym (packets_of records c)) g in
-      sent_once p k.packets side own sent (to_record p k.packets side own valid mine) (to_record p k.packets side sent valid theirs) (omega arith)
+      let theirs : Sent p k.packets side sent = rw (packets_of records c) g in
+      sent_once p k.packets side own sent (to_record p k.packets side own valid (rw x.params at o)) (to_record p k.packets side sent valid theirs) (omega arith)
 
   pub not_explained : (scripts : Scripts) → (BothFit p (length k.packets) k.client k.server scripts → ⊥) → Explains p file scripts → ⊥
   not_explained scripts unfit e =
       let c = same_list Client e.capture.records e.client k.client e.capture.capture e.capture.faultless.sent.client_sent h.sent.client_sent h.sent.few_client in
       let s = same_list Server e.capture.records e.server k.server e.capture.capture e.capture.faultless.sent.server_sent h.sent.server_sent h.sent.few_server in
-      let n = ap length (packets_of e.capture.records e.capture.capture) in
-      unfit (subst (λ (b : List FirstCopy). BothFit p (length k.packets) k.client b scripts) (sym s)
-      (subst (λ (a : List FirstCopy). BothFit p (length k.packets) a e.server scripts) (sym c)
-      (subst (λ m. BothFit p m e.client e.server scripts) (sym n) e.fits)))
+      unfit (rw (sym (ap length (packets_of e.capture.records e.capture.capture)), sym c, sym s) at e.fits)
 
   pub headline_is : (report : Explained) (records : List (List ℕ)) → IsCapture p.last_record file records → Headline p k.packets report → Headline p (crossing_list p records) report
-  headline_is report records c g = subst (λ (xs : List Packet). Headline p xs report) (packets_of records c) g
+  headline_is report records c g = rw (packets_of records c) at g

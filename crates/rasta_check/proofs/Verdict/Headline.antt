@@ -1,7 +1,7 @@
 -- The headline of a verdict, from the theorem over runs.
 use Rattle.std.specs.Prelude.{if◌then◌else◌, take}
-use Rattle.std.proofs.Common.{◌≡◌, ℕ, ◌-◌, List, [], ◌++◌, length, Result, Ok, Err, Some, slice_get, refl, ap, sym, ◌∙◌, arith, subst}
-use Rattle.rasta_pcap.specs.declared.fault.Fault.{Fault}
+use Rattle.std.proofs.lemmas.Grind.{flat_map-append}
+use Rattle.std.proofs.Common.{◌≡◌, ℕ, ◌-◌, List, [], length, Ok, Some, slice_get, refl, ap, sym, ◌∙◌, arith, subst}
 use Rattle.rasta_pcap.specs.declared.fault.Side.{Side}
 use Rattle.rasta_pcap.specs.declared.fault.Side.TheVariants.{Client, Server}
 use Rattle.rasta_udp.specs.Frame.{Packet}
@@ -9,52 +9,30 @@ use Rattle.rasta_pdu.specs.Params.{Parameters}
 use Rattle.rasta_cert.specs.Certificate.{Scripts}
 use Rattle.rasta_cert.specs.declared.entry.Entry.{Entry}
 use Rattle.rasta_end.specs.State.{EndState}
-use Rattle.rasta_end.specs.Units.{units_at}
 use Rattle.rasta_check.specs.Capture.Crossing.{FirstCopy}
 use Rattle.rasta_check.specs.Model.World.{World, end_of, other_side, Reaches}
-use Rattle.rasta_check.specs.Model.Taken.{surely_taken, position_with, pdus_of, all_made, units_shown, units_taken, units_from, data_copies}
-use Rattle.rasta_check.specs.Model.Laws.{HandsUp}
-use Rattle.rasta_check.specs.Script.Following.{Follows}
-use Rattle.rasta_check.specs.Internals.Checking.{follow, where_followed, verdict_of}
-use Rattle.rasta_check.specs.Model.Theorem.{Appends, units_handed, units_listed}
+use Rattle.rasta_check.specs.Model.Taken.{surely_taken, pdus_of, all_made, units_shown, units_taken, units_from, data_copies}
+use Rattle.rasta_check.specs.Internals.Checking.{follow, verdict_of}
+use Rattle.rasta_check.specs.Model.Theorem.{units_handed, units_listed}
 use Rattle.rasta_check.specs.Capture.Reading.{Crossing, IsCrossing, sent_by}
 use Rattle.rasta_check.specs.Verdict.Listed.{messages_taken, ListedMessage, listed, numbered_from}
 use Rattle.rasta_check.specs.Verdict.Report.{Explained, report_of, BothFit}
 use Rattle.rasta_check.specs.Internals.Listing.{listed_by, shown_by, proofs_from}
-use Rattle.rasta_check.specs.Verdict.Headline.{messages_in_list, units_offered, HandsUpListed, Headline, IsSharp}
+use Rattle.rasta_check.specs.Verdict.Headline.{HandsUpListed, Headline, IsSharp}
 use Rattle.rasta_check.proofs.Capture.FaultlessLists.{IsSent}
 use Rattle.rasta_check.proofs.Capture.Crossings.{few_of, list_of}
 use Rattle.rasta_check.proofs.Script.FollowedScripts.{follow_fits}
-use Rattle.rasta_check.proofs.Script.Fits.{fits_is, is_fits}
+use Rattle.rasta_check.proofs.Script.Fits.{fits_follows, verdict_fits}
 use Rattle.rasta_check.proofs.Run.Simulation.{simulated}
 use Rattle.rasta_check.proofs.Model.ConveyedUnits.{values, length-values}
 use Rattle.rasta_check.proofs.Theorem.SentRuns.{Known, known}
 use Rattle.rasta_check.proofs.Script.CutScripts.{sharp}
 use Rattle.rasta_check.proofs.Theorem.Necessity.{hands_up, first, proof_appended, in_time_through}
 use Rattle.rasta_check.proofs.Theorem.FirstUnits.{offered_first}
-use Rattle.rasta_check.proofs.Theorem.JoinedMessages.{joined, joined-append, up_joined, listed_joined, of_listed, of_message}
+use Rattle.rasta_check.proofs.Theorem.JoinedMessages.{joined, up_joined, listed_joined, of_listed, message_up}
 use Rattle.rasta_check.proofs.Verdict.Reports.{units_named, first_small, are_proofs, units_are}
 use Rattle.rasta_pdu.specs.Pdu.{is_kind}
 use Rattle.rasta_pdu.specs.declared.kind.Kind.TheVariants.{ConnectionRequest}
-
--- ---- verdicts and scripts that fit
-
--- where a verdict is a report, both scripts are followed to an end
-pub record Ends (p : Parameters) (packets : ℕ) (c s : List FirstCopy) (scripts : Scripts) (report : Explained) : Type 0 where
-  pub a : EndState
-  pub b : EndState
-  pub client : follow p Client packets c s scripts.client ≡ Ok a
-  pub server : follow p Server packets s c scripts.server ≡ Ok b
-  pub says : report ≡ report_of p packets c s
-
-pub ends : (p : Parameters) (packets : ℕ) (c s : List FirstCopy) (scripts : Scripts) (report : Explained) → verdict_of p packets c s scripts ≡ Ok report → Ends p packets c s scripts report
-ends p packets c s scripts report h = by (follow p Client packets c s scripts.client) refl (follow p Server packets s c scripts.server) refl h
-  where
-    by : (x : Result EndState Fault) → follow p Client packets c s scripts.client ≡ x → (y : Result EndState Fault) → follow p Server packets s c scripts.server ≡ y
-        → where_followed x (where_followed y (Ok (report_of p packets c s))) ≡ Ok report → Ends p packets c s scripts report
-    by (Ok a) e (Ok b) f g = record { a = a; b = b; client = e; server = f; says = sym (cc) }
-    by (Ok a) e (Err fault) f g = absurd (cc)
-    by (Err fault) e y f g = absurd (cc)
 
 twice : (side : Side) → other_side (other_side side) ≡ side
 twice side = grind arith
@@ -74,7 +52,7 @@ module _ (p : Parameters) (packets : List Packet) (c s : List FirstCopy) (h : Is
     peer = sent_by k (other_side side)
 
     run_sent : (side : Side) → IsSent p w.crossed side (sent_by k side)
-    run_sent side = subst (λ (xs : List Packet). IsSent p xs side (sent_by k side)) (sym same) (list_of k h side)
+    run_sent side = rw same (list_of k h side)
 
     kn : Known p w side own peer
     kn = known p ws w side own peer r (run_sent side) (run_sent (other_side side)) (few_of k h side) (few_of k h (other_side side))
@@ -85,14 +63,13 @@ module _ (p : Parameters) (packets : List Packet) (c s : List FirstCopy) (h : Is
         let e = end_of w side in
         let first = first_small p.quiet side e.made own kn.sends.same (λ j x y. ((list_of k h side).firsts j x y).3.fits.sn) in
         ap (λ n. if is_kind ConnectionRequest d.pdu.safety.kind then 0 else n)
-        (units_named e.made (values e) d.pdu.safety.cs kn.all.mine.held.list.numbered kn.few (length-values e.asks e.made) first ((list_of k h (other_side side)).firsts i d g).3.fits.cs
-        ∙ (λ j. units_at (sym kn.along j) (position_with (kn.sends.same j) d.pdu.safety.cs)))
+        (rw (kn.along, sym kn.sends.same) (units_named e.made (values e) d.pdu.safety.cs kn.all.mine.held.list.numbered kn.few (length-values e.asks e.made) first ((list_of k h (other_side side)).firsts i d g).3.fits.cs))
 
     list_is : listed_by (end_of w side) own peer ≡ listed p side own peer
     list_is =
         let e = end_of w side in
         let proofs = are_proofs e (all_made p side own) peer shown in
-        let count : length (proofs_from e [] peer) - 0 ≡ units_taken (all_made p side own) (pdus_of peer) = (let z = proofs.count in omega (arith, z)) in
+        let count : length (proofs_from e [] peer) - 0 ≡ units_taken (all_made p side own) (pdus_of peer) = omega (arith, proofs.count) in
         ap (λ us. numbered_from 0 (messages_taken us))
         (units_are (all_made p side own) peer (proofs_from e [] peer) proofs 0 own ∙ ap (λ n. units_from (all_made p side own) peer 0 (take n (data_copies own))) count)
 
@@ -106,25 +83,16 @@ module _ (p : Parameters) (packets : List Packet) (c s : List FirstCopy) (h : Is
         let offered = offered_first f e up in
         let first = first p ws w side own peer r (run_sent side) (run_sent (other_side side)) (few_of k h side) (few_of k h (other_side side)) in
         record {
-          labels = subst (λ (x : Side). HandsUp f (end_of w x)) (sym (twice side)) up.labels;
-          units = (offered.0, subst (λ (x : Side). units_offered (end_of w x) ≡ units_handed f ++ offered.0) (sym (twice side)) offered.1);
-          first = (
-            joined first.0,
-            up_joined f.handed_pdus ∙ (ap joined first.1 ∙ (joined-append (units_listed us) first.0 ∙ ap (λ ms. ms ++ joined first.0) (sym (listed_joined us) ∙ ap messages_in_list (sym is)))),
-          );
+          labels = rw (twice side) up.labels;
+          units = (offered.0, rw (twice side) offered.1);
+          first = (joined first.0, rw (up_joined, first.1, is, listed_joined) (flat_map-append (λ (ms : List (List ℕ)). ms) (units_listed us) first.0));
           appended = λ i m g.
-              (let l = of_listed 0 (messages_taken us) i m (subst (λ (xs : List ListedMessage). slice_get xs i ≡ Some m) is g) in
-              let o = of_message us i l.0 l.1 in
-              subst (λ k. (v next : World) × Appends ws w k v next) (sym (l.3 ∙ o.place))
-              (proof_appended p ws w side own peer r (run_sent side) (run_sent (other_side side)) (few_of k h side) (few_of k h (other_side side)) o.i o.u o.there));
+              (let o = of_listed us i m (rw is at g) in
+              rw o.place (proof_appended p ws w side own peer r (run_sent side) (run_sent (other_side side)) (few_of k h side) (few_of k h (other_side side)) o.i o.u o.there));
           in_time = λ i m v next g a.
-              (let l = of_listed 0 (messages_taken us) i m (subst (λ (xs : List ListedMessage). slice_get xs i ≡ Some m) is g) in
-              let o = of_message us i l.0 l.1 in
-              let at : Appends ws w o.u.proof_place v next = subst (λ k. Appends ws w k v next) (l.3 ∙ o.place) a in
-              ap (λ (xs : List (List ℕ)). slice_get xs i) (up_joined (end_of v (other_side side)).handed_pdus)
-              ∙ (o.up (units_handed (end_of v (other_side side))) (λ j t low gt.
-              in_time_through p ws w side own peer r (run_sent side) (run_sent (other_side side)) (few_of k h side) (few_of k h (other_side side))
-              o.i j o.u t v next low o.there gt at) ∙ ap Some (sym l.2)));
+              (let o = of_listed us i m (rw is at g) in
+              rw up_joined (message_up us i m.proof_place m.message o (units_handed (end_of v (other_side side))) (λ j t low gt.
+              in_time_through p ws w side own peer r (run_sent side) (run_sent (other_side side)) (few_of k h side) (few_of k h (other_side side)) o.i j o.u t v next low o.there gt (rw o.place at a))));
         }
 
   -- ---- the lists of the report
@@ -134,68 +102,40 @@ module _ (p : Parameters) (packets : List Packet) (c s : List FirstCopy) (h : Is
       → (listed_by b s c ≡ listed p Server s c) × (listed_by a c s ≡ listed p Client c s)
   lists_are cs ss a b e f =
       let r = simulated p packets c s cs ss a b h.recorded (list_of k h Client) (list_of k h Server)
-      (follow_fits p (length packets) c s Client cs a e) (follow_fits p (length packets) s c Server ss b f) in (
-        ap (λ (x : EndState). listed_by x s c) (sym r.5) ∙ list_is r.0 r.1 r.2 r.3 Server,
-        ap (λ (x : EndState). listed_by x c s) (sym r.4) ∙ list_is r.0 r.1 r.2 r.3 Client,
-      )
+      (follow_fits p (length packets) c s Client cs a e) (follow_fits p (length packets) s c Server ss b f) in
+      (rw (sym r.5) (list_is r.0 r.1 r.2 r.3 Server), rw (sym r.4) (list_is r.0 r.1 r.2 r.3 Client))
 
   -- the report that is worked out from both ends is the verdict
   pub verdict_of_ends : (scripts : Scripts) (n : ℕ) (cs ss : List Entry) (a b : EndState) (report : Explained) → length packets ≡ n → cs ≡ scripts.client → ss ≡ scripts.server
       → follow p Client n c s cs ≡ Ok a → follow p Server n s c ss ≡ Ok b
       → report ≡ record { packets = n; client_taken = listed_by b s c; server_taken = listed_by a c s } → verdict_of p n c s scripts ≡ Ok report
   verdict_of_ends scripts n cs ss a b report count same_c same_s e f says =
-      let l = lists_are cs ss a b (subst (λ m. follow p Client m c s cs ≡ Ok a) (sym count) e) (subst (λ m. follow p Server m s c ss ≡ Ok b) (sym count) f) in
-      let a_is = ap (follow p Client n c s) (sym same_c) ∙ e in
-      let b_is = ap (follow p Server n s c) (sym same_s) ∙ f in
-      (λ i. where_followed (a_is i) (where_followed (b_is i) (Ok (report_of p n c s))))
-      ∙ sym (ap Ok (says ∙ (λ i. record { packets = n; client_taken = l.0 i; server_taken = l.1 i })))
+      let l = lists_are cs ss a b (rw (sym count) at e) (rw (sym count) at f) in
+      rw (sym same_c, sym same_s, e, f, says) (sym (λ i. Ok (record { packets = n; client_taken = l.0 i; server_taken = l.1 i })))
 
-  module _ (scripts : Scripts) where
-    pub verdict_fits : (report : Explained) → verdict_of p (length packets) c s scripts ≡ Ok report → BothFit p (length packets) c s scripts
-    verdict_fits report e =
-        let z = ends p (length packets) c s scripts report e in
-        ((z.a, is_fits p (length packets) c s Client scripts.client z.a z.client), (z.b, is_fits p (length packets) s c Server scripts.server z.b z.server))
+  -- ---- the headline
 
-    pub verdict_refuses : (fault : Fault) → verdict_of p (length packets) c s scripts ≡ Err fault → BothFit p (length packets) c s scripts → ⊥
-    verdict_refuses fault e f =
-        let a = fits_is p (length packets) c s Client scripts.client f.0.0 f.0.1 in
-        let b = fits_is p (length packets) s c Server scripts.server f.1.0 f.1.1 in
-        absurd (let z : Ok (report_of p (length packets) c s) ≡ Err fault = sym (λ i. where_followed (a i) (where_followed (b i) (Ok (report_of p (length packets) c s)))) ∙ e in cc)
+  module _ (scripts : Scripts) (report : Explained) (e : verdict_of p (length packets) c s scripts ≡ Ok report) where
+    fits : BothFit p (length packets) c s scripts × (report ≡ report_of p (length packets) c s)
+    fits = verdict_fits p (length packets) c s scripts report e
 
-    -- ---- the headline
+    to_server : report.server_taken ≡ listed p Client c s
+    to_server = ap (λ (x : Explained). x.server_taken) fits.1
 
-    module _ (report : Explained) (e : verdict_of p (length packets) c s scripts ≡ Ok report) where
-      ended : Ends p (length packets) c s scripts report
-      ended = ends p (length packets) c s scripts report e
+    to_client : report.client_taken ≡ listed p Server s c
+    to_client = ap (λ (x : Explained). x.client_taken) fits.1
 
-      fits_c : Follows p Client (length packets) c s scripts.client ended.a
-      fits_c = follow_fits p (length packets) c s Client scripts.client ended.a ended.client
+    pub is_sharp : IsSharp p packets report
+    is_sharp =
+        let r = sharp p packets c s scripts.client scripts.server fits.0.0.0 fits.0.1.0 h.recorded (list_of k h Client) (list_of k h Server) h.sent.few_client h.sent.few_server
+        (fits_follows p (length packets) c s Client scripts.client fits.0.0.0 fits.0.0.1) (fits_follows p (length packets) s c Server scripts.server fits.0.1.0 fits.0.1.1) in
+        (r.0, r.1, r.2, r.3, rw (up_joined, r.4, to_server, listed_joined) refl, rw (up_joined, r.5, to_client, listed_joined) refl)
 
-      fits_s : Follows p Server (length packets) s c scripts.server ended.b
-      fits_s = follow_fits p (length packets) s c Server scripts.server ended.b ended.server
-
-      some_run : (ws : List World) × (w : World) × Reaches p ws w × (w.crossed ≡ packets)
-      some_run = (let r = simulated p packets c s scripts.client scripts.server ended.a ended.b h.recorded (list_of k h Client) (list_of k h Server) fits_c fits_s in (r.0, r.1, r.2, r.3))
-
-      to_server : report.server_taken ≡ listed p Client c s
-      to_server = ap (λ (x : Explained). x.server_taken) ended.says
-
-      to_client : report.client_taken ≡ listed p Server s c
-      to_client = ap (λ (x : Explained). x.client_taken) ended.says
-
-      pub headline : Headline p packets report
-      headline = record { some_run = some_run; every_run = λ ws w r same. (peer_up ws w r same Client report.server_taken to_server, peer_up ws w r same Server report.client_taken to_client) }
-
-      pub is_sharp : IsSharp p packets report
-      is_sharp =
-          let r = sharp p packets c s scripts.client scripts.server ended.a ended.b h.recorded (list_of k h Client) (list_of k h Server) h.sent.few_client h.sent.few_server fits_c fits_s in (
-            r.0,
-            r.1,
-            r.2,
-            r.3,
-            up_joined r.1.server.state.handed_pdus ∙ (ap joined r.4 ∙ (sym (listed_joined (surely_taken p Client c s)) ∙ ap messages_in_list (sym to_server))),
-            up_joined r.1.client.state.handed_pdus ∙ (ap joined r.5 ∙ (sym (listed_joined (surely_taken p Server s c)) ∙ ap messages_in_list (sym to_client))),
-          )
+    pub headline : Headline p packets report
+    headline = (let r = is_sharp in record {
+      some_run = (r.0, r.1, r.2, r.3);
+      every_run = λ ws w r same. (peer_up ws w r same Client report.server_taken to_server, peer_up ws w r same Server report.client_taken to_client);
+    })
 
 -- what is lent of a crossing is a crossing
 pub lent : (k : Crossing) (p : Parameters) (c s : List FirstCopy) → k.params ≡ p → c ≡ k.client → s ≡ k.server → IsCrossing k

@@ -5,7 +5,7 @@ use Rattle.rasta_end.specs.State.{EndState}
 use Rattle.rasta_check.specs.Capture.Crossing.{FirstCopy}
 use Rattle.rasta_check.specs.declared.report.Taken.{Taken}
 use Rattle.rasta_check.specs.Model.Taken.{TakenUnit}
-use Rattle.rasta_check.specs.Verdict.Listed.{TakenMessage, messages_taken, ListedMessage, listed_of, numbered_from}
+use Rattle.rasta_check.specs.Verdict.Listed.{TakenMessage, messages_taken, listed_of, numbered_from}
 use Rattle.rasta_check.specs.Internals.Listing.{shown_by, with_proofs, proofs_from, proved_unit, proved_units}
 use Rattle.rasta_check.proofs.Lists.{drop_one_more}
 use Rattle.rasta_pdu.specs.Pdu.{is_kind}
@@ -14,14 +14,14 @@ use Rattle.rasta_pdu.specs.declared.kind.Kind.TheVariants.{Data}
 -- ---- what is left of a list
 
 pub left_at : (xs : List FirstCopy) (i : ℕ) (x : FirstCopy) → slice_get xs i ≡ Some x → drop i xs ≡ x ∷ drop (i + 1) xs
-left_at xs i x g = drop_one_more i xs x g ∙ ap (λ k. x ∷ drop k xs) (sym (add-one i))
+left_at xs i x g = rw add-one (drop_one_more i xs x g)
 
 -- ---- places of proofs
 
 pub proofs_more : (e : EndState) (xs : List FirstCopy) (i : ℕ) (x : FirstCopy) (places new : List ℕ) → slice_get xs i ≡ Some x
     → new ≡ with_proofs places (shown_by e x.pdu.safety) x.place → proofs_from e new (drop (i + 1) xs) ≡ proofs_from e places (drop i xs)
 unfolding proofs_from
-proofs_more e xs i x places new g h = ap (λ ps. proofs_from e ps (drop (i + 1) xs)) h ∙ sym (ap (proofs_from e places) (left_at xs i x g))
+proofs_more e xs i x places new g h = rw (h, left_at xs i x g) refl
 
 pub proofs_end : (e : EndState) (xs : List FirstCopy) (i : ℕ) (places : List ℕ) → length xs ≤ i → proofs_from e places (drop i xs) ≡ places
 unfolding proofs_from
@@ -51,34 +51,27 @@ proved_copy places unit place c copies k g = (let n : suc unit ≡ unit + 1 = om
 
 pub numbered-append : (n : ℕ) (xs ys : List TakenMessage) → numbered_from n (xs ++ ys) ≡ numbered_from n xs ++ numbered_from (n + length xs) ys
 numbered-append n [] ys = ap (λ k. numbered_from k ys) (omega arith)
-numbered-append n (x ∷ xs) ys =
-    ap (λ ms. record { number = n; data_place = x.data_place; proof_place = x.proof_place; message = x.message } ∷ ms)
-    (numbered-append (suc n) xs ys ∙ ap (λ k. numbered_from (suc n) xs ++ numbered_from k ys) (omega arith))
+numbered-append n (x ∷ xs) ys = (let more = numbered-append (suc n) xs ys in let e : suc n + length xs ≡ n + suc (length xs) = omega arith in grind arith)
 
 length-numbered : (n : ℕ) (xs : List TakenMessage) → length (numbered_from n xs) ≡ length xs
 length-numbered n [] = refl
 length-numbered n (x ∷ xs) = ap suc (length-numbered (suc n) xs)
 
 -- so many are listed, and these messages are added
-module _ (old new : List Taken) (added more : List TakenMessage) where
-  counted : map listed_of new ≡ map listed_of old ++ numbered_from (length old) added → length new ≡ length old + length added
-  counted e = (let a = ap length e in grind (arith, length-map, length-append, length-numbered))
-
-  pub added_more : map listed_of new ≡ map listed_of old ++ numbered_from (length old) added
-      → map listed_of new ++ numbered_from (length new) more ≡ map listed_of old ++ numbered_from (length old) (added ++ more)
-  added_more e =
-      (let n = counted e in
-      ((λ i. e i ++ numbered_from (n i) more) ∙ append_assoc (map listed_of old) (numbered_from (length old) added) (numbered_from (length old + length added) more))
-      ∙ ap (λ (xs : List ListedMessage). map listed_of old ++ xs) (sym (numbered-append (length old) added more)))
+pub added_more : (old new : List Taken) (added more : List TakenMessage) → map listed_of new ≡ map listed_of old ++ numbered_from (length old) added
+    → map listed_of new ++ numbered_from (length new) more ≡ map listed_of old ++ numbered_from (length old) (added ++ more)
+added_more old new added more e =
+    let n : length new ≡ length old + length added = (let a = ap length e in grind (arith, length-map, length-append, length-numbered)) in
+    rw (e, n) (simp (numbered-append, append_assoc))
 
 -- ---- first copies that are left
 
 pub units_left : (places : List ℕ) (unit : ℕ) (xs : List FirstCopy) (i : ℕ) (x : FirstCopy) → slice_get xs i ≡ Some x → proved_units places unit (drop i xs) ≡ proved_units places unit (x ∷ drop (i + 1) xs)
-units_left places unit xs i x g = ap (proved_units places unit) (left_at xs i x g)
+units_left places unit xs i x g = rw (left_at xs i x g) refl
 
 pub units_end : (places : List ℕ) (unit : ℕ) (xs : List FirstCopy) (i : ℕ) → length xs ≤ i → proved_units places unit (drop i xs) ≡ []
 unfolding proved_units
 units_end places unit xs i l = ap (proved_units places unit) (drop_all i xs l)
 
 pub listing_ends : (items : List Taken) (units : List TakenUnit) → units ≡ [] → map listed_of items ≡ map listed_of items ++ numbered_from (length items) (messages_taken units)
-listing_ends items units e = sym (append-nil (map listed_of items)) ∙ ap (λ us. map listed_of items ++ numbered_from (length items) (messages_taken us)) (sym e)
+listing_ends items units e = rw (e, append-nil) refl

@@ -1,12 +1,13 @@
 -- What is worked out from the two ends of scripts that fit is what is surely taken.
-use Rattle.std.proofs.Common.{◌≡◌, ℕ, zero, suc, ◌+◌, ◌-◌, ◌%◌, ◌^◌, ◌<◌, ◌≤◌, Bool, true, false, List, [], ◌∷◌, ◌++◌, length, map, replicate, take, Option, Some, None, slice_get, refl, ap, sym, ◌∙◌, arith}
-use Rattle.std.specs.Prelude.{fold, max, nat_lt, slice_index_or}
+use Rattle.std.proofs.Common.{◌≡◌, ℕ, zero, suc, ◌+◌, ◌-◌, ◌%◌, ◌^◌, ◌<◌, ◌≤◌, List, [], ◌∷◌, ◌++◌, length, map, replicate, take, Option, Some, None, slice_get, refl, ap, sym, ◌∙◌, arith}
+use Rattle.std.specs.Prelude.{fold, max, slice_index_or}
 use Rattle.std.proofs.lemmas.Bool.Decides.{nat_tests}
 use Rattle.std.proofs.Math.Seq.{take-nil}
+use native.Mathlib.Decide.{dec_lt}
+use Prim.{yes, no}
 use Rattle.std.proofs.lemmas.List.{get_or-replicate, length-append, length-replicate}
 use Rattle.std.proofs.lemmas.Option.{slice_get-get_or, slice_get_past, slice_get_within, same_Some}
 use Rattle.rasta_pcap.specs.declared.fault.Side.{Side}
-use Rattle.rasta_pcap.specs.declared.fault.Side.TheVariants.{Client, Server}
 use Rattle.rasta_pdu.specs.declared.quiet_point.Quiet.{Quiet}
 use Rattle.rasta_pdu.specs.Pdu.{SafetyPdu}
 use Rattle.rasta_end.specs.State.{Made, EndState, ahead_by, first_sn}
@@ -14,32 +15,19 @@ use Rattle.rasta_end.specs.Units.{units_at}
 use Rattle.rasta_end.specs.Starts.{start_by}
 use Rattle.rasta_check.specs.Capture.Crossing.{FirstCopy}
 use Rattle.rasta_check.specs.Model.Taken.{position_with, pdus_of, pdus_made, units_shown, units_taken, proof_place, units_from, data_copies}
-use Rattle.rasta_check.specs.Internals.Listing.{shown_by, with_proofs, proofs_from, proved_unit, with_unit, proved_units}
-use Rattle.rasta_check.proofs.Lists.{get_front, slice_get_some, get_mapped, get_past}
-use Rattle.rasta_check.proofs.Model.SequenceNumbers.{Numbered}
-use Rattle.rasta_check.proofs.Model.NamedPositions.{SnIs, sn_mod}
+use Rattle.rasta_check.specs.Internals.Listing.{shown_by, with_proofs, proofs_from, proved_units}
+use Rattle.rasta_check.proofs.Lists.{get_front, slice_get_some, get_past}
+use Rattle.rasta_check.proofs.Model.SequenceNumbers.{Numbered, numbered_once}
+use Rattle.rasta_check.proofs.Model.NamedPositions.{sn_mod}
 use Rattle.rasta_check.proofs.Model.ConveyedUnits.{get_or_none}
-use Rattle.rasta_check.proofs.Model.Requests.{found_position}
+use Rattle.rasta_check.proofs.Model.Requests.{found_position, named_position}
 
 -- ---- the position that a CS names
-
--- where no member has this SN, none is at a position
-none_has : (ms : List Made) (sn i : ℕ) (m : Made) → position_with (pdus_made ms) sn ≡ None → slice_get ms i ≡ Some m → m.pdu.sn ≡ sn → ⊥
-none_has [] sn i m n g e = absurd (cc)
-none_has (x ∷ ms) sn zero m n g e = (let f : x ≡ m = cc in absurd (grind (arith, nat_tests)))
-none_has (x ∷ ms) sn (suc i) m n g e = none_has ms sn i m (grind (arith, nat_tests)) g e
-
--- a named position lies as far after the first SN as the SN does
-distance : (ms : List Made) (sn i : ℕ) → Numbered ms → length ms ≤ 1000001 → SnIs ms i sn → ahead_by sn (first_sn ms) ≡ i
-distance ms sn i h b s = (let z = sn_mod ms i sn h s in let l = slice_get_within ms i s.m s.there in omega arith)
 
 -- a position as far after the first SN as an SN has that SN
 at_distance : (ms : List Made) (sn i : ℕ) (m : Made) → Numbered ms → first_sn ms < 2 ^ 32 → sn < 2 ^ 32 → slice_get ms i ≡ Some m → ahead_by sn (first_sn ms) ≡ i → m.pdu.sn ≡ sn
 at_distance [] sn i m h f l g d = absurd (cc)
-at_distance (x ∷ ms) sn zero m h f l g d =
-    let a : x ≡ m = cc in
-    let b : x.pdu.sn ≡ m.pdu.sn = ap (λ (k : Made). k.pdu.sn) a in
-    omega arith
+at_distance (x ∷ ms) sn zero m h f l g d = (let b : x.pdu.sn ≡ m.pdu.sn = ap (λ (k : Made). k.pdu.sn) (same_Some x m g) in omega arith)
 at_distance (x ∷ ms) sn (suc i) m h f l g d = (let a : m.pdu.sn ≡ (x.pdu.sn + suc i) % 2 ^ 32 = h i m g in omega arith)
 
 -- the units at the position that a CS names are those at its distance
@@ -47,31 +35,24 @@ pub units_named : (ms : List Made) (vs : List ℕ) (cs : ℕ) → Numbered ms �
     → slice_index_or vs (ahead_by cs (first_sn ms)) 0 ≡ units_at vs (position_with (pdus_made ms) cs)
 units_named ms vs cs h b l f small = by (position_with (pdus_made ms) cs) refl
   where
-    beyond : position_with (pdus_made ms) cs ≡ None → (o : Option ℕ) → slice_get vs (ahead_by cs (first_sn ms)) ≡ o → slice_index_or vs (ahead_by cs (first_sn ms)) 0 ≡ 0
-    beyond n None g = get_or_none vs (ahead_by cs (first_sn ms)) g
-    beyond n (Some v) g =
-        let w = slice_get_within vs (ahead_by cs (first_sn ms)) v g in
-        let m = slice_get_some ms (ahead_by cs (first_sn ms)) (omega (arith, w, l)) in
-        absurd (none_has ms cs (ahead_by cs (first_sn ms)) m.0 n m.1 (at_distance ms cs (ahead_by cs (first_sn ms)) m.0 h f small m.1 refl))
-
-    by : (o : Option ℕ) → position_with (pdus_made ms) cs ≡ o → slice_index_or vs (ahead_by cs (first_sn ms)) 0 ≡ units_at vs (position_with (pdus_made ms) cs)
-    by None e = beyond e (slice_get vs (ahead_by cs (first_sn ms))) refl ∙ ap (units_at vs) (sym e)
-    by (Some i) e = ap (λ k. slice_index_or vs k 0) (distance ms cs i h b (found_position ms cs i e)) ∙ ap (units_at vs) (sym e)
+    by : (o : Option ℕ) → position_with (pdus_made ms) cs ≡ o → slice_index_or vs (ahead_by cs (first_sn ms)) 0 ≡ units_at vs o
+    by None n =
+        let i = ahead_by cs (first_sn ms) in
+        let past : i < length ms → ⊥ = λ w.
+        (let m = slice_get_some ms i w in
+        let named = named_position ms i cs (numbered_once ms b h) (record { m = m.0; there = m.1; same = at_distance ms cs i m.0 h f small m.1 refl }) in
+        absurd (cc)) in
+        get_or_none vs i (slice_get_past vs i (omega (arith, past)))
+    by (Some i) e =
+        let s = found_position ms cs i e in
+        ap (λ k. slice_index_or vs k 0) (omega (arith, sn_mod ms i cs h s, slice_get_within ms i s.m s.there))
 
 -- the first SN of what an end made has 32 bits
 pub first_small : (q : Option Quiet) (s : Side) (ms : List Made) (own : List FirstCopy) → pdus_made ms ≡ pdus_made (start_by q s).made ++ pdus_of own
     → ((i : ℕ) (c : FirstCopy) → slice_get own i ≡ Some c → c.pdu.safety.sn < 2 ^ 32) → first_sn ms < 2 ^ 32
 first_small q s [] own e h = omega arith
-first_small q s (m ∷ ms) own e h = head q s (ap (λ (xs : List SafetyPdu). slice_get xs 0) (sym e))
-  where
-    of_copies : slice_get (pdus_of own) 0 ≡ Some m.pdu → m.pdu.sn < 2 ^ 32
-    of_copies g = (let c = get_mapped (λ (d : FirstCopy). d.pdu.safety) own 0 m.pdu g in let a = h 0 c.0 c.1 in let b = ap (λ (x : SafetyPdu). x.sn) c.2 in omega arith)
-
-    head : (q : Option Quiet) (s : Side) → slice_get (pdus_made (start_by q s).made ++ pdus_of own) 0 ≡ Some m.pdu → m.pdu.sn < 2 ^ 32
-    head None Client g = of_copies g
-    head None Server g = of_copies g
-    head (Some q) Client g = (let a = ap (λ (x : SafetyPdu). x.sn) (same_Some _ _ g) in omega arith)
-    head (Some q) Server g = (let a = ap (λ (x : SafetyPdu). x.sn) (same_Some _ _ g) in omega arith)
+first_small q s (m ∷ ms) [] e h = grind arith
+first_small q s (m ∷ ms) (c ∷ own) e h = (let z = h 0 c refl in grind arith)
 
 -- ---- places of proofs, by what each PDU shows
 
@@ -95,9 +76,7 @@ module _ (e : EndState) (own peer : List SafetyPdu) where
   length-places : (places : List ℕ) (copies : List FirstCopy) → ShowAsMuch copies → length (proofs_from e places copies) ≡ fold max (length places) (map (units_shown own peer) (pdus_of copies))
   unfolding proofs_from
   length-places places [] h = refl
-  length-places places (c ∷ copies) h =
-      length-places (with_proofs places (shown_by e c.pdu.safety) c.place) copies (λ i d g. h (suc i) d g)
-      ∙ ap (λ n. fold max n (map (units_shown own peer) (pdus_of copies))) (length-with_proofs places (shown_by e c.pdu.safety) c.place ∙ ap (max (length places)) (h 0 c refl))
+  length-places places (c ∷ copies) h = rw (length-places (with_proofs places (shown_by e c.pdu.safety) c.place) copies (λ i d g. h (suc i) d g), length-with_proofs, h 0 c refl) refl
 
   -- what has a place keeps it
   place_stays : (places : List ℕ) (copies : List FirstCopy) (k v : ℕ) → slice_get places k ≡ Some v → slice_get (proofs_from e places copies) k ≡ Some v
@@ -137,18 +116,10 @@ module _ (own : List SafetyPdu) (peer : List FirstCopy) (places : List ℕ) (h :
   pub units_are : (unit : ℕ) (copies : List FirstCopy) → proved_units places unit copies ≡ units_from own peer unit (take (length places - unit) (data_copies copies))
   unfolding proved_units
   units_are unit [] = ap (units_from own peer unit) (sym (take-nil (length places - unit)))
-  units_are unit (c ∷ copies) = (let r = listed (units_are (suc unit) copies) (nat_lt unit (length places)) refl in let s = units_are unit copies in grind arith)
-    where
-      listed : proved_units places (suc unit) copies ≡ units_from own peer (suc unit) (take (length places - suc unit) (data_copies copies)) → (b : Bool) → nat_lt unit (length places) ≡ b
-          → with_unit c (slice_get places unit) (proved_units places (suc unit) copies) ≡ units_from own peer unit (take (length places - unit) (c ∷ data_copies copies))
-      listed r true e =
-          let l : unit < length places = grind (arith, nat_tests) in
-          let n : suc (length places - suc unit) ≡ length places - unit = omega (arith, l) in
-          ap (λ o. with_unit c o (proved_units places (suc unit) copies)) (h.each unit l)
-          ∙ (ap (λ us. proved_unit c (proof_place own (pdus_of peer) unit peer) ∷ us) r
-          ∙ ap (λ k. units_from own peer unit (take k (c ∷ data_copies copies))) n)
-      listed r false e =
-          let l : length places ≤ unit = grind (arith, nat_tests) in
-          let n : 0 ≡ length places - unit = omega (arith, l) in
-          ap (λ o. with_unit c o (proved_units places (suc unit) copies)) (slice_get_past places unit l)
-          ∙ ap (λ k. units_from own peer unit (take k (c ∷ data_copies copies))) n
+  units_are unit (c ∷ copies) =
+      let r = units_are (suc unit) copies in
+      let s = units_are unit copies in
+      elim (dec_lt unit (length places)) [
+        | yes l ↦ (let n : length places - unit ≡ suc (length places - suc unit) = omega arith in let z = rw n at s in rw (h.each unit l, n) (grind arith))
+        | no q ↦ (let n : length places - unit ≡ 0 = omega (arith, q) in let z = rw n at s in rw (slice_get_past places unit (omega (arith, q)), n) (grind arith))
+      ]

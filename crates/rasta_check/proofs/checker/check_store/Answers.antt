@@ -1,5 +1,5 @@
 use Rattle.std.proofs.Common.{inl, inr, ⊎_elim}
-use Rattle.rasta_check.proofs.Verdict.CallAnswers.{both}
+use Rattle.std.proofs.lemmas.Result.{MatchResult-weaker}
 use Rattle.rasta_check.proofs.Verdict.FileVerdicts.{verdict_is}
 use Rattle.rasta_check.proofs.checker.check_store.Goals as goal
 
@@ -14,6 +14,6 @@ returns-clause-exact c = rw (c.len.ensures.value, c.client.ensures.value, c.serv
 
 pub returns-clause-of_file : goal.returns-clause-of_file
 returns-clause-of_file c file x =
-    both c.check_lists.result _ _ _ _ (rw (c.len.ensures.value, c.client.ensures.value, c.server.ensures.value) at c.check_lists.ensures.verdict)
+    MatchResult-weaker c.check_lists.result (rw (c.len.ensures.value, c.client.ensures.value, c.server.ensures.value) at c.check_lists.ensures.verdict)
     (λ r e. verdict_is c.args.p.now file c.args.store.now x c.args.certificate.now _ e)
     (λ f why. ⊎_elim (λ e. inl (verdict_is c.args.p.now file c.args.store.now x c.args.certificate.now _ e)) (λ e. inr e) why)

@@ -1,7 +1,6 @@
-use Rattle.std.proofs.Common.{◌+◌, ◌++◌, ◌∙◌, List, ap, sym, length, map}
+use Rattle.std.proofs.Common.{◌+◌, ◌∙◌, ap, sym, refl}
 use Rattle.rasta_check.specs.Capture.Lists.{copy_of}
-use Rattle.rasta_check.specs.Model.Taken.{TakenUnit}
-use Rattle.rasta_check.specs.Verdict.Listed.{messages_of_unit, messages_taken, listed_of, numbered_from}
+use Rattle.rasta_check.specs.Verdict.Listed.{messages_of_unit, messages_taken}
 use Rattle.rasta_check.specs.Internals.Listing.{proved_unit, proved_units}
 use Rattle.rasta_check.proofs.Verdict.ListSteps.{other_copy, unproved_copy, proved_copy, added_more}
 use Rattle.rasta_check.proofs.surely_taken.add_unit.Goals as goal
@@ -10,16 +9,13 @@ use Rattle.rasta_pdu.specs.declared.kind.Kind.TheVariants.{Data}
 
 pub returns-then-not-is : goal.returns-then-not-is
 returns-then-not-is c copies =
-    ap (λ (us : List TakenUnit). map listed_of c.args.items.now.items ++ numbered_from (length c.args.items.now.items) (messages_taken us))
-    (sym (other_copy c.args.proofs.now c.args.unit (copy_of (c.args.place, c.args.pdu.now)) copies (ap (is_kind Data) (sym c.kind.ensures) ∙ (sym c.is.ensures ∙ c.if-not-is.true))))
+    rw (other_copy c.args.proofs.now c.args.unit (copy_of (c.args.place, c.args.pdu.now)) copies (ap (is_kind Data) (sym c.kind.ensures) ∙ (sym c.is.ensures ∙ c.if-not-is.true))) refl
 
 pub returns-in_ok-add_messages-in-Some : goal.returns-in_ok-add_messages-in-Some
 returns-in_ok-add_messages-in-Some c copies =
-    added_more c.args.items.now.items c.add_messages.new.items.items (messages_of_unit (proved_unit (copy_of (c.args.place, c.args.pdu.now)) c.in-Some.proof)) (messages_taken (proved_units c.args.proofs.now (c.args.unit + 1) copies)) c.in_ok-add_messages-in-Some.ensures
-    ∙ ap (λ (us : List TakenUnit). map listed_of c.args.items.now.items ++ numbered_from (length c.args.items.now.items) (messages_taken us))
-    (sym (proved_copy c.args.proofs.now c.args.unit c.in-Some.proof (copy_of (c.args.place, c.args.pdu.now)) copies (ap (is_kind Data) (sym c.kind.ensures) ∙ (sym c.is.ensures ∙ c.if-not-is.false)) (sym c.proof_at.ensures ∙ c.in-Some.is)))
+    let copy = copy_of (c.args.place, c.args.pdu.now) in
+    rw (proved_copy c.args.proofs.now c.args.unit c.in-Some.proof copy copies (ap (is_kind Data) (sym c.kind.ensures) ∙ (sym c.is.ensures ∙ c.if-not-is.false)) (sym c.proof_at.ensures ∙ c.in-Some.is))
+    (added_more c.args.items.now.items c.add_messages.new.items.items (messages_of_unit (proved_unit copy c.in-Some.proof)) (messages_taken (proved_units c.args.proofs.now (c.args.unit + 1) copies)) c.in_ok-add_messages-in-Some.ensures)
 
 pub returns-in-None : goal.returns-in-None
-returns-in-None c copies =
-    ap (λ (us : List TakenUnit). map listed_of c.args.items.now.items ++ numbered_from (length c.args.items.now.items) (messages_taken us))
-    (sym (unproved_copy c.args.proofs.now c.args.unit (copy_of (c.args.place, c.args.pdu.now)) copies (sym c.proof_at.ensures ∙ c.in-None.is)))
+returns-in-None c copies = rw (unproved_copy c.args.proofs.now c.args.unit (copy_of (c.args.place, c.args.pdu.now)) copies (sym c.proof_at.ensures ∙ c.in-None.is)) refl

@@ -1,8 +1,6 @@
-use Rattle.std.proofs.Common.{◌+◌, ◌++◌, ◌∙◌, ap, sym, arith, drop, length, map}
+use Rattle.std.proofs.Common.{◌+◌, ◌∙◌, ap, sym, arith, drop}
 use Rattle.std.specs.Option.{option_map}
 use Rattle.rasta_check.specs.Capture.Lists.{copy_of}
-use Rattle.rasta_check.specs.Verdict.Listed.{messages_taken, listed_of, numbered_from}
-use Rattle.rasta_check.specs.Internals.Listing.{proved_units}
 use Rattle.rasta_check.proofs.Verdict.ListSteps.{units_left, units_end, listing_ends}
 use Rattle.rasta_check.proofs.Lists.{none_within}
 use Rattle.rasta_check.proofs.surely_taken.messages_with.Goals as goal
@@ -13,11 +11,8 @@ loop-position-preserved g c =
     let xs = g.S.SentList.content c.args.own.now in
     elim c.match-get.branch [
       | in-Some+in_ok-unit w ↦
-          (λ i. map listed_of (w.items-is i).items ++ numbered_from (length (w.items-is i).items) (messages_taken (proved_units c.args.proofs.now (w.unit-is i) (drop (c.loop-position.position + 1) xs))))
-          ∙ (w.in_ok-unit.ensures (drop (c.loop-position.position + 1) xs)
-          ∙ (ap (λ (us : _). map listed_of c.loop-position.items.items ++ numbered_from (length c.loop-position.items.items) (messages_taken us))
-          (sym (units_left c.args.proofs.now c.loop-position.unit xs c.loop-position.position (copy_of (w.in-Some.place, w.in-Some.pdu)) (sym w.in-Some.ensures.value)))
-          ∙ c.loop-position.invariant))
+          rw (w.items-is, w.unit-is, w.in_ok-unit.ensures (drop (c.loop-position.position + 1) xs))
+          (rw (sym (units_left c.args.proofs.now c.loop-position.unit xs c.loop-position.position (copy_of (w.in-Some.place, w.in-Some.pdu)) (sym w.in-Some.ensures.value))) c.loop-position.invariant)
       | in_default w ↦ absurd (none_within xs c.loop-position.position
           (let a = c.loop-position-test.true in let b = c.len-position-end.ensures.value in omega arith)
           (ap (option_map copy_of) (sym w.in_default.is) ∙ c.get.ensures.value))

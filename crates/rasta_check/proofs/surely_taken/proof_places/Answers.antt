@@ -1,7 +1,7 @@
-use Rattle.std.proofs.Common.{◌+◌, ◌∙◌, drop, ap, sym, arith}
+use Rattle.std.proofs.Common.{◌∙◌, ap, sym, arith}
 use Rattle.std.specs.Option.{option_map}
 use Rattle.rasta_check.specs.Capture.Lists.{copy_of}
-use Rattle.rasta_check.specs.Internals.Listing.{proofs_from, with_proofs}
+use Rattle.rasta_check.specs.Internals.Listing.{with_proofs}
 use Rattle.rasta_check.proofs.Verdict.ListSteps.{proofs_more, proofs_end}
 use Rattle.rasta_check.proofs.Lists.{none_within}
 use Rattle.rasta_check.proofs.surely_taken.proof_places.Goals as goal
@@ -12,8 +12,8 @@ loop-position-preserved g c =
     let xs = g.S.SentList.content c.args.peer.now in
     elim c.match-get.branch [
       | in-Some+in_ok-add_proofs w ↦
-          (λ i. proofs_from c.args.end.now.state (w.places-is i).items (drop (c.loop-position.position + 1) xs))
-          ∙ (proofs_more _ xs c.loop-position.position (copy_of (w.in-Some.place, w.in-Some.pdu)) _ _ (sym w.in-Some.ensures.value) (w.in_ok-add_proofs.ensures ∙ ap (λ n. with_proofs c.loop-position.places.items n w.in-Some.place) w.units_shown.ensures)
+          rw w.places-is
+          (proofs_more _ xs c.loop-position.position (copy_of (w.in-Some.place, w.in-Some.pdu)) _ _ (sym w.in-Some.ensures.value) (w.in_ok-add_proofs.ensures ∙ ap (λ n. with_proofs c.loop-position.places.items n w.in-Some.place) w.units_shown.ensures)
           ∙ c.loop-position.invariant)
       | in_default w ↦ absurd (none_within xs c.loop-position.position
           (let a = c.loop-position-test.true in let b = c.len-position-end.ensures.value in omega arith)

@@ -17,6 +17,4 @@ pub invariant_of-self-2 : goal.invariant_of-self-2
 invariant_of-self-2 g c =
     let after = ap (λ (e : JudgedEnd). e.state.accepted) c.in_default.ensures.ok.1 in
     let most = accepted_after c.self.inside.end.params c.self.inside.end.state (value_of c.in-Ok.found.1).safety in
-    let before = c.self.invariant.0 in
-    let made = c.self.invariant.1 in
-    (omega (arith, after, most, before), omega (arith, made))
+    (omega (arith, after, most, c.self.invariant.0), omega (arith, c.self.invariant.1))
