@@ -1,9 +1,8 @@
 -- What belongs to each side, and sides that are compared.
 use Rattle.std.proofs.Common.{◌≡◌, true, false, not, arith}
+use Rattle.rasta_check.proofs.Prelude.{Side, Client, Server}
 use denote.Enum.Bare.{sameb}
 use Rattle.rasta_pcap.specs.contracts.fault.Side.{the_type}
-use Rattle.rasta_pcap.specs.declared.fault.Side.{Side}
-use Rattle.rasta_pcap.specs.declared.fault.Side.TheVariants.{Client, Server}
 
 abbrev pub sided : (P : Side → Type 0) → P Client → P Server → (x : Side) → P x
 sided P c s Client = c

@@ -1,14 +1,12 @@
 -- Packets are found on recorded channels.
 use Rattle.std.proofs.Common.{◌≡◌, ℕ, ◌+◌, ◌<◌, ◌≤◌, List, [], ◌∷◌, ◌++◌, length, Option, Some, Result, Ok, refl, ap, sym, ◌∙◌, arith, subst}
-use Rattle.std.specs.Prelude.{slice_range, if◌then◌else◌, true, false, None, Err, IfOk, IfSome}
+use Rattle.rasta_check.proofs.Prelude.{if◌then◌else◌, None, Fault, Packet, packet_in, packet_of, Parameters, CrossRecorded, all_push}
+use Rattle.std.specs.Prelude.{slice_range, true, false, Err, IfOk, IfSome}
 use Rattle.std.specs.List.{find}
-use Rattle.rasta_pcap.specs.declared.fault.Fault.{Fault}
 use Rattle.rasta_udp.specs.declared.channel.Channel.{Channel}
 use Rattle.rasta_udp.specs.declared.channel.Datagram.{Datagram}
-use Rattle.rasta_udp.specs.Frame.{Direction, Fields, Found, Packet, directions_from, direction_of, fields_of, goes, found_by, is_tagged, map_found, untagged_of, without_tag, moved_on, datagram_of, packet_at, packet_in, packet_of}
-use Rattle.rasta_pdu.specs.Params.{Parameters}
-use Rattle.rasta_check.specs.Capture.Crossing.{CrossRecorded, IsRecorded}
-use Rattle.rasta_check.proofs.Lists.{all_push}
+use Rattle.rasta_udp.specs.Frame.{Direction, Fields, Found, directions_from, direction_of, fields_of, goes, found_by, is_tagged, map_found, untagged_of, without_tag, moved_on, datagram_of, packet_at}
+use Rattle.rasta_check.specs.Capture.Crossing.{IsRecorded}
 
 -- a channel's number is one of so many from this one on
 abbrev Among : ℕ → ℕ → ℕ → Type 0

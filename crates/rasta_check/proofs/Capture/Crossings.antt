@@ -1,38 +1,24 @@
 -- A crossing goes on with a packet that has no fault.
 use Rattle.std.proofs.Common.{◌≡◌, ℕ, ◌+◌, ◌<◌, ◌≤◌, ◌++◌, Bool, true, List, [], ◌∷◌, Option, Some, None, Result, Ok, Err, length, slice_get, refl, ap, sym, ◌∙◌, arith, subst, not, nat_lt, is_some, if◌then◌else◌, IfSome}
-use Rattle.std.specs.Prelude.{◌&&◌, ◌||◌}
-use Rattle.std.specs.Option.{option_map}
-use Rattle.std.proofs.lemmas.List.{length_push}
-use Rattle.std.proofs.lemmas.Option.{slice_get_within}
-use Rattle.std.specs.Str.{bytes_eq}
-use Rattle.std.proofs.lemmas.Slice.Eq.{bytes_eq-Decides}
-use Rattle.rasta_pcap.specs.declared.fault.Fault.{Fault}
-use Rattle.rasta_pcap.specs.Fault.{copy_differs, number_gap}
-use Rattle.rasta_pcap.specs.declared.fault.Side.{Side}
-use Rattle.rasta_pcap.specs.declared.fault.Side.TheVariants.{Client, Server}
-use Rattle.rasta_udp.specs.Frame.{Packet}
-use Rattle.rasta_pdu.specs.Params.{Parameters, AreParameters}
-use Rattle.rasta_pdu.specs.Messages.{AreBytes}
-use Rattle.rasta_pdu.specs.Pdu.{RedundancyPdu, redundancy_bytes, decode_of, value_of}
+use Rattle.rasta_check.proofs.Prelude.{◌&&◌, ◌||◌, option_map, length_push, slice_get_within, bytes_eq, bytes_eq-Decides, Fault, number_gap, Side, Client, Server, Packet}
+use Rattle.rasta_check.proofs.Prelude.{Parameters, AreParameters, AreBytes, RedundancyPdu, redundancy_bytes, decode_of, value_of, wrapped, FirstCopy, Sent, Spells, copy_with}
+use Rattle.rasta_check.proofs.Prelude.{is_next_number, packet_fault, CrossRecorded, OfConnection, copy_of, Pdu, Crossing, IsCrossing, sent_by, sent_after, with_packet}
+use Rattle.rasta_check.proofs.Prelude.{crossing_with, is_within, nat_tests, mapped_some}
+use Rattle.rasta_pcap.specs.Fault.{copy_differs}
 use Rattle.std.proofs.lemmas.Nat.{from_le_bytes-to_le_bytes_4}
 use Rattle.rasta_pdu.proofs.Spellings.{decode_of-Ok}
-use Rattle.rasta_end.specs.State.{wrapped}
-use Rattle.rasta_check.specs.Capture.Crossing.{FirstCopy, Sent, Spells, copy_with, is_next_number, number_fault, number_in_bytes, read_fault, packet_fault}
-use Rattle.rasta_check.specs.Capture.Crossing.{CrossRecorded, IsRecorded}
-use Rattle.rasta_check.specs.Model.Theorem.{OfConnection, most_packets}
+use Rattle.rasta_check.specs.Capture.Crossing.{number_fault, number_in_bytes, read_fault}
+use Rattle.rasta_check.specs.Capture.Crossing.{IsRecorded}
+use Rattle.rasta_check.specs.Model.Theorem.{most_packets}
 use Rattle.rasta_check.specs.Model.World.{most_sent}
 use Rattle.rasta_check.specs.Internals.Packets.{with_new}
-use Rattle.rasta_check.specs.Capture.Lists.{copy_of}
-use Rattle.rasta_pdu.specs.declared.pdu.Pdu.{Pdu}
-use Rattle.rasta_check.specs.Capture.Reading.{Crossing, IsCrossing, sent_by, after_pdu, after_read, sent_after, with_packet, crossing_with, is_within}
+use Rattle.rasta_check.specs.Capture.Reading.{after_pdu, after_read}
 use Rattle.rasta_check.proofs.Capture.FaultlessLists.{IsSent, ordered}
 use Rattle.rasta_check.proofs.Capture.ListForms.{to_record, of_record}
 use Rattle.rasta_check.proofs.Capture.FirstCopies.{sent_copy, sent_first, sent_other}
 use Rattle.rasta_check.proofs.Capture.NextPackets.{counted}
-use Rattle.std.proofs.lemmas.Bool.Decides.{nat_tests}
 use Rattle.rasta_check.proofs.Capture.PacketFaults.{copy_found, passed}
 use Rattle.rasta_check.proofs.Capture.Channels.{recorded_more}
-use Rattle.rasta_check.proofs.Lists.{mapped_some}
 use Rattle.rasta_check.proofs.Capture.Positions.{next_new}
 
 next_of : (os : List FirstCopy) (n : ℕ) → is_next_number os n ≡ true → (c : FirstCopy) → slice_get os 0 ≡ Some c → n ≡ wrapped (c.pdu.number + length os)

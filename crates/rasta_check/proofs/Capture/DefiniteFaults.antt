@@ -1,18 +1,11 @@
 -- A fault of a side is definite, over the records of a file.
 use Rattle.std.proofs.Common.{◌≡◌, ℕ, suc, ◌≤◌, List, [], ◌∷◌, ◌++◌, length, append_assoc, Some, Err, ap, sym, ◌∙◌, arith, subst, le-ltb}
+use Rattle.rasta_check.proofs.Prelude.{length_push, Fault, IsCapture, opening, reading_of, bytes_of, reading_of-IsCapture, Packet, Parameters, AreBytes, FirstCopy, Sent}
+use Rattle.rasta_check.proofs.Prelude.{crossing_list, packet_fault, OfConnection, crossing_of, in_header}
 use Rattle.std.specs.Prelude.{IsSome}
-use Rattle.std.proofs.lemmas.List.{length_push}
-use Rattle.rasta_pcap.specs.declared.fault.Fault.{Fault}
-use Rattle.rasta_pcap.specs.Capture.{IsCapture, opening, reading_of, bytes_of}
 use Rattle.rasta_pcap.proofs.Headers.{opening-fault_place}
-use Rattle.rasta_pcap.proofs.Captures.{IsRefused-place, reading_of-IsCapture}
-use Rattle.rasta_udp.specs.Frame.{Packet}
-use Rattle.rasta_pdu.specs.Params.{Parameters}
-use Rattle.rasta_pdu.specs.Messages.{AreBytes}
-use Rattle.rasta_check.specs.Capture.Crossing.{FirstCopy, Sent, crossing_list, packet_fault}
-use Rattle.rasta_check.specs.Model.Theorem.{OfConnection}
-use Rattle.rasta_check.specs.Capture.Reading.{crossing_of}
-use Rattle.rasta_check.specs.Capture.Faults.{in_frame, in_packet, in_limits, Impossible, IsRefusedCapture, in_header, in_reading, in_record, packets_through}
+use Rattle.rasta_pcap.proofs.Captures.{IsRefused-place}
+use Rattle.rasta_check.specs.Capture.Faults.{in_frame, in_packet, in_limits, Impossible, IsRefusedCapture, in_reading, in_record, packets_through}
 use Rattle.rasta_check.proofs.Capture.PacketFaults.{faultless}
 use Rattle.rasta_check.proofs.Capture.NextPackets.{definite}
 use Rattle.rasta_check.proofs.Capture.ListForms.{to_record}

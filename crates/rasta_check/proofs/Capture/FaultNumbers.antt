@@ -1,21 +1,15 @@
 -- The numbers of a capture's faults: those of a packet are 20 to 28 and name its side, all others are lower and name none.
 use Rattle.std.proofs.Common.{◌≡◌, ℕ, ◌<◌, ◌≤◌, List, length, Option, Some, None, Result, Err, refl, ap, arith, subst, inl, inr}
+use Rattle.rasta_check.proofs.Prelude.{dec_lt, yes, no, Fault, Side, no_memory, number_gap, Numbered, next, opening, reading_of, Packet, packet_in, Parameters, Kind, decode_of}
+use Rattle.rasta_check.proofs.Prelude.{FirstCopy, packet_fault, Crossing, crossing_of, sent_by}
 use Rattle.std.specs.Prelude.{IsSome, IfErr, IfSome, ◌↔◌}
-use native.Mathlib.Decide.{dec_lt}
-use Prim.{yes, no}
-use Rattle.rasta_pcap.specs.declared.fault.Fault.{Fault}
-use Rattle.rasta_pcap.specs.declared.fault.Side.{Side}
-use Rattle.rasta_pcap.specs.Fault.{no_memory, not_pcap, redundancy_length, number_gap}
-use Rattle.rasta_pcap.specs.Capture.{Cursor, Numbered, next, opening, reading_of}
+use Rattle.rasta_pcap.specs.Fault.{not_pcap, redundancy_length}
+use Rattle.rasta_pcap.specs.Capture.{Cursor}
 use Rattle.rasta_pcap.proofs.Captures.{IsRefused-place, IsRefused-reading_of, opening-by_reading_of}
 use Rattle.rasta_pcap.proofs.Headers.{opening-fault_place}
 use Rattle.rasta_udp.specs.declared.channel.Channel.{Channel}
-use Rattle.rasta_udp.specs.Frame.{Fields, Packet, found_by, datagram_of, map_found, packet_in}
-use Rattle.rasta_pdu.specs.Params.{Parameters}
-use Rattle.rasta_pdu.specs.declared.kind.Kind.{Kind}
-use Rattle.rasta_pdu.specs.Pdu.{decode_kind, decode_of}
-use Rattle.rasta_check.specs.Capture.Crossing.{FirstCopy, packet_fault}
-use Rattle.rasta_check.specs.Capture.Reading.{Crossing, crossing_of, sent_by}
+use Rattle.rasta_udp.specs.Frame.{Fields, found_by, datagram_of, map_found}
+use Rattle.rasta_pdu.specs.Pdu.{decode_kind}
 use Rattle.rasta_check.proofs.Capture.Readings.{Leads, Step, bad_frame, bad_packet, no_room, file_leads}
 
 -- ---- faults that name no side

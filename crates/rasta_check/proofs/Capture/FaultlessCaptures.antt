@@ -1,20 +1,12 @@
 -- A capture is read without a fault exactly where it has none.
 use Rattle.std.proofs.Common.{◌≡◌, ℕ, suc, ◌≤◌, List, [], ◌∷◌, ◌++◌, length, append_assoc, length-append, Option, Some, None, Result, Ok, Err, true, false, refl, ap, sym, ◌∙◌, arith, subst, nat_lt, inl, inr}
+use Rattle.rasta_check.proofs.Prelude.{length_push, nat_tests, Fault, Side, Client, Server, reading_of, bytes_of, reading_of-IsCapture, IsCapture-reading_of, Packet, packet_in}
+use Rattle.rasta_check.proofs.Prelude.{Parameters, AreParameters, AreBytes, FirstCopy, Sent, crossing_list, packet_fault, OfConnection, Crossing, IsCrossing, after_records}
+use Rattle.rasta_check.proofs.Prelude.{crossing_of, is_within, nothing_crossed, sent_after, sent_by, with_packet, all_front}
 use Rattle.std.specs.Prelude.{IsOk}
-use Rattle.std.proofs.lemmas.List.{length_push}
-use Rattle.std.proofs.lemmas.Bool.Decides.{nat_tests}
-use Rattle.rasta_pcap.specs.declared.fault.Fault.{Fault}
-use Rattle.rasta_pcap.specs.declared.fault.Side.{Side}
-use Rattle.rasta_pcap.specs.declared.fault.Side.TheVariants.{Client, Server}
-use Rattle.rasta_pcap.specs.Capture.{reading_of, bytes_of}
-use Rattle.rasta_pcap.proofs.Captures.{reading_of-IsCapture, IsCapture-reading_of}
-use Rattle.rasta_udp.specs.Frame.{Packet, packet_in}
-use Rattle.rasta_pdu.specs.Params.{Parameters, AreParameters}
-use Rattle.rasta_pdu.specs.Messages.{AreBytes}
-use Rattle.rasta_check.specs.Capture.Crossing.{FirstCopy, Sent, crossing_list, packet_fault}
-use Rattle.rasta_check.specs.Model.Theorem.{OfConnection, most_packets}
+use Rattle.rasta_check.specs.Model.Theorem.{most_packets}
 use Rattle.rasta_check.specs.Model.World.{most_sent}
-use Rattle.rasta_check.specs.Capture.Reading.{Crossing, IsCrossing, after_records, at_end, crossing_of, is_within, nothing_crossed, sent_after, sent_by, with_packet}
+use Rattle.rasta_check.specs.Capture.Reading.{at_end}
 use Rattle.rasta_check.specs.Capture.Faults.{AreFaultless, CrossedIn, IsFaultlessCapture, sent_of}
 use Rattle.rasta_check.proofs.Capture.FaultlessLists.{IsSent}
 use Rattle.rasta_check.proofs.Capture.Crossings.{list_of, few_of, is_read, goes_on}
@@ -23,7 +15,7 @@ use Rattle.rasta_check.proofs.Capture.NextPackets.{can_follow, cut}
 use Rattle.rasta_check.proofs.Capture.ListForms.{to_record}
 use Rattle.rasta_check.proofs.Capture.RecordBytes.{AllBytes, file_bytes, payload_bytes}
 use Rattle.rasta_check.proofs.Capture.Readings.{AreSound, Crossed, Leads, Step, bad_frame, bad_packet, no_room, crossing_by, file_leads, numbered, numbered_of, packets_in, packets_with, records_lead, window, window_with}
-use Rattle.rasta_check.proofs.Lists.{all_at, all_front}
+use Rattle.rasta_check.proofs.Lists.{all_at}
 use Rattle.rasta_check.proofs.Capture.FirstCopies.{sent_once}
 
 -- ---- what is read without a fault

@@ -1,13 +1,7 @@
 -- Sent lists as the proofs use them: the list and the absence of faults in one record.
 use Rattle.std.proofs.Common.{◌≡◌, ℕ, suc, ◌+◌, ◌<◌, ◌≤◌, List, Some, slice_get, sym, ◌∙◌}
-use Rattle.rasta_pcap.specs.declared.fault.Side.{Side}
-use Rattle.rasta_udp.specs.Frame.{Packet}
-use Rattle.rasta_pdu.specs.Params.{Parameters, AreParameters}
-use Rattle.rasta_pdu.specs.Pdu.{RedundancyPdu}
+use Rattle.rasta_check.proofs.Prelude.{Side, Packet, Parameters, AreParameters, RedundancyPdu, wrapped, FirstCopy, Spells, IsOrdered}
 use Rattle.rasta_pdu.proofs.Spellings.{redundancy_bytes-injective}
-use Rattle.rasta_end.specs.State.{wrapped}
-use Rattle.rasta_check.specs.Capture.Crossing.{FirstCopy, Spells}
-use Rattle.rasta_check.specs.Capture.Lists.{IsOrdered}
 
 -- these are the first copies of a side, in the order in which they crossed
 pub record IsSent (p : Parameters) (packets : List Packet) (side : Side) (sent : List FirstCopy) : Type 0 where

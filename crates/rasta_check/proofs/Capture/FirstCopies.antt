@@ -1,18 +1,9 @@
 -- The first copies of a growing list of packets, and that a list of packets has one list of first copies.
 use Rattle.std.proofs.Common.{◌≡◌, ℕ, zero, suc, ◌+◌, ◌<◌, ◌≤◌, List, [], ◌∷◌, ◌++◌, length, Option, Some, None, slice_get, append-nil, refl, ap, sym, ◌∙◌, arith, ⊎_elim, subst}
-use Rattle.std.proofs.lemmas.List.{length_push}
-use Rattle.std.proofs.lemmas.Option.{slice_get_past, slice_get_within}
-use native.Mathlib.Decide.{dec_lt}
-use Prim.{yes, no}
-use Rattle.rasta_pcap.specs.declared.fault.Side.{Side}
-use Rattle.rasta_end.specs.State.{wrapped}
-use Rattle.rasta_pdu.specs.Pdu.{RedundancyPdu}
-use Rattle.rasta_check.specs.Capture.Crossing.{Spells, FirstCopy}
-use Rattle.rasta_udp.specs.Frame.{Packet}
+use Rattle.rasta_check.proofs.Prelude.{length_push, slice_get_past, slice_get_within, dec_lt, yes, no, Side, wrapped, RedundancyPdu, Spells, FirstCopy, Packet, all_push}
+use Rattle.rasta_check.proofs.Prelude.{begins_with, get_next, get_push_cases, get_front, get_front_within, get_push, slice_get_some, Parameters, AreParameters}
 use Rattle.rasta_check.proofs.Capture.FaultlessLists.{IsSent, ordered, read_once}
-use Rattle.rasta_check.proofs.Lists.{all_push, begins_with, get_next, get_push_cases, get_front, get_front_within, get_push, slice_get_some}
 use Rattle.rasta_check.proofs.Capture.Positions.{not_again, places_rise}
-use Rattle.rasta_pdu.specs.Params.{Parameters, AreParameters}
 
 old_first : (p : Parameters) (xs : List Packet) (k : Packet) (s : Side) (own : List FirstCopy) → IsSent p xs s own → (i : ℕ) (c : FirstCopy) → slice_get own i ≡ Some c
     → (b : Packet) × (slice_get (xs ++ k ∷ []) c.place ≡ Some b) × (b.side ≡ s) × Spells p s c.pdu b.payload

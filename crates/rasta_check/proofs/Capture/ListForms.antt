@@ -1,9 +1,6 @@
 -- The sent list of the definition, with no faults, and the record that the proofs use are the same.
 use Rattle.std.proofs.Common.{◌<◌, List, length}
-use Rattle.rasta_pcap.specs.declared.fault.Side.{Side}
-use Rattle.rasta_udp.specs.Frame.{Packet}
-use Rattle.rasta_pdu.specs.Params.{Parameters, AreParameters}
-use Rattle.rasta_check.specs.Capture.Crossing.{FirstCopy, Sent}
+use Rattle.rasta_check.proofs.Prelude.{Side, Packet, Parameters, AreParameters, FirstCopy, Sent}
 use Rattle.rasta_check.proofs.Capture.FaultlessLists.{IsSent}
 use Rattle.rasta_check.proofs.Script.OneWay.{carried_at, first_is_new, new_is_first}
 

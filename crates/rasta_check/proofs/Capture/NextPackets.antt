@@ -1,20 +1,11 @@
 -- Which packet may come next.
 use Rattle.std.proofs.Common.{◌≡◌, ℕ, zero, suc, ◌+◌, ◌^◌, ◌<◌, ◌≤◌, ◌⊎◌, List, [], ◌∷◌, ◌++◌, length, Some, slice_get, refl, ap, sym, ◌∙◌, arith, inl, inr, subst}
-use Rattle.std.proofs.lemmas.Option.{slice_get_within}
-use native.Mathlib.Decide.{dec_lt}
-use Prim.{yes, no}
-use Rattle.rasta_pcap.specs.declared.fault.Side.{Side}
-use Rattle.rasta_pdu.specs.Params.{Parameters, AreParameters}
-use Rattle.rasta_end.specs.State.{wrapped}
-use Rattle.rasta_pdu.specs.Pdu.{RedundancyPdu}
-use Rattle.rasta_check.specs.Capture.Crossing.{Spells, FirstCopy}
-use Rattle.rasta_udp.specs.Frame.{Packet}
-use Rattle.rasta_check.specs.Model.World.{World, Reaches}
+use Rattle.rasta_check.proofs.Prelude.{slice_get_within, dec_lt, yes, no, Side, Parameters, AreParameters, wrapped, RedundancyPdu, Spells, FirstCopy, Packet, World, Reaches}
+use Rattle.rasta_check.proofs.Prelude.{slice_get_some, get_next}
 use Rattle.rasta_check.proofs.Capture.FaultlessLists.{IsSent, ordered}
 use Rattle.rasta_end.proofs.Lists.{get_front, get_front_within}
 use Rattle.rasta_check.proofs.Capture.FirstCopies.{sent_once, Counts_from}
 use Rattle.rasta_check.proofs.Script.ScriptsOfRuns.{told_by}
-use Rattle.rasta_check.proofs.Lists.{slice_get_some, get_next}
 use Rattle.rasta_check.proofs.Capture.Positions.{places_rise}
 
 -- it says something, and its number has crossed with the same bytes, or is the next, or is the first

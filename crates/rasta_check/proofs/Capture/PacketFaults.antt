@@ -1,16 +1,9 @@
 -- A packet that may come next has no fault.
 use Rattle.std.proofs.Common.{◌≡◌, ◌⊎◌, ℕ, zero, suc, ◌+◌, ◌<◌, Bool, true, false, List, [], ◌∷◌, Option, Some, None, Ok, length, slice_get, refl, ap, sym, ◌∙◌, arith, inl, inr, subst}
-use Rattle.std.specs.Prelude.{◌==◌, if◌then◌else◌}
-use Rattle.std.proofs.lemmas.Bool.Decides.{nat_tests}
-use Rattle.std.proofs.lemmas.Slice.Eq.{bytes_eq-Decides}
-use Rattle.rasta_pcap.specs.declared.fault.Side.{Side}
-use Rattle.rasta_udp.specs.Frame.{Packet}
-use Rattle.rasta_pdu.specs.Params.{Parameters}
-use Rattle.rasta_pdu.specs.Pdu.{RedundancyPdu, redundancy_bytes, decode_of}
+use Rattle.rasta_check.proofs.Prelude.{◌==◌, if◌then◌else◌, nat_tests, bytes_eq-Decides, Side, Packet, Parameters, RedundancyPdu, redundancy_bytes, decode_of, wrapped, FirstCopy}
+use Rattle.rasta_check.proofs.Prelude.{Spells, copy_with, is_next_number, OfConnection}
 use Rattle.rasta_pdu.proofs.Spellings.{decode_of-redundancy_bytes}
-use Rattle.rasta_end.specs.State.{wrapped}
-use Rattle.rasta_check.specs.Capture.Crossing.{FirstCopy, Spells, copy_with, is_next_number, repeat_fault, number_fault, read_fault}
-use Rattle.rasta_check.specs.Model.Theorem.{OfConnection}
+use Rattle.rasta_check.specs.Capture.Crossing.{repeat_fault, number_fault, read_fault}
 use Rattle.rasta_check.proofs.Capture.FaultlessLists.{IsSent, ordered}
 use Rattle.rasta_check.proofs.Capture.NextPackets.{CanFollow}
 use Rattle.rasta_check.proofs.Capture.Positions.{next_new, number_once}

@@ -1,14 +1,9 @@
 -- Positions in ordered lists of first copies.
 use Rattle.std.proofs.Common.{◌≡◌, ℕ, zero, suc, ◌+◌, ◌-◌, ◌%◌, ◌^◌, ◌<◌, ◌≤◌, ◌++◌, Bool, false, nat_eq, List, [], ◌∷◌, Some, None, length, get_or, map, slice_get, position, refl, ap, sym, ◌∙◌, arith, subst, if◌then◌else◌, take, drop}
-use Rattle.std.specs.Option.{option_map}
-use Rattle.std.proofs.lemmas.Bool.Decides.{nat_tests}
-use Rattle.std.proofs.lemmas.List.{length_push, map-append, take-append-drop}
+use Rattle.rasta_check.proofs.Prelude.{option_map, nat_tests, length_push, map-append, take-append-drop, slice_get_within, slice_get-get_or, wrapped, FirstCopy, IsOrdered}
+use Rattle.rasta_check.proofs.Prelude.{position_of_number, position_of_place, get_front, get_mapped, get_push, mapped_some, slice_get_some}
 use Rattle.std.proofs.lemmas.List.Quantifiers.{position-Some}
-use Rattle.std.proofs.lemmas.Option.{slice_get_within, slice_get-get_or}
-use Rattle.rasta_end.specs.State.{wrapped}
-use Rattle.rasta_check.specs.Capture.Crossing.{FirstCopy}
-use Rattle.rasta_check.specs.Capture.Lists.{IsOrdered, places_of, position_of_number, position_of_place, AreMarks, marked}
-use Rattle.rasta_check.proofs.Lists.{get_front, get_mapped, get_push, mapped_some, slice_get_some}
+use Rattle.rasta_check.specs.Capture.Lists.{places_of, AreMarks, marked}
 
 -- ---- the first member with a number
 

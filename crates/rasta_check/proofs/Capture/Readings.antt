@@ -1,30 +1,25 @@
 -- Crossings record by record.
 use Rattle.std.proofs.Common.{◌≡◌, ◌⊎◌, ℕ, List, [], ◌∷◌, ◌++◌, suc, ◌+◌, ◌-◌, ◌<◌, length, map, drop, append_assoc, append-nil, Option, Some, None, Result, Ok, Err, Bool, true, false, refl, ap, sym, ◌∙◌, arith, subst, nat_lt, if◌then◌else◌, inl, inr}
+use Rattle.rasta_check.proofs.Prelude.{nat_tests, length_push, Side, Client, Server, fault_of_end, IsCapture-reading_of, reading_of-IsCapture, Packet, packet_in, FirstCopy}
+use Rattle.rasta_check.proofs.Prelude.{crossing_list, packet_fault, Fault, Numbered, IsCapture, next, cursor_after, opening, reading, reading_of, bytes_of, Parameters}
+use Rattle.rasta_check.proofs.Prelude.{AreParameters, Crossing, IsCrossing, and_then, after_record, after_records, after_reading, crossing_of, crossing_with, is_within}
+use Rattle.rasta_check.proofs.Prelude.{nothing_crossed, sent_after, sent_by, with_packet, AreBytes, OfConnection, all_front}
 use Rattle.std.specs.Prelude.{IsOk}
 use Rattle.std.specs.List.{AllByRecursion, filter_map, range_with_len, cons_option}
 use Rattle.std.proofs.Math.ListN.{drop_of_length-le}
-use Rattle.std.proofs.lemmas.Bool.Decides.{nat_tests}
-use Rattle.std.proofs.lemmas.List.{drop-append-le, length_push}
+use Rattle.std.proofs.lemmas.List.{drop-append-le}
 use Rattle.std.proofs.lemmas.List.Elements.{filter_map-append}
 use Rattle.std.specs.Option.{option_flatten}
 use Rattle.std.specs.Result.{result_ok}
-use Rattle.rasta_pcap.specs.declared.fault.Side.{Side}
-use Rattle.rasta_pcap.specs.declared.fault.Side.TheVariants.{Client, Server}
-use Rattle.rasta_pcap.specs.Fault.{fault_at, fault_of_end, too_many}
-use Rattle.rasta_pcap.proofs.Captures.{IsCapture-reading_of, reading_of-IsCapture, numbers-reading_of}
-use Rattle.rasta_udp.specs.Frame.{Packet, packet_in}
-use Rattle.rasta_check.specs.Capture.Crossing.{FirstCopy, crossing_list, packet_fault}
-use Rattle.rasta_pcap.specs.declared.fault.Fault.{Fault}
-use Rattle.rasta_pcap.specs.Capture.{Cursor, Numbered, IsCapture, next, cursor_after, opening, read_step, reading, reading_of, bytes_of}
+use Rattle.rasta_pcap.specs.Fault.{fault_at, too_many}
+use Rattle.rasta_pcap.proofs.Captures.{numbers-reading_of}
+use Rattle.rasta_pcap.specs.Capture.{Cursor, read_step}
 use Rattle.rasta_pcap.proofs.Steps.{reading_of-opened, reading_of-refused}
-use Rattle.rasta_pdu.specs.Params.{Parameters, AreParameters}
-use Rattle.rasta_check.specs.Capture.Reading.{Crossing, IsCrossing, and_then, at_end, after_frame, after_judged, after_packet, after_record, after_records, after_reading, crossing_of, crossing_with, is_within, nothing_crossed, sent_after, sent_by, with_packet}
+use Rattle.rasta_check.specs.Capture.Reading.{at_end, after_frame, after_judged, after_packet}
 use Rattle.rasta_check.proofs.Capture.Channels.{is_recorded}
-use Rattle.rasta_pdu.specs.Messages.{AreBytes}
-use Rattle.rasta_check.specs.Model.Theorem.{OfConnection}
 use Rattle.rasta_check.proofs.Capture.Crossings.{crossing_of_lists, is_read, grown_crossing}
 use Rattle.rasta_check.proofs.Capture.FirstCopies.{sent_none}
-use Rattle.rasta_check.proofs.Lists.{all_append, all_at, all_front}
+use Rattle.rasta_check.proofs.Lists.{all_append, all_at}
 use Rattle.rasta_check.proofs.Capture.RecordBytes.{AllBytes, payload_bytes}
 
 -- what is next leads on

@@ -1,13 +1,10 @@
 -- The records of a file of bytes are bytes, and so are the payloads of their packets.
 use Rattle.std.proofs.Common.{◌≡◌, ℕ, zero, suc, ◌-◌, List, drop, Option, Some, None, Result, Ok, Err, refl, ap, sym, subst}
+use Rattle.rasta_check.proofs.Prelude.{Fault, Numbered, next, cursor_after, opening, reading, reading_of, bytes_of, Packet, packet_in, Parameters, AreBytes}
 use Rattle.std.specs.List.{AllByRecursion}
-use Rattle.rasta_pcap.specs.declared.fault.Fault.{Fault}
-use Rattle.rasta_pcap.specs.Capture.{Cursor, Numbered, next, cursor_after, next_length, opening, read_step, reading, reading_of, reading_opened, bytes_of}
+use Rattle.rasta_pcap.specs.Capture.{Cursor, next_length, read_step, reading_opened}
 use Rattle.rasta_pcap.proofs.Steps.{next-is_next_entry}
 use Rattle.rasta_pcap.proofs.Headers.{opening-is_header}
-use Rattle.rasta_udp.specs.Frame.{Packet, packet_in}
-use Rattle.rasta_pdu.specs.Params.{Parameters}
-use Rattle.rasta_pdu.specs.Messages.{AreBytes}
 use Rattle.rasta_pdu.proofs.Numbers.{AreBytes-take, AreBytes-drop}
 use Rattle.rasta_check.proofs.Capture.Channels.{in_range}
 

@@ -1,24 +1,15 @@
 -- The first fault of a capture is the one that is read.
 use Rattle.std.proofs.Common.{◌≡◌, ◌⊎◌, ℕ, zero, suc, ◌+◌, ◌≤◌, List, [], ◌∷◌, ◌++◌, length, take, drop, append_assoc, length-append, Option, Some, None, Result, Ok, Err, Bool, true, false, refl, ap, sym, ◌∙◌, add-one, arith, subst, le-ltb, inl, inr}
-use Rattle.std.proofs.lemmas.List.{length_push, take-append-drop}
+use Rattle.rasta_check.proofs.Prelude.{length_push, take-append-drop, dec_lt, yes, no, nat_tests, Fault, Side, IsCapture, cursor_after, opening, reading, reading_of, bytes_of}
+use Rattle.rasta_check.proofs.Prelude.{IsCapture-reading_of, reading_of-IsCapture, Parameters, AreParameters, AreBytes, FirstCopy, packet_fault, OfConnection, Crossing}
+use Rattle.rasta_check.proofs.Prelude.{after_record, after_records, and_then, crossing_of, is_within, nothing_crossed, sent_by, with_packet, in_header, all_front}
 use Rattle.std.proofs.Math.Seq.{take-append-add}
-use native.Mathlib.Decide.{dec_lt}
-use Prim.{yes, no}
-use Rattle.std.proofs.lemmas.Bool.Decides.{nat_tests}
-use Rattle.rasta_pcap.specs.declared.fault.Fault.{Fault}
-use Rattle.rasta_pcap.specs.declared.fault.Side.{Side}
 use Rattle.rasta_pcap.specs.Fault.{fault_at, too_many}
-use Rattle.rasta_pcap.specs.Capture.{Cursor, IsCapture, Reading, cursor_after, opening, reading, reading_of, reading_opened, bytes_of}
-use Rattle.rasta_pcap.proofs.Captures.{IsCapture-reading_of, IsRefused-reading_of, opening-by_reading_of, reading_of-IsCapture, reading_of-IsRefused, reading_of-header_fault}
-use Rattle.rasta_pdu.specs.Params.{Parameters, AreParameters}
-use Rattle.rasta_pdu.specs.Messages.{AreBytes}
-use Rattle.rasta_check.specs.Capture.Crossing.{FirstCopy, packet_fault}
-use Rattle.rasta_check.specs.Model.Theorem.{OfConnection}
-use Rattle.rasta_check.specs.Capture.Reading.{Crossing, after_record, after_records, and_then, crossing_of, is_within, nothing_crossed, sent_by, with_packet}
-use Rattle.rasta_check.specs.Capture.Faults.{AreFaultless, HasFault, in_frame, in_packet, in_limits, IsFaultlessCapture, IsRefusedCapture, in_header, in_reading, in_record, sent_of}
+use Rattle.rasta_pcap.specs.Capture.{Cursor, Reading, reading_opened}
+use Rattle.rasta_pcap.proofs.Captures.{IsRefused-reading_of, opening-by_reading_of, reading_of-IsRefused, reading_of-header_fault}
+use Rattle.rasta_check.specs.Capture.Faults.{AreFaultless, HasFault, in_frame, in_packet, in_limits, IsFaultlessCapture, IsRefusedCapture, in_reading, in_record, sent_of}
 use Rattle.rasta_check.proofs.Capture.RecordBytes.{AllBytes, file_bytes}
 use Rattle.rasta_check.proofs.Capture.Readings.{Crossed, Leads, Step, after-refused, bad_frame, bad_packet, crossed_more, crossing_by, file_leads, joined, no_room, numbered, numbered_of, records_lead, step_is, then_by}
-use Rattle.rasta_check.proofs.Lists.{all_front}
 use Rattle.rasta_check.proofs.Capture.FaultlessCaptures.{IsFaulty, faultless_is_read, faultless_of, not_refused, read_is_faultless, records_are_read}
 
 -- ---- the first records of a file

@@ -1,6 +1,7 @@
 -- Datagrams one after the other, with one more.
 use Rattle.std.proofs.Common.{◌≡◌, ℕ, suc, ◌+◌, ◌-◌, ◌≤◌, List, [], ◌∷◌, ◌++◌, length, map, take, drop, Result, OnOk, slice_range, refl, ap, ◌∙◌, arith}
-use Rattle.std.proofs.lemmas.List.{drop-append-le, length-drop, map-append, take-append-le, take_all}
+use Rattle.rasta_check.proofs.Prelude.{map-append, take-append-le, take_all}
+use Rattle.std.proofs.lemmas.List.{drop-append-le, length-drop}
 use Rattle.std.proofs.Math.Seq.{drop-append_seam}
 use Rattle.rasta_check.specs.declared.datagrams.Span.{Span}
 use Rattle.rasta_check.specs.Internals.Datagrams.{AreWithin, kept_in}

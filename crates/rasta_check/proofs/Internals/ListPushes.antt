@@ -1,20 +1,13 @@
 -- Lists of first copies as vectors and maps hold them, with one more.
 use Rattle.std.proofs.Common.{◌≡◌, ℕ, suc, ◌+◌, ◌<◌, ◌++◌, List, [], ◌∷◌, Some, length, map, nat_eq, refl, ap, sym, ◌∙◌, arith, subst, if◌then◌else◌, slice_get}
+use Rattle.rasta_check.proofs.Prelude.{option_map, ◌==◌, nat_tests, length-map, length_push, Pdu, value_of, FirstCopy, copy_with, IsOrdered, copy_of, map_push}
 use Rattle.std.specs.HashMap.{HashMap}
 use Rattle.std.specs.Map.{keys_of, lookup}
-use Rattle.std.specs.Option.{option_map}
-use Rattle.std.specs.Prelude.{◌==◌}
-use Rattle.std.proofs.lemmas.Bool.Decides.{nat_tests}
-use Rattle.std.proofs.lemmas.List.{length-map, length_push}
 use Rattle.std.proofs.lemmas.Map.{NonePasses, lookup-none}
 use Rattle.indexmap.specs.IndexMap.{insert_entry}
 use Rattle.indexmap.proofs.CallerLemmas.{insert_entry-new}
-use Rattle.rasta_pdu.specs.declared.pdu.Pdu.{Pdu}
-use Rattle.rasta_pdu.specs.Pdu.{value_of}
-use Rattle.rasta_check.specs.Capture.Crossing.{FirstCopy, copy_with}
-use Rattle.rasta_check.specs.Capture.Lists.{IsOrdered, AreMarks, copy_of, copies_in, numbers_of, marked}
+use Rattle.rasta_check.specs.Capture.Lists.{AreMarks, copies_in, numbers_of, marked}
 use Rattle.rasta_check.proofs.Capture.Positions.{marks_pushed, number_new}
-use Rattle.rasta_check.proofs.Lists.{map_push}
 
 -- ---- marks
 

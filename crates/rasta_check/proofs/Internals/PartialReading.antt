@@ -1,17 +1,15 @@
 -- What was read of a capture and added so far, and what that says of every file that begins so.
 use Rattle.std.proofs.Common.{◌≡◌, ◌∙◌, ◌⊎◌, inl, inr, ◌++◌, append_assoc, ℕ, zero, suc, List, [], Option, Result, Ok, Err, true, false, refl, ap, sym, arith}
+use Rattle.rasta_check.proofs.Prelude.{Fault, cursor_after, opening, reading, Parameters, AreParameters, Crossing, after_reading, after_record, after_records, and_then}
+use Rattle.rasta_check.proofs.Prelude.{crossing_of, nothing_crossed, crossing_left, OfConnection}
 use Rattle.std.specs.Io.KnownBytes.{Consumes}
 use Rattle.std.proofs.KnownBytes.{Consumes-nil, Consumes-trans}
-use Rattle.rasta_pcap.specs.declared.fault.Fault.{Fault}
 use Rattle.rasta_pcap.specs.declared.stream.RecordReader.{RecordReader}
-use Rattle.rasta_pcap.specs.Capture.{cursor_after, cursor_at, opening, reading}
+use Rattle.rasta_pcap.specs.Capture.{cursor_at}
 use Rattle.rasta_pcap.specs.Stream.{FailsWithin, LacksMemory, MeetsEnd, Opens, ReadsRecord, ReadsSo, RefusesHeader, RefusesRecord, count_in, order_in}
 use Rattle.rasta_pcap.proofs.Steps.{next-nil}
 use Rattle.rasta_pcap.proofs.Streams.{ReadsSo-after}
-use Rattle.rasta_pdu.specs.Params.{Parameters, AreParameters}
-use Rattle.rasta_check.specs.Capture.Reading.{Crossing, after_reading, after_record, after_records, and_then, crossing_of, nothing_crossed}
-use Rattle.rasta_check.specs.Internals.Storing.{AddsRecord, IsFailure, IsRefusedSo, IsStored, crossing_left}
-use Rattle.rasta_check.specs.Model.Theorem.{OfConnection}
+use Rattle.rasta_check.specs.Internals.Storing.{AddsRecord, IsFailure, IsRefusedSo, IsStored}
 use Rattle.rasta_check.proofs.Capture.FaultNumbers.{NamesSide, file_names_side}
 use Rattle.rasta_check.proofs.Capture.FaultlessCaptures.{read_is_faultless}
 use Rattle.rasta_check.proofs.Capture.RefusedCaptures.{opening_faulty, read_is_faulty}

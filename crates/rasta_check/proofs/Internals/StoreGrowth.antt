@@ -1,25 +1,14 @@
 -- A store with one packet more.
 use Rattle.std.proofs.Common.{◌≡◌, ℕ, suc, ◌+◌, ◌<◌, List, [], ◌∷◌, ◌++◌, append_assoc, length, map, Bool, false, not, nat_eq, Option, Some, None, slice_get, refl, ap, sym, ◌∙◌, subst, arith, if◌then◌else◌}
-use Rattle.std.specs.Prelude.{is_some}
-use Rattle.rasta_check.specs.Model.Theorem.{OfConnection}
-use Rattle.std.proofs.lemmas.Bool.Decides.{nat_tests}
-use Rattle.std.proofs.lemmas.List.{append-nil, length-map, length_push, map-append}
-use Rattle.std.proofs.lemmas.Option.{slice_get_within}
-use Rattle.rasta_pcap.specs.declared.fault.Side.{Side}
-use Rattle.rasta_pcap.specs.declared.fault.Side.TheVariants.{Client, Server}
-use Rattle.rasta_udp.specs.Frame.{Packet}
-use Rattle.rasta_pdu.specs.Params.{Parameters, AreParameters}
+use Rattle.rasta_check.proofs.Prelude.{is_some, OfConnection, nat_tests, append-nil, length-map, length_push, map-append, slice_get_within, Side, Client, Server, Packet}
+use Rattle.rasta_check.proofs.Prelude.{Parameters, AreParameters, RedundancyPdu, redundancy_bytes, StoredPacket, FirstCopy, Spells, Kept, KeptDatagrams, kept_by, IsOrdered}
+use Rattle.rasta_check.proofs.Prelude.{position_of_place, Crossing, IsCrossing, crossing_with, sent_by, sent_after, with_packet, IsStore, crossing_by, get_front, get_push}
+use Rattle.rasta_check.proofs.Prelude.{slice_get_some, all_push}
 use Rattle.rasta_pdu.proofs.Spellings.{length-redundancy_bytes}
-use Rattle.rasta_pdu.specs.Pdu.{RedundancyPdu, redundancy_bytes}
-use Rattle.rasta_check.specs.declared.crossing_store.StoredPacket.{StoredPacket}
-use Rattle.rasta_check.specs.Capture.Crossing.{FirstCopy, Spells}
-use Rattle.rasta_check.specs.Internals.Datagrams.{Kept, KeptDatagrams, keeping, kept_by, nothing_kept}
-use Rattle.rasta_check.specs.Capture.Lists.{IsOrdered, position_of_place}
-use Rattle.rasta_check.specs.Capture.Reading.{Crossing, IsCrossing, crossing_with, sent_by, sent_after, with_packet}
-use Rattle.rasta_check.specs.Internals.Stored.{Decode, HavePositions, IsJudged, IsStore, bytes_of, copy_in, crossing_by, first_copies_from, packet_by, pdu_in}
+use Rattle.rasta_check.specs.Internals.Datagrams.{keeping, nothing_kept}
+use Rattle.rasta_check.specs.Internals.Stored.{Decode, HavePositions, IsJudged, bytes_of, copy_in, first_copies_from, packet_by, pdu_in}
 use Rattle.rasta_check.proofs.Capture.Crossings.{list_of}
 use Rattle.rasta_check.proofs.Capture.FaultlessLists.{ordered}
-use Rattle.rasta_check.proofs.Lists.{get_front, get_push, slice_get_some, all_push}
 use Rattle.rasta_check.proofs.Capture.Positions.{place_pushed, place_missing, place_named}
 use Rattle.rasta_check.proofs.Capture.Readings.{grown_same, nothing_is}
 use Rattle.rasta_check.proofs.Internals.StoreLists.{kept_at, sent_is}

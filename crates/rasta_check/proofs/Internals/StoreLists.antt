@@ -1,27 +1,15 @@
 -- What a store keeps at its positions and places.
 use Rattle.std.proofs.Common.{◌≡◌, ℕ, ◌≤◌, List, [], ◌∷◌, length, map, Bool, true, false, nat_eq, Option, Some, None, slice_get, refl, ap, sym, ◌∙◌, subst, arith, IfSome, if◌then◌else◌}
+use Rattle.rasta_check.proofs.Prelude.{option_map, bytes_eq, nat_tests, bytes_eq-Decides, length-map, slice_get_past, Fault, Side, number_gap, Packet, Parameters, RedundancyPdu}
+use Rattle.rasta_check.proofs.Prelude.{redundancy_bytes, decode_of, StoredPacket, FirstCopy, Spells, copy_with, is_next_number, packet_fault, Kept, KeptDatagrams, kept_by}
+use Rattle.rasta_check.proofs.Prelude.{position_of_number, position_of_place, Crossing, sent_by, sent_after, IsStore, crossing_by, get_mapped, slice_get_some, map_at}
 use Rattle.std.specs.Prelude.{Ok, Result}
 use Rattle.std.specs.List.{position_or_len}
-use Rattle.std.specs.Option.{option_map}
-use Rattle.std.specs.Str.{bytes_eq}
-use Rattle.std.proofs.lemmas.Bool.Decides.{nat_tests}
-use Rattle.std.proofs.lemmas.Slice.Eq.{bytes_eq-Decides}
-use Rattle.std.proofs.lemmas.List.{length-map}
-use Rattle.std.proofs.lemmas.Option.{cond_some, slice_get_past}
-use Rattle.rasta_pcap.specs.declared.fault.Fault.{Fault}
-use Rattle.rasta_pcap.specs.declared.fault.Side.{Side}
-use Rattle.rasta_pcap.specs.Fault.{copy_differs, number_gap}
-use Rattle.rasta_udp.specs.Frame.{Packet}
-use Rattle.rasta_pdu.specs.Params.{Parameters}
-use Rattle.rasta_pdu.specs.Pdu.{RedundancyPdu, redundancy_bytes, decode_of}
-use Rattle.rasta_check.specs.declared.crossing_store.StoredPacket.{StoredPacket}
-use Rattle.rasta_check.specs.Capture.Crossing.{FirstCopy, Spells, copy_with, is_next_number, packet_fault}
-use Rattle.rasta_check.specs.Internals.Datagrams.{Kept, KeptDatagrams, kept_by}
-use Rattle.rasta_check.specs.Capture.Lists.{numbers_of, position_of_number, position_of_place}
-use Rattle.rasta_check.specs.Capture.Reading.{Crossing, sent_by, sent_after}
-use Rattle.rasta_check.specs.Internals.Stored.{IsStore, bytes_of, copy_in, pdu_in, packet_by, crossing_by}
+use Rattle.std.proofs.lemmas.Option.{cond_some}
+use Rattle.rasta_pcap.specs.Fault.{copy_differs}
+use Rattle.rasta_check.specs.Capture.Lists.{numbers_of}
+use Rattle.rasta_check.specs.Internals.Stored.{bytes_of, copy_in, pdu_in, packet_by}
 use Rattle.rasta_check.proofs.Capture.Crossings.{few_of, known_by, list_of}
-use Rattle.rasta_check.proofs.Lists.{get_mapped, slice_get_some, map_at}
 use Rattle.rasta_check.proofs.Capture.Positions.{number_found, number_once, place_missing, place_named}
 use Rattle.rasta_check.proofs.Capture.FaultlessLists.{ordered, read_once}
 

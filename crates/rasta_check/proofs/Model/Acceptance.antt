@@ -1,11 +1,6 @@
 -- A take raises the last accepted position by less than 2^32.
 use Rattle.std.proofs.Common.{◌+◌, ◌≤◌, ◌^◌, arith}
-use Rattle.rasta_pdu.specs.Params.{Parameters}
-use Rattle.rasta_pdu.specs.Pdu.{SafetyPdu}
-use Rattle.rasta_end.specs.declared.take_row.TakeRow.{TakeRow}
-use Rattle.rasta_end.specs.declared.take_row.TakeRow.TheVariants.{Opened}
-use Rattle.rasta_end.specs.State.{EndState}
-use Rattle.rasta_end.specs.TakeRule.{after_take}
+use Rattle.rasta_check.proofs.Prelude.{Parameters, SafetyPdu, TakeRow, Opened, EndState, after_take}
 use Rattle.rasta_check.proofs.Model.TakeRows.{bare_effect, take_bare}
 
 pub accepted_after : (p : Parameters) (e : EndState) (x : SafetyPdu) → (after_take p e x).accepted ≤ e.accepted + 2 ^ 32

@@ -1,11 +1,6 @@
 -- How many PDUs of a kind are made, and how many things of a kind are owed.
 use Rattle.std.proofs.Common.{◌≡◌, ℕ, zero, suc, ◌+◌, ◌≤◌, Bool, true, false, List, [], ◌∷◌, ◌++◌, Some, slice_get, take, refl, arith}
-use Rattle.rasta_pdu.specs.declared.kind.Kind.{Kind}
-use Rattle.rasta_pdu.specs.declared.kind.Kind.TheVariants.{RetransmissionRequest, RetransmissionResponse}
-use Rattle.rasta_pdu.specs.Pdu.{is_kind}
-use Rattle.rasta_end.specs.declared.owed.Owed.{Owed}
-use Rattle.rasta_end.specs.declared.owed.Owed.TheVariants.{RetransmissionResponse as OweRetransmissionResponse, RetransmissionRequest as OweRetransmissionRequest}
-use Rattle.rasta_end.specs.State.{Made}
+use Rattle.rasta_check.proofs.Prelude.{Kind, RetransmissionRequest, RetransmissionResponse, is_kind, Owed, OweRetransmissionResponse, OweRetransmissionRequest, Made}
 
 -- one more where the test holds
 abbrev pub tally : Bool → ℕ → ℕ

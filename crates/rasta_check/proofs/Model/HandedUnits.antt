@@ -1,27 +1,15 @@
 -- What an end has handed up: the units conveyed through the last position of its peer that it accepted.
 use Rattle.std.proofs.Common.{◌≡◌, ℕ, zero, suc, ◌+◌, ◌≤◌, Bool, true, false, List, [], ◌∷◌, ◌++◌, length, Some, slice_get, take, refl, ap, sym, ◌∙◌, arith, subst}
-use Rattle.std.specs.Prelude.{slice_index_or, filter, drop}
-use Rattle.std.proofs.lemmas.Bool.Decides.{nat_tests}
-use Rattle.std.proofs.Math.Seq.{take-append_seam}
-use Rattle.std.proofs.lemmas.List.{take-append-le, length_push}
-use Rattle.std.proofs.lemmas.Option.{slice_get_within, slice_get-get_or, get_or_from_slice_get, unwrap_or-slice_get}
-use Rattle.rasta_pdu.specs.declared.kind.Kind.TheVariants.{RetransmissionRequest, RetransmissionResponse, Data}
-use Rattle.rasta_pdu.specs.Params.{Parameters}
+use Rattle.rasta_check.proofs.Prelude.{slice_index_or, filter, drop, nat_tests, take-append_seam, take-append-le, length_push, slice_get_within, slice_get-get_or}
+use Rattle.rasta_check.proofs.Prelude.{unwrap_or-slice_get, RetransmissionRequest, RetransmissionResponse, Data, Parameters, SafetyPdu, messages_in, is_kind, Phase, RetrReq, Why}
+use Rattle.rasta_check.proofs.Prelude.{TakeRow, Opened, Answered, FirstHeartbeat, InSequence, ResentInSequence, Resumed, Requested, RequestedAhead, RequestedAgain, Owed}
+use Rattle.rasta_check.proofs.Prelude.{OweRetransmissionRequest, Made, EndState, is_closed, is_flowing, carries_unit, content_of, after_make_by, position_confirmed, effect}
+use Rattle.rasta_check.proofs.Prelude.{after_take, HandsUpUnits, all_push, get_front, get_push, get_mapped}
+use Rattle.std.proofs.lemmas.Option.{get_or_from_slice_get}
 use Rattle.rasta_pdu.specs.Messages.{messages_of}
-use Rattle.rasta_pdu.specs.Pdu.{SafetyPdu, SafetyBody, Messages, messages_in, is_kind}
-use Rattle.rasta_end.specs.declared.phase.Phase.{Phase}
-use Rattle.rasta_end.specs.declared.phase.Phase.TheVariants.{RetrReq}
-use Rattle.rasta_end.specs.declared.why.Why.{Why}
-use Rattle.rasta_end.specs.declared.take_row.TakeRow.{TakeRow}
-use Rattle.rasta_end.specs.declared.take_row.TakeRow.TheVariants.{Opened, Answered, FirstHeartbeat, InSequence, ResentInSequence, Resumed, Requested, RequestedAhead, RequestedAgain}
-use Rattle.rasta_end.specs.declared.owed.Owed.{Owed}
-use Rattle.rasta_end.specs.declared.owed.Owed.TheVariants.{RetransmissionRequest as OweRetransmissionRequest}
-use Rattle.rasta_end.specs.State.{Made, EndState, is_closed, is_flowing, carries_unit, content_of}
-use Rattle.rasta_end.specs.MakeRule.{after_make_by}
-use Rattle.rasta_end.specs.TakeRule.{is_in, steps_past_next, position_confirmed, burst, effect, after_take}
+use Rattle.rasta_pdu.specs.Pdu.{SafetyBody, Messages}
+use Rattle.rasta_end.specs.TakeRule.{is_in, steps_past_next, burst}
 use Rattle.rasta_check.specs.Model.Laws.{HandsUp}
-use Rattle.rasta_check.specs.Model.Theorem.{HandsUpUnits}
-use Rattle.rasta_check.proofs.Lists.{all_push, get_front, get_push, get_mapped}
 use Rattle.rasta_check.proofs.Model.PassedTests.{Passed, cs_is}
 use Rattle.rasta_check.proofs.Model.MakeRows.{MadeBy, new_made}
 use Rattle.rasta_check.proofs.Model.Steps.{Grown}

@@ -1,20 +1,9 @@
 -- What of an end stays along a run, and the worlds of a run.
 use Rattle.std.proofs.Common.{◌≡◌, ℕ, suc, ◌+◌, ◌<◌, ◌≤◌, List, [], ◌∷◌, ◌++◌, length, Some, slice_get, refl, ap, sym, ◌∙◌, arith, ⊎_elim, subst}
-use Rattle.std.proofs.lemmas.List.{length_push}
-use Rattle.std.proofs.lemmas.Option.{slice_get_within}
-use native.Mathlib.Decide.{dec_lt}
-use Prim.{yes, no}
-use Rattle.rasta_pcap.specs.declared.fault.Side.{Side}
-use Rattle.rasta_pcap.specs.declared.fault.Side.TheVariants.{Client, Server}
-use Rattle.rasta_udp.specs.Frame.{Packet}
-use Rattle.rasta_pdu.specs.Params.{Parameters, AreParameters}
-use Rattle.rasta_end.specs.State.{Made, EndState}
-use Rattle.rasta_end.specs.MakeRule.{has_ended}
-use Rattle.rasta_end.specs.Starts.{start_of}
-use Rattle.rasta_check.specs.Capture.Crossing.{FirstCopy}
-use Rattle.rasta_check.specs.Model.World.{Station, World, Move, Moves, makes, repeats, takes, Step, side_moves, station_of, end_of, other_side, Reaches, begins, goes_on, first_world, IsWithin}
-use Rattle.rasta_check.specs.Model.Theorem.{Appends}
-use Rattle.rasta_check.proofs.Lists.{get_push_cases, all_push, get_front, get_front_within, get_push, slice_get_some}
+use Rattle.rasta_check.proofs.Prelude.{length_push, slice_get_within, dec_lt, yes, no, Side, Client, Server, Packet, Parameters, AreParameters, Made, EndState, has_ended, start_of}
+use Rattle.rasta_check.proofs.Prelude.{FirstCopy, Station, World, Move, Moves, makes, repeats, takes, side_moves, station_of, end_of, other_side, Reaches, begins, goes_on}
+use Rattle.rasta_check.proofs.Prelude.{IsWithin, Appends, get_push_cases, all_push, get_front, get_front_within, get_push, slice_get_some}
+use Rattle.rasta_check.specs.Model.World.{Step, first_world}
 use Rattle.rasta_check.proofs.Model.TakeRows.{take_made}
 use Rattle.rasta_check.proofs.Model.Steps.{base, made_more, SameHanded, Grown, same_grown, grown_take}
 use Rattle.rasta_check.proofs.Model.Counts.{answers_in}

@@ -1,10 +1,7 @@
 -- What each step keeps holds in every run.
 use Rattle.std.proofs.Common.{ℕ, List}
-use Rattle.rasta_pcap.specs.declared.fault.Side.{Side}
-use Rattle.rasta_pcap.specs.declared.fault.Side.TheVariants.{Client, Server}
-use Rattle.rasta_udp.specs.Frame.{Packet}
-use Rattle.rasta_pdu.specs.Params.{Parameters}
-use Rattle.rasta_check.specs.Model.World.{Station, World, Move, Moves, side_moves, station_of, other_side, Reaches, begins, goes_on, first_station}
+use Rattle.rasta_check.proofs.Prelude.{Side, Client, Server, Packet, Parameters, Station, World, Move, Moves, side_moves, station_of, other_side, Reaches, begins, goes_on}
+use Rattle.rasta_check.proofs.Prelude.{first_station}
 
 -- of the two stations, whichever stands first
 module _ (p : Parameters) (Good : Station → Station → Type 0)

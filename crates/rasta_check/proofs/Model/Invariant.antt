@@ -1,15 +1,9 @@
 -- What holds of an end and of what its peer has made, in every run.
 use Rattle.std.proofs.Common.{◌≡◌, ℕ, suc, ◌+◌, ◌<◌, ◌≤◌, ◌⊎◌, Bool, true, false, List, [], ◌∷◌, length, Some, slice_get, take, arith}
-use Rattle.std.specs.Prelude.{not, ◌&&◌, ◌||◌, is_some}
-use Rattle.rasta_pcap.specs.declared.fault.Side.{Side}
-use Rattle.rasta_pcap.specs.declared.fault.Side.TheVariants.{Client, Server}
-use Rattle.rasta_pdu.specs.declared.kind.Kind.{Kind}
-use Rattle.rasta_pdu.specs.declared.kind.Kind.TheVariants.{ConnectionRequest, ConnectionResponse, DisconnectionRequest}
-use Rattle.rasta_end.specs.declared.phase.Phase.{Phase}
-use Rattle.rasta_end.specs.declared.phase.Phase.TheVariants.{Closed, Down, Start, Up, RetrReq, RetrRun}
-use Rattle.rasta_end.specs.declared.owed.Owed.{Owed}
-use Rattle.rasta_end.specs.declared.owed.Owed.TheVariants.{ConnectionResponse as OweConnectionResponse}
-use Rattle.rasta_end.specs.State.{Made, EndState, is_closed, is_client}
+use Rattle.rasta_check.proofs.Prelude.{not, ◌&&◌, ◌||◌, is_some, Side, Client, Server, Kind, ConnectionRequest, ConnectionResponse, DisconnectionRequest, Phase, Closed, Start, Up}
+use Rattle.rasta_check.proofs.Prelude.{RetrReq, RetrRun, Owed, OweConnectionResponse, Made, EndState, is_closed}
+use Rattle.rasta_end.specs.declared.phase.Phase.TheVariants.{Down}
+use Rattle.rasta_end.specs.State.{is_client}
 use Rattle.rasta_check.proofs.Model.SequenceNumbers.{Numbered}
 use Rattle.rasta_check.proofs.Model.Counts.{owes, is_answer_owed, is_request_owed, requests_in, answers_in, IsRequest}
 use Rattle.rasta_check.proofs.Model.NamedPositions.{SnIs}

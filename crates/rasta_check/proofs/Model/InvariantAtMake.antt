@@ -1,23 +1,9 @@
 -- A make keeps what holds, at both ends.
 use Rattle.std.proofs.Common.{◌≡◌, ℕ, ◌+◌, ◌≤◌, true, false, List, [], ◌∷◌, ◌++◌, length, Some, take, refl, ap, sym, ◌∙◌, arith}
-use Rattle.std.specs.Prelude.{drop}
-use Rattle.std.proofs.lemmas.List.{take-append-le, length_push}
-use Rattle.std.proofs.lemmas.Option.{slice_get_within, slice_get_past}
-use Rattle.rasta_pcap.specs.declared.fault.Side.{Side}
-use Rattle.rasta_pcap.specs.declared.fault.Side.TheVariants.{Client}
-use Rattle.rasta_pdu.specs.declared.kind.Kind.{Kind}
-use Rattle.rasta_pdu.specs.declared.kind.Kind.TheVariants.{ConnectionRequest, DisconnectionRequest, RetransmissionRequest, RetransmissionResponse}
-use Rattle.rasta_pdu.specs.Pdu.{SafetyPdu, is_kind}
-use Rattle.rasta_pdu.specs.Params.{Parameters}
-use Rattle.rasta_end.specs.declared.phase.Phase.{Phase}
-use Rattle.rasta_end.specs.declared.phase.Phase.TheVariants.{Closed, Start}
-use Rattle.rasta_end.specs.declared.why.Why.{Why}
-use Rattle.rasta_end.specs.declared.make_row.MakeRow.{MakeRow}
-use Rattle.rasta_end.specs.declared.owed.Owed.{Owed}
-use Rattle.rasta_end.specs.declared.owed.Owed.TheVariants.{ConnectionResponse as OweConnectionResponse}
-use Rattle.rasta_end.specs.State.{Made, EndState}
-use Rattle.rasta_end.specs.MakeRule.{after_make_by, phase_after, owed_after}
-use Rattle.rasta_check.proofs.Lists.{all_push, get_front}
+use Rattle.rasta_check.proofs.Prelude.{drop, take-append-le, length_push, slice_get_within, slice_get_past, Side, Client, Kind, ConnectionRequest, DisconnectionRequest}
+use Rattle.rasta_check.proofs.Prelude.{RetransmissionRequest, RetransmissionResponse, SafetyPdu, is_kind, Parameters, Phase, Closed, Start, Why, MakeRow, Owed}
+use Rattle.rasta_check.proofs.Prelude.{OweConnectionResponse, Made, EndState, after_make_by, phase_after, all_push, get_front}
+use Rattle.rasta_end.specs.MakeRule.{owed_after}
 use Rattle.rasta_check.proofs.Model.SequenceNumbers.{numbered_push}
 use Rattle.rasta_check.proofs.Model.PassedTests.{Passed, un_not, cs_is}
 use Rattle.rasta_check.proofs.Model.MakeRows.{Making, opening, response, first_beat, answer, again, ask, beat, fresh, MadeBy, new_made}

@@ -1,22 +1,10 @@
 -- A take keeps what holds of the taker.
 use Rattle.std.proofs.Common.{◌≡◌, ℕ, zero, suc, ◌+◌, ◌<◌, ◌≤◌, Bool, true, false, List, [], ◌∷◌, ◌++◌, length, Some, slice_get, take, refl, ap, sym, arith, ⊎_elim}
-use Rattle.std.specs.Prelude.{◌&&◌}
-use Rattle.std.proofs.lemmas.List.{length_push}
-use Rattle.std.proofs.lemmas.Option.{slice_get_within}
-use Rattle.rasta_pcap.specs.declared.fault.Side.{Side}
-use Rattle.rasta_pdu.specs.declared.kind.Kind.{Kind}
-use Rattle.rasta_pdu.specs.declared.kind.Kind.TheVariants.{RetransmissionRequest, RetransmissionResponse}
-use Rattle.rasta_pdu.specs.Pdu.{SafetyPdu, is_kind}
-use Rattle.rasta_pdu.specs.Params.{Parameters}
-use Rattle.rasta_end.specs.declared.phase.Phase.{Phase}
-use Rattle.rasta_end.specs.declared.phase.Phase.TheVariants.{Closed, Start, Up, RetrReq, RetrRun}
-use Rattle.rasta_end.specs.declared.take_row.TakeRow.{TakeRow}
-use Rattle.rasta_end.specs.declared.take_row.TakeRow.TheVariants.{Opened, Answered, FirstHeartbeat, InSequence, ResentInSequence, Gap, GapInRetransmission, Resumed, Requested, RequestedAhead, RequestedAgain, Disconnected}
-use Rattle.rasta_end.specs.declared.owed.Owed.{Owed}
-use Rattle.rasta_end.specs.declared.owed.Owed.TheVariants.{RetransmissionRequest as OweRetransmissionRequest, Resend as OweResend}
-use Rattle.rasta_end.specs.State.{Made, EndState, is_closed, is_flowing, is_connected}
-use Rattle.rasta_end.specs.TakeRule.{steps_past_next, is_valid, position_confirmed, accept, resends, burst, after_take}
-use Rattle.rasta_check.proofs.Lists.{get_push_cases}
+use Rattle.rasta_check.proofs.Prelude.{◌&&◌, length_push, slice_get_within, Side, Kind, RetransmissionRequest, RetransmissionResponse, SafetyPdu, is_kind, Parameters, Phase}
+use Rattle.rasta_check.proofs.Prelude.{Closed, Start, Up, RetrReq, RetrRun, TakeRow, Opened, Answered, FirstHeartbeat, InSequence, ResentInSequence, Gap, GapInRetransmission}
+use Rattle.rasta_check.proofs.Prelude.{Resumed, Requested, RequestedAhead, RequestedAgain, Disconnected, Owed, OweRetransmissionRequest, OweResend, Made, EndState, is_closed}
+use Rattle.rasta_check.proofs.Prelude.{is_flowing, is_connected, is_valid, position_confirmed, resends, after_take, get_push_cases}
+use Rattle.rasta_end.specs.TakeRule.{steps_past_next, accept, burst}
 use Rattle.rasta_check.proofs.Model.TakeRows.{Premise, Knows, bare_effect, take_bare}
 use Rattle.rasta_check.proofs.Model.Counts.{owes, number_take_all, number_take_more, number_take_at, is_answer_owed, is_request_owed, owes-append, requests_in, answers_in, IsRequest}
 use Rattle.rasta_check.proofs.Model.NamedPositions.{SnIs, position_is, valid_at}

@@ -1,17 +1,9 @@
 -- Every run keeps what holds.
 use Rattle.std.proofs.Common.{◌≡◌, ℕ, suc, ◌≤◌, false, List, [], ◌∷◌, length, Option, Some, None, slice_get, refl, ap, sym, subst, ◌∙◌, arith, inr}
-use Rattle.std.proofs.lemmas.List.{length_push}
-use Rattle.rasta_pcap.specs.declared.fault.Side.{Side}
-use Rattle.rasta_pcap.specs.declared.fault.Side.TheVariants.{Client, Server}
-use Rattle.rasta_udp.specs.Frame.{Packet}
-use Rattle.rasta_pdu.specs.Params.{Parameters}
-use Rattle.rasta_pdu.specs.declared.quiet_point.Quiet.{Quiet}
+use Rattle.rasta_check.proofs.Prelude.{length_push, Side, Client, Server, Packet, Parameters, Quiet, Made, EndState, is_closed, after_make_by, take_fault, start_by, Station, World}
+use Rattle.rasta_check.proofs.Prelude.{Move, Moves, makes, repeats, arrives, takes, waits, station_of, end_of, other_side, Reaches, IsWithin}
 use Rattle.rasta_pdu.specs.declared.quiet_point.QuietEnd.{QuietEnd}
-use Rattle.rasta_end.specs.State.{Made, EndState, is_closed}
-use Rattle.rasta_end.specs.MakeRule.{after_make_by}
-use Rattle.rasta_end.specs.TakeRule.{take_fault}
-use Rattle.rasta_end.specs.Starts.{sn_before, quiet_pdu, quiet_end, start_by}
-use Rattle.rasta_check.specs.Model.World.{Station, World, Move, Moves, makes, repeats, arrives, takes, waits, station_of, end_of, other_side, Reaches, IsWithin}
+use Rattle.rasta_end.specs.Starts.{sn_before, quiet_pdu, quiet_end}
 use Rattle.rasta_check.proofs.Model.PassedTests.{passed}
 use Rattle.rasta_check.proofs.Model.MakeRows.{made_by, after_row, new_made}
 use Rattle.rasta_check.proofs.Model.TakeRows.{take_made}

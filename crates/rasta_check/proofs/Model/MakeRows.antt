@@ -1,26 +1,19 @@
 -- The rows of the make table, one by one.
 use Rattle.std.proofs.Common.{◌≡◌, ℕ, Bool, true, false, List, [], ◌∷◌, Some, refl, ap, sym, arith}
+use Rattle.rasta_check.proofs.Prelude.{nat_tests, Side, Client, Server, Kind, ConnectionRequest, ConnectionResponse, RetransmissionRequest, RetransmissionResponse}
+use Rattle.rasta_check.proofs.Prelude.{DisconnectionRequest, Data, RetransmittedData, SafetyPdu, is_kind, Parameters, Phase, Closed, Start, Up, Why, MakeRow, Owed}
+use Rattle.rasta_check.proofs.Prelude.{OweConnectionResponse, OweRetransmissionResponse, OweResend, OweRetransmissionRequest, Made, EndState, is_connected, row_of, after_make}
+use Rattle.rasta_check.proofs.Prelude.{after_make_by}
 use Rattle.std.proofs.lemmas.Bool.{and_parts}
-use Rattle.std.proofs.lemmas.Bool.Decides.{nat_tests}
 use Rattle.std.specs.Bool.{then_some}
-use Rattle.rasta_pcap.specs.declared.fault.Side.{Side}
-use Rattle.rasta_pcap.specs.declared.fault.Side.TheVariants.{Client, Server}
-use Rattle.rasta_pdu.specs.declared.kind.Kind.{Kind}
-use Rattle.rasta_pdu.specs.declared.kind.Kind.TheVariants.{ConnectionRequest, ConnectionResponse, RetransmissionRequest, RetransmissionResponse, DisconnectionRequest, Heartbeat, Data, RetransmittedData}
-use Rattle.rasta_pdu.specs.Pdu.{SafetyPdu, is_kind}
-use Rattle.rasta_pdu.specs.Params.{Parameters}
-use Rattle.rasta_end.specs.declared.phase.Phase.{Phase}
-use Rattle.rasta_end.specs.declared.phase.Phase.TheVariants.{Closed, Start, Up}
-use Rattle.rasta_end.specs.declared.why.Why.{Why}
+use Rattle.rasta_pdu.specs.declared.kind.Kind.TheVariants.{Heartbeat}
 use Rattle.rasta_end.specs.declared.why.Why.TheVariants.{Open, Reply, Beat, Fresh, Again, Ask, Bye, Expired}
-use Rattle.rasta_end.specs.declared.make_row.MakeRow.{MakeRow}
 use Rattle.rasta_end.specs.declared.make_row.MakeRow.TheVariants.{Opens, Answers, StartsBeating, Returns, Resends, Requests, Beats, Offers, Leaves, TimesOut}
-use Rattle.rasta_end.specs.declared.owed.Owed.{Owed}
-use Rattle.rasta_end.specs.declared.owed.Owed.TheVariants.{ConnectionResponse as OweConnectionResponse, FirstHeartbeat as OweFirstHeartbeat, RetransmissionResponse as OweRetransmissionResponse, Resend as OweResend, RetransmissionRequest as OweRetransmissionRequest}
+use Rattle.rasta_end.specs.declared.owed.Owed.TheVariants.{FirstHeartbeat as OweFirstHeartbeat}
 use Rattle.rasta_end.specs.declared.owed.Demand.{Demand}
 use Rattle.rasta_end.specs.declared.owed.Demand.TheVariants.{First, Nothing, Anything}
-use Rattle.rasta_end.specs.State.{Made, EndState, is_connected, is_active, reason_of}
-use Rattle.rasta_end.specs.MakeRule.{make_row, demand_of, lacks, owes_else, is_refused_row, is_owing_else, row_of, unit_of, after_make, after_make_by}
+use Rattle.rasta_end.specs.State.{is_active, reason_of}
+use Rattle.rasta_end.specs.MakeRule.{make_row, demand_of, lacks, owes_else, is_refused_row, is_owing_else, unit_of}
 use Rattle.rasta_check.proofs.Model.PassedTests.{Passed}
 
 -- which row allows a make: side, phase, why, type, what is owed, and the row

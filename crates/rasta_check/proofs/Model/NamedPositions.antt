@@ -1,9 +1,7 @@
 -- Which position an SN and a CS name.
 use Rattle.std.proofs.Common.{◌≡◌, ℕ, suc, ◌+◌, ◌%◌, ◌^◌, ◌<◌, ◌≤◌, true, List, [], ◌∷◌, length, Some, slice_get, ap, sym, ◌∙◌, arith}
-use Rattle.std.specs.Prelude.{nat_lt}
-use Rattle.std.proofs.lemmas.Bool.Decides.{nat_tests}
-use Rattle.std.proofs.lemmas.Option.{slice_get_within}
-use Rattle.rasta_end.specs.State.{Made, ahead_by, first_sn, sn_at}
+use Rattle.rasta_check.proofs.Prelude.{nat_lt, nat_tests, slice_get_within, Made, first_sn}
+use Rattle.rasta_end.specs.State.{ahead_by, sn_at}
 use Rattle.rasta_check.proofs.Model.SequenceNumbers.{Numbered, sn_from_first}
 
 -- the PDU at this position has this SN

@@ -1,20 +1,11 @@
 -- The units that an end offered: what it owes leads to them, its positions convey them, its PDUs carry them.
 use Rattle.std.proofs.Common.{◌≡◌, ℕ, zero, suc, ◌+◌, ◌-◌, ◌<◌, ◌≤◌, true, false, List, [], ◌∷◌, ◌++◌, length, Some, slice_get, take, refl, arith}
-use Rattle.std.specs.Prelude.{slice_index_or}
-use Rattle.std.proofs.lemmas.Option.{unwrap_or-slice_get}
-use Rattle.rasta_pcap.specs.declared.fault.Side.{Side}
-use Rattle.rasta_end.specs.declared.phase.Phase.{Phase}
-use Rattle.rasta_end.specs.declared.owed.Owed.{Owed}
-use Rattle.rasta_end.specs.declared.owed.Owed.TheVariants.{RetransmissionResponse as OweRetransmissionResponse, Resend as OweResend}
-use Rattle.rasta_end.specs.State.{Made, EndState, kinds, is_connected, carries_unit, content_of}
-use Rattle.rasta_end.specs.Units.{last_of, units_at, all_units_conveyed}
-use Rattle.rasta_end.specs.MakeRule.{contents}
-use Rattle.rasta_end.specs.TakeRule.{resends}
+use Rattle.rasta_check.proofs.Prelude.{slice_index_or, unwrap_or-slice_get, Side, Phase, Owed, OweRetransmissionResponse, OweResend, Made, EndState, kinds, is_connected}
+use Rattle.rasta_check.proofs.Prelude.{carries_unit, content_of, last_of, units_at, contents, resends, is_kind, Data}
+use Rattle.rasta_end.specs.Units.{all_units_conveyed}
 use Rattle.rasta_check.proofs.Model.Counts.{answers_in, IsAnswer}
 use Rattle.rasta_check.proofs.Model.ConveyedUnits.{is_plain}
 use Rattle.rasta_check.proofs.Model.Invariant.{ended}
-use Rattle.rasta_pdu.specs.Pdu.{is_kind}
-use Rattle.rasta_pdu.specs.declared.kind.Kind.TheVariants.{Data}
 
 -- from v units conveyed, what is owed leads to n
 abbrev pub DueRest : ℕ → ℕ → List Owed → Type 0

@@ -1,25 +1,11 @@
 -- A make keeps what holds of the units offered.
 use Rattle.std.proofs.Common.{◌≡◌, ℕ, suc, ◌-◌, ◌<◌, ◌≤◌, ◌⊎◌, true, false, List, [], ◌∷◌, ◌++◌, length, Option, Some, slice_get, refl, ap, sym, ◌∙◌, arith, inr, ⊎_elim}
-use Rattle.std.proofs.Math.Seq.{take-append_seam}
-use Rattle.std.proofs.lemmas.List.{take-append-le, append-nil, length_push}
 use Rattle.std.proofs.Common.{length-append, ◌+◌}
-use Rattle.std.proofs.lemmas.Option.{slice_get_within, slice_get-get_or}
-use Rattle.std.proofs.lemmas.Slice.Eq.{bytes_eq-Decides}
-use Rattle.rasta_pcap.specs.declared.fault.Side.{Side}
-use Rattle.rasta_pcap.specs.declared.fault.Side.TheVariants.{Client}
-use Rattle.rasta_pdu.specs.declared.kind.Kind.{Kind}
-use Rattle.rasta_pdu.specs.declared.kind.Kind.TheVariants.{Data}
-use Rattle.rasta_pdu.specs.Params.{Parameters}
-use Rattle.rasta_pdu.specs.Pdu.{SafetyPdu, is_kind}
-use Rattle.rasta_end.specs.declared.phase.Phase.{Phase}
-use Rattle.rasta_end.specs.declared.phase.Phase.TheVariants.{Closed}
-use Rattle.rasta_end.specs.declared.why.Why.{Why}
-use Rattle.rasta_end.specs.declared.make_row.MakeRow.{MakeRow}
-use Rattle.rasta_end.specs.declared.owed.Owed.{Owed}
-use Rattle.rasta_end.specs.State.{Made, EndState, is_connected, carries_unit, content_of}
-use Rattle.rasta_end.specs.Units.{units_after, last_of}
-use Rattle.rasta_end.specs.MakeRule.{has_ended, contents, differs, unit_of, phase_after, owed_after, offered_after, after_make_by}
-use Rattle.rasta_check.proofs.Lists.{all_push, get_front, get_front_within, get_push}
+use Rattle.rasta_check.proofs.Prelude.{take-append_seam, take-append-le, append-nil, length_push, slice_get_within, slice_get-get_or, bytes_eq-Decides, Side, Client, Kind, Data}
+use Rattle.rasta_check.proofs.Prelude.{Parameters, SafetyPdu, is_kind, Phase, Closed, Why, MakeRow, Owed, Made, EndState, is_connected, carries_unit, content_of, last_of}
+use Rattle.rasta_check.proofs.Prelude.{has_ended, contents, phase_after, after_make_by, all_push, get_front, get_front_within, get_push}
+use Rattle.rasta_end.specs.Units.{units_after}
+use Rattle.rasta_end.specs.MakeRule.{differs, unit_of, owed_after, offered_after}
 use Rattle.rasta_check.proofs.Model.Counts.{answers_in}
 use Rattle.rasta_check.proofs.Model.PassedTests.{Passed}
 use Rattle.rasta_check.proofs.Model.MakeRows.{Making, opening, answer, again, fresh, MadeBy, new_made}

@@ -1,24 +1,16 @@
 -- A take keeps what holds of the units offered.
 use Rattle.std.proofs.Common.{◌≡◌, ℕ, ◌-◌, ◌<◌, true, false, List, [], ◌∷◌, ◌++◌, length, refl, ap, sym, ◌∙◌, arith}
-use Rattle.std.proofs.lemmas.List.{append-nil}
-use Rattle.rasta_pdu.specs.Params.{Parameters}
-use Rattle.rasta_pdu.specs.Pdu.{is_kind}
-use Rattle.rasta_end.specs.declared.phase.Phase.{Phase}
-use Rattle.rasta_end.specs.declared.take_row.TakeRow.{TakeRow}
-use Rattle.rasta_end.specs.declared.take_row.TakeRow.TheVariants.{Opened, Answered, Gap, GapInRetransmission, Requested, RequestedAhead, RequestedAgain, Disconnected}
-use Rattle.rasta_end.specs.declared.owed.Owed.{Owed}
-use Rattle.rasta_end.specs.declared.owed.Owed.TheVariants.{RetransmissionResponse as OweRetransmissionResponse, RetransmissionRequest as OweRetransmissionRequest}
-use Rattle.rasta_end.specs.State.{Made, EndState, kinds, is_closed, is_connected}
-use Rattle.rasta_end.specs.Units.{units_conveyed, last_of}
-use Rattle.rasta_end.specs.TakeRule.{is_valid, position_confirmed, note_ask, resends, after_take}
-use Rattle.rasta_check.proofs.Lists.{all_push, get_push, get_front_within}
+use Rattle.rasta_check.proofs.Prelude.{append-nil, Parameters, is_kind, Phase, TakeRow, Opened, Answered, Gap, GapInRetransmission, Requested, RequestedAhead, RequestedAgain}
+use Rattle.rasta_check.proofs.Prelude.{Disconnected, Owed, OweRetransmissionResponse, OweRetransmissionRequest, Made, EndState, kinds, is_closed, is_connected, last_of, is_valid}
+use Rattle.rasta_check.proofs.Prelude.{position_confirmed, resends, after_take, all_push, get_push, get_front_within, RetransmissionResponse}
+use Rattle.rasta_end.specs.Units.{units_conveyed}
+use Rattle.rasta_end.specs.TakeRule.{note_ask}
 use Rattle.rasta_check.proofs.Model.Counts.{number_take_all, number_take_at}
 use Rattle.rasta_check.proofs.Model.TakeRows.{Knows, bare_effect, take_bare}
 use Rattle.rasta_check.proofs.Model.Invariant.{is_named}
 use Rattle.rasta_check.proofs.Model.InvariantAtTake.{Taken, mark, no_answers, over_not, is_inner, inner}
 use Rattle.rasta_check.proofs.Model.ConveyedUnits.{values, jump, values_asks}
 use Rattle.rasta_check.proofs.Model.OfferedUnits.{Valued, Offers, Due, DueRest, resends_due, bare_rest, conveyed_most}
-use Rattle.rasta_pdu.specs.declared.kind.Kind.TheVariants.{RetransmissionResponse}
 
 module _ (q : Parameters) (e f : EndState) (t u : ℕ) (m : Made) (p : ℕ) (k : Taken e f t u m p) (w : Valued e) (free : e.owed ≡ []) (away : is_closed e.phase ≡ false) where
   bare_due : last_of (values e) ≡ e.offered

@@ -1,13 +1,8 @@
 -- What an allowed make has passed.
 use Rattle.std.proofs.Common.{◌≡◌, ◌<◌, ℕ, Bool, true, false, arith}
-use Rattle.std.specs.Prelude.{All, IsFalse, not, ◌&&◌, ◌==◌, nat_lt}
-use Rattle.std.proofs.lemmas.Bool.Decides.{nat_tests}
-use Rattle.rasta_pdu.specs.declared.kind.Kind.{Kind}
-use Rattle.rasta_pdu.specs.Pdu.{SafetyPdu}
-use Rattle.rasta_pdu.specs.Params.{Parameters}
-use Rattle.rasta_end.specs.declared.why.Why.{Why}
-use Rattle.rasta_end.specs.State.{EndState, content_of, wrapped}
-use Rattle.rasta_end.specs.MakeRule.{make_tests, has_ended, row_of, is_refused_row, is_owing_else, is_next_sn, is_judged, confirms_last, differs, is_expired, is_past, is_early, confirms_a_time}
+use Rattle.rasta_check.proofs.Prelude.{not, ◌&&◌, ◌==◌, nat_lt, nat_tests, Kind, SafetyPdu, Parameters, Why, EndState, content_of, wrapped, has_ended, row_of}
+use Rattle.std.specs.Prelude.{All, IsFalse}
+use Rattle.rasta_end.specs.MakeRule.{make_tests, is_refused_row, is_owing_else, is_next_sn, is_judged, confirms_last, differs, is_expired, is_past, is_early, confirms_a_time}
 
 pub record Passed (p : Parameters) (e : EndState) (x : SafetyPdu) (clock : ℕ) (why : Why) : Type 0 where
   pub open_yet : has_ended e ≡ false

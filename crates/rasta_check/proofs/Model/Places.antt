@@ -1,21 +1,14 @@
 -- A first copy crosses as its PDU is made.
 use Rattle.std.proofs.Common.{◌≡◌, ℕ, suc, ◌+◌, ◌<◌, ◌≤◌, List, Some, length, slice_get, ap, arith}
-use Rattle.std.proofs.lemmas.Option.{slice_get_within}
-use Rattle.rasta_pcap.specs.declared.fault.Side.{Side}
-use Rattle.rasta_udp.specs.Frame.{Packet}
-use Rattle.rasta_pdu.specs.Params.{Parameters, AreParameters}
-use Rattle.rasta_end.specs.State.{EndState}
-use Rattle.rasta_end.specs.Starts.{start_of}
-use Rattle.rasta_check.specs.Capture.Crossing.{FirstCopy}
-use Rattle.rasta_check.specs.Model.World.{World, end_of, other_side, Reaches, IsWithin}
-use Rattle.rasta_check.specs.Model.Theorem.{Appends, IsMade}
+use Rattle.rasta_check.proofs.Prelude.{slice_get_within, Side, Packet, Parameters, AreParameters, EndState, start_of, FirstCopy, World, end_of, other_side, Reaches, IsWithin}
+use Rattle.rasta_check.proofs.Prelude.{Appends, slice_get_some}
+use Rattle.rasta_check.specs.Model.Theorem.{IsMade}
 use Rattle.rasta_check.proofs.Capture.FaultlessLists.{IsSent}
 use Rattle.rasta_check.proofs.Capture.ListForms.{of_record}
 use Rattle.rasta_check.proofs.Model.Steps.{base, start_base}
 use Rattle.rasta_check.proofs.Script.ScriptsOfRuns.{Sends, told_by, sends_count}
 use Rattle.rasta_check.proofs.Model.History.{stepped, joined}
 use Rattle.rasta_check.proofs.Theorem.SentRuns.{before}
-use Rattle.rasta_check.proofs.Lists.{slice_get_some}
 
 -- the j-th copy crosses as the j-th PDU is made
 pub made_then : (p : Parameters) (ws : List World) (w : World) (side : Side) (own peer : List FirstCopy) → Reaches p ws w

@@ -1,23 +1,15 @@
 -- What an end was asked, and what its retransmission responses answer.
 use Rattle.std.proofs.Common.{◌≡◌, ℕ, zero, suc, ◌<◌, Bool, true, false, List, [], ◌∷◌, length, Some, slice_get, take, refl, ap, sym, ◌∙◌, arith, subst}
-use Rattle.std.specs.Prelude.{filter, slice_index_or}
-use Rattle.std.proofs.Math.Seq.{take-append_seam}
-use Rattle.std.proofs.lemmas.Bool.Decides.{nat_tests}
-use Rattle.std.proofs.lemmas.Option.{slice_get_within, slice_get-get_or}
-use Rattle.rasta_pdu.specs.declared.kind.Kind.{Kind}
-use Rattle.rasta_pdu.specs.declared.kind.Kind.TheVariants.{RetransmissionRequest, RetransmissionResponse}
-use Rattle.rasta_pdu.specs.Pdu.{SafetyPdu, is_kind}
-use Rattle.rasta_end.specs.State.{Made, EndState, kinds}
+use Rattle.rasta_check.proofs.Prelude.{filter, slice_index_or, take-append_seam, nat_tests, slice_get_within, slice_get-get_or, Kind, RetransmissionRequest, RetransmissionResponse}
+use Rattle.rasta_check.proofs.Prelude.{SafetyPdu, is_kind, Made, EndState, kinds, pdus_made, position_with, asked_positions, NamesOne, begins_with, get_next}
 use Rattle.rasta_end.specs.Units.{responses_in}
-use Rattle.rasta_check.specs.Model.Taken.{pdus_made, position_with, asked_positions}
-use Rattle.rasta_check.specs.Model.Laws.{NamesOne, requests_of, AnswersInOrder}
+use Rattle.rasta_check.specs.Model.Laws.{requests_of, AnswersInOrder}
 use Rattle.rasta_check.proofs.Model.Counts.{number, tally, number_take_all, number_take_at, requests_in, answers_in, IsRequest}
 use Rattle.rasta_check.proofs.Model.TakeRows.{kind_is}
 use Rattle.rasta_check.proofs.Model.NamedPositions.{SnIs}
 use Rattle.rasta_check.proofs.Model.Invariant.{Held, is_named}
 use Rattle.rasta_check.proofs.Model.ConveyedUnits.{answers_number}
 use Rattle.rasta_check.proofs.Model.OfferedUnits.{Valued}
-use Rattle.rasta_check.proofs.Lists.{begins_with, get_next}
 
 -- ---- the position that a CS confirms
 

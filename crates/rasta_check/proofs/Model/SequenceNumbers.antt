@@ -1,10 +1,8 @@
 -- SNs rise by one.
 use Rattle.std.proofs.Common.{◌≡◌, ℕ, zero, suc, ◌+◌, ◌%◌, ◌^◌, ◌≤◌, true, List, [], ◌∷◌, ◌++◌, length, Some, slice_get, ap, arith}
-use Rattle.std.proofs.lemmas.Bool.Decides.{nat_tests}
-use Rattle.std.proofs.lemmas.Option.{slice_get_within}
-use Rattle.rasta_end.specs.State.{Made, first_sn, sn_at}
+use Rattle.rasta_check.proofs.Prelude.{nat_tests, slice_get_within, Made, first_sn, all_push}
+use Rattle.rasta_end.specs.State.{sn_at}
 use Rattle.rasta_end.specs.MakeRule.{is_next_sn}
-use Rattle.rasta_check.proofs.Lists.{all_push}
 
 -- each SN but the first follows from the first
 abbrev pub Numbered : List Made → Type 0

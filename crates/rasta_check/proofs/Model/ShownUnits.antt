@@ -1,23 +1,10 @@
 -- What the PDUs of an end show: no more units than it has handed up.
 use Rattle.std.proofs.Common.{◌≡◌, ℕ, zero, suc, ◌<◌, ◌≤◌, ◌⊎◌, true, false, List, [], length, Some, slice_get, refl, ap, sym, ◌∙◌, arith, inl, inr, ⊎_elim}
+use Rattle.rasta_check.proofs.Prelude.{nat_tests, length_push, slice_get_within, slice_get-get_or, Side, Kind, Parameters, SafetyPdu, is_kind, Phase, Why, MakeRow, TakeRow, Opened}
+use Rattle.rasta_check.proofs.Prelude.{Answered, InSequence, Disconnected, Owed, Made, EndState, is_closed, is_connected, after_make_by, effect, after_take, all_push}
+use Rattle.rasta_check.proofs.Prelude.{ConnectionRequest}
 use Rattle.std.proofs.Math.Logic.{⊎_map}
-use Rattle.std.proofs.lemmas.Bool.Decides.{nat_tests}
-use Rattle.std.proofs.lemmas.List.{length_push}
-use Rattle.std.proofs.lemmas.Option.{slice_get_within, slice_get-get_or}
-use Rattle.rasta_pcap.specs.declared.fault.Side.{Side}
-use Rattle.rasta_pdu.specs.declared.kind.Kind.{Kind}
-use Rattle.rasta_pdu.specs.Params.{Parameters}
-use Rattle.rasta_pdu.specs.Pdu.{SafetyPdu, is_kind}
-use Rattle.rasta_end.specs.declared.phase.Phase.{Phase}
-use Rattle.rasta_end.specs.declared.why.Why.{Why}
-use Rattle.rasta_end.specs.declared.make_row.MakeRow.{MakeRow}
-use Rattle.rasta_end.specs.declared.take_row.TakeRow.{TakeRow}
-use Rattle.rasta_end.specs.declared.take_row.TakeRow.TheVariants.{Opened, Answered, InSequence, Disconnected}
-use Rattle.rasta_end.specs.declared.owed.Owed.{Owed}
-use Rattle.rasta_end.specs.State.{Made, EndState, is_closed, is_connected}
-use Rattle.rasta_end.specs.MakeRule.{is_judged, offered_after, after_make_by}
-use Rattle.rasta_end.specs.TakeRule.{effect, after_take}
-use Rattle.rasta_check.proofs.Lists.{all_push}
+use Rattle.rasta_end.specs.MakeRule.{is_judged, offered_after}
 use Rattle.rasta_check.proofs.Model.PassedTests.{Passed, cs_is}
 use Rattle.rasta_check.proofs.Model.MakeRows.{Making, fresh, MadeBy, new_made}
 use Rattle.rasta_check.proofs.Model.Steps.{Grown, same_grown}
@@ -30,7 +17,6 @@ use Rattle.rasta_check.proofs.Model.ConveyedUnits.{values, length-values}
 use Rattle.rasta_check.proofs.Model.OfferedUnits.{Valued}
 use Rattle.rasta_check.proofs.Model.Requests.{OnceIn}
 use Rattle.rasta_check.proofs.Model.HandedUnits.{Handed, worth_at}
-use Rattle.rasta_pdu.specs.declared.kind.Kind.TheVariants.{ConnectionRequest}
 
 -- a CS names a position of f through which at most n units are conveyed
 pub record Shows (f : EndState) (n cs : ℕ) : Type 0 where

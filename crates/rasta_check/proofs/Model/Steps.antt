@@ -1,18 +1,7 @@
 -- What a step adds and leaves alone, and what holds at the start.
 use Rattle.std.proofs.Common.{◌≡◌, ℕ, ◌≤◌, true, [], ◌∷◌, ◌++◌, length, Option, Some, None, slice_get, refl, sym, ◌∙◌, arith}
-use Rattle.std.proofs.lemmas.Bool.Decides.{nat_tests}
-use Rattle.rasta_pcap.specs.declared.fault.Side.{Side}
-use Rattle.rasta_pdu.specs.Params.{Parameters}
-use Rattle.rasta_pdu.specs.Pdu.{SafetyPdu}
-use Rattle.rasta_end.specs.declared.take_row.TakeRow.{TakeRow}
-use Rattle.rasta_end.specs.declared.take_row.TakeRow.TheVariants.{Requested}
-use Rattle.rasta_end.specs.TakeRule.{position_confirmed, effect, after_take}
-use Rattle.rasta_pdu.specs.declared.quiet_point.Quiet.{Quiet}
-use Rattle.rasta_end.specs.declared.why.Why.{Why}
-use Rattle.rasta_end.specs.State.{Made, EndState}
-use Rattle.rasta_end.specs.MakeRule.{Makes, has_ended, after_make_by}
-use Rattle.rasta_end.specs.Starts.{start_by}
-use Rattle.rasta_check.proofs.Lists.{get_front}
+use Rattle.rasta_check.proofs.Prelude.{nat_tests, Side, Parameters, SafetyPdu, TakeRow, Requested, position_confirmed, effect, after_take, Quiet, Why, Made, EndState, Makes}
+use Rattle.rasta_check.proofs.Prelude.{has_ended, after_make_by, start_by, get_front}
 use Rattle.rasta_check.proofs.Model.Counts.{answers_in}
 use Rattle.rasta_check.proofs.Model.ConveyedUnits.{values, values_push, values_asks}
 use Rattle.rasta_check.proofs.Model.TakeRows.{take_by, take_made}

@@ -1,19 +1,13 @@
 -- The rows of the take table: what each of them knows, and what a take leaves alone.
 use Rattle.std.proofs.Common.{◌≡◌, ℕ, Bool, true, false, Option, Some, None, refl, arith}
-use Rattle.std.specs.Prelude.{if◌then◌else◌}
-use Rattle.rasta_pcap.specs.declared.fault.Side.{Side}
-use Rattle.rasta_pcap.specs.declared.fault.Side.TheVariants.{Client, Server}
-use Rattle.rasta_pdu.specs.declared.kind.Kind.{Kind}
-use Rattle.rasta_pdu.specs.declared.kind.Kind.TheVariants.{ConnectionRequest, ConnectionResponse, RetransmissionRequest, RetransmissionResponse, DisconnectionRequest, Heartbeat, RetransmittedData}
-use Rattle.rasta_pdu.specs.Pdu.{SafetyPdu, is_kind}
-use Rattle.rasta_pdu.specs.Params.{Parameters}
-use Rattle.rasta_end.specs.declared.phase.Phase.{Phase}
-use Rattle.rasta_end.specs.declared.phase.Phase.TheVariants.{Down, Start, Up, RetrReq, RetrRun}
-use Rattle.rasta_end.specs.declared.take_row.TakeRow.{TakeRow}
-use Rattle.rasta_end.specs.declared.take_row.TakeRow.TheVariants.{Opened, Answered, FirstHeartbeat, InSequence, ResentInSequence, Gap, GapInRetransmission, Resumed, Requested, RequestedAhead, RequestedAgain, Disconnected}
-use Rattle.rasta_end.specs.State.{EndState, is_closed, is_flowing, is_active, is_timed, carries_unit}
-use Rattle.rasta_end.specs.MakeRule.{first_that_holds}
-use Rattle.rasta_end.specs.TakeRule.{is_heartbeat_or_data, take_rows, is_in, is_ahead, is_valid, take_row, effect, effect_by, accept, enter, hand_up, after_take}
+use Rattle.rasta_check.proofs.Prelude.{if◌then◌else◌, Side, Client, Server, Kind, ConnectionRequest, ConnectionResponse, RetransmissionRequest, RetransmissionResponse}
+use Rattle.rasta_check.proofs.Prelude.{DisconnectionRequest, RetransmittedData, SafetyPdu, is_kind, Parameters, Phase, Start, Up, RetrReq, RetrRun, TakeRow, Opened, Answered}
+use Rattle.rasta_check.proofs.Prelude.{FirstHeartbeat, InSequence, ResentInSequence, Gap, GapInRetransmission, Resumed, Requested, RequestedAhead, RequestedAgain, Disconnected}
+use Rattle.rasta_check.proofs.Prelude.{EndState, is_closed, is_flowing, carries_unit, first_that_holds, is_valid, effect, after_take}
+use Rattle.rasta_pdu.specs.declared.kind.Kind.TheVariants.{Heartbeat}
+use Rattle.rasta_end.specs.declared.phase.Phase.TheVariants.{Down}
+use Rattle.rasta_end.specs.State.{is_active, is_timed}
+use Rattle.rasta_end.specs.TakeRule.{is_heartbeat_or_data, take_rows, is_in, is_ahead, take_row, effect_by, accept, enter, hand_up}
 
 -- what a row knows of side, phase and type, and of the tests: next in sequence, ahead, a valid CS
 abbrev pub Premise : TakeRow → Side → Phase → Kind → Bool → Bool → Bool → Type 0

@@ -1,9 +1,6 @@
 -- What a script says of a level, by its first entry.
 use Rattle.std.proofs.Common.{◌≡◌, ℕ, ◌<◌, true, false, List, [], ◌∷◌, refl, arith}
-use Rattle.std.specs.Prelude.{◌==◌}
-use Rattle.std.proofs.lemmas.Bool.Decides.{nat_tests}
-use Rattle.rasta_check.proofs.Prelude.{Entry, Take, Make, Why}
-use Rattle.rasta_check.specs.Run.Levels.{takes_at, makes_at}
+use Rattle.rasta_check.proofs.Prelude.{◌==◌, nat_tests, Entry, Take, Make, Why, takes_at, makes_at}
 
 pub takes_here : (level number : ℕ) (es : List Entry) → takes_at level (Take level number ∷ es) ≡ number ∷ takes_at level es
 unfolding takes_at

@@ -1,14 +1,12 @@
 -- All levels: two scripts that fit tell a run.
 use Rattle.std.proofs.Common.{◌≡◌, ℕ, zero, suc, ◌+◌, ◌≤◌, List, [], ◌++◌, length, Some, slice_get, take, refl, ap, sym, ◌∙◌, arith}
-use Rattle.std.specs.Prelude.{Option, None}
-use Rattle.std.proofs.lemmas.List.{append-nil, append_assoc, take_all, length-take-le}
-use Rattle.std.proofs.lemmas.Option.{slice_get_within}
-use Rattle.rasta_check.proofs.Prelude.{Side, Client, Server, Packet, Parameters, Entry, EndState, start_of, FirstCopy}
-use Rattle.rasta_check.proofs.Prelude.{CrossRecorded, Station, World, other_side, station_of, end_of, at_start, Follows}
-use Rattle.rasta_check.specs.Model.World.{moved, first_station, first_world}
-use Rattle.rasta_check.specs.Run.Moves.{Happened, Runs, starts}
-use Rattle.rasta_check.specs.Run.Lines.{Line, told, number_of}
-use Rattle.rasta_check.specs.Run.Levels.{makes_at, takes_lines, side_lines, packet_lines, level_lines, levels_lines, run_lines}
+use Rattle.rasta_check.proofs.Prelude.{None, append-nil, append_assoc, take_all, length-take-le, slice_get_within, Side, Client, Server, Packet, Parameters, Entry, EndState}
+use Rattle.rasta_check.proofs.Prelude.{start_of, FirstCopy, CrossRecorded, Station, World, other_side, station_of, end_of, at_start, Follows, first_station, Happened, Runs, starts}
+use Rattle.rasta_check.proofs.Prelude.{told, makes_at, slice_get_some}
+use Rattle.std.specs.Prelude.{Option}
+use Rattle.rasta_check.specs.Model.World.{moved, first_world}
+use Rattle.rasta_check.specs.Run.Lines.{Line, number_of}
+use Rattle.rasta_check.specs.Run.Levels.{takes_lines, side_lines, packet_lines, level_lines, levels_lines, run_lines}
 use Rattle.rasta_check.proofs.Capture.FaultlessLists.{IsSent}
 use Rattle.rasta_check.proofs.Model.Steps.{base}
 use Rattle.rasta_check.proofs.Script.Tracks.{Tracks, Drained, first_number_of, first_tracks, nothing_left, passed_by}
@@ -16,7 +14,6 @@ use Rattle.rasta_check.proofs.Run.Rests.{Above, says_all, says_on, lead_above, L
 use Rattle.rasta_check.proofs.Run.Moves.{Many, many_moves}
 use Rattle.rasta_check.proofs.Run.Takes.{drain, above_next}
 use Rattle.rasta_check.proofs.Run.Packets.{next_is}
-use Rattle.rasta_check.proofs.Lists.{slice_get_some}
 use Rattle.rasta_check.proofs.Sides.{sided}
 
 -- ---- sides

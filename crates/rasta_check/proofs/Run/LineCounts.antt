@@ -1,10 +1,7 @@
 -- Each move of a run has one line.
 use Rattle.std.proofs.Common.{◌≡◌, List, Option, length, refl, ap, arith}
-use Rattle.std.proofs.lemmas.List.{length-append}
-use Rattle.rasta_check.proofs.Prelude.{Side, Packet, Parameters, Station, World}
-use Rattle.rasta_check.specs.Model.World.{Move, Moves, repeats}
-use Rattle.rasta_check.specs.Run.Moves.{Happened, Runs, starts, does}
-use Rattle.rasta_check.specs.Run.Lines.{copy_lines, lines_of_move, told}
+use Rattle.rasta_check.proofs.Prelude.{length-append, Side, Packet, Parameters, Station, World, Move, Moves, repeats, Happened, Runs, starts, does, lines_of_move, told}
+use Rattle.rasta_check.specs.Run.Lines.{copy_lines}
 use Rattle.rasta_check.proofs.Run.Moves.{told_push}
 
 one_line : {p : Parameters} {b a a' : Station} {xs ys : List Packet} {m : Move} (s : Side) → Moves p b xs a m a' ys → length (lines_of_move s a b xs m) ≡ 1

@@ -1,10 +1,9 @@
 -- Several moves of one station, one after the other, and their lines.
 use Rattle.std.proofs.Common.{◌≡◌, List, [], ◌∷◌, ◌++◌, ap, sym, ◌∙◌}
-use Rattle.std.proofs.lemmas.List.{append-nil, append_assoc}
-use Rattle.rasta_check.proofs.Prelude.{Side, Client, Server, Packet, Parameters, Station, World, other_side, station_of}
-use Rattle.rasta_check.specs.Model.World.{Move, Moves, moved}
-use Rattle.rasta_check.specs.Run.Moves.{Happened, Runs, does}
-use Rattle.rasta_check.specs.Run.Lines.{Line, lines_of_move, lines_in, told}
+use Rattle.rasta_check.proofs.Prelude.{append-nil, append_assoc, Side, Client, Server, Packet, Parameters, Station, World, other_side, station_of, Move, Moves, Happened, Runs}
+use Rattle.rasta_check.proofs.Prelude.{does, lines_of_move, told}
+use Rattle.rasta_check.specs.Model.World.{moved}
+use Rattle.rasta_check.specs.Run.Lines.{Line, lines_in}
 
 -- ---- lists of lines
 

@@ -1,21 +1,14 @@
 -- The packet of a level: its end makes it, or it is a copy, with its lines.
 use Rattle.std.proofs.Common.{◌≡◌, ℕ, suc, ◌+◌, ◌<◌, List, [], ◌∷◌, ◌++◌, length, Some, slice_get, take, refl, ap, sym, ◌∙◌, arith}
-use Rattle.std.specs.Prelude.{None, drop}
-use Rattle.std.proofs.lemmas.List.{length_push, length-take-le, take-append-drop}
-use Rattle.std.proofs.lemmas.Option.{slice_get_within}
-use native.Mathlib.Decide.{dec_lt}
-use Prim.{yes, no}
-use Rattle.rasta_check.proofs.Prelude.{Side, Packet, Parameters, Entry, Take, Make, Why, Made}
-use Rattle.rasta_check.proofs.Prelude.{wrapped, FirstCopy, CrossRecorded, Station, Cursor, Advances, makes_next, Leads}
-use Rattle.rasta_check.specs.Capture.Crossing.{Spells}
-use Rattle.rasta_check.specs.Capture.Lists.{position_of_place}
-use Rattle.rasta_check.specs.Model.World.{making, repeating, waiting, makes, repeats, waits}
+use Rattle.rasta_check.proofs.Prelude.{None, drop, length_push, length-take-le, take-append-drop, slice_get_within, dec_lt, yes, no, Side, Packet, Parameters, Entry, Take, Make}
+use Rattle.rasta_check.proofs.Prelude.{Why, Made, wrapped, FirstCopy, CrossRecorded, Station, Cursor, Advances, makes_next, Leads, Spells, position_of_place, makes, repeats, waits}
+use Rattle.rasta_check.proofs.Prelude.{get_front, get_front_within, get_push, slice_get_some, lines_of_move}
+use Rattle.rasta_check.specs.Model.World.{making, repeating, waiting}
 use Rattle.rasta_check.proofs.Capture.FaultlessLists.{IsSent, ordered}
 use Rattle.rasta_check.proofs.Capture.Crossings.{number_spelled}
-use Rattle.rasta_check.proofs.Lists.{get_front, get_front_within, get_push, slice_get_some}
 use Rattle.rasta_check.proofs.Script.Tracks.{Tracks, Drained, next_number, next_packet, untouched}
 use Rattle.rasta_check.proofs.Model.Steps.{base, made_more}
-use Rattle.rasta_check.specs.Run.Lines.{lines_of_move, number_of}
+use Rattle.rasta_check.specs.Run.Lines.{number_of}
 use Rattle.rasta_check.specs.Run.Levels.{make_line, waited_line, side_lines}
 use Rattle.rasta_check.proofs.Run.Entries.{makes_here}
 use Rattle.rasta_check.proofs.Run.Rests.{Above, says_all, says_make, lead_above, places_above, no_makes, Left}

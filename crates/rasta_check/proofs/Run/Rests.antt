@@ -1,10 +1,7 @@
 -- What the rest of a script that fits says of later levels.
 use Rattle.std.proofs.Common.{◌≡◌, ℕ, ◌<◌, ◌≤◌, List, [], ◌∷◌, length, Some, slice_get, refl, ap, ◌∙◌, arith}
-use Rattle.std.proofs.lemmas.Option.{slice_get_within}
-use native.Mathlib.Decide.{dec_lt}
-use Prim.{yes, no}
-use Rattle.rasta_check.proofs.Prelude.{Side, Parameters, Entry, Take, Make, Why, FirstCopy, Station, Cursor, takes_next, makes_next, Leads}
-use Rattle.rasta_check.specs.Run.Levels.{takes_at, makes_at}
+use Rattle.rasta_check.proofs.Prelude.{slice_get_within, dec_lt, yes, no, Side, Parameters, Entry, Take, Make, Why, FirstCopy, Station, Cursor, takes_next, makes_next, Leads}
+use Rattle.rasta_check.proofs.Prelude.{takes_at, makes_at}
 use Rattle.rasta_check.proofs.Script.Tracks.{Tracks}
 use Rattle.rasta_check.proofs.Run.Entries.{above, below, makes_none, makes_other, makes_past, takes_none, takes_other, takes_past}
 

@@ -1,9 +1,8 @@
 -- The run that two scripts tell.
 use Rattle.std.proofs.Common.{◌≡◌, List, length}
-use Rattle.rasta_check.proofs.Prelude.{Side, Client, Server, Packet, Parameters, AreParameters, Entry}
-use Rattle.rasta_check.proofs.Prelude.{EndState, FirstCopy, CrossRecorded, World, Reaches, other_side, Follows}
-use Rattle.rasta_check.specs.Run.Moves.{Happened, Runs, worlds_of}
-use Rattle.rasta_check.specs.Run.Lines.{told}
+use Rattle.rasta_check.proofs.Prelude.{Side, Client, Server, Packet, Parameters, AreParameters, Entry, EndState, FirstCopy, CrossRecorded, World, Reaches, other_side, Follows}
+use Rattle.rasta_check.proofs.Prelude.{Happened, Runs, told}
+use Rattle.rasta_check.specs.Run.Moves.{worlds_of}
 use Rattle.rasta_check.specs.Run.Levels.{run_lines}
 use Rattle.rasta_check.specs.Run.Laws.{Simulation}
 use Rattle.rasta_check.proofs.Capture.FaultlessLists.{IsSent}

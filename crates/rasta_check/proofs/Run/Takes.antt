@@ -1,12 +1,10 @@
 -- The takes that are due at a level, with their lines.
 use Rattle.std.proofs.Common.{◌≡◌, ℕ, suc, ◌+◌, ◌<◌, ◌≤◌, List, [], ◌∷◌, length, Some, slice_get, refl, ap, sym, ◌∙◌, arith}
-use Rattle.std.proofs.lemmas.Option.{slice_get_within}
+use Rattle.rasta_check.proofs.Prelude.{slice_get_within, yes, no, Side, Packet, Parameters, Entry, Take, Make, EndState, wrapped, Takes, FirstCopy, Station, Cursor, Advances}
+use Rattle.rasta_check.proofs.Prelude.{takes_next, makes_next, Leads, arrives, takes, takes_at, slice_get_some}
 use native.Mathlib.Decide.{dec_le}
-use Prim.{yes, no}
-use Rattle.rasta_check.proofs.Prelude.{Side, Packet, Parameters, Entry, Take, Make, EndState, wrapped}
-use Rattle.rasta_check.proofs.Prelude.{Takes, FirstCopy, Station, Cursor, Advances, takes_next, makes_next, Leads}
-use Rattle.rasta_check.specs.Model.World.{arriving, taking, arrives, takes}
-use Rattle.rasta_check.specs.Run.Levels.{takes_at, take_line, brought_line, each_take, takes_lines}
+use Rattle.rasta_check.specs.Model.World.{arriving, taking}
+use Rattle.rasta_check.specs.Run.Levels.{take_line, brought_line, each_take, takes_lines}
 use Rattle.rasta_check.proofs.Capture.FaultlessLists.{IsSent}
 use Rattle.rasta_check.proofs.Script.Tracks.{Tracks, Drained, next_number}
 use Rattle.rasta_check.proofs.Model.Steps.{base}
@@ -14,7 +12,6 @@ use Rattle.rasta_check.proofs.Model.TakeRows.{take_leaves}
 use Rattle.rasta_check.proofs.Run.Entries.{takes_here, takes_none, takes_past}
 use Rattle.rasta_check.proofs.Run.Rests.{place_of, Above, says_all, says_take, lead_above, no_takes, Left, left_on}
 use Rattle.rasta_check.proofs.Run.Moves.{Many, stays, moves, append_many, recast}
-use Rattle.rasta_check.proofs.Lists.{slice_get_some}
 
 module _ (p : Parameters) (n : ℕ) (s : Side) (own peer : List FirstCopy) (last : Cursor) (k : ℕ) where
   -- where no take is due, the next entry lies at this level or above, and all after it above

@@ -1,9 +1,7 @@
 -- Runs with what happened in them and runs of two ends go through the same worlds.
 use Rattle.std.proofs.Common.{◌≡◌, List, [], ◌∷◌, ◌++◌, refl, ap, ◌∙◌}
-use Rattle.std.proofs.lemmas.List.{map-append}
-use Rattle.rasta_pdu.specs.Params.{Parameters}
-use Rattle.rasta_check.specs.Model.World.{World, side_moves, Reaches, begins, goes_on}
-use Rattle.rasta_check.specs.Run.Moves.{Happened, Runs, starts, does, worlds_of}
+use Rattle.rasta_check.proofs.Prelude.{map-append, Parameters, World, side_moves, Reaches, begins, goes_on, Happened, Runs, starts, does}
+use Rattle.rasta_check.specs.Run.Moves.{worlds_of}
 
 worlds_push : (hs : List Happened) (h : Happened) → worlds_of (hs ++ h ∷ []) ≡ worlds_of hs ++ h.world ∷ []
 worlds_push hs h = map-append (λ (x : Happened). x.world) hs (h ∷ [])

@@ -1,15 +1,9 @@
 -- Scripts cut after their last make: a run in which no more is handed up than the two lists show.
 use Rattle.std.proofs.Common.{◌≡◌, ◌⊎◌, ℕ, zero, suc, ◌<◌, ◌≤◌, false, List, [], ◌∷◌, length, Some, slice_get, refl, ap, sym, ◌∙◌, arith, inl, inr, ⊎_elim, subst}
-use Rattle.rasta_check.proofs.Prelude.{Side, Client, Server, Packet, Kind, Parameters, SafetyPdu, Entry, Why, EndState, Makes, start_of}
-use Rattle.rasta_check.proofs.Prelude.{FirstCopy, CrossRecorded, World, Reaches, other_side, station_of, end_of, Cursor, Advances, takes_next, makes_next, Leads, at_start, Follows}
-use Rattle.rasta_pdu.specs.declared.kind.Kind.TheVariants.{ConnectionRequest}
-use Rattle.rasta_pdu.specs.Pdu.{is_kind}
-use Rattle.rasta_end.specs.declared.phase.Phase.TheVariants.{Start}
-use Rattle.rasta_end.specs.Units.{units_at}
-use Rattle.rasta_end.specs.MakeRule.{phase_after, after_make_by}
-use Rattle.rasta_check.specs.Model.Laws.{NamesOne}
-use Rattle.rasta_check.specs.Model.Taken.{pdus_made, pdus_of, all_made, units_along, units_shown, units_taken, position_with, surely_taken}
-use Rattle.rasta_check.specs.Model.Theorem.{units_handed, units_listed}
+use Rattle.rasta_check.proofs.Prelude.{Side, Client, Server, Packet, Kind, Parameters, SafetyPdu, Entry, Why, EndState, Makes, start_of, FirstCopy, CrossRecorded, World, Reaches}
+use Rattle.rasta_check.proofs.Prelude.{other_side, station_of, end_of, Cursor, Advances, takes_next, makes_next, Leads, at_start, Follows, ConnectionRequest, is_kind, Start}
+use Rattle.rasta_check.proofs.Prelude.{units_at, phase_after, after_make_by, NamesOne, pdus_made, pdus_of, all_made, units_along, units_shown, units_taken, position_with}
+use Rattle.rasta_check.proofs.Prelude.{surely_taken, units_handed, units_listed, map_at}
 use Rattle.rasta_check.proofs.Capture.FaultlessLists.{IsSent}
 use Rattle.rasta_check.proofs.Model.PassedTests.{passed, cs_is}
 use Rattle.rasta_check.proofs.Model.MakeRows.{Making, made_by, after_row, opening_is}
@@ -22,7 +16,6 @@ use Rattle.rasta_check.proofs.Theorem.ShowingPdus.{fold_member}
 use Rattle.rasta_check.proofs.Theorem.SentRuns.{known}
 use Rattle.rasta_check.proofs.Theorem.ListedUnits.{of_units, exactly_listed}
 use Rattle.rasta_check.proofs.Run.Simulation.{simulated}
-use Rattle.rasta_check.proofs.Lists.{map_at}
 use Rattle.rasta_check.proofs.Model.Steps.{start_is}
 
 -- ---- cut scripts

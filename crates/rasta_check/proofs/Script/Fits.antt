@@ -1,24 +1,18 @@
 -- The script that fits is the one that the code follows to its end, and the first fault of another is the one that the code answers.
 use Rattle.std.proofs.Common.{◌≡◌, ℕ, suc, ◌+◌, ◌<◌, ◌≤◌, true, false, List, [], ◌∷◌, ◌++◌, length, Option, Some, None, Result, Ok, Err, slice_get, ◌⊎◌, inl, inr, refl, ap, sym, ◌∙◌, arith, subst}
-use Rattle.std.specs.Prelude.{◌==◌}
+use Rattle.rasta_check.proofs.Prelude.{◌==◌, nat_tests, append-nil, append_assoc, length-append, slice_get_within, Fault, Side, Client, Server, Parameters, Entry, Take, Make}
+use Rattle.rasta_check.proofs.Prelude.{EndState, Makes, start_of, FirstCopy, Cursor, at_start, Follows, fault_of_end, Scripts, make_fault, after_make, first_that_holds, take_fault}
+use Rattle.rasta_check.proofs.Prelude.{after_take, copy_with, IsOrdered, position_of_number, position_of_place, unless, made_there, follow_from, follow, Explained, BothFit}
+use Rattle.rasta_check.proofs.Prelude.{report_of, slice_get_some, get_past}
 use Rattle.std.specs.Option.{option_or}
-use Rattle.std.proofs.lemmas.Bool.Decides.{nat_tests}
-use Rattle.std.proofs.lemmas.List.{append-nil, append_assoc, length-append}
-use Rattle.std.proofs.lemmas.Option.{slice_get_within}
-use Rattle.rasta_check.proofs.Prelude.{Fault, Side, Client, Server, Parameters, Entry, Take, Make, EndState, Makes, start_of, FirstCopy, Cursor, at_start, Follows}
-use Rattle.rasta_pcap.specs.Fault.{fault_of_end, make_missing}
-use Rattle.rasta_cert.specs.Certificate.{Scripts}
-use Rattle.rasta_end.specs.MakeRule.{make_fault, after_make, first_that_holds}
-use Rattle.rasta_end.specs.TakeRule.{take_fault, after_take}
-use Rattle.rasta_check.specs.Capture.Crossing.{copy_with}
-use Rattle.rasta_check.specs.Capture.Lists.{IsOrdered, places_of, position_of_number, position_of_place}
+use Rattle.rasta_pcap.specs.Fault.{make_missing}
+use Rattle.rasta_check.specs.Capture.Lists.{places_of}
 use Rattle.rasta_check.specs.Script.Fitting.{places_made, AreInOrder, AreNamed, Joins, Fits, level_after, position_after, entry_tests, end_fault, FirstFault, at_entry, after_last}
 use Rattle.rasta_check.specs.Script.Laws.{HasOneAnswer}
-use Rattle.rasta_check.specs.Internals.Checking.{unless, take_entry, make_entry, taken_there, made_there, next_cursor, then_follow, follow_from, follow, where_followed, verdict_of}
-use Rattle.rasta_check.specs.Verdict.Report.{Explained, BothFit, IsScriptVerdict, both_fit, client_refused, server_refused, report_of}
+use Rattle.rasta_check.specs.Internals.Checking.{take_entry, make_entry, taken_there, next_cursor, then_follow, where_followed, verdict_of}
+use Rattle.rasta_check.specs.Verdict.Report.{IsScriptVerdict, both_fit, client_refused, server_refused}
 use Rattle.rasta_check.proofs.Script.FollowedScripts.{Goes, takes, makes, goes, gone, follow_fits, fits_follow}
 use Rattle.rasta_check.proofs.Internals.StoreLists.{copy_of_position, no_copy}
-use Rattle.rasta_check.proofs.Lists.{slice_get_some, get_past}
 use Rattle.rasta_check.proofs.Capture.Positions.{number_found, place_found, place_first}
 
 -- so many and those of a list

@@ -1,18 +1,13 @@
 -- What the checker answers for a script is the end that it leads to, exactly where it fits.
 use Rattle.std.proofs.Common.{◌≡◌, ℕ, suc, ◌+◌, ◌<◌, ◌≤◌, true, false, List, [], ◌∷◌, drop, length, get_or, Option, Some, None, Result, Ok, Err, slice_get, position, MatchResult, ◌⊎◌, inl, inr, refl, ap, sym, ◌∙◌, arith, subst, add-one}
-use Rattle.std.specs.Prelude.{◌==◌}
-use Rattle.std.proofs.lemmas.Bool.Decides.{nat_tests}
+use Rattle.rasta_check.proofs.Prelude.{◌==◌, nat_tests, slice_get-get_or, Fault, Side, Parameters, Entry, Take, Make, Why, EndState, Makes, Takes, start_of, FirstCopy, Cursor}
+use Rattle.rasta_check.proofs.Prelude.{Advances, takes_next, makes_next, Leads, at_start, Follows, fault_of_end, no_memory, make_fault, after_make, take_fault, after_take}
+use Rattle.rasta_check.proofs.Prelude.{IsOrdered, position_of_number, position_of_place, unless, made_there, follow_from, follow, Followed}
 use Rattle.std.proofs.lemmas.List.{drop_all}
-use Rattle.std.proofs.lemmas.Option.{slice_get-get_or}
-use Rattle.rasta_check.proofs.Prelude.{Fault, Side, Parameters, Entry, Take, Make, Why, EndState, Makes, Takes}
-use Rattle.rasta_check.proofs.Prelude.{start_of, FirstCopy, Cursor, Advances, takes_next, makes_next, Leads, at_start, Follows}
-use Rattle.rasta_pcap.specs.Fault.{fault_of_end, no_memory, make_missing}
-use Rattle.rasta_end.specs.MakeRule.{make_fault, after_make}
-use Rattle.rasta_end.specs.TakeRule.{take_fault, after_take}
+use Rattle.rasta_pcap.specs.Fault.{make_missing}
 use Rattle.rasta_end.specs.Judged.{JudgedEnd}
 use Rattle.rasta_end.proofs.MakeTests.{no_fault, no_test}
-use Rattle.rasta_check.specs.Capture.Lists.{IsOrdered, position_of_number, position_of_place}
-use Rattle.rasta_check.specs.Internals.Checking.{unless, take_entry, make_entry, taken_there, made_there, next_cursor, then_follow, follow_from, follow, Followed, moved_to, IsRefused}
+use Rattle.rasta_check.specs.Internals.Checking.{take_entry, make_entry, taken_there, next_cursor, then_follow, moved_to, IsRefused}
 use Rattle.rasta_check.proofs.Lists.{drop_one_more}
 use Rattle.rasta_check.proofs.Capture.Positions.{number_found, number_named, place_found, place_named}
 

@@ -1,8 +1,7 @@
 -- Scripts are followed in one way, and first copies are the packets with a new number.
 use Rattle.std.proofs.Common.{◌≡◌, ℕ, ◌<◌, List, [], ◌∷◌, ◌++◌, length, Some, slice_get, refl, ap, sym, ◌∙◌, arith}
-use Rattle.std.proofs.lemmas.List.{append-nil}
-use Rattle.rasta_check.proofs.Prelude.{Side, Packet, Parameters, RedundancyPdu, Entry, FirstCopy, Cursor, Advances, takes_next, makes_next, Leads}
-use Rattle.rasta_check.specs.Capture.Crossing.{Spells, IsCarried, IsKnown}
+use Rattle.rasta_check.proofs.Prelude.{append-nil, Side, Packet, Parameters, RedundancyPdu, Entry, FirstCopy, Cursor, Advances, takes_next, makes_next, Leads, Spells}
+use Rattle.rasta_check.specs.Capture.Crossing.{IsCarried, IsKnown}
 use Rattle.rasta_check.proofs.Capture.FaultlessLists.{IsSent, ordered, read_once}
 use Rattle.rasta_check.proofs.Capture.Positions.{number_once}
 

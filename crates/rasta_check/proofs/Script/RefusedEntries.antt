@@ -1,8 +1,7 @@
 -- What follows from an entry by the rules of the end: a refusal at its number, or the next cursor.
 use Rattle.std.proofs.Common.{◌≡◌, ◌⊎◌, ℕ, Option, Some, None, Result, Ok, sym, refl, inl, inr}
-use Rattle.rasta_check.proofs.Prelude.{Fault, Cursor}
-use Rattle.rasta_pcap.specs.Fault.{fault_of_end, no_memory}
-use Rattle.rasta_check.specs.Internals.Checking.{Followed, IsRefused, unless}
+use Rattle.rasta_check.proofs.Prelude.{Fault, Cursor, fault_of_end, no_memory, Followed, unless}
+use Rattle.rasta_check.specs.Internals.Checking.{IsRefused}
 
 -- f is what the follower holds, and g what contracts see of it
 pub refused : (f g : Followed) → f ≡ g → (answer : Result Cursor ℕ) (rule : Followed → Option ℕ) (there : Cursor) → answer ≡ unless (rule g) there

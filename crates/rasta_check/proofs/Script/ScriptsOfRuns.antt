@@ -1,21 +1,17 @@
 -- Along a run: the first copies so far, and a script for each end.
 use Rattle.std.proofs.Common.{◌≡◌, ℕ, suc, ◌+◌, ◌-◌, ◌<◌, ◌≤◌, Bool, false, List, [], ◌∷◌, ◌++◌, length, Option, Some, None, slice_get, refl, ap, sym, ◌∙◌, arith, subst, ⊎_elim, length-append}
-use Rattle.std.proofs.lemmas.Bool.Decides.{nat_tests}
-use Rattle.std.proofs.lemmas.List.{append-nil, append_assoc, length_push, length-map, map-append}
-use Rattle.std.proofs.lemmas.Option.{slice_get_within}
-use Rattle.rasta_check.proofs.Prelude.{Side, Client, Server, Packet, Parameters, AreParameters, SafetyPdu, RedundancyPdu, Entry, Take, Make, Owed, Why, Made, EndState, wrapped}
-use Rattle.rasta_check.proofs.Prelude.{Makes, Takes, start_of, FirstCopy, Station, World, Reaches, other_side, station_of, Cursor, Advances, takes_next, makes_next, Leads, at_start, Follows}
+use Rattle.rasta_check.proofs.Prelude.{nat_tests, append-nil, append_assoc, length_push, length-map, map-append, slice_get_within, Side, Client, Server, Packet, Parameters}
+use Rattle.rasta_check.proofs.Prelude.{AreParameters, SafetyPdu, RedundancyPdu, Entry, Take, Make, Owed, Why, Made, EndState, wrapped, Makes, Takes, start_of, FirstCopy, Station}
+use Rattle.rasta_check.proofs.Prelude.{World, Reaches, other_side, station_of, Cursor, Advances, takes_next, makes_next, Leads, at_start, Follows, first_that_holds, take_fault}
+use Rattle.rasta_check.proofs.Prelude.{Spells, Move, Moves, makes, repeats, arrives, takes, waits, side_moves, begins, goes_on, first_station, pdus_of, pdus_made, get_push_cases}
+use Rattle.rasta_check.proofs.Prelude.{get_front, get_push, get_past, map_at, get_mapped}
 use Rattle.rasta_pcap.specs.Fault.{reply_owed, past_deadline}
 use Rattle.rasta_end.specs.State.{is_owing}
-use Rattle.rasta_end.specs.MakeRule.{is_past, first_that_holds}
-use Rattle.rasta_end.specs.TakeRule.{take_fault}
+use Rattle.rasta_end.specs.MakeRule.{is_past}
 use Rattle.rasta_check.proofs.Model.Steps.{base, start_base, start_made, start_side, made_more}
-use Rattle.rasta_check.specs.Capture.Crossing.{Spells}
-use Rattle.rasta_check.specs.Model.World.{Move, Moves, makes, repeats, arrives, takes, waits, Step, side_moves, begins, goes_on, first_station}
+use Rattle.rasta_check.specs.Model.World.{Step}
 use Rattle.rasta_cert.specs.Certificate.{most_entries}
 use Rattle.rasta_check.proofs.Capture.FaultlessLists.{IsSent}
-use Rattle.rasta_check.specs.Model.Taken.{pdus_of, pdus_made}
-use Rattle.rasta_check.proofs.Lists.{get_push_cases, get_front, get_push, get_past, map_at, get_mapped}
 use Rattle.rasta_check.proofs.Model.TakeRows.{take_leaves}
 use Rattle.rasta_check.proofs.Capture.FirstCopies.{Counts_from, sent_other, sent_copy, sent_first, sent_none, sent_once}
 

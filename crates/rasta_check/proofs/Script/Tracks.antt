@@ -1,18 +1,9 @@
 -- One side along the packets, as the run of two scripts is built: its script leads on, and it has made what crossed.
 use Rattle.std.proofs.Common.{◌≡◌, ℕ, suc, ◌+◌, ◌-◌, ◌%◌, ◌^◌, ◌<◌, ◌≤◌, List, [], ◌∷◌, ◌++◌, length, Some, slice_get, take, refl, ap, sym, ◌∙◌, arith, add-one}
-use Rattle.std.proofs.lemmas.Option.{slice_get_within}
-use Rattle.rasta_pcap.specs.declared.fault.Side.{Side}
-use Rattle.rasta_pdu.specs.Params.{Parameters}
-use Rattle.rasta_end.specs.State.{Made, wrapped}
-use Rattle.rasta_udp.specs.Frame.{Packet}
-use Rattle.rasta_check.specs.Model.World.{Station, first_station}
-use Rattle.rasta_end.specs.Starts.{start_of}
+use Rattle.rasta_check.proofs.Prelude.{slice_get_within, Side, Parameters, Made, wrapped, Packet, Station, first_station, start_of, FirstCopy, Entry, Take, Make, Cursor, Advances}
+use Rattle.rasta_check.proofs.Prelude.{takes_next, makes_next, Leads, at_start}
 use Rattle.rasta_check.proofs.Model.Steps.{base, base_small, start_base, start_made, start_side}
-use Rattle.rasta_check.specs.Capture.Crossing.{FirstCopy}
-use Rattle.rasta_cert.specs.declared.entry.Entry.{Entry}
-use Rattle.rasta_cert.specs.declared.entry.Entry.TheVariants.{Take, Make}
 use Rattle.rasta_check.proofs.Capture.FaultlessLists.{IsSent}
-use Rattle.rasta_check.specs.Script.Following.{Cursor, Advances, takes_next, makes_next, Leads, at_start}
 use Rattle.rasta_check.proofs.Lists.{take_one_more}
 
 -- one side at a level: what is left of its script leads to its last cursor, and it has made what crossed

@@ -1,19 +1,11 @@
 -- Entries of a script that fits have numbers that a certificate can hold.
 use Rattle.std.proofs.Common.{◌≡◌, ℕ, ◌+◌, ◌<◌, ◌≤◌, ◌^◌, false, List, [], ◌∷◌, Option, Some, None, length, slice_get, refl, ap, ◌∙◌, arith}
-use Rattle.std.specs.Prelude.{not}
-use Rattle.std.proofs.lemmas.List.{length-map, length_push}
+use Rattle.rasta_check.proofs.Prelude.{not, length-map, length_push, slice_get_within, bytes_eq, Side, Packet, Kind, Parameters, SafetyPdu, Entry, Phase, Owed, Why, Made, EndState}
+use Rattle.rasta_check.proofs.Prelude.{Makes, start_of, FirstCopy, Cursor, takes_next, makes_next, Leads, at_start, is_kind, MakeRow, content_of, contents, row_of, Data}
 use Rattle.std.proofs.lemmas.List.Sums.{count_by-le-length, length-filter}
-use Rattle.std.proofs.lemmas.Option.{slice_get_within}
 use Rattle.std.specs.Option.{option_map_or}
-use Rattle.std.specs.Str.{bytes_eq}
-use Rattle.rasta_check.proofs.Prelude.{Side, Packet, Kind, Parameters, SafetyPdu, Entry, Phase, Owed, Why, Made}
-use Rattle.rasta_check.proofs.Prelude.{EndState, Makes, start_of, FirstCopy, Cursor, takes_next, makes_next, Leads, at_start}
-use Rattle.rasta_pdu.specs.Pdu.{is_kind}
 use Rattle.rasta_end.specs.declared.why.Why.TheVariants.{Again}
-use Rattle.rasta_end.specs.declared.make_row.MakeRow.{MakeRow}
 use Rattle.rasta_end.specs.declared.make_row.MakeRow.TheVariants.{Resends}
-use Rattle.rasta_end.specs.State.{content_of}
-use Rattle.rasta_end.specs.MakeRule.{contents, row_of}
 use Rattle.rasta_cert.specs.Certificate.{AreEntries, IsReason}
 use Rattle.rasta_check.proofs.Capture.FaultlessLists.{IsSent}
 use Rattle.rasta_check.proofs.Model.PassedTests.{passed}
@@ -21,7 +13,6 @@ use Rattle.rasta_check.proofs.Model.MakeRows.{made_by, Making, again}
 use Rattle.rasta_check.proofs.Model.TakeRows.{take_leaves}
 use Rattle.rasta_check.proofs.Model.Steps.{base, base_small, start_made, made_more}
 use Rattle.rasta_check.proofs.Script.ScriptsOfRuns.{ClocksWithin}
-use Rattle.rasta_pdu.specs.declared.kind.Kind.TheVariants.{Data}
 
 -- ---- units of resends
 

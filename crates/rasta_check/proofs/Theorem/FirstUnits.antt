@@ -1,11 +1,7 @@
 -- The units that an end handed up are the first that its peer offered.
 use Rattle.std.proofs.Common.{◌≡◌, ℕ, List, ◌++◌, filter, Some, ap, sym, ◌∙◌}
-use Rattle.rasta_pdu.specs.Pdu.{SafetyPdu, messages_in, is_kind}
-use Rattle.rasta_end.specs.State.{EndState, Made}
-use Rattle.rasta_check.specs.Model.Theorem.{HandsUpUnits, units_handed}
+use Rattle.rasta_check.proofs.Prelude.{SafetyPdu, messages_in, is_kind, EndState, Made, HandsUpUnits, units_handed, get_mapped, begins_with, map_at, Data}
 use Rattle.rasta_check.specs.Verdict.Headline.{units_offered}
-use Rattle.rasta_check.proofs.Lists.{get_mapped, begins_with, map_at}
-use Rattle.rasta_pdu.specs.declared.kind.Kind.TheVariants.{Data}
 
 pub offered_first : (e f : EndState) → HandsUpUnits e f → (later : List (List (List ℕ))) × (units_offered f ≡ units_handed e ++ later)
 offered_first e f h =

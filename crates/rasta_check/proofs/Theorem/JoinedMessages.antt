@@ -1,17 +1,13 @@
 -- Messages of units, joined to one list.
 use Rattle.std.proofs.Common.{◌≡◌, ℕ, suc, ◌+◌, ◌-◌, ◌≤◌, List, [], ◌∷◌, ◌++◌, length, map, take, Some, slice_get, refl, ap, sym, ◌∙◌, arith, subst}
-use native.Mathlib.Decide.{dec_lt}
-use Prim.{yes, no}
+use Rattle.rasta_check.proofs.Prelude.{dec_lt, yes, no, map-append, length-map, SafetyPdu, messages_in, TakenUnit, units_listed, messages_of_unit, messages_taken, numbered_from}
+use Rattle.rasta_check.proofs.Prelude.{begins_with, get_front, get_front_within, get_mapped, get_past, map_at}
 use Rattle.std.specs.List.{flat_map}
-use Rattle.std.proofs.lemmas.List.{map-append, length-map}
 use Rattle.std.proofs.lemmas.List.Folds.{flat_map-map}
 use Rattle.std.proofs.lemmas.Grind.{flat_map-append}
-use Rattle.rasta_pdu.specs.Pdu.{SafetyPdu, messages_in}
-use Rattle.rasta_check.specs.Model.Taken.{TakenUnit}
-use Rattle.rasta_check.specs.Model.Theorem.{units_listed}
-use Rattle.rasta_check.specs.Verdict.Listed.{TakenMessage, messages_of_unit, messages_taken, ListedMessage, numbered_from}
+use Rattle.rasta_check.specs.Verdict.Listed.{TakenMessage, ListedMessage}
 use Rattle.rasta_check.specs.Verdict.Headline.{messages_in_list}
-use Rattle.rasta_check.proofs.Lists.{begins_with, get_front, get_front_within, get_mapped, get_past, get_take, map_at}
+use Rattle.rasta_check.proofs.Lists.{get_take}
 
 -- the messages of each unit, unit by unit
 abbrev pub joined : List (List (List ℕ)) → List (List ℕ)

@@ -1,25 +1,15 @@
 -- The units that two lists show to be taken: their members, their proofs, and that they were handed up.
 use Rattle.std.proofs.Common.{◌≡◌, ℕ, zero, suc, ◌+◌, ◌<◌, ◌≤◌, true, false, List, [], ◌∷◌, ◌++◌, length, Option, Some, slice_get, take, drop, refl, ap, sym, ◌∙◌, arith, append_assoc}
-use Rattle.std.specs.Prelude.{map, filter, fold, max, nat_lt}
-use Rattle.std.specs.Option.{option_map}
-use Rattle.std.proofs.lemmas.Bool.Decides.{nat_tests}
-use Rattle.std.proofs.lemmas.List.{length-map, map-append, take-append-drop, take-append-le, take-map, take_all}
+use Rattle.rasta_check.proofs.Prelude.{map, filter, fold, max, nat_lt, option_map, nat_tests, length-map, map-append, take-append-drop, take-append-le, take_all, dec_lt, yes, no}
+use Rattle.rasta_check.proofs.Prelude.{Side, Quiet, Data, Parameters, SafetyPdu, messages_in, is_kind, Made, EndState, start_by, FirstCopy, pdus_made, pdus_of, all_made}
+use Rattle.rasta_check.proofs.Prelude.{units_shown, units_taken, TakenUnit, units_from, data_copies, surely_taken, HandsUpUnits, units_handed, units_listed, get_front_within}
+use Rattle.rasta_check.proofs.Prelude.{begins_with, map_at, mapped_some}
+use Rattle.std.proofs.lemmas.List.{take-map}
 use Rattle.std.proofs.lemmas.List.Elements.{filter-append}
-use native.Mathlib.Decide.{dec_lt}
-use Prim.{yes, no}
-use Rattle.rasta_pcap.specs.declared.fault.Side.{Side}
-use Rattle.rasta_pdu.specs.declared.quiet_point.Quiet.{Quiet}
-use Rattle.rasta_pdu.specs.declared.kind.Kind.TheVariants.{Data}
-use Rattle.rasta_pdu.specs.Params.{Parameters}
-use Rattle.rasta_pdu.specs.Pdu.{SafetyPdu, messages_in, is_kind}
-use Rattle.rasta_end.specs.State.{Made, EndState}
-use Rattle.rasta_end.specs.Starts.{start_by}
-use Rattle.rasta_check.specs.Capture.Crossing.{FirstCopy}
-use Rattle.rasta_check.specs.Model.Taken.{pdus_made, pdus_of, all_made, units_shown, units_taken, TakenUnit, proof_place, units_from, data_copies, surely_taken}
-use Rattle.rasta_check.specs.Model.Theorem.{HandsUpUnits, units_handed, units_listed}
+use Rattle.rasta_check.specs.Model.Taken.{proof_place}
 use Rattle.rasta_check.specs.Verdict.Headline.{units_offered}
 use Rattle.rasta_check.proofs.Theorem.FirstUnits.{offered_first}
-use Rattle.rasta_check.proofs.Lists.{get_front_within, get_take, begins_with, map_at, mapped_some}
+use Rattle.rasta_check.proofs.Lists.{get_take}
 
 -- ---- members
 

@@ -1,13 +1,8 @@
 -- In every run that sends two lists, what they show to be taken was handed up, and in time.
 use Rattle.std.proofs.Common.{◌≡◌, ℕ, ◌≤◌, List, ◌++◌, Some, length, slice_get, ◌∙◌, arith}
-use Rattle.std.proofs.lemmas.Option.{slice_get_within}
-use Rattle.rasta_pcap.specs.declared.fault.Side.{Side}
-use Rattle.rasta_pdu.specs.Params.{Parameters}
-use Rattle.rasta_end.specs.State.{EndState}
-use Rattle.rasta_check.specs.Capture.Crossing.{FirstCopy}
-use Rattle.rasta_check.specs.Model.World.{World, end_of, other_side, Reaches}
-use Rattle.rasta_check.specs.Model.Taken.{all_made, TakenUnit, surely_taken}
-use Rattle.rasta_check.specs.Model.Theorem.{Appends, HandsUpUnits, HasHandedUp, units_handed, units_listed}
+use Rattle.rasta_check.proofs.Prelude.{slice_get_within, Side, Parameters, EndState, FirstCopy, World, end_of, other_side, Reaches, all_made, TakenUnit, surely_taken, Appends}
+use Rattle.rasta_check.proofs.Prelude.{HandsUpUnits, units_handed, units_listed}
+use Rattle.rasta_check.specs.Model.Theorem.{HasHandedUp}
 use Rattle.rasta_check.proofs.Capture.FaultlessLists.{IsSent}
 use Rattle.rasta_check.proofs.Model.HandedUnits.{hands_up_units}
 use Rattle.rasta_check.proofs.Model.InvariantOfRuns.{all_held}

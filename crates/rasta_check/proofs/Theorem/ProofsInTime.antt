@@ -1,14 +1,8 @@
 -- What a PDU shows was handed up before it crossed.
 use Rattle.std.proofs.Common.{◌≡◌, ℕ, suc, ◌+◌, ◌<◌, ◌≤◌, Bool, true, false, List, [], ◌∷◌, length, Some, slice_get, refl, ap, ◌∙◌, arith}
-use Rattle.std.specs.Prelude.{is_some, not, ◌&&◌, ◌||◌}
-use Rattle.rasta_pcap.specs.declared.fault.Side.{Side}
-use Rattle.rasta_pdu.specs.Params.{Parameters}
-use Rattle.rasta_end.specs.declared.phase.Phase.{Phase}
-use Rattle.rasta_end.specs.State.{Made, EndState, is_client, is_closed}
-use Rattle.rasta_check.specs.Capture.Crossing.{FirstCopy}
-use Rattle.rasta_check.specs.Model.World.{World, station_of, end_of, other_side, Reaches}
-use Rattle.rasta_check.specs.Model.Taken.{pdus_of, all_made, units_shown}
-use Rattle.rasta_check.specs.Model.Theorem.{Appends}
+use Rattle.rasta_check.proofs.Prelude.{is_some, not, ◌&&◌, ◌||◌, Side, Parameters, Phase, Made, EndState, is_closed, FirstCopy, World, station_of, end_of, other_side, Reaches}
+use Rattle.rasta_check.proofs.Prelude.{pdus_of, all_made, units_shown, Appends, is_kind, ConnectionRequest}
+use Rattle.rasta_end.specs.State.{is_client}
 use Rattle.rasta_check.proofs.Capture.FaultlessLists.{IsSent}
 use Rattle.rasta_check.proofs.Model.Steps.{base}
 use Rattle.rasta_check.proofs.Model.NamedPositions.{SnIs}
@@ -23,8 +17,6 @@ use Rattle.rasta_check.proofs.Model.InvariantOfRuns.{all_held}
 use Rattle.rasta_check.proofs.Model.Steps.{Grown}
 use Rattle.rasta_check.proofs.Model.History.{stepped, joined, made_at}
 use Rattle.rasta_check.proofs.Theorem.SentRuns.{known, before}
-use Rattle.rasta_pdu.specs.Pdu.{is_kind}
-use Rattle.rasta_pdu.specs.declared.kind.Kind.TheVariants.{ConnectionRequest}
 
 made_over : (s : Side) (ph : Phase) (ms : List Made) (i : ℕ) (m : Made) → slice_get ms i ≡ Some m → is_closed ph ≡ true → (is_closed ph && (not (is_client s) || is_some (slice_get ms 0))) ≡ true
 made_over s ph [] i m g h = absurd (cc)

@@ -1,12 +1,7 @@
 -- What is known of a run that sends two given lists.
 use Rattle.std.proofs.Common.{◌≡◌, ℕ, ◌+◌, ◌≤◌, List, [], ◌∷◌, ◌++◌, Some, length, slice_get, sym, arith}
-use Rattle.rasta_pcap.specs.declared.fault.Side.{Side}
-use Rattle.rasta_pdu.specs.Params.{Parameters}
-use Rattle.rasta_end.specs.Starts.{start_of}
-use Rattle.rasta_check.specs.Capture.Crossing.{FirstCopy}
-use Rattle.rasta_check.specs.Model.World.{World, station_of, end_of, other_side, Reaches, IsWithin}
-use Rattle.rasta_check.specs.Model.Laws.{NamesOne}
-use Rattle.rasta_check.specs.Model.Taken.{pdus_made, pdus_of, all_made, units_along, units_taken}
+use Rattle.rasta_check.proofs.Prelude.{Side, Parameters, start_of, FirstCopy, World, station_of, end_of, other_side, Reaches, IsWithin, NamesOne, pdus_made, pdus_of, all_made}
+use Rattle.rasta_check.proofs.Prelude.{units_along, units_taken}
 use Rattle.rasta_check.proofs.Capture.FaultlessLists.{IsSent}
 use Rattle.rasta_check.proofs.Model.Steps.{start_base}
 use Rattle.rasta_check.proofs.Model.SequenceNumbers.{numbered_once}

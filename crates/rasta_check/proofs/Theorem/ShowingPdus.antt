@@ -1,18 +1,10 @@
 -- What the PDUs of a sent list show of the units of the other side.
 use Rattle.std.proofs.Common.{◌≡◌, ℕ, zero, suc, ◌≤◌, false, List, [], ◌∷◌, Option, Some, None, slice_get, refl, ap, ◌∙◌, arith}
-use Rattle.std.specs.Prelude.{slice_index_or, map, fold, max}
-use Rattle.std.proofs.lemmas.Option.{slice_get_within, slice_get-get_or}
-use Rattle.rasta_pcap.specs.declared.fault.Side.{Side}
-use Rattle.rasta_pdu.specs.declared.quiet_point.Quiet.{Quiet}
-use Rattle.rasta_pdu.specs.Pdu.{SafetyPdu, is_kind}
-use Rattle.rasta_end.specs.State.{EndState}
-use Rattle.rasta_end.specs.Units.{units_at}
-use Rattle.rasta_end.specs.Starts.{start_by}
-use Rattle.rasta_check.specs.Model.Taken.{position_with, asked_positions, units_along, units_shown, pdus_made}
+use Rattle.rasta_check.proofs.Prelude.{slice_index_or, map, fold, max, slice_get_within, slice_get-get_or, Side, Quiet, SafetyPdu, is_kind, EndState, units_at, start_by}
+use Rattle.rasta_check.proofs.Prelude.{position_with, asked_positions, units_along, units_shown, pdus_made, ConnectionRequest}
 use Rattle.rasta_check.proofs.Model.NamedPositions.{SnIs}
 use Rattle.rasta_check.proofs.Model.ConveyedUnits.{values, length-values}
 use Rattle.rasta_check.proofs.Model.Requests.{found_position}
-use Rattle.rasta_pdu.specs.declared.kind.Kind.TheVariants.{ConnectionRequest}
 
 -- a quiet PDU asks for nothing
 pub quiet_asks : (q : Option Quiet) (s : Side) (own : List SafetyPdu) → asked_positions own (pdus_made (start_by q s).made) ≡ []

@@ -1,14 +1,10 @@
 -- What two lists of PDUs show was handed up.
 use Rattle.std.proofs.Common.{◌≡◌, ℕ, suc, ◌+◌, ◌≤◌, List, [], ◌∷◌, ◌++◌, length, Some, slice_get, refl, ap, ◌∙◌, arith}
-use Rattle.std.specs.Prelude.{max, map, fold}
+use Rattle.rasta_check.proofs.Prelude.{max, map, fold, SafetyPdu, Made, EndState, kinds, pdus_made, asked_positions, units_along, units_shown, units_taken, NamesOne, get_past}
+use Rattle.rasta_check.proofs.Prelude.{get_mapped}
 use Rattle.std.proofs.lemmas.List.Elements.{filter-append, filter_map-append}
 use Rattle.std.proofs.lemmas.Simd.{map-map}
-use Rattle.rasta_pdu.specs.Pdu.{SafetyPdu}
-use Rattle.rasta_end.specs.State.{Made, EndState, kinds}
 use Rattle.rasta_end.proofs.Conveying.{more_asks}
-use Rattle.rasta_check.specs.Model.Taken.{pdus_made, asked_positions, units_along, units_shown, units_taken}
-use Rattle.rasta_check.specs.Model.Laws.{NamesOne}
-use Rattle.rasta_check.proofs.Lists.{get_past, get_mapped}
 use Rattle.rasta_check.proofs.Model.Invariant.{Held}
 use Rattle.rasta_check.proofs.Model.ConveyedUnits.{values, answers_number}
 use Rattle.rasta_check.proofs.Model.OfferedUnits.{Valued}

@@ -1,17 +1,9 @@
 -- The verdict on a file, by what crossed.
 use Rattle.std.proofs.Common.{◌≡◌, ℕ, ◌≤◌, List, length, Result, Ok, ap, sym, ◌∙◌, arith, subst}
-use Rattle.rasta_pcap.specs.declared.fault.Fault.{Fault}
-use Rattle.rasta_pcap.specs.declared.fault.Side.{Side}
-use Rattle.rasta_pcap.specs.declared.fault.Side.TheVariants.{Client, Server}
-use Rattle.rasta_pcap.specs.Capture.{IsCapture}
-use Rattle.rasta_pcap.proofs.Captures.{reading_of-IsCapture}
-use Rattle.rasta_udp.specs.Frame.{Packet}
-use Rattle.rasta_pdu.specs.Params.{Parameters, AreParameters}
-use Rattle.rasta_cert.specs.Certificate.{Scripts}
-use Rattle.rasta_check.specs.Capture.Crossing.{FirstCopy, Sent, crossing_list}
-use Rattle.rasta_check.specs.Capture.Reading.{Crossing, IsCrossing, crossing_of}
+use Rattle.rasta_check.proofs.Prelude.{Fault, Side, Client, Server, IsCapture, reading_of-IsCapture, Packet, Parameters, AreParameters, Scripts, FirstCopy, Sent, crossing_list}
+use Rattle.rasta_check.proofs.Prelude.{Crossing, IsCrossing, crossing_of, Explained, BothFit, report_of}
 use Rattle.rasta_check.specs.Capture.Faults.{CrossedIn}
-use Rattle.rasta_check.specs.Verdict.Report.{Explained, BothFit, Explains, IsFileVerdict, IsScriptVerdict, judged, report_of}
+use Rattle.rasta_check.specs.Verdict.Report.{Explains, IsFileVerdict, IsScriptVerdict, judged}
 use Rattle.rasta_check.specs.Verdict.Headline.{Headline}
 use Rattle.rasta_check.proofs.Capture.ListForms.{to_record}
 use Rattle.rasta_check.proofs.Capture.Readings.{file_by}

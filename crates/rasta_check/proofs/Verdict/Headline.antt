@@ -1,23 +1,13 @@
 -- The headline of a verdict, from the theorem over runs.
-use Rattle.std.specs.Prelude.{if◌then◌else◌, take}
+use Rattle.std.specs.Prelude.{take}
 use Rattle.std.proofs.lemmas.Grind.{flat_map-append}
 use Rattle.std.proofs.Common.{◌≡◌, ℕ, ◌-◌, List, [], length, Ok, Some, slice_get, refl, ap, sym, ◌∙◌, arith, subst}
-use Rattle.rasta_pcap.specs.declared.fault.Side.{Side}
-use Rattle.rasta_pcap.specs.declared.fault.Side.TheVariants.{Client, Server}
-use Rattle.rasta_udp.specs.Frame.{Packet}
-use Rattle.rasta_pdu.specs.Params.{Parameters}
-use Rattle.rasta_cert.specs.Certificate.{Scripts}
-use Rattle.rasta_cert.specs.declared.entry.Entry.{Entry}
-use Rattle.rasta_end.specs.State.{EndState}
-use Rattle.rasta_check.specs.Capture.Crossing.{FirstCopy}
-use Rattle.rasta_check.specs.Model.World.{World, end_of, other_side, Reaches}
-use Rattle.rasta_check.specs.Model.Taken.{surely_taken, pdus_of, all_made, units_shown, units_taken, units_from, data_copies}
-use Rattle.rasta_check.specs.Internals.Checking.{follow, verdict_of}
-use Rattle.rasta_check.specs.Model.Theorem.{units_handed, units_listed}
-use Rattle.rasta_check.specs.Capture.Reading.{Crossing, IsCrossing, sent_by}
-use Rattle.rasta_check.specs.Verdict.Listed.{messages_taken, ListedMessage, listed, numbered_from}
-use Rattle.rasta_check.specs.Verdict.Report.{Explained, report_of, BothFit}
-use Rattle.rasta_check.specs.Internals.Listing.{listed_by, shown_by, proofs_from}
+use Rattle.rasta_check.proofs.Prelude.{if◌then◌else◌, Side, Client, Server, Packet, Parameters, Scripts, Entry, EndState, FirstCopy, World, end_of, other_side, Reaches}
+use Rattle.rasta_check.proofs.Prelude.{surely_taken, pdus_of, all_made, units_shown, units_taken, units_from, data_copies, follow, units_handed, units_listed, Crossing, IsCrossing}
+use Rattle.rasta_check.proofs.Prelude.{sent_by, messages_taken, numbered_from, Explained, report_of, BothFit, shown_by, proofs_from, is_kind, ConnectionRequest}
+use Rattle.rasta_check.specs.Internals.Checking.{verdict_of}
+use Rattle.rasta_check.specs.Verdict.Listed.{ListedMessage, listed}
+use Rattle.rasta_check.specs.Internals.Listing.{listed_by}
 use Rattle.rasta_check.specs.Verdict.Headline.{HandsUpListed, Headline, IsSharp}
 use Rattle.rasta_check.proofs.Capture.FaultlessLists.{IsSent}
 use Rattle.rasta_check.proofs.Capture.Crossings.{few_of, list_of}
@@ -31,8 +21,6 @@ use Rattle.rasta_check.proofs.Theorem.Necessity.{hands_up, first, proof_appended
 use Rattle.rasta_check.proofs.Theorem.FirstUnits.{offered_first}
 use Rattle.rasta_check.proofs.Theorem.JoinedMessages.{joined, up_joined, listed_joined, of_listed, message_up}
 use Rattle.rasta_check.proofs.Verdict.Reports.{units_named, first_small, are_proofs, units_are}
-use Rattle.rasta_pdu.specs.Pdu.{is_kind}
-use Rattle.rasta_pdu.specs.declared.kind.Kind.TheVariants.{ConnectionRequest}
 
 twice : (side : Side) → other_side (other_side side) ≡ side
 twice side = grind arith

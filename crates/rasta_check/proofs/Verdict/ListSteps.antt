@@ -1,15 +1,12 @@
 -- Working out a list: what is left to be done is done at one member more.
 use Rattle.std.proofs.Common.{◌≡◌, ℕ, suc, ◌+◌, ◌≤◌, true, false, List, [], ◌∷◌, ◌++◌, length, drop, map, Some, None, refl, ap, sym, ◌∙◌, arith, append_assoc, slice_get, add-one}
-use Rattle.std.proofs.lemmas.List.{append-nil, drop_all, length-append, length-map}
-use Rattle.rasta_end.specs.State.{EndState}
-use Rattle.rasta_check.specs.Capture.Crossing.{FirstCopy}
+use Rattle.rasta_check.proofs.Prelude.{append-nil, length-append, length-map, EndState, FirstCopy, TakenUnit, messages_taken, listed_of, numbered_from, shown_by, with_proofs}
+use Rattle.rasta_check.proofs.Prelude.{proofs_from, proved_units, is_kind, Data}
+use Rattle.std.proofs.lemmas.List.{drop_all}
 use Rattle.rasta_check.specs.declared.report.Taken.{Taken}
-use Rattle.rasta_check.specs.Model.Taken.{TakenUnit}
-use Rattle.rasta_check.specs.Verdict.Listed.{TakenMessage, messages_taken, listed_of, numbered_from}
-use Rattle.rasta_check.specs.Internals.Listing.{shown_by, with_proofs, proofs_from, proved_unit, proved_units}
+use Rattle.rasta_check.specs.Verdict.Listed.{TakenMessage}
+use Rattle.rasta_check.specs.Internals.Listing.{proved_unit}
 use Rattle.rasta_check.proofs.Lists.{drop_one_more}
-use Rattle.rasta_pdu.specs.Pdu.{is_kind}
-use Rattle.rasta_pdu.specs.declared.kind.Kind.TheVariants.{Data}
 
 -- ---- what is left of a list
 

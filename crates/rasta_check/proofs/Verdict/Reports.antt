@@ -1,22 +1,13 @@
 -- What is worked out from the two ends of scripts that fit is what is surely taken.
 use Rattle.std.proofs.Common.{◌≡◌, ℕ, zero, suc, ◌+◌, ◌-◌, ◌%◌, ◌^◌, ◌<◌, ◌≤◌, List, [], ◌∷◌, ◌++◌, length, map, replicate, take, Option, Some, None, slice_get, refl, ap, sym, ◌∙◌, arith}
-use Rattle.std.specs.Prelude.{fold, max, slice_index_or}
-use Rattle.std.proofs.lemmas.Bool.Decides.{nat_tests}
+use Rattle.rasta_check.proofs.Prelude.{fold, max, slice_index_or, nat_tests, dec_lt, yes, no, length-append, slice_get-get_or, slice_get_past, slice_get_within, Side, Quiet}
+use Rattle.rasta_check.proofs.Prelude.{SafetyPdu, Made, EndState, first_sn, units_at, start_by, FirstCopy, position_with, pdus_of, pdus_made, units_shown, units_taken, units_from}
+use Rattle.rasta_check.proofs.Prelude.{data_copies, shown_by, with_proofs, proofs_from, proved_units, get_front, slice_get_some, get_past}
 use Rattle.std.proofs.Math.Seq.{take-nil}
-use native.Mathlib.Decide.{dec_lt}
-use Prim.{yes, no}
-use Rattle.std.proofs.lemmas.List.{get_or-replicate, length-append, length-replicate}
-use Rattle.std.proofs.lemmas.Option.{slice_get-get_or, slice_get_past, slice_get_within, same_Some}
-use Rattle.rasta_pcap.specs.declared.fault.Side.{Side}
-use Rattle.rasta_pdu.specs.declared.quiet_point.Quiet.{Quiet}
-use Rattle.rasta_pdu.specs.Pdu.{SafetyPdu}
-use Rattle.rasta_end.specs.State.{Made, EndState, ahead_by, first_sn}
-use Rattle.rasta_end.specs.Units.{units_at}
-use Rattle.rasta_end.specs.Starts.{start_by}
-use Rattle.rasta_check.specs.Capture.Crossing.{FirstCopy}
-use Rattle.rasta_check.specs.Model.Taken.{position_with, pdus_of, pdus_made, units_shown, units_taken, proof_place, units_from, data_copies}
-use Rattle.rasta_check.specs.Internals.Listing.{shown_by, with_proofs, proofs_from, proved_units}
-use Rattle.rasta_check.proofs.Lists.{get_front, slice_get_some, get_past}
+use Rattle.std.proofs.lemmas.List.{get_or-replicate, length-replicate}
+use Rattle.std.proofs.lemmas.Option.{same_Some}
+use Rattle.rasta_end.specs.State.{ahead_by}
+use Rattle.rasta_check.specs.Model.Taken.{proof_place}
 use Rattle.rasta_check.proofs.Model.SequenceNumbers.{Numbered, numbered_once}
 use Rattle.rasta_check.proofs.Model.NamedPositions.{sn_mod}
 use Rattle.rasta_check.proofs.Model.ConveyedUnits.{get_or_none}

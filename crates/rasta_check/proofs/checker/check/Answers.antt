@@ -1,7 +1,7 @@
 use Rattle.std.proofs.Common.{inl, inr, subst, ⊎_elim}
-use Rattle.std.proofs.lemmas.Result.{IfErr-weaker, MatchResult-weaker, on_ok_weaker}
-use Rattle.rasta_check.specs.Capture.Reading.{IsCrossing}
-use Rattle.rasta_check.specs.Verdict.Report.{explained, refused}
+use Rattle.rasta_check.proofs.Prelude.{MatchResult-weaker, IsCrossing, explained}
+use Rattle.std.proofs.lemmas.Result.{IfErr-weaker, on_ok_weaker}
+use Rattle.rasta_check.specs.Verdict.Report.{refused}
 use Rattle.rasta_check.proofs.Verdict.CallAnswers.{if_ok, err_is, err_match}
 use Rattle.rasta_check.proofs.Verdict.FileVerdicts.{verdict_is, explains, exactly, not_explained, headline_is}
 use Rattle.rasta_check.proofs.checker.check.Goals as goal

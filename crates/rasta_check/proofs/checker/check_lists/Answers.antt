@@ -1,7 +1,6 @@
 use Rattle.std.proofs.Common.{Ok, Err, sym, inl, inr, ⊎_elim}
-use Rattle.std.proofs.lemmas.Result.{MatchResult-weaker}
+use Rattle.rasta_check.proofs.Prelude.{MatchResult-weaker, explained}
 use Rattle.rasta_cert.proofs.ReadingLemmas.{if_ok as where_ok}
-use Rattle.rasta_check.specs.Verdict.Report.{explained}
 use Rattle.rasta_check.proofs.Verdict.CallAnswers.{on_ok, where_err}
 use Rattle.rasta_check.proofs.Script.Fits.{is_verdict, verdict_fits, verdict_refuses}
 use Rattle.rasta_check.proofs.Verdict.Headline.{headline, is_sharp}

@@ -1,5 +1,5 @@
 use Rattle.std.proofs.Common.{inl, inr, ⊎_elim}
-use Rattle.std.proofs.lemmas.Result.{MatchResult-weaker}
+use Rattle.rasta_check.proofs.Prelude.{MatchResult-weaker}
 use Rattle.rasta_check.proofs.Verdict.FileVerdicts.{verdict_is}
 use Rattle.rasta_check.proofs.checker.check_store.Goals as goal
 

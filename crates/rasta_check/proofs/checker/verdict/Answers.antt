@@ -1,6 +1,6 @@
 use Rattle.std.proofs.Common.{◌∙◌}
+use Rattle.rasta_check.proofs.Prelude.{explained}
 use Rattle.rasta_check.specs.Internals.Listing.{listed_with}
-use Rattle.rasta_check.specs.Verdict.Report.{explained}
 use Rattle.rasta_check.proofs.Verdict.Headline.{verdict_of_ends}
 use Rattle.rasta_check.proofs.checker.verdict.Goals as goal
 

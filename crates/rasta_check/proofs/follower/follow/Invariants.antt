@@ -1,5 +1,5 @@
 use Rattle.std.proofs.Common.{◌≡◌, ◌+◌, drop}
-use Rattle.rasta_check.specs.Internals.Checking.{follow, follow_from}
+use Rattle.rasta_check.proofs.Prelude.{follow, follow_from}
 use Rattle.rasta_check.proofs.follower.follow.Given as goal
 
 -- what is left of the script leads where the whole script leads

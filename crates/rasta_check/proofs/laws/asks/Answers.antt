@@ -1,4 +1,4 @@
-use Rattle.rasta_check.specs.Model.World.{station_of, end_of, other_side}
+use Rattle.rasta_check.proofs.Prelude.{station_of, end_of, other_side}
 use Rattle.rasta_check.proofs.Model.SequenceNumbers.{numbered_once}
 use Rattle.rasta_check.proofs.Model.InvariantOfRuns.{all_held, few_made}
 use Rattle.rasta_check.proofs.Model.Requests.{in_order}

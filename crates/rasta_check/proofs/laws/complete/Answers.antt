@@ -1,5 +1,5 @@
 use Rattle.std.proofs.Common.{◌<◌, length, arith}
-use Rattle.rasta_pcap.specs.declared.fault.Side.TheVariants.{Client, Server}
+use Rattle.rasta_check.proofs.Prelude.{Client, Server}
 use Rattle.rasta_check.proofs.Script.Fits.{follows_fits}
 use Rattle.rasta_check.proofs.Capture.ListForms.{to_record}
 use Rattle.rasta_check.proofs.Script.ScriptsOfRuns.{complete}

@@ -1,9 +1,5 @@
 use Rattle.std.proofs.Common.{◌≡◌, ℕ, suc, true, false, List, sym, ◌∙◌, arith}
-use Rattle.rasta_pdu.specs.Pdu.{SafetyPdu, is_kind}
-use Rattle.rasta_pdu.specs.Params.{Parameters}
-use Rattle.rasta_end.specs.declared.why.Why.{Why}
-use Rattle.rasta_end.specs.State.{Made, EndState}
-use Rattle.rasta_check.specs.Model.World.{station_of, end_of, other_side}
+use Rattle.rasta_check.proofs.Prelude.{SafetyPdu, is_kind, Parameters, Why, Made, EndState, station_of, end_of, other_side, ConnectionRequest}
 use Rattle.rasta_check.proofs.Model.PassedTests.{Passed, passed, cs_is}
 use Rattle.rasta_check.proofs.Model.MakeRows.{made_by, opening_is}
 use Rattle.rasta_check.proofs.Model.SequenceNumbers.{numbered_once}
@@ -12,7 +8,6 @@ use Rattle.rasta_check.proofs.Model.InvariantAtMake.{nothing_made}
 use Rattle.rasta_check.proofs.Model.InvariantOfRuns.{all_held, few_made}
 use Rattle.rasta_check.proofs.Model.ShownUnits.{judged_after}
 use Rattle.rasta_check.proofs.laws.confirmed.Goals as goal
-use Rattle.rasta_pdu.specs.declared.kind.Kind.TheVariants.{ConnectionRequest}
 
 -- an end that has accepted something makes no connection request
 not_opening : (p : Parameters) (e : EndState) (x : SafetyPdu) (clock : ℕ) (why : Why) (t i : ℕ) (peer : List Made) → Passed p e x clock why → Held e t peer → e.accepted ≡ suc i → is_kind ConnectionRequest x.kind ≡ true → ⊥

@@ -1,5 +1,5 @@
 use Rattle.std.proofs.Common.{length}
-use Rattle.rasta_check.specs.Model.World.{other_side}
+use Rattle.rasta_check.proofs.Prelude.{other_side}
 use Rattle.rasta_check.proofs.Capture.FaultlessLists.{ordered}
 use Rattle.rasta_check.proofs.Capture.ListForms.{to_record}
 use Rattle.rasta_check.proofs.Script.Fits.{fits_follows, follows_fits}

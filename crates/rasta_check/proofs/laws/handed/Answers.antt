@@ -1,4 +1,4 @@
-use Rattle.rasta_check.specs.Model.World.{end_of, other_side}
+use Rattle.rasta_check.proofs.Prelude.{end_of, other_side}
 use Rattle.rasta_check.proofs.Model.HandedUnits.{hands_up}
 use Rattle.rasta_check.proofs.Model.InvariantOfRuns.{all_held}
 use Rattle.rasta_check.proofs.laws.handed.Goals as goal

@@ -1,4 +1,4 @@
-use Rattle.rasta_check.specs.Model.World.{end_of}
+use Rattle.rasta_check.proofs.Prelude.{end_of}
 use Rattle.rasta_check.proofs.Model.SequenceNumbers.{numbered_once}
 use Rattle.rasta_check.proofs.Model.InvariantOfRuns.{all_held, few_made}
 use Rattle.rasta_check.proofs.laws.sn_once.Goals as goal

@@ -1,5 +1,4 @@
-use Rattle.rasta_end.specs.Units.{last_of}
-use Rattle.rasta_check.specs.Model.World.{end_of}
+use Rattle.rasta_check.proofs.Prelude.{last_of, end_of}
 use Rattle.rasta_check.proofs.Model.ConveyedUnits.{values, jump}
 use Rattle.rasta_check.proofs.Model.OfferedUnits.{bare_rest}
 use Rattle.rasta_check.proofs.Model.InvariantOfRuns.{all_held}

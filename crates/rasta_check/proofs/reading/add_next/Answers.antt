@@ -1,6 +1,6 @@
 use Rattle.std.proofs.Common.{◌≡◌, ◌∙◌, ap, sym, inl, inr, ⊎_elim}
-use Rattle.rasta_pcap.specs.Capture.{Cursor, cursor_after, moved, reading}
-use Rattle.rasta_check.specs.Capture.Reading.{Crossing, and_then, after_reading, after_records}
+use Rattle.rasta_check.proofs.Prelude.{cursor_after, reading, Crossing, and_then, after_reading, after_records}
+use Rattle.rasta_pcap.specs.Capture.{Cursor, moved}
 use Rattle.rasta_check.proofs.Capture.Readings.{after-next}
 use Rattle.rasta_check.proofs.reading.add_next.Goals as goal
 

@@ -1,6 +1,5 @@
 use Rattle.std.proofs.Common.{◌∙◌, ◌+◌, ◌-◌, ℕ, suc, Ok, ap, sym, inl, inr, ⊎_elim, arith}
-use Rattle.rasta_pcap.specs.Capture.{reading}
-use Rattle.rasta_check.specs.Capture.Reading.{after_records}
+use Rattle.rasta_check.proofs.Prelude.{reading, after_records}
 use Rattle.rasta_check.specs.Internals.Packets.{after_next}
 use Rattle.rasta_check.proofs.reading.add_records.Goals as goal
 use Rattle.rasta_check.proofs.reading.add_records.Goals.{else-loop-test, then-loop-test+in-Ok-false}

@@ -1,6 +1,5 @@
 use Rattle.std.proofs.Common.{◌≡◌, ◌-◌, ℕ}
-use Rattle.rasta_pcap.specs.Capture.{reading}
-use Rattle.rasta_check.specs.Capture.Reading.{after_reading}
+use Rattle.rasta_check.proofs.Prelude.{reading, after_reading}
 use Rattle.rasta_check.proofs.reading.add_records.Given as goal
 
 -- what crosses by the records that are left crosses by all

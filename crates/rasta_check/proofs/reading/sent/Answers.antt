@@ -1,12 +1,5 @@
 use Rattle.std.proofs.Common.{◌≡◌, ◌∙◌, ◌⊎◌, Ok, Err, Result, ap, sym, inl, inr, ⊎_elim, subst, MatchResult, arith}
-use Rattle.std.proofs.lemmas.Result.{MatchResult-weaker}
-use Rattle.rasta_pcap.specs.declared.fault.Fault.{Fault}
-use Rattle.rasta_pcap.specs.Fault.{no_memory}
-use Rattle.rasta_pcap.specs.Capture.{reading}
-use Rattle.rasta_pdu.specs.Messages.{AreBytes}
-use Rattle.rasta_check.specs.Capture.Reading.{Crossing, after_reading, crossing_of}
-use Rattle.rasta_check.specs.Model.Theorem.{OfConnection}
-use Rattle.rasta_check.specs.Capture.Faults.{in_header}
+use Rattle.rasta_check.proofs.Prelude.{MatchResult-weaker, Fault, no_memory, reading, AreBytes, Crossing, after_reading, crossing_of, OfConnection, in_header}
 use Rattle.rasta_check.proofs.Capture.Readings.{after-opened, after-refused}
 use Rattle.rasta_check.proofs.Capture.DefiniteFaults.{is_definite, opening_definite}
 use Rattle.rasta_check.proofs.Capture.FaultlessCaptures.{crossed_in}

@@ -1,5 +1,5 @@
 use Rattle.std.proofs.Common.{◌∙◌, ap, inl, inr, sym, ⊎_elim}
-use Rattle.rasta_check.specs.Capture.Reading.{after_record}
+use Rattle.rasta_check.proofs.Prelude.{after_record}
 use Rattle.rasta_check.proofs.Internals.PartialReading.{next_faulty, why}
 use Rattle.rasta_check.proofs.storing.add_next.Goals as goal
 

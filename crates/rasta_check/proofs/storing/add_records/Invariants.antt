@@ -1,8 +1,8 @@
 use Rattle.std.proofs.Common.{◌≡◌, ◌-◌, ◌≤◌, List, ℕ, Option}
+use Rattle.rasta_check.proofs.Prelude.{crossing_left}
 use Rattle.rasta_pcap.specs.declared.stream.Progress.TheVariants.{Reading}
 use Rattle.rasta_pcap.specs.Extent.{HasRead}
 use Rattle.rasta_pcap.specs.Stream.{order_in, progress_of}
-use Rattle.rasta_check.specs.Internals.Storing.{crossing_left}
 use Rattle.rasta_check.proofs.Internals.PartialReading.{IsUnderway}
 use Rattle.rasta_check.proofs.storing.add_records.Given as goal
 

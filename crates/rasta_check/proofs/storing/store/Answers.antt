@@ -1,9 +1,7 @@
 use Rattle.std.proofs.Common.{inl, inr, ⊎_elim, subst}
-use Rattle.std.proofs.lemmas.Result.{IfOk-weaker, MatchResult-weaker, on_err_weaker}
+use Rattle.rasta_check.proofs.Prelude.{MatchResult-weaker, Crossing, crossing_of, crossing_left, OfConnection}
+use Rattle.std.proofs.lemmas.Result.{IfOk-weaker, on_err_weaker}
 use Rattle.rasta_pcap.proofs.Extents.{HasRead-opened, ReadsUpToRecord-header}
-use Rattle.rasta_check.specs.Capture.Reading.{Crossing, crossing_of}
-use Rattle.rasta_check.specs.Internals.Storing.{crossing_left}
-use Rattle.rasta_check.specs.Model.Theorem.{OfConnection}
 use Rattle.rasta_check.proofs.Internals.PartialReading.{IsUnderway, Underway-begun, Underway-opened, header_answer, refused, refused_names_side, stored}
 use Rattle.rasta_check.proofs.storing.store.Given.{Over}
 use Rattle.rasta_check.proofs.storing.store.Goals as goal

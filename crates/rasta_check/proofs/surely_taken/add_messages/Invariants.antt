@@ -1,6 +1,6 @@
 use Rattle.std.proofs.Common.{◌≡◌, ◌++◌, length, map}
-use Rattle.rasta_pdu.specs.Pdu.{value_of, messages_in, messages_left}
-use Rattle.rasta_check.specs.Verdict.Listed.{messages_of_unit, listed_of, numbered_from}
+use Rattle.rasta_check.proofs.Prelude.{value_of, messages_in, messages_of_unit, listed_of, numbered_from}
+use Rattle.rasta_pdu.specs.Pdu.{messages_left}
 use Rattle.rasta_check.proofs.surely_taken.add_messages.Given as goal
 
 -- the messages so far, and those that are left

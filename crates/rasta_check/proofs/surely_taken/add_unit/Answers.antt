@@ -1,11 +1,8 @@
 use Rattle.std.proofs.Common.{◌+◌, ◌∙◌, ap, sym, refl}
-use Rattle.rasta_check.specs.Capture.Lists.{copy_of}
-use Rattle.rasta_check.specs.Verdict.Listed.{messages_of_unit, messages_taken}
-use Rattle.rasta_check.specs.Internals.Listing.{proved_unit, proved_units}
+use Rattle.rasta_check.proofs.Prelude.{copy_of, messages_of_unit, messages_taken, proved_units, is_kind, Data}
+use Rattle.rasta_check.specs.Internals.Listing.{proved_unit}
 use Rattle.rasta_check.proofs.Verdict.ListSteps.{other_copy, unproved_copy, proved_copy, added_more}
 use Rattle.rasta_check.proofs.surely_taken.add_unit.Goals as goal
-use Rattle.rasta_pdu.specs.Pdu.{is_kind}
-use Rattle.rasta_pdu.specs.declared.kind.Kind.TheVariants.{Data}
 
 pub returns-then-not-is : goal.returns-then-not-is
 returns-then-not-is c copies =

@@ -1,8 +1,6 @@
 use Rattle.std.proofs.Common.{◌+◌, ◌∙◌, ap, sym, arith, drop}
-use Rattle.std.specs.Option.{option_map}
-use Rattle.rasta_check.specs.Capture.Lists.{copy_of}
+use Rattle.rasta_check.proofs.Prelude.{option_map, copy_of, none_within}
 use Rattle.rasta_check.proofs.Verdict.ListSteps.{units_left, units_end, listing_ends}
-use Rattle.rasta_check.proofs.Lists.{none_within}
 use Rattle.rasta_check.proofs.surely_taken.messages_with.Goals as goal
 use Rattle.rasta_check.proofs.surely_taken.messages_with.Goals.{in-Some+in_ok-unit, in_default}
 

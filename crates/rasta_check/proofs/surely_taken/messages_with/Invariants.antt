@@ -1,6 +1,5 @@
 use Rattle.std.proofs.Common.{◌≡◌, ◌++◌, drop, length, map}
-use Rattle.rasta_check.specs.Verdict.Listed.{messages_taken, listed_of, numbered_from}
-use Rattle.rasta_check.specs.Internals.Listing.{proved_units}
+use Rattle.rasta_check.proofs.Prelude.{messages_taken, listed_of, numbered_from, proved_units}
 use Rattle.rasta_check.proofs.surely_taken.messages_with.Given as goal
 
 -- the messages so far, and those of the first copies that are left

@@ -1,9 +1,6 @@
 use Rattle.std.proofs.Common.{◌∙◌, ap, sym, arith}
-use Rattle.std.specs.Option.{option_map}
-use Rattle.rasta_check.specs.Capture.Lists.{copy_of}
-use Rattle.rasta_check.specs.Internals.Listing.{with_proofs}
+use Rattle.rasta_check.proofs.Prelude.{option_map, copy_of, with_proofs, none_within}
 use Rattle.rasta_check.proofs.Verdict.ListSteps.{proofs_more, proofs_end}
-use Rattle.rasta_check.proofs.Lists.{none_within}
 use Rattle.rasta_check.proofs.surely_taken.proof_places.Goals as goal
 use Rattle.rasta_check.proofs.surely_taken.proof_places.Goals.{in-Some+in_ok-add_proofs, in_default}
 

@@ -1,5 +1,5 @@
 use Rattle.std.proofs.Common.{◌≡◌, [], drop}
-use Rattle.rasta_check.specs.Internals.Listing.{proofs_from}
+use Rattle.rasta_check.proofs.Prelude.{proofs_from}
 use Rattle.rasta_check.proofs.surely_taken.proof_places.Given as goal
 
 -- the places so far, and those that the PDUs that are left add

@@ -1,5 +1,5 @@
 use Rattle.std.proofs.Common.{ap, ◌∙◌}
-use Rattle.rasta_check.specs.Capture.Reading.{Crossing}
+use Rattle.rasta_check.proofs.Prelude.{Crossing}
 use Rattle.rasta_check.proofs.Capture.Channels.{is_recorded_by}
 use Rattle.rasta_check.proofs.crossing.Sent.add_frame.Goals as goal
 

@@ -1,6 +1,5 @@
 use Rattle.std.proofs.Common.{length, ap, sym, ◌∙◌}
-use Rattle.rasta_udp.specs.Frame.{packet_of}
-use Rattle.rasta_check.specs.Capture.Reading.{sent_by}
+use Rattle.rasta_check.proofs.Prelude.{packet_of, sent_by}
 use Rattle.rasta_check.proofs.Capture.Crossings.{grown_crossing, new_length, within_room}
 use Rattle.rasta_check.proofs.crossing.Sent.add_packet.Goals as goal
 

@@ -1,10 +1,5 @@
 use Rattle.std.proofs.Common.{List, ℕ, Option, ◌≡◌, Some, sym, ◌∙◌}
-use Rattle.rasta_pcap.specs.declared.fault.Side.{Side}
-use Rattle.std.specs.Option.{option_map}
-use Rattle.rasta_udp.specs.Frame.{packet_of}
-use Rattle.rasta_pdu.specs.Pdu.{value_of}
-use Rattle.rasta_check.specs.Capture.Crossing.{FirstCopy, copy_with}
-use Rattle.rasta_check.specs.Capture.Reading.{Crossing, sent_by}
+use Rattle.rasta_check.proofs.Prelude.{Side, option_map, packet_of, value_of, FirstCopy, copy_with, Crossing, sent_by}
 use Rattle.rasta_check.proofs.Capture.Crossings.{is_next_pdu, place_within, repeated}
 use Rattle.rasta_check.proofs.crossing.Sent.judge.Goals as goal
 

@@ -1,6 +1,5 @@
 use Rattle.std.proofs.Common.{map, sym, subst, arith}
-use Rattle.rasta_udp.specs.Frame.{packet_of}
-use Rattle.rasta_check.specs.Capture.Reading.{IsCrossing}
+use Rattle.rasta_check.proofs.Prelude.{packet_of, IsCrossing}
 use Rattle.rasta_check.proofs.Capture.Readings.{nothing_is}
 use Rattle.rasta_check.proofs.crossing.Sent.new.Goals as goal
 

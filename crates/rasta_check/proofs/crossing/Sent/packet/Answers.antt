@@ -1,8 +1,6 @@
 use Rattle.std.proofs.Common.{◌≡◌, ℕ, Option, Some, slice_get, ap, sym, ◌∙◌}
-use Rattle.std.specs.Option.{option_map}
+use Rattle.rasta_check.proofs.Prelude.{option_map, packet_of, Crossing}
 use Rattle.rasta_udp.specs.declared.channel.Datagram.{Datagram}
-use Rattle.rasta_udp.specs.Frame.{packet_of}
-use Rattle.rasta_check.specs.Capture.Reading.{Crossing}
 use Rattle.rasta_check.proofs.Capture.Crossings.{spelled_at, number_spelled, length_spelled}
 use Rattle.rasta_check.proofs.crossing.Sent.packet.Goals as goal
 

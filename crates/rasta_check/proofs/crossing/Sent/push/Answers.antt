@@ -1,13 +1,9 @@
 use Rattle.std.proofs.Common.{◌≡◌, ℕ, [], ◌∷◌, ◌++◌, Option, length, map, ap, sym, ◌∙◌, subst, arith}
-use Rattle.std.proofs.lemmas.List.{length-map}
+use Rattle.rasta_check.proofs.Prelude.{length-map, packet_of, Pdu, Crossing, IsCrossing, sent_by, crossing_with, map_push}
 use Rattle.std.specs.Vec.{vec_len}
-use Rattle.rasta_udp.specs.Frame.{packet_of}
-use Rattle.rasta_pdu.specs.declared.pdu.Pdu.{Pdu}
 use Rattle.rasta_check.specs.declared.crossing.Sent.TheInside.{Inside}
 use Rattle.rasta_check.specs.Internals.Packets.{with_new}
-use Rattle.rasta_check.specs.Capture.Reading.{Crossing, IsCrossing, sent_by, crossing_with}
 use Rattle.rasta_check.proofs.Capture.Crossings.{after_client, after_server, after_repeat}
-use Rattle.rasta_check.proofs.Lists.{map_push}
 use Rattle.rasta_check.proofs.crossing.Sent.push.Goals as goal
 use Rattle.rasta_check.proofs.crossing.Sent.push.Goals.{in-Some+in-Client+in_ok-push-in-Client, in-Some+in-Server+in_ok-push-in-Server, in_default}
 

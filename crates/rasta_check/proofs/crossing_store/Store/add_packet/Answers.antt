@@ -1,5 +1,5 @@
 use Rattle.std.proofs.Common.{sym, ◌∙◌}
-use Rattle.rasta_udp.specs.Frame.{packet_of}
+use Rattle.rasta_check.proofs.Prelude.{packet_of}
 use Rattle.rasta_check.proofs.Capture.Crossings.{grown_crossing, within_room}
 use Rattle.rasta_check.proofs.Internals.StoreGrowth.{judged_length}
 use Rattle.rasta_check.proofs.crossing_store.Store.add_packet.Goals as goal

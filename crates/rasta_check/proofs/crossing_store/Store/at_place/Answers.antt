@@ -1,8 +1,5 @@
 use Rattle.std.proofs.Common.{◌≡◌, Some, ap, sym, subst, ◌∙◌, slice_get}
-use Rattle.rasta_pcap.specs.declared.fault.Side.{Side}
-use Rattle.rasta_check.specs.Internals.Datagrams.{kept_by}
-use Rattle.rasta_check.specs.Capture.Lists.{position_of_place}
-use Rattle.rasta_check.specs.Capture.Reading.{Crossing, sent_by}
+use Rattle.rasta_check.proofs.Prelude.{Side, kept_by, position_of_place, Crossing, sent_by}
 use Rattle.rasta_check.proofs.Sides.{same_side, sides_differ}
 use Rattle.rasta_check.proofs.Internals.StoreLists.{copy_there, datagram_of, first_there, not_placed, other_side, packet_read}
 use Rattle.rasta_check.proofs.crossing_store.Store.at_place.Goals as goal

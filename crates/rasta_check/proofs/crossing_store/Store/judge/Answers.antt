@@ -1,6 +1,5 @@
 use Rattle.std.proofs.Common.{Some, None, ap, sym, ◌∙◌, if◌then◌else◌}
-use Rattle.rasta_udp.specs.Frame.{packet_of}
-use Rattle.rasta_pdu.specs.Pdu.{value_of}
+use Rattle.rasta_check.proofs.Prelude.{packet_of, value_of}
 use Rattle.rasta_check.proofs.Capture.Crossings.{is_next_pdu}
 use Rattle.rasta_check.proofs.Internals.StoreLists.{repeats_at, skips}
 use Rattle.rasta_check.proofs.crossing_store.Store.judge.Goals as goal

@@ -1,8 +1,5 @@
 use Rattle.std.proofs.Common.{List, [], sym, subst, arith}
-use Rattle.rasta_check.specs.declared.crossing_store.StoredPacket.{StoredPacket}
-use Rattle.rasta_check.specs.Internals.Datagrams.{KeptDatagrams}
-use Rattle.rasta_check.specs.Internals.Stored.{IsStore}
-use Rattle.rasta_check.specs.Model.Theorem.{OfConnection}
+use Rattle.rasta_check.proofs.Prelude.{StoredPacket, KeptDatagrams, IsStore, OfConnection}
 use Rattle.rasta_check.proofs.Internals.StoreGrowth.{empty_store}
 use Rattle.rasta_check.proofs.crossing_store.Store.new.Goals as goal
 

@@ -1,7 +1,5 @@
 use Rattle.std.proofs.Common.{ap, sym, ◌∙◌, Some, slice_get}
-use Rattle.std.specs.Option.{option_map}
-use Rattle.rasta_check.specs.Capture.Crossing.{FirstCopy}
-use Rattle.rasta_check.specs.Capture.Reading.{Crossing, sent_by}
+use Rattle.rasta_check.proofs.Prelude.{option_map, FirstCopy, Crossing, sent_by}
 use Rattle.rasta_check.proofs.Capture.Crossings.{length_spelled, number_spelled}
 use Rattle.rasta_check.proofs.Internals.StoreLists.{kept_at}
 use Rattle.rasta_check.proofs.crossing_store.Store.number_at.Goals as goal

@@ -1,7 +1,5 @@
 use Rattle.std.proofs.Common.{slice_get, ap, sym, ◌∙◌, subst}
-use Rattle.std.specs.Option.{option_map}
-use Rattle.rasta_check.specs.Capture.Crossing.{Spells, FirstCopy}
-use Rattle.rasta_check.specs.Capture.Reading.{Crossing, sent_by}
+use Rattle.rasta_check.proofs.Prelude.{option_map, Spells, FirstCopy, Crossing, sent_by}
 use Rattle.rasta_check.proofs.Internals.StoreLists.{packet_read, stored_packet}
 use Rattle.rasta_check.proofs.crossing_store.Store.packet.Goals as goal
 

@@ -1,5 +1,5 @@
 use Rattle.std.proofs.Common.{sym, ◌∙◌, arith}
-use Rattle.rasta_check.specs.Capture.Reading.{sent_by}
+use Rattle.rasta_check.proofs.Prelude.{sent_by}
 use Rattle.rasta_check.proofs.Capture.Crossings.{few_of, list_of}
 use Rattle.rasta_check.proofs.Capture.Positions.{far, near}
 use Rattle.rasta_check.proofs.Capture.FaultlessLists.{ordered}

@@ -1,9 +1,7 @@
 use Rattle.std.proofs.Common.{◌≡◌, ℕ, [], ◌∷◌, ◌++◌, Option, length, ap, sym, ◌∙◌, subst, arith}
-use Rattle.rasta_udp.specs.Frame.{packet_of}
+use Rattle.rasta_check.proofs.Prelude.{packet_of, StoredPacket, Crossing, IsCrossing, with_packet, IsStore, crossing_by}
 use Rattle.rasta_check.specs.declared.crossing_store.Store.TheInside.{Inside}
-use Rattle.rasta_check.specs.declared.crossing_store.StoredPacket.{StoredPacket}
-use Rattle.rasta_check.specs.Capture.Reading.{Crossing, IsCrossing, with_packet}
-use Rattle.rasta_check.specs.Internals.Stored.{IsJudged, IsStore, crossing_by}
+use Rattle.rasta_check.specs.Internals.Stored.{IsJudged}
 use Rattle.rasta_check.proofs.Internals.StoreGrowth.{datagram_fits, grown_copy, grown_new}
 use Rattle.rasta_check.proofs.crossing_store.Store.push.Goals as goal
 use Rattle.rasta_check.proofs.crossing_store.Store.push.Goals.{in-Some, in-None+in_ok-push-in-None}

@@ -1,5 +1,6 @@
 use Rattle.std.proofs.Common.{sym, ◌∙◌}
-use Rattle.rasta_check.specs.Internals.Datagrams.{Kept, keeping}
+use Rattle.rasta_check.proofs.Prelude.{Kept}
+use Rattle.rasta_check.specs.Internals.Datagrams.{keeping}
 use Rattle.rasta_check.proofs.Internals.DatagramGrowth.{both_ok, kept_grown, same_kept}
 use Rattle.rasta_check.proofs.datagrams.Datagrams.push.Goals as goal
 

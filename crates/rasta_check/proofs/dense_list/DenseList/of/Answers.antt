@@ -1,10 +1,7 @@
 use Rattle.std.proofs.Common.{◌+◌, List, [], ◌∷◌, ◌++◌, ap, sym, ◌∙◌, length, subst, arith}
-use Rattle.std.specs.Option.{option_map}
-use Rattle.std.proofs.lemmas.List.{length-take-le}
-use Rattle.rasta_check.specs.Capture.Crossing.{FirstCopy}
-use Rattle.rasta_check.specs.Capture.Lists.{IsOrdered, copy_of}
+use Rattle.rasta_check.proofs.Prelude.{option_map, length-take-le, FirstCopy, IsOrdered, copy_of, none_within}
 use Rattle.rasta_check.proofs.Capture.Positions.{ordered_take}
-use Rattle.rasta_check.proofs.Lists.{none_within, take_one_more}
+use Rattle.rasta_check.proofs.Lists.{take_one_more}
 use Rattle.rasta_check.proofs.dense_list.DenseList.of.Goals as goal
 use Rattle.rasta_check.proofs.dense_list.DenseList.of.Goals.{in-Some+in_ok-push, in_default}
 

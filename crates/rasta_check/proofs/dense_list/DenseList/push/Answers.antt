@@ -1,10 +1,6 @@
 use Rattle.std.proofs.Common.{◌≡◌, ℕ, [], ◌∷◌, ◌++◌, ◌+◌, ◌<◌, List, map, length, refl, ap, sym, ◌∙◌, subst, arith}
-use Rattle.std.proofs.lemmas.List.{length-map}
-use Rattle.rasta_pdu.specs.declared.pdu.Pdu.{Pdu}
-use Rattle.rasta_check.specs.Capture.Crossing.{FirstCopy}
-use Rattle.rasta_check.specs.Capture.Lists.{IsOrdered, copy_of}
+use Rattle.rasta_check.proofs.Prelude.{length-map, Pdu, FirstCopy, IsOrdered, copy_of, map_push}
 use Rattle.rasta_check.proofs.Internals.ListPushes.{marks_grown, few_more}
-use Rattle.rasta_check.proofs.Lists.{map_push}
 use Rattle.rasta_check.proofs.dense_list.DenseList.push.Goals as goal
 
 pub invariant_of-self-2 : goal.invariant_of-self-2

@@ -1,8 +1,5 @@
 use Rattle.std.proofs.Common.{◌≡◌, ℕ, List, Option, Some, slice_get, ap, sym, ◌∙◌, arith}
-use Rattle.std.specs.Option.{option_map}
-use Rattle.rasta_pdu.specs.declared.pdu.Pdu.{Pdu}
-use Rattle.rasta_check.specs.Capture.Crossing.{FirstCopy}
-use Rattle.rasta_check.specs.Capture.Lists.{copy_of}
+use Rattle.rasta_check.proofs.Prelude.{option_map, Pdu, FirstCopy, copy_of}
 use Rattle.rasta_check.proofs.Capture.Positions.{near, far}
 use Rattle.rasta_check.proofs.dense_list.DenseListSentList.position_of.Goals as goal
 

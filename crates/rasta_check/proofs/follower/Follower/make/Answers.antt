@@ -1,7 +1,5 @@
 use Rattle.std.proofs.Common.{rules, inl, inr, ⊎_elim}
-use Rattle.rasta_pdu.specs.Pdu.{value_of}
-use Rattle.rasta_end.specs.MakeRule.{make_fault, after_make}
-use Rattle.rasta_check.specs.Internals.Checking.{Followed, made_there}
+use Rattle.rasta_check.proofs.Prelude.{value_of, make_fault, after_make, Followed, made_there}
 use Rattle.rasta_check.proofs.Script.RefusedEntries.{refused, led}
 use Rattle.rasta_check.proofs.follower.Follower.make.Goals as goal
 

@@ -1,7 +1,5 @@
 use Rattle.std.proofs.Common.{ℕ, List, ap, ◌∙◌}
-use Rattle.std.specs.Option.{option_map}
-use Rattle.rasta_pdu.specs.declared.pdu.Pdu.{Pdu}
-use Rattle.rasta_check.specs.Capture.Crossing.{FirstCopy, copy_with}
+use Rattle.rasta_check.proofs.Prelude.{option_map, Pdu, FirstCopy, copy_with}
 use Rattle.rasta_check.proofs.Internals.ListPushes.{place_found}
 use Rattle.rasta_check.proofs.map_list.MapList.place_of.Goals as goal
 

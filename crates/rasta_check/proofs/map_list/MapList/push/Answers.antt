@@ -1,8 +1,6 @@
 use Rattle.std.proofs.Common.{◌≡◌, ℕ, [], ◌∷◌, ◌++◌, ◌+◌, ◌<◌, List, length, refl, ap, sym, ◌∙◌, subst, arith}
-use Rattle.std.proofs.lemmas.List.{length-map}
-use Rattle.rasta_pdu.specs.declared.pdu.Pdu.{Pdu}
-use Rattle.rasta_check.specs.Capture.Crossing.{FirstCopy}
-use Rattle.rasta_check.specs.Capture.Lists.{IsOrdered, copy_of, copies_in}
+use Rattle.rasta_check.proofs.Prelude.{length-map, Pdu, FirstCopy, IsOrdered, copy_of}
+use Rattle.rasta_check.specs.Capture.Lists.{copies_in}
 use Rattle.rasta_check.proofs.Internals.ListPushes.{marks_grown, map_grown, few_more, keys_grown}
 use Rattle.rasta_check.proofs.map_list.MapList.push.Goals as goal
 
