@@ -62,8 +62,7 @@ all_append P (x ∷ xs) ys h g = (h.0, all_append P xs ys h.1 g)
 -- ---- mapped
 
 pub mapped_some : {A B : Type 0} (f : A → B) (o : Option A) (b : B) → option_map f o ≡ Some b → (a : A) × (o ≡ Some a) × (f a ≡ b)
-mapped_some f None b e = absurd (cc)
-mapped_some f (Some a) b e = (a, refl, cc)
+mapped_some f o b h = grind arith
 
 pub map_at : {A B : Type 0} (f : A → B) (xs : List A) (i : ℕ) (x : A) → slice_get xs i ≡ Some x → slice_get (map f xs) i ≡ Some (f x)
 map_at f xs i x g = slice_get-map f xs i ∙ ap (option_map f) g

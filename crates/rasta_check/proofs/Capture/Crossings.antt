@@ -22,8 +22,7 @@ use Rattle.rasta_check.proofs.Capture.Channels.{recorded_more}
 use Rattle.rasta_check.proofs.Capture.Positions.{next_new}
 
 next_of : (os : List FirstCopy) (n : ℕ) → is_next_number os n ≡ true → (c : FirstCopy) → slice_get os 0 ≡ Some c → n ≡ wrapped (c.pdu.number + length os)
-next_of [] n e c g = absurd (cc)
-next_of (x ∷ os) n e c g = (let same : x ≡ c = cc in let z : n ≡ wrapped (x.pdu.number + length (x ∷ os)) = grind (arith, nat_tests) in z ∙ ap (λ (y : FirstCopy). wrapped (y.pdu.number + length (x ∷ os))) same)
+next_of os n h c g = grind arith
 
 module _ (p : Parameters) (packets : List Packet) (side : Side) (own : List FirstCopy) (a : Packet) (sent : IsSent p packets side own) (of_side : a.side ≡ side) where
   by_copy : (d : RedundancyPdu) → Spells p side d a.payload → (o : Option FirstCopy) → copy_with own d.number ≡ o → number_fault p side own a.payload d o ≡ None
@@ -170,9 +169,7 @@ module _ (k : Crossing) (a : Packet) (packets : List Packet) (grown : packets �
 
 -- each packet spells a PDU
 pub spelled_at : (k : Crossing) (place : ℕ) (a : Packet) → IsCrossing k → slice_get k.packets place ≡ Some a → (d : RedundancyPdu) × Spells k.params a.side d a.payload
-spelled_at k place a h g =
-    let w = (list_of k h a.side).copies place a g refl in
-    (w.1.pdu, w.4)
+spelled_at k place a h g = grind arith
 
 -- the redundancy number of what is spelled stands at its place
 pub number_spelled : (p : Parameters) (side : Side) (d : RedundancyPdu) (bytes : List ℕ) → Spells p side d bytes → number_in_bytes bytes ≡ d.number

@@ -1,5 +1,5 @@
 -- Which packet may come next.
-use Rattle.std.proofs.Common.{◌≡◌, ℕ, zero, suc, ◌+◌, ◌^◌, ◌<◌, ◌≤◌, ◌⊎◌, List, [], ◌∷◌, ◌++◌, length, Some, slice_get, refl, ap, sym, ◌∙◌, arith, inl, inr, subst}
+use Rattle.std.proofs.Common.{◌≡◌, ℕ, suc, ◌+◌, ◌^◌, ◌<◌, ◌≤◌, ◌⊎◌, List, [], ◌∷◌, ◌++◌, length, Some, slice_get, refl, ap, sym, ◌∙◌, arith, inl, inr, subst}
 use Rattle.rasta_check.proofs.Prelude.{slice_get_within, dec_lt, yes, no, Side, Parameters, AreParameters, wrapped, RedundancyPdu, Spells, FirstCopy, Packet, World, Reaches}
 use Rattle.rasta_check.proofs.Prelude.{slice_get_some, get_next}
 use Rattle.rasta_check.proofs.Capture.FaultlessLists.{IsSent, ordered}
@@ -25,8 +25,7 @@ abbrev AreBelow : ℕ → List FirstCopy → Type 0
 AreBelow n own = (i : ℕ) (c : FirstCopy) → slice_get own i ≡ Some c → c.place < n
 
 below_more : (n : ℕ) (c : FirstCopy) (own : List FirstCopy) → c.place < n → AreBelow n own → AreBelow n (c ∷ own)
-below_more n c own l h zero d g = (let same : c ≡ d = cc in let e = ap (λ (z : FirstCopy). z.place) same in omega arith)
-below_more n c own l h (suc i) d g = h i d g
+below_more n c own h g = grind arith
 
 split_at : (n : ℕ) (big : List FirstCopy) → (own : List FirstCopy) × AreBelow n own × Begins big own n
 split_at n [] = ([], λ i c g. absurd (cc), record { later = []; whole = refl; place = λ c g. absurd (cc) })

@@ -38,8 +38,7 @@ pub passed : (b : Bool) (fault : ℕ) → (if b then None else Some fault) ≡ N
 passed b fault e = grind arith
 
 is_next : (own : List FirstCopy) (n : ℕ) → ((c : FirstCopy) → slice_get own 0 ≡ Some c → n ≡ wrapped (c.pdu.number + length own)) → is_next_number own n ≡ true
-is_next [] n h = refl
-is_next (c ∷ own) n h = (let z = h c refl in grind (arith, nat_tests))
+is_next own n h = grind arith
 
 module _ (p : Parameters) (packets : List Packet) (side : Side) (own : List FirstCopy) (a : Packet) (h : OfConnection p) (sent : IsSent p packets side own) (few : length own < 4294967296) where
   repeats_first : (d : RedundancyPdu) → Spells p side d a.payload → (i j : ℕ) (c e : FirstCopy) → slice_get own i ≡ Some c → slice_get own j ≡ Some e → c.pdu.number ≡ d.number → e.pdu ≡ d → repeat_fault p side c a.payload ≡ None

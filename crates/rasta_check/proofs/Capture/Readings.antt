@@ -135,8 +135,7 @@ pub record Crossed (p : Parameters) (frames : List (List ℕ)) (k : Crossing) : 
 
 pub grown_same : (k : Crossing) (a : Packet) (side : Side) (own : List FirstCopy)
     → crossing_with k a side own ≡ record { params = k.params; packets = k.packets ++ a ∷ []; client = (crossing_with k a side own).client; server = (crossing_with k a side own).server }
-grown_same k a Client own = refl
-grown_same k a Server own = refl
+grown_same k a side own = grind arith
 
 module _ (p : Parameters) (front : List (List ℕ)) (frame : List ℕ) (c s : List FirstCopy) (x : Crossed p front (crossing_by p front c s)) where
   -- the window has these frames more, and what they hold was added

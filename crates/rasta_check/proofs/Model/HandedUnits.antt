@@ -7,7 +7,7 @@ use Rattle.rasta_check.proofs.Prelude.{OweRetransmissionRequest, Made, EndState,
 use Rattle.rasta_check.proofs.Prelude.{after_take, HandsUpUnits, all_push, get_front, get_push, get_mapped}
 use Rattle.std.proofs.lemmas.Option.{get_or_from_slice_get}
 use Rattle.rasta_pdu.specs.Messages.{messages_of}
-use Rattle.rasta_pdu.specs.Pdu.{SafetyBody, Messages}
+use Rattle.rasta_pdu.specs.Pdu.{SafetyBody}
 use Rattle.rasta_end.specs.TakeRule.{is_in, steps_past_next, burst}
 use Rattle.rasta_check.specs.Model.Laws.{HandsUp}
 use Rattle.rasta_check.proofs.Model.PassedTests.{Passed, cs_is}
@@ -177,8 +177,7 @@ hands_up e f w = record {
 
 messages_by_content : (body : SafetyBody) → messages_in body ≡ messages_of (content_of body)
 unfolding messages_of
-messages_by_content (Messages payload) = refl
-messages_by_content _ = refl
+messages_by_content body = grind arith
 
 pub hands_up_units : (e f : EndState) → Valued f → Handed e f → HandsUpUnits e f
 hands_up_units e f vf w =

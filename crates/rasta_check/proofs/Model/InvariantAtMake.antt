@@ -114,9 +114,7 @@ module _ (s : Side) (ph : Phase) (ms : List Made) (m : Made) (a : ℕ) (os : Lis
 
 -- an end that makes a PDU whose CS names one of the peer's has accepted something
 named_connected : {s : Side} {ph ph' : Phase} {k : Kind} {os os' : List Owed} → Changed s ph k os ph' os' → is_named k ≡ true → has_peer s ph ≡ true
-named_connected (goes_on on b c d r) h = on
-named_connected (over d) h = grind (arith, d)
-named_connected (opened a s d) h = grind (arith, d)
+named_connected h g = grind arith
 
 -- a make keeps what holds of the maker
 pub own_make : (p : Parameters) (e : EndState) (x : SafetyPdu) (clock : ℕ) (why : Why) (t : ℕ) (peer : List Made) (by : MadeBy e x why)

@@ -7,7 +7,7 @@ use Rattle.rasta_check.proofs.Prelude.{is_flowing, is_connected, is_valid, posit
 use Rattle.rasta_end.specs.TakeRule.{steps_past_next, accept, burst}
 use Rattle.rasta_check.proofs.Model.TakeRows.{Premise, Knows, bare_effect, take_bare}
 use Rattle.rasta_check.proofs.Model.Counts.{owes, number_take_all, number_take_more, number_take_at, is_answer_owed, is_request_owed, owes-append, requests_in, answers_in, IsRequest}
-use Rattle.rasta_check.proofs.Model.NamedPositions.{SnIs, position_is, valid_at}
+use Rattle.rasta_check.proofs.Model.NamedPositions.{SnIs, position_is}
 use Rattle.rasta_check.proofs.Model.Invariant.{ended, Held, Holds, Opening, Asking, Accepting, is_response_owed, is_opener, has_peer, is_named, open_bit, bit_most}
 
 -- ---- rows between the opening and the end
@@ -19,8 +19,7 @@ is_inner Disconnected = false
 is_inner _ = true
 
 inner_premise : (row : TakeRow) (s : Side) (ph : Phase) (k : Kind) (n a v : Bool) → is_inner row ≡ true → Premise row s ph k n a v → (has_peer s ph ≡ true) × (is_named k ≡ true) × (v ≡ true)
-inner_premise InSequence s ph k n a v i w = grind arith
-inner_premise _ s ph k n a v i w = grind arith
+inner_premise row s ph k n a v h g = grind arith
 
 -- the end has accepted something, and the CS of the PDU is judged and valid
 pub inner : (q : Parameters) (row : TakeRow) (e : EndState) (x : SafetyPdu) → is_inner row ≡ true → Knows q row e x → (has_peer e.side e.phase ≡ true) × (is_named x.kind ≡ true) × (is_valid e x ≡ true)
@@ -75,10 +74,7 @@ module _ (q : Parameters) (e f : EndState) (t u : ℕ) (m : Made) (p : ℕ) (k :
 
   -- the position that its CS confirms
   pub mark : is_named m.pdu.kind ≡ true → is_valid e m.pdu ≡ true → (j : ℕ) × (SnIs e.made j m.pdu.cs) × (position_confirmed e m.pdu ≡ j) × (j < length e.made)
-  mark n v =
-      let r = k.theirs.accepts.named p m k.there n in
-      let s : SnIs e.made r.0 m.pdu.cs = r.2 in
-      (r.0, s, valid_at e.made e.confirmed r.0 m.pdu.cs k.mine.list.numbered k.few k.mine.confirmed s v, slice_get_within e.made r.0 s.m s.there)
+  mark h g = grind arith
 
   confirms : is_named m.pdu.kind ≡ true → is_valid e m.pdu ≡ true → position_confirmed e m.pdu ≤ length e.made
   confirms n v = (let c = mark n v in omega (arith, c.2, c.3))

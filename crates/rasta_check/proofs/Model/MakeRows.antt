@@ -1,6 +1,6 @@
 -- The rows of the make table, one by one.
 use Rattle.std.proofs.Common.{◌≡◌, ℕ, Bool, true, false, List, [], ◌∷◌, Some, refl, ap, sym, arith}
-use Rattle.rasta_check.proofs.Prelude.{nat_tests, Side, Client, Server, Kind, ConnectionRequest, ConnectionResponse, RetransmissionRequest, RetransmissionResponse}
+use Rattle.rasta_check.proofs.Prelude.{Side, Client, Server, Kind, ConnectionRequest, ConnectionResponse, RetransmissionRequest, RetransmissionResponse}
 use Rattle.rasta_check.proofs.Prelude.{DisconnectionRequest, Data, RetransmittedData, SafetyPdu, is_kind, Parameters, Phase, Closed, Start, Up, Why, MakeRow, Owed}
 use Rattle.rasta_check.proofs.Prelude.{OweConnectionResponse, OweRetransmissionResponse, OweResend, OweRetransmissionRequest, Made, EndState, is_connected, row_of, after_make}
 use Rattle.rasta_check.proofs.Prelude.{after_make_by}
@@ -39,11 +39,7 @@ Met Anything os = Unit {0}
 
 meets : (d : Demand) (os : List Owed) → lacks d os ≡ false → owes_else d os ≡ false → Met d os
 unfolding Met
-meets (First o) [] e f = absurd (cc)
-meets (First o) (q ∷ os) e f = (os, grind (arith, nat_tests, f))
-meets Nothing [] e f = refl
-meets Nothing (q ∷ os) e f = absurd (cc)
-meets Anything os e f = tt
+meets d os h g = grind arith
 
 -- the row that a test lets through
 row_by : {s : Side} {ph : Phase} {why : Why} {k : Kind} (row : MakeRow) (b : Bool) (os : List Owed) → is_refused_row (then_some b row) os ≡ false → is_owing_else (then_some b row) os ≡ false
@@ -70,8 +66,7 @@ making s ph reason _ _ os e f = absurd (cc)
 
 -- a connection request is made by a closed client
 pub opening_is : {s : Side} {ph : Phase} {why : Why} {k : Kind} {os : List Owed} {row : MakeRow} → Making s ph why k os row → is_kind ConnectionRequest k ≡ true → (s ≡ Client) × (ph ≡ Closed) × (row ≡ Opens)
-opening_is opening h = (refl, refl, refl)
-opening_is _ h = absurd (cc)
+opening_is h g = grind arith
 
 -- ---- the row of a make
 

@@ -62,8 +62,7 @@ pub bare_rest : (u v n : ℕ) (os : List Owed) → os ≡ [] → Due u v n os �
 bare_rest u v n os e d = rw e at d
 
 pub rest_due : (u v n : ℕ) (os : List Owed) → DueRest v n os → Due u v n os
-rest_due u v n (OweRetransmissionResponse ∷ os) h = absurd h
-rest_due u v n _ h = h
+rest_due u v n os h = grind arith
 
 pub due_le : (v n : ℕ) (os : List Owed) → DueRest v n os → v ≤ n
 due_le v n [] h = omega arith

@@ -8,7 +8,7 @@ use Rattle.rasta_end.specs.Units.{units_after}
 use Rattle.rasta_end.specs.MakeRule.{differs, unit_of, owed_after, offered_after}
 use Rattle.rasta_check.proofs.Model.Counts.{answers_in}
 use Rattle.rasta_check.proofs.Model.PassedTests.{Passed}
-use Rattle.rasta_check.proofs.Model.MakeRows.{Making, opening, answer, again, fresh, MadeBy, new_made}
+use Rattle.rasta_check.proofs.Model.MakeRows.{Making, opening, again, fresh, MadeBy, new_made}
 use Rattle.rasta_check.proofs.Model.Invariant.{Held}
 use Rattle.rasta_check.proofs.Model.InvariantAtMake.{over_after, nothing_made}
 use Rattle.rasta_check.proofs.Model.ConveyedUnits.{values, jump, is_plain, last_push, last_get, values_push, length-values, units_next, after_is}
@@ -26,15 +26,10 @@ leads u v n free _ d = grind (arith, d)
 
 -- a unit is made by an end that is connected; it is the next one
 unit_made : {s : Side} {ph : Phase} {why : Why} {k : Kind} {os : List Owed} {row : MakeRow} (u v n : ℕ) → Making s ph why k os row → Due u v n os → carries_unit k ≡ true → unit_of row n ≡ Some v
-unit_made u v n (again r) d h = ap Some d.0
-unit_made u v n (fresh r) d h = ap Some (sym d)
-unit_made u v n _ d h = absurd (cc)
+unit_made u v n h g l = grind arith
 
 unit_runs : {s : Side} {ph : Phase} {why : Why} {k : Kind} {os : List Owed} {row : MakeRow} → Making s ph why k os row → is_plain k ≡ false → is_connected ph ≡ true
-unit_runs (answer r) h = r
-unit_runs (again r) h = r
-unit_runs (fresh r) h = r
-unit_runs _ h = absurd (cc)
+unit_runs h g = grind arith
 
 offered_least : (row : MakeRow) (n : ℕ) → n ≤ offered_after row n
 offered_least row n = grind arith

@@ -1,5 +1,5 @@
 -- SNs rise by one.
-use Rattle.std.proofs.Common.{◌≡◌, ℕ, zero, suc, ◌+◌, ◌%◌, ◌^◌, ◌≤◌, true, List, [], ◌∷◌, ◌++◌, length, Some, slice_get, ap, arith}
+use Rattle.std.proofs.Common.{◌≡◌, ℕ, suc, ◌+◌, ◌%◌, ◌^◌, ◌≤◌, true, List, [], ◌∷◌, ◌++◌, length, Some, slice_get, arith}
 use Rattle.rasta_check.proofs.Prelude.{nat_tests, slice_get_within, Made, first_sn, all_push}
 use Rattle.rasta_end.specs.State.{sn_at}
 use Rattle.rasta_end.specs.MakeRule.{is_next_sn}
@@ -15,9 +15,7 @@ numbered_push (x ∷ ms) m h t = all_push ms m h (grind (arith, nat_tests, t))
 
 -- modulo 2^32 an SN is the first one and its position
 pub sn_from_first : (ms : List Made) (i : ℕ) (m : Made) → Numbered ms → slice_get ms i ≡ Some m → m.pdu.sn % 2 ^ 32 ≡ (first_sn ms + i) % 2 ^ 32
-sn_from_first [] i m h e = absurd (cc)
-sn_from_first (x ∷ ms) zero m h e = (let same : x ≡ m = cc in let a = ap (λ (k : Made). k.pdu.sn) same in omega (arith, a))
-sn_from_first (x ∷ ms) (suc i) m h e = (let a : m.pdu.sn ≡ (x.pdu.sn + suc i) % 2 ^ 32 = h i m e in omega arith)
+sn_from_first ms i m h g = grind arith
 
 -- an SN names one position
 pub numbered_once : (ms : List Made) → length ms ≤ 1000001 → Numbered ms

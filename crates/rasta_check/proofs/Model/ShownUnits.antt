@@ -6,7 +6,7 @@ use Rattle.rasta_check.proofs.Prelude.{ConnectionRequest}
 use Rattle.std.proofs.Math.Logic.{⊎_map}
 use Rattle.rasta_end.specs.MakeRule.{is_judged, offered_after}
 use Rattle.rasta_check.proofs.Model.PassedTests.{Passed, cs_is}
-use Rattle.rasta_check.proofs.Model.MakeRows.{Making, fresh, MadeBy, new_made}
+use Rattle.rasta_check.proofs.Model.MakeRows.{Making, MadeBy, new_made}
 use Rattle.rasta_check.proofs.Model.Steps.{Grown, same_grown}
 use Rattle.rasta_check.proofs.Model.TakeRows.{Knows, take_by, effect_leaves, take_leaves}
 use Rattle.rasta_check.proofs.Model.NamedPositions.{SnIs, SnIs_more}
@@ -40,10 +40,7 @@ shows_grown f f' n n' cs l g s = record { at = s.at; units = s.units; named = Sn
 
 -- no position that has this CS as its SN conveys more
 pub shown_most : (f : EndState) (n a cs : ℕ) → OnceIn f.made → Valued f → (a ≡ 0 → f.offered ≡ 0) → (a ≡ 0) ⊎ Shows f n cs → (c v : ℕ) → SnIs f.made c cs → slice_get (values f) c ≡ Some v → v ≤ n
-shown_most f n a cs once vf none (inl z) c v s g = omega (arith, vf.positions.bounded c v g, none z)
-shown_most f n a cs once vf none (inr z) c v s g =
-    let same = once c z.at s.m z.named.m s.there z.named.there (s.same ∙ sym z.named.same) in
-    grind (arith, z.conveyed, z.most, same)
+shown_most f n a cs h g k l c v m o = grind arith
 
 -- The end makes.
 
@@ -89,13 +86,11 @@ shown_peer e f f' g w run offer =
     }
 
 offers_by : {s : Side} {ph : Phase} {why : Why} {k : Kind} {os : List Owed} {row : MakeRow} (n : ℕ) → Making s ph why k os row → 0 < offered_after row n → (0 < n) ⊎ (is_connected ph ≡ true)
-offers_by n (fresh r) l = inr r
-offers_by n _ l = inl l
+offers_by n h g = grind arith
 
 -- a make connects no end
 connected_by : {s : Side} {ph ph' : Phase} {k : Kind} {os os' : List Owed} → Changed s ph k os ph' os' → is_connected ph' ≡ true → is_connected ph ≡ true
-connected_by (goes_on a c d g j) r = r
-connected_by _ r = absurd (cc)
+connected_by h g = grind arith
 
 pub shown_peer_make : (e f : EndState) (x : SafetyPdu) (clock : ℕ) (why : Why) (b : MadeBy f x why) → Grown f (after_make_by (Some b.row) f x clock) → Shown e f → Shown e (after_make_by (Some b.row) f x clock)
 shown_peer_make e f x clock why b grown w =
@@ -112,8 +107,7 @@ handed_more q e x _ = grind (arith, length_push e.handed e.accepted)
 
 -- a take accepts more, if anything
 accepted_more : (q : Parameters) (e : EndState) (x : SafetyPdu) (t : ℕ) (peer : List Made) → Held e t peer → (r : TakeRow) → Knows q r e x → e.accepted ≤ (effect q r e x).accepted
-accepted_more q e x t peer h Opened w = grind (arith, h.opening.down w.0)
-accepted_more q e x t peer h r w = grind (arith, h.opening.starting, w)
+accepted_more q e x t peer h r g = grind arith
 
 pub shown_take : (q : Parameters) (e f : EndState) (x : SafetyPdu) (t : ℕ) → Held e t f.made → Shown e f → Shown (after_take q e x) f
 shown_take q e f x t h w = take_by q e x (λ e'. Shown e' f) w

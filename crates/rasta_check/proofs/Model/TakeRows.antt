@@ -62,8 +62,7 @@ by_unit P true i e x h l = h refl
 by_unit P false i e x h l = l refl
 
 pub effect_leaves : (p : Parameters) (row : Option TakeRow) (e : EndState) (x : SafetyPdu) → LeftAlone e (effect_by p row e x)
-effect_leaves p (Some InSequence) e x = grind arith
-effect_leaves p _ e x = grind arith
+effect_leaves p row e x = grind arith
 
 pub take_leaves : (p : Parameters) (e : EndState) (x : SafetyPdu) → LeftAlone e (after_take p e x)
 take_leaves p e x = effect_leaves p (take_row p e x) e x

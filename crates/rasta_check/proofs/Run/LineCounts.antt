@@ -1,12 +1,10 @@
 -- Each move of a run has one line.
-use Rattle.std.proofs.Common.{◌≡◌, List, Option, length, refl, ap, arith}
-use Rattle.rasta_check.proofs.Prelude.{length-append, Side, Packet, Parameters, Station, World, Move, Moves, repeats, Happened, Runs, starts, does, lines_of_move, told}
-use Rattle.rasta_check.specs.Run.Lines.{copy_lines}
+use Rattle.std.proofs.Common.{◌≡◌, List, length, refl, arith}
+use Rattle.rasta_check.proofs.Prelude.{length-append, Side, Packet, Parameters, Station, World, Move, Moves, Happened, Runs, starts, does, lines_of_move, told}
 use Rattle.rasta_check.proofs.Run.Moves.{told_push}
 
 one_line : {p : Parameters} {b a a' : Station} {xs ys : List Packet} {m : Move} (s : Side) → Moves p b xs a m a' ys → length (lines_of_move s a b xs m) ≡ 1
-one_line {xs = xs} s (repeats place channel old g sd rec) = ap (λ (o : Option Packet). length (copy_lines (length xs) s o)) g
-one_line s _ = refl
+one_line s h = grind arith
 
 pub one_line_each : (p : Parameters) (happened : List Happened) (w : World) → Runs p happened w → length (told happened) ≡ length happened
 one_line_each p hs w (starts m n) = refl

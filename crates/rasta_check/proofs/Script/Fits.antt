@@ -53,10 +53,7 @@ module _ (p : Parameters) (packets : ℕ) (own peer : List FirstCopy) where
   rests_on u v c left e h j = ap (slice_get own) (let z = e in omega arith) ∙ h (suc j)
 
   behind_on : (u v : Cursor) (c : FirstCopy) → v.made ≡ suc u.made → v.level ≡ suc c.place → u.level ≤ c.place → slice_get own u.made ≡ Some c → Behind u → Behind v
-  behind_on u v c m l low g h j d b k =
-      let same : j ≡ u.made → d ≡ c = λ e. (let z = ap (slice_get own) e in cc) in
-      let r : j < u.made → d.place < u.level = λ q. h j d q k in
-      grind (arith, m, b)
+  behind_on u v c h g k l m = grind arith
 
   -- entries that fit are followed, whatever comes behind them
   runs : (side : Side) (entry : ℕ) (u : Cursor) (xs rest : List Entry) (made left : List FirstCopy) (taken : List ℕ) (e : EndState)
@@ -135,8 +132,7 @@ module _ (p : Parameters) (packets : ℕ) (own peer : List FirstCopy) where
   fault_of (Err n) = Some n
 
   by_rules : (o : Option ℕ) (v : Cursor) → fault_of (unless o v) ≡ o
-  by_rules None v = refl
-  by_rules (Some n) v = refl
+  by_rules o v = grind arith
 
   judged : (w : Cursor) (left : List FirstCopy) (x : Entry) → Rests w left → fault_of (next_cursor p packets own peer w x) ≡ entry_fault w left x
   unfolding next_cursor

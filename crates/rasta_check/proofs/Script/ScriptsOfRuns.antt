@@ -1,6 +1,6 @@
 -- Along a run: the first copies so far, and a script for each end.
 use Rattle.std.proofs.Common.{◌≡◌, ℕ, suc, ◌+◌, ◌-◌, ◌<◌, ◌≤◌, Bool, false, List, [], ◌∷◌, ◌++◌, length, Option, Some, None, slice_get, refl, ap, sym, ◌∙◌, arith, subst, ⊎_elim, length-append}
-use Rattle.rasta_check.proofs.Prelude.{nat_tests, append-nil, append_assoc, length_push, length-map, map-append, slice_get_within, Side, Client, Server, Packet, Parameters}
+use Rattle.rasta_check.proofs.Prelude.{append-nil, append_assoc, length_push, length-map, map-append, slice_get_within, Side, Client, Server, Packet, Parameters}
 use Rattle.rasta_check.proofs.Prelude.{AreParameters, SafetyPdu, RedundancyPdu, Entry, Take, Make, Owed, Why, Made, EndState, wrapped, Makes, Takes, start_of, FirstCopy, Station}
 use Rattle.rasta_check.proofs.Prelude.{World, Reaches, other_side, station_of, Cursor, Advances, takes_next, makes_next, Leads, at_start, Follows, first_that_holds, take_fault}
 use Rattle.rasta_check.proofs.Prelude.{Spells, Move, Moves, makes, repeats, arrives, takes, waits, side_moves, begins, goes_on, first_station, pdus_of, pdus_made, get_push_cases}
@@ -44,8 +44,7 @@ taken_within p n own peer u v (x ∷ es) (m, makes_next c clock why e a g k, r) 
 
 -- the deadline test at an earlier moment
 past_before : (p : Parameters) (d : Option ℕ) (m n : ℕ) → m ≤ n → is_past p d n ≡ false → is_past p d m ≡ false
-past_before p None m n l h = refl
-past_before p (Some d) m n l h = grind (arith, nat_tests)
+past_before p d m n h g = grind arith
 
 pub fault_by : (os : List Owed) (b c : Bool) → (b ≡ false → c ≡ false) → first_that_holds ((is_owing os, reply_owed) ∷ (b, past_deadline) ∷ []) ≡ None → first_that_holds ((is_owing os, reply_owed) ∷ (c, past_deadline) ∷ []) ≡ None
 fault_by os b c i h = grind arith

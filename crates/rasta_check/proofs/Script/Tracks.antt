@@ -1,5 +1,5 @@
 -- One side along the packets, as the run of two scripts is built: its script leads on, and it has made what crossed.
-use Rattle.std.proofs.Common.{◌≡◌, ℕ, suc, ◌+◌, ◌-◌, ◌%◌, ◌^◌, ◌<◌, ◌≤◌, List, [], ◌∷◌, ◌++◌, length, Some, slice_get, take, refl, ap, sym, ◌∙◌, arith, add-one}
+use Rattle.std.proofs.Common.{◌≡◌, ℕ, suc, ◌+◌, ◌-◌, ◌%◌, ◌^◌, ◌<◌, ◌≤◌, List, [], ◌∷◌, ◌++◌, length, Some, slice_get, take, refl, ap, ◌∙◌, arith, add-one}
 use Rattle.rasta_check.proofs.Prelude.{slice_get_within, Side, Parameters, Made, wrapped, Packet, Station, first_station, start_of, FirstCopy, Entry, Take, Make, Cursor, Advances}
 use Rattle.rasta_check.proofs.Prelude.{takes_next, makes_next, Leads, at_start}
 use Rattle.rasta_check.proofs.Model.Steps.{base, base_small, start_base, start_made, start_side}
@@ -59,11 +59,7 @@ untouched p n k s own peer es last a f no_first =
 module _ (p : Parameters) (packets : List Packet) (k : ℕ) (s : Side) (own peer : List FirstCopy) (sent : IsSent p packets s own) (last : Cursor) where
   -- so does a packet of the other side
   pub passed_by : (es : List Entry) (a : Station) (here : Packet) → slice_get packets k ≡ Some here → (here.side ≡ s → ⊥) → Tracks p (length packets) k s own peer es last a → Tracks p (length packets) (suc k) s own peer es last a
-  passed_by es a here at no_side f =
-      untouched p (length packets) k s own peer es last a f (λ i c g e.
-      let first = sent.firsts i c g in
-      let same : first.0 ≡ here = (let there : slice_get packets k ≡ Some first.0 = ap (slice_get packets) (sym e) ∙ first.1 in cc) in
-      no_side (sym (ap (λ (x : Packet). x.side) same) ∙ first.2))
+  passed_by es a here h g l = grind arith
 
   -- when all packets have crossed and all takes that are due are done, nothing is left
   pub nothing_left : (a : Station) (es : List Entry) → length packets ≡ k → Drained k es → Tracks p (length packets) k s own peer es last a → a.state ≡ last.state

@@ -1,11 +1,10 @@
 -- What is worked out from the two ends of scripts that fit is what is surely taken.
-use Rattle.std.proofs.Common.{◌≡◌, ℕ, zero, suc, ◌+◌, ◌-◌, ◌%◌, ◌^◌, ◌<◌, ◌≤◌, List, [], ◌∷◌, ◌++◌, length, map, replicate, take, Option, Some, None, slice_get, refl, ap, sym, ◌∙◌, arith}
+use Rattle.std.proofs.Common.{◌≡◌, ℕ, suc, ◌+◌, ◌-◌, ◌^◌, ◌<◌, ◌≤◌, List, [], ◌∷◌, ◌++◌, length, map, replicate, take, Option, Some, None, slice_get, refl, ap, sym, ◌∙◌, arith}
 use Rattle.rasta_check.proofs.Prelude.{fold, max, slice_index_or, nat_tests, dec_lt, yes, no, length-append, slice_get-get_or, slice_get_past, slice_get_within, Side, Quiet}
 use Rattle.rasta_check.proofs.Prelude.{SafetyPdu, Made, EndState, first_sn, units_at, start_by, FirstCopy, position_with, pdus_of, pdus_made, units_shown, units_taken, units_from}
 use Rattle.rasta_check.proofs.Prelude.{data_copies, shown_by, with_proofs, proofs_from, proved_units, get_front, slice_get_some, get_past}
 use Rattle.std.proofs.Math.Seq.{take-nil}
 use Rattle.std.proofs.lemmas.List.{get_or-replicate, length-replicate}
-use Rattle.std.proofs.lemmas.Option.{same_Some}
 use Rattle.rasta_end.specs.State.{ahead_by}
 use Rattle.rasta_check.specs.Model.Taken.{proof_place}
 use Rattle.rasta_check.proofs.Model.SequenceNumbers.{Numbered, numbered_once}
@@ -17,9 +16,7 @@ use Rattle.rasta_check.proofs.Model.Requests.{found_position, named_position}
 
 -- a position as far after the first SN as an SN has that SN
 at_distance : (ms : List Made) (sn i : ℕ) (m : Made) → Numbered ms → first_sn ms < 2 ^ 32 → sn < 2 ^ 32 → slice_get ms i ≡ Some m → ahead_by sn (first_sn ms) ≡ i → m.pdu.sn ≡ sn
-at_distance [] sn i m h f l g d = absurd (cc)
-at_distance (x ∷ ms) sn zero m h f l g d = (let b : x.pdu.sn ≡ m.pdu.sn = ap (λ (k : Made). k.pdu.sn) (same_Some x m g) in omega arith)
-at_distance (x ∷ ms) sn (suc i) m h f l g d = (let a : m.pdu.sn ≡ (x.pdu.sn + suc i) % 2 ^ 32 = h i m g in omega arith)
+at_distance ms sn i m h g k l n = grind arith
 
 -- the units at the position that a CS names are those at its distance
 pub units_named : (ms : List Made) (vs : List ℕ) (cs : ℕ) → Numbered ms → length ms ≤ 1000001 → length vs ≡ length ms → first_sn ms < 2 ^ 32 → cs < 2 ^ 32

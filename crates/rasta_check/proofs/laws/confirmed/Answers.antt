@@ -1,20 +1,15 @@
 use Rattle.std.proofs.Common.{◌≡◌, ℕ, suc, true, false, List, sym, ◌∙◌, arith}
 use Rattle.rasta_check.proofs.Prelude.{SafetyPdu, is_kind, Parameters, Why, Made, EndState, station_of, end_of, other_side, ConnectionRequest}
 use Rattle.rasta_check.proofs.Model.PassedTests.{Passed, passed, cs_is}
-use Rattle.rasta_check.proofs.Model.MakeRows.{made_by, opening_is}
 use Rattle.rasta_check.proofs.Model.SequenceNumbers.{numbered_once}
 use Rattle.rasta_check.proofs.Model.Invariant.{Held}
-use Rattle.rasta_check.proofs.Model.InvariantAtMake.{nothing_made}
 use Rattle.rasta_check.proofs.Model.InvariantOfRuns.{all_held, few_made}
 use Rattle.rasta_check.proofs.Model.ShownUnits.{judged_after}
 use Rattle.rasta_check.proofs.laws.confirmed.Goals as goal
 
 -- an end that has accepted something makes no connection request
 not_opening : (p : Parameters) (e : EndState) (x : SafetyPdu) (clock : ℕ) (why : Why) (t i : ℕ) (peer : List Made) → Passed p e x clock why → Held e t peer → e.accepted ≡ suc i → is_kind ConnectionRequest x.kind ≡ true → ⊥
-not_opening p e x clock why t i peer pass h a b =
-    let o = opening_is (made_by p e x clock why pass).how b in
-    let none = h.opening.unmade o.0 (nothing_made e.side e.phase e.made o.1 pass.open_yet) in
-    omega (arith, a, none.0)
+not_opening p e x clock why t i peer h g k l = grind arith
 
 pub returns : goal.returns
 returns c p ws w side r within x clock why after i mk a =
