@@ -47,11 +47,7 @@ answers_first s ph why k os rest row h g l = grind arith
 
 pub sn_near : (ms : List Made) (i sn : ℕ) → Numbered ms → length ms ≤ 1000001 → SnIs ms i sn → ahead_by sn (first_sn ms) ≡ i
 sn_near [] i sn h b s = absurd (let e = s.there in cc)
-sn_near (m ∷ ms) zero sn h b s =
-    let e = s.there in
-    let a : m ≡ s.m = cc in
-    let c : m.pdu.sn ≡ sn = ap (λ (k : Made). k.pdu.sn) a ∙ s.same in
-    omega (arith, c)
+sn_near (m ∷ ms) zero sn h b s = grind arith
 sn_near (m ∷ ms) (suc i) sn h b s =
     let w = slice_get_within (m ∷ ms) (suc i) s.m s.there in
     let a : s.m.pdu.sn ≡ (m.pdu.sn + suc i) % 2 ^ 32 = h i s.m s.there in

@@ -1,9 +1,9 @@
 -- A builder's end that differs from a run's end in its times alone, and that it can take what the run's end takes.
 use Rattle.std.proofs.Common.{◌≡◌, ℕ, zero, suc, ◌+◌, ◌-◌, ◌<◌, ◌≤◌, Bool, true, false, List, [], ◌∷◌, ◌++◌, length, Option, Some, None, take, refl, ap, sym, ◌∙◌, arith, subst}
 use Rattle.rasta_build.proofs.Prelude.{nat_lt, if◌then◌else◌, ◌&&◌, ◌==◌, min, nat_tests, Side, Parameters, SafetyPdu, RedundancyPdu, is_kind, Owed, OweRetransmissionResponse}
-use Rattle.rasta_build.proofs.Prelude.{OweRetransmissionRequest, Phase, Up, RetrReq, TakeRow, Opened, Answered, FirstHeartbeat, InSequence, ResentInSequence, Gap}
+use Rattle.rasta_build.proofs.Prelude.{OweRetransmissionRequest, Phase, RetrReq, TakeRow, Opened, Answered, FirstHeartbeat, InSequence, ResentInSequence, Gap}
 use Rattle.rasta_build.proofs.Prelude.{GapInRetransmission, Resumed, Requested, RequestedAhead, RequestedAgain, Disconnected, Made, EndState, is_owing, is_flowing}
-use Rattle.rasta_build.proofs.Prelude.{carries_unit, hand_up, effect, take_row, take_fault, accept, enter, row_known, number, Built, taken_by, unless, take_step}
+use Rattle.rasta_build.proofs.Prelude.{effect, take_row, take_fault, row_known, number, Built, taken_by, unless, take_step}
 use Rattle.rasta_build.proofs.Prelude.{RetransmissionRequest}
 use Rattle.rasta_pcap.specs.Fault.{reply_owed, past_deadline}
 use Rattle.rasta_end.specs.declared.owed.Owed.TheVariants.{ConnectionResponse as OweConnectionResponse, FirstHeartbeat as OweFirstHeartbeat, Resend as OweResend}
@@ -114,16 +114,8 @@ pub trail_row : (p : Parameters) (e : EndState) (x : SafetyPdu) (row : TakeRow) 
 trail_row p e x Opened few free is = tt
 trail_row p e x Answered few free is = tt
 trail_row p e x FirstHeartbeat few free is = rw free tt
-trail_row p e x InSequence few free is = by (carries_unit x.kind)
-  where
-    by : (c : Bool) → IsTrail (if c then hand_up e.accepted (enter Up (accept p e x)) x else enter Up (accept p e x)).offered (trail_after (progress_of e) (progress_of (effect p InSequence e x)) x) (if c then hand_up e.accepted (enter Up (accept p e x)) x else enter Up (accept p e x)).owed
-    by true = rw free tt
-    by false = rw free tt
-trail_row p e x ResentInSequence few free is = by (carries_unit x.kind)
-  where
-    by : (c : Bool) → IsTrail (if c then hand_up e.accepted (accept p e x) x else accept p e x).offered (trail_after (progress_of e) (progress_of (effect p ResentInSequence e x)) x) (if c then hand_up e.accepted (accept p e x) x else accept p e x).owed
-    by true = rw free tt
-    by false = rw free tt
+trail_row p e x InSequence few free is = grind arith
+trail_row p e x ResentInSequence few free is = grind arith
 trail_row p e x Gap few free is = tt
 trail_row p e x GapInRetransmission few free is = tt
 trail_row p e x Resumed few free is = rw free tt

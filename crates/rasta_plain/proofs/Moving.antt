@@ -234,12 +234,10 @@ repeated p b a items all place channel d get side rec pushed =
 
 same_after : (row : Option MakeRow) (e : EndState) (x : SafetyPdu) (clock : ℕ)
     → ((after_make_by row e x clock).side ≡ e.side) × ((after_make_by row e x clock).base ≡ e.base) × ((after_make_by row e x clock).accepted ≡ e.accepted)
-same_after None e x clock = (refl, refl, refl)
-same_after (Some row) e x clock = (refl, refl, refl)
+same_after row e x clock = grind arith
 
 clock_after : (row : Option MakeRow) (e : EndState) (x : SafetyPdu) (clock : ℕ) → e.clock ≤ clock → (after_make_by row e x clock).clock ≤ clock
-clock_after None e x clock l = l
-clock_after (Some row) e x clock l = omega arith
+clock_after row e x clock h = grind arith
 
 pub kept_make : (s : Inside) (e : JudgedEnd) (why : Why) (d : RedundancyPdu) → IsPlainStation s → e ≡ record { params = s.end.params; state = after_make s.end.state d.safety s.clock why } → IsPlainStation (record s { end = e })
 kept_make s e why d kept is =

@@ -9,11 +9,10 @@ use Rattle.rasta_pdu.specs.declared.kind.Kind.{Kind}
 use Rattle.rasta_pdu.specs.declared.kind.Kind.TheVariants.{RetransmissionResponse, Data, RetransmittedData, ConnectionRequest}
 use Rattle.rasta_pdu.specs.Pdu.{SafetyPdu, value_of, is_kind}
 use Rattle.rasta_pcap.specs.declared.fault.Side.{Side}
-use Rattle.rasta_pcap.specs.declared.fault.Side.TheVariants.{Client, Server}
 use Rattle.rasta_pcap.specs.Fault.{other_side}
 use Rattle.rasta_pdu.specs.Params.{Parameters, quiet_of}
 use Rattle.rasta_pdu.specs.declared.quiet_point.Quiet.{Quiet}
-use Rattle.rasta_end.specs.Starts.{start_of, start_by, quiet_pdu}
+use Rattle.rasta_end.specs.Starts.{start_of, quiet_pdu}
 use Rattle.rasta_end.specs.Units.{Conveyed, convey, units_after, units_at, last_of, responses_after}
 use Rattle.rasta_plain.specs.declared.taken.FirstCopy.{FirstCopy as PlainCopy}
 use Rattle.rasta_plain.specs.declared.taken.MadePdu.{MadePdu}
@@ -54,40 +53,29 @@ at-at_most m ns None h = omega arith
 at-at_most m ns (Some i) h = index-at_most m ns i h
 
 pub conveys-response : (asks units : List ℕ) (n : ℕ) (kind : Kind) → 0 < length units → kind ≡ RetransmissionResponse → units_at units (slice_get asks n) ≡ units_after asks units n kind
-conveys-response asks [] n kind some is = absurd (omega arith)
-conveys-response asks (u ∷ us) n kind some is = ap (units_after asks (u ∷ us) n) (sym is)
+conveys-response asks units n kind h g = grind arith
 
 pub conveys-data : (asks units : List ℕ) (n : ℕ) (kind : Kind) → 0 < length units → kind ≡ Data → last_of units + 1 ≡ units_after asks units n kind
-conveys-data asks [] n kind some is = absurd (omega arith)
-conveys-data asks (u ∷ us) n kind some is = add-one (last_of (u ∷ us)) ∙ ap (units_after asks (u ∷ us) n) (sym is)
+conveys-data asks units n kind h g = grind arith
 
 pub conveys-again : (asks units : List ℕ) (n : ℕ) (kind : Kind) → 0 < length units → kind ≡ RetransmittedData → last_of units + 1 ≡ units_after asks units n kind
-conveys-again asks [] n kind some is = absurd (omega arith)
-conveys-again asks (u ∷ us) n kind some is = add-one (last_of (u ∷ us)) ∙ ap (units_after asks (u ∷ us) n) (sym is)
+conveys-again asks units n kind h g = grind arith
 
 pub conveys-other : (asks units : List ℕ) (n : ℕ) (kind : Kind) → 0 < length units → (kind ≡ RetransmissionResponse → ⊥) → (kind ≡ Data → ⊥) → (kind ≡ RetransmittedData → ⊥)
     → last_of units ≡ units_after asks units n kind
-conveys-other asks [] n kind some response fresh again = absurd (omega arith)
-conveys-other asks (u ∷ us) n RetransmissionResponse some response fresh again = absurd (response refl)
-conveys-other asks (u ∷ us) n Data some response fresh again = absurd (fresh refl)
-conveys-other asks (u ∷ us) n RetransmittedData some response fresh again = absurd (again refl)
-conveys-other asks (u ∷ us) n _ some response fresh again = refl
+conveys-other asks units n kind h g k l = grind arith
 
 pub not_empty : (units : List ℕ) (b : Bool) → b ≡ (length units == 0) → b ≡ false → 0 < length units
-not_empty [] b is no_more = (let e : true ≡ false = sym is ∙ no_more in cc)
-not_empty (u ∷ us) b is no_more = omega arith
+not_empty units b h g = grind arith
 
 pub responses-next : (n : ℕ) (kind : Kind) → responses_after n kind ≡ n + (if is_kind RetransmissionResponse kind then 1 else 0)
-responses-next n RetransmissionResponse = omega arith
-responses-next n _ = omega arith
+responses-next n kind = grind arith
 
 pub one_or_none : (b c : Bool) → b ≡ c → bool_byte b ≡ (if c then 1 else 0)
-one_or_none true c e = ap (λ d. if d then 1 else 0) e
-one_or_none false c e = ap (λ d. if d then 1 else 0) e
+one_or_none b c h = grind arith
 
 pub one_at_most : (b : Bool) → bool_byte b ≤ 1
-one_at_most true = omega arith
-one_at_most false = omega arith
+one_at_most b = grind arith
 
 abbrev pub kinds_made : List MadePdu → List Kind
 kinds_made own = map (λ (x : SafetyPdu). x.kind) (pdus own)
@@ -128,11 +116,7 @@ proof-here own peer unit copies i n d c below is shown test =
     ∙ ap (λ (cs : List PlainCopy). proof_place own peer unit (copies_of cs)) (sym (next_of copies i d c below is))
 
 data-apart : (c : FirstCopy) (cs : List FirstCopy) → data_copies (c ∷ cs) ≡ data_copies (c ∷ []) ++ data_copies cs
-data-apart c cs = by (is_kind Data c.pdu.safety.kind)
-  where
-    by : (b : Bool) → cond b (c ∷ data_copies cs) (data_copies cs) ≡ cond b (c ∷ []) [] ++ data_copies cs
-    by true = refl
-    by false = refl
+data-apart c cs = grind arith
 
 pub copies-more : (sent : List PlainCopy) (before more : List FirstCopy) (i : ℕ) (d c : PlainCopy) → i < length sent → c ≡ get_or sent i d → more ≡ before ++ data_copies (copy_of c ∷ [])
     → more ++ data_copies (copies_of (drop (i + 1) sent)) ≡ before ++ data_copies (copies_of (drop i sent))
@@ -154,10 +138,7 @@ pub listed_units : (own other : List SafetyPdu) (peer : List FirstCopy) (data_pd
     → own ≡ other → data_pdus ≡ data_copies copies → count ≡ units_taken own (pdus_of peer) → listed ≡ take count data_pdus
     → taken ≡ units_from own peer 0 listed
     → taken ≡ units_from other peer 0 (take (units_taken other (pdus_of peer)) (data_copies copies))
-listed_units own other peer data_pdus copies listed taken count same data_is count_is listed_is h =
-    h
-    ∙ ap (units_from own peer 0) (listed_is ∙ ap (take count) data_is ∙ ap (λ n. take n (data_copies copies)) count_is)
-    ∙ ap (λ (xs : List SafetyPdu). units_from xs peer 0 (take (units_taken xs (pdus_of peer)) (data_copies copies))) same
+listed_units own other peer data_pdus copies listed taken count h g k l m = grind arith
 
 pub copies-first : (copies : List PlainCopy) (count least : ℕ) → least ≡ min count (length copies) → copies_of (take least copies) ≡ take count (copies_of copies)
 copies-first copies count least is = ap (λ n. copies_of (take n copies)) is ∙ ap copies_of (take_min count copies) ∙ copies-take count copies
@@ -171,22 +152,12 @@ ok_more (Err e) f h = tt
 
 pub shown-at : (own peer : List SafetyPdu) (units : List ℕ) (x : SafetyPdu) (n : ℕ) (o : Option ℕ) → units ≡ units_along own peer → n ≡ units_at units o
     → o ≡ cond (is_kind ConnectionRequest x.kind) None (position_with own x.cs) → n ≡ units_shown own peer x
-shown-at own peer units x n o same at position =
-    at ∙ ap (λ us. units_at us o) same ∙ ap (units_at (units_along own peer)) position ∙ by (is_kind ConnectionRequest x.kind)
-  where
-    by : (b : Bool) → units_at (units_along own peer) (cond b None (position_with own x.cs)) ≡ (if b then 0 else units_at (units_along own peer) (position_with own x.cs))
-    by true = refl
-    by false = refl
+shown-at own peer units x n o h g k = grind arith
 
 -- ---- the quiet PDU
 
 pub quiet-made : (p : Parameters) (side : Side) (q : Quiet) (x : SafetyPdu) → p.quiet ≡ Some q → x ≡ quiet_pdu (quiet_of q side) (quiet_of q (other_side side)) → x ∷ [] ≡ pdus_made (start_of p side).made
-quiet-made p side q x e is =
-    ap (λ (y : SafetyPdu). y ∷ []) is ∙ (by side ∙ sym (ap (λ (o : Option Quiet). pdus_made (start_by o side).made) e))
-  where
-    by : (s : Side) → quiet_pdu (quiet_of q s) (quiet_of q (other_side s)) ∷ [] ≡ pdus_made (start_by (Some q) s).made
-    by Client = refl
-    by Server = refl
+quiet-made p side q x h g = grind arith
 
 -- a PDU that is no data leaves the data PDUs as they are
 pub not_pushed : (before : List PlainCopy) (c : PlainCopy) → is_kind Data (value_of c.pdu).safety.kind ≡ false → copies_of before ≡ copies_of before ++ data_copies (copy_of c ∷ [])

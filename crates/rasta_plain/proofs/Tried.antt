@@ -1,5 +1,5 @@
 -- Each statement of the theorem, tried on the example of the quiet start: data with two messages, and the heartbeat that shows them.
-use Rattle.std.proofs.Common.{Bool, true, false, ◌≡◌, ℕ, zero, suc, ◌+◌, ◌<◌, ◌≤◌, ◌^◌, List, [], ◌∷◌, ◌++◌, length, Some, None, slice_get, refl, sym, ap, subst, ◌∙◌, inl, arith}
+use Rattle.std.proofs.Common.{Bool, true, ◌≡◌, ℕ, zero, suc, ◌+◌, ◌<◌, ◌≤◌, ◌^◌, List, [], ◌∷◌, ◌++◌, length, Some, None, slice_get, refl, sym, ap, subst, ◌∙◌, inl, arith}
 use Rattle.std.specs.Prelude.{◌&&◌, nat_lt, slice_index}
 use Rattle.std.specs.List.{list_all}
 use Rattle.std.proofs.lemmas.Bool.Decides.{nat_tests}
@@ -136,22 +136,13 @@ recorded (suc (suc place)) packet g = absurd (cc)
 module _ (p : Parameters) (valid : AreParameters p) (crossed : List Packet) (side : Side) (c : FirstCopy) (k : Packet) (there : slice_get crossed c.place ≡ Some k) (of_side : k.side ≡ side)
     (spelled : Spells p side c.pdu k.payload) (small : c.pdu.number < 2 ^ 32) (only : (i : ℕ) (a : Packet) → slice_get crossed i ≡ Some a → a.side ≡ side → i ≡ c.place) where
   firsts : (i : ℕ) (d : FirstCopy) → slice_get (c ∷ []) i ≡ Some d → (a : Packet) × (slice_get crossed d.place ≡ Some a) × (a.side ≡ side) × Spells p side d.pdu a.payload
-  firsts zero d g = subst (λ (e : FirstCopy). (a : Packet) × (slice_get crossed e.place ≡ Some a) × (a.side ≡ side) × Spells p side e.pdu a.payload) (let e : c ≡ d = cc in e) (k, there, of_side, spelled)
-  firsts (suc i) d g = absurd (cc)
+  firsts i d h = grind arith
 
   numbers : (i : ℕ) (d e : FirstCopy) → slice_get (c ∷ []) 0 ≡ Some d → slice_get (c ∷ []) i ≡ Some e → e.pdu.number ≡ wrapped (d.pdu.number + i)
-  numbers zero d e g h =
-      let f : c ≡ d = cc in
-      let s : c ≡ e = cc in
-      let n = ap (λ (x : FirstCopy). x.pdu.number) f in
-      let m = ap (λ (x : FirstCopy). x.pdu.number) s in
-      omega (arith, n, m, small)
-  numbers (suc i) d e g h = absurd (cc)
+  numbers i d e h g = grind arith
 
   spelled_at : (i : ℕ) (a : Packet) → slice_get crossed i ≡ Some a → a.side ≡ side → Spells p side c.pdu a.payload
-  spelled_at i a g s =
-      let e : k ≡ a = (let z : slice_get crossed c.place ≡ Some a = subst (λ (j : ℕ). slice_get crossed j ≡ Some a) (only i a g s) g in let y = there in cc) in
-      subst (λ (b : Packet). Spells p side c.pdu b.payload) e spelled
+  spelled_at i a h g = grind arith
 
   -- a side that sent one packet
   one_sent : Sent p crossed side (c ∷ [])
@@ -164,14 +155,10 @@ module _ (p : Parameters) (valid : AreParameters p) (crossed : List Packet) (sid
   }) (omega arith)
 
 only_client : (i : ℕ) (a : Packet) → slice_get packets i ≡ Some a → a.side ≡ Client → i ≡ 0
-only_client zero a g s = refl
-only_client (suc zero) a g s = absurd (let e : second ≡ a = cc in let f : Server ≡ Client = ap (λ (k : Packet). k.side) e ∙ s in cc)
-only_client (suc (suc i)) a g s = absurd (cc)
+only_client i a h g = grind arith
 
 only_server : (i : ℕ) (a : Packet) → slice_get packets i ≡ Some a → a.side ≡ Server → i ≡ 1
-only_server zero a g s = absurd (let e : first ≡ a = cc in let f : Client ≡ Server = ap (λ (k : Packet). k.side) e ∙ s in cc)
-only_server (suc zero) a g s = refl
-only_server (suc (suc i)) a g s = absurd (cc)
+only_server i a h g = grind arith
 
 pub client_sent : Sent connection packets Client from_client
 client_sent = one_sent connection of_connection.valid packets Client offered first refl refl offer_spelled (omega arith) only_client
@@ -180,8 +167,7 @@ pub server_sent : Sent connection packets Server from_server
 server_sent = one_sent connection of_connection.valid packets Server beaten second refl refl beat_spelled (omega arith) only_server
 
 no_server : (i : ℕ) (a : Packet) → slice_get (first ∷ []) i ≡ Some a → a.side ≡ Server → ⊥
-no_server zero a g s = (let e : first ≡ a = cc in let f : Client ≡ Server = ap (λ (k : Packet). k.side) e ∙ s in cc)
-no_server (suc i) a g s = absurd (cc)
+no_server i a h g = grind arith
 
 -- before the heartbeat the server had sent nothing
 pub nothing_sent : Sent connection (first ∷ []) Server []
@@ -277,8 +263,7 @@ tried_sent_lists law ws w r e =
     (c.1.made ∙ sym (ap (all_made connection Client) same_c), s.1.made ∙ sym (ap (all_made connection Server) same_s))
 
 both_true : (a b : Bool) → a && b ≡ true → (a ≡ true) × (b ≡ true)
-both_true true b h = (refl, h)
-both_true false b h = absurd (cc)
+both_true a b h = grind arith
 
 all_bytes : (xs : List ℕ) → list_all (λ n. nat_lt n 256) xs ≡ true → (i : ℕ) → slice_index xs i < 256
 all_bytes [] h i = omega arith

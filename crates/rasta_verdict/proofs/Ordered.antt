@@ -1,5 +1,5 @@
 -- What a script in order says of a level, by its first entry.
-use Rattle.std.proofs.Common.{◌≡◌, ℕ, suc, ◌<◌, ◌≤◌, Bool, true, false, List, [], ◌∷◌, Option, Some, None, length, refl, ap, subst, sym, ◌∙◌, arith}
+use Rattle.std.proofs.Common.{◌≡◌, ℕ, suc, ◌<◌, ◌≤◌, Bool, true, false, List, [], ◌∷◌, Option, Some, None, length, ap, subst, sym, ◌∙◌, arith}
 use Rattle.std.specs.Prelude.{◌==◌, if◌then◌else◌, IfNone}
 use Rattle.std.specs.List.{cons_option}
 use Rattle.std.proofs.lemmas.Bool.Decides.{nat_tests}
@@ -32,8 +32,7 @@ differs : (low high : ℕ) → low ≤ high → (high == low) ≡ false → low 
 differs low high l e = grind (arith, nat_tests)
 
 no_item : {A : Type 0} (b : Bool) (x : A) → (if b then Some x else None) ≡ None → b ≡ false
-no_item true x e = absurd (cc)
-no_item false x e = refl
+no_item b x h = grind arith
 
 -- a script in order that doesn't begin with a take of this level has none
 pub no_takes : (level : ℕ) (entry : Entry) (es : List Entry) → IsOrderedFrom level (entry ∷ es) → taken_in level entry ≡ None → takes_at level (entry ∷ es) ≡ []
@@ -44,8 +43,7 @@ no_takes level (Make index clock why) es o e =
     takes_past level index clock why es ∙ takes_below level (suc index) es (let z = o.0 in omega arith) o.1
 
 not_taken : (b : Bool) (number : ℕ) (xs : List ℕ) → cons_option (if b then Some number else None) xs ≡ [] → b ≡ false
-not_taken true number xs e = absurd (cc)
-not_taken false number xs e = refl
+not_taken b number xs h = grind arith
 
 not_before : (level slot number : ℕ) (es : List Entry) → takes_at level (Take slot number ∷ es) ≡ [] → (slot == level) ≡ false
 unfolding takes_at
@@ -64,24 +62,16 @@ no_makes level entry es o none e = makes_below level (suc level) (entry ∷ es) 
 -- ---- the first entry is of this level
 
 an_item : {A : Type 0} (b : Bool) (x y : A) → (if b then Some x else None) ≡ Some y → (b ≡ true) × (x ≡ y)
-an_item true x y e = (refl, cc)
-an_item false x y e = absurd (cc)
+an_item b x y h = grind arith
 
 same : (m n : ℕ) → (m == n) ≡ true → m ≡ n
 same m n e = grind (arith, nat_tests)
 
 pub is_take : (level number : ℕ) (entry : Entry) → taken_in level entry ≡ Some number → entry ≡ Take level number
-is_take level number (Take slot n) e =
-    let h = an_item (slot == level) n number e in
-    ap (λ k. Take k n) (same slot level h.0) ∙ ap (λ k. Take level k) h.1
-is_take level number (Make index clock why) e = absurd (cc)
+is_take level number entry h = grind arith
 
 pub is_make : (place : ℕ) (m : ℕ × Why) (entry : Entry) → made_in place entry ≡ Some m → entry ≡ Make place m.0 m.1
-is_make place m (Take slot n) e = absurd (cc)
-is_make place m (Make index clock why) e =
-    let here : ℕ × Why = (clock, why) in
-    let h = an_item (index == place) here m e in
-    ap (λ k. Make k clock why) (same index place h.0) ∙ ap (λ (x : ℕ × Why). Make place x.0 x.1) h.1
+is_make place m entry h = grind arith
 
 -- ---- a script that is seen as its first entry and its rest
 
@@ -121,5 +111,4 @@ module _ (place : ℕ) (es rest : List Entry) (entry : Entry) (is : es ≡ entry
 
 -- what holds of the state holds where a call found nothing
 pub where_none : {A : Type 0} {P : Type 0} (o : Option A) → P → IfNone o P
-where_none None p = p
-where_none (Some x) p = tt
+where_none o h = grind arith

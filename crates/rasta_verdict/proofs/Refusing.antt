@@ -1,11 +1,11 @@
 -- Refusals of a capture are told from out of memory and from a failed read by their numbers.
 use Rattle.std.proofs.Common.{◌≡◌, ◌⊎◌, inl, inr, ℕ, ◌≤◌, List, [], ◌++◌, Option, Some, None, Result, Err, IfOk, true, false, refl, ap, sym, subst, arith, nat_le}
 use Rattle.std.specs.Prelude.{IsSome}
-use Rattle.std.proofs.lemmas.Bool.{leb-true, leb-false}
+use Rattle.std.proofs.lemmas.Bool.{leb-false}
 use Rattle.rasta_pcap.specs.Devices.{Writes}
 use Rattle.rasta_pcap.specs.declared.fault.Fault.{Fault}
 use Rattle.rasta_pcap.specs.declared.fault.Side.{Side}
-use Rattle.rasta_pcap.specs.Fault.{no_memory, not_pcap, read_failed}
+use Rattle.rasta_pcap.specs.Fault.{not_pcap}
 use Rattle.rasta_pcap.specs.Stream.{ReadsSo}
 use Rattle.rasta_pdu.specs.Params.{Parameters}
 use Rattle.rasta_check.specs.Capture.Reading.{crossing_of}
@@ -14,7 +14,7 @@ use Rattle.rasta_check.proofs.Capture.FaultNumbers.{file_sided}
 use Rattle.rasta_show.specs.Lines.{refused_line}
 use Rattle.rasta_show.specs.Runs.{IsRunFault}
 use Rattle.rasta_verdict.specs.Verdict.{WritesVerdict}
-use Rattle.rasta_verdict.proofs.Verdicts.{Texts, is_one, verdict_written}
+use Rattle.rasta_verdict.proofs.Verdicts.{Texts}
 
 abbrev IsOfCapture : Fault → Type 0
 IsOfCapture f = not_pcap ≤ f.number
@@ -37,13 +37,7 @@ number_of f g e = ap (λ (h : Fault). h.number) e
 -- the capture is refused
 pub where_refused : (p : Parameters) (f : Fault) (old_count new_count : ℕ) (old new : Option (List ℕ)) → nat_le not_pcap f.number ≡ true
     → WhyNone p f old_count new_count old new → ReadsSo (IsRefusedSo p f) old new
-where_refused p f old_count new_count old new h (inl (inl none)) =
-    let least = leb-true not_pcap f.number h in
-    let is = number_of f no_memory none in absurd (omega (arith, least, is))
-where_refused p f old_count new_count old new h (inl (inr failed)) =
-    let least = leb-true not_pcap f.number h in
-    let is = number_of f read_failed failed.0 in absurd (omega (arith, least, is))
-where_refused p f old_count new_count old new h (inr refused) = refused
+where_refused p f old_count new_count old new h g = grind arith
 
 -- memory ran out, or the reader failed
 pub where_broken : (p : Parameters) (f : Fault) (old_count new_count old_writes new_writes : ℕ) (old new : Option (List ℕ)) → nat_le not_pcap f.number ≡ false
@@ -58,5 +52,4 @@ where_broken p f old_count new_count old_writes new_writes old new h (inr refuse
 pub refusal_written : (IsText : Texts) (p : Parameters) (f : Fault) (r : Result ℕ Fault) (old_count new_count : ℕ) (oi ni oo on : Option (List ℕ)) → nat_le not_pcap f.number ≡ true
     → WhyNone p f old_count new_count oi ni → ((file : List ℕ) → IsRefusedSo p f file → IsText file (refused_line f) 1)
     → Writes r oo on (refused_line f) → IfOk r (λ s. s ≡ 1) → IfOk r (λ s. WritesVerdict IsText s oi ni oo on)
-refusal_written IsText p f r old_count new_count oi ni oo on of_capture why says appended answered =
-    verdict_written IsText (IsRefusedSo p f) r (refused_line f) 1 oi ni oo on (where_refused p f old_count new_count oi ni of_capture why) says appended (is_one r answered)
+refusal_written IsText p f r old_count new_count oi ni oo on h g k l m = grind arith

@@ -152,9 +152,7 @@ told_levels-next packets c d level end l h k =
 pub told_levels-front : (packets : List udp.Packet) (c : Scripts) (level end : ℕ) → level < end
     → told_levels packets c level (end - level) ≡ told_level packets c level ++ told_levels packets c (suc level) (end - (level + 1))
 unfolding told_levels
-told_levels-front packets c level end l =
-    let count : end - level ≡ suc (end - (level + 1)) = omega arith in
-    ap (told_levels packets c level) count
+told_levels-front packets c level end h = grind arith
 
 -- from one level more on
 pub from_next : (level : ℕ) (es : List Entry) → IsOrderedFrom (suc level) es → IsOrderedFrom (level + 1) es
@@ -162,6 +160,4 @@ from_next level es o = (let one : suc level ≡ level + 1 = omega arith in subst
 
 pub told_levels-end : (packets : List udp.Packet) (c : Scripts) (level end : ℕ) → end ≤ level → told_levels packets c level (end - level) ≡ []
 unfolding told_levels
-told_levels-end packets c level end l =
-    let none : end - level ≡ 0 = omega arith in
-    ap (told_levels packets c level) none
+told_levels-end packets c level end h = grind arith

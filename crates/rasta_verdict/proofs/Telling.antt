@@ -37,20 +37,17 @@ none_lt : (l : ℕ) → nat_lt 0 (suc l) ≡ true
 none_lt l = grind (arith, nat_tests)
 
 within_more : (b f : Bool) (i l : ℕ) → nat_lt i l ≡ f → nat_lt (cond (not b) (1 + i) 0) (suc l) ≡ (if b then true else f)
-within_more true f i l h = none_lt l
-within_more false f i l h = more i l ∙ h
+within_more b f i l h = grind arith
 
 within : (n : ℕ) (xs : List ℕ) → nat_lt (position_or_len (nat_eq n) xs) (length xs) ≡ is_found n xs
 within n [] = refl
 within n (x ∷ xs) = within_more (nat_eq n x) (is_found n xs) (position_or_len (nat_eq n) xs) (length xs) (within n xs)
 
 by_test : (b : Bool) (i : ℕ) → cond b (Some i) None ≡ None → b ≡ false
-by_test true i e = absurd (cc)
-by_test false i e = refl
+by_test b i h = grind arith
 
 by_place : (b : Bool) (i j : ℕ) → cond b (Some i) None ≡ Some j → b ≡ true
-by_place true i j e = refl
-by_place false i j e = absurd (cc)
+by_place b i j h = grind arith
 
 not_found : (n : ℕ) (xs : List ℕ) → position (nat_eq n) xs ≡ None → is_found n xs ≡ false
 not_found n xs e = sym (within n xs) ∙ by_test (nat_lt (position_or_len (nat_eq n) xs) (length xs)) (position_or_len (nat_eq n) xs) e

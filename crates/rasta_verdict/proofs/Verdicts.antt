@@ -1,5 +1,5 @@
 -- Verdicts: what they are, that a capture and a certificate have one, and their texts in parts.
-use Rattle.std.proofs.Common.{◌≡◌, ◌⊎◌, inl, inr, ℕ, suc, ◌+◌, ◌-◌, ◌<◌, ◌≤◌, false, List, [], ◌∷◌, ◌++◌, length, drop, get_or, map, Option, Result, Ok, Err, OnErr, IfErr, IfOk, refl, ap, subst, sym, ◌∙◌, ⊎_elim, arith, length-drop}
+use Rattle.std.proofs.Common.{◌≡◌, ◌⊎◌, ℕ, suc, ◌+◌, ◌-◌, ◌<◌, ◌≤◌, false, List, [], ◌∷◌, ◌++◌, length, drop, get_or, map, Option, Result, Ok, Err, OnErr, IfErr, IfOk, refl, ap, subst, sym, ◌∙◌, ⊎_elim, arith, length-drop}
 use Rattle.std.specs.Prelude.{◌≢◌, decimal}
 use Rattle.std.specs.List.{flat_map}
 use Rattle.std.specs.Io.KnownBytes.{Consumes}
@@ -63,8 +63,7 @@ taken_text-parts side ts line e =
 pub explained_text-parts : (k : Crossing) (scripts : Scripts) (report : Explained) (line : List ℕ) → line ≡ explained_line report.packets
     → explained_text k scripts report ≡ line ++ (run_text k scripts ++ (taken_text Client report.client_taken ++ taken_text Server report.server_taken))
 unfolding explained_text
-explained_text-parts k scripts report line e =
-    ap (λ (l : List ℕ). l ++ (run_text k scripts ++ (taken_text Client report.client_taken ++ taken_text Server report.server_taken))) (sym e)
+explained_text-parts k scripts report line h = grind arith
 
 -- the same by the lists that are written
 pub explained_text-listed : (k : Crossing) (scripts : Scripts) (report : Explained) (line : List ℕ) (client server : List ListedMessage) → line ≡ explained_line report.packets
@@ -95,8 +94,7 @@ refusal_stands {F = F} P r fault h why stands = if_ok_map r
     (⊎_elim (λ (f : F). stands f) (λ (none : fault ≡ no_memory). absurd (w.1 none)) why)) h
 
 pub swapped : {A B : Type 0} → A ⊎ B → B ⊎ A
-swapped (inl a) = inr a
-swapped (inr b) = inl b
+swapped h = grind arith
 
 -- ---- one verdict
 
@@ -177,8 +175,7 @@ verdict_begun IsText P (Err f) text oi ni oo on read one begun = record {
 
 -- the status 1 of a refusal
 pub is_one : (r : Result ℕ Fault) → IfOk r (λ s. s ≡ 1) → IfOk r (λ s. 1 ≡ s)
-is_one (Ok s) e = sym e
-is_one (Err f) e = tt
+is_one r h = grind arith
 
 -- nothing begins each text
 pub nothing_begun : (IsText : Texts) (input : List ℕ) (oi ni o : Option (List ℕ)) → Consumes oi ni input → BeginsVerdict IsText oi ni o o
@@ -194,12 +191,10 @@ nothing_begun IsText input oi ni o consumed = record {
 
 -- where nothing was written
 pub still_silent : {T : Type 0} (r : Result ℕ Fault) (out : T) → IfErr r (λ f. (f ≡ write_failed) ⊎ (out ≡ out))
-still_silent (Ok s) out = tt
-still_silent (Err f) out = inr refl
+still_silent r out = grind arith
 
 -- a write that failed is a run's fault
 pub write_fault : (r : Result ℕ Fault) (old_reads new_reads old_writes new_writes : ℕ)
     → AsWritten r old_writes new_writes
     → IfErr r (λ f. IsRunFault f old_reads new_reads old_writes new_writes)
-write_fault (Ok s) old_reads new_reads old_writes new_writes h = tt
-write_fault (Err f) old_reads new_reads old_writes new_writes h = inr (inr h)
+write_fault r old_reads new_reads old_writes new_writes h = grind arith
