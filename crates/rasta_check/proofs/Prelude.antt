@@ -1,4 +1,4 @@
--- What most proofs here speak of.
+-- What three proof files or more import, handed on in one place.
 pub use native.Mathlib.Decide.{dec_lt}
 pub use Prim.{no, yes}
 pub use Rattle.std.proofs.Math.Seq.{take-append_seam}
