@@ -5,7 +5,7 @@ ghost use Rattle.rasta_pcap.specs.Fault.{write_failed};
 use crate::explanation::Explanation;
 use crate::page::{Page, write_offers, write_place, write_read, write_without};
 use crate::sent_messages::{SentMessage, SentMessages, list_of, sent_count};
-use crate::text::{Part, write_parts, write_words};
+use crate::text::{Part, parts, write_parts, write_words};
 use rasta_check::{SpanList, Store, Taken};
 use rasta_pcap::{Fault, Side, Sink};
 use rasta_pdu::QuietEnd;
@@ -52,10 +52,10 @@ pub fn premises(page: &Page<'_>) -> [&'static str; 4] {
 
 /// The premise of a capture with a quiet point, but for its end.
 pub fn quiet_premise(page: &Page<'_>) -> [Part<'static>; 3] {
-    [
-        Part::Words("The quiet point before record "),
-        Part::Number(u64::from(page.params.first_record())),
-        Part::Words(" is true, and no copy of an earlier packet comes after it"),
+    parts![
+        "The quiet point before record ",
+        page.params.first_record(),
+        " is true, and no copy of an earlier packet comes after it"
     ]
 }
 
@@ -64,7 +64,7 @@ fn write_optional<W: Sink>(writer: &mut W, words: &str, number: Option<u64>) -> 
     ensures err { IfErr result (λ f. f ≡ write_failed) }
 {
     match number {
-        Some(number) => write_parts(writer, &[Part::Words(words), Part::Number(number)]),
+        Some(number) => write_parts(writer, &parts![words, number]),
         None => Ok(()),
     }
 }
@@ -75,13 +75,13 @@ fn write_quiet_end<W: Sink>(writer: &mut W, side: Side, end: &QuietEnd) -> Resul
 {
     write_parts(
         writer,
-        &[
-            Part::Words("    "),
-            Part::End(side),
-            Part::Words(": next SN "),
-            Part::Number(u64::from(end.next_sn)),
-            Part::Words(", clock "),
-            Part::Number(end.clock),
+        &parts![
+            "    ",
+            side,
+            ": next SN ",
+            end.next_sn,
+            ", clock ",
+            end.clock
         ],
     )?;
     write_optional(writer, ", deadline ", end.deadline)?;
@@ -93,10 +93,7 @@ fn write_quiet_end<W: Sink>(writer: &mut W, side: Side, end: &QuietEnd) -> Resul
 fn write_premise<W: Sink>(writer: &mut W, words: &str) -> Result<(), Fault>
     ensures err { IfErr result (λ f. f ≡ write_failed) }
 {
-    write_parts(
-        writer,
-        &[Part::Words("  "), Part::Words(words), Part::Words("\n")],
-    )
+    write_parts(writer, &parts!["  ", words, "\n"])
 }
 
 // Writes where what is judged begins.
@@ -122,12 +119,12 @@ fn write_bytes<W: Sink>(writer: &mut W, bytes: &[u8]) -> Result<(), Fault>
     }
     write_parts(
         writer,
-        &[
-            Part::Words("    hex: "),
+        &parts![
+            "    hex: ",
             Part::Hex(bytes),
-            Part::Words("\n    text: "),
+            "\n    text: ",
             Part::Text(bytes),
-            Part::Words("\n"),
+            "\n"
         ],
     )
 }
@@ -136,14 +133,7 @@ fn write_bytes<W: Sink>(writer: &mut W, bytes: &[u8]) -> Result<(), Fault>
 fn write_taken<W: Sink>(writer: &mut W, page: &Page<'_>, taken: &Taken<'_>) -> Result<(), Fault>
     ensures err { IfErr result (λ f. f ≡ write_failed) }
 {
-    write_parts(
-        writer,
-        &[
-            Part::Words("  message "),
-            Part::Number(taken.message),
-            Part::Words("\n    data: "),
-        ],
-    )?;
+    write_parts(writer, &parts!["  message ", taken.message, "\n    data: "])?;
     write_place(writer, page, taken.data_index)?;
     write_words(writer, "    proof: ")?;
     write_place(writer, page, taken.proof_index)?;
@@ -173,11 +163,7 @@ fn write_unlisted<W: Sink>(
 {
     write_parts(
         writer,
-        &[
-            Part::Words("  message "),
-            Part::Number(sent.message),
-            Part::Words(": not shown\n    data: "),
-        ],
+        &parts!["  message ", sent.message, ": not shown\n    data: "],
     )?;
     write_place(writer, page, sent.data_index)?;
     write_bytes(writer, sent.bytes)
@@ -217,16 +203,16 @@ fn write_direction<W: Sink>(
     let listed = taken.len() as u64;
     write_parts(
         writer,
-        &[
-            Part::Words("\n"),
-            Part::End(sender),
-            Part::Words(" to "),
-            Part::End(sender.other()),
-            Part::Words(": "),
-            Part::Number(listed),
-            Part::Words(" of "),
-            Part::Number(sent_count(list_of(store, sender))),
-            Part::Words(" messages surely taken\n"),
+        &parts![
+            "\n",
+            sender,
+            " to ",
+            sender.other(),
+            ": ",
+            listed,
+            " of ",
+            sent_count(list_of(store, sender)),
+            " messages surely taken\n"
         ],
     )?;
     write_taken_list(writer, page, taken)?;
@@ -241,10 +227,10 @@ fn write_sentence<W: Sink>(writer: &mut W, page: &Page<'_>, packets: u32) -> Res
     write_without(writer, page.without)?;
     write_parts(
         writer,
-        &[
-            Part::Words(": two ends that keep the rules can have sent these "),
-            Part::Number(u64::from(packets)),
-            Part::Words(" packets\n\n"),
+        &parts![
+            ": two ends that keep the rules can have sent these ",
+            packets,
+            " packets\n\n"
         ],
     )
 }

@@ -8,7 +8,7 @@ use crate::explanation::Explanation;
 use crate::page::Page;
 use crate::page_data::place_data;
 use crate::sent_messages::{SentMessage, SentMessages, list_of, sent_count};
-use crate::text::{Part, add, name_of_end, sentence_of, text_of};
+use crate::text::{Part, add, name_of_end, parts, sentence_of, text_of};
 use rasta_check::{Store, Taken};
 use rasta_pcap::{Fault, Side};
 use std::alloc::Global;
@@ -20,7 +20,7 @@ fn start_premise(alloc: Global, page: &Page<'_>) -> Result<String, Fault>
     match page.params.quiet() {
         Some(_) => {
             let [words, record, rest] = quiet_premise(page);
-            text_of(alloc, &[words, record, rest, Part::Words(".")])
+            text_of(alloc, &parts![words, record, rest, "."])
         }
         None => sentence_of(alloc, WITH_OPENING),
     }
@@ -76,8 +76,8 @@ fn message_data(
         surely_taken: proof.is_some(),
         data,
         proof: proof_place,
-        hex: text_of(alloc, &[Part::Hex(sent.bytes)])?,
-        text: text_of(alloc, &[Part::Text(sent.bytes)])?,
+        hex: text_of(alloc, &parts![Part::Hex(sent.bytes)])?,
+        text: text_of(alloc, &parts![Part::Text(sent.bytes)])?,
     })
 }
 

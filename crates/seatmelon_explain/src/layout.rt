@@ -3,7 +3,7 @@ ghost use Rattle.std.specs.Prelude.{◌≡◌, ◌≤◌, ◌<◌, length, IfErr
 ghost use Rattle.rasta_pcap.specs.Fault.{write_failed};
 
 use crate::packet_text::{PAYLOAD_AT, TYPE_AT, code_places, number_at};
-use crate::text::{Part, write_parts, write_words};
+use crate::text::{Part, parts, write_parts, write_words};
 use rasta_pcap::{Fault, Sink};
 use rasta_pdu::Params;
 
@@ -34,11 +34,11 @@ pub fn write_type_due<W: Sink>(writer: &mut W, datagram: &[u8]) -> Result<(), Fa
     let found = type_in(datagram);
     write_parts(
         writer,
-        &[
-            Part::Words("  type due: 6200, 6201, 6212, 6213, 6216, 6220, 6240 or 6241"),
-            Part::Words("\n  type found: "),
-            Part::Number(u64::from(found)),
-            Part::Words("\n"),
+        &parts![
+            "  type due: 6200, 6201, 6212, 6213, 6216, 6220, 6240 or 6241",
+            "\n  type found: ",
+            found,
+            "\n"
         ],
     )
 }
@@ -133,10 +133,10 @@ fn write_cut_message<W: Sink>(writer: &mut W, cut: CutMessage) -> Result<(), Fau
 {
     write_parts(
         writer,
-        &[
-            Part::Words("  length of the message at byte "),
-            Part::Number(cut.at as u64),
-            Part::Words(" of the payload: "),
+        &parts![
+            "  length of the message at byte ",
+            cut.at as u64,
+            " of the payload: "
         ],
     )?;
     let Some(len) = cut.len else {
@@ -144,11 +144,11 @@ fn write_cut_message<W: Sink>(writer: &mut W, cut: CutMessage) -> Result<(), Fau
     };
     write_parts(
         writer,
-        &[
-            Part::Number(u64::from(len)),
-            Part::Words("\n  bytes of the payload after it: "),
-            Part::Number(cut.left as u64),
-            Part::Words("\n"),
+        &parts![
+            len,
+            "\n  bytes of the payload after it: ",
+            cut.left as u64,
+            "\n"
         ],
     )
 }
@@ -159,12 +159,12 @@ fn write_version<W: Sink>(writer: &mut W, version: &[u8]) -> Result<(), Fault>
 {
     write_parts(
         writer,
-        &[
-            Part::Words("  version found: hex "),
+        &parts![
+            "  version found: hex ",
             Part::Hex(version),
-            Part::Words(", text "),
+            ", text ",
             Part::Text(version),
-            Part::Words("\n"),
+            "\n"
         ],
     )
 }
@@ -180,12 +180,12 @@ pub fn write_payload_due<W: Sink>(
     let layout = layout_in(params, datagram);
     write_parts(
         writer,
-        &[
-            Part::Words("  payload due: "),
-            Part::Words(layout.due),
-            Part::Words("\n  bytes of the payload: "),
-            Part::Number(layout.len as u64),
-            Part::Words("\n"),
+        &parts![
+            "  payload due: ",
+            layout.due,
+            "\n  bytes of the payload: ",
+            layout.len as u64,
+            "\n"
         ],
     )?;
     match (layout.version, layout.cut) {

@@ -3,7 +3,7 @@ ghost use Rattle.std.specs.Prelude.{◌≡◌, IfErr};
 ghost use Rattle.rasta_pcap.specs.Fault.{write_failed};
 
 use crate::data::Fields;
-use crate::text::{Part, write_parts, write_words};
+use crate::text::{Part, parts, write_parts, write_words};
 use arrayvec::ArrayVec;
 use byteorder::{ByteOrder, LittleEndian};
 use rasta_pcap::{Fault, Sink};
@@ -36,16 +36,7 @@ pub fn number_at(datagram: &[u8], at: usize, len: usize) -> Option<u32> {
 fn write_field<W: Sink>(writer: &mut W, name: &str, n: u32) -> Result<(), Fault>
     ensures err { IfErr result (λ f. f ≡ write_failed) }
 {
-    write_parts(
-        writer,
-        &[
-            Part::Words("  "),
-            Part::Words(name),
-            Part::Words(": "),
-            Part::Number(u64::from(n)),
-            Part::Words("\n"),
-        ],
-    )
+    write_parts(writer, &parts!["  ", name, ": ", n, "\n"])
 }
 
 /// The name of a type.
@@ -69,13 +60,7 @@ fn write_kind<W: Sink>(writer: &mut W, number: u32) -> Result<(), Fault>
 {
     write_parts(
         writer,
-        &[
-            Part::Words("  type: "),
-            Part::Number(u64::from(number)),
-            Part::Words(", "),
-            Part::Words(kind_name(number)),
-            Part::Words("\n"),
-        ],
+        &parts!["  type: ", number, ", ", kind_name(number), "\n"],
     )
 }
 
@@ -149,11 +134,7 @@ pub fn write_datagram<W: Sink>(writer: &mut W, datagram: &[u8]) -> Result<(), Fa
     }
     write_parts(
         writer,
-        &[
-            Part::Words("  payload and codes: "),
-            Part::Hex(rest),
-            Part::Words("\n"),
-        ],
+        &parts!["  payload and codes: ", Part::Hex(rest), "\n"],
     )
 }
 
@@ -166,12 +147,12 @@ fn write_message<W: Sink>(writer: &mut W, message: &[u8]) -> Result<(), Fault>
     }
     write_parts(
         writer,
-        &[
-            Part::Words("  message: hex "),
+        &parts![
+            "  message: hex ",
             Part::Hex(message),
-            Part::Words(", text "),
+            ", text ",
             Part::Text(message),
-            Part::Words("\n"),
+            "\n"
         ],
     )
 }
@@ -216,7 +197,7 @@ fn write_code<W: Sink>(writer: &mut W, what: &'static str, code: &[u8]) -> Resul
     ensures err { IfErr result (λ f. f ≡ write_failed) }
 {
     write_words(writer, what)?;
-    write_parts(writer, &[Part::Hex(code), Part::Words("\n")])
+    write_parts(writer, &parts![Part::Hex(code), "\n"])
 }
 
 /// The safety code of a datagram, and the digest whose first bytes are due in its place.
@@ -288,14 +269,14 @@ fn write_difference<W: Sink>(writer: &mut W, difference: &Difference) -> Result<
 {
     write_parts(
         writer,
-        &[
-            Part::Words("  byte "),
-            Part::Number(difference.at as u64),
-            Part::Words(" of the datagram: "),
+        &parts![
+            "  byte ",
+            difference.at as u64,
+            " of the datagram: ",
             Part::Byte(difference.byte),
-            Part::Words(", in the first copy "),
+            ", in the first copy ",
             Part::Byte(difference.first),
-            Part::Words("\n"),
+            "\n"
         ],
     )
 }

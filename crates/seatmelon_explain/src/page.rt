@@ -3,7 +3,7 @@ ghost use Rattle.std.specs.Prelude.{◌≡◌, IfErr};
 ghost use Rattle.rasta_pcap.specs.Fault.{write_failed};
 
 use crate::sightings::{ChannelCount, Sighting, Sightings};
-use crate::text::{Part, write_parts, write_words};
+use crate::text::{Part, parts, write_parts, write_words};
 use rasta_check::{SentList, SpanList, Store};
 use rasta_pcap::{CaptureTime, Fault, Side, Sink};
 use rasta_pdu::{Body, Params};
@@ -64,7 +64,7 @@ fn write_file<W: Sink>(writer: &mut W, what: &str, name: &str, digest: &[u8]) ->
     write_words(writer, ": ")?;
     write_words(writer, name)?;
     write_words(writer, "\n  SHA-256: ")?;
-    write_parts(writer, &[Part::Hex(digest), Part::Words("\n")])
+    write_parts(writer, &parts![Part::Hex(digest), "\n"])
 }
 
 // Writes the name and the SHA-256 of the certificate, if one was given.
@@ -87,7 +87,7 @@ pub fn write_without<W: Sink>(writer: &mut W, without: &[u32]) -> Result<(), Fau
     let mut before = " without record ";
     for number in without {
         let number = Part::Number(u64::from(*number));
-        write_parts(writer, &[Part::Words(before), number])?;
+        write_parts(writer, &parts![before, number])?;
         before = ", record ";
     }
     Ok(())
@@ -110,14 +110,14 @@ fn write_channel<W: Sink>(writer: &mut W, number: u64, count: ChannelCount) -> R
 {
     write_parts(
         writer,
-        &[
-            Part::Words("  on channel "),
-            Part::Number(number),
-            Part::Words(": from the client "),
-            Part::Number(count.client),
-            Part::Words(", from the server "),
-            Part::Number(count.server),
-            Part::Words("\n"),
+        &parts![
+            "  on channel ",
+            number,
+            ": from the client ",
+            count.client,
+            ", from the server ",
+            count.server,
+            "\n"
         ],
     )
 }
@@ -152,22 +152,18 @@ fn write_counts<W: Sink>(writer: &mut W, page: &Page<'_>) -> Result<(), Fault>
     let packets = page.sightings.packets.len() as u64;
     write_parts(
         writer,
-        &[
-            Part::Words("\nrecords read: "),
-            Part::Number(u64::from(page.sightings.records)),
-            Part::Words("\npackets of the connection: "),
-            Part::Number(packets),
-            Part::Words("\n"),
+        &parts![
+            "\nrecords read: ",
+            page.sightings.records,
+            "\npackets of the connection: ",
+            packets,
+            "\n"
         ],
     )?;
     write_channels(writer, page)?;
     write_parts(
         writer,
-        &[
-            Part::Words("records passed over: "),
-            Part::Number(passed_over(page)),
-            Part::Words("\n\n"),
-        ],
+        &parts!["records passed over: ", passed_over(page), "\n\n"],
     )
 }
 
@@ -180,14 +176,7 @@ pub fn write_read<W: Sink>(writer: &mut W, page: &Page<'_>) -> Result<(), Fault>
     let parameters = Sha256::digest(page.texts.parameters);
     write_file(writer, "parameters", page.names.parameters, &parameters)?;
     write_certificate(writer, page)?;
-    write_parts(
-        writer,
-        &[
-            Part::Words("program: "),
-            Part::Words(PROGRAM),
-            Part::Words("\n"),
-        ],
-    )?;
+    write_parts(writer, &parts!["program: ", PROGRAM, "\n"])?;
     write_counts(writer, page)
 }
 
@@ -214,14 +203,14 @@ fn write_offer<W: Sink>(
     };
     write_parts(
         writer,
-        &[
-            Part::Words("the "),
-            Part::End(side),
-            Part::Words("'s opening offers N_sendmax "),
-            Part::Number(u64::from(offered)),
-            Part::Words(", and the parameters have "),
-            Part::Number(u64::from(page.params.n_sendmax())),
-            Part::Words("\n\n"),
+        &parts![
+            "the ",
+            side,
+            "'s opening offers N_sendmax ",
+            offered,
+            ", and the parameters have ",
+            page.params.n_sendmax(),
+            "\n\n"
         ],
     )
 }
@@ -239,10 +228,7 @@ pub fn write_time_if<W: Sink>(writer: &mut W, time: Option<CaptureTime>) -> Resu
     ensures err { IfErr result (λ f. f ≡ write_failed) }
 {
     match time {
-        Some(time) => write_parts(
-            writer,
-            &[Part::Words(", "), Part::Time(time), Part::Words(" UTC")],
-        ),
+        Some(time) => write_parts(writer, &parts![", ", time, " UTC"]),
         None => Ok(()),
     }
 }
@@ -251,21 +237,9 @@ pub fn write_time_if<W: Sink>(writer: &mut W, time: Option<CaptureTime>) -> Resu
 pub fn write_sighting<W: Sink>(writer: &mut W, sighting: &Sighting) -> Result<(), Fault>
     ensures err { IfErr result (λ f. f ≡ write_failed) }
 {
-    write_parts(
-        writer,
-        &[
-            Part::Words("record "),
-            Part::Number(u64::from(sighting.record)),
-        ],
-    )?;
+    write_parts(writer, &parts!["record ", sighting.record])?;
     write_time_if(writer, sighting.time)?;
-    write_parts(
-        writer,
-        &[
-            Part::Words(", channel "),
-            Part::Number(u64::from(sighting.channel)),
-        ],
-    )
+    write_parts(writer, &parts![", channel ", sighting.channel])
 }
 
 /// Writes record, time and channel of the packet at a place, as the rest of a line.
@@ -274,10 +248,7 @@ pub fn write_place<W: Sink>(writer: &mut W, page: &Page<'_>, place: u32) -> Resu
 {
     match page.sightings.packets.get(place as usize) {
         Some(sighting) => write_sighting(writer, sighting)?,
-        None => write_parts(
-            writer,
-            &[Part::Words("place "), Part::Number(u64::from(place))],
-        )?,
+        None => write_parts(writer, &parts!["place ", place])?,
     }
     write_words(writer, "\n")
 }

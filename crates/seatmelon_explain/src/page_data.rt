@@ -6,7 +6,7 @@ use crate::data::{Channel, File, Number, Offer, Place};
 use crate::page::{Page, channel_counts, other_offer};
 use crate::sent_messages::list_of;
 use crate::sightings::Sighting;
-use crate::text::{Part, add, name_of_end, text_of};
+use crate::text::{Part, add, name_of_end, parts, text_of};
 use rasta_check::Store;
 use rasta_pcap::{CaptureTime, Fault, Side};
 use sha2::{Digest, Sha256};
@@ -16,7 +16,7 @@ use std::alloc::Global;
 pub fn file_data<'a>(alloc: Global, name: &'a str, digest: &[u8]) -> Result<File<'a>, Fault>
     ensures err { IfErr result (λ f. f ≡ no_memory) }
 {
-    let sha256 = text_of(alloc, &[Part::Hex(digest)])?;
+    let sha256 = text_of(alloc, &parts![Part::Hex(digest)])?;
     Ok(File { name, sha256 })
 }
 
@@ -74,7 +74,7 @@ pub fn time_data(alloc: Global, time: Option<CaptureTime>) -> Result<Option<Stri
     ensures err { IfErr result (λ f. f ≡ no_memory) }
 {
     match time {
-        Some(time) => Ok(Some(text_of(alloc, &[Part::Time(time), Part::Words(" UTC")])?)),
+        Some(time) => Ok(Some(text_of(alloc, &parts![time, " UTC"])?)),
         None => Ok(None),
     }
 }

@@ -11,7 +11,7 @@ use crate::page::{
 use crate::rule::write_rule;
 use crate::sent_messages::list_of;
 use crate::sightings::Wanted;
-use crate::text::{Part, write_parts, write_words};
+use crate::text::{Part, parts, write_parts, write_words};
 use crate::words::{Hint, WITHOUT_OPENING, hint_on, meaning_of};
 use rasta_build::Obstacle;
 use rasta_cert::{Certificate, Entry};
@@ -55,22 +55,10 @@ fn write_fault<W: Sink>(writer: &mut W, page: &Page<'_>, fault: Fault) -> Result
 {
     write_parts(
         writer,
-        &[
-            Part::Words("refused by "),
-            Part::Number(u64::from(fault.number)),
-            Part::Words(" "),
-            Part::Words(fault.name()),
-        ],
+        &parts!["refused by ", fault.number, " ", fault.name()],
     )?;
     write_without(writer, page.without)?;
-    write_parts(
-        writer,
-        &[
-            Part::Words(":\n  "),
-            Part::Words(meaning_of(fault.number)),
-            Part::Words("\n"),
-        ],
-    )
+    write_parts(writer, &parts![":\n  ", meaning_of(fault.number), "\n"])
 }
 
 // Writes what may be the cause of a fault, and what to look at next.
@@ -79,12 +67,12 @@ fn write_hint<W: Sink>(writer: &mut W, hint: Hint) -> Result<(), Fault>
 {
     write_parts(
         writer,
-        &[
-            Part::Words("\nmay be the cause:\n  "),
-            Part::Words(hint.cause),
-            Part::Words("\nlook next at:\n  "),
-            Part::Words(hint.next_step),
-            Part::Words("\n"),
+        &parts![
+            "\nmay be the cause:\n  ",
+            hint.cause,
+            "\nlook next at:\n  ",
+            hint.next_step,
+            "\n"
         ],
     )
 }
@@ -93,10 +81,7 @@ fn write_hint<W: Sink>(writer: &mut W, hint: Hint) -> Result<(), Fault>
 fn write_record<W: Sink>(writer: &mut W, page: &Page<'_>, record: u32) -> Result<(), Fault>
     ensures err { IfErr result (λ f. f ≡ write_failed) }
 {
-    write_parts(
-        writer,
-        &[Part::Words("record "), Part::Number(u64::from(record))],
-    )?;
+    write_parts(writer, &parts!["record ", record])?;
     write_time_if(writer, page.sightings.refused_time)
 }
 
@@ -128,13 +113,13 @@ fn write_gap<W: Sink>(writer: &mut W, page: &Page<'_>, datagram: &[u8]) -> Resul
     let number = number_in(datagram);
     write_parts(
         writer,
-        &[
-            Part::Words("  redundancy number due: "),
-            Part::Number(u64::from(due)),
-            Part::Words("\n  redundancy number found: "),
-            Part::Number(u64::from(number)),
-            Part::Words("\n  "),
-            Part::Number(u64::from(due)),
+        &parts![
+            "  redundancy number due: ",
+            due,
+            "\n  redundancy number found: ",
+            number,
+            "\n  ",
+            due
         ],
     )?;
     match page.sightings.found {
@@ -151,16 +136,7 @@ fn write_gap<W: Sink>(writer: &mut W, page: &Page<'_>, datagram: &[u8]) -> Resul
 fn write_due<W: Sink>(writer: &mut W, what: &str, due: u64) -> Result<(), Fault>
     ensures err { IfErr result (λ f. f ≡ write_failed) }
 {
-    write_parts(
-        writer,
-        &[
-            Part::Words("  "),
-            Part::Words(what),
-            Part::Words(" due: "),
-            Part::Number(due),
-            Part::Words("\n"),
-        ],
-    )
+    write_parts(writer, &parts!["  ", what, " due: ", due, "\n"])
 }
 
 /// The ids that are recorded of a sender and of its receiver.
@@ -204,10 +180,10 @@ fn write_length<W: Sink>(
         Fault::REDUNDANCY_LENGTH => write_due(writer, "length field", datagram.len() as u64),
         Fault::TOO_SHORT => write_parts(
             writer,
-            &[
-                Part::Words("  bytes of the datagram due: "),
-                Part::Number(least_length(params)),
-                Part::Words(" or more\n"),
+            &parts![
+                "  bytes of the datagram due: ",
+                least_length(params),
+                " or more\n"
             ],
         ),
         Fault::SAFETY_LENGTH => {
@@ -216,7 +192,7 @@ fn write_length<W: Sink>(
         }
         _ => {
             let meaning = Part::Words(meaning_of(fault.number));
-            write_parts(writer, &[Part::Words("  "), meaning, Part::Words("\n")])
+            write_parts(writer, &parts!["  ", meaning, "\n"])
         }
     }
 }
@@ -257,12 +233,12 @@ fn write_packet<W: Sink>(
 {
     write_parts(
         writer,
-        &[
-            Part::Words(", channel "),
-            Part::Number(u64::from(packet.channel)),
-            Part::Words(", from the "),
-            Part::End(packet.side),
-            Part::Words("\n"),
+        &parts![
+            ", channel ",
+            packet.channel,
+            ", from the ",
+            packet.side,
+            "\n"
         ],
     )?;
     write_datagram(writer, packet.payload)?;
@@ -324,14 +300,7 @@ fn write_crossed<W: Sink>(
         write_words(writer, "the packet that it names is in ")?;
         return write_place(writer, page, crossed.place);
     };
-    write_parts(
-        writer,
-        &[
-            Part::Words("the "),
-            Part::End(crossed.side),
-            Part::Words("'s PDU in "),
-        ],
-    )?;
+    write_parts(writer, &parts!["the ", crossed.side, "'s PDU in "])?;
     write_place(writer, page, crossed.place)?;
     write_pdu(writer, pdu)
 }
@@ -412,11 +381,7 @@ pub fn write_unscripted<W: Sink>(
     } else {
         write_parts(
             writer,
-            &[
-                Part::Words("line "),
-                Part::Number(u64::from(fault.place)),
-                Part::Words(" of the certificate\n"),
-            ],
+            &parts!["line ", fault.place, " of the certificate\n"],
         )?;
     }
     write_hint(writer, unscripted_hint(page, store, fault))
@@ -481,14 +446,14 @@ fn write_entry_place<W: Sink>(
     let line = line_of(certificate, side, number);
     write_parts(
         writer,
-        &[
-            Part::Words("entry "),
-            Part::Number(u64::from(number)),
-            Part::Words(" of the "),
-            Part::End(side),
-            Part::Words("'s script, line "),
-            Part::Number(line),
-            Part::Words(" of the certificate\n"),
+        &parts![
+            "entry ",
+            number,
+            " of the ",
+            side,
+            "'s script, line ",
+            line,
+            " of the certificate\n"
         ],
     )
 }

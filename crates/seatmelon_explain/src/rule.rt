@@ -5,7 +5,7 @@ ghost use Rattle.rasta_pcap.specs.Fault.{write_failed};
 use crate::page::{Page, write_place};
 use crate::refusal::{pdu_at, pdu_with};
 use crate::sent_messages::list_of;
-use crate::text::{Part, write_parts, write_words};
+use crate::text::{Part, parts, write_parts, write_words};
 use crate::words::meaning_of;
 use rasta_build::{Obstacle, Rule};
 use rasta_check::{SentList, SpanList, Store};
@@ -43,13 +43,7 @@ fn confirming(rule: Rule, cs: u32, peer: Side) -> [Part<'static>; 5] {
         ),
     };
     let cs = Part::Number(u64::from(cs));
-    [
-        Part::Words("CS "),
-        cs,
-        Part::Words(middle),
-        end,
-        Part::Words(after),
-    ]
+    parts!["CS ", cs, middle, end, after]
 }
 
 /// What a rule says of a PDU and of what its peer sent.
@@ -83,13 +77,7 @@ pub fn sentence(rule: Rule, pdu: &Pdu<'_>, peer: Side) -> [Part<'static>; 5] {
         Rule::MakeRefused { fault } => (meaning_of(fault), NONE, "", ""),
         _ => return confirming(rule, pdu.cs(), peer),
     };
-    [
-        Part::Words(before),
-        name,
-        Part::Words(between),
-        Part::Words(after),
-        NONE,
-    ]
+    parts![before, name, between, after, NONE]
 }
 
 // The redundancy number of the peer's PDU that a rule speaks of.
@@ -117,14 +105,7 @@ fn write_named<W: Sink>(
 ) -> Result<(), Fault>
     ensures err { IfErr result (λ f. f ≡ write_failed) }
 {
-    write_parts(
-        writer,
-        &[
-            Part::Words("  that PDU: SN "),
-            Part::Number(u64::from(pdu.sn())),
-            Part::Words(", "),
-        ],
-    )?;
+    write_parts(writer, &parts!["  that PDU: SN ", pdu.sn(), ", "])?;
     write_place(writer, page, place)
 }
 
@@ -137,16 +118,7 @@ fn write_number<W: Sink>(
 ) -> Result<(), Fault>
     ensures err { IfErr result (λ f. f ≡ write_failed) }
 {
-    write_parts(
-        writer,
-        &[
-            Part::Words("  "),
-            Part::Words(name),
-            Part::Words(what),
-            Part::Number(u64::from(number)),
-            Part::Words("\n"),
-        ],
-    )
+    write_parts(writer, &parts!["  ", name, what, number, "\n"])
 }
 
 // The SN that is due at a place; none where the first PDU of an end may have any.

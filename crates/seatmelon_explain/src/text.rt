@@ -35,6 +35,57 @@ pub enum Part<'a> {
     End(Side),
 }
 
+impl<'a> From<&'a str> for Part<'a> {
+    fn from(words: &'a str) -> Part<'a> {
+        Part::Words(words)
+    }
+}
+
+impl<'a> From<u8> for Part<'a> {
+    fn from(n: u8) -> Part<'a> {
+        Part::Number(u64::from(n))
+    }
+}
+
+impl<'a> From<u16> for Part<'a> {
+    fn from(n: u16) -> Part<'a> {
+        Part::Number(u64::from(n))
+    }
+}
+
+impl<'a> From<u32> for Part<'a> {
+    fn from(n: u32) -> Part<'a> {
+        Part::Number(u64::from(n))
+    }
+}
+
+impl<'a> From<u64> for Part<'a> {
+    fn from(n: u64) -> Part<'a> {
+        Part::Number(n)
+    }
+}
+
+impl<'a> From<CaptureTime> for Part<'a> {
+    fn from(time: CaptureTime) -> Part<'a> {
+        Part::Time(time)
+    }
+}
+
+impl<'a> From<Side> for Part<'a> {
+    fn from(side: Side) -> Part<'a> {
+        Part::End(side)
+    }
+}
+
+/// The parts of a line: words, numbers and what else has a form of its own, as they follow each other.
+macro_rules! parts {
+    ($($part:expr),* $(,)?) => {
+        [$($crate::text::Part::from($part)),*]
+    };
+}
+
+pub(crate) use parts;
+
 fn write_number<W: Sink>(writer: &mut W, n: u64) -> Result<(), Fault>
     ensures err { IfErr result (λ f. f ≡ write_failed) }
 {

@@ -7,7 +7,7 @@ use crate::lengths::{LengthFit, likeliest};
 use crate::packet::Offer;
 use crate::party::Party;
 use crate::quiet_draft::write_quiet_points;
-use crate::text::{Part, numbered, write_parts, write_parts_if, write_words};
+use crate::text::{Part, numbered, parts, write_parts, write_parts_if, write_words};
 use rasta_pcap::{Fault, Sink};
 use rasta_pdu::Kind;
 use rasta_udp::Channel;
@@ -50,18 +50,14 @@ fn write_heading<W: Sink>(writer: &mut W, connection: &Connection) -> Result<(),
 {
     write_parts(
         writer,
-        &[
-            Part::Words("# A draft of the parameters of the connection in the records "),
-            Part::Number(u64::from(connection.first_record())),
-            Part::Words(" to "),
-            Part::Number(u64::from(connection.last_record())),
-            Part::Words(" of a capture.\n"),
-            Part::Words(
-                "# Each line tells where its value was seen; one from the engineering data is a placeholder.\n",
-            ),
-            Part::Words(
-                "# A draft is a guess from the form of packets: compare each line with the engineering data.\n\n",
-            ),
+        &parts![
+            "# A draft of the parameters of the connection in the records ",
+            connection.first_record(),
+            " to ",
+            connection.last_record(),
+            " of a capture.\n",
+            "# Each line tells where its value was seen; one from the engineering data is a placeholder.\n",
+            "# A draft is a guess from the form of packets: compare each line with the engineering data.\n\n"
         ],
     )
 }
@@ -70,15 +66,7 @@ fn write_heading<W: Sink>(writer: &mut W, connection: &Connection) -> Result<(),
 fn write_number<W: Sink>(writer: &mut W, key: &'static str, value: u64) -> Result<(), Fault>
     ensures written { AsWritten result (W.failure_count writer.old) (W.failure_count writer.new) }
 {
-    write_parts(
-        writer,
-        &[
-            Part::Words(key),
-            Part::Words(" = "),
-            Part::Number(value),
-            Part::Words(" # "),
-        ],
-    )
+    write_parts(writer, &parts![key, " = ", value, " # "])
 }
 
 fn write_ids<W: Sink>(
@@ -106,22 +94,22 @@ fn write_roles<W: Sink>(
     if connection.has_opening() {
         let record = u64::from(connection.first_record());
         let request = numbered("sender of the connection request in record ", record);
-        return write_ids(writer, &request, &[Part::Words("its receiver\n")], roles);
+        return write_ids(writer, &request, &parts!["its receiver\n"], roles);
     }
     if let Some(offer) = roles.server.offer {
         let record = u64::from(offer.record);
         let response = numbered("sender of the connection response in record ", record);
         return write_ids(
             writer,
-            &[Part::Words("receiver of what the server sent\n")],
+            &parts!["receiver of what the server sent\n"],
             &response,
             roles,
         );
     }
     write_ids(
         writer,
-        &[Part::Words("from the engineering data: end 1 of the survey, which may be the server\n")],
-        &[Part::Words("from the engineering data: end 2 of the survey\n")],
+        &parts!["from the engineering data: end 1 of the survey, which may be the server\n"],
+        &parts!["from the engineering data: end 2 of the survey\n"],
         roles,
     )
 }
@@ -138,12 +126,7 @@ fn write_other_lengths<W: Sink>(
         write_parts_if(
             writer,
             other.length != chosen.length && other.forms > 0,
-            &[
-                Part::Words("; "),
-                Part::Number(u64::from(other.length)),
-                Part::Words(" fits "),
-                Part::Number(other.forms),
-            ],
+            &parts!["; ", other.length, " fits ", other.forms],
         )?;
     }
     Ok(())
@@ -160,16 +143,16 @@ fn write_length<W: Sink>(
 {
     let chosen = likeliest(lengths);
     write_number(writer, key, u64::from(chosen.length))?;
-    let doubt = [Part::Words("from the engineering data, since none fits all packets: ")];
+    let doubt = parts!["from the engineering data, since none fits all packets: "];
     write_parts_if(writer, chosen.forms < packets, &doubt)?;
     write_parts(
         writer,
-        &[
-            Part::Words("fits the length of "),
-            Part::Number(chosen.forms),
-            Part::Words(" of "),
-            Part::Number(packets),
-            Part::Words(" packets"),
+        &parts![
+            "fits the length of ",
+            chosen.forms,
+            " of ",
+            packets,
+            " packets"
         ],
     )?;
     write_other_lengths(writer, chosen, lengths)?;
@@ -190,16 +173,16 @@ fn write_start_words<W: Sink>(writer: &mut W, code: LengthFit) -> Result<(), Fau
             "MD4's own start words; without a safety code they have no effect\n",
         );
     }
-    let doubt = [Part::Words("from the engineering data: ")];
+    let doubt = parts!["from the engineering data: "];
     write_parts_if(writer, code.right < code.forms, &doubt)?;
     write_parts(
         writer,
-        &[
-            Part::Words("MD4's own start words fit "),
-            Part::Number(code.right),
-            Part::Words(" of "),
-            Part::Number(code.forms),
-            Part::Words(" safety codes\n"),
+        &parts![
+            "MD4's own start words fit ",
+            code.right,
+            " of ",
+            code.forms,
+            " safety codes\n"
         ],
     )
 }
@@ -216,13 +199,7 @@ fn write_offer<W: Sink>(writer: &mut W, name: &'static str, offer: Offer) -> Res
     write_number(writer, "n_sendmax", u64::from(offer.sendmax))?;
     write_parts(
         writer,
-        &[
-            Part::Words("offered by the "),
-            Part::Words(name),
-            Part::Words(" in record "),
-            Part::Number(u64::from(offer.record)),
-            Part::Words("\n"),
-        ],
+        &parts!["offered by the ", name, " in record ", offer.record, "\n"],
     )
 }
 
@@ -235,20 +212,20 @@ fn write_both_offers<W: Sink>(writer: &mut W, client: Offer, server: Offer) -> R
         "n_sendmax",
         u64::from(client.sendmax.max(server.sendmax)),
     )?;
-    let doubt = [Part::Words("from the engineering data: ")];
+    let doubt = parts!["from the engineering data: "];
     write_parts_if(writer, client.sendmax != server.sendmax, &doubt)?;
     write_parts(
         writer,
-        &[
-            Part::Words("the client offered "),
-            Part::Number(u64::from(client.sendmax)),
-            Part::Words(" in record "),
-            Part::Number(u64::from(client.record)),
-            Part::Words(", the server "),
-            Part::Number(u64::from(server.sendmax)),
-            Part::Words(" in record "),
-            Part::Number(u64::from(server.record)),
-            Part::Words("\n"),
+        &parts![
+            "the client offered ",
+            client.sendmax,
+            " in record ",
+            client.record,
+            ", the server ",
+            server.sendmax,
+            " in record ",
+            server.record,
+            "\n"
         ],
     )
 }
@@ -276,9 +253,9 @@ fn write_limits<W: Sink>(writer: &mut W) -> Result<(), Fault>
 {
     write_parts(
         writer,
-        &[
-            Part::Words("t_max = 1800 # from the engineering data, in milliseconds\n"),
-            Part::Words("slack = 0 # from the engineering data, in milliseconds\n"),
+        &parts![
+            "t_max = 1800 # from the engineering data, in milliseconds\n",
+            "slack = 0 # from the engineering data, in milliseconds\n"
         ],
     )
 }
@@ -307,19 +284,18 @@ fn write_window<W: Sink>(writer: &mut W, connection: &Connection) -> Result<(), 
 fn write_table<W: Sink>(writer: &mut W, channel: Channel, record: u32) -> Result<(), Fault>
     ensures written { AsWritten result (W.failure_count writer.old) (W.failure_count writer.new) }
 {
-    let seen = Part::Number(u64::from(record));
     write_parts(
         writer,
-        &[
-            Part::Words("\n[[channel]]\nclient = \""),
-            Part::Endpoint(channel.client),
-            Part::Words("\" # seen in record "),
-            seen,
-            Part::Words("\nserver = \""),
-            Part::Endpoint(channel.server),
-            Part::Words("\" # seen in record "),
-            seen,
-            Part::Words("\n"),
+        &parts![
+            "\n[[channel]]\nclient = \"",
+            channel.client,
+            "\" # seen in record ",
+            record,
+            "\nserver = \"",
+            channel.server,
+            "\" # seen in record ",
+            record,
+            "\n"
         ],
     )
 }
@@ -330,14 +306,14 @@ fn write_left_out<W: Sink>(writer: &mut W, channel: Channel, record: u32) -> Res
 {
     write_parts(
         writer,
-        &[
-            Part::Words("\n# A further channel, seen in record "),
-            Part::Number(u64::from(record)),
-            Part::Words(", which can't stand beside those above:\n# client "),
-            Part::Endpoint(channel.client),
-            Part::Words(", server "),
-            Part::Endpoint(channel.server),
-            Part::Words("\n"),
+        &parts![
+            "\n# A further channel, seen in record ",
+            record,
+            ", which can't stand beside those above:\n# client ",
+            channel.client,
+            ", server ",
+            channel.server,
+            "\n"
         ],
     )
 }

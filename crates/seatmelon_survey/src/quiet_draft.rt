@@ -2,7 +2,7 @@
 ghost use Rattle.rasta_pcap.specs.Devices.{AsWritten};
 
 use crate::quiet::{Candidate, LastData, LastSent, Point};
-use crate::text::{Part, numbered, write_parts, write_parts_if};
+use crate::text::{numbered, parts, write_parts, write_parts_if};
 use rasta_pcap::{Fault, Sink};
 
 // What stands before the record of an end's last PDU.
@@ -22,35 +22,35 @@ fn write_end<W: Sink>(
 {
     write_parts(
         writer,
-        &[
-            Part::Words(before),
-            Part::Words("quiet."),
-            Part::Words(name),
-            Part::Words(" = { next_sn = "),
-            Part::Number(u64::from(last.sn.wrapping_add(1))),
-            Part::Words(", clock = "),
-            Part::Number(u64::from(last.stamp.ts)),
+        &parts![
+            before,
+            "quiet.",
+            name,
+            " = { next_sn = ",
+            last.sn.wrapping_add(1),
+            ", clock = ",
+            last.stamp.ts
         ],
     )?;
-    let seen = Part::Number(u64::from(last.stamp.record));
+    let seen = last.stamp.record;
     let (data, words) = match last.data {
         Some(LastData::Sent(data)) => (data, ", its last data in record "),
         Some(LastData::Confirmed(data)) => (data, "; an older time stamp is confirmed in record "),
         None => {
-            let rest = [Part::Words(SEEN_IN), seen, Part::Words("\n")];
+            let rest = parts![SEEN_IN, seen, "\n"];
             return write_parts(writer, &rest);
         }
     };
     write_parts(
         writer,
-        &[
-            Part::Words(", handed_ts = "),
-            Part::Number(u64::from(data.ts)),
-            Part::Words(SEEN_IN),
+        &parts![
+            ", handed_ts = ",
+            data.ts,
+            SEEN_IN,
             seen,
-            Part::Words(words),
-            Part::Number(u64::from(data.record)),
-            Part::Words("\n"),
+            words,
+            data.record,
+            "\n"
         ],
     )
 }
@@ -83,13 +83,11 @@ fn write_proposal<W: Sink>(
 {
     write_parts(
         writer,
-        &[
-            Part::Words("\n# No opening was captured. After record "),
-            Part::Number(u64::from(point.record)),
-            Part::Words(" both ends seem to be up and to owe each other nothing: a quiet point.\n"),
-            Part::Words(
-                "# It is a premise of every answer: only the engineering data or a log can confirm it.\n",
-            ),
+        &parts![
+            "\n# No opening was captured. After record ",
+            point.record,
+            " both ends seem to be up and to owe each other nothing: a quiet point.\n",
+            "# It is a premise of every answer: only the engineering data or a log can confirm it.\n"
         ],
     )?;
     write_ends(writer, "", point, is_first_client)
@@ -130,8 +128,8 @@ pub fn write_quiet_points<W: Sink>(
             written = written.saturating_add(1);
         }
     }
-    let none = [Part::Words(
-        "\n# No opening was captured. An audit needs a quiet point, from the engineering data or a log.\n",
-    )];
+    let none = parts![
+        "\n# No opening was captured. An audit needs a quiet point, from the engineering data or a log.\n"
+    ];
     write_parts_if(writer, written == 0, &none)
 }

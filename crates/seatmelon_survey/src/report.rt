@@ -8,7 +8,7 @@ use crate::kinds::{KINDS, name_of};
 use crate::lengths::{FitCount, Lengths};
 use crate::numbers::NumberCounts;
 use crate::party::Party;
-use crate::text::{Part, numbered, write_parts, write_parts_if, write_words};
+use crate::text::{numbered, parts, write_parts, write_parts_if, write_words};
 use rasta_pcap::{Fault, Sink};
 
 /// Writes how much was read.
@@ -19,14 +19,14 @@ pub fn write_summary<W: Sink>(writer: &mut W, survey: &Survey) -> Result<(), Fau
     let passed_over = records.saturating_sub(survey.packets);
     write_parts(
         writer,
-        &[
-            Part::Words("records: "),
-            Part::Number(records),
-            Part::Words("\npackets of RaSTA: "),
-            Part::Number(survey.packets),
-            Part::Words("\nother records, passed over: "),
-            Part::Number(passed_over),
-            Part::Words("\n"),
+        &parts![
+            "records: ",
+            records,
+            "\npackets of RaSTA: ",
+            survey.packets,
+            "\nother records, passed over: ",
+            passed_over,
+            "\n"
         ],
     )?;
     let left_out = numbered(
@@ -34,7 +34,7 @@ pub fn write_summary<W: Sink>(writer: &mut W, survey: &Survey) -> Result<(), Fau
         survey.left_out,
     );
     write_parts_if(writer, survey.left_out > 0, &left_out)?;
-    let none = [Part::Words("no packet of a RaSTA connection\n")];
+    let none = parts!["no packet of a RaSTA connection\n"];
     write_parts_if(writer, survey.connections().is_empty(), &none)
 }
 
@@ -63,24 +63,11 @@ fn names_in(connection: &Connection) -> EndNames {
 fn write_id<W: Sink>(writer: &mut W, name: &'static str, party: &Party) -> Result<(), Fault>
     ensures written { AsWritten result (W.failure_count writer.old) (W.failure_count writer.new) }
 {
-    write_parts(
-        writer,
-        &[
-            Part::Words("  "),
-            Part::Words(name),
-            Part::Words(" id "),
-            Part::Number(u64::from(party.id)),
-        ],
-    )?;
+    write_parts(writer, &parts!["  ", name, " id ", party.id])?;
     if let Some(offer) = party.offer {
         write_parts(
             writer,
-            &[
-                Part::Words(", version "),
-                Part::Version(offer.version),
-                Part::Words(", N_sendmax "),
-                Part::Number(u64::from(offer.sendmax)),
-            ],
+            &parts![", version ", offer.version, ", N_sendmax ", offer.sendmax],
         )?;
     }
     write_words(writer, "\n")
@@ -95,13 +82,7 @@ fn write_times<W: Sink>(writer: &mut W, connection: &Connection) -> Result<(), F
     };
     write_parts(
         writer,
-        &[
-            Part::Words("  captured from "),
-            Part::Time(first),
-            Part::Words(" to "),
-            Part::Time(last),
-            Part::Words(" UTC\n"),
-        ],
+        &parts!["  captured from ", first, " to ", last, " UTC\n"],
     )
 }
 
@@ -111,12 +92,12 @@ fn write_extent<W: Sink>(writer: &mut W, connection: &Connection) -> Result<(), 
 {
     write_parts(
         writer,
-        &[
-            Part::Words("  records "),
-            Part::Number(u64::from(connection.first_record())),
-            Part::Words(" to "),
-            Part::Number(u64::from(connection.last_record())),
-            Part::Words("\n"),
+        &parts![
+            "  records ",
+            connection.first_record(),
+            " to ",
+            connection.last_record(),
+            "\n"
         ],
     )?;
     write_times(writer, connection)?;
@@ -139,14 +120,14 @@ fn write_ending<W: Sink>(writer: &mut W, name: &'static str, party: &Party) -> R
     };
     write_parts(
         writer,
-        &[
-            Part::Words("  ended by the "),
-            Part::Words(name),
-            Part::Words(" at record "),
-            Part::Number(u64::from(ending.record)),
-            Part::Words(", reason "),
-            Part::Number(u64::from(ending.reason)),
-            Part::Words("\n"),
+        &parts![
+            "  ended by the ",
+            name,
+            " at record ",
+            ending.record,
+            ", reason ",
+            ending.reason,
+            "\n"
         ],
     )
 }
@@ -162,22 +143,22 @@ fn write_channel<W: Sink>(
 {
     write_parts(
         writer,
-        &[
-            Part::Words("  channel "),
-            Part::Number(place.saturating_add(1)),
-            Part::Words(": "),
-            Part::Endpoint(counts.channel.client),
-            Part::Words(" - "),
-            Part::Endpoint(counts.channel.server),
-            Part::Words(", packets to the "),
-            Part::Words(names.second),
-            Part::Words(": "),
-            Part::Number(counts.to_second),
-            Part::Words(", to the "),
-            Part::Words(names.first),
-            Part::Words(": "),
-            Part::Number(counts.to_first),
-            Part::Words("\n"),
+        &parts![
+            "  channel ",
+            place.saturating_add(1),
+            ": ",
+            counts.channel.client,
+            " - ",
+            counts.channel.server,
+            ", packets to the ",
+            names.second,
+            ": ",
+            counts.to_second,
+            ", to the ",
+            names.first,
+            ": ",
+            counts.to_first,
+            "\n"
         ],
     )
 }
@@ -208,16 +189,16 @@ fn write_fit<W: Sink>(
     write_parts_if(
         writer,
         count > 0,
-        &[
-            Part::Words("  a "),
-            Part::Words(code),
-            Part::Words(" code of "),
-            Part::Number(length),
-            Part::Words(" bytes fits the length of "),
-            Part::Number(count),
-            Part::Words(" of "),
-            Part::Number(packets),
-            Part::Words(" packets\n"),
+        &parts![
+            "  a ",
+            code,
+            " code of ",
+            length,
+            " bytes fits the length of ",
+            count,
+            " of ",
+            packets,
+            " packets\n"
         ],
     )
 }
@@ -235,10 +216,10 @@ fn write_code_fit<W: Sink>(
     write_parts_if(
         writer,
         count.forms > 0 && length > 0,
-        &[
-            Part::Words("    MD4's own start words fit "),
-            Part::Number(count.start_words),
-            Part::Words(" of these\n"),
+        &parts![
+            "    MD4's own start words fit ",
+            count.start_words,
+            " of these\n"
         ],
     )
 }
@@ -263,15 +244,7 @@ fn write_kinds<W: Sink>(writer: &mut W, name: &'static str, party: &Party) -> Re
         write_parts_if(
             writer,
             count > 0,
-            &[
-                Part::Words("  "),
-                Part::Words(name),
-                Part::Words(" sent "),
-                Part::Words(name_of(kind)),
-                Part::Words(": "),
-                Part::Number(count),
-                Part::Words("\n"),
-            ],
+            &parts!["  ", name, " sent ", name_of(kind), ": ", count, "\n"],
         )?;
     }
     Ok(())
@@ -289,18 +262,18 @@ fn write_gap<W: Sink>(
     };
     write_parts(
         writer,
-        &[
-            Part::Words("  "),
-            Part::Words(name),
-            Part::Words("'s gaps: "),
-            Part::Number(counts.gaps),
-            Part::Words(", numbers missing: "),
-            Part::Number(counts.missing),
-            Part::Words(", the first: "),
-            Part::Number(u64::from(first.missing)),
-            Part::Words(" at record "),
-            Part::Number(u64::from(first.record)),
-            Part::Words("\n"),
+        &parts![
+            "  ",
+            name,
+            "'s gaps: ",
+            counts.gaps,
+            ", numbers missing: ",
+            counts.missing,
+            ", the first: ",
+            first.missing,
+            " at record ",
+            first.record,
+            "\n"
         ],
     )
 }
@@ -314,17 +287,7 @@ fn write_count<W: Sink>(
 ) -> Result<(), Fault>
     ensures written { AsWritten result (W.failure_count writer.old) (W.failure_count writer.new) }
 {
-    write_parts_if(
-        writer,
-        count > 0,
-        &[
-            Part::Words("  "),
-            Part::Words(name),
-            Part::Words(what),
-            Part::Number(count),
-            Part::Words("\n"),
-        ],
-    )
+    write_parts_if(writer, count > 0, &parts!["  ", name, what, count, "\n"])
 }
 
 // Writes how many packets came again or out of order.
@@ -370,7 +333,7 @@ fn write_frame<W: Sink>(
     write_ending(writer, names.first, &connection.first)?;
     write_ending(writer, names.second, &connection.second)?;
     let is_open = !connection.has_ending();
-    let parts = [Part::Words("  no disconnection request was captured\n")];
+    let parts = parts!["  no disconnection request was captured\n"];
     write_parts_if(writer, is_open, &parts)
 }
 

@@ -25,6 +25,63 @@ pub enum Part {
     Time(CaptureTime),
 }
 
+impl From<&'static str> for Part {
+    fn from(words: &'static str) -> Part {
+        Part::Words(words)
+    }
+}
+
+impl From<u8> for Part {
+    fn from(n: u8) -> Part {
+        Part::Number(u64::from(n))
+    }
+}
+
+impl From<u16> for Part {
+    fn from(n: u16) -> Part {
+        Part::Number(u64::from(n))
+    }
+}
+
+impl From<u32> for Part {
+    fn from(n: u32) -> Part {
+        Part::Number(u64::from(n))
+    }
+}
+
+impl From<u64> for Part {
+    fn from(n: u64) -> Part {
+        Part::Number(n)
+    }
+}
+
+impl From<Endpoint> for Part {
+    fn from(endpoint: Endpoint) -> Part {
+        Part::Endpoint(endpoint)
+    }
+}
+
+impl From<[u8; 4]> for Part {
+    fn from(digits: [u8; 4]) -> Part {
+        Part::Version(digits)
+    }
+}
+
+impl From<CaptureTime> for Part {
+    fn from(time: CaptureTime) -> Part {
+        Part::Time(time)
+    }
+}
+
+/// The parts of a line: words, numbers and what else has a form of its own, as they follow each other.
+macro_rules! parts {
+    ($($part:expr),* $(,)?) => {
+        [$($crate::text::Part::from($part)),*]
+    };
+}
+
+pub(crate) use parts;
+
 fn write_number<W: Sink>(writer: &mut W, n: u64) -> Result<(), Fault>
     ensures written { AsWritten result (W.failure_count writer.old) (W.failure_count writer.new) }
 {
@@ -68,7 +125,7 @@ fn write_part<W: Sink>(writer: &mut W, part: Part) -> Result<(), Fault>
 
 /// A line that ends with a number.
 pub fn numbered(words: &'static str, n: u64) -> [Part; 3] {
-    [Part::Words(words), Part::Number(n), Part::Words("\n")]
+    parts![words, n, "\n"]
 }
 
 /// Writes words.
