@@ -1,9 +1,9 @@
 -- The values of positions depend on what stands before them alone.
-use Rattle.std.proofs.Common.{◌≡◌, ℕ, zero, suc, ◌+◌, ◌<◌, ◌≤◌, List, [], ◌∷◌, ◌++◌, length, Option, Some, None, slice_get, refl, ap, ◌∙◌, arith}
+use Rattle.std.proofs.Common.{◌≡◌, ℕ, zero, suc, ◌+◌, ◌<◌, ◌≤◌, true, List, [], ◌∷◌, ◌++◌, length, Option, Some, None, slice_get, refl, ap, ◌∙◌, arith}
 use Rattle.std.specs.Prelude.{fold, slice_index_or}
 use Rattle.std.proofs.lemmas.List.Sums.{fold-append}
 use Rattle.std.proofs.lemmas.List.{length_push, length-map}
-use Rattle.rasta_end.specs.State.{Made, kinds}
+use Rattle.rasta_end.specs.State.{Made, carries_unit, kinds}
 use Rattle.rasta_pdu.specs.declared.kind.Kind.{Kind}
 use Rattle.rasta_pdu.specs.declared.kind.Kind.TheVariants.{RetransmissionResponse, Data, RetransmittedData}
 use Rattle.rasta_end.specs.Units.{Conveyed, convey, conveyed, all_units_conveyed, units_after, responses_after, responses_in, units_at, last_of, units_conveyed}
@@ -141,23 +141,15 @@ after-response asks ks n k e some h =
     by [] l h = absurd (omega arith)
     by (u ∷ us) l h = h
 
-pub after-data : (asks : List ℕ) (ks : List Kind) (n : ℕ) (k : Kind) → k ≡ Data → 0 < length ks → n ≡ last_of (all_units_conveyed asks ks)
+pub after-unit : (asks : List ℕ) (ks : List Kind) (n : ℕ) (k : Kind) → carries_unit k ≡ true → 0 < length ks → n ≡ last_of (all_units_conveyed asks ks)
     → n + 1 ≡ units_after asks (all_units_conveyed asks ks) (conveyed asks ks).responses k
-after-data asks ks n k e some h =
-    rw e (by (all_units_conveyed asks ks) (let l = length-all_units asks ks in omega (arith, l, some)) h)
+after-unit asks ks n k carries some h = by (all_units_conveyed asks ks) k carries (let l = length-all_units asks ks in omega (arith, l, some)) h
   where
-    by : (units : List ℕ) → 0 < length units → n ≡ last_of units → n + 1 ≡ units_after asks units (conveyed asks ks).responses Data
-    by [] l h = absurd (omega arith)
-    by (u ∷ us) l h = omega (arith, h)
-
-pub after-retransmitted : (asks : List ℕ) (ks : List Kind) (n : ℕ) (k : Kind) → k ≡ RetransmittedData → 0 < length ks → n ≡ last_of (all_units_conveyed asks ks)
-    → n + 1 ≡ units_after asks (all_units_conveyed asks ks) (conveyed asks ks).responses k
-after-retransmitted asks ks n k e some h =
-    rw e (by (all_units_conveyed asks ks) (let l = length-all_units asks ks in omega (arith, l, some)) h)
-  where
-    by : (units : List ℕ) → 0 < length units → n ≡ last_of units → n + 1 ≡ units_after asks units (conveyed asks ks).responses RetransmittedData
-    by [] l h = absurd (omega arith)
-    by (u ∷ us) l h = omega (arith, h)
+    by : (units : List ℕ) (k : Kind) → carries_unit k ≡ true → 0 < length units → n ≡ last_of units → n + 1 ≡ units_after asks units (conveyed asks ks).responses k
+    by [] k e l h = absurd (omega arith)
+    by (u ∷ us) Data e l h = omega (arith, h)
+    by (u ∷ us) RetransmittedData e l h = omega (arith, h)
+    by (u ∷ us) _ e l h = absurd (cc)
 
 pub length-kinds : (ms : List Made) → length (kinds ms) ≡ length ms
 length-kinds ms = length-map ms (λ (m : Made). m.pdu.kind)

@@ -3,7 +3,7 @@ use Rattle.std.proofs.lemmas.List.{length_push}
 use Rattle.std.proofs.Common.{◌≡◌, ℕ, suc, ◌+◌, ◌≤◌, Bool, true, false, List, [], ◌∷◌, ◌++◌, length, ◌<◌, Option, Some, None, slice_get, get_or, refl, ap, sym, ◌∙◌, arith, subst, zero-add}
 use Rattle.std.proofs.lemmas.Option.{slice_get-map, slice_get-get_or, slice_get_past}
 use Rattle.std.specs.Prelude.{map, option_map}
-use Rattle.rasta_pdu.specs.Pdu.{value_of, is_kind}
+use Rattle.rasta_pdu.specs.Pdu.{SafetyPdu, value_of, is_kind}
 use Rattle.std.specs.Borrow.{Bor}
 use Rattle.rasta_pdu.specs.declared.kind.Kind.{Kind}
 use Rattle.rasta_pdu.specs.declared.kind.Kind.TheVariants.{ConnectionRequest, ConnectionResponse, RetransmissionRequest, RetransmissionResponse, DisconnectionRequest, Heartbeat, Data, RetransmittedData}
@@ -12,7 +12,8 @@ use Rattle.rasta_end.specs.declared.made_pdus.QuietPdu.{QuietPdu}
 use Rattle.rasta_end.specs.State.{Made, kinds, content_of}
 use Rattle.rasta_end.specs.MakeRule.{contents}
 use Rattle.rasta_end.specs.Units.{all_units_conveyed, conveyed, units_after, responses_in, responses_after}
-use Rattle.rasta_end.specs.Kept.{made_of, conveyed_of, quiet_made, quiet_count, quiet_units, OwnPdus}
+use Rattle.rasta_end.specs.Kept.{AreOwn, made_of, all_made, conveyed_of, quiet_made, quiet_count, quiet_units, OwnPdus}
+use Rattle.rasta_end.specs.declared.made_pdus.MadePdus.TheInside.{Inside}
 use Rattle.rasta_end.proofs.Conveying.{all_units-push, responses_in-push, more_asks}
 
 append-assoc : {A : Type 0} (xs ys zs : List A) → (xs ++ ys) ++ zs ≡ xs ++ (ys ++ zs)
@@ -83,11 +84,11 @@ pub one-response : (n : ℕ) (k : Kind) → is_kind RetransmissionResponse k ≡
 one-response n RetransmissionResponse e = refl
 one-response n _ e = absurd (cc)
 
-pub data-not-response : (k : Kind) → is_kind Data k ≡ true → is_kind RetransmissionResponse k ≡ false
+data-not-response : (k : Kind) → is_kind Data k ≡ true → is_kind RetransmissionResponse k ≡ false
 data-not-response Data e = refl
 data-not-response _ e = absurd (cc)
 
-pub response-not-data : (k : Kind) → is_kind RetransmissionResponse k ≡ true → is_kind Data k ≡ false
+response-not-data : (k : Kind) → is_kind RetransmissionResponse k ≡ true → is_kind Data k ≡ false
 response-not-data RetransmissionResponse e = refl
 response-not-data _ e = absurd (cc)
 
@@ -104,7 +105,7 @@ units_in_step q ms asks = quiet_units q ++ map conveyed_of ms ≡ all_units_conv
 abbrev contents_in_step : Option QuietPdu → List MadePdu → List (Bor (List ℕ)) → Type 0
 contents_in_step q ms cs = map (λ (b : Bor (List ℕ)). b.now) cs ≡ contents (quiet_made q ++ map made_of ms)
 
-pub units-push : (q : Option QuietPdu) (ms ns : List MadePdu) (m : MadePdu) (o : OwnPdus) (asks : List ℕ) → ns ≡ ms ++ m ∷ []
+units-push : (q : Option QuietPdu) (ms ns : List MadePdu) (m : MadePdu) (o : OwnPdus) (asks : List ℕ) → ns ≡ ms ++ m ∷ []
     → record { quiet = q; made = quiet_made q ++ map made_of ms; asks = asks } ≡ o
     → units_in_step q ms asks
     → (k : Kind) → (made_of m).pdu.kind ≡ k → m.conveyed ≡ units_after o.asks (all_units_conveyed o.asks (kinds o.made)) (conveyed o.asks (kinds o.made)).responses k
@@ -118,22 +119,22 @@ units-push q ms ns m o asks items view h k kind e =
     now : m.conveyed ≡ units_after asks (all_units_conveyed asks (kinds (quiet_made q ++ map made_of ms))) (conveyed asks (kinds (quiet_made q ++ map made_of ms))).responses (made_of m).pdu.kind
     now = subst (λ (j : Kind). m.conveyed ≡ units_after asks (all_units_conveyed asks (kinds (quiet_made q ++ map made_of ms))) (conveyed asks (kinds (quiet_made q ++ map made_of ms))).responses j) (sym kind) there
 
-pub contents-push : (q : Option QuietPdu) (ms ns : List MadePdu) (m : MadePdu) (cs ds : List (Bor (List ℕ))) (c : Bor (List ℕ)) → ns ≡ ms ++ m ∷ [] → ds ≡ cs ++ c ∷ []
+contents-push : (q : Option QuietPdu) (ms ns : List MadePdu) (m : MadePdu) (cs ds : List (Bor (List ℕ))) (c : Bor (List ℕ)) → ns ≡ ms ++ m ∷ [] → ds ≡ cs ++ c ∷ []
     → is_kind Data (made_of m).pdu.kind ≡ true → c.now ≡ content_of (made_of m).pdu.body → contents_in_step q ms cs → contents_in_step q ns ds
 contents-push q ms ns m cs ds c items stored e d h =
     subst (λ (l : List MadePdu). contents_in_step q l ds) (sym items) (subst (λ (l : List (Bor (List ℕ))). contents_in_step q (ms ++ m ∷ []) l) (sym stored) (contents-pushed q ms m cs c e d h))
 
-pub contents-kept : (q : Option QuietPdu) (ms ns : List MadePdu) (m : MadePdu) (cs : List (Bor (List ℕ))) → ns ≡ ms ++ m ∷ []
+contents-kept : (q : Option QuietPdu) (ms ns : List MadePdu) (m : MadePdu) (cs : List (Bor (List ℕ))) → ns ≡ ms ++ m ∷ []
     → is_kind Data (made_of m).pdu.kind ≡ false → contents_in_step q ms cs → contents_in_step q ns cs
 contents-kept q ms ns m cs items e h = subst (λ (l : List MadePdu). contents_in_step q l cs) (sym items) (contents-stay q ms m cs e h)
 
-pub responses-kept : (q : Option QuietPdu) (ms ns : List MadePdu) (m : MadePdu) (n : ℕ) → ns ≡ ms ++ m ∷ []
+responses-kept : (q : Option QuietPdu) (ms ns : List MadePdu) (m : MadePdu) (n : ℕ) → ns ≡ ms ++ m ∷ []
     → is_kind RetransmissionResponse (made_of m).pdu.kind ≡ false → n ≡ responses_in (kinds (quiet_made q ++ map made_of ms)) → n ≡ responses_in (kinds (quiet_made q ++ map made_of ns))
 responses-kept q ms ns m n items e h =
     subst (λ (l : List MadePdu). n ≡ responses_in (kinds (quiet_made q ++ map made_of l))) (sym items)
     (h ∙ sym (responses-pushed q ms m ∙ not-response (responses_in (kinds (quiet_made q ++ map made_of ms))) (made_of m).pdu.kind e))
 
-pub responses-push : (q : Option QuietPdu) (ms ns : List MadePdu) (m : MadePdu) (n : ℕ) → ns ≡ ms ++ m ∷ []
+responses-push : (q : Option QuietPdu) (ms ns : List MadePdu) (m : MadePdu) (n : ℕ) → ns ≡ ms ++ m ∷ []
     → is_kind RetransmissionResponse (made_of m).pdu.kind ≡ true → n ≡ responses_in (kinds (quiet_made q ++ map made_of ms)) → n + 1 ≡ responses_in (kinds (quiet_made q ++ map made_of ns))
 responses-push q ms ns m n items e h =
     subst (λ (l : List MadePdu). n + 1 ≡ responses_in (kinds (quiet_made q ++ map made_of l))) (sym items)
@@ -141,6 +142,37 @@ responses-push q ms ns m n items e h =
   where
     more : n + 1 ≡ suc (responses_in (kinds (quiet_made q ++ map made_of ms)))
     more = omega (arith, h)
+
+-- an end's PDUs with one more, m, which is the PDU x
+module _ (i j : Inside) (o : OwnPdus) (m : MadePdu) (x : SafetyPdu) (unit : Option ℕ) (view : record { quiet = i.quiet; made = all_made i; asks = i.asks.items } ≡ o) (own : AreOwn i)
+    (pdu : made_of m ≡ record { pdu = x; unit = unit })
+    (values : m.conveyed ≡ units_after o.asks (all_units_conveyed o.asks (kinds o.made)) (conveyed o.asks (kinds o.made)).responses x.kind)
+    (quiet : j.quiet ≡ i.quiet) (asks : j.asks ≡ i.asks) (items : j.made.items ≡ i.made.items ++ m ∷ []) where
+  kind : (made_of m).pdu.kind ≡ x.kind
+  kind = ap (λ (n : Made). n.pdu.kind) pdu
+
+  own_with : contents_in_step i.quiet j.made.items j.contents.items → j.responses ≡ responses_in (kinds (quiet_made i.quiet ++ map made_of j.made.items)) → AreOwn j
+  own_with c r =
+      let units = units-push i.quiet i.made.items j.made.items m o i.asks.items items view own.units x.kind kind values in
+      record { units = rw (quiet, asks) units; contents = rw quiet c; responses = rw quiet r }
+
+  pub data-own : (c : Bor (List ℕ)) → j.contents.items ≡ i.contents.items ++ c ∷ [] → j.responses ≡ i.responses → is_kind Data x.kind ≡ true → c.now ≡ content_of x.body → AreOwn j
+  data-own c stored same e d =
+      let is : is_kind Data (made_of m).pdu.kind ≡ true = ap (is_kind Data) kind ∙ e in
+      let body : c.now ≡ content_of (made_of m).pdu.body = d ∙ sym (ap (λ (n : Made). content_of n.pdu.body) pdu) in
+      own_with (contents-push i.quiet i.made.items j.made.items m i.contents.items j.contents.items c items stored is body own.contents)
+      (same ∙ responses-kept i.quiet i.made.items j.made.items m i.responses items (data-not-response (made_of m).pdu.kind is) own.responses)
+
+  pub response-own : j.contents ≡ i.contents → j.responses ≡ i.responses + 1 → is_kind RetransmissionResponse x.kind ≡ true → AreOwn j
+  response-own same more e =
+      let is : is_kind RetransmissionResponse (made_of m).pdu.kind ≡ true = ap (is_kind RetransmissionResponse) kind ∙ e in
+      own_with (rw same (contents-kept i.quiet i.made.items j.made.items m i.contents.items items (response-not-data (made_of m).pdu.kind is) own.contents))
+      (more ∙ responses-push i.quiet i.made.items j.made.items m i.responses items is own.responses)
+
+  pub other-own : j.contents ≡ i.contents → j.responses ≡ i.responses → is_kind Data x.kind ≡ false → is_kind RetransmissionResponse x.kind ≡ false → AreOwn j
+  other-own same kept e f =
+      own_with (rw same (contents-kept i.quiet i.made.items j.made.items m i.contents.items items (ap (is_kind Data) kind ∙ e) own.contents))
+      (kept ∙ responses-kept i.quiet i.made.items j.made.items m i.responses items (ap (is_kind RetransmissionResponse) kind ∙ f) own.responses)
 
 pub asks-more : (q : Option QuietPdu) (ms : List MadePdu) (o : OwnPdus) (asks more : List ℕ) (ask : ℕ) → more ≡ asks ++ ask ∷ []
     → record { quiet = q; made = quiet_made q ++ map made_of ms; asks = asks } ≡ o → responses_in (kinds o.made) ≤ length o.asks
