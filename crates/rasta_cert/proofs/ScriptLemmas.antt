@@ -1,5 +1,5 @@
 -- The lines of scripts, and lists that begin like them.
-use Rattle.std.proofs.Common.{◌≡◌, ◌≢◌, ◌⊎◌, inl, inr, ℕ, ◌<◌, List, [], ◌∷◌, ◌++◌, map, length, get_or, nat_eq, refl, sym, ap, subst, ◌∙◌, arith, append_assoc}
+use Rattle.std.proofs.Common.{false, ◌≡◌, ◌≢◌, ◌⊎◌, inl, inr, ℕ, ◌<◌, List, [], ◌∷◌, ◌++◌, map, length, get_or, nat_eq, refl, sym, ap, subst, ◌∙◌, arith, append_assoc}
 use Rattle.std.proofs.lemmas.Bool.{false≢true}
 use Rattle.std.specs.List.{concat}
 use Rattle.std.specs.Prelude.{codes}
@@ -14,21 +14,20 @@ use Rattle.rasta_cert.proofs.LineLemmas.{AreLines, AreLines-after, AreLines-line
 pub record Closes (close : List ℕ) : Type 0 where
   pub apart : (e : Entry) → entry_line e ≢ close
 
-pub Closes-server : Closes (line (codes "server"))
+-- an entry's line begins with t or m
+by_first : (close : List ℕ) → nat_eq (get_or close 0 0) 116 ≡ false → nat_eq (get_or close 0 0) 109 ≡ false → Closes close
 unfolding entry_line
-Closes-server = record { apart = apart }
+by_first close t m = record { apart = apart }
   where
-    apart : (e : Entry) → entry_line e ≢ line (codes "server")
-    apart (Take slot number) h = false≢true (ap (λ (l : List ℕ). nat_eq (get_or l 0 0) 115) h)
-    apart (Make index clock why) h = false≢true (ap (λ (l : List ℕ). nat_eq (get_or l 0 0) 115) h)
+    apart : (e : Entry) → entry_line e ≢ close
+    apart (Take slot number) h = false≢true (sym t ∙ ap (λ (l : List ℕ). nat_eq (get_or l 0 0) 116) (sym h))
+    apart (Make index clock why) h = false≢true (sym m ∙ ap (λ (l : List ℕ). nat_eq (get_or l 0 0) 109) (sym h))
+
+pub Closes-server : Closes (line (codes "server"))
+Closes-server = by_first (line (codes "server")) refl refl
 
 pub Closes-end : Closes (line (codes "end"))
-unfolding entry_line
-Closes-end = record { apart = apart }
-  where
-    apart : (e : Entry) → entry_line e ≢ line (codes "end")
-    apart (Take slot number) h = false≢true (ap (λ (l : List ℕ). nat_eq (get_or l 0 0) 101) h)
-    apart (Make index clock why) h = false≢true (ap (λ (l : List ℕ). nat_eq (get_or l 0 0) 101) h)
+Closes-end = by_first (line (codes "end")) refl refl
 
 abbrev pub Lines : Type 0
 Lines = List (List ℕ)

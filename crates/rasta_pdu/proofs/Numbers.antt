@@ -29,23 +29,23 @@ same_front n xs long =
     let front : length (take n xs) ≡ n = rw length-take (omega arith) in
     sym (little_from-append n (take n xs) (drop n xs) (omega arith)) ∙ ap (little_from 0 n) (take-append-drop n xs)
 
+-- bytes whose first are those of their number
+with_front : (n : ℕ) (xs : List ℕ) → little_bytes n (little_number n xs) ≡ take n xs → xs ≡ little_bytes n (little_number n xs) ++ drop n xs
+with_front n xs e = sym (take-append-drop n xs) ∙ ap (λ l. l ++ drop n xs) (sym e)
+
 -- the first four bytes are those of their number
 four : (xs : List ℕ) → AreBytes xs → 4 ≤ length xs → xs ≡ little_bytes 4 (little_number 4 xs) ++ drop 4 xs
 four xs are long =
     let front : length (take 4 xs) ≡ 4 = rw length-take (omega arith) in
     let same = same_front 4 xs long in
-    let read : little_number 4 xs ≡ from_le_bytes w32 (take 4 xs) = omega (arith, same) in
-    sym (take-append-drop 4 xs)
-    ∙ ap (λ l. l ++ drop 4 xs) (sym (le_bytes_4 (take 4 xs) (little_number 4 xs) front (take_fits 4 xs are long) read))
+    with_front 4 xs (le_bytes_4 (take 4 xs) (little_number 4 xs) front (take_fits 4 xs are long) (omega (arith, same)))
 
 -- the first two bytes are those of their number
 two : (xs : List ℕ) → AreBytes xs → 2 ≤ length xs → xs ≡ little_bytes 2 (little_number 2 xs) ++ drop 2 xs
 two xs are long =
     let front : length (take 2 xs) ≡ 2 = rw length-take (omega arith) in
     let same = same_front 2 xs long in
-    let read : little_number 2 xs ≡ from_le_bytes w16 (take 2 xs) = omega (arith, same) in
-    sym (take-append-drop 2 xs)
-    ∙ ap (λ l. l ++ drop 2 xs) (sym (le_bytes_2 (take 2 xs) (little_number 2 xs) front (take_fits 2 xs are long) read))
+    with_front 2 xs (le_bytes_2 (take 2 xs) (little_number 2 xs) front (take_fits 2 xs are long) (omega (arith, same)))
 
 -- four bytes at a place are those of their number
 pub four_at : (at : ℕ) (xs : List ℕ) → AreBytes xs → at + 4 ≤ length xs → drop at xs ≡ little_bytes 4 (number_at 4 at xs) ++ drop (at + 4) xs

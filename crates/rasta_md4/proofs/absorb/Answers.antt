@@ -13,27 +13,37 @@ returns-then-bytes-room-clause-registers c =
     let all = length-append (take c.args.used c.args.buffer.now) c.args.bytes.now in
     sym (ap (fold compress c.args.registers) (blocks_none (take c.args.used c.args.buffer.now ++ c.args.bytes.now) (omega arith)))
 
+-- the buffer begins with what waited, and what fills it
+module _ (c : goal.After-absorb_aligned-2) where
+  abbrev n : ℕ
+  n = 64 - c.args.used
+
+  abbrev waited : List ℕ
+  waited = take c.args.used c.args.buffer.now
+
+  abbrev filled : List ℕ
+  filled = put_mid c.args.used n c.args.buffer.now c.copy_from_slice-2.new.self
+
+  size : length waited ≡ c.args.used
+  size = length-take-le c.args.used c.args.buffer.now (omega arith)
+
+  full : filled ≡ waited ++ take n c.args.bytes.now
+  full =
+      put_mid-end c.args.buffer.now c.copy_from_slice-2.new.self c.args.used n (let l = size in omega arith)
+      ∙ ap (λ (z : List ℕ). waited ++ z) c.copy_from_slice-2.ensures.after
+
+  rest : take (length c.args.bytes.now - n) (drop n c.args.bytes.now) ≡ drop n c.args.bytes.now
+  rest = take_rest c.args.bytes.now n
+
 pub returns-clause-registers : goal.returns-clause-registers
 returns-clause-registers c =
-    let n : ℕ = 64 - c.args.used in
-    let waiting : length (take c.args.used c.args.buffer.now) ≡ c.args.used = length-take-le c.args.used c.args.buffer.now (omega arith) in
-    let t : List ℕ = take c.args.used c.args.buffer.now in
-    let b : List ℕ = put_mid c.args.used n c.args.buffer.now c.copy_from_slice-2.new.self in
-    let full : b ≡ t ++ take n c.args.bytes.now =
-    put_mid-end c.args.buffer.now c.copy_from_slice-2.new.self c.args.used n (omega arith) ∙ ap (λ (z : List ℕ). t ++ z) c.copy_from_slice-2.ensures.after in
-    let rest : take (length c.args.bytes.now - n) (drop n c.args.bytes.now) ≡ drop n c.args.bytes.now = take_rest c.args.bytes.now n in
-    (rw rest at c.absorb_aligned-2.ensures.registers) ∙ ap (λ (r : List ℕ). fold compress r (blocks (drop n c.args.bytes.now))) c.after_blocks-registers.ensures
-    ∙ fold_filled c.args.registers t c.args.bytes.now b n full (omega arith) (omega arith)
+    let l = size c in
+    (rw (rest c) at c.absorb_aligned-2.ensures.registers) ∙ ap (λ (r : List ℕ). fold compress r (blocks (drop (n c) c.args.bytes.now))) c.after_blocks-registers.ensures
+    ∙ fold_filled c.args.registers (waited c) c.args.bytes.now (filled c) (n c) (full c) (omega arith) (omega arith)
 
 pub returns-clause-waiting : goal.returns-clause-waiting
 returns-clause-waiting c =
-    let n : ℕ = 64 - c.args.used in
-    let waiting : length (take c.args.used c.args.buffer.now) ≡ c.args.used = length-take-le c.args.used c.args.buffer.now (omega arith) in
-    let t : List ℕ = take c.args.used c.args.buffer.now in
-    let b : List ℕ = put_mid c.args.used n c.args.buffer.now c.copy_from_slice-2.new.self in
-    let full : b ≡ t ++ take n c.args.bytes.now =
-    put_mid-end c.args.buffer.now c.copy_from_slice-2.new.self c.args.used n (omega arith) ∙ ap (λ (z : List ℕ). t ++ z) c.copy_from_slice-2.ensures.after in
-    let rest : take (length c.args.bytes.now - n) (drop n c.args.bytes.now) ≡ drop n c.args.bytes.now = take_rest c.args.bytes.now n in
-    let left : (c.args.used + length c.args.bytes.now) % 64 ≡ length (drop n c.args.bytes.now) % 64 = omega (arith, length-drop n c.args.bytes.now) in
-    ap (λ (i : ℕ). take i c.absorb_aligned-2.new.buffer) left ∙ (rw rest at c.absorb_aligned-2.ensures.waiting)
-    ∙ past_blocks_filled t c.args.bytes.now b n full (omega arith) (omega arith)
+    let l = size c in
+    let left : (c.args.used + length c.args.bytes.now) % 64 ≡ length (drop (n c) c.args.bytes.now) % 64 = omega (arith, length-drop (n c) c.args.bytes.now) in
+    ap (λ (i : ℕ). take i c.absorb_aligned-2.new.buffer) left ∙ (rw (rest c) at c.absorb_aligned-2.ensures.waiting)
+    ∙ past_blocks_filled (waited c) c.args.bytes.now (filled c) (n c) (full c) (omega arith) (omega arith)
