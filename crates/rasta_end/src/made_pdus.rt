@@ -176,8 +176,7 @@ impl<'a> MadePdus<'a> {
         }
         match kind {
             Kind::RetransmissionResponse => self.asked_units(),
-            Kind::Data => self.last_units() + 1,
-            Kind::RetransmittedData => self.last_units() + 1,
+            Kind::Data | Kind::RetransmittedData => self.last_units() + 1,
             _ => self.last_units(),
         }
     }

@@ -45,58 +45,36 @@ impl<'a> PduParts<'a> {
 fn is_opening(body: Body<&[&[u8]]>) -> bool
     ensures { result ≡ body_fits OpeningFields body.entry }
 {
-    match body {
-        Body::Opening { version, .. } => is_version(&version),
-        Body::Bye { .. } => false,
-        Body::Messages(_) => false,
-        Body::Empty => false,
-    }
+    matches!(body, Body::Opening { version, .. } if is_version(&version))
 }
 
 fn is_bye(body: Body<&[&[u8]]>) -> bool
     ensures { result ≡ body_fits ByeFields body.entry }
 {
-    match body {
-        Body::Bye { .. } => true,
-        Body::Opening { .. } => false,
-        Body::Messages(_) => false,
-        Body::Empty => false,
-    }
+    matches!(body, Body::Bye { .. })
 }
 
 fn has_messages(body: Body<&[&[u8]]>) -> bool
     ensures { result ≡ body_fits MessageList body.entry }
 {
-    match body {
-        Body::Messages(messages) => !messages.is_empty(),
-        Body::Opening { .. } => false,
-        Body::Bye { .. } => false,
-        Body::Empty => false,
-    }
+    matches!(body, Body::Messages(messages) if !messages.is_empty())
 }
 
 fn is_empty(body: Body<&[&[u8]]>) -> bool
     ensures { result ≡ body_fits Nothing body.entry }
 {
-    match body {
-        Body::Empty => true,
-        Body::Opening { .. } => false,
-        Body::Bye { .. } => false,
-        Body::Messages(_) => false,
-    }
+    matches!(body, Body::Empty)
 }
 
 fn is_body_of(kind: Kind, body: Body<&[&[u8]]>) -> bool
     ensures { result ≡ body_fits (layout_of kind) body.entry }
 {
     match kind {
-        Kind::ConnectionRequest => is_opening(body),
-        Kind::ConnectionResponse => is_opening(body),
+        Kind::ConnectionRequest | Kind::ConnectionResponse => is_opening(body),
         Kind::DisconnectionRequest => is_bye(body),
-        Kind::Data => has_messages(body),
-        Kind::RetransmittedData => has_messages(body),
-        Kind::RetransmissionRequest => is_empty(body),
-        Kind::RetransmissionResponse => is_empty(body),
-        Kind::Heartbeat => is_empty(body),
+        Kind::Data | Kind::RetransmittedData => has_messages(body),
+        Kind::RetransmissionRequest | Kind::RetransmissionResponse | Kind::Heartbeat => {
+            is_empty(body)
+        }
     }
 }

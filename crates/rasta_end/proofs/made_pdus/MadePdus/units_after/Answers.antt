@@ -1,16 +1,10 @@
-use Rattle.std.proofs.Common.{◌-◌, arith, ap}
-use Rattle.rasta_end.specs.State.{carries_unit, kinds}
+use Rattle.std.proofs.Common.{◌-◌, arith}
+use Rattle.rasta_end.specs.State.{kinds}
 use Rattle.rasta_end.proofs.Conveying.{last_units-few, length-kinds, after-response, after-unit}
 use Rattle.rasta_end.proofs.made_pdus.MadePdus.units_after.Goals as goal
 
 pub overflow_add-result : goal.overflow_add-result
 overflow_add-result c =
-    let k = length-kinds c.args.self.now.made in
-    let l = last_units-few c.args.self.now.asks (kinds c.args.self.now.made) (c.len.result - 1) (omega (arith, k)) in
-    omega (arith, k, l)
-
-pub overflow_add-result-in-RetransmittedData : goal.overflow_add-result-in-RetransmittedData
-overflow_add-result-in-RetransmittedData c =
     let k = length-kinds c.args.self.now.made in
     let l = last_units-few c.args.self.now.asks (kinds c.args.self.now.made) (c.len.result - 1) (omega (arith, k)) in
     omega (arith, k, l)
@@ -23,9 +17,4 @@ returns-in-RetransmissionResponse c =
 pub returns-in-Data : goal.returns-in-Data
 returns-in-Data c =
     let k = length-kinds c.args.self.now.made in
-    record { room = omega arith; value = after-unit c.args.self.now.asks (kinds c.args.self.now.made) c.last_units.result c.args.kind (ap carries_unit c.in-Data.is) (omega (arith, k)) c.last_units.ensures }
-
-pub returns-in-RetransmittedData : goal.returns-in-RetransmittedData
-returns-in-RetransmittedData c =
-    let k = length-kinds c.args.self.now.made in
-    record { room = omega arith; value = after-unit c.args.self.now.asks (kinds c.args.self.now.made) c.last_units-in-RetransmittedData.result c.args.kind (ap carries_unit c.in-RetransmittedData.is) (omega (arith, k)) c.last_units-in-RetransmittedData.ensures }
+    record { room = omega arith; value = after-unit c.args.self.now.asks (kinds c.args.self.now.made) c.last_units.result c.args.kind (grind (arith, c.in-Data.is)) (omega (arith, k)) c.last_units.ensures }
