@@ -29,8 +29,7 @@ crossed_then w x a ys = grind arith
 
 -- what holds of the station that moved and of that which stood still holds of both
 both : (P : Side → Station → Type 0) (w : World) (x : Side) (a : Station) (ys : List Packet) → P x a → P (other_side x) (station_of w (other_side x)) → (y : Side) → P y (station_of (moved w x a ys) y)
-both P w Client a ys h g = sided (λ y. P y (station_of (moved w Client a ys) y)) h g
-both P w Server a ys h g = sided (λ y. P y (station_of (moved w Server a ys) y)) g h
+both P w x a ys h1 h2 y = grind arith
 
 -- ---- a run up to a level
 

@@ -89,16 +89,7 @@ module _ (p : Parameters) (packets : List Packet) (k : ℕ) (s : Side) (own peer
       recast line next (moves (repeating j here.channel) (repeats {a = a} j here.channel old there (os ∙ sd) (recorded k here at)) stays)
 
   copied : (es : List Entry) (a : Station) → here.side ≡ s → Above (suc k) es → Tracks p (length packets) k s own peer es last a → Crossed es a
-  copied es a hs above f =
-      let no_first : (i : ℕ) (c : FirstCopy) → slice_get own i ≡ Some c → c.place ≡ k → ⊥ =
-      λ i c g e. (let x = f.after i c g in let y = places_above p (length packets) (suc k) own peer _ last es f.fits whole above i c g in grind (arith, x, y, e)) in
-      let w = sent.copies k here at hs in
-      let o = sent.firsts w.0 w.1 w.2 in
-      let earlier : w.1.place < k = (let apart = no_first w.0 w.1 w.2 in let low = w.3 in omega (arith, apart)) in (
-        a,
-        copy_moves es a (place_missing own k no_first) (hs ∙ sym f.side) w.1.place o.0 earlier o.1 (o.2 ∙ sym hs) (o.3.same ∙ sym w.4.same),
-        record { rest = es; tracks = untouched p (length packets) k s own peer es last a f no_first; ready = above; says = says_all (suc k) (suc k) es },
-      )
+  copied es a h1 h2 h3 = grind (arith, places_above, copy_moves, place_missing, untouched, says_all)
 
   pub next_is : (es : List Entry) (a : Station) → here.side ≡ s → Drained k es → Tracks p (length packets) k s own peer es last a → Crossed es a
   next_is [] a hs dr f = copied [] a hs tt f

@@ -1,7 +1,7 @@
 -- The takes that are due at a level, with their lines.
-use Rattle.std.proofs.Common.{◌≡◌, ℕ, suc, ◌+◌, ◌<◌, ◌≤◌, List, [], ◌∷◌, length, Some, slice_get, refl, ap, sym, ◌∙◌, arith}
+use Rattle.std.proofs.Common.{◌≡◌, ℕ, suc, ◌+◌, ◌<◌, ◌≤◌, List, [], ◌∷◌, length, refl, ap, sym, ◌∙◌, arith}
 use Rattle.rasta_check.proofs.Prelude.{slice_get_within, yes, no, Side, Packet, Parameters, Entry, Take, Make, EndState, wrapped, Takes, FirstCopy, Station, Cursor, Advances}
-use Rattle.rasta_check.proofs.Prelude.{takes_next, makes_next, Leads, arrives, takes, takes_at, slice_get_some}
+use Rattle.rasta_check.proofs.Prelude.{takes_next, Leads, arrives, takes, takes_at, slice_get_some}
 use native.Mathlib.Decide.{dec_le}
 use Rattle.rasta_check.specs.Model.World.{arriving, taking}
 use Rattle.rasta_check.specs.Run.Levels.{take_line, brought_line, each_take, takes_lines}
@@ -16,12 +16,7 @@ use Rattle.rasta_check.proofs.Run.Moves.{Many, stays, moves, append_many, recast
 module _ (p : Parameters) (n : ℕ) (s : Side) (own peer : List FirstCopy) (last : Cursor) (k : ℕ) where
   -- where no take is due, the next entry lies at this level or above, and all after it above
   pub ahead : (j : ℕ) (x : Entry) (es : List Entry) (a : Station) → k ≤ j → j ≤ suc k → Tracks p n j s own peer (x ∷ es) last a → Drained k (x ∷ es) → (j ≤ place_of x) × Above (suc k) es
-  ahead j x es a l m f dr = (let z = by _ f.fits.0 x f.fits.1 f.before dr in (z.0, lead_above p n (suc k) own peer f.fits.0 last es f.fits.2 z.1))
-    where
-      by : (u v : Cursor) (x : Entry) → Advances p n own peer u x v → ((i : ℕ) (c : FirstCopy) → slice_get own i ≡ Some c → c.place < j → i < u.made) → Drained k (x ∷ es)
-          → (j ≤ place_of x) × (suc k ≤ v.level)
-      by u v x (takes_next slot position d e' lv le there low above t) h dr = (omega (arith, dr, m), omega (arith, dr))
-      by u v x (makes_next c clock why e' lv mine mk) h dr = (let low : j ≤ c.place = (let z = h u.made c mine in grind (arith, z)) in (low, omega (arith, low, l)))
+  ahead j x es a h1 h2 h3 h4 = grind (arith, lead_above, place_of)
 
   -- then the script has no take at this level
   none_due : (es : List Entry) (a : Station) → Tracks p n k s own peer es last a → Drained k es → takes_at k es ≡ []

@@ -1,7 +1,7 @@
 -- Scripts cut after their last make: a run in which no more is handed up than the two lists show.
 use Rattle.std.proofs.Common.{◌≡◌, ◌⊎◌, ℕ, zero, suc, ◌<◌, ◌≤◌, false, List, [], ◌∷◌, length, Some, slice_get, refl, ap, sym, ◌∙◌, arith, inl, inr, ⊎_elim, subst}
 use Rattle.rasta_check.proofs.Prelude.{Side, Client, Server, Packet, Kind, Parameters, SafetyPdu, Entry, Why, EndState, Makes, start_of, FirstCopy, CrossRecorded, World, Reaches}
-use Rattle.rasta_check.proofs.Prelude.{other_side, station_of, end_of, Cursor, Advances, takes_next, makes_next, Leads, at_start, Follows, ConnectionRequest, is_kind, Start}
+use Rattle.rasta_check.proofs.Prelude.{other_side, station_of, end_of, Cursor, Advances, Leads, at_start, Follows, ConnectionRequest, is_kind, Start}
 use Rattle.rasta_check.proofs.Prelude.{units_at, phase_after, after_make_by, NamesOne, pdus_made, pdus_of, all_made, units_along, units_shown, units_taken, position_with}
 use Rattle.rasta_check.proofs.Prelude.{surely_taken, units_handed, units_listed, map_at}
 use Rattle.rasta_check.proofs.Capture.FaultlessLists.{IsSent}
@@ -32,8 +32,7 @@ pub record JustMade (p : Parameters) (own : List FirstCopy) (v : EndState) : Typ
 
 module _ (p : Parameters) (n : ℕ) (own peer : List FirstCopy) where
   done : (u m : Cursor) (x : Entry) → Advances p n own peer u x m → (u.made ≡ m.made) ⊎ JustMade p own m.state
-  done u m x (takes_next slot position c e a b g d f t) = inl refl
-  done u m x (makes_next c clock why e a g k) = inr (record { e = u.state; i = u.made; c = c; clock = clock; why = why; there = g; makes = k })
+  done u m x h1 = grind arith
 
   -- a script without the takes after its last make
   abbrev Cut : Cursor → Cursor → Type 0
@@ -89,8 +88,7 @@ module _ (p : Parameters) (s : Side) (e f : EndState) (t u : ℕ) (own : List Fi
       omega (arith, big, v, hd.count ∙ ap (worth (values f)) a)
 
   pub no_more : (e ≡ start_of p s) ⊎ JustMade p own e → length e.handed ≤ units_taken M (pdus_of own)
-  no_more (inl q) = (let z = ap (λ (x : EndState). length x.handed) q in let y = (start_is p.quiet s).3 in omega arith)
-  no_more (inr m) = shows_by m e.accepted refl
+  no_more h1 = grind (arith, start_is, shows_by)
 
 -- ---- the run
 

@@ -190,8 +190,7 @@ module _ (p : Parameters) (packets : ℕ) (own peer : List FirstCopy) where
 
   answered_on : (side : Side) (entry : ℕ) (u v : Cursor) (x : Entry) (xs : List Entry) (left : List FirstCopy) (z : Consed u v x left) (r : Result EndState Fault)
       → Answered side (suc entry) v xs z.others r → Answered side entry u (x ∷ xs) left r
-  answered_on side entry u v x xs left z (Ok e) w = (let y = z.fits xs z.others w.0 e w.1 in (y.0, rw z.is y.1))
-  answered_on side entry u v x xs left z (Err f) w = fault_after side entry u v x xs left f z w
+  answered_on side entry u v x xs left z r h1 = grind (arith, fault_after)
 
   answered : (side : Side) (entry : ℕ) (u : Cursor) (xs : List Entry) (left : List FirstCopy) → Rests u left → u.made ≤ length own
       → Answered side entry u xs left (follow_from p side packets own peer entry u xs)

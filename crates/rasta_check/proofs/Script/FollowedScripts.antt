@@ -133,7 +133,4 @@ module _ (p : Parameters) (packets : ℕ) (own peer : List FirstCopy) (side : Si
       (λ (fault : Fault). (fault ≡ fault_of_end make_missing f.entry f.side) × ((f.cursor.made == length own) ≡ false))
       → MatchResult result (λ (e : JudgedEnd). (e.params ≡ p) × (follow p side packets own peer es ≡ Ok e.state)) (λ (f : Fault). (follow p side packets own peer es ≡ Err f) ⊎ (f ≡ no_memory))
   unfolding follow_from
-  loop_end f es i (Ok e) l same_p same_s rest h =
-      let all : (f.cursor.made == length own) ≡ true = (let t = h.1 in grind (arith, nat_tests)) in
-      (ap (λ (x : JudgedEnd). x.params) h.0 ∙ same_p, sym rest ∙ rw (drop_all i es l) (rw (all, h.0) refl))
-  loop_end f es i (Err fault) l same_p same_s rest h = inl (sym rest ∙ rw (drop_all i es l) (rw (h.1, h.0, same_s) refl))
+  loop_end f es i result h1 h2 h3 h4 h5 = grind (arith, drop_all)

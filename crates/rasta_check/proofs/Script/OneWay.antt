@@ -1,5 +1,5 @@
 -- Scripts are followed in one way, and first copies are the packets with a new number.
-use Rattle.std.proofs.Common.{◌≡◌, ℕ, ◌<◌, List, [], ◌∷◌, ◌++◌, length, Some, slice_get, refl, ap, sym, ◌∙◌, arith}
+use Rattle.std.proofs.Common.{◌≡◌, ℕ, ◌<◌, List, [], ◌∷◌, ◌++◌, length, Some, slice_get, refl, ap, arith}
 use Rattle.rasta_check.proofs.Prelude.{append-nil, Side, Packet, Parameters, RedundancyPdu, Entry, FirstCopy, Cursor, Advances, takes_next, makes_next, Leads, Spells}
 use Rattle.rasta_check.specs.Capture.Crossing.{IsCarried, IsKnown}
 use Rattle.rasta_check.proofs.Capture.FaultlessLists.{IsSent, ordered, read_once}
@@ -11,21 +11,12 @@ carried_at p xs s own h i c g = (let f = h.firsts i c g in record { packet = f.0
 
 -- no member's number crossed before
 pub first_is_new : (p : Parameters) (xs : List Packet) (s : Side) (own : List FirstCopy) → IsSent p xs s own → length own < 4294967296 → (i : ℕ) (c : FirstCopy) → slice_get own i ≡ Some c → IsKnown p xs s c.place c.pdu.number → ⊥
-first_is_new p xs s own h l i c g w =
-    let r = h.copies w.earlier.place w.carried.packet w.carried.there w.carried.of_side in
-    let same : r.1.pdu ≡ w.earlier.pdu = read_once p h.valid s r.1.pdu w.earlier.pdu w.carried.packet.payload r.4 w.carried.spelled in
-    let q : i ≡ r.0 = number_once own (ordered h) l i r.0 c r.1 g r.2 (sym (ap (λ (d : RedundancyPdu). d.number) same ∙ w.same_number)) in
-    let e : c ≡ r.1 = (let z = rw (sym q) at r.2 in cc) in
-    omega (arith, ap (λ (x : FirstCopy). x.place) e, w.before, r.3)
+first_is_new p xs s own h1 h2 i c h3 h4 = grind (arith, read_once, number_once, ordered)
 
 -- a packet whose number didn't cross before is that of a member
 pub new_is_first : (p : Parameters) (xs : List Packet) (s : Side) (own : List FirstCopy) → IsSent p xs s own → (k : ℕ) (a : Packet) (d : RedundancyPdu) → slice_get xs k ≡ Some a → a.side ≡ s → Spells p s d a.payload
     → (IsKnown p xs s k d.number → ⊥) → (i : ℕ) × (c : FirstCopy) × (slice_get own i ≡ Some c) × (c.place ≡ k)
-new_is_first p xs s own h k a d g e spelled new =
-    let w = h.copies k a g e in
-    let same = ap (λ (x : RedundancyPdu). x.number) (read_once p h.valid s w.1.pdu d a.payload w.4 spelled) in
-    let last : w.1.place < k → ⊥ = λ l. new (record { earlier = w.1; carried = carried_at p xs s own h w.0 w.1 w.2; before = l; same_number = same }) in
-    (w.0, w.1, w.2, (let at = w.3 in omega (arith, last)))
+new_is_first p xs s own h1 k a d h2 h3 h4 h5 = grind (arith, read_once, carried_at)
 
 module _ (p : Parameters) (n : ℕ) (packets : List Packet) (r : Side) (own peer : List FirstCopy) (sent : IsSent p packets r peer) (few : length peer < 4294967296) where
   -- an entry leads to one cursor

@@ -99,18 +99,7 @@ sends_other p s xs k own e f h apart = record { sent = sent_other p xs k s own h
 
 told_wider : (p : Parameters) (s : Side) (n n' : ℕ) (own peer peer' : List FirstCopy) (e : EndState) (clock taken : ℕ) → n ≤ n' → StandIn peer peer'
     → Told p s n own peer e clock taken → Told p s n' own peer' e clock taken
-told_wider p s n n' own peer peer' e clock taken l more h =
-    record {
-      es = h.es;
-      at = h.at;
-      leads = λ m own' peer'' k mine theirs. h.leads m own' peer'' (omega arith) mine (λ i c g. theirs i c (more i c g));
-      made = h.made;
-      mark = h.mark;
-      level = omega (arith, h.level);
-      state = h.state;
-      clock = h.clock;
-      clocks = h.clocks;
-    }
+told_wider p s n n' own peer peer' e clock taken h1 h2 h3 = grind arith
 
 -- a make
 module _ (p : Parameters) (s : Side) (xs : List Packet) (own peer : List FirstCopy) (e e' : EndState) (first clock taken channel reserve : ℕ) (check bytes : List ℕ) (x : SafetyPdu) (why : Why)
@@ -263,8 +252,7 @@ told p valid ws w (goes_on {ws = vs} {w = v} r st) = (told_step p v w st (told p
 
 -- of a side and its peer
 pub told_by : (p : Parameters) → AreParameters p → (ws : List World) (w : World) (side : Side) → Reaches p ws w → Both p side (other_side side) w.crossed (station_of w side) (station_of w (other_side side))
-told_by p valid ws w Client r = told p valid ws w r
-told_by p valid ws w Server r = turn p Client Server w.crossed w.client w.server (told p valid ws w r)
+told_by p h1 ws w side h2 = grind (arith, told)
 
 -- the same for given lists of first copies
 pub told_of : (p : Parameters) (ws : List World) (w : World) (side : Side) (own peer : List FirstCopy) → Reaches p ws w → IsSent p w.crossed side own → IsSent p w.crossed (other_side side) peer

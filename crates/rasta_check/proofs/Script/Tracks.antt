@@ -1,8 +1,8 @@
 -- One side along the packets, as the run of two scripts is built: its script leads on, and it has made what crossed.
-use Rattle.std.proofs.Common.{◌≡◌, ℕ, suc, ◌+◌, ◌-◌, ◌%◌, ◌^◌, ◌<◌, ◌≤◌, List, [], ◌∷◌, ◌++◌, length, Some, slice_get, take, refl, ap, ◌∙◌, arith, add-one}
+use Rattle.std.proofs.Common.{◌≡◌, ℕ, suc, ◌+◌, ◌-◌, ◌%◌, ◌^◌, ◌<◌, ◌≤◌, List, [], ◌∷◌, ◌++◌, length, Some, slice_get, take, ap, ◌∙◌, arith, add-one}
 use Rattle.rasta_check.proofs.Prelude.{slice_get_within, Side, Parameters, Made, wrapped, Packet, Station, first_station, start_of, FirstCopy, Entry, Take, Make, Cursor, Advances}
 use Rattle.rasta_check.proofs.Prelude.{takes_next, makes_next, Leads, at_start}
-use Rattle.rasta_check.proofs.Model.Steps.{base, base_small, start_base, start_made, start_side}
+use Rattle.rasta_check.proofs.Model.Steps.{base}
 use Rattle.rasta_check.proofs.Capture.FaultlessLists.{IsSent}
 use Rattle.rasta_check.proofs.Lists.{take_one_more}
 
@@ -38,23 +38,7 @@ next_number f b m n c e h = omega arith
 -- a packet that is no first copy of this side leaves the station as it is
 pub untouched : (p : Parameters) (n k : ℕ) (s : Side) (own peer : List FirstCopy) (es : List Entry) (last : Cursor) (a : Station) → Tracks p n k s own peer es last a
     → ((i : ℕ) (c : FirstCopy) → slice_get own i ≡ Some c → c.place ≡ k → ⊥) → Tracks p n (suc k) s own peer es last a
-untouched p n k s own peer es last a f no_first =
-    record {
-      level = f.level;
-      made = f.made;
-      taken = f.taken;
-      low = omega (arith, f.low);
-      fits = f.fits;
-      based = f.based;
-      count = f.count;
-      mark = f.mark;
-      clock = f.clock;
-      number = f.number;
-      before = λ i c g v. f.before i c g (let z = no_first i c g in omega (arith, z, v));
-      after = λ i c g v. (let z = f.after i c g v in omega (arith, z));
-      same = f.same;
-      side = f.side;
-    }
+untouched p n k s own peer es last a h1 h2 = grind arith
 
 module _ (p : Parameters) (packets : List Packet) (k : ℕ) (s : Side) (own peer : List FirstCopy) (sent : IsSent p packets s own) (last : Cursor) where
   -- so does a packet of the other side
@@ -84,24 +68,4 @@ wraps_back n b l m = omega arith
 pub first_tracks : (p : Parameters) (packets : List Packet) (sd : Side) (own peer : List FirstCopy) (es : List Entry) (last : Cursor) → IsSent p packets sd own
     → Leads p (length packets) own peer (at_start (start_of p sd)) es last → Tracks p (length packets) 0 sd own peer es last (first_station p sd (first_number_of (base p) own))
 unfolding first_number_of
-first_tracks p packets sd own peer es last sent f =
-    record {
-      level = 0;
-      made = 0;
-      taken = 0;
-      low = omega arith;
-      fits = f;
-      based = start_base p.quiet sd;
-      count = (let z = start_made p.quiet sd in omega (arith, z));
-      mark = (let z = start_base p.quiet sd in omega arith);
-      clock = refl;
-      number = number_is own sent;
-      before = λ i c g v. absurd (omega arith);
-      after = λ i c g v. absurd (omega arith);
-      same = λ i c g v. absurd (omega arith);
-      side = start_side p.quiet sd;
-    }
-  where
-    number_is : (own : List FirstCopy) → IsSent p packets sd own → (c : FirstCopy) → slice_get own 0 ≡ Some c → wrapped (first_number_of (base p) own + base p) ≡ c.pdu.number
-    number_is [] h c g = absurd (cc)
-    number_is (x ∷ xs) h c g = (let q : x ≡ c = cc in let r = h.firsts 0 x refl in wraps_back x.pdu.number (base p) r.3.fits.number (base_small p.quiet) ∙ ap (λ (z : FirstCopy). z.pdu.number) q)
+first_tracks p packets sd own peer es last sent f = grind arith

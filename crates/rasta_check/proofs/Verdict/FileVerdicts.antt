@@ -1,6 +1,6 @@
 -- The verdict on a file, by what crossed.
 use Rattle.std.proofs.Common.{◌≡◌, ℕ, ◌≤◌, List, length, Result, Ok, ap, sym, ◌∙◌, arith, subst}
-use Rattle.rasta_check.proofs.Prelude.{Fault, Side, Client, Server, IsCapture, reading_of-IsCapture, Packet, Parameters, AreParameters, Scripts, FirstCopy, Sent, crossing_list}
+use Rattle.rasta_check.proofs.Prelude.{Fault, Side, IsCapture, reading_of-IsCapture, Packet, Parameters, AreParameters, Scripts, FirstCopy, Sent, crossing_list}
 use Rattle.rasta_check.proofs.Prelude.{Crossing, IsCrossing, crossing_of, Explained, BothFit, report_of}
 use Rattle.rasta_check.specs.Capture.Faults.{CrossedIn}
 use Rattle.rasta_check.specs.Verdict.Report.{Explains, IsFileVerdict, IsScriptVerdict, judged}
@@ -16,8 +16,7 @@ same_params p file k e = (file_by p file k e).3
 -- the verdict on a capture without a fault is that on what crossed in it
 pub verdict_is : (p : Parameters) (file : List ℕ) (k : Crossing) → CrossedIn p file k → (scripts : Scripts) (verdict : Result Explained Fault)
     → IsScriptVerdict p (length k.packets) k.client k.server scripts verdict → IsFileVerdict p file scripts verdict
-verdict_is p file k x scripts verdict g =
-    judged k.client k.server x.capture verdict (rw x.packets at g)
+verdict_is p file k h1 scripts verdict h2 = grind (arith, judged)
 
 module _ (p : Parameters) (file : List ℕ) (k : Crossing) (x : CrossedIn p file k) (h : IsCrossing k) where
   valid : AreParameters p
@@ -53,10 +52,7 @@ module _ (p : Parameters) (file : List ℕ) (k : Crossing) (x : CrossedIn p file
       sent_once p k.packets side own sent (to_record p k.packets side own valid (rw x.params at o)) (to_record p k.packets side sent valid theirs) (omega arith)
 
   pub not_explained : (scripts : Scripts) → (BothFit p (length k.packets) k.client k.server scripts → ⊥) → Explains p file scripts → ⊥
-  not_explained scripts unfit e =
-      let c = same_list Client e.capture.records e.client k.client e.capture.capture e.capture.faultless.sent.client_sent h.sent.client_sent h.sent.few_client in
-      let s = same_list Server e.capture.records e.server k.server e.capture.capture e.capture.faultless.sent.server_sent h.sent.server_sent h.sent.few_server in
-      unfit (rw (sym (ap length (packets_of e.capture.records e.capture.capture)), sym c, sym s) at e.fits)
+  not_explained scripts h1 h2 = grind (arith, same_list, packets_of)
 
   pub headline_is : (report : Explained) (records : List (List ℕ)) → IsCapture p.last_record file records → Headline p k.packets report → Headline p (crossing_list p records) report
   headline_is report records c g = rw (packets_of records c) at g

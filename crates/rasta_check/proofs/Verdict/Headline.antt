@@ -97,9 +97,7 @@ module _ (p : Parameters) (packets : List Packet) (c s : List FirstCopy) (h : Is
   pub verdict_of_ends : (scripts : Scripts) (n : ℕ) (cs ss : List Entry) (a b : EndState) (report : Explained) → length packets ≡ n → cs ≡ scripts.client → ss ≡ scripts.server
       → follow p Client n c s cs ≡ Ok a → follow p Server n s c ss ≡ Ok b
       → report ≡ record { packets = n; client_taken = listed_by b s c; server_taken = listed_by a c s } → verdict_of p n c s scripts ≡ Ok report
-  verdict_of_ends scripts n cs ss a b report count same_c same_s e f says =
-      let l = lists_are cs ss a b (rw (sym count) at e) (rw (sym count) at f) in
-      rw (sym same_c, sym same_s, e, f, says) (sym (λ i. Ok (record { packets = n; client_taken = l.0 i; server_taken = l.1 i })))
+  verdict_of_ends scripts n cs ss a b report h1 h2 h3 h4 h5 h6 = grind (arith, lists_are)
 
   -- ---- the headline
 
