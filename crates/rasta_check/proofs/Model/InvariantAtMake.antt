@@ -4,11 +4,9 @@ use Rattle.rasta_check.proofs.Prelude.{drop, take-append-le, length_push, slice_
 use Rattle.rasta_check.proofs.Prelude.{RetransmissionRequest, RetransmissionResponse, SafetyPdu, is_kind, Parameters, Phase, Closed, Start, Why, MakeRow, Owed}
 use Rattle.rasta_check.proofs.Prelude.{OweConnectionResponse, Made, EndState, after_make_by, phase_after, all_push, get_front}
 use Rattle.rasta_end.specs.MakeRule.{owed_after}
-use Rattle.rasta_check.proofs.Model.SequenceNumbers.{numbered_push}
-use Rattle.rasta_check.proofs.Model.PassedTests.{Passed, un_not, cs_is}
-use Rattle.rasta_check.proofs.Model.MakeRows.{Making, opening, response, first_beat, answer, again, ask, beat, fresh, MadeBy, new_made}
+use Rattle.rasta_check.proofs.Model.NamedPositions.{numbered_push, SnIs_more}
+use Rattle.rasta_check.proofs.Model.MakeRows.{Passed, un_not, cs_is, Making, opening, response, first_beat, answer, again, ask, beat, fresh, MadeBy, new_made}
 use Rattle.rasta_check.proofs.Model.Counts.{owes, tally, number_push, number_take_more, is_answer_owed, is_request_owed, requests_in, answers_in}
-use Rattle.rasta_check.proofs.Model.NamedPositions.{SnIs_more}
 use Rattle.rasta_check.proofs.Model.Invariant.{Held, Opening, Asking, ended, is_response_owed, is_opener, has_peer, is_named, open_bit, bit_most}
 
 -- how a make changes the phase and what is owed: it ends the connection, opens it, or goes on

@@ -1,22 +1,17 @@
 -- Every run keeps what holds.
 use Rattle.std.proofs.Common.{◌≡◌, ℕ, suc, ◌≤◌, false, List, [], ◌∷◌, length, Option, Some, None, slice_get, refl, ap, sym, subst, ◌∙◌, arith, inr}
 use Rattle.rasta_check.proofs.Prelude.{length_push, Side, Client, Server, Packet, Parameters, Quiet, Made, EndState, is_closed, after_make_by, take_fault, start_by, Station, World}
-use Rattle.rasta_check.proofs.Prelude.{Move, Moves, makes, repeats, arrives, takes, waits, station_of, end_of, other_side, Reaches, IsWithin}
+use Rattle.rasta_check.proofs.Prelude.{Move, Moves, makes, repeats, arrives, takes, waits, side_moves, station_of, end_of, other_side, Reaches, begins, goes_on, first_station, IsWithin}
 use Rattle.rasta_pdu.specs.declared.quiet_point.QuietEnd.{QuietEnd}
 use Rattle.rasta_end.specs.Starts.{sn_before, quiet_pdu, quiet_end}
-use Rattle.rasta_check.proofs.Model.PassedTests.{passed}
-use Rattle.rasta_check.proofs.Model.MakeRows.{made_by, after_row, new_made}
+use Rattle.rasta_check.proofs.Model.MakeRows.{passed, made_by, after_row, new_made}
 use Rattle.rasta_check.proofs.Model.TakeRows.{take_made}
 use Rattle.rasta_check.proofs.Model.NamedPositions.{SnIs}
 use Rattle.rasta_check.proofs.Model.Invariant.{Held}
 use Rattle.rasta_check.proofs.Model.InvariantAtMake.{own_make, peer_make}
 use Rattle.rasta_check.proofs.Model.InvariantAtTake.{Taken, own_take}
-use Rattle.rasta_check.proofs.Model.OfferedUnits.{Valued}
-use Rattle.rasta_check.proofs.Model.OfferedUnitsAtMake.{valued_make}
-use Rattle.rasta_check.proofs.Model.OfferedUnitsAtTake.{valued_take}
-use Rattle.rasta_check.proofs.Model.HandedUnits.{Handed, handed_make, handed_peer, handed_take}
-use Rattle.rasta_check.proofs.Model.ShownUnits.{Shown, shown_make, shown_peer_make, shown_take, shown_peer_take}
-use Rattle.rasta_check.proofs.Model.Induction.{always}
+use Rattle.rasta_check.proofs.Model.OfferedUnits.{Valued, valued_make, valued_take}
+use Rattle.rasta_check.proofs.Model.HandedUnits.{Handed, handed_make, handed_peer, handed_take, Shown, shown_make, shown_peer_make, shown_take, shown_peer_take}
 use Rattle.rasta_check.proofs.Model.Steps.{start_base, base_small, grown_make, grown_take}
 
 -- all that holds of an end e that took its peer's PDUs up to position t, and of this peer f
@@ -116,6 +111,23 @@ all_kept p b a a' xs ys move (takes position m after c i s t) g = λ l r. (
       };
     }))
 all_kept p b a a' xs ys move (waits clock i) g = λ l r. (let h = g l r in record { mine = h.mine; theirs = h.theirs })
+
+-- ---- what each step keeps holds in every run
+
+-- of the two stations, whichever stands first
+module _ (p : Parameters) (Good : Station → Station → Type 0)
+    (turned : (a b : Station) → Good a b → Good b a)
+    (first : (m n : ℕ) → Good (first_station p Client m) (first_station p Server n))
+    (kept : (b a a' : Station) (xs ys : List Packet) (move : Move) → Moves p b xs a move a' ys → Good a b → Good a' b) where
+  of_both : (ws : List World) (w : World) → Reaches p ws w → Good w.client w.server
+  of_both ws w (begins m n) = first m n
+  of_both ws w (goes_on {ws = vs} {w = v} r (side_moves {a = a} {after = ys} {move = move} Client m)) = kept v.server v.client a v.crossed ys move m (of_both vs v r)
+  of_both ws w (goes_on {ws = vs} {w = v} r (side_moves {a = a} {after = ys} {move = move} Server m)) = turned a v.client (kept v.client v.server a v.crossed ys move m (turned v.client v.server (of_both vs v r)))
+
+  -- of each side and its peer
+  pub always : (ws : List World) (w : World) (side : Side) → Reaches p ws w → Good (station_of w side) (station_of w (other_side side))
+  always ws w Client r = of_both ws w r
+  always ws w Server r = turned w.client w.server (of_both ws w r)
 
 -- ---- every run
 

@@ -5,8 +5,7 @@ use Rattle.rasta_check.proofs.Prelude.{has_ended, after_make_by, start_by, get_f
 use Rattle.rasta_check.proofs.Model.Counts.{answers_in}
 use Rattle.rasta_check.proofs.Model.ConveyedUnits.{values, values_push, values_asks}
 use Rattle.rasta_check.proofs.Model.TakeRows.{take_by, take_made}
-use Rattle.rasta_check.proofs.Model.PassedTests.{Passed, passed}
-use Rattle.rasta_check.proofs.Model.MakeRows.{MadeBy, made_by, after_row, new_made}
+use Rattle.rasta_check.proofs.Model.MakeRows.{Passed, passed, MadeBy, made_by, after_row, new_made}
 
 -- what of an end stays
 pub record Grown (e e' : EndState) : Type 0 where

@@ -1,5 +1,5 @@
 -- The rows of the take table: what each of them knows, and what a take leaves alone.
-use Rattle.std.proofs.Common.{◌≡◌, ℕ, Bool, true, false, Option, Some, None, refl, arith}
+use Rattle.std.proofs.Common.{◌≡◌, ◌+◌, ◌≤◌, ◌^◌, ℕ, Bool, true, false, Option, Some, None, refl, arith}
 use Rattle.rasta_check.proofs.Prelude.{if◌then◌else◌, Side, Client, Server, Kind, ConnectionRequest, ConnectionResponse, RetransmissionRequest, RetransmissionResponse}
 use Rattle.rasta_check.proofs.Prelude.{DisconnectionRequest, RetransmittedData, SafetyPdu, is_kind, Parameters, Phase, Start, Up, RetrReq, RetrRun, TakeRow, Opened, Answered}
 use Rattle.rasta_check.proofs.Prelude.{FirstHeartbeat, InSequence, ResentInSequence, Gap, GapInRetransmission, Resumed, Requested, RequestedAhead, RequestedAgain, Disconnected}
@@ -93,3 +93,7 @@ take_bare p e x P more none each = take_by p e x P none (λ row away w. by row (
 
 pub take_made : (p : Parameters) (e : EndState) (x : SafetyPdu) → (after_take p e x).made ≡ e.made
 take_made p e x = (let h = take_leaves p e x in h.made)
+
+-- a take raises the last accepted position by less than 2^32
+pub accepted_after : (p : Parameters) (e : EndState) (x : SafetyPdu) → (after_take p e x).accepted ≤ e.accepted + 2 ^ 32
+accepted_after p e x = grind arith

@@ -5,16 +5,14 @@ use Rattle.rasta_check.proofs.Prelude.{other_side, station_of, end_of, Cursor, A
 use Rattle.rasta_check.proofs.Prelude.{units_at, phase_after, after_make_by, NamesOne, pdus_made, pdus_of, all_made, units_along, units_shown, units_taken, position_with}
 use Rattle.rasta_check.proofs.Prelude.{surely_taken, units_handed, units_listed, map_at}
 use Rattle.rasta_check.proofs.Capture.FaultlessLists.{IsSent}
-use Rattle.rasta_check.proofs.Model.PassedTests.{passed, cs_is}
-use Rattle.rasta_check.proofs.Model.MakeRows.{Making, made_by, after_row, opening_is}
+use Rattle.rasta_check.proofs.Model.MakeRows.{passed, cs_is, Making, made_by, after_row, opening_is}
 use Rattle.rasta_check.proofs.Model.Invariant.{Held}
 use Rattle.rasta_check.proofs.Model.ConveyedUnits.{values}
-use Rattle.rasta_check.proofs.Model.ShownUnits.{judged_after}
-use Rattle.rasta_check.proofs.Model.HandedUnits.{Handed, worth, hands_up_units}
+use Rattle.rasta_check.proofs.Model.HandedUnits.{Handed, worth, hands_up_units, judged_after}
 use Rattle.rasta_check.proofs.Model.Requests.{named_position}
 use Rattle.rasta_check.proofs.Theorem.ShowingPdus.{fold_member}
 use Rattle.rasta_check.proofs.Theorem.SentRuns.{known}
-use Rattle.rasta_check.proofs.Theorem.ListedUnits.{of_units, exactly_listed}
+use Rattle.rasta_check.proofs.Theorem.ListedUnits.{exactly_listed}
 use Rattle.rasta_check.proofs.Run.Simulation.{simulated}
 use Rattle.rasta_check.proofs.Model.Steps.{start_is}
 
@@ -102,7 +100,7 @@ exactly p ws w x own peer r sent theirs few few_theirs last =
     let k = known p ws w x own peer r sent theirs few few_theirs in
     let e = end_of w (other_side x) in
     let f = end_of w x in
-    exactly_listed p x e f own peer k.sends.same (of_units e f (hands_up_units e f k.all.mine.values k.all.theirs.handed)) k.taken
+    exactly_listed p x e f own peer k.sends.same (hands_up_units e f k.all.mine.values k.all.theirs.handed) k.taken
     (no_more p (other_side x) e f (station_of w (other_side x)).taken (station_of w x).taken peer (all_made p x own) k.all.theirs.held k.once k.all.theirs.handed k.sends.same k.along last)
 
 pub sharp : (p : Parameters) (packets : List Packet) (c s : List FirstCopy) (cs ss : List Entry) (a b : EndState)

@@ -1,10 +1,16 @@
--- What the PDUs of a sent list show of the units of the other side.
-use Rattle.std.proofs.Common.{◌≡◌, ℕ, zero, suc, ◌≤◌, false, List, [], ◌∷◌, Option, Some, None, slice_get, refl, ap, ◌∙◌, arith}
-use Rattle.rasta_check.proofs.Prelude.{slice_index_or, map, fold, max, slice_get_within, slice_get-get_or, Side, Quiet, SafetyPdu, is_kind, EndState, units_at, start_by}
-use Rattle.rasta_check.proofs.Prelude.{position_with, asked_positions, units_along, units_shown, pdus_made, ConnectionRequest}
+-- What the PDUs of a sent list show of the units of the other side: no more than was handed up.
+use Rattle.std.proofs.Common.{◌≡◌, ℕ, zero, suc, ◌+◌, ◌≤◌, false, List, [], ◌∷◌, ◌++◌, length, Option, Some, None, slice_get, refl, ap, ◌∙◌, arith}
+use Rattle.rasta_check.proofs.Prelude.{slice_index_or, map, fold, max, slice_get_within, slice_get-get_or, Side, Quiet, SafetyPdu, is_kind, Made, EndState, kinds, units_at, start_by}
+use Rattle.rasta_check.proofs.Prelude.{position_with, asked_positions, units_along, units_shown, units_taken, pdus_made, NamesOne, ConnectionRequest, get_past, get_mapped}
+use Rattle.std.proofs.lemmas.List.Elements.{filter-append, filter_map-append}
+use Rattle.std.proofs.lemmas.Simd.{map-map}
+use Rattle.rasta_end.proofs.Conveying.{more_asks}
+use Rattle.rasta_check.proofs.Model.Invariant.{Held}
 use Rattle.rasta_check.proofs.Model.NamedPositions.{SnIs}
-use Rattle.rasta_check.proofs.Model.ConveyedUnits.{values, length-values}
-use Rattle.rasta_check.proofs.Model.Requests.{found_position}
+use Rattle.rasta_check.proofs.Model.ConveyedUnits.{values, length-values, answers_number}
+use Rattle.rasta_check.proofs.Model.OfferedUnits.{Valued}
+use Rattle.rasta_check.proofs.Model.HandedUnits.{Shown, shown_most}
+use Rattle.rasta_check.proofs.Model.Requests.{found_position, in_order}
 
 -- a quiet PDU asks for nothing
 pub quiet_asks : (q : Option Quiet) (s : Side) (own : List SafetyPdu) → asked_positions own (pdus_made (start_by q s).made) ≡ []
@@ -38,3 +44,35 @@ pub fold_member : (f : SafetyPdu → ℕ) (a : ℕ) (xs : List SafetyPdu) (i : �
 fold_member f a [] i x g = absurd (cc)
 fold_member f a (y ∷ xs) zero x g = (let e : y ≡ x = cc in let v = ap f e in let r = fold_from f (max a (f y)) xs in omega arith)
 fold_member f a (y ∷ xs) (suc i) x g = fold_member f (max a (f y)) xs i x g
+
+fold_max_le : (ns : List ℕ) (n a : ℕ) → a ≤ n → ((k m : ℕ) → slice_get ns k ≡ Some m → m ≤ n) → fold max a ns ≤ n
+fold_max_le [] n a h g = h
+fold_max_le (m ∷ ms) n a h g = fold_max_le ms n (max a m) (let z = g 0 m refl in omega (arith, h, z)) (λ k d s. g (suc k) d s)
+
+asked-append : (own xs ys : List SafetyPdu) → asked_positions own (xs ++ ys) ≡ asked_positions own xs ++ asked_positions own ys
+asked-append own xs ys = simp (filter-append, filter_map-append)
+
+-- e made the units, f took them. The list of f may leave out first PDUs that ask for nothing
+module _ (e f : EndState) (t u : ℕ) (h : Held e t f.made) (peer : Held f u e.made) (w : Valued e) (once : NamesOne e f) (first ps : List SafetyPdu)
+    (made : pdus_made f.made ≡ first ++ ps) (none : asked_positions (pdus_made e.made) first ≡ []) where
+  -- the units along a list by all requests of its peer are those by the asks
+  values_agree : units_along (pdus_made e.made) ps ≡ values e
+  values_agree =
+      let b = (in_order e f t u h peer w once).beginning in
+      let all : asked_positions (pdus_made e.made) ps ≡ asked_positions (pdus_made e.made) (pdus_made f.made) = rw (made, asked-append (pdus_made e.made) first ps, none) refl in
+      rw (all, b.1, map-map) (more_asks e.asks b.0 (kinds e.made) (omega (arith, answers_number e.made, h.asks.asked)))
+
+  -- a PDU of f shows no more units than f has handed up
+  shows_handed : Shown f e → (i : ℕ) (x : SafetyPdu) → slice_get ps i ≡ Some x → units_shown (pdus_made e.made) ps x ≤ length f.handed
+  shows_handed s i x g =
+      let m = get_mapped (λ (n : Made). n.pdu) f.made (length first + i) x (ap (λ (xs : List SafetyPdu). slice_get xs (length first + i)) made ∙ (get_past first ps i ∙ g)) in
+      rw m.2 at (shows_most e (pdus_made e.made) ps refl values_agree (length f.handed) m.0.pdu
+      (λ k. shown_most e (length f.handed) f.accepted m.0.pdu.cs once w (λ a. grind (arith, s.ready_offer)) (s.shown (length first + i) m.0 m.1 k)))
+
+  -- the units that the lists show were handed up; and they are counted so
+  pub necessary : Shown f e → (units_along (pdus_made e.made) ps ≡ values e) × (units_taken (pdus_made e.made) ps ≤ length f.handed)
+  necessary s = (
+    values_agree,
+    fold_max_le (map (units_shown (pdus_made e.made) ps) ps) (length f.handed) 0 (omega arith)
+        (λ k n g. (let r = get_mapped (units_shown (pdus_made e.made) ps) ps k n g in let l = shows_handed s k r.0 r.1 in omega (arith, r.2, l))),
+  )

@@ -1,10 +1,10 @@
 use Rattle.std.proofs.Common.{◌≡◌, ℕ, suc, true, false, List, sym, ◌∙◌, arith}
 use Rattle.rasta_check.proofs.Prelude.{SafetyPdu, is_kind, Parameters, Why, Made, EndState, station_of, end_of, other_side, ConnectionRequest}
-use Rattle.rasta_check.proofs.Model.PassedTests.{Passed, passed, cs_is}
-use Rattle.rasta_check.proofs.Model.SequenceNumbers.{numbered_once}
+use Rattle.rasta_check.proofs.Model.MakeRows.{Passed, passed, cs_is}
+use Rattle.rasta_check.proofs.Model.NamedPositions.{numbered_once}
 use Rattle.rasta_check.proofs.Model.Invariant.{Held}
 use Rattle.rasta_check.proofs.Model.InvariantOfRuns.{all_held, few_made}
-use Rattle.rasta_check.proofs.Model.ShownUnits.{judged_after}
+use Rattle.rasta_check.proofs.Model.HandedUnits.{judged_after}
 use Rattle.rasta_check.proofs.laws.confirmed.Goals as goal
 
 -- an end that has accepted something makes no connection request
