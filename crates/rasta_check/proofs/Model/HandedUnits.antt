@@ -5,7 +5,7 @@ use Rattle.rasta_check.proofs.Prelude.{slice_index_or, filter, drop, nat_tests, 
 use Rattle.rasta_check.proofs.Prelude.{RetransmissionRequest, RetransmissionResponse, Data, Parameters, SafetyPdu, messages_in, is_kind, Phase, RetrReq, Why, TakeRow, Opened, Answered}
 use Rattle.rasta_check.proofs.Prelude.{FirstHeartbeat, InSequence, ResentInSequence, Resumed, Requested, RequestedAhead, RequestedAgain, Owed, OweRetransmissionRequest, Made, EndState}
 use Rattle.rasta_check.proofs.Prelude.{is_closed, is_flowing, carries_unit, content_of, after_make_by, position_confirmed, effect, after_take, HandsUpUnits, all_push, get_front}
-use Rattle.rasta_check.proofs.Prelude.{get_push, get_mapped, Side, Kind, MakeRow, Disconnected, is_connected, ConnectionRequest}
+use Rattle.rasta_check.proofs.Prelude.{get_push, get_mapped, Side, Kind, MakeRow, is_connected, ConnectionRequest}
 use Rattle.std.proofs.lemmas.Option.{get_or_from_slice_get}
 use Rattle.std.proofs.Math.Logic.{⊎_map}
 use Rattle.rasta_pdu.specs.Messages.{messages_of}
@@ -52,21 +52,14 @@ abbrev pub Handed : EndState → EndState → Type 0
 Handed e f = HandsOver e.handed e.handed_pdus e.accepted e.last_sn e.phase e.owed e.made f.made (values f)
 
 worth_grown : (vs ws : List ℕ) (a : ℕ) → a ≤ length vs → ((i v : ℕ) → slice_get vs i ≡ Some v → slice_get ws i ≡ Some v) → worth vs a ≡ worth ws a
-worth_grown vs ws zero l g = refl
-worth_grown vs ws (suc i) l g = sym (get_or_from_slice_get ws i (slice_index_or vs i 0) 0 (g i _ (slice_get-get_or vs i 0 l)))
+worth_grown vs ws a l g = grind (arith, get_or_from_slice_get, slice_get-get_or)
 
 pub worth_at : (vs : List ℕ) (a p v : ℕ) → a ≡ suc p → slice_get vs p ≡ Some v → worth vs a ≡ v
 worth_at vs a p v e g = ap (worth vs) e ∙ get_or_from_slice_get vs p v 0 g
 
 -- the peer makes or takes
 pub handed_peer : (e f f' : EndState) → e.accepted ≤ length f.made → Grown f f' → Handed e f → Handed e f'
-handed_peer e f f' l g h =
-    record {
-      count = h.count ∙ worth_grown (values f) (values f') e.accepted (omega (arith, l, length-values f.asks f.made)) g.kept;
-      labels = λ i pos o. (let r = h.labels i pos o in (r.0, g.made pos r.0 r.1, r.2, r.3, r.4));
-      as_many = h.as_many;
-      awaited = h.awaited;
-    }
+handed_peer e f f' l g h = grind (arith, length-values, worth_grown)
 
 -- The end itself makes.
 
@@ -79,11 +72,7 @@ module _ (p : Parameters) (e f : EndState) (x : SafetyPdu) (clock : ℕ) (why : 
   new_ask true c ph d none =
       let here = ap requests_in (take-append_seam e.made (new ∷ [])) in
       (length e.made, new, get_push e.made new, c, (cs_is e x.kind x.cs (grind (arith, c)) pass.cs).1, grind (arith, number_push (is_kind RetransmissionRequest) e.made new, c, here))
-  new_ask false c ph d none =
-      let r = w.awaited ph (sym d ∙ none) in
-      let l = slice_get_within e.made r.0 r.1 r.2 in
-      let same = ap requests_in (take-append-le r.0 e.made (new ∷ []) (omega (arith, l))) in
-      (r.0, r.1, get_front e.made (new ∷ []) r.0 r.1 r.2, r.3, r.4, grind (arith, number_push (is_kind RetransmissionRequest) e.made new, c, same, r.5))
+  new_ask false c ph d none = grind (arith, get_front, number_push, slice_get_within, take-append-le)
 
   await_by : {ph : Phase} {os : List Owed} → Changed e.side e.phase x.kind e.owed ph os → ph ≡ RetrReq → owes is_request_owed os ≡ 0 → LastRequest (e.made ++ new ∷ []) e.last_sn
   await_by (goes_on a c d g j) ph none = new_ask (is_kind RetransmissionRequest x.kind) refl ph d none
@@ -146,8 +135,7 @@ module _ (q : Parameters) (e f : EndState) (t u : ℕ) (m : Made) (p : ℕ) (k :
       let c : slice_get f.asks n ≡ Some ask = slice_get-get_or f.asks n 0 (omega (arith, number_take_all, next, k.theirs.asks.asked)) in
       let named = k.theirs.asks.answered aw.0 aw.1 aw.2 aw.3 ask (subst (λ j. slice_get f.asks j ≡ Some ask) idx c) in
       let mine = k.mine.accepts.last i a in
-      let same = numbered_once f.made k.few_theirs k.theirs.list.numbered ask i named.m mine.m named.there mine.there (named.same ∙ (aw.4 ∙ sym mine.same)) in
-      (vf.returns.jumps p m k.there is_a ask c).1 ∙ ap (slice_get (values f)) same
+      grind (arith, numbered_once)
 
   -- the first PDU is accepted
   first_by : {sn : ℕ} {ph : Phase} {os : List Owed} → (ph ≡ RetrReq → ⊥) → e.accepted ≡ 0 → HandsOver e.handed e.handed_pdus 1 sn ph os e.made f.made (values f)
@@ -173,11 +161,7 @@ module _ (q : Parameters) (e f : EndState) (t u : ℕ) (m : Made) (p : ℕ) (k :
 -- What it handed up, unit by unit.
 
 pub hands_up : (e f : EndState) → Handed e f → HandsUp e f
-hands_up e f w = record {
-  count = grind (arith, w.count);
-  same_count = w.as_many;
-  units = λ i pos g. (let r = w.labels i pos g in (r.0, r.1, r.3, r.4));
-}
+hands_up e f w = grind arith
 
 messages_by_content : (body : SafetyBody) → messages_in body ≡ messages_of (content_of body)
 unfolding messages_of
@@ -247,9 +231,7 @@ module _ (p : Parameters) (e f : EndState) (x : SafetyPdu) (clock : ℕ) (why : 
   shown_make =
       record {
         shown = all_push e.made (new_made b.row e x) w.shown (new_shown e.accepted refl);
-        first_words = λ a c.
-            let r = first_made (changed b.how) a c in
-            all_push e.made _ (λ i m g. absurd (let z = rw r.0 at g in cc)) (ap (is_kind ConnectionRequest) r.1);
+        first_words = grind (arith, all_push, changed, first_made);
         ready_run = w.ready_run;
         ready_offer = w.ready_offer;
       }
@@ -257,13 +239,7 @@ module _ (p : Parameters) (e f : EndState) (x : SafetyPdu) (clock : ℕ) (why : 
 -- The peer makes or takes.
 
 shown_peer : (e f f' : EndState) → Grown f f' → Shown e f → (is_connected f'.phase ≡ true → 0 < e.accepted) → (0 < f'.offered → 0 < e.accepted) → Shown e f'
-shown_peer e f f' g w run offer =
-    record {
-      shown = λ i m there k. ⊎_map (λ z. z) (shows_grown f f' _ _ m.pdu.cs (omega arith) g) (w.shown i m there k);
-      first_words = w.first_words;
-      ready_run = run;
-      ready_offer = offer;
-    }
+shown_peer e f f' g w run offer = grind (arith, shows_grown, ⊎_map)
 
 offers_by : {s : Side} {ph : Phase} {why : Why} {k : Kind} {os : List Owed} {row : MakeRow} (n : ℕ) → Making s ph why k os row → 0 < offered_after row n → (0 < n) ⊎ (is_connected ph ≡ true)
 offers_by n h g = grind arith
@@ -273,17 +249,13 @@ connected_by : {s : Side} {ph ph' : Phase} {k : Kind} {os os' : List Owed} → C
 connected_by h g = grind arith
 
 pub shown_peer_make : (e f : EndState) (x : SafetyPdu) (clock : ℕ) (why : Why) (b : MadeBy f x why) → Grown f (after_make_by (Some b.row) f x clock) → Shown e f → Shown e (after_make_by (Some b.row) f x clock)
-shown_peer_make e f x clock why b grown w =
-    shown_peer e f _ grown w
-    (λ r. w.ready_run (connected_by (changed b.how) r))
-    (λ l. ⊎_elim w.ready_offer w.ready_run (offers_by f.offered b.how l))
+shown_peer_make e f x clock why b grown w = grind (arith, changed, connected_by, offers_by, shown_peer)
 
 -- The end itself takes.
 
 -- a take hands up more, if anything
 handed_more : (q : Parameters) (e : EndState) (x : SafetyPdu) (r : TakeRow) → length e.handed ≤ length (effect q r e x).handed
-handed_more q e x InSequence = grind (arith, length_push e.handed e.accepted)
-handed_more q e x _ = grind (arith, length_push e.handed e.accepted)
+handed_more q e x r = grind (arith, length_push)
 
 -- a take accepts more, if anything
 accepted_more : (q : Parameters) (e : EndState) (x : SafetyPdu) (t : ℕ) (peer : List Made) → Held e t peer → (r : TakeRow) → Knows q r e x → e.accepted ≤ (effect q r e x).accepted
@@ -311,10 +283,7 @@ module _ (q : Parameters) (e f : EndState) (t : ℕ) (m : Made) (p : ℕ) (h : H
   by_name k = omega (arith, (h.accepts.named p m there k).1)
 
   run_by : (r : TakeRow) → Knows q r f m.pdu → is_connected (effect q r f m.pdu).phase ≡ true → 0 < e.accepted
-  run_by Opened x r = absurd (cc)
-  run_by Answered x r = by_name (ap is_named x.2)
-  run_by Disconnected x r = absurd (cc)
-  run_by row x r = by_name (inner q row f m.pdu refl x).1
+  run_by row x r = grind (arith, by_name, inner)
 
   pub shown_peer_take : Shown e (after_take q f m.pdu)
   shown_peer_take =

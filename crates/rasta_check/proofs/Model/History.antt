@@ -1,7 +1,7 @@
 -- What of an end stays along a run, and the worlds of a run.
 use Rattle.std.proofs.Common.{◌≡◌, ℕ, suc, ◌+◌, ◌<◌, ◌≤◌, List, [], ◌∷◌, ◌++◌, length, Some, slice_get, refl, ap, sym, ◌∙◌, arith, ⊎_elim, subst}
 use Rattle.rasta_check.proofs.Prelude.{length_push, slice_get_within, dec_lt, yes, no, Side, Client, Server, Packet, Parameters, AreParameters, Made, EndState, has_ended, start_of}
-use Rattle.rasta_check.proofs.Prelude.{FirstCopy, Station, World, Move, Moves, makes, repeats, takes, side_moves, station_of, end_of, other_side, Reaches, begins, goes_on}
+use Rattle.rasta_check.proofs.Prelude.{FirstCopy, Station, World, Move, Moves, makes, repeats, takes, station_of, end_of, other_side, Reaches, begins, goes_on}
 use Rattle.rasta_check.proofs.Prelude.{IsWithin, Appends, get_push_cases, all_push, get_front, get_front_within, get_push, slice_get_some}
 use Rattle.rasta_check.specs.Model.World.{Step, first_world}
 use Rattle.rasta_check.proofs.Model.TakeRows.{take_made}
@@ -9,7 +9,6 @@ use Rattle.rasta_check.proofs.Model.Steps.{base, made_more, SameHanded, Grown, s
 use Rattle.rasta_check.proofs.Model.Counts.{answers_in}
 use Rattle.rasta_check.proofs.Model.InvariantOfRuns.{all_held}
 use Rattle.rasta_check.proofs.Script.ScriptsOfRuns.{Both, Sends, HadCrossed, all_crossed, turn, told_first, told_step, sends_count, copy_at}
-use Rattle.rasta_check.proofs.Sides.{sided}
 
 both_grown : (a b c : EndState) → Grown a b → Grown b c → Grown a c
 both_grown a b c g h = record { made = λ i m x. h.made i m (g.made i m x); kept = λ i v x. h.kept i v (g.kept i v x); over = λ x. (let e = g.over x in h.over (ap has_ended e ∙ x) ∙ e) }
@@ -33,21 +32,13 @@ end_moves : (p : Parameters) (b a a' : Station) (xs ys : List Packet) {move : Mo
     → (length xs ≤ length ys) × (length ys ≤ suc (length xs)) × EndStep (length ys ≡ suc (length xs)) a.state a'.state
 end_moves p b a a' xs ys (makes x why e' ch res chk bs mk sp rec) =
     let m = made_more p a.state x a.clock why e' mk in
-    let e = ap length m.made in
-    let l = length_push a.state.made m.new in
-    let z = length_push xs (record { channel = ch; side = a.state.side; payload = bs }) in
-    (omega (arith, z), omega (arith, z), record { same = λ h. m.same; longer = omega (arith, e, l); most = omega (arith, e, l); grown = λ h. m.grown })
+    grind (arith, length_push)
 end_moves p b a a' xs ys (repeats place ch old c s rec) = (let z = length_push xs (record old { channel = ch }) in (omega (arith, z), omega (arith, z), stands_still _ a.state))
-end_moves p b a a' xs ys (takes q m e' c i s t) =
-    let l = ap length (take_made p a.state m.pdu) in
-    (omega arith, omega arith, rw t.1 (record { same = λ h. absurd (omega arith); longer = omega (arith, l); most = omega (arith, l); grown = grown_take p a.state m.pdu }))
+end_moves p b a a' xs ys (takes q m e' c i s t) = grind (arith, grown_take, take_made)
 end_moves p b a a' xs ys _ = (omega arith, omega arith, stands_still _ a.state)
 
 pub stepped : (p : Parameters) (v w : World) → Step p v w → Stepped v w
-stepped p v w (side_moves {a = a} {after = ys} Client m) =
-    (let o = end_moves p v.server v.client a v.crossed ys m in record { less = o.0; more = o.1; ends = sided _ o.2 (stands_still _ v.server.state) })
-stepped p v w (side_moves {a = a} {after = ys} Server m) =
-    (let o = end_moves p v.client v.server a v.crossed ys m in record { less = o.0; more = o.1; ends = sided _ (stands_still _ v.client.state) o.2 })
+stepped p v w step = grind (arith, end_moves, stands_still)
 
 -- an earlier world of the run
 pub record After (p : Parameters) (v w : World) (side : Side) (own peer : List FirstCopy) : Type 0 where

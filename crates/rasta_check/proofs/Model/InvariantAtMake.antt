@@ -84,9 +84,7 @@ peer_make f u ms m h =
 module _ (s : Side) (ph : Phase) (ms : List Made) (m : Made) (a : ℕ) (os : List Owed) (open_yet : ended s ph ms ≡ false) (h : Opening s ph ms a os) where
   make_opening : {ph' : Phase} {os' : List Owed} → Changed s ph m.pdu.kind os ph' os' → Opening s ph' (ms ++ m ∷ []) a os'
   make_opening (over d) = grind (arith, push_some ms m)
-  make_opening (opened b c d) =
-      let u = h.unmade c (nothing_made s ph ms b open_yet) in
-      grind (arith, push_some ms m, u, c)
+  make_opening (opened b c d) = grind (arith, nothing_made, push_some)
   make_opening (goes_on on b c d r) = grind (arith, push_some ms m, on, r, h)
 
   asking_push : {ph' : Phase} {os' : List Owed} {qs : List ℕ} {t : ℕ} {peer : List Made} → Asking s ph ms qs os t peer → answers_in (ms ++ m ∷ []) ≤ length qs
@@ -100,15 +98,12 @@ module _ (s : Side) (ph : Phase) (ms : List Made) (m : Made) (a : ℕ) (os : Lis
       asking_push w (grind (arith, number_push, w.asked, d)) (λ v. absurd (let z = over_after s Closed ms m refl in cc)) (grind (arith, number_push, w.open_requests, bit_most ph, d))
   make_asking qs t peer (opened b c d) w =
       let none = nothing_made s ph ms b open_yet in
-      let owed = ap (owes is_request_owed) (h.unmade c none).1 in
-      asking_push w (grind (arith, number_push, w.asked, d)) (λ v. grind (arith, number_push, w.owing open_yet, d)) (grind (arith, number_push, none, owed, d))
+      asking_push w (grind (arith, number_push, w.asked, d)) (λ v. grind (arith, number_push, w.owing open_yet, d)) (grind (arith, number_push, none, d))
   make_asking qs t peer (goes_on on b c d r) w =
       asking_push w (grind (arith, number_push, b, w.owing open_yet)) (λ v. grind (arith, number_push, b, w.owing open_yet)) (grind (arith, number_push, c, w.open_requests))
 
   make_opener : {ph' : Phase} {os' : List Owed} → Changed s ph m.pdu.kind os ph' os' → is_opener m.pdu.kind ≡ true → ms ≡ []
-  make_opener (over d) k = absurd (grind (arith, d))
-  make_opener (opened b c d) k = nothing_made s ph ms b open_yet
-  make_opener (goes_on on b c d r) k = grind (arith, h.response_due, ap (owes is_response_owed) (d k).1)
+  make_opener how k = grind (arith, nothing_made)
 
 -- an end that makes a PDU whose CS names one of the peer's has accepted something
 named_connected : {s : Side} {ph ph' : Phase} {k : Kind} {os os' : List Owed} → Changed s ph k os ph' os' → is_named k ≡ true → has_peer s ph ≡ true

@@ -118,13 +118,7 @@ module _ (q : Parameters) (e f : EndState) (t u : ℕ) (m : Made) (p : ℕ) (k :
 
   -- it is accepted
   noted : (a : ℕ) → a ≡ p → Accepting e.made (suc a) m.pdu.sn (suc p) f.made
-  noted a at =
-      record {
-        reached = omega arith;
-        within = omega (arith, slice_get_within f.made p m k.there);
-        last = λ i g. (let j : i ≡ p = omega (arith, at, g) in rw j here);
-        named = λ i n g b. (let r = k.mine.accepts.named i n g b in (r.0, omega (arith, at, r.1, k.mine.accepts.reached, k.above), r.2));
-      }
+  noted a at = grind (arith, here, slice_get_within)
 
   -- it shows that the end has made something, and the connection runs
   runs : (ph : Phase) (a : ℕ) (os : List Owed) → is_connected ph ≡ true → is_named m.pdu.kind ≡ true → is_valid e m.pdu ≡ true → (i : ℕ) × (a ≡ suc i) → owes is_response_owed os ≡ 0 → Opening e.side ph e.made a os
@@ -178,9 +172,7 @@ module _ (q : Parameters) (e f : EndState) (t u : ℕ) (m : Made) (p : ℕ) (k :
     -- it isn't accepted
     waits : (row : TakeRow) → Knows q row e m.pdu → is_inner row ≡ true → (ph : Phase) (c : ℕ) (os : List Owed) (qs : List ℕ) → is_connected ph ≡ true → c ≤ length e.made
         → owes is_response_owed os ≡ 0 → Asking e.side ph e.made qs os (suc p) f.made → Held (record e { phase = ph; confirmed = c; owed = os; asks = qs }) (suc p) f.made
-    waits row w inside ph c os qs on confirmed none asks =
-        let (peer, nm, vd) = inner q row e m.pdu inside w in
-        holds (runs ph e.accepted os on nm vd (k.mine.opening.connected peer) none) asks skipped confirmed
+    waits row w inside ph c os qs on confirmed none asks = grind (arith, holds, inner, runs, skipped)
 
     -- a request is owed
     gap : (row : TakeRow) → Knows q row e m.pdu → is_inner row ≡ true → open_bit e.phase ≡ 0 → Held (record e { phase = RetrReq; owed = OweRetransmissionRequest ∷ [] }) (suc p) f.made
@@ -192,8 +184,7 @@ module _ (q : Parameters) (e f : EndState) (t u : ℕ) (m : Made) (p : ℕ) (k :
 
     by_row : (row : TakeRow) → Knows q row e m.pdu → Held (bare_effect q row e m.pdu) (suc p) f.made
     by_row Opened w =
-        let d = k.mine.opening.down w.0 in
-        holds (grind (arith, d)) (unasked Start _ refl (omega (arith, ap open_bit w.0, more_answers))) (noted 0 (sym (k.theirs.list.openers p m k.there (ap is_opener w.1)))) k.mine.confirmed
+        holds (grind arith) (unasked Start _ refl (omega (arith, ap open_bit w.0, more_answers))) (noted 0 (sym (k.theirs.list.openers p m k.there (ap is_opener w.1)))) k.mine.confirmed
     by_row Answered w =
         let asks = unasked Up _ refl (omega (arith, ap open_bit w.1, more_answers)) in
         holds (runs Up 1 _ refl (ap is_named w.2) w.3 (0, refl) refl) asks (noted 0 (sym (k.theirs.list.openers p m k.there (ap is_opener w.2)))) (confirms (ap is_named w.2) w.3)

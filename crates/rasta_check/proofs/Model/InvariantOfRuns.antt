@@ -36,25 +36,7 @@ only_at x m i e = grind arith
 quiet_in_run : (side peer : Side) (own other : QuietEnd) → InRun (quiet_end side own other) 1 (quiet_end peer other own)
 quiet_in_run side peer own other =
     let first : SnIs (quiet_end peer other own).made 0 (sn_before other.next_sn) = record { m = record { pdu = quiet_pdu other own; unit = None }; there = refl; same = refl } in
-    let confirms : (i : ℕ) (m : Made) → slice_get (quiet_end side own other).made i ≡ Some m → SnIs (quiet_end peer other own).made 0 m.pdu.cs =
-    λ i m e. (let z = ap (λ (n : Made). n.pdu.cs) (only_at _ m i e).1 in rw (sym z) first) in
-    record {
-      held = record {
-        list = grind (arith, only_at);
-        opening = grind arith;
-        asks = grind arith;
-        accepts = record { reached = omega arith; within = omega arith; last = λ i v. (let z : i ≡ 0 = omega arith in rw z first); named = λ i m e k. (0, omega arith, confirms i m e) };
-        confirmed = omega arith;
-      };
-      values = grind (arith, only_at);
-      handed = grind arith;
-      shown = record {
-        shown = λ i m g k. inr (record { at = 0; units = 0; named = confirms i m g; conveyed = refl; most = omega arith });
-        first_words = grind arith;
-        ready_run = grind arith;
-        ready_offer = grind arith;
-      };
-    }
+    grind arith
 
 -- ---- the steps
 
@@ -74,12 +56,7 @@ all_kept p b a a' xs ys move (makes x why after channel reserve check bytes mk s
     let h = g (omega (arith, l, longer, ap (λ (e : EndState). length e.made) now)) r in
     let grown = grown_make p a.state x a.clock why by ok in
     subst (λ (e : EndState). All (record a { state = e }) b) now (record {
-      mine = record {
-        held = own_make p a.state x a.clock why a.taken b.state.made by ok h.mine.held;
-        values = valued_make p a.state x a.clock why a.taken b.state.made by ok h.mine.held h.mine.values;
-        handed = handed_make p a.state b.state x a.clock why a.taken by ok h.mine.held h.mine.handed;
-        shown = shown_make p a.state b.state x a.clock why a.taken by ok h.mine.held h.mine.handed h.mine.shown;
-      };
+      mine = grind (arith, handed_make, own_make, shown_make, valued_make);
       theirs = record {
         held = peer_make b.state b.taken a.state.made _ h.theirs.held;
         values = h.theirs.values;
@@ -126,8 +103,7 @@ module _ (p : Parameters) (Good : Station → Station → Type 0)
 
   -- of each side and its peer
   pub always : (ws : List World) (w : World) (side : Side) → Reaches p ws w → Good (station_of w side) (station_of w (other_side side))
-  always ws w Client r = of_both ws w r
-  always ws w Server r = turned w.client w.server (of_both ws w r)
+  always ws w side r = grind (arith, of_both)
 
 -- ---- every run
 

@@ -1,5 +1,5 @@
 -- What an allowed make has passed, and the rows of the make table, one by one.
-use Rattle.std.proofs.Common.{◌≡◌, ◌<◌, ℕ, Bool, true, false, List, [], ◌∷◌, Some, refl, ap, sym, arith}
+use Rattle.std.proofs.Common.{◌≡◌, ◌<◌, ℕ, Bool, true, false, List, [], ◌∷◌, Some, ap, sym, arith}
 use Rattle.rasta_check.proofs.Prelude.{Side, Client, Server, Kind, ConnectionRequest, ConnectionResponse, RetransmissionRequest, RetransmissionResponse}
 use Rattle.rasta_check.proofs.Prelude.{DisconnectionRequest, Data, RetransmittedData, SafetyPdu, is_kind, Parameters, Phase, Closed, Start, Up, Why, MakeRow, Owed}
 use Rattle.rasta_check.proofs.Prelude.{OweConnectionResponse, OweRetransmissionResponse, OweResend, OweRetransmissionRequest, Made, EndState, is_connected, row_of, after_make}
@@ -13,7 +13,7 @@ use Rattle.rasta_end.specs.declared.make_row.MakeRow.TheVariants.{Opens, Answers
 use Rattle.rasta_end.specs.declared.owed.Owed.TheVariants.{FirstHeartbeat as OweFirstHeartbeat}
 use Rattle.rasta_end.specs.declared.owed.Demand.{Demand}
 use Rattle.rasta_end.specs.declared.owed.Demand.TheVariants.{First, Nothing, Anything}
-use Rattle.rasta_end.specs.State.{is_active, reason_of}
+use Rattle.rasta_end.specs.State.{is_active}
 use Rattle.rasta_end.specs.MakeRule.{make_row, demand_of, lacks, owes_else, is_refused_row, is_owing_else, unit_of, make_tests, is_next_sn, is_judged, confirms_last, differs, is_expired}
 use Rattle.rasta_end.specs.MakeRule.{is_past, is_early, confirms_a_time}
 
@@ -69,8 +69,7 @@ meets d os h g = grind arith
 -- the row that a test lets through
 row_by : {s : Side} {ph : Phase} {why : Why} {k : Kind} (row : MakeRow) (b : Bool) (os : List Owed) → is_refused_row (then_some b row) os ≡ false → is_owing_else (then_some b row) os ≡ false
     → (b ≡ true → Met (demand_of row) os → Making s ph why k os row) → (r : MakeRow) × (then_some b row ≡ Some r) × Making s ph why k os r
-row_by row false os e f how = absurd (cc)
-row_by row true os e f how = (row, refl, how refl (meets (demand_of row) os e f))
+row_by row b os e f how = grind (arith, meets)
 
 -- the row of a make that is neither refused nor kept back by what is owed
 pub making : (s : Side) (ph : Phase) (reason : ℕ) (why : Why) (k : Kind) (os : List Owed)
@@ -102,9 +101,7 @@ pub record MadeBy (e : EndState) (x : SafetyPdu) (why : Why) : Type 0 where
   pub how : Making e.side e.phase why x.kind e.owed row
 
 pub made_by : (p : Parameters) (e : EndState) (x : SafetyPdu) (clock : ℕ) (why : Why) → Passed p e x clock why → MadeBy e x why
-made_by p e x clock why pass =
-    let m = making e.side e.phase (reason_of x.body) why x.kind e.owed pass.row pass.owed in
-    record { row = m.0; is = m.1; how = m.2 }
+made_by p e x clock why pass = grind (arith, making)
 
 -- the end after a make is that of its row
 pub after_row : (e : EndState) (x : SafetyPdu) (clock : ℕ) (why : Why) (m : MadeBy e x why) → after_make_by (Some m.row) e x clock ≡ after_make e x clock why

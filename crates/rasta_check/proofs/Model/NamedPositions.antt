@@ -44,12 +44,3 @@ pub position_is : (ms : List Made) (i p u v : ℕ) → Numbered ms → length ms
 position_is ms i p u v h b x y l =
     let w : p < length ms = slice_get_within ms p x.m x.there in
     omega (arith, sn_mod ms p u h x, sn_mod ms i v h y)
-
--- a valid SN of a position lies as far after the confirmed one as the position does
-pub valid_at : (ms : List Made) (c j u : ℕ) → Numbered ms → length ms ≤ 1000001 → c ≤ length ms → SnIs ms j u
-    → nat_lt (ahead_by u (sn_at ms c)) (ahead_by (sn_at ms (length ms)) (sn_at ms c)) ≡ true → c + ahead_by u (sn_at ms c) ≡ j
-valid_at [] c j u h b l s v = absurd (let e = s.there in cc)
-valid_at (m ∷ ms) c j u h b l s v =
-    let w : j < length (m ∷ ms) = slice_get_within (m ∷ ms) j s.m s.there in
-    let t : ahead_by u ((m.pdu.sn + c) % 2 ^ 32) < ahead_by ((m.pdu.sn + length (m ∷ ms)) % 2 ^ 32) ((m.pdu.sn + c) % 2 ^ 32) = grind (arith, nat_tests) in
-    omega (arith, sn_mod (m ∷ ms) j u h s, l, w, b, t)

@@ -1,6 +1,6 @@
 -- The units that an end offered: what it owes leads to them, its positions convey them, its PDUs carry them, and makes and takes keep that.
 use Rattle.std.proofs.Common.{◌≡◌, ℕ, zero, suc, ◌+◌, ◌-◌, ◌<◌, ◌≤◌, true, false, List, [], ◌∷◌, ◌++◌, length, Some, slice_get, take, refl, arith, ◌⊎◌, Option, ap, sym, ◌∙◌, inr}
-use Rattle.std.proofs.Common.{⊎_elim, length-append}
+use Rattle.std.proofs.Common.{length-append}
 use Rattle.rasta_check.proofs.Prelude.{slice_index_or, unwrap_or-slice_get, Side, Phase, Owed, OweRetransmissionResponse, OweResend, Made, EndState, kinds, is_connected, carries_unit}
 use Rattle.rasta_check.proofs.Prelude.{content_of, last_of, units_at, contents, resends, is_kind, Data, take-append_seam, take-append-le, append-nil, length_push, slice_get_within}
 use Rattle.rasta_check.proofs.Prelude.{slice_get-get_or, bytes_eq-Decides, Client, Kind, RetransmissionResponse, Parameters, SafetyPdu, Closed, Why, MakeRow, OweRetransmissionRequest}
@@ -12,7 +12,7 @@ use Rattle.rasta_end.specs.TakeRule.{note_ask}
 use Rattle.rasta_check.proofs.Model.Counts.{answers_in, IsAnswer, number_take_all, number_take_at}
 use Rattle.rasta_check.proofs.Model.ConveyedUnits.{is_plain, values, jump, last_push, last_get, values_push, values_asks, length-values, units_next, after_is}
 use Rattle.rasta_check.proofs.Model.Invariant.{ended, Held, is_named}
-use Rattle.rasta_check.proofs.Model.MakeRows.{Passed, Making, opening, again, fresh, MadeBy, new_made}
+use Rattle.rasta_check.proofs.Model.MakeRows.{Passed, Making, opening, MadeBy, new_made}
 use Rattle.rasta_check.proofs.Model.TakeRows.{Knows, bare_effect, take_bare}
 use Rattle.rasta_check.proofs.Model.InvariantAtMake.{over_after, nothing_made}
 use Rattle.rasta_check.proofs.Model.InvariantAtTake.{Taken, mark, no_answers, over_not, is_inner, inner}
@@ -125,9 +125,7 @@ record Adds (ms : List Made) (n : ℕ) (k : Kind) (content : List ℕ) (unit : O
 
 adds : {s : Side} {ph : Phase} {why : Why} {k : Kind} {os : List Owed} {row : MakeRow} (ms : List Made) (n : ℕ) (content : List ℕ)
     → length (contents ms) ≡ n → Making s ph why k os row → differs ms (Some row) content ≡ false → Adds ms n k content (unit_of row n) (offered_after row n)
-adds ms n content l (again {k = j} r) d = record { size = omega arith; number_is = λ z. absurd (cc); has = λ i u. (refl, grind (arith, bytes_eq-Decides, d, u, append-nil (contents ms))) }
-adds ms n content l (fresh r) d = record { size = omega arith; number_is = λ _. refl; has = λ i u. (refl, grind (arith, l, u, get_push (contents ms) content)) }
-adds ms n content l _ d = record { size = omega arith; number_is = λ z. absurd (cc); has = λ i u. absurd (cc) }
+adds ms n content l how d = grind (arith, append-nil, bytes_eq-Decides, get_push)
 
 contents_push : (ms : List Made) (m : Made) → contents (ms ++ m ∷ []) ≡ contents ms ++ added m.pdu.kind (content_of m.pdu.body)
 contents_push [] m = grind arith
@@ -176,13 +174,7 @@ module _ (p : Parameters) (e : EndState) (x : SafetyPdu) (clock : ℕ) (why : Wh
   value_most = grind (arith, step, value_is, last_most (values e) e.offered w.positions.bounded, offered_least b.row e.offered, due_le next after.offered after.owed)
 
   due_after : has_ended after ≡ false → Due (jump after) (last_of (values after)) after.offered after.owed
-  due_after o =
-      ⊎_elim
-      (λ (c : (after.phase ≡ Closed) × (is_plain x.kind ≡ true)). absurd (let z = over_after e.side after.phase e.made new c.0 in cc))
-      (λ (d : DueRest next after.offered after.owed).
-      let l : next ≡ last_of (values after) = sym value_is ∙ sym (ap last_of pushed ∙ last_push (values e) value) in
-      rest_due (jump after) (last_of (values after)) after.offered after.owed (rw l at d))
-      step
+  due_after o = grind (arith, last_push, over_after, pushed, rest_due, step, value_is)
 
   -- The units conveyed through each position.
 

@@ -20,8 +20,7 @@ OnceIn ms = (i j : ℕ) (m n : Made) → slice_get ms i ≡ Some m → slice_get
 -- where an SN names one position it is the one that a CS confirms
 pub named_position : (ms : List Made) (c sn : ℕ) → OnceIn ms → SnIs ms c sn → position_with (pdus_made ms) sn ≡ Some c
 named_position [] c sn once s = absurd (let e = s.there in cc)
-named_position (x ∷ ms) zero sn once s =
-    grind (arith, nat_tests, s.there, s.same)
+named_position (x ∷ ms) zero sn once s = grind arith
 named_position (x ∷ ms) (suc c) sn once s =
     let later = named_position ms c sn (λ i j m n e f g. omega (arith, once (suc i) (suc j) m n e f g)) (record { m = s.m; there = s.there; same = s.same }) in
     grind (arith, nat_tests, later, s.same, once 0 (suc c) x s.m refl s.there)

@@ -58,8 +58,7 @@ pub record LeftAlone (e e' : EndState) : Type 0 where
 
 -- a unit is handed up, another PDU isn't
 pub by_unit : (P : EndState → Type 0) (b : Bool) (i : ℕ) (e : EndState) (x : SafetyPdu) → (b ≡ true → P (hand_up i e x)) → (b ≡ false → P e) → P (if b then hand_up i e x else e)
-by_unit P true i e x h l = h refl
-by_unit P false i e x h l = l refl
+by_unit P b i e x h l = grind arith
 
 pub effect_leaves : (p : Parameters) (row : Option TakeRow) (e : EndState) (x : SafetyPdu) → LeftAlone e (effect_by p row e x)
 effect_leaves p row e x = grind arith

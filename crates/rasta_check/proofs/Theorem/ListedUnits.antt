@@ -1,11 +1,10 @@
 -- The units that two lists show to be taken: their members, their proofs, and that they were handed up, which are the first that were offered.
-use Rattle.std.proofs.Common.{◌≡◌, ℕ, zero, suc, ◌+◌, ◌<◌, ◌≤◌, true, false, List, [], ◌∷◌, ◌++◌, length, Option, Some, slice_get, take, drop, refl, ap, sym, ◌∙◌, arith, append_assoc}
-use Rattle.rasta_check.proofs.Prelude.{map, filter, fold, max, nat_lt, option_map, nat_tests, length-map, map-append, take-append-drop, take-append-le, take_all, dec_lt, yes, no}
+use Rattle.std.proofs.Common.{◌≡◌, ℕ, zero, suc, ◌+◌, ◌<◌, ◌≤◌, true, false, List, [], ◌∷◌, ◌++◌, length, Option, Some, slice_get, take, drop, refl, ap, sym, ◌∙◌, arith}
+use Rattle.rasta_check.proofs.Prelude.{map, filter, fold, max, nat_lt, option_map, nat_tests, length-map, take-append-drop, take-append-le, take_all, dec_lt, yes, no}
 use Rattle.rasta_check.proofs.Prelude.{Side, Quiet, Data, Parameters, SafetyPdu, messages_in, is_kind, Made, EndState, start_by, FirstCopy, pdus_made, pdus_of, all_made}
 use Rattle.rasta_check.proofs.Prelude.{units_shown, units_taken, TakenUnit, units_from, data_copies, surely_taken, HandsUpUnits, units_handed, units_listed, get_front_within}
 use Rattle.rasta_check.proofs.Prelude.{begins_with, get_mapped, map_at, mapped_some}
 use Rattle.std.proofs.lemmas.List.{take-map}
-use Rattle.std.proofs.lemmas.List.Elements.{filter-append}
 use Rattle.rasta_check.specs.Model.Taken.{proof_place}
 use Rattle.rasta_check.specs.Verdict.Headline.{units_offered}
 use Rattle.rasta_check.proofs.Lists.{get_take}
@@ -105,9 +104,7 @@ module _ (p : Parameters) (s : Side) (e f : EndState) (own peer : List FirstCopy
 
   -- a unit that is listed is one of those that were taken
   pub listed_below : (i : ℕ) (u : TakenUnit) → slice_get (surely_taken p s own peer) i ≡ Some u → (i < most) × (u.proof_place ≡ proof_place (all_made p s own) (pdus_of peer) i peer)
-  listed_below i u g =
-      let m = mapped_some _ _ u (sym (unit_at (all_made p s own) peer 0 _ i i (omega arith)) ∙ g) in
-      ((get_take (data_copies own) most i m.0 m.1).0, ap (λ (t : TakenUnit). t.proof_place) (sym m.2))
+  listed_below i u g = grind (arith, get_take, mapped_some, unit_at)
 
   -- where as many were handed up as are taken, each of those is listed
   listed_handed : most ≤ length e.handed → units_listed (surely_taken p s own peer) ≡ take most (units_handed e)

@@ -13,7 +13,7 @@ use Rattle.rasta_check.proofs.Capture.ListForms.{of_record}
 use Rattle.rasta_check.proofs.Model.Steps.{base, start_base, Grown}
 use Rattle.rasta_check.proofs.Model.NamedPositions.{numbered_once, SnIs}
 use Rattle.rasta_check.proofs.Model.Invariant.{Held}
-use Rattle.rasta_check.proofs.Model.ConveyedUnits.{values, length-values}
+use Rattle.rasta_check.proofs.Model.ConveyedUnits.{values}
 use Rattle.rasta_check.proofs.Model.OfferedUnits.{Valued}
 use Rattle.rasta_check.proofs.Model.HandedUnits.{hands_up_units, handed_peer, Shown, shows_grown, shown_most}
 use Rattle.rasta_check.proofs.Model.History.{After, Stepped, history, stepped, joined, appended, made_at}
@@ -51,11 +51,7 @@ made_over s ph (x ∷ ms) i m g h = grind arith
 module _ (e0 f0 e f : EndState) (t : ℕ) (w0 : Shown e0 f0) (w : Shown e f) (g : Held f t e.made) (vf : Valued f) (few : length f.made ≤ 1000001) (ge : Grown e0 e) (gf : Grown f0 f)
     (q : ℕ) (m : Made) (there : slice_get e0.made q ≡ Some m) where
   unheard : is_kind ConnectionRequest m.pdu.kind ≡ false → e0.accepted ≡ 0 → (b : Bool) → is_closed e0.phase ≡ b → f.offered ≡ 0
-  unheard k a true c =
-      let n : e.accepted ≡ 0 = ap (λ (z : EndState). z.accepted) (ge.over (made_over e0.side e0.phase e0.made q m there c)) ∙ a in
-      let none : 0 < f.offered → ⊥ = λ l. (let z = w.ready_offer l in omega arith) in
-      omega (arith, none)
-  unheard k a false c = absurd (let z = w0.first_words a c q m there in cc)
+  unheard k a closed c = grind (arith, made_over)
 
   in_time_at : is_kind ConnectionRequest m.pdu.kind ≡ false → (c v : ℕ) → SnIs f.made c m.pdu.cs → slice_get (values f) c ≡ Some v → v ≤ length e0.handed
   in_time_at k =

@@ -23,15 +23,11 @@ module _ (f : EndState) (own peer : List SafetyPdu) (told : pdus_made f.made ≡
   at_position k None e = omega arith
   at_position k (Some c) e =
       let s = found_position f.made x.cs c (ap (λ (ms : List SafetyPdu). position_with ms x.cs) told ∙ e) in
-      let v = slice_index_or (values f) c 0 in
-      let b = most k c v s (slice_get-get_or (values f) c 0 (omega (arith, slice_get_within f.made c s.m s.there, length-values f.asks f.made))) in
-      omega (arith, b, ap (λ (vs : List ℕ). slice_index_or vs c 0) along)
+      grind (arith, length-values, slice_get-get_or, slice_get_within)
 
   -- a PDU shows at most n units where each position that it confirms conveys at most n
   pub shows_most : units_shown own peer x ≤ n
-  shows_most =
-      let other : is_kind ConnectionRequest x.kind ≡ false → units_at (units_along own peer) (position_with own x.cs) ≤ n = λ k. at_position k (position_with own x.cs) refl in
-      grind arith
+  shows_most = grind (arith, at_position)
 
 -- ---- the most that any of them shows
 
@@ -59,8 +55,7 @@ module _ (e f : EndState) (t u : ℕ) (h : Held e t f.made) (peer : Held f u e.m
   values_agree : units_along (pdus_made e.made) ps ≡ values e
   values_agree =
       let b = (in_order e f t u h peer w once).beginning in
-      let all : asked_positions (pdus_made e.made) ps ≡ asked_positions (pdus_made e.made) (pdus_made f.made) = rw (made, asked-append (pdus_made e.made) first ps, none) refl in
-      rw (all, b.1, map-map) (more_asks e.asks b.0 (kinds e.made) (omega (arith, answers_number e.made, h.asks.asked)))
+      grind (arith, answers_number, asked-append, map-map, more_asks)
 
   -- a PDU of f shows no more units than f has handed up
   shows_handed : Shown f e → (i : ℕ) (x : SafetyPdu) → slice_get ps i ≡ Some x → units_shown (pdus_made e.made) ps x ≤ length f.handed
@@ -71,8 +66,4 @@ module _ (e f : EndState) (t u : ℕ) (h : Held e t f.made) (peer : Held f u e.m
 
   -- the units that the lists show were handed up; and they are counted so
   pub necessary : Shown f e → (units_along (pdus_made e.made) ps ≡ values e) × (units_taken (pdus_made e.made) ps ≤ length f.handed)
-  necessary s = (
-    values_agree,
-    fold_max_le (map (units_shown (pdus_made e.made) ps) ps) (length f.handed) 0 (omega arith)
-        (λ k n g. (let r = get_mapped (units_shown (pdus_made e.made) ps) ps k n g in let l = shows_handed s k r.0 r.1 in omega (arith, r.2, l))),
-  )
+  necessary s = grind (arith, fold_max_le, get_mapped, shows_handed, values_agree)
