@@ -2,25 +2,24 @@
 use Rattle.std.proofs.Common.{◌≡◌, ℕ, zero, suc, ◌+◌, ◌≤◌, Bool, true, false, List, [], ◌∷◌, ◌++◌, length, Some, slice_get, take, refl, ap, sym, ◌∙◌, arith, subst, ◌<◌, ◌⊎◌, inl, inr}
 use Rattle.std.proofs.Common.{⊎_elim}
 use Rattle.rasta_check.proofs.Prelude.{slice_index_or, filter, drop, nat_tests, take-append_seam, take-append-le, length_push, slice_get_within, slice_get-get_or, unwrap_or-slice_get}
-use Rattle.rasta_check.proofs.Prelude.{RetransmissionRequest, RetransmissionResponse, Data, Parameters, SafetyPdu, messages_in, is_kind, Phase, RetrReq, Why, TakeRow, Opened, Answered}
-use Rattle.rasta_check.proofs.Prelude.{FirstHeartbeat, InSequence, ResentInSequence, Resumed, Requested, RequestedAhead, RequestedAgain, Owed, OweRetransmissionRequest, Made, EndState}
-use Rattle.rasta_check.proofs.Prelude.{is_closed, is_flowing, carries_unit, content_of, after_make_by, position_confirmed, effect, after_take, HandsUpUnits, all_push, get_front}
-use Rattle.rasta_check.proofs.Prelude.{get_push, get_mapped, Side, Kind, MakeRow, is_connected, ConnectionRequest}
+use Rattle.rasta_check.proofs.Prelude.{RetransmissionRequest, RetransmissionResponse, Data, Parameters, SafetyPdu, messages_in, is_kind, Phase, RetrReq, Why, TakeRow, FirstHeartbeat}
+use Rattle.rasta_check.proofs.Prelude.{InSequence, ResentInSequence, Resumed, Requested, Owed, Made, EndState, is_closed, is_flowing, carries_unit, content_of, after_make_by, effect}
+use Rattle.rasta_check.proofs.Prelude.{after_take, HandsUpUnits, all_push, get_front, get_push, get_mapped, Kind, is_connected, ConnectionRequest}
 use Rattle.std.proofs.lemmas.Option.{get_or_from_slice_get}
 use Rattle.std.proofs.Math.Logic.{⊎_map}
 use Rattle.rasta_pdu.specs.Messages.{messages_of}
 use Rattle.rasta_pdu.specs.Pdu.{SafetyBody}
-use Rattle.rasta_end.specs.TakeRule.{is_in, steps_past_next, burst}
+use Rattle.rasta_end.specs.TakeRule.{is_in, steps_past_next}
 use Rattle.rasta_check.specs.Model.Laws.{HandsUp}
-use Rattle.rasta_end.specs.MakeRule.{is_judged, offered_after}
-use Rattle.rasta_check.proofs.Model.MakeRows.{Passed, cs_is, MadeBy, new_made, Making}
+use Rattle.rasta_end.specs.MakeRule.{is_judged}
+use Rattle.rasta_check.proofs.Model.MakeRows.{Passed, cs_is, MadeBy, new_made}
 use Rattle.rasta_check.proofs.Model.Steps.{Grown, same_grown}
 use Rattle.rasta_check.proofs.Model.TakeRows.{Knows, by_unit, take_by, effect_leaves, take_leaves}
-use Rattle.rasta_check.proofs.Model.Counts.{owes, tally, number_push, number_take_all, number_take_more, number_take_at, is_request_owed, owes-append, requests_in, answers_in}
-use Rattle.rasta_check.proofs.Model.Counts.{IsRequest, IsAnswer}
+use Rattle.rasta_check.proofs.Model.Counts.{owes, tally, number_push, number_take_all, number_take_more, number_take_at, is_request_owed, owes-append, requests_in, answers_in, IsRequest}
+use Rattle.rasta_check.proofs.Model.Counts.{IsAnswer}
 use Rattle.rasta_check.proofs.Model.NamedPositions.{numbered_once, SnIs, SnIs_more}
-use Rattle.rasta_check.proofs.Model.Invariant.{Held, open_bit, is_named}
-use Rattle.rasta_check.proofs.Model.InvariantAtMake.{Changed, changed, goes_on, over, opened, nothing_made}
+use Rattle.rasta_check.proofs.Model.Invariant.{Held, open_bit}
+use Rattle.rasta_check.proofs.Model.InvariantAtMake.{Changed, changed, goes_on, nothing_made}
 use Rattle.rasta_check.proofs.Model.InvariantAtTake.{Taken, place, is_inner, inner}
 use Rattle.rasta_check.proofs.Model.ConveyedUnits.{values, is_plain, length-values}
 use Rattle.rasta_check.proofs.Model.OfferedUnits.{Valued}
@@ -51,15 +50,12 @@ pub record HandsOver (positions : List ℕ) (pdus : List SafetyPdu) (a sn : ℕ)
 abbrev pub Handed : EndState → EndState → Type 0
 Handed e f = HandsOver e.handed e.handed_pdus e.accepted e.last_sn e.phase e.owed e.made f.made (values f)
 
-worth_grown : (vs ws : List ℕ) (a : ℕ) → a ≤ length vs → ((i v : ℕ) → slice_get vs i ≡ Some v → slice_get ws i ≡ Some v) → worth vs a ≡ worth ws a
-worth_grown vs ws a l g = grind (arith, get_or_from_slice_get, slice_get-get_or)
-
 pub worth_at : (vs : List ℕ) (a p v : ℕ) → a ≡ suc p → slice_get vs p ≡ Some v → worth vs a ≡ v
 worth_at vs a p v e g = ap (worth vs) e ∙ get_or_from_slice_get vs p v 0 g
 
 -- the peer makes or takes
 pub handed_peer : (e f f' : EndState) → e.accepted ≤ length f.made → Grown f f' → Handed e f → Handed e f'
-handed_peer e f f' l g h = grind (arith, length-values, worth_grown)
+handed_peer e f f' l g h = grind (arith, length-values, get_or_from_slice_get, slice_get-get_or)
 
 -- The end itself makes.
 
@@ -105,14 +101,11 @@ module _ (q : Parameters) (e f : EndState) (t u : ℕ) (m : Made) (p : ℕ) (k :
   hands (i, last) b c never =
       let s = in_place b i last in
       let un = vf.positions.units p m k.there c in
-      let lab : slice_get (values f) i ≡ Some un.1 = grind (arith, s, un.2, un.4) in
-      let old : length e.handed ≡ un.1 = w.count ∙ worth_at (values f) e.accepted i un.1 last lab in
       let new = worth_at (values f) _ p (suc un.1) (ap suc (place q e f t u m p k i last)) un.5 in
+      let old : length e.handed ≡ un.1 = grind (arith, s, un, w.count, worth_at) in
       record {
         count = omega (arith, length_push e.handed e.accepted, old, new);
-        labels = all_push e.handed e.accepted
-            (λ j pos g. (let r = w.labels j pos g in (r.0, r.1, r.2, r.3, get_front e.handed_pdus (m.pdu ∷ []) j r.0.pdu r.4)))
-            (m, rw (last ∙ sym s) k.there, c, un.3 ∙ ap Some (sym old), rw (← w.as_many) (get_push e.handed_pdus m.pdu));
+        labels = all_push e.handed e.accepted (grind (arith, w.labels, get_front)) (grind (arith, last, s, k.there, c, un, old, w.as_many, get_push));
         as_many = omega (arith, length_push e.handed_pdus m.pdu, length_push e.handed e.accepted, w.as_many);
         awaited = λ r n. absurd (never r);
       }
@@ -137,13 +130,7 @@ module _ (q : Parameters) (e f : EndState) (t u : ℕ) (m : Made) (p : ℕ) (k :
       let mine = k.mine.accepts.last i a in
       grind (arith, numbered_once)
 
-  -- the first PDU is accepted
-  first_by : {sn : ℕ} {ph : Phase} {os : List Owed} → (ph ≡ RetrReq → ⊥) → e.accepted ≡ 0 → HandsOver e.handed e.handed_pdus 1 sn ph os e.made f.made (values f)
-  first_by never z = keeps (vf.positions.zeroth ∙ sym (ap (worth (values f)) z)) (λ r n. never r)
-
   h_row : e.owed ≡ [] → (r : TakeRow) → Knows q r e m.pdu → Handed (effect q r e m.pdu) f
-  h_row free Opened x = first_by (λ r. cc (r)) (k.mine.opening.down x.0).2
-  h_row free Answered x = first_by (λ r. cc (r)) (k.mine.opening.starting x.0 x.1)
   h_row free FirstHeartbeat x = plain (last_place FirstHeartbeat x refl) x.4 (ap is_plain x.2) (λ r. cc (r))
   h_row free InSequence x =
       by_unit (λ e'. Handed e' f) (carries_unit m.pdu.kind) e.accepted _ m.pdu (λ c. hands (last_place InSequence x refl) x.3 c (λ r. cc (r))) (λ c. plain (last_place InSequence x refl) x.3 (grind (arith, x.1, c)) (λ r. cc (r)))
@@ -151,9 +138,7 @@ module _ (q : Parameters) (e f : EndState) (t u : ℕ) (m : Made) (p : ℕ) (k :
       by_unit (λ e'. Handed e' f) (carries_unit m.pdu.kind) e.accepted _ m.pdu (λ c. hands (last_place ResentInSequence x refl) x.3 c (λ r. cc (x.0, r))) (λ c. absurd (let unit = ap carries_unit x.1 in cc))
   h_row free Resumed x = (let a = last_place Resumed x refl in keeps (same_worth a.0 a.1 (resumed x.0 free x.1 a.0 a.1)) (λ r n. cc (r)))
   h_row free Requested x = plain (last_place Requested x refl) x.3 (ap is_plain x.1) (λ r. (let z = ap is_flowing r in cc))
-  h_row free RequestedAhead x = keeps refl (λ r n. (let a = owes-append is_request_owed (burst e (position_confirmed e m.pdu)) (OweRetransmissionRequest ∷ []) in omega arith))
-  h_row free RequestedAgain x = record { count = w.count; labels = w.labels; as_many = w.as_many; awaited = λ r n. w.awaited x.0 (ap (owes is_request_owed) free) }
-  h_row free _ x = keeps refl (λ r n. cc)
+  h_row free _ x = grind (arith, w, owes-append, vf.positions.zeroth, k.mine.opening.down, k.mine.opening.starting)
 
   pub handed_take : (is_closed e.phase ≡ false → e.owed ≡ []) → Handed (after_take q e m.pdu) f
   handed_take free = take_by q e m.pdu (λ e'. Handed e' f) w (λ r away x. h_row (free away) r x)
@@ -221,17 +206,11 @@ module _ (p : Parameters) (e f : EndState) (x : SafetyPdu) (clock : ℕ) (why : 
       let cs = (cs_is e x.kind x.cs (judged_after e x.kind i a k) pass.cs).1 in
       inr (record { at = i; units = _; named = record { m = l.m; there = l.there; same = l.same ∙ sym cs }; conveyed = v; most = omega (arith, hd.count, worth_at (values f) e.accepted i _ a v) })
 
-  -- an end that has accepted nothing and isn't over after the make has made a connection request, the first PDU
-  first_made : {ph : Phase} {os : List Owed} → Changed e.side e.phase x.kind e.owed ph os → e.accepted ≡ 0 → is_closed ph ≡ false → (e.made ≡ []) × (x.kind ≡ ConnectionRequest)
-  first_made (over d) z cl = absurd (cc)
-  first_made (opened a s c) z cl = (nothing_made e.side e.phase e.made a pass.open_yet, c)
-  first_made (goes_on a c d g j) z cl = absurd (omega (arith, z, (h.opening.connected a).1))
-
   pub shown_make : Shown (after_make_by (Some b.row) e x clock) f
   shown_make =
       record {
         shown = all_push e.made (new_made b.row e x) w.shown (new_shown e.accepted refl);
-        first_words = grind (arith, all_push, changed, first_made);
+        first_words = grind (arith, all_push, changed, nothing_made, h.opening.connected);
         ready_run = w.ready_run;
         ready_offer = w.ready_offer;
       }
@@ -241,15 +220,8 @@ module _ (p : Parameters) (e f : EndState) (x : SafetyPdu) (clock : ℕ) (why : 
 shown_peer : (e f f' : EndState) → Grown f f' → Shown e f → (is_connected f'.phase ≡ true → 0 < e.accepted) → (0 < f'.offered → 0 < e.accepted) → Shown e f'
 shown_peer e f f' g w run offer = grind (arith, shows_grown, ⊎_map)
 
-offers_by : {s : Side} {ph : Phase} {why : Why} {k : Kind} {os : List Owed} {row : MakeRow} (n : ℕ) → Making s ph why k os row → 0 < offered_after row n → (0 < n) ⊎ (is_connected ph ≡ true)
-offers_by n h g = grind arith
-
--- a make connects no end
-connected_by : {s : Side} {ph ph' : Phase} {k : Kind} {os os' : List Owed} → Changed s ph k os ph' os' → is_connected ph' ≡ true → is_connected ph ≡ true
-connected_by h g = grind arith
-
 pub shown_peer_make : (e f : EndState) (x : SafetyPdu) (clock : ℕ) (why : Why) (b : MadeBy f x why) → Grown f (after_make_by (Some b.row) f x clock) → Shown e f → Shown e (after_make_by (Some b.row) f x clock)
-shown_peer_make e f x clock why b grown w = grind (arith, changed, connected_by, offers_by, shown_peer)
+shown_peer_make e f x clock why b grown w = grind (arith, shown_peer)
 
 -- The end itself takes.
 
@@ -279,14 +251,8 @@ shown_take q e f x t h w = take_by q e x (λ e'. Shown e' f) w
 -- The peer takes a PDU of the end.
 
 module _ (q : Parameters) (e f : EndState) (t : ℕ) (m : Made) (p : ℕ) (h : Held e t f.made) (there : slice_get e.made p ≡ Some m) (grown : Grown f (after_take q f m.pdu)) (w : Shown e f) where
-  by_name : is_named m.pdu.kind ≡ true → 0 < e.accepted
-  by_name k = omega (arith, (h.accepts.named p m there k).1)
-
-  run_by : (r : TakeRow) → Knows q r f m.pdu → is_connected (effect q r f m.pdu).phase ≡ true → 0 < e.accepted
-  run_by row x r = grind (arith, by_name, inner)
-
   pub shown_peer_take : Shown e (after_take q f m.pdu)
   shown_peer_take =
       shown_peer e f _ grown w
-      (take_by q f m.pdu (λ f'. is_connected f'.phase ≡ true → 0 < e.accepted) w.ready_run (λ r away x. run_by r x))
+      (take_by q f m.pdu (λ f'. is_connected f'.phase ≡ true → 0 < e.accepted) w.ready_run (λ r away x. grind (arith, inner q r f m.pdu, h.accepts.named p m there)))
       (λ l. w.ready_offer (omega (arith, (take_leaves q f m.pdu).offered, l)))

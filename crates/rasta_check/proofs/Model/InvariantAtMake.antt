@@ -1,8 +1,8 @@
 -- A make keeps what holds, at both ends.
 use Rattle.std.proofs.Common.{◌≡◌, ℕ, ◌+◌, ◌≤◌, true, false, List, [], ◌∷◌, ◌++◌, length, Some, take, refl, ap, sym, ◌∙◌, arith}
 use Rattle.rasta_check.proofs.Prelude.{drop, take-append-le, length_push, slice_get_within, slice_get_past, Side, Client, Kind, ConnectionRequest, DisconnectionRequest}
-use Rattle.rasta_check.proofs.Prelude.{RetransmissionRequest, RetransmissionResponse, SafetyPdu, is_kind, Parameters, Phase, Closed, Start, Why, MakeRow, Owed}
-use Rattle.rasta_check.proofs.Prelude.{OweConnectionResponse, Made, EndState, after_make_by, phase_after, all_push, get_front}
+use Rattle.rasta_check.proofs.Prelude.{RetransmissionRequest, RetransmissionResponse, SafetyPdu, is_kind, Parameters, Phase, Closed, Start, Why, MakeRow, Owed, OweConnectionResponse}
+use Rattle.rasta_check.proofs.Prelude.{Made, EndState, after_make_by, phase_after, all_push, get_front}
 use Rattle.rasta_end.specs.MakeRule.{owed_after}
 use Rattle.rasta_check.proofs.Model.NamedPositions.{numbered_push, SnIs_more}
 use Rattle.rasta_check.proofs.Model.MakeRows.{Passed, un_not, cs_is, Making, opening, response, first_beat, answer, again, ask, beat, fresh, MadeBy, new_made}
@@ -63,10 +63,7 @@ peer_make f u ms m h =
         owing = old.owing;
         answered = all_push ms m
             (λ p n g k c a. (let l = slice_get_within ms p n g in old.answered p n g k c (rw (take-append-le p ms (m ∷ []) (omega (arith, l))) at a)))
-            (λ k c a.
-            let all = number_take_more (is_kind RetransmissionRequest) ms u (length ms) h.accepts.within in
-            let past = slice_get_past f.asks (requests_in (take (length ms) ms)) (omega (arith, all, old.asks_taken)) in
-            absurd (let z = rw (take-append-le (length ms) ms (m ∷ []) (omega arith)) at a in cc));
+            (grind (arith, number_take_more (is_kind RetransmissionRequest) ms u (length ms), slice_get_past, take-append-le (length ms) ms (m ∷ [])));
         asks_taken = omega (arith, ap requests_in taken, old.asks_taken);
         open_requests = omega (arith, ap answers_in taken, old.open_requests);
       };
@@ -102,9 +99,6 @@ module _ (s : Side) (ph : Phase) (ms : List Made) (m : Made) (a : ℕ) (os : Lis
   make_asking qs t peer (goes_on on b c d r) w =
       asking_push w (grind (arith, number_push, b, w.owing open_yet)) (λ v. grind (arith, number_push, b, w.owing open_yet)) (grind (arith, number_push, c, w.open_requests))
 
-  make_opener : {ph' : Phase} {os' : List Owed} → Changed s ph m.pdu.kind os ph' os' → is_opener m.pdu.kind ≡ true → ms ≡ []
-  make_opener how k = grind (arith, nothing_made)
-
 -- an end that makes a PDU whose CS names one of the peer's has accepted something
 named_connected : {s : Side} {ph ph' : Phase} {k : Kind} {os os' : List Owed} → Changed s ph k os ph' os' → is_named k ≡ true → has_peer s ph ≡ true
 named_connected h g = grind arith
@@ -118,7 +112,7 @@ own_make p e x clock why t peer by pass h =
     record {
       list = record {
         numbered = numbered_push e.made n h.list.numbered (un_not _ pass.sn);
-        openers = all_push e.made n h.list.openers (λ k. ap length (make_opener e.side e.phase e.made n e.accepted e.owed pass.open_yet h.opening how k));
+        openers = all_push e.made n h.list.openers (grind (arith, how, nothing_made, h.opening));
       };
       opening = make_opening e.side e.phase e.made n e.accepted e.owed pass.open_yet h.opening how;
       asks = make_asking e.side e.phase e.made n e.accepted e.owed pass.open_yet h.opening e.asks t peer how h.asks;

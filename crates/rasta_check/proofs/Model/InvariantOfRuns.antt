@@ -1,7 +1,7 @@
 -- Every run keeps what holds.
-use Rattle.std.proofs.Common.{◌≡◌, ℕ, suc, ◌≤◌, false, List, [], ◌∷◌, length, Option, Some, None, slice_get, refl, ap, sym, subst, ◌∙◌, arith, inr}
-use Rattle.rasta_check.proofs.Prelude.{length_push, Side, Client, Server, Packet, Parameters, Quiet, Made, EndState, is_closed, after_make_by, take_fault, start_by, Station, World}
-use Rattle.rasta_check.proofs.Prelude.{Move, Moves, makes, repeats, arrives, takes, waits, side_moves, station_of, end_of, other_side, Reaches, begins, goes_on, first_station, IsWithin}
+use Rattle.std.proofs.Common.{◌≡◌, ℕ, suc, ◌≤◌, false, List, [], length, Option, Some, None, refl, ap, sym, subst, ◌∙◌, arith}
+use Rattle.rasta_check.proofs.Prelude.{length_push, Side, Client, Server, Packet, Parameters, Quiet, EndState, is_closed, after_make_by, take_fault, start_by, Station, World, Move}
+use Rattle.rasta_check.proofs.Prelude.{Moves, makes, takes, side_moves, station_of, end_of, other_side, Reaches, begins, goes_on, first_station, IsWithin}
 use Rattle.rasta_pdu.specs.declared.quiet_point.QuietEnd.{QuietEnd}
 use Rattle.rasta_end.specs.Starts.{sn_before, quiet_pdu, quiet_end}
 use Rattle.rasta_check.proofs.Model.MakeRows.{passed, made_by, after_row, new_made}
@@ -27,10 +27,6 @@ pub record All (a b : Station) : Type 0 where
   pub theirs : InRun b.state b.taken a.state
 
 -- ---- the start: a fresh end, or one at a quiet point
-
--- the only one of a list of one
-only_at : (x m : Made) (i : ℕ) → slice_get (x ∷ []) i ≡ Some m → (i ≡ 0) × (x ≡ m)
-only_at x m i e = grind arith
 
 -- each quiet PDU confirms the other
 quiet_in_run : (side peer : Side) (own other : QuietEnd) → InRun (quiet_end side own other) 1 (quiet_end peer other own)
@@ -64,8 +60,6 @@ all_kept p b a a' xs ys move (makes x why after channel reserve check bytes mk s
         shown = shown_peer_make b.state a.state x a.clock why by grown h.theirs.shown;
       };
     }))
-all_kept p b a a' xs ys move (repeats place channel old there s rec) g = g
-all_kept p b a a' xs ys move (arrives position i j) g = λ l r. (let h = g l r in record { mine = h.mine; theirs = h.theirs })
 all_kept p b a a' xs ys move (takes position m after c i s t) g = λ l r. (
     let same : after.made ≡ a.state.made = ap (λ (e : EndState). e.made) t.1 ∙ take_made p a.state m.pdu in
     let few : length a.state.made ≤ 1000001 = rw same at l in
@@ -87,7 +81,7 @@ all_kept p b a a' xs ys move (takes position m after c i s t) g = λ l r. (
         shown = shown_peer_take p b.state a.state b.taken m position h.theirs.held s grown h.theirs.shown;
       };
     }))
-all_kept p b a a' xs ys move (waits clock i) g = λ l r. (let h = g l r in record { mine = h.mine; theirs = h.theirs })
+all_kept p b a a' xs ys move _ g = λ l r. (let h = g l r in record { mine = h.mine; theirs = h.theirs })
 
 -- ---- what each step keeps holds in every run
 
@@ -108,8 +102,7 @@ module _ (p : Parameters) (Good : Station → Station → Type 0)
 -- ---- every run
 
 first_in_run : (quiet : Option Quiet) (side : Side) → InRun (start_by quiet side) (start_by quiet side).base (start_by quiet (other_side side))
-first_in_run None Client = grind arith
-first_in_run None Server = grind arith
+first_in_run None side = grind arith
 first_in_run (Some q) Client = quiet_in_run Client Server q.client q.server
 first_in_run (Some q) Server = quiet_in_run Server Client q.server q.client
 
@@ -117,10 +110,7 @@ first_in_run (Some q) Server = quiet_in_run Server Client q.server q.client
 pub few_made : (p : Parameters) (w : World) → IsWithin p w → (side : Side) → length (end_of w side).made ≤ 1000001
 few_made p w within side = omega (arith, within side, start_base p.quiet side, base_small p.quiet)
 
-turned : (a b : Station) → Whole a b → Whole b a
-turned a b g l m = (let h = g m l in record { mine = h.theirs; theirs = h.mine })
-
 pub all_held : (p : Parameters) (ws : List World) (w : World) (side : Side) → Reaches p ws w → IsWithin p w → All (station_of w side) (station_of w (other_side side))
 all_held p ws w side r within =
-    always p Whole turned (λ m n l k. record { mine = first_in_run p.quiet Client; theirs = first_in_run p.quiet Server }) (all_kept p) ws w side r
-    (few_made p w within side) (few_made p w within (other_side side))
+    always p Whole (λ a b g l m. (let h = g m l in record { mine = h.theirs; theirs = h.mine }))
+    (λ m n l k. record { mine = first_in_run p.quiet Client; theirs = first_in_run p.quiet Server }) (all_kept p) ws w side r (few_made p w within side) (few_made p w within (other_side side))

@@ -1,9 +1,9 @@
 -- What an allowed make has passed, and the rows of the make table, one by one.
 use Rattle.std.proofs.Common.{◌≡◌, ◌<◌, ℕ, Bool, true, false, List, [], ◌∷◌, Some, ap, sym, arith}
-use Rattle.rasta_check.proofs.Prelude.{Side, Client, Server, Kind, ConnectionRequest, ConnectionResponse, RetransmissionRequest, RetransmissionResponse}
-use Rattle.rasta_check.proofs.Prelude.{DisconnectionRequest, Data, RetransmittedData, SafetyPdu, is_kind, Parameters, Phase, Closed, Start, Up, Why, MakeRow, Owed}
-use Rattle.rasta_check.proofs.Prelude.{OweConnectionResponse, OweRetransmissionResponse, OweResend, OweRetransmissionRequest, Made, EndState, is_connected, row_of, after_make}
-use Rattle.rasta_check.proofs.Prelude.{after_make_by, not, ◌&&◌, ◌==◌, nat_lt, nat_tests, content_of, wrapped, has_ended}
+use Rattle.rasta_check.proofs.Prelude.{Side, Client, Server, Kind, ConnectionRequest, ConnectionResponse, RetransmissionRequest, RetransmissionResponse, DisconnectionRequest, Data}
+use Rattle.rasta_check.proofs.Prelude.{RetransmittedData, SafetyPdu, Parameters, Phase, Closed, Start, Up, Why, MakeRow, Owed, OweConnectionResponse, OweRetransmissionResponse}
+use Rattle.rasta_check.proofs.Prelude.{OweResend, OweRetransmissionRequest, Made, EndState, is_connected, row_of, after_make, after_make_by, not, ◌&&◌, ◌==◌, nat_lt, nat_tests}
+use Rattle.rasta_check.proofs.Prelude.{content_of, wrapped, has_ended}
 use Rattle.std.specs.Prelude.{All, IsFalse}
 use Rattle.std.proofs.lemmas.Bool.{and_parts}
 use Rattle.std.specs.Bool.{then_some}
@@ -87,10 +87,6 @@ making s ph reason Fresh Data os e f = row_by Offers _ os e f (λ b m. rw m (fre
 making s ph reason Bye DisconnectionRequest os e f = row_by Leaves _ os e f (λ b m. bye (and_parts _ _ b).0)
 making s ph reason Expired DisconnectionRequest os e f = row_by TimesOut _ os e f (λ b m. expired (and_parts _ _ b).0)
 making s ph reason _ _ os e f = absurd (cc)
-
--- a connection request is made by a closed client
-pub opening_is : {s : Side} {ph : Phase} {why : Why} {k : Kind} {os : List Owed} {row : MakeRow} → Making s ph why k os row → is_kind ConnectionRequest k ≡ true → (s ≡ Client) × (ph ≡ Closed) × (row ≡ Opens)
-opening_is h g = grind arith
 
 -- ---- the row of a make
 

@@ -1,6 +1,6 @@
 -- SNs rise by one, so an SN names one position; which position an SN and a CS name.
 use Rattle.std.proofs.Common.{◌≡◌, ℕ, suc, ◌+◌, ◌%◌, ◌^◌, ◌<◌, ◌≤◌, true, List, [], ◌∷◌, ◌++◌, length, Some, slice_get, ap, sym, ◌∙◌, arith}
-use Rattle.rasta_check.proofs.Prelude.{nat_lt, nat_tests, slice_get_within, Made, first_sn, all_push}
+use Rattle.rasta_check.proofs.Prelude.{nat_tests, slice_get_within, Made, first_sn, all_push}
 use Rattle.rasta_end.specs.State.{ahead_by, sn_at}
 use Rattle.rasta_end.specs.MakeRule.{is_next_sn}
 

@@ -1,21 +1,21 @@
 -- The units that an end offered: what it owes leads to them, its positions convey them, its PDUs carry them, and makes and takes keep that.
-use Rattle.std.proofs.Common.{◌≡◌, ℕ, zero, suc, ◌+◌, ◌-◌, ◌<◌, ◌≤◌, true, false, List, [], ◌∷◌, ◌++◌, length, Some, slice_get, take, refl, arith, ◌⊎◌, Option, ap, sym, ◌∙◌, inr}
+use Rattle.std.proofs.Common.{◌≡◌, ℕ, zero, suc, ◌+◌, ◌-◌, ◌<◌, ◌≤◌, true, false, List, [], ◌∷◌, ◌++◌, length, Some, slice_get, take, refl, arith, ◌⊎◌, Option, sym, ◌∙◌, inr}
 use Rattle.std.proofs.Common.{length-append}
 use Rattle.rasta_check.proofs.Prelude.{slice_index_or, unwrap_or-slice_get, Side, Phase, Owed, OweRetransmissionResponse, OweResend, Made, EndState, kinds, is_connected, carries_unit}
 use Rattle.rasta_check.proofs.Prelude.{content_of, last_of, units_at, contents, resends, is_kind, Data, take-append_seam, take-append-le, append-nil, length_push, slice_get_within}
 use Rattle.rasta_check.proofs.Prelude.{slice_get-get_or, bytes_eq-Decides, Client, Kind, RetransmissionResponse, Parameters, SafetyPdu, Closed, Why, MakeRow, OweRetransmissionRequest}
-use Rattle.rasta_check.proofs.Prelude.{TakeRow, Opened, Answered, Gap, GapInRetransmission, Requested, RequestedAhead, RequestedAgain, Disconnected, is_closed, has_ended, is_valid}
-use Rattle.rasta_check.proofs.Prelude.{position_confirmed, phase_after, after_make_by, after_take, all_push, get_front, get_front_within, get_push}
+use Rattle.rasta_check.proofs.Prelude.{TakeRow, Requested, RequestedAhead, RequestedAgain, is_closed, position_confirmed, phase_after, after_make_by, after_take, all_push, get_front}
+use Rattle.rasta_check.proofs.Prelude.{get_front_within, get_push}
 use Rattle.rasta_end.specs.Units.{all_units_conveyed, units_after, units_conveyed}
 use Rattle.rasta_end.specs.MakeRule.{differs, unit_of, owed_after, offered_after}
 use Rattle.rasta_end.specs.TakeRule.{note_ask}
 use Rattle.rasta_check.proofs.Model.Counts.{answers_in, IsAnswer, number_take_all, number_take_at}
 use Rattle.rasta_check.proofs.Model.ConveyedUnits.{is_plain, values, jump, last_push, last_get, values_push, values_asks, length-values, units_next, after_is}
-use Rattle.rasta_check.proofs.Model.Invariant.{ended, Held, is_named}
+use Rattle.rasta_check.proofs.Model.Invariant.{ended, Held}
 use Rattle.rasta_check.proofs.Model.MakeRows.{Passed, Making, opening, MadeBy, new_made}
 use Rattle.rasta_check.proofs.Model.TakeRows.{Knows, bare_effect, take_bare}
 use Rattle.rasta_check.proofs.Model.InvariantAtMake.{over_after, nothing_made}
-use Rattle.rasta_check.proofs.Model.InvariantAtTake.{Taken, mark, no_answers, over_not, is_inner, inner}
+use Rattle.rasta_check.proofs.Model.InvariantAtTake.{Taken, mark, no_answers, is_inner, inner}
 
 -- from v units conveyed, what is owed leads to n
 abbrev pub DueRest : ℕ → ℕ → List Owed → Type 0
@@ -78,13 +78,10 @@ pub due_le : (v n : ℕ) (os : List Owed) → DueRest v n os → v ≤ n
 due_le v n [] h = omega arith
 due_le v n (o ∷ os) h = grind (arith, h, due_le v n os, due_le (suc v) n os)
 
+-- what a retransmission burst owes leads to the units offered
 resends_due_at : (u d n : ℕ) (tail : List Owed) → u + d ≡ n → DueRest n n tail → DueRest u n (resends u d ++ tail)
 resends_due_at u zero n tail e h = (let s : u ≡ n = omega (arith, e) in rw s h)
 resends_due_at u (suc d) n tail e h = (refl, resends_due_at (suc u) d n tail (omega (arith, e)) h)
-
--- what a retransmission burst owes leads to the units offered
-pub resends_due : (u n : ℕ) (tail : List Owed) → u ≤ n → DueRest n n tail → DueRest u n (resends u (n - u) ++ tail)
-resends_due u n tail l h = resends_due_at u (n - u) n tail (omega arith) h
 
 -- ---- a make
 
@@ -134,10 +131,8 @@ contents_push (x ∷ ms) m = grind (arith, contents_push ms m)
 carries : (ms : List Made) (m : Made) (n n' : ℕ) → Carrying ms n → Adds ms n m.pdu.kind (content_of m.pdu.body) m.unit n' → Carrying (ms ++ m ∷ []) n'
 carries ms m n n' w a =
     record {
-      counted = (let l = ap length (contents_push ms m) in omega (arith, l, length-append (contents ms) (added m.pdu.kind (content_of m.pdu.body)), a.size, w.counted));
-      fresh = all_push ms m
-          (λ i y g d. (let l = slice_get_within ms i y g in rw (take-append-le i ms (m ∷ []) (omega (arith, l))) (w.fresh i y g d)))
-          (λ k. rw (take-append_seam ms (m ∷ []), w.counted) (a.number_is k));
+      counted = grind (arith, contents_push, length-append, a, w.counted);
+      fresh = all_push ms m (grind (arith, slice_get_within, take-append-le, w.fresh)) (grind (arith, take-append_seam, w.counted, a.number_is));
       carried = all_push ms m
           (λ i y g k u. (let r = w.carried i y g k u in (r.0, rw (contents_push ms m) (get_front (contents ms) _ k (content_of y.pdu.body) r.1))))
           (λ k u. rw (contents_push ms m) (a.has k u));
@@ -173,9 +168,6 @@ module _ (p : Parameters) (e : EndState) (x : SafetyPdu) (clock : ℕ) (why : Wh
   value_most : value ≤ after.offered
   value_most = grind (arith, step, value_is, last_most (values e) e.offered w.positions.bounded, offered_least b.row e.offered, due_le next after.offered after.owed)
 
-  due_after : has_ended after ≡ false → Due (jump after) (last_of (values after)) after.offered after.owed
-  due_after o = grind (arith, last_push, over_after, pushed, rest_due, step, value_is)
-
   -- The units conveyed through each position.
 
   at_new : slice_get (values e ++ value ∷ []) (length e.made) ≡ Some value
@@ -190,31 +182,27 @@ module _ (p : Parameters) (e : EndState) (x : SafetyPdu) (clock : ℕ) (why : Wh
   pub valued_make : Valued after
   valued_make =
       record {
-        due = due_after;
+        due = grind (arith, last_push, over_after, pushed, rest_due, step, value_is);
         grown = λ _. omega (arith, length_push e.made new);
         positions = rw pushed (record {
           bounded = all_push {P = λ i v. v ≤ after.offered} (values e) value (λ i v g. omega (arith, w.positions.bounded i v g, offered_least b.row e.offered)) value_most;
           units = all_push e.made new
-              (λ i n g u. (let r = w.positions.units i n g u in (r.0, r.1, r.2, r.3, get_front (values e) (value ∷ []) r.0 r.1 r.4, get_front (values e) (value ∷ []) i (suc r.1) r.5)))
+              (grind (arith, w.positions.units, get_front))
               (λ u.
               let last : length e.made ≡ suc (length e.made - 1) = omega (arith, w.grown (unit_runs b.how (grind arith))) in
-              let unit = unit_made (jump e) (last_of (values e)) e.offered b.how (w.due pass.open_yet) u in
-              (length e.made - 1, last_of (values e), last, unit, previous (length e.made - 1) last, at_new ∙ ap Some (grind (arith, value_is))));
+              grind (arith, unit_made (jump e) (last_of (values e)) e.offered b.how (w.due pass.open_yet), previous, at_new, value_is));
           others = all_push e.made new
-              (λ i n g u q s. (let l = slice_get_within e.made i n g in both_old i q (w.positions.others i n g u q s) l (omega (arith, l, s))))
-              (λ u q s. grind (arith, at_new, value_is, u, previous q s));
+              (grind (arith, slice_get_within, both_old, w.positions.others)) (grind (arith, at_new, value_is, previous));
           zeroth = grind (arith, w.positions.zeroth);
         });
         returns = rw pushed (record {
           jumps = all_push e.made new
               (λ i n g u c a.
               let l = slice_get_within e.made i n g in
-              let r = w.returns.jumps i n g u c (rw (take-append-le i e.made (new ∷ []) (omega (arith, l))) at a) in
-              (r.0, both_old i c r.1 l (omega (arith, l, r.0))))
+              grind (arith, take-append-le i e.made (new ∷ []), w.returns.jumps i n g u c, both_old i c))
               (λ u c a.
               let a' : slice_get e.asks (answers_in e.made) ≡ Some c = rw (take-append_seam e.made (new ∷ [])) at a in
-              let l = w.returns.asks_within (answers_in e.made) c a' in
-              (l, grind (arith, at_new, value_is, u, a', get_front_within (values e) (value ∷ []) c, long, slice_get-get_or (values e) c 0 (omega (arith, long, l)))));
+              grind (arith, w.returns.asks_within, at_new, value_is, u, get_front_within (values e) (value ∷ []) c, long, slice_get-get_or));
           asks_within = λ i c g. omega (arith, w.returns.asks_within i c g, length_push e.made new);
         });
         contents = carries e.made new e.offered after.offered w.contents (adds e.made e.offered (content_of x.body) w.contents.counted b.how (rw b.is at pass.same));
@@ -224,21 +212,10 @@ module _ (p : Parameters) (e : EndState) (x : SafetyPdu) (clock : ℕ) (why : Wh
 
 module _ (q : Parameters) (e f : EndState) (t u : ℕ) (m : Made) (p : ℕ) (k : Taken e f t u m p) (w : Valued e) (free : e.owed ≡ []) (away : is_closed e.phase ≡ false) where
   bare_due : last_of (values e) ≡ e.offered
-  bare_due = bare_rest (jump e) (last_of (values e)) e.offered e.owed free (w.due (over_not e.phase _ away))
-
-  made_some : is_named m.pdu.kind ≡ true → is_valid e m.pdu ≡ true → 0 < length e.made
-  made_some nm vd = omega (arith, (mark q e f t u m p k nm vd).3)
+  bare_due = bare_rest (jump e) (last_of (values e)) e.offered e.owed free (w.due (grind arith))
 
   inner_some : (row : TakeRow) → Knows q row e m.pdu → is_inner row ≡ true → 0 < length e.made
-  inner_some row x inside = (let i = inner q row e m.pdu inside x in made_some i.1 i.2)
-
-  -- no ask joins
-  unasked : {ph : Phase} {os : List Owed} → Due (jump e) (last_of (values e)) e.offered os → (is_connected ph ≡ true → 0 < length e.made) → Offers e.side ph e.made e.asks e.offered os
-  unasked due grown = record { due = λ _. due; grown = grown; positions = w.positions; returns = w.returns; contents = w.contents }
-
-  -- nothing more is owed
-  unchanged : {ph : Phase} → (is_connected ph ≡ true → 0 < length e.made) → Offers e.side ph e.made e.asks e.offered e.owed
-  unchanged grown = unasked (w.due (over_not e.phase _ away)) grown
+  inner_some row x inside = grind (arith, inner q row e m.pdu inside x, mark q e f t u m p k)
 
   -- A request's ask joins the asks.
 
@@ -258,7 +235,7 @@ module _ (q : Parameters) (e f : EndState) (t u : ℕ) (m : Made) (p : ℕ) (k :
 
   -- what a burst owes, with a request after it or without
   burst_due : (tail : List Owed) → DueRest e.offered e.offered tail → DueRest (jump asked) e.offered (resends back (e.offered - back) ++ tail)
-  burst_due tail d = rw burst_jump (resends_due back e.offered tail (conveyed_most (values e) e.offered _ w.positions.bounded) d)
+  burst_due tail d = rw burst_jump (resends_due_at back (e.offered - back) e.offered tail (omega (arith, conveyed_most (values e) e.offered (position_confirmed e m.pdu) w.positions.bounded)) d)
 
   burdened : (row : TakeRow) → Knows q row e m.pdu → is_inner row ≡ true → {ph : Phase} {rest : List Owed} → DueRest (jump asked) e.offered rest
       → Offers e.side ph e.made asked.asks e.offered (OweRetransmissionResponse ∷ rest)
@@ -266,7 +243,7 @@ module _ (q : Parameters) (e f : EndState) (t u : ℕ) (m : Made) (p : ℕ) (k :
       let i = inner q row e m.pdu inside x in
       record {
         due = λ o. d;
-        grown = λ _. made_some i.1 i.2;
+        grown = λ _. inner_some row x inside;
         positions = rw same_values w.positions;
         returns = rw same_values (record {
           jumps = λ i n g b d a.
@@ -279,15 +256,10 @@ module _ (q : Parameters) (e f : EndState) (t u : ℕ) (m : Made) (p : ℕ) (k :
 
   -- each row
   v_row : (r : TakeRow) → Knows q r e m.pdu → Valued (bare_effect q r e m.pdu)
-  v_row Opened x = unasked bare_due (λ g. absurd (cc))
-  v_row Answered x = unasked bare_due (λ _. made_some (ap is_named x.2) x.3)
-  v_row Gap x = unasked bare_due (λ _. inner_some Gap x refl)
-  v_row GapInRetransmission x = unasked bare_due (λ _. inner_some GapInRetransmission x refl)
   v_row Requested x = burdened Requested x refl (rw (append-nil (resends back (e.offered - back))) at (burst_due [] refl))
   v_row RequestedAhead x = burdened RequestedAhead x refl (burst_due (OweRetransmissionRequest ∷ []) refl)
   v_row RequestedAgain x = burdened RequestedAgain x refl (rw (append-nil (resends back (e.offered - back))) at (burst_due [] refl))
-  v_row Disconnected x = unchanged (λ g. absurd (cc))
-  v_row r x = unchanged (λ _. inner_some r x refl)
+  v_row r x = grind (arith, w, bare_due, mark q e f t u m p k, inner_some r x)
 
 pub valued_take : (q : Parameters) (e f : EndState) (t u : ℕ) (m : Made) (p : ℕ) (k : Taken e f t u m p) (w : Valued e) → (is_closed e.phase ≡ false → e.owed ≡ []) → Valued (after_take q e m.pdu)
 valued_take q e f t u m p k w free = take_bare q e m.pdu Valued (λ i g h. h) w (λ r away x. v_row q e f t u m p k w (free away) away r x)

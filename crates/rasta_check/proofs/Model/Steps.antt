@@ -1,11 +1,11 @@
 -- What a step adds and leaves alone, and what holds at the start.
-use Rattle.std.proofs.Common.{◌≡◌, ℕ, ◌≤◌, true, [], ◌∷◌, ◌++◌, length, Option, Some, None, slice_get, refl, sym, ◌∙◌, arith}
-use Rattle.rasta_check.proofs.Prelude.{nat_tests, Side, Parameters, SafetyPdu, TakeRow, Requested, position_confirmed, effect, after_take, Quiet, Why, Made, EndState, Makes}
-use Rattle.rasta_check.proofs.Prelude.{has_ended, after_make_by, start_by, get_front}
+use Rattle.std.proofs.Common.{◌≡◌, ℕ, ◌≤◌, true, [], ◌∷◌, ◌++◌, length, Option, Some, None, slice_get, refl, arith}
+use Rattle.rasta_check.proofs.Prelude.{nat_tests, Side, Parameters, SafetyPdu, TakeRow, Requested, position_confirmed, effect, after_take, Quiet, Why, Made, EndState, Makes, has_ended}
+use Rattle.rasta_check.proofs.Prelude.{after_make_by, start_by, get_front}
 use Rattle.rasta_check.proofs.Model.Counts.{answers_in}
 use Rattle.rasta_check.proofs.Model.ConveyedUnits.{values, values_push, values_asks}
 use Rattle.rasta_check.proofs.Model.TakeRows.{take_by, take_made}
-use Rattle.rasta_check.proofs.Model.MakeRows.{Passed, passed, MadeBy, made_by, after_row, new_made}
+use Rattle.rasta_check.proofs.Model.MakeRows.{Passed, passed, MadeBy, made_by, after_row}
 
 -- what of an end stays
 pub record Grown (e e' : EndState) : Type 0 where

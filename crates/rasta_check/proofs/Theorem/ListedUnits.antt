@@ -1,9 +1,9 @@
 -- The units that two lists show to be taken: their members, their proofs, and that they were handed up, which are the first that were offered.
-use Rattle.std.proofs.Common.{◌≡◌, ℕ, zero, suc, ◌+◌, ◌<◌, ◌≤◌, true, false, List, [], ◌∷◌, ◌++◌, length, Option, Some, slice_get, take, drop, refl, ap, sym, ◌∙◌, arith}
-use Rattle.rasta_check.proofs.Prelude.{map, filter, fold, max, nat_lt, option_map, nat_tests, length-map, take-append-drop, take-append-le, take_all, dec_lt, yes, no}
-use Rattle.rasta_check.proofs.Prelude.{Side, Quiet, Data, Parameters, SafetyPdu, messages_in, is_kind, Made, EndState, start_by, FirstCopy, pdus_made, pdus_of, all_made}
-use Rattle.rasta_check.proofs.Prelude.{units_shown, units_taken, TakenUnit, units_from, data_copies, surely_taken, HandsUpUnits, units_handed, units_listed, get_front_within}
-use Rattle.rasta_check.proofs.Prelude.{begins_with, get_mapped, map_at, mapped_some}
+use Rattle.std.proofs.Common.{◌≡◌, ℕ, suc, ◌+◌, ◌<◌, ◌≤◌, List, [], ◌∷◌, ◌++◌, length, Option, Some, slice_get, take, drop, refl, ap, sym, ◌∙◌, arith}
+use Rattle.rasta_check.proofs.Prelude.{map, filter, fold, max, option_map, nat_tests, length-map, take-append-drop, take-append-le, take_all, dec_lt, yes, no, Side, Quiet, Data}
+use Rattle.rasta_check.proofs.Prelude.{Parameters, SafetyPdu, messages_in, is_kind, Made, EndState, start_by, FirstCopy, pdus_made, pdus_of, all_made, units_shown, units_taken}
+use Rattle.rasta_check.proofs.Prelude.{TakenUnit, units_from, data_copies, surely_taken, HandsUpUnits, units_handed, units_listed, get_front_within, begins_with, get_mapped, map_at}
+use Rattle.rasta_check.proofs.Prelude.{mapped_some}
 use Rattle.std.proofs.lemmas.List.{take-map}
 use Rattle.rasta_check.specs.Model.Taken.{proof_place}
 use Rattle.rasta_check.specs.Verdict.Headline.{units_offered}
@@ -18,8 +18,7 @@ listed_unit own peer n c = record { messages = messages_in c.pdu.safety.body; da
 -- the i-th unit is that of the i-th data PDU
 unit_at : (own : List SafetyPdu) (peer : List FirstCopy) (k : ℕ) (us : List FirstCopy) (i n : ℕ) → k + i ≡ n → slice_get (units_from own peer k us) i ≡ option_map (listed_unit own peer n) (slice_get us i)
 unit_at own peer k [] i n e = refl
-unit_at own peer k (u ∷ us) zero n e = ap (λ j. Some (listed_unit own peer j u)) (omega arith)
-unit_at own peer k (u ∷ us) (suc i) n e = unit_at own peer (suc k) us i n (omega arith)
+unit_at own peer k (u ∷ us) i n e = grind (arith, unit_at own peer (suc k) us)
 
 -- the messages of a data PDU
 abbrev said : FirstCopy → List (List ℕ)
@@ -39,19 +38,15 @@ pub record Proof (own peer : List SafetyPdu) (k : ℕ) (ds : List FirstCopy) : T
   pub more : k < units_shown own peer d.pdu.safety
   pub place : proof_place own peer k ds ≡ d.place
 
-proof_by : (own peer : List SafetyPdu) (k a : ℕ) (ds : List FirstCopy) → a ≤ k → k < fold max a (map (units_shown own peer) (pdus_of ds)) → Proof own peer k ds
+-- where some PDU shows more than k units, the one at the proof place does
+pub proof_by : (own peer : List SafetyPdu) (k a : ℕ) (ds : List FirstCopy) → a ≤ k → k < fold max a (map (units_shown own peer) (pdus_of ds)) → Proof own peer k ds
 proof_by own peer k a [] low l = absurd (omega arith)
 proof_by own peer k a (d ∷ ds) low l =
     elim (dec_lt k (units_shown own peer d.pdu.safety)) [
-      | yes m ↦ (let e : nat_lt k (units_shown own peer d.pdu.safety) ≡ true = grind (arith, nat_tests, m) in record { j = 0; d = d; there = refl; more = m; place = rw e refl })
-      | no q ↦ (let e : nat_lt k (units_shown own peer d.pdu.safety) ≡ false = grind (arith, nat_tests, q) in
-          let z = proof_by own peer k (max a (units_shown own peer d.pdu.safety)) ds (omega (arith, low, q)) l in
-          record { j = suc z.j; d = z.d; there = z.there; more = z.more; place = rw e z.place })
+      | yes m ↦ record { j = 0; d = d; there = refl; more = m; place = grind (arith, nat_tests) }
+      | no q ↦ (let z = proof_by own peer k (max a (units_shown own peer d.pdu.safety)) ds (omega (arith, low, q)) l in
+          record { j = suc z.j; d = z.d; there = z.there; more = z.more; place = grind (arith, nat_tests, z.place) })
     ]
-
--- where some PDU shows more than k units, the one at the proof place does
-pub proof_of : (own : List SafetyPdu) (peer : List FirstCopy) (k : ℕ) → k < units_taken own (pdus_of peer) → Proof own (pdus_of peer) k peer
-proof_of own peer k l = proof_by own (pdus_of peer) k 0 peer (omega arith) l
 
 -- ---- the units of data PDUs
 

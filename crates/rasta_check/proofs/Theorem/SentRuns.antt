@@ -2,9 +2,9 @@
 -- handed up, and in time.
 use Rattle.std.proofs.Common.{◌≡◌, ℕ, suc, ◌+◌, ◌<◌, ◌≤◌, Bool, true, false, List, [], ◌∷◌, ◌++◌, length, Some, slice_get, refl, ap, sym, ◌∙◌, arith}
 use Rattle.std.proofs.Math.Logic.{⊎_map}
-use Rattle.rasta_check.proofs.Prelude.{is_some, not, slice_get_within, ◌&&◌, ◌||◌, Side, Packet, Parameters, AreParameters, Phase, ConnectionRequest, is_kind, Made, EndState}
-use Rattle.rasta_check.proofs.Prelude.{is_closed, start_of, FirstCopy, World, station_of, end_of, other_side, Reaches, IsWithin, NamesOne, pdus_made, pdus_of, all_made}
-use Rattle.rasta_check.proofs.Prelude.{units_along, units_shown, units_taken, TakenUnit, surely_taken, Appends, HandsUpUnits, units_handed, units_listed, slice_get_some}
+use Rattle.rasta_check.proofs.Prelude.{is_some, not, slice_get_within, ◌&&◌, ◌||◌, Side, Packet, Parameters, AreParameters, Phase, ConnectionRequest, is_kind, Made, EndState, is_closed}
+use Rattle.rasta_check.proofs.Prelude.{start_of, FirstCopy, World, station_of, end_of, other_side, Reaches, IsWithin, NamesOne, pdus_made, pdus_of, all_made, units_along, units_shown}
+use Rattle.rasta_check.proofs.Prelude.{units_taken, TakenUnit, surely_taken, Appends, HandsUpUnits, units_handed, units_listed, slice_get_some}
 use Rattle.rasta_end.specs.State.{is_client}
 use Rattle.rasta_check.specs.Model.Theorem.{HasHandedUp, IsMade}
 use Rattle.rasta_check.proofs.Capture.FaultlessLists.{IsSent}
@@ -18,8 +18,8 @@ use Rattle.rasta_check.proofs.Model.OfferedUnits.{Valued}
 use Rattle.rasta_check.proofs.Model.HandedUnits.{hands_up_units, handed_peer, Shown, shows_grown, shown_most}
 use Rattle.rasta_check.proofs.Model.History.{After, Stepped, history, stepped, joined, appended, made_at}
 use Rattle.rasta_check.proofs.Model.InvariantOfRuns.{All, all_held, few_made}
-use Rattle.rasta_check.proofs.Theorem.ShowingPdus.{necessary, quiet_asks, shows_most}
-use Rattle.rasta_check.proofs.Theorem.ListedUnits.{proof_of, unit_handed, listed_below, listed_first}
+use Rattle.rasta_check.proofs.Theorem.ShowingPdus.{necessary, shows_most}
+use Rattle.rasta_check.proofs.Theorem.ListedUnits.{proof_by, unit_handed, listed_below, listed_first}
 use Rattle.rasta_check.proofs.Script.ScriptsOfRuns.{Sends, sends_count, told_by, told_of}
 
 -- of the last world of a run, where these are the sent lists of a side and of its peer
@@ -36,10 +36,6 @@ pub record Known (p : Parameters) (w : World) (side : Side) (own peer : List Fir
 -- an end has made as many PDUs as it had at the start and as its list has
 made_count : (p : Parameters) (s : Side) (xs : List Packet) (own : List FirstCopy) (e : EndState) (n : ℕ) → Sends p s xs own e n → length e.made ≡ (start_of p s).base + length own
 made_count p s xs own e n h = omega (arith, sends_count p s xs own e n h, start_base p.quiet s)
-
-both_within : (p : Parameters) (w : World) (side : Side) → length (end_of w side).made ≤ (start_of p side).base + 1000000 → length (end_of w (other_side side)).made ≤ (start_of p (other_side side)).base + 1000000
-    → (s : Side) → length (end_of w s).made ≤ (start_of p s).base + 1000000
-both_within p w side mine theirs s = grind arith
 
 -- ---- what an end shows
 
@@ -72,11 +68,11 @@ module _ (p : Parameters) (ws : List World) (w : World) (side : Side) (own peer 
       let g = told_of p ws w side own peer r mine theirs few few_theirs in
       let sends = rw g.1 at g.0.sends in
       let their_sends = rw g.2 at g.0.their_sends in
-      let within : IsWithin p w = both_within p w side (omega (arith, made_count p side _ own e _ sends)) (omega (arith, made_count p (other_side side) _ peer f _ their_sends)) in
+      let within : IsWithin p w = grind (arith, made_count p side _ own e _ sends, made_count p (other_side side) _ peer f _ their_sends) in
       let all = all_held p ws w side r within in
       let once = numbered_once e.made (few_made p w within side) all.mine.held.list.numbered in
       let shown = rw sends.same at (necessary e f (station_of w side).taken (station_of w (other_side side)).taken all.mine.held all.theirs.held all.mine.values once
-      (pdus_made (start_of p (other_side side)).made) (pdus_of peer) their_sends.same (quiet_asks p.quiet (other_side side) _) all.theirs.shown) in
+      (pdus_made (start_of p (other_side side)).made) (pdus_of peer) their_sends.same (grind arith) all.theirs.shown) in
       record {
         within = within;
         all = all;
@@ -129,7 +125,8 @@ module _ (p : Parameters) (ws : List World) (w : World) (side : Side) (own peer 
       let g = b.theirs.kept j d there (let y = a.after in omega arith) in
       let m = made_at p (other_side side) next.crossed b.told.peer e0 _ j d b.told.their_sends g in
       let t = shows_most e (all_made p side own) (pdus_of peer) known.sends.same known.along (length e0.handed) m.0.pdu
-      (in_time_at e0 (end_of next side) f e (station_of w side).taken all.theirs.shown known.all.theirs.shown known.all.mine.held known.all.mine.values known.few (b.grown (other_side side)) (b.grown side) (base p + j) m.0 m.1) in
+      (in_time_at e0 (end_of next side) f e (station_of w side).taken all.theirs.shown known.all.theirs.shown known.all.mine.held known.all.mine.values known.few
+      (b.grown (other_side side)) (b.grown side) (base p + j) m.0 m.1) in
       let h = ap length (((appending d.place v next a).ends (other_side side)).same crossing).positions in
       omega (arith, t, ap (units_shown (all_made p side own) (pdus_of peer)) m.2, h)
 
@@ -144,7 +141,7 @@ module _ (p : Parameters) (ws : List World) (w : World) (side : Side) (own peer 
   pub proof_appended : (i : ℕ) (u : TakenUnit) → slice_get (surely_taken p side own peer) i ≡ Some u → (v next : World) × Appends ws w u.proof_place v next
   proof_appended i u g =
       let below = listed_below p side f e own peer known.sends.same hands_up i u g in
-      let shown = proof_of (all_made p side own) peer i below.0 in
+      let shown = proof_by (all_made p side own) (pdus_of peer) i 0 peer (omega arith) below.0 in
       let q = theirs.firsts shown.j shown.d shown.there in
       appended p ws w r u.proof_place (omega (arith, slice_get_within w.crossed shown.d.place q.0 q.1, below.1 ∙ shown.place))
 
@@ -155,7 +152,7 @@ module _ (p : Parameters) (ws : List World) (w : World) (side : Side) (own peer 
       let x = end_of v side in
       let y = end_of v (other_side side) in
       let below = listed_below p side f e own peer known.sends.same hands_up i u g in
-      let shown = proof_of (all_made p side own) peer i below.0 in
+      let shown = proof_by (all_made p side own) (pdus_of peer) i 0 peer (omega arith) below.0 in
       let z = timed shown.j shown.d v next (rw (below.1 ∙ shown.place) at a) shown.there in
       let b = before a.i v a.here in
       let all = all_held p b.us v side b.reached b.few in

@@ -1,7 +1,7 @@
 -- What the PDUs of a sent list show of the units of the other side: no more than was handed up.
-use Rattle.std.proofs.Common.{◌≡◌, ℕ, zero, suc, ◌+◌, ◌≤◌, false, List, [], ◌∷◌, ◌++◌, length, Option, Some, None, slice_get, refl, ap, ◌∙◌, arith}
-use Rattle.rasta_check.proofs.Prelude.{slice_index_or, map, fold, max, slice_get_within, slice_get-get_or, Side, Quiet, SafetyPdu, is_kind, Made, EndState, kinds, units_at, start_by}
-use Rattle.rasta_check.proofs.Prelude.{position_with, asked_positions, units_along, units_shown, units_taken, pdus_made, NamesOne, ConnectionRequest, get_past, get_mapped}
+use Rattle.std.proofs.Common.{◌≡◌, ℕ, suc, ◌+◌, ◌≤◌, false, List, [], ◌∷◌, ◌++◌, length, Option, Some, None, slice_get, refl, ap, ◌∙◌, arith}
+use Rattle.rasta_check.proofs.Prelude.{map, fold, max, slice_get_within, slice_get-get_or, SafetyPdu, is_kind, Made, EndState, units_at, position_with, asked_positions, units_along}
+use Rattle.rasta_check.proofs.Prelude.{units_shown, units_taken, pdus_made, NamesOne, ConnectionRequest, get_past, get_mapped}
 use Rattle.std.proofs.lemmas.List.Elements.{filter-append, filter_map-append}
 use Rattle.std.proofs.lemmas.Simd.{map-map}
 use Rattle.rasta_end.proofs.Conveying.{more_asks}
@@ -11,10 +11,6 @@ use Rattle.rasta_check.proofs.Model.ConveyedUnits.{values, length-values, answer
 use Rattle.rasta_check.proofs.Model.OfferedUnits.{Valued}
 use Rattle.rasta_check.proofs.Model.HandedUnits.{Shown, shown_most}
 use Rattle.rasta_check.proofs.Model.Requests.{found_position, in_order}
-
--- a quiet PDU asks for nothing
-pub quiet_asks : (q : Option Quiet) (s : Side) (own : List SafetyPdu) → asked_positions own (pdus_made (start_by q s).made) ≡ []
-quiet_asks q s own = grind arith
 
 -- f's units, by lists that tell what f made and what its peer did
 module _ (f : EndState) (own peer : List SafetyPdu) (told : pdus_made f.made ≡ own) (along : units_along own peer ≡ values f) (n : ℕ) (x : SafetyPdu)
@@ -38,8 +34,7 @@ fold_from f a (x ∷ xs) = (let r = fold_from f (max a (f x)) xs in omega arith)
 -- a member counts
 pub fold_member : (f : SafetyPdu → ℕ) (a : ℕ) (xs : List SafetyPdu) (i : ℕ) (x : SafetyPdu) → slice_get xs i ≡ Some x → f x ≤ fold max a (map f xs)
 fold_member f a [] i x g = absurd (cc)
-fold_member f a (y ∷ xs) zero x g = (let e : y ≡ x = cc in let v = ap f e in let r = fold_from f (max a (f y)) xs in omega arith)
-fold_member f a (y ∷ xs) (suc i) x g = fold_member f (max a (f y)) xs i x g
+fold_member f a (y ∷ xs) i x g = grind (arith, fold_from f (max a (f y)) xs, fold_member f (max a (f y)) xs)
 
 fold_max_le : (ns : List ℕ) (n a : ℕ) → a ≤ n → ((k m : ℕ) → slice_get ns k ≡ Some m → m ≤ n) → fold max a ns ≤ n
 fold_max_le [] n a h g = h
