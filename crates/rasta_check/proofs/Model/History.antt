@@ -119,5 +119,4 @@ made_at p s xs own e f j d h g =
     let l = slice_get_within own j d g in
     let n = sends_count p s xs own e f h in
     let a = slice_get_some e.made (base p + j) (omega arith) in
-    let b = copy_at p s xs own e f j a.0 h a.1 in
-    (a.0, a.1, grind (arith, b.1, b.2))
+    (a.0, a.1, grind (arith, copy_at p s xs own e f j a.0 h a.1))

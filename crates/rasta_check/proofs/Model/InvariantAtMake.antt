@@ -94,8 +94,7 @@ module _ (s : Side) (ph : Phase) (ms : List Made) (m : Made) (a : ℕ) (os : Lis
   make_asking qs t peer (over d) w =
       asking_push w (grind (arith, number_push, w.asked, d)) (λ v. absurd (let z = over_after s Closed ms m refl in cc)) (grind (arith, number_push, w.open_requests, bit_most ph, d))
   make_asking qs t peer (opened b c d) w =
-      let none = nothing_made s ph ms b open_yet in
-      asking_push w (grind (arith, number_push, w.asked, d)) (λ v. grind (arith, number_push, w.owing open_yet, d)) (grind (arith, number_push, none, d))
+      asking_push w (grind (arith, number_push, w.asked, d)) (λ v. grind (arith, number_push, w.owing open_yet, d)) (grind (arith, number_push, nothing_made, d))
   make_asking qs t peer (goes_on on b c d r) w =
       asking_push w (grind (arith, number_push, b, w.owing open_yet)) (λ v. grind (arith, number_push, b, w.owing open_yet)) (grind (arith, number_push, c, w.open_requests))
 

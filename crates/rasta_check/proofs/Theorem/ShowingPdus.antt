@@ -48,9 +48,7 @@ module _ (e f : EndState) (t u : ℕ) (h : Held e t f.made) (peer : Held f u e.m
     (made : pdus_made f.made ≡ first ++ ps) (none : asked_positions (pdus_made e.made) first ≡ []) where
   -- the units along a list by all requests of its peer are those by the asks
   values_agree : units_along (pdus_made e.made) ps ≡ values e
-  values_agree =
-      let b = (in_order e f t u h peer w once).beginning in
-      grind (arith, answers_number, asked-append, map-map, more_asks)
+  values_agree = grind (arith, in_order e f t u h peer w once, answers_number, asked-append, map-map, more_asks)
 
   -- a PDU of f shows no more units than f has handed up
   shows_handed : Shown f e → (i : ℕ) (x : SafetyPdu) → slice_get ps i ≡ Some x → units_shown (pdus_made e.made) ps x ≤ length f.handed
