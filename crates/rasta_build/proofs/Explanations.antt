@@ -7,8 +7,7 @@ use Rattle.rasta_build.proofs.Prelude.{is_client, is_start, is_active, is_retr_r
 use Rattle.rasta_build.proofs.Prelude.{is_expired, after_make, effect, take_row, is_ahead, no_test, FirstCopy, passed, Making, made_by, number, Numbered, Built}
 use Rattle.rasta_build.proofs.Prelude.{copy_at, is_before, first_sn_of, wants_trigger, catch_up, made_at, explain, earliest_by}
 use Rattle.rasta_pdu.specs.declared.kind.Kind.TheVariants.{ConnectionRequest}
-use Rattle.rasta_check.proofs.Model.PassedTests.{cs_is, Passed}
-use Rattle.rasta_check.proofs.Model.MakeRows.{MadeBy}
+use Rattle.rasta_check.proofs.Model.MakeRows.{cs_is, Passed, MadeBy}
 use Rattle.rasta_check.proofs.Model.NamedPositions.{SnIs}
 use Rattle.rasta_check.proofs.Model.InvariantAtMake.{nothing_made}
 use Rattle.rasta_build.specs.Choices.{position_named, has_to_take, is_unanswered}

@@ -4,7 +4,7 @@ use Rattle.rasta_build.proofs.Prelude.{if◌then◌else◌, Parameters, SafetyPd
 use Rattle.rasta_build.proofs.Prelude.{FirstHeartbeat, InSequence, ResentInSequence, Resumed, Requested, Owed, EndState, carries_unit, is_owing, accept, enter, hand_up, is_in}
 use Rattle.rasta_build.proofs.Prelude.{steps_past_next, effect, take_row, FirstCopy, row_known, Built, is_trigger, taken_by}
 use Rattle.rasta_build.proofs.Prelude.{take_step, accept_from}
-use Rattle.rasta_check.proofs.Model.Acceptance.{accepted_after}
+use Rattle.rasta_check.proofs.Model.TakeRows.{accepted_after}
 use Rattle.rasta_build.specs.Explaining.{accept_step, and_then, try_step, scan}
 use Rattle.rasta_build.proofs.Comparisons.{was_same}
 use Rattle.rasta_build.proofs.Succeeding.{took, accepted, tried}

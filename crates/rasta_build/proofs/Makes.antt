@@ -7,8 +7,7 @@ use Rattle.rasta_build.proofs.Prelude.{after_row, Built, clock_of, made_at, earl
 use Rattle.std.specs.Bool.{then_some}
 use Rattle.rasta_pcap.specs.Fault.{closed, not_allowed, reply_owed, sequence_number, clock_differs, clock_falls, past_deadline, confirmed_number, confirmed_time, resend_differs}
 use Rattle.rasta_end.specs.MakeRule.{first_that_holds, make_row, is_refused_row, is_owing_else, is_next_sn, differs, after_make_by, offered_after, owed_after}
-use Rattle.rasta_check.proofs.Model.PassedTests.{Passed}
-use Rattle.rasta_check.proofs.Model.MakeRows.{response, first_beat, again, beat, fresh, bye, expired, MadeBy}
+use Rattle.rasta_check.proofs.Model.MakeRows.{Passed, response, first_beat, again, beat, fresh, bye, expired, MadeBy}
 use Rattle.rasta_build.specs.Choices.{why_by, why_of, next_unit}
 use Rattle.rasta_build.specs.Explaining.{make_step, earliest_timeout, least_later}
 use Rattle.rasta_build.proofs.Times.{timed, NearDeadlines, not_past}

@@ -43,10 +43,9 @@ pub use Rattle.rasta_check.proofs.Capture.NextPackets.{Begins}
 pub use Rattle.rasta_check.proofs.Lists.{get_front, slice_get_some}
 pub use Rattle.rasta_check.proofs.Model.Counts.{number}
 pub use Rattle.rasta_check.proofs.Model.InvariantAtTake.{Taken}
-pub use Rattle.rasta_check.proofs.Model.MakeRows.{Making, after_row, answer, ask, made_by, opening}
+pub use Rattle.rasta_check.proofs.Model.MakeRows.{Making, after_row, answer, ask, made_by, opening, passed}
 pub use Rattle.rasta_check.proofs.Model.OfferedUnits.{Valued}
-pub use Rattle.rasta_check.proofs.Model.PassedTests.{passed}
-pub use Rattle.rasta_check.proofs.Model.SequenceNumbers.{Numbered}
+pub use Rattle.rasta_check.proofs.Model.NamedPositions.{Numbered}
 pub use Rattle.rasta_check.proofs.Model.Steps.{base, base_by, base_small, made_more}
 pub use Rattle.rasta_check.proofs.Model.TakeRows.{row_known, take_leaves}
 pub use Rattle.rasta_check.proofs.Script.ScriptsOfRuns.{Sends, sends_count}

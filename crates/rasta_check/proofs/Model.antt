@@ -1,5 +1,4 @@
 -- What holds of two ends in every run.
-pub mod Acceptance
 pub mod Requests
 pub mod Counts
 pub mod HandedUnits
@@ -11,13 +10,6 @@ pub mod History
 pub mod MakeRows
 pub mod TakeRows
 pub mod NamedPositions
-pub mod SequenceNumbers
-pub mod PassedTests
-pub mod Places
-pub mod Induction
-pub mod ShownUnits
 pub mod Steps
 pub mod OfferedUnits
-pub mod OfferedUnitsAtMake
-pub mod OfferedUnitsAtTake
 pub mod ConveyedUnits

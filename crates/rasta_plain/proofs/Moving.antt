@@ -28,8 +28,7 @@ use Rattle.rasta_check.specs.Capture.Crossing.{Spells}
 use Rattle.rasta_check.specs.Capture.Crossing.{IsRecorded}
 use Rattle.rasta_check.specs.Model.World.{Station, World, Move as Label, making, repeating, arriving, taking, waiting, Moves, makes, repeats, arrives, takes, waits, Step, station_of, other_side, moved, side_moves}
 use Rattle.rasta_plain.specs.Moving.{IsMove, Answers, JudgedStation, judged_station, IsPlainStation}
-use Rattle.rasta_check.proofs.Model.Acceptance.{accepted_after}
-use Rattle.rasta_check.proofs.Model.TakeRows.{take_leaves}
+use Rattle.rasta_check.proofs.Model.TakeRows.{accepted_after, take_leaves}
 use Rattle.rasta_check.proofs.Model.Steps.{made_more}
 use Rattle.rasta_check.proofs.Verdict.CallAnswers.{if_ok}
 

@@ -1,7 +1,7 @@
 -- The units conveyed through the positions of an end, as what it made and the asks grow.
 use Rattle.std.proofs.Common.{◌≡◌, ℕ, suc, ◌<◌, ◌≤◌, Bool, true, false, List, [], ◌∷◌, ◌++◌, length, Some, None, slice_get, refl, ap, ◌∙◌, arith, Option, sym}
-use Rattle.rasta_check.proofs.Prelude.{slice_index_or, slice_get-get_or, unwrap_or-slice_get, Kind, Data, RetransmittedData, RetransmissionResponse, Made, EndState, kinds}
-use Rattle.rasta_check.proofs.Prelude.{units_at, last_of}
+use Rattle.rasta_check.proofs.Prelude.{slice_index_or, slice_get-get_or, unwrap_or-slice_get, Kind, Data, RetransmittedData, RetransmissionResponse, Made, EndState, kinds, units_at}
+use Rattle.rasta_check.proofs.Prelude.{last_of}
 use Rattle.std.specs.Option.{unwrap_or}
 use Rattle.rasta_end.specs.Units.{all_units_conveyed, units_after, responses_in}
 use Rattle.rasta_end.proofs.Conveying.{all_units-push, conveyed-responses, length-all_units, length-kinds, more_asks, last-at}

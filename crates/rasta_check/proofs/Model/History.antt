@@ -1,18 +1,17 @@
 -- What of an end stays along a run, and the worlds of a run.
-use Rattle.std.proofs.Common.{◌≡◌, ℕ, suc, ◌+◌, ◌<◌, ◌≤◌, List, [], ◌∷◌, ◌++◌, length, Some, slice_get, refl, ap, sym, ◌∙◌, arith, ⊎_elim, subst}
-use Rattle.rasta_check.proofs.Prelude.{length_push, slice_get_within, dec_lt, yes, no, Side, Client, Server, Packet, Parameters, AreParameters, Made, EndState, has_ended, start_of}
-use Rattle.rasta_check.proofs.Prelude.{FirstCopy, Station, World, Move, Moves, makes, repeats, takes, side_moves, station_of, end_of, other_side, Reaches, begins, goes_on}
-use Rattle.rasta_check.proofs.Prelude.{IsWithin, Appends, get_push_cases, all_push, get_front, get_front_within, get_push, slice_get_some}
-use Rattle.rasta_check.specs.Model.World.{Step, first_world}
+use Rattle.std.proofs.Common.{◌≡◌, ℕ, suc, ◌+◌, ◌<◌, ◌≤◌, List, [], ◌∷◌, ◌++◌, length, Some, slice_get, sym, ◌∙◌, arith, ⊎_elim, subst}
+use Rattle.rasta_check.proofs.Prelude.{length_push, slice_get_within, dec_lt, yes, no, Side, Client, Server, Packet, Parameters, AreParameters, Made, EndState, start_of, FirstCopy}
+use Rattle.rasta_check.proofs.Prelude.{Station, World, Move, Moves, makes, repeats, takes, station_of, end_of, other_side, Reaches, begins, goes_on, IsWithin, Appends, get_push_cases}
+use Rattle.rasta_check.proofs.Prelude.{all_push, get_front, get_front_within, get_push, slice_get_some}
+use Rattle.rasta_check.specs.Model.World.{Step}
 use Rattle.rasta_check.proofs.Model.TakeRows.{take_made}
 use Rattle.rasta_check.proofs.Model.Steps.{base, made_more, SameHanded, Grown, same_grown, grown_take}
 use Rattle.rasta_check.proofs.Model.Counts.{answers_in}
 use Rattle.rasta_check.proofs.Model.InvariantOfRuns.{all_held}
-use Rattle.rasta_check.proofs.Script.ScriptsOfRuns.{Both, Sends, HadCrossed, all_crossed, turn, told_first, told_step, sends_count, copy_at}
-use Rattle.rasta_check.proofs.Sides.{sided}
+use Rattle.rasta_check.proofs.Script.ScriptsOfRuns.{Both, Sends, HadCrossed, Kept, all_crossed, turn, told_by, told_step, sends_count, copy_at}
 
 both_grown : (a b c : EndState) → Grown a b → Grown b c → Grown a c
-both_grown a b c g h = record { made = λ i m x. h.made i m (g.made i m x); kept = λ i v x. h.kept i v (g.kept i v x); over = λ x. (let e = g.over x in h.over (ap has_ended e ∙ x) ∙ e) }
+both_grown a b c g h = grind arith
 
 -- what a step does to an end: it hands nothing up as a packet crosses, and makes at most one PDU
 pub record EndStep (crossing : Type 0) (e e' : EndState) : Type 0 where
@@ -20,9 +19,6 @@ pub record EndStep (crossing : Type 0) (e e' : EndState) : Type 0 where
   pub longer : length e.made ≤ length e'.made
   pub most : length e'.made ≤ suc (length e.made)
   pub grown : answers_in e.made ≤ length e.asks → Grown e e'
-
-stands_still : (crossing : Type 0) (e : EndState) → EndStep crossing e e
-stands_still crossing e = record { same = λ h. record { positions = refl; pdus = refl }; longer = omega arith; most = omega arith; grown = λ h. same_grown e }
 
 pub record Stepped (v w : World) : Type 0 where
   pub less : length v.crossed ≤ length w.crossed
@@ -33,21 +29,13 @@ end_moves : (p : Parameters) (b a a' : Station) (xs ys : List Packet) {move : Mo
     → (length xs ≤ length ys) × (length ys ≤ suc (length xs)) × EndStep (length ys ≡ suc (length xs)) a.state a'.state
 end_moves p b a a' xs ys (makes x why e' ch res chk bs mk sp rec) =
     let m = made_more p a.state x a.clock why e' mk in
-    let e = ap length m.made in
-    let l = length_push a.state.made m.new in
-    let z = length_push xs (record { channel = ch; side = a.state.side; payload = bs }) in
-    (omega (arith, z), omega (arith, z), record { same = λ h. m.same; longer = omega (arith, e, l); most = omega (arith, e, l); grown = λ h. m.grown })
-end_moves p b a a' xs ys (repeats place ch old c s rec) = (let z = length_push xs (record old { channel = ch }) in (omega (arith, z), omega (arith, z), stands_still _ a.state))
-end_moves p b a a' xs ys (takes q m e' c i s t) =
-    let l = ap length (take_made p a.state m.pdu) in
-    (omega arith, omega arith, rw t.1 (record { same = λ h. absurd (omega arith); longer = omega (arith, l); most = omega (arith, l); grown = grown_take p a.state m.pdu }))
-end_moves p b a a' xs ys _ = (omega arith, omega arith, stands_still _ a.state)
+    grind (arith, length_push)
+end_moves p b a a' xs ys (repeats place ch old c s rec) = grind (arith, length_push, same_grown)
+end_moves p b a a' xs ys (takes q m e' c i s t) = grind (arith, grown_take, take_made)
+end_moves p b a a' xs ys _ = grind (arith, same_grown)
 
 pub stepped : (p : Parameters) (v w : World) → Step p v w → Stepped v w
-stepped p v w (side_moves {a = a} {after = ys} Client m) =
-    (let o = end_moves p v.server v.client a v.crossed ys m in record { less = o.0; more = o.1; ends = sided _ o.2 (stands_still _ v.server.state) })
-stepped p v w (side_moves {a = a} {after = ys} Server m) =
-    (let o = end_moves p v.client v.server a v.crossed ys m in record { less = o.0; more = o.1; ends = sided _ (stands_still _ v.client.state) o.2 })
+stepped p v w step = grind (arith, end_moves, same_grown)
 
 -- an earlier world of the run
 pub record After (p : Parameters) (v w : World) (side : Side) (own peer : List FirstCopy) : Type 0 where
@@ -60,56 +48,51 @@ pub record After (p : Parameters) (v w : World) (side : Side) (own peer : List F
   pub mine : HadCrossed (length v.crossed) own told.own
   pub theirs : HadCrossed (length v.crossed) peer told.peer
 
--- what is said of each earlier world
-abbrev History : Parameters → List World → World → Type 0
-History p ws w = (g : Both p Client Server w.crossed w.client w.server) × ((i : ℕ) (v : World) → slice_get (ws ++ w ∷ []) i ≡ Some v → After p v w Client g.own g.peer)
+-- what a step keeps of the lists that a side and its peer have sent
+told_on : (p : Parameters) (v w : World) → Step p v w → (side : Side) (g : Both p side (other_side side) v.crossed (station_of v side) (station_of v (other_side side)))
+    → Kept p side (other_side side) (length v.crossed) w.crossed (station_of w side) (station_of w (other_side side)) g.own g.peer
+told_on p v w st Client g = told_step p v w st g
+told_on p v w st Server g = (let z = told_step p v w st (turn p Server Client v.crossed v.server v.client g) in (turn p Client Server w.crossed w.client w.server z.0, z.2, z.1))
 
-after_itself : (p : Parameters) (ws : List World) (w : World) → Reaches p ws w → IsWithin p w → (g : Both p Client Server w.crossed w.client w.server) → After p w w Client g.own g.peer
-after_itself p ws w r b g =
-    record { us = ws; reached = r; few = b; grown = λ side. same_grown (end_of w side); less = omega arith; told = g; mine = all_crossed _ g.own; theirs = all_crossed _ g.peer }
+-- what is said of each earlier world, for a side and its peer
+abbrev History : Parameters → List World → World → Side → Type 0
+History p ws w side = (g : Both p side (other_side side) w.crossed (station_of w side) (station_of w (other_side side)))
+    × ((i : ℕ) (v : World) → slice_get (ws ++ w ∷ []) i ≡ Some v → After p v w side g.own g.peer)
 
-of_both : (p : Parameters) (valid : AreParameters p) (ws : List World) (w : World) → Reaches p ws w → IsWithin p w → History p ws w
-of_both p valid ws w (begins m n) b =
-    let g = told_first p m n valid in
-    (g, all_push {P = λ i v. After p v (first_world p m n) Client g.own g.peer} [] (first_world p m n) (λ i v x. absurd (cc)) (after_itself p [] (first_world p m n) (begins m n) b g))
-of_both p valid ws w (goes_on {ws = us} {w = u} r st) b = step (of_both p valid us u r few)
+with_itself : (p : Parameters) (ws : List World) (w : World) (side : Side) → Reaches p ws w → IsWithin p w → (g : Both p side (other_side side) w.crossed (station_of w side) (station_of w (other_side side)))
+    → ((i : ℕ) (v : World) → slice_get ws i ≡ Some v → After p v w side g.own g.peer) → History p ws w side
+with_itself p ws w side r b g earlier = (
+  g,
+  all_push {P = λ i v. After p v w side g.own g.peer} ws w earlier
+      (record { us = ws; reached = r; few = b; grown = λ s. same_grown (end_of w s); less = omega arith; told = g; mine = all_crossed _ g.own; theirs = all_crossed _ g.peer }),
+)
+
+pub history : (p : Parameters) (valid : AreParameters p) (ws : List World) (w : World) (side : Side) → Reaches p ws w → IsWithin p w → History p ws w side
+history p valid ws w side (begins m n) b = with_itself p [] w side (begins m n) b (told_by p valid [] w side (begins m n)) (λ i v x. absurd (cc))
+history p valid ws w side (goes_on {ws = us} {w = u} r st) b = step (history p valid us u side r few)
   where
     sd : Stepped u w
     sd = stepped p u w st
 
-    few : (side : Side) → length (end_of u side).made ≤ (start_of p side).base + 1000000
-    few side = (let z = (sd.ends side).longer in let y = b side in omega arith)
+    few : (s : Side) → length (end_of u s).made ≤ (start_of p s).base + 1000000
+    few s = (let z = (sd.ends s).longer in let y = b s in omega arith)
 
-    step : History p us u → History p (us ++ u ∷ []) w
+    step : History p us u side → History p (us ++ u ∷ []) w side
     step h =
-        let kept = told_step p u w st h.0 in
-        let g = kept.0 in
-        let gr = λ (side : Side). (sd.ends side).grown (all_held p us u side r few).mine.held.asks.asked in
-        let l = sd.less in (
-          g,
-          all_push {P = λ i v. After p v w Client g.own g.peer} (us ++ u ∷ []) w
-              (λ i v x. (let k = h.1 i v x in record {
-                us = k.us;
-                reached = k.reached;
-                few = k.few;
-                grown = λ side. both_grown (end_of v side) (end_of u side) (end_of w side) (k.grown side) (gr side);
-                less = (let z = k.less in omega arith);
-                told = k.told;
-                mine = record { kept = λ j d y z. k.mine.kept j d (kept.1.kept j d y (let q = k.less in omega arith)) z; listed = λ j d y. kept.1.listed j d (k.mine.listed j d y) };
-                theirs = record { kept = λ j d y z. k.theirs.kept j d (kept.2.kept j d y (let q = k.less in omega arith)) z; listed = λ j d y. kept.2.listed j d (k.theirs.listed j d y) };
-              }))
-              (after_itself p (us ++ u ∷ []) w (goes_on r st) b g),
-        )
-
--- for a side and its peer
-pub history : (p : Parameters) (valid : AreParameters p) (ws : List World) (w : World) (side : Side) → Reaches p ws w → IsWithin p w
-    → (g : Both p side (other_side side) w.crossed (station_of w side) (station_of w (other_side side))) × ((i : ℕ) (v : World) → slice_get (ws ++ w ∷ []) i ≡ Some v → After p v w side g.own g.peer)
-history p valid ws w Client r b = of_both p valid ws w r b
-history p valid ws w Server r b =
-    let h = of_both p valid ws w r b in (
-      turn p Client Server w.crossed w.client w.server h.0,
-      λ i v x. (let k = h.1 i v x in record { us = k.us; reached = k.reached; few = k.few; grown = k.grown; less = k.less; told = turn p Client Server v.crossed v.client v.server k.told; mine = k.theirs; theirs = k.mine }),
-    )
+        let kept = told_on p u w st side h.0 in
+        let gr = λ (s : Side). (sd.ends s).grown (all_held p us u s r few).mine.held.asks.asked in
+        let l = sd.less in
+        with_itself p (us ++ u ∷ []) w side (goes_on r st) b kept.0
+        (λ i v x. (let k = h.1 i v x in record {
+          us = k.us;
+          reached = k.reached;
+          few = k.few;
+          grown = λ s. both_grown (end_of v s) (end_of u s) (end_of w s) (k.grown s) (gr s);
+          less = (let z = k.less in omega arith);
+          told = k.told;
+          mine = record { kept = λ j d y z. k.mine.kept j d (kept.1.kept j d y (let q = k.less in omega arith)) z; listed = λ j d y. kept.1.listed j d (k.mine.listed j d y) };
+          theirs = record { kept = λ j d y z. k.theirs.kept j d (kept.2.kept j d y (let q = k.less in omega arith)) z; listed = λ j d y. kept.2.listed j d (k.theirs.listed j d y) };
+        }))
 
 -- two worlds one after the other in a run are joined by a step
 pub joined : (p : Parameters) (ws : List World) (w : World) → Reaches p ws w → (i : ℕ) (u v : World) → slice_get (ws ++ w ∷ []) i ≡ Some u → slice_get (ws ++ w ∷ []) (suc i) ≡ Some v → Step p u v
@@ -136,5 +119,4 @@ made_at p s xs own e f j d h g =
     let l = slice_get_within own j d g in
     let n = sends_count p s xs own e f h in
     let a = slice_get_some e.made (base p + j) (omega arith) in
-    let b = copy_at p s xs own e f j a.0 h a.1 in
-    (a.0, a.1, grind (arith, b.1, b.2))
+    (a.0, a.1, grind (arith, copy_at p s xs own e f j a.0 h a.1))

@@ -4,9 +4,8 @@ use Rattle.rasta_check.proofs.Prelude.{not, ◌&&◌, ◌||◌, is_some, Side, C
 use Rattle.rasta_check.proofs.Prelude.{RetrReq, RetrRun, Owed, OweConnectionResponse, Made, EndState, is_closed}
 use Rattle.rasta_end.specs.declared.phase.Phase.TheVariants.{Down}
 use Rattle.rasta_end.specs.State.{is_client}
-use Rattle.rasta_check.proofs.Model.SequenceNumbers.{Numbered}
+use Rattle.rasta_check.proofs.Model.NamedPositions.{Numbered, SnIs}
 use Rattle.rasta_check.proofs.Model.Counts.{owes, is_answer_owed, is_request_owed, requests_in, answers_in, IsRequest}
-use Rattle.rasta_check.proofs.Model.NamedPositions.{SnIs}
 
 -- the connection response is owed
 abbrev pub is_response_owed : Owed → Bool

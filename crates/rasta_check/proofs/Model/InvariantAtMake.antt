@@ -1,14 +1,12 @@
 -- A make keeps what holds, at both ends.
 use Rattle.std.proofs.Common.{◌≡◌, ℕ, ◌+◌, ◌≤◌, true, false, List, [], ◌∷◌, ◌++◌, length, Some, take, refl, ap, sym, ◌∙◌, arith}
 use Rattle.rasta_check.proofs.Prelude.{drop, take-append-le, length_push, slice_get_within, slice_get_past, Side, Client, Kind, ConnectionRequest, DisconnectionRequest}
-use Rattle.rasta_check.proofs.Prelude.{RetransmissionRequest, RetransmissionResponse, SafetyPdu, is_kind, Parameters, Phase, Closed, Start, Why, MakeRow, Owed}
-use Rattle.rasta_check.proofs.Prelude.{OweConnectionResponse, Made, EndState, after_make_by, phase_after, all_push, get_front}
+use Rattle.rasta_check.proofs.Prelude.{RetransmissionRequest, RetransmissionResponse, SafetyPdu, is_kind, Parameters, Phase, Closed, Start, Why, MakeRow, Owed, OweConnectionResponse}
+use Rattle.rasta_check.proofs.Prelude.{Made, EndState, after_make_by, phase_after, all_push, get_front}
 use Rattle.rasta_end.specs.MakeRule.{owed_after}
-use Rattle.rasta_check.proofs.Model.SequenceNumbers.{numbered_push}
-use Rattle.rasta_check.proofs.Model.PassedTests.{Passed, un_not, cs_is}
-use Rattle.rasta_check.proofs.Model.MakeRows.{Making, opening, response, first_beat, answer, again, ask, beat, fresh, MadeBy, new_made}
+use Rattle.rasta_check.proofs.Model.NamedPositions.{numbered_push, SnIs_more}
+use Rattle.rasta_check.proofs.Model.MakeRows.{Passed, un_not, cs_is, Making, opening, response, first_beat, answer, again, ask, beat, fresh, MadeBy, new_made}
 use Rattle.rasta_check.proofs.Model.Counts.{owes, tally, number_push, number_take_more, is_answer_owed, is_request_owed, requests_in, answers_in}
-use Rattle.rasta_check.proofs.Model.NamedPositions.{SnIs_more}
 use Rattle.rasta_check.proofs.Model.Invariant.{Held, Opening, Asking, ended, is_response_owed, is_opener, has_peer, is_named, open_bit, bit_most}
 
 -- how a make changes the phase and what is owed: it ends the connection, opens it, or goes on
@@ -65,10 +63,7 @@ peer_make f u ms m h =
         owing = old.owing;
         answered = all_push ms m
             (λ p n g k c a. (let l = slice_get_within ms p n g in old.answered p n g k c (rw (take-append-le p ms (m ∷ []) (omega (arith, l))) at a)))
-            (λ k c a.
-            let all = number_take_more (is_kind RetransmissionRequest) ms u (length ms) h.accepts.within in
-            let past = slice_get_past f.asks (requests_in (take (length ms) ms)) (omega (arith, all, old.asks_taken)) in
-            absurd (let z = rw (take-append-le (length ms) ms (m ∷ []) (omega arith)) at a in cc));
+            (grind (arith, number_take_more (is_kind RetransmissionRequest) ms u (length ms), slice_get_past, take-append-le (length ms) ms (m ∷ [])));
         asks_taken = omega (arith, ap requests_in taken, old.asks_taken);
         open_requests = omega (arith, ap answers_in taken, old.open_requests);
       };
@@ -86,9 +81,7 @@ peer_make f u ms m h =
 module _ (s : Side) (ph : Phase) (ms : List Made) (m : Made) (a : ℕ) (os : List Owed) (open_yet : ended s ph ms ≡ false) (h : Opening s ph ms a os) where
   make_opening : {ph' : Phase} {os' : List Owed} → Changed s ph m.pdu.kind os ph' os' → Opening s ph' (ms ++ m ∷ []) a os'
   make_opening (over d) = grind (arith, push_some ms m)
-  make_opening (opened b c d) =
-      let u = h.unmade c (nothing_made s ph ms b open_yet) in
-      grind (arith, push_some ms m, u, c)
+  make_opening (opened b c d) = grind (arith, nothing_made, push_some)
   make_opening (goes_on on b c d r) = grind (arith, push_some ms m, on, r, h)
 
   asking_push : {ph' : Phase} {os' : List Owed} {qs : List ℕ} {t : ℕ} {peer : List Made} → Asking s ph ms qs os t peer → answers_in (ms ++ m ∷ []) ≤ length qs
@@ -101,16 +94,9 @@ module _ (s : Side) (ph : Phase) (ms : List Made) (m : Made) (a : ℕ) (os : Lis
   make_asking qs t peer (over d) w =
       asking_push w (grind (arith, number_push, w.asked, d)) (λ v. absurd (let z = over_after s Closed ms m refl in cc)) (grind (arith, number_push, w.open_requests, bit_most ph, d))
   make_asking qs t peer (opened b c d) w =
-      let none = nothing_made s ph ms b open_yet in
-      let owed = ap (owes is_request_owed) (h.unmade c none).1 in
-      asking_push w (grind (arith, number_push, w.asked, d)) (λ v. grind (arith, number_push, w.owing open_yet, d)) (grind (arith, number_push, none, owed, d))
+      asking_push w (grind (arith, number_push, w.asked, d)) (λ v. grind (arith, number_push, w.owing open_yet, d)) (grind (arith, number_push, nothing_made, d))
   make_asking qs t peer (goes_on on b c d r) w =
       asking_push w (grind (arith, number_push, b, w.owing open_yet)) (λ v. grind (arith, number_push, b, w.owing open_yet)) (grind (arith, number_push, c, w.open_requests))
-
-  make_opener : {ph' : Phase} {os' : List Owed} → Changed s ph m.pdu.kind os ph' os' → is_opener m.pdu.kind ≡ true → ms ≡ []
-  make_opener (over d) k = absurd (grind (arith, d))
-  make_opener (opened b c d) k = nothing_made s ph ms b open_yet
-  make_opener (goes_on on b c d r) k = grind (arith, h.response_due, ap (owes is_response_owed) (d k).1)
 
 -- an end that makes a PDU whose CS names one of the peer's has accepted something
 named_connected : {s : Side} {ph ph' : Phase} {k : Kind} {os os' : List Owed} → Changed s ph k os ph' os' → is_named k ≡ true → has_peer s ph ≡ true
@@ -125,7 +111,7 @@ own_make p e x clock why t peer by pass h =
     record {
       list = record {
         numbered = numbered_push e.made n h.list.numbered (un_not _ pass.sn);
-        openers = all_push e.made n h.list.openers (λ k. ap length (make_opener e.side e.phase e.made n e.accepted e.owed pass.open_yet h.opening how k));
+        openers = all_push e.made n h.list.openers (grind (arith, how, nothing_made, h.opening));
       };
       opening = make_opening e.side e.phase e.made n e.accepted e.owed pass.open_yet h.opening how;
       asks = make_asking e.side e.phase e.made n e.accepted e.owed pass.open_yet h.opening e.asks t peer how h.asks;

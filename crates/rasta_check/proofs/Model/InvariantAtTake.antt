@@ -1,11 +1,11 @@
 -- A take keeps what holds of the taker.
 use Rattle.std.proofs.Common.{◌≡◌, ℕ, zero, suc, ◌+◌, ◌<◌, ◌≤◌, Bool, true, false, List, [], ◌∷◌, ◌++◌, length, Some, slice_get, take, refl, ap, sym, arith, ⊎_elim}
-use Rattle.rasta_check.proofs.Prelude.{◌&&◌, length_push, slice_get_within, Side, Kind, RetransmissionRequest, RetransmissionResponse, SafetyPdu, is_kind, Parameters, Phase}
-use Rattle.rasta_check.proofs.Prelude.{Closed, Start, Up, RetrReq, RetrRun, TakeRow, Opened, Answered, FirstHeartbeat, InSequence, ResentInSequence, Gap, GapInRetransmission}
-use Rattle.rasta_check.proofs.Prelude.{Resumed, Requested, RequestedAhead, RequestedAgain, Disconnected, Owed, OweRetransmissionRequest, OweResend, Made, EndState, is_closed}
-use Rattle.rasta_check.proofs.Prelude.{is_flowing, is_connected, is_valid, position_confirmed, resends, after_take, get_push_cases}
+use Rattle.rasta_check.proofs.Prelude.{length_push, slice_get_within, Side, RetransmissionRequest, RetransmissionResponse, SafetyPdu, is_kind, Parameters, Phase, Closed, Start, Up}
+use Rattle.rasta_check.proofs.Prelude.{RetrReq, RetrRun, TakeRow, Opened, Answered, FirstHeartbeat, InSequence, ResentInSequence, Gap, GapInRetransmission, Resumed, Requested}
+use Rattle.rasta_check.proofs.Prelude.{RequestedAhead, RequestedAgain, Disconnected, Owed, OweRetransmissionRequest, OweResend, Made, EndState, is_closed, is_flowing, is_connected}
+use Rattle.rasta_check.proofs.Prelude.{is_valid, position_confirmed, resends, after_take, get_push_cases}
 use Rattle.rasta_end.specs.TakeRule.{steps_past_next, accept, burst}
-use Rattle.rasta_check.proofs.Model.TakeRows.{Premise, Knows, bare_effect, take_bare}
+use Rattle.rasta_check.proofs.Model.TakeRows.{Knows, bare_effect, take_bare}
 use Rattle.rasta_check.proofs.Model.Counts.{owes, number_take_all, number_take_more, number_take_at, is_answer_owed, is_request_owed, owes-append, requests_in, answers_in, IsRequest}
 use Rattle.rasta_check.proofs.Model.NamedPositions.{SnIs, position_is}
 use Rattle.rasta_check.proofs.Model.Invariant.{ended, Held, Holds, Opening, Asking, Accepting, is_response_owed, is_opener, has_peer, is_named, open_bit, bit_most}
@@ -18,18 +18,12 @@ is_inner Answered = false
 is_inner Disconnected = false
 is_inner _ = true
 
-inner_premise : (row : TakeRow) (s : Side) (ph : Phase) (k : Kind) (n a v : Bool) → is_inner row ≡ true → Premise row s ph k n a v → (has_peer s ph ≡ true) × (is_named k ≡ true) × (v ≡ true)
-inner_premise row s ph k n a v h g = grind arith
-
 -- the end has accepted something, and the CS of the PDU is judged and valid
 pub inner : (q : Parameters) (row : TakeRow) (e : EndState) (x : SafetyPdu) → is_inner row ≡ true → Knows q row e x → (has_peer e.side e.phase ≡ true) × (is_named x.kind ≡ true) × (is_valid e x ≡ true)
-inner q row e x i w = inner_premise row e.side e.phase x.kind _ _ _ i w
+inner q row e x i w = grind arith
 
 pub flowing_peer : (s : Side) (ph : Phase) → is_flowing ph ≡ true → has_peer s ph ≡ true
 flowing_peer s ph h = grind arith
-
-pub over_not : (ph : Phase) (b : Bool) → is_closed ph ≡ false → (is_closed ph && b) ≡ false
-over_not ph b e = ap (λ c. c && b) e
 
 -- ---- bursts
 
@@ -67,10 +61,7 @@ module _ (q : Parameters) (e f : EndState) (t u : ℕ) (m : Made) (p : ℕ) (k :
 
   -- the position that an end that has accepted something computes
   pub place : (i : ℕ) → e.accepted ≡ suc i → e.accepted + steps_past_next e m.pdu ≡ p
-  place i a =
-      let w : i < p = omega (arith, k.mine.accepts.reached, k.above) in
-      let s = position_is f.made i p m.pdu.sn e.last_sn k.theirs.list.numbered k.few_theirs here (k.mine.accepts.last i a) w in
-      omega (arith, s, a)
+  place i a = omega (arith, position_is f.made i p m.pdu.sn e.last_sn k.theirs.list.numbered k.few_theirs here (k.mine.accepts.last i a) (omega (arith, k.mine.accepts.reached, k.above)), a)
 
   -- the position that its CS confirms
   pub mark : is_named m.pdu.kind ≡ true → is_valid e m.pdu ≡ true → (j : ℕ) × (SnIs e.made j m.pdu.cs) × (position_confirmed e m.pdu ≡ j) × (j < length e.made)
@@ -93,8 +84,7 @@ module _ (q : Parameters) (e f : EndState) (t u : ℕ) (m : Made) (p : ℕ) (k :
   pub index : IsRequest m → requests_in (take p f.made) ≡ length e.asks
   index a =
       let low = number_take_more (is_kind RetransmissionRequest) f.made t p k.above in
-      let next = number_take_at (is_kind RetransmissionRequest) f.made p m k.there a in
-      omega (arith, number_take_all, bit_most, low, next, k.theirs.asks.open_requests, k.mine.asks.asked, k.mine.asks.asks_taken)
+      omega (arith, number_take_all, bit_most, low, number_take_at (is_kind RetransmissionRequest) f.made p m k.there a, k.theirs.asks, k.mine.asks)
 
   -- the list of asks with one more
   answered_more : (c : ℕ) → IsRequest m → SnIs e.made c m.pdu.cs
@@ -108,8 +98,7 @@ module _ (q : Parameters) (e f : EndState) (t u : ℕ) (m : Made) (p : ℕ) (k :
       let one = number_take_at f_is f.made p m k.there a in
       let two = number_take_at f_is f.made p' n g b in
       let same : p' ≡ p = grind (arith, one, two, new.0, index a, number_take_more f_is f.made (suc p) p', number_take_more f_is f.made (suc p') p) in
-      let same_m : n ≡ m = (let g' = rw same at g in let h = k.there in cc) in
-      rw (← new.1, same_m) s)
+      grind (arith, new.1, k.there, g, s))
       (get_push_cases e.asks c (requests_in (take p' f.made)) d x)
 
   -- the PDU isn't accepted
@@ -118,13 +107,7 @@ module _ (q : Parameters) (e f : EndState) (t u : ℕ) (m : Made) (p : ℕ) (k :
 
   -- it is accepted
   noted : (a : ℕ) → a ≡ p → Accepting e.made (suc a) m.pdu.sn (suc p) f.made
-  noted a at =
-      record {
-        reached = omega arith;
-        within = omega (arith, slice_get_within f.made p m k.there);
-        last = λ i g. (let j : i ≡ p = omega (arith, at, g) in rw j here);
-        named = λ i n g b. (let r = k.mine.accepts.named i n g b in (r.0, omega (arith, at, r.1, k.mine.accepts.reached, k.above), r.2));
-      }
+  noted a at = grind (arith, here, slice_get_within)
 
   -- it shows that the end has made something, and the connection runs
   runs : (ph : Phase) (a : ℕ) (os : List Owed) → is_connected ph ≡ true → is_named m.pdu.kind ≡ true → is_valid e m.pdu ≡ true → (i : ℕ) × (a ≡ suc i) → owes is_response_owed os ≡ 0 → Opening e.side ph e.made a os
@@ -140,7 +123,7 @@ module _ (q : Parameters) (e f : EndState) (t u : ℕ) (m : Made) (p : ℕ) (k :
   module _ (free : e.owed ≡ []) (away : is_closed e.phase ≡ false) where
     -- each request was answered
     pub no_answers : answers_in e.made ≡ length e.asks
-    no_answers = (let o = ap (owes is_answer_owed) free in omega (arith, o, k.mine.asks.owing (over_not e.phase _ away)))
+    no_answers = grind (arith, k.mine.asks.owing)
 
     -- no response is owed
     unasked : (ph : Phase) (os : List Owed) → owes is_answer_owed os ≡ 0
@@ -178,44 +161,31 @@ module _ (q : Parameters) (e f : EndState) (t u : ℕ) (m : Made) (p : ℕ) (k :
     -- it isn't accepted
     waits : (row : TakeRow) → Knows q row e m.pdu → is_inner row ≡ true → (ph : Phase) (c : ℕ) (os : List Owed) (qs : List ℕ) → is_connected ph ≡ true → c ≤ length e.made
         → owes is_response_owed os ≡ 0 → Asking e.side ph e.made qs os (suc p) f.made → Held (record e { phase = ph; confirmed = c; owed = os; asks = qs }) (suc p) f.made
-    waits row w inside ph c os qs on confirmed none asks =
-        let (peer, nm, vd) = inner q row e m.pdu inside w in
-        holds (runs ph e.accepted os on nm vd (k.mine.opening.connected peer) none) asks skipped confirmed
-
-    -- a request is owed
-    gap : (row : TakeRow) → Knows q row e m.pdu → is_inner row ≡ true → open_bit e.phase ≡ 0 → Held (record e { phase = RetrReq; owed = OweRetransmissionRequest ∷ [] }) (suc p) f.made
-    gap row w inside bit = waits row w inside RetrReq e.confirmed _ e.asks refl k.mine.confirmed refl (unasked RetrReq _ refl (omega (arith, bit, more_answers)))
-
-    -- what it owes is owed before the PDU is judged again
-    quiet : owes is_response_owed e.owed ≡ 0
-    quiet = ap (owes is_response_owed) free
+    waits row w inside ph c os qs on confirmed none asks = grind (arith, holds, inner, runs, skipped)
 
     by_row : (row : TakeRow) → Knows q row e m.pdu → Held (bare_effect q row e m.pdu) (suc p) f.made
     by_row Opened w =
-        let d = k.mine.opening.down w.0 in
-        holds (grind (arith, d)) (unasked Start _ refl (omega (arith, ap open_bit w.0, more_answers))) (noted 0 (sym (k.theirs.list.openers p m k.there (ap is_opener w.1)))) k.mine.confirmed
+        holds (grind arith) (unasked Start _ refl (omega (arith, ap open_bit w.0, more_answers))) (noted 0 (sym (k.theirs.list.openers p m k.there (ap is_opener w.1)))) k.mine.confirmed
     by_row Answered w =
-        let asks = unasked Up _ refl (omega (arith, ap open_bit w.1, more_answers)) in
-        holds (runs Up 1 _ refl (ap is_named w.2) w.3 (0, refl) refl) asks (noted 0 (sym (k.theirs.list.openers p m k.there (ap is_opener w.2)))) (confirms (ap is_named w.2) w.3)
-    by_row FirstHeartbeat w = accepts FirstHeartbeat w refl Up e.owed e.asks refl quiet (unchanged Up (grind (arith, w)))
-    by_row InSequence w = accepts InSequence w refl Up e.owed e.asks refl quiet (unchanged Up (grind (arith, w)))
-    by_row ResentInSequence w = accepts ResentInSequence w refl e.phase e.owed e.asks (ap is_connected w.0) quiet (unchanged e.phase (omega arith))
-    by_row Gap w = gap Gap w refl (ap open_bit w.0)
-    by_row GapInRetransmission w = gap GapInRetransmission w refl (ap open_bit w.0)
+        holds (runs Up 1 _ refl (ap is_named w.2) w.3 (0, refl) refl) (unasked Up _ refl (omega (arith, ap open_bit w.1, more_answers)))
+        (noted 0 (sym (k.theirs.list.openers p m k.there (ap is_opener w.2)))) (confirms (ap is_named w.2) w.3)
+    by_row FirstHeartbeat w = accepts FirstHeartbeat w refl Up e.owed e.asks refl (grind arith) (unchanged Up (grind (arith, w)))
+    by_row InSequence w = accepts InSequence w refl Up e.owed e.asks refl (grind arith) (unchanged Up (grind (arith, w)))
+    by_row ResentInSequence w = accepts ResentInSequence w refl e.phase e.owed e.asks (ap is_connected w.0) (grind arith) (unchanged e.phase (omega arith))
+    by_row Gap w = waits Gap w refl RetrReq e.confirmed _ e.asks refl k.mine.confirmed refl (unasked RetrReq _ refl (omega (arith, ap open_bit w.0, more_answers)))
+    by_row GapInRetransmission w = waits GapInRetransmission w refl RetrReq e.confirmed _ e.asks refl k.mine.confirmed refl (unasked RetrReq _ refl (omega (arith, ap open_bit w.0, more_answers)))
     by_row Resumed w =
         let next = number_take_at (is_kind RetransmissionResponse) f.made p m k.there (ap (is_kind RetransmissionResponse) w.1) in
         let low = number_take_more (is_kind RetransmissionResponse) f.made t p k.above in
-        accepts Resumed w refl RetrRun e.owed e.asks refl quiet (unasked RetrRun e.owed (ap (owes is_answer_owed) free) (omega (arith, ap open_bit w.0, next, low, ap (owes is_request_owed) free)))
-    by_row Requested w =
-        let o = burst_burdens e (position_confirmed e m.pdu) in
-        accepts Requested w refl e.phase _ _ (grind (arith, w)) o.response (burdened e.phase _ w.1 w.2 o (omega arith))
+        accepts Resumed w refl RetrRun e.owed e.asks refl (grind arith) (unasked RetrRun e.owed (grind arith) (omega (arith, ap open_bit w.0, next, low, ap (owes is_request_owed) free)))
+    by_row Requested w = accepts Requested w refl e.phase _ _ (grind (arith, w)) (burst_burdens e (position_confirmed e m.pdu)).response (burdened e.phase _ w.1 w.2 (burst_burdens e _) (omega arith))
     by_row RequestedAhead w =
         let o = burst_and_request e (position_confirmed e m.pdu) in
         waits RequestedAhead w refl RetrReq _ _ _ refl (confirms (ap is_named w.1) w.2) o.response (burdened RetrReq _ w.1 w.2 o (grind (arith, w)))
     by_row RequestedAgain w =
         let o = burst_burdens e (position_confirmed e m.pdu) in
         waits RequestedAgain w refl e.phase _ _ _ (ap is_connected w.0) (confirms (ap is_named w.1) w.2) o.response (burdened e.phase _ w.1 w.2 o (omega arith))
-    by_row Disconnected w = holds (grind (arith, quiet, k.mine.opening.unmade)) (unchanged Closed (bit_most e.phase)) skipped k.mine.confirmed
+    by_row Disconnected w = holds (grind (arith, k.mine.opening.unmade)) (unchanged Closed (bit_most e.phase)) skipped k.mine.confirmed
 
   pub own_take : (is_closed e.phase ≡ false → e.owed ≡ []) → Held (after_take q e m.pdu) (suc p) f.made
   own_take free =

@@ -1,22 +1,17 @@
 -- Every run keeps what holds.
-use Rattle.std.proofs.Common.{◌≡◌, ℕ, suc, ◌≤◌, false, List, [], ◌∷◌, length, Option, Some, None, slice_get, refl, ap, sym, subst, ◌∙◌, arith, inr}
-use Rattle.rasta_check.proofs.Prelude.{length_push, Side, Client, Server, Packet, Parameters, Quiet, Made, EndState, is_closed, after_make_by, take_fault, start_by, Station, World}
-use Rattle.rasta_check.proofs.Prelude.{Move, Moves, makes, repeats, arrives, takes, waits, station_of, end_of, other_side, Reaches, IsWithin}
+use Rattle.std.proofs.Common.{◌≡◌, ℕ, suc, ◌≤◌, false, List, [], length, Option, Some, None, refl, ap, sym, subst, ◌∙◌, arith}
+use Rattle.rasta_check.proofs.Prelude.{length_push, Side, Client, Server, Packet, Parameters, Quiet, EndState, is_closed, after_make_by, take_fault, start_by, Station, World, Move}
+use Rattle.rasta_check.proofs.Prelude.{Moves, makes, takes, side_moves, station_of, end_of, other_side, Reaches, begins, goes_on, first_station, IsWithin}
 use Rattle.rasta_pdu.specs.declared.quiet_point.QuietEnd.{QuietEnd}
 use Rattle.rasta_end.specs.Starts.{sn_before, quiet_pdu, quiet_end}
-use Rattle.rasta_check.proofs.Model.PassedTests.{passed}
-use Rattle.rasta_check.proofs.Model.MakeRows.{made_by, after_row, new_made}
+use Rattle.rasta_check.proofs.Model.MakeRows.{passed, made_by, after_row, new_made}
 use Rattle.rasta_check.proofs.Model.TakeRows.{take_made}
 use Rattle.rasta_check.proofs.Model.NamedPositions.{SnIs}
 use Rattle.rasta_check.proofs.Model.Invariant.{Held}
 use Rattle.rasta_check.proofs.Model.InvariantAtMake.{own_make, peer_make}
 use Rattle.rasta_check.proofs.Model.InvariantAtTake.{Taken, own_take}
-use Rattle.rasta_check.proofs.Model.OfferedUnits.{Valued}
-use Rattle.rasta_check.proofs.Model.OfferedUnitsAtMake.{valued_make}
-use Rattle.rasta_check.proofs.Model.OfferedUnitsAtTake.{valued_take}
-use Rattle.rasta_check.proofs.Model.HandedUnits.{Handed, handed_make, handed_peer, handed_take}
-use Rattle.rasta_check.proofs.Model.ShownUnits.{Shown, shown_make, shown_peer_make, shown_take, shown_peer_take}
-use Rattle.rasta_check.proofs.Model.Induction.{always}
+use Rattle.rasta_check.proofs.Model.OfferedUnits.{Valued, valued_make, valued_take}
+use Rattle.rasta_check.proofs.Model.HandedUnits.{Handed, handed_make, handed_peer, handed_take, Shown, shown_make, shown_peer_make, shown_take, shown_peer_take}
 use Rattle.rasta_check.proofs.Model.Steps.{start_base, base_small, grown_make, grown_take}
 
 -- all that holds of an end e that took its peer's PDUs up to position t, and of this peer f
@@ -33,33 +28,11 @@ pub record All (a b : Station) : Type 0 where
 
 -- ---- the start: a fresh end, or one at a quiet point
 
--- the only one of a list of one
-only_at : (x m : Made) (i : ℕ) → slice_get (x ∷ []) i ≡ Some m → (i ≡ 0) × (x ≡ m)
-only_at x m i e = grind arith
-
 -- each quiet PDU confirms the other
 quiet_in_run : (side peer : Side) (own other : QuietEnd) → InRun (quiet_end side own other) 1 (quiet_end peer other own)
 quiet_in_run side peer own other =
     let first : SnIs (quiet_end peer other own).made 0 (sn_before other.next_sn) = record { m = record { pdu = quiet_pdu other own; unit = None }; there = refl; same = refl } in
-    let confirms : (i : ℕ) (m : Made) → slice_get (quiet_end side own other).made i ≡ Some m → SnIs (quiet_end peer other own).made 0 m.pdu.cs =
-    λ i m e. (let z = ap (λ (n : Made). n.pdu.cs) (only_at _ m i e).1 in rw (sym z) first) in
-    record {
-      held = record {
-        list = grind (arith, only_at);
-        opening = grind arith;
-        asks = grind arith;
-        accepts = record { reached = omega arith; within = omega arith; last = λ i v. (let z : i ≡ 0 = omega arith in rw z first); named = λ i m e k. (0, omega arith, confirms i m e) };
-        confirmed = omega arith;
-      };
-      values = grind (arith, only_at);
-      handed = grind arith;
-      shown = record {
-        shown = λ i m g k. inr (record { at = 0; units = 0; named = confirms i m g; conveyed = refl; most = omega arith });
-        first_words = grind arith;
-        ready_run = grind arith;
-        ready_offer = grind arith;
-      };
-    }
+    grind arith
 
 -- ---- the steps
 
@@ -79,12 +52,7 @@ all_kept p b a a' xs ys move (makes x why after channel reserve check bytes mk s
     let h = g (omega (arith, l, longer, ap (λ (e : EndState). length e.made) now)) r in
     let grown = grown_make p a.state x a.clock why by ok in
     subst (λ (e : EndState). All (record a { state = e }) b) now (record {
-      mine = record {
-        held = own_make p a.state x a.clock why a.taken b.state.made by ok h.mine.held;
-        values = valued_make p a.state x a.clock why a.taken b.state.made by ok h.mine.held h.mine.values;
-        handed = handed_make p a.state b.state x a.clock why a.taken by ok h.mine.held h.mine.handed;
-        shown = shown_make p a.state b.state x a.clock why a.taken by ok h.mine.held h.mine.handed h.mine.shown;
-      };
+      mine = grind (arith, handed_make, own_make, shown_make, valued_make);
       theirs = record {
         held = peer_make b.state b.taken a.state.made _ h.theirs.held;
         values = h.theirs.values;
@@ -92,8 +60,6 @@ all_kept p b a a' xs ys move (makes x why after channel reserve check bytes mk s
         shown = shown_peer_make b.state a.state x a.clock why by grown h.theirs.shown;
       };
     }))
-all_kept p b a a' xs ys move (repeats place channel old there s rec) g = g
-all_kept p b a a' xs ys move (arrives position i j) g = λ l r. (let h = g l r in record { mine = h.mine; theirs = h.theirs })
 all_kept p b a a' xs ys move (takes position m after c i s t) g = λ l r. (
     let same : after.made ≡ a.state.made = ap (λ (e : EndState). e.made) t.1 ∙ take_made p a.state m.pdu in
     let few : length a.state.made ≤ 1000001 = rw same at l in
@@ -115,13 +81,28 @@ all_kept p b a a' xs ys move (takes position m after c i s t) g = λ l r. (
         shown = shown_peer_take p b.state a.state b.taken m position h.theirs.held s grown h.theirs.shown;
       };
     }))
-all_kept p b a a' xs ys move (waits clock i) g = λ l r. (let h = g l r in record { mine = h.mine; theirs = h.theirs })
+all_kept p b a a' xs ys move _ g = λ l r. (let h = g l r in record { mine = h.mine; theirs = h.theirs })
+
+-- ---- what each step keeps holds in every run
+
+-- of the two stations, whichever stands first
+module _ (p : Parameters) (Good : Station → Station → Type 0)
+    (turned : (a b : Station) → Good a b → Good b a)
+    (first : (m n : ℕ) → Good (first_station p Client m) (first_station p Server n))
+    (kept : (b a a' : Station) (xs ys : List Packet) (move : Move) → Moves p b xs a move a' ys → Good a b → Good a' b) where
+  of_both : (ws : List World) (w : World) → Reaches p ws w → Good w.client w.server
+  of_both ws w (begins m n) = first m n
+  of_both ws w (goes_on {ws = vs} {w = v} r (side_moves {a = a} {after = ys} {move = move} Client m)) = kept v.server v.client a v.crossed ys move m (of_both vs v r)
+  of_both ws w (goes_on {ws = vs} {w = v} r (side_moves {a = a} {after = ys} {move = move} Server m)) = turned a v.client (kept v.client v.server a v.crossed ys move m (turned v.client v.server (of_both vs v r)))
+
+  -- of each side and its peer
+  pub always : (ws : List World) (w : World) (side : Side) → Reaches p ws w → Good (station_of w side) (station_of w (other_side side))
+  always ws w side r = grind (arith, of_both)
 
 -- ---- every run
 
 first_in_run : (quiet : Option Quiet) (side : Side) → InRun (start_by quiet side) (start_by quiet side).base (start_by quiet (other_side side))
-first_in_run None Client = grind arith
-first_in_run None Server = grind arith
+first_in_run None side = grind arith
 first_in_run (Some q) Client = quiet_in_run Client Server q.client q.server
 first_in_run (Some q) Server = quiet_in_run Server Client q.server q.client
 
@@ -129,10 +110,7 @@ first_in_run (Some q) Server = quiet_in_run Server Client q.server q.client
 pub few_made : (p : Parameters) (w : World) → IsWithin p w → (side : Side) → length (end_of w side).made ≤ 1000001
 few_made p w within side = omega (arith, within side, start_base p.quiet side, base_small p.quiet)
 
-turned : (a b : Station) → Whole a b → Whole b a
-turned a b g l m = (let h = g m l in record { mine = h.theirs; theirs = h.mine })
-
 pub all_held : (p : Parameters) (ws : List World) (w : World) (side : Side) → Reaches p ws w → IsWithin p w → All (station_of w side) (station_of w (other_side side))
 all_held p ws w side r within =
-    always p Whole turned (λ m n l k. record { mine = first_in_run p.quiet Client; theirs = first_in_run p.quiet Server }) (all_kept p) ws w side r
-    (few_made p w within side) (few_made p w within (other_side side))
+    always p Whole (λ a b g l m. (let h = g m l in record { mine = h.theirs; theirs = h.mine }))
+    (λ m n l k. record { mine = first_in_run p.quiet Client; theirs = first_in_run p.quiet Server }) (all_kept p) ws w side r (few_made p w within side) (few_made p w within (other_side side))

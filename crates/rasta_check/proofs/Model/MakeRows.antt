@@ -1,9 +1,10 @@
--- The rows of the make table, one by one.
-use Rattle.std.proofs.Common.{◌≡◌, ℕ, Bool, true, false, List, [], ◌∷◌, Some, refl, ap, sym, arith}
-use Rattle.rasta_check.proofs.Prelude.{Side, Client, Server, Kind, ConnectionRequest, ConnectionResponse, RetransmissionRequest, RetransmissionResponse}
-use Rattle.rasta_check.proofs.Prelude.{DisconnectionRequest, Data, RetransmittedData, SafetyPdu, is_kind, Parameters, Phase, Closed, Start, Up, Why, MakeRow, Owed}
-use Rattle.rasta_check.proofs.Prelude.{OweConnectionResponse, OweRetransmissionResponse, OweResend, OweRetransmissionRequest, Made, EndState, is_connected, row_of, after_make}
-use Rattle.rasta_check.proofs.Prelude.{after_make_by}
+-- What an allowed make has passed, and the rows of the make table, one by one.
+use Rattle.std.proofs.Common.{◌≡◌, ◌<◌, ℕ, Bool, true, false, List, [], ◌∷◌, Some, ap, sym, arith}
+use Rattle.rasta_check.proofs.Prelude.{Side, Client, Server, Kind, ConnectionRequest, ConnectionResponse, RetransmissionRequest, RetransmissionResponse, DisconnectionRequest, Data}
+use Rattle.rasta_check.proofs.Prelude.{RetransmittedData, SafetyPdu, Parameters, Phase, Closed, Start, Up, Why, MakeRow, Owed, OweConnectionResponse, OweRetransmissionResponse}
+use Rattle.rasta_check.proofs.Prelude.{OweResend, OweRetransmissionRequest, Made, EndState, is_connected, row_of, after_make, after_make_by, not, ◌&&◌, ◌==◌, nat_lt, nat_tests}
+use Rattle.rasta_check.proofs.Prelude.{content_of, wrapped, has_ended}
+use Rattle.std.specs.Prelude.{All, IsFalse}
 use Rattle.std.proofs.lemmas.Bool.{and_parts}
 use Rattle.std.specs.Bool.{then_some}
 use Rattle.rasta_pdu.specs.declared.kind.Kind.TheVariants.{Heartbeat}
@@ -12,9 +13,33 @@ use Rattle.rasta_end.specs.declared.make_row.MakeRow.TheVariants.{Opens, Answers
 use Rattle.rasta_end.specs.declared.owed.Owed.TheVariants.{FirstHeartbeat as OweFirstHeartbeat}
 use Rattle.rasta_end.specs.declared.owed.Demand.{Demand}
 use Rattle.rasta_end.specs.declared.owed.Demand.TheVariants.{First, Nothing, Anything}
-use Rattle.rasta_end.specs.State.{is_active, reason_of}
-use Rattle.rasta_end.specs.MakeRule.{make_row, demand_of, lacks, owes_else, is_refused_row, is_owing_else, unit_of}
-use Rattle.rasta_check.proofs.Model.PassedTests.{Passed}
+use Rattle.rasta_end.specs.State.{is_active}
+use Rattle.rasta_end.specs.MakeRule.{make_row, demand_of, lacks, owes_else, is_refused_row, is_owing_else, unit_of, make_tests, is_next_sn, is_judged, confirms_last, differs, is_expired}
+use Rattle.rasta_end.specs.MakeRule.{is_past, is_early, confirms_a_time}
+
+-- what an allowed make has passed
+pub record Passed (p : Parameters) (e : EndState) (x : SafetyPdu) (clock : ℕ) (why : Why) : Type 0 where
+  pub open_yet : has_ended e ≡ false
+  pub row : is_refused_row (row_of e x why) e.owed ≡ false
+  pub owed : is_owing_else (row_of e x why) e.owed ≡ false
+  pub sn : not (is_next_sn e.made x.sn) ≡ false
+  pub stamp : not (x.ts == wrapped clock) ≡ false
+  pub rises : nat_lt clock e.clock ≡ false
+  pub in_time : (not (is_expired why) && is_past p e.deadline clock) ≡ false
+  pub late : (is_expired why && is_early p e.deadline clock) ≡ false
+  pub cs : (is_judged e x.kind && not (confirms_last e x.cs)) ≡ false
+  pub cts : (is_judged e x.kind && not (confirms_a_time e x.cts)) ≡ false
+  pub same : differs e.made (row_of e x why) (content_of x.body) ≡ false
+
+pub passed : (p : Parameters) (e : EndState) (x : SafetyPdu) (clock : ℕ) (why : Why) → All IsFalse (make_tests p e x clock why) → Passed p e x clock why
+passed p e x clock why h = search (arith, h 0 true, h 1 true, h 2 true, h 3 true, h 4 true, h 5 true, h 6 true, h 7 true, h 8 true, h 9 true, h 10 true)
+
+pub un_not : (b : Bool) → not b ≡ false → b ≡ true
+un_not b e = grind arith
+
+-- a CS that is judged: something was accepted, and it is the SN of the last accepted PDU
+pub cs_is : (e : EndState) (kind : Kind) (cs : ℕ) → is_judged e kind ≡ true → (is_judged e kind && not (confirms_last e cs)) ≡ false → (0 < e.accepted) × (cs ≡ e.last_sn)
+cs_is e kind cs j h = grind (arith, nat_tests)
 
 -- which row allows a make: side, phase, why, type, what is owed, and the row
 pub data Making : Side → Phase → Why → Kind → List Owed → MakeRow → Type 0 where
@@ -44,8 +69,7 @@ meets d os h g = grind arith
 -- the row that a test lets through
 row_by : {s : Side} {ph : Phase} {why : Why} {k : Kind} (row : MakeRow) (b : Bool) (os : List Owed) → is_refused_row (then_some b row) os ≡ false → is_owing_else (then_some b row) os ≡ false
     → (b ≡ true → Met (demand_of row) os → Making s ph why k os row) → (r : MakeRow) × (then_some b row ≡ Some r) × Making s ph why k os r
-row_by row false os e f how = absurd (cc)
-row_by row true os e f how = (row, refl, how refl (meets (demand_of row) os e f))
+row_by row b os e f how = grind (arith, meets)
 
 -- the row of a make that is neither refused nor kept back by what is owed
 pub making : (s : Side) (ph : Phase) (reason : ℕ) (why : Why) (k : Kind) (os : List Owed)
@@ -64,10 +88,6 @@ making s ph reason Bye DisconnectionRequest os e f = row_by Leaves _ os e f (λ 
 making s ph reason Expired DisconnectionRequest os e f = row_by TimesOut _ os e f (λ b m. expired (and_parts _ _ b).0)
 making s ph reason _ _ os e f = absurd (cc)
 
--- a connection request is made by a closed client
-pub opening_is : {s : Side} {ph : Phase} {why : Why} {k : Kind} {os : List Owed} {row : MakeRow} → Making s ph why k os row → is_kind ConnectionRequest k ≡ true → (s ≡ Client) × (ph ≡ Closed) × (row ≡ Opens)
-opening_is h g = grind arith
-
 -- ---- the row of a make
 
 -- the row by which an end makes a PDU
@@ -77,9 +97,7 @@ pub record MadeBy (e : EndState) (x : SafetyPdu) (why : Why) : Type 0 where
   pub how : Making e.side e.phase why x.kind e.owed row
 
 pub made_by : (p : Parameters) (e : EndState) (x : SafetyPdu) (clock : ℕ) (why : Why) → Passed p e x clock why → MadeBy e x why
-made_by p e x clock why pass =
-    let m = making e.side e.phase (reason_of x.body) why x.kind e.owed pass.row pass.owed in
-    record { row = m.0; is = m.1; how = m.2 }
+made_by p e x clock why pass = grind (arith, making)
 
 -- the end after a make is that of its row
 pub after_row : (e : EndState) (x : SafetyPdu) (clock : ℕ) (why : Why) (m : MadeBy e x why) → after_make_by (Some m.row) e x clock ≡ after_make e x clock why

@@ -1,8 +1,29 @@
--- Which position an SN and a CS name.
-use Rattle.std.proofs.Common.{◌≡◌, ℕ, suc, ◌+◌, ◌%◌, ◌^◌, ◌<◌, ◌≤◌, true, List, [], ◌∷◌, length, Some, slice_get, ap, sym, ◌∙◌, arith}
-use Rattle.rasta_check.proofs.Prelude.{nat_lt, nat_tests, slice_get_within, Made, first_sn}
+-- SNs rise by one, so an SN names one position; which position an SN and a CS name.
+use Rattle.std.proofs.Common.{◌≡◌, ℕ, suc, ◌+◌, ◌%◌, ◌^◌, ◌<◌, ◌≤◌, true, List, [], ◌∷◌, ◌++◌, length, Some, slice_get, ap, sym, ◌∙◌, arith}
+use Rattle.rasta_check.proofs.Prelude.{nat_tests, slice_get_within, Made, first_sn, all_push}
 use Rattle.rasta_end.specs.State.{ahead_by, sn_at}
-use Rattle.rasta_check.proofs.Model.SequenceNumbers.{Numbered, sn_from_first}
+use Rattle.rasta_end.specs.MakeRule.{is_next_sn}
+
+-- each SN but the first follows from the first
+abbrev pub Numbered : List Made → Type 0
+Numbered ms = (i : ℕ) (m : Made) → slice_get ms (suc i) ≡ Some m → m.pdu.sn ≡ sn_at ms (suc i)
+
+-- a make goes on with the next SN
+pub numbered_push : (ms : List Made) (m : Made) → Numbered ms → is_next_sn ms m.pdu.sn ≡ true → Numbered (ms ++ m ∷ [])
+numbered_push [] m h t = λ i n e. absurd (cc)
+numbered_push (x ∷ ms) m h t = all_push ms m h (grind (arith, nat_tests, t))
+
+-- modulo 2^32 an SN is the first one and its position
+pub sn_from_first : (ms : List Made) (i : ℕ) (m : Made) → Numbered ms → slice_get ms i ≡ Some m → m.pdu.sn % 2 ^ 32 ≡ (first_sn ms + i) % 2 ^ 32
+sn_from_first ms i m h g = grind arith
+
+-- an SN names one position
+pub numbered_once : (ms : List Made) → length ms ≤ 1000001 → Numbered ms
+    → (i j : ℕ) (x y : Made) → slice_get ms i ≡ Some x → slice_get ms j ≡ Some y → x.pdu.sn ≡ y.pdu.sn → i ≡ j
+numbered_once ms b h i j x y ex ey s =
+    let l = slice_get_within ms i x ex in
+    let r = slice_get_within ms j y ey in
+    omega (arith, l, r, s, sn_from_first ms i x h ex, sn_from_first ms j y h ey)
 
 -- the PDU at this position has this SN
 pub record SnIs (ms : List Made) (i sn : ℕ) : Type 0 where
@@ -23,12 +44,3 @@ pub position_is : (ms : List Made) (i p u v : ℕ) → Numbered ms → length ms
 position_is ms i p u v h b x y l =
     let w : p < length ms = slice_get_within ms p x.m x.there in
     omega (arith, sn_mod ms p u h x, sn_mod ms i v h y)
-
--- a valid SN of a position lies as far after the confirmed one as the position does
-pub valid_at : (ms : List Made) (c j u : ℕ) → Numbered ms → length ms ≤ 1000001 → c ≤ length ms → SnIs ms j u
-    → nat_lt (ahead_by u (sn_at ms c)) (ahead_by (sn_at ms (length ms)) (sn_at ms c)) ≡ true → c + ahead_by u (sn_at ms c) ≡ j
-valid_at [] c j u h b l s v = absurd (let e = s.there in cc)
-valid_at (m ∷ ms) c j u h b l s v =
-    let w : j < length (m ∷ ms) = slice_get_within (m ∷ ms) j s.m s.there in
-    let t : ahead_by u ((m.pdu.sn + c) % 2 ^ 32) < ahead_by ((m.pdu.sn + length (m ∷ ms)) % 2 ^ 32) ((m.pdu.sn + c) % 2 ^ 32) = grind (arith, nat_tests) in
-    omega (arith, sn_mod (m ∷ ms) j u h s, l, w, b, t)

@@ -1,13 +1,12 @@
 -- What an end was asked, and what its retransmission responses answer.
-use Rattle.std.proofs.Common.{◌≡◌, ℕ, zero, suc, ◌<◌, Bool, true, false, List, [], ◌∷◌, length, Some, slice_get, take, refl, ap, sym, ◌∙◌, arith, subst}
+use Rattle.std.proofs.Common.{◌≡◌, ℕ, zero, suc, ◌<◌, Bool, true, false, List, [], ◌∷◌, length, Some, slice_get, take, refl, sym, arith, subst}
 use Rattle.rasta_check.proofs.Prelude.{filter, slice_index_or, take-append_seam, nat_tests, slice_get_within, slice_get-get_or, Kind, RetransmissionRequest, RetransmissionResponse}
 use Rattle.rasta_check.proofs.Prelude.{SafetyPdu, is_kind, Made, EndState, kinds, pdus_made, position_with, asked_positions, NamesOne, begins_with, get_next}
 use Rattle.rasta_end.specs.Units.{responses_in}
 use Rattle.rasta_check.specs.Model.Laws.{requests_of, AnswersInOrder}
 use Rattle.rasta_check.proofs.Model.Counts.{number, tally, number_take_all, number_take_at, requests_in, answers_in, IsRequest}
-use Rattle.rasta_check.proofs.Model.TakeRows.{kind_is}
 use Rattle.rasta_check.proofs.Model.NamedPositions.{SnIs}
-use Rattle.rasta_check.proofs.Model.Invariant.{Held, is_named}
+use Rattle.rasta_check.proofs.Model.Invariant.{Held}
 use Rattle.rasta_check.proofs.Model.ConveyedUnits.{answers_number}
 use Rattle.rasta_check.proofs.Model.OfferedUnits.{Valued}
 
@@ -20,8 +19,7 @@ OnceIn ms = (i j : ℕ) (m n : Made) → slice_get ms i ≡ Some m → slice_get
 -- where an SN names one position it is the one that a CS confirms
 pub named_position : (ms : List Made) (c sn : ℕ) → OnceIn ms → SnIs ms c sn → position_with (pdus_made ms) sn ≡ Some c
 named_position [] c sn once s = absurd (let e = s.there in cc)
-named_position (x ∷ ms) zero sn once s =
-    grind (arith, nat_tests, s.there, s.same)
+named_position (x ∷ ms) zero sn once s = grind arith
 named_position (x ∷ ms) (suc c) sn once s =
     let later = named_position ms c sn (λ i j m n e f g. omega (arith, once (suc i) (suc j) m n e f g)) (record { m = s.m; there = s.there; same = s.same }) in
     grind (arith, nat_tests, later, s.same, once 0 (suc c) x s.m refl s.there)
@@ -62,14 +60,13 @@ AllNamed own ms = (p : ℕ) (m : Made) → slice_get ms p ≡ Some m → IsReque
 pub asked_at : (own : List SafetyPdu) (ms : List Made) → AllNamed own ms → (p : ℕ) (m : Made) (c : ℕ) → slice_get ms p ≡ Some m → IsRequest m
     → position_with own m.pdu.cs ≡ Some c → slice_get (asked_positions own (pdus_made ms)) (requests_in (take p ms)) ≡ Some c
 asked_at own [] all p m c e r h = absurd (cc)
-asked_at own (x ∷ ms) all zero m c e r h = grind (arith, e, r, h)
-asked_at own (x ∷ ms) all (suc p) m c e r h = grind (arith, all 0 x refl, asked_at own ms (λ q n g. all (suc q) n g) p m c e r h)
+asked_at own (x ∷ ms) all p m c e r h = grind (arith, all 0 x refl, asked_at own ms (λ q n g. all (suc q) n g))
 
 -- ---- asks and answers
 
 module _ (e f : EndState) (t u : ℕ) (h : Held e t f.made) (peer : Held f u e.made) (w : Valued e) (once : NamesOne e f) where
   all_named : AllNamed (pdus_made e.made) f.made
-  all_named p m g r = (let n = peer.accepts.named p m g (ap is_named (kind_is RetransmissionRequest m.pdu.kind r)) in (n.0, named_position e.made n.0 m.pdu.cs once n.2))
+  all_named p m g r = (let n = peer.accepts.named p m g (grind (arith, r)) in (n.0, named_position e.made n.0 m.pdu.cs once n.2))
 
   -- the k-th ask is that of the k-th request
   pub ask_at : (k c : ℕ) → slice_get e.asks k ≡ Some c
@@ -91,9 +88,8 @@ module _ (e f : EndState) (t u : ℕ) (h : Held e t f.made) (peer : Held f u e.m
     beginning = begins_with e.asks (asked_positions (pdus_made e.made) (pdus_made f.made)) (λ k c g. (ask_at k c g).3);
     answers = λ before after m is r.
         let there : slice_get e.made (length before) ≡ Some m = subst (λ (ms : List Made). slice_get ms (length before) ≡ Some m) (sym is) (get_next before (m ∷ after)) in
-        let front : take (length before) e.made ≡ before = ap (take (length before)) is ∙ take-append_seam before (m ∷ after) in
         let n = responses_in (kinds before) in
-        let n_is : n ≡ answers_in (take (length before) e.made) = answers_number before ∙ ap answers_in (sym front) in
+        let n_is : n ≡ answers_in (take (length before) e.made) = grind (arith, answers_number, take-append_seam) in
         let one = number_take_at (is_kind RetransmissionResponse) e.made (length before) m there r in
         let ask = slice_index_or e.asks n 0 in
         let asked = slice_get-get_or e.asks n 0 (omega (arith, number_take_all, n_is, one, h.asks.asked)) in

@@ -1,12 +1,11 @@
 -- What a step adds and leaves alone, and what holds at the start.
-use Rattle.std.proofs.Common.{◌≡◌, ℕ, ◌≤◌, true, [], ◌∷◌, ◌++◌, length, Option, Some, None, slice_get, refl, sym, ◌∙◌, arith}
-use Rattle.rasta_check.proofs.Prelude.{nat_tests, Side, Parameters, SafetyPdu, TakeRow, Requested, position_confirmed, effect, after_take, Quiet, Why, Made, EndState, Makes}
-use Rattle.rasta_check.proofs.Prelude.{has_ended, after_make_by, start_by, get_front}
+use Rattle.std.proofs.Common.{◌≡◌, ℕ, ◌≤◌, true, [], ◌∷◌, ◌++◌, length, Option, Some, None, slice_get, refl, arith}
+use Rattle.rasta_check.proofs.Prelude.{nat_tests, Side, Parameters, SafetyPdu, TakeRow, Requested, position_confirmed, effect, after_take, Quiet, Why, Made, EndState, Makes, has_ended}
+use Rattle.rasta_check.proofs.Prelude.{after_make_by, start_by, get_front}
 use Rattle.rasta_check.proofs.Model.Counts.{answers_in}
 use Rattle.rasta_check.proofs.Model.ConveyedUnits.{values, values_push, values_asks}
 use Rattle.rasta_check.proofs.Model.TakeRows.{take_by, take_made}
-use Rattle.rasta_check.proofs.Model.PassedTests.{Passed, passed}
-use Rattle.rasta_check.proofs.Model.MakeRows.{MadeBy, made_by, after_row, new_made}
+use Rattle.rasta_check.proofs.Model.MakeRows.{Passed, passed, MadeBy, made_by, after_row}
 
 -- what of an end stays
 pub record Grown (e e' : EndState) : Type 0 where
@@ -18,12 +17,7 @@ pub same_grown : (e : EndState) → Grown e e
 same_grown e = record { made = λ i m g. g; kept = λ i v g. g; over = λ h. refl }
 
 pub grown_make : (p : Parameters) (e : EndState) (x : SafetyPdu) (clock : ℕ) (why : Why) (b : MadeBy e x why) → Passed p e x clock why → Grown e (after_make_by (Some b.row) e x clock)
-grown_make p e x clock why b pass =
-    record {
-      made = get_front e.made (new_made b.row e x ∷ []);
-      kept = λ i v g. rw (values_push e.asks e.made (new_made b.row e x)) (get_front (values e) _ i v g);
-      over = λ h. absurd (let z = pass.open_yet in cc);
-    }
+grown_make p e x clock why b pass = grind (arith, get_front, values_push)
 
 -- nothing more was handed up
 pub record SameHanded (e e' : EndState) : Type 0 where
@@ -46,18 +40,7 @@ pub made_more : (p : Parameters) (e : EndState) (x : SafetyPdu) (clock : ℕ) (w
 made_more p e x clock why e' mk =
     let pass = passed p e x clock why mk.0 in
     let m = made_by p e x clock why pass in
-    let after : e' ≡ after_make_by (Some m.row) e x clock = mk.1 ∙ sym (after_row e x clock why m) in
-    rw after (record {
-      new = new_made m.row e x;
-      pdu = refl;
-      made = refl;
-      now = refl;
-      rises = grind (arith, nat_tests, pass.rises);
-      side = refl;
-      base = refl;
-      same = record { positions = refl; pdus = refl };
-      grown = grown_make p e x clock why m pass;
-    })
+    grind (arith, after_row, grown_make, nat_tests)
 
 -- a take leaves the units conveyed through each position
 values_take : (q : Parameters) (e : EndState) (x : SafetyPdu) → answers_in e.made ≤ length e.asks → values (after_take q e x) ≡ values e
@@ -68,12 +51,7 @@ values_take q e x h = take_by q e x (λ g. values g ≡ values e) refl (λ r awa
     by _ = grind (arith, values_asks e.asks (position_confirmed e x) e.made h)
 
 pub grown_take : (q : Parameters) (e : EndState) (x : SafetyPdu) → answers_in e.made ≤ length e.asks → Grown e (after_take q e x)
-grown_take q e x h =
-    record {
-      made = λ i m g. rw (take_made q e x) g;
-      kept = λ i v g. rw (values_take q e x h) g;
-      over = take_by q e x (λ e'. has_ended e ≡ true → e' ≡ e) (λ _. refl) (λ r away knows o. absurd (grind arith));
-    }
+grown_take q e x h = grind (arith, take_by, take_made, values_take)
 
 -- the position of the first PDU of a sent list: 0, or 1 from a quiet point
 abbrev pub base_by : Option Quiet → ℕ

@@ -1,9 +1,9 @@
 -- The rows of the take table: what each of them knows, and what a take leaves alone.
-use Rattle.std.proofs.Common.{◌≡◌, ℕ, Bool, true, false, Option, Some, None, refl, arith}
+use Rattle.std.proofs.Common.{◌≡◌, ◌+◌, ◌≤◌, ◌^◌, ℕ, Bool, true, false, Option, Some, None, refl, arith}
 use Rattle.rasta_check.proofs.Prelude.{if◌then◌else◌, Side, Client, Server, Kind, ConnectionRequest, ConnectionResponse, RetransmissionRequest, RetransmissionResponse}
-use Rattle.rasta_check.proofs.Prelude.{DisconnectionRequest, RetransmittedData, SafetyPdu, is_kind, Parameters, Phase, Start, Up, RetrReq, RetrRun, TakeRow, Opened, Answered}
-use Rattle.rasta_check.proofs.Prelude.{FirstHeartbeat, InSequence, ResentInSequence, Gap, GapInRetransmission, Resumed, Requested, RequestedAhead, RequestedAgain, Disconnected}
-use Rattle.rasta_check.proofs.Prelude.{EndState, is_closed, is_flowing, carries_unit, first_that_holds, is_valid, effect, after_take}
+use Rattle.rasta_check.proofs.Prelude.{DisconnectionRequest, RetransmittedData, SafetyPdu, Parameters, Phase, Start, Up, RetrReq, RetrRun, TakeRow, Opened, Answered, FirstHeartbeat}
+use Rattle.rasta_check.proofs.Prelude.{InSequence, ResentInSequence, Gap, GapInRetransmission, Resumed, Requested, RequestedAhead, RequestedAgain, Disconnected, EndState, is_closed}
+use Rattle.rasta_check.proofs.Prelude.{is_flowing, carries_unit, first_that_holds, is_valid, effect, after_take}
 use Rattle.rasta_pdu.specs.declared.kind.Kind.TheVariants.{Heartbeat}
 use Rattle.rasta_end.specs.declared.phase.Phase.TheVariants.{Down}
 use Rattle.rasta_end.specs.State.{is_active, is_timed}
@@ -23,10 +23,6 @@ Premise Requested s ph k n a v = (is_flowing ph ≡ true) × (k ≡ Retransmissi
 Premise RequestedAhead s ph k n a v = (is_flowing ph ≡ true) × (k ≡ RetransmissionRequest) × (v ≡ true) × (a ≡ true)
 Premise RequestedAgain s ph k n a v = (ph ≡ RetrReq) × (k ≡ RetransmissionRequest) × (v ≡ true) × (a ≡ true)
 Premise Disconnected s ph k n a v = (is_active ph ≡ true) × (k ≡ DisconnectionRequest)
-
--- what passes the test of a kind is of that kind
-pub kind_is : (wanted k : Kind) → is_kind wanted k ≡ true → k ≡ wanted
-kind_is wanted k h = grind arith
 
 -- the first row whose test holds has its premise
 first_premise : (s : Side) (ph : Phase) (k : Kind) (n a v : Bool) (row : TakeRow) → first_that_holds (take_rows s ph k n a v) ≡ Some row → Premise row s ph k n a v
@@ -58,8 +54,7 @@ pub record LeftAlone (e e' : EndState) : Type 0 where
 
 -- a unit is handed up, another PDU isn't
 pub by_unit : (P : EndState → Type 0) (b : Bool) (i : ℕ) (e : EndState) (x : SafetyPdu) → (b ≡ true → P (hand_up i e x)) → (b ≡ false → P e) → P (if b then hand_up i e x else e)
-by_unit P true i e x h l = h refl
-by_unit P false i e x h l = l refl
+by_unit P b i e x h l = grind arith
 
 pub effect_leaves : (p : Parameters) (row : Option TakeRow) (e : EndState) (x : SafetyPdu) → LeftAlone e (effect_by p row e x)
 effect_leaves p row e x = grind arith
@@ -93,3 +88,7 @@ take_bare p e x P more none each = take_by p e x P none (λ row away w. by row (
 
 pub take_made : (p : Parameters) (e : EndState) (x : SafetyPdu) → (after_take p e x).made ≡ e.made
 take_made p e x = (let h = take_leaves p e x in h.made)
+
+-- a take raises the last accepted position by less than 2^32
+pub accepted_after : (p : Parameters) (e : EndState) (x : SafetyPdu) → (after_take p e x).accepted ≤ e.accepted + 2 ^ 32
+accepted_after p e x = grind arith

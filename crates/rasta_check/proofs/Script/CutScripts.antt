@@ -1,20 +1,18 @@
 -- Scripts cut after their last make: a run in which no more is handed up than the two lists show.
-use Rattle.std.proofs.Common.{◌≡◌, ◌⊎◌, ℕ, zero, suc, ◌<◌, ◌≤◌, false, List, [], ◌∷◌, length, Some, slice_get, refl, ap, sym, ◌∙◌, arith, inl, inr, ⊎_elim, subst}
+use Rattle.std.proofs.Common.{◌≡◌, ◌⊎◌, ℕ, zero, suc, ◌<◌, ◌≤◌, false, List, [], ◌∷◌, length, Some, slice_get, refl, ap, sym, ◌∙◌, arith, inl, inr, ⊎_elim}
 use Rattle.rasta_check.proofs.Prelude.{Side, Client, Server, Packet, Kind, Parameters, SafetyPdu, Entry, Why, EndState, Makes, start_of, FirstCopy, CrossRecorded, World, Reaches}
-use Rattle.rasta_check.proofs.Prelude.{other_side, station_of, end_of, Cursor, Advances, Leads, at_start, Follows, ConnectionRequest, is_kind, Start}
-use Rattle.rasta_check.proofs.Prelude.{units_at, phase_after, after_make_by, NamesOne, pdus_made, pdus_of, all_made, units_along, units_shown, units_taken, position_with}
+use Rattle.rasta_check.proofs.Prelude.{other_side, station_of, end_of, Cursor, Advances, Leads, at_start, Follows, ConnectionRequest, is_kind}
+use Rattle.rasta_check.proofs.Prelude.{units_at, after_make_by, NamesOne, pdus_made, pdus_of, all_made, units_along, units_shown, units_taken, position_with}
 use Rattle.rasta_check.proofs.Prelude.{surely_taken, units_handed, units_listed, map_at}
 use Rattle.rasta_check.proofs.Capture.FaultlessLists.{IsSent}
-use Rattle.rasta_check.proofs.Model.PassedTests.{passed, cs_is}
-use Rattle.rasta_check.proofs.Model.MakeRows.{Making, made_by, after_row, opening_is}
+use Rattle.rasta_check.proofs.Model.MakeRows.{passed, cs_is, made_by, after_row}
 use Rattle.rasta_check.proofs.Model.Invariant.{Held}
 use Rattle.rasta_check.proofs.Model.ConveyedUnits.{values}
-use Rattle.rasta_check.proofs.Model.ShownUnits.{judged_after}
-use Rattle.rasta_check.proofs.Model.HandedUnits.{Handed, worth, hands_up_units}
+use Rattle.rasta_check.proofs.Model.HandedUnits.{Handed, worth, hands_up_units, judged_after}
 use Rattle.rasta_check.proofs.Model.Requests.{named_position}
 use Rattle.rasta_check.proofs.Theorem.ShowingPdus.{fold_member}
 use Rattle.rasta_check.proofs.Theorem.SentRuns.{known}
-use Rattle.rasta_check.proofs.Theorem.ListedUnits.{of_units, exactly_listed}
+use Rattle.rasta_check.proofs.Theorem.ListedUnits.{exactly_listed}
 use Rattle.rasta_check.proofs.Run.Simulation.{simulated}
 use Rattle.rasta_check.proofs.Model.Steps.{start_is}
 
@@ -61,15 +59,12 @@ module _ (p : Parameters) (s : Side) (e f : EndState) (t u : ℕ) (own : List Fi
     (told_f : pdus_made f.made ≡ M) (along : units_along M (pdus_of own) ≡ values f) where
   -- the end after a make, by its row
   no_opening : (m : JustMade p own e) → (k : Kind) → m.c.pdu.safety.kind ≡ k → 0 < e.accepted → is_kind ConnectionRequest k ≡ false
-  no_opening m ConnectionRequest q l =
+  no_opening m k q l =
       let x = m.c.pdu.safety in
       let b = made_by p m.e x m.clock m.why (passed p m.e x m.clock m.why m.makes.0) in
       let after : e ≡ after_make_by (Some b.row) m.e x m.clock = m.makes.1 ∙ sym (after_row m.e x m.clock m.why b) in
-      let row = opening_is (subst (λ (z : Kind). Making m.e.side m.e.phase m.why z m.e.owed b.row) q b.how) refl in
-      let es : e.side ≡ Client = ap (λ (z : EndState). z.side) after ∙ row.0 in
-      let ph : e.phase ≡ Start = ap (λ (z : EndState). z.phase) after ∙ ap (λ r. phase_after r m.e.phase) row.2 in
-      absurd (let z = h.opening.starting es ph in omega arith)
-  no_opening m _ q l = refl
+      let how = b.how in
+      grind (arith, h.opening.starting)
 
   shows_by : (m : JustMade p own e) → (a : ℕ) → e.accepted ≡ a → length e.handed ≤ units_taken M (pdus_of own)
   shows_by m zero a = (let z = hd.count ∙ ap (worth (values f)) a in omega arith)
@@ -100,7 +95,7 @@ exactly p ws w x own peer r sent theirs few few_theirs last =
     let k = known p ws w x own peer r sent theirs few few_theirs in
     let e = end_of w (other_side x) in
     let f = end_of w x in
-    exactly_listed p x e f own peer k.sends.same (of_units e f (hands_up_units e f k.all.mine.values k.all.theirs.handed)) k.taken
+    exactly_listed p x e f own peer k.sends.same (hands_up_units e f k.all.mine.values k.all.theirs.handed) k.taken
     (no_more p (other_side x) e f (station_of w (other_side x)).taken (station_of w x).taken peer (all_made p x own) k.all.theirs.held k.once k.all.theirs.handed k.sends.same k.along last)
 
 pub sharp : (p : Parameters) (packets : List Packet) (c s : List FirstCopy) (cs ss : List Entry) (a b : EndState)

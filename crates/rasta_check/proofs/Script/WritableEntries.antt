@@ -8,8 +8,7 @@ use Rattle.rasta_end.specs.declared.why.Why.TheVariants.{Again}
 use Rattle.rasta_end.specs.declared.make_row.MakeRow.TheVariants.{Resends}
 use Rattle.rasta_cert.specs.Certificate.{AreEntries, IsReason}
 use Rattle.rasta_check.proofs.Capture.FaultlessLists.{IsSent}
-use Rattle.rasta_check.proofs.Model.PassedTests.{passed}
-use Rattle.rasta_check.proofs.Model.MakeRows.{made_by, Making, again}
+use Rattle.rasta_check.proofs.Model.MakeRows.{passed, made_by, Making, again}
 use Rattle.rasta_check.proofs.Model.TakeRows.{take_leaves}
 use Rattle.rasta_check.proofs.Model.Steps.{base, base_small, start_made, made_more}
 use Rattle.rasta_check.proofs.Script.ScriptsOfRuns.{ClocksWithin}

@@ -59,8 +59,7 @@ of_message (u ∷ us) m t g =
       | no q ↦ (let n : ℕ = m - length said in
           let past : m ≡ length said + n = omega (arith, q) in
           let r = of_message us n t (sym (get_past said (messages_taken us) n) ∙ rw past at g) in
-          let later : m ≡ length u.messages + n = omega (arith, past, same) in
-          record { i = suc r.i; u = r.u; there = r.there; place = r.place; first = ap (slice_get (u.messages ++ joined (units_listed (take (suc r.i) us)))) later ∙ (get_past u.messages _ n ∙ r.first) })
+          record { i = suc r.i; u = r.u; there = r.there; place = r.place; first = grind (arith, get_past, r.first) })
     ]
 
 -- a member of a report's list has a unit
@@ -77,4 +76,4 @@ message_up us m proof message o handed h =
     let first = units_listed (take (suc o.i) us) in
     let r = begins_with first handed
     (λ j ms g. (let u = get_mapped (λ (u : TakenUnit). u.messages) (take (suc o.i) us) j ms g in let x = get_take us (suc o.i) j u.0 u.1 in h j u.0 (omega (arith, x.0)) x.1 ∙ ap Some u.2)) in
-    ap (λ units. slice_get (joined units) m) r.1 ∙ (ap (λ ms. slice_get ms m) (flat_map-append (λ (ms : List (List ℕ)). ms) first r.0) ∙ get_front (joined first) (joined r.0) m message o.first)
+    grind (arith, r.1, flat_map-append (λ (ms : List (List ℕ)). ms) first r.0, get_front, o.first)

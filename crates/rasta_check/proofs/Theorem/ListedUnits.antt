@@ -1,14 +1,12 @@
--- The units that two lists show to be taken: their members, their proofs, and that they were handed up.
-use Rattle.std.proofs.Common.{◌≡◌, ℕ, zero, suc, ◌+◌, ◌<◌, ◌≤◌, true, false, List, [], ◌∷◌, ◌++◌, length, Option, Some, slice_get, take, drop, refl, ap, sym, ◌∙◌, arith, append_assoc}
-use Rattle.rasta_check.proofs.Prelude.{map, filter, fold, max, nat_lt, option_map, nat_tests, length-map, map-append, take-append-drop, take-append-le, take_all, dec_lt, yes, no}
-use Rattle.rasta_check.proofs.Prelude.{Side, Quiet, Data, Parameters, SafetyPdu, messages_in, is_kind, Made, EndState, start_by, FirstCopy, pdus_made, pdus_of, all_made}
-use Rattle.rasta_check.proofs.Prelude.{units_shown, units_taken, TakenUnit, units_from, data_copies, surely_taken, HandsUpUnits, units_handed, units_listed, get_front_within}
-use Rattle.rasta_check.proofs.Prelude.{begins_with, map_at, mapped_some}
+-- The units that two lists show to be taken: their members, their proofs, and that they were handed up, which are the first that were offered.
+use Rattle.std.proofs.Common.{◌≡◌, ℕ, suc, ◌+◌, ◌<◌, ◌≤◌, List, [], ◌∷◌, ◌++◌, length, Option, Some, slice_get, take, drop, refl, ap, sym, ◌∙◌, arith}
+use Rattle.rasta_check.proofs.Prelude.{map, filter, fold, max, option_map, nat_tests, length-map, take-append-drop, take-append-le, take_all, dec_lt, yes, no, Side, Quiet, Data}
+use Rattle.rasta_check.proofs.Prelude.{Parameters, SafetyPdu, messages_in, is_kind, Made, EndState, start_by, FirstCopy, pdus_made, pdus_of, all_made, units_shown, units_taken}
+use Rattle.rasta_check.proofs.Prelude.{TakenUnit, units_from, data_copies, surely_taken, HandsUpUnits, units_handed, units_listed, get_front_within, begins_with, get_mapped, map_at}
+use Rattle.rasta_check.proofs.Prelude.{mapped_some}
 use Rattle.std.proofs.lemmas.List.{take-map}
-use Rattle.std.proofs.lemmas.List.Elements.{filter-append}
 use Rattle.rasta_check.specs.Model.Taken.{proof_place}
 use Rattle.rasta_check.specs.Verdict.Headline.{units_offered}
-use Rattle.rasta_check.proofs.Theorem.FirstUnits.{offered_first}
 use Rattle.rasta_check.proofs.Lists.{get_take}
 
 -- ---- members
@@ -20,8 +18,7 @@ listed_unit own peer n c = record { messages = messages_in c.pdu.safety.body; da
 -- the i-th unit is that of the i-th data PDU
 unit_at : (own : List SafetyPdu) (peer : List FirstCopy) (k : ℕ) (us : List FirstCopy) (i n : ℕ) → k + i ≡ n → slice_get (units_from own peer k us) i ≡ option_map (listed_unit own peer n) (slice_get us i)
 unit_at own peer k [] i n e = refl
-unit_at own peer k (u ∷ us) zero n e = ap (λ j. Some (listed_unit own peer j u)) (omega arith)
-unit_at own peer k (u ∷ us) (suc i) n e = unit_at own peer (suc k) us i n (omega arith)
+unit_at own peer k (u ∷ us) i n e = grind (arith, unit_at own peer (suc k) us)
 
 -- the messages of a data PDU
 abbrev said : FirstCopy → List (List ℕ)
@@ -41,19 +38,15 @@ pub record Proof (own peer : List SafetyPdu) (k : ℕ) (ds : List FirstCopy) : T
   pub more : k < units_shown own peer d.pdu.safety
   pub place : proof_place own peer k ds ≡ d.place
 
-proof_by : (own peer : List SafetyPdu) (k a : ℕ) (ds : List FirstCopy) → a ≤ k → k < fold max a (map (units_shown own peer) (pdus_of ds)) → Proof own peer k ds
+-- where some PDU shows more than k units, the one at the proof place does
+pub proof_by : (own peer : List SafetyPdu) (k a : ℕ) (ds : List FirstCopy) → a ≤ k → k < fold max a (map (units_shown own peer) (pdus_of ds)) → Proof own peer k ds
 proof_by own peer k a [] low l = absurd (omega arith)
 proof_by own peer k a (d ∷ ds) low l =
     elim (dec_lt k (units_shown own peer d.pdu.safety)) [
-      | yes m ↦ (let e : nat_lt k (units_shown own peer d.pdu.safety) ≡ true = grind (arith, nat_tests, m) in record { j = 0; d = d; there = refl; more = m; place = rw e refl })
-      | no q ↦ (let e : nat_lt k (units_shown own peer d.pdu.safety) ≡ false = grind (arith, nat_tests, q) in
-          let z = proof_by own peer k (max a (units_shown own peer d.pdu.safety)) ds (omega (arith, low, q)) l in
-          record { j = suc z.j; d = z.d; there = z.there; more = z.more; place = rw e z.place })
+      | yes m ↦ record { j = 0; d = d; there = refl; more = m; place = grind (arith, nat_tests) }
+      | no q ↦ (let z = proof_by own peer k (max a (units_shown own peer d.pdu.safety)) ds (omega (arith, low, q)) l in
+          record { j = suc z.j; d = z.d; there = z.there; more = z.more; place = grind (arith, nat_tests, z.place) })
     ]
-
--- where some PDU shows more than k units, the one at the proof place does
-pub proof_of : (own : List SafetyPdu) (peer : List FirstCopy) (k : ℕ) → k < units_taken own (pdus_of peer) → Proof own (pdus_of peer) k peer
-proof_of own peer k l = proof_by own (pdus_of peer) k 0 peer (omega arith) l
 
 -- ---- the units of data PDUs
 
@@ -77,49 +70,40 @@ offered_by p s f own e = units-mapped (λ (m : Made). m.pdu) f.made ∙ (ap unit
 -- ---- what was handed up
 
 -- the units that e handed up come first among those that f offered
-pub record HandsUpFirst (e f : EndState) : Type 0 where
-  pub same_count : length e.handed_pdus ≡ length e.handed
-  pub later : List (List (List ℕ))
-  pub offered : units_offered f ≡ units_handed e ++ later
-
-pub of_units : (e f : EndState) → HandsUpUnits e f → HandsUpFirst e f
-of_units e f h = (let z = offered_first e f h in record { same_count = h.labels.same_count; later = z.0; offered = z.1 })
-
--- so they do once f has made more
-pub still_first : (e f g : EndState) → ((i : ℕ) (m : Made) → slice_get f.made i ≡ Some m → slice_get g.made i ≡ Some m) → HandsUpFirst e f → HandsUpFirst e g
-still_first e f g grown h =
-    let r = begins_with f.made g.made grown in
-    let units : List Made → List (List (List ℕ)) = λ ms. map (λ (m : Made). messages_in m.pdu.body) (filter (λ (m : Made). is_kind Data m.pdu.kind) ms) in
-    let split : units (f.made ++ r.0) ≡ units f.made ++ units r.0 = simp (filter-append, map-append) in
-    record { same_count = h.same_count; later = h.later ++ units r.0; offered = ap units r.1 ∙ (split ∙ (ap (λ us. us ++ units r.0) h.offered ∙ append_assoc (units_handed e) h.later (units r.0))) }
+pub offered_first : (e f : EndState) → HandsUpUnits e f → (later : List (List (List ℕ))) × (units_offered f ≡ units_handed e ++ later)
+offered_first e f h =
+    begins_with (units_handed e) (units_offered f)
+    (λ i a g. (let x = get_mapped (λ (x : SafetyPdu). messages_in x.body) e.handed_pdus i a g in let m = h.messages i x.0 x.1 in
+    map_at (λ (m : Made). messages_in m.pdu.body) (filter (λ (m : Made). is_kind Data m.pdu.kind) f.made) i m.0 m.1 ∙ ap Some (sym m.2 ∙ x.2)))
 
 -- e takes the units of f; `own` is what f sent
-module _ (p : Parameters) (s : Side) (e f : EndState) (own peer : List FirstCopy) (told : pdus_made f.made ≡ all_made p s own) (h : HandsUpFirst e f) where
+module _ (p : Parameters) (s : Side) (e f : EndState) (own peer : List FirstCopy) (told : pdus_made f.made ≡ all_made p s own) (h : HandsUpUnits e f) where
   abbrev most : ℕ
   most = units_taken (all_made p s own) (pdus_of peer)
 
   count : length (units_handed e) ≡ length e.handed
-  count = length-map e.handed_pdus (λ (x : SafetyPdu). messages_in x.body) ∙ h.same_count
+  count = length-map e.handed_pdus (λ (x : SafetyPdu). messages_in x.body) ∙ h.labels.same_count
+
+  abbrev later : List (List (List ℕ))
+  later = (offered_first e f h).0
 
   -- what is listed are the first units that were offered
-  all_listed : units_listed (surely_taken p s own peer) ≡ take most (units_handed e ++ h.later)
-  all_listed = messages_listed (all_made p s own) peer 0 _ ∙ (sym (take-map said most (data_copies own)) ∙ ap (take most) (sym (offered_by p s f own told) ∙ h.offered))
+  all_listed : units_listed (surely_taken p s own peer) ≡ take most (units_handed e ++ later)
+  all_listed = messages_listed (all_made p s own) peer 0 _ ∙ (sym (take-map said most (data_copies own)) ∙ ap (take most) (sym (offered_by p s f own told) ∙ (offered_first e f h).1))
 
   -- the i-th PDU handed up has the messages of the i-th unit that is listed
   pub unit_handed : (i : ℕ) (u : TakenUnit) → i < length e.handed → slice_get (surely_taken p s own peer) i ≡ Some u → slice_get (units_handed e) i ≡ Some u.messages
   unit_handed i u l g =
       let a = rw all_listed at (map_at (λ (t : TakenUnit). t.messages) (surely_taken p s own peer) i u g) in
-      sym (get_front_within (units_handed e) h.later i (omega (arith, l, count))) ∙ (get_take _ most i _ a).1
+      sym (get_front_within (units_handed e) later i (omega (arith, l, count))) ∙ (get_take _ most i _ a).1
 
   -- a unit that is listed is one of those that were taken
   pub listed_below : (i : ℕ) (u : TakenUnit) → slice_get (surely_taken p s own peer) i ≡ Some u → (i < most) × (u.proof_place ≡ proof_place (all_made p s own) (pdus_of peer) i peer)
-  listed_below i u g =
-      let m = mapped_some _ _ u (sym (unit_at (all_made p s own) peer 0 _ i i (omega arith)) ∙ g) in
-      ((get_take (data_copies own) most i m.0 m.1).0, ap (λ (t : TakenUnit). t.proof_place) (sym m.2))
+  listed_below i u g = grind (arith, get_take, mapped_some, unit_at)
 
   -- where as many were handed up as are taken, each of those is listed
   listed_handed : most ≤ length e.handed → units_listed (surely_taken p s own peer) ≡ take most (units_handed e)
-  listed_handed l = all_listed ∙ take-append-le most (units_handed e) h.later (omega (arith, l, count))
+  listed_handed l = all_listed ∙ take-append-le most (units_handed e) later (omega (arith, l, count))
 
   -- and they come first
   pub listed_first : most ≤ length e.handed → (rest : List (List (List ℕ))) × (units_handed e ≡ units_listed (surely_taken p s own peer) ++ rest)

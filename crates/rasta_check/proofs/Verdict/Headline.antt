@@ -15,10 +15,9 @@ use Rattle.rasta_check.proofs.Script.FollowedScripts.{follow_fits}
 use Rattle.rasta_check.proofs.Script.Fits.{fits_follows, verdict_fits}
 use Rattle.rasta_check.proofs.Run.Simulation.{simulated}
 use Rattle.rasta_check.proofs.Model.ConveyedUnits.{values, length-values}
-use Rattle.rasta_check.proofs.Theorem.SentRuns.{Known, known}
+use Rattle.rasta_check.proofs.Theorem.SentRuns.{Known, known, hands_up, first, proof_appended, in_time_through}
 use Rattle.rasta_check.proofs.Script.CutScripts.{sharp}
-use Rattle.rasta_check.proofs.Theorem.Necessity.{hands_up, first, proof_appended, in_time_through}
-use Rattle.rasta_check.proofs.Theorem.FirstUnits.{offered_first}
+use Rattle.rasta_check.proofs.Theorem.ListedUnits.{offered_first}
 use Rattle.rasta_check.proofs.Theorem.JoinedMessages.{joined, up_joined, listed_joined, of_listed, message_up}
 use Rattle.rasta_check.proofs.Verdict.Reports.{units_named, first_small, are_proofs, units_are}
 

@@ -7,8 +7,7 @@ use Rattle.std.proofs.Math.Seq.{take-nil}
 use Rattle.std.proofs.lemmas.List.{get_or-replicate, length-replicate}
 use Rattle.rasta_end.specs.State.{ahead_by}
 use Rattle.rasta_check.specs.Model.Taken.{proof_place}
-use Rattle.rasta_check.proofs.Model.SequenceNumbers.{Numbered, numbered_once}
-use Rattle.rasta_check.proofs.Model.NamedPositions.{sn_mod}
+use Rattle.rasta_check.proofs.Model.NamedPositions.{Numbered, numbered_once, sn_mod}
 use Rattle.rasta_check.proofs.Model.ConveyedUnits.{get_or_none}
 use Rattle.rasta_check.proofs.Model.Requests.{found_position, named_position}
 

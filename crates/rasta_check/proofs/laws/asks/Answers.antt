@@ -1,5 +1,5 @@
 use Rattle.rasta_check.proofs.Prelude.{station_of, end_of, other_side}
-use Rattle.rasta_check.proofs.Model.SequenceNumbers.{numbered_once}
+use Rattle.rasta_check.proofs.Model.NamedPositions.{numbered_once}
 use Rattle.rasta_check.proofs.Model.InvariantOfRuns.{all_held, few_made}
 use Rattle.rasta_check.proofs.Model.Requests.{in_order}
 use Rattle.rasta_check.proofs.laws.asks.Goals as goal

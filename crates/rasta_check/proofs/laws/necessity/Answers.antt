@@ -1,7 +1,7 @@
 use Rattle.std.proofs.Common.{arith}
 use Rattle.rasta_check.proofs.Prelude.{other_side}
 use Rattle.rasta_check.proofs.Capture.ListForms.{to_record}
-use Rattle.rasta_check.proofs.Theorem.Necessity.{hands_up, first, in_time_through}
+use Rattle.rasta_check.proofs.Theorem.SentRuns.{hands_up, first, in_time_through}
 use Rattle.rasta_check.proofs.laws.necessity.Goals as goal
 
 pub returns : goal.returns

@@ -1,8 +1,7 @@
 use Rattle.rasta_check.proofs.Prelude.{Client, Server}
-use Rattle.rasta_check.proofs.Theorem.SentRuns.{known}
+use Rattle.rasta_check.proofs.Theorem.SentRuns.{known, made_list}
 use Rattle.rasta_check.proofs.Capture.ListForms.{to_record}
 use Rattle.rasta_check.proofs.Model.History.{appended}
-use Rattle.rasta_check.proofs.Model.Places.{made_list}
 use Rattle.rasta_check.proofs.Capture.FirstCopies.{sent_once}
 use Rattle.rasta_check.proofs.laws.sent_lists.Goals as goal
 

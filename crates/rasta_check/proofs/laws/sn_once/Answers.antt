@@ -1,5 +1,5 @@
 use Rattle.rasta_check.proofs.Prelude.{end_of}
-use Rattle.rasta_check.proofs.Model.SequenceNumbers.{numbered_once}
+use Rattle.rasta_check.proofs.Model.NamedPositions.{numbered_once}
 use Rattle.rasta_check.proofs.Model.InvariantOfRuns.{all_held, few_made}
 use Rattle.rasta_check.proofs.laws.sn_once.Goals as goal
 

@@ -2,7 +2,7 @@ use Rattle.std.proofs.Common.{arith, ap, inl, inr, ⊎_elim}
 use Rattle.rasta_check.proofs.Prelude.{take_fault, Followed, value_of}
 use Rattle.rasta_check.proofs.Script.RefusedEntries.{refused}
 use Rattle.rasta_end.specs.Judged.{JudgedEnd}
-use Rattle.rasta_check.proofs.Model.Acceptance.{accepted_after}
+use Rattle.rasta_check.proofs.Model.TakeRows.{accepted_after}
 use Rattle.rasta_check.proofs.follower.Follower.take.Goals as goal
 
 -- src/follower.rt
