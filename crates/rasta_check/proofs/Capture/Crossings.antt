@@ -64,8 +64,7 @@ goes_on_sent p packets own a sent few w n =
 -- ---- packets of known numbers
 
 pub list_of : (k : Crossing) → IsCrossing k → (side : Side) → IsSent k.params k.packets side (sent_by k side)
-list_of k h Client = to_record k.params k.packets Client k.client h.valid.valid h.sent.client_sent
-list_of k h Server = to_record k.params k.packets Server k.server h.valid.valid h.sent.server_sent
+list_of k h side = grind (arith, to_record)
 
 pub few_of : (k : Crossing) → IsCrossing k → (side : Side) → length (sent_by k side) ≤ 1000000
 few_of k h side = grind arith
@@ -92,10 +91,7 @@ known_by k a d o reads e = rw (reads, e) (refl, refl)
 pub repeated : (k : Crossing) (a : Packet) (d : RedundancyPdu) (place : ℕ) (r : Bool) → IsCrossing k → decode_of k.params a.side a.payload ≡ Ok d
     → option_map (λ (c : FirstCopy). c.place) (copy_with (sent_by k a.side) d.number) ≡ Some place → IfSome (slice_get k.packets place) (λ (b : Packet). r ≡ bytes_eq b.payload a.payload)
     → (packet_fault k.params (sent_by k a.side) a ≡ (if r then None else Some copy_differs)) × (sent_after k a ≡ sent_by k a.side)
-repeated k a d place r h e f g =
-    let w = first_packet k a.side d.number place h f in
-    let test : r ≡ bytes_eq w.1.payload a.payload = rw w.3 at g in
-    rw (test, w.4) (known_by k a d (Some w.0) e w.2)
+repeated k a d place r h e f g = grind (arith, first_packet, known_by)
 
 -- the next number is no known one
 next_unknown : (k : Crossing) (side : Side) (n : ℕ) → IsCrossing k → is_next_number (sent_by k side) n ≡ true → (o : Option FirstCopy) → copy_with (sent_by k side) n ≡ o → o ≡ None

@@ -93,7 +93,7 @@ module _ (p : Parameters) (h : OfConnection p) (front : List (List ℕ)) (frame 
       cc
 
 -- the sides sent no other lists
-same_list : (p : Parameters) (frames : List (List ℕ)) (c s client server : List FirstCopy) → AreParameters p → AreFaultless p frames c s → AreFaultless p frames client server → (side : Side)
+pub same_list : (p : Parameters) (frames : List (List ℕ)) (c s client server : List FirstCopy) → AreParameters p → AreFaultless p frames c s → AreFaultless p frames client server → (side : Side)
     → sent_of side c s ≡ sent_of side client server
 same_list p frames c s client server valid a b side =
     let mine = sent_at p frames c s a side in

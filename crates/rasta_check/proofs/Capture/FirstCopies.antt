@@ -85,13 +85,7 @@ reached p xs s c d hc hd i a l ag g =
 
 module _ (p : Parameters) (xs : List Packet) (s : Side) (c d : List FirstCopy) (hc : IsSent p xs s c) (hd : IsSent p xs s d) where
   at_same : (i : ℕ) (a b : FirstCopy) → slice_get c i ≡ Some a → slice_get d i ≡ Some b → a.place ≡ b.place → a ≡ b
-  at_same i a b g k e =
-      let f = hc.firsts i a g in
-      let f' = hd.firsts i b k in
-      let same : f.0 ≡ f'.0 = (let z = f.1 in let y = f'.1 in cc) in
-      let sp : Spells p s b.pdu f.0.payload = subst (λ (z : Packet). Spells p s b.pdu z.payload) (sym same) f'.3 in
-      let dat = read_once p hc.valid s a.pdu b.pdu f.0.payload f.3 sp in
-      (λ t. record { place = e t; pdu = dat t })
+  at_same i a b g k e = grind (arith, read_once)
 
   agree_at : (i : ℕ) → i < 4294967296 → ((j : ℕ) → j < i → slice_get c j ≡ slice_get d j) → (u v : Option FirstCopy) → slice_get c i ≡ u → slice_get d i ≡ v → u ≡ v
   agree_at i l ag None None x y = refl

@@ -1,5 +1,5 @@
 -- Which packet may come next.
-use Rattle.std.proofs.Common.{◌≡◌, ℕ, suc, ◌+◌, ◌^◌, ◌<◌, ◌≤◌, ◌⊎◌, List, [], ◌∷◌, ◌++◌, length, Some, slice_get, refl, ap, sym, ◌∙◌, arith, inl, inr, subst}
+use Rattle.std.proofs.Common.{◌≡◌, ℕ, ◌+◌, ◌^◌, ◌<◌, ◌≤◌, ◌⊎◌, List, [], ◌∷◌, ◌++◌, length, Some, slice_get, refl, ap, sym, ◌∙◌, arith, inl, inr, subst}
 use Rattle.rasta_check.proofs.Prelude.{slice_get_within, dec_lt, yes, no, Side, Parameters, AreParameters, wrapped, RedundancyPdu, Spells, FirstCopy, Packet, World, Reaches}
 use Rattle.rasta_check.proofs.Prelude.{slice_get_some, get_next}
 use Rattle.rasta_check.proofs.Capture.FaultlessLists.{IsSent, ordered}
@@ -53,21 +53,10 @@ module _ (p : Parameters) (xs ys : List Packet) (s : Side) (own later : List Fir
       omega (arith, not_later)
 
   within_own : (i : ℕ) (c : FirstCopy) → slice_get (own ++ later) i ≡ Some c → c.place < length xs → i < length own
-  within_own i c g l =
-      let not_high : length own ≤ i → ⊥ = λ m. (let first = high c (sym (get_next own later) ∙ rw (next_at i c g (omega arith) m) at g) in omega arith) in
-      omega (arith, not_high)
+  within_own i c g l = grind (arith, get_next, next_at)
 
   sent_part : AreBelow (length xs) own → IsSent p xs s own
-  sent_part low =
-      record {
-        valid = h.valid;
-        firsts = λ i c g. (let w = h.firsts i c (get_front own later i c g) in (w.0, sym (get_front_within xs ys c.place (low i c g)) ∙ w.1, w.2, w.3));
-        rising = λ i a b x y. h.rising i a b (get_front own later i a x) (get_front own later (suc i) b y);
-        numbers = λ i a b x y. h.numbers i a b (get_front own later 0 a x) (get_front own later i b y);
-        copies = λ j a g e. (let l = slice_get_within xs j a g in
-            let w = h.copies j a (get_front xs ys j a g) e in
-            (w.0, w.1, sym (get_front_within own later w.0 (within_own w.0 w.1 w.2 (let q = w.3 in omega arith))) ∙ w.2, w.3, w.4));
-      }
+  sent_part low = grind (arith, get_front, get_front_within, slice_get_within, within_own)
 
 -- the sent list of more packets begins with that of these
 pub cut : (p : Parameters) (ys xs : List Packet) (s : Side) (big : List FirstCopy) → IsSent p (xs ++ ys) s big → (own : List FirstCopy) × IsSent p xs s own × Begins big own (length xs)

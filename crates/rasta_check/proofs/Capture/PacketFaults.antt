@@ -1,6 +1,6 @@
 -- A packet that may come next has no fault.
-use Rattle.std.proofs.Common.{◌≡◌, ◌⊎◌, ℕ, zero, suc, ◌+◌, ◌<◌, Bool, true, false, List, [], ◌∷◌, Option, Some, None, Ok, length, slice_get, refl, ap, sym, ◌∙◌, arith, inl, inr, subst}
-use Rattle.rasta_check.proofs.Prelude.{◌==◌, if◌then◌else◌, nat_tests, bytes_eq-Decides, Side, Packet, Parameters, RedundancyPdu, redundancy_bytes, decode_of, wrapped, FirstCopy}
+use Rattle.std.proofs.Common.{◌≡◌, ◌⊎◌, ℕ, zero, suc, ◌+◌, ◌<◌, Bool, true, false, List, [], ◌∷◌, Option, Some, None, Ok, length, slice_get, refl, ap, sym, ◌∙◌, arith, inl, inr}
+use Rattle.rasta_check.proofs.Prelude.{◌==◌, if◌then◌else◌, nat_tests, bytes_eq-Decides, Side, Packet, Parameters, RedundancyPdu, decode_of, wrapped, FirstCopy}
 use Rattle.rasta_check.proofs.Prelude.{Spells, copy_with, is_next_number, OfConnection}
 use Rattle.rasta_pdu.proofs.Spellings.{decode_of-redundancy_bytes}
 use Rattle.rasta_check.specs.Capture.Crossing.{repeat_fault, number_fault, read_fault}
@@ -42,12 +42,7 @@ is_next own n h = grind arith
 
 module _ (p : Parameters) (packets : List Packet) (side : Side) (own : List FirstCopy) (a : Packet) (h : OfConnection p) (sent : IsSent p packets side own) (few : length own < 4294967296) where
   repeats_first : (d : RedundancyPdu) → Spells p side d a.payload → (i j : ℕ) (c e : FirstCopy) → slice_get own i ≡ Some c → slice_get own j ≡ Some e → c.pdu.number ≡ d.number → e.pdu ≡ d → repeat_fault p side c a.payload ≡ None
-  repeats_first d s i j c e g k n m =
-      let at : i ≡ j = number_once own (ordered sent) few i j c e g k (n ∙ sym (ap (λ (z : RedundancyPdu). z.number) m)) in
-      let same : c ≡ e = (let z : slice_get own i ≡ Some e = subst (λ t. slice_get own t ≡ Some e) (sym at) k in cc) in
-      let is : redundancy_bytes p side c.pdu ≡ a.payload = ap (λ (z : FirstCopy). redundancy_bytes p side z.pdu) same ∙ (ap (redundancy_bytes p side) m ∙ sym s.same) in
-      let test = (bytes_eq-Decides (redundancy_bytes p side c.pdu) a.payload).1 is in
-      grind arith
+  repeats_first d s i j c e g k n m = grind (arith, number_once, ordered, bytes_eq-Decides)
 
   none_known : (d : RedundancyPdu) → Spells p side d a.payload
       → ((i : ℕ) × (c : FirstCopy) × (slice_get own i ≡ Some c) × (c.pdu ≡ d))

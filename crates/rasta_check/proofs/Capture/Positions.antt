@@ -3,7 +3,7 @@ use Rattle.std.proofs.Common.{◌≡◌, ℕ, zero, suc, ◌+◌, ◌-◌, ◌%�
 use Rattle.rasta_check.proofs.Prelude.{option_map, nat_tests, length_push, map-append, take-append-drop, slice_get_within, slice_get-get_or, wrapped, FirstCopy, IsOrdered}
 use Rattle.rasta_check.proofs.Prelude.{position_of_number, position_of_place, get_front, get_mapped, get_push, mapped_some, slice_get_some}
 use Rattle.std.proofs.lemmas.List.Quantifiers.{position-Some}
-use Rattle.rasta_check.specs.Capture.Lists.{places_of, AreMarks, marked}
+use Rattle.rasta_check.specs.Capture.Lists.{AreMarks, marked}
 
 -- ---- the first member with a number
 
@@ -57,8 +57,7 @@ number_once sent h few i j c d x y e =
 
 -- the number of a member names its position
 pub number_named : (sent : List FirstCopy) → IsOrdered sent → length sent < 4294967296 → (i : ℕ) (c : FirstCopy) → slice_get sent i ≡ Some c → position_of_number sent c.pdu.number ≡ Some i
-number_named sent h few i c g =
-    first_of (λ (x : FirstCopy). x.pdu.number) c.pdu.number sent i c g refl (λ j d l k e. (let same = number_once sent h few j i d c k g e in omega (arith, same, l)))
+number_named sent h few i c g = grind (arith, first_of, number_once)
 
 -- the number that comes next is new
 pub next_new : (sent : List FirstCopy) → IsOrdered sent → length sent < 4294967296 → (n : ℕ) → ((c : FirstCopy) → slice_get sent 0 ≡ Some c → n ≡ wrapped (c.pdu.number + length sent))
@@ -83,10 +82,7 @@ places_rise sent h i j a b x y l = places_below sent h (j - suc i) i a b x (subs
 
 -- a place names one position
 pub place_once : (sent : List FirstCopy) → IsOrdered sent → (i j : ℕ) (a b : FirstCopy) → slice_get sent i ≡ Some a → slice_get sent j ≡ Some b → a.place ≡ b.place → i ≡ j
-place_once sent h i j a b x y e =
-    let up : i < j → ⊥ = λ l. (let z = places_rise sent h i j a b x y l in omega arith) in
-    let down : j < i → ⊥ = λ l. (let z = places_rise sent h j i b a y x l in omega arith) in
-    omega (arith, up, down)
+place_once sent h i j a b x y e = grind (arith, places_rise)
 
 -- the place of a member names its position, where none before it has that place
 pub place_first : (sent : List FirstCopy) (i : ℕ) (c : FirstCopy) → slice_get sent i ≡ Some c → ((j : ℕ) (d : FirstCopy) → j < i → slice_get sent j ≡ Some d → d.place ≡ c.place → ⊥) → position_of_place sent c.place ≡ Some i
@@ -123,11 +119,7 @@ module _ (sent : List FirstCopy) (c : FirstCopy) (h : IsOrdered (sent ++ c ∷ [
   place_last = place_named (sent ++ c ∷ []) h (length sent) c (get_push sent c)
 
   pub place_pushed : (q : ℕ) → position_of_place (sent ++ c ∷ []) q ≡ (if nat_eq q c.place then Some (length sent) else position_of_place sent q)
-  place_pushed q =
-      let here : c.place ≡ q → position_of_place (sent ++ c ∷ []) q ≡ Some (length sent) = λ same. subst (λ n. position_of_place (sent ++ c ∷ []) n ≡ Some (length sent)) same place_last in
-      let old : nat_eq q c.place ≡ false → position_of_place (sent ++ c ∷ []) q ≡ position_of_place sent q = λ e.
-      ap (position (nat_eq q)) (map-append (λ (d : FirstCopy). d.place) sent (c ∷ [])) ∙ position_push (nat_eq q) (places_of sent) c.place e in
-      grind (arith, nat_tests)
+  place_pushed q = grind (arith, place_last, map-append, position_push, nat_tests)
 
   -- the marks with one more are those of the list with one more
   pub marks_pushed : (old new : List ℕ) → AreMarks sent old → ((q : ℕ) → marked new q ≡ (if nat_eq q c.place then Some (length sent) else marked old q)) → AreMarks (sent ++ c ∷ []) new
@@ -153,8 +145,4 @@ module _ (sent : List FirstCopy) (h : IsOrdered sent) (few : length sent < 42949
       subst (λ m. position_of_number sent m ≡ Some d) at (number_named sent h few d c.0 c.1)
 
   pub far : length sent ≤ (n + (4294967296 - first)) % 4294967296 → position_of_number sent n ≡ None
-  far l =
-      none_of (λ (z : FirstCopy). z.pdu.number) n sent (λ j c g q.
-      (let m = slice_get_within sent j c g in
-      let few_first = first_small in
-      let number = sym q ∙ number_at j c g in omega arith))
+  far l = grind (arith, none_of, slice_get_within, first_small, number_at)

@@ -1,5 +1,5 @@
 -- Crossings record by record.
-use Rattle.std.proofs.Common.{◌≡◌, ◌⊎◌, ℕ, List, [], ◌∷◌, ◌++◌, suc, ◌+◌, ◌-◌, ◌<◌, length, map, drop, append_assoc, append-nil, Option, Some, None, Result, Ok, Err, Bool, true, false, refl, ap, sym, ◌∙◌, arith, subst, nat_lt, if◌then◌else◌, inl, inr}
+use Rattle.std.proofs.Common.{◌≡◌, ◌⊎◌, ℕ, List, [], ◌∷◌, ◌++◌, suc, ◌+◌, ◌-◌, ◌<◌, length, map, drop, append_assoc, append-nil, Option, Some, None, Result, Ok, Err, Bool, true, false, refl, ap, sym, ◌∙◌, arith, subst, nat_lt, if◌then◌else◌, inr}
 use Rattle.rasta_check.proofs.Prelude.{nat_tests, length_push, Side, Client, Server, fault_of_end, IsCapture-reading_of, reading_of-IsCapture, Packet, packet_in, FirstCopy}
 use Rattle.rasta_check.proofs.Prelude.{crossing_list, packet_fault, Fault, Numbered, IsCapture, next, cursor_after, opening, reading, reading_of, bytes_of, Parameters}
 use Rattle.rasta_check.proofs.Prelude.{AreParameters, Crossing, IsCrossing, and_then, after_record, after_records, after_reading, crossing_of, crossing_with, is_within}
@@ -15,7 +15,7 @@ use Rattle.rasta_pcap.specs.Fault.{fault_at, too_many}
 use Rattle.rasta_pcap.proofs.Captures.{numbers-reading_of}
 use Rattle.rasta_pcap.specs.Capture.{Cursor, read_step}
 use Rattle.rasta_pcap.proofs.Steps.{reading_of-opened, reading_of-refused}
-use Rattle.rasta_check.specs.Capture.Reading.{at_end, after_frame, after_judged, after_packet}
+use Rattle.rasta_check.specs.Capture.Reading.{after_frame, after_judged, after_packet}
 use Rattle.rasta_check.proofs.Capture.Channels.{is_recorded}
 use Rattle.rasta_check.proofs.Capture.Crossings.{crossing_of_lists, is_read, grown_crossing}
 use Rattle.rasta_check.proofs.Capture.FirstCopies.{sent_none}
@@ -117,9 +117,7 @@ module _ (p : Parameters) (frames : List (List ℕ)) (frame : List ℕ) (later :
 
   -- what a record of the window holds follows what crossed before
   pub packets_with : (o : Option Packet) → packet_in p.channels frame ≡ Ok o → crossing_list p (frames ++ frame ∷ later) ≡ crossing_list p frames ++ cons_option o (packets_in p later)
-  packets_with o found =
-      ap (packets_in p) window_with ∙ packets_append p (window p frames) (frame ∷ later)
-      ∙ ap (λ (q : Result (Option Packet) Fault). crossing_list p frames ++ cons_option (option_flatten (result_ok q)) (packets_in p later)) found
+  packets_with o found = grind (arith, window_with, packets_append)
 
 -- ---- records without a fault
 
@@ -181,9 +179,7 @@ Leads p frames end (Err f) = ((k : Crossing) × Crossed p frames k × (end ≡ S
 module _ (p : Parameters) (end : Option Fault) where
   walk : (frames front : List (List ℕ)) (n : ℕ) (k : Crossing) → n ≡ suc (length front) → Crossed p front k → Leads p (front ++ frames) end (after_records k (numbered n frames) end)
   unfolding after_records
-  walk [] front n k e x =
-      let all = subst (λ (fs : List (List ℕ)). Crossed p fs k) (sym (append-nil front)) x in
-      elim end as (λ (o : Option Fault). Leads p (front ++ []) o (at_end k o)) [ None ↦ (refl, all) | Some f ↦ inl (k, all, refl) ]
+  walk [] front n k e x = grind (arith, append-nil)
   walk (frame ∷ frames) front n k e x =
       by (after_record k (n, frame)) (subst (λ (z : Crossing × ℕ). Step z.0 (z.1, frame) (after_record k (n, frame))) (λ i. (x.same i, e i)) (step_of k (n, frame)))
       (λ next y. walk frames (front ++ frame ∷ []) (n + 1) next (omega (arith, length_push front frame)) y)
@@ -212,16 +208,12 @@ records_lead p frames end =
     })
 
 pub file_leads : (p : Parameters) (file : List ℕ) → Leads p (bytes_of (reading_of p.last_record file)) (reading_of p.last_record file).fault (crossing_of p file)
-file_leads p file =
-    let r = reading_of p.last_record file in
-    subst (λ (rs : List Numbered). Leads p (bytes_of r) r.fault (after_records (nothing_crossed p) rs r.fault)) (sym (numbered_of p.last_record file)) (records_lead p (bytes_of r) r.fault)
+file_leads p file = grind (arith, numbered_of, records_lead)
 
 -- a file that is read: its records, and the packets that they hold
 pub file_by : (p : Parameters) (file : List ℕ) (k : Crossing) → crossing_of p file ≡ Ok k
     → (records : List (List ℕ)) × IsCapture p.last_record file records × (k.packets ≡ crossing_list p records) × (k.params ≡ p)
-file_by p file k e =
-    let w = rw e at (file_leads p file) in
-    (_, IsCapture-reading_of p.last_record file w.0, ap (λ (q : Crossing). q.packets) w.1.same, ap (λ (q : Crossing). q.params) w.1.same)
+file_by p file k e = grind (arith, file_leads, IsCapture-reading_of)
 
 -- the same of all lists of records
 pub file_records : (p : Parameters) (file : List ℕ) (k : Crossing) (records : List (List ℕ)) → AreParameters p → crossing_of p file ≡ Ok k → IsCapture p.last_record file records

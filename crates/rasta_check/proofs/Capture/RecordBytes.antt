@@ -1,5 +1,5 @@
 -- The records of a file of bytes are bytes, and so are the payloads of their packets.
-use Rattle.std.proofs.Common.{◌≡◌, ℕ, zero, suc, ◌-◌, List, drop, Option, Some, None, Result, Ok, Err, refl, ap, sym, subst}
+use Rattle.std.proofs.Common.{◌≡◌, ℕ, zero, suc, List, drop, Option, Some, None, Result, Ok, Err, refl, ap, sym, subst, arith}
 use Rattle.rasta_check.proofs.Prelude.{Fault, Numbered, next, cursor_after, opening, reading, reading_of, bytes_of, Packet, packet_in, Parameters, AreBytes}
 use Rattle.std.specs.List.{AllByRecursion}
 use Rattle.rasta_pcap.specs.Capture.{Cursor, next_length, read_step, reading_opened}
@@ -34,6 +34,4 @@ file_bytes limit file are = opened_bytes limit file (opening file) refl are
 
 -- a packet's payload is a part of its frame
 pub payload_bytes : (p : Parameters) (frame : List ℕ) (a : Packet) → packet_in p.channels frame ≡ Ok (Some a) → AreBytes frame → AreBytes a.payload
-payload_bytes p frame a h are =
-    let w = in_range p.channels frame a h in
-    subst AreBytes w.2 (AreBytes-take (w.1 - w.0) (drop w.0 frame) (AreBytes-drop w.0 frame are))
+payload_bytes p frame a h are = grind (arith, in_range, AreBytes-take, AreBytes-drop)

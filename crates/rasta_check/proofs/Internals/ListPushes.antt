@@ -41,9 +41,7 @@ none_has (e ∷ es) n same new =
 
 module _ {S : Type 0} (m : HashMap ℕ (ℕ × Pdu) S) (x : ℕ × Pdu) (h : IsOrdered (copies_in m.entries ++ copy_of x ∷ [])) (keys : keys_of m.entries ≡ numbers_of (copies_in m.entries)) (few : length (copies_in m.entries) < 4294967296) where
   inserted : (number : ℕ) → number ≡ x.1.number → insert_entry nat_eq m.entries number x ≡ m.entries ++ (number, x) ∷ []
-  inserted number e =
-      insert_entry-new nat_eq m number x (lookup-none (nat_eq number) m.entries (none_has m.entries number keys
-      (λ i d g z. number_new (copies_in m.entries) (copy_of x) h few i d g (z ∙ e))))
+  inserted number e = grind (arith, insert_entry-new, lookup-none, none_has, number_new)
 
   pub map_grown : (number : ℕ) (all : Entries) → number ≡ x.1.number → all ≡ insert_entry nat_eq m.entries number x → copies_in all ≡ copies_in m.entries ++ copy_of x ∷ []
   map_grown number all e f = map_push (λ (y : ℕ × (ℕ × Pdu)). copy_of y.1) m.entries all (number, x) (f ∙ inserted number e)

@@ -1,5 +1,5 @@
 -- What was read of a capture and added so far, and what that says of every file that begins so.
-use Rattle.std.proofs.Common.{◌≡◌, ◌∙◌, ◌⊎◌, inl, inr, ◌++◌, append_assoc, ℕ, zero, suc, List, [], Option, Result, Ok, Err, true, false, refl, ap, sym, arith}
+use Rattle.std.proofs.Common.{◌≡◌, ◌∙◌, ◌⊎◌, inl, inr, ◌++◌, append_assoc, ℕ, zero, suc, List, [], Option, Result, Ok, Err, false, refl, ap, sym, arith}
 use Rattle.rasta_check.proofs.Prelude.{Fault, cursor_after, opening, reading, Parameters, AreParameters, Crossing, after_reading, after_record, after_records, and_then}
 use Rattle.rasta_check.proofs.Prelude.{crossing_of, nothing_crossed, crossing_left, OfConnection}
 use Rattle.std.specs.Io.KnownBytes.{Consumes}
@@ -25,12 +25,7 @@ pub record IsUnderway (whole rest : List ℕ → Result Crossing Fault) (old new
 -- after a header what crosses by a file crosses by the bytes that are left
 pub Underway-opened : (p : Parameters) (k : Crossing) (r : RecordReader) (last : ℕ) (old new : Option (List ℕ)) → Opens (order_in r) old new
     → count_in r ≡ 0 → k ≡ nothing_crossed p → last ≡ p.last_record → IsUnderway (crossing_of p) (crossing_left k r last) old new
-Underway-opened p k r last old new h none nothing all = record {
-  bytes = h.bytes;
-  consumed = h.consumed;
-  each = λ more. after-opened p (h.bytes ++ more) (cursor_at (order_in r) more 0) (h.each more)
-      ∙ sym (λ i. after_reading (nothing i) (reading (all i) (cursor_at (order_in r) more (none i))));
-}
+Underway-opened p k r last old new h none nothing all = grind (arith, after-opened)
 
 -- ---- a record more
 
@@ -54,8 +49,7 @@ ReadsSo-then {P = P} {Q = Q} old new lift h = ReadsSo-after P Q [] old old new (
 
 pub Underway-ends : (whole rest : List ℕ → Result Crossing Fault) (answer : Result Crossing Fault) (old mid new : Option (List ℕ))
     → IsUnderway whole rest old mid → ReadsSo (λ bytes. rest bytes ≡ answer) mid new → ReadsSo (λ bytes. whole bytes ≡ answer) old new
-Underway-ends whole rest answer old mid new h e =
-    ReadsSo-after (λ bytes. rest bytes ≡ answer) (λ bytes. whole bytes ≡ answer) h.bytes old mid new h.consumed (λ more is. h.each more ∙ is) e
+Underway-ends whole rest answer old mid new h e = grind (arith, ReadsSo-after)
 
 pub Underway-begun : (whole rest : List ℕ → Result Crossing Fault) (old mid new : Option (List ℕ))
     → IsUnderway whole rest old mid → (bs : List ℕ) × Consumes mid new bs → (bs : List ℕ) × Consumes old new bs
@@ -64,13 +58,7 @@ Underway-begun whole rest old mid new h more = (h.bytes ++ more.0, Consumes-tran
 pub all_at_end : (k : Crossing) (r : RecordReader) (left : ℕ) (old new : Option (List ℕ)) → MeetsEnd old new
     → ReadsSo (λ rest. crossing_left k r (suc left) rest ≡ Ok k) old new
 unfolding after_records
-all_at_end k r left old new h = record {
-  bytes = [];
-  met_end = true;
-  consumed = h.0;
-  at_end = λ e. h.1;
-  each = λ more follows. (let c = cursor_at (order_in r) [] (count_in r) in ap (crossing_left k r (suc left)) (follows refl) ∙ after-next k left c _ (next-nil c refl));
-}
+all_at_end k r left old new h = grind (arith, after-next, next-nil)
 
 pub all_with_window : (k : Crossing) (r : RecordReader) (i : Option (List ℕ)) → ReadsSo (λ rest. crossing_left k r zero rest ≡ Ok k) i i
 unfolding after_records reading
@@ -85,16 +73,7 @@ FaultsNext k r f old new = ReadsSo (λ rest. (left : ℕ) → crossing_left k r 
 pub next_faulty : (k : Crossing) (r : RecordReader) (number : ℕ) (bytes : List ℕ) (f : Fault) (old new : Option (List ℕ))
     → ReadsRecord (order_in r) (count_in r) (number, bytes) old new → after_record k (number, bytes) ≡ Err f → FaultsNext k r f old new
 unfolding after_records
-next_faulty k r number bytes f old new h e = record {
-  bytes = h.bytes;
-  met_end = false;
-  consumed = h.consumed;
-  at_end = λ e. absurd (cc);
-  each = λ more follows left.
-      let c = cursor_at (order_in r) (h.bytes ++ more) (count_in r) in
-      after-next k left c _ (h.each more).0
-      ∙ ap (λ q. and_then q (λ (m : Crossing). after_reading m (reading left (cursor_after c)))) e;
-}
+next_faulty k r number bytes f old new h e = grind (arith, after-next)
 
 -- why there was no record
 abbrev pub WhyNone : ℕ → RecordReader → ℕ → Fault → ℕ → ℕ → Option (List ℕ) → Option (List ℕ) → Type 0

@@ -55,9 +55,7 @@ copies_more : (k l : Crossing) (place : ℕ) (xs : List Packet) (a : Packet) (en
     → first_copies_from l place (xs ++ a ∷ []) ≡ first_copies_from k place xs ++ first_part l a end
 unfolding first_copies_from
 copies_more k l place [] a end h e = append-nil (first_part l a place) ∙ ap (first_part l a) (omega arith)
-copies_more k l place (x ∷ xs) a end h e =
-    (λ i. (if is_some (h x.side place (omega arith) i) then x.payload else []) ++ copies_more k l (suc place) xs a end h (omega arith) i)
-    ∙ sym (append_assoc (first_part k x place) (first_copies_from k (suc place) xs) (first_part l a end))
+copies_more k l place (x ∷ xs) a end h e = (let more = copies_more k l (suc place) xs a end h (omega arith) in grind (arith, append_assoc))
 
 sent_same : (k : Crossing) (a : Packet) (side s : Side) → sent_by (crossing_with k a side (sent_by k side)) s ≡ sent_by k s
 sent_same k a side s = grind arith
