@@ -57,9 +57,7 @@ goes_on p packets own a sent w n =
 
 pub goes_on_sent : (p : Parameters) (packets : List Packet) (own : List FirstCopy) (a : Packet) → IsSent p packets a.side own → length own ≤ 1000000 → IsRead p a
     → packet_fault p own a ≡ None → Sent p (packets ++ a ∷ []) a.side (after_read own (length packets) (decode_of p a.side a.payload))
-goes_on_sent p packets own a sent few w n =
-    let l : length (after_read own (length packets) (decode_of p a.side a.payload)) ≤ length own + 1 = grind (arith, length_push) in
-    of_record p (packets ++ a ∷ []) a.side _ (goes_on p packets own a sent w n) (omega arith)
+goes_on_sent p packets own a sent few w n = (let own = goes_on p packets own a sent w n in grind (arith, of_record, length_push))
 
 -- ---- packets of known numbers
 
@@ -76,7 +74,7 @@ first_packet k side number place h e =
     let w = mapped_some (λ (c : FirstCopy). c.place) (copy_with (sent_by k side) number) place e in
     let f = copy_found (sent_by k side) number w.0 w.1 in
     let q = (list_of k h side).firsts f.0 w.0 f.1 in
-    (w.0, q.0, w.1, subst (λ (j : ℕ). slice_get k.packets j ≡ Some q.0) w.2 q.1, q.3.same)
+    grind arith
 
 pub place_within : (k : Crossing) (side : Side) (number place : ℕ) → IsCrossing k → option_map (λ (c : FirstCopy). c.place) (copy_with (sent_by k side) number) ≡ Some place
     → place < length k.packets
@@ -120,17 +118,7 @@ pub crossing_of_lists : (k : Crossing) → OfConnection k.params → CrossRecord
     → IsSent k.params k.packets Server k.server → IsCrossing k
 crossing_of_lists k valid recorded within c s =
     let w : (length k.packets ≤ most_packets) × (length k.client ≤ most_sent) × (length k.server ≤ most_sent) = grind (arith, nat_tests) in
-    record {
-      valid = valid;
-      recorded = recorded;
-      sent = record {
-        client_sent = of_record k.params k.packets Client k.client c (let z = w.1 in omega arith);
-        server_sent = of_record k.params k.packets Server k.server s (let z = w.2 in omega arith);
-        few_packets = w.0;
-        few_client = w.1;
-        few_server = w.2;
-      };
-    }
+    grind (arith, of_record)
 
 grown_at : (k : Crossing) (a : Packet) (side : Side) (sent : List FirstCopy) → a.side ≡ side → IsCrossing k → IsRecorded k.params a.channel
     → IsSent k.params (k.packets ++ a ∷ []) side sent → is_within (crossing_with k a side sent) ≡ true → IsCrossing (crossing_with k a side sent)

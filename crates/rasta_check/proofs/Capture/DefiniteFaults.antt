@@ -1,5 +1,5 @@
 -- A fault of a side is definite, over the records of a file.
-use Rattle.std.proofs.Common.{◌≡◌, ℕ, suc, ◌≤◌, List, [], ◌∷◌, ◌++◌, length, append_assoc, Some, Err, ap, sym, ◌∙◌, arith, subst, le-ltb}
+use Rattle.std.proofs.Common.{◌≡◌, ℕ, suc, ◌≤◌, List, [], ◌∷◌, ◌++◌, length, append_assoc, Some, Err, ap, ◌∙◌, arith, le-ltb}
 use Rattle.rasta_check.proofs.Prelude.{length_push, Fault, IsCapture, opening, reading_of, bytes_of, reading_of-IsCapture, Packet, Parameters, AreBytes, FirstCopy, Sent}
 use Rattle.rasta_check.proofs.Prelude.{crossing_list, packet_fault, OfConnection, crossing_of, in_header}
 use Rattle.std.specs.Prelude.{IsSome}
@@ -21,7 +21,7 @@ impossible_with p packets own a number h sent some ws w rest r e =
     let few = sent.1 in
     let here : w.crossed ≡ packets ++ a ∷ rest = e ∙ append_assoc packets (a ∷ []) rest in
     let none = faultless p packets a.side own a h mine (omega arith) (definite p h.valid ws w packets rest a own r here mine (omega arith)) in
-    absurd (cc)
+    grind arith
 
 -- a fault of a side names a record of the file, and no run sends what the records up to it hold
 pub record IsDefinite (p : Parameters) (file : List ℕ) (f : Fault) : Type 0 where
@@ -39,11 +39,8 @@ definite_by p file f h (in_record records c s frame number end faultless capture
     let top = h.valid.window.last_most in
     let read = (reading_of-IsCapture n file (records ++ frame ∷ []) (omega (arith, top, high)) capture).0 in
     let packets : packets_through p file n ≡ crossing_list p records ++ a ∷ [] = ap (crossing_list p) read ∙ packets_with p records frame [] (le-ltb n p.first_record low) (Some a) found in
-    record {
-      impossible = subst (Impossible p) (sym packets) (impossible_with p (crossing_list p records) _ a m h (sent_at p records c s faultless a.side) some);
-      capture = subst (IsCapture n file) (sym read) capture;
-      count = ap length read ∙ (let l = length_push records frame in omega arith);
-    }
+    let impossible = impossible_with p (crossing_list p records) _ a m h (sent_at p records c s faultless a.side) some in
+    grind (arith, length_push)
 
 pub is_definite : (p : Parameters) (file : List ℕ) (f : Fault) → OfConnection p → AreBytes file → crossing_of p file ≡ Err f → IsSome f.end → IsDefinite p file f
 is_definite p file f h are e is = definite_by p file f h (is_refused p file h are f e) is

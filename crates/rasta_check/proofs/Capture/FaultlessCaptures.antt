@@ -115,11 +115,9 @@ records_are_read p frames end client server h are all = by _ (records_lead p fra
 pub faultless_is_read : (p : Parameters) (file : List ℕ) (client server : List FirstCopy) → OfConnection p → AreBytes file → (f : IsFaultlessCapture p file client server)
     → crossing_of p file ≡ Ok (crossing_by p f.records client server)
 faultless_is_read p file client server h are f =
-    let all = reading_of p.last_record file in
     let read = reading_of-IsCapture p.last_record file f.records h.valid.window.last_most f.capture in
-    (λ i. after_records (nothing_crossed p) (numbered_of p.last_record file i) (read.1 i))
-    ∙ records_are_read p (bytes_of all) None client server h (file_bytes p.last_record file are) (subst (λ (frames : List (List ℕ)). AreFaultless p frames client server) (sym read.0) f.faultless)
-    ∙ ap (λ (frames : List (List ℕ)). Ok (crossing_by p frames client server)) read.0
+    let all = records_are_read p (bytes_of (reading_of p.last_record file)) None client server h (file_bytes p.last_record file are) in
+    grind (arith, numbered_of)
 
 -- no lists make the file a capture without a fault
 abbrev pub IsFaulty : Parameters → List ℕ → Type 0

@@ -31,15 +31,7 @@ split_at : (n : ℕ) (big : List FirstCopy) → (own : List FirstCopy) × AreBel
 split_at n [] = ([], λ i c g. absurd (cc), record { later = []; whole = refl; place = λ c g. absurd (cc) })
 split_at n (c ∷ cs) = elim (dec_lt c.place n) [
   | yes l ↦ (let r = split_at n cs in (c ∷ r.0, below_more n c r.0 l r.1, record { later = r.2.later; whole = ap (λ (xs : List FirstCopy). c ∷ xs) r.2.whole; place = r.2.place }))
-  | no l ↦ (
-    [],
-    λ i d g. absurd (cc),
-    record {
-      later = c ∷ cs;
-      whole = refl;
-      place = λ d g. (let same : c ≡ d = cc in let e = ap (λ (z : FirstCopy). z.place) same in omega arith);
-    },
-  )
+  | no l ↦ ([], λ i d g. absurd (cc), record { later = c ∷ cs; whole = refl; place = λ d g. grind arith })
 ]
 
 module _ (p : Parameters) (xs ys : List Packet) (s : Side) (own later : List FirstCopy) (h : IsSent p (xs ++ ys) s (own ++ later)) (high : (c : FirstCopy) → slice_get later 0 ≡ Some c → length xs ≤ c.place) where

@@ -1,5 +1,5 @@
 -- A packet that may come next has no fault.
-use Rattle.std.proofs.Common.{◌≡◌, ◌⊎◌, ℕ, zero, suc, ◌+◌, ◌<◌, Bool, true, false, List, [], ◌∷◌, Option, Some, None, Ok, length, slice_get, refl, ap, sym, ◌∙◌, arith, inl, inr}
+use Rattle.std.proofs.Common.{◌≡◌, ◌⊎◌, ℕ, suc, ◌+◌, ◌<◌, Bool, true, false, List, [], ◌∷◌, Option, Some, None, Ok, length, slice_get, refl, ap, sym, ◌∙◌, arith, inl, inr}
 use Rattle.rasta_check.proofs.Prelude.{◌==◌, if◌then◌else◌, nat_tests, bytes_eq-Decides, Side, Packet, Parameters, RedundancyPdu, decode_of, wrapped, FirstCopy}
 use Rattle.rasta_check.proofs.Prelude.{Spells, copy_with, is_next_number, OfConnection}
 use Rattle.rasta_pdu.proofs.Spellings.{decode_of-redundancy_bytes}
@@ -28,8 +28,7 @@ copy_found (x ∷ own) number c e = found_by (x.pdu.number == number) x own numb
 -- where there is none, no member has the number
 pub copy_none : (own : List FirstCopy) (number : ℕ) → copy_with own number ≡ None → (i : ℕ) (c : FirstCopy) → slice_get own i ≡ Some c → c.pdu.number ≡ number → ⊥
 copy_none [] number e i c g n = cc
-copy_none (x ∷ own) number e zero c g n = (let same : x ≡ c = cc in grind (arith, nat_tests))
-copy_none (x ∷ own) number e (suc i) c g n = copy_none own number (grind (arith, nat_tests)) i c g n
+copy_none (x ∷ own) number e i c g n = (let more = copy_none own number in grind (arith, nat_tests))
 
 -- ---- where it may come next, it has no fault
 

@@ -1,5 +1,5 @@
 -- Positions in ordered lists of first copies.
-use Rattle.std.proofs.Common.{◌≡◌, ℕ, zero, suc, ◌+◌, ◌-◌, ◌%◌, ◌^◌, ◌<◌, ◌≤◌, ◌++◌, Bool, false, nat_eq, List, [], ◌∷◌, Some, None, length, get_or, map, slice_get, position, refl, ap, sym, ◌∙◌, arith, subst, if◌then◌else◌, take, drop}
+use Rattle.std.proofs.Common.{◌≡◌, ℕ, zero, suc, ◌+◌, ◌-◌, ◌%◌, ◌^◌, ◌<◌, ◌≤◌, ◌++◌, Bool, false, nat_eq, List, [], ◌∷◌, Some, None, length, map, slice_get, position, refl, ap, sym, ◌∙◌, arith, subst, if◌then◌else◌, take, drop}
 use Rattle.rasta_check.proofs.Prelude.{option_map, nat_tests, length_push, map-append, take-append-drop, slice_get_within, slice_get-get_or, wrapped, FirstCopy, IsOrdered}
 use Rattle.rasta_check.proofs.Prelude.{position_of_number, position_of_place, get_front, get_mapped, get_push, mapped_some, slice_get_some}
 use Rattle.std.proofs.lemmas.List.Quantifiers.{position-Some}
@@ -22,10 +22,7 @@ module _ (f : FirstCopy → ℕ) (n : ℕ) where
   none_of (x ∷ sent) fails = (let other = fails 0 x refl in let more = none_of sent (λ j. fails (suc j)) in grind (arith, nat_tests))
 
   member_of : (sent : List FirstCopy) (i : ℕ) → position (nat_eq n) (map f sent) ≡ Some i → (c : FirstCopy) × (slice_get sent i ≡ Some c) × (f c ≡ n)
-  member_of sent i e =
-      let w = position-Some (nat_eq n) (map f sent) i 0 e in
-      let same : get_or (map f sent) i 0 ≡ n = (let t = w.1 in grind (arith, nat_tests)) in
-      get_mapped f sent i n (slice_get-get_or (map f sent) i 0 w.0 ∙ ap Some same)
+  member_of sent i e = (let w = position-Some (nat_eq n) (map f sent) i 0 e in grind (arith, nat_tests, get_mapped, slice_get-get_or))
 
 pub number_found : (cs : List FirstCopy) (number i : ℕ) → position_of_number cs number ≡ Some i → (c : FirstCopy) × (slice_get cs i ≡ Some c) × (c.pdu.number ≡ number)
 number_found cs number i e = member_of (λ (c : FirstCopy). c.pdu.number) number cs i e

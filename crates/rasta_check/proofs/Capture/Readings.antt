@@ -28,6 +28,8 @@ pub after-next : (k : Crossing) (left : ℕ) (c : Cursor) (o : Result (Option Nu
 unfolding reading
 after-next k left c o h = ap (λ (q : Result (Option Numbered) Fault). after_reading k (read_step q (reading left (cursor_after c)))) h
 
+pub ruleset leads_on = (after-next)
+
 pub after-opened : (p : Parameters) (file : List ℕ) (c : Cursor) → opening file ≡ Ok c → crossing_of p file ≡ after_reading (nothing_crossed p) (reading p.last_record c)
 after-opened p file c h = ap (after_reading (nothing_crossed p)) (reading_of-opened p.last_record file c h)
 
@@ -90,10 +92,7 @@ numbered n (frame ∷ frames) = (n, frame) ∷ numbered (n + 1) frames
 
 is_numbered : (n : ℕ) (rs : List Numbered) → map (λ (r : Numbered). r.0) rs ≡ range_with_len n (length rs) → rs ≡ numbered n (map (λ (r : Numbered). r.1) rs)
 is_numbered n [] e = refl
-is_numbered n (r ∷ rs) e =
-    let head : r.0 ≡ n = cc in
-    let tail : map (λ (x : Numbered). x.0) rs ≡ range_with_len (n + 1) (length rs) = cc in
-    (λ i. (head i, r.1) ∷ is_numbered (n + 1) rs tail i)
+is_numbered n (r ∷ rs) e = (let more = is_numbered (n + 1) rs in grind arith)
 
 pub numbered_of : (limit : ℕ) (file : List ℕ) → (reading_of limit file).records ≡ numbered 1 (bytes_of (reading_of limit file))
 numbered_of limit file = is_numbered 1 (reading_of limit file).records (numbers-reading_of limit file)
@@ -201,11 +200,7 @@ nothing_is p h = crossing_of_lists (nothing_crossed p) h (λ place a g. absurd (
 pub records_lead : (p : Parameters) (frames : List (List ℕ)) (end : Option Fault) → Leads p frames end (after_records (nothing_crossed p) (numbered 1 frames) end)
 records_lead p frames end =
     let none : window p [] ≡ [] = drop_of_length-le {A = List ℕ} [] (omega arith) in
-    walk p end frames [] 1 (nothing_crossed p) refl (record {
-      same = (λ i. record { params = p; packets = packets_in p (sym none i); client = []; server = [] });
-      sound = rw none tt;
-      is = λ h are. nothing_is p h;
-    })
+    walk p end frames [] 1 (nothing_crossed p) refl (record { same = rw none refl; sound = rw none tt; is = λ h are. nothing_is p h })
 
 pub file_leads : (p : Parameters) (file : List ℕ) → Leads p (bytes_of (reading_of p.last_record file)) (reading_of p.last_record file).fault (crossing_of p file)
 file_leads p file = grind (arith, numbered_of, records_lead)

@@ -16,10 +16,7 @@ new_range bytes more = ap (take (length bytes + length more - length bytes)) (dr
 
 old_spans : (bytes more : List ℕ) (spans : List Span) → AreWithin (length bytes) spans → map (kept_in (bytes ++ more)) spans ≡ map (kept_in bytes) spans
 old_spans bytes more [] h = refl
-old_spans bytes more (s ∷ spans) h =
-    let here : kept_in (bytes ++ more) s ≡ kept_in bytes s =
-    ap (λ (xs : List ℕ). record { place = s.place; bytes = xs }) (old_range bytes more s.start (s.start + s.len) (omega arith) (h 0 s refl)) in
-    (λ i. here i ∷ old_spans bytes more spans (λ j t g. h (suc j) t g) i)
+old_spans bytes more (s ∷ spans) h = (let rest = old_spans bytes more spans (λ j. h (suc j)) in let here = h 0 s refl in grind (arith, old_range))
 
 -- the datagrams of the side that has no new one
 pub same_kept : (bytes all more : List ℕ) (spans : List Span) → AreWithin (length bytes) spans → all ≡ bytes ++ more → map (kept_in all) spans ≡ map (kept_in bytes) spans

@@ -33,11 +33,7 @@ Entries = List (ℕ × (ℕ × Pdu))
 none_has : (es : Entries) (n : ℕ) → keys_of es ≡ numbers_of (copies_in es)
     → ((i : ℕ) (d : FirstCopy) → slice_get (copies_in es) i ≡ Some d → d.pdu.number ≡ n → ⊥) → NonePasses (nat_eq n) es
 none_has [] n same new = tt
-none_has (e ∷ es) n same new =
-    let head : e.0 ≡ (value_of e.1.1).number = cc in
-    let tail : keys_of es ≡ numbers_of (copies_in es) = cc in
-    let other : e.0 ≡ n → ⊥ = λ z. new 0 (copy_of e.1) refl (sym head ∙ z) in
-    (grind (arith, nat_tests), none_has es n tail (λ i d g. new (suc i) d g))
+none_has (e ∷ es) n same new = (let first = new 0 (copy_of e.1) refl in let more = none_has es n (cc) (λ i d g. new (suc i) d g) in grind (arith, nat_tests))
 
 module _ {S : Type 0} (m : HashMap ℕ (ℕ × Pdu) S) (x : ℕ × Pdu) (h : IsOrdered (copies_in m.entries ++ copy_of x ∷ [])) (keys : keys_of m.entries ≡ numbers_of (copies_in m.entries)) (few : length (copies_in m.entries) < 4294967296) where
   inserted : (number : ℕ) → number ≡ x.1.number → insert_entry nat_eq m.entries number x ≡ m.entries ++ (number, x) ∷ []

@@ -21,9 +21,7 @@ Among d e = (side : Side) (i : ℕ) (x : Kept) → slice_get (kept_by d side) i 
 
 same_packets : (d e : KeptDatagrams) → Among d e → (xs : List StoredPacket) → HavePositions d xs → map (packet_by e) xs ≡ map (packet_by d) xs
 same_packets d e h [] l = refl
-same_packets d e h (x ∷ xs) l =
-    let w = slice_get_some (kept_by d x.side) x.position (l 0 x refl) in
-    (λ i. record { channel = x.channel; side = x.side; payload = bytes_of ((h x.side x.position w.0 w.1 ∙ sym w.1) i) } ∷ same_packets d e h xs (λ j y g. l (suc j) y g) i)
+same_packets d e h (x ∷ xs) l = (let w = slice_get_some (kept_by d x.side) x.position (l 0 x refl) in let more = same_packets d e h xs (λ j y g. l (suc j) y g) in grind arith)
 
 among_keeping : (d : KeptDatagrams) (side : Side) (y : Kept) → Among d (keeping d side y)
 among_keeping d side y other i x g = grind (arith, get_front)
@@ -61,9 +59,7 @@ sent_same : (k : Crossing) (a : Packet) (side s : Side) → sent_by (crossing_wi
 sent_same k a side s = grind arith
 
 no_place : (k : Crossing) → IsCrossing k → (side : Side) → position_of_place (sent_by k side) (length k.packets) ≡ None
-no_place k h side =
-    place_missing (sent_by k side) (length k.packets) (λ i c g e.
-    (let w = (list_of k h side).firsts i c g in let l = slice_get_within k.packets c.place w.0 w.1 in omega arith))
+no_place k h side = (let own = list_of k h side in grind (arith, place_missing, slice_get_within))
 
 -- ---- a store with one packet more
 

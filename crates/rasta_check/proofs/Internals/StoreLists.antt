@@ -10,7 +10,8 @@ use Rattle.rasta_pcap.specs.Fault.{copy_differs}
 use Rattle.rasta_check.specs.Capture.Lists.{numbers_of}
 use Rattle.rasta_check.specs.Internals.Stored.{bytes_of, copy_in, packet_by}
 use Rattle.rasta_check.proofs.Capture.Crossings.{few_of, known_by, list_of}
-use Rattle.rasta_check.proofs.Capture.Positions.{number_found, number_once, place_missing, place_named}
+use Rattle.rasta_check.proofs.Sides.{same_side, sides_differ}
+use Rattle.rasta_check.proofs.Capture.Positions.{far, near, number_found, number_once, place_missing, place_named}
 use Rattle.rasta_check.proofs.Capture.FaultlessLists.{ordered, read_once}
 
 -- ---- a datagram and the first copy that it spells
@@ -127,3 +128,11 @@ module _ (k : Crossing) (a : Packet) (pdu : RedundancyPdu) (reads : decode_of k.
   -- no first copy has its number, which isn't the next
   pub skips : position_of_number sent pdu.number ≡ None → is_next_number sent pdu.number ≡ false → packet_fault k.params sent a ≡ Some number_gap
   skips e f = (known_by k a pdu None reads (no_copy sent pdu.number e)).0 ∙ ap (λ (b : Bool). if b then None else Some number_gap) f
+
+-- ---- what the code looks up
+
+-- the position of a number of a side
+pub ruleset distances = (near, far, few_of, list_of, ordered)
+
+-- the position of a place of a side
+pub ruleset places = (packet_read, not_placed, other_side, first_there, copy_there, datagram_of, same_side, sides_differ)

@@ -14,9 +14,6 @@ pub returns-in_err-sent-clause-verdict : goal.returns-in_err-sent-clause-verdict
 returns-in_err-sent-clause-verdict c =
     err_match c.from_residual.result _ _ _ c.from_residual.ensures (⊎_elim (λ e. inr e) (λ is. inl (refused _ is)) c.in_err-sent.ensures.value)
 
-pub check_sent-requires : goal.check_sent-requires
-check_sent-requires c = record { same = c.in_ok-sent.ensures.value.params }
-
 pub returns : goal.returns
 returns c =
     let p = c.args.p.now in

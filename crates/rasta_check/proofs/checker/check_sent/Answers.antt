@@ -1,12 +1,7 @@
-use Rattle.std.proofs.Common.{refl, sym}
+use Rattle.std.proofs.Common.{sym}
 use Rattle.rasta_check.proofs.Verdict.CallAnswers.{if_ok}
 use Rattle.rasta_check.proofs.Verdict.Headline.{lent}
 use Rattle.rasta_check.proofs.checker.check_sent.Goals as goal
-
-pub check_lists-requires : goal.check_lists-requires
-check_lists-requires c =
-    let k = c.args.sent.now in
-    λ lifetimes. ((refl, tt), (k.packets, sym c.len.ensures.value, lent k c.args.p.now c.client.result.now c.server.result.now c.requires.same c.client.ensures.value c.server.ensures.value c.len.ensures.crossing))
 
 pub returns : goal.returns
 returns c =

@@ -1,5 +1,5 @@
-use Rattle.std.proofs.Common.{◌≡◌, ◌∙◌, ◌⊎◌, Ok, Err, Result, ap, sym, inl, inr, ⊎_elim, subst, MatchResult, arith}
-use Rattle.rasta_check.proofs.Prelude.{MatchResult-weaker, Fault, no_memory, reading, AreBytes, Crossing, after_reading, crossing_of, OfConnection, in_header}
+use Rattle.std.proofs.Common.{◌≡◌, ◌⊎◌, Ok, Err, ap, sym, inl, inr, ⊎_elim, subst, MatchResult, arith}
+use Rattle.rasta_check.proofs.Prelude.{MatchResult-weaker, Fault, no_memory, AreBytes, Crossing, crossing_of, OfConnection, in_header}
 use Rattle.rasta_check.proofs.Capture.Readings.{after-opened, after-refused}
 use Rattle.rasta_check.proofs.Capture.DefiniteFaults.{is_definite, opening_definite}
 use Rattle.rasta_check.proofs.Capture.FaultlessCaptures.{crossed_in}
@@ -15,10 +15,7 @@ bytes c = record { fits = λ i. omega (arith, c.type_inv.file i) }
 
 -- memory aside, this is what the file reads as
 all_read : (c : goal.After-add_records) → MatchResult c.add_records.result (λ s. crossing_of c.args.p c.args.file.now ≡ Ok s) (λ f. (f ≡ no_memory) ⊎ (crossing_of c.args.p c.args.file.now ≡ Err f))
-all_read c =
-    let all : crossing_of c.args.p c.args.file.now ≡ after_reading c.new.result (reading c.last_record-last.result c.in-Ok.pcap) =
-    after-opened c.args.p c.args.file.now c.in-Ok.pcap (sym c.in-Ok.ensures) ∙ sym (λ i. after_reading (c.new.ensures.value i) (reading (c.last_record-last.ensures.value i) c.in-Ok.pcap)) in
-    subst (λ (x : Result Crossing Fault). MatchResult c.add_records.result (λ s. x ≡ Ok s) (λ f. (f ≡ no_memory) ⊎ (x ≡ Err f))) (sym all) c.add_records.ensures
+all_read c = grind (arith, after-opened)
 
 pub returns-in-Ok : goal.returns-in-Ok
 returns-in-Ok c =
