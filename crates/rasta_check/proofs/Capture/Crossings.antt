@@ -95,10 +95,9 @@ repeated k a d place r h e f g = grind (arith, first_packet, known_by)
 next_unknown : (k : Crossing) (side : Side) (n : ℕ) → IsCrossing k → is_next_number (sent_by k side) n ≡ true → (o : Option FirstCopy) → copy_with (sent_by k side) n ≡ o → o ≡ None
 next_unknown k side n h e None f = refl
 next_unknown k side n h e (Some c) f =
-    let own = sent_by k side in
-    let w = copy_found own n c f in
+    let w = copy_found (sent_by k side) n c f in
     let few = few_of k h side in
-    absurd (next_new own (ordered (list_of k h side)) (omega arith) n (next_of own n e) w.0 c w.1 w.2)
+    absurd (next_new (sent_by k side) (ordered (list_of k h side)) (omega arith) n (next_of (sent_by k side) n e) w.0 c w.1 w.2)
 
 -- a packet with the next number has no fault, and its PDU joins the list
 pub is_next_pdu : (k : Crossing) (a : Packet) (pdu : Pdu) → IsCrossing k → decode_of k.params a.side a.payload ≡ Ok (value_of pdu)

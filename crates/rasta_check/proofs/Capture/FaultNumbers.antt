@@ -1,5 +1,5 @@
 -- The numbers of a capture's faults: those of a packet are 20 to 28 and name its side, all others are lower and name none.
-use Rattle.std.proofs.Common.{◌≡◌, ℕ, ◌<◌, ◌≤◌, List, length, Option, Some, None, Result, Err, refl, ap, arith, subst, inl, inr}
+use Rattle.std.proofs.Common.{◌≡◌, ℕ, ◌<◌, ◌≤◌, List, Option, Some, None, Result, Err, refl, arith, subst, inl, inr}
 use Rattle.rasta_check.proofs.Prelude.{dec_lt, yes, no, Fault, Side, no_memory, number_gap, Numbered, next, opening, reading_of, Packet, packet_in, Parameters, Kind, decode_of}
 use Rattle.rasta_check.proofs.Prelude.{FirstCopy, packet_fault, Crossing, crossing_of, sent_by}
 use Rattle.std.specs.Prelude.{IsSome, IfErr, IfSome, ◌↔◌}
@@ -66,9 +66,8 @@ sideless f low none = grind arith
 -- the fault that ends a reading
 reading_sided : (limit : ℕ) (file : List ℕ) (f : Fault) → (reading_of limit file).fault ≡ Some f → IsSided f
 reading_sided limit file f e = elim (dec_lt 0 f.place) [
-  | yes l ↦ (let w = IsRefused-reading_of limit file f e l in
-      sideless f (next_low (record { order = w.order; rest = w.rest; count = length w.entries }) f w.refused) (ap (λ (g : Fault). g.end) (IsRefused-place limit file _ f w)))
-  | no l ↦ (let e = opening-by_reading_of limit file f e (omega arith) in sideless f (opening_low file f e) (ap (λ (g : Fault). g.end) (opening-fault_place file f e)))
+  | yes l ↦ (let w = IsRefused-reading_of limit file f e l in let none = IsRefused-place limit file _ f w in grind (arith, next_low))
+  | no l ↦ (let e = opening-by_reading_of limit file f e (omega arith) in grind (arith, opening_low, opening-fault_place))
 ]
 
 step_sided : (k : Crossing) (r : Numbered) (f : Fault) → Step k r (Err f) → IsSided f

@@ -41,8 +41,7 @@ module _ (p : Parameters) (xs ys : List Packet) (s : Side) (own later : List Fir
       let n = slice_get_within (own ++ later) i c g in
       let f = slice_get_some (own ++ later) (length own) (omega arith) in
       let first = high f.0 (sym (get_next own later) ∙ f.1) in
-      let not_later : length own < i → ⊥ = λ l. (let r = places_rise (own ++ later) (ordered h) (length own) i f.0 c f.1 g l in omega arith) in
-      omega (arith, not_later)
+      grind (arith, places_rise, ordered)
 
   within_own : (i : ℕ) (c : FirstCopy) → slice_get (own ++ later) i ≡ Some c → c.place < length xs → i < length own
   within_own i c g l = grind (arith, get_next, next_at)

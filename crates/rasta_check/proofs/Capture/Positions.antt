@@ -12,10 +12,7 @@ module _ (f : FirstCopy → ℕ) (n : ℕ) where
       → position (nat_eq n) (map f sent) ≡ Some i
   first_of [] i c g e fails = absurd (cc)
   first_of (x ∷ sent) zero c g e fails = (let same : x ≡ c = cc in let here : f x ≡ n = ap f same ∙ e in grind (arith, nat_tests))
-  first_of (x ∷ sent) (suc i) c g e fails =
-      let other = fails 0 x (omega arith) refl in
-      let more = first_of sent i c g e (λ j d l. fails (suc j) d (omega arith)) in
-      grind (arith, nat_tests)
+  first_of (x ∷ sent) (suc i) c g e fails = (let other = fails 0 x (omega arith) refl in let more = first_of sent i c g e (λ j d l. fails (suc j) d (omega arith)) in grind (arith, nat_tests))
 
   none_of : (sent : List FirstCopy) → ((j : ℕ) (d : FirstCopy) → slice_get sent j ≡ Some d → f d ≡ n → ⊥) → position (nat_eq n) (map f sent) ≡ None
   none_of [] fails = refl

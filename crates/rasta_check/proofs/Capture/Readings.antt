@@ -1,5 +1,5 @@
 -- Crossings record by record.
-use Rattle.std.proofs.Common.{◌≡◌, ◌⊎◌, ℕ, List, [], ◌∷◌, ◌++◌, suc, ◌+◌, ◌-◌, ◌<◌, length, map, drop, append_assoc, append-nil, Option, Some, None, Result, Ok, Err, Bool, true, false, refl, ap, sym, ◌∙◌, arith, subst, nat_lt, if◌then◌else◌, inr}
+use Rattle.std.proofs.Common.{◌≡◌, ◌⊎◌, ℕ, List, [], ◌∷◌, ◌++◌, suc, ◌+◌, ◌-◌, ◌<◌, length, map, drop, append_assoc, append-nil, Option, Some, None, Result, Ok, Err, Bool, true, false, refl, ap, sym, ◌∙◌, arith, subst, nat_lt, if◌then◌else◌}
 use Rattle.rasta_check.proofs.Prelude.{nat_tests, length_push, Side, Client, Server, fault_of_end, IsCapture-reading_of, reading_of-IsCapture, Packet, packet_in, FirstCopy}
 use Rattle.rasta_check.proofs.Prelude.{crossing_list, packet_fault, Fault, Numbered, IsCapture, next, cursor_after, opening, reading, reading_of, bytes_of, Parameters}
 use Rattle.rasta_check.proofs.Prelude.{AreParameters, Crossing, IsCrossing, and_then, after_record, after_records, after_reading, crossing_of, crossing_with, is_within}
@@ -149,11 +149,8 @@ module _ (p : Parameters) (front : List (List ℕ)) (frame : List ℕ) (c s : Li
   crossed_more next (before t) =
       let low : suc (length front) < p.first_record = grind (arith, nat_tests) in
       let size = length_push front frame in
-      crossed_with [] next (drop_of_length-le (front ++ frame ∷ []) (omega arith) ∙ sym (append-nil (window p front) ∙ drop_of_length-le front (omega arith))) tt
-      (λ i. record { params = p; packets = sym (append-nil (crossing_list p front)) i; client = c; server = s }) (λ h are is. is)
-  crossed_more next (empty t g) =
-      crossed_with (frame ∷ []) next (window_with p front frame [] t) (rw g refl, tt)
-      (rw g (λ i. record { params = p; packets = sym (append-nil (crossing_list p front)) i; client = c; server = s })) (λ h are is. is)
+      crossed_with [] next (grind (arith, drop_of_length-le)) tt (rw append-nil refl) (λ h are is. is)
+  crossed_more next (empty t g) = crossed_with (frame ∷ []) next (window_with p front frame [] t) (rw g refl, tt) (rw (g, append-nil) refl) (λ h are is. is)
   crossed_more next (joined a t g n e) =
       let k = crossing_by p front c s in
       crossed_with (frame ∷ []) next (window_with p front frame [] t) (rw g refl, tt) (rw g (grown_same k a a.side (sent_after k a)))
@@ -180,19 +177,9 @@ module _ (p : Parameters) (end : Option Fault) where
   unfolding after_records
   walk [] front n k e x = grind (arith, append-nil)
   walk (frame ∷ frames) front n k e x =
-      by (after_record k (n, frame)) (subst (λ (z : Crossing × ℕ). Step z.0 (z.1, frame) (after_record k (n, frame))) (λ i. (x.same i, e i)) (step_of k (n, frame)))
-      (λ next y. walk frames (front ++ frame ∷ []) (n + 1) next (omega (arith, length_push front frame)) y)
-    where
-      here : Crossed p front (crossing_by p front k.client k.server)
-      here = subst (Crossed p front) x.same x
-
-      by : (o : Result Crossing Fault) → Step (crossing_by p front k.client k.server) (suc (length front), frame) o
-          → ((next : Crossing) → Crossed p (front ++ frame ∷ []) next → Leads p ((front ++ frame ∷ []) ++ frames) end (after_records next (numbered (n + 1) frames) end))
-          → Leads p (front ++ frame ∷ frames) end (and_then o (λ (next : Crossing). after_records next (numbered (n + 1) frames) end))
-      by (Err f) step more = inr (record { front = front; frame = frame; later = frames; client = k.client; server = k.server; split = refl; crossed = here; step = step })
-      by (Ok next) step more =
-          subst (λ (fs : List (List ℕ)). Leads p fs end (after_records next (numbered (n + 1) frames) end)) (append_assoc front (frame ∷ []) frames)
-          (more next (crossed_more p front frame k.client k.server here next step))
+      let step = subst (λ (z : Crossing × ℕ). Step z.0 (z.1, frame) (after_record k (n, frame))) (λ i. (x.same i, e i)) (step_of k (n, frame)) in
+      let more = λ (next : Crossing). walk frames (front ++ frame ∷ []) (n + 1) next (omega (arith, length_push front frame)) in
+      grind (arith, crossed_more, append_assoc)
 
 pub nothing_is : (p : Parameters) → OfConnection p → IsCrossing (nothing_crossed p)
 nothing_is p h = crossing_of_lists (nothing_crossed p) h (λ place a g. absurd (cc)) refl (sent_none p Client h.valid) (sent_none p Server h.valid)

@@ -48,7 +48,7 @@ capture_front last file front frame later same =
 goes_on : (k last : Crossing) (front later : List (List ℕ)) (end : Option Fault) (n m : ℕ) → m ≡ length front + n → after_records k (numbered n front) None ≡ Ok last
     → after_records k (numbered n (front ++ later)) end ≡ after_records last (numbered m later) end
 unfolding after_records
-goes_on k last [] later end n m at e = (let same : k ≡ last = cc in let here : n ≡ m = omega arith in (λ i. after_records (same i) (numbered (here i) later) end))
+goes_on k last [] later end n m at e = grind arith
 goes_on k last (frame ∷ front) later end n m at e =
     let w = then_by (after_record k (n, frame)) (λ (next : Crossing). after_records next (numbered (n + 1) front) None) last e in
     ap (λ (q : Result Crossing Fault). and_then q (λ (next : Crossing). after_records next (numbered (n + 1) (front ++ later)) end)) w.1 ∙ goes_on w.0 last front later end (n + 1) m (omega arith) w.2

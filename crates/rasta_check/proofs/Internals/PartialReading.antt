@@ -84,10 +84,8 @@ WhyNone most r room f old_count new_count old new = FailsWithin most f old_count
 pub why : (k : Crossing) (most : ℕ) (r : RecordReader) (room : ℕ) (f : Fault) (old_count new_count : ℕ) (old new : Option (List ℕ))
     → WhyNone most r room f old_count new_count old new → ((bs : List ℕ) × Consumes old new bs) × (IsFailure f old_count new_count ⊎ FaultsNext k r f old new)
 unfolding after_records
-why k most r room f old_count new_count old new (inl failed) = ((failed.2.0, failed.2.1), inl (inr (failed.0, failed.1)))
-why k most r room f old_count new_count old new (inr (inl lacking)) = ((lacking.1.bytes, lacking.1.consumed), inl (inl lacking.0))
-why k most r room f old_count new_count old new (inr (inr refused)) =
-    ((refused.bytes, refused.consumed), inr (ReadsSo-then old new (λ bytes is left. after-next k left (cursor_at (order_in r) bytes (count_in r)) _ is) refused))
+why k most r room f old_count new_count old new (inl failed) = grind arith
+why k most r room f old_count new_count old new (inr w) = grind (arith, after-next)
 
 -- ---- a whole file
 
