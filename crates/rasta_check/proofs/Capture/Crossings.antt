@@ -51,9 +51,7 @@ is_read p own a valid are n = by (decode_of p a.side a.payload) refl n
 -- the sent list of its sender goes on
 pub goes_on : (p : Parameters) (packets : List Packet) (own : List FirstCopy) (a : Packet) → IsSent p packets a.side own → IsRead p a
     → packet_fault p own a ≡ None → IsSent p (packets ++ a ∷ []) a.side (after_read own (length packets) (decode_of p a.side a.payload))
-goes_on p packets own a sent w n =
-    subst (λ (r : Result RedundancyPdu Fault). IsSent p (packets ++ a ∷ []) a.side (after_read own (length packets) r)) (sym w.1)
-    (by_copy p packets a.side own a sent refl w.0 w.2 (copy_with own w.0.number) refl (sym (ap (read_fault p a.side own a.payload) w.1) ∙ n))
+goes_on p packets own a sent w n = (let more = by_copy p packets a.side own a sent refl w.0 w.2 (copy_with own w.0.number) refl in grind arith)
 
 pub goes_on_sent : (p : Parameters) (packets : List Packet) (own : List FirstCopy) (a : Packet) → IsSent p packets a.side own → length own ≤ 1000000 → IsRead p a
     → packet_fault p own a ≡ None → Sent p (packets ++ a ∷ []) a.side (after_read own (length packets) (decode_of p a.side a.payload))

@@ -52,23 +52,18 @@ reached p xs s c d hc hd i a l ag g =
     let f = hc.firsts i a g in
     let w = hd.copies a.place f.0 f.1 f.2 in
     let same : w.1.pdu ≡ a.pdu = read_once p hc.valid s w.1.pdu a.pdu f.0.payload w.4 f.3 in
-    let lc = slice_get_within c i a g in
-    let ld = slice_get_within d w.0 w.1 w.2 in
-    let head = slice_get_some c 0 (omega arith) in
-    let up : w.0 < i → ⊥ = λ low.
-    not_again head.0.pdu.number w.0 i w.1.pdu.number a.pdu.number (hc.numbers w.0 head.0 w.1 head.1 (ag w.0 low ∙ w.2)) (hc.numbers i head.0 a head.1 g) low l (ap (λ (z : RedundancyPdu). z.number) same) in
-    let b = slice_get_some d i (omega (arith, up)) in
+    let head = slice_get_some c 0 (omega (arith, slice_get_within c i a g)) in
+    let number = hc.numbers i head.0 a head.1 g in
+    let up : w.0 < i → ⊥ = λ low. (let other = hc.numbers w.0 head.0 w.1 head.1 (ag w.0 low ∙ w.2) in grind (arith, not_again)) in
+    let b = slice_get_some d i (omega (arith, up, slice_get_within d w.0 w.1 w.2)) in
     (b.0, b.1, grind (arith, places_rise, ordered))
 
 module _ (p : Parameters) (xs : List Packet) (s : Side) (c d : List FirstCopy) (hc : IsSent p xs s c) (hd : IsSent p xs s d) where
-  at_same : (i : ℕ) (a b : FirstCopy) → slice_get c i ≡ Some a → slice_get d i ≡ Some b → a.place ≡ b.place → a ≡ b
-  at_same i a b g k e = grind (arith, read_once)
-
   agree_at : (i : ℕ) → i < 4294967296 → ((j : ℕ) → j < i → slice_get c j ≡ slice_get d j) → (u v : Option FirstCopy) → slice_get c i ≡ u → slice_get d i ≡ v → u ≡ v
   agree_at i l ag u v x y =
       let there = λ (a : FirstCopy). reached p xs s c d hc hd i a l ag in
       let back = λ (b : FirstCopy). reached p xs s d c hd hc i b l (λ j k. sym (ag j k)) in
-      grind (arith, at_same)
+      grind (arith, read_once)
 
   agree : (n : ℕ) → n ≤ 4294967296 → (j : ℕ) → j < n → slice_get c j ≡ slice_get d j
   agree zero l j k = absurd (omega arith)

@@ -24,13 +24,10 @@ pub record Begins (big own : List FirstCopy) (n : ℕ) : Type 0 where
 abbrev AreBelow : ℕ → List FirstCopy → Type 0
 AreBelow n own = (i : ℕ) (c : FirstCopy) → slice_get own i ≡ Some c → c.place < n
 
-below_more : (n : ℕ) (c : FirstCopy) (own : List FirstCopy) → c.place < n → AreBelow n own → AreBelow n (c ∷ own)
-below_more n c own h g = grind arith
-
 split_at : (n : ℕ) (big : List FirstCopy) → (own : List FirstCopy) × AreBelow n own × Begins big own n
 split_at n [] = ([], λ i c g. absurd (cc), record { later = []; whole = refl; place = λ c g. absurd (cc) })
 split_at n (c ∷ cs) = elim (dec_lt c.place n) [
-  | yes l ↦ (let r = split_at n cs in (c ∷ r.0, below_more n c r.0 l r.1, record { later = r.2.later; whole = ap (λ (xs : List FirstCopy). c ∷ xs) r.2.whole; place = r.2.place }))
+  | yes l ↦ (let r = split_at n cs in let low = r.1 in (c ∷ r.0, λ i d g. grind arith, record { later = r.2.later; whole = ap (λ (xs : List FirstCopy). c ∷ xs) r.2.whole; place = r.2.place }))
   | no l ↦ ([], λ i d g. absurd (cc), record { later = c ∷ cs; whole = refl; place = λ d g. grind arith })
 ]
 
@@ -43,11 +40,8 @@ module _ (p : Parameters) (xs ys : List Packet) (s : Side) (own later : List Fir
       let first = high f.0 (sym (get_next own later) ∙ f.1) in
       grind (arith, places_rise, ordered)
 
-  within_own : (i : ℕ) (c : FirstCopy) → slice_get (own ++ later) i ≡ Some c → c.place < length xs → i < length own
-  within_own i c g l = grind (arith, get_next, next_at)
-
   sent_part : AreBelow (length xs) own → IsSent p xs s own
-  sent_part low = grind (arith, get_front, get_front_within, slice_get_within, within_own)
+  sent_part low = grind (arith, get_front, get_front_within, slice_get_within, get_next, next_at)
 
 -- the sent list of more packets begins with that of these
 pub cut : (p : Parameters) (ys xs : List Packet) (s : Side) (big : List FirstCopy) → IsSent p (xs ++ ys) s big → (own : List FirstCopy) × IsSent p xs s own × Begins big own (length xs)

@@ -40,14 +40,11 @@ is_next : (own : List FirstCopy) (n : ℕ) → ((c : FirstCopy) → slice_get ow
 is_next own n h = grind arith
 
 module _ (p : Parameters) (packets : List Packet) (side : Side) (own : List FirstCopy) (a : Packet) (h : OfConnection p) (sent : IsSent p packets side own) (few : length own < 4294967296) where
-  repeats_first : (d : RedundancyPdu) → Spells p side d a.payload → (i j : ℕ) (c e : FirstCopy) → slice_get own i ≡ Some c → slice_get own j ≡ Some e → c.pdu.number ≡ d.number → e.pdu ≡ d → repeat_fault p side c a.payload ≡ None
-  repeats_first d s i j c e g k n m = grind (arith, number_once, ordered, bytes_eq-Decides)
-
   none_known : (d : RedundancyPdu) → Spells p side d a.payload
       → ((i : ℕ) × (c : FirstCopy) × (slice_get own i ≡ Some c) × (c.pdu ≡ d))
       ⊎ ((c : FirstCopy) → slice_get own 0 ≡ Some c → d.number ≡ wrapped (c.pdu.number + length own))
       → (o : Option FirstCopy) → copy_with own d.number ≡ o → number_fault p side own a.payload d o ≡ None
-  none_known d s (inl w) (Some c) e = (let f = copy_found own d.number c e in repeats_first d s f.0 w.0 c w.1 f.1 w.2 f.2 w.3)
+  none_known d s (inl w) (Some c) e = grind (arith, copy_found, number_once, ordered, bytes_eq-Decides)
   none_known d s (inr w) (Some c) e = (let f = copy_found own d.number c e in absurd (next_new own (ordered sent) few d.number w f.0 c f.1 f.2))
   none_known d s (inl w) None e = absurd (copy_none own d.number e w.0 w.1 w.2 (ap (λ (z : RedundancyPdu). z.number) w.3))
   none_known d s (inr w) None e = (let test = is_next own d.number w in grind arith)

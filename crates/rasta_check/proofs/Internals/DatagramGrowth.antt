@@ -6,17 +6,9 @@ use Rattle.std.proofs.Math.Seq.{drop-append_seam}
 use Rattle.rasta_check.specs.declared.datagrams.Span.{Span}
 use Rattle.rasta_check.specs.Internals.Datagrams.{AreWithin, kept_in}
 
--- a span of what stood there before
-old_range : (bytes more : List ℕ) (from to : ℕ) → from ≤ to → to ≤ length bytes → slice_range (bytes ++ more) from to ≡ slice_range bytes from to
-old_range bytes more from to a b = grind (arith, length-drop, drop-append-le, take-append-le)
-
--- the span of what was added
-new_range : (bytes more : List ℕ) → slice_range (bytes ++ more) (length bytes) (length bytes + length more) ≡ more
-new_range bytes more = ap (take (length bytes + length more - length bytes)) (drop-append_seam bytes more) ∙ take_all _ more (omega arith)
-
 old_spans : (bytes more : List ℕ) (spans : List Span) → AreWithin (length bytes) spans → map (kept_in (bytes ++ more)) spans ≡ map (kept_in bytes) spans
 old_spans bytes more [] h = refl
-old_spans bytes more (s ∷ spans) h = (let rest = old_spans bytes more spans (λ j. h (suc j)) in let here = h 0 s refl in grind (arith, old_range))
+old_spans bytes more (s ∷ spans) h = (let rest = old_spans bytes more spans (λ j. h (suc j)) in let here = h 0 s refl in grind (arith, length-drop, drop-append-le, take-append-le))
 
 -- the datagrams of the side that has no new one
 pub same_kept : (bytes all more : List ℕ) (spans : List Span) → AreWithin (length bytes) spans → all ≡ bytes ++ more → map (kept_in all) spans ≡ map (kept_in bytes) spans
@@ -26,7 +18,7 @@ same_kept bytes all more spans h e = ap (λ (xs : List ℕ). map (kept_in xs) sp
 pub kept_grown : (bytes all more : List ℕ) (spans new : List Span) (place : ℕ) → AreWithin (length bytes) spans → all ≡ bytes ++ more
     → new ≡ spans ++ record { start = length bytes; place = place; len = length more } ∷ []
     → map (kept_in all) new ≡ map (kept_in bytes) spans ++ record { place = place; bytes = more } ∷ []
-kept_grown bytes all more spans new place h e f = grind (arith, map-append, old_spans, new_range)
+kept_grown bytes all more spans new place h e f = grind (arith, map-append, old_spans, drop-append_seam, take_all)
 
 -- two facts of an answer give a third
 pub both_ok : {A E : Type 0} (r : Result A E) (P Q R : Type 0) → (P → Q → R) → OnOk r P → OnOk r Q → OnOk r R

@@ -58,7 +58,8 @@ module _ (p : Parameters) (d : KeptDatagrams) (packets : List StoredPacket) (st 
   copy_held : (side : Side) (i : ℕ) (c : FirstCopy) → slice_get (sent_by all side) i ≡ Some c
       → (x : StoredPacket) × (y : Kept) × IsHeld side c.place x y × (i ≡ x.position) × (y.place ≡ c.place)
   copy_held side i c f =
-      let w = (list_of all st.crossing side).firsts i c f in
+      let own = list_of all st.crossing side in
+      let w = own.firsts i c f in
       let q = get_mapped (packet_by d) packets c.place w.0 w.1 in
       let x = q.0 in
       let at : x.side ≡ side = ap (λ (a : Packet). a.side) q.2 ∙ w.2 in
@@ -66,13 +67,11 @@ module _ (p : Parameters) (d : KeptDatagrams) (packets : List StoredPacket) (st 
       let there : slice_get (kept_by d side) x.position ≡ Some r.0 = subst (λ (t : Side). slice_get (kept_by d t) x.position ≡ Some r.0) at r.1 in
       let mine = kept_at p d packets st side x.position r.0 there in
       let bytes : r.0.bytes ≡ w.0.payload = ap (λ (o : Option Kept). bytes_of o) (sym r.1) ∙ ap (λ (a : Packet). a.payload) q.2 in
-      let one : mine.pdu ≡ c.pdu = read_once p st.crossing.valid.valid side mine.pdu c.pdu r.0.bytes mine.spelled
-      (subst (λ (bs : List ℕ). Spells p side c.pdu bs) (sym bytes) w.3) in
+      let one : mine.pdu ≡ c.pdu = read_once p st.crossing.valid.valid side mine.pdu c.pdu r.0.bytes mine.spelled (rw (sym bytes) at w.3) in
       let few = few_of all st.crossing side in
-      let same : i ≡ x.position = number_once (sent_by all side) (ordered (list_of all st.crossing side)) (omega arith) i x.position c _ f mine.there (ap (λ (z : RedundancyPdu). z.number) (sym one)) in
       let here = mine.there in
-      let copy : record { place = r.0.place; pdu = mine.pdu } ≡ c = cc in
-      (x, r.0, (q.1, at, there), same, ap (λ (z : FirstCopy). z.place) copy)
+      let same : i ≡ x.position = grind (arith, number_once, ordered) in
+      (x, r.0, (q.1, at, there), same, grind arith)
 
   -- no packet, no copy
   pub not_placed : (side : Side) (place : ℕ) → slice_get packets place ≡ None → position_of_place (sent_by all side) place ≡ None
