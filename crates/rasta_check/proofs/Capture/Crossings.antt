@@ -1,5 +1,5 @@
 -- A crossing goes on with a packet that has no fault.
-use Rattle.std.proofs.Common.{◌≡◌, ℕ, ◌+◌, ◌<◌, ◌≤◌, ◌++◌, Bool, true, List, [], ◌∷◌, Option, Some, None, Result, Ok, Err, length, slice_get, refl, ap, sym, ◌∙◌, arith, subst, not, nat_lt, is_some, if◌then◌else◌, IfSome}
+use Rattle.std.proofs.Common.{◌≡◌, ℕ, ◌+◌, ◌<◌, ◌≤◌, ◌++◌, Bool, true, List, [], ◌∷◌, Option, Some, None, Result, Ok, Err, length, slice_get, refl, ap, ◌∙◌, arith, not, nat_lt, is_some, if◌then◌else◌, IfSome}
 use Rattle.rasta_check.proofs.Prelude.{◌&&◌, ◌||◌, option_map, length_push, slice_get_within, bytes_eq, bytes_eq-Decides, Fault, number_gap, Side, Client, Server, Packet}
 use Rattle.rasta_check.proofs.Prelude.{Parameters, AreParameters, AreBytes, RedundancyPdu, redundancy_bytes, decode_of, value_of, wrapped, FirstCopy, Sent, Spells, copy_with}
 use Rattle.rasta_check.proofs.Prelude.{is_next_number, packet_fault, CrossRecorded, OfConnection, copy_of, Pdu, Crossing, IsCrossing, sent_by, sent_after, with_packet}

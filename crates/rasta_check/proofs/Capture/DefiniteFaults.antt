@@ -5,7 +5,7 @@ use Rattle.rasta_check.proofs.Prelude.{crossing_list, packet_fault, OfConnection
 use Rattle.std.specs.Prelude.{IsSome}
 use Rattle.rasta_pcap.proofs.Headers.{opening-fault_place}
 use Rattle.rasta_pcap.proofs.Captures.{IsRefused-place}
-use Rattle.rasta_check.specs.Capture.Faults.{in_frame, in_packet, in_limits, Impossible, IsRefusedCapture, in_reading, in_record, packets_through}
+use Rattle.rasta_check.specs.Capture.Faults.{in_packet, Impossible, IsRefusedCapture, in_reading, in_record, packets_through}
 use Rattle.rasta_check.proofs.Capture.PacketFaults.{faultless}
 use Rattle.rasta_check.proofs.Capture.NextPackets.{definite}
 use Rattle.rasta_check.proofs.Capture.ListForms.{to_record}
@@ -30,10 +30,6 @@ pub record IsDefinite (p : Parameters) (file : List ℕ) (f : Fault) : Type 0 wh
   pub count : length (bytes_of (reading_of f.place file)) ≡ f.place
 
 definite_by : (p : Parameters) (file : List ℕ) (f : Fault) → OfConnection p → IsRefusedCapture p file f → IsSome f.end → IsDefinite p file f
-definite_by p file f h (in_header g e) is = absurd (let none = ap (λ (x : Fault). x.end) (opening-fault_place file g e) in cc)
-definite_by p file f h (in_reading records c s g faultless refused) is = absurd (let none = ap (λ (x : Fault). x.end) (IsRefused-place p.last_record file records g refused) in cc)
-definite_by p file f h (in_record records c s frame number end faultless capture low high (in_frame g found)) is = absurd (cc)
-definite_by p file f h (in_record records c s frame number end faultless capture low high (in_limits a found none last)) is = absurd (cc)
 definite_by p file f h (in_record records c s frame number end faultless capture low high (in_packet a m found some)) is =
     let n = suc (length records) in
     let top = h.valid.window.last_most in
@@ -41,6 +37,9 @@ definite_by p file f h (in_record records c s frame number end faultless capture
     let packets : packets_through p file n ≡ crossing_list p records ++ a ∷ [] = ap (crossing_list p) read ∙ packets_with p records frame [] (le-ltb n p.first_record low) (Some a) found in
     let impossible = impossible_with p (crossing_list p records) _ a m h (sent_at p records c s faultless a.side) some in
     grind (arith, length_push)
+definite_by p file f h (in_header g e) is = absurd (grind (arith, opening-fault_place))
+definite_by p file f h (in_reading records c s g faultless refused) is = absurd (grind (arith, IsRefused-place))
+definite_by p file f h _ is = absurd (cc)
 
 pub is_definite : (p : Parameters) (file : List ℕ) (f : Fault) → OfConnection p → AreBytes file → crossing_of p file ≡ Err f → IsSome f.end → IsDefinite p file f
 is_definite p file f h are e is = definite_by p file f h (is_refused p file h are f e) is

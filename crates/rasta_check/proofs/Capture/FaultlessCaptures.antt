@@ -76,8 +76,7 @@ module _ (p : Parameters) (h : OfConnection p) (front : List (List ℕ)) (frame 
 
   list_at : (a : Packet) → nat_lt (suc (length front)) p.first_record ≡ false → packet_in p.channels frame ≡ Ok (Some a)
       → IsSent p (k.packets ++ a ∷ packets_in p later) a.side (sent_of a.side c s)
-  list_at a inside found =
-      to_record p _ a.side _ h.valid (subst (λ (xs : List Packet). Sent p xs a.side (sent_of a.side c s)) (packets_with p front frame later inside (Some a) found) (sent_at p _ c s all a.side).0)
+  list_at a inside found = (let own = (sent_at p _ c s all a.side).0 in let at = packets_with p front frame later inside (Some a) found in grind (arith, to_record))
 
   pub not_refused : (f : Fault) → Step k (suc (length front), frame) (Err f) → ⊥
   not_refused f (bad_frame g inside found) =

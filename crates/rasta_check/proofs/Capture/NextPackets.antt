@@ -35,8 +35,7 @@ module _ (p : Parameters) (xs ys : List Packet) (s : Side) (own later : List Fir
   -- a member at the next place or before it is among the first, or the next
   next_at : (i : ℕ) (c : FirstCopy) → slice_get (own ++ later) i ≡ Some c → c.place ≤ length xs → length own ≤ i → i ≡ length own
   next_at i c g low m =
-      let n = slice_get_within (own ++ later) i c g in
-      let f = slice_get_some (own ++ later) (length own) (omega arith) in
+      let f = slice_get_some (own ++ later) (length own) (omega (arith, slice_get_within (own ++ later) i c g)) in
       let first = high f.0 (sym (get_next own later) ∙ f.1) in
       grind (arith, places_rise, ordered)
 

@@ -65,8 +65,7 @@ next_new sent h few n next i c g e =
 places_below : (sent : List FirstCopy) → IsOrdered sent → (d i : ℕ) (a b : FirstCopy) → slice_get sent i ≡ Some a → slice_get sent (suc d + i) ≡ Some b → a.place < b.place
 places_below sent h zero i a b x y = h.places i a b x (subst (λ (j : ℕ). slice_get sent j ≡ Some b) (omega arith) y)
 places_below sent h (suc d) i a b x y =
-    let l : suc (suc d) + i < length sent = slice_get_within sent (suc (suc d) + i) b y in
-    let mid = slice_get_some sent (suc d + i) (omega arith) in
+    let mid = slice_get_some sent (suc d + i) (omega (arith, slice_get_within sent (suc (suc d) + i) b y)) in
     let low = places_below sent h d i a mid.0 x mid.1 in
     let high = h.places (suc d + i) mid.0 b mid.1 (subst (λ (j : ℕ). slice_get sent j ≡ Some b) (omega arith) y) in
     omega (arith, low, high)
@@ -131,12 +130,10 @@ module _ (sent : List FirstCopy) (h : IsOrdered sent) (few : length sent < 42949
 
   pub near : (n + (4294967296 - first)) % 4294967296 < length sent → position_of_number sent n ≡ Some ((n + (4294967296 - first)) % 4294967296)
   near l =
-      let d : ℕ = (n + (4294967296 - first)) % 4294967296 in
-      let c = slice_get_some sent d l in
+      let c = slice_get_some sent _ l in
       let few_first = first_small in
-      let number = number_at d c.0 c.1 in
-      let at : c.0.pdu.number ≡ n = omega arith in
-      subst (λ m. position_of_number sent m ≡ Some d) at (number_named sent h few d c.0 c.1)
+      let at : c.0.pdu.number ≡ n = omega (arith, number_at _ c.0 c.1) in
+      rw at at (number_named sent h few _ c.0 c.1)
 
   pub far : length sent ≤ (n + (4294967296 - first)) % 4294967296 → position_of_number sent n ≡ None
   far l = grind (arith, none_of, slice_get_within, first_small, number_at)

@@ -1,5 +1,5 @@
 -- Crossings record by record.
-use Rattle.std.proofs.Common.{◌≡◌, ◌⊎◌, ℕ, List, [], ◌∷◌, ◌++◌, suc, ◌+◌, ◌-◌, ◌<◌, length, map, drop, append_assoc, append-nil, Option, Some, None, Result, Ok, Err, Bool, true, false, refl, ap, sym, ◌∙◌, arith, subst, nat_lt, if◌then◌else◌}
+use Rattle.std.proofs.Common.{◌≡◌, ◌⊎◌, ℕ, List, [], ◌∷◌, ◌++◌, suc, ◌+◌, ◌-◌, ◌<◌, length, map, drop, append_assoc, append-nil, Option, Some, None, Result, Ok, Err, true, false, refl, ap, sym, ◌∙◌, arith, subst, nat_lt}
 use Rattle.rasta_check.proofs.Prelude.{nat_tests, length_push, Side, Client, Server, fault_of_end, IsCapture-reading_of, reading_of-IsCapture, Packet, packet_in, FirstCopy}
 use Rattle.rasta_check.proofs.Prelude.{crossing_list, packet_fault, Fault, Numbered, IsCapture, next, cursor_after, opening, reading, reading_of, bytes_of, Parameters}
 use Rattle.rasta_check.proofs.Prelude.{AreParameters, Crossing, IsCrossing, and_then, after_record, after_records, after_reading, crossing_of, crossing_with, is_within}
@@ -15,7 +15,7 @@ use Rattle.rasta_pcap.specs.Fault.{fault_at, too_many}
 use Rattle.rasta_pcap.proofs.Captures.{numbers-reading_of}
 use Rattle.rasta_pcap.specs.Capture.{Cursor, read_step}
 use Rattle.rasta_pcap.proofs.Steps.{reading_of-opened, reading_of-refused}
-use Rattle.rasta_check.specs.Capture.Reading.{after_frame, after_judged, after_packet}
+use Rattle.rasta_check.specs.Capture.Reading.{after_packet}
 use Rattle.rasta_check.proofs.Capture.Channels.{is_recorded}
 use Rattle.rasta_check.proofs.Capture.Crossings.{crossing_of_lists, is_read, grown_crossing}
 use Rattle.rasta_check.proofs.Capture.FirstCopies.{sent_none}
@@ -52,23 +52,9 @@ pub data Step (k : Crossing) (r : Numbered) : Result Crossing Fault → Type 0 w
       → is_within (with_packet k a) ≡ false → Step k r (Err (fault_at too_many r.0))
 
 module _ (k : Crossing) (r : Numbered) where
-  judged_step : (a : Packet) (o : Option ℕ) (within : Bool) → nat_lt r.0 k.params.first_record ≡ false → packet_in k.params.channels r.1 ≡ Ok (Some a)
-      → packet_fault k.params (sent_by k a.side) a ≡ o → is_within (with_packet k a) ≡ within → Step k r (after_judged k r.0 a o)
-  judged_step a (Some number) within t g n e = bad_packet a number t g n
-  judged_step a None true t g n e = rw e (joined a t g n e)
-  judged_step a None false t g n e = rw e (no_room a t g n e)
-
-  frame_step : (early : Bool) (o : Result (Option Packet) Fault) → nat_lt r.0 k.params.first_record ≡ early → packet_in k.params.channels r.1 ≡ o
-      → Step k r (if early then Ok k else after_frame k r.0 o)
-  unfolding after_packet
-  frame_step true o t g = before t
-  frame_step false (Ok None) t g = empty t g
-  frame_step false (Ok (Some a)) t g = judged_step a _ _ t g refl refl
-  frame_step false (Err f) t g = bad_frame f t g
-
   pub step_of : Step k r (after_record k r)
-  unfolding after_record
-  step_of = frame_step _ _ refl refl
+  unfolding after_record after_packet
+  step_of = grind (arith, before, empty, joined, bad_frame, bad_packet, no_room)
 
   -- a record leads nowhere else
   pub step_is : (o : Result Crossing Fault) → Step k r o → after_record k r ≡ o

@@ -1,5 +1,5 @@
 -- The records of a file of bytes are bytes, and so are the payloads of their packets.
-use Rattle.std.proofs.Common.{◌≡◌, ℕ, zero, suc, List, drop, Option, Some, None, Result, Ok, Err, refl, ap, sym, subst, arith}
+use Rattle.std.proofs.Common.{◌≡◌, ℕ, zero, suc, List, drop, Option, Some, Result, Ok, Err, refl, arith}
 use Rattle.rasta_check.proofs.Prelude.{Fault, Numbered, next, cursor_after, opening, reading, reading_of, bytes_of, Packet, packet_in, Parameters, AreBytes}
 use Rattle.std.specs.List.{AllByRecursion}
 use Rattle.rasta_pcap.specs.Capture.{Cursor, next_length, read_step, reading_opened}

@@ -152,6 +152,5 @@ read_is_faulty p file f h are e client server is = (let z = faultless_is_read p 
 -- nor is one whose header is
 pub opening_faulty : (p : Parameters) (file : List ℕ) (f : Fault) → AreParameters p → opening file ≡ Err f → IsFaulty p file
 opening_faulty p file f valid e client server is =
-    let none = (reading_of-IsCapture p.last_record file is.records valid.window.last_most is.capture).1 in
-    let some = (reading_of-header_fault p.last_record file f e).0 in
-    cc
+    let none = reading_of-IsCapture p.last_record file is.records valid.window.last_most is.capture in
+    grind (arith, reading_of-header_fault)

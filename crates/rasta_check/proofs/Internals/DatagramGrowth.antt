@@ -1,5 +1,5 @@
 -- Datagrams one after the other, with one more.
-use Rattle.std.proofs.Common.{◌≡◌, ℕ, suc, ◌+◌, ◌-◌, ◌≤◌, List, [], ◌∷◌, ◌++◌, length, map, take, Result, OnOk, slice_range, refl, ap, ◌∙◌, arith}
+use Rattle.std.proofs.Common.{◌≡◌, ℕ, suc, List, [], ◌∷◌, ◌++◌, length, map, Result, OnOk, refl, ap, ◌∙◌, arith}
 use Rattle.rasta_check.proofs.Prelude.{map-append, take-append-le, take_all}
 use Rattle.std.proofs.lemmas.List.{drop-append-le, length-drop}
 use Rattle.std.proofs.Math.Seq.{drop-append_seam}

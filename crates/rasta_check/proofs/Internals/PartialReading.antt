@@ -1,6 +1,6 @@
 -- What was read of a capture and added so far, and what that says of every file that begins so.
-use Rattle.std.proofs.Common.{◌≡◌, ◌∙◌, ◌⊎◌, inl, inr, ◌++◌, append_assoc, ℕ, zero, suc, List, [], Option, Result, Ok, Err, false, refl, ap, sym, arith}
-use Rattle.rasta_check.proofs.Prelude.{Fault, cursor_after, opening, reading, Parameters, AreParameters, Crossing, after_reading, after_record, after_records, and_then}
+use Rattle.std.proofs.Common.{◌≡◌, ◌⊎◌, inl, inr, ◌++◌, append_assoc, ℕ, zero, suc, List, [], Option, Result, Ok, Err, false, refl, arith}
+use Rattle.rasta_check.proofs.Prelude.{Fault, opening, reading, Parameters, AreParameters, Crossing, after_record, after_records}
 use Rattle.rasta_check.proofs.Prelude.{crossing_of, nothing_crossed, crossing_left, OfConnection}
 use Rattle.std.specs.Io.KnownBytes.{Consumes}
 use Rattle.std.proofs.KnownBytes.{Consumes-nil, Consumes-trans}
@@ -32,14 +32,10 @@ Underway-opened p k r last old new h none nothing all = grind (arith, after-open
 pub Underway-record : (whole : List ℕ → Result Crossing Fault) (k next : Crossing) (r n : RecordReader) (left : ℕ) (old mid new : Option (List ℕ))
     → IsUnderway whole (crossing_left k r (suc left)) old mid → AddsRecord k next r n mid new → IsUnderway whole (crossing_left next n left) old new
 unfolding after_records
-Underway-record whole k next r n left old mid new h a = record {
-  bytes = h.bytes ++ a.read.bytes;
-  consumed = Consumes-trans old mid new h.bytes a.read.bytes h.consumed a.read.consumed;
-  each = λ more. (let c = cursor_at (order_in r) (a.read.bytes ++ more) (count_in r) in
-      ap whole (append_assoc h.bytes a.read.bytes more) ∙ h.each (a.read.bytes ++ more) ∙ after-next k left c _ (a.read.each more).0
-      ∙ ap (λ q. and_then q (λ (m : Crossing). after_reading m (reading left (cursor_after c)))) a.added
-      ∙ (λ i. after_reading next (reading left ((a.read.each more).1 i))) ∙ (λ i. after_reading next (reading left (cursor_at (sym a.order i) more (count_in n)))));
-}
+Underway-record whole k next r n left old mid new h a =
+    let next_bytes = λ (more : List ℕ). after-next k left (cursor_at (order_in r) (a.read.bytes ++ more) (count_in r)) _ (a.read.each more).0 in
+    let consumed = Consumes-trans old mid new h.bytes a.read.bytes h.consumed a.read.consumed in
+    grind (arith, append_assoc)
 
 -- ---- the reading ends
 
@@ -97,11 +93,7 @@ file_refused p file f h e = record {
 }
 
 header_refused : (p : Parameters) (file : List ℕ) (f : Fault) → AreParameters p → opening file ≡ Err f → IsRefusedSo p f file
-header_refused p file f valid e = record {
-  value = after-refused p file f e;
-  only = λ are. opening_faulty p file f valid e;
-  definite = λ are. opening_definite p file f e;
-}
+header_refused p file f valid e = (let v = after-refused p file f e in let only = opening_faulty p file f valid e in let definite = opening_definite p file f e in grind arith)
 
 module _ (p : Parameters) (h : OfConnection p) (rest : List ℕ → Result Crossing Fault) (old mid new : Option (List ℕ))
     (u : IsUnderway (crossing_of p) rest old mid) where

@@ -62,10 +62,7 @@ module _ (p : Parameters) (d : KeptDatagrams) (packets : List StoredPacket) (st 
   module _ (e : KeptDatagrams) (x : StoredPacket) (own : List FirstCopy) (after : sent_after k a ≡ own) (among : Among d e) (here : packet_by e x ≡ a)
       (lists : (s : Side) → map (copy_in p s) (kept_by e s) ≡ sent_by (crossing_with k a a.side own) s) where
     grown_view : crossing_by p e (packets ++ x ∷ []) ≡ crossing_with k a a.side own
-    grown_view =
-        let all = map-append (packet_by e) packets (x ∷ []) ∙ (λ i. same_packets d e among packets st.positions i ++ here i ∷ []) in
-        (λ i. record { params = p; packets = all i; client = lists Client i; server = lists Server i })
-        ∙ sym (grown_same k a a.side own)
+    grown_view = (let all = same_packets d e among packets st.positions in let client = lists Client in let server = lists Server in grind (arith, map-append))
 
     grown : ((s : Side) → Decode p s (kept_by e s)) → x.position < length (kept_by e x.side) → SamePlaces k (crossing_with k a a.side own) (length k.packets)
         → e.bytes ≡ d.bytes ++ first_part (crossing_with k a a.side own) a (length k.packets)
@@ -92,15 +89,12 @@ module _ (p : Parameters) (d : KeptDatagrams) (packets : List StoredPacket) (st 
       → IsStore p d all × (crossing_by p d all ≡ with_packet k a)
   grown_copy position all j e =
       let size = ap length (sent_is p d packets a.side) ∙ length-map (kept_by d a.side) (copy_in p a.side) in
-      let within : position < length (kept_by d a.side) = (let l = slice_get_within (sent_by k a.side) position j.0 j.1 in omega arith) in
+      let within : position < length (kept_by d a.side) = grind (arith, slice_get_within) in
       let w = slice_get_some (kept_by d a.side) position within in
       let f = kept_at p d packets st a.side position w.0 w.1 in
-      let one : record { place = w.0.place; pdu = f.pdu } ≡ j.0 = (let there = f.there in let g = j.1 in cc) in
       let here : packet_by d (stored position) ≡ a = grind arith in
       let none = no_place k st.crossing a.side in
-      rw e (grown d (stored position) (sent_by k a.side) j.3 (λ side i x g. g) here (λ s. grind (arith, sent_is)) st.decode within
-      (λ s q l. grind arith)
-      (grind (arith, append-nil)))
+      rw e (grown d (stored position) (sent_by k a.side) j.3 (λ side i x g. g) here (λ s. grind (arith, sent_is)) st.decode within (λ s q l. grind arith) (grind (arith, append-nil)))
 
   -- the bytes of one whose number is new come last
   pub grown_new : (position place : ℕ) (more : KeptDatagrams) (all : List StoredPacket) → place ≡ length packets → position ≡ length (kept_by d a.side) → IsJudged k a None
@@ -132,9 +126,6 @@ judged_length k a known is_new j e = grind (arith, length_push)
 
 -- ---- at the start
 
-no_datagram : (p : Parameters) (side : Side) → Decode p side (kept_by nothing_kept side)
-no_datagram p side i x g = absurd (grind arith)
-
 pub empty_store : (p : Parameters) → OfConnection p → IsStore p nothing_kept []
 unfolding first_copies_from
-empty_store p h = record { crossing = nothing_is p h; decode = no_datagram p; positions = λ i x g. absurd (cc); bytes = refl }
+empty_store p h = record { crossing = nothing_is p h; decode = λ side i x g. absurd (grind arith); positions = λ i x g. absurd (cc); bytes = refl }

@@ -1,5 +1,4 @@
-use Rattle.std.proofs.Common.{ℕ, List, ap, ◌∙◌, arith}
-use Rattle.rasta_check.proofs.Prelude.{option_map, Pdu, FirstCopy, copy_with}
+use Rattle.std.proofs.Common.{arith}
 use Rattle.rasta_check.proofs.Internals.ListPushes.{place_found}
 use Rattle.rasta_check.proofs.map_list.MapList.place_of.Goals as goal
 
