@@ -18,10 +18,9 @@ impossible_with : (p : Parameters) (packets : List Packet) (own : List FirstCopy
     → packet_fault p own a ≡ Some number → Impossible p (packets ++ a ∷ [])
 impossible_with p packets own a number h sent some ws w rest r e =
     let mine = to_record p packets a.side own h.valid sent.0 in
-    let few = sent.1 in
-    let here : w.crossed ≡ packets ++ a ∷ rest = e ∙ append_assoc packets (a ∷ []) rest in
-    let none = faultless p packets a.side own a h mine (omega arith) (definite p h.valid ws w packets rest a own r here mine (omega arith)) in
-    grind arith
+    let next = definite p h.valid ws w packets rest a own r (e ∙ append_assoc packets (a ∷ []) rest) mine (omega (arith, sent.1)) in
+    let none = faultless p packets a.side own a h mine (omega (arith, sent.1)) next in
+    absurd (cc)
 
 -- a fault of a side names a record of the file, and no run sends what the records up to it hold
 pub record IsDefinite (p : Parameters) (file : List ℕ) (f : Fault) : Type 0 where

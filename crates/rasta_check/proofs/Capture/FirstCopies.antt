@@ -25,8 +25,7 @@ pub sent_other : (p : Parameters) (xs : List Packet) (k : Packet) (s : Side) (ow
 sent_other p xs k s own h apart = sent_more p xs k s own h (λ side. absurd (apart side))
 
 pub sent_copy : (p : Parameters) (xs : List Packet) (k : Packet) (s : Side) (own : List FirstCopy) (j : ℕ) (b : Packet) → IsSent p xs s own → slice_get xs j ≡ Some b → b.side ≡ s → b.payload ≡ k.payload → IsSent p (xs ++ k ∷ []) s own
-sent_copy p xs k s own j b h there side same =
-    sent_more p xs k s own h (λ e. (let w = h.copies j b there side in (w.0, w.1, w.2, subst (λ (bs : List ℕ). Spells p s w.1.pdu bs) same w.4)))
+sent_copy p xs k s own j b h there side same = sent_more p xs k s own h (λ e. (let w = h.copies j b there side in grind arith))
 
 abbrev pub Counts_from : ℕ → List FirstCopy → Type 0
 Counts_from f own = (i : ℕ) (c : FirstCopy) → slice_get own i ≡ Some c → c.pdu.number ≡ wrapped (f + i)

@@ -108,11 +108,8 @@ module _ (sent : List FirstCopy) (c : FirstCopy) (h : IsOrdered (sent ++ c ∷ [
   number_new few i d g e =
       next_new sent (ordered_front sent (c ∷ []) h) few c.pdu.number (λ a x. h.numbers (length sent) a c (get_front sent (c ∷ []) 0 a x) (get_push sent c)) i d g e
 
-  place_last : position_of_place (sent ++ c ∷ []) c.place ≡ Some (length sent)
-  place_last = place_named (sent ++ c ∷ []) h (length sent) c (get_push sent c)
-
   pub place_pushed : (q : ℕ) → position_of_place (sent ++ c ∷ []) q ≡ (if nat_eq q c.place then Some (length sent) else position_of_place sent q)
-  place_pushed q = grind (arith, place_last, map-append, position_push, nat_tests)
+  place_pushed q = (let last = place_named (sent ++ c ∷ []) h (length sent) c (get_push sent c) in grind (arith, map-append, position_push, nat_tests))
 
   -- the marks with one more are those of the list with one more
   pub marks_pushed : (old new : List ℕ) → AreMarks sent old → ((q : ℕ) → marked new q ≡ (if nat_eq q c.place then Some (length sent) else marked old q)) → AreMarks (sent ++ c ∷ []) new

@@ -28,6 +28,7 @@ pub after-next : (k : Crossing) (left : ℕ) (c : Cursor) (o : Result (Option Nu
 unfolding reading
 after-next k left c o h = ap (λ (q : Result (Option Numbered) Fault). after_reading k (read_step q (reading left (cursor_after c)))) h
 
+-- as a function names it
 pub ruleset leads_on = (after-next)
 
 pub after-opened : (p : Parameters) (file : List ℕ) (c : Cursor) → opening file ≡ Ok c → crossing_of p file ≡ after_reading (nothing_crossed p) (reading p.last_record c)

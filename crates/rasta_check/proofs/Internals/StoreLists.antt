@@ -64,14 +64,13 @@ module _ (p : Parameters) (d : KeptDatagrams) (packets : List StoredPacket) (st 
       let x = q.0 in
       let at : x.side ≡ side = ap (λ (a : Packet). a.side) q.2 ∙ w.2 in
       let r = datagram_of c.place x q.1 in
-      let there : slice_get (kept_by d side) x.position ≡ Some r.0 = subst (λ (t : Side). slice_get (kept_by d t) x.position ≡ Some r.0) at r.1 in
+      let there : slice_get (kept_by d side) x.position ≡ Some r.0 = rw at at r.1 in
       let mine = kept_at p d packets st side x.position r.0 there in
       let bytes : r.0.bytes ≡ w.0.payload = ap (λ (o : Option Kept). bytes_of o) (sym r.1) ∙ ap (λ (a : Packet). a.payload) q.2 in
-      let one : mine.pdu ≡ c.pdu = read_once p st.crossing.valid.valid side mine.pdu c.pdu r.0.bytes mine.spelled (rw (sym bytes) at w.3) in
-      let few = few_of all st.crossing side in
+      let one : mine.pdu ≡ c.pdu = read_once p st.crossing.valid.valid side mine.pdu c.pdu r.0.bytes mine.spelled (rw bytes w.3) in
       let here = mine.there in
-      let same : i ≡ x.position = grind (arith, number_once, ordered) in
-      (x, r.0, (q.1, at, there), same, grind arith)
+      let same : i ≡ x.position = grind (arith, number_once, ordered, few_of) in
+      grind arith
 
   -- no packet, no copy
   pub not_placed : (side : Side) (place : ℕ) → slice_get packets place ≡ None → position_of_place (sent_by all side) place ≡ None
