@@ -1,5 +1,5 @@
 -- The first copies of a growing list of packets, and that a list of packets has one list of first copies.
-use Rattle.std.proofs.Common.{◌≡◌, ℕ, zero, suc, ◌+◌, ◌<◌, ◌≤◌, List, [], ◌∷◌, ◌++◌, length, Option, Some, None, slice_get, append-nil, refl, ap, sym, ◌∙◌, arith, subst}
+use Rattle.std.proofs.Common.{◌≡◌, ℕ, zero, suc, ◌+◌, ◌<◌, ◌≤◌, List, [], ◌∷◌, ◌++◌, length, Option, Some, None, slice_get, append-nil, refl, ap, sym, ◌∙◌, arith}
 use Rattle.rasta_check.proofs.Prelude.{length_push, slice_get_past, slice_get_within, Side, wrapped, RedundancyPdu, Spells, FirstCopy, Packet, all_push}
 use Rattle.rasta_check.proofs.Prelude.{begins_with, get_next, get_push_cases, get_front, get_front_within, get_push, slice_get_some, Parameters, AreParameters}
 use Rattle.rasta_check.proofs.Capture.FaultlessLists.{IsSent, ordered, read_once}
