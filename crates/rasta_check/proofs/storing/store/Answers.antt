@@ -8,7 +8,8 @@ use Rattle.rasta_check.proofs.storing.store.Goals as goal
 pub returns-in-Ok : goal.returns-in-Ok
 returns-in-Ok g c =
     let h : OfConnection c.args.p = subst (λ (k : Crossing). OfConnection k.params) c.new.ensures.value c.new.ensures.crossing.valid in
-    let opened = Underway-opened c.args.p c.new.result c.in-Ok.records c.last_record-last.result _ _ c.in-Ok.ensures.opened c.in-Ok.ensures.start.0 c.new.ensures.value c.last_record-last.ensures.value in
+    let opened = Underway-opened c.args.p c.new.result c.in-Ok.records c.last_record-last.result _ _ c.in-Ok.ensures.opened c.in-Ok.ensures.start.0
+    c.new.ensures.value c.last_record-last.ensures.value in
     let err = MatchResult-weaker c.add_records.result c.add_records.ensures.err (λ k e. tt)
     (λ f. ⊎_elim (λ e. inl (rw c.in-Ok.ensures.steady at e)) (λ e. inr (refused c.args.p h _ _ _ _ opened f e))) in
     record {
