@@ -2,7 +2,7 @@
 use Rattle.std.proofs.Common.{◌≡◌, ℕ, zero, suc, ◌+◌, ◌<◌, List, [], ◌∷◌, ◌++◌, length, take, drop, Option, Some, None, slice_get, map, refl, ap, sym, ◌∙◌, arith, ⊎_elim, subst, drop-cons}
 use Rattle.std.specs.List.{AllByRecursion}
 use Rattle.std.specs.Option.{option_map}
-use Rattle.std.proofs.lemmas.List.{length-take, map-append, take_more, take-append-drop}
+use Rattle.std.proofs.lemmas.List.{length-take, length-take-le, map-append, take_more, take-append-drop}
 use Rattle.std.proofs.lemmas.Option.{get_or_from_slice_get, slice_get-map, slice_get_within}
 use Rattle.rasta_end.proofs.Lists.{get_push_cases}
 pub use Rattle.rasta_end.proofs.Lists.{get_push_cases, get_front, get_push, get_front_within}
@@ -84,6 +84,9 @@ get_take xs n i x g = (omega (arith, slice_get_within (take n xs) i x g, length-
 -- one more of the first
 pub take_one_more : {A : Type 0} (i : ℕ) (xs : List A) (x : A) → slice_get xs i ≡ Some x → take i xs ++ x ∷ [] ≡ take (i + 1) xs
 take_one_more {A = A} i xs x g = ap (λ (y : A). take i xs ++ y ∷ []) (sym (get_or_from_slice_get xs i x x g)) ∙ sym (take_more xs i x (slice_get_within xs i x g))
+
+-- what a list has that grows by the elements of another
+pub ruleset one_more = (take_one_more, length-take-le, none_within)
 
 -- one less of the rest
 pub drop_one_more : {A : Type 0} (i : ℕ) (xs : List A) (x : A) → slice_get xs i ≡ Some x → drop i xs ≡ x ∷ drop (suc i) xs

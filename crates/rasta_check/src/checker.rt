@@ -69,6 +69,7 @@ fn report<'a, S: SentList<'a>>(
 }
 
 // The verdict over two sent lists.
+#[tactic(auto, using(crate::proofs::Verdict::Headline::verdict_of_ends))]
 fn verdict<'a, S: SentList<'a>>(
     alloc: Global,
     p: &Params,
@@ -159,6 +160,7 @@ pub fn check_lists<'a, S: SentList<'a>>(
 /// Where this answers a report, some run of two RaSTA ends over a network that loses, repeats, delays and
 /// reorders sends exactly the packets; and in every run that does, the far end handed up, once each and in
 /// order, every message that the report lists as taken.
+#[tactic(auto, using(crate::proofs::Verdict::Headline::lent))]
 pub fn check_sent<'a>(
     alloc: Global,
     p: &Params,

@@ -64,6 +64,7 @@ impl<'a> Model for Sent<'a> {
 
 impl<'a> Sent<'a> {
     // Nothing has crossed.
+    #[tactic(auto, using(crate::proofs::Capture::Readings::nothing_is))]
     pub(crate) fn new(alloc: Global, params: Params) -> Sent<'a>
         ensures value { result ≡ nothing_crossed params }
         ensures crossing { IsCrossing result }
@@ -103,6 +104,7 @@ impl<'a> Sent<'a> {
     }
 
     /// The sender and the redundancy number of the packet at a place.
+    #[tactic(auto, using(crate::proofs::Capture::Crossings::spelled_at, crate::proofs::Capture::Crossings::number_spelled, crate::proofs::Capture::Crossings::length_spelled))]
     pub fn packet(&self, place: u32) -> Option<(Side, u32)>
         ensures value { MatchOption result (slice_get self.now.packets place ≡ None)
             (λ r. (k : Packet) × (d : RedundancyPdu) × (slice_get self.now.packets place ≡ Some k)

@@ -54,6 +54,7 @@ impl Model for Store {
 
 impl Store {
     // Nothing has crossed.
+    #[tactic(auto, using(crate::proofs::Internals::StoreGrowth::empty_store))]
     pub(crate) fn new(alloc: Global, params: Params) -> Store
         ensures value { result ≡ nothing_crossed params }
         ensures crossing { IsCrossing result }
@@ -120,6 +121,7 @@ impl Store {
     }
 
     /// The sender and the redundancy number of the packet at a place.
+    #[tactic(auto, using(crate::proofs::Internals::StoreLists::packet_read, crate::proofs::Internals::StoreLists::stored_packet))]
     pub fn packet(&self, place: u32) -> Option<(Side, u32)>
         ensures value { MatchOption result (slice_get self.now.packets place ≡ None)
             (λ r. (k : Packet) × (d : RedundancyPdu) × (slice_get self.now.packets place ≡ Some k)
@@ -149,6 +151,7 @@ impl Store {
     }
 
     // The redundancy number at a position of a side's sent list.
+    #[tactic(auto, using(crate::proofs::Internals::StoreLists::kept_at, crate::proofs::Capture::Crossings::length_spelled))]
     fn number_at(&self, side: Side, position: u32) -> Option<u32>
         ensures value { result ≡ option_map (λ (c : FirstCopy). c.pdu.number) (slice_get (sent_by self.now side) position) }
         ensures crossing { IsCrossing self.now }
@@ -158,6 +161,7 @@ impl Store {
     }
 
     // The position of the PDU with a redundancy number in a side's sent list.
+    #[tactic(auto, using(crate::proofs::Internals::StoreLists::distances))]
     pub(crate) fn position_of(&self, side: Side, number: u32) -> Option<u32>
         ensures value { result ≡ position_of_number (sent_by self.now side) number }
         ensures crossing { IsCrossing self.now }
@@ -172,6 +176,7 @@ impl Store {
     }
 
     // The position of the PDU at a place in a side's sent list.
+    #[tactic(auto, using(crate::proofs::Internals::StoreLists::places))]
     pub(crate) fn at_place(&self, side: Side, place: u32) -> Option<u32>
         ensures value { result ≡ position_of_place (sent_by self.now side) place }
         ensures crossing { IsCrossing self.now }
@@ -250,6 +255,7 @@ impl Store {
     }
 
     // Adds a packet, and its datagram where its number is new. Without memory for it all stays as it was.
+    #[tactic(auto, using(crate::proofs::Internals::StoreGrowth::datagram_fits))]
     fn push(&mut self, found: &Datagram<'_>, known: Option<u32>) -> Result<(), AllocError>
         requires judged { IsJudged self.old (packet_of found.now) known }
         requires crossing { IsCrossing (with_packet self.old (packet_of found.now)) }

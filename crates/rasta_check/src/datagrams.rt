@@ -107,6 +107,7 @@ impl Datagrams {
     }
 
     // Adds a datagram of a side. Without memory for it all stays as it was.
+    #[tactic(auto, using(crate::proofs::Internals::DatagramGrowth::both_ok, crate::proofs::Internals::DatagramGrowth::kept_grown, crate::proofs::Internals::DatagramGrowth::same_kept))]
     pub(crate) fn push(&mut self, side: Side, place: u32, datagram: &[u8]) -> Result<(), AllocError>
         requires { length datagram.now < 2 ^ 16 }
         ensures ok { OnOk result (self.new ≡ keeping self.old side (record { place = place; bytes = datagram.now })) }

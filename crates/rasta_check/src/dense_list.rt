@@ -37,6 +37,7 @@ impl<'a> DenseList<'a> {
     }
 
     /// The members of any sent list.
+    #[tactic(auto, using(crate::proofs::Capture::Positions::ordered_take, crate::proofs::Lists::one_more))]
     pub fn of<S: SentList<'a>>(alloc: Global, list: &S) -> Result<DenseList<'a>, AllocError>
         ensures { IfOk result (λ l. l ≡ S.content list.now) }
     {
@@ -75,6 +76,7 @@ impl<'a> SentList<'a> for DenseList<'a> {
         self.copies.get(position as usize).copied()
     }
 
+    #[tactic(auto, using(crate::proofs::Capture::Positions::near, crate::proofs::Capture::Positions::far))]
     fn position_of(&self, number: u32) -> Option<u32> {
         let (_, first) = self.get(0)?;
         let position = number.wrapping_sub(first.number());

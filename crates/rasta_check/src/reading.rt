@@ -13,6 +13,7 @@ use rasta_pdu::Params;
 use std::alloc::Global;
 
 // Adds the next record of a capture; false at its end.
+#[tactic(auto, using(crate::proofs::Capture::Readings::leads_on), unfolding(crate::specs::Capture::Reading::after_records))]
 fn add_next<'a>(sent: &mut Sent<'a>, pcap: &mut Pcap<'a>) -> Result<bool, Fault>
     ensures { MatchResult result
         (λ more. (left : ℕ) → after_reading sent.old (reading (suc left) pcap.old) ≡ after_next more sent.new (reading left pcap.new))

@@ -79,6 +79,7 @@ fn proof_at(proofs: &[u32], unit: usize) -> Option<u32>
 }
 
 // Lists the unit of a first copy, where it is a data PDU that has a proof. Answers the number of the next.
+#[tactic(auto, using(crate::proofs::Verdict::ListSteps::other_copy, crate::proofs::Verdict::ListSteps::unproved_copy))]
 fn add_unit<'a>(
     items: &mut Vec<Taken<'a>>,
     place: u32,
@@ -103,6 +104,7 @@ fn add_unit<'a>(
 }
 
 // The messages of the units that have a proof, in order.
+#[tactic(auto, using(crate::proofs::Verdict::ListSteps::units_left, crate::proofs::Verdict::ListSteps::units_end, crate::proofs::Verdict::ListSteps::listing_ends, crate::proofs::Lists::none_within))]
 fn messages_with<'a, S: SentList<'a>>(
     alloc: Global,
     own: &S,

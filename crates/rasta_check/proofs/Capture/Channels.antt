@@ -1,7 +1,7 @@
 -- Packets are found on recorded channels.
 use Rattle.std.proofs.Common.{◌≡◌, ℕ, ◌+◌, ◌<◌, ◌≤◌, List, [], ◌∷◌, ◌++◌, length, Option, Some, Result, Ok, refl, ap, sym, ◌∙◌, arith, subst}
-use Rattle.rasta_check.proofs.Prelude.{if◌then◌else◌, None, Fault, Packet, packet_in, packet_of, Parameters, CrossRecorded, all_push}
-use Rattle.std.specs.Prelude.{slice_range, true, false, Err, IfOk, IfSome}
+use Rattle.rasta_check.proofs.Prelude.{if◌then◌else◌, Fault, Packet, packet_in, packet_of, Parameters, CrossRecorded, all_push}
+use Rattle.std.specs.Prelude.{slice_range, true, false, IfOk, IfSome}
 use Rattle.std.specs.List.{find}
 use Rattle.rasta_udp.specs.declared.channel.Channel.{Channel}
 use Rattle.rasta_udp.specs.declared.channel.Datagram.{Datagram}
@@ -22,9 +22,7 @@ abbrev Finds : {A : Type 0} → (A → Type 0) → Result (Option A) Fault → T
 Finds P r = IfOk r (λ o. IfSome o P)
 
 mapped_finds : {A B : Type 0} (h : A → B) (P : A → Type 0) (Q : B → Type 0) (r : Result (Option A) Fault) → ((a : A) → P a → Q (h a)) → Finds P r → Finds Q (map_found h r)
-mapped_finds h P Q (Err f) more w = tt
-mapped_finds h P Q (Ok None) more w = tt
-mapped_finds h P Q (Ok (Some a)) more w = more a w
+mapped_finds h P Q r more w = grind arith
 
 abbrev OnChannel : List Channel → Found → Type 0
 OnChannel channels d = Among 1 (length channels) d.channel

@@ -1,5 +1,5 @@
 -- A crossing goes on with a packet that has no fault.
-use Rattle.std.proofs.Common.{◌≡◌, ℕ, ◌+◌, ◌<◌, ◌≤◌, ◌++◌, Bool, true, List, [], ◌∷◌, Option, Some, None, Result, Ok, Err, length, slice_get, refl, ap, sym, ◌∙◌, arith, subst, not, nat_lt, is_some, if◌then◌else◌, IfSome}
+use Rattle.std.proofs.Common.{◌≡◌, ℕ, ◌+◌, ◌<◌, ◌≤◌, ◌++◌, Bool, true, List, [], ◌∷◌, Option, Some, None, Result, Ok, Err, length, slice_get, refl, ap, ◌∙◌, arith, not, nat_lt, is_some, if◌then◌else◌, IfSome}
 use Rattle.rasta_check.proofs.Prelude.{◌&&◌, ◌||◌, option_map, length_push, slice_get_within, bytes_eq, bytes_eq-Decides, Fault, number_gap, Side, Client, Server, Packet}
 use Rattle.rasta_check.proofs.Prelude.{Parameters, AreParameters, AreBytes, RedundancyPdu, redundancy_bytes, decode_of, value_of, wrapped, FirstCopy, Sent, Spells, copy_with}
 use Rattle.rasta_check.proofs.Prelude.{is_next_number, packet_fault, CrossRecorded, OfConnection, copy_of, Pdu, Crossing, IsCrossing, sent_by, sent_after, with_packet}
@@ -51,21 +51,16 @@ is_read p own a valid are n = by (decode_of p a.side a.payload) refl n
 -- the sent list of its sender goes on
 pub goes_on : (p : Parameters) (packets : List Packet) (own : List FirstCopy) (a : Packet) → IsSent p packets a.side own → IsRead p a
     → packet_fault p own a ≡ None → IsSent p (packets ++ a ∷ []) a.side (after_read own (length packets) (decode_of p a.side a.payload))
-goes_on p packets own a sent w n =
-    subst (λ (r : Result RedundancyPdu Fault). IsSent p (packets ++ a ∷ []) a.side (after_read own (length packets) r)) (sym w.1)
-    (by_copy p packets a.side own a sent refl w.0 w.2 (copy_with own w.0.number) refl (sym (ap (read_fault p a.side own a.payload) w.1) ∙ n))
+goes_on p packets own a sent w n = (let more = by_copy p packets a.side own a sent refl w.0 w.2 (copy_with own w.0.number) refl in grind arith)
 
 pub goes_on_sent : (p : Parameters) (packets : List Packet) (own : List FirstCopy) (a : Packet) → IsSent p packets a.side own → length own ≤ 1000000 → IsRead p a
     → packet_fault p own a ≡ None → Sent p (packets ++ a ∷ []) a.side (after_read own (length packets) (decode_of p a.side a.payload))
-goes_on_sent p packets own a sent few w n =
-    let l : length (after_read own (length packets) (decode_of p a.side a.payload)) ≤ length own + 1 = grind (arith, length_push) in
-    of_record p (packets ++ a ∷ []) a.side _ (goes_on p packets own a sent w n) (omega arith)
+goes_on_sent p packets own a sent few w n = (let own = goes_on p packets own a sent w n in grind (arith, of_record, length_push))
 
 -- ---- packets of known numbers
 
 pub list_of : (k : Crossing) → IsCrossing k → (side : Side) → IsSent k.params k.packets side (sent_by k side)
-list_of k h Client = to_record k.params k.packets Client k.client h.valid.valid h.sent.client_sent
-list_of k h Server = to_record k.params k.packets Server k.server h.valid.valid h.sent.server_sent
+list_of k h side = grind (arith, to_record)
 
 pub few_of : (k : Crossing) → IsCrossing k → (side : Side) → length (sent_by k side) ≤ 1000000
 few_of k h side = grind arith
@@ -77,7 +72,7 @@ first_packet k side number place h e =
     let w = mapped_some (λ (c : FirstCopy). c.place) (copy_with (sent_by k side) number) place e in
     let f = copy_found (sent_by k side) number w.0 w.1 in
     let q = (list_of k h side).firsts f.0 w.0 f.1 in
-    (w.0, q.0, w.1, subst (λ (j : ℕ). slice_get k.packets j ≡ Some q.0) w.2 q.1, q.3.same)
+    grind arith
 
 pub place_within : (k : Crossing) (side : Side) (number place : ℕ) → IsCrossing k → option_map (λ (c : FirstCopy). c.place) (copy_with (sent_by k side) number) ≡ Some place
     → place < length k.packets
@@ -92,19 +87,15 @@ known_by k a d o reads e = rw (reads, e) (refl, refl)
 pub repeated : (k : Crossing) (a : Packet) (d : RedundancyPdu) (place : ℕ) (r : Bool) → IsCrossing k → decode_of k.params a.side a.payload ≡ Ok d
     → option_map (λ (c : FirstCopy). c.place) (copy_with (sent_by k a.side) d.number) ≡ Some place → IfSome (slice_get k.packets place) (λ (b : Packet). r ≡ bytes_eq b.payload a.payload)
     → (packet_fault k.params (sent_by k a.side) a ≡ (if r then None else Some copy_differs)) × (sent_after k a ≡ sent_by k a.side)
-repeated k a d place r h e f g =
-    let w = first_packet k a.side d.number place h f in
-    let test : r ≡ bytes_eq w.1.payload a.payload = rw w.3 at g in
-    rw (test, w.4) (known_by k a d (Some w.0) e w.2)
+repeated k a d place r h e f g = grind (arith, first_packet, known_by)
 
 -- the next number is no known one
 next_unknown : (k : Crossing) (side : Side) (n : ℕ) → IsCrossing k → is_next_number (sent_by k side) n ≡ true → (o : Option FirstCopy) → copy_with (sent_by k side) n ≡ o → o ≡ None
 next_unknown k side n h e None f = refl
 next_unknown k side n h e (Some c) f =
-    let own = sent_by k side in
-    let w = copy_found own n c f in
+    let w = copy_found (sent_by k side) n c f in
     let few = few_of k h side in
-    absurd (next_new own (ordered (list_of k h side)) (omega arith) n (next_of own n e) w.0 c w.1 w.2)
+    absurd (next_new (sent_by k side) (ordered (list_of k h side)) (omega arith) n (next_of (sent_by k side) n e) w.0 c w.1 w.2)
 
 -- a packet with the next number has no fault, and its PDU joins the list
 pub is_next_pdu : (k : Crossing) (a : Packet) (pdu : Pdu) → IsCrossing k → decode_of k.params a.side a.payload ≡ Ok (value_of pdu)
@@ -124,17 +115,7 @@ pub crossing_of_lists : (k : Crossing) → OfConnection k.params → CrossRecord
     → IsSent k.params k.packets Server k.server → IsCrossing k
 crossing_of_lists k valid recorded within c s =
     let w : (length k.packets ≤ most_packets) × (length k.client ≤ most_sent) × (length k.server ≤ most_sent) = grind (arith, nat_tests) in
-    record {
-      valid = valid;
-      recorded = recorded;
-      sent = record {
-        client_sent = of_record k.params k.packets Client k.client c (let z = w.1 in omega arith);
-        server_sent = of_record k.params k.packets Server k.server s (let z = w.2 in omega arith);
-        few_packets = w.0;
-        few_client = w.1;
-        few_server = w.2;
-      };
-    }
+    grind (arith, of_record)
 
 grown_at : (k : Crossing) (a : Packet) (side : Side) (sent : List FirstCopy) → a.side ≡ side → IsCrossing k → IsRecorded k.params a.channel
     → IsSent k.params (k.packets ++ a ∷ []) side sent → is_within (crossing_with k a side sent) ≡ true → IsCrossing (crossing_with k a side sent)

@@ -1,10 +1,9 @@
 -- The numbers of a capture's faults: those of a packet are 20 to 28 and name its side, all others are lower and name none.
-use Rattle.std.proofs.Common.{◌≡◌, ℕ, ◌<◌, ◌≤◌, List, length, Option, Some, None, Result, Err, refl, ap, arith, subst, inl, inr}
-use Rattle.rasta_check.proofs.Prelude.{dec_lt, yes, no, Fault, Side, no_memory, number_gap, Numbered, next, opening, reading_of, Packet, packet_in, Parameters, Kind, decode_of}
+use Rattle.std.proofs.Common.{◌≡◌, ℕ, ◌<◌, ◌≤◌, List, Option, Some, None, Result, Err, refl, arith, subst, inl, inr}
+use Rattle.rasta_check.proofs.Prelude.{dec_lt, yes, no, Fault, Side, no_memory, number_gap, Numbered, reading_of, Packet, packet_in, Parameters, Kind, decode_of}
 use Rattle.rasta_check.proofs.Prelude.{FirstCopy, packet_fault, Crossing, crossing_of, sent_by}
 use Rattle.std.specs.Prelude.{IsSome, IfErr, IfSome, ◌↔◌}
 use Rattle.rasta_pcap.specs.Fault.{not_pcap, redundancy_length}
-use Rattle.rasta_pcap.specs.Capture.{Cursor}
 use Rattle.rasta_pcap.proofs.Captures.{IsRefused-place, IsRefused-reading_of, opening-by_reading_of}
 use Rattle.rasta_pcap.proofs.Headers.{opening-fault_place}
 use Rattle.rasta_udp.specs.declared.channel.Channel.{Channel}
@@ -22,12 +21,6 @@ IsLow f = (not_pcap ≤ f.number) × (f.number < redundancy_length)
 abbrev pub IsSided : Fault → Type 0
 IsSided f = (IsSome f.end → (redundancy_length ≤ f.number) × (f.number ≤ number_gap)) × (f.end ≡ None → IsLow f)
 
-next_low : (c : Cursor) (f : Fault) → next c ≡ Err f → IsLow f
-next_low c f e = grind arith
-
-opening_low : (file : List ℕ) (f : Fault) → opening file ≡ Err f → IsLow f
-opening_low file f e = grind arith
-
 found_low : (channels : List Channel) (x : Fields) → IfErr (found_by channels x) IsLow
 unfolding found_by
 found_low channels x = grind arith
@@ -35,13 +28,9 @@ found_low channels x = grind arith
 mapped_low : {A B : Type 0} (h : A → B) (r : Result (Option A) Fault) → IfErr r IsLow → IfErr (map_found h r) IsLow
 mapped_low h r l = grind arith
 
-datagram_low : (channels : List Channel) (frame : List ℕ) → IfErr (datagram_of channels frame) IsLow
-unfolding datagram_of
-datagram_low channels frame = grind (arith, mapped_low, found_low)
-
 packet_low : (channels : List Channel) (frame : List ℕ) → IfErr (packet_in channels frame) IsLow
-unfolding packet_in
-packet_low channels frame = grind (arith, mapped_low, datagram_low)
+unfolding packet_in datagram_of
+packet_low channels frame = grind (arith, mapped_low, found_low)
 
 -- ---- faults of a packet
 
@@ -66,9 +55,8 @@ sideless f low none = grind arith
 -- the fault that ends a reading
 reading_sided : (limit : ℕ) (file : List ℕ) (f : Fault) → (reading_of limit file).fault ≡ Some f → IsSided f
 reading_sided limit file f e = elim (dec_lt 0 f.place) [
-  | yes l ↦ (let w = IsRefused-reading_of limit file f e l in
-      sideless f (next_low (record { order = w.order; rest = w.rest; count = length w.entries }) f w.refused) (ap (λ (g : Fault). g.end) (IsRefused-place limit file _ f w)))
-  | no l ↦ (let e = opening-by_reading_of limit file f e (omega arith) in sideless f (opening_low file f e) (ap (λ (g : Fault). g.end) (opening-fault_place file f e)))
+  | yes l ↦ (let w = IsRefused-reading_of limit file f e l in let none = IsRefused-place limit file _ f w in let refused = w.refused in grind arith)
+  | no l ↦ (let e = opening-by_reading_of limit file f e (omega arith) in grind (arith, opening-fault_place))
 ]
 
 step_sided : (k : Crossing) (r : Numbered) (f : Fault) → Step k r (Err f) → IsSided f
@@ -83,11 +71,8 @@ file_sided p file f e = elim (subst (Leads p _ _) e (file_leads p file)) [ inl w
 abbrev pub NamesSide : Fault → Type 0
 NamesSide f = IsSome f.end ↔ (redundancy_length ≤ f.number) × (f.number ≤ number_gap)
 
-names_side : (f : Fault) → IsSided f → NamesSide f
-names_side f h = grind arith
-
 pub file_names_side : (p : Parameters) (file : List ℕ) (f : Fault) → crossing_of p file ≡ Err f → NamesSide f
-file_names_side p file f e = names_side f (file_sided p file f e)
+file_names_side p file f e = (let w = file_sided p file f e in grind arith)
 
 pub memory_names_side : (f : Fault) → f ≡ no_memory → NamesSide f
 memory_names_side f e = grind arith

@@ -56,12 +56,8 @@ module _ (k : Crossing) (a : Packet) (more : List Packet) (h : IsCrossing k) (bi
       let front = cut k.params more (k.packets ++ a ∷ []) a.side big (subst (λ (xs : List Packet). IsSent k.params xs a.side big) (sym (append_assoc k.packets (a ∷ []) more)) whole) in
       let less = ap length front.2.whole ∙ length-append front.0 front.2.later in
       let same = ap length (sent_once k.params (k.packets ++ a ∷ []) a.side front.0 (sent_after k a) front.1 grown (omega arith)) in
-      let all = length-append k.packets (a ∷ more) in
-      let one = length_push k.packets a in
       let room : length (sent_after k a) ≤ most_sent = omega arith in
-      let few_client = h.sent.few_client in
-      let few_server = h.sent.few_server in
-      grind (arith, nat_tests)
+      grind (arith, nat_tests, length_push, length-append)
 
 -- ---- what has no fault is read
 
@@ -80,8 +76,7 @@ module _ (p : Parameters) (h : OfConnection p) (front : List (List ℕ)) (frame 
 
   list_at : (a : Packet) → nat_lt (suc (length front)) p.first_record ≡ false → packet_in p.channels frame ≡ Ok (Some a)
       → IsSent p (k.packets ++ a ∷ packets_in p later) a.side (sent_of a.side c s)
-  list_at a inside found =
-      to_record p _ a.side _ h.valid (subst (λ (xs : List Packet). Sent p xs a.side (sent_of a.side c s)) (packets_with p front frame later inside (Some a) found) (sent_at p _ c s all a.side).0)
+  list_at a inside found = (let own = (sent_at p _ c s all a.side).0 in let at = packets_with p front frame later inside (Some a) found in grind (arith, to_record))
 
   pub not_refused : (f : Fault) → Step k (suc (length front), frame) (Err f) → ⊥
   not_refused f (bad_frame g inside found) =
@@ -93,7 +88,7 @@ module _ (p : Parameters) (h : OfConnection p) (front : List (List ℕ)) (frame 
       cc
 
 -- the sides sent no other lists
-same_list : (p : Parameters) (frames : List (List ℕ)) (c s client server : List FirstCopy) → AreParameters p → AreFaultless p frames c s → AreFaultless p frames client server → (side : Side)
+pub same_list : (p : Parameters) (frames : List (List ℕ)) (c s client server : List FirstCopy) → AreParameters p → AreFaultless p frames c s → AreFaultless p frames client server → (side : Side)
     → sent_of side c s ≡ sent_of side client server
 same_list p frames c s client server valid a b side =
     let mine = sent_at p frames c s a side in
@@ -115,11 +110,9 @@ records_are_read p frames end client server h are all = by _ (records_lead p fra
 pub faultless_is_read : (p : Parameters) (file : List ℕ) (client server : List FirstCopy) → OfConnection p → AreBytes file → (f : IsFaultlessCapture p file client server)
     → crossing_of p file ≡ Ok (crossing_by p f.records client server)
 faultless_is_read p file client server h are f =
-    let all = reading_of p.last_record file in
     let read = reading_of-IsCapture p.last_record file f.records h.valid.window.last_most f.capture in
-    (λ i. after_records (nothing_crossed p) (numbered_of p.last_record file i) (read.1 i))
-    ∙ records_are_read p (bytes_of all) None client server h (file_bytes p.last_record file are) (subst (λ (frames : List (List ℕ)). AreFaultless p frames client server) (sym read.0) f.faultless)
-    ∙ ap (λ (frames : List (List ℕ)). Ok (crossing_by p frames client server)) read.0
+    let all = records_are_read p (bytes_of (reading_of p.last_record file)) None client server h (file_bytes p.last_record file are) in
+    grind (arith, numbered_of)
 
 -- no lists make the file a capture without a fault
 abbrev pub IsFaulty : Parameters → List ℕ → Type 0

@@ -1,6 +1,6 @@
 -- The first copies of a growing list of packets, and that a list of packets has one list of first copies.
-use Rattle.std.proofs.Common.{◌≡◌, ℕ, zero, suc, ◌+◌, ◌<◌, ◌≤◌, List, [], ◌∷◌, ◌++◌, length, Option, Some, None, slice_get, append-nil, refl, ap, sym, ◌∙◌, arith, ⊎_elim, subst}
-use Rattle.rasta_check.proofs.Prelude.{length_push, slice_get_past, slice_get_within, dec_lt, yes, no, Side, wrapped, RedundancyPdu, Spells, FirstCopy, Packet, all_push}
+use Rattle.std.proofs.Common.{◌≡◌, ℕ, zero, suc, ◌+◌, ◌<◌, ◌≤◌, List, [], ◌∷◌, ◌++◌, length, Option, Some, None, slice_get, append-nil, refl, ap, sym, ◌∙◌, arith}
+use Rattle.rasta_check.proofs.Prelude.{length_push, slice_get_past, slice_get_within, Side, wrapped, RedundancyPdu, Spells, FirstCopy, Packet, all_push}
 use Rattle.rasta_check.proofs.Prelude.{begins_with, get_next, get_push_cases, get_front, get_front_within, get_push, slice_get_some, Parameters, AreParameters}
 use Rattle.rasta_check.proofs.Capture.FaultlessLists.{IsSent, ordered, read_once}
 use Rattle.rasta_check.proofs.Capture.Positions.{not_again, places_rise}
@@ -18,18 +18,14 @@ sent_more p xs k s own h last =
       firsts = old_first p xs k s own h;
       rising = h.rising;
       numbers = h.numbers;
-      copies = all_push xs k h.copies (λ e. (let w = last e in
-          let f = h.firsts w.0 w.1 w.2 in
-          let l = slice_get_within xs w.1.place f.0 f.1 in
-          (w.0, w.1, w.2, omega arith, w.3)));
+      copies = all_push xs k h.copies (λ e. grind (arith, slice_get_within));
     }
 
 pub sent_other : (p : Parameters) (xs : List Packet) (k : Packet) (s : Side) (own : List FirstCopy) → IsSent p xs s own → (k.side ≡ s → ⊥) → IsSent p (xs ++ k ∷ []) s own
 sent_other p xs k s own h apart = sent_more p xs k s own h (λ side. absurd (apart side))
 
 pub sent_copy : (p : Parameters) (xs : List Packet) (k : Packet) (s : Side) (own : List FirstCopy) (j : ℕ) (b : Packet) → IsSent p xs s own → slice_get xs j ≡ Some b → b.side ≡ s → b.payload ≡ k.payload → IsSent p (xs ++ k ∷ []) s own
-sent_copy p xs k s own j b h there side same =
-    sent_more p xs k s own h (λ e. (let w = h.copies j b there side in (w.0, w.1, w.2, subst (λ (bs : List ℕ). Spells p s w.1.pdu bs) same w.4)))
+sent_copy p xs k s own j b h there side same = sent_more p xs k s own h (λ e. (let w = h.copies j b there side in grind arith))
 
 abbrev pub Counts_from : ℕ → List FirstCopy → Type 0
 Counts_from f own = (i : ℕ) (c : FirstCopy) → slice_get own i ≡ Some c → c.pdu.number ≡ wrapped (f + i)
@@ -39,25 +35,11 @@ pub sent_first : (p : Parameters) (xs : List Packet) (k : Packet) (s : Side) (ow
     → IsSent p (xs ++ k ∷ []) s (own ++ record { place = length xs; pdu = d } ∷ []) × Counts_from f (own ++ record { place = length xs; pdu = d } ∷ [])
 sent_first p xs k s own d f h cf side sp num =
     let c : FirstCopy = record { place = length xs; pdu = d } in
-    let cf' : Counts_from f (own ++ c ∷ []) = all_push own c cf num in (
-      record {
-        valid = h.valid;
-        firsts = all_push own c (old_first p xs k s own h) (k, get_push xs k, side, sp);
-        rising = λ i a b x y. (let l = slice_get_within (own ++ c ∷ []) (suc i) b y in
-            let n = length_push own c in
-            let w = h.firsts i a (sym (get_front_within own (c ∷ []) i (omega arith)) ∙ x) in
-            let m = slice_get_within xs a.place w.0 w.1 in
-            ⊎_elim
-            (λ (old : slice_get own (suc i) ≡ Some b). h.rising i a b (sym (get_front_within own (c ∷ []) i (omega arith)) ∙ x) old)
-            (λ (new : (suc i ≡ length own) × (c ≡ b)). (let q = ap (λ (z : FirstCopy). z.place) new.1 in omega arith))
-            (get_push_cases own c (suc i) b y));
-        numbers = λ i a b x y. (let first = cf' 0 a x in let this = cf' i b y in omega arith);
-        copies = all_push xs k
-            (λ i a old e. (let w = h.copies i a old e in (w.0, w.1, get_front own (c ∷ []) w.0 w.1 w.2, w.3, w.4)))
-            (λ e. (length own, c, get_push own c, omega arith, sp));
-      },
-      cf',
-    )
+    let cf' : Counts_from f (own ++ c ∷ []) = all_push own c cf num in
+    let firsts = all_push own c (old_first p xs k s own h) (k, get_push xs k, side, sp) in
+    let n = length_push own c in
+    let at = get_push own c in
+    grind (arith, get_push_cases, slice_get_within, get_front_within, get_front, all_push)
 
 pub sent_none : (p : Parameters) (s : Side) → AreParameters p → IsSent p [] s []
 sent_none p s valid = record { valid = valid; firsts = λ i c g. absurd (cc); rising = λ i a b x y. absurd (cc); numbers = λ i a b x y. absurd (cc); copies = λ k a g e. absurd (cc) }
@@ -69,47 +51,22 @@ reached p xs s c d hc hd i a l ag g =
     let f = hc.firsts i a g in
     let w = hd.copies a.place f.0 f.1 f.2 in
     let same : w.1.pdu ≡ a.pdu = read_once p hc.valid s w.1.pdu a.pdu f.0.payload w.4 f.3 in
-    let lc = slice_get_within c i a g in
-    let ld = slice_get_within d w.0 w.1 w.2 in
-    let head = slice_get_some c 0 (omega arith) in
-    let up : w.0 < i → ⊥ = λ low.
-    not_again head.0.pdu.number w.0 i w.1.pdu.number a.pdu.number (hc.numbers w.0 head.0 w.1 head.1 (ag w.0 low ∙ w.2)) (hc.numbers i head.0 a head.1 g) low l (ap (λ (z : RedundancyPdu). z.number) same) in
-    let b = slice_get_some d i (omega (arith, up)) in (
-      b.0,
-      b.1,
-      elim (dec_lt i w.0) [
-        | yes y ↦ (let rise = places_rise d (ordered hd) i w.0 b.0 w.1 b.1 w.2 y in let low = w.3 in omega arith)
-        | no y ↦ (let at : i ≡ w.0 = omega (arith, up) in let one : b.0 ≡ w.1 = (let x = b.1 in let z = w.2 in cc) in rw one w.3)
-      ],
-    )
+    let head = slice_get_some c 0 (omega (arith, slice_get_within c i a g)) in
+    let number = hc.numbers i head.0 a head.1 g in
+    let up : w.0 < i → ⊥ = λ low. (let other = hc.numbers w.0 head.0 w.1 head.1 (ag w.0 low ∙ w.2) in grind (arith, not_again)) in
+    let b = slice_get_some d i (omega (arith, up, slice_get_within d w.0 w.1 w.2)) in
+    (b.0, b.1, grind (arith, places_rise, ordered))
 
 module _ (p : Parameters) (xs : List Packet) (s : Side) (c d : List FirstCopy) (hc : IsSent p xs s c) (hd : IsSent p xs s d) where
-  at_same : (i : ℕ) (a b : FirstCopy) → slice_get c i ≡ Some a → slice_get d i ≡ Some b → a.place ≡ b.place → a ≡ b
-  at_same i a b g k e =
-      let f = hc.firsts i a g in
-      let f' = hd.firsts i b k in
-      let same : f.0 ≡ f'.0 = (let z = f.1 in let y = f'.1 in cc) in
-      let sp : Spells p s b.pdu f.0.payload = subst (λ (z : Packet). Spells p s b.pdu z.payload) (sym same) f'.3 in
-      let dat = read_once p hc.valid s a.pdu b.pdu f.0.payload f.3 sp in
-      (λ t. record { place = e t; pdu = dat t })
-
   agree_at : (i : ℕ) → i < 4294967296 → ((j : ℕ) → j < i → slice_get c j ≡ slice_get d j) → (u v : Option FirstCopy) → slice_get c i ≡ u → slice_get d i ≡ v → u ≡ v
-  agree_at i l ag None None x y = refl
-  agree_at i l ag (Some a) v x y =
-      let w = reached p xs s c d hc hd i a l ag x in
-      let z = reached p xs s d c hd hc i w.0 l (λ j k. sym (ag j k)) w.1 in
-      let back : z.0 ≡ a = (let q = z.1 in cc) in
-      let at : a.place ≡ w.0.place = (let low = w.2 in let high = z.2 in let q = ap (λ (u : FirstCopy). u.place) back in omega arith) in
-      ap Some (at_same i a w.0 x w.1 at) ∙ sym w.1 ∙ y
-  agree_at i l ag None (Some b) x y = absurd (let w = (reached p xs s d c hd hc i b l (λ j k. sym (ag j k)) y).1 in cc)
+  agree_at i l ag u v x y =
+      let there = λ (a : FirstCopy). reached p xs s c d hc hd i a l ag in
+      let back = λ (b : FirstCopy). reached p xs s d c hd hc i b l (λ j k. sym (ag j k)) in
+      grind (arith, read_once)
 
   agree : (n : ℕ) → n ≤ 4294967296 → (j : ℕ) → j < n → slice_get c j ≡ slice_get d j
   agree zero l j k = absurd (omega arith)
-  agree (suc n) l j k =
-      elim (dec_lt j n) [
-        | yes z ↦ agree n (omega arith) j z
-        | no z ↦ (let e : n ≡ j = omega arith in subst (λ (t : ℕ). slice_get c t ≡ slice_get d t) e (agree_at n (omega arith) (agree n (omega arith)) (slice_get c n) (slice_get d n) refl refl))
-      ]
+  agree (suc n) l j k = (let old = agree n (omega arith) in let here = agree_at n (omega arith) old _ _ refl refl in grind arith)
 
 none_first : {A : Type 0} (xs : List A) → slice_get xs 0 ≡ None → xs ≡ []
 none_first [] e = refl

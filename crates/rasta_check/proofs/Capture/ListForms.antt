@@ -1,5 +1,5 @@
 -- The sent list of the definition, with no faults, and the record that the proofs use are the same.
-use Rattle.std.proofs.Common.{◌<◌, List, length}
+use Rattle.std.proofs.Common.{◌<◌, List, length, arith}
 use Rattle.rasta_check.proofs.Prelude.{Side, Packet, Parameters, AreParameters, FirstCopy, Sent}
 use Rattle.rasta_check.proofs.Capture.FaultlessLists.{IsSent}
 use Rattle.rasta_check.proofs.Script.OneWay.{carried_at, first_is_new, new_is_first}
@@ -16,13 +16,7 @@ to_record p packets side sent valid h =
 
 pub of_record : (p : Parameters) (packets : List Packet) (side : Side) (sent : List FirstCopy) → IsSent p packets side sent → length sent < 4294967296 → Sent p packets side sent
 of_record p packets side sent h few =
-    record {
-      list = record {
-        carried = λ i c g. carried_at p packets side sent h i c g;
-        in_order = h.rising;
-        first = λ i c g w. first_is_new p packets side sent h few i c g w;
-        all = λ place packet pdu g e spelled new. new_is_first p packets side sent h place packet pdu g e spelled new;
-      };
-      copies = h.copies;
-      numbers = h.numbers;
-    }
+    let carried = carried_at p packets side sent h in
+    let first = first_is_new p packets side sent h few in
+    let all = new_is_first p packets side sent h in
+    grind arith

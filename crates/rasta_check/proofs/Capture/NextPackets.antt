@@ -1,5 +1,5 @@
 -- Which packet may come next.
-use Rattle.std.proofs.Common.{◌≡◌, ℕ, suc, ◌+◌, ◌^◌, ◌<◌, ◌≤◌, ◌⊎◌, List, [], ◌∷◌, ◌++◌, length, Some, slice_get, refl, ap, sym, ◌∙◌, arith, inl, inr, subst}
+use Rattle.std.proofs.Common.{◌≡◌, ℕ, ◌+◌, ◌^◌, ◌<◌, ◌≤◌, ◌⊎◌, List, [], ◌∷◌, ◌++◌, length, Some, slice_get, refl, ap, sym, ◌∙◌, arith, inl, inr, subst}
 use Rattle.rasta_check.proofs.Prelude.{slice_get_within, dec_lt, yes, no, Side, Parameters, AreParameters, wrapped, RedundancyPdu, Spells, FirstCopy, Packet, World, Reaches}
 use Rattle.rasta_check.proofs.Prelude.{slice_get_some, get_next}
 use Rattle.rasta_check.proofs.Capture.FaultlessLists.{IsSent, ordered}
@@ -24,50 +24,23 @@ pub record Begins (big own : List FirstCopy) (n : ℕ) : Type 0 where
 abbrev AreBelow : ℕ → List FirstCopy → Type 0
 AreBelow n own = (i : ℕ) (c : FirstCopy) → slice_get own i ≡ Some c → c.place < n
 
-below_more : (n : ℕ) (c : FirstCopy) (own : List FirstCopy) → c.place < n → AreBelow n own → AreBelow n (c ∷ own)
-below_more n c own h g = grind arith
-
 split_at : (n : ℕ) (big : List FirstCopy) → (own : List FirstCopy) × AreBelow n own × Begins big own n
 split_at n [] = ([], λ i c g. absurd (cc), record { later = []; whole = refl; place = λ c g. absurd (cc) })
 split_at n (c ∷ cs) = elim (dec_lt c.place n) [
-  | yes l ↦ (let r = split_at n cs in (c ∷ r.0, below_more n c r.0 l r.1, record { later = r.2.later; whole = ap (λ (xs : List FirstCopy). c ∷ xs) r.2.whole; place = r.2.place }))
-  | no l ↦ (
-    [],
-    λ i d g. absurd (cc),
-    record {
-      later = c ∷ cs;
-      whole = refl;
-      place = λ d g. (let same : c ≡ d = cc in let e = ap (λ (z : FirstCopy). z.place) same in omega arith);
-    },
-  )
+  | yes l ↦ (let r = split_at n cs in let low = r.1 in (c ∷ r.0, λ i d g. grind arith, record { later = r.2.later; whole = ap (λ (xs : List FirstCopy). c ∷ xs) r.2.whole; place = r.2.place }))
+  | no l ↦ ([], λ i d g. absurd (cc), record { later = c ∷ cs; whole = refl; place = λ d g. grind arith })
 ]
 
 module _ (p : Parameters) (xs ys : List Packet) (s : Side) (own later : List FirstCopy) (h : IsSent p (xs ++ ys) s (own ++ later)) (high : (c : FirstCopy) → slice_get later 0 ≡ Some c → length xs ≤ c.place) where
   -- a member at the next place or before it is among the first, or the next
   next_at : (i : ℕ) (c : FirstCopy) → slice_get (own ++ later) i ≡ Some c → c.place ≤ length xs → length own ≤ i → i ≡ length own
   next_at i c g low m =
-      let n = slice_get_within (own ++ later) i c g in
-      let f = slice_get_some (own ++ later) (length own) (omega arith) in
+      let f = slice_get_some (own ++ later) (length own) (omega (arith, slice_get_within (own ++ later) i c g)) in
       let first = high f.0 (sym (get_next own later) ∙ f.1) in
-      let not_later : length own < i → ⊥ = λ l. (let r = places_rise (own ++ later) (ordered h) (length own) i f.0 c f.1 g l in omega arith) in
-      omega (arith, not_later)
-
-  within_own : (i : ℕ) (c : FirstCopy) → slice_get (own ++ later) i ≡ Some c → c.place < length xs → i < length own
-  within_own i c g l =
-      let not_high : length own ≤ i → ⊥ = λ m. (let first = high c (sym (get_next own later) ∙ rw (next_at i c g (omega arith) m) at g) in omega arith) in
-      omega (arith, not_high)
+      grind (arith, places_rise, ordered)
 
   sent_part : AreBelow (length xs) own → IsSent p xs s own
-  sent_part low =
-      record {
-        valid = h.valid;
-        firsts = λ i c g. (let w = h.firsts i c (get_front own later i c g) in (w.0, sym (get_front_within xs ys c.place (low i c g)) ∙ w.1, w.2, w.3));
-        rising = λ i a b x y. h.rising i a b (get_front own later i a x) (get_front own later (suc i) b y);
-        numbers = λ i a b x y. h.numbers i a b (get_front own later 0 a x) (get_front own later i b y);
-        copies = λ j a g e. (let l = slice_get_within xs j a g in
-            let w = h.copies j a (get_front xs ys j a g) e in
-            (w.0, w.1, sym (get_front_within own later w.0 (within_own w.0 w.1 w.2 (let q = w.3 in omega arith))) ∙ w.2, w.3, w.4));
-      }
+  sent_part low = grind (arith, get_front, get_front_within, slice_get_within, get_next, next_at)
 
 -- the sent list of more packets begins with that of these
 pub cut : (p : Parameters) (ys xs : List Packet) (s : Side) (big : List FirstCopy) → IsSent p (xs ++ ys) s big → (own : List FirstCopy) × IsSent p xs s own × Begins big own (length xs)

@@ -1,9 +1,9 @@
 -- A packet that may come next has no fault.
-use Rattle.std.proofs.Common.{◌≡◌, ◌⊎◌, ℕ, zero, suc, ◌+◌, ◌<◌, Bool, true, false, List, [], ◌∷◌, Option, Some, None, Ok, length, slice_get, refl, ap, sym, ◌∙◌, arith, inl, inr, subst}
-use Rattle.rasta_check.proofs.Prelude.{◌==◌, if◌then◌else◌, nat_tests, bytes_eq-Decides, Side, Packet, Parameters, RedundancyPdu, redundancy_bytes, decode_of, wrapped, FirstCopy}
+use Rattle.std.proofs.Common.{◌≡◌, ◌⊎◌, ℕ, suc, ◌+◌, ◌<◌, Bool, true, false, List, [], ◌∷◌, Option, Some, None, Ok, length, slice_get, refl, ap, sym, ◌∙◌, arith, inl, inr}
+use Rattle.rasta_check.proofs.Prelude.{◌==◌, if◌then◌else◌, nat_tests, bytes_eq-Decides, Side, Packet, Parameters, RedundancyPdu, decode_of, wrapped, FirstCopy}
 use Rattle.rasta_check.proofs.Prelude.{Spells, copy_with, is_next_number, OfConnection}
 use Rattle.rasta_pdu.proofs.Spellings.{decode_of-redundancy_bytes}
-use Rattle.rasta_check.specs.Capture.Crossing.{repeat_fault, number_fault, read_fault}
+use Rattle.rasta_check.specs.Capture.Crossing.{number_fault, read_fault}
 use Rattle.rasta_check.proofs.Capture.FaultlessLists.{IsSent, ordered}
 use Rattle.rasta_check.proofs.Capture.NextPackets.{CanFollow}
 use Rattle.rasta_check.proofs.Capture.Positions.{next_new, number_once}
@@ -28,8 +28,7 @@ copy_found (x ∷ own) number c e = found_by (x.pdu.number == number) x own numb
 -- where there is none, no member has the number
 pub copy_none : (own : List FirstCopy) (number : ℕ) → copy_with own number ≡ None → (i : ℕ) (c : FirstCopy) → slice_get own i ≡ Some c → c.pdu.number ≡ number → ⊥
 copy_none [] number e i c g n = cc
-copy_none (x ∷ own) number e zero c g n = (let same : x ≡ c = cc in grind (arith, nat_tests))
-copy_none (x ∷ own) number e (suc i) c g n = copy_none own number (grind (arith, nat_tests)) i c g n
+copy_none (x ∷ own) number e i c g n = (let more = copy_none own number in grind (arith, nat_tests))
 
 -- ---- where it may come next, it has no fault
 
@@ -41,19 +40,11 @@ is_next : (own : List FirstCopy) (n : ℕ) → ((c : FirstCopy) → slice_get ow
 is_next own n h = grind arith
 
 module _ (p : Parameters) (packets : List Packet) (side : Side) (own : List FirstCopy) (a : Packet) (h : OfConnection p) (sent : IsSent p packets side own) (few : length own < 4294967296) where
-  repeats_first : (d : RedundancyPdu) → Spells p side d a.payload → (i j : ℕ) (c e : FirstCopy) → slice_get own i ≡ Some c → slice_get own j ≡ Some e → c.pdu.number ≡ d.number → e.pdu ≡ d → repeat_fault p side c a.payload ≡ None
-  repeats_first d s i j c e g k n m =
-      let at : i ≡ j = number_once own (ordered sent) few i j c e g k (n ∙ sym (ap (λ (z : RedundancyPdu). z.number) m)) in
-      let same : c ≡ e = (let z : slice_get own i ≡ Some e = subst (λ t. slice_get own t ≡ Some e) (sym at) k in cc) in
-      let is : redundancy_bytes p side c.pdu ≡ a.payload = ap (λ (z : FirstCopy). redundancy_bytes p side z.pdu) same ∙ (ap (redundancy_bytes p side) m ∙ sym s.same) in
-      let test = (bytes_eq-Decides (redundancy_bytes p side c.pdu) a.payload).1 is in
-      grind arith
-
   none_known : (d : RedundancyPdu) → Spells p side d a.payload
       → ((i : ℕ) × (c : FirstCopy) × (slice_get own i ≡ Some c) × (c.pdu ≡ d))
       ⊎ ((c : FirstCopy) → slice_get own 0 ≡ Some c → d.number ≡ wrapped (c.pdu.number + length own))
       → (o : Option FirstCopy) → copy_with own d.number ≡ o → number_fault p side own a.payload d o ≡ None
-  none_known d s (inl w) (Some c) e = (let f = copy_found own d.number c e in repeats_first d s f.0 w.0 c w.1 f.1 w.2 f.2 w.3)
+  none_known d s (inl w) (Some c) e = grind (arith, copy_found, number_once, ordered, bytes_eq-Decides)
   none_known d s (inr w) (Some c) e = (let f = copy_found own d.number c e in absurd (next_new own (ordered sent) few d.number w f.0 c f.1 f.2))
   none_known d s (inl w) None e = absurd (copy_none own d.number e w.0 w.1 w.2 (ap (λ (z : RedundancyPdu). z.number) w.3))
   none_known d s (inr w) None e = (let test = is_next own d.number w in grind arith)

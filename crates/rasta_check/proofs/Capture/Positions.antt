@@ -1,9 +1,9 @@
 -- Positions in ordered lists of first copies.
-use Rattle.std.proofs.Common.{◌≡◌, ℕ, zero, suc, ◌+◌, ◌-◌, ◌%◌, ◌^◌, ◌<◌, ◌≤◌, ◌++◌, Bool, false, nat_eq, List, [], ◌∷◌, Some, None, length, get_or, map, slice_get, position, refl, ap, sym, ◌∙◌, arith, subst, if◌then◌else◌, take, drop}
+use Rattle.std.proofs.Common.{◌≡◌, ℕ, zero, suc, ◌+◌, ◌-◌, ◌%◌, ◌^◌, ◌<◌, ◌≤◌, ◌++◌, Bool, false, nat_eq, List, [], ◌∷◌, Some, None, length, map, slice_get, position, refl, ap, sym, ◌∙◌, arith, subst, if◌then◌else◌, take, drop}
 use Rattle.rasta_check.proofs.Prelude.{option_map, nat_tests, length_push, map-append, take-append-drop, slice_get_within, slice_get-get_or, wrapped, FirstCopy, IsOrdered}
 use Rattle.rasta_check.proofs.Prelude.{position_of_number, position_of_place, get_front, get_mapped, get_push, mapped_some, slice_get_some}
 use Rattle.std.proofs.lemmas.List.Quantifiers.{position-Some}
-use Rattle.rasta_check.specs.Capture.Lists.{places_of, AreMarks, marked}
+use Rattle.rasta_check.specs.Capture.Lists.{AreMarks, marked}
 
 -- ---- the first member with a number
 
@@ -12,20 +12,14 @@ module _ (f : FirstCopy → ℕ) (n : ℕ) where
       → position (nat_eq n) (map f sent) ≡ Some i
   first_of [] i c g e fails = absurd (cc)
   first_of (x ∷ sent) zero c g e fails = (let same : x ≡ c = cc in let here : f x ≡ n = ap f same ∙ e in grind (arith, nat_tests))
-  first_of (x ∷ sent) (suc i) c g e fails =
-      let other = fails 0 x (omega arith) refl in
-      let more = first_of sent i c g e (λ j d l. fails (suc j) d (omega arith)) in
-      grind (arith, nat_tests)
+  first_of (x ∷ sent) (suc i) c g e fails = (let other = fails 0 x (omega arith) refl in let more = first_of sent i c g e (λ j d l. fails (suc j) d (omega arith)) in grind (arith, nat_tests))
 
   none_of : (sent : List FirstCopy) → ((j : ℕ) (d : FirstCopy) → slice_get sent j ≡ Some d → f d ≡ n → ⊥) → position (nat_eq n) (map f sent) ≡ None
   none_of [] fails = refl
   none_of (x ∷ sent) fails = (let other = fails 0 x refl in let more = none_of sent (λ j. fails (suc j)) in grind (arith, nat_tests))
 
   member_of : (sent : List FirstCopy) (i : ℕ) → position (nat_eq n) (map f sent) ≡ Some i → (c : FirstCopy) × (slice_get sent i ≡ Some c) × (f c ≡ n)
-  member_of sent i e =
-      let w = position-Some (nat_eq n) (map f sent) i 0 e in
-      let same : get_or (map f sent) i 0 ≡ n = (let t = w.1 in grind (arith, nat_tests)) in
-      get_mapped f sent i n (slice_get-get_or (map f sent) i 0 w.0 ∙ ap Some same)
+  member_of sent i e = (let w = position-Some (nat_eq n) (map f sent) i 0 e in grind (arith, nat_tests, get_mapped, slice_get-get_or))
 
 pub number_found : (cs : List FirstCopy) (number i : ℕ) → position_of_number cs number ≡ Some i → (c : FirstCopy) × (slice_get cs i ≡ Some c) × (c.pdu.number ≡ number)
 number_found cs number i e = member_of (λ (c : FirstCopy). c.pdu.number) number cs i e
@@ -57,8 +51,7 @@ number_once sent h few i j c d x y e =
 
 -- the number of a member names its position
 pub number_named : (sent : List FirstCopy) → IsOrdered sent → length sent < 4294967296 → (i : ℕ) (c : FirstCopy) → slice_get sent i ≡ Some c → position_of_number sent c.pdu.number ≡ Some i
-number_named sent h few i c g =
-    first_of (λ (x : FirstCopy). x.pdu.number) c.pdu.number sent i c g refl (λ j d l k e. (let same = number_once sent h few j i d c k g e in omega (arith, same, l)))
+number_named sent h few i c g = grind (arith, first_of, number_once)
 
 -- the number that comes next is new
 pub next_new : (sent : List FirstCopy) → IsOrdered sent → length sent < 4294967296 → (n : ℕ) → ((c : FirstCopy) → slice_get sent 0 ≡ Some c → n ≡ wrapped (c.pdu.number + length sent))
@@ -72,8 +65,7 @@ next_new sent h few n next i c g e =
 places_below : (sent : List FirstCopy) → IsOrdered sent → (d i : ℕ) (a b : FirstCopy) → slice_get sent i ≡ Some a → slice_get sent (suc d + i) ≡ Some b → a.place < b.place
 places_below sent h zero i a b x y = h.places i a b x (subst (λ (j : ℕ). slice_get sent j ≡ Some b) (omega arith) y)
 places_below sent h (suc d) i a b x y =
-    let l : suc (suc d) + i < length sent = slice_get_within sent (suc (suc d) + i) b y in
-    let mid = slice_get_some sent (suc d + i) (omega arith) in
+    let mid = slice_get_some sent (suc d + i) (omega (arith, slice_get_within sent (suc (suc d) + i) b y)) in
     let low = places_below sent h d i a mid.0 x mid.1 in
     let high = h.places (suc d + i) mid.0 b mid.1 (subst (λ (j : ℕ). slice_get sent j ≡ Some b) (omega arith) y) in
     omega (arith, low, high)
@@ -83,10 +75,7 @@ places_rise sent h i j a b x y l = places_below sent h (j - suc i) i a b x (subs
 
 -- a place names one position
 pub place_once : (sent : List FirstCopy) → IsOrdered sent → (i j : ℕ) (a b : FirstCopy) → slice_get sent i ≡ Some a → slice_get sent j ≡ Some b → a.place ≡ b.place → i ≡ j
-place_once sent h i j a b x y e =
-    let up : i < j → ⊥ = λ l. (let z = places_rise sent h i j a b x y l in omega arith) in
-    let down : j < i → ⊥ = λ l. (let z = places_rise sent h j i b a y x l in omega arith) in
-    omega (arith, up, down)
+place_once sent h i j a b x y e = grind (arith, places_rise)
 
 -- the place of a member names its position, where none before it has that place
 pub place_first : (sent : List FirstCopy) (i : ℕ) (c : FirstCopy) → slice_get sent i ≡ Some c → ((j : ℕ) (d : FirstCopy) → j < i → slice_get sent j ≡ Some d → d.place ≡ c.place → ⊥) → position_of_place sent c.place ≡ Some i
@@ -119,15 +108,8 @@ module _ (sent : List FirstCopy) (c : FirstCopy) (h : IsOrdered (sent ++ c ∷ [
   number_new few i d g e =
       next_new sent (ordered_front sent (c ∷ []) h) few c.pdu.number (λ a x. h.numbers (length sent) a c (get_front sent (c ∷ []) 0 a x) (get_push sent c)) i d g e
 
-  place_last : position_of_place (sent ++ c ∷ []) c.place ≡ Some (length sent)
-  place_last = place_named (sent ++ c ∷ []) h (length sent) c (get_push sent c)
-
   pub place_pushed : (q : ℕ) → position_of_place (sent ++ c ∷ []) q ≡ (if nat_eq q c.place then Some (length sent) else position_of_place sent q)
-  place_pushed q =
-      let here : c.place ≡ q → position_of_place (sent ++ c ∷ []) q ≡ Some (length sent) = λ same. subst (λ n. position_of_place (sent ++ c ∷ []) n ≡ Some (length sent)) same place_last in
-      let old : nat_eq q c.place ≡ false → position_of_place (sent ++ c ∷ []) q ≡ position_of_place sent q = λ e.
-      ap (position (nat_eq q)) (map-append (λ (d : FirstCopy). d.place) sent (c ∷ [])) ∙ position_push (nat_eq q) (places_of sent) c.place e in
-      grind (arith, nat_tests)
+  place_pushed q = (let last = place_named (sent ++ c ∷ []) h (length sent) c (get_push sent c) in grind (arith, map-append, position_push, nat_tests))
 
   -- the marks with one more are those of the list with one more
   pub marks_pushed : (old new : List ℕ) → AreMarks sent old → ((q : ℕ) → marked new q ≡ (if nat_eq q c.place then Some (length sent) else marked old q)) → AreMarks (sent ++ c ∷ []) new
@@ -145,16 +127,10 @@ module _ (sent : List FirstCopy) (h : IsOrdered sent) (few : length sent < 42949
 
   pub near : (n + (4294967296 - first)) % 4294967296 < length sent → position_of_number sent n ≡ Some ((n + (4294967296 - first)) % 4294967296)
   near l =
-      let d : ℕ = (n + (4294967296 - first)) % 4294967296 in
-      let c = slice_get_some sent d l in
+      let c = slice_get_some sent _ l in
       let few_first = first_small in
-      let number = number_at d c.0 c.1 in
-      let at : c.0.pdu.number ≡ n = omega arith in
-      subst (λ m. position_of_number sent m ≡ Some d) at (number_named sent h few d c.0 c.1)
+      let at : c.0.pdu.number ≡ n = omega (arith, number_at _ c.0 c.1) in
+      rw at at (number_named sent h few _ c.0 c.1)
 
   pub far : length sent ≤ (n + (4294967296 - first)) % 4294967296 → position_of_number sent n ≡ None
-  far l =
-      none_of (λ (z : FirstCopy). z.pdu.number) n sent (λ j c g q.
-      (let m = slice_get_within sent j c g in
-      let few_first = first_small in
-      let number = sym q ∙ number_at j c g in omega arith))
+  far l = grind (arith, none_of, slice_get_within, first_small, number_at)

@@ -1,5 +1,5 @@
 -- Crossings record by record.
-use Rattle.std.proofs.Common.{◌≡◌, ◌⊎◌, ℕ, List, [], ◌∷◌, ◌++◌, suc, ◌+◌, ◌-◌, ◌<◌, length, map, drop, append_assoc, append-nil, Option, Some, None, Result, Ok, Err, Bool, true, false, refl, ap, sym, ◌∙◌, arith, subst, nat_lt, if◌then◌else◌, inl, inr}
+use Rattle.std.proofs.Common.{◌≡◌, ◌⊎◌, ℕ, List, [], ◌∷◌, ◌++◌, suc, ◌+◌, ◌-◌, ◌<◌, length, map, drop, append_assoc, append-nil, Option, Some, None, Result, Ok, Err, true, false, refl, ap, sym, ◌∙◌, arith, subst, nat_lt}
 use Rattle.rasta_check.proofs.Prelude.{nat_tests, length_push, Side, Client, Server, fault_of_end, IsCapture-reading_of, reading_of-IsCapture, Packet, packet_in, FirstCopy}
 use Rattle.rasta_check.proofs.Prelude.{crossing_list, packet_fault, Fault, Numbered, IsCapture, next, cursor_after, opening, reading, reading_of, bytes_of, Parameters}
 use Rattle.rasta_check.proofs.Prelude.{AreParameters, Crossing, IsCrossing, and_then, after_record, after_records, after_reading, crossing_of, crossing_with, is_within}
@@ -15,7 +15,7 @@ use Rattle.rasta_pcap.specs.Fault.{fault_at, too_many}
 use Rattle.rasta_pcap.proofs.Captures.{numbers-reading_of}
 use Rattle.rasta_pcap.specs.Capture.{Cursor, read_step}
 use Rattle.rasta_pcap.proofs.Steps.{reading_of-opened, reading_of-refused}
-use Rattle.rasta_check.specs.Capture.Reading.{at_end, after_frame, after_judged, after_packet}
+use Rattle.rasta_check.specs.Capture.Reading.{after_packet}
 use Rattle.rasta_check.proofs.Capture.Channels.{is_recorded}
 use Rattle.rasta_check.proofs.Capture.Crossings.{crossing_of_lists, is_read, grown_crossing}
 use Rattle.rasta_check.proofs.Capture.FirstCopies.{sent_none}
@@ -27,6 +27,9 @@ pub after-next : (k : Crossing) (left : ℕ) (c : Cursor) (o : Result (Option Nu
     → after_reading k (reading (suc left) c) ≡ after_reading k (read_step o (reading left (cursor_after c)))
 unfolding reading
 after-next k left c o h = ap (λ (q : Result (Option Numbered) Fault). after_reading k (read_step q (reading left (cursor_after c)))) h
+
+-- as a function names it
+pub ruleset leads_on = (after-next)
 
 pub after-opened : (p : Parameters) (file : List ℕ) (c : Cursor) → opening file ≡ Ok c → crossing_of p file ≡ after_reading (nothing_crossed p) (reading p.last_record c)
 after-opened p file c h = ap (after_reading (nothing_crossed p)) (reading_of-opened p.last_record file c h)
@@ -50,23 +53,9 @@ pub data Step (k : Crossing) (r : Numbered) : Result Crossing Fault → Type 0 w
       → is_within (with_packet k a) ≡ false → Step k r (Err (fault_at too_many r.0))
 
 module _ (k : Crossing) (r : Numbered) where
-  judged_step : (a : Packet) (o : Option ℕ) (within : Bool) → nat_lt r.0 k.params.first_record ≡ false → packet_in k.params.channels r.1 ≡ Ok (Some a)
-      → packet_fault k.params (sent_by k a.side) a ≡ o → is_within (with_packet k a) ≡ within → Step k r (after_judged k r.0 a o)
-  judged_step a (Some number) within t g n e = bad_packet a number t g n
-  judged_step a None true t g n e = rw e (joined a t g n e)
-  judged_step a None false t g n e = rw e (no_room a t g n e)
-
-  frame_step : (early : Bool) (o : Result (Option Packet) Fault) → nat_lt r.0 k.params.first_record ≡ early → packet_in k.params.channels r.1 ≡ o
-      → Step k r (if early then Ok k else after_frame k r.0 o)
-  unfolding after_packet
-  frame_step true o t g = before t
-  frame_step false (Ok None) t g = empty t g
-  frame_step false (Ok (Some a)) t g = judged_step a _ _ t g refl refl
-  frame_step false (Err f) t g = bad_frame f t g
-
   pub step_of : Step k r (after_record k r)
-  unfolding after_record
-  step_of = frame_step _ _ refl refl
+  unfolding after_record after_packet
+  step_of = grind (arith, before, empty, joined, bad_frame, bad_packet, no_room)
 
   -- a record leads nowhere else
   pub step_is : (o : Result Crossing Fault) → Step k r o → after_record k r ≡ o
@@ -90,10 +79,7 @@ numbered n (frame ∷ frames) = (n, frame) ∷ numbered (n + 1) frames
 
 is_numbered : (n : ℕ) (rs : List Numbered) → map (λ (r : Numbered). r.0) rs ≡ range_with_len n (length rs) → rs ≡ numbered n (map (λ (r : Numbered). r.1) rs)
 is_numbered n [] e = refl
-is_numbered n (r ∷ rs) e =
-    let head : r.0 ≡ n = cc in
-    let tail : map (λ (x : Numbered). x.0) rs ≡ range_with_len (n + 1) (length rs) = cc in
-    (λ i. (head i, r.1) ∷ is_numbered (n + 1) rs tail i)
+is_numbered n (r ∷ rs) e = (let more = is_numbered (n + 1) rs in grind arith)
 
 pub numbered_of : (limit : ℕ) (file : List ℕ) → (reading_of limit file).records ≡ numbered 1 (bytes_of (reading_of limit file))
 numbered_of limit file = is_numbered 1 (reading_of limit file).records (numbers-reading_of limit file)
@@ -117,9 +103,7 @@ module _ (p : Parameters) (frames : List (List ℕ)) (frame : List ℕ) (later :
 
   -- what a record of the window holds follows what crossed before
   pub packets_with : (o : Option Packet) → packet_in p.channels frame ≡ Ok o → crossing_list p (frames ++ frame ∷ later) ≡ crossing_list p frames ++ cons_option o (packets_in p later)
-  packets_with o found =
-      ap (packets_in p) window_with ∙ packets_append p (window p frames) (frame ∷ later)
-      ∙ ap (λ (q : Result (Option Packet) Fault). crossing_list p frames ++ cons_option (option_flatten (result_ok q)) (packets_in p later)) found
+  packets_with o found = grind (arith, window_with, packets_append)
 
 -- ---- records without a fault
 
@@ -152,11 +136,8 @@ module _ (p : Parameters) (front : List (List ℕ)) (frame : List ℕ) (c s : Li
   crossed_more next (before t) =
       let low : suc (length front) < p.first_record = grind (arith, nat_tests) in
       let size = length_push front frame in
-      crossed_with [] next (drop_of_length-le (front ++ frame ∷ []) (omega arith) ∙ sym (append-nil (window p front) ∙ drop_of_length-le front (omega arith))) tt
-      (λ i. record { params = p; packets = sym (append-nil (crossing_list p front)) i; client = c; server = s }) (λ h are is. is)
-  crossed_more next (empty t g) =
-      crossed_with (frame ∷ []) next (window_with p front frame [] t) (rw g refl, tt)
-      (rw g (λ i. record { params = p; packets = sym (append-nil (crossing_list p front)) i; client = c; server = s })) (λ h are is. is)
+      crossed_with [] next (grind (arith, drop_of_length-le)) tt (rw append-nil refl) (λ h are is. is)
+  crossed_more next (empty t g) = crossed_with (frame ∷ []) next (window_with p front frame [] t) (rw g refl, tt) (rw (g, append-nil) refl) (λ h are is. is)
   crossed_more next (joined a t g n e) =
       let k = crossing_by p front c s in
       crossed_with (frame ∷ []) next (window_with p front frame [] t) (rw g refl, tt) (rw g (grown_same k a a.side (sent_after k a)))
@@ -181,23 +162,11 @@ Leads p frames end (Err f) = ((k : Crossing) × Crossed p frames k × (end ≡ S
 module _ (p : Parameters) (end : Option Fault) where
   walk : (frames front : List (List ℕ)) (n : ℕ) (k : Crossing) → n ≡ suc (length front) → Crossed p front k → Leads p (front ++ frames) end (after_records k (numbered n frames) end)
   unfolding after_records
-  walk [] front n k e x =
-      let all = subst (λ (fs : List (List ℕ)). Crossed p fs k) (sym (append-nil front)) x in
-      elim end as (λ (o : Option Fault). Leads p (front ++ []) o (at_end k o)) [ None ↦ (refl, all) | Some f ↦ inl (k, all, refl) ]
+  walk [] front n k e x = grind (arith, append-nil)
   walk (frame ∷ frames) front n k e x =
-      by (after_record k (n, frame)) (subst (λ (z : Crossing × ℕ). Step z.0 (z.1, frame) (after_record k (n, frame))) (λ i. (x.same i, e i)) (step_of k (n, frame)))
-      (λ next y. walk frames (front ++ frame ∷ []) (n + 1) next (omega (arith, length_push front frame)) y)
-    where
-      here : Crossed p front (crossing_by p front k.client k.server)
-      here = subst (Crossed p front) x.same x
-
-      by : (o : Result Crossing Fault) → Step (crossing_by p front k.client k.server) (suc (length front), frame) o
-          → ((next : Crossing) → Crossed p (front ++ frame ∷ []) next → Leads p ((front ++ frame ∷ []) ++ frames) end (after_records next (numbered (n + 1) frames) end))
-          → Leads p (front ++ frame ∷ frames) end (and_then o (λ (next : Crossing). after_records next (numbered (n + 1) frames) end))
-      by (Err f) step more = inr (record { front = front; frame = frame; later = frames; client = k.client; server = k.server; split = refl; crossed = here; step = step })
-      by (Ok next) step more =
-          subst (λ (fs : List (List ℕ)). Leads p fs end (after_records next (numbered (n + 1) frames) end)) (append_assoc front (frame ∷ []) frames)
-          (more next (crossed_more p front frame k.client k.server here next step))
+      let step = subst (λ (z : Crossing × ℕ). Step z.0 (z.1, frame) (after_record k (n, frame))) (λ i. (x.same i, e i)) (step_of k (n, frame)) in
+      let more = λ (next : Crossing). walk frames (front ++ frame ∷ []) (n + 1) next (omega (arith, length_push front frame)) in
+      grind (arith, crossed_more, append_assoc)
 
 pub nothing_is : (p : Parameters) → OfConnection p → IsCrossing (nothing_crossed p)
 nothing_is p h = crossing_of_lists (nothing_crossed p) h (λ place a g. absurd (cc)) refl (sent_none p Client h.valid) (sent_none p Server h.valid)
@@ -205,23 +174,15 @@ nothing_is p h = crossing_of_lists (nothing_crossed p) h (λ place a g. absurd (
 pub records_lead : (p : Parameters) (frames : List (List ℕ)) (end : Option Fault) → Leads p frames end (after_records (nothing_crossed p) (numbered 1 frames) end)
 records_lead p frames end =
     let none : window p [] ≡ [] = drop_of_length-le {A = List ℕ} [] (omega arith) in
-    walk p end frames [] 1 (nothing_crossed p) refl (record {
-      same = (λ i. record { params = p; packets = packets_in p (sym none i); client = []; server = [] });
-      sound = rw none tt;
-      is = λ h are. nothing_is p h;
-    })
+    walk p end frames [] 1 (nothing_crossed p) refl (record { same = rw none refl; sound = rw none tt; is = λ h are. nothing_is p h })
 
 pub file_leads : (p : Parameters) (file : List ℕ) → Leads p (bytes_of (reading_of p.last_record file)) (reading_of p.last_record file).fault (crossing_of p file)
-file_leads p file =
-    let r = reading_of p.last_record file in
-    subst (λ (rs : List Numbered). Leads p (bytes_of r) r.fault (after_records (nothing_crossed p) rs r.fault)) (sym (numbered_of p.last_record file)) (records_lead p (bytes_of r) r.fault)
+file_leads p file = grind (arith, numbered_of, records_lead)
 
 -- a file that is read: its records, and the packets that they hold
 pub file_by : (p : Parameters) (file : List ℕ) (k : Crossing) → crossing_of p file ≡ Ok k
     → (records : List (List ℕ)) × IsCapture p.last_record file records × (k.packets ≡ crossing_list p records) × (k.params ≡ p)
-file_by p file k e =
-    let w = rw e at (file_leads p file) in
-    (_, IsCapture-reading_of p.last_record file w.0, ap (λ (q : Crossing). q.packets) w.1.same, ap (λ (q : Crossing). q.params) w.1.same)
+file_by p file k e = grind (arith, file_leads, IsCapture-reading_of)
 
 -- the same of all lists of records
 pub file_records : (p : Parameters) (file : List ℕ) (k : Crossing) (records : List (List ℕ)) → AreParameters p → crossing_of p file ≡ Ok k → IsCapture p.last_record file records

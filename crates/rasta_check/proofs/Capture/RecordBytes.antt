@@ -1,5 +1,5 @@
 -- The records of a file of bytes are bytes, and so are the payloads of their packets.
-use Rattle.std.proofs.Common.{◌≡◌, ℕ, zero, suc, ◌-◌, List, drop, Option, Some, None, Result, Ok, Err, refl, ap, sym, subst}
+use Rattle.std.proofs.Common.{◌≡◌, ℕ, zero, suc, List, drop, Option, Some, Result, Ok, Err, refl, arith}
 use Rattle.rasta_check.proofs.Prelude.{Fault, Numbered, next, cursor_after, opening, reading, reading_of, bytes_of, Packet, packet_in, Parameters, AreBytes}
 use Rattle.std.specs.List.{AllByRecursion}
 use Rattle.rasta_pcap.specs.Capture.{Cursor, next_length, read_step, reading_opened}
@@ -12,11 +12,7 @@ abbrev pub AllBytes : List (List ℕ) → Type 0
 AllBytes frames = AllByRecursion AreBytes frames
 
 step_bytes : (left : ℕ) (c : Cursor) (o : Result (Option Numbered) Fault) → next c ≡ o → AreBytes c.rest → AllBytes (bytes_of (reading left (cursor_after c))) → AllBytes (bytes_of (read_step o (reading left (cursor_after c))))
-step_bytes left c (Err f) e are more = tt
-step_bytes left c (Ok None) e are more = tt
-step_bytes left c (Ok (Some r)) e are more =
-    let bytes = (next-is_next_entry c r e).is in
-    (subst AreBytes (sym (ap (λ (x : Numbered). x.1) bytes)) (AreBytes-take (next_length c) (drop 16 c.rest) (AreBytes-drop 16 c.rest are)), more)
+step_bytes left c o e are more = (let rest = AreBytes-drop 16 c.rest are in grind (arith, next-is_next_entry, AreBytes-take))
 
 reading_bytes : (left : ℕ) (c : Cursor) → AreBytes c.rest → AllBytes (bytes_of (reading left c))
 unfolding reading
@@ -25,8 +21,7 @@ reading_bytes (suc left) c are = step_bytes left c (next c) refl are (reading_by
 
 opened_bytes : (limit : ℕ) (file : List ℕ) (o : Result Cursor Fault) → opening file ≡ o → AreBytes file → AllBytes (bytes_of (reading_opened limit o))
 opened_bytes limit file (Err f) e are = tt
-opened_bytes limit file (Ok c) e are =
-    reading_bytes limit c (subst AreBytes (sym (ap (λ (k : Cursor). k.rest) (opening-is_header file c e).1)) (AreBytes-drop 24 file are))
+opened_bytes limit file (Ok c) e are = (let header = (opening-is_header file c e).1 in let rest = AreBytes-drop 24 file are in grind (arith, reading_bytes))
 
 pub file_bytes : (limit : ℕ) (file : List ℕ) → AreBytes file → AllBytes (bytes_of (reading_of limit file))
 unfolding reading_of
@@ -34,6 +29,4 @@ file_bytes limit file are = opened_bytes limit file (opening file) refl are
 
 -- a packet's payload is a part of its frame
 pub payload_bytes : (p : Parameters) (frame : List ℕ) (a : Packet) → packet_in p.channels frame ≡ Ok (Some a) → AreBytes frame → AreBytes a.payload
-payload_bytes p frame a h are =
-    let w = in_range p.channels frame a h in
-    subst AreBytes w.2 (AreBytes-take (w.1 - w.0) (drop w.0 frame) (AreBytes-drop w.0 frame are))
+payload_bytes p frame a h are = grind (arith, in_range, AreBytes-take, AreBytes-drop)

@@ -48,7 +48,7 @@ capture_front last file front frame later same =
 goes_on : (k last : Crossing) (front later : List (List ℕ)) (end : Option Fault) (n m : ℕ) → m ≡ length front + n → after_records k (numbered n front) None ≡ Ok last
     → after_records k (numbered n (front ++ later)) end ≡ after_records last (numbered m later) end
 unfolding after_records
-goes_on k last [] later end n m at e = (let same : k ≡ last = cc in let here : n ≡ m = omega arith in (λ i. after_records (same i) (numbered (here i) later) end))
+goes_on k last [] later end n m at e = grind arith
 goes_on k last (frame ∷ front) later end n m at e =
     let w = then_by (after_record k (n, frame)) (λ (next : Crossing). after_records next (numbered (n + 1) front) None) last e in
     ap (λ (q : Result Crossing Fault). and_then q (λ (next : Crossing). after_records next (numbered (n + 1) (front ++ later)) end)) w.1 ∙ goes_on w.0 last front later end (n + 1) m (omega arith) w.2
@@ -152,6 +152,5 @@ read_is_faulty p file f h are e client server is = (let z = faultless_is_read p 
 -- nor is one whose header is
 pub opening_faulty : (p : Parameters) (file : List ℕ) (f : Fault) → AreParameters p → opening file ≡ Err f → IsFaulty p file
 opening_faulty p file f valid e client server is =
-    let none = (reading_of-IsCapture p.last_record file is.records valid.window.last_most is.capture).1 in
-    let some = (reading_of-header_fault p.last_record file f e).0 in
-    cc
+    let none = reading_of-IsCapture p.last_record file is.records valid.window.last_most is.capture in
+    grind (arith, reading_of-header_fault)

@@ -1,27 +1,14 @@
 -- Datagrams one after the other, with one more.
-use Rattle.std.proofs.Common.{◌≡◌, ℕ, suc, ◌+◌, ◌-◌, ◌≤◌, List, [], ◌∷◌, ◌++◌, length, map, take, drop, Result, OnOk, slice_range, refl, ap, ◌∙◌, arith}
+use Rattle.std.proofs.Common.{◌≡◌, ℕ, suc, List, [], ◌∷◌, ◌++◌, length, map, Result, OnOk, refl, ap, ◌∙◌, arith}
 use Rattle.rasta_check.proofs.Prelude.{map-append, take-append-le, take_all}
 use Rattle.std.proofs.lemmas.List.{drop-append-le, length-drop}
 use Rattle.std.proofs.Math.Seq.{drop-append_seam}
 use Rattle.rasta_check.specs.declared.datagrams.Span.{Span}
 use Rattle.rasta_check.specs.Internals.Datagrams.{AreWithin, kept_in}
 
--- a span of what stood there before
-old_range : (bytes more : List ℕ) (from to : ℕ) → from ≤ to → to ≤ length bytes → slice_range (bytes ++ more) from to ≡ slice_range bytes from to
-old_range bytes more from to a b =
-    let size = length-drop from bytes in
-    ap (take (to - from)) (drop-append-le from bytes more (omega arith)) ∙ take-append-le (to - from) (drop from bytes) more (omega arith)
-
--- the span of what was added
-new_range : (bytes more : List ℕ) → slice_range (bytes ++ more) (length bytes) (length bytes + length more) ≡ more
-new_range bytes more = ap (take (length bytes + length more - length bytes)) (drop-append_seam bytes more) ∙ take_all _ more (omega arith)
-
 old_spans : (bytes more : List ℕ) (spans : List Span) → AreWithin (length bytes) spans → map (kept_in (bytes ++ more)) spans ≡ map (kept_in bytes) spans
 old_spans bytes more [] h = refl
-old_spans bytes more (s ∷ spans) h =
-    let here : kept_in (bytes ++ more) s ≡ kept_in bytes s =
-    ap (λ (xs : List ℕ). record { place = s.place; bytes = xs }) (old_range bytes more s.start (s.start + s.len) (omega arith) (h 0 s refl)) in
-    (λ i. here i ∷ old_spans bytes more spans (λ j t g. h (suc j) t g) i)
+old_spans bytes more (s ∷ spans) h = (let rest = old_spans bytes more spans (λ j. h (suc j)) in let here = h 0 s refl in grind (arith, length-drop, drop-append-le, take-append-le))
 
 -- the datagrams of the side that has no new one
 pub same_kept : (bytes all more : List ℕ) (spans : List Span) → AreWithin (length bytes) spans → all ≡ bytes ++ more → map (kept_in all) spans ≡ map (kept_in bytes) spans
@@ -31,10 +18,7 @@ same_kept bytes all more spans h e = ap (λ (xs : List ℕ). map (kept_in xs) sp
 pub kept_grown : (bytes all more : List ℕ) (spans new : List Span) (place : ℕ) → AreWithin (length bytes) spans → all ≡ bytes ++ more
     → new ≡ spans ++ record { start = length bytes; place = place; len = length more } ∷ []
     → map (kept_in all) new ≡ map (kept_in bytes) spans ++ record { place = place; bytes = more } ∷ []
-kept_grown bytes all more spans new place h e f =
-    let last : Span = record { start = length bytes; place = place; len = length more } in
-    (λ i. map (kept_in (e i)) (f i)) ∙ map-append (kept_in (bytes ++ more)) spans (last ∷ [])
-    ∙ (λ i. old_spans bytes more spans h i ++ record { place = place; bytes = new_range bytes more i } ∷ [])
+kept_grown bytes all more spans new place h e f = grind (arith, map-append, old_spans, drop-append_seam, take_all)
 
 -- two facts of an answer give a third
 pub both_ok : {A E : Type 0} (r : Result A E) (P Q R : Type 0) → (P → Q → R) → OnOk r P → OnOk r Q → OnOk r R

@@ -1,6 +1,7 @@
 -- Lists of first copies as vectors and maps hold them, with one more.
-use Rattle.std.proofs.Common.{◌≡◌, ℕ, suc, ◌+◌, ◌<◌, ◌++◌, List, [], ◌∷◌, Some, length, map, nat_eq, refl, ap, sym, ◌∙◌, arith, subst, if◌then◌else◌, slice_get}
-use Rattle.rasta_check.proofs.Prelude.{option_map, ◌==◌, nat_tests, length-map, length_push, Pdu, value_of, FirstCopy, copy_with, IsOrdered, copy_of, map_push}
+use Rattle.std.proofs.lemmas.List.{map-append}
+use Rattle.std.proofs.Common.{◌≡◌, ℕ, suc, ◌+◌, ◌<◌, ◌++◌, List, [], ◌∷◌, Some, length, map, nat_eq, refl, ap, ◌∙◌, arith, if◌then◌else◌, slice_get}
+use Rattle.rasta_check.proofs.Prelude.{option_map, nat_tests, length-map, length_push, Pdu, FirstCopy, copy_with, IsOrdered, copy_of, map_push}
 use Rattle.std.specs.HashMap.{HashMap}
 use Rattle.std.specs.Map.{keys_of, lookup}
 use Rattle.std.proofs.lemmas.Map.{NonePasses, lookup-none}
@@ -15,10 +16,7 @@ pub marks_grown : (sent all : List FirstCopy) (c : FirstCopy) (place position : 
     → all ≡ sent ++ c ∷ [] → IsOrdered (sent ++ c ∷ []) → AreMarks sent old → c.place ≡ place → position ≡ length sent
     → ((q : ℕ) → marked mid q ≡ marked old q) → ((q : ℕ) → marked new q ≡ (if nat_eq q place then Some position else marked mid q))
     → IsOrdered all × AreMarks all new
-marks_grown sent all c place position old mid new e h m at count same set =
-    let new_marks : AreMarks (sent ++ c ∷ []) new = marks_pushed sent c h old new m (λ q. set q ∙ (
-    (λ i. if nat_eq q (sym at i) then Some (count i) else same q i))) in
-    subst (λ (xs : List FirstCopy). IsOrdered xs × AreMarks xs new) (sym e) (h, new_marks)
+marks_grown sent all c place position old mid new e h m at count same set = (let more = marks_pushed sent c h old new m in grind arith)
 
 -- one more of few
 pub few_more : {A : Type 0} (f : A → FirstCopy) (old : List FirstCopy) (all : List A) (c : FirstCopy) → map f all ≡ old ++ c ∷ [] → length old + 1 < 4294967296 → length all < 4294967296
@@ -33,34 +31,21 @@ Entries = List (ℕ × (ℕ × Pdu))
 none_has : (es : Entries) (n : ℕ) → keys_of es ≡ numbers_of (copies_in es)
     → ((i : ℕ) (d : FirstCopy) → slice_get (copies_in es) i ≡ Some d → d.pdu.number ≡ n → ⊥) → NonePasses (nat_eq n) es
 none_has [] n same new = tt
-none_has (e ∷ es) n same new =
-    let head : e.0 ≡ (value_of e.1.1).number = cc in
-    let tail : keys_of es ≡ numbers_of (copies_in es) = cc in
-    let other : e.0 ≡ n → ⊥ = λ z. new 0 (copy_of e.1) refl (sym head ∙ z) in
-    (grind (arith, nat_tests), none_has es n tail (λ i d g. new (suc i) d g))
+none_has (e ∷ es) n same new = (let first = new 0 (copy_of e.1) refl in let more = none_has es n (cc) (λ i d g. new (suc i) d g) in grind (arith, nat_tests))
 
 module _ {S : Type 0} (m : HashMap ℕ (ℕ × Pdu) S) (x : ℕ × Pdu) (h : IsOrdered (copies_in m.entries ++ copy_of x ∷ [])) (keys : keys_of m.entries ≡ numbers_of (copies_in m.entries)) (few : length (copies_in m.entries) < 4294967296) where
   inserted : (number : ℕ) → number ≡ x.1.number → insert_entry nat_eq m.entries number x ≡ m.entries ++ (number, x) ∷ []
-  inserted number e =
-      insert_entry-new nat_eq m number x (lookup-none (nat_eq number) m.entries (none_has m.entries number keys
-      (λ i d g z. number_new (copies_in m.entries) (copy_of x) h few i d g (z ∙ e))))
+  inserted number e = grind (arith, insert_entry-new, lookup-none, none_has, number_new)
 
   pub map_grown : (number : ℕ) (all : Entries) → number ≡ x.1.number → all ≡ insert_entry nat_eq m.entries number x → copies_in all ≡ copies_in m.entries ++ copy_of x ∷ []
   map_grown number all e f = map_push (λ (y : ℕ × (ℕ × Pdu)). copy_of y.1) m.entries all (number, x) (f ∙ inserted number e)
 
   pub keys_grown : (number : ℕ) (all : Entries) → number ≡ x.1.number → all ≡ insert_entry nat_eq m.entries number x → keys_of all ≡ numbers_of (copies_in all)
-  keys_grown number all e f =
-      map_push (λ (y : ℕ × (ℕ × Pdu)). y.0) m.entries all (number, x) (f ∙ inserted number e)
-      ∙ ((λ i. keys i ++ e i ∷ []) ∙ sym (map_push (λ (d : FirstCopy). d.pdu.number) (copies_in m.entries) (copies_in all) (copy_of x) (map_grown number all e f)))
+  keys_grown number all e f = (let grown = map_grown number all e f in let same = inserted number e in grind (arith, map-append))
 
 -- ---- the place of a number
 
 pub place_found : (es : Entries) (n : ℕ) → keys_of es ≡ numbers_of (copies_in es)
     → option_map (λ (w : ℕ × Pdu). w.0) (lookup (nat_eq n) es) ≡ option_map (λ (x : FirstCopy). x.place) (copy_with (copies_in es) n)
 place_found [] n same = refl
-place_found (e ∷ es) n same =
-    let head : e.0 ≡ (value_of e.1.1).number = cc in
-    let tail : keys_of es ≡ numbers_of (copies_in es) = cc in
-    let test : nat_eq n e.0 ≡ ((value_of e.1.1).number == n) = grind (arith, nat_tests) in
-    let more = place_found es n tail in
-    grind arith
+place_found (e ∷ es) n same = (let more = place_found es n (cc) in grind (arith, nat_tests))

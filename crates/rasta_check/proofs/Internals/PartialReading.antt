@@ -1,6 +1,6 @@
 -- What was read of a capture and added so far, and what that says of every file that begins so.
-use Rattle.std.proofs.Common.{◌≡◌, ◌∙◌, ◌⊎◌, inl, inr, ◌++◌, append_assoc, ℕ, zero, suc, List, [], Option, Result, Ok, Err, true, false, refl, ap, sym, arith}
-use Rattle.rasta_check.proofs.Prelude.{Fault, cursor_after, opening, reading, Parameters, AreParameters, Crossing, after_reading, after_record, after_records, and_then}
+use Rattle.std.proofs.Common.{◌≡◌, ◌⊎◌, inl, inr, ◌++◌, append_assoc, ℕ, zero, suc, List, [], Option, Result, Ok, Err, false, refl, arith}
+use Rattle.rasta_check.proofs.Prelude.{Fault, opening, reading, Parameters, AreParameters, Crossing, after_record, after_records}
 use Rattle.rasta_check.proofs.Prelude.{crossing_of, nothing_crossed, crossing_left, OfConnection}
 use Rattle.std.specs.Io.KnownBytes.{Consumes}
 use Rattle.std.proofs.KnownBytes.{Consumes-nil, Consumes-trans}
@@ -25,26 +25,17 @@ pub record IsUnderway (whole rest : List ℕ → Result Crossing Fault) (old new
 -- after a header what crosses by a file crosses by the bytes that are left
 pub Underway-opened : (p : Parameters) (k : Crossing) (r : RecordReader) (last : ℕ) (old new : Option (List ℕ)) → Opens (order_in r) old new
     → count_in r ≡ 0 → k ≡ nothing_crossed p → last ≡ p.last_record → IsUnderway (crossing_of p) (crossing_left k r last) old new
-Underway-opened p k r last old new h none nothing all = record {
-  bytes = h.bytes;
-  consumed = h.consumed;
-  each = λ more. after-opened p (h.bytes ++ more) (cursor_at (order_in r) more 0) (h.each more)
-      ∙ sym (λ i. after_reading (nothing i) (reading (all i) (cursor_at (order_in r) more (none i))));
-}
+Underway-opened p k r last old new h none nothing all = grind (arith, after-opened)
 
 -- ---- a record more
 
 pub Underway-record : (whole : List ℕ → Result Crossing Fault) (k next : Crossing) (r n : RecordReader) (left : ℕ) (old mid new : Option (List ℕ))
     → IsUnderway whole (crossing_left k r (suc left)) old mid → AddsRecord k next r n mid new → IsUnderway whole (crossing_left next n left) old new
 unfolding after_records
-Underway-record whole k next r n left old mid new h a = record {
-  bytes = h.bytes ++ a.read.bytes;
-  consumed = Consumes-trans old mid new h.bytes a.read.bytes h.consumed a.read.consumed;
-  each = λ more. (let c = cursor_at (order_in r) (a.read.bytes ++ more) (count_in r) in
-      ap whole (append_assoc h.bytes a.read.bytes more) ∙ h.each (a.read.bytes ++ more) ∙ after-next k left c _ (a.read.each more).0
-      ∙ ap (λ q. and_then q (λ (m : Crossing). after_reading m (reading left (cursor_after c)))) a.added
-      ∙ (λ i. after_reading next (reading left ((a.read.each more).1 i))) ∙ (λ i. after_reading next (reading left (cursor_at (sym a.order i) more (count_in n)))));
-}
+Underway-record whole k next r n left old mid new h a =
+    let next_bytes = λ (more : List ℕ). after-next k left (cursor_at (order_in r) (a.read.bytes ++ more) (count_in r)) _ (a.read.each more).0 in
+    let consumed = Consumes-trans old mid new h.bytes a.read.bytes h.consumed a.read.consumed in
+    grind (arith, append_assoc)
 
 -- ---- the reading ends
 
@@ -54,8 +45,7 @@ ReadsSo-then {P = P} {Q = Q} old new lift h = ReadsSo-after P Q [] old old new (
 
 pub Underway-ends : (whole rest : List ℕ → Result Crossing Fault) (answer : Result Crossing Fault) (old mid new : Option (List ℕ))
     → IsUnderway whole rest old mid → ReadsSo (λ bytes. rest bytes ≡ answer) mid new → ReadsSo (λ bytes. whole bytes ≡ answer) old new
-Underway-ends whole rest answer old mid new h e =
-    ReadsSo-after (λ bytes. rest bytes ≡ answer) (λ bytes. whole bytes ≡ answer) h.bytes old mid new h.consumed (λ more is. h.each more ∙ is) e
+Underway-ends whole rest answer old mid new h e = grind (arith, ReadsSo-after)
 
 pub Underway-begun : (whole rest : List ℕ → Result Crossing Fault) (old mid new : Option (List ℕ))
     → IsUnderway whole rest old mid → (bs : List ℕ) × Consumes mid new bs → (bs : List ℕ) × Consumes old new bs
@@ -64,13 +54,7 @@ Underway-begun whole rest old mid new h more = (h.bytes ++ more.0, Consumes-tran
 pub all_at_end : (k : Crossing) (r : RecordReader) (left : ℕ) (old new : Option (List ℕ)) → MeetsEnd old new
     → ReadsSo (λ rest. crossing_left k r (suc left) rest ≡ Ok k) old new
 unfolding after_records
-all_at_end k r left old new h = record {
-  bytes = [];
-  met_end = true;
-  consumed = h.0;
-  at_end = λ e. h.1;
-  each = λ more follows. (let c = cursor_at (order_in r) [] (count_in r) in ap (crossing_left k r (suc left)) (follows refl) ∙ after-next k left c _ (next-nil c refl));
-}
+all_at_end k r left old new h = grind (arith, after-next, next-nil)
 
 pub all_with_window : (k : Crossing) (r : RecordReader) (i : Option (List ℕ)) → ReadsSo (λ rest. crossing_left k r zero rest ≡ Ok k) i i
 unfolding after_records reading
@@ -85,16 +69,7 @@ FaultsNext k r f old new = ReadsSo (λ rest. (left : ℕ) → crossing_left k r 
 pub next_faulty : (k : Crossing) (r : RecordReader) (number : ℕ) (bytes : List ℕ) (f : Fault) (old new : Option (List ℕ))
     → ReadsRecord (order_in r) (count_in r) (number, bytes) old new → after_record k (number, bytes) ≡ Err f → FaultsNext k r f old new
 unfolding after_records
-next_faulty k r number bytes f old new h e = record {
-  bytes = h.bytes;
-  met_end = false;
-  consumed = h.consumed;
-  at_end = λ e. absurd (cc);
-  each = λ more follows left.
-      let c = cursor_at (order_in r) (h.bytes ++ more) (count_in r) in
-      after-next k left c _ (h.each more).0
-      ∙ ap (λ q. and_then q (λ (m : Crossing). after_reading m (reading left (cursor_after c)))) e;
-}
+next_faulty k r number bytes f old new h e = grind (arith, after-next)
 
 -- why there was no record
 abbrev pub WhyNone : ℕ → RecordReader → ℕ → Fault → ℕ → ℕ → Option (List ℕ) → Option (List ℕ) → Type 0
@@ -105,10 +80,8 @@ WhyNone most r room f old_count new_count old new = FailsWithin most f old_count
 pub why : (k : Crossing) (most : ℕ) (r : RecordReader) (room : ℕ) (f : Fault) (old_count new_count : ℕ) (old new : Option (List ℕ))
     → WhyNone most r room f old_count new_count old new → ((bs : List ℕ) × Consumes old new bs) × (IsFailure f old_count new_count ⊎ FaultsNext k r f old new)
 unfolding after_records
-why k most r room f old_count new_count old new (inl failed) = ((failed.2.0, failed.2.1), inl (inr (failed.0, failed.1)))
-why k most r room f old_count new_count old new (inr (inl lacking)) = ((lacking.1.bytes, lacking.1.consumed), inl (inl lacking.0))
-why k most r room f old_count new_count old new (inr (inr refused)) =
-    ((refused.bytes, refused.consumed), inr (ReadsSo-then old new (λ bytes is left. after-next k left (cursor_at (order_in r) bytes (count_in r)) _ is) refused))
+why k most r room f old_count new_count old new (inl failed) = grind arith
+why k most r room f old_count new_count old new (inr w) = grind (arith, after-next)
 
 -- ---- a whole file
 
@@ -120,11 +93,7 @@ file_refused p file f h e = record {
 }
 
 header_refused : (p : Parameters) (file : List ℕ) (f : Fault) → AreParameters p → opening file ≡ Err f → IsRefusedSo p f file
-header_refused p file f valid e = record {
-  value = after-refused p file f e;
-  only = λ are. opening_faulty p file f valid e;
-  definite = λ are. opening_definite p file f e;
-}
+header_refused p file f valid e = (let v = after-refused p file f e in let only = opening_faulty p file f valid e in let definite = opening_definite p file f e in grind arith)
 
 module _ (p : Parameters) (h : OfConnection p) (rest : List ℕ → Result Crossing Fault) (old mid new : Option (List ℕ))
     (u : IsUnderway (crossing_of p) rest old mid) where

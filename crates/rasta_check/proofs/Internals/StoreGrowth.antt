@@ -1,12 +1,12 @@
 -- A store with one packet more.
-use Rattle.std.proofs.Common.{◌≡◌, ℕ, suc, ◌+◌, ◌<◌, List, [], ◌∷◌, ◌++◌, append_assoc, length, map, Bool, false, not, nat_eq, Option, Some, None, slice_get, refl, ap, sym, ◌∙◌, subst, arith, if◌then◌else◌}
+use Rattle.std.proofs.Common.{◌≡◌, ℕ, suc, ◌+◌, ◌<◌, List, [], ◌∷◌, ◌++◌, append_assoc, length, map, Bool, not, Option, Some, None, slice_get, refl, ap, sym, ◌∙◌, subst, arith, if◌then◌else◌}
 use Rattle.rasta_check.proofs.Prelude.{is_some, OfConnection, nat_tests, append-nil, length-map, length_push, map-append, slice_get_within, Side, Client, Server, Packet}
-use Rattle.rasta_check.proofs.Prelude.{Parameters, AreParameters, RedundancyPdu, redundancy_bytes, StoredPacket, FirstCopy, Spells, Kept, KeptDatagrams, kept_by, IsOrdered}
+use Rattle.rasta_check.proofs.Prelude.{Parameters, AreParameters, RedundancyPdu, StoredPacket, FirstCopy, Spells, Kept, KeptDatagrams, kept_by, IsOrdered}
 use Rattle.rasta_check.proofs.Prelude.{position_of_place, Crossing, IsCrossing, crossing_with, sent_by, sent_after, with_packet, IsStore, crossing_by, get_front, get_push}
 use Rattle.rasta_check.proofs.Prelude.{slice_get_some, all_push}
 use Rattle.rasta_pdu.proofs.Spellings.{length-redundancy_bytes}
 use Rattle.rasta_check.specs.Internals.Datagrams.{keeping, nothing_kept}
-use Rattle.rasta_check.specs.Internals.Stored.{Decode, HavePositions, IsJudged, bytes_of, copy_in, first_copies_from, packet_by, pdu_in}
+use Rattle.rasta_check.specs.Internals.Stored.{Decode, HavePositions, IsJudged, copy_in, first_copies_from, packet_by}
 use Rattle.rasta_check.proofs.Capture.Crossings.{list_of}
 use Rattle.rasta_check.proofs.Capture.FaultlessLists.{ordered}
 use Rattle.rasta_check.proofs.Capture.Positions.{place_pushed, place_missing, place_named}
@@ -21,18 +21,10 @@ Among d e = (side : Side) (i : ℕ) (x : Kept) → slice_get (kept_by d side) i 
 
 same_packets : (d e : KeptDatagrams) → Among d e → (xs : List StoredPacket) → HavePositions d xs → map (packet_by e) xs ≡ map (packet_by d) xs
 same_packets d e h [] l = refl
-same_packets d e h (x ∷ xs) l =
-    let w = slice_get_some (kept_by d x.side) x.position (l 0 x refl) in
-    (λ i. record { channel = x.channel; side = x.side; payload = bytes_of ((h x.side x.position w.0 w.1 ∙ sym w.1) i) } ∷ same_packets d e h xs (λ j y g. l (suc j) y g) i)
+same_packets d e h (x ∷ xs) l = (let w = slice_get_some (kept_by d x.side) x.position (l 0 x refl) in let more = same_packets d e h xs (λ j y g. l (suc j) y g) in grind arith)
 
 among_keeping : (d : KeptDatagrams) (side : Side) (y : Kept) → Among d (keeping d side y)
 among_keeping d side y other i x g = grind (arith, get_front)
-
-kept_with : (d : KeptDatagrams) (side : Side) (y : Kept) → (kept_by (keeping d side y) side ≡ kept_by d side ++ y ∷ []) × ((keeping d side y).bytes ≡ d.bytes ++ y.bytes)
-kept_with d side y = grind arith
-
-sent_with : (k : Crossing) (a : Packet) (side : Side) (own : List FirstCopy) → sent_by (crossing_with k a side own) side ≡ own
-sent_with k a side own = grind arith
 
 -- what holds of the longer lists of one side, and of the lists that are there, holds of both sides' lists
 with_more : (P : Side → List Kept → List FirstCopy → Type 0) (d : KeptDatagrams) (y : Kept) (k : Crossing) (a : Packet) (side : Side) (own : List FirstCopy) → P side (kept_by d side ++ y ∷ []) own
@@ -54,18 +46,11 @@ SamePlaces k l end = (side : Side) (place : ℕ) → place < end → position_of
 copies_more : (k l : Crossing) (place : ℕ) (xs : List Packet) (a : Packet) (end : ℕ) → SamePlaces k l end → place + length xs ≡ end
     → first_copies_from l place (xs ++ a ∷ []) ≡ first_copies_from k place xs ++ first_part l a end
 unfolding first_copies_from
-copies_more k l place [] a end h e = append-nil (first_part l a place) ∙ ap (first_part l a) (omega arith)
-copies_more k l place (x ∷ xs) a end h e =
-    (λ i. (if is_some (h x.side place (omega arith) i) then x.payload else []) ++ copies_more k l (suc place) xs a end h (omega arith) i)
-    ∙ sym (append_assoc (first_part k x place) (first_copies_from k (suc place) xs) (first_part l a end))
-
-sent_same : (k : Crossing) (a : Packet) (side s : Side) → sent_by (crossing_with k a side (sent_by k side)) s ≡ sent_by k s
-sent_same k a side s = grind arith
+copies_more k l place [] a end h e = grind (arith, append-nil)
+copies_more k l place (x ∷ xs) a end h e = (let more = copies_more k l (suc place) xs a end h (omega arith) in grind (arith, append_assoc))
 
 no_place : (k : Crossing) → IsCrossing k → (side : Side) → position_of_place (sent_by k side) (length k.packets) ≡ None
-no_place k h side =
-    place_missing (sent_by k side) (length k.packets) (λ i c g e.
-    (let w = (list_of k h side).firsts i c g in let l = slice_get_within k.packets c.place w.0 w.1 in omega arith))
+no_place k h side = (let own = list_of k h side in grind (arith, place_missing, slice_get_within))
 
 -- ---- a store with one packet more
 
@@ -77,10 +62,7 @@ module _ (p : Parameters) (d : KeptDatagrams) (packets : List StoredPacket) (st 
   module _ (e : KeptDatagrams) (x : StoredPacket) (own : List FirstCopy) (after : sent_after k a ≡ own) (among : Among d e) (here : packet_by e x ≡ a)
       (lists : (s : Side) → map (copy_in p s) (kept_by e s) ≡ sent_by (crossing_with k a a.side own) s) where
     grown_view : crossing_by p e (packets ++ x ∷ []) ≡ crossing_with k a a.side own
-    grown_view =
-        let all = map-append (packet_by e) packets (x ∷ []) ∙ (λ i. same_packets d e among packets st.positions i ++ here i ∷ []) in
-        (λ i. record { params = p; packets = all i; client = lists Client i; server = lists Server i })
-        ∙ sym (grown_same k a a.side own)
+    grown_view = (let all = same_packets d e among packets st.positions in let client = lists Client in let server = lists Server in grind (arith, map-append))
 
     grown : ((s : Side) → Decode p s (kept_by e s)) → x.position < length (kept_by e x.side) → SamePlaces k (crossing_with k a a.side own) (length k.packets)
         → e.bytes ≡ d.bytes ++ first_part (crossing_with k a a.side own) a (length k.packets)
@@ -102,50 +84,35 @@ module _ (p : Parameters) (d : KeptDatagrams) (packets : List StoredPacket) (st 
   abbrev stored : ℕ → StoredPacket
   stored position = record { position = position; channel = a.channel; side = a.side }
 
-  abbrev packet_with : List ℕ → Packet
-  packet_with payload = record { channel = a.channel; side = a.side; payload = payload }
-
   -- a packet that repeats a first copy adds no bytes
   pub grown_copy : (position : ℕ) (all : List StoredPacket) → IsJudged k a (Some position) → all ≡ packets ++ stored position ∷ []
       → IsStore p d all × (crossing_by p d all ≡ with_packet k a)
   grown_copy position all j e =
       let size = ap length (sent_is p d packets a.side) ∙ length-map (kept_by d a.side) (copy_in p a.side) in
-      let within : position < length (kept_by d a.side) = (let l = slice_get_within (sent_by k a.side) position j.0 j.1 in omega arith) in
+      let within : position < length (kept_by d a.side) = grind (arith, slice_get_within) in
       let w = slice_get_some (kept_by d a.side) position within in
       let f = kept_at p d packets st a.side position w.0 w.1 in
-      let there = f.there in
-      let one : record { place = w.0.place; pdu = f.pdu } ≡ j.0 = (let g = j.1 in cc) in
-      let here : packet_by d (stored position) ≡ a =
-      ap (λ (o : Option Kept). packet_with (bytes_of o)) w.1 ∙ ap packet_with (f.spelled.same ∙ ap (λ (z : FirstCopy). redundancy_bytes p a.side z.pdu) one ∙ sym j.2) in
-      let none = ap (λ (o : Option ℕ). if is_some o then a.payload else [])
-      (ap (λ (own : List FirstCopy). position_of_place own (length k.packets)) (sent_with k a a.side (sent_by k a.side)) ∙ no_place k st.crossing a.side) in
-      rw e (grown d (stored position) (sent_by k a.side) j.3 (λ side i x g. g) here (λ s. sym (sent_same k a a.side s ∙ sent_is p d packets s)) st.decode within
-      (λ s q l. ap (λ (own : List FirstCopy). position_of_place own q) (sent_same k a a.side s))
-      (sym (ap (λ (bs : List ℕ). d.bytes ++ bs) none ∙ append-nil d.bytes)))
+      let here : packet_by d (stored position) ≡ a = grind arith in
+      let none = no_place k st.crossing a.side in
+      rw e (grown d (stored position) (sent_by k a.side) j.3 (λ side i x g. g) here (λ s. grind (arith, sent_is)) st.decode within (λ s q l. grind arith) (grind (arith, append-nil)))
 
   -- the bytes of one whose number is new come last
   pub grown_new : (position place : ℕ) (more : KeptDatagrams) (all : List StoredPacket) → place ≡ length packets → position ≡ length (kept_by d a.side) → IsJudged k a None
       → more ≡ keeping d a.side (record { place = place; bytes = a.payload }) → all ≡ packets ++ stored position ∷ []
       → IsStore p more all × (crossing_by p more all ≡ with_packet k a)
   grown_new position place more all at last j m e =
-      let n : place ≡ length k.packets = at ∙ sym (length-map packets (packet_by d)) in
       let y : Kept = record { place = place; bytes = a.payload } in
       let c : FirstCopy = record { place = length k.packets; pdu = j.0 } in
       let own = sent_by k a.side ++ c ∷ [] in
-      let kept = kept_with d a.side y in
-      let here : packet_by (keeping d a.side y) (stored position) ≡ a =
-      ap (λ (o : Option Kept). packet_with (bytes_of o)) ((λ i. slice_get (kept.0 i) (last i)) ∙ get_push (kept_by d a.side) y) in
-      let goes = subst IsOrdered (sent_with k a a.side own) (ordered (list_of (crossing_with k a a.side own) (subst IsCrossing (ap (crossing_with k a a.side) j.3) h) a.side)) in
-      let some = ap (λ (o : Option ℕ). if is_some o then a.payload else [])
-      (ap (λ (xs : List FirstCopy). position_of_place xs (length k.packets)) (sent_with k a a.side own) ∙ place_named own goes (length (sent_by k a.side)) c (get_push (sent_by k a.side) c)) in
-      let size = length_push (kept_by d a.side) y in
-      let lists = with_more (λ s kept sent. map (copy_in p s) kept ≡ sent) d y k a a.side own
-      (map-append (copy_in p a.side) (kept_by d a.side) (y ∷ []) ∙ (λ i. sym (sent_is p d packets a.side) i ++ record { place = n i; pdu = ap pdu_in j.1 i } ∷ [])) (λ s. sym (sent_is p d packets s)) in
+      let n : place ≡ length k.packets = at ∙ sym (length-map packets (packet_by d)) in
+      let here : packet_by (keeping d a.side y) (stored position) ≡ a = grind (arith, get_push) in
+      let goes : IsOrdered own = (let more = list_of (with_packet k a) h a.side in grind (arith, ordered)) in
+      let named = place_named own goes (length (sent_by k a.side)) c (get_push (sent_by k a.side) c) in
+      let lists : (s : Side) → map (copy_in p s) (kept_by (keeping d a.side y) s) ≡ sent_by (crossing_with k a a.side own) s = λ s. grind (arith, map-append, sent_is) in
       let decode = with_more (λ s kept sent. Decode p s kept) d y k a a.side own (all_push (kept_by d a.side) y (st.decode a.side) (j.0, j.1, j.2)) st.decode in
-      let places = with_more (λ s kept sent. (q : ℕ) → q < length k.packets → position_of_place sent q ≡ position_of_place (sent_by k s) q) d y k a a.side own
-      (λ q l. (let t : nat_eq q (length k.packets) ≡ false = grind (arith, nat_tests) in rw t at (place_pushed (sent_by k a.side) c goes q))) (λ s q l. refl) in
-      rw (e, m) (grown (keeping d a.side y) (stored position) own j.3 (among_keeping d a.side y) here lists decode
-      (subst (λ (xs : List Kept). position < length xs) (sym kept.0) (omega arith)) places (kept.1 ∙ ap (λ (bs : List ℕ). d.bytes ++ bs) (sym some)))
+      let places : SamePlaces k (crossing_with k a a.side own) (length k.packets) = λ s q l. grind (arith, nat_tests, place_pushed) in
+      let size = length_push (kept_by d a.side) y in
+      rw (e, m) (grown (keeping d a.side y) (stored position) own j.3 (among_keeping d a.side y) here lists decode (grind arith) places (grind arith))
 
 -- ---- as the code adds it
 
@@ -159,9 +126,6 @@ judged_length k a known is_new j e = grind (arith, length_push)
 
 -- ---- at the start
 
-no_datagram : (p : Parameters) (side : Side) → Decode p side (kept_by nothing_kept side)
-no_datagram p side i x g = absurd (grind arith)
-
 pub empty_store : (p : Parameters) → OfConnection p → IsStore p nothing_kept []
 unfolding first_copies_from
-empty_store p h = record { crossing = nothing_is p h; decode = no_datagram p; positions = λ i x g. absurd (cc); bytes = refl }
+empty_store p h = record { crossing = nothing_is p h; decode = λ side i x g. absurd (grind arith); positions = λ i x g. absurd (cc); bytes = refl }

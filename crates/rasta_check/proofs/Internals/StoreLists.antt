@@ -1,16 +1,17 @@
 -- What a store keeps at its positions and places.
-use Rattle.std.proofs.Common.{◌≡◌, ℕ, ◌≤◌, List, [], ◌∷◌, length, map, Bool, true, false, nat_eq, Option, Some, None, slice_get, refl, ap, sym, ◌∙◌, subst, arith, IfSome, if◌then◌else◌}
-use Rattle.rasta_check.proofs.Prelude.{option_map, bytes_eq, nat_tests, bytes_eq-Decides, length-map, slice_get_past, Fault, Side, number_gap, Packet, Parameters, RedundancyPdu}
+use Rattle.std.proofs.Common.{◌≡◌, ℕ, List, [], ◌∷◌, map, Bool, true, false, nat_eq, Option, Some, None, slice_get, refl, ap, sym, ◌∙◌, subst, arith, IfSome, if◌then◌else◌}
+use Rattle.rasta_check.proofs.Prelude.{option_map, bytes_eq, nat_tests, bytes_eq-Decides, length-map, slice_get_past, Side, number_gap, Packet, Parameters, RedundancyPdu}
 use Rattle.rasta_check.proofs.Prelude.{redundancy_bytes, decode_of, StoredPacket, FirstCopy, Spells, copy_with, is_next_number, packet_fault, Kept, KeptDatagrams, kept_by}
 use Rattle.rasta_check.proofs.Prelude.{position_of_number, position_of_place, Crossing, sent_by, sent_after, IsStore, crossing_by, get_mapped, slice_get_some, map_at}
-use Rattle.std.specs.Prelude.{Ok, Result}
+use Rattle.std.specs.Prelude.{Ok}
 use Rattle.std.specs.List.{position_or_len}
 use Rattle.std.proofs.lemmas.Option.{cond_some}
 use Rattle.rasta_pcap.specs.Fault.{copy_differs}
 use Rattle.rasta_check.specs.Capture.Lists.{numbers_of}
-use Rattle.rasta_check.specs.Internals.Stored.{bytes_of, copy_in, pdu_in, packet_by}
+use Rattle.rasta_check.specs.Internals.Stored.{bytes_of, copy_in, packet_by}
 use Rattle.rasta_check.proofs.Capture.Crossings.{few_of, known_by, list_of}
-use Rattle.rasta_check.proofs.Capture.Positions.{number_found, number_once, place_missing, place_named}
+use Rattle.rasta_check.proofs.Sides.{same_side, sides_differ}
+use Rattle.rasta_check.proofs.Capture.Positions.{far, near, number_found, number_once, place_missing, place_named}
 use Rattle.rasta_check.proofs.Capture.FaultlessLists.{ordered, read_once}
 
 -- ---- a datagram and the first copy that it spells
@@ -30,21 +31,12 @@ module _ (p : Parameters) (d : KeptDatagrams) (packets : List StoredPacket) wher
 
   pub kept_at : IsStore p d packets → (side : Side) (position : ℕ) (x : Kept) → slice_get (kept_by d side) position ≡ Some x
       → IsFirst p side x (sent_by whole side) position
-  kept_at st side position x g =
-      let w = st.decode side position x g in
-      record {
-        pdu = w.0;
-        reads = w.1;
-        spelled = w.2;
-        there = ap (λ (own : List FirstCopy). slice_get own position) (sent_is side) ∙ map_at (copy_in p side) (kept_by d side) position x g
-            ∙ ap (λ (r : Result RedundancyPdu Fault). Some (record { place = x.place; pdu = pdu_in r })) w.1;
-      }
+  kept_at st side position x g = grind (arith, sent_is, map_at)
 
   -- a packet's payload is that of its first copy
   pub payload_at : (place : ℕ) (x : StoredPacket) (y : Kept) → slice_get packets place ≡ Some x → slice_get (kept_by d x.side) x.position ≡ Some y
       → slice_get whole.packets place ≡ Some (record { channel = x.channel; side = x.side; payload = y.bytes })
-  payload_at place x y g h =
-      map_at (packet_by d) packets place x g ∙ ap (λ (o : Option Kept). Some (record { channel = x.channel; side = x.side; payload = bytes_of o })) h
+  payload_at place x y g h = grind (arith, map_at)
 
 -- a packet as the code reads it
 pub packet_read : (packets xs : List StoredPacket) (place : ℕ) (o q : Option StoredPacket) → xs ≡ packets → o ≡ slice_get xs place → o ≡ q → slice_get packets place ≡ q
@@ -66,21 +58,19 @@ module _ (p : Parameters) (d : KeptDatagrams) (packets : List StoredPacket) (st 
   copy_held : (side : Side) (i : ℕ) (c : FirstCopy) → slice_get (sent_by all side) i ≡ Some c
       → (x : StoredPacket) × (y : Kept) × IsHeld side c.place x y × (i ≡ x.position) × (y.place ≡ c.place)
   copy_held side i c f =
-      let w = (list_of all st.crossing side).firsts i c f in
+      let own = list_of all st.crossing side in
+      let w = own.firsts i c f in
       let q = get_mapped (packet_by d) packets c.place w.0 w.1 in
       let x = q.0 in
       let at : x.side ≡ side = ap (λ (a : Packet). a.side) q.2 ∙ w.2 in
       let r = datagram_of c.place x q.1 in
-      let there : slice_get (kept_by d side) x.position ≡ Some r.0 = subst (λ (t : Side). slice_get (kept_by d t) x.position ≡ Some r.0) at r.1 in
+      let there : slice_get (kept_by d side) x.position ≡ Some r.0 = rw at at r.1 in
       let mine = kept_at p d packets st side x.position r.0 there in
       let bytes : r.0.bytes ≡ w.0.payload = ap (λ (o : Option Kept). bytes_of o) (sym r.1) ∙ ap (λ (a : Packet). a.payload) q.2 in
-      let one : mine.pdu ≡ c.pdu = read_once p st.crossing.valid.valid side mine.pdu c.pdu r.0.bytes mine.spelled
-      (subst (λ (bs : List ℕ). Spells p side c.pdu bs) (sym bytes) w.3) in
-      let few = few_of all st.crossing side in
-      let same : i ≡ x.position = number_once (sent_by all side) (ordered (list_of all st.crossing side)) (omega arith) i x.position c _ f mine.there (ap (λ (z : RedundancyPdu). z.number) (sym one)) in
+      let one : mine.pdu ≡ c.pdu = read_once p st.crossing.valid.valid side mine.pdu c.pdu r.0.bytes mine.spelled (rw bytes w.3) in
       let here = mine.there in
-      let copy : record { place = r.0.place; pdu = mine.pdu } ≡ c = cc in
-      (x, r.0, (q.1, at, there), same, ap (λ (z : FirstCopy). z.place) copy)
+      let same : i ≡ x.position = grind (arith, number_once, ordered, few_of) in
+      grind arith
 
   -- no packet, no copy
   pub not_placed : (side : Side) (place : ℕ) → slice_get packets place ≡ None → position_of_place (sent_by all side) place ≡ None
@@ -88,8 +78,7 @@ module _ (p : Parameters) (d : KeptDatagrams) (packets : List StoredPacket) (st 
 
   -- a packet of the other side is no copy of this
   pub other_side : (side : Side) (place : ℕ) (x : StoredPacket) → slice_get packets place ≡ Some x → (x.side ≡ side → ⊥) → position_of_place (sent_by all side) place ≡ None
-  other_side side place x g differ =
-      place_missing (sent_by all side) place (λ i c f e. (let w = copy_held side i c f in let h = w.2.0 in let same : w.0 ≡ x = cc in differ (sym (ap (λ (z : StoredPacket). z.side) same) ∙ w.2.1)))
+  other_side side place x g differ = grind (arith, place_missing, copy_held)
 
   pub first_there : (side : Side) (place : ℕ) (x : StoredPacket) (y : Kept) → IsHeld side place x y → y.place ≡ place → position_of_place (sent_by all side) place ≡ Some x.position
   first_there side place x y h e =
@@ -97,12 +86,7 @@ module _ (p : Parameters) (d : KeptDatagrams) (packets : List StoredPacket) (st 
       (place_named (sent_by all side) (ordered (list_of all st.crossing side)) x.position _ (kept_at p d packets st side x.position y h.2).there)
 
   pub copy_there : (side : Side) (place : ℕ) (x : StoredPacket) (y : Kept) → IsHeld side place x y → (y.place ≡ place → ⊥) → position_of_place (sent_by all side) place ≡ None
-  copy_there side place x y h differ =
-      place_missing (sent_by all side) place (λ i c f e. (let w = copy_held side i c f in
-      let g = w.2 in
-      let one : w.0 ≡ x = cc in
-      let same : w.1 ≡ y = cc in
-      differ (sym (ap (λ (z : Kept). z.place) same) ∙ w.4 ∙ e)))
+  copy_there side place x y h differ = grind (arith, place_missing, copy_held)
 
   -- the packet that a place holds, and its number
   pub stored_packet : (place : ℕ) (x : StoredPacket) → slice_get packets place ≡ Some x → (number : ℕ)
@@ -122,14 +106,10 @@ or_len [] n = refl
 or_len (c ∷ own) n = (let more = or_len own n in grind (arith, nat_tests))
 
 pub copy_of_position : (own : List FirstCopy) (n position : ℕ) → position_of_number own n ≡ Some position → copy_with own n ≡ slice_get own position
-copy_of_position own n position e =
-    or_len own n ∙ ap (slice_get own) (cond_some _ (position_or_len (nat_eq n) (numbers_of own)) position e).1
+copy_of_position own n position e = grind (arith, or_len, cond_some)
 
 pub no_copy : (own : List FirstCopy) (n : ℕ) → position_of_number own n ≡ None → copy_with own n ≡ None
-no_copy own n e =
-    let l : length (numbers_of own) ≤ position_or_len (nat_eq n) (numbers_of own) = grind (arith, nat_tests) in
-    let size = length-map own (λ (c : FirstCopy). c.pdu.number) in
-    or_len own n ∙ slice_get_past own (position_or_len (nat_eq n) (numbers_of own)) (omega arith)
+no_copy own n e = grind (arith, nat_tests, length-map, or_len, slice_get_past)
 
 -- what is known of a packet whose number is that of a first copy
 module _ (k : Crossing) (a : Packet) (pdu : RedundancyPdu) (reads : decode_of k.params a.side a.payload ≡ Ok pdu) where
@@ -141,12 +121,16 @@ module _ (k : Crossing) (a : Packet) (pdu : RedundancyPdu) (reads : decode_of k.
       → IfSome (slice_get sent position) (λ (c : FirstCopy). r ≡ bytes_eq (redundancy_bytes k.params a.side c.pdu) a.payload)
       → (c : FirstCopy) × (slice_get sent position ≡ Some c) × (packet_fault k.params sent a ≡ (if r then None else Some copy_differs)) × (sent_after k a ≡ sent)
       × (r ≡ true → a.payload ≡ redundancy_bytes k.params a.side c.pdu)
-  repeats_at position r e h =
-      let f = number_found sent pdu.number position e in
-      let same = subst (λ (o : Option FirstCopy). IfSome o (λ (c : FirstCopy). r ≡ bytes_eq (redundancy_bytes k.params a.side c.pdu) a.payload)) f.1 h in
-      let w = known_by k a pdu (Some f.0) reads (copy_of_position sent pdu.number position e ∙ f.1) in
-      (f.0, f.1, rw same w.0, w.1, λ is. sym ((bytes_eq-Decides (redundancy_bytes k.params a.side f.0.pdu) a.payload).0 (sym same ∙ is)))
+  repeats_at position r e h = grind (arith, number_found, known_by, copy_of_position, bytes_eq-Decides)
 
   -- no first copy has its number, which isn't the next
   pub skips : position_of_number sent pdu.number ≡ None → is_next_number sent pdu.number ≡ false → packet_fault k.params sent a ≡ Some number_gap
   skips e f = (known_by k a pdu None reads (no_copy sent pdu.number e)).0 ∙ ap (λ (b : Bool). if b then None else Some number_gap) f
+
+-- ---- what the code looks up
+
+-- the position of a number of a side
+pub ruleset distances = (near, far, few_of, list_of, ordered)
+
+-- the position of a place of a side
+pub ruleset places = (packet_read, not_placed, other_side, first_there, copy_there, datagram_of, same_side, sides_differ)

@@ -1,13 +1,12 @@
 -- The verdict on a file, by what crossed.
-use Rattle.std.proofs.Common.{◌≡◌, ℕ, ◌≤◌, List, length, Result, Ok, ap, sym, ◌∙◌, arith, subst}
-use Rattle.rasta_check.proofs.Prelude.{Fault, Side, IsCapture, reading_of-IsCapture, Packet, Parameters, AreParameters, Scripts, FirstCopy, Sent, crossing_list}
+use Rattle.std.proofs.Common.{◌≡◌, ℕ, List, length, Result, Ok, ap, sym, ◌∙◌, arith, subst}
+use Rattle.rasta_check.proofs.Prelude.{Fault, Client, Server, IsCapture, reading_of-IsCapture, Packet, Parameters, AreParameters, Scripts, crossing_list}
 use Rattle.rasta_check.proofs.Prelude.{Crossing, IsCrossing, crossing_of, Explained, BothFit, report_of}
 use Rattle.rasta_check.specs.Capture.Faults.{CrossedIn}
 use Rattle.rasta_check.specs.Verdict.Report.{Explains, IsFileVerdict, IsScriptVerdict, judged}
 use Rattle.rasta_check.specs.Verdict.Headline.{Headline}
-use Rattle.rasta_check.proofs.Capture.ListForms.{to_record}
+use Rattle.rasta_check.proofs.Capture.FaultlessCaptures.{same_list}
 use Rattle.rasta_check.proofs.Capture.Readings.{file_by}
-use Rattle.rasta_check.proofs.Capture.FirstCopies.{sent_once}
 
 -- what is read has the parameters by which it is read
 pub same_params : (p : Parameters) (file : List ℕ) (k : Crossing) → crossing_of p file ≡ Ok k → k.params ≡ p
@@ -22,11 +21,11 @@ module _ (p : Parameters) (file : List ℕ) (k : Crossing) (x : CrossedIn p file
   valid : AreParameters p
   valid = subst AreParameters x.params h.valid.valid
 
-  -- the packets are those of whatever records the file has
-  packets_of : (records : List (List ℕ)) → IsCapture p.last_record file records → k.packets ≡ crossing_list p records
-  packets_of records c =
+  -- the records are those of whatever others the file has
+  same_records : (records : List (List ℕ)) → IsCapture p.last_record file records → x.capture.records ≡ records
+  same_records records c =
       let top = valid.window.last_most in
-      x.packets ∙ ap (crossing_list p) (sym (reading_of-IsCapture p.last_record file x.capture.records top x.capture.capture).0 ∙ (reading_of-IsCapture p.last_record file records top c).0)
+      sym (reading_of-IsCapture p.last_record file x.capture.records top x.capture.capture).0 ∙ (reading_of-IsCapture p.last_record file records top c).0
 
   pub explains : (scripts : Scripts) → BothFit p (length k.packets) k.client k.server scripts → Explains p file scripts
   explains scripts fits =
@@ -44,15 +43,11 @@ module _ (p : Parameters) (file : List ℕ) (k : Crossing) (x : CrossedIn p file
   unfolding explains
   exactly scripts report fits says = (explains scripts fits, says ∙ ap (λ (xs : List Packet). report_of p (length xs) k.client k.server) x.packets)
 
-  -- no other lists are sent
-  same_list : (side : Side) (records : List (List ℕ)) (sent own : List FirstCopy) → IsCapture p.last_record file records → Sent p (crossing_list p records) side sent
-      → Sent k.params k.packets side own → length own ≤ 1000000 → own ≡ sent
-  same_list side records sent own c g o few =
-      let theirs : Sent p k.packets side sent = rw (packets_of records c) g in
-      sent_once p k.packets side own sent (to_record p k.packets side own valid (rw x.params at o)) (to_record p k.packets side sent valid theirs) (omega arith)
-
   pub not_explained : (scripts : Scripts) → (BothFit p (length k.packets) k.client k.server scripts → ⊥) → Explains p file scripts → ⊥
-  not_explained scripts h1 h2 = grind (arith, same_list, packets_of)
+  not_explained scripts unfit e =
+      let one = same_records e.capture.records e.capture.capture in
+      let same = same_list p e.capture.records k.client k.server e.client e.server valid (rw one at x.capture.faultless) e.capture.faultless in
+      unfit (rw (sym (ap length (x.packets ∙ ap (crossing_list p) one)), sym (same Client), sym (same Server)) at e.fits)
 
   pub headline_is : (report : Explained) (records : List (List ℕ)) → IsCapture p.last_record file records → Headline p k.packets report → Headline p (crossing_list p records) report
-  headline_is report records c g = rw (packets_of records c) at g
+  headline_is report records c g = rw (x.packets ∙ ap (crossing_list p) (same_records records c)) at g

@@ -14,36 +14,19 @@ pub returns-in_err-sent-clause-verdict : goal.returns-in_err-sent-clause-verdict
 returns-in_err-sent-clause-verdict c =
     err_match c.from_residual.result _ _ _ c.from_residual.ensures (⊎_elim (λ e. inr e) (λ is. inl (refused _ is)) c.in_err-sent.ensures.value)
 
-pub check_sent-requires : goal.check_sent-requires
-check_sent-requires c = record { same = c.in_ok-sent.ensures.value.params }
-
-pub returns-clause-verdict : goal.returns-clause-verdict
-returns-clause-verdict c =
+pub returns : goal.returns
+returns c =
+    let p = c.args.p.now in
+    let file = c.args.file.now in
+    let certificate = c.args.certificate.now in
     let k = c.in_ok-sent.sent in
-    MatchResult-weaker c.check_sent.result c.check_sent.ensures.verdict
-    (λ r e. verdict_is c.args.p.now c.args.file.now k c.in_ok-sent.ensures.value c.args.certificate.now _ e)
-    (λ f why. ⊎_elim (λ e. inl (verdict_is c.args.p.now c.args.file.now k c.in_ok-sent.ensures.value c.args.certificate.now _ e)) (λ e. inr e) why)
-
-pub returns-clause-explains : goal.returns-clause-explains
-returns-clause-explains c =
+    let x = c.in_ok-sent.ensures.value in
     let h = subst IsCrossing c.sent-2.view_is c.sent-2.invariant in
-    on_ok_weaker c.check_sent.result (explains c.args.p.now c.args.file.now c.in_ok-sent.sent c.in_ok-sent.ensures.value h c.args.certificate.now) c.check_sent.ensures.fits
-
-pub returns-clause-exact : goal.returns-clause-exact
-returns-clause-exact c =
-    let h = subst IsCrossing c.sent-2.view_is c.sent-2.invariant in
-    if_ok c.check_sent.result _ _ c.check_sent.ensures.exact
-    (λ r x. exactly c.args.p.now c.args.file.now c.in_ok-sent.sent c.in_ok-sent.ensures.value h c.args.certificate.now (explained r) x.0 x.1)
-
-pub returns-clause-refused : goal.returns-clause-refused
-returns-clause-refused c =
-    let h = subst IsCrossing c.sent-2.view_is c.sent-2.invariant in
-    IfErr-weaker c.check_sent.result _ _
-    (λ f why. ⊎_elim (λ none. inl (not_explained c.args.p.now c.args.file.now c.in_ok-sent.sent c.in_ok-sent.ensures.value h c.args.certificate.now none)) (λ e. inr e) why)
-    c.check_sent.ensures.refused
-
-pub returns-clause-headline : goal.returns-clause-headline
-returns-clause-headline c =
-    let h = subst IsCrossing c.sent-2.view_is c.sent-2.invariant in
-    if_ok c.check_sent.result _ _ c.check_sent.ensures.headline
-    (λ r g records is. headline_is c.args.p.now c.args.file.now c.in_ok-sent.sent c.in_ok-sent.ensures.value h (explained r) records is g)
+    record {
+      verdict = MatchResult-weaker c.check_sent.result c.check_sent.ensures.verdict (λ r e. verdict_is p file k x certificate _ e)
+          (λ f why. ⊎_elim (λ e. inl (verdict_is p file k x certificate _ e)) (λ e. inr e) why);
+      explains = on_ok_weaker c.check_sent.result (explains p file k x h certificate) c.check_sent.ensures.fits;
+      refused = IfErr-weaker c.check_sent.result _ _ (λ f why. ⊎_elim (λ none. inl (not_explained p file k x h certificate none)) (λ e. inr e) why) c.check_sent.ensures.refused;
+      exact = if_ok c.check_sent.result _ _ c.check_sent.ensures.exact (λ r e. exactly p file k x h certificate (explained r) e.0 e.1);
+      headline = if_ok c.check_sent.result _ _ c.check_sent.ensures.headline (λ r g records is. headline_is p file k x h (explained r) records is g);
+    }

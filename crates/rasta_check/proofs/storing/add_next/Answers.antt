@@ -1,4 +1,4 @@
-use Rattle.std.proofs.Common.{◌∙◌, ap, inl, inr, sym, ⊎_elim}
+use Rattle.std.proofs.Common.{◌∙◌, ap, inl, inr, sym, ⊎_elim, rules}
 use Rattle.rasta_check.proofs.Prelude.{after_record}
 use Rattle.rasta_check.proofs.Internals.PartialReading.{next_faulty, why}
 use Rattle.rasta_check.proofs.storing.add_next.Goals as goal
@@ -12,8 +12,7 @@ returns-in-Err-add_record-clause-err g c =
     (λ e. inr (next_faulty k c.args.records.now c.in-Ok-Some.number _ c.in-Err-add_record.fault _ _ found (ap (λ b. after_record k (c.in-Ok-Some.number, b)) (sym c.buffer-bytes.ensures.bytes) ∙ e)))
     c.in-Err-add_record.ensures
 
-pub returns-in-Err-clause-err : goal.returns-in-Err-clause-err
-returns-in-Err-clause-err g c = (why c.args.store.now _ c.args.records.now _ c.in-Err.fault _ _ _ _ (c.in-Err.ensures.step.err c.requires)).1
-
-pub returns-in-Err-clause-begun : goal.returns-in-Err-clause-begun
-returns-in-Err-clause-begun g c = (why c.args.store.now _ c.args.records.now _ c.in-Err.fault _ _ _ _ (c.in-Err.ensures.step.err c.requires)).0
+pub returns-in-Err : goal.returns-in-Err
+returns-in-Err g c =
+    let w = why c.args.store.now _ c.args.records.now _ c.in-Err.fault _ _ _ _ (c.in-Err.ensures.step.err c.requires) in
+    record { next = search rules; err = w.1; begun = w.0; within = search rules; steady = search rules }

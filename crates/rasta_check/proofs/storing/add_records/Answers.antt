@@ -1,24 +1,23 @@
-use Rattle.std.proofs.Common.{◌∙◌, ◌+◌, ◌-◌, ℕ, suc, refl, subst, inl, inr, ⊎_elim, arith}
+use Rattle.std.proofs.Common.{◌∙◌, ◌+◌, ◌-◌, ℕ, suc, refl, subst, inl, inr, ⊎_elim, arith, rules}
 use Rattle.rasta_pcap.proofs.Extents.{HasRead-more, ReadsUpToRecord-part, ReadsUpToRecord-whole}
 use Rattle.rasta_check.specs.Internals.Storing.{IsFailure}
 use Rattle.rasta_check.proofs.Internals.PartialReading.{Underway-begun, Underway-ends, Underway-record, all_at_end, all_with_window, ReadsSo-then}
 use Rattle.rasta_check.proofs.storing.add_records.Goals as goal
 use Rattle.rasta_check.proofs.storing.add_records.Goals.{else-loop-test, then-loop-test+in-Ok-false}
 
-pub returns-in-Err-clause-err : goal.returns-in-Err-clause-err
-returns-in-Err-clause-err g c =
+pub returns-in-Err : goal.returns-in-Err
+returns-in-Err g c =
     let more : ℕ = c.args.last - (c.loop.counter + 1) in
-    ⊎_elim
-    (λ e. inl (subst (λ n. IsFailure c.in-Err.fault n (g.R.Source.failure_count c.add_next.new.reader)) c.loop.invariant.1 e))
-    (λ e. inr (Underway-ends _ _ _ _ _ _ (c.loop.invariant.0 (suc more) (omega (arith, c.loop-test.true))) (ReadsSo-then _ _ (λ bytes faults. faults more) e)))
-    c.in-Err.ensures.err
-
-pub returns-in-Err-clause-begun : goal.returns-in-Err-clause-begun
-returns-in-Err-clause-begun g c = Underway-begun _ _ _ _ _ (c.loop.invariant.0 _ refl) c.in-Err.ensures.begun
-
-pub returns-in-Err-clause-bounded : goal.returns-in-Err-clause-bounded
-returns-in-Err-clause-bounded g c first start =
-    ReadsUpToRecord-part c.args.last _ c.loop.counter first _ _ (c.loop.invariant.4 first start) c.loop-test.true c.in-Err.ensures.within
+    record {
+      value = search rules;
+      err = ⊎_elim
+          (λ e. inl (subst (λ n. IsFailure c.in-Err.fault n (g.R.Source.failure_count c.add_next.new.reader)) c.loop.invariant.1 e))
+          (λ e. inr (Underway-ends _ _ _ _ _ _ (c.loop.invariant.0 (suc more) (omega (arith, c.loop-test.true))) (ReadsSo-then _ _ (λ bytes faults. faults more) e)))
+          c.in-Err.ensures.err;
+      begun = Underway-begun _ _ _ _ _ (c.loop.invariant.0 _ refl) c.in-Err.ensures.begun;
+      bounded = λ first start. ReadsUpToRecord-part c.args.last _ c.loop.counter first _ _ (c.loop.invariant.4 first start) c.loop-test.true c.in-Err.ensures.within;
+      steady = search rules;
+    }
 
 pub loop-preserved : goal.loop-preserved
 loop-preserved g c =

@@ -1,4 +1,4 @@
-use Rattle.std.proofs.Common.{List, ℕ, Option, ◌≡◌, Some, sym, ◌∙◌}
+use Rattle.std.proofs.Common.{arith, List, ℕ, Option, ◌≡◌, Some, sym, ◌∙◌}
 use Rattle.rasta_check.proofs.Prelude.{Side, option_map, packet_of, value_of, FirstCopy, copy_with, Crossing, sent_by}
 use Rattle.rasta_check.proofs.Capture.Crossings.{is_next_pdu, place_within, repeated}
 use Rattle.rasta_check.proofs.crossing.Sent.judge.Goals as goal
@@ -8,9 +8,7 @@ known_at : (k : Crossing) (list : List FirstCopy) (side : Side) (number given pl
 known_at k list side number given place o l n e f = rw (← l, ← n) (sym e ∙ f)
 
 pub has_bytes-requires : goal.has_bytes-requires
-has_bytes-requires c =
-    place_within c.args.self.now c.args.found.side (value_of c.in-Ok.pdu).number c.in-Some.place c.list.ensures.crossing
-    (known_at c.args.self.now _ c.args.found.side _ _ _ _ c.list.ensures.value c.number-number.ensures c.place_of.ensures c.in-Some.is)
+has_bytes-requires c = grind (arith, place_within, known_at)
 
 pub returns-then-has_bytes-clause-value : goal.returns-then-has_bytes-clause-value
 returns-then-has_bytes-clause-value c =

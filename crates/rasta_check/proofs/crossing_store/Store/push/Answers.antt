@@ -1,16 +1,10 @@
-use Rattle.std.proofs.Common.{◌≡◌, ℕ, [], ◌∷◌, ◌++◌, Option, length, ap, sym, ◌∙◌, subst, arith}
+use Rattle.std.proofs.Common.{◌≡◌, ℕ, [], ◌∷◌, ◌++◌, length, ap, sym, ◌∙◌, subst, arith}
 use Rattle.rasta_check.proofs.Prelude.{packet_of, StoredPacket, Crossing, IsCrossing, with_packet, IsStore, crossing_by}
 use Rattle.rasta_check.specs.declared.crossing_store.Store.TheInside.{Inside}
 use Rattle.rasta_check.specs.Internals.Stored.{IsJudged}
-use Rattle.rasta_check.proofs.Internals.StoreGrowth.{datagram_fits, grown_copy, grown_new}
+use Rattle.rasta_check.proofs.Internals.StoreGrowth.{grown_copy, grown_new}
 use Rattle.rasta_check.proofs.crossing_store.Store.push.Goals as goal
 use Rattle.rasta_check.proofs.crossing_store.Store.push.Goals.{in-Some, in-None+in_ok-push-in-None}
-
-pub push-requires : goal.push-requires
-push-requires c =
-    let k = c.args.self.now in
-    let new = subst (λ (o : Option ℕ). IsJudged k (packet_of c.args.found.now) o) c.in-None.is c.requires.judged in
-    datagram_fits k.params c.args.found.now.side new.0 c.args.found.now.payload.now (subst IsCrossing c.self.view_is c.self.invariant.crossing).valid.valid new.2
 
 both : (c : goal.After-push_reserved) → (y : Inside) × (c.match-known.self-inside ≡ y)
     × IsStore y.params y.datagrams c.push_reserved.new.self.items
