@@ -1,14 +1,18 @@
 //! Captures that are refused as files, or for one of their records.
 use crate::cases::{Case, PLAIN, refused};
 
-// The text on a file that isn't of the format.
+// A file with a byte changed (where, and to what), which is then of another format.
 macro_rules! other_format {
-    ($fault:literal, $meaning:literal) => {
-        refused!(
-            $fault, $meaning;;
-            because "the file has another format, or is compressed";
-            see "editcap -F pcap IN OUT, which converts a capture (gunzip it first, if it is compressed)"
-        )
+    ($place:literal to $byte:literal; $fault:literal, $meaning:literal) => {
+        Case {
+            changes: &[($place, $byte)],
+            want: refused!(
+                $fault, $meaning;;
+                because "the file has another format, or is compressed";
+                see "editcap -F pcap IN OUT, which converts a capture (gunzip it first, if it is compressed)"
+            ),
+            ..PLAIN
+        }
     };
 }
 
@@ -27,26 +31,13 @@ macro_rules! bad_frame {
     };
 }
 
-const NOT_PCAP: Case = Case {
-    changes: &[(0, 0)],
-    want: other_format!("10 NotPcap", "this is not a classic libpcap file"),
-    ..PLAIN
-};
+const NOT_PCAP: Case = other_format!(0 to 0; "10 NotPcap", "this is not a classic libpcap file");
 
-const VERSION: Case = Case {
-    changes: &[(6, 5)],
-    want: other_format!(
-        "11 Version",
-        "this is not version 2.4 of the libpcap format"
-    ),
-    ..PLAIN
-};
+const VERSION: Case =
+    other_format!(6 to 5; "11 Version", "this is not version 2.4 of the libpcap format");
 
-const LINK_TYPE: Case = Case {
-    changes: &[(20, 113)],
-    want: other_format!("12 LinkType", "the frames are not Ethernet frames"),
-    ..PLAIN
-};
+const LINK_TYPE: Case =
+    other_format!(20 to 113; "12 LinkType", "the frames are not Ethernet frames");
 
 const CUT_HEADER: Case = Case {
     packets: "- cut",
