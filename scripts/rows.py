@@ -33,6 +33,11 @@ ROUTES = {
     "client@2": "0a0001010a00010213891389",
     "server@2": "0a0001020a00010113891389",
 }
+# The packets of a handshake.
+OPENED = (
+    "client 7 6200 100 0 1000 0 3033303314000000000000000000/"
+    "server 40 6201 500 100 9000 1000 3033303314000000000000000000/client 8 6220 101 500 1010 9000"
+)
 NO_CODES = "code_length = 0/check_length = 0"
 TWO_CHANNELS = """client_id = 96
 server_id = 97
@@ -115,7 +120,7 @@ def packet_in(text):
 
 def file_in(text):
     """The file that the packets of a row spell."""
-    packets, magic = text.split("/"), "d4c3b2a1"
+    packets, magic = text.replace("opened", OPENED).split("/"), "d4c3b2a1"
     if packets[0].startswith("magic:"):
         magic = packets.pop(0).removeprefix("magic:")
     order = ">" if magic.startswith("a1") else "<"

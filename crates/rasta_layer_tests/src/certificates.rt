@@ -6,13 +6,18 @@ use rasta_pcap::{Counted, Fault, Sink};
 use std::alloc::Global;
 use std::process::Abort;
 
-const TEXT: &str = "\
-rasta-certificate 1
-client
-make 0 1000 open
-take 2 40
-make 2 1010 reply
-make 3 1020 fresh
+// A certificate whose client opens, takes the response, replies and sends data first.
+macro_rules! begun {
+    ($rest:literal) => {
+        concat!(
+            "rasta-certificate 1\nclient\nmake 0 1000 open\ntake 2 40\nmake 2 1010 reply\nmake 3 1020 fresh\n",
+            $rest
+        )
+    };
+}
+
+const TEXT: &str = begun!(
+    "\
 make 4 18446744073709551615 again 4294967295
 make 4294967295 0 ask
 make 9 1 bye
@@ -23,7 +28,8 @@ take 4294967295 4294967295
 make 4 9050 beat
 make 5 9051 expired
 end
-";
+"
+);
 
 const CLIENT: &[Entry] = &[
     Entry::Make {
@@ -187,13 +193,8 @@ fn certificate_without_entries_is_read(rt: HostRuntime) {
 }
 
 // An exchange of five packets; its text has thirteen lines.
-const HEARTBEAT: &str = "\
-rasta-certificate 1
-client
-make 0 1000 open
-take 2 40
-make 2 1010 reply
-make 3 1020 fresh
+const HEARTBEAT: &str = begun!(
+    "\
 server
 take 1 7
 make 1 9000 reply
@@ -201,7 +202,8 @@ take 4 8
 take 4 9
 make 4 9050 beat
 end
-";
+"
+);
 
 // The line at fault, and one line that stands in place of that line of the text; `+` puts it after the
 // last line. A backslash is followed by the letter of what no row can hold: `t` a tab, `r` a carriage

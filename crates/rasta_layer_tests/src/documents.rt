@@ -30,82 +30,39 @@ fn three(row: &str) -> Option<(&str, &str, &str)> {
     Some((want, old, new.trim()))
 }
 
-// Verdict, a piece of the worked text, and what stands in its place.
-const NUMBERS: &str = "\
-read | client_id = 96 | client_id = 0
-read | client_id = 96 | client_id = 4294967295
-read | client_id = 96 | client_id = 0x60
-read | client_id = 96 | client_id = 1_000
-51 1 | client_id = 96 |
-52 1 | client_id = 96 | client_id = -1
-52 1 | client_id = 96 | client_id = 4294967296
-52 1 | client_id = 96 | client_id = 9223372036854775807
-52 1 | client_id = 96 | client_id = true
-52 1 | client_id = 96 | client_id = 1.0
-52 1 | client_id = 96 | client_id = '96'
-52 1 | client_id = 96 | client_id = [96]
-52 1 | client_id = 96 | client_id = {}
-read | server_id = 97 | server_id = 0
-read | server_id = 97 | server_id = 4294967295
-51 2 | server_id = 97 |
-52 2 | server_id = 97 | server_id = -1
-52 2 | server_id = 97 | server_id = 4294967296
-52 2 | server_id = 97 | server_id = 96
-52 2 | server_id = 97 | server_id = nan
-read | code_length = 0 | code_length = 8
-read | code_length = 0 | code_length = 16
-51 3 | code_length = 0 |
-52 3 | code_length = 0 | code_length = -8
-52 3 | code_length = 0 | code_length = 4
-52 3 | code_length = 0 | code_length = 7
-52 3 | code_length = 0 | code_length = 9
-52 3 | code_length = 0 | code_length = 17
-52 3 | code_length = 0 | code_length = '8'
-read | check_length = 0 | check_length = 2
-read | check_length = 0 | check_length = 4
-51 5 | check_length = 0 |
-52 5 | check_length = 0 | check_length = -2
-52 5 | check_length = 0 | check_length = 1
-52 5 | check_length = 0 | check_length = 3
-52 5 | check_length = 0 | check_length = 5
-52 5 | check_length = 0 | check_length = 8
-52 5 | check_length = 0 | check_length = false
-read | n_sendmax = 20 | n_sendmax = 1
-read | n_sendmax = 20 | n_sendmax = 65535
-51 6 | n_sendmax = 20 |
-52 6 | n_sendmax = 20 | n_sendmax = 0
-52 6 | n_sendmax = 20 | n_sendmax = 65536
-52 6 | n_sendmax = 20 | n_sendmax = 2.0
-read | t_max = 1800 | t_max = 1
-read | t_max = 1800 | t_max = 60000
-51 7 | t_max = 1800 |
-52 7 | t_max = 1800 | t_max = 0
-52 7 | t_max = 1800 | t_max = 60_001
-52 7 | t_max = 1800 | t_max = 07:32:00
-read | slack = 0 | slack = 1000
-51 8 | slack = 0 |
-52 8 | slack = 0 | slack = -1
-52 8 | slack = 0 | slack = 1001
-52 8 | slack = 0 | slack = []
-read | slack = 0 | slack = 0/first_record = 1
-read | slack = 0 | slack = 0/first_record = 4000000000
-52 9 | slack = 0 | slack = 0/first_record = 0
-52 9 | slack = 0 | slack = 0/first_record = 4000000001
-52 9 | slack = 0 | slack = 0/first_record = ''
-read | slack = 0 | slack = 0/first_record = 3/last_record = 3
-read | slack = 0 | slack = 0/first_record = 3/last_record = 4000000000
-52 10 | slack = 0 | slack = 0/first_record = 3/last_record = 2
-52 10 | slack = 0 | slack = 0/last_record = 0
-52 10 | slack = 0 | slack = 0/last_record = 4000000001
-52 10 | slack = 0 | slack = 0/last_record = inf
-50 0 | slack = 0 | slack = =
-50 0 | slack = 0 | slack = 9223372036854775808
-50 0 | slack = 0 | slack = 0/slack = 0
-52 12 | slack = 0 | slack = 0/extra = 0
-52 12 | slack = 0 | slack = 0/'' = 0
-52 12 | slack = 0 | slack = 0/Slack = 0
-";
+// Rows, each of a verdict, a piece of the worked text, and what stands in its place: under a key and its value, a
+// verdict and the value in the other's place, or none where the piece is left out.
+macro_rules! values {
+    ($($key:literal = $old:literal: $($want:literal $($new:literal)?),+;)+) => {
+        concat!($($($want, " | ", $key, " = ", $old, " |", $(" ", $key, " = ", $new,)? "\n"),+),+)
+    };
+}
 
+const NUMBERS: &str = values!(
+    "client_id" = "96":
+        "read" "0", "read" "4294967295", "read" "0x60", "read" "1_000", "51 1", "52 1" "-1", "52 1" "4294967296",
+        "52 1" "9223372036854775807", "52 1" "true", "52 1" "1.0", "52 1" "'96'", "52 1" "[96]", "52 1" "{}";
+    "server_id" = "97":
+        "read" "0", "read" "4294967295", "51 2", "52 2" "-1", "52 2" "4294967296", "52 2" "96", "52 2" "nan";
+    "code_length" = "0":
+        "read" "8", "read" "16", "51 3", "52 3" "-8", "52 3" "4", "52 3" "7", "52 3" "9", "52 3" "17", "52 3" "'8'";
+    "check_length" = "0":
+        "read" "2", "read" "4", "51 5", "52 5" "-2", "52 5" "1", "52 5" "3", "52 5" "5", "52 5" "8", "52 5" "false";
+    "n_sendmax" = "20":
+        "read" "1", "read" "65535", "51 6", "52 6" "0", "52 6" "65536", "52 6" "2.0";
+    "t_max" = "1800":
+        "read" "1", "read" "60000", "51 7", "52 7" "0", "52 7" "60_001", "52 7" "07:32:00";
+    "slack" = "0":
+        "read" "1000", "51 8", "52 8" "-1", "52 8" "1001", "52 8" "[]", "read" "0/first_record = 1",
+        "read" "0/first_record = 4000000000", "52 9" "0/first_record = 0", "52 9" "0/first_record = 4000000001",
+        "52 9" "0/first_record = ''", "read" "0/first_record = 3/last_record = 3",
+        "read" "0/first_record = 3/last_record = 4000000000", "52 10" "0/first_record = 3/last_record = 2",
+        "52 10" "0/last_record = 0", "52 10" "0/last_record = 4000000001", "52 10" "0/last_record = inf",
+        "50 0" "=", "50 0" "9223372036854775808", "50 0" "0/slack = 0", "52 12" "0/extra = 0", "52 12" "0/'' = 0",
+        "52 12" "0/Slack = 0";
+);
+
+// Such rows.
 const TEXTS: &str = "\
 read | slack = 0 | slack = 0/md4_start = '67452301efcdab8998badcfe10325476'
 read | slack = 0 | slack = 0/md4_start = '67452301EFcdAB8998BADCFE10325476'

@@ -97,19 +97,11 @@ fn call<'a>(end: &mut End<'a>, pdu: &Pdu<'a>, step: &str) -> Option<Result<(), F
     Some(end.make(pdu, clock, why))
 }
 
-// What a step answers: where memory ran out, what a second call does.
-fn answer<'a>(
-    params: &Params,
-    lines: &str,
-    all: &'a [Vec<u8>],
-    end: &mut End<'a>,
-    step: &str,
-) -> Option<u8> {
-    let place = step.split(' ').nth(1)?.parse().ok()?;
-    let pdu = pdu_of(params, lines, all, place)?;
-    let mut answer = call(end, &pdu, step)?;
+// What a step with this PDU answers: where memory ran out, what a second call does.
+fn answer<'a>(end: &mut End<'a>, pdu: &Pdu<'a>, step: &str) -> Option<u8> {
+    let mut answer = call(end, pdu, step)?;
     if answer == Err(Fault::at(Fault::NO_MEMORY, 0)) {
-        answer = call(end, &pdu, step)?;
+        answer = call(end, pdu, step)?;
     }
     Some(answer.err().map_or(0, |fault| fault.number))
 }
@@ -140,7 +132,9 @@ fn run<'a>(
         if fault != 0 {
             return None;
         }
-        fault = answer(params, lines, all, end, step)?;
+        let place = step.split(' ').nth(1)?.parse().ok()?;
+        let pdu = pdu_of(params, lines, all, place)?;
+        fault = answer(end, &pdu, step)?;
     }
     Some(fault)
 }

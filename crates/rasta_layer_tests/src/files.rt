@@ -40,6 +40,22 @@ fn record_text(alloc: Global, record: &Record) -> Option<String> {
     format!(in alloc; "{} {:?}, ", record.number, record.bytes).ok()
 }
 
+// The first nine answers of a call, up to the last record.
+macro_rules! first_nine {
+    ($alloc:ident, $next:ident(&mut $from:ident)) => {{
+        let mut text = String::new($alloc);
+        for _ in 0..9 {
+            let (next, is_last) = $next($alloc, &mut $from)?;
+            text.push_str(next.as_str()).ok()?;
+            if is_last {
+                // Later calls answer the same.
+                return ($next($alloc, &mut $from)?.0 == next).then_some(text);
+            }
+        }
+        None
+    }};
+}
+
 // What the next record is, and whether it is the last.
 fn next_text(alloc: Global, pcap: &mut Pcap) -> Option<(String, bool)> {
     match pcap.next_record() {
@@ -55,16 +71,7 @@ fn file_text(alloc: Global, file: &[u8]) -> Option<String> {
         Ok(pcap) => pcap,
         Err(fault) => return fault_text(alloc, fault),
     };
-    let mut text = String::new(alloc);
-    for _ in 0..9 {
-        let (next, is_last) = next_text(alloc, &mut pcap)?;
-        text.push_str(next.as_str()).ok()?;
-        if is_last {
-            // Later calls answer the same.
-            return (next_text(alloc, &mut pcap)?.0 == next).then_some(text);
-        }
-    }
-    None
+    first_nine!(alloc, next_text(&mut pcap))
 }
 
 // What the next record of a stream is, and whether it is the last.
@@ -85,16 +92,7 @@ fn stream_text<R: Source + Drop>(alloc: Global, reader: R) -> Option<String> {
         Ok(stream) => stream,
         Err(fault) => return fault_text(alloc, fault),
     };
-    let mut text = String::new(alloc);
-    for _ in 0..9 {
-        let (next, is_last) = next_of_stream(alloc, &mut stream)?;
-        text.push_str(next.as_str()).ok()?;
-        if is_last {
-            // Later calls answer the same.
-            return (next_of_stream(alloc, &mut stream)?.0 == next).then_some(text);
-        }
-    }
-    None
+    first_nine!(alloc, next_of_stream(&mut stream))
 }
 
 // Whether a file comes so from readers in pieces.

@@ -1,30 +1,18 @@
 //! Parameters that rows name.
 use rasta_pdu::{Channel, Endpoint, Params, Quiet, QuietEnd};
 
-const FIRST: Channel = Channel {
-    client: Endpoint {
-        address: [10, 0, 0, 1],
-        port: 5000,
-    },
-    server: Endpoint {
-        address: [10, 0, 0, 2],
-        port: 5000,
-    },
-};
-
-const SECOND: Channel = Channel {
-    client: Endpoint {
-        address: [10, 0, 1, 1],
-        port: 5001,
-    },
-    server: Endpoint {
-        address: [10, 0, 1, 2],
-        port: 5001,
-    },
-};
+// The channel of these ports between the hosts of this number.
+macro_rules! channel {
+    ($hosts:literal, $port:literal) => {
+        Channel {
+            client: Endpoint { address: [10, 0, $hosts, 1], port: $port },
+            server: Endpoint { address: [10, 0, $hosts, 2], port: $port },
+        }
+    };
+}
 
 /// Both channels of the rows.
-pub const CHANNELS: [Channel; 2] = [FIRST, SECOND];
+pub const CHANNELS: [Channel; 2] = [channel!(0, 5000), channel!(1, 5001)];
 
 /// The start words of RFC 1320, section 3.3.
 pub const RFC_WORDS: [u32; 4] = [0x6745_2301, 0xefcd_ab89, 0x98ba_dcfe, 0x1032_5476];

@@ -89,6 +89,13 @@ fn add_packet(alloc: Global, file: &mut Vec<u8>, packet: &str) -> Option<()> {
     }
 }
 
+// The packets of a handshake.
+const OPENED: [&str; 3] = [
+    "client 7 6200 100 0 1000 0 3033303314000000000000000000",
+    "server 40 6201 500 100 9000 1000 3033303314000000000000000000",
+    "client 8 6220 101 500 1010 9000",
+];
+
 // A file of these packets, with the magic number that they name first.
 fn capture_of(alloc: Global, packets: &str) -> Option<Vec<u8>> {
     let (magic, packets) = match packets.strip_prefix("magic:") {
@@ -101,6 +108,11 @@ fn capture_of(alloc: Global, packets: &str) -> Option<Vec<u8>> {
             "-" => {}
             "cut" => {
                 let _ = file.pop()?;
+            }
+            "opened" => {
+                for packet in OPENED {
+                    add_packet(alloc, &mut file, packet)?;
+                }
             }
             _ => add_packet(alloc, &mut file, packet)?,
         }

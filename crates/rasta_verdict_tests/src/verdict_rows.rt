@@ -2,7 +2,7 @@
 //! slash stands for the end of a line, and a hyphen for nothing. A packet is `SIDE NUMBER TYPE SN CS TS CTS
 //! PAYLOAD`, `SIDE:DATAGRAM` or `frame:FRAME` in hexadecimal, with `@2` after a side on the second
 //! channel; `of N` before it is its original length, where it was cut; `magic:MAGIC` before the packets is
-//! that of the file; `cut` takes the last byte of the file away.
+//! that of the file; `opened` stands for the three packets of a handshake; `cut` takes the last byte of the file away.
 
 pub const ROWS: &str = "\
 nothing | - | \
@@ -10,24 +10,19 @@ nothing | - | \
 rasta-certificate 1/client/server/end | \
 explained 0/taken by client 0/taken by server 0\n\
 handshake | - | \
-client 7 6200 100 0 1000 0 3033303314000000000000000000/\
-server 40 6201 500 100 9000 1000 3033303314000000000000000000/client 8 6220 101 500 1010 9000 | \
+opened | \
 rasta-certificate 1/client/make 0 1000 open/take 2 40/make 2 1010 reply/server/take 1 7/make 1 9000 reply/end | \
 explained 3/0 client make 7 1000 open/1 server take 7/1 server make 40 9000 reply/2 client take 40/\
 2 client make 8 1010 reply/taken by client 0/taken by server 0\n\
 handed up once | - | \
-client 7 6200 100 0 1000 0 3033303314000000000000000000/\
-server 40 6201 500 100 9000 1000 3033303314000000000000000000/client 8 6220 101 500 1010 9000/\
-client 9 6240 102 500 1020 9000 0200ab010000/server 41 6220 501 102 9050 1020 | \
+opened/client 9 6240 102 500 1020 9000 0200ab010000/server 41 6220 501 102 9050 1020 | \
 rasta-certificate 1/client/make 0 1000 open/take 2 40/make 2 1010 reply/make 3 1020 fresh/server/take 1 7/\
 make 1 9000 reply/take 4 8/take 4 9/make 4 9050 beat/end | \
 explained 5/0 client make 7 1000 open/1 server take 7/1 server make 40 9000 reply/2 client take 40/\
 2 client make 8 1010 reply/3 client make 9 1020 fresh/4 server take 8/4 server take 9/\
 4 server make 41 9050 beat/taken by client 0/taken by server 2/0 3 4 ab01/1 3 4 .\n\
 no proof | - | \
-client 7 6200 100 0 1000 0 3033303314000000000000000000/\
-server 40 6201 500 100 9000 1000 3033303314000000000000000000/client 8 6220 101 500 1010 9000/\
-client 9 6240 102 500 1020 9000 0200ab010000 | \
+opened/client 9 6240 102 500 1020 9000 0200ab010000 | \
 rasta-certificate 1/client/make 0 1000 open/take 2 40/make 2 1010 reply/make 3 1020 fresh/server/take 1 7/\
 make 1 9000 reply/end | \
 explained 4/0 client make 7 1000 open/1 server take 7/1 server make 40 9000 reply/2 client take 40/\
@@ -49,9 +44,7 @@ rasta-certificate 1/client/make 0 4294967280 open/take 2 40/make 2 4 reply/make 
 server/take 1 4294967295/make 1 9000 reply/take 4 0/take 4 1/make 4 9050 beat/end | \
 refused 37 ClockFalls 3 client\n\
 lost unit is resent | - | \
-client 7 6200 100 0 1000 0 3033303314000000000000000000/\
-server 40 6201 500 100 9000 1000 3033303314000000000000000000/client 8 6220 101 500 1010 9000/\
-client 9 6240 102 500 1020 9000 010001/client 10 6240 103 500 1030 9000 010002/\
+opened/client 9 6240 102 500 1020 9000 010001/client 10 6240 103 500 1030 9000 010002/\
 server 41 6212 501 101 9060 1010/client 11 6213 104 501 1070 9060/client 12 6241 105 501 1071 9060 010001/\
 client 13 6241 106 501 1072 9060 010002/client 14 6220 107 501 1080 9060/server 42 6220 502 107 9090 1080 | \
 rasta-certificate 1/client/make 0 1000 open/take 2 40/make 2 1010 reply/make 3 1020 fresh/make 4 1030 fresh/\
@@ -65,9 +58,7 @@ explained 11/0 client make 7 1000 open/1 server take 7/1 server make 40 9000 rep
 10 server take 12/10 server take 13/10 server take 14/10 server make 42 9090 beat/taken by client 0/\
 taken by server 2/0 3 10 01/1 4 10 02\n\
 both ask | - | \
-client 7 6200 100 0 1000 0 3033303314000000000000000000/\
-server 40 6201 500 100 9000 1000 3033303314000000000000000000/client 8 6220 101 500 1010 9000/\
-client 9 6240 102 500 1020 9000 010001/server 41 6240 501 101 9020 1010 010011/\
+opened/client 9 6240 102 500 1020 9000 010001/server 41 6240 501 101 9020 1010 010011/\
 client 10 6240 103 500 1030 9000 010002/server 42 6240 502 101 9030 1010 010012/\
 client 11 6212 104 500 1040 9000/server 43 6212 503 101 9040 1010/client 12 6213 105 500 1050 9000/\
 client 13 6241 106 500 1051 9000 010001/client 14 6241 107 500 1052 9000 010002/\
@@ -88,9 +79,7 @@ explained 17/0 client make 7 1000 open/1 server take 7/1 server make 40 9000 rep
 16 server take 15/16 server make 47 9060 beat/taken by client 2/0 4 15 11/1 6 15 12/taken by server 2/\
 0 3 16 01/1 5 16 02\n\
 second request in one entry | - | \
-client 7 6200 100 0 1000 0 3033303314000000000000000000/\
-server 40 6201 500 100 9000 1000 3033303314000000000000000000/client 8 6220 101 500 1010 9000/\
-client 9 6240 102 500 1020 9000 010001/client 10 6240 103 500 1030 9000 010002/\
+opened/client 9 6240 102 500 1020 9000 010001/client 10 6240 103 500 1030 9000 010002/\
 server 41 6212 501 101 9060 1010/server 42 6212 502 101 9070 1010 | \
 rasta-certificate 1/client/make 0 1000 open/take 2 40/make 2 1010 reply/make 3 1020 fresh/make 4 1030 fresh/\
 server/take 1 7/make 1 9000 reply/take 5 8/take 5 10/make 5 9060 ask/make 6 9070 ask/end | \
@@ -106,47 +95,35 @@ explained 7/0 client make 7 1000 open/1 client copy 7/2 server take 7/2 server m
 3 client take 40/3 client make 8 1010 reply/4 client copy 7/5 client copy 8/6 server copy 40/\
 taken by client 0/taken by server 0\n\
 copy differs | - | \
-client 7 6200 100 0 1000 0 3033303314000000000000000000/\
-server 40 6201 500 100 9000 1000 3033303314000000000000000000/client 8 6220 101 500 1010 9000/\
-client 8 6220 102 500 1010 9000 | \
+opened/client 8 6220 102 500 1010 9000 | \
 rasta-certificate 1/client/server/end | \
 refused 27 CopyDiffers 4 client\n\
 make at the deadline | - | \
-client 7 6200 100 0 1000 0 3033303314000000000000000000/\
-server 40 6201 500 100 9000 1000 3033303314000000000000000000/client 8 6220 101 500 1010 9000/\
-client 9 6240 102 500 1020 9000 0200ab010000/server 41 6220 501 102 10800 1020 | \
-rasta-certificate 1/client/make 0 1000 open/take 2 40/make 2 1010 reply/make 3 1020 fresh/server/take 1 7/\
-make 1 9000 reply/take 4 8/take 4 9/make 4 10800 beat/end | \
+opened/client 9 6240 102 500 1020 9000 0200ab010000/server 41 6220 501 102 10800 1020 | \
+rasta-certificate 1/client/make 0 1000 open/take 2 40/make 2 1010 reply/make 3 1020 fresh/\
+server/take 1 7/make 1 9000 reply/take 4 8/take 4 9/make 4 10800 beat/end | \
 explained 5/0 client make 7 1000 open/1 server take 7/1 server make 40 9000 reply/2 client take 40/\
 2 client make 8 1010 reply/3 client make 9 1020 fresh/4 server take 8/4 server take 9/\
 4 server make 41 10800 beat/taken by client 0/taken by server 2/0 3 4 ab01/1 3 4 .\n\
 make past the deadline | - | \
-client 7 6200 100 0 1000 0 3033303314000000000000000000/\
-server 40 6201 500 100 9000 1000 3033303314000000000000000000/client 8 6220 101 500 1010 9000/\
-client 9 6240 102 500 1020 9000 0200ab010000/server 41 6220 501 102 10801 1020 | \
+opened/client 9 6240 102 500 1020 9000 0200ab010000/server 41 6220 501 102 10801 1020 | \
 rasta-certificate 1/client/make 0 1000 open/take 2 40/make 2 1010 reply/make 3 1020 fresh/server/take 1 7/\
 make 1 9000 reply/take 4 8/take 4 9/make 4 10801 beat/end | \
 refused 38 PastDeadline 5 server\n\
 take at its own place | - | \
-client 7 6200 100 0 1000 0 3033303314000000000000000000/\
-server 40 6201 500 100 9000 1000 3033303314000000000000000000/client 8 6220 101 500 1010 9000/\
-client 9 6240 102 500 1020 9000 0200ab010000/server 41 6220 501 102 9050 1020 | \
+opened/client 9 6240 102 500 1020 9000 0200ab010000/server 41 6220 501 102 9050 1020 | \
 rasta-certificate 1/client/make 0 1000 open/take 2 40/make 2 1010 reply/make 3 1020 fresh/server/take 1 7/\
 make 1 9000 reply/take 3 8/take 3 9/make 4 9050 beat/end | \
 refused 34 NotYetCrossed 4 server\n\
 take right after | - | \
-client 7 6200 100 0 1000 0 3033303314000000000000000000/\
-server 40 6201 500 100 9000 1000 3033303314000000000000000000/client 8 6220 101 500 1010 9000/\
-client 9 6240 102 500 1020 9000 0200ab010000/server 41 6220 501 102 9050 1020 | \
+opened/client 9 6240 102 500 1020 9000 0200ab010000/server 41 6220 501 102 9050 1020 | \
 rasta-certificate 1/client/make 0 1000 open/take 2 40/make 2 1010 reply/make 3 1020 fresh/server/take 1 7/\
 make 1 9000 reply/take 3 8/take 4 9/make 4 9050 beat/end | \
 explained 5/0 client make 7 1000 open/1 server take 7/1 server make 40 9000 reply/2 client take 40/\
 2 client make 8 1010 reply/3 server take 8/3 client make 9 1020 fresh/4 server take 9/\
 4 server make 41 9050 beat/taken by client 0/taken by server 2/0 3 4 ab01/1 3 4 .\n\
 capture ends in a burst | - | \
-client 7 6200 100 0 1000 0 3033303314000000000000000000/\
-server 40 6201 500 100 9000 1000 3033303314000000000000000000/client 8 6220 101 500 1010 9000/\
-client 9 6240 102 500 1020 9000 010001/client 10 6240 103 500 1030 9000 010002/\
+opened/client 9 6240 102 500 1020 9000 010001/client 10 6240 103 500 1030 9000 010002/\
 server 41 6212 501 101 9060 1010/client 11 6213 104 501 1070 9060/client 12 6241 105 501 1071 9060 010001/\
 server 42 6220 502 105 9080 1071 | \
 rasta-certificate 1/client/make 0 1000 open/take 2 40/make 2 1010 reply/make 3 1020 fresh/make 4 1030 fresh/\
@@ -164,26 +141,20 @@ server 41 6220 501 102 9050 1020 | \
 rasta-certificate 1/client/server/end | \
 refused 28 NumberGap 3 client\n\
 data while a reply is owed | - | \
-client 7 6200 100 0 1000 0 3033303314000000000000000000/\
-server 40 6201 500 100 9000 1000 3033303314000000000000000000/client 8 6220 101 500 1010 9000/\
-client 9 6240 102 500 1020 9000 010001/client 10 6240 103 500 1030 9000 010002/\
+opened/client 9 6240 102 500 1020 9000 010001/client 10 6240 103 500 1030 9000 010002/\
 server 41 6212 501 101 9060 1010/client 11 6240 104 501 1070 9060 010003 | \
 rasta-certificate 1/client/make 0 1000 open/take 2 40/make 2 1010 reply/make 3 1020 fresh/make 4 1030 fresh/\
 take 6 41/make 6 1070 fresh/server/end | \
 refused 42 ReplyOwed 7 client\n\
 resend differs | - | \
-client 7 6200 100 0 1000 0 3033303314000000000000000000/\
-server 40 6201 500 100 9000 1000 3033303314000000000000000000/client 8 6220 101 500 1010 9000/\
-client 9 6240 102 500 1020 9000 010001/client 10 6240 103 500 1030 9000 010002/\
+opened/client 9 6240 102 500 1020 9000 010001/client 10 6240 103 500 1030 9000 010002/\
 server 41 6212 501 101 9060 1010/client 11 6213 104 501 1070 9060/client 12 6241 105 501 1071 9060 010001/\
 client 13 6241 106 501 1072 9060 010003/client 14 6220 107 501 1080 9060/server 42 6220 502 107 9090 1080 | \
 rasta-certificate 1/client/make 0 1000 open/take 2 40/make 2 1010 reply/make 3 1020 fresh/make 4 1030 fresh/\
 take 6 41/make 6 1070 reply/make 7 1071 again 0/make 8 1072 again 1/server/end | \
 refused 43 ResendDiffers 9 client\n\
 lost resend and second request | - | \
-client 7 6200 100 0 1000 0 3033303314000000000000000000/\
-server 40 6201 500 100 9000 1000 3033303314000000000000000000/client 8 6220 101 500 1010 9000/\
-client 9 6240 102 500 1020 9000 010001/client 10 6240 103 500 1030 9000 010002/\
+opened/client 9 6240 102 500 1020 9000 010001/client 10 6240 103 500 1030 9000 010002/\
 server 41 6212 501 101 9060 1010/client 11 6213 104 501 1070 9060/client 12 6241 105 501 1071 9060 010001/\
 client 13 6241 106 501 1072 9060 010002/server 42 6212 502 104 9080 1070/client 14 6213 107 502 1090 9080/\
 client 15 6241 108 502 1091 9080 010001/client 16 6241 109 502 1092 9080 010002/\
@@ -213,67 +184,50 @@ client 9 6240 102 500 1020 9000 0200ab010000/server 41 6220 501 102 9050 1020 | 
 rasta-certificate 1/client/make 0 1020 fresh/server/take 1 9/make 1 9050 beat/end | \
 refused 47 SequenceNumber 1 client\n\
 take is left out | - | \
-client 7 6200 100 0 1000 0 3033303314000000000000000000/\
-server 40 6201 500 100 9000 1000 3033303314000000000000000000/client 8 6220 101 500 1010 9000/\
-client 9 6240 102 500 1020 9000 0200ab010000/server 41 6220 501 102 9050 1020 | \
+opened/client 9 6240 102 500 1020 9000 0200ab010000/server 41 6220 501 102 9050 1020 | \
 rasta-certificate 1/client/make 0 1000 open/take 2 40/make 2 1010 reply/make 3 1020 fresh/server/take 1 7/\
 make 1 9000 reply/take 4 8/make 4 9050 beat/end | \
 refused 39 ConfirmedNumber 4 server\n\
 take twice | - | \
-client 7 6200 100 0 1000 0 3033303314000000000000000000/\
-server 40 6201 500 100 9000 1000 3033303314000000000000000000/client 8 6220 101 500 1010 9000/\
-client 9 6240 102 500 1020 9000 0200ab010000/server 41 6220 501 102 9050 1020 | \
+opened/client 9 6240 102 500 1020 9000 0200ab010000/server 41 6220 501 102 9050 1020 | \
 rasta-certificate 1/client/make 0 1000 open/take 2 40/make 2 1010 reply/make 3 1020 fresh/server/take 1 7/\
 make 1 9000 reply/take 4 8/take 4 9/take 4 9/make 4 9050 beat/end | \
 refused 35 NotRising 5 server\n\
 entries exchanged | - | \
-client 7 6200 100 0 1000 0 3033303314000000000000000000/\
-server 40 6201 500 100 9000 1000 3033303314000000000000000000/client 8 6220 101 500 1010 9000/\
-client 9 6240 102 500 1020 9000 0200ab010000/server 41 6220 501 102 9050 1020 | \
+opened/client 9 6240 102 500 1020 9000 0200ab010000/server 41 6220 501 102 9050 1020 | \
 rasta-certificate 1/client/take 2 40/make 0 1000 open/make 2 1010 reply/make 3 1020 fresh/server/take 1 7/\
 make 1 9000 reply/take 4 8/take 4 9/make 4 9050 beat/end | \
 refused 31 SlotOrder 2 client\n\
 first copy left unmade | - | \
-client 7 6200 100 0 1000 0 3033303314000000000000000000/\
-server 40 6201 500 100 9000 1000 3033303314000000000000000000/client 8 6220 101 500 1010 9000/\
-client 9 6240 102 500 1020 9000 0200ab010000/server 41 6220 501 102 9050 1020 | \
+opened/client 9 6240 102 500 1020 9000 0200ab010000/server 41 6220 501 102 9050 1020 | \
 rasta-certificate 1/client/make 0 1000 open/take 2 40/make 2 1010 reply/server/take 1 7/make 1 9000 reply/\
 take 4 8/take 4 9/make 4 9050 beat/end | \
 refused 33 MakeMissing 4 client\n\
 beat in place of a reply | - | \
-client 7 6200 100 0 1000 0 3033303314000000000000000000/\
-server 40 6201 500 100 9000 1000 3033303314000000000000000000/client 8 6220 101 500 1010 9000/\
-client 9 6240 102 500 1020 9000 0200ab010000/server 41 6220 501 102 9050 1020 | \
+opened/client 9 6240 102 500 1020 9000 0200ab010000/server 41 6220 501 102 9050 1020 | \
 rasta-certificate 1/client/make 0 1000 open/take 2 40/make 2 1010 beat/make 3 1020 fresh/server/take 1 7/\
 make 1 9000 reply/take 4 8/take 4 9/make 4 9050 beat/end | \
 refused 42 ReplyOwed 3 client\n\
 another clock | - | \
-client 7 6200 100 0 1000 0 3033303314000000000000000000/\
-server 40 6201 500 100 9000 1000 3033303314000000000000000000/client 8 6220 101 500 1010 9000/\
-client 9 6240 102 500 1020 9000 0200ab010000/server 41 6220 501 102 9050 1020 | \
+opened/client 9 6240 102 500 1020 9000 0200ab010000/server 41 6220 501 102 9050 1020 | \
 rasta-certificate 1/client/make 0 1000 open/take 2 40/make 2 1010 reply/make 3 1021 fresh/server/take 1 7/\
 make 1 9000 reply/take 4 8/take 4 9/make 4 9050 beat/end | \
 refused 36 ClockDiffers 4 client\n\
 another reason | - | \
-client 7 6200 100 0 1000 0 3033303314000000000000000000/\
-server 40 6201 500 100 9000 1000 3033303314000000000000000000/client 8 6220 101 500 1010 9000/\
-client 9 6240 102 500 1020 9000 0200ab010000/server 41 6220 501 102 9050 1020 | \
+opened/client 9 6240 102 500 1020 9000 0200ab010000/server 41 6220 501 102 9050 1020 | \
 rasta-certificate 1/client/make 0 1000 open/take 2 40/make 2 1010 reply/make 3 1020 again 0/server/take 1 7/\
 make 1 9000 reply/take 4 8/take 4 9/make 4 9050 beat/end | \
 refused 41 NotAllowed 4 client\n\
 slot above the packets | - | \
-client 7 6200 100 0 1000 0 3033303314000000000000000000/\
-server 40 6201 500 100 9000 1000 3033303314000000000000000000/client 8 6220 101 500 1010 9000 | \
+opened | \
 rasta-certificate 1/client/make 0 1000 open/take 4 40/make 2 1010 reply/server/take 1 7/make 1 9000 reply/end | \
 refused 31 SlotOrder 2 client\n\
 number that never crossed | - | \
-client 7 6200 100 0 1000 0 3033303314000000000000000000/\
-server 40 6201 500 100 9000 1000 3033303314000000000000000000/client 8 6220 101 500 1010 9000 | \
+opened | \
 rasta-certificate 1/client/make 0 1000 open/take 2 41/make 2 1010 reply/server/take 1 7/make 1 9000 reply/end | \
 refused 34 NotYetCrossed 2 client\n\
 make of the other side | - | \
-client 7 6200 100 0 1000 0 3033303314000000000000000000/\
-server 40 6201 500 100 9000 1000 3033303314000000000000000000/client 8 6220 101 500 1010 9000 | \
+opened | \
 rasta-certificate 1/client/make 0 1000 open/make 1 9000 reply/server/end | \
 refused 32 NotFirstCopy 2 client\n\
 gap before the certificate | - | \
@@ -282,36 +236,26 @@ server 40 6201 500 100 9000 1000 3033303314000000000000000000/client 9 6240 102 
 rasta-certificate 1/client/make 00 1000 open/server/end | \
 refused 28 NumberGap 3 client\n\
 leading zero | - | \
-client 7 6200 100 0 1000 0 3033303314000000000000000000/\
-server 40 6201 500 100 9000 1000 3033303314000000000000000000/client 8 6220 101 500 1010 9000/\
-client 9 6240 102 500 1020 9000 0200ab010000/server 41 6220 501 102 9050 1020 | \
+opened/client 9 6240 102 500 1020 9000 0200ab010000/server 41 6220 501 102 9050 1020 | \
 rasta-certificate 1/client/make 00 1000 open/server/end | \
 refused 30 Syntax 3 -\n\
 byte after the end | - | \
-client 7 6200 100 0 1000 0 3033303314000000000000000000/\
-server 40 6201 500 100 9000 1000 3033303314000000000000000000/client 8 6220 101 500 1010 9000/\
-client 9 6240 102 500 1020 9000 0200ab010000/server 41 6220 501 102 9050 1020 | \
+opened/client 9 6240 102 500 1020 9000 0200ab010000/server 41 6220 501 102 9050 1020 | \
 rasta-certificate 1/client/make 0 1000 open/take 2 40/make 2 1010 reply/make 3 1020 fresh/server/take 1 7/\
 make 1 9000 reply/take 4 8/take 4 9/make 4 9050 beat/end/x | \
 refused 30 Syntax 14 -\n\
 no text | - | \
-client 7 6200 100 0 1000 0 3033303314000000000000000000/\
-server 40 6201 500 100 9000 1000 3033303314000000000000000000/client 8 6220 101 500 1010 9000/\
-client 9 6240 102 500 1020 9000 0200ab010000/server 41 6220 501 102 9050 1020 | \
+opened/client 9 6240 102 500 1020 9000 0200ab010000/server 41 6220 501 102 9050 1020 | \
 - | \
 refused 30 Syntax 1 -\n\
 timeout before the deadline | slack = 5 | \
-client 7 6200 100 0 1000 0 3033303314000000000000000000/\
-server 40 6201 500 100 9000 1000 3033303314000000000000000000/client 8 6220 101 500 1010 9000/\
-client 9 6240 102 500 1020 9000 0200ab010000/server 41 6220 501 102 9050 1020/\
+opened/client 9 6240 102 500 1020 9000 0200ab010000/server 41 6220 501 102 9050 1020/\
 client 10 6216 103 501 2814 9050 00000400 | \
 rasta-certificate 1/client/make 0 1000 open/take 2 40/make 2 1010 reply/make 3 1020 fresh/take 5 41/\
 make 5 2814 expired/server/take 1 7/make 1 9000 reply/take 4 8/take 4 9/make 4 9050 beat/end | \
 refused 46 TooEarlyTimeout 6 client\n\
 timeout at the deadline | slack = 5 | \
-client 7 6200 100 0 1000 0 3033303314000000000000000000/\
-server 40 6201 500 100 9000 1000 3033303314000000000000000000/client 8 6220 101 500 1010 9000/\
-client 9 6240 102 500 1020 9000 0200ab010000/server 41 6220 501 102 9050 1020/\
+opened/client 9 6240 102 500 1020 9000 0200ab010000/server 41 6220 501 102 9050 1020/\
 client 10 6216 103 501 2815 9050 00000400 | \
 rasta-certificate 1/client/make 0 1000 open/take 2 40/make 2 1010 reply/make 3 1020 fresh/take 5 41/\
 make 5 2815 expired/server/take 1 7/make 1 9000 reply/take 4 8/take 4 9/make 4 9050 beat/end | \
@@ -327,37 +271,31 @@ client@2:32000100070000002a00381861000000600000006400000000000000e80300000000000
 rasta-certificate 1/client/server/end | \
 refused 27 CopyDiffers 5 client\n\
 byte after the window is missing | last_record = 2 | \
-client 7 6200 100 0 1000 0 3033303314000000000000000000/\
-server 40 6201 500 100 9000 1000 3033303314000000000000000000/client 8 6220 101 500 1010 9000/cut | \
+opened/cut | \
 rasta-certificate 1/client/make 0 1000 open/server/take 1 7/make 1 9000 reply/end | \
 explained 2/0 client make 7 1000 open/1 server take 7/1 server make 40 9000 reply/taken by client 0/\
 taken by server 0\n\
 byte is missing | - | \
-client 7 6200 100 0 1000 0 3033303314000000000000000000/\
-server 40 6201 500 100 9000 1000 3033303314000000000000000000/client 8 6220 101 500 1010 9000/cut | \
+opened/cut | \
 rasta-certificate 1/client/server/end | \
 refused 14 CutRecord 3 -\n\
 big-endian | - | \
-magic:a1b2c3d4/client 7 6200 100 0 1000 0 3033303314000000000000000000/\
-server 40 6201 500 100 9000 1000 3033303314000000000000000000/client 8 6220 101 500 1010 9000 | \
+magic:a1b2c3d4/opened | \
 rasta-certificate 1/client/make 0 1000 open/take 2 40/make 2 1010 reply/server/take 1 7/make 1 9000 reply/end | \
 explained 3/0 client make 7 1000 open/1 server take 7/1 server make 40 9000 reply/2 client take 40/\
 2 client make 8 1010 reply/taken by client 0/taken by server 0\n\
 nanoseconds | - | \
-magic:4d3cb2a1/client 7 6200 100 0 1000 0 3033303314000000000000000000/\
-server 40 6201 500 100 9000 1000 3033303314000000000000000000/client 8 6220 101 500 1010 9000 | \
+magic:4d3cb2a1/opened | \
 rasta-certificate 1/client/make 0 1000 open/take 2 40/make 2 1010 reply/server/take 1 7/make 1 9000 reply/end | \
 explained 3/0 client make 7 1000 open/1 server take 7/1 server make 40 9000 reply/2 client take 40/\
 2 client make 8 1010 reply/taken by client 0/taken by server 0\n\
 big-endian and nanoseconds | - | \
-magic:a1b23c4d/client 7 6200 100 0 1000 0 3033303314000000000000000000/\
-server 40 6201 500 100 9000 1000 3033303314000000000000000000/client 8 6220 101 500 1010 9000 | \
+magic:a1b23c4d/opened | \
 rasta-certificate 1/client/make 0 1000 open/take 2 40/make 2 1010 reply/server/take 1 7/make 1 9000 reply/end | \
 explained 3/0 client make 7 1000 open/1 server take 7/1 server make 40 9000 reply/2 client take 40/\
 2 client make 8 1010 reply/taken by client 0/taken by server 0\n\
 byte is missing before the certificate | - | \
-client 7 6200 100 0 1000 0 3033303314000000000000000000/\
-server 40 6201 500 100 9000 1000 3033303314000000000000000000/client 8 6220 101 500 1010 9000/cut | \
+opened/cut | \
 rasta-certificate 1/client/make 00 1000 open/server/end | \
 refused 14 CutRecord 3 -\n\
 cut frame of other hosts | - | \
@@ -379,23 +317,20 @@ client:380000000900000030006018610000006000000066000000f4010000fc030000282300000
 rasta-certificate 1/client/server/end | \
 refused 25 Code 1 client\n\
 fresh data in a burst | - | \
-client 7 6200 100 0 1000 0 3033303314000000000000000000/\
-server 40 6201 500 100 9000 1000 3033303314000000000000000000/client 8 6220 101 500 1010 9000/\
-client 9 6240 102 500 1020 9000 010001/client 10 6240 103 500 1030 9000 010002/\
+opened/client 9 6240 102 500 1020 9000 010001/client 10 6240 103 500 1030 9000 010002/\
 server 41 6212 501 101 9060 1010/client 11 6213 104 501 1070 9060/client 12 6241 105 501 1071 9060 010001/\
 client 13 6240 106 501 1072 9060 010003 | \
 rasta-certificate 1/client/make 0 1000 open/take 2 40/make 2 1010 reply/make 3 1020 fresh/make 4 1030 fresh/\
 take 6 41/make 6 1070 reply/make 7 1071 again 0/make 8 1072 fresh/server/end | \
 refused 42 ReplyOwed 9 client\n\
 answer is left out | - | \
-client 7 6200 100 0 1000 0 3033303314000000000000000000/\
-server 40 6201 500 100 9000 1000 3033303314000000000000000000/client 8 6220 101 500 1010 9000/\
-client 9 6240 102 500 1020 9000 010001/client 10 6240 103 500 1030 9000 010002/\
+opened/client 9 6240 102 500 1020 9000 010001/client 10 6240 103 500 1030 9000 010002/\
 server 41 6212 501 101 9060 1010/client 11 6213 104 501 1070 9060/client 12 6241 105 501 1071 9060 010001/\
 client 13 6241 106 501 1072 9060 010002/client 14 6220 107 501 1080 9060/server 42 6220 502 107 9090 1080 | \
-rasta-certificate 1/client/make 0 1000 open/take 2 40/make 2 1010 reply/make 3 1020 fresh/make 4 1030 fresh/\
-take 6 41/make 6 1070 reply/make 7 1071 again 0/make 8 1072 again 1/make 9 1080 beat/server/take 1 7/\
-make 1 9000 reply/take 5 8/take 5 10/make 5 9060 ask/take 10 12/take 10 13/take 10 14/make 10 9090 beat/end | \
+rasta-certificate 1/client/make 0 1000 open/take 2 40/make 2 1010 reply/make 3 1020 fresh/\
+make 4 1030 fresh/take 6 41/make 6 1070 reply/make 7 1071 again 0/make 8 1072 again 1/make 9 1080 beat/\
+server/take 1 7/make 1 9000 reply/take 5 8/take 5 10/make 5 9060 ask/take 10 12/take 10 13/take 10 14/\
+make 10 9090 beat/end | \
 refused 39 ConfirmedNumber 9 server\n\
 safety codes and check codes | code_length = 16/check_length = 4/md4_start = '0f1e2d3c4b5a69788796a5b4c3d2e1f0' | \
 client:46000000070000003a00381861000000600000006400000000000000e8030000000000003033303314000000000000000000342071a0287cbe3bb884e595bac4dec74973e408/\
@@ -427,9 +362,7 @@ explained 12/0 client make 7 1000 open/1 server take 7/1 server make 40 9000 rep
 /// The same, of captures that nothing explains: each certificate is none, and the text is that of an audit.
 pub const UNEXPLAINED: &str = "\
 second request in one entry | - | \
-client 7 6200 100 0 1000 0 3033303314000000000000000000/\
-server 40 6201 500 100 9000 1000 3033303314000000000000000000/client 8 6220 101 500 1010 9000/\
-client 9 6240 102 500 1020 9000 010001/client 10 6240 103 500 1030 9000 010002/\
+opened/client 9 6240 102 500 1020 9000 010001/client 10 6240 103 500 1030 9000 010002/\
 server 41 6212 501 101 9060 1010/server 42 6212 502 101 9070 1010 | \
 - | \
 refused 60 NotFound 7 -\n\
@@ -438,24 +371,18 @@ client 9 6240 102 500 1020 9000 0200ab010000/server 41 6220 501 102 9050 1020 | 
 - | \
 refused 60 NotFound 1 -\n\
 data while a reply is owed | - | \
-client 7 6200 100 0 1000 0 3033303314000000000000000000/\
-server 40 6201 500 100 9000 1000 3033303314000000000000000000/client 8 6220 101 500 1010 9000/\
-client 9 6240 102 500 1020 9000 010001/client 10 6240 103 500 1030 9000 010002/\
+opened/client 9 6240 102 500 1020 9000 010001/client 10 6240 103 500 1030 9000 010002/\
 server 41 6212 501 101 9060 1010/client 11 6240 104 501 1070 9060 010003 | \
 - | \
 refused 60 NotFound 7 -\n\
 resend differs | - | \
-client 7 6200 100 0 1000 0 3033303314000000000000000000/\
-server 40 6201 500 100 9000 1000 3033303314000000000000000000/client 8 6220 101 500 1010 9000/\
-client 9 6240 102 500 1020 9000 010001/client 10 6240 103 500 1030 9000 010002/\
+opened/client 9 6240 102 500 1020 9000 010001/client 10 6240 103 500 1030 9000 010002/\
 server 41 6212 501 101 9060 1010/client 11 6213 104 501 1070 9060/client 12 6241 105 501 1071 9060 010001/\
 client 13 6241 106 501 1072 9060 010003 | \
 - | \
 refused 60 NotFound 9 -\n\
 make past the deadline | - | \
-client 7 6200 100 0 1000 0 3033303314000000000000000000/\
-server 40 6201 500 100 9000 1000 3033303314000000000000000000/client 8 6220 101 500 1010 9000/\
-client 9 6240 102 500 1020 9000 0200ab010000/server 41 6220 501 102 10801 1020 | \
+opened/client 9 6240 102 500 1020 9000 0200ab010000/server 41 6220 501 102 10801 1020 | \
 - | \
 refused 60 NotFound 5 -\n\
 ";

@@ -293,58 +293,53 @@ fn drafts_by_number(rt: HostRuntime) -> Result<(), Fail> {
     Ok(())
 }
 
-// A parameter file, and what is said of it.
-struct RefusedParameters {
-    file: &'static [u8],
-    text: &'static str,
-}
-
-const REFUSED_PARAMETERS: [RefusedParameters; 10] = [
-    RefusedParameters {
+// Parameter files, and what is said of them.
+const REFUSED_PARAMETERS: [Refused; 10] = [
+    Refused {
         file: b"",
         text: "p: client_id is missing; it must be a whole number from 0 to 4294967295 (51 MissingKey)",
     },
-    RefusedParameters {
+    Refused {
         file: b"client_id = 96\nserver_id = 96\n",
         text: "p: line 2: server_id must be a whole number from 0 to 4294967295, and not client_id (52 BadValue)",
     },
-    RefusedParameters {
+    Refused {
         file: b"# lengths\n  \"code_length\" = 12\nserver_id = 97\nclient_id = 96\n",
         text: "p: line 2: code_length must be 0, 8 or 16 (52 BadValue)",
     },
-    RefusedParameters {
+    Refused {
         file: b"client_id = 96\nserver_id = 97\ncode_length = 0\ncheck_length = 0\nn_sendmax = 20\n\
             [[channel]]\nt_max = 1800\n",
         text: "p: line 7: t_max stands in a table; it must stand before the first one (51 MissingKey)",
     },
-    RefusedParameters {
+    Refused {
         file: b"client_id = 96\nserver_id = 97\ncode_length = 0\ncheck_length = 0\nn_sendmax = 20\nt_max = 1800\n\
             slack = 0\n[[channel]]\nclient = \"10.0.0.1:5000\"\n",
         text: "p: line 8: channel must be one to four tables with only client and server, each a text \
                \"a.b.c.d:port\", no direction twice (51 MissingKey)",
     },
-    RefusedParameters {
+    Refused {
         file: b"slack = 0\ntmax = 1\nclient_id = 96\nserver_id = 97\ncode_length = 0\ncheck_length = 0\n\
             n_sendmax = 20\nt_max = 1800\n[[channel]]\nclient = \"10.0.0.1:5000\"\nserver = \"10.0.0.2:5000\"\n",
         text: "p: line 2: a parameter file has no such key (52 BadValue)",
     },
-    RefusedParameters {
+    Refused {
         file: b"slack = 0\nclient_id = 96\nserver_id = 97\ncode_length = 0\ncheck_length = 0\n\
             n_sendmax = 20\nt_max = 1800\n[[channel]]\nclient = \"10.0.0.1:5000\"\nserver = \"10.0.0.2:5000\"\n[more]\n",
         text: "p: line 11: a parameter file has no such key (52 BadValue)",
     },
-    RefusedParameters {
+    Refused {
         file: b"slack = 0\nclient_id = 96\nserver_id = 97\ncode_length = 0\ncheck_length = 0\n\
             n_sendmax = 20\nt_max = 1800\nquiet.client = { next_sn = 5, clock = 5 }\n\
             [[channel]]\nclient = \"10.0.0.1:5000\"\nserver = \"10.0.0.2:5000\"\n",
         text: "p: line 8: quiet must be a table with only client and server, each with next_sn, clock and, \
                if any, deadline and handed_ts (51 MissingKey)",
     },
-    RefusedParameters {
+    Refused {
         file: b"client_id = 96\nserver_id 97\n",
         text: "p: line 2: this is no TOML document: key with no value, expected `=` (50 Toml)",
     },
-    RefusedParameters {
+    Refused {
         file: NO_RECORD,
         text: "p: line 1: this is no TOML document: invalid UTF-8 (50 Toml)\n\
                this looks like a capture: are CAPTURE and PARAMS swapped?",

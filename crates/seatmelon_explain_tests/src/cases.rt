@@ -1,4 +1,10 @@
 //! Captures, and the texts that are wanted of them.
+pub mod file_cases;
+pub mod json_cases;
+pub mod packet_cases;
+pub mod rule_cases;
+pub mod script_cases;
+pub mod step_cases;
 
 /// A capture of `rasta_rows` with some bytes changed (where, and to what), the parameters that a word names, a
 /// certificate (empty where there is none), the records that are left out, and what is told after what was read.
@@ -13,15 +19,21 @@ pub struct Case {
     pub want: &'static str,
 }
 
-/// Data that are confirmed.
-pub const EXPLAINED: Case = Case {
+/// No packet, and no codes: what a case says of itself stands in the place of this.
+pub const PLAIN: Case = Case {
     parameters: "plain",
     settings: "data plain",
-    packets: "0 1 2 3 4",
+    packets: "-",
     changes: &[],
     certificate: "",
     without: &[],
     want: "",
+};
+
+/// Data that are confirmed.
+pub const EXPLAINED: Case = Case {
+    packets: "0 1 2 3 4",
+    ..PLAIN
 };
 
 /// The whole text on it.
@@ -70,3 +82,79 @@ client to server: 2 of 2 messages surely taken
 
 server to client: 0 of 0 messages surely taken
 ";
+
+/// The text on a refusal: the fault and its meaning; what it is found at; what may be the cause; where to look.
+macro_rules! refused {
+    ($fault:literal, $meaning:literal; $($place:literal),*; because $cause:literal; see $next:literal) => {
+        concat!(
+            "refused by ", $fault, ":\n  ", $meaning, "\n\n", $($place,)*
+            "may be the cause:\n  ", $cause, "\nlook next at:\n  ", $next, "\n"
+        )
+    };
+}
+
+pub(crate) use refused;
+
+/// The same of a PDU: words before it, as of whose it is; its record; its type, redundancy number, SN, CS, TS and CTS,
+/// and lines after these; what may be the cause; where to look.
+macro_rules! refused_pdu {
+    (
+        $fault:literal, $meaning:literal; $($whose:literal),+; PDU in $record:literal: $kind:literal, $number:literal,
+        $sn:literal, $cs:literal, $ts:literal, $cts:literal, $after:literal; because $cause:literal; see $next:literal
+    ) => {
+        refused!(
+            $fault, $meaning;
+            $($whose,)+ " PDU in record ", $record, ", 1970-01-01 00:00:00.000000 UTC, channel 1\n  type: ", $kind,
+            "\n  redundancy number: ", $number, "\n  SN: ", $sn, "\n  CS: ", $cs, "\n  TS: ", $ts, "\n  CTS: ", $cts, "\n",
+            $after, "\n";
+            because $cause; see $next
+        )
+    };
+}
+
+pub(crate) use refused_pdu;
+
+/// A case of a certificate that is refused at an entry: the parameters, the settings and the packets; the certificate;
+/// the fault and its meaning; the entry's number, end and line; words, or the PDU that it makes or takes, with the
+/// lines on its messages, or the packet that it names.
+macro_rules! refused_entry {
+    (
+        $parameters:literal, $settings:literal, $packets:literal; $certificate:literal; $fault:literal, $meaning:literal;
+        entry $number:literal of $end:literal, line $line:literal; $($place:tt)+
+    ) => {
+        Case {
+            parameters: $parameters,
+            settings: $settings,
+            packets: $packets,
+            certificate: $certificate,
+            want: refused_place!(
+                $fault, $meaning; "entry ", $number, " of the ", $end, "'s script, line ", $line, " of the certificate\n";
+                $($place)+;
+                because "the certificate is wrong: another one may explain the same packets";
+                see "the entry and those before it; and what seatmelon explain says without a certificate"
+            ),
+            ..PLAIN
+        }
+    };
+}
+
+pub(crate) use refused_entry;
+
+/// The text on what is refused after these words: words, or a PDU, or a packet of a record.
+macro_rules! refused_place {
+    ($fault:literal, $meaning:literal; $($entry:literal),+; $words:literal; because $($closing:tt)+) => {
+        refused!($fault, $meaning; $($entry,)+ $words, "\n\n"; because $($closing)+)
+    };
+    ($fault:literal, $meaning:literal; $($entry:literal),+; packet in $record:literal; because $($closing:tt)+) => {
+        refused!(
+            $fault, $meaning;
+            $($entry,)+ "the packet that it names is in record ", $record,
+            ", 1970-01-01 00:00:00.000000 UTC, channel 1\n\n"; because $($closing)+
+        )
+    };
+    ($fault:literal, $meaning:literal; $($entry:literal),+; $whose:literal; $($pdu:tt)+) => {
+        refused_pdu!($fault, $meaning; $($entry,)+ $whose; $($pdu)+)
+    };
+}
+
+pub(crate) use refused_place;

@@ -1,10 +1,10 @@
 //! The text of an explanation, and what is answered where a device goes wrong.
+use crate::cases::file_cases::FILE_CASES;
+use crate::cases::packet_cases::PACKET_CASES;
+use crate::cases::rule_cases::{LAYOUTS, RULE, RULES, TROUBLE};
+use crate::cases::script_cases::SCRIPT_CASES;
+use crate::cases::step_cases::STEP_CASES;
 use crate::cases::{Case, EXPLAINED, EXPLAINED_TEXT};
-use crate::file_cases::FILE_CASES;
-use crate::packet_cases::PACKET_CASES;
-use crate::rule_cases::{LAYOUTS, RULE, RULES, TROUBLE};
-use crate::script_cases::SCRIPT_CASES;
-use crate::step_cases::STEP_CASES;
 use rasta_pcap::devices::{FailAt, Pieces};
 use rasta_pcap::{Counted, Fault, Sink, Source};
 use rasta_pdu::Params;
@@ -125,26 +125,25 @@ fn part_after<'a>(text: &'a [u8], words: &str) -> Option<&'a str> {
     Some(part)
 }
 
-#[test]
-fn rules(rt: HostRuntime) -> Result<(), Fail> {
-    for case in RULES {
-        let file = file_in(rt.alloc(), &case).ok_or(case.packets)?;
-        let text = text_of(rt.alloc(), &case, &file, 4096).ok_or("a text")?;
-        let part = part_after(&text, RULE).ok_or(case.packets)?;
+// Compares what is told on each case after these words with what is wanted.
+fn compare_parts<R: Abort + AllocGlobal>(rt: &R, cases: &[Case], words: &str) -> Result<(), Fail> {
+    for case in cases {
+        let file = file_in(rt.alloc(), case).ok_or(case.packets)?;
+        let text = text_of(rt.alloc(), case, &file, 4096).ok_or("a text")?;
+        let part = part_after(&text, words).ok_or(case.packets)?;
         assert_eq!(rt; part, case.want, "{}", case.packets);
     }
     Ok(())
 }
 
 #[test]
+fn rules(rt: HostRuntime) -> Result<(), Fail> {
+    compare_parts(&rt, &RULES, RULE)
+}
+
+#[test]
 fn layouts(rt: HostRuntime) -> Result<(), Fail> {
-    for case in LAYOUTS {
-        let file = file_in(rt.alloc(), &case).ok_or(case.packets)?;
-        let text = text_of(rt.alloc(), &case, &file, 4096).ok_or("a text")?;
-        let part = part_after(&text, TROUBLE).ok_or(case.packets)?;
-        assert_eq!(rt; part, case.want, "{}", case.packets);
-    }
-    Ok(())
+    compare_parts(&rt, &LAYOUTS, TROUBLE)
 }
 
 #[test]

@@ -1,7 +1,7 @@
 //! The JSON of an explanation.
+use crate::cases::json_cases::{COPY_DIFFERS, EXPLAINED_JSON, NO_PACKETS, PARTS, QUIET_JSON};
 use crate::cases::{Case, EXPLAINED};
 use crate::explain_tests::{file_in, written};
-use crate::json_cases::{COPY_DIFFERS, EXPLAINED_JSON, NO_PACKETS, PARTS, QUIET_JSON};
 use rasta_pcap::devices::FailAt;
 use rasta_pcap::{Counted, Fault};
 use rasta_pdu::{Params, Quiet, QuietEnd};

@@ -45,6 +45,24 @@ fn may_take(world: &mut PlainWorld, side: Side, position: u32) -> Option<bool> {
     }
 }
 
+fn may_make<'a>(
+    world: &mut PlainWorld<'a>,
+    side: Side,
+    channel: u8,
+    payload: &'a [u8],
+    why: Why,
+) -> Option<bool> {
+    may(
+        world,
+        side,
+        Move::Make {
+            channel,
+            payload,
+            why,
+        },
+    )
+}
+
 // The line of a packet, and its channel.
 fn line_of(packet: &str) -> Option<(usize, u8)> {
     let mut parts = packet.split('@');
@@ -126,18 +144,7 @@ impl<'a> Row<'a> {
             {
                 let payload = self.all.get(line)?.as_slice();
                 let waits = may(world, side, Move::Wait { clock })?;
-                return Some(
-                    waits
-                        && may(
-                            world,
-                            side,
-                            Move::Make {
-                                channel,
-                                payload,
-                                why,
-                            },
-                        )?,
-                );
+                return Some(waits && may_make(world, side, channel, payload, why)?);
             }
         }
         let place = first_place(self.packets, line)?;
@@ -262,42 +269,25 @@ fn step<'a>(
             let payload = all.get(number as usize)?.as_slice();
             let channel = words.next()?.parse().ok()?;
             let why = why_of(alloc, words.next()?)?;
-            may(
-                world,
-                side,
-                Move::Make {
-                    channel,
-                    payload,
-                    why,
-                },
-            )
+            may_make(world, side, channel, payload, why)
         }
     }
 }
 
 // Whether the steps of a row are allowed, and its move isn't.
-fn is_not_allowed<'a>(
-    alloc: Global,
-    world: &mut PlainWorld<'a>,
-    all: &'a [Vec<u8>],
-    row: &str,
-) -> Option<bool> {
-    let mut parts = row.split(" | ").skip(1);
-    let (steps, last) = (parts.next()?, parts.next()?);
-    for text in steps.split(", ") {
-        if !step(alloc, world, all, text)? {
-            return Some(false);
-        }
-    }
-    Some(!step(alloc, world, all, last)?)
-}
-
 fn is_row_not_allowed(alloc: Global, row: &str) -> Option<bool> {
     let lines = lines_of("data")?;
     let params = params_of("plain")?;
     let all = datagrams(alloc, &params, lines)?;
     let mut world = PlainWorld::start(alloc, &params, 7, 40);
-    is_not_allowed(alloc, &mut world, all.as_slice(), row)
+    let mut parts = row.split(" | ").skip(1);
+    let (steps, last) = (parts.next()?, parts.next()?);
+    for text in steps.split(", ") {
+        if !step(alloc, &mut world, all.as_slice(), text)? {
+            return Some(false);
+        }
+    }
+    Some(!step(alloc, &mut world, all.as_slice(), last)?)
 }
 
 #[test]

@@ -61,10 +61,10 @@ fn is_unit(unit: &TakenUnit, want: &str) -> Option<bool> {
 }
 
 fn are_units(units: &[TakenUnit], want: &str) -> Option<bool> {
+    let mut wanted = want.split(", ");
     if want == "-" {
         return Some(units.is_empty());
     }
-    let mut wanted = want.split(", ");
     for unit in units {
         if !is_unit(unit, wanted.next()?)? {
             return Some(false);
@@ -93,84 +93,93 @@ fn both_lists<'a>(
     })
 }
 
-// Whether the units of a side that its peer took are these.
-fn are_taken(
-    alloc: Global,
-    params: &Params,
-    side: Side,
-    own: &[FirstCopy],
-    peer: &[FirstCopy],
-    want: &str,
-) -> Option<bool> {
-    let taken = surely_taken(alloc, params, side, own, peer).ok()?;
-    are_units(taken.as_slice(), want)
-}
-
-// Whether the units that the ends of a row took are as it says.
-fn is_taken(alloc: Global, row: &str) -> Option<bool> {
-    let mut parts = row.split(" | ").skip(1);
-    let (connection, word) = parts.next()?.split_once(' ')?;
-    let lines = lines_of(connection)?;
-    let params = params_of(word)?;
-    let packets = parts.next()?;
-    let (by_client, by_server) = (parts.next()?, parts.next()?);
-    let all = datagrams(alloc, &params, lines)?;
-    let lists = both_lists(alloc, &params, lines, all.as_slice(), packets)?;
-    let (client, server) = (lists.client.as_slice(), lists.server.as_slice());
-    Some(
-        are_taken(alloc, &params, Side::Server, server, client, by_client)?
-            && are_taken(alloc, &params, Side::Client, client, server, by_server)?,
-    )
-}
-
 #[test]
 fn taken_by_rows(rt: HostRuntime) {
     for row in ROWS.lines() {
-        assert_eq!(rt; is_taken(rt.alloc(), row), Some(true), "{row}");
+        assert_eq!(rt; is_told(rt.alloc(), row, Table::Taken), Some(true), "{row}");
     }
 }
 
-// A row: its lines and parameters; the packets; and the units conveyed through each position of what the
+// A row: its name; its lines and parameters; the packets; and the units conveyed through each position of what the
 // client made, and of what the server did. A retransmission response takes them back to what was asked for.
 const CONVEYED: &str = "\
-lost plain | 0 1 2 3 4 5 6 7 8 9 10 | [0, 0, 1, 2, 0, 1, 2, 2] | [0, 0, 0]
-quiet quiet | 0 1 | [0, 1] | [0, 0]
+lost unit is resent | lost plain | 0 1 2 3 4 5 6 7 8 9 10 | [0, 0, 1, 2, 0, 1, 2, 2] | [0, 0, 0]
+quiet start | quiet quiet | 0 1 | [0, 1] | [0, 0]
 ";
 
-// Whether the units conveyed through each position are these.
-fn are_conveyed(
+// What a table tells of the units of a side: those that its peer took, or how many each position conveyed.
+#[derive(Clone, Copy)]
+enum Table {
+    Taken,
+    Conveyed,
+}
+
+// Whether this is told of the units of a side.
+fn are_told(
     alloc: Global,
+    table: Table,
     params: &Params,
     side: Side,
     own: &[FirstCopy],
     peer: &[FirstCopy],
     want: &str,
 ) -> Option<bool> {
-    let units = units_conveyed(alloc, params, side, own, peer).ok()?;
-    let text = format!(in alloc; "{:?}", units.as_slice()).ok()?;
-    Some(text.as_str() == want)
+    match table {
+        Table::Taken => {
+            let taken = surely_taken(alloc, params, side, own, peer).ok()?;
+            are_units(taken.as_slice(), want)
+        }
+        Table::Conveyed => {
+            let units = units_conveyed(alloc, params, side, own, peer).ok()?;
+            let text = format!(in alloc; "{:?}", units.as_slice()).ok()?;
+            Some(text.as_str() == want)
+        }
+    }
 }
 
-// Whether the units of a row are conveyed as it says.
-fn is_conveyed(alloc: Global, row: &str) -> Option<bool> {
-    let mut parts = row.split(" | ");
+// Whether the units of a row are as its table tells.
+fn is_told(alloc: Global, row: &str, table: Table) -> Option<bool> {
+    let mut parts = row.split(" | ").skip(1);
     let (connection, word) = parts.next()?.split_once(' ')?;
-    let lines = lines_of(connection)?;
-    let params = params_of(word)?;
+    let (lines, params) = (lines_of(connection)?, params_of(word)?);
     let packets = parts.next()?;
-    let (by_client, by_server) = (parts.next()?, parts.next()?);
+    let (first, second) = (parts.next()?, parts.next()?);
     let all = datagrams(alloc, &params, lines)?;
     let lists = both_lists(alloc, &params, lines, all.as_slice(), packets)?;
     let (client, server) = (lists.client.as_slice(), lists.server.as_slice());
+    // What an end took is of its peer.
+    let (of_client, of_server) = match table {
+        Table::Taken => (second, first),
+        Table::Conveyed => (first, second),
+    };
     Some(
-        are_conveyed(alloc, &params, Side::Client, client, server, by_client)?
-            && are_conveyed(alloc, &params, Side::Server, server, client, by_server)?,
+        are_told(
+            alloc,
+            table,
+            &params,
+            Side::Client,
+            client,
+            server,
+            of_client,
+        )? && are_told(
+            alloc,
+            table,
+            &params,
+            Side::Server,
+            server,
+            client,
+            of_server,
+        )?,
     )
 }
 
 #[test]
 fn units_are_conveyed_so(rt: HostRuntime) {
     for row in CONVEYED.lines() {
-        assert_eq!(rt; is_conveyed(rt.alloc(), row), Some(true), "{row}");
+        assert_eq!(rt;
+            is_told(rt.alloc(), row, Table::Conveyed),
+            Some(true),
+            "{row}"
+        );
     }
 }

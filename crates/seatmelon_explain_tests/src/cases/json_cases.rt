@@ -1,6 +1,6 @@
 //! Captures, and what is wanted of them as JSON. A JSON text stands here over several lines, each without the
 //! spaces before it; the line feeds between them are no part of it.
-use crate::cases::Case;
+use crate::cases::{Case, PLAIN, file_cases, packet_cases, script_cases, step_cases};
 
 /// The whole text on the explained case.
 pub const EXPLAINED_JSON: &str = r#"
@@ -31,12 +31,6 @@ pub const EXPLAINED_JSON: &str = r#"
 
 /// A number that was used twice.
 pub const COPY_DIFFERS: Case = Case {
-    parameters: "plain",
-    settings: "data plain",
-    packets: "0 1 2 3 4 5 6@2",
-    changes: &[],
-    certificate: "",
-    without: &[],
     want: r#"
 {"program":"seatmelon 0.1.0, proved with rattle-kit-13f logic dac8208d650f15bf",
 "capture":{"name":"c","sha256":"258e24914ad231903b7d57519765f9685bb05da39d69920567de16b223b1ac71"},
@@ -58,15 +52,11 @@ pub const COPY_DIFFERS: Case = Case {
 "differences":[{"at":28,"found":"ff","first_copy":"fe"}],"may_differ_further":false},
 "line":null,"entry":null,"pdu":null,"rule":null}
 "#,
+    ..packet_cases::COPY_DIFFERS
 };
 
 /// No packet at all, with records left out.
 pub const NO_PACKETS: Case = Case {
-    parameters: "plain",
-    settings: "data plain",
-    packets: "-",
-    changes: &[],
-    certificate: "",
     without: &[3, 5],
     want: r#"
 {"program":"seatmelon 0.1.0, proved with rattle-kit-13f logic dac8208d650f15bf",
@@ -76,102 +66,58 @@ pub const NO_PACKETS: Case = Case {
 "channels":[{"channel":1,"from_client":0,"from_server":0},{"channel":2,"from_client":0,"from_server":0}],
 "records_passed_over":0,"offers":[],"verdict":"no_packets"}
 "#,
+    ..PLAIN
 };
 
-// A late copy with a flipped bit.
 const CODE: Case = Case {
-    parameters: "code16",
-    settings: "data code16",
-    packets: "0 1 2 2 flip",
-    changes: &[],
-    certificate: "",
-    without: &[],
     want: r#"
 "trouble":{"code_found":"7a9bef200a8e93ad6ea9b769f0c39b06","code_due":"7a9bef200a8e93ad6ea9b769f0c39b07",
 "first_copy":{"record":3,"time":"1970-01-01 00:00:00.000000 UTC","channel":1},"first_copy_bytes":null,
 "differences":[{"at":51,"found":"06","first_copy":"07"}],"may_differ_further":false},
 "line":null,"entry":null,"pdu":null,"rule":null}
 "#,
+    ..packet_cases::CODE
 };
 
-// A heartbeat without a safety code, where one of 16 bytes is recorded.
 const TOO_SHORT: Case = Case {
-    parameters: "code16",
-    settings: "data plain",
-    packets: "2",
-    changes: &[],
-    certificate: "",
-    without: &[],
     want: r#"
 "sn":101,"cs":500,"ts":1010,"cts":9000},"payload_and_codes":""},
 "trouble":{"least_bytes_due":52},"line":null,
 "#,
+    ..packet_cases::TOO_SHORT
 };
 
 const SAFETY_LENGTH: Case = Case {
-    parameters: "plain",
-    settings: "data plain",
-    packets: "0",
-    changes: &[(90, 41)],
-    certificate: "",
-    without: &[],
     want: r#""trouble":{"safety_length_field_due":42},"line":null,"#,
+    ..packet_cases::SAFETY_LENGTH
 };
 
 const REDUNDANCY_LENGTH: Case = Case {
-    parameters: "plain",
-    settings: "data plain",
-    packets: "0",
-    changes: &[(82, 51)],
-    certificate: "",
-    without: &[],
     want: r#""trouble":{"length_field_due":50},"line":null,"#,
+    ..packet_cases::REDUNDANCY_LENGTH
 };
 
 const IDS: Case = Case {
-    parameters: "plain",
-    settings: "data plain",
-    packets: "0",
-    changes: &[(94, 98)],
-    certificate: "",
-    without: &[],
     want: r#""trouble":{"receiver_due":97,"sender_due":96},"line":null,"#,
+    ..packet_cases::IDS
 };
 
-// The missing packet crosses later.
 const NUMBER_GAP: Case = Case {
-    parameters: "plain",
-    settings: "data plain",
-    packets: "0 1 3 2",
-    changes: &[],
-    certificate: "",
-    without: &[],
     want: r#"
 "trouble":{"number_due":8,"number_found":9,
 "crosses_later":{"record":4,"time":"1970-01-01 00:00:00.000000 UTC","channel":1}},
 "#,
+    ..packet_cases::NUMBER_GAP
 };
 
-// It ends inside its second record.
 const CUT_RECORD: Case = Case {
-    parameters: "plain",
-    settings: "data plain",
-    packets: "0 1 cut",
-    changes: &[],
-    certificate: "",
-    without: &[],
     want: r#"
 "record":{"record":2,"time":null},"packet":null,"trouble":null,"line":null,"entry":null,"pdu":null,"rule":null}
 "#,
+    ..file_cases::CUT_RECORD
 };
 
 const OTHER_SENDMAX: Case = Case {
-    parameters: "narrow",
-    settings: "data plain",
-    packets: "0 1 2",
-    changes: &[],
-    certificate: "rasta-certificate 2\n",
-    without: &[],
     want: r#"
 "offers":[{"end":"client","offered":20,"recorded":1},{"end":"server","offered":20,"recorded":1}],
 "verdict":"refused","fault":{"number":30,"name":"Syntax",
@@ -180,42 +126,27 @@ const OTHER_SENDMAX: Case = Case {
 "next_step":"this line of the certificate"},
 "record":null,"packet":null,"trouble":null,"line":1,"entry":null,"pdu":null,"rule":null}
 "#,
+    ..script_cases::OTHER_SENDMAX
 };
 
-// An entry of the server.
 const NOT_ALLOWED: Case = Case {
-    parameters: "plain",
-    settings: "data plain",
-    packets: "0 1 2",
-    changes: &[],
-    certificate: "rasta-certificate 1\nclient\nmake 0 1000 open\ntake 2 40\nmake 2 1010 reply\nserver\ntake 1 7\nmake 1 9000 beat\nend\n",
-    without: &[],
     want: r#"
 "line":null,"entry":{"number":2,"end":"server","line":8},
 "pdu":{"end":"server","packet":{"record":2,"time":"1970-01-01 00:00:00.000000 UTC","channel":1},
 "fields":{"type":6201,"type_name":"connection response","redundancy_number":40,
 "sn":500,"cs":100,"ts":9000,"cts":1000,"messages":[]}},"rule":null}
 "#,
+    ..step_cases::NOT_ALLOWED
 };
 
 const NEVER_CROSSES: Case = Case {
-    parameters: "plain",
-    settings: "data plain",
-    packets: "0 1 2",
-    changes: &[],
-    certificate: "rasta-certificate 1\nclient\nmake 0 1000 open\ntake 2 41\nmake 2 1010 reply\nserver\ntake 1 7\nmake 1 9000 reply\nend\n",
-    without: &[],
     want: r#""entry":{"number":2,"end":"client","line":4},"pdu":null,"rule":null}"#,
+    ..script_cases::NEVER_CROSSES
 };
 
 // Data, and no opening before it.
 const WITHOUT_OPENING: Case = Case {
-    parameters: "plain",
-    settings: "data plain",
     packets: "3",
-    changes: &[],
-    certificate: "",
-    without: &[],
     want: r#"
 "cause":"the capture begins in the middle of the connection, and the parameters record no quiet point;
  or the opening is there, but outside the window or on a channel that isn't recorded",
@@ -228,70 +159,53 @@ const WITHOUT_OPENING: Case = Case {
 "rule":{"words":"CS 500 confirms a PDU of the server, and none crosses",
 "number_due":null,"number_found":null,"peer_pdu":null}}
 "#,
+    ..PLAIN
 };
 
 const TYPE: Case = Case {
-    parameters: "plain",
-    settings: "data plain",
-    packets: "0",
-    changes: &[(92, 0)],
-    certificate: "",
-    without: &[],
     want: r#""trouble":{"type_found":6144},"line":null,"#,
+    ..packet_cases::TYPE
 };
 
 // The version of an opening has a byte that is no digit.
 const VERSION: Case = Case {
-    parameters: "plain",
-    settings: "data plain",
     packets: "0",
     changes: &[(118, 255)],
-    certificate: "",
-    without: &[],
     want: r#"
 "trouble":{"payload_due":"14 bytes, which begin with a version of four digits","payload_bytes":14,
 "version":{"hex":"ff333033","text":"\\xff303"},"cut_message":null},"line":null,
 "#,
+    ..PLAIN
 };
 
 const CUT_MESSAGE: Case = Case {
-    parameters: "plain",
-    settings: "data plain",
     packets: "3",
     changes: &[(118, 5)],
-    certificate: "",
-    without: &[],
     want: r#"
 "payload_bytes":6,"version":null,"cut_message":{"at":0,"length":5,"left":4}},"line":null,
 "#,
+    ..PLAIN
 };
 
 // What the client confirms crosses later.
 const CONFIRMS_LATER: Case = Case {
-    parameters: "plain",
-    settings: "data plain",
     packets: "0 2 1",
-    changes: &[],
-    certificate: "",
-    without: &[],
     want: r#"
 "rule":{"words":"CS 500 confirms a PDU of the server that crosses later","number_due":null,"number_found":null,
 "peer_pdu":{"end":"server","packet":{"record":3,"time":"1970-01-01 00:00:00.000000 UTC","channel":1},
 "fields":{"type":6201,"type_name":"connection response","redundancy_number":40,
 "sn":500,"cs":100,"ts":9000,"cts":1000,"messages":[]}}}}
 "#,
+    ..PLAIN
 };
 
 const SEQUENCE_NUMBER: Case = Case {
-    parameters: "plain",
     settings: "timed plain",
     packets: "0 1 2 14",
-    changes: &[],
-    certificate: "",
-    without: &[],
     want: r#"
 "rule":{"words":"SN isn't the next one of this end","number_due":102,"number_found":112,"peer_pdu":null}}
 "#,
+    ..PLAIN
 };
 
 /// A part of what is wanted of a capture from a quiet point, where one clock is the greatest that is a number.
