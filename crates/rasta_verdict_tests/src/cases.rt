@@ -105,14 +105,14 @@ fn capture_of(alloc: Global, packets: &str) -> Option<Vec<u8>> {
     let mut file = header_of(alloc, magic)?;
     for packet in packets.split('/') {
         match packet {
-            "-" => {}
-            "cut" => {
-                let _ = file.pop()?;
-            }
             "opened" => {
                 for packet in OPENED {
                     add_packet(alloc, &mut file, packet)?;
                 }
+            }
+            "-" => {}
+            "cut" => {
+                let _ = file.pop()?;
             }
             _ => add_packet(alloc, &mut file, packet)?,
         }
