@@ -54,7 +54,7 @@ pub struct Page<'a> {
 }
 
 /// The program, and what it was proved with.
-pub const PROGRAM: &str = "seatmelon 0.1.0, proved with rattle-kit-13f logic dac8208d650f15bf";
+pub const PROGRAM: &str = "seatmelon 0.1.0, proved with rattle-kit-13b logic dac8208d650f15bf";
 
 // Writes a file's name and its SHA-256.
 fn write_file<W: Sink>(writer: &mut W, what: &str, name: &str, digest: &[u8]) -> Result<(), Fault>

@@ -43,7 +43,7 @@ capture: c
 parameters: p
   SHA-256: 690d7880e356248a4f526b2a78d7367e4412615a8a85f47eafa354a793430538
 certificate: none was given, so one is built
-program: seatmelon 0.1.0, proved with rattle-kit-13f logic dac8208d650f15bf
+program: seatmelon 0.1.0, proved with rattle-kit-13b logic dac8208d650f15bf
 
 records read: 5
 packets of the connection: 5
