@@ -19,7 +19,7 @@ use crate::refusal::{
 };
 use crate::rule::{found_in, named_in, sentence, sn_due};
 use crate::sent_messages::list_of;
-use crate::text::{Part, add, name_of_end, parts, sentence_of, text_of};
+use crate::text::{Part, add, name_of_end, sentence_of, text_of};
 use crate::words::{Hint, hint_on, meaning_of};
 use rasta_build::Obstacle;
 use rasta_cert::Certificate;
@@ -62,7 +62,7 @@ fn packet_data(alloc: Global, packet: &Datagram<'_>) -> Result<Packet, Fault>
         channel: packet.channel,
         bytes: shown_length(packet.payload),
         fields: fields_of(packet.payload),
-        payload_and_codes: text_of(alloc, &parts![Part::Hex(rest)])?,
+        payload_and_codes: text_of(alloc, &[Part::Hex(rest)])?,
     })
 }
 
@@ -72,8 +72,8 @@ fn differences_data(alloc: Global, datagram: &[u8], first: &[u8]) -> Result<Vec<
 {
     let mut list = Vec::new(alloc);
     for difference in differences(datagram, first).as_slice() {
-        let found = text_of(alloc, &parts![Part::Byte(difference.byte)])?;
-        let first_copy = text_of(alloc, &parts![Part::Byte(difference.first)])?;
+        let found = text_of(alloc, &[Part::Byte(difference.byte)])?;
+        let first_copy = text_of(alloc, &[Part::Byte(difference.first)])?;
         let difference = Difference {
             at: Number(difference.at as u64),
             found,
@@ -95,8 +95,8 @@ fn codes_data(
 {
     match codes_in(&page.params, datagram) {
         Some(codes) if fault.number == Fault::CODE => {
-            let found = text_of(alloc, &parts![Part::Hex(codes.found)])?;
-            let due = text_of(alloc, &parts![Part::Hex(codes.due())])?;
+            let found = text_of(alloc, &[Part::Hex(codes.found)])?;
+            let due = text_of(alloc, &[Part::Hex(codes.due())])?;
             Ok((Some(found), Some(due)))
         }
         _ => Ok((None, None)),
@@ -173,8 +173,8 @@ fn due_data(page: &Page<'_>, fault: Fault, packet: &Datagram<'_>) -> Option<Trou
 fn content_data(alloc: Global, bytes: &[u8]) -> Result<Content, Fault>
     ensures err { IfErr result (λ f. f ≡ no_memory) }
 {
-    let hex = text_of(alloc, &parts![Part::Hex(bytes)])?;
-    let text = text_of(alloc, &parts![Part::Text(bytes)])?;
+    let hex = text_of(alloc, &[Part::Hex(bytes)])?;
+    let text = text_of(alloc, &[Part::Text(bytes)])?;
     Ok(Content { hex, text })
 }
 
