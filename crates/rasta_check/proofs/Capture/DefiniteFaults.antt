@@ -31,8 +31,7 @@ pub record IsDefinite (p : Parameters) (file : List ℕ) (f : Fault) : Type 0 wh
 definite_by : (p : Parameters) (file : List ℕ) (f : Fault) → OfConnection p → IsRefusedCapture p file f → IsSome f.end → IsDefinite p file f
 definite_by p file f h (in_record records c s frame number end faultless capture low high (in_packet a m found some)) is =
     let n = suc (length records) in
-    let top = h.valid.window.last_most in
-    let read = (reading_of-IsCapture n file (records ++ frame ∷ []) (omega (arith, top, high)) capture).0 in
+    let read = (reading_of-IsCapture n file (records ++ frame ∷ []) (omega (arith, high)) capture).0 in
     let packets : packets_through p file n ≡ crossing_list p records ++ a ∷ [] = ap (crossing_list p) read ∙ packets_with p records frame [] (le-ltb n p.first_record low) (Some a) found in
     let impossible = impossible_with p (crossing_list p records) _ a m h (sent_at p records c s faultless a.side) some in
     grind (arith, length_push)

@@ -56,7 +56,6 @@ module _ (k : Crossing) (a : Packet) (more : List Packet) (h : IsCrossing k) (bi
       let front = cut k.params more (k.packets ++ a ∷ []) a.side big (subst (λ (xs : List Packet). IsSent k.params xs a.side big) (sym (append_assoc k.packets (a ∷ []) more)) whole) in
       let less = ap length front.2.whole ∙ length-append front.0 front.2.later in
       let same = ap length (sent_once k.params (k.packets ++ a ∷ []) a.side front.0 (sent_after k a) front.1 grown (omega arith)) in
-      let room : length (sent_after k a) ≤ most_sent = omega arith in
       grind (arith, nat_tests, length_push, length-append)
 
 -- ---- what has no fault is read

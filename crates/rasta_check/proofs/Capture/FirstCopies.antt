@@ -1,6 +1,6 @@
 -- The first copies of a growing list of packets, and that a list of packets has one list of first copies.
 use Rattle.std.proofs.Common.{◌≡◌, ℕ, zero, suc, ◌+◌, ◌<◌, ◌≤◌, List, [], ◌∷◌, ◌++◌, length, Option, Some, None, slice_get, append-nil, refl, ap, sym, ◌∙◌, arith}
-use Rattle.rasta_check.proofs.Prelude.{length_push, slice_get_past, slice_get_within, Side, wrapped, RedundancyPdu, Spells, FirstCopy, Packet, all_push}
+use Rattle.rasta_check.proofs.Prelude.{slice_get_past, slice_get_within, Side, wrapped, RedundancyPdu, Spells, FirstCopy, Packet, all_push}
 use Rattle.rasta_check.proofs.Prelude.{begins_with, get_next, get_push_cases, get_front, get_front_within, get_push, slice_get_some, Parameters, AreParameters}
 use Rattle.rasta_check.proofs.Capture.FaultlessLists.{IsSent, ordered, read_once}
 use Rattle.rasta_check.proofs.Capture.Positions.{not_again, places_rise}
@@ -35,9 +35,7 @@ pub sent_first : (p : Parameters) (xs : List Packet) (k : Packet) (s : Side) (ow
     → IsSent p (xs ++ k ∷ []) s (own ++ record { place = length xs; pdu = d } ∷ []) × Counts_from f (own ++ record { place = length xs; pdu = d } ∷ [])
 sent_first p xs k s own d f h cf side sp num =
     let c : FirstCopy = record { place = length xs; pdu = d } in
-    let cf' : Counts_from f (own ++ c ∷ []) = all_push own c cf num in
     let firsts = all_push own c (old_first p xs k s own h) (k, get_push xs k, side, sp) in
-    let n = length_push own c in
     let at = get_push own c in
     grind (arith, get_push_cases, slice_get_within, get_front_within, get_front, all_push)
 

@@ -2,7 +2,7 @@
 use Rattle.std.proofs.Common.{◌<◌, List, length, arith}
 use Rattle.rasta_check.proofs.Prelude.{Side, Packet, Parameters, AreParameters, FirstCopy, Sent}
 use Rattle.rasta_check.proofs.Capture.FaultlessLists.{IsSent}
-use Rattle.rasta_check.proofs.Script.OneWay.{carried_at, first_is_new, new_is_first}
+use Rattle.rasta_check.proofs.Script.OneWay.{first_is_new, new_is_first}
 
 pub to_record : (p : Parameters) (packets : List Packet) (side : Side) (sent : List FirstCopy) → AreParameters p → Sent p packets side sent → IsSent p packets side sent
 to_record p packets side sent valid h =
@@ -16,7 +16,6 @@ to_record p packets side sent valid h =
 
 pub of_record : (p : Parameters) (packets : List Packet) (side : Side) (sent : List FirstCopy) → IsSent p packets side sent → length sent < 4294967296 → Sent p packets side sent
 of_record p packets side sent h few =
-    let carried = carried_at p packets side sent h in
     let first = first_is_new p packets side sent h few in
     let all = new_is_first p packets side sent h in
     grind arith

@@ -1,5 +1,5 @@
 -- Crossings record by record.
-use Rattle.std.proofs.Common.{◌≡◌, ◌⊎◌, ℕ, List, [], ◌∷◌, ◌++◌, suc, ◌+◌, ◌-◌, ◌<◌, length, map, drop, append_assoc, append-nil, Option, Some, None, Result, Ok, Err, true, false, refl, ap, sym, ◌∙◌, arith, subst, nat_lt}
+use Rattle.std.proofs.Common.{◌≡◌, ◌⊎◌, ℕ, List, [], ◌∷◌, ◌++◌, suc, ◌+◌, ◌-◌, length, map, drop, append_assoc, append-nil, Option, Some, None, Result, Ok, Err, true, false, refl, ap, sym, ◌∙◌, arith, subst, nat_lt}
 use Rattle.rasta_check.proofs.Prelude.{nat_tests, length_push, Side, Client, Server, fault_of_end, IsCapture-reading_of, reading_of-IsCapture, Packet, packet_in, FirstCopy}
 use Rattle.rasta_check.proofs.Prelude.{crossing_list, packet_fault, Fault, Numbered, IsCapture, next, cursor_after, opening, reading, reading_of, bytes_of, Parameters}
 use Rattle.rasta_check.proofs.Prelude.{AreParameters, Crossing, IsCrossing, and_then, after_record, after_records, after_reading, crossing_of, crossing_with, is_within}
@@ -134,7 +134,6 @@ module _ (p : Parameters) (front : List (List ℕ)) (frame : List ℕ) (c s : Li
 
   pub crossed_more : (next : Crossing) → Step (crossing_by p front c s) (suc (length front), frame) (Ok next) → Crossed p (front ++ frame ∷ []) next
   crossed_more next (before t) =
-      let low : suc (length front) < p.first_record = grind (arith, nat_tests) in
       let size = length_push front frame in
       crossed_with [] next (grind (arith, drop_of_length-le)) tt (rw append-nil refl) (λ h are is. is)
   crossed_more next (empty t g) = crossed_with (frame ∷ []) next (window_with p front frame [] t) (rw g refl, tt) (rw (g, append-nil) refl) (λ h are is. is)

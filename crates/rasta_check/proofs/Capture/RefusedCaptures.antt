@@ -110,16 +110,14 @@ module _ (p : Parameters) (file : List ℕ) (h : OfConnection p) (are : AreBytes
   unfolding after_records
   refused_is_read f (in_header g e) = after-refused p file g e
   refused_is_read f (in_reading records c s g faultless refused) =
-      let top = h.valid.window.last_most in
-      let read = reading_of-IsRefused p.last_record file records g (omega (arith, top)) refused in
+      let read = reading_of-IsRefused p.last_record file records g (omega (arith)) refused in
       (λ i. after_records (nothing_crossed p) (numbered_of p.last_record file i) (read.1 i))
       ∙ records_are_read p _ (Some g) c s h (file_bytes p.last_record file are) (subst (λ (xs : List (List ℕ)). AreFaultless p xs c s) (sym read.0) faultless)
   refused_is_read f (in_record records c s frame number end faultless capture low high fault) =
       let n = suc (length records) in
-      let top = h.valid.window.last_most in
       let all = reading_of p.last_record file in
       let later = drop n (bytes_of all) in
-      let read = (reading_of-IsCapture n file (records ++ frame ∷ []) (omega (arith, top, high)) capture).0 in
+      let read = (reading_of-IsCapture n file (records ++ frame ∷ []) (omega (arith, high)) capture).0 in
       let bytes = subst AllBytes read (file_bytes n file are) in
       let whole : bytes_of all ≡ records ++ frame ∷ later =
       sym (take-append-drop n (bytes_of all)) ∙ ap (λ (xs : List (List ℕ)). xs ++ later) (sym (file_front n p.last_record file high).0 ∙ read) ∙ append_assoc records (frame ∷ []) later in

@@ -68,7 +68,6 @@ module _ (p : Parameters) (d : KeptDatagrams) (packets : List StoredPacket) (st 
       let mine = kept_at p d packets st side x.position r.0 there in
       let bytes : r.0.bytes ≡ w.0.payload = ap (λ (o : Option Kept). bytes_of o) (sym r.1) ∙ ap (λ (a : Packet). a.payload) q.2 in
       let one : mine.pdu ≡ c.pdu = read_once p st.crossing.valid.valid side mine.pdu c.pdu r.0.bytes mine.spelled (rw bytes w.3) in
-      let here = mine.there in
       let same : i ≡ x.position = grind (arith, number_once, ordered, few_of) in
       grind arith
 

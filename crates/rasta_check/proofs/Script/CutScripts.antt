@@ -62,8 +62,6 @@ module _ (p : Parameters) (s : Side) (e f : EndState) (t u : ℕ) (own : List Fi
   no_opening m k q l =
       let x = m.c.pdu.safety in
       let b = made_by p m.e x m.clock m.why (passed p m.e x m.clock m.why m.makes.0) in
-      let after : e ≡ after_make_by (Some b.row) m.e x m.clock = m.makes.1 ∙ sym (after_row m.e x m.clock m.why b) in
-      let how = b.how in
       grind (arith, h.opening.starting)
 
   shows_by : (m : JustMade p own e) → (a : ℕ) → e.accepted ≡ a → length e.handed ≤ units_taken M (pdus_of own)

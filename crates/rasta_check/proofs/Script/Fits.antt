@@ -1,15 +1,15 @@
 -- The script that fits is the one that the code follows to its end, and the first fault of another is the one that the code answers.
 use Rattle.std.proofs.Common.{◌≡◌, ℕ, suc, ◌+◌, ◌<◌, ◌≤◌, true, false, List, [], ◌∷◌, ◌++◌, length, Option, Some, None, Result, Ok, Err, slice_get, ◌⊎◌, inl, inr, refl, ap, sym, ◌∙◌, arith, subst}
 use Rattle.rasta_check.proofs.Prelude.{◌==◌, nat_tests, append-nil, append_assoc, length-append, slice_get_within, Fault, Side, Client, Server, Parameters, Entry, Take, Make}
-use Rattle.rasta_check.proofs.Prelude.{EndState, Makes, start_of, FirstCopy, Cursor, at_start, Follows, fault_of_end, Scripts, make_fault, after_make, first_that_holds, take_fault}
-use Rattle.rasta_check.proofs.Prelude.{after_take, copy_with, IsOrdered, position_of_number, position_of_place, unless, made_there, follow_from, follow, Explained, BothFit}
+use Rattle.rasta_check.proofs.Prelude.{EndState, Makes, start_of, FirstCopy, Cursor, at_start, Follows, fault_of_end, Scripts, make_fault, after_make, first_that_holds}
+use Rattle.rasta_check.proofs.Prelude.{copy_with, IsOrdered, position_of_number, position_of_place, unless, made_there, follow_from, follow, Explained, BothFit}
 use Rattle.rasta_check.proofs.Prelude.{report_of, slice_get_some, get_past}
 use Rattle.std.specs.Option.{option_or}
 use Rattle.rasta_pcap.specs.Fault.{make_missing}
 use Rattle.rasta_check.specs.Capture.Lists.{places_of}
 use Rattle.rasta_check.specs.Script.Fitting.{places_made, AreInOrder, AreNamed, Joins, Fits, level_after, position_after, entry_tests, end_fault, FirstFault, at_entry, after_last}
 use Rattle.rasta_check.specs.Script.Laws.{HasOneAnswer}
-use Rattle.rasta_check.specs.Internals.Checking.{take_entry, make_entry, taken_there, next_cursor, then_follow, where_followed, verdict_of}
+use Rattle.rasta_check.specs.Internals.Checking.{take_entry, make_entry, next_cursor, then_follow, where_followed, verdict_of}
 use Rattle.rasta_check.specs.Verdict.Report.{IsScriptVerdict, both_fit, client_refused, server_refused}
 use Rattle.rasta_check.proofs.Script.FollowedScripts.{Goes, takes, makes, goes, gone, follow_fits, fits_follow}
 use Rattle.rasta_check.proofs.Internals.StoreLists.{copy_of_position, no_copy}
@@ -142,7 +142,6 @@ module _ (p : Parameters) (packets : ℕ) (own peer : List FirstCopy) where
       by None e = (let n = no_copy peer number e in grind arith)
       by (Some i) e =
           let f = number_found peer number i e in
-          let z = by_rules (take_fault p w.state w.state.clock) (taken_there w slot i (after_take p w.state f.0.pdu.safety)) in
           rw (e, f.1, copy_of_position peer number i e ∙ f.1) (grind arith)
   judged w left (Make place clock why) r = by left r (position_of_place own place) refl
     where

@@ -36,7 +36,6 @@ module _ (p : Parameters) (packets : ℕ) (own peer : List FirstCopy) where
       by None k e = absurd (let z = rw k at e in grind arith)
       by (Some position) k e =
           let f = number_found peer number position k in
-          let z = rw (k, f.1) at e in
           let ok : (u.level ≤ slot) × (slot ≤ packets) × (f.0.place < slot) × (u.taken ≤ position) = grind (arith, nat_tests) in
           let d = allowed (take_fault p u.state u.state.clock) (taken_there u slot position (after_take p u.state f.0.pdu.safety)) v (grind arith) in
           subst (Goes u (Take slot number)) d.1 (takes slot number position f.0 _ ok.0 ok.1 k f.1 ok.2 ok.3 (d.0, refl))
@@ -46,7 +45,6 @@ module _ (p : Parameters) (packets : ℕ) (own peer : List FirstCopy) where
       by None k e = absurd (let z = rw k at e in grind arith)
       by (Some position) k e =
           let f = place_found own place position k in
-          let z = rw (k, f.1) at e in
           let same : position ≡ u.made = grind (arith, nat_tests) in
           let d = allowed (make_fault p u.state f.0.pdu.safety clock why) (made_there u place (after_make u.state f.0.pdu.safety clock why)) v (grind arith) in
           subst (Goes u (Make place clock why)) d.1 (makes place clock why f.0 _ (grind (arith, nat_tests)) (k ∙ ap Some same) (ap (slice_get own) (sym same) ∙ f.1) f.2 (no_test p u.state f.0.pdu.safety clock why d.0, refl))

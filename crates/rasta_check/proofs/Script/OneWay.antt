@@ -1,5 +1,5 @@
 -- Scripts are followed in one way, and first copies are the packets with a new number.
-use Rattle.std.proofs.Common.{◌≡◌, ℕ, ◌<◌, List, [], ◌∷◌, ◌++◌, length, Some, slice_get, refl, ap, arith}
+use Rattle.std.proofs.Common.{◌≡◌, ℕ, ◌<◌, List, [], ◌∷◌, ◌++◌, length, Some, slice_get, refl, arith}
 use Rattle.rasta_check.proofs.Prelude.{append-nil, Side, Packet, Parameters, RedundancyPdu, Entry, FirstCopy, Cursor, Advances, takes_next, makes_next, Leads, Spells}
 use Rattle.rasta_check.specs.Capture.Crossing.{IsCarried, IsKnown}
 use Rattle.rasta_check.proofs.Capture.FaultlessLists.{IsSent, ordered, read_once}
@@ -24,7 +24,6 @@ module _ (p : Parameters) (n : ℕ) (packets : List Packet) (r : Side) (own peer
   once u v w x y e (takes_next slot i c z a b g d f t) (takes_next slot' i' c' z' a' b' g' d' f' t') =
       let number : c.pdu.number ≡ c'.pdu.number = cc in
       let position = number_once peer (ordered sent) few i i' c c' g g' number in
-      let same : c ≡ c' = (let z = ap (slice_get peer) position in cc) in
       cc (t.1, t'.1)
   once u v w x y e (makes_next c clock why z a g m) (makes_next c' clock' why' z' a' g' m') = (let same : c ≡ c' = cc in cc (m.1, m'.1))
   once u v w x y e _ _ = absurd (cc)
