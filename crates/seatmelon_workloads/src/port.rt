@@ -1,0 +1,237 @@
+//! A mirrored port: many connections at once, among other traffic, whose openings came before.
+use crate::capture::Capture;
+use crate::dialogue::{NOISE, noise};
+use crate::random::Random;
+use rasta_pdu::{Body, Channel, Endpoint, Kind, Params, PduParts, Side, encode};
+use std::alloc::Global;
+
+// How many connections cross the port.
+const CONNECTIONS: u32 = 300;
+
+// On how many channels each PDU crosses.
+const CHANNELS: u8 = 2;
+
+const CODE_LENGTH: u8 = 8;
+
+// The start words of RFC 1320, section 3.3.
+const WORDS: [u32; 4] = [0x6745_2301, 0xefcd_ab89, 0x98ba_dcfe, 0x1032_5476];
+
+// A PDU is data once in so many times, with a message of at least and at most so many bytes.
+const DATA: u32 = 4;
+
+const LEAST: u32 = 10;
+
+const MOST: u32 = 60;
+
+// Once in so many times a frame of no connection comes.
+const FOREIGN: u32 = 5;
+
+// Room in a capture for each record.
+const ROOM: usize = 128;
+
+// The microseconds between two PDUs.
+const PERIOD: u32 = 2000;
+
+// What an end sends next.
+#[derive(Clone, Copy, Debug)]
+struct Sender {
+    number: u32,
+    sn: u32,
+    ts: u32,
+}
+
+// A connection: its parameters, and both ends.
+#[derive(Drop)]
+struct Line {
+    params: Params,
+    client: Sender,
+    server: Sender,
+}
+
+impl Sender {
+    fn new(random: &mut Random) -> Sender {
+        Sender {
+            number: random.below(u32::MAX),
+            sn: random.below(u32::MAX),
+            ts: random.below(u32::MAX),
+        }
+    }
+
+    fn go_on(&mut self, millis: u32) {
+        self.number = self.number.wrapping_add(1);
+        self.sn = self.sn.wrapping_add(1);
+        self.ts = self.ts.wrapping_add(millis);
+    }
+}
+
+// A host of the connection of this number.
+fn endpoint(connection: u32, channel: u8, host: u8) -> Option<Endpoint> {
+    let row = u8::try_from(connection / 100).ok()?;
+    let place = u8::try_from(connection % 100).ok()?;
+    Some(Endpoint {
+        address: [10, channel, row, place.checked_add(host)?],
+        port: 5000,
+    })
+}
+
+fn channel(connection: u32, number: u8) -> Option<Channel> {
+    Some(Channel {
+        client: endpoint(connection, number, 1)?,
+        server: endpoint(connection, number, 101)?,
+    })
+}
+
+impl Line {
+    fn new(connection: u32, random: &mut Random) -> Option<Line> {
+        let channels = [channel(connection, 0)?, channel(connection, 1)?];
+        let client = connection.checked_mul(2)?.checked_add(1000)?;
+        let server = client.checked_add(1)?;
+        let params = Params::new(
+            client,
+            server,
+            CODE_LENGTH,
+            WORDS,
+            0,
+            20,
+            1800,
+            0,
+            1,
+            4_000_000_000,
+            &channels,
+            None,
+        )?;
+        Some(Line {
+            params,
+            client: Sender::new(random),
+            server: Sender::new(random),
+        })
+    }
+
+    // Writes the next PDU of a side with this body.
+    fn write_body(
+        &mut self,
+        side: Side,
+        kind: Kind,
+        body: Body<&[&[u8]]>,
+        datagram: &mut Vec<u8>,
+    ) -> Option<()> {
+        let (sender, peer) = match side {
+            Side::Client => (self.client, self.server),
+            Side::Server => (self.server, self.client),
+        };
+        let parts = PduParts {
+            number: sender.number,
+            reserve: 0,
+            kind,
+            sn: sender.sn,
+            cs: peer.sn.wrapping_sub(1),
+            ts: sender.ts,
+            cts: peer.ts,
+            body,
+            check_bytes: &[],
+        };
+        if !parts.fits(&self.params) {
+            return None;
+        }
+        datagram.clear();
+        encode(&self.params, side, &parts, datagram).ok()?;
+        match side {
+            Side::Client => self.client.go_on(300),
+            Side::Server => self.server.go_on(300),
+        }
+        Some(())
+    }
+
+    // Writes the next PDU of a side: data with this message, or a heartbeat.
+    fn write(&mut self, side: Side, message: Option<&[u8]>, datagram: &mut Vec<u8>) -> Option<()> {
+        match message {
+            Some(message) => {
+                let messages = [message];
+                self.write_body(
+                    side,
+                    Kind::Data,
+                    Body::Messages(messages.as_slice()),
+                    datagram,
+                )
+            }
+            None => self.write_body(side, Kind::Heartbeat, Body::Empty, datagram),
+        }
+    }
+}
+
+// A message, once in a while.
+fn message<'a>(random: &mut Random, noise: &'a [u8]) -> Option<&'a [u8]> {
+    if !random.happens(DATA) {
+        return None;
+    }
+    let len = LEAST.checked_add(random.below(MOST - LEAST))?;
+    let at = random.below((NOISE as u32) - MOST);
+    noise.get(at as usize..at.checked_add(len)? as usize)
+}
+
+fn lines(alloc: Global, random: &mut Random) -> Option<Vec<Line>> {
+    let mut lines = Vec::new(alloc);
+    for connection in 0..CONNECTIONS {
+        lines.push(Line::new(connection, random)?).ok()?;
+    }
+    Some(lines)
+}
+
+// Lets the next PDU of a line cross on each of its channels.
+fn cross(
+    line: &mut Line,
+    random: &mut Random,
+    noise: &[u8],
+    datagram: &mut Vec<u8>,
+    capture: &mut Capture,
+) -> Option<()> {
+    let side = if random.happens(2) {
+        Side::Client
+    } else {
+        Side::Server
+    };
+    line.write(side, message(random, noise), datagram)?;
+    for channel in line.params.channel().iter().take(usize::from(CHANNELS)) {
+        let (from, to) = match side {
+            Side::Client => (channel.client, channel.server),
+            Side::Server => (channel.server, channel.client),
+        };
+        capture.add_datagram(from, to, datagram)?;
+    }
+    Some(())
+}
+
+/// The capture of a port, and its lengths at some moments.
+#[derive(Drop)]
+pub struct Port {
+    pub capture: Capture,
+    pub moments: Vec<usize>,
+}
+
+/// What crosses a port, at least so many records, with the moments at which eight and nine tenths of them have crossed,
+/// and the last.
+pub fn make_port(alloc: Global, seed: u32, records: u32) -> Option<Port> {
+    let noise = noise(alloc, seed)?;
+    let mut random = Random::new(seed, 3);
+    let mut lines = lines(alloc, &mut random)?;
+    let mut capture = Capture::new(alloc, (records as usize).checked_mul(ROOM)?)?;
+    let mut datagram = Vec::new(alloc);
+    let mut moments = Vec::new(alloc);
+    for part in 8..=10 {
+        let due = u64::from(records) * part / 10;
+        for _ in 0..records {
+            if u64::from(capture.records()) >= due {
+                break;
+            }
+            let place = random.below(CONNECTIONS) as usize;
+            let line = lines.get_mut(place)?;
+            cross(line, &mut random, &noise, &mut datagram, &mut capture)?;
+            if random.happens(FOREIGN) {
+                capture.add_foreign()?;
+            }
+            capture.pass(random.below(PERIOD));
+        }
+        moments.push(capture.bytes().len()).ok()?;
+    }
+    Some(Port { capture, moments })
+}
