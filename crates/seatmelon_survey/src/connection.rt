@@ -130,11 +130,6 @@ impl Connection {
         }
     }
 
-    /// Whether the packet is between these two ends.
-    pub(crate) fn has_ends_of(&self, packet: &Packet) -> bool {
-        self.sender_of(packet).is_some()
-    }
-
     /// Whether a packet between these ends begins another connection: a connection request after the end
     /// of this one, or one that isn't a copy of its own.
     pub(crate) fn is_followed_by(&self, packet: &Packet) -> bool {

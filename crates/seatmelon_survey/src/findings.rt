@@ -6,6 +6,7 @@ ghost use Rattle.rasta_pcap.specs.Devices.{AsWritten};
 use crate::connection::Connection;
 use crate::lengths::Trials;
 use crate::packet::{Packet, packet_in};
+use crate::places::{Ends, Places};
 use crate::report::{write_connection, write_summary};
 use rasta_pcap::{CaptureTime, Fault, Record, Sink};
 use std::alloc::Global;
@@ -18,6 +19,7 @@ const MOST_CONNECTIONS: usize = 1024;
 pub struct Survey {
     trials: Trials,
     connections: Vec<Connection>,
+    places: Places,
     pub(crate) records: u32,
     pub(crate) packets: u64,
     pub(crate) left_out: u64,
@@ -33,6 +35,7 @@ impl Survey {
         Survey {
             trials: Trials::new(),
             connections: Vec::new(alloc),
+            places: Places::new(alloc),
             records: 0,
             packets: 0,
             left_out: 0,
@@ -63,32 +66,22 @@ impl Survey {
         Ok(())
     }
 
-    // The place of the last connection between the ends of the packet.
-    fn find_last(&self, packet: &Packet) -> Option<usize> {
-        let mut last = None;
-        for (place, connection) in self.connections.iter().enumerate() {
-            if connection.has_ends_of(packet) {
-                last = Some(place);
-            }
-        }
-        last
-    }
-
     fn add_packet(&mut self, alloc: Global, packet: &Packet) -> Result<(), Fault>
         ensures err { IfErr result (λ f. f ≡ no_memory) }
     {
         self.packets = self.packets.saturating_add(1);
-        if let Some(place) = self.find_last(packet)
+        let ends = Ends::of(&packet.way);
+        if let Some(place) = self.places.find(ends)
             && let Some(connection) = self.connections.get_mut(place)
             && !connection.is_followed_by(packet)
         {
             return connection.add(packet);
         }
-        self.begin(alloc, packet)
+        self.begin(alloc, ends, packet)
     }
 
-    // Begins a connection with this packet.
-    fn begin(&mut self, alloc: Global, packet: &Packet) -> Result<(), Fault>
+    // Begins a connection between these ends with this packet.
+    fn begin(&mut self, alloc: Global, ends: Ends, packet: &Packet) -> Result<(), Fault>
         ensures err { IfErr result (λ f. f ≡ no_memory) }
     {
         if self.connections.len() >= MOST_CONNECTIONS {
@@ -97,6 +90,7 @@ impl Survey {
         }
         let mut connection = Connection::new(alloc, packet)?;
         connection.add(packet)?;
+        self.places.set(ends, self.connections.len())?;
         if self.connections.push(connection).is_err() {
             return Err(Fault::at(Fault::NO_MEMORY, 0));
         }

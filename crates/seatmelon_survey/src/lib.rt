@@ -10,6 +10,7 @@ mod lengths;
 mod numbers;
 mod packet;
 mod party;
+mod places;
 mod quiet;
 mod quiet_draft;
 mod reading;
