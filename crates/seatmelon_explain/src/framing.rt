@@ -1,4 +1,6 @@
 //! Where the bytes of a capture stand.
+ghost use Rattle.std.specs.Prelude.{◌≤◌, ◌<◌, length};
+
 use byteorder::{BigEndian, ByteOrder, LittleEndian};
 
 // Lengths of the file's header and of a record's, in bytes.
@@ -20,6 +22,22 @@ enum Part {
     FileHeader,
     RecordHeader,
     Frame,
+}
+
+/// Bytes of one part: how many, and where they begin in their record's frame, from 0; nowhere in a header.
+#[derive(Clone, Copy, Debug, PartialEq, Eq)]
+pub struct Piece {
+    pub len: usize,
+    pub offset: Option<u32>,
+}
+
+// How many of these bytes a part has of which so many are left, at least one of them.
+fn count_of(left: u32, bytes: &[u8]) -> u32
+    ensures within { result ≤ length bytes.now }
+    ensures some { 0 < length bytes.now → 0 < result }
+{
+    let len = u32::try_from(bytes.len()).unwrap_or(u32::MAX);
+    len.min(left.max(1))
 }
 
 /// Goes along the bytes of a capture in the classic libpcap format, and tells which record's frame each
@@ -59,14 +77,19 @@ impl Framing {
         self.passed = 0;
     }
 
-    fn pass_file_header(&mut self, byte: u8) {
-        if self.passed == 0 {
-            self.is_big_endian = byte == BIG_ENDIAN;
+    fn pass_file_header(&mut self, bytes: &[u8]) -> u32
+        ensures within { result ≤ length bytes.now }
+        ensures some { 0 < length bytes.now → 0 < result }
+    {
+        if let (0, Some(first)) = (self.passed, bytes.first()) {
+            self.is_big_endian = *first == BIG_ENDIAN;
         }
-        self.passed = self.passed.saturating_add(1);
+        let count = count_of(FILE_HEADER.saturating_sub(self.passed), bytes);
+        self.passed = self.passed.saturating_add(count);
         if self.passed >= FILE_HEADER {
             self.begin(Part::RecordHeader);
         }
+        count
     }
 
     fn begin_frame(&mut self) {
@@ -83,37 +106,59 @@ impl Framing {
         }
     }
 
-    fn pass_record_header(&mut self, byte: u8) {
-        if CAPTURED_AT <= self.passed && self.passed < CAPTURED_END {
-            self.captured[(self.passed - CAPTURED_AT) as usize] = byte;
+    // Keeps what these bytes of a record's header have of the captured length.
+    fn keep_captured(&mut self, bytes: &[u8]) {
+        let mut at = self.passed;
+        for byte in bytes {
+            if CAPTURED_AT <= at && at < CAPTURED_END {
+                self.captured[(at - CAPTURED_AT) as usize] = *byte;
+            }
+            at = at.saturating_add(1);
         }
-        self.passed = self.passed.saturating_add(1);
+    }
+
+    fn pass_record_header(&mut self, bytes: &[u8]) -> u32
+        ensures within { result ≤ length bytes.now }
+        ensures some { 0 < length bytes.now → 0 < result }
+    {
+        let count = count_of(RECORD_HEADER.saturating_sub(self.passed), bytes);
+        self.keep_captured(&bytes[..count as usize]);
+        self.passed = self.passed.saturating_add(count);
         if self.passed >= RECORD_HEADER {
             self.begin_frame();
         }
+        count
     }
 
-    fn pass_frame(&mut self) -> u32 {
-        let offset = self.passed;
-        self.passed = self.passed.saturating_add(1);
+    fn pass_frame(&mut self, bytes: &[u8]) -> u32
+        ensures within { result ≤ length bytes.now }
+        ensures some { 0 < length bytes.now → 0 < result }
+    {
+        let count = count_of(self.length.saturating_sub(self.passed), bytes);
+        self.passed = self.passed.saturating_add(count);
         if self.passed >= self.length {
             self.begin(Part::RecordHeader);
         }
-        offset
+        count
     }
 
-    /// Passes the next byte, and answers where it stands in its record's frame, from 0; none in a header.
-    pub fn pass(&mut self, byte: u8) -> Option<u32> {
-        match self.part {
-            Part::FileHeader => {
-                self.pass_file_header(byte);
-                None
-            }
-            Part::RecordHeader => {
-                self.pass_record_header(byte);
-                None
-            }
-            Part::Frame => Some(self.pass_frame()),
+    /// Passes the next bytes as far as they belong to one part: at least one, if there is one.
+    pub fn pass(&mut self, bytes: &[u8]) -> Piece
+        ensures within { result.len ≤ length bytes.now }
+        ensures some { 0 < length bytes.now → 0 < result.len }
+    {
+        let offset = match self.part {
+            Part::FileHeader | Part::RecordHeader => None,
+            Part::Frame => Some(self.passed),
+        };
+        let count = match self.part {
+            Part::FileHeader => self.pass_file_header(bytes),
+            Part::RecordHeader => self.pass_record_header(bytes),
+            Part::Frame => self.pass_frame(bytes),
+        };
+        Piece {
+            len: count as usize,
+            offset,
         }
     }
 }

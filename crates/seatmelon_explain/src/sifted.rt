@@ -1,8 +1,8 @@
 //! A capture on its way to its reader.
-ghost use Rattle.std.specs.Prelude.{◌≡◌, [], length, IfErr, IfOk, OnOk};
+ghost use Rattle.std.specs.Prelude.{◌≡◌, ◌<◌, ◌≤◌, [], length, IfErr, IfOk, OnOk};
 ghost use Rattle.rasta_pcap.specs.Fault.{no_memory, read_failed};
 
-use crate::framing::Framing;
+use crate::framing::{Framing, Piece};
 use rasta_pcap::{Fault, Source};
 use sha2::{Digest, Sha256};
 use std::alloc::Global;
@@ -18,6 +18,17 @@ const TYPE_END: u32 = 14;
 
 // How many bytes are read at once.
 const BUFFER: usize = 8192;
+
+// Puts 0 in the place of the bytes of the type field, in bytes that begin there in a frame.
+fn leave_out(offset: u32, bytes: &mut [u8])
+    ensures { length bytes.new ≡ length bytes.old }
+{
+    for place in TYPE_AT..TYPE_END {
+        if offset <= place && ((place - offset) as usize) < bytes.len() {
+            bytes[(place - offset) as usize] = 0;
+        }
+    }
+}
 
 // What is known of the bytes that have passed.
 #[derive(Drop)]
@@ -42,27 +53,33 @@ impl Tracker {
         })
     }
 
-    // Keeps a byte of a frame.
-    fn keep(&mut self, offset: usize, byte: u8) {
+    // Keeps bytes of a frame.
+    fn keep(&mut self, offset: usize, bytes: &[u8]) {
         if offset < self.frame.len() {
-            self.frame[offset] = byte;
-            self.len = offset + 1;
+            let count = bytes.len().min(self.frame.len() - offset);
+            self.frame[offset..offset + count].copy_from_slice(&bytes[..count]);
+            self.len = offset + count;
         }
     }
 
-    // Passes a byte, and tells whether it is one of the type field of a record that is left out.
-    fn pass(&mut self, without: &[u32], byte: u8) -> bool {
-        let Some(offset) = self.framing.pass(byte) else {
-            return false;
-        };
-        self.keep(offset as usize, byte);
-        TYPE_AT <= offset && offset < TYPE_END && without.contains(&self.framing.number())
+    // Passes the next bytes as far as they belong to one part, at least one, if there is one.
+    fn pass(&mut self, bytes: &[u8]) -> Piece
+        ensures within { result.len ≤ length bytes.now }
+        ensures some { 0 < length bytes.now → 0 < result.len }
+    {
+        let piece = self.framing.pass(bytes);
+        if let Some(offset) = piece.offset {
+            self.keep(offset as usize, &bytes[..piece.len]);
+        }
+        piece
     }
 
     // Passes bytes as they are.
     fn pass_all(&mut self, bytes: &[u8]) {
-        for byte in bytes {
-            self.pass(&[], *byte);
+        let mut rest = bytes;
+        while !rest.is_empty() {
+            let piece = self.pass(rest);
+            rest = &rest[piece.len..];
         }
     }
 
@@ -70,10 +87,16 @@ impl Tracker {
     fn sift(&mut self, without: &[u32], bytes: &mut [u8])
         ensures { length bytes.new ≡ length bytes.old }
     {
-        for place in 0..bytes.len() {
-            if self.pass(without, bytes[place]) {
-                bytes[place] = 0;
+        let mut at = 0;
+        while at < bytes.len() {
+            let Piece { len, offset } = self.pass(&bytes[at..]);
+            if let Some(offset) = offset
+                && offset < TYPE_END
+                && without.contains(&self.framing.number())
+            {
+                leave_out(offset, &mut bytes[at..at + len]);
             }
+            at += len;
         }
     }
 
