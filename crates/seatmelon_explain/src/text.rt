@@ -1,14 +1,18 @@
 //! Lines of plain text.
-ghost use Rattle.std.specs.Prelude.{◌≡◌, IfErr};
+ghost use Rattle.std.specs.Prelude.{◌≡◌, ◌≤◌, length, IfErr};
 ghost use Rattle.rasta_pcap.specs.Fault.{no_memory, write_failed};
 
 use itoa::Buffer;
 use rasta_pcap::{CaptureTime, Counted, Fault, Side, Sink, write_all};
+use rasta_show::write_message;
 use seatmelon_survey::write_time;
 use std::alloc::{AllocError, Global};
 
 // The digits of hexadecimal numbers.
 const DIGITS: [u8; 16] = *b"0123456789abcdef";
+
+// How many bytes of a text are written at once.
+const ROOM: usize = 256;
 
 /// A part of a line.
 #[derive(Clone, Copy, Debug)]
@@ -106,30 +110,52 @@ fn write_byte<W: Sink>(writer: &mut W, byte: u8) -> Result<(), Fault>
 fn write_hex<W: Sink>(writer: &mut W, bytes: &[u8]) -> Result<(), Fault>
     ensures err { IfErr result (λ f. f ≡ write_failed) }
 {
-    for byte in bytes {
-        write_byte(writer, *byte)?;
+    if bytes.is_empty() {
+        return Ok(());
     }
-    Ok(())
+    write_message(bytes, writer)
 }
 
-// Writes a byte as text. A backslash is doubled.
-fn write_character<W: Sink>(writer: &mut W, byte: u8) -> Result<(), Fault>
-    ensures err { IfErr result (λ f. f ≡ write_failed) }
+// Puts a byte as text at the front of the room, and answers how many bytes it takes. A backslash is doubled.
+fn put_character(byte: u8, room: &mut [u8]) -> usize
+    requires { length room.now ≡ 4 }
+    ensures room { length room.new ≡ length room.old }
+    ensures most { result ≤ 4 }
 {
     match byte {
-        b'\\' => write_all(writer, b"\\\\"),
-        b' '..=b'~' => write_all(writer, &[byte]),
-        _ => write_all(writer, &[b'\\', b'x', digit(byte / 16), digit(byte)]),
+        b'\\' => {
+            room[0] = b'\\';
+            room[1] = b'\\';
+            2
+        }
+        b' '..=b'~' => {
+            room[0] = byte;
+            1
+        }
+        _ => {
+            room[0] = b'\\';
+            room[1] = b'x';
+            room[2] = digit(byte / 16);
+            room[3] = digit(byte);
+            4
+        }
     }
 }
 
+// Writes bytes as text, as many at once as there is room for.
 fn write_text<W: Sink>(writer: &mut W, bytes: &[u8]) -> Result<(), Fault>
     ensures err { IfErr result (λ f. f ≡ write_failed) }
 {
+    let mut room = [0u8; ROOM];
+    let mut len = 0;
     for byte in bytes {
-        write_character(writer, *byte)?;
+        if len > ROOM - 4 {
+            write_all(writer, &room[..len])?;
+            len = 0;
+        }
+        len += put_character(*byte, &mut room[len..len + 4]);
     }
-    Ok(())
+    write_all(writer, &room[..len])
 }
 
 /// The name of an end.
