@@ -4,3 +4,4 @@ pub mod Bounds
 pub mod Refusals
 pub mod Sending
 pub mod Lines
+mod Asked

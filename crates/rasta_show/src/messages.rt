@@ -1,26 +1,55 @@
 //! Writing messages in hexadecimal.
-ghost use Rattle.std.specs.Prelude.{◌≡◌, ◌≤◌, length};
+ghost use Rattle.std.specs.Prelude.{◌≡◌, ◌*◌, ◌≤◌, length, take};
 ghost use Rattle.hex.specs.Hex.{encode_lower};
 ghost use Rattle.rasta_pcap.specs.Devices.{Writes, AsWritten};
 ghost use Rattle.rasta_pdu.specs.Pdu.{messages_left};
 ghost use Rattle.rasta_show.specs.Lines.{further_text, message_text, messages_text};
 
+use crate::digits::digits_of_block;
 use rasta_pcap::write_all;
 use rasta_pdu::{Fault, Messages, Sink};
 
 // How many bytes are written at once.
 const PIECE: usize = 64;
 
+// How many bytes are spelled at once.
+const BLOCK: usize = 16;
+
+// Puts the digits of the whole blocks that a piece begins with at the front of the room, and answers how many bytes
+// these blocks have.
+fn put_blocks(piece: &[u8], room: &mut [u8; 128]) -> usize
+    requires { length piece.now ≤ 64 }
+    ensures within { result ≤ length piece.now }
+    ensures digits { take (2 * result) room.new ≡ encode_lower (take result piece.now) }
+{
+    let mut at = 0;
+    while at + BLOCK <= piece.len() {
+        let mut block = [0u8; BLOCK];
+        block.copy_from_slice(&piece[at..at + BLOCK]);
+        room[2 * at..2 * at + 2 * BLOCK].copy_from_slice(&digits_of_block(block));
+        at += BLOCK;
+    }
+    at
+}
+
+// Puts the digits of bytes into a room of twice their length.
+fn put_digits(bytes: &[u8], room: &mut [u8])
+    requires { length room.old ≡ 2 * length bytes.now }
+    ensures { room.new ≡ encode_lower bytes.now }
+{
+    if hex::encode_to_slice(bytes, room).is_err() {
+        unreachable!();
+    }
+}
+
 // The digits of a piece, at the front of the room.
 fn digits<'a>(piece: &[u8], room: &'a mut [u8; 128]) -> &'a [u8]
     requires { length piece.now ≤ 64 }
     ensures { result.now ≡ encode_lower piece.now }
 {
-    let digits = &mut room[..2 * piece.len()];
-    if hex::encode_to_slice(piece, digits).is_err() {
-        unreachable!();
-    }
-    digits
+    let at = put_blocks(piece, room);
+    put_digits(&piece[at..], &mut room[2 * at..2 * piece.len()]);
+    &room[..2 * piece.len()]
 }
 
 // Writes at most 64 bytes.
