@@ -10,6 +10,7 @@ pub mod ListForms
 pub mod RecordBytes
 pub mod Readings
 pub mod RefusedCaptures
+pub mod SameBytes
 pub mod FirstCopies
 pub mod DefiniteFaults
 pub mod Positions

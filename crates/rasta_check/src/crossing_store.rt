@@ -1,5 +1,5 @@
 //! What each side sent, with the bytes of first copies alone.
-ghost use Rattle.std.specs.Prelude.{◌≡◌, ◌∷◌, ◌++◌, [], ◌<◌, length, map, is_some, is_none, option_map, slice_get, None, Some, Ok, Err, IfSome, MatchOption, MatchResult, OnOk, OnErr, ◌⊎◌, nat_lt, not, ◌&&◌, ◌||◌, bytes_eq};
+ghost use Rattle.std.specs.Prelude.{◌≡◌, ℕ, ◌∷◌, ◌++◌, [], ◌<◌, length, map, is_some, is_none, option_map, slice_get, None, Some, Ok, Err, IfSome, MatchOption, MatchResult, OnOk, OnErr, ◌⊎◌, nat_lt, not, ◌&&◌, ◌||◌, bytes_eq};
 ghost use Rattle.rasta_pcap.specs.Fault.{no_memory};
 ghost use Rattle.rasta_udp.specs.Frame.{Packet, packet_in, packet_of};
 ghost use Rattle.rasta_pdu.specs.Pdu.{RedundancyPdu, decode_of, redundancy_bytes};
@@ -215,6 +215,27 @@ impl Store {
         }
     }
 
+    // The position of the first copy whose bytes a packet has: what they spell needn't be read again.
+    #[tactic(auto, using(crate::proofs::Internals::StoreLists::same_copies))]
+    fn repeated(&self, found: &Datagram<'_>) -> Option<u32>
+        ensures value { MatchOption result
+            ((position : ℕ) (copy : FirstCopy) → slice_get (sent_by self.now found.now.side) position ≡ Some copy
+            → found.now.payload.now ≡ redundancy_bytes self.now.params found.now.side copy.pdu → ⊥)
+            (λ position. (copy : FirstCopy) × (slice_get (sent_by self.now found.now.side) position ≡ Some copy)
+            × (found.now.payload.now ≡ redundancy_bytes self.now.params found.now.side copy.pdu)) }
+        ensures crossing { IsCrossing self.now }
+    {
+        // A field is read, so what a store holds is known.
+        let _ = &self.params;
+        // No first copy is so short.
+        if found.payload.len() < 8 {
+            return None;
+        }
+        let position = self.position_of(found.side, number_in(found.payload))?;
+        let is_same = self.has_bytes(found.side, position, found.payload);
+        is_same.then_some(position)
+    }
+
     // The position of the first copy that a packet repeats, none where its number is new; or the number of
     // its fault.
     fn judge(&self, found: &Datagram<'_>) -> Result<Option<u32>, u8>
@@ -226,6 +247,9 @@ impl Store {
             (λ f. packet_fault self.now.params (sent_by self.now found.now.side) (packet_of found.now) ≡ Some f) }
         ensures crossing { IsCrossing self.now }
     {
+        if let Some(position) = self.repeated(found) {
+            return Ok(Some(position));
+        }
         let p = self.kept_params();
         let number = match decode(p, found.side, found.payload) {
             Ok(pdu) => pdu.number(),

@@ -9,7 +9,7 @@ use Rattle.rasta_check.proofs.Capture.NextPackets.{CanFollow}
 use Rattle.rasta_check.proofs.Capture.Positions.{next_new, number_once}
 
 -- what is spelled is read back
-reads : (p : Parameters) (side : Side) (d : RedundancyPdu) (bytes : List ℕ) → OfConnection p → Spells p side d bytes → decode_of p side bytes ≡ Ok d
+pub reads : (p : Parameters) (side : Side) (d : RedundancyPdu) (bytes : List ℕ) → OfConnection p → Spells p side d bytes → decode_of p side bytes ≡ Ok d
 reads p side d bytes h s = ap (decode_of p side) s.same ∙ decode_of-redundancy_bytes p side d h.valid (grind arith) (grind arith) s.fits
 
 -- ---- the first copy with a number

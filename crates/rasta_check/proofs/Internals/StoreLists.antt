@@ -10,6 +10,7 @@ use Rattle.rasta_pcap.specs.Fault.{copy_differs}
 use Rattle.rasta_check.specs.Capture.Lists.{numbers_of}
 use Rattle.rasta_check.specs.Internals.Stored.{bytes_of, copy_in, packet_by}
 use Rattle.rasta_check.proofs.Capture.Crossings.{few_of, known_by, list_of}
+use Rattle.rasta_check.proofs.Capture.SameBytes.{same_found, same_length}
 use Rattle.rasta_check.proofs.Sides.{same_side, sides_differ}
 use Rattle.rasta_check.proofs.Capture.Positions.{far, near, number_found, number_once, place_missing, place_named}
 use Rattle.rasta_check.proofs.Capture.FaultlessLists.{ordered, read_once}
@@ -127,6 +128,9 @@ module _ (k : Crossing) (a : Packet) (pdu : RedundancyPdu) (reads : decode_of k.
   skips e f = (known_by k a pdu None reads (no_copy sent pdu.number e)).0 ∙ ap (λ (b : Bool). if b then None else Some number_gap) f
 
 -- ---- what the code looks up
+
+-- the position of the bytes of a first copy
+pub ruleset same_copies = (same_length, same_found, number_found, bytes_eq-Decides)
 
 -- the position of a number of a side
 pub ruleset distances = (near, far, few_of, list_of, ordered)
