@@ -263,3 +263,23 @@ entry_line_injective e d he hd same =
   where
     some_is : {A : Type 0} {x y : A} → ◌≡◌ {A = Option A} (Some x) (Some y) → x ≡ y
     some_is {A} {x} {y} h = cc
+
+-- the front of a text is the line of an entry, part by part
+pub take_line : (text one rest : List ℕ) (slot number : ℕ) → text ≡ decimal slot ++ (32 ∷ one) → one ≡ decimal number ++ (10 ∷ rest)
+    → codes "take " ++ text ≡ entry_line (Take slot number) ++ rest
+unfolding entry_line
+take_line text one rest slot number a b =
+    let last : one ≡ line (decimal number) ++ rest = b ∙ sym (append_assoc (decimal number) (10 ∷ []) rest) in
+    ap (λ (l : List ℕ). codes "take " ++ l)
+    (a ∙ ap (λ (l : List ℕ). decimal slot ++ (32 ∷ l)) last ∙ sym (append_assoc (decimal slot) (32 ∷ line (decimal number)) rest))
+
+pub make_line : (text one two rest : List ℕ) (index clock : ℕ) (why : Why) → text ≡ decimal index ++ (32 ∷ one) → one ≡ decimal clock ++ (32 ∷ two)
+    → two ≡ why_line why ++ rest → codes "make " ++ text ≡ entry_line (Make index clock why) ++ rest
+unfolding entry_line
+make_line text one two rest index clock why a b w =
+    let W = why_line why in
+    let I = decimal index in
+    let C = decimal clock in
+    let last : one ≡ (C ++ (32 ∷ W)) ++ rest = b ∙ ap (λ (l : List ℕ). C ++ (32 ∷ l)) w ∙ sym (append_assoc C (32 ∷ W) rest) in
+    ap (λ (l : List ℕ). codes "make " ++ l)
+    (a ∙ ap (λ (l : List ℕ). I ++ (32 ∷ l)) last ∙ sym (append_assoc I (32 ∷ (C ++ (32 ∷ W))) rest))

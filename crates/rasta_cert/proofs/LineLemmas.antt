@@ -11,6 +11,7 @@ use Rattle.rasta_end.specs.declared.why.Why.TheVariants.{Open, Reply, Beat, Fres
 use Rattle.rasta_cert.specs.declared.entry.Entry.{Entry}
 use Rattle.rasta_cert.specs.declared.entry.Entry.TheVariants.{Take, Make}
 use Rattle.rasta_cert.specs.Certificate.{AreEntries, AreScripts, IsEntry, IsReason, Scripts, entry_line, line}
+use Rattle.rasta_cert.specs.Reading.{BeginsWith}
 use Rattle.rasta_cert.specs.Refusals.{first_line, lines_of}
 use Rattle.rasta_line.specs.Words.{cut}
 use Rattle.rasta_line.proofs.Cuts.{Lacks, Lacks-append, Lacks-cons, Lacks-decimal, Lacks-word, cut-None, cut-Some}
@@ -91,6 +92,19 @@ entry_lacks (Make index clock why) h =
 
 pub IsLine-entry : (e : Entry) → IsEntry e → IsLine (entry_line e)
 IsLine-entry e h = subst IsLine (sym (entry_line-words e)) (IsLine-line (entry_words e) (entry_lacks e h))
+
+-- a text begins with the entry whose line it begins with
+pub begins_with : (text rest : List ℕ) (e : Entry) → text ≡ entry_line e ++ rest → IsEntry e → BeginsWith text e rest
+begins_with text rest e is valid = record { text_is = is; first = ap first_line is ∙ (IsLine-entry e valid).first rest; valid = valid }
+
+-- and goes on with a shorter one
+pub shorter_after : (text rest : List ℕ) (e : Entry) → text ≡ entry_line e ++ rest → length rest < length text
+shorter_after text rest e is =
+    let words = entry_words e in
+    let both : length (line words ++ rest) ≡ length (line words) + length rest = length-append (line words) rest in
+    let long : length (line words) ≡ length words + 1 = length-append words (10 ∷ []) in
+    let all : text ≡ line words ++ rest = is ∙ ap (λ (l : List ℕ). l ++ rest) (entry_line-words e) in
+    omega (arith, both, long, ap length all)
 
 abbrev pub AreLines : List (List ℕ) → Type 0
 AreLines ls = AllByRecursion IsLine ls

@@ -1,10 +1,11 @@
 -- Texts that spell a number, and others.
-use Rattle.std.proofs.Common.{◌≡◌, inl, inr, ℕ, ◌^◌, ◌<◌, ◌≤◌, List, length, get_or, Some, None, sym, ap, subst, ◌∙◌, arith}
+use Rattle.std.proofs.Common.{◌≡◌, ◌≢◌, inl, inr, ℕ, ◌^◌, ◌<◌, ◌≤◌, List, length, get_or, take, Some, None, sym, ap, subst, ◌∙◌, arith}
 use Rattle.std.proofs.lemmas.Bool.{cases_lt}
+use Rattle.std.proofs.lemmas.List.{get_or-take, length-take-le}
 use Rattle.std.specs.Fmt.{decimal}
 use Rattle.std.specs.Str.Parse.{AllDigits, digits_value}
 use Rattle.std.proofs.lemmas.Fmt.{decimal_is_IsNumeral, decimal_digit, decimal-digits_value, first_decimal}
-use Rattle.std.proofs.lemmas.Str.Parse.{numerals_by_value, tells_digits}
+use Rattle.std.proofs.lemmas.Str.Parse.{digits_value_short, numerals_by_value, tells_digits}
 use Rattle.rasta_line.specs.Words.{decimal_of}
 use Rattle.rasta_line.proofs.Numbers.{decimal_of-decimal, decimal_of-None}
 
@@ -37,3 +38,19 @@ pub decimal_of-digits : (most n : ℕ) (text : List ℕ) → most < 2 ^ 64 → (
 decimal_of-digits most n text small head digits value within =
     let spelled : decimal (digits_value 10 text) ≡ text = decimal-digits_value (numerals_by_value (AllDigits 10) tells_digits) text digits head.0 head.1 (omega arith) in
     sym (decimal_of-decimal most n text small within (sym spelled ∙ ap decimal value))
+
+-- no digit more makes the number of 18 digits too large
+pub short_value : (text : List ℕ) (count : ℕ) → count ≤ length text → count ≤ 18 → AllDigits 10 (take count text)
+    → digits_value 10 (take count text) < 10 ^ 18
+short_value text count within few digits =
+    let long : length (take count text) ≡ count = length-take-le count text within in
+    digits_value_short (numerals_by_value (AllDigits 10) tells_digits) (take count text) 18 digits (omega arith)
+
+-- digits at the front that don't begin with a zero are the text of their number
+pub decimal-front : (text : List ℕ) (count : ℕ) → count ≤ length text → 0 < count → get_or text 0 0 ≢ 48 → AllDigits 10 (take count text)
+    → digits_value 10 (take count text) < 2 ^ 64 → decimal (digits_value 10 (take count text)) ≡ take count text
+decimal-front text count within some plain digits small =
+    let long : length (take count text) ≡ count = length-take-le count text within in
+    let first : get_or (take count text) 0 0 ≡ get_or text 0 0 = get_or-take count text 0 0 some in
+    decimal-digits_value (numerals_by_value (AllDigits 10) tells_digits) (take count text) digits (omega arith)
+    (λ zero. absurd (plain (sym first ∙ zero))) small

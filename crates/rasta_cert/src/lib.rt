@@ -4,6 +4,7 @@
 mod certificate;
 mod entry;
 mod fields;
+mod front;
 pub mod laws;
 mod line;
 mod reading;

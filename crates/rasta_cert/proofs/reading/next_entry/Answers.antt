@@ -1,11 +1,8 @@
-use Rattle.std.proofs.Common.{Option, Some, None, IfNone, ◌∙◌}
-use Rattle.rasta_cert.proofs.FieldLemmas.{entry_line-words, entry_words}
+use Rattle.rasta_cert.proofs.LineLemmas.{begins_with, shorter_after}
 use Rattle.rasta_cert.proofs.reading.next_entry.Goals as goal
 
-if_none : {A : Type 0} (o : Option A) (P : Type 0) → P → IfNone o P
-if_none None P p = p
-if_none (Some x) P p = tt
+pub returns-in-Some-clause-found : goal.returns-in-Some-clause-found
+returns-in-Some-clause-found c = begins_with c.args.text.now c.in-Some.rest.now c.in-Some.entry c.in-Some.ensures.line c.in-Some.ensures.valid
 
-pub returns-in_err-line-clause-none : goal.returns-in_err-line-clause-none
-returns-in_err-line-clause-none c =
-    if_none c.from_residual.result _ λ e is same. c.in_err-line.ensures.none (entry_words e) (same ∙ entry_line-words e)
+pub returns-in-Some-clause-shorter : goal.returns-in-Some-clause-shorter
+returns-in-Some-clause-shorter c = shorter_after c.args.text.now c.in-Some.rest.now c.in-Some.entry c.in-Some.ensures.line
