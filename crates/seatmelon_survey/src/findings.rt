@@ -5,7 +5,7 @@ ghost use Rattle.rasta_pcap.specs.Devices.{AsWritten};
 
 use crate::connection::Connection;
 use crate::lengths::Trials;
-use crate::packet::{Packet, packet_in};
+use crate::packet::{LastDatagram, Packet, packet_in};
 use crate::places::{Ends, Places};
 use crate::report::{write_connection, write_summary};
 use rasta_pcap::{CaptureTime, Fault, Record, Sink};
@@ -18,6 +18,7 @@ const MOST_CONNECTIONS: usize = 1024;
 #[derive(Debug, Drop)]
 pub struct Survey {
     trials: Trials,
+    last: LastDatagram,
     connections: Vec<Connection>,
     places: Places,
     pub(crate) records: u32,
@@ -34,6 +35,7 @@ impl Survey {
     {
         Survey {
             trials: Trials::new(),
+            last: LastDatagram::new(alloc),
             connections: Vec::new(alloc),
             places: Places::new(alloc),
             records: 0,
@@ -59,7 +61,7 @@ impl Survey {
         ensures counted { OnOk result (records_in self.new ≡ found.now.number) }
         ensures err { IfErr result (λ f. f ≡ no_memory) }
     {
-        if let Some(packet) = packet_in(&self.trials, found, time) {
+        if let Some(packet) = packet_in(&self.trials, &mut self.last, found, time) {
             self.add_packet(alloc, &packet)?;
         }
         self.records = found.number;

@@ -27,6 +27,14 @@ pub struct Fits {
     pub check_length: u8,
 }
 
+/// Of a datagram that fits no length.
+pub const NO_FITS: Fits = Fits {
+    no_code: Fit::None,
+    short_code: Fit::None,
+    long_code: Fit::None,
+    check_length: 0,
+};
+
 impl Fits {
     /// Whether the form fits any length.
     pub fn any(&self) -> bool {

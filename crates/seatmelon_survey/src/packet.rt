@@ -1,12 +1,13 @@
 //! Packets that have the form of RaSTA.
 ghost use Rattle.std.specs.Prelude.{◌+◌, ◌≤◌, length};
 
-use crate::lengths::{Fits, Trials};
+use crate::lengths::{Fits, NO_FITS, Trials};
 use crate::route::route_in;
 use byteorder::{ByteOrder, LittleEndian};
 use rasta_pcap::CaptureTime;
 use rasta_pdu::Kind;
 use rasta_udp::{Channel, Record, datagram};
+use std::alloc::Global;
 use std::hash::{DefaultHasher, Hasher};
 
 // Offsets and lengths in a datagram, in bytes.
@@ -119,6 +120,56 @@ fn reason_in(kind: Kind, datagram: &[u8]) -> Option<u16> {
     }
 }
 
+// What takes a while to find out of a datagram: how it fits each length of the safety code, and its hash.
+#[derive(Clone, Copy, Debug)]
+struct Features {
+    fits: Fits,
+    hash: u64,
+}
+
+/// The last datagram, with its features: a PDU crosses on several channels, mostly one copy right behind the other, so
+/// that the next one is often the same.
+#[derive(Debug, Drop)]
+pub struct LastDatagram {
+    // None yet where they are empty, which no datagram with features is.
+    bytes: Vec<u8>,
+    features: Features,
+}
+
+impl LastDatagram {
+    /// None yet.
+    pub fn new(alloc: Global) -> LastDatagram {
+        LastDatagram {
+            bytes: Vec::new(alloc),
+            features: Features {
+                fits: NO_FITS,
+                hash: 0,
+            },
+        }
+    }
+
+    // Keeps a datagram, or nothing where there is no memory for it.
+    fn keep(&mut self, bytes: &[u8], features: Features) {
+        self.bytes.clear();
+        if self.bytes.extend_from_slice(bytes).is_err() {
+            self.bytes.clear();
+        }
+        self.features = features;
+    }
+
+    // The features of a datagram with a check code of this length, which isn't empty.
+    fn features_of(&mut self, trials: &Trials, bytes: &[u8], check_length: u8) -> Features {
+        if self.bytes.as_slice() != bytes {
+            let features = Features {
+                fits: trials.fits_of(bytes, check_length),
+                hash: hash_of(bytes),
+            };
+            self.keep(bytes, features);
+        }
+        self.features
+    }
+}
+
 fn hash_of(bytes: &[u8]) -> u64 {
     let mut hasher = DefaultHasher::new();
     hasher.write(bytes);
@@ -132,7 +183,12 @@ fn is_between_two_ends(way: &Way) -> bool {
 }
 
 /// The packet that a record holds, if its datagram has the form of RaSTA for some lengths of the codes.
-pub fn packet_in(trials: &Trials, found: &Record<'_>, time: Option<CaptureTime>) -> Option<Packet> {
+pub fn packet_in(
+    trials: &Trials,
+    last: &mut LastDatagram,
+    found: &Record<'_>,
+    time: Option<CaptureTime>,
+) -> Option<Packet> {
     let route = route_in(found.bytes)?;
     let bytes = datagram(found, &[route]).ok()??.payload;
     if bytes.len() < PAYLOAD_AT {
@@ -144,7 +200,7 @@ pub fn packet_in(trials: &Trials, found: &Record<'_>, time: Option<CaptureTime>)
         receiver: u32_at(bytes, RECEIVER_AT),
         route,
     };
-    let fits = trials.fits_of(bytes, check_length(bytes)?);
+    let Features { fits, hash } = last.features_of(trials, bytes, check_length(bytes)?);
     if !is_between_two_ends(&way) || !fits.any() {
         return None;
     }
@@ -161,6 +217,6 @@ pub fn packet_in(trials: &Trials, found: &Record<'_>, time: Option<CaptureTime>)
         fits,
         offer: offer_in(found.number, kind, bytes),
         reason: reason_in(kind, bytes),
-        hash: hash_of(bytes),
+        hash,
     })
 }
