@@ -1,4 +1,4 @@
-//! Tests of single layers, by rows of text: captures, frames, digests, PDUs, parameters, ends and
+//! Tests of single layers, by rows of text: captures, frames, digests, hashes, PDUs, parameters, ends and
 //! certificates.
 #![tactic(auto)]
 
@@ -18,6 +18,8 @@ mod faults;
 mod files;
 #[cfg(test)]
 mod frames;
+#[cfg(test)]
+mod hashes;
 #[cfg(test)]
 mod parameters;
 #[cfg(test)]
