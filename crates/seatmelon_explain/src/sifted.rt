@@ -4,7 +4,7 @@ ghost use Rattle.rasta_pcap.specs.Fault.{no_memory, read_failed};
 
 use crate::framing::{Framing, Piece};
 use rasta_pcap::{Fault, Source};
-use sha2::{Digest, Sha256};
+use rasta_sha256::Sha256;
 use std::alloc::Global;
 use std::io;
 
@@ -105,7 +105,7 @@ impl Tracker {
         ensures len { length bytes.new ≡ length bytes.old }
         ensures same { without.now ≡ [] → bytes.new ≡ bytes.old }
     {
-        self.digest.update(&*bytes);
+        self.digest.update(bytes);
         if without.is_empty() {
             self.pass_all(bytes);
         } else {
@@ -165,7 +165,7 @@ impl<'a, S: Source + Drop> Sifted<'a, S> {
     pub fn into_digest(self) -> [u8; 32] {
         let Sifted { tracker, .. } = self;
         let Tracker { digest, .. } = tracker;
-        digest.finalize()
+        digest.finish()
     }
 }
 
