@@ -88,7 +88,8 @@ fn is_read(alloc: Global, params: &Params, line: &str, bytes: &[u8], text: &str)
     Some(
         pdu.kind().number() == number
             && pdu_text(alloc, &pdu)?.as_str() == text
-            && pdu_text(alloc, &again)?.as_str() == text,
+            && pdu_text(alloc, &again)?.as_str() == text
+            && pdu == again,
     )
 }
 
@@ -106,6 +107,65 @@ fn pdus_are_written_and_read(rt: HostRuntime) {
     for row in ROWS.lines() {
         assert_eq!(rt; answer(rt.alloc(), row), Some(true), "{row}");
     }
+}
+
+// Two datagrams, each with its parameters and sender, and whether their PDUs are equal, which ids don't
+// tell.
+const COMPARED: &str = "\
+check2 client 2c000000 09000000 2200 6018 61000000 60000000 66000000 f4010000 fc030000 28230000 0200ab010000 aabb | check2 client 2c000000 09000000 2200 6018 61000000 60000000 66000000 f4010000 fc030000 28230000 0200ab010000 aabb | true
+check2 client 2c000000 09000000 2200 6018 61000000 60000000 66000000 f4010000 fc030000 28230000 0200ab010000 aabb | check2 server 2c000000 09000000 2200 6018 60000000 61000000 66000000 f4010000 fc030000 28230000 0200ab010000 aabb | true
+check2 client 2c000000 09000000 2200 6018 61000000 60000000 66000000 f4010000 fc030000 28230000 0200ab010000 aabb | check2 client 2c000100 09000000 2200 6018 61000000 60000000 66000000 f4010000 fc030000 28230000 0200ab010000 aabb | false
+check2 client 2c000000 09000000 2200 6018 61000000 60000000 66000000 f4010000 fc030000 28230000 0200ab010000 aabb | check2 client 2c000000 0a000000 2200 6018 61000000 60000000 66000000 f4010000 fc030000 28230000 0200ab010000 aabb | false
+check2 client 2c000000 09000000 2200 6018 61000000 60000000 66000000 f4010000 fc030000 28230000 0200ab010000 aabb | check2 client 2c000000 09000000 2200 6118 61000000 60000000 66000000 f4010000 fc030000 28230000 0200ab010000 aabb | false
+check2 client 2c000000 09000000 2200 6018 61000000 60000000 66000000 f4010000 fc030000 28230000 0200ab010000 aabb | check2 client 2c000000 09000000 2200 6018 61000000 60000000 67000000 f4010000 fc030000 28230000 0200ab010000 aabb | false
+check2 client 2c000000 09000000 2200 6018 61000000 60000000 66000000 f4010000 fc030000 28230000 0200ab010000 aabb | check2 client 2c000000 09000000 2200 6018 61000000 60000000 66000000 f5010000 fc030000 28230000 0200ab010000 aabb | false
+check2 client 2c000000 09000000 2200 6018 61000000 60000000 66000000 f4010000 fc030000 28230000 0200ab010000 aabb | check2 client 2c000000 09000000 2200 6018 61000000 60000000 66000000 f4010000 fd030000 28230000 0200ab010000 aabb | false
+check2 client 2c000000 09000000 2200 6018 61000000 60000000 66000000 f4010000 fc030000 28230000 0200ab010000 aabb | check2 client 2c000000 09000000 2200 6018 61000000 60000000 66000000 f4010000 fc030000 29230000 0200ab010000 aabb | false
+check2 client 2c000000 09000000 2200 6018 61000000 60000000 66000000 f4010000 fc030000 28230000 0200ab010000 aabb | check2 client 2c000000 09000000 2200 6018 61000000 60000000 66000000 f4010000 fc030000 28230000 0200ac010000 aabb | false
+check2 client 2c000000 09000000 2200 6018 61000000 60000000 66000000 f4010000 fc030000 28230000 0200ab010000 aabb | check2 client 2c000000 09000000 2200 6018 61000000 60000000 66000000 f4010000 fc030000 28230000 0200ab010000 aabc | false
+plain client 24000000 08000000 1c00 4c18 61000000 60000000 65000000 f4010000 f2030000 28230000 | code8 client 2c000000 08000000 2400 4c18 61000000 60000000 65000000 f4010000 f2030000 28230000 4b0aba1c 1dda672b | false
+";
+
+// The datagram at the end of these words, with its parameters and sender before it.
+fn sent(alloc: Global, words: &str) -> Option<(Params, Side, Vec<u8>)> {
+    let (word, rest) = words.split_once(' ')?;
+    let (sender, digits) = rest.split_once(' ')?;
+    Some((params_of(word)?, side_of(sender), bytes_of(alloc, digits)?))
+}
+
+// Whether the PDUs of a row are equal as it says.
+fn compares(alloc: Global, row: &str) -> Option<bool> {
+    let mut parts = row.split(" | ");
+    let (params, side, bytes) = sent(alloc, parts.next()?)?;
+    let (other_params, other_side, other_bytes) = sent(alloc, parts.next()?)?;
+    let pdu = decode(&params, side, &bytes).ok()?;
+    let other = decode(&other_params, other_side, &other_bytes).ok()?;
+    Some((pdu == other) == (parts.next()? == "true"))
+}
+
+#[test]
+fn pdus_are_compared(rt: HostRuntime) {
+    for row in COMPARED.lines() {
+        assert_eq!(rt; compares(rt.alloc(), row), Some(true), "{row}");
+    }
+}
+
+const SHOWN: &str =
+    "check2 client 2c000000 09000000 2200 6018 61000000 60000000 66000000 f4010000 fc030000 28230000 0200ab010000 aabb";
+
+const SHOWN_TEXT: &str =
+    "Pdu { number: 9, sn: 102, cs: 500, ts: 1020, cts: 9000, reserve: 0, kind: Data, body: Messages([2, 0, 171, 1, 0, 0]), code: [], check_bytes: [170, 187] }";
+
+// Whether a PDU is shown with its fields.
+fn is_shown(alloc: Global) -> Option<bool> {
+    let (params, side, bytes) = sent(alloc, SHOWN)?;
+    let pdu = decode(&params, side, &bytes).ok()?;
+    Some(format!(in alloc; "{pdu:?}").ok()?.as_str() == SHOWN_TEXT)
+}
+
+#[test]
+fn pdu_is_shown_with_its_fields(rt: HostRuntime) {
+    assert_eq!(rt; is_shown(rt.alloc()), Some(true));
 }
 
 // The number of the fault of a datagram, 0 where there is none; its place is 0.

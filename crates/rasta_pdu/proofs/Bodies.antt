@@ -7,7 +7,8 @@ use Rattle.byteorder.specs.Endian.{little_bytes}
 use Rattle.byteorder.specs.Numbers.{little_number-reads_back}
 use Rattle.rasta_pdu.specs.declared.kind.Kind.{Kind}
 use Rattle.rasta_pdu.specs.declared.kind.Kind.TheVariants.{ConnectionRequest, ConnectionResponse, RetransmissionRequest, RetransmissionResponse, DisconnectionRequest, Heartbeat, Data, RetransmittedData}
-use Rattle.rasta_pdu.specs.Pdu.{SafetyBody, Opening, Bye, Messages, Empty, Layout, OpeningFields, ByeFields, MessageList, Nothing, HasLayout, payload_of, body_in, number_at, is_version, type_of, kind_of}
+use Rattle.rasta_pdu.specs.Pdu.{SafetyBody, Opening, Bye, Messages, Empty, Layout, OpeningFields, ByeFields, MessageList, Nothing, HasLayout, payload_of, layout_of, body_in, body_at, number_at, is_version, type_of, kind_of}
+use Rattle.rasta_pdu.specs.Lengths.{has_payload_length}
 use Rattle.rasta_pdu.specs.Messages.{are_messages}
 use Rattle.rasta_pdu.specs.Messages.{AreBytes}
 use Rattle.rasta_pdu.proofs.Numbers.{two_at, number_at-lt}
@@ -63,12 +64,54 @@ some_if : (b : Bool) (x y : SafetyBody) → cond b (Some x) None ≡ Some y → 
 some_if true x y h = (refl, cc)
 some_if false x y h = absurd (cc)
 
+same_if : (b : Bool) (x y : SafetyBody) → cond b (Some x) None ≡ Some y → x ≡ y
+same_if b x y h = (some_if b x y h).1
+
+opening_length : (xs : List ℕ) (body : SafetyBody) → body_in OpeningFields xs ≡ Some body → nat_eq (length xs) 14 ≡ true
+opening_length xs body h =
+    let read = some_if (nat_eq (length xs) 14 && is_version (take 4 xs)) (body_at OpeningFields xs) body h in
+    (and_parts (nat_eq (length xs) 14) (is_version (take 4 xs)) read.0).0
+
 -- two numbers fill four bytes
 two_numbers : (xs : List ℕ) → AreBytes xs → length xs ≡ 4 → xs ≡ little_bytes 2 (number_at 2 0 xs) ++ little_bytes 2 (number_at 2 2 xs)
 two_numbers xs are size =
     two_at 0 xs are (omega arith)
     ∙ ap (λ (l : List ℕ). little_bytes 2 (number_at 2 0 xs) ++ l) (two_at 2 xs are (omega arith)
     ∙ ap (λ (l : List ℕ). little_bytes 2 (number_at 2 2 xs) ++ l) (drop_all 4 xs (omega arith)))
+
+-- a version, N_sendmax and eight reserved bytes fill fourteen
+opening_spelled : (xs : List ℕ) → AreBytes xs → length xs ≡ 14 → xs ≡ payload_of (body_at OpeningFields xs)
+opening_spelled xs are size = sym (take-append-drop 4 xs) ∙ ap (λ (l : List ℕ). take 4 xs ++ l) (two_at 4 xs are (omega arith))
+
+-- a payload whose length its kind can have is the spelling of the body that stands there
+pub payload_of-body_at : (kind : Kind) (xs : List ℕ) → AreBytes xs → has_payload_length kind (length xs) ≡ true → payload_of (body_at (layout_of kind) xs) ≡ xs
+payload_of-body_at ConnectionRequest xs are h = sym (opening_spelled xs are (eqb-true (length xs) 14 h))
+payload_of-body_at ConnectionResponse xs are h = sym (opening_spelled xs are (eqb-true (length xs) 14 h))
+payload_of-body_at RetransmissionRequest xs are h = sym (nil_from_length xs (eqb-true (length xs) 0 h))
+payload_of-body_at RetransmissionResponse xs are h = sym (nil_from_length xs (eqb-true (length xs) 0 h))
+payload_of-body_at DisconnectionRequest xs are h = sym (two_numbers xs are (eqb-true (length xs) 4 h))
+payload_of-body_at Heartbeat xs are h = sym (nil_from_length xs (eqb-true (length xs) 0 h))
+payload_of-body_at Data xs are h = refl
+payload_of-body_at RetransmittedData xs are h = refl
+
+-- a payload that is read has its body where bodies stand
+pub body_at-body_in : (layout : Layout) (xs : List ℕ) (body : SafetyBody) → body_in layout xs ≡ Some body → body_at layout xs ≡ body
+body_at-body_in OpeningFields xs body h = same_if _ (body_at OpeningFields xs) body h
+body_at-body_in ByeFields xs body h = same_if _ (body_at ByeFields xs) body h
+body_at-body_in MessageList xs body h = same_if _ (body_at MessageList xs) body h
+body_at-body_in Nothing xs body h = same_if _ (body_at Nothing xs) body h
+
+-- it has a length of its kind
+pub has_payload_length-body_in : (kind : Kind) (xs : List ℕ) (body : SafetyBody) → body_in (layout_of kind) xs ≡ Some body
+    → has_payload_length kind (length xs) ≡ true
+has_payload_length-body_in ConnectionRequest xs body h = opening_length xs body h
+has_payload_length-body_in ConnectionResponse xs body h = opening_length xs body h
+has_payload_length-body_in RetransmissionRequest xs body h = (some_if (nat_eq (length xs) 0) Empty body h).0
+has_payload_length-body_in RetransmissionResponse xs body h = (some_if (nat_eq (length xs) 0) Empty body h).0
+has_payload_length-body_in DisconnectionRequest xs body h = (some_if (nat_eq (length xs) 4) (body_at ByeFields xs) body h).0
+has_payload_length-body_in Heartbeat xs body h = (some_if (nat_eq (length xs) 0) Empty body h).0
+has_payload_length-body_in Data xs body h = refl
+has_payload_length-body_in RetransmittedData xs body h = refl
 
 -- a payload that is read is the spelling of its body
 pub body_in-Some : (layout : Layout) (xs : List ℕ) (body : SafetyBody) → AreBytes xs → body_in layout xs ≡ Some body → IsBodyOf layout xs body
@@ -81,7 +124,7 @@ body_in-Some OpeningFields xs body are h =
     let P : SafetyBody → Type 0 = IsBodyOf OpeningFields xs in
     subst P read.1 (record {
       has = (tests.1, number_at-lt 2 4 xs are, left);
-      spelled = sym (take-append-drop 4 xs) ∙ ap (λ (l : List ℕ). take 4 xs ++ l) (two_at 4 xs are (omega arith));
+      spelled = opening_spelled xs are size;
     })
 body_in-Some ByeFields xs body are h =
     let bye : SafetyBody = Bye (number_at 2 0 xs) (number_at 2 2 xs) in

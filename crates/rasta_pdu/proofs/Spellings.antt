@@ -13,11 +13,12 @@ use Rattle.rasta_pcap.specs.declared.fault.Side.{Side}
 use Rattle.rasta_pdu.specs.declared.kind.Kind.{Kind}
 use Rattle.rasta_pdu.specs.declared.pdu.Pdu.{Pdu}
 use Rattle.rasta_pdu.specs.Params.{Parameters, AreParameters}
-use Rattle.rasta_pdu.specs.Pdu.{SafetyBody, SafetyPdu, RedundancyPdu, IsRedundancyPdu, layout_of, type_of, kind_of, payload_of, body_in, length_of, uncoded_bytes, code_over, code_of, redundancy_bytes, receiver_of, sender_of, number_at, check_at, code_at, has_length, has_fields, has_safety_length, has_code, has_ids, fields_of, refused, decode_body, decode_kind, decode_of, value_of}
+use Rattle.rasta_pdu.specs.Pdu.{SafetyBody, SafetyPdu, RedundancyPdu, IsRedundancyPdu, layout_of, type_of, kind_of, payload_of, body_in, body_at, length_of, uncoded_bytes, code_over, code_of, redundancy_bytes, receiver_of, sender_of, number_at, check_at, code_at, has_length, has_fields, has_safety_length, has_code, has_ids, fields_of, refused, decode_body, decode_kind, decode_of, value_of}
+use Rattle.rasta_pdu.specs.Lengths.{has_payload_length}
 use Rattle.rasta_pdu.specs.Messages.{AreBytes}
 use Rattle.rasta_pdu.proofs.Numbers.{AreBytes-drop, AreBytes-take, two_at, four_at, number_at-lt}
 use Rattle.rasta_pdu.proofs.Places.{first_part, second_part, third_part, length-three, three_parts, length-slice_range}
-use Rattle.rasta_pdu.proofs.Bodies.{kind_of-type_of, type_of-kind_of, type_of-lt, IsBodyOf, body_in-Some, body_in-payload_of}
+use Rattle.rasta_pdu.proofs.Bodies.{kind_of-type_of, type_of-kind_of, type_of-lt, IsBodyOf, body_in-Some, body_in-payload_of, body_at-body_in, has_payload_length-body_in}
 
 -- ---- the lengths of codes
 
@@ -167,36 +168,44 @@ found p side xs r h =
 -- what is known of a datagram that decodes
 pub record IsDecoded (p : Parameters) (side : Side) (xs : List ℕ) : Type 0 where
   pub long : 36 + p.code_length + p.check_length ≤ length xs
+  pub short : AreBytes xs → length xs < 2 ^ 16
   pub kind : kind_of (number_at 2 10 xs) ≡ None → ⊥
-  pub body : (known : Kind) → kind_of (number_at 2 10 xs) ≡ Some known
-      → body_in (layout_of known) (slice_range xs 36 (code_at p xs)) ≡ None → ⊥
-  pub value : (known : Kind) (body : SafetyBody) → kind_of (number_at 2 10 xs) ≡ Some known
-      → body_in (layout_of known) (slice_range xs 36 (code_at p xs)) ≡ Some body
-      → decode_of p side xs ≡ Ok (fields_of known body (check_at p xs) xs)
+  pub payload : (known : Kind) → kind_of (number_at 2 10 xs) ≡ Some known → has_payload_length known (code_at p xs - 36) ≡ true
+  pub value : (known : Kind) → kind_of (number_at 2 10 xs) ≡ Some known
+      → decode_of p side xs ≡ Ok (fields_of known (body_at (layout_of known) (slice_range xs 36 (code_at p xs))) (check_at p xs) xs)
+
+-- what the tests found, for the kind that is known
+is_decoded_by : (p : Parameters) (side : Side) (xs : List ℕ) (kind known : Kind) (body : SafetyBody) → IsPassed p side xs kind body → kind ≡ known
+    → (has_payload_length known (length (slice_range xs 36 (code_at p xs))) ≡ true)
+    × (decode_of p side xs ≡ Ok (fields_of known (body_at (layout_of known) (slice_range xs 36 (code_at p xs))) (check_at p xs) xs))
+is_decoded_by p side xs kind known body is e =
+    let b : List ℕ = slice_range xs 36 (code_at p xs) in
+    let P : Kind → Type 0 = λ k. (has_payload_length k (length b) ≡ true)
+    × (decode_of p side xs ≡ Ok (fields_of k (body_at (layout_of k) b) (check_at p xs) xs)) in
+    subst P e (
+      has_payload_length-body_in kind b body is.payload,
+      passed p side xs kind body is
+          ∙ ap (λ (o : SafetyBody). Ok (fields_of kind o (check_at p xs) xs)) (sym (body_at-body_in (layout_of kind) b body is.payload)),
+    )
 
 pub is_decoded : (p : Parameters) (side : Side) (xs : List ℕ) (r : RedundancyPdu) → decode_of p side xs ≡ Ok r → IsDecoded p side xs
 is_decoded p side xs r h =
     let f = found p side xs r h in
+    let long : 36 + p.code_length + p.check_length ≤ length xs = leb-true (36 + p.code_length + p.check_length) (length xs) f.tests.fields in
+    let size : length (slice_range xs 36 (code_at p xs)) ≡ code_at p xs - 36 = length-slice_range xs 36 (code_at p xs) (omega arith) (omega arith) in
     record {
-      long = leb-true (36 + p.code_length + p.check_length) (length xs) f.tests.fields;
+      long = long;
+      short = λ are.
+          let low = number_at-lt 2 0 xs are in
+          let whole = eqb-true (number_at 2 0 xs) (length xs) (and_parts (nat_le 2 (length xs)) (nat_eq (number_at 2 0 xs) (length xs)) f.tests.length).1 in
+          omega arith;
       kind = λ none. clash_kind (sym none ∙ f.tests.type);
-      body = λ known some none. clash_body (sym none ∙ ap (λ (k : Kind). body_in (layout_of k) (slice_range xs 36 (code_at p xs))) (same_kind (sym some ∙ f.tests.type)) ∙ f.tests.payload);
-      value = λ known body some is. passed p side xs known body (record {
-        length = f.tests.length;
-        fields = f.tests.fields;
-        safety = f.tests.safety;
-        type = some;
-        payload = is;
-        code = f.tests.code;
-        ids = f.tests.ids;
-      });
+      payload = λ known some. ap (has_payload_length known) (sym size) ∙ (is_decoded_by p side xs f.kind known f.body f.tests (same_kind (sym f.tests.type ∙ some))).0;
+      value = λ known some. (is_decoded_by p side xs f.kind known f.body f.tests (same_kind (sym f.tests.type ∙ some))).1;
     }
   where
     clash_kind : {k : Kind} → ◌≡◌ {A = Option Kind} None (Some k) → ⊥
     clash_kind {k} h = cc
-
-    clash_body : {b : SafetyBody} → ◌≡◌ {A = Option SafetyBody} None (Some b) → ⊥
-    clash_body {b} h = cc
 
     same_kind : {x y : Kind} → ◌≡◌ {A = Option Kind} (Some x) (Some y) → x ≡ y
     same_kind {x} {y} h = cc

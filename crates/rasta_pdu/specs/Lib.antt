@@ -4,5 +4,6 @@ pub use Rattle.rasta_udp.specs.Capture
 pub mod Params
 pub mod Stored
 pub mod Messages
+pub mod Lengths
 pub mod Pdu
 pub mod Parts

@@ -1,5 +1,5 @@
 -- The PDUs of the two layers: their values, how they are spelled, and how bytes are read.
-use Rattle.std.specs.Prelude.{◌≡◌, ℕ, ◌+◌, ◌-◌, ◌<◌, ◌^◌, List, [], ◌++◌, length, take, drop, slice_range, Option, Some, None, Result, Ok, Err, Bool, ◌&&◌, nat_le, ◌==◌, if◌then◌else◌, IsTrue, bytes_eq}
+use Rattle.std.specs.Prelude.{◌≡◌, ℕ, ◌+◌, ◌-◌, ◌<◌, ◌^◌, List, [], ◌∷◌, ◌++◌, length, take, drop, slice_range, Option, Some, None, Result, Ok, Err, Bool, ◌&&◌, nat_le, ◌==◌, if◌then◌else◌, IsTrue, bytes_eq}
 use Rattle.std.specs.List.{list_all}
 use Rattle.std.specs.Borrow.{Bor}
 use Rattle.byteorder.specs.Endian.{little_bytes, little_number}
@@ -180,19 +180,6 @@ body_of (ByeBody detail reason) = Bye detail reason
 body_of (MessagesBody payload) = Messages payload.now
 body_of EmptyBody = Empty
 
--- the value of a PDU that was read
-abbrev pub value_of : Pdu → RedundancyPdu
-value_of d = record {
-  reserve = d.reserve;
-  number = d.number;
-  safety = record { kind = d.kind; sn = d.sn; cs = d.cs; ts = d.ts; cts = d.cts; body = body_of d.body };
-  check_bytes = d.check_bytes.now;
-}
-
--- the safety code of a PDU that was read
-abbrev pub read_code : Pdu → List ℕ
-read_code d = d.code.now
-
 -- the messages of a body, in their order; other bodies have none
 abbrev pub messages_in : SafetyBody → List (List ℕ)
 messages_in (Messages payload) = messages_of payload
@@ -288,3 +275,24 @@ decode_of p side bytes =
     else refused safety_length)
     else refused too_short)
     else refused redundancy_length
+
+-- ---- the value of a PDU that was read
+
+-- the body of this layout that stands in a payload, which is judged elsewhere
+abbrev pub body_at : Layout → List ℕ → SafetyBody
+body_at OpeningFields payload = Opening (take 4 payload) (number_at 2 4 payload) (drop 6 payload)
+body_at ByeFields payload = Bye (number_at 2 0 payload) (number_at 2 2 payload)
+body_at MessageList payload = Messages payload
+body_at Nothing payload = Empty
+
+-- the value of a PDU: what stands in its datagram, each field at its offset
+unfoldable pub value_of : Pdu → RedundancyPdu
+value_of d = fields_of d.kind (body_at (layout_of d.kind) (slice_range d.bytes.now 36 d.code_at)) d.check_at d.bytes.now
+
+-- the safety code of a PDU: what stands between its payload and its check code
+unfoldable pub read_code : Pdu → List ℕ
+read_code d = slice_range d.bytes.now d.code_at d.check_at
+
+-- the numbers of a value, with that of its type
+abbrev pub numbers_of : RedundancyPdu → List ℕ
+numbers_of r = type_of r.safety.kind ∷ r.reserve ∷ r.number ∷ r.safety.sn ∷ r.safety.cs ∷ r.safety.ts ∷ r.safety.cts ∷ []

@@ -1,7 +1,8 @@
 //! The bodies of safety PDUs.
-ghost use Rattle.std.specs.Prelude.{◌≡◌, option_map, ◌&&◌};
+ghost use Rattle.std.specs.Prelude.{◌≡◌, Some, None, true, length, if◌then◌else◌};
 ghost use Rattle.std.specs.List.{list_all};
-ghost use Rattle.rasta_pdu.specs.Pdu.{body_in, body_of, is_digit, is_version, layout_of, Layout, OpeningFields, ByeFields, MessageList, Nothing};
+ghost use Rattle.rasta_pdu.specs.Lengths.{has_payload_length};
+ghost use Rattle.rasta_pdu.specs.Pdu.{body_in, body_at, body_of, is_digit, is_version, layout_of, payload_of, OpeningFields, ByeFields};
 
 use crate::bytes::u16_at;
 use crate::kind::Kind;
@@ -47,68 +48,80 @@ pub fn is_version(version: &[u8]) -> bool
     version.len() == VERSION_LEN && are_digits(version)
 }
 
-fn opening<'a>(payload: &'a [u8]) -> Option<Body<&'a [u8]>>
-    ensures { option_map body_of result ≡ body_in OpeningFields payload.now }
+// Whether a payload spells a version, N_sendmax and reserved bytes.
+fn is_opening(payload: &[u8]) -> bool
+    ensures value { body_in OpeningFields payload.now ≡ if result then Some (body_at OpeningFields payload.now) else None }
+    ensures length { result ≡ true → length payload.now ≡ 14 }
 {
-    if payload.len() != OPENING_LEN || !is_version(&payload[..VERSION_LEN]) {
-        return None;
+    payload.len() == OPENING_LEN && is_version(&payload[..VERSION_LEN])
+}
+
+// Whether a payload spells a body of this kind.
+#[inline(always)]
+pub fn has_body(kind: Kind, payload: &[u8]) -> bool
+    ensures value { body_in (layout_of kind) payload.now ≡ if result then Some (body_at (layout_of kind) payload.now) else None }
+    ensures length { result ≡ true → has_payload_length kind (length payload.now) ≡ true }
+{
+    match kind {
+        Kind::ConnectionRequest => is_opening(payload),
+        Kind::ConnectionResponse => is_opening(payload),
+        Kind::DisconnectionRequest => payload.len() == BYE_LEN,
+        Kind::Data => are_messages(payload),
+        Kind::RetransmittedData => are_messages(payload),
+        Kind::RetransmissionRequest => payload.is_empty(),
+        Kind::RetransmissionResponse => payload.is_empty(),
+        Kind::Heartbeat => payload.is_empty(),
     }
+}
+
+fn opening<'a>(payload: &'a [u8]) -> Body<&'a [u8]>
+    requires { length payload.now ≡ 14 }
+    ensures { body_of result ≡ body_at OpeningFields payload.now }
+{
     let mut version = [0; 4];
     version.copy_from_slice(&payload[..VERSION_LEN]);
     let mut reserved = [0; 8];
     reserved.copy_from_slice(&payload[RESERVED_AT..]);
-    Some(Body::Opening {
+    Body::Opening {
         version,
         sendmax: u16_at(payload, SENDMAX_AT),
         reserved,
-    })
+    }
 }
 
-fn bye<'a>(payload: &'a [u8]) -> Option<Body<&'a [u8]>>
-    ensures { option_map body_of result ≡ body_in ByeFields payload.now }
+fn bye<'a>(payload: &'a [u8]) -> Body<&'a [u8]>
+    requires { length payload.now ≡ 4 }
+    ensures { body_of result ≡ body_at ByeFields payload.now }
 {
-    if payload.len() != BYE_LEN {
-        return None;
-    }
-    Some(Body::Bye {
+    Body::Bye {
         detail: u16_at(payload, 0),
         reason: u16_at(payload, REASON_AT),
-    })
-}
-
-fn messages<'a>(payload: &'a [u8]) -> Option<Body<&'a [u8]>>
-    ensures { option_map body_of result ≡ body_in MessageList payload.now }
-{
-    if are_messages(payload) {
-        Some(Body::Messages(payload))
-    } else {
-        None
     }
 }
 
-fn nothing<'a>(payload: &'a [u8]) -> Option<Body<&'a [u8]>>
-    ensures { option_map body_of result ≡ body_in Nothing payload.now }
-{
-    if payload.is_empty() {
-        Some(Body::Empty)
-    } else {
-        None
-    }
-}
-
-// The body of this kind that a payload spells.
-#[inline(always)]
-pub fn body_in<'a>(kind: Kind, payload: &'a [u8]) -> Option<Body<&'a [u8]>>
-    ensures { option_map body_of result ≡ body_in (layout_of kind) payload.now }
+// The body of this kind that stands in a payload.
+#[inline]
+pub fn body_at<'a>(kind: Kind, payload: &'a [u8]) -> Body<&'a [u8]>
+    requires { has_payload_length kind (length payload.now) ≡ true }
+    ensures { body_of result ≡ body_at (layout_of kind) payload.now }
 {
     match kind {
         Kind::ConnectionRequest => opening(payload),
         Kind::ConnectionResponse => opening(payload),
         Kind::DisconnectionRequest => bye(payload),
-        Kind::Data => messages(payload),
-        Kind::RetransmittedData => messages(payload),
-        Kind::RetransmissionRequest => nothing(payload),
-        Kind::RetransmissionResponse => nothing(payload),
-        Kind::Heartbeat => nothing(payload),
+        Kind::Data => Body::Messages(payload),
+        Kind::RetransmittedData => Body::Messages(payload),
+        Kind::RetransmissionRequest => Body::Empty,
+        Kind::RetransmissionResponse => Body::Empty,
+        Kind::Heartbeat => Body::Empty,
     }
+}
+
+// The payload, which is the spelling of the body that stands in it.
+#[inline]
+pub fn spelling<'a>(kind: Kind, payload: &'a [u8]) -> &'a [u8]
+    requires { has_payload_length kind (length payload.now) ≡ true }
+    ensures { result.now ≡ payload_of (body_at (layout_of kind) payload.now) }
+{
+    payload
 }

@@ -4,6 +4,7 @@ ghost use Rattle.rasta_pdu.specs.Pdu.{number_at};
 
 use byteorder::{ByteOrder, LittleEndian};
 
+#[inline]
 pub fn u16_at(bytes: &[u8], at: usize) -> u16
     requires { at + 2 ≤ length bytes.now }
     ensures { result ≡ number_at 2 at bytes.now }
@@ -11,6 +12,7 @@ pub fn u16_at(bytes: &[u8], at: usize) -> u16
     LittleEndian::read_u16(&bytes[at..])
 }
 
+#[inline]
 pub fn u32_at(bytes: &[u8], at: usize) -> u32
     requires { at + 4 ≤ length bytes.now }
     ensures { result ≡ number_at 4 at bytes.now }

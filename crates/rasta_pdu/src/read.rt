@@ -1,17 +1,17 @@
 //! Reading a datagram.
-ghost use Rattle.std.specs.Prelude.{◌≡◌, ◌≤◌, ◌+◌, ◌-◌, ◌<◌, ◌^◌, ◌==◌, ◌&&◌, length, slice_range, Ok, Err, IfOk, MatchResult, IsOkAnd};
+ghost use Rattle.std.specs.Prelude.{true, ◌≡◌, ◌≤◌, ◌+◌, ◌-◌, ◌<◌, ◌^◌, ◌==◌, ◌&&◌, length, slice_range, Ok, Err, IfOk, MatchResult, IsOkAnd};
 ghost use Rattle.rasta_udp.specs.Fault.{fault_at};
 ghost use Rattle.rasta_pdu.specs.Params.{AreParameters};
-ghost use Rattle.rasta_pdu.specs.Pdu.{RedundancyPdu, IsRedundancyPdu, redundancy_bytes, decode_of, receiver_of, sender_of, value_of, body_of, read_code, code_of, fields_of, has_length, has_fields, has_safety_length, has_code, code_at, check_at, number_at};
+ghost use Rattle.rasta_pdu.specs.Lengths.{has_payload_length};
+ghost use Rattle.rasta_pdu.specs.Pdu.{RedundancyPdu, IsRedundancyPdu, redundancy_bytes, decode_of, receiver_of, sender_of, value_of, body_at, layout_of, read_code, code_of, fields_of, has_length, has_fields, has_safety_length, has_code, code_at, check_at, number_at};
 
-use crate::body::{Body, body_in};
+use crate::body::has_body;
 use crate::bytes::{u16_at, u32_at};
 use crate::code::is_code;
 use crate::ids::recorded_ids;
 use crate::kind::Kind;
 use crate::layout::{
-    CS_AT, CTS_AT, LENGTH_AT, LENGTH_LEN, NUMBER_AT, PAYLOAD_AT, RECEIVER_AT, RESERVE_AT,
-    SAFETY_AT, SENDER_AT, SN_AT, TS_AT, TYPE_AT,
+    LENGTH_AT, LENGTH_LEN, PAYLOAD_AT, RECEIVER_AT, SAFETY_AT, SENDER_AT, TYPE_AT,
 };
 use crate::params::Params;
 use crate::pdu::Pdu;
@@ -25,7 +25,8 @@ fn refused(number: u8) -> Fault
 }
 
 fn has_length(bytes: &[u8]) -> bool
-    ensures { result ≡ has_length bytes.now }
+    ensures value { result ≡ has_length bytes.now }
+    ensures short { result ≡ true → length bytes.now < 2 ^ 16 }
 {
     bytes.len() >= LENGTH_LEN && usize::from(u16_at(bytes, LENGTH_AT)) == bytes.len()
 }
@@ -82,31 +83,23 @@ fn are_ids(bytes: &[u8], receiver: u32, sender: u32) -> bool
     has_id(bytes, RECEIVER_AT, receiver) && has_id(bytes, SENDER_AT, sender)
 }
 
-// The fields of a datagram of this kind and body, whose codes begin there.
-fn fields<'a>(
-    kind: Kind,
-    body: Body<&'a [u8]>,
-    bytes: &'a [u8],
-    code_at: usize,
-    check_at: usize,
-) -> Pdu<'a>
+// The PDU of this kind in a datagram whose codes begin there.
+#[inline]
+#[tactic(auto, unfolding(crate::specs::Pdu::value_of, crate::specs::Pdu::read_code))]
+fn view<'a>(kind: Kind, bytes: &'a [u8], code_at: usize, check_at: usize) -> Pdu<'a>
     requires fields { 36 ≤ code_at }
+    requires payload { has_payload_length kind (code_at - 36) ≡ true }
     requires code { code_at ≤ check_at }
     requires check { check_at ≤ length bytes.now }
-    ensures value { value_of result ≡ fields_of kind (body_of body.entry) check_at bytes.now }
+    requires short { check_at < 2 ^ 16 }
+    ensures value { value_of result ≡ fields_of kind (body_at (layout_of kind) (slice_range bytes.now 36 code_at)) check_at bytes.now }
     ensures code { read_code result ≡ slice_range bytes.now code_at check_at }
 {
     Pdu {
-        reserve: u16_at(bytes, RESERVE_AT),
-        number: u32_at(bytes, NUMBER_AT),
+        bytes,
+        code_at: code_at as u16,
+        check_at: check_at as u16,
         kind,
-        sn: u32_at(bytes, SN_AT),
-        cs: u32_at(bytes, CS_AT),
-        ts: u32_at(bytes, TS_AT),
-        cts: u32_at(bytes, CTS_AT),
-        body,
-        code: &bytes[code_at..check_at],
-        check_bytes: &bytes[check_at..],
     }
 }
 
@@ -134,16 +127,16 @@ fn read<'a>(params: &Params, side: Side, bytes: &'a [u8]) -> Result<Pdu<'a>, Fau
         return Err(refused(Fault::TYPE));
     };
     let (code_at, check_at) = codes_at(params, bytes);
-    let Some(body) = body_in(kind, &bytes[PAYLOAD_AT..code_at]) else {
+    if !has_body(kind, &bytes[PAYLOAD_AT..code_at]) {
         return Err(refused(Fault::PAYLOAD));
-    };
+    }
     if !has_code(params, bytes) {
         return Err(refused(Fault::CODE));
     }
     if !are_ids(bytes, receiver, sender) {
         return Err(refused(Fault::IDS));
     }
-    Ok(fields(kind, body, bytes, code_at, check_at))
+    Ok(view(kind, bytes, code_at, check_at))
 }
 
 /// Reads the datagram that this side sent. No memory is taken.
@@ -191,8 +184,5 @@ pub fn read_decoded<'a>(params: &Params, side: Side, bytes: &'a [u8]) -> Pdu<'a>
     let Some(kind) = Kind::of(u16_at(bytes, TYPE_AT)) else {
         unreachable!()
     };
-    let Some(body) = body_in(kind, &bytes[PAYLOAD_AT..code_at]) else {
-        unreachable!()
-    };
-    fields(kind, body, bytes, code_at, check_at)
+    view(kind, bytes, code_at, check_at)
 }

@@ -34,13 +34,13 @@ none_has [] n same new = tt
 none_has (e ∷ es) n same new = (let first = new 0 (copy_of e.1) refl in let more = none_has es n (cc) (λ i d g. new (suc i) d g) in grind (arith, nat_tests))
 
 module _ {S : Type 0} (m : HashMap ℕ (ℕ × Pdu) S) (x : ℕ × Pdu) (h : IsOrdered (copies_in m.entries ++ copy_of x ∷ [])) (keys : keys_of m.entries ≡ numbers_of (copies_in m.entries)) (few : length (copies_in m.entries) < 4294967296) where
-  inserted : (number : ℕ) → number ≡ x.1.number → insert_entry nat_eq m.entries number x ≡ m.entries ++ (number, x) ∷ []
+  inserted : (number : ℕ) → number ≡ (copy_of x).pdu.number → insert_entry nat_eq m.entries number x ≡ m.entries ++ (number, x) ∷ []
   inserted number e = grind (arith, insert_entry-new, lookup-none, none_has, number_new)
 
-  pub map_grown : (number : ℕ) (all : Entries) → number ≡ x.1.number → all ≡ insert_entry nat_eq m.entries number x → copies_in all ≡ copies_in m.entries ++ copy_of x ∷ []
+  pub map_grown : (number : ℕ) (all : Entries) → number ≡ (copy_of x).pdu.number → all ≡ insert_entry nat_eq m.entries number x → copies_in all ≡ copies_in m.entries ++ copy_of x ∷ []
   map_grown number all e f = map_push (λ (y : ℕ × (ℕ × Pdu)). copy_of y.1) m.entries all (number, x) (f ∙ inserted number e)
 
-  pub keys_grown : (number : ℕ) (all : Entries) → number ≡ x.1.number → all ≡ insert_entry nat_eq m.entries number x → keys_of all ≡ numbers_of (copies_in all)
+  pub keys_grown : (number : ℕ) (all : Entries) → number ≡ (copy_of x).pdu.number → all ≡ insert_entry nat_eq m.entries number x → keys_of all ≡ numbers_of (copies_in all)
   keys_grown number all e f = (let grown = map_grown number all e f in let same = inserted number e in grind (arith, map-append))
 
 -- ---- the place of a number
