@@ -13,13 +13,14 @@ ghost use Rattle.rasta_show.specs.Shown.{sight_in, status_left, text_left};
 ghost use Rattle.rasta_udp.specs.Frame.{packet_in, packet_of};
 ghost use Rattle.rasta_show.specs.Runs.{GoesUpToRecord, IsRunFault, WritesBeginning, WritesText};
 
+use crate::decoder::Decoder;
 use crate::packet::write_packet;
 use crate::shown_packet::ShownPacket;
 use crate::texts::{count_line, refusal_line};
 use rasta_line::Line;
 use rasta_pcap::stream::RecordReader;
 use rasta_pcap::{Record, write_all};
-use rasta_pdu::{Fault, Params, Sink, Source, decode};
+use rasta_pdu::{Fault, Params, Sink, Source};
 use rasta_udp::{Datagram, datagram};
 use std::alloc::Global;
 
@@ -46,12 +47,13 @@ fn is_before_window(params: &Params, number: u32) -> bool
 }
 
 // What a datagram of the connection shows. A PDU's fault speaks of its sender.
-fn sight_of_datagram<'a>(params: &Params, number: u32, found: Datagram<'a>) -> Seen<'a>
-    requires { AreParameters params.now }
-    ensures { sight_in result ≡ (sight_of_pdu params.now number (packet_of found.entry)
-        (decode_of params.now found.entry.side found.entry.payload.now)) }
+fn sight_of_datagram<'a>(decoder: &mut Decoder<'_>, number: u32, found: Datagram<'a>) -> Seen<'a>
+    requires { AreParameters decoder.old }
+    ensures sight { sight_in result ≡ (sight_of_pdu decoder.old number (packet_of found.entry)
+        (decode_of decoder.old found.entry.side found.entry.payload.now)) }
+    ensures params { decoder.new ≡ decoder.old }
 {
-    match decode(params, found.side, found.payload) {
+    match decoder.decode(found.side, found.payload) {
         Ok(pdu) => Seen::Packet(ShownPacket {
             record: number,
             channel: found.channel,
@@ -67,25 +69,29 @@ fn sight_of_datagram<'a>(params: &Params, number: u32, found: Datagram<'a>) -> S
 }
 
 // What a record of the window shows. A frame's fault speaks of no end.
-fn sight_in_window<'a>(params: &Params, record: &Record<'a>) -> Seen<'a>
-    ensures { sight_in result ≡ (sight_of_frame params.now «record».now.number
+fn sight_in_window<'a>(params: &Params, decoder: &mut Decoder<'_>, record: &Record<'a>) -> Seen<'a>
+    requires { decoder.old ≡ params.now }
+    ensures sight { sight_in result ≡ (sight_of_frame params.now «record».now.number
         (packet_in params.now.channels «record».now.bytes.now)) }
+    ensures params { decoder.new ≡ decoder.old }
 {
     match datagram(record, params.channel()) {
         Ok(None) => Seen::PassedOver,
-        Ok(Some(found)) => sight_of_datagram(params, record.number, found),
+        Ok(Some(found)) => sight_of_datagram(decoder, record.number, found),
         Err(fault) => Seen::Refused(Fault::at(fault.number, record.number)),
     }
 }
 
 #[tactic(auto, unfolding(crate::specs::Show::sight_of))]
-fn sight<'a>(params: &Params, record: &Record<'a>) -> Seen<'a>
-    ensures { sight_in result ≡ (sight_of params.now («record».now.number, «record».now.bytes.now)) }
+fn sight<'a>(params: &Params, decoder: &mut Decoder<'_>, record: &Record<'a>) -> Seen<'a>
+    requires { decoder.old ≡ params.now }
+    ensures sight { sight_in result ≡ (sight_of params.now («record».now.number, «record».now.bytes.now)) }
+    ensures params { decoder.new ≡ decoder.old }
 {
     if is_before_window(params, record.number) {
         Seen::PassedOver
     } else {
-        sight_in_window(params, record)
+        sight_in_window(params, decoder, record)
     }
 }
 
@@ -101,6 +107,7 @@ pub fn write_refusal<W: Sink>(fault: Fault, writer: &mut W) -> Result<u8, Fault>
 
 // Writes what the records from here on show, each before the next is read.
 fn write_records<R: Source, W: Sink>(
+    alloc: Global,
     params: &Params,
     mut records: RecordReader,
     reader: &mut R,
@@ -115,6 +122,7 @@ fn write_records<R: Source, W: Sink>(
     ensures err { IfErr result (λ f. IsRunFault f (R.failure_count reader.old) (R.failure_count reader.new)
         (W.failure_count writer.old) (W.failure_count writer.new)) }
 {
+    let mut decoder = Decoder::new(alloc, params);
     let mut line = Line::new();
     let mut place = 0u32;
     for _ in 0..params.last_record() {
@@ -125,7 +133,7 @@ fn write_records<R: Source, W: Sink>(
             Err(fault) => return Err(fault),
         };
         let bytes = records.buffer();
-        match sight(params, &Record { number, bytes }) {
+        match sight(params, &mut decoder, &Record { number, bytes }) {
             Seen::PassedOver => {}
             Seen::Packet(packet) => {
                 write_packet(&packet, place, &mut line, writer)?;
@@ -159,7 +167,7 @@ pub fn run_show<R: Source, W: Sink>(
         (W.failure_count writer.old) (W.failure_count writer.new)) }
 {
     match RecordReader::open(alloc, reader) {
-        Ok(records) => write_records(params, records, reader, writer),
+        Ok(records) => write_records(alloc, params, records, reader, writer),
         Err(fault) if is_refusal(fault) => write_refusal(fault, writer),
         Err(fault) => Err(fault),
     }

@@ -58,7 +58,7 @@ returns-in_err-write_packet-in-Packet-clause-begun g c =
     let q = packet_of c.in-Packet.packet in
     let found = rw c.in-Ok-Some.field-0-is at (c.in-Ok-Some.ensures.step.found c.loop.invariant.3) in
     let seen = sees_record p (end - (c.loop.counter + 1)) (order_in records) (count_in records) _ (packet q) _ _ found
-    (c.in-Packet.ensures ∙ ap (λ (b : List ℕ). sight_of p (c.in-Ok-Some.number, b)) c.buffer-bytes.ensures.bytes) in
+    (c.in-Packet.ensures.sight ∙ ap (λ (b : List ℕ). sight_of p (c.in-Ok-Some.number, b)) c.buffer-bytes.ensures.bytes) in
     where_failed c.from_residual.result (Streams-packet_begun _ _ _ c.loop.place q _ _ _ _ _ _
     (Streams-left _ _ _ _ _ end c.loop.counter _ _ _ _ c.loop-test.true c.loop.invariant.0) seen c.in_err-write_packet-in-Packet.ensures.out)
 
@@ -70,7 +70,7 @@ returns-in-Refused-clause-text g c =
     let f = c.in-Refused.fault in
     let found = rw c.in-Ok-Some.field-0-is at (c.in-Ok-Some.ensures.step.found c.loop.invariant.3) in
     let seen = sees_record p (end - (c.loop.counter + 1)) (order_in records) (count_in records) _ (refused f) _ _ found
-    (c.in-Refused.ensures ∙ ap (λ (b : List ℕ). sight_of p (c.in-Ok-Some.number, b)) c.buffer-bytes.ensures.bytes) in
+    (c.in-Refused.ensures.sight ∙ ap (λ (b : List ℕ). sight_of p (c.in-Ok-Some.number, b)) c.buffer-bytes.ensures.bytes) in
     refused_answer (λ status. WritesText (text_left p c.args.records) (status_left p c.args.records) status
     (g.R.Source.remaining c.args.reader.now) (g.R.Source.remaining c.advance.new.reader)
     (g.W.Sink.contents c.args.writer.now) (g.W.Sink.contents c.write_refusal-in-Refused.new.writer))
@@ -87,7 +87,7 @@ returns-in-Refused-clause-begun g c =
     let f = c.in-Refused.fault in
     let found = rw c.in-Ok-Some.field-0-is at (c.in-Ok-Some.ensures.step.found c.loop.invariant.3) in
     let seen = sees_record p (end - (c.loop.counter + 1)) (order_in records) (count_in records) _ (refused f) _ _ found
-    (c.in-Refused.ensures ∙ ap (λ (b : List ℕ). sight_of p (c.in-Ok-Some.number, b)) c.buffer-bytes.ensures.bytes) in
+    (c.in-Refused.ensures.sight ∙ ap (λ (b : List ℕ). sight_of p (c.in-Ok-Some.number, b)) c.buffer-bytes.ensures.bytes) in
     where_begun c.write_refusal-in-Refused.result _ _ _ (λ begun. Streams-ends_begun _ _ c.loop.place (refusal f) _ _ _ _ _ _ _
     (Streams-left _ _ _ _ _ end c.loop.counter _ _ _ _ c.loop-test.true c.loop.invariant.0) (ends_refused _ (left_shown p (end - (c.loop.counter + 1)) (order_in records) c.in-Ok-Some.number) f _ _ seen) (text_from-fault c.loop.place f) begun)
     c.write_refusal-in-Refused.ensures.out
@@ -108,7 +108,7 @@ loop-preserved g c =
     elim c.match-sight.branch [
       | in-PassedOver w ↦ (
         rw (w.writer-is, w.place-is, step.order, count) (Streams-passed _ _ _ c.loop.place _ _ _ _ _ before
-            (sees_record p k (order_in old) (count_in old) _ passed_over _ _ found (w.in-PassedOver.ensures ∙ sight))),
+            (sees_record p k (order_in old) (count_in old) _ passed_over _ _ found (w.in-PassedOver.ensures.sight ∙ sight))),
         step.steady ∙ c.loop.invariant.1,
         rw w.writer-is c.loop.invariant.2,
         progress,
@@ -116,11 +116,12 @@ loop-preserved g c =
         c.loop.invariant.5,
         omega arith,
         rw step.order one_more,
+        c.sight.ensures.params ∙ c.loop.invariant.8,
       )
       | in-Packet+in_ok-write_packet-in-Packet w ↦
           let q = packet_of w.in-Packet.packet in (
             rw (w.writer-is, w.place-is, step.order, count) (Streams-packet _ _ _ c.loop.place q _ _ _ _ _ _ before
-                (sees_record p k (order_in old) (count_in old) _ (packet q) _ _ found (w.in-Packet.ensures ∙ sight))
+                (sees_record p k (order_in old) (count_in old) _ (packet q) _ _ found (w.in-Packet.ensures.sight ∙ sight))
                 w.in_ok-write_packet-in-Packet.ensures.out),
             step.steady ∙ c.loop.invariant.1,
             rw w.writer-is (w.in_ok-write_packet-in-Packet.ensures.written ∙ c.loop.invariant.2),
@@ -129,6 +130,7 @@ loop-preserved g c =
             c.loop.invariant.5,
             omega arith,
             rw step.order one_more,
+            c.sight.ensures.params ∙ c.loop.invariant.8,
           )
     ]
 

@@ -6,8 +6,8 @@ use Rattle.rasta_show.proofs.Bounds.{HasReadMore}
 use Rattle.rasta_show.proofs.Streaming.{Streams, left_shown}
 use Rattle.rasta_show.proofs.show.write_records.Given as goal
 
--- what was written, and then what the rest shows, is the whole text, no call of a device failed, the reading goes on, and as
--- many records were read as were counted
+-- what was written, and then what the rest shows, is the whole text, no call of a device failed, the reading goes on, as
+-- many records were read as were counted, and what decodes has the same parameters
 abbrev pub invariant-loop : goal.invariant-loop
 invariant-loop g l =
     Streams (shown_left l.params l.fn.records)
@@ -20,3 +20,4 @@ invariant-loop g l =
     × (l.end ≡ l.params.last_record)
     × (l.counter ≤ l.end)
     × HasReadMore (order_in l.fn.records) (order_in l.records) l.counter (g.R.Source.remaining l.fn.reader) (g.R.Source.remaining l.reader)
+    × (l.decoder ≡ l.params)
