@@ -1,4 +1,5 @@
 //! What an explanation tells, as data. The names of the fields are the keys of its JSON.
+use crate::told::Told;
 use itoa::Buffer;
 use serde::{Described, Serialize, Serializer};
 
@@ -45,10 +46,10 @@ pub struct Offer {
 }
 
 /// Where and when a packet was captured.
-#[derive(Drop, Serialize)]
+#[derive(Clone, Copy, Serialize)]
 pub struct Place {
     pub record: u32,
-    pub time: Option<String>,
+    pub time: Option<Told<'static>>,
     pub channel: u8,
 }
 
@@ -70,33 +71,33 @@ pub struct QuietPoint {
 }
 
 /// A message that an end sent.
-#[derive(Drop, Serialize)]
-pub struct Message {
+#[derive(Clone, Copy, Serialize)]
+pub struct Message<'a> {
     pub message: Number,
     pub surely_taken: bool,
     pub data: Option<Place>,
     pub proof: Option<Place>,
-    pub hex: String,
-    pub text: String,
+    pub hex: Told<'a>,
+    pub text: Told<'a>,
 }
 
 /// The messages that one end sent to the other.
 #[derive(Drop, Serialize)]
-pub struct Direction {
+pub struct Direction<'a> {
     pub from: &'static str,
     pub to: &'static str,
     pub surely_taken: Number,
     pub sent: Number,
-    pub messages: Vec<Message>,
+    pub messages: Vec<Message<'a>>,
 }
 
 /// What is told of an explained capture.
 #[derive(Drop, Serialize)]
-pub struct Explained {
+pub struct Explained<'a> {
     pub packets_explained: u32,
     pub premises: Vec<String>,
     pub quiet_point: Option<QuietPoint>,
-    pub messages: Vec<Direction>,
+    pub messages: Vec<Direction<'a>>,
 }
 
 /// A fault, and what to do about it.
@@ -110,10 +111,10 @@ pub struct Advice {
 }
 
 /// The refused record.
-#[derive(Drop, Serialize)]
+#[derive(Clone, Copy, Serialize)]
 pub struct RefusedRecord {
     pub record: u32,
-    pub time: Option<String>,
+    pub time: Option<Told<'static>>,
 }
 
 /// The fields of a datagram before its payload, but for the reserve: those that it goes as far as.
@@ -268,8 +269,8 @@ pub struct Refusal {
 /// The verdict.
 #[derive(Drop, Serialize)]
 #[serde(tag = "verdict", rename_all = "snake_case")]
-pub enum Verdict {
-    Explained(Explained),
+pub enum Verdict<'a> {
+    Explained(Explained<'a>),
     Refused(Refusal),
     NoPackets,
 }
@@ -288,5 +289,5 @@ pub struct Account<'a> {
     pub records_passed_over: Number,
     pub offers: Vec<Offer>,
     #[serde(flatten)]
-    pub verdict: Verdict,
+    pub verdict: Verdict<'a>,
 }

@@ -8,7 +8,8 @@ use crate::explanation::Explanation;
 use crate::page::Page;
 use crate::page_data::place_data;
 use crate::sent_messages::{SentMessage, SentMessages, list_of, sent_count};
-use crate::text::{Part, add, name_of_end, parts, sentence_of, text_of};
+use crate::text::{add, name_of_end, parts, sentence_of, text_of};
+use crate::told::Told;
 use rasta_check::{Store, Taken};
 use rasta_pcap::{Fault, Side};
 use std::alloc::Global;
@@ -58,31 +59,28 @@ fn quiet_point_data(page: &Page<'_>) -> Option<QuietPoint> {
 }
 
 // A message, and the place of its proof if it was surely taken.
-fn message_data(
+fn message_data<'a>(
     alloc: Global,
     page: &Page<'_>,
-    sent: &SentMessage<'_>,
+    sent: &SentMessage<'a>,
     proof: Option<u32>,
-) -> Result<Message, Fault>
-    ensures err { IfErr result (λ f. f ≡ no_memory) }
-{
-    let data = place_data(alloc, page, sent.data_index)?;
-    let proof_place = match proof {
-        Some(place) => place_data(alloc, page, place)?,
-        None => None,
-    };
-    Ok(Message {
+) -> Message<'a> {
+    Message {
         message: Number(sent.message),
         surely_taken: proof.is_some(),
-        data,
-        proof: proof_place,
-        hex: text_of(alloc, &parts![Part::Hex(sent.bytes)])?,
-        text: text_of(alloc, &parts![Part::Text(sent.bytes)])?,
-    })
+        data: place_data(alloc, page, sent.data_index),
+        proof: proof.and_then(|place| place_data(alloc, page, place)),
+        hex: Told::hex(alloc, sent.bytes),
+        text: Told::text(alloc, sent.bytes),
+    }
 }
 
 // The messages that were surely taken.
-fn taken_data(alloc: Global, page: &Page<'_>, taken: &[Taken<'_>]) -> Result<Vec<Message>, Fault>
+fn taken_data<'a>(
+    alloc: Global,
+    page: &Page<'_>,
+    taken: &[Taken<'a>],
+) -> Result<Vec<Message<'a>>, Fault>
     ensures err { IfErr result (λ f. f ≡ no_memory) }
 {
     let mut messages = Vec::new(alloc);
@@ -92,19 +90,19 @@ fn taken_data(alloc: Global, page: &Page<'_>, taken: &[Taken<'_>]) -> Result<Vec
             data_index: taken.data_index,
             bytes: taken.bytes,
         };
-        let message = message_data(alloc, page, &sent, Some(taken.proof_index))?;
+        let message = message_data(alloc, page, &sent, Some(taken.proof_index));
         add(&mut messages, message)?;
     }
     Ok(messages)
 }
 
 // Adds the messages of an end that aren't listed: those after the first `listed`.
-fn add_rest(
+fn add_rest<'a>(
     alloc: Global,
     page: &Page<'_>,
-    mut sent: SentMessages<'_>,
+    mut sent: SentMessages<'a>,
     listed: u64,
-    messages: &mut Vec<Message>,
+    messages: &mut Vec<Message<'a>>,
 ) -> Result<(), Fault>
     ensures err { IfErr result (λ f. f ≡ no_memory) }
 {
@@ -113,20 +111,20 @@ fn add_rest(
             break;
         };
         if next.message >= listed {
-            add(messages, message_data(alloc, page, &next, None)?)?;
+            add(messages, message_data(alloc, page, &next, None))?;
         }
     }
     Ok(())
 }
 
 // The messages that an end sent: those that were surely taken, and the rest.
-fn direction_data(
+fn direction_data<'a>(
     alloc: Global,
     page: &Page<'_>,
-    store: &Store,
+    store: &'a Store,
     sender: Side,
-    taken: &[Taken<'_>],
-) -> Result<Direction, Fault>
+    taken: &[Taken<'a>],
+) -> Result<Direction<'a>, Fault>
     ensures err { IfErr result (λ f. f ≡ no_memory) }
 {
     let listed = taken.len() as u64;
@@ -143,11 +141,11 @@ fn direction_data(
 }
 
 /// What is told of an explained capture.
-pub fn explained_data(
+pub fn explained_data<'a>(
     alloc: Global,
     page: &Page<'_>,
-    explanation: &Explanation<'_>,
-) -> Result<Explained, Fault>
+    explanation: &Explanation<'a>,
+) -> Result<Explained<'a>, Fault>
     ensures err { IfErr result (λ f. f ≡ no_memory) }
 {
     let store = explanation.store();

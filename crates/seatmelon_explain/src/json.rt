@@ -15,7 +15,11 @@ use sha2::{Digest, Sha256};
 use std::alloc::Global;
 
 // The verdict, with what is told of it.
-fn verdict_data(alloc: Global, page: &Page<'_>, finding: &Finding<'_>) -> Result<Verdict, Fault>
+fn verdict_data<'a>(
+    alloc: Global,
+    page: &Page<'_>,
+    finding: &Finding<'a>,
+) -> Result<Verdict<'a>, Fault>
     ensures outcome { IfOk result (λ verdict. data_outcome verdict ≡ finding_outcome finding.now) }
     ensures err { IfErr result (λ f. f ≡ no_memory) }
 {
@@ -57,7 +61,7 @@ fn offers_in(alloc: Global, page: &Page<'_>, finding: &Finding<'_>) -> Result<Ve
 fn account_of<'a>(
     alloc: Global,
     page: &Page<'a>,
-    finding: &Finding<'_>,
+    finding: &Finding<'a>,
 ) -> Result<Account<'a>, Fault>
     ensures outcome { IfOk result (λ account. data_outcome account.verdict ≡ finding_outcome finding.now) }
     ensures err { IfErr result (λ f. f ≡ no_memory) }

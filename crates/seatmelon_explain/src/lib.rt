@@ -22,6 +22,7 @@ mod sent_messages;
 mod sifted;
 mod sightings;
 mod text;
+mod told;
 mod verdict;
 mod words;
 

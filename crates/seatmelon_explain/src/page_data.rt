@@ -7,6 +7,7 @@ use crate::page::{Page, channel_counts, other_offer};
 use crate::sent_messages::list_of;
 use crate::sightings::Sighting;
 use crate::text::{Part, add, name_of_end, parts, text_of};
+use crate::told::Told;
 use rasta_check::Store;
 use rasta_pcap::{CaptureTime, Fault, Side};
 use sha2::{Digest, Sha256};
@@ -70,39 +71,25 @@ pub fn offers_data(alloc: Global, page: &Page<'_>, store: &Store) -> Result<Vec<
 }
 
 /// A time as it is shown.
-pub fn time_data(alloc: Global, time: Option<CaptureTime>) -> Result<Option<String>, Fault>
-    ensures err { IfErr result (λ f. f ≡ no_memory) }
-{
-    match time {
-        Some(time) => Ok(Some(text_of(alloc, &parts![time, " UTC"])?)),
-        None => Ok(None),
-    }
+pub fn time_data(alloc: Global, time: Option<CaptureTime>) -> Option<Told<'static>> {
+    time.map(|time| Told::time(alloc, time))
 }
 
 /// Record, time and channel of a packet.
-pub fn sighting_data(alloc: Global, sighting: &Sighting) -> Result<Place, Fault>
-    ensures err { IfErr result (λ f. f ≡ no_memory) }
-{
-    Ok(Place {
+pub fn sighting_data(alloc: Global, sighting: &Sighting) -> Place {
+    Place {
         record: sighting.record,
-        time: time_data(alloc, sighting.time)?,
+        time: time_data(alloc, sighting.time),
         channel: sighting.channel,
-    })
-}
-
-/// Record, time and channel of a packet, if there is one.
-pub fn found_data(alloc: Global, found: Option<&Sighting>) -> Result<Option<Place>, Fault>
-    ensures err { IfErr result (λ f. f ≡ no_memory) }
-{
-    match found {
-        Some(sighting) => Ok(Some(sighting_data(alloc, sighting)?)),
-        None => Ok(None),
     }
 }
 
+/// Record, time and channel of a packet, if there is one.
+pub fn found_data(alloc: Global, found: Option<&Sighting>) -> Option<Place> {
+    found.map(|sighting| sighting_data(alloc, sighting))
+}
+
 /// Record, time and channel of the packet at a place.
-pub fn place_data(alloc: Global, page: &Page<'_>, place: u32) -> Result<Option<Place>, Fault>
-    ensures err { IfErr result (λ f. f ≡ no_memory) }
-{
+pub fn place_data(alloc: Global, page: &Page<'_>, place: u32) -> Option<Place> {
     found_data(alloc, page.sightings.packets.get(place as usize))
 }

@@ -122,7 +122,7 @@ fn copy_data(
     Ok(Trouble::Copy {
         code_found,
         code_due,
-        first_copy: found_data(alloc, found.as_ref())?,
+        first_copy: found_data(alloc, found.as_ref()),
         first_copy_bytes: is_longer.then_some(shown_length(first)),
         differences: differences_data(alloc, datagram, first)?,
         may_differ_further: differences(datagram, first).is_full(),
@@ -139,7 +139,7 @@ fn gap_data(alloc: Global, page: &Page<'_>, datagram: &[u8]) -> Result<Option<Tr
     Ok(Some(Trouble::NumberGap {
         number_due,
         number_found: number_in(datagram),
-        crosses_later: found_data(alloc, page.sightings.found.as_ref())?,
+        crosses_later: found_data(alloc, page.sightings.found.as_ref()),
     }))
 }
 
@@ -233,7 +233,7 @@ pub fn capture_refusal_data(
     }
     told.record = Some(RefusedRecord {
         record: fault.place,
-        time: time_data(alloc, page.sightings.refused_time)?,
+        time: time_data(alloc, page.sightings.refused_time),
     });
     if let Some(packet) = packet_in(&page.params, &refusal.frame, fault.place) {
         told.packet = Some(packet_data(alloc, &packet)?);
@@ -287,7 +287,7 @@ fn crossed_data(
     };
     Ok(Some(CrossedPdu {
         end: name_of_end(crossed.side),
-        packet: place_data(alloc, page, crossed.place)?,
+        packet: place_data(alloc, page, crossed.place),
         fields,
     }))
 }

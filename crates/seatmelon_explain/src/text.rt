@@ -197,11 +197,24 @@ pub fn write_words<W: Sink>(writer: &mut W, words: &str) -> Result<(), Fault>
     write_all(writer, words.as_bytes())
 }
 
+// How many bytes the text of a part has at least, of those that can be long.
+fn least_len(part: &Part<'_>) -> usize {
+    match part {
+        Part::Hex(bytes) => bytes.len().saturating_mul(2),
+        Part::Text(bytes) => bytes.len(),
+        _ => 0,
+    }
+}
+
 /// Parts, one after the other, as a text of its own. Refused by [`Fault::NO_MEMORY`] alone.
 pub fn text_of(alloc: Global, parts: &[Part<'_>]) -> Result<String, Fault>
     ensures err { IfErr result (λ f. f ≡ no_memory) }
 {
-    let mut writer = Counted::new(Vec::new(alloc));
+    let mut room = 0usize;
+    for part in parts {
+        room = room.saturating_add(least_len(part));
+    }
+    let mut writer = Counted::new(Vec::with_capacity(alloc, room)?);
     if write_parts(&mut writer, parts).is_err() {
         return Err(Fault::at(Fault::NO_MEMORY, 0));
     }
