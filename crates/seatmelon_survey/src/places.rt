@@ -27,11 +27,21 @@ impl Ends {
     }
 }
 
+// Two ends, and the place of the last connection between them.
+#[derive(Clone, Copy, Debug)]
+struct Placed {
+    ends: Ends,
+    place: usize,
+}
+
 /// The place of the last connection between two ends. A table finds it in constant time, however many connections
-/// there are.
+/// there are. The ends that were found or set last are asked before it: mostly the next packet is between them too.
 #[derive(Debug, Drop)]
 pub struct Places {
     last: HashMap<Ends, usize>,
+
+    // As the table has it.
+    recent: Option<Placed>,
 }
 
 impl Places {
@@ -39,21 +49,30 @@ impl Places {
     pub fn new(alloc: Global) -> Places {
         Places {
             last: HashMap::new(alloc),
+            recent: None,
         }
     }
 
     /// The place of the last connection between these ends, if there is one.
-    pub fn find(&self, ends: Ends) -> Option<usize> {
-        self.last.get(&ends).copied()
+    pub fn find(&mut self, ends: Ends) -> Option<usize> {
+        if let Some(recent) = self.recent
+            && recent.ends == ends
+        {
+            return Some(recent.place);
+        }
+        let place = self.last.get(&ends).copied()?;
+        self.recent = Some(Placed { ends, place });
+        Some(place)
     }
 
     /// Sets the place of the last connection between these ends. Refused by [`Fault::NO_MEMORY`].
     pub fn set(&mut self, ends: Ends, place: usize) -> Result<(), Fault>
         ensures err { IfErr result (λ f. f ≡ no_memory) }
     {
-        match self.last.insert(ends, place) {
-            Ok(_) => Ok(()),
-            Err(_) => Err(Fault::at(Fault::NO_MEMORY, 0)),
+        if self.last.insert(ends, place).is_err() {
+            return Err(Fault::at(Fault::NO_MEMORY, 0));
         }
+        self.recent = Some(Placed { ends, place });
+        Ok(())
     }
 }
