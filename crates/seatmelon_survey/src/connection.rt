@@ -158,6 +158,12 @@ impl Connection {
         self.quiet.add(sender, packet, sighting)
     }
 
+    /// Whether the packet is between these two ends.
+    #[cfg(test)]
+    pub(crate) fn has_ends_of(&self, packet: &Packet) -> bool {
+        self.sender_of(packet).is_some()
+    }
+
     fn find_channel(&self, channel: Channel) -> Option<usize> {
         self.channels
             .iter()

@@ -3,6 +3,9 @@ ghost use Rattle.std.specs.Prelude.{◌≡◌, IfErr, OnOk};
 ghost use Rattle.rasta_pcap.specs.Fault.{no_memory};
 ghost use Rattle.rasta_pcap.specs.Devices.{AsWritten};
 
+#[cfg(test)]
+mod tests;
+
 use crate::connection::Connection;
 use crate::lengths::Trials;
 use crate::packet::{LastDatagram, Packet, packet_in};

@@ -7,6 +7,8 @@ mod draft;
 mod findings;
 mod kinds;
 mod lengths;
+#[cfg(test)]
+mod made;
 mod numbers;
 mod packet;
 mod party;

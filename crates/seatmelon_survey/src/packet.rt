@@ -1,6 +1,9 @@
 //! Packets that have the form of RaSTA.
 ghost use Rattle.std.specs.Prelude.{◌+◌, ◌≤◌, length};
 
+#[cfg(test)]
+pub mod tests;
+
 use crate::lengths::{Fits, NO_FITS, Trials};
 use crate::route::route_in;
 use byteorder::{ByteOrder, LittleEndian};

@@ -2,6 +2,9 @@
 ghost use Rattle.std.specs.Prelude.{◌+◌, ◌≤◌};
 ghost use Rattle.rasta_pcap.specs.Devices.{AsWritten};
 
+#[cfg(test)]
+mod tests;
+
 use itoa::Buffer;
 use jiff_core::civil::Date;
 use rasta_pcap::{CaptureTime, Fault, FractionUnit, Sink, write_all};
