@@ -1,5 +1,4 @@
 pub mod Judged
 pub mod Outcomes
 pub mod Reading
-pub mod Sifting
 pub mod Telling

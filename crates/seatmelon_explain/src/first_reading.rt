@@ -2,12 +2,12 @@
 ghost use Rattle.std.specs.Prelude.{◌≡◌, ◌⊎◌, [], IfErr, IfOk};
 ghost use Rattle.rasta_pcap.specs.Fault.{no_memory, read_failed};
 ghost use Rattle.seatmelon_explain.specs.Reading.{IsRead, IsRefusal};
-ghost use Rattle.seatmelon_explain.specs.Sifting.{left_in};
+ghost use Rattle.seatmelon_sifting.specs.Sifting.{left_in};
 
-use crate::sifted::Sifted;
 use rasta_check::{Store, store};
 use rasta_pcap::{Fault, Source};
 use rasta_pdu::Params;
+use seatmelon_sifting::Sifted;
 use std::alloc::Global;
 
 /// A capture's fault, and the frame of the record that was read last.

@@ -2,11 +2,11 @@
 ghost use Rattle.std.specs.Prelude.{◌≡◌, ◌⊎◌, IfErr};
 ghost use Rattle.rasta_pcap.specs.Fault.{no_memory, read_failed};
 
-use crate::sifted::Sifted;
 use rasta_pcap::stream::RecordReader;
 use rasta_pcap::{CaptureTime, Fault, Record, Side, Source};
 use rasta_pdu::{Params, decode};
 use rasta_udp::{Datagram, datagram};
+use seatmelon_sifting::Sifted;
 use std::alloc::Global;
 
 /// Where and when a packet was captured, and on which channel.

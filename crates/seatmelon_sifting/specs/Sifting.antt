@@ -1,6 +1,6 @@
 -- A capture on its way to its reader.
 use Rattle.std.specs.Prelude.{ℕ, List, [], ◌∷◌, Option, None}
-use Rattle.seatmelon_explain.specs.declared.sifted.Sifted.{Sifted}
+use Rattle.seatmelon_sifting.specs.declared.sifted.Sifted.{Sifted}
 
 -- the source that is sifted
 abbrev pub source_of : {S : Type 0} → Sifted S → S

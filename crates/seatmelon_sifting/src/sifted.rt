@@ -124,7 +124,7 @@ pub struct Sifted<'a, S> {
 }
 
 impl<'a, S: Source + Drop> Sifted<'a, S> {
-    ghost use Rattle.seatmelon_explain.specs.Sifting.{source_of, without_of};
+    ghost use Rattle.seatmelon_sifting.specs.Sifting.{source_of, without_of};
 
     /// The source, of which nothing was read. Refused by [`Fault::NO_MEMORY`].
     pub fn new(alloc: Global, source: S, without: &'a [u32]) -> Result<Sifted<'a, S>, Fault>
@@ -170,7 +170,7 @@ impl<'a, S: Source + Drop> Sifted<'a, S> {
 }
 
 impl<'a, S: Source + Drop> Source for Sifted<'a, S> {
-    ghost use Rattle.seatmelon_explain.specs.Sifting.{left_in, source_of};
+    ghost use Rattle.seatmelon_sifting.specs.Sifting.{left_in, source_of};
 
     ghost remaining = { left_in S.remaining };
 

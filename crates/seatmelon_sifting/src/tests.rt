@@ -1,0 +1,270 @@
+//! Captures pass by parts of their records as they passed byte by byte.
+use crate::Sifted;
+use crate::captures::{Capture, Random};
+use crate::former::Tracker;
+use rasta_pcap::devices::Pieces;
+use rasta_pcap::{Counted, Source};
+use std::alloc::Global;
+use std::process::Abort;
+use std::test::Fail;
+
+// The room that is read into.
+const ROOM: usize = 8192;
+
+// The lengths of the buffers that are read into in turn.
+const MIXED: &[usize] = &[1, 16, 2, 100, 7, 4096, 13, 8192];
+
+const EACH_SIZE: [&[usize]; 8] = [&[1], &[2], &[7], &[16], &[100], &[4096], &[8192], MIXED];
+
+// The numbers of records that are left out: none, some in no order, and all of a short capture.
+const EACH_WITHOUT: [&[u32]; 4] = [
+    &[],
+    &[2],
+    &[7, 0, 1, 3, 3, 4, 11, 12],
+    &[
+        1, 2, 3, 4, 5, 6, 7, 8, 9, 10, 11, 12, 13, 14, 15, 16, 17, 18, 19, 20,
+    ],
+];
+
+/// How a capture is read: the records that are left out, the lengths of the buffers in turn, how many bytes a read
+/// gives at most, and after how many reads the rest is read to its end.
+#[derive(Clone, Copy, Debug)]
+struct Reading {
+    without: &'static [u32],
+    sizes: &'static [usize],
+    most: usize,
+    reads: usize,
+}
+
+// A whole reading by buffers of these lengths; which records are left out depends on a number.
+fn whole_reading(sizes: &'static [usize], number: usize) -> Reading {
+    Reading {
+        without: EACH_WITHOUT[number % 4],
+        sizes,
+        most: ROOM,
+        reads: usize::MAX,
+    }
+}
+
+// How many bytes a read handed on, and whether they and the frame are those of the former code.
+fn read_alike(
+    alloc: Global,
+    sifted: &mut Sifted<'_, Counted<Pieces<'_>>>,
+    former: &mut Tracker,
+    without: &[u32],
+    buffer: &mut [u8],
+    rest: &[u8],
+) -> Option<(usize, bool)> {
+    let len = Source::read(sifted, buffer).ok()?;
+    let mut wanted = rest.get(..len)?.to_vec(alloc).ok()?;
+    former.take(without, wanted.as_mut_slice());
+    let is_alike = buffer.get(..len)? == wanted.as_slice() && sifted.frame() == former.frame();
+    Some((len, is_alike))
+}
+
+// Whether a capture passes as it passed byte by byte: at each read, and where the rest is read to its end.
+fn passes_alike(
+    alloc: Global,
+    former: &mut Tracker,
+    capture: &[u8],
+    reading: &Reading,
+) -> Option<bool> {
+    let Reading { without, sizes, .. } = *reading;
+    let source = Counted::new(Pieces::new(capture, reading.most.max(1)));
+    let mut sifted = Sifted::new(alloc, source, without).ok()?;
+    let mut room = [0; ROOM];
+    let mut rest = capture;
+    for turn in 0..capture.len().min(reading.reads) {
+        if rest.is_empty() {
+            break;
+        }
+        let buffer = room.get_mut(..*sizes.get(turn % sizes.len().max(1))?)?;
+        let (len, is_alike) = read_alike(alloc, &mut sifted, former, without, buffer, rest)?;
+        if !is_alike {
+            return Some(false);
+        }
+        rest = rest.get(len..)?;
+    }
+    sifted.finish().ok()?;
+    let mut wanted = rest.to_vec(alloc).ok()?;
+    former.take(without, wanted.as_mut_slice());
+    let is_same_frame = sifted.frame() == former.frame();
+    Some(is_same_frame && sifted.into_digest() == former.finish())
+}
+
+// A check that a capture passes alike.
+fn compare<R: Abort + AllocGlobal>(
+    rt: &R,
+    former: &mut Tracker,
+    capture: &[u8],
+    reading: &Reading,
+) {
+    let is_alike = passes_alike(rt.alloc(), former, capture, reading);
+    assert_eq!(rt;
+        is_alike,
+        Some(true),
+        "{} bytes, {reading:?}",
+        capture.len()
+    );
+}
+
+fn short_capture(alloc: Global, seed: u64) -> Option<Capture> {
+    let mut capture = Capture::new(alloc, seed)?;
+    let count = Random::new(seed).below(20).wrapping_add(1);
+    capture.add_short_records(count)?;
+    Some(capture)
+}
+
+#[test]
+fn short_frames(rt: HostRuntime) -> Result<(), Fail> {
+    let mut former = Tracker::new(rt.alloc())?;
+    for (number, sizes) in EACH_SIZE.iter().cycle().take(64).enumerate() {
+        let capture = short_capture(rt.alloc(), number as u64).ok_or("a capture")?;
+        let reading = whole_reading(sizes, number / 8);
+        compare(&rt, &mut former, capture.bytes(), &reading);
+    }
+    Ok(())
+}
+
+// Some reads, and then the rest in pieces.
+#[test]
+fn finished_captures(rt: HostRuntime) -> Result<(), Fail> {
+    let mut former = Tracker::new(rt.alloc())?;
+    for (most, reads) in [(1, 0), (7, 3), (100, 1), (1000, 2), (ROOM, 0), (ROOM, 5)] {
+        for number in 0..8 {
+            let capture = short_capture(rt.alloc(), number as u64).ok_or("a capture")?;
+            let reading = Reading {
+                most,
+                reads,
+                ..whole_reading(MIXED, number)
+            };
+            compare(&rt, &mut former, capture.bytes(), &reading);
+        }
+    }
+    Ok(())
+}
+
+// Short records, and one of this length between them.
+fn long_capture(alloc: Global, seed: u64, length: u32) -> Option<Capture> {
+    let mut capture = Capture::new(alloc, seed)?;
+    capture.add_short_records(5)?;
+    capture.add_record(length, length)?;
+    capture.add_short_records(5)?;
+    Some(capture)
+}
+
+// Frames about the length of a buffer.
+#[test]
+fn long_frames(rt: HostRuntime) -> Result<(), Fail> {
+    let mut former = Tracker::new(rt.alloc())?;
+    for length in [8_175, 8_191, 8_192, 8_193, 20_000] {
+        for (number, sizes) in [&[100], &[4096], &[8192], MIXED].into_iter().enumerate() {
+            let capture = long_capture(rt.alloc(), u64::from(length), length).ok_or("a capture")?;
+            let reading = whole_reading(sizes, number);
+            compare(&rt, &mut former, capture.bytes(), &reading);
+        }
+    }
+    Ok(())
+}
+
+// Frames about the most bytes of a frame, at the end.
+#[test]
+fn longest_frames(rt: HostRuntime) -> Result<(), Fail> {
+    let mut former = Tracker::new(rt.alloc())?;
+    for length in [262_143, 262_144, 262_145] {
+        let mut capture = Capture::new(rt.alloc(), u64::from(length)).ok_or("a capture")?;
+        capture.add_short_records(5).ok_or("records")?;
+        capture.add_record(length, length).ok_or("a record")?;
+        let reading = Reading {
+            reads: 20,
+            ..whole_reading(MIXED, 3)
+        };
+        compare(&rt, &mut former, capture.bytes(), &reading);
+    }
+    Ok(())
+}
+
+// Records behind a frame of more bytes than are kept.
+#[test]
+fn records_behind_a_frame_that_is_too_long(rt: HostRuntime) -> Result<(), Fail> {
+    let mut former = Tracker::new(rt.alloc())?;
+    let capture = long_capture(rt.alloc(), 1, 262_200).ok_or("a capture")?;
+    let reading = whole_reading(&[8192], 3);
+    compare(&rt, &mut former, capture.bytes(), &reading);
+    Ok(())
+}
+
+// A record of this captured length, of which fewer bytes follow, behind short ones.
+fn torn_capture(alloc: Global, seed: u64, captured: u32) -> Option<Capture> {
+    let mut capture = Capture::new(alloc, seed)?;
+    capture.add_short_records(3)?;
+    capture.add_record(captured, 64)?;
+    Some(capture)
+}
+
+#[test]
+fn frames_that_are_not_whole(rt: HostRuntime) -> Result<(), Fail> {
+    let mut former = Tracker::new(rt.alloc())?;
+    for captured in [65, 131, 262_144, 262_145, 0x8000_0000, 0xffff_ffff] {
+        for (number, sizes) in EACH_SIZE.into_iter().enumerate() {
+            let capture = torn_capture(rt.alloc(), number as u64, captured).ok_or("a capture")?;
+            let reading = whole_reading(sizes, number);
+            compare(&rt, &mut former, capture.bytes(), &reading);
+        }
+    }
+    Ok(())
+}
+
+// A capture of one record and the header of another.
+fn small_capture(alloc: Global) -> Option<Capture> {
+    let mut capture = Capture::new(alloc, 1)?;
+    capture.add_record(15, 15)?;
+    capture.add_record(1, 0)?;
+    Some(capture)
+}
+
+// It is cut at each place in turn: in its header, in a record's, and in a frame.
+#[test]
+fn cut_captures(rt: HostRuntime) -> Result<(), Fail> {
+    let mut former = Tracker::new(rt.alloc())?;
+    let capture = small_capture(rt.alloc()).ok_or("a capture")?;
+    for len in 0..=capture.bytes().len() {
+        let front = capture.bytes().get(..len).ok_or("a front")?;
+        compare(&rt, &mut former, front, &whole_reading(MIXED, len));
+    }
+    Ok(())
+}
+
+// Bytes without form; in every second turn three of four are 0, so that lengths are small.
+fn bytes_of(alloc: Global, count: u32) -> Option<Vec<u8>> {
+    let mut random = Random::new(u64::from(count));
+    let mut bytes = Vec::new(alloc);
+    random.add_bytes(&mut bytes, count)?;
+    if count % 2 == 0 {
+        for byte in bytes.iter_mut() {
+            *byte = if *byte < 64 { *byte % 40 } else { 0 };
+        }
+    }
+    Some(bytes)
+}
+
+// Of each length about one block of SHA-256, two, and the four that it works off together.
+#[test]
+fn bytes_without_form(rt: HostRuntime) -> Result<(), Fail> {
+    let mut former = Tracker::new(rt.alloc())?;
+    for (from, to) in [
+        (0, 1),
+        (55, 67),
+        (119, 130),
+        (247, 259),
+        (311, 322),
+        (503, 515),
+    ] {
+        for count in from..to {
+            let bytes = bytes_of(rt.alloc(), count).ok_or("bytes")?;
+            let reading = whole_reading(MIXED, count as usize / 2);
+            compare(&rt, &mut former, &bytes, &reading);
+        }
+    }
+    Ok(())
+}
