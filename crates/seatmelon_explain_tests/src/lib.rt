@@ -7,3 +7,5 @@ mod cases;
 mod explain_tests;
 #[cfg(test)]
 mod json_tests;
+#[cfg(test)]
+mod message_tests;

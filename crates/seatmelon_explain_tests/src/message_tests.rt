@@ -1,0 +1,316 @@
+//! Messages are written by pieces as they were written byte by byte.
+ghost use Rattle.std.specs.Prelude.{◌≡◌, IfErr};
+ghost use Rattle.rasta_pcap.specs.Fault.{write_failed};
+
+use crate::cases::EXPLAINED;
+use crate::explain_tests::written;
+use rasta_pcap::{Counted, Fault, Sink, write_all};
+use rasta_pdu::{Body, Kind, Params, PduParts, Side, encode};
+use rasta_rows::file_of;
+use seatmelon_explain::{Form, Outcome};
+use std::alloc::Global;
+use std::test::Fail;
+
+// The former code, byte by byte, as it was: from here to `write_text`.
+const DIGITS: [u8; 16] = *b"0123456789abcdef";
+
+fn digit(n: u8) -> u8 {
+    DIGITS[usize::from(n % 16)]
+}
+
+fn write_byte<W: Sink>(writer: &mut W, byte: u8) -> Result<(), Fault>
+    ensures err { IfErr result (λ f. f ≡ write_failed) }
+{
+    write_all(writer, &[digit(byte / 16), digit(byte)])
+}
+
+fn write_hex<W: Sink>(writer: &mut W, bytes: &[u8]) -> Result<(), Fault>
+    ensures err { IfErr result (λ f. f ≡ write_failed) }
+{
+    for byte in bytes {
+        write_byte(writer, *byte)?;
+    }
+    Ok(())
+}
+
+// Writes a byte as text. A backslash is doubled.
+fn write_character<W: Sink>(writer: &mut W, byte: u8) -> Result<(), Fault>
+    ensures err { IfErr result (λ f. f ≡ write_failed) }
+{
+    match byte {
+        b'\\' => write_all(writer, b"\\\\"),
+        b' '..=b'~' => write_all(writer, &[byte]),
+        _ => write_all(writer, &[b'\\', b'x', digit(byte / 16), digit(byte)]),
+    }
+}
+
+fn write_text<W: Sink>(writer: &mut W, bytes: &[u8]) -> Result<(), Fault>
+    ensures err { IfErr result (λ f. f ≡ write_failed) }
+{
+    for byte in bytes {
+        write_character(writer, *byte)?;
+    }
+    Ok(())
+}
+
+// The lengths of the messages: about 16 and 64 bytes, which digits are written by, and the 256 of a room for text,
+// which is written once fewer than four are left.
+const LENGTHS: [usize; 26] = [
+    0, 1, 15, 16, 17, 48, 63, 64, 65, 80, 126, 127, 128, 251, 252, 253, 254, 255, 256, 257, 300,
+    504, 506, 508, 600, 1400,
+];
+
+// What precedes the bytes of each message, after its number.
+const PLACES: &str = "
+    data: record 4, 1970-01-01 00:00:00.000000 UTC, channel 1
+    proof: record 5, 1970-01-01 00:00:00.000000 UTC, channel 1
+";
+
+// The frame of the client up to its length: Ethernet, and IPv4.
+const FRONT: &[u8] = b"\x02\0\0\0\0\x02\x02\0\0\0\0\x01\x08\0\x45\0";
+
+// What follows the length of IPv4, up to that of UDP.
+const ROUTE: &[u8] = b"\0\0\0\0\x40\x11\0\0\x0a\0\0\x01\x0a\0\0\x02\x13\x88\x13\x88";
+
+/// Which bytes a message has.
+#[derive(Clone, Copy, Debug)]
+enum Bytes {
+    Backslashes,
+    Printable,
+    Unprintable,
+    // Runs of these.
+    Mixed,
+}
+
+// The next number that looks random, by a linear congruential generator.
+fn draw(state: &mut u64) -> u8 {
+    *state = state
+        .wrapping_mul(6_364_136_223_846_793_005)
+        .wrapping_add(1_442_695_040_888_963_407);
+    let [first, ..] = state.to_be_bytes();
+    first
+}
+
+// A byte of this kind; in a mixed message, of the kind of its run.
+fn byte_of(kind: Bytes, run: u8, drawn: u8) -> u8 {
+    match (kind, run % 4) {
+        (Bytes::Backslashes, _) | (Bytes::Mixed, 0) => b'\\',
+        (Bytes::Printable, _) | (Bytes::Mixed, 1) => drawn % 95 + 32,
+        (Bytes::Unprintable, _) | (Bytes::Mixed, 2) => drawn | 0x80,
+        (Bytes::Mixed, _) => drawn,
+    }
+}
+
+fn message(alloc: Global, kind: Bytes, len: usize, state: &mut u64) -> Option<Vec<u8>> {
+    let mut bytes = Vec::new(alloc);
+    let mut run = draw(state);
+    for _ in 0..len {
+        if draw(state) < 32 {
+            run = draw(state);
+        }
+        bytes.push(byte_of(kind, run, draw(state))).ok()?;
+    }
+    Some(bytes)
+}
+
+fn messages(alloc: Global, kind: Bytes, mut state: u64) -> Option<Vec<Vec<u8>>> {
+    let mut all = Vec::new(alloc);
+    for len in LENGTHS {
+        all.push(message(alloc, kind, len, &mut state)?).ok()?;
+    }
+    Some(all)
+}
+
+// The datagram with which the client sends messages.
+fn datagram(alloc: Global, params: &Params, all: &[Vec<u8>]) -> Option<Vec<u8>> {
+    let mut slices = Vec::new(alloc);
+    for bytes in all {
+        slices.push(bytes.as_slice()).ok()?;
+    }
+    let parts = PduParts {
+        number: 9,
+        reserve: 0,
+        kind: Kind::Data,
+        sn: 102,
+        cs: 500,
+        ts: 1020,
+        cts: 9000,
+        body: Body::Messages(slices.as_slice()),
+        check_bytes: b"",
+    };
+    if !parts.fits(params) {
+        return None;
+    }
+    let mut bytes = Vec::new(alloc);
+    encode(params, Side::Client, &parts, &mut bytes).ok()?;
+    Some(bytes)
+}
+
+// Adds the record of a datagram of the client.
+fn add_record(file: &mut Vec<u8>, datagram: &[u8]) -> Option<()> {
+    let len = u16::try_from(datagram.len()).ok()?;
+    let captured = u32::from(len).checked_add(42)?.to_le_bytes();
+    for part in [
+        [0; 8].as_slice(),
+        captured.as_slice(),
+        captured.as_slice(),
+        FRONT,
+        len.checked_add(28)?.to_be_bytes().as_slice(),
+        ROUTE,
+        len.checked_add(8)?.to_be_bytes().as_slice(),
+        [0; 2].as_slice(),
+        datagram,
+    ] {
+        file.extend_from_slice(part).ok()?;
+    }
+    Some(())
+}
+
+// An opening, data with these messages, and what confirms them.
+fn capture(alloc: Global, all: &[Vec<u8>]) -> Option<(Params, Vec<u8>)> {
+    let (params, mut file) = file_of(alloc, EXPLAINED.settings, "0 1 2")?;
+    let datagram = datagram(alloc, &params, all)?;
+    add_record(&mut file, &datagram)?;
+    let (_, last) = file_of(alloc, EXPLAINED.settings, "4")?;
+    file.extend_from_slice(last.get(24..)?).ok()?;
+    Some((params, file))
+}
+
+// What is told of a capture in this form, after these words.
+fn told(alloc: Global, params: &Params, file: &[u8], form: Form, words: &str) -> Option<Vec<u8>> {
+    let mut first = Counted::new(file);
+    let mut again = Counted::new(file);
+    let mut writer = Counted::new(Vec::new(alloc));
+    let outcome = written(
+        alloc,
+        &EXPLAINED,
+        params,
+        form,
+        &mut first,
+        &mut again,
+        &mut writer,
+    );
+    if outcome.ok()? != Outcome::Explained {
+        return None;
+    }
+    let text = String::from_utf8(writer.into_inner()).ok()?;
+    let (_, rest) = text.split_once(words)?;
+    rest.as_bytes().to_vec(alloc).ok()
+}
+
+// Writes a message as the former code did.
+fn write_former<W: Sink>(writer: &mut W, bytes: &[u8]) -> Result<(), Fault> {
+    if bytes.is_empty() {
+        return write_all(writer, b"    empty\n");
+    }
+    write_all(writer, b"    hex: ")?;
+    write_hex(writer, bytes)?;
+    write_all(writer, b"\n    text: ")?;
+    write_text(writer, bytes)?;
+    write_all(writer, b"\n")
+}
+
+// The text that the former code wrote.
+fn former(alloc: Global, all: &[Vec<u8>]) -> Option<Vec<u8>> {
+    let mut writer = Counted::new(Vec::new(alloc));
+    for (number, bytes) in all.iter().enumerate() {
+        let head = format!(in alloc; "  message {number}{PLACES}").ok()?;
+        write_all(&mut writer, head.as_bytes()).ok()?;
+        write_former(&mut writer, bytes.as_slice()).ok()?;
+    }
+    write_all(
+        &mut writer,
+        b"\nserver to client: 0 of 0 messages surely taken\n",
+    )
+    .ok()?;
+    Some(writer.into_inner())
+}
+
+#[test]
+fn messages_in_words(rt: HostRuntime) -> Result<(), Fail> {
+    let kinds = [
+        Bytes::Backslashes,
+        Bytes::Printable,
+        Bytes::Unprintable,
+        Bytes::Mixed,
+    ];
+    for (seed, kind) in kinds.into_iter().chain([Bytes::Mixed; 8]).enumerate() {
+        let all = messages(rt.alloc(), kind, seed as u64).ok_or("messages")?;
+        let (params, file) = capture(rt.alloc(), &all).ok_or("a capture")?;
+        let words = " messages surely taken\n";
+        let text = told(rt.alloc(), &params, &file, Form::Text, words).ok_or("a text")?;
+        let wanted = former(rt.alloc(), &all).ok_or("the former text")?;
+        assert!(rt;
+            text.as_slice() == wanted.as_slice(),
+            "{kind:?}, seed {seed}"
+        );
+    }
+    Ok(())
+}
+
+// What precedes the first message in JSON.
+const WORDS_IN_JSON: &str = r#","surely_taken":26,"sent":26,"messages":["#;
+
+// What precedes the digits of each message in JSON, after its number.
+const PLACES_IN_JSON: &str =
+    r#","surely_taken":true,"data":{"record":4,"time":"1970-01-01 00:00:00.000000 UTC","channel":1},"proof":{"record":5,"time":"1970-01-01 00:00:00.000000 UTC","channel":1},"hex":""#;
+
+const END_IN_JSON: &str =
+    r#"]},{"from":"server","to":"client","surely_taken":0,"sent":0,"messages":[]}]}"#;
+
+// Adds printable text as a string of JSON has it.
+fn add_escaped(json: &mut Vec<u8>, text: &[u8]) -> Option<()> {
+    for byte in text {
+        if matches!(*byte, b'"' | b'\\') {
+            json.push(b'\\').ok()?;
+        }
+        json.push(*byte).ok()?;
+    }
+    Some(())
+}
+
+// Adds a message to JSON, in the text that the former code wrote.
+fn add_former(alloc: Global, json: &mut Vec<u8>, number: usize, bytes: &[u8]) -> Option<()> {
+    let head = format!(in alloc; "{{\"message\":{number}{PLACES_IN_JSON}").ok()?;
+    json.extend_from_slice(head.as_bytes()).ok()?;
+    let mut hex = Counted::new(Vec::new(alloc));
+    write_hex(&mut hex, bytes).ok()?;
+    json.extend_from_slice(&hex.into_inner()).ok()?;
+    json.extend_from_slice(b"\",\"text\":\"").ok()?;
+    let mut text = Counted::new(Vec::new(alloc));
+    write_text(&mut text, bytes).ok()?;
+    add_escaped(json, &text.into_inner())?;
+    json.extend_from_slice(b"\"}").ok()
+}
+
+// The JSON of messages in the texts that the former code wrote.
+fn former_json(alloc: Global, all: &[Vec<u8>]) -> Option<Vec<u8>> {
+    let mut json = Vec::new(alloc);
+    for (number, bytes) in all.iter().enumerate() {
+        if number > 0 {
+            json.push(b',').ok()?;
+        }
+        add_former(alloc, &mut json, number, bytes.as_slice())?;
+    }
+    json.extend_from_slice(END_IN_JSON.as_bytes()).ok()?;
+    json.push(b'\n').ok()?;
+    Some(json)
+}
+
+#[test]
+fn messages_in_json(rt: HostRuntime) -> Result<(), Fail> {
+    let kinds = [
+        Bytes::Backslashes,
+        Bytes::Printable,
+        Bytes::Unprintable,
+        Bytes::Mixed,
+    ];
+    for (seed, kind) in kinds.into_iter().enumerate() {
+        let all = messages(rt.alloc(), kind, seed as u64).ok_or("messages")?;
+        let (params, file) = capture(rt.alloc(), &all).ok_or("a capture")?;
+        let text = told(rt.alloc(), &params, &file, Form::Json, WORDS_IN_JSON).ok_or("a text")?;
+        let wanted = former_json(rt.alloc(), &all).ok_or("the former text")?;
+        assert!(rt; text.as_slice() == wanted.as_slice(), "{kind:?}");
+    }
+    Ok(())
+}
