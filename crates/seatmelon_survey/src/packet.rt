@@ -160,9 +160,15 @@ impl LastDatagram {
         self.features = features;
     }
 
+    // Whether this is the last datagram. The lowest byte of its number tells it from most others.
+    fn is(&self, bytes: &[u8]) -> bool {
+        self.bytes.get(NUMBER_AT).copied() == bytes.get(NUMBER_AT).copied()
+            && self.bytes.as_slice() == bytes
+    }
+
     // The features of a datagram with a check code of this length, which isn't empty.
     fn features_of(&mut self, trials: &Trials, bytes: &[u8], check_length: u8) -> Features {
-        if self.bytes.as_slice() != bytes {
+        if !self.is(bytes) {
             let features = Features {
                 fits: trials.fits_of(bytes, check_length),
                 hash: hash_of(bytes),

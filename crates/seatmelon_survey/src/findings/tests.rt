@@ -130,8 +130,8 @@ fn frame_with(alloc: Global, draws: &mut Draws, pdu: &MadePdu) -> Option<Vec<u8>
     frame_of(alloc, channel, is_back, datagram.as_slice())
 }
 
-// Surveys of made records, of which many are copies of the one before. Now and then it is asked first where the
-// connection stands, so that what was asked last isn't always what was set last.
+// Surveys of made records, of which many are copies of the one before. After each it is asked where its packet's
+// connection stands, which changes nothing for the next one; now and then before it too.
 fn surveyed(alloc: Global, seed: u64, traffic: &Traffic) -> Option<Both> {
     let mut draws = Draws::new(seed);
     let mut both = Both::new(alloc);
@@ -145,10 +145,11 @@ fn surveyed(alloc: Global, seed: u64, traffic: &Traffic) -> Option<Both> {
             number,
             bytes: frame.as_slice(),
         };
-        if draws.below(3) == 0 {
+        if draws.below(4) == 0 {
             both.compare_place(&found);
         }
         both.add(alloc, &found)?;
+        both.compare_place(&found);
     }
     Some(both)
 }
