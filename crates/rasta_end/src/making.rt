@@ -111,11 +111,13 @@ impl<'a> End<'a> {
         }
     }
 
+    // Mostly nothing is owed, which is asked first.
     fn is_owing_else(&self, row: Option<MakeRow>) -> bool
         ensures { result ≡ MakeRule.is_owing_else row self.now.state.owed }
     {
         match row {
             None => false,
+            Some(_) if !self.owes.is_some() => false,
             Some(row) => self.owes.owes_else(Demand::of(row)),
         }
     }
@@ -163,12 +165,12 @@ impl<'a> End<'a> {
         }
     }
 
-    fn make_fault(&self, pdu: &Pdu<'a>, clock: u64, why: Why) -> Option<u8>
+    fn make_fault(&self, row: Option<MakeRow>, pdu: &Pdu<'a>, clock: u64, why: Why) -> Option<u8>
+        requires row { row ≡ row_of self.now.state (value_of pdu.now).safety why }
         ensures value { result ≡ MakeRule.make_fault self.now.params self.now.state (value_of pdu.now).safety clock why }
         ensures allowed { result ≡ None → MakeRule.is_refused_row (row_of self.now.state (value_of pdu.now).safety why) self.now.state.owed ≡ false }
         ensures owing { result ≡ None → MakeRule.is_owing_else (row_of self.now.state (value_of pdu.now).safety why) self.now.state.owed ≡ false }
     {
-        let row = self.make_row(pdu, why);
         let is_judged = self.is_judged(pdu.kind());
         if self.has_ended() {
             Some(Fault::CLOSED)
@@ -216,10 +218,11 @@ impl<'a> End<'a> {
         ensures ok { OnOk result ((MakeRule.make_fault self.old.params self.old.state (value_of pdu.now).safety clock why ≡ None) × (self.new ≡ record self.old { state = MakeRule.after_make self.old.state (value_of pdu.now).safety clock why })) }
         ensures err { IfErr result (λ fault. (self.new ≡ self.old) × IsMakeRefusal self.old.params self.old.state (value_of pdu.now).safety clock why fault) }
     {
-        if let Some(number) = self.make_fault(pdu, clock, why) {
+        let row = self.make_row(pdu, why);
+        if let Some(number) = self.make_fault(row, pdu, clock, why) {
             return Err(Fault::of_end(number, 0, self.side));
         }
-        let Some(row) = self.make_row(pdu, why) else {
+        let Some(row) = row else {
             return Err(Fault::of_end(Fault::NOT_ALLOWED, 0, self.side));
         };
         self.record_make(row, pdu, clock)?;

@@ -158,8 +158,8 @@ impl Owes {
     pub fn lacks(self, demand: Demand) -> bool
         ensures { result ≡ MakeRule.lacks demand (owed_list self) }
     {
-        match (demand, self.first()) {
-            (Demand::First(_), None) => true,
+        match demand {
+            Demand::First(_) => !self.is_some(),
             _ => false,
         }
     }
