@@ -12,21 +12,28 @@ Plain Python 3, no other packages. Run it anywhere: the files go beside it,
     quiet_start       data after a recorded quiet point
     timeout           an end hears nothing until its deadline, and disconnects
     wrapped           every counter wraps around
+    excerpt           one of three connections between the same ends
     missing_packet    a packet that isn't in the capture
     foreign_sender    a PDU of a third party
     flipped_bit       a late copy with a changed bit
     repeated_request  a retransmission request that is sent twice
+    late_copies       a whole connection, and all its packets once more behind its end
 
-each as NAME.pcap, NAME.toml and expected/NAME.txt, what `show` prints. Those from handshake to wrapped have also
-NAME.cert and expected/NAME.check.txt, what `check` prints; the others expected/NAME.audit.txt, the refusal that
-`audit` prints. Every run writes the same bytes. All addresses, clocks and numbers are made up.
+each as NAME.pcap, NAME.toml and expected/NAME.txt, what `show` prints. Those from handshake to excerpt, and late_copies,
+have also NAME.cert and expected/NAME.check.txt, what `check` prints; the others expected/NAME.audit.txt, the refusal
+that `audit` prints. expected/excerpt.explain.txt is what `seatmelon explain excerpt.pcap excerpt.toml` prints, where the
+files stand, and expected/late_copies.survey.txt what `seatmelon survey` prints. Every run writes the same bytes. All
+addresses, clocks and numbers are made up.
 
 The expected texts of `show` come about in two ways, which are compared: from the list of PDUs that the
 captures were made of, and by a reader of this script's own, which takes the finished file apart. Those
 of `check` are put together from the packets, the certificate's entries and the messages that each story
-says were taken; refusals are those that a story is about. None uses rasta_audit.
+says were taken, and that of `explain` from the same; refusals are those that a story is about; that of `seatmelon
+survey` is counted from the packets. None uses rasta_audit or seatmelon.
 """
 
+import datetime
+import hashlib
 import pathlib
 import struct
 import typing
@@ -67,6 +74,8 @@ class Connection(typing.NamedTuple):
     check_length: int = 0
     md4_start: str = RFC_1320
     quiet: str = ""
+    window: range = range(1, 4_000_000_001)
+    window_keys: str = ""
 
 
 PARAMETERS = """\
@@ -106,7 +115,8 @@ def parameters(comment, connection):
     """The text of a parameter file."""
     lengths = LENGTHS.format(connection) if connection.code_length else NO_LENGTHS
     tables = [CHANNEL.format(*client, *server) for client, server in connection.channels]
-    return comment + PARAMETERS.format(lengths=lengths) + "".join(tables) + connection.quiet
+    keys = PARAMETERS.format(lengths=lengths) + connection.window_keys
+    return comment + keys + "".join(tables) + connection.quiet
 
 
 # ---- the digest of RFC 1320, with start words of one's own
@@ -370,6 +380,103 @@ def verdict_text(pdus, story):
     return out + taken_lines("client", story.client_took) + taken_lines("server", story.server_took)
 
 
+# ---- what `seatmelon survey` prints of a connection that it finds whole on the first channel, and nothing else
+
+KINDS = {
+    CONNECTION_REQUEST: "connection request",
+    CONNECTION_RESPONSE: "connection response",
+    RETRANSMISSION_REQUEST: "retransmission request",
+    RETRANSMISSION_RESPONSE: "retransmission response",
+    DISCONNECTION_REQUEST: "disconnection request",
+    HEARTBEAT: "heartbeat",
+    DATA: "data",
+    RETRANSMITTED_DATA: "retransmitted data",
+}
+
+
+def time_text(time):
+    """A time in microseconds since 1970."""
+    day = datetime.datetime.fromtimestamp(time // 1_000_000, datetime.timezone.utc)
+    return f"{day:%Y-%m-%d %H:%M:%S}.{time % 1_000_000:06}"
+
+
+def are_messages(payload):
+    """Whether a payload consists of messages."""
+    while len(payload) >= 2 + int.from_bytes(payload[:2], "little"):
+        payload = payload[2 + int.from_bytes(payload[:2], "little") :]
+        if not payload:
+            return True
+    return False
+
+
+def has_form(kind, payload):
+    """Whether a payload has the form that its type asks for."""
+    if kind in (CONNECTION_REQUEST, CONNECTION_RESPONSE):
+        return len(payload) == 14 and payload[:4].isdigit()
+    if kind in (DATA, RETRANSMITTED_DATA):
+        return are_messages(payload)
+    return len(payload) == (4 if kind == DISCONNECTION_REQUEST else 0)
+
+
+def code_lines(connection, pdus):
+    """How many packets each length of the safety code fits, and how often with the start words of RFC 1320."""
+    for length in (0, 8, 16):
+        forms = right = 0
+        for pdu in pdus:
+            whole = datagram(connection, pdu)
+            check_at = len(whole) - connection.check_length
+            if has_form(pdu.kind, whole[36 : check_at - length]):
+                forms += 1
+                code = md4(RFC_1320, whole[8 : check_at - length])[:length]
+                right += code == whole[check_at - length : check_at]
+        if forms:
+            yield f"  a safety code of {length} bytes fits the length of {forms} of {len(pdus)} packets\n"
+        if forms and length:
+            yield f"    MD4's own start words fit {right} of these\n"
+
+
+def sent_lines(side, pdus):
+    """How many PDUs of each type a side sent, each of them once, and how many copies."""
+    sent = [pdu for pdu in pdus if pdu.side == side]
+    first = list(dict.fromkeys(pdu.number for pdu in sent))
+    kinds = {pdu.number: pdu.kind for pdu in sent}
+    assert first == sorted(first) and len(first) == first[-1] - first[0] + 1
+    for kind, name in KINDS.items():
+        count = sum(kinds[number] == kind for number in first)
+        if count:
+            yield f"  {side} sent {name}: {count}\n"
+    if len(sent) > len(first):
+        yield f"  {side}'s copies: {len(sent) - len(first)}\n"
+
+
+def survey_text(connection, pdus, times):
+    """The text of a survey, of a connection that an end ends and whose packets then cross once more from the first."""
+    end = next(record for record, pdu in enumerate(pdus, 1) if pdu.kind == DISCONNECTION_REQUEST)
+    assert pdus[end:] == pdus[:end]
+    version, sendmax, _ = pdus[0].body
+    offer = f"version {version.decode()}, N_sendmax {sendmax}"
+    to_server = sum(pdu.side == "client" for pdu in pdus)
+    (client, client_port), (server, server_port) = connection.channels[0]
+    lines = [
+        f"records: {len(pdus)}\npackets of RaSTA: {len(pdus)}\nother records, passed over: 0\n",
+        "\nconnection 1\n",
+        f"  client id {CLIENT_ID}, {offer}\n  server id {SERVER_ID}, {offer}\n",
+        f"  records 1 to {len(pdus)}\n",
+        f"  captured from {time_text(times[0])} to {time_text(times[-1])} UTC\n",
+        "  opened by the client at record 1\n",
+        f"  ended by the {pdus[end - 1].side} at record {end}, reason {pdus[end - 1].body[1]}\n",
+        f"  late copies of its opening and of what came behind it: {len(pdus) - end}, "
+        f"the first in record {end + 1}, the last in record {len(pdus)}\n",
+        f"  channel 1: {client}:{client_port} - {server}:{server_port}, "
+        f"packets to the server: {to_server}, to the client: {len(pdus) - to_server}\n",
+        *code_lines(connection, pdus),
+        f"  a check code of {connection.check_length} bytes fits the length of {len(pdus)} of {len(pdus)} packets\n",
+        *sent_lines("client", pdus),
+        *sent_lines("server", pdus),
+    ]
+    return "".join(lines)
+
+
 # ---- what `show` prints, read back from the finished file
 
 
@@ -454,7 +561,7 @@ def read_text(data, connection, refusal=None):
         found = sender_in(frame, connection.channels)
         if refusal and refusal.record == record:
             return "".join(lines) + refusal.line()
-        if found is not None:
+        if found is not None and record in connection.window:
             channel, side, payload = found
             pdu, code, check = pdu_in(connection, side, payload)
             lines.append(show_line(len(lines), record, channel, pdu, code, check))
@@ -769,6 +876,73 @@ WRAPPED_STORY = Story(
     server_took=[(0, 3, 4, FIRST[0]), (1, 3, 4, FIRST[1])],
 )
 
+# The end of a connection on both channels, the copy of whose heartbeat crossed before the capture began, then a whole
+# connection of the same ends, of which each PDU crosses twice, and the opening of a third.
+EXCERPT_BEFORE = [
+    (2, Pdu("server", 97, HEARTBEAT, 6420, 1733, 71950, 59900)),
+    (1, Pdu("client", 88, DISCONNECTION_REQUEST, 1734, 6420, 60000, 71950, (0, 0))),
+    (2, Pdu("client", 88, DISCONNECTION_REQUEST, 1734, 6420, 60000, 71950, (0, 0))),
+]
+
+EXCERPT = [
+    Pdu("client", 3, CONNECTION_REQUEST, 2000, 0, 61000, 0, OPENING),
+    Pdu("server", 5, CONNECTION_RESPONSE, 7000, 2000, 73000, 61000, OPENING),
+    Pdu("client", 4, HEARTBEAT, 2001, 7000, 61010, 73000),
+    Pdu("client", 5, DATA, 2002, 7000, 61020, 73000, [bytes.fromhex("ab01"), b"on"]),
+    Pdu("server", 6, HEARTBEAT, 7001, 2002, 73050, 61020),
+    Pdu("client", 6, DISCONNECTION_REQUEST, 2003, 7001, 61030, 73050, (0, 0)),
+]
+
+EXCERPT_BEHIND = [
+    (channel, Pdu("client", 120, CONNECTION_REQUEST, 2650, 0, 62500, 0, OPENING)) for channel in (1, 2)
+]
+
+# After which PDU of the second connection the foreign frames stand.
+EXCERPT_FOREIGN = (0, 0, 1, 2, 3, 3, 4)
+
+EXCERPT_STORY = Story(
+    ["make 0 61000 open", "take 4 5", "make 4 61010 reply", "make 6 61020 fresh", "take 10 6", "make 10 61030 bye"],
+    ["take 2 3", "make 2 73000 reply", "take 8 4", "take 8 5", "make 8 73050 beat"],
+    server_took=[(0, 6, 8, b"\xab\x01"), (1, 6, 8, b"on")],
+)
+
+EXCERPT_WINDOW = range(4, 23)
+
+EXCERPT_KEYS = """
+# The records of the second connection.
+first_record = 4
+last_record = 22
+"""
+
+
+def excerpt_records():
+    """What each record has: a channel and a PDU, or a foreign frame."""
+    yield from EXCERPT_BEFORE
+    foreign_frames = [frame for _, frame in foreign()]
+    for i, pdu in enumerate(EXCERPT):
+        yield from ((1, pdu), (2, pdu))
+        yield from (frame for behind, frame in zip(EXCERPT_FOREIGN, foreign_frames) if behind == i)
+    yield from EXCERPT_BEHIND
+
+
+def excerpt_packets():
+    """The packets of all three connections, each its record, a channel and a PDU."""
+    return [(i, *held) for i, held in enumerate(excerpt_records(), 1) if isinstance(held, tuple)]
+
+
+def excerpt(connection):
+    """A record every 5 milliseconds, and what `show` prints of those in the window."""
+    frames = []
+    for held in excerpt_records():
+        if isinstance(held, tuple):
+            channel, pdu = held
+            held = frame_of(pdu.side, channel, datagram(connection, pdu))
+        frames.append(held)
+    records = [(START + 5000 * i, frame) for i, frame in enumerate(frames)]
+    packets = [packet for packet in excerpt_packets() if packet[0] in connection.window]
+    return capture(records), planned_text(connection, packets)
+
+
 # The retransmission without the client's redundancy PDU 11, which the tap missed.
 MISSING_PACKET = [pdu for pdu in RETRANSMISSION if (pdu.side, pdu.number) != ("client", 11)]
 MISSING_REFUSAL = Refusal(28, "NumberGap", 7, "client")
@@ -823,6 +997,14 @@ REPEATED_REQUEST = RETRANSMISSION[:6] + [
 # The place of a 60 is that of the packet in the list of all, counted from 1.
 REPEATED_REFUSAL = Refusal(60, "NotFound", 7)
 
+# The retransmission, and two seconds after its beginning all its packets once more.
+LATE_COPIES = RETRANSMISSION + RETRANSMISSION
+LATE_TIMES = [5 * i for i in range(12)] + [2000 + 5 * i for i in range(12)]
+WHOLE_WINDOW = """
+first_record = 1
+last_record = 24
+"""
+
 # A capture that begins with a heartbeat, where no quiet point is recorded.
 NO_OPENING = Refusal(60, "NotFound", 1)
 
@@ -874,6 +1056,11 @@ WRAPPED_COMMENT = """\
 
 """
 
+EXCERPT_COMMENT = """\
+# Parameters of excerpt.pcap: a connection with two redundancy channels, the second of three in the file.
+
+"""
+
 MISSING_COMMENT = """\
 # Parameters of missing_packet.pcap: a connection with safety codes and check codes.
 
@@ -894,6 +1081,97 @@ REPEATED_COMMENT = """\
 
 """
 
+LATE_COMMENT = """\
+# Parameters of late_copies.pcap: a connection with safety codes and check codes, and the window of its draft.
+
+"""
+
+
+# ---- what `explain` prints of the excerpt
+
+EXPLAINED = """\
+{capture}{parameters}certificate: none was given, so one is built
+program: seatmelon 0.1.0, proved with Rattle, logic dac8208d650f15bf
+
+records read: {records}
+window: records 4 to 22
+packets of the connection: {packets}
+{channels}packets of the recorded channels before the window: {before}, behind it: {behind}
+records passed over: {foreign}
+
+explained: two ends that keep the rules can have sent these {packets} packets, the packets in records 4 to 22
+
+What this says:
+  Some run of two ends that keep the rules, over a network that loses, repeats, delays and
+  reorders packets, sends exactly these packets past the tap, in this order.
+  In every such run the far end handed up each message that is listed as surely taken, once and in
+  order, before the packet that is its proof crossed the tap.
+What it doesn't say:
+  that the ends kept the rules, or which of these runs took place.
+  A message that is listed as not shown may have been taken all the same.
+What it rests on:
+  Whatever an end sent reached the tap, in the order in which it was sent, and the capture has all
+  of it, in that order.
+  Nobody else sent a packet between the recorded addresses.
+  The parameters are right.
+  For 'surely taken': both ends kept the rules.
+  What is judged begins before the opening of the connection, and no copy of an earlier packet comes after it.
+
+client to server: 2 of 2 messages surely taken
+{taken}
+server to client: 0 of 0 messages surely taken
+"""
+
+
+def sum_lines(what, name):
+    """A file's name and its SHA-256."""
+    digest = hashlib.sha256((HERE / name).read_bytes()).hexdigest()
+    return f"{what}: {name}\n  SHA-256: {digest}\n"
+
+
+def channel_line(packets, channel):
+    sides = [pdu.side for _, other, pdu in packets if other == channel]
+    counts = sides.count("client"), sides.count("server")
+    return "  on channel {}: from the client {}, from the server {}\n".format(channel, *counts)
+
+
+def sighting(packet):
+    """Record, time and channel of a packet, where a record comes every 5 milliseconds."""
+    record, channel, _ = packet
+    time = datetime.datetime(2026, 1, 1) + datetime.timedelta(milliseconds=5 * (record - 1))
+    return f"record {record}, {time:%Y-%m-%d %H:%M:%S.%f} UTC, channel {channel}"
+
+
+def spelled(message):
+    """Bytes as text; those of this example have no backslash."""
+    return "".join(chr(byte) if 32 <= byte < 127 else f"\\x{byte:02x}" for byte in message)
+
+
+def taken_text(packets, taken):
+    """What is told of a message that was surely taken."""
+    number, data, proof, message = taken
+    places = f"    data: {sighting(packets[data])}\n    proof: {sighting(packets[proof])}\n"
+    return f"  message {number}\n{places}    hex: {message.hex()}\n    text: {spelled(message)}\n"
+
+
+def write_excerpt_text():
+    """What `explain` prints of the excerpt and its parameters, which have been written."""
+    every, window = excerpt_packets(), EXCERPT_WINDOW
+    packets = [packet for packet in every if packet[0] in window]
+    records = len(list(excerpt_records()))
+    text = EXPLAINED.format(
+        capture=sum_lines("capture", "excerpt.pcap"),
+        parameters=sum_lines("parameters", "excerpt.toml"),
+        records=records,
+        packets=len(packets),
+        channels="".join(channel_line(packets, channel) for channel in (1, 2)),
+        before=sum(record < window.start for record, _, _ in every),
+        behind=sum(record >= window.stop for record, _, _ in every),
+        foreign=records - len(every),
+        taken="".join(taken_text(packets, taken) for taken in EXCERPT_STORY.server_took),
+    )
+    (HERE / "expected" / "excerpt.explain.txt").write_bytes(text.encode())
+
 
 def write(name, connection, made, comment, refusal=None):
     data, text = made
@@ -913,6 +1191,11 @@ def write_verdict(name, pdus, story):
     """A certificate, and what `check` prints of it."""
     (HERE / f"{name}.cert").write_bytes(certificate(story).encode())
     (HERE / "expected" / f"{name}.check.txt").write_bytes(verdict_text(pdus, story).encode())
+
+
+def write_survey(name, connection, pdus, times):
+    """What `seatmelon survey` prints."""
+    (HERE / "expected" / f"{name}.survey.txt").write_bytes(survey_text(connection, pdus, times).encode())
 
 
 if __name__ == "__main__":
@@ -937,6 +1220,10 @@ if __name__ == "__main__":
     write_verdict("timeout", TIMEOUT, TIMEOUT_STORY)
     write("wrapped", one, in_turn(one, WRAPPED), WRAPPED_COMMENT)
     write_verdict("wrapped", WRAPPED, WRAPPED_STORY)
+    excerpted = Connection(CHANNELS, window=EXCERPT_WINDOW, window_keys=EXCERPT_KEYS)
+    write("excerpt", excerpted, excerpt(excerpted), EXCERPT_COMMENT)
+    write_verdict("excerpt", [pdu for pdu in EXCERPT for _ in (1, 2)], EXCERPT_STORY)
+    write_excerpt_text()
     write("missing_packet", coded, in_turn(coded, MISSING_PACKET), MISSING_COMMENT)
     write_refusal("missing_packet", MISSING_REFUSAL)
     write("foreign_sender", one, foreign_sender(one), FOREIGN_COMMENT, FOREIGN_REFUSAL)
@@ -946,3 +1233,7 @@ if __name__ == "__main__":
     write_refusal("flipped_bit", FLIPPED_REFUSAL)
     write("repeated_request", one, in_turn(one, REPEATED_REQUEST), REPEATED_COMMENT)
     write_refusal("repeated_request", REPEATED_REFUSAL)
+    late = Connection(CHANNELS[:1], 16, 4, OWN_START, window_keys=WHOLE_WINDOW)
+    write("late_copies", late, in_turn(late, LATE_COPIES, LATE_TIMES), LATE_COMMENT)
+    write_verdict("late_copies", LATE_COPIES, RETRANSMISSION_STORY)
+    write_survey("late_copies", late, LATE_COPIES, [START + 1000 * time for time in LATE_TIMES])

@@ -20,7 +20,7 @@ from collections import defaultdict, namedtuple
 from pathlib import Path
 
 CRATES = Path(__file__).resolve().parent.parent / "crates"
-OUTSIDE = {"rasta_plain", "rasta_rows", "rasta_layer_tests", "rasta_verdict_tests", "rasta_tests", "rasta_bench",
+OUTSIDE = {"rasta_draws", "rasta_plain", "rasta_rows", "rasta_layer_tests", "rasta_verdict_tests", "rasta_tests", "rasta_bench",
     "seatmelon", "seatmelon_commands", "seatmelon_explain", "seatmelon_explain_tests", "seatmelon_sifting",
     "seatmelon_survey", "seatmelon_survey_tests", "seatmelon_workloads"}
 Definition = namedtuple("Definition", "crate file name text lines")
@@ -193,17 +193,18 @@ def contract(library, crate, call, clause):
     """What the clauses of a call cite, and the models of the types that it mentions."""
     owner, _, name = call.rpartition("::")
     for path in sorted((CRATES / crate / "src").rglob("*.rt")):
-        lines, of = without_comments(path.read_text(), "//"), ""
+        lines, of, begun = without_comments(path.read_text(), "//"), "", 0
         for at, line in enumerate(lines):
             impl = re.match(r"^impl(?:<[^>]*>)? (?:\w+ for )?(\w+)", line)
-            of = impl.group(1) if impl else "" if line == "}" else of
+            if impl or line == "}":
+                of, begun = impl.group(1) if impl else "", at
             if not re.match(rf"\s*pub (?:const )?fn {name}\b", line) or of != owner:
                 continue
             end = at
             while lines[end].strip() != "{":
                 end += 1
             text = "\n".join(lines[at:end])
-            room = source_room(crate, path)
+            room = source_room(crate, path, "\n".join(lines[begun:at]))
             if clause:
                 parts = re.split(r"\n\s*(?=requires|ensures)", text)
                 chosen = [it for it in parts if re.match(rf"ensures {clause} ", it)]

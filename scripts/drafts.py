@@ -3,9 +3,9 @@
 
     drafts.py [--program PATH] [--seatmelon PATH] [--late RUNS]
 
-For each capture of examples/ with a parameter file, `seatmelon draft CAPTURE 1` is audited as it is, and then with the
-sample's own values in place of the placeholders of `t_max`, `slack` and `md4_start`. The answer to the second has to be
-that of the sample's own parameters, word by word. Samples without a captured opening are listed apart.
+For each capture of examples/ with a parameter file, `seatmelon draft CAPTURE 1` (2 for `excerpt`) is audited as it is,
+and then with the sample's own values in place of the placeholders of `t_max`, `slack` and `md4_start`. The answer to the
+second has to be that of the sample's own parameters, word by word. Samples without a captured opening are listed apart.
 
 With `--late`, so many random runs over a calm network (the ends are those of random_runs.py) are cut at a third, drafted,
 and audited with their own `n_sendmax`, `t_max` and `slack`: it is counted how many have a quiet point, and what the audit
@@ -30,6 +30,7 @@ import rows
 
 SAMPLES = rows.TOP / "examples"
 SEATMELON = rows.TOP / "crates/seatmelon/out/seatmelon"
+CONNECTIONS = {"excerpt": 2}
 NO_OPENING = "# No opening was captured."
 DEFAULTS = {"md4_start": "67452301efcdab8998badcfe10325476", "t_max": 1800, "slack": 0}
 
@@ -40,7 +41,7 @@ def run(*words):
 
 
 def drafted(seatmelon, capture):
-    status, text, error = run(seatmelon, "draft", capture, 1)
+    status, text, error = run(seatmelon, "draft", capture, CONNECTIONS.get(capture.stem, 1))
     if status or error:
         sys.exit(f"draft of {capture}: status {status} {error}")
     return text

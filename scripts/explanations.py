@@ -10,8 +10,8 @@ The parts (all of them, if none is named):
     limits     one PDU more than can be judged, and one entry more
 
 What an explanation has to say of a sample is read from the texts of examples/expected, which `rasta_audit` has to
-print. Prints a line for each part. `rt run` in crates/seatmelon leaves the program.
-Plain Python 3, no other packages.
+print. Where NAME.survey.txt or NAME.explain.txt stands there, it is the whole text of `survey` or of `explain`. Prints a
+line for each part. `rt run` in crates/seatmelon leaves the program. Plain Python 3, no other packages.
 """
 
 import argparse
@@ -71,10 +71,17 @@ def taken_in(text):
     return lists
 
 
+def in_window(data):
+    """What the verdict's sentence says of the records that are judged."""
+    window = data["window"]
+    return f", the packets in records {window['first_record']} to {window['last_record']}" if window else ""
+
+
 def explains(text, data, told):
     """Whether text and data tell of an explained capture what `check` tells."""
-    lists = taken_in(told)
-    right = f"explained: {WHOLE} {told.split()[1]} packets" in text and data["packets_explained"] == int(told.split()[1])
+    lists, packets = taken_in(told), told.split()[1]
+    sentence = f"explained: {WHOLE} {packets} packets{in_window(data)}\n"
+    right = sentence in text and data["packets_explained"] == int(packets)
     for direction in data["messages"]:
         messages = [it["hex"] for it in direction["messages"] if it["surely_taken"]]
         right = right and messages == lists[direction["to"]] and direction["surely_taken"] == len(messages)
@@ -90,10 +97,21 @@ def refuses(text, data, told):
     return f"refused by {number} {name}:" in text and (fault["number"], fault["name"]) == (int(number), name)
 
 
+def whole_text(part, capture):
+    """Compares the text on a sample, by the names of its files alone, with the stored one, if there is one."""
+    stored = SAMPLES / "expected" / f"{capture.stem}.explain.txt"
+    if stored.exists():
+        answer = part.call("explain", capture.name, capture.with_suffix(".toml").name, cwd=SAMPLES)
+        part.judge(f"text of {capture.stem}", answer[1:] == (stored.read_text(), ""), answer)
+
+
 def samples(part):
     for capture in sorted(SAMPLES.glob("*.pcap")):
         name, parameters = capture.stem, capture.with_suffix(".toml")
-        part.expect(f"survey {name}", 0, "connection 1", "", "survey", capture)
+        stored = SAMPLES / "expected" / f"{name}.survey.txt"
+        survey = part.call("survey", capture)
+        right = survey[1] == stored.read_text() if stored.exists() else "connection 1" in survey[1]
+        part.judge(f"survey {name}", right and survey[0] == 0 and survey[2] == "", survey)
         part.expect(f"draft {name}", 0, "client_id", "", "draft", capture, "1")
         checked = SAMPLES / "expected" / f"{name}.check.txt"
         refused = SAMPLES / "expected" / f"{name}.audit.txt"
@@ -108,6 +126,7 @@ def samples(part):
             right = right and refuses(text[1], found, refused.read_text())
         right = right and all(found[it]["sha256"] in text[1] for it in ("capture", "parameters"))
         part.judge(f"explain {name}", right and text[2] == data[2] == "", text + data)
+        whole_text(part, capture)
 
 
 # ---- files

@@ -1,11 +1,14 @@
 #!/usr/bin/env python3
 """Lets each allocation fail in turn, and compares what is answered.
 
-    fail_allocations.py [--program PATH] [samples|rows|tests]
+    fail_allocations.py [--program PATH] [--seatmelon PATH] [samples|rows|seatmelon|tests]
 
 The program, with each of its commands on each sample and on six rows of verdicts, or on one of the two: one
 allocation fails, or it and all after it. The program must answer as it does with ample memory, or refuse for lack of
 it with status 3; then no part of a verdict or a certificate is written. `rt run` in crates/rasta_audit leaves it.
+
+With `seatmelon`: that program's commands, on a capture with three connections and on samples, in the same way; where it
+refuses, it writes nothing to standard output. `rt run` in crates/seatmelon leaves it.
 
 With `tests`: tests that repeat a call that ran out of memory, of ends, of writing a datagram, of reading a
 certificate, and of a check, a build and an audit of data. `rt test` in crates/rasta_layer_tests and
@@ -24,6 +27,7 @@ import rows
 
 TOP = Path(__file__).resolve().parent.parent
 CRATES = TOP / "crates"
+SEATMELON = CRATES / "seatmelon/out/seatmelon"
 REFUSAL = b"refused 1 NoMemory 0 -\n"
 ROWS = [
     "handshake",
@@ -33,6 +37,10 @@ ROWS = [
     "copies on two channels",
     "lost resend and second request",
 ]
+# Samples that are explained: whole, from a quiet point, and by which no two ends can have sent their packets.
+EXPLAINED = ["retransmission", "quiet_start", "repeated_request", "flipped_bit"]
+# Samples whose records make a capture of three connections.
+THREE = ["retransmission", "wrapped", "both_ask"]
 # Crate, test, and the first of its allocations that may fail; those before it belong to the test itself.
 TESTS = [
     ("rasta_layer_tests", "ends::ends_by_rows", 1),
@@ -59,6 +67,24 @@ def calls_of_rows(folder):
         for command in ("show", "audit", "build"):
             yield name, [command, capture, parameters]
         yield name, ["check", capture, parameters, certificate]
+
+
+def calls_of_seatmelon(folder):
+    samples, three = TOP / "examples", Path(folder) / "three.pcap"
+    captures = [(samples / f"{name}.pcap").read_bytes() for name in THREE]
+    three.write_bytes(captures[0][:24] + b"".join(it[24:] for it in captures))
+    yield "three connections", ["survey", three]
+    for number in ("1", "2", "3"):
+        yield "three connections", ["draft", three, number]
+    yield "quiet_start", ["draft", samples / "quiet_start.pcap", "1"]
+    for name in EXPLAINED:
+        capture = samples / f"{name}.pcap"
+        parameters, certificate = capture.with_suffix(".toml"), capture.with_suffix(".cert")
+        for form in ([], ["--json"]):
+            yield name, ["explain", *form, capture, parameters]
+            yield f"{name} without record 3", ["explain", *form, "--without", "3", capture, parameters]
+            if certificate.exists():
+                yield f"{name} by its certificate", ["explain", *form, capture, parameters, certificate]
 
 
 class Failing:
@@ -88,8 +114,10 @@ class Failing:
 
 
 def is_refusal(answer, whole, command):
+    """Whether a command refuses for lack of memory; `show` has written each line before it reads on."""
     begun = whole.stdout.startswith(answer.stdout) if command == "show" else not answer.stdout
-    return answer.returncode == 3 and answer.stderr == REFUSAL and begun
+    told = answer.stderr in (REFUSAL, b"seatmelon: out of memory\n")
+    return answer.returncode == 3 and told and begun
 
 
 def is_same(answer, whole):
@@ -135,9 +163,10 @@ def try_test(failing, crate, test, first):
 def main():
     asked = argparse.ArgumentParser(description="Lets each allocation fail in turn.")
     asked.add_argument("--program", type=Path, default=rows.PROGRAM, help="rasta_audit")
-    asked.add_argument("what", nargs="?", choices=("samples", "rows", "tests"))
+    asked.add_argument("--seatmelon", type=Path, default=SEATMELON)
+    asked.add_argument("what", nargs="?", choices=("samples", "rows", "seatmelon", "tests"))
     words = asked.parse_args()
-    program, failed = words.program.resolve(), 0
+    program, seatmelon, failed = words.program.resolve(), words.seatmelon.resolve(), 0
     with tempfile.TemporaryDirectory() as folder:
         failing = Failing(folder)
         if words.what == "tests":
@@ -146,6 +175,8 @@ def main():
             failed += try_calls(failing, program, calls_of_samples())
         if words.what in (None, "rows"):
             failed += try_calls(failing, program, calls_of_rows(folder))
+        if words.what == "seatmelon":
+            failed += try_calls(failing, seatmelon, calls_of_seatmelon(folder))
     print(failed, "failed")
     return failed != 0
 

@@ -13,7 +13,7 @@ import re
 import sys
 
 ROOT = pathlib.Path(__file__).resolve().parent.parent
-OUTSIDE = {"rasta_rows", "rasta_layer_tests", "rasta_verdict_tests", "rasta_tests", "rasta_bench"}
+OUTSIDE = {"rasta_draws", "rasta_rows", "rasta_layer_tests", "rasta_verdict_tests", "rasta_tests", "rasta_bench"}
 HEAD = re.compile(r"^(\s*)(pub(?:\([a-z]+\))? )?(?:const )?(?:unsafe )?(fn|trait|struct|enum|mod|use|impl)\b(.*)")
 CLAUSE = re.compile(r"^\s*(requires|ensures)(?:\*)?(?: ([a-z_]+))? \{")
 

@@ -1,12 +1,13 @@
 #!/usr/bin/env python3
 """Runs the programs on a capture, and writes one page with all that they said.
 
-    report.py [--program PATH] [--certificate FILE] [--without-show] CAPTURE PARAMS OUT.html
+    report.py [--program PATH] [--seatmelon PATH] [--certificate FILE] [--without-show] CAPTURE PARAMS OUT.html
 
 The page is viewer/index.html with the texts of `show`, of `build` (or the given certificate) and of `check`, or
 where no certificate is found of `audit`, the parameter file, the SHA-256 of each file and of the program, the
 kit's line (`rt version`), and the commands by which anyone checks it again. It needs no other file and no network.
-`rt run` in crates/rasta_audit leaves the program at its default path.
+`rt run` in crates/rasta_audit leaves the program at its default path. Where `rt run` in crates/seatmelon has left the
+other one too, the page says how many packets of the recorded channels lie outside the window, if one is recorded.
 
 The exit status is 0 where a page was written, whatever the answer, 2 where the words or a file are wrong.
 Plain Python 3, no other packages.
@@ -30,12 +31,14 @@ except ImportError:  # before Python 3.11
 TOP = pathlib.Path(__file__).resolve().parent.parent
 PAGE = TOP / "viewer/index.html"
 PROGRAM = TOP / "crates/rasta_audit/out/rasta_audit"
+SEATMELON = TOP / "crates/seatmelon/out/seatmelon"
 NOTHING = '<div id="report-data" hidden><!--null--></div>'
 
 
 def words_of_command_line():
     asked = argparse.ArgumentParser(description="Writes a page with the answer about a capture.")
     asked.add_argument("--program", type=pathlib.Path, default=PROGRAM, help="rasta_audit")
+    asked.add_argument("--seatmelon", type=pathlib.Path, default=SEATMELON, help="seatmelon, if it is built")
     asked.add_argument("--certificate", type=pathlib.Path, help="a certificate to check by, in place of one that is built")
     asked.add_argument("--without-show", action="store_true", help="leave out the text of show, which is long")
     asked.add_argument("capture", type=pathlib.Path)
@@ -102,6 +105,17 @@ def connection_in(text):
         return None
 
 
+def window_in(seatmelon, capture, parameters):
+    """The window as `seatmelon explain` tells it; none where there is none, or no such program or answer."""
+    if not seatmelon.is_file():
+        return None
+    call = subprocess.run([seatmelon.resolve(), "explain", "--json", "--", capture, parameters], capture_output=True)
+    try:
+        return json.loads(call.stdout).get("window")
+    except ValueError:
+        return None
+
+
 def commands_for(program, capture, parameters, certificate):
     files = [path.name for path in (capture, parameters, certificate) if path]
     command = "check" if certificate else "audit"
@@ -129,6 +143,7 @@ def report_of(asked, folder):
         "kit": kit_line(),
         "commands": commands_for(program, capture, parameters, certificate),
         "connection": connection_in(decoded(parameters.read_bytes())),
+        "window": window_in(asked.seatmelon, capture, parameters),
         "texts": [{"kind": kind, "name": name, "text": decoded(data)} for kind, name, data in texts],
     }
 

@@ -789,8 +789,65 @@ def not_taken(stage):
         sight.shot("not_shown_to_be_taken")
 
 
+def with_keys(name, **values):
+    """The parameter file of a sample with these values of keys before its first table, each in place of its own."""
+    head, table, rest = (EXAMPLES / f"{name}.toml").read_text().partition("[[channel]]")
+    lines = [line for line in head.splitlines(keepends=True) if line.split(" = ")[0] not in values]
+    return "".join(lines + [f"{key} = {value}\n" for key, value in values.items()]) + table + rest
+
+
+def expect_no_packets(sight, where):
+    """Nothing is green, and nothing is said of messages."""
+    sight.expect_counts(verdict="none", packets=0, messages=0)
+    expect_equal(title_of(sight), "No packet of the connection", "title")
+    expect_equal(sight.act("document.querySelectorAll('#verdict .explained, #verdict .ends').length"), 0, "coloured panels")
+    colour = "getComputedStyle(document.querySelector('#verdict .answer')).borderLeftColor"
+    grey = "(() => { const at = document.createElement('p'); at.style.color = 'var(--soft)'; document.body.append(at);" \
+        "const found = getComputedStyle(at).color; at.remove(); return found; })()"
+    expect_equal(sight.act(colour), sight.act(grey), "the verdict's colour")
+    said = sight.text("#verdict")
+    expect(f"No packet of the connection is {where}, so nothing was judged." in said, f"where: {said[:200]}")
+    expect("addresses and ports" in said and "first_record" in said, "what to check isn't said")
+    expect("No message was sent" not in sight.text("body") and "surely taken" not in said.lower(), "messages are spoken of")
+
+
+def no_packets(stage):
+    """A mistyped port, and a window without a packet."""
+    parameters = stage.file("mistyped.toml", (EXAMPLES / "handshake.toml").read_text().replace(":5000", ":5009"))
+    with stage.report(EXAMPLES / "handshake.pcap", parameters) as sight:
+        expect_no_packets(sight, "in the capture")
+        sight.shot("no_packets")
+    parameters = stage.file("behind.toml", with_keys("handshake", first_record=9))
+    with stage.report(EXAMPLES / "handshake.pcap", parameters) as sight:
+        expect_no_packets(sight, "in the records from 9 on of the capture")
+
+
+def no_capture(stage):
+    """A file that is none of libpcap, and one that is cut in its header: nothing is said of messages."""
+    parameters = EXAMPLES / "handshake.toml"
+    for name, content, number in (("text.pcap", b"This is a text of many words, and no capture.\n", 10), ("cut.pcap", (EXAMPLES / "handshake.pcap").read_bytes()[:20], 13)):
+        with stage.report(stage.file(name, content), parameters) as sight:
+            sight.expect_counts(verdict="refused", refused=number, packets=0, messages=0)
+            expect("No message" not in sight.text("body"), "messages are spoken of")
+
+
+def window_is_told(stage):
+    """Which records were judged; how many packets lie outside, where seatmelon is built."""
+    parameters = stage.file("window.toml", with_keys("retransmission", last_record=9))
+    with stage.report(EXAMPLES / "retransmission.pcap", parameters) as sight:
+        sight.expect_counts(verdict="explained", packets=9)
+        said = sight.text("#verdict")
+        expect("the packets in records 1 to 9," in said, "the sentence doesn't name the window")
+        counted = "no packets lie before them, and 3 packets behind." in said
+        expect(counted or "isn't told here" in said, f"what lies outside: {said[:400]}")
+        sight.shot("window")
+    answer, shown = sample_texts(stage, "retransmission")
+    with stage.texts(answer=answer, shown=shown, parameters=with_keys("retransmission", first_record=1, last_record=12)) as sight:
+        expect("Judged were only records 1 to 12 of the capture" in sight.text("#verdict"), "the window isn't told")
+
+
 STORIES = [policy_is_closed, ways_in, other_capture, unknown_texts, cut_texts, bent_texts, hostile, hostile_parameters,
-           long_lines, keys, filters, colours, not_taken, random_runs_are_drawn]  # fmt: skip
+           long_lines, keys, filters, colours, not_taken, no_packets, no_capture, window_is_told, random_runs_are_drawn]  # fmt: skip
 
 
 def all_stories(stage):

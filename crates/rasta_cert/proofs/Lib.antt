@@ -1,6 +1,7 @@
 pub mod Texts
 pub mod Numbers
-pub mod FieldLemmas
+pub mod FrontLemmas
+pub mod EntryLemmas
 pub mod LineLemmas
 pub mod ScriptLemmas
 pub mod RefusalLemmas

@@ -1,5 +1,5 @@
 -- Lines: bytes without an end, and then the end.
-use Rattle.std.proofs.Common.{◌≡◌, ◌≢◌, ◌⊎◌, inl, inr, ℕ, suc, ◌+◌, ◌<◌, ◌^◌, List, [], ◌∷◌, ◌++◌, map, length, get_or, Bool, false, cond, nat_eq, Some, None, refl, sym, ap, subst, ◌∙◌, arith, append_assoc, length-append}
+use Rattle.std.proofs.Common.{◌≡◌, ◌≢◌, ◌⊎◌, inl, inr, ℕ, suc, ◌+◌, ◌<◌, ◌^◌, List, [], ◌∷◌, ◌++◌, map, length, get_or, Bool, true, false, cond, nat_eq, Some, None, refl, sym, ap, subst, ◌∙◌, arith, append_assoc, length-append}
 use Rattle.std.proofs.Math.Seq.{get_or-append_seam}
 use Rattle.std.proofs.lemmas.Bool.{false≢true}
 use Rattle.std.proofs.lemmas.List.{append_cancel_left}
@@ -15,7 +15,7 @@ use Rattle.rasta_cert.specs.Reading.{BeginsWith}
 use Rattle.rasta_cert.specs.Refusals.{first_line, lines_of}
 use Rattle.rasta_line.specs.Words.{cut}
 use Rattle.rasta_line.proofs.Cuts.{Lacks, Lacks-append, Lacks-cons, Lacks-decimal, Lacks-word, cut-None, cut-Some}
-use Rattle.rasta_cert.proofs.FieldLemmas.{entry_line-words, entry_words, why_words}
+use Rattle.rasta_cert.proofs.EntryLemmas.{entry_line-words, entry_words, why_words}
 
 Lacks-tail : (byte c : ℕ) (cs : List ℕ) → Lacks byte (c ∷ cs) → Lacks byte cs
 Lacks-tail byte c cs h = record { at = λ k below. h.at (suc k) (let more : k < length cs = below in omega arith) }
@@ -29,6 +29,15 @@ first_line-line [] rest h = refl
 first_line-line (x ∷ xs) rest h =
     ap (λ (b : Bool). cond b (x ∷ []) (x ∷ first_line (line xs ++ rest))) (Lacks-head 10 x xs h)
     ∙ ap (λ (l : List ℕ). x ∷ l) (first_line-line xs rest (Lacks-tail 10 x xs h))
+
+front_of : (t : Bool) (b : ℕ) (bs : List ℕ) → (rest : List ℕ) × (bs ≡ first_line bs ++ rest) → (rest : List ℕ) × ((b ∷ bs) ≡ cond t (b ∷ []) (b ∷ first_line bs) ++ rest)
+front_of true b bs more = (bs, refl)
+front_of false b bs more = (more.0, ap (λ (l : List ℕ). b ∷ l) more.1)
+
+-- a text begins with its first line
+pub first_line-front : (text : List ℕ) → (rest : List ℕ) × (text ≡ first_line text ++ rest)
+first_line-front [] = ([], refl)
+first_line-front (b ∷ bs) = front_of (nat_eq b 10) b bs (first_line-front bs)
 
 -- a text without an end of a line is its own first line
 first_line-rest : (text : List ℕ) → Lacks 10 text → first_line text ≡ text

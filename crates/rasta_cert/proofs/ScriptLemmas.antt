@@ -7,7 +7,7 @@ use Rattle.rasta_cert.specs.declared.entry.Entry.{Entry}
 use Rattle.rasta_cert.specs.declared.entry.Entry.TheVariants.{Take, Make}
 use Rattle.rasta_cert.specs.Certificate.{AreEntries, AreScripts, IsEntry, Scripts, certificate_text, entries_text, entry_line, first_lines, line}
 use Rattle.rasta_cert.specs.Refusals.{first_line, lines_of}
-use Rattle.rasta_cert.proofs.FieldLemmas.{entry_line_injective}
+use Rattle.rasta_cert.proofs.EntryLemmas.{entry_line_injective}
 use Rattle.rasta_cert.proofs.LineLemmas.{AreLines, AreLines-after, AreLines-lines_of, splits}
 
 -- a line that closes a script is no entry's

@@ -3,5 +3,4 @@ pub use Rattle.rasta_end.specs.Devices
 pub mod Certificate
 pub mod Refusals
 pub mod Laws
-pub mod Fields
 pub mod Reading

@@ -1,13 +1,14 @@
 //! The entry at the front of a text, read in one go: the end of its line isn't looked for first.
-//!
-//! None says nothing of the text: its first line may be that of an entry all the same.
-ghost use Rattle.std.specs.Prelude.{◌≡◌, ◌<◌, ◌^◌, ◌++◌, ◌∷◌, IfSome, codes, length, take};
+ghost use Rattle.std.specs.Prelude.{◌≡◌, ◌≢◌, ℕ, ◌<◌, ◌^◌, List, ◌++◌, ◌∷◌, IfNone, IfSome, codes, length, take};
+ghost use Rattle.rasta_end.specs.declared.why.Why.{Why};
+ghost use Rattle.rasta_cert.specs.declared.entry.Entry.{Entry};
 ghost use Rattle.std.specs.Char.{digit_value};
 ghost use Rattle.std.specs.Fmt.{decimal};
 ghost use Rattle.std.specs.Option.{SomeIff};
 ghost use Rattle.rasta_cert.specs.Certificate.{IsEntry, IsReason, entry_line, why_line};
 
 use crate::entry::Entry;
+use crate::fields::{number, parts};
 use rasta_end::Why;
 
 // The places of up to 18 digits, whose number has 64 bits at most, and of the byte after them.
@@ -34,8 +35,9 @@ fn after(text: &[u8], count: usize, byte: u8) -> Option<&[u8]>
 }
 
 // The number whose decimal text stands at the front with this byte after it, and what follows both. A zero isn't
-// read here, and neither is what stands near the end of the text, so that no place has to be compared with that end.
-fn number_before(text: &[u8], byte: u8) -> Option<(u64, &[u8])>
+// read here, nor a number of more than 18 digits, nor what stands near the end of the text: so no place has to be
+// compared with that end, and no digit takes the number out of 64 bits.
+fn short_number_before(text: &[u8], byte: u8) -> Option<(u64, &[u8])>
     ensures text { IfSome result (λ p. text.entry.now ≡ decimal p.0 ++ (byte ∷ p.1.now)) }
     ensures fits { IfSome result (λ p. p.0 < 2 ^ 64) }
 {
@@ -53,9 +55,37 @@ fn number_before(text: &[u8], byte: u8) -> Option<(u64, &[u8])>
     None
 }
 
+// The same for every number of 64 bits, wherever it stands: the byte is looked for first.
+#[inline(never)]
+fn any_number_before(text: &[u8], byte: u8) -> Option<(u64, &[u8])>
+    requires { byte < 48 }
+    ensures text { IfSome result (λ p. text.entry.now ≡ decimal p.0 ++ (byte ∷ p.1.now)) }
+    ensures fits { IfSome result (λ p. p.0 < 2 ^ 64) }
+    ensures none { IfNone result ((n : ℕ) (rest : List ℕ) → n < 2 ^ 64 → text.entry.now ≢ decimal n ++ (byte ∷ rest)) }
+{
+    let (digits, rest) = parts(text, byte)?;
+    let value = number(digits, u64::MAX)?;
+    Some((value, rest))
+}
+
+// The same for every number, first in the way that reads most of them.
+fn number_before(text: &[u8], byte: u8) -> Option<(u64, &[u8])>
+    requires { byte < 48 }
+    ensures text { IfSome result (λ p. text.entry.now ≡ decimal p.0 ++ (byte ∷ p.1.now)) }
+    ensures fits { IfSome result (λ p. p.0 < 2 ^ 64) }
+    ensures none { IfNone result ((n : ℕ) (rest : List ℕ) → n < 2 ^ 64 → text.entry.now ≢ decimal n ++ (byte ∷ rest)) }
+{
+    match short_number_before(text, byte) {
+        Some(found) => Some(found),
+        None => any_number_before(text, byte),
+    }
+}
+
 fn number_32_before(text: &[u8], byte: u8) -> Option<(u32, &[u8])>
+    requires { byte < 48 }
     ensures text { IfSome result (λ p. text.entry.now ≡ decimal p.0 ++ (byte ∷ p.1.now)) }
     ensures fits { IfSome result (λ p. p.0 < 2 ^ 32) }
+    ensures none { IfNone result ((n : ℕ) (rest : List ℕ) → n < 2 ^ 32 → text.entry.now ≢ decimal n ++ (byte ∷ rest)) }
 {
     let (number, rest) = number_before(text, byte)?;
     if number <= 4294967295 {
@@ -69,6 +99,7 @@ fn number_32_before(text: &[u8], byte: u8) -> Option<(u32, &[u8])>
 fn take(text: &[u8]) -> Option<(Entry, &[u8])>
     ensures line { IfSome result (λ p. codes "take " ++ text.entry.now ≡ entry_line p.0 ++ p.1.now) }
     ensures valid { IfSome result (λ p. IsEntry p.0) }
+    ensures none { IfNone result ((e : Entry) (rest : List ℕ) → IsEntry e → codes "take " ++ text.entry.now ≢ entry_line e ++ rest) }
 {
     let (slot, rest) = number_32_before(text, b' ')?;
     let (number, rest) = number_32_before(rest, b'\n')?;
@@ -80,6 +111,7 @@ fn take(text: &[u8]) -> Option<(Entry, &[u8])>
 fn reason(text: &[u8]) -> Option<(Why, &[u8])>
     ensures line { IfSome result (λ p. text.entry.now ≡ why_line p.0 ++ p.1.now) }
     ensures valid { IfSome result (λ p. IsReason p.0) }
+    ensures none { IfNone result ((why : Why) (rest : List ℕ) → IsReason why → text.entry.now ≢ why_line why ++ rest) }
 {
     if text.starts_with(b"fresh\n") {
         Some((Why::Fresh, &text[6..]))
@@ -107,6 +139,7 @@ fn reason(text: &[u8]) -> Option<(Why, &[u8])>
 fn make(text: &[u8]) -> Option<(Entry, &[u8])>
     ensures line { IfSome result (λ p. codes "make " ++ text.entry.now ≡ entry_line p.0 ++ p.1.now) }
     ensures valid { IfSome result (λ p. IsEntry p.0) }
+    ensures none { IfNone result ((e : Entry) (rest : List ℕ) → IsEntry e → codes "make " ++ text.entry.now ≢ entry_line e ++ rest) }
 {
     let (index, rest) = number_32_before(text, b' ')?;
     let (clock, rest) = number_before(rest, b' ')?;
@@ -118,6 +151,7 @@ fn make(text: &[u8]) -> Option<(Entry, &[u8])>
 pub fn front_entry(text: &[u8]) -> Option<(Entry, &[u8])>
     ensures line { IfSome result (λ p. text.entry.now ≡ entry_line p.0 ++ p.1.now) }
     ensures valid { IfSome result (λ p. IsEntry p.0) }
+    ensures none { IfNone result ((e : Entry) (rest : List ℕ) → IsEntry e → text.entry.now ≢ entry_line e ++ rest) }
 {
     if text.starts_with(b"take ") {
         take(&text[5..])

@@ -7,7 +7,7 @@ ghost use Rattle.rasta_cert.specs.Refusals.{IsRefused, first_line};
 
 use crate::certificate::{Certificate, MOST_ENTRIES};
 use crate::entry::Entry;
-use crate::fields::{entry_in, parts};
+use crate::fields::parts;
 use crate::front::front_entry;
 use rasta_pcap::Fault;
 use std::alloc::Global;
@@ -31,26 +31,12 @@ fn after_line<'a>(text: &'a [u8], words: &[u8]) -> Option<&'a [u8]>
 }
 
 // The entry of the first line, and what follows that line.
-fn entry_of_line(text: &[u8]) -> Option<(Entry, &[u8])>
-    ensures found { IfSome result (λ p. BeginsWith text.entry.now p.0 p.1.now) }
-    ensures shorter { IfSome result (λ p. length p.1.now < length text.entry.now) }
-    ensures none { IfNone result (BeginsWithNone text.entry.now) }
-{
-    let (line, rest) = next_line(text)?;
-    let entry = entry_in(line)?;
-    Some((entry, rest))
-}
-
-// The same, by one pass over the line where that succeeds.
 fn next_entry(text: &[u8]) -> Option<(Entry, &[u8])>
     ensures found { IfSome result (λ p. BeginsWith text.entry.now p.0 p.1.now) }
     ensures shorter { IfSome result (λ p. length p.1.now < length text.entry.now) }
     ensures none { IfNone result (BeginsWithNone text.entry.now) }
 {
-    match front_entry(text) {
-        Some((entry, rest)) => Some((entry, rest)),
-        None => entry_of_line(text),
-    }
+    front_entry(text)
 }
 
 // The entries of a script, and what follows its closing line.

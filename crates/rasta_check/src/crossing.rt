@@ -3,10 +3,10 @@ ghost use Rattle.std.specs.Prelude.{◌≡◌, [], ◌∷◌, ◌++◌, List, ma
 ghost use Rattle.rasta_pcap.specs.Fault.{no_memory};
 ghost use Rattle.rasta_udp.specs.Frame.{Packet, packet_in, packet_of};
 ghost use Rattle.rasta_check.specs.Capture.Crossing.{FirstCopy, Spells, number_in_bytes, packet_fault};
-ghost use Rattle.rasta_pdu.specs.Pdu.{RedundancyPdu, decode_of, redundancy_bytes};
+ghost use Rattle.rasta_pdu.specs.Pdu.{RedundancyPdu, decode_of};
 ghost use Rattle.rasta_check.specs.Capture.Lists.{copy_of};
 ghost use Rattle.rasta_check.specs.Capture.Reading.{Crossing, IsCrossing, with_packet, sent_by, sent_after, nothing_crossed, after_packet, after_frame, after_record};
-ghost use Rattle.std.specs.Prelude.{◌<◌, ◌≤◌, ℕ, true, IfSome, bytes_eq, nat_lt, not, ◌&&◌, ◌||◌};
+ghost use Rattle.std.specs.Prelude.{◌<◌, ◌≤◌, IfSome, bytes_eq, nat_lt, not, ◌&&◌, ◌||◌};
 ghost use Rattle.rasta_check.specs.Capture.Crossing.{is_next_number};
 ghost use Rattle.rasta_check.specs.Capture.Crossing.{IsRecorded};
 ghost use Rattle.rasta_check.specs.Model.World.{most_sent};
@@ -177,31 +177,6 @@ impl<'a> Sent<'a> {
         }
     }
 
-    // Whether a packet has the bytes of a first copy: what they spell needn't be read again.
-    #[tactic(auto, using(crate::proofs::Capture::SameBytes::same_places))]
-    fn is_repeated(&self, found: Datagram<'a>) -> bool
-        ensures same { result ≡ true → (position : ℕ) × (copy : FirstCopy) × (slice_get (sent_by self.now found.entry.side) position ≡ Some copy)
-            × (found.entry.payload.now ≡ redundancy_bytes self.now.params found.entry.side copy.pdu) }
-        ensures all { (position : ℕ) (copy : FirstCopy) → slice_get (sent_by self.now found.entry.side) position ≡ Some copy
-            → found.entry.payload.now ≡ redundancy_bytes self.now.params found.entry.side copy.pdu → result ≡ true }
-        ensures crossing { IsCrossing self.now }
-    {
-        let list = self.list(found.side);
-        // No first copy is so short.
-        if found.payload.len() < 8 {
-            return false;
-        }
-        let number = number_in(found.payload);
-        // The next number is no known one, so the map isn't asked.
-        if self.is_next(found.side, number) {
-            return false;
-        }
-        match list.place_of(number) {
-            Some(place) => self.has_bytes(place, found.payload),
-            None => false,
-        }
-    }
-
     // The PDU of a packet, where its number is new, or the number of its fault.
     fn judge(&self, found: Datagram<'a>) -> Result<Option<Pdu<'a>>, u8>
         ensures spelled { OnOk result ((d : RedundancyPdu) × (decode_of self.now.params found.entry.side found.entry.payload.now ≡ Ok d)
@@ -211,9 +186,6 @@ impl<'a> Sent<'a> {
             × (sent_after self.now (packet_of found.entry) ≡ with_new (sent_by self.now found.entry.side) (length self.now.packets) new))
             (λ f. packet_fault self.now.params (sent_by self.now found.entry.side) (packet_of found.entry) ≡ Some f) }
     {
-        if self.is_repeated(found) {
-            return Ok(None);
-        }
         let p = self.kept_params();
         let pdu = match decode(p, found.side, found.payload) {
             Ok(pdu) => pdu,

@@ -259,13 +259,7 @@ impl Store {
             return Ok(None);
         }
         match self.position_of(found.side, number) {
-            Some(position) => {
-                if self.has_bytes(found.side, position, found.payload) {
-                    Ok(Some(position))
-                } else {
-                    Err(Fault::COPY_DIFFERS)
-                }
-            }
+            Some(_) => Err(Fault::COPY_DIFFERS),
             None => Err(Fault::NUMBER_GAP),
         }
     }

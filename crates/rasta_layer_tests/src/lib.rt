@@ -1,9 +1,11 @@
-//! Tests of single layers, by rows of text: captures, frames, digests, hashes, PDUs, parameters, ends and
-//! certificates.
+//! Tests of single layers, by rows of text: captures, frames, digests, hashes, PDUs, copies, parameters, ends
+//! and certificates.
 #![tactic(auto)]
 
 #[cfg(test)]
 mod certificates;
+#[cfg(test)]
+mod copies;
 #[cfg(test)]
 mod devices;
 #[cfg(test)]

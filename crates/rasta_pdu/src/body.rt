@@ -119,9 +119,9 @@ pub fn body_at<'a>(kind: Kind, payload: &'a [u8]) -> Body<&'a [u8]>
 
 // The payload, which is the spelling of the body that stands in it.
 #[inline]
-pub fn spelling<'a>(kind: Kind, payload: &'a [u8]) -> &'a [u8]
-    requires { has_payload_length kind (length payload.now) ≡ true }
-    ensures { result.now ≡ payload_of (body_at (layout_of kind) payload.now) }
+pub fn spelling<'a>(kind: Kind, spelled: &'a [u8]) -> &'a [u8]
+    requires { has_payload_length kind (length spelled.now) ≡ true }
+    ensures { result.now ≡ payload_of (body_at (layout_of kind) spelled.now) }
 {
-    payload
+    spelled
 }

@@ -7,6 +7,7 @@ mod bytes;
 mod code;
 mod ids;
 mod kind;
+mod last_datagram;
 pub mod laws;
 mod layout;
 mod messages;
@@ -20,6 +21,7 @@ mod write;
 
 pub use body::Body;
 pub use kind::Kind;
+pub use last_datagram::LastDatagram;
 pub use messages::Messages;
 pub use params::Params;
 pub use parts::PduParts;

@@ -2,18 +2,19 @@
 ghost use Rattle.std.specs.Prelude.{true, ◌≡◌, IfOk, MatchResult, Ok, Err, slice_range};
 ghost use Rattle.rasta_pdu.specs.Pdu.{IsRedundancyPdu, RedundancyPdu, check_at, code_at, code_of, decode_of, read_code, redundancy_bytes, value_of};
 
-use rasta_pdu::{Fault, Params, Pdu, Side, decode, read_decoded};
+use rasta_pdu::{Fault, LastDatagram, Params, Pdu, Side, decode, read_decoded};
 use std::alloc::Global;
 use std::marker::Model;
 
-/// Decodes datagrams by the same parameters. Where there are safety codes, it keeps the one that it decoded last: a
-/// PDU crosses on several channels, mostly one copy right behind the other, whose code needn't be computed again.
+/// Decodes datagrams by the same parameters. Where there are safety codes, it keeps one that it decoded, as
+/// [`LastDatagram`] does: the code of a copy right behind it needn't be computed again.
 #[derive(Drop)]
 pub struct Decoder<'p> {
     params: &'p Params,
+    last: LastDatagram,
+
+    // The side that sent the datagram that is kept.
     side: Side,
-    // None is kept where they are empty.
-    bytes: Vec<u8>,
 }
 
 impl<'p> Model for Decoder<'p> {
@@ -34,27 +35,26 @@ impl<'p> Decoder<'p> {
     {
         Decoder {
             params,
+            last: LastDatagram::new(alloc),
             side: Side::Client,
-            bytes: Vec::new(alloc),
         }
     }
 
     // Whether this datagram is kept.
-    fn is_kept(&self, side: Side, bytes: &[u8]) -> bool
-        ensures { result ≡ true → (r : RedundancyPdu) × (decode_of self.now side bytes.now ≡ Ok r) }
+    fn is_kept(&mut self, side: Side, bytes: &[u8]) -> bool
+        ensures decodes { result ≡ true → (r : RedundancyPdu) × (decode_of self.old side bytes.now ≡ Ok r) }
+        ensures params { self.new ≡ self.old }
     {
-        !self.bytes.is_empty() && self.side == side && self.bytes.as_slice() == bytes
+        self.side == side && self.last.is(bytes)
     }
 
-    // Keeps a datagram, or none where there is no memory for it.
+    // Offers a datagram for keeping.
     fn keep(&mut self, side: Side, bytes: &[u8])
         requires { (r : RedundancyPdu) × (decode_of self.old side bytes.now ≡ Ok r) }
         ensures { self.new ≡ self.old }
     {
-        self.bytes.clear();
-        self.side = side;
-        if self.bytes.extend_from_slice(bytes).is_err() {
-            self.bytes.clear();
+        if self.last.keep(bytes) {
+            self.side = side;
         }
     }
 

@@ -9,6 +9,6 @@ mod show;
 mod shown_packet;
 mod texts;
 
-pub use messages::write_message;
+pub use messages::{write_hex, write_message};
 pub use show::{is_refusal, run_show, write_refusal};
 pub use texts::{end_name, refusal_line};

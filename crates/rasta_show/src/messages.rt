@@ -62,8 +62,8 @@ fn write_piece<W: Sink>(piece: &[u8], writer: &mut W) -> Result<(), Fault>
     write_all(writer, digits(piece, &mut room))
 }
 
-// Writes bytes in lower case digits, a piece at a time.
-fn write_hex<W: Sink>(bytes: &[u8], writer: &mut W) -> Result<(), Fault>
+/// Writes bytes in lower case digits, two for each byte.
+pub fn write_hex<W: Sink>(bytes: &[u8], writer: &mut W) -> Result<(), Fault>
     ensures out { Writes result (W.contents writer.old) (W.contents writer.new) (encode_lower bytes.now) }
     ensures written { AsWritten result (W.failure_count writer.old) (W.failure_count writer.new) }
 {

@@ -2,3 +2,4 @@ pub mod Judged
 pub mod Outcomes
 pub mod Reading
 pub mod Telling
+pub mod Window

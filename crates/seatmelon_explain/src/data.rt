@@ -29,6 +29,15 @@ pub struct File<'a> {
     pub sha256: String,
 }
 
+/// The recorded window: its records, and how many packets of the recorded channels stand before it and behind it.
+#[derive(Clone, Copy, Debug, Serialize)]
+pub struct Window {
+    pub first_record: u32,
+    pub last_record: Option<u32>,
+    pub packets_before: Number,
+    pub packets_behind: Number,
+}
+
 /// How many packets of each end a channel has.
 #[derive(Clone, Copy, Debug, Serialize)]
 pub struct Channel {
@@ -284,6 +293,7 @@ pub struct Account<'a> {
     pub certificate: Option<File<'a>>,
     pub without: &'a [u32],
     pub records_read: u32,
+    pub window: Option<Window>,
     pub packets: Number,
     pub channels: Vec<Channel>,
     pub records_passed_over: Number,

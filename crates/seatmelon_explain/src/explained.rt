@@ -3,7 +3,7 @@ ghost use Rattle.std.specs.Prelude.{◌≡◌, IfErr};
 ghost use Rattle.rasta_pcap.specs.Fault.{write_failed};
 
 use crate::explanation::Explanation;
-use crate::page::{Page, write_offers, write_place, write_read, write_without};
+use crate::page::{Page, write_offers, write_place, write_read, write_records, write_without};
 use crate::sent_messages::{SentMessage, SentMessages, list_of, sent_count};
 use crate::text::{Part, parts, write_parts, write_words};
 use rasta_check::{SpanList, Store, Taken};
@@ -31,8 +31,10 @@ const NO_STRANGERS: &str = "Nobody else sent a packet between the recorded addre
 const NO_VALID_STRANGERS: &str =
     "Nobody else sent a packet with a valid safety code between the recorded addresses.";
 
-/// The premise of a capture without a quiet point.
-pub const WITH_OPENING: &str = "What is judged begins before the opening of the connection.";
+const FROM_OPENING: &str = "What is judged begins before the opening of the connection.";
+
+const FROM_LATER_OPENING: &str =
+    "What is judged begins before the opening of the connection, and no copy of an earlier packet comes after it.";
 
 /// The premises of 'explained', but for where what is judged begins. Where there is no safety code, anybody can
 /// have sent a packet.
@@ -48,6 +50,15 @@ pub fn premises(page: &Page<'_>) -> [&'static str; 4] {
         "The parameters are right.",
         "For 'surely taken': both ends kept the rules.",
     ]
+}
+
+/// The premise where no quiet point is recorded. Packets before the window are earlier ones.
+pub fn opening_premise(page: &Page<'_>) -> &'static str {
+    if page.sightings.before > 0 {
+        FROM_LATER_OPENING
+    } else {
+        FROM_OPENING
+    }
 }
 
 /// The premise of a capture with a quiet point, but for its end.
@@ -101,7 +112,7 @@ fn write_start<W: Sink>(writer: &mut W, page: &Page<'_>) -> Result<(), Fault>
     ensures err { IfErr result (λ f. f ≡ write_failed) }
 {
     let Some(quiet) = page.params.quiet() else {
-        return write_premise(writer, WITH_OPENING);
+        return write_premise(writer, opening_premise(page));
     };
     write_words(writer, "  ")?;
     write_parts(writer, &quiet_premise(page))?;
@@ -230,9 +241,11 @@ fn write_sentence<W: Sink>(writer: &mut W, page: &Page<'_>, packets: u32) -> Res
         &parts![
             ": two ends that keep the rules can have sent these ",
             packets,
-            " packets\n\n"
+            " packets"
         ],
-    )
+    )?;
+    write_records(writer, page, ", the packets in ")?;
+    write_words(writer, "\n\n")
 }
 
 // Writes what the verdict says, and what it rests on.

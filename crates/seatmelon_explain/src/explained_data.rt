@@ -3,7 +3,7 @@ ghost use Rattle.std.specs.Prelude.{◌≡◌, IfErr};
 ghost use Rattle.rasta_pcap.specs.Fault.{no_memory};
 
 use crate::data::{Direction, Explained, Message, Number, QuietEnd, QuietPoint};
-use crate::explained::{WITH_OPENING, premises, quiet_premise};
+use crate::explained::{opening_premise, premises, quiet_premise};
 use crate::explanation::Explanation;
 use crate::page::Page;
 use crate::page_data::place_data;
@@ -23,7 +23,7 @@ fn start_premise(alloc: Global, page: &Page<'_>) -> Result<String, Fault>
             let [words, record, rest] = quiet_premise(page);
             text_of(alloc, &parts![words, record, rest, "."])
         }
-        None => sentence_of(alloc, WITH_OPENING),
+        None => sentence_of(alloc, opening_premise(page)),
     }
 }
 

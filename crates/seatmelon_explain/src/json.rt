@@ -7,7 +7,7 @@ use crate::data::{Account, Number, Offer, Verdict};
 use crate::explained_data::explained_data;
 use crate::finding::Finding;
 use crate::page::{PROGRAM, Page, passed_over};
-use crate::page_data::{certificate_data, channels_data, file_data, offers_data};
+use crate::page_data::{certificate_data, channels_data, file_data, offers_data, window_data};
 use crate::refusal_data::{capture_refusal_data, refused_data, unscripted_data};
 use crate::text::add;
 use rasta_pcap::{Fault, Sink, write_all};
@@ -81,6 +81,7 @@ fn account_of<'a>(
         certificate,
         without: page.without,
         records_read: page.sightings.records,
+        window: window_data(page),
         packets: Number(page.sightings.packets.len() as u64),
         channels,
         records_passed_over: Number(passed_over(page)),

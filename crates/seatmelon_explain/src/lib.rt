@@ -22,6 +22,7 @@ mod sightings;
 mod text;
 mod told;
 mod verdict;
+mod window;
 mod words;
 
 pub use explaining::{Outcome, explain};

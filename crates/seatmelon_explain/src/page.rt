@@ -4,6 +4,7 @@ ghost use Rattle.rasta_pcap.specs.Fault.{write_failed};
 
 use crate::sightings::{ChannelCount, Sighting, Sightings};
 use crate::text::{Part, parts, write_parts, write_words};
+use crate::window::{Window, records_of, window_in};
 use rasta_check::{SentList, SpanList, Store};
 use rasta_pcap::{CaptureTime, Fault, Side, Sink};
 use rasta_pdu::{Body, Params};
@@ -53,8 +54,8 @@ pub struct Page<'a> {
     pub sightings: Sightings,
 }
 
-/// The program, and what it was proved with.
-pub const PROGRAM: &str = "seatmelon 0.1.0, proved with rattle-kit-13b logic dac8208d650f15bf";
+/// The program, and what it was proved with: the sum of the logic, which `rt version` prints too.
+pub const PROGRAM: &str = "seatmelon 0.1.0, proved with Rattle, logic dac8208d650f15bf";
 
 // Writes a file's name and its SHA-256.
 fn write_file<W: Sink>(writer: &mut W, what: &str, name: &str, digest: &[u8]) -> Result<(), Fault>
@@ -129,10 +130,64 @@ pub fn channel_counts<'p>(page: &'p Page<'_>) -> &'p [ChannelCount] {
     &counts[..recorded.min(counts.len())]
 }
 
-/// How many records are no packets of the connection.
+/// The window that is told of; none where no window is recorded.
+pub fn window_of(page: &Page<'_>) -> Option<Window> {
+    window_in(&page.params, page.sightings.records)
+}
+
+/// How many records are no packets of the recorded channels.
 pub fn passed_over(page: &Page<'_>) -> u64 {
-    let packets = page.sightings.packets.len() as u64;
-    u64::from(page.sightings.records).saturating_sub(packets)
+    let sightings = &page.sightings;
+    u64::from(sightings.records)
+        .saturating_sub(sightings.packets.len() as u64)
+        .saturating_sub(sightings.before)
+        .saturating_sub(sightings.behind)
+}
+
+/// Writes the records of the window after these words, where one is recorded.
+pub fn write_records<W: Sink>(writer: &mut W, page: &Page<'_>, words: &str) -> Result<(), Fault>
+    ensures err { IfErr result (λ f. f ≡ write_failed) }
+{
+    match window_of(page) {
+        Some(window) => {
+            write_words(writer, words)?;
+            write_parts(writer, &records_of(window))
+        }
+        None => Ok(()),
+    }
+}
+
+// Writes which records are judged, where a window is recorded.
+fn write_window<W: Sink>(writer: &mut W, page: &Page<'_>) -> Result<(), Fault>
+    ensures err { IfErr result (λ f. f ≡ write_failed) }
+{
+    let Some(window) = window_of(page) else {
+        return Ok(());
+    };
+    write_records(writer, page, "window: ")?;
+    match window.last_record {
+        Some(_) => write_words(writer, "\n"),
+        None => write_words(writer, ", and the capture has none\n"),
+    }
+}
+
+// Writes how many packets of the recorded channels stand outside the window, where one is recorded.
+fn write_outside<W: Sink>(writer: &mut W, page: &Page<'_>) -> Result<(), Fault>
+    ensures err { IfErr result (λ f. f ≡ write_failed) }
+{
+    if window_of(page).is_none() {
+        return Ok(());
+    }
+    write_parts(
+        writer,
+        &parts![
+            "packets of the recorded channels before the window: ",
+            page.sightings.before,
+            ", behind it: ",
+            page.sightings.behind,
+            "\n"
+        ],
+    )
 }
 
 // Writes how many packets each recorded channel has.
@@ -149,18 +204,16 @@ fn write_channels<W: Sink>(writer: &mut W, page: &Page<'_>) -> Result<(), Fault>
 fn write_counts<W: Sink>(writer: &mut W, page: &Page<'_>) -> Result<(), Fault>
     ensures err { IfErr result (λ f. f ≡ write_failed) }
 {
+    let records = page.sightings.records;
+    write_parts(writer, &parts!["\nrecords read: ", records, "\n"])?;
+    write_window(writer, page)?;
     let packets = page.sightings.packets.len() as u64;
     write_parts(
         writer,
-        &parts![
-            "\nrecords read: ",
-            page.sightings.records,
-            "\npackets of the connection: ",
-            packets,
-            "\n"
-        ],
+        &parts!["packets of the connection: ", packets, "\n"],
     )?;
     write_channels(writer, page)?;
+    write_outside(writer, page)?;
     write_parts(
         writer,
         &parts!["records passed over: ", passed_over(page), "\n\n"],
@@ -259,6 +312,7 @@ pub fn write_no_packets<W: Sink>(writer: &mut W, page: &Page<'_>) -> Result<(), 
 {
     write_read(writer, page)?;
     write_words(writer, "no packet of the connection")?;
+    write_records(writer, page, " in ")?;
     write_without(writer, page.without)?;
     write_words(
         writer,

@@ -2,8 +2,8 @@
 ghost use Rattle.std.specs.Prelude.{◌≡◌, IfErr};
 ghost use Rattle.rasta_pcap.specs.Fault.{no_memory};
 
-use crate::data::{Channel, File, Number, Offer, Place};
-use crate::page::{Page, channel_counts, other_offer};
+use crate::data::{Channel, File, Number, Offer, Place, Window};
+use crate::page::{Page, channel_counts, other_offer, window_of};
 use crate::sent_messages::list_of;
 use crate::sightings::Sighting;
 use crate::text::{Part, add, name_of_end, parts, text_of};
@@ -32,6 +32,17 @@ pub fn certificate_data<'a>(alloc: Global, page: &Page<'a>) -> Result<Option<Fil
         }
         None => Ok(None),
     }
+}
+
+/// The window, if one is recorded.
+pub fn window_data(page: &Page<'_>) -> Option<Window> {
+    let window = window_of(page)?;
+    Some(Window {
+        first_record: window.first_record,
+        last_record: window.last_record,
+        packets_before: Number(page.sightings.before),
+        packets_behind: Number(page.sightings.behind),
+    })
 }
 
 /// How many packets each recorded channel has.

@@ -2,6 +2,7 @@
 ghost use Rattle.std.specs.Prelude.{◌≡◌, ◌⊎◌, IfErr};
 ghost use Rattle.rasta_pcap.specs.Fault.{no_memory, read_failed};
 
+use crate::window::{Standing, standing_of};
 use rasta_pcap::stream::RecordReader;
 use rasta_pcap::{CaptureTime, Fault, Record, Side, Source};
 use rasta_pdu::{Params, decode};
@@ -43,6 +44,10 @@ pub struct Sightings {
     /// How many of these each channel has.
     pub channels: [ChannelCount; 4],
 
+    /// How many packets of the recorded channels stand before the window, and how many behind it.
+    pub before: u64,
+    pub behind: u64,
+
     /// The time of the refused record.
     pub refused_time: Option<CaptureTime>,
 
@@ -68,6 +73,8 @@ impl Sightings {
             records: 0,
             packets: Vec::new(alloc),
             channels: [none; 4],
+            before: 0,
+            behind: 0,
             refused_time: None,
             next_number: None,
             found: None,
@@ -127,12 +134,12 @@ impl Sightings {
         let Some(wanted) = self.wanted else {
             return Ok(());
         };
-        let Ok(pdu) = decode(params, packet.side, packet.payload) else {
-            return Ok(());
-        };
         if packet.side != wanted.side {
             return Ok(());
         }
+        let Ok(pdu) = decode(params, packet.side, packet.payload) else {
+            return Ok(());
+        };
         if self.is_wanted(wanted, sighting.record, pdu.number()) {
             self.found = Some(sighting);
             self.found_bytes.extend_from_slice(packet.payload)?;
@@ -141,8 +148,8 @@ impl Sightings {
         Ok(())
     }
 
-    // Takes in a packet of the connection.
-    fn add_packet(
+    // Takes in a packet of the connection, in the window.
+    fn add_inside(
         &mut self,
         params: &Params,
         sighting: Sighting,
@@ -154,6 +161,23 @@ impl Sightings {
         self.search(params, sighting, packet)?;
         if self.packets.push(sighting).is_err() {
             return Err(Fault::at(Fault::NO_MEMORY, 0));
+        }
+        Ok(())
+    }
+
+    // Takes in a packet of a recorded channel.
+    fn add_packet(
+        &mut self,
+        params: &Params,
+        sighting: Sighting,
+        packet: &Datagram<'_>,
+    ) -> Result<(), Fault>
+        ensures err { IfErr result (λ f. f ≡ no_memory) }
+    {
+        match standing_of(params, sighting.record) {
+            Standing::Before => self.before = self.before.saturating_add(1),
+            Standing::Inside => self.add_inside(params, sighting, packet)?,
+            Standing::Behind => self.behind = self.behind.saturating_add(1),
         }
         Ok(())
     }
@@ -171,9 +195,6 @@ impl Sightings {
         self.records = record;
         if record == self.refused {
             self.refused_time = time;
-        }
-        if record < params.first_record() || record > params.last_record() {
-            return Ok(());
         }
         match datagram(found, params.channel()) {
             Ok(Some(packet)) => {

@@ -1,15 +1,13 @@
 //! Lines of plain text.
-ghost use Rattle.std.specs.Prelude.{◌≡◌, ◌≤◌, length, IfErr};
+ghost use Rattle.std.specs.Prelude.{◌≡◌, ◌≤◌, ◌∷◌, [], length, IfErr};
+ghost use Rattle.hex.specs.Hex.{encode_lower};
 ghost use Rattle.rasta_pcap.specs.Fault.{no_memory, write_failed};
 
 use itoa::Buffer;
 use rasta_pcap::{CaptureTime, Counted, Fault, Side, Sink, write_all};
-use rasta_show::write_message;
+use rasta_show::write_hex;
 use seatmelon_survey::write_time;
 use std::alloc::{AllocError, Global};
-
-// The digits of hexadecimal numbers.
-const DIGITS: [u8; 16] = *b"0123456789abcdef";
 
 // How many bytes of a text are written at once.
 const ROOM: usize = 256;
@@ -97,23 +95,14 @@ fn write_number<W: Sink>(writer: &mut W, n: u64) -> Result<(), Fault>
     write_all(writer, buffer.format(n).as_bytes())
 }
 
-fn digit(n: u8) -> u8 {
-    DIGITS[usize::from(n % 16)]
-}
-
-fn write_byte<W: Sink>(writer: &mut W, byte: u8) -> Result<(), Fault>
-    ensures err { IfErr result (λ f. f ≡ write_failed) }
+// Puts the two digits of a byte into a room for them.
+fn put_digits(byte: u8, room: &mut [u8])
+    requires { length room.old ≡ 2 }
+    ensures { room.new ≡ encode_lower (byte ∷ []) }
 {
-    write_all(writer, &[digit(byte / 16), digit(byte)])
-}
-
-fn write_hex<W: Sink>(writer: &mut W, bytes: &[u8]) -> Result<(), Fault>
-    ensures err { IfErr result (λ f. f ≡ write_failed) }
-{
-    if bytes.is_empty() {
-        return Ok(());
+    if hex::encode_to_slice([byte], room).is_err() {
+        unreachable!();
     }
-    write_message(bytes, writer)
 }
 
 // Puts a byte as text at the front of the room, and answers how many bytes it takes. A backslash is doubled.
@@ -135,8 +124,7 @@ fn put_character(byte: u8, room: &mut [u8]) -> usize
         _ => {
             room[0] = b'\\';
             room[1] = b'x';
-            room[2] = digit(byte / 16);
-            room[3] = digit(byte);
+            put_digits(byte, &mut room[2..4]);
             4
         }
     }
@@ -172,8 +160,8 @@ fn write_part<W: Sink>(writer: &mut W, part: Part<'_>) -> Result<(), Fault>
     match part {
         Part::Words(words) => write_all(writer, words.as_bytes()),
         Part::Number(n) => write_number(writer, n),
-        Part::Hex(bytes) => write_hex(writer, bytes),
-        Part::Byte(byte) => write_byte(writer, byte),
+        Part::Hex(bytes) => write_hex(bytes, writer),
+        Part::Byte(byte) => write_hex(&[byte], writer),
         Part::Text(bytes) => write_text(writer, bytes),
         Part::Time(time) => write_time(writer, time),
         Part::End(side) => write_all(writer, name_of_end(side).as_bytes()),

@@ -5,6 +5,7 @@ pub mod packet_cases;
 pub mod rule_cases;
 pub mod script_cases;
 pub mod step_cases;
+pub mod window_cases;
 
 /// A capture of `rasta_rows` with some bytes changed (where, and to what), the parameters that a word names, a
 /// certificate (empty where there is none), the records that are left out, and what is told after what was read.
@@ -43,7 +44,7 @@ capture: c
 parameters: p
   SHA-256: 690d7880e356248a4f526b2a78d7367e4412615a8a85f47eafa354a793430538
 certificate: none was given, so one is built
-program: seatmelon 0.1.0, proved with rattle-kit-13b logic dac8208d650f15bf
+program: seatmelon 0.1.0, proved with Rattle, logic dac8208d650f15bf
 
 records read: 5
 packets of the connection: 5

@@ -4,6 +4,7 @@ use crate::cases::packet_cases::PACKET_CASES;
 use crate::cases::rule_cases::{LAYOUTS, RULE, RULES, TROUBLE};
 use crate::cases::script_cases::SCRIPT_CASES;
 use crate::cases::step_cases::STEP_CASES;
+use crate::cases::window_cases::{WINDOW_CASES, WindowCase};
 use crate::cases::{Case, EXPLAINED, EXPLAINED_TEXT};
 use rasta_pcap::devices::{FailAt, Pieces};
 use rasta_pcap::{Counted, Fault, Sink, Source};
@@ -144,6 +145,72 @@ fn rules(rt: HostRuntime) -> Result<(), Fail> {
 #[test]
 fn layouts(rt: HostRuntime) -> Result<(), Fail> {
     compare_parts(&rt, &LAYOUTS, TROUBLE)
+}
+
+/// The parameters that a case names, for the records of its window.
+pub fn params_in(window: &WindowCase) -> Option<Params> {
+    let named = params_of(window.case.parameters)?;
+    Params::new(
+        named.client_id(),
+        named.server_id(),
+        named.code_length(),
+        named.md4_start(),
+        named.check_length(),
+        named.n_sendmax(),
+        named.t_max(),
+        named.slack(),
+        window.first_record,
+        window.last_record,
+        named.channel(),
+        named.quiet(),
+    )
+}
+
+// The text on a case of which only the records of a window are judged.
+fn text_in(alloc: Global, window: &WindowCase) -> Option<Vec<u8>> {
+    let file = file_in(alloc, &window.case)?;
+    let params = params_in(window)?;
+    let mut first = Counted::new(file.as_slice());
+    let mut again = Counted::new(file.as_slice());
+    let mut writer = Counted::new(Vec::new(alloc));
+    let outcome = written(
+        alloc,
+        &window.case,
+        &params,
+        Form::Text,
+        &mut first,
+        &mut again,
+        &mut writer,
+    );
+    outcome.ok()?;
+    Some(writer.into_inner())
+}
+
+// What a text tells after its first part.
+fn rest_of(text: &[u8]) -> Option<&str> {
+    let text = str::from_utf8(text).ok()?;
+    let (_, rest) = text.split_once("\n\n")?;
+    Some(rest)
+}
+
+// Whether a text tells the window of a case after its first part, and later what it has to.
+fn tells_window(text: &[u8], window: &WindowCase) -> Option<bool> {
+    let rest = rest_of(text)?;
+    Some(rest.starts_with(window.case.want) && rest.contains(window.later))
+}
+
+#[test]
+fn windows(rt: HostRuntime) -> Result<(), Fail> {
+    for window in &WINDOW_CASES {
+        let text = text_in(rt.alloc(), window).ok_or("a text")?;
+        assert_eq!(rt;
+            tells_window(&text, window),
+            Some(true),
+            "{:?}",
+            str::from_utf8(&text)
+        );
+    }
+    Ok(())
 }
 
 #[test]

@@ -1,7 +1,8 @@
 //! The JSON of an explanation.
 use crate::cases::json_cases::{COPY_DIFFERS, EXPLAINED_JSON, NO_PACKETS, PARTS, QUIET_JSON};
+use crate::cases::window_cases::WINDOW_CASES;
 use crate::cases::{Case, EXPLAINED};
-use crate::explain_tests::{file_in, written};
+use crate::explain_tests::{file_in, params_in, written};
 use rasta_pcap::devices::FailAt;
 use rasta_pcap::{Counted, Fault};
 use rasta_pdu::{Params, Quiet, QuietEnd};
@@ -71,6 +72,25 @@ fn parts_of_json(rt: HostRuntime) -> Result<(), Fail> {
         let want = joined(rt.alloc(), case.want)?;
         let text = str::from_utf8(&text)?;
         assert!(rt; text.contains(want.as_str()), "{text}");
+    }
+    Ok(())
+}
+
+// Whether a text has a part.
+fn has_part(text: &[u8], part: &str) -> Option<bool> {
+    let text = str::from_utf8(text).ok()?;
+    Some(text.contains(part))
+}
+
+#[test]
+fn windows_in_json(rt: HostRuntime) -> Result<(), Fail> {
+    for window in &WINDOW_CASES {
+        let params = params_in(window).ok_or("parameters")?;
+        let text = json_of(rt.alloc(), &window.case, &params)?;
+        for part in [window.json, window.later_json] {
+            let want = joined(rt.alloc(), part)?;
+            assert_eq!(rt; has_part(&text, want.as_str()), Some(true), "{want}");
+        }
     }
     Ok(())
 }

@@ -1,7 +1,8 @@
 //! Captures pass by parts of their records as they passed byte by byte.
 use crate::Sifted;
-use crate::captures::{Capture, Random};
+use crate::captures::{Capture, add_bytes};
 use crate::former::Tracker;
+use rasta_draws::Draws;
 use rasta_pcap::devices::Pieces;
 use rasta_pcap::{Counted, Source};
 use std::alloc::Global;
@@ -110,7 +111,7 @@ fn compare<R: Abort + AllocGlobal>(
 
 fn short_capture(alloc: Global, seed: u64) -> Option<Capture> {
     let mut capture = Capture::new(alloc, seed)?;
-    let count = Random::new(seed).below(20).wrapping_add(1);
+    let count = Draws::new(seed).below(20).wrapping_add(1);
     capture.add_short_records(count)?;
     Some(capture)
 }
@@ -237,9 +238,9 @@ fn cut_captures(rt: HostRuntime) -> Result<(), Fail> {
 
 // Bytes without form; in every second turn three of four are 0, so that lengths are small.
 fn bytes_of(alloc: Global, count: u32) -> Option<Vec<u8>> {
-    let mut random = Random::new(u64::from(count));
+    let mut draws = Draws::new(u64::from(count));
     let mut bytes = Vec::new(alloc);
-    random.add_bytes(&mut bytes, count)?;
+    add_bytes(&mut draws, &mut bytes, count)?;
     if count % 2 == 0 {
         for byte in bytes.iter_mut() {
             *byte = if *byte < 64 { *byte % 40 } else { 0 };

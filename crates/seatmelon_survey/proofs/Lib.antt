@@ -1,1 +1,3 @@
 pub mod Extents
+pub mod Tables
+pub mod Placed

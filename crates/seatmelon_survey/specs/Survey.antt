@@ -9,7 +9,7 @@ records_in s = s.records
 
 -- the connections, in the order of their first records
 abbrev pub connections_in : Survey → List Connection
-connections_in s = s.connections.items
+connections_in s = s.connections
 
 -- the number of a connection's first record, from 1
 abbrev pub first_record_in : Connection → ℕ

@@ -1,5 +1,13 @@
 //! The channels of a connection.
+ghost use Rattle.std.specs.Prelude.{◌≡◌, ◌≤◌, IfErr, vec_capacity};
+ghost use Rattle.rasta_pcap.specs.Fault.{no_memory};
+
+use rasta_pcap::Fault;
 use rasta_udp::Channel;
+use std::alloc::Global;
+
+// How many channels of a connection are told apart.
+const MOST_CHANNELS: usize = 16;
 
 /// Which of the two ends.
 #[derive(Clone, Copy, Debug, PartialEq, Eq)]
@@ -54,5 +62,58 @@ impl ChannelCounts {
             End::First => self.to_second = self.to_second.saturating_add(1),
             End::Second => self.to_first = self.to_first.saturating_add(1),
         }
+    }
+}
+
+/// The channels of a connection, of which 16 are told apart.
+#[derive(Debug, Drop)]
+pub struct Channels {
+    counts: Vec<ChannelCounts>,
+
+    /// How many packets crossed on others.
+    pub on_others: u64,
+    ghost has_room: { 16 ≤ vec_capacity counts },
+}
+
+impl Channels {
+    /// None yet, with room for all that are told apart.
+    ///
+    /// Refused by [`Fault::NO_MEMORY`].
+    pub fn new(alloc: Global) -> Result<Channels, Fault>
+        ensures err { IfErr result (λ f. f ≡ no_memory) }
+    {
+        Ok(Channels {
+            counts: Vec::with_capacity(alloc, MOST_CHANNELS)?,
+            on_others: 0,
+        })
+    }
+
+    /// The channels, in the order of their first packets.
+    pub fn counts(&self) -> &[ChannelCounts] {
+        self.counts.as_slice()
+    }
+
+    fn find(&self, channel: Channel) -> Option<usize> {
+        self.counts
+            .iter()
+            .position(|counts| counts.channel == channel)
+    }
+
+    /// Counts a packet in this record that this end sent on this way. No memory is taken.
+    pub fn add(&mut self, sender: End, route: &Channel, record: u32) {
+        let channel = channel_of(sender, route);
+        if let Some(place) = self.find(channel) {
+            if let Some(counts) = self.counts.get_mut(place) {
+                counts.add(sender);
+            }
+            return;
+        }
+        if self.counts.len() >= MOST_CHANNELS {
+            self.on_others = self.on_others.saturating_add(1);
+            return;
+        }
+        let mut counts = ChannelCounts::new(channel, record);
+        counts.add(sender);
+        self.counts.push_reserved(counts);
     }
 }

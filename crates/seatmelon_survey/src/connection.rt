@@ -1,38 +1,40 @@
 //! A connection that a capture seems to hold.
-ghost use Rattle.std.specs.Prelude.{◌≡◌, IfErr};
+ghost use Rattle.std.specs.Prelude.{◌≡◌, IfErr, IfOk, IsSome};
 ghost use Rattle.rasta_pcap.specs.Fault.{no_memory};
 ghost use Rattle.rasta_pcap.specs.Devices.{AsWritten};
+ghost use Rattle.seatmelon_survey.specs.Belonging.{request_in};
 
-use crate::channel::{ChannelCounts, End, channel_of};
+use crate::channel::{Channels, End};
 use crate::draft::write_draft;
+use crate::late_copies::{Arrival, LateCopies, with_copy};
 use crate::lengths::Lengths;
+use crate::numbers::Sighting;
 use crate::packet::Packet;
 use crate::party::Party;
 use crate::quiet::QuietPoints;
 use rasta_pcap::{CaptureTime, Fault, Sink};
 use rasta_pdu::Kind;
-use rasta_udp::Channel;
 use std::alloc::Global;
 
-// How many channels of a connection are told apart.
-const MOST_CHANNELS: usize = 16;
-
-// The numbers of a connection request, by which its copies are known.
+// A connection request: its numbers, and the hash of its bytes.
 #[derive(Clone, Copy, Debug, PartialEq, Eq)]
 struct Request {
     number: u32,
     sn: u32,
+    hash: u64,
 }
 
-fn request_in(packet: &Packet) -> Option<Request> {
-    if packet.kind == Kind::ConnectionRequest {
-        Some(Request {
-            number: packet.number,
-            sn: packet.sn,
-        })
-    } else {
-        None
+fn request_in(packet: &Packet) -> Option<Request>
+    ensures { result ≡ request_in packet.now }
+{
+    if !matches!(packet.kind, Kind::ConnectionRequest) {
+        return None;
     }
+    Some(Request {
+        number: packet.number,
+        sn: packet.sn,
+        hash: packet.hash,
+    })
 }
 
 /// A connection that a capture seems to hold.
@@ -41,35 +43,52 @@ pub struct Connection {
     request: Option<Request>,
     pub(crate) first: Party,
     pub(crate) second: Party,
-    pub(crate) channels: Vec<ChannelCounts>,
-    pub(crate) on_other_channels: u64,
+    pub(crate) channels: Channels,
     pub(crate) lengths: Lengths,
-    pub(crate) quiet: QuietPoints,
+
+    /// Of a connection whose opening was not captured.
+    pub(crate) quiet: Option<QuietPoints>,
     first_record: u32,
     last_record: u32,
     pub(crate) first_time: Option<CaptureTime>,
     pub(crate) last_time: Option<CaptureTime>,
+    pub(crate) is_last_late_copy: bool,
+    pub(crate) late_copies: Option<LateCopies>,
+
+    // The place of the connection between its ends whose opening crossed late last, since this one began.
+    repeated: Option<usize>,
 }
 
 impl Connection {
+    ghost use Rattle.seatmelon_survey.specs.Belonging.{HasSameOpening, goes_on_with, is_claimed, is_copy_in, is_followed_by, is_late_copy, is_opened_by, late_copies_with, last_record_with, numbers_of, sender_in, sighting_by};
     ghost use Rattle.seatmelon_survey.specs.Survey.{first_id_in, first_record_in, has_ending_in, has_opening_in, last_record_in, second_id_in};
 
     // A connection that begins with this packet, which is to be taken in.
     pub(crate) fn new(alloc: Global, packet: &Packet) -> Result<Connection, Fault>
+        ensures first { IfOk result (λ c. c.first.id ≡ packet.now.way.sender) }
+        ensures second { IfOk result (λ c. c.second.id ≡ packet.now.way.receiver) }
+        ensures request { IfOk result (λ c. c.request ≡ request_in packet.now) }
         ensures err { IfErr result (λ f. f ≡ no_memory) }
     {
+        let request = request_in(packet);
+        let quiet = match request {
+            Some(_) => None,
+            None => Some(QuietPoints::new(alloc)?),
+        };
         Ok(Connection {
-            request: request_in(packet),
+            request,
             first: Party::new(alloc, packet.way.sender)?,
             second: Party::new(alloc, packet.way.receiver)?,
-            channels: Vec::new(alloc),
-            on_other_channels: 0,
+            channels: Channels::new(alloc)?,
             lengths: Lengths::new(),
-            quiet: QuietPoints::new(alloc),
+            quiet,
             first_record: packet.record,
             last_record: packet.record,
             first_time: packet.time,
             last_time: packet.time,
+            is_last_late_copy: false,
+            late_copies: None,
+            repeated: None,
         })
     }
 
@@ -120,7 +139,9 @@ impl Connection {
     }
 
     // Which end sent the packet, if it is between these two ends.
-    fn sender_of(&self, packet: &Packet) -> Option<End> {
+    fn sender_of(&self, packet: &Packet) -> Option<End>
+        ensures { result ≡ sender_in self.now packet.now }
+    {
         if packet.way.sender == self.first.id && packet.way.receiver == self.second.id {
             Some(End::First)
         } else if packet.way.sender == self.second.id && packet.way.receiver == self.first.id {
@@ -130,65 +151,150 @@ impl Connection {
         }
     }
 
-    /// Whether a packet between these ends begins another connection: a connection request after the end
-    /// of this one, or one that isn't a copy of its own.
-    pub(crate) fn is_followed_by(&self, packet: &Packet) -> bool {
-        let request = request_in(packet);
-        request.is_some() && (self.has_ending() || request != self.request)
+    /// Whether a packet between these ends, which opened no earlier connection, begins another one: a connection
+    /// request after the end of this one, or one that has other numbers than its own.
+    pub(crate) fn is_followed_by(&self, packet: &Packet) -> bool
+        ensures { result ≡ is_followed_by self.now packet.now }
+    {
+        let Some(request) = request_in(packet) else {
+            return false;
+        };
+        let has_own_numbers = match self.request {
+            Some(own) => own.number == request.number && own.sn == request.sn,
+            None => false,
+        };
+        self.has_ending() || !has_own_numbers
     }
 
-    /// Takes a packet in.
-    pub(crate) fn add(&mut self, packet: &Packet) -> Result<(), Fault>
-        ensures err { IfErr result (λ f. f ≡ no_memory) }
+    /// Whether a packet repeats the request that opened this connection, byte for byte.
+    pub(crate) fn is_opened_by(&self, packet: &Packet) -> bool
+        ensures { result ≡ is_opened_by self.now packet.now }
+    {
+        match (request_in(packet), self.request) {
+            (Some(request), Some(own)) => request.hash == own.hash,
+            _ => false,
+        }
+    }
+
+    /// The place of the connection between these ends whose opening crossed late last, since this one began.
+    pub(crate) fn repeated(&self) -> Option<usize>
+        ensures { result ≡ self.now.repeated }
+    {
+        self.repeated
+    }
+
+    /// Sets that place.
+    pub(crate) fn set_repeated(&mut self, place: Option<usize>)
+        ensures { self.new ≡ record self.old { repeated = place } }
+    {
+        self.repeated = place;
+    }
+
+    fn party(&self, end: End) -> &Party
+        ensures { result.now.numbers ≡ numbers_of self.now «end» }
+    {
+        match end {
+            End::First => &self.first,
+            End::Second => &self.second,
+        }
+    }
+
+    /// What a packet between these ends is beside the others of its end.
+    pub(crate) fn sighting_of(&self, packet: &Packet) -> Option<Sighting>
+        ensures { result ≡ sighting_by self.now packet.now }
+    {
+        let sender = self.sender_of(packet)?;
+        Some(self.party(sender).numbers.sighting_of(packet))
+    }
+
+    /// Whether a packet between these ends has the next number of its end, or repeats one of its end byte for byte.
+    pub(crate) fn goes_on_with(&self, packet: &Packet) -> bool
+        ensures { result ≡ goes_on_with self.now packet.now }
+    {
+        match self.sender_of(packet) {
+            Some(sender) => self.party(sender).goes_on_with(packet),
+            None => false,
+        }
+    }
+
+    /// Whether a packet between these ends belongs to this connection, whose opening crossed late, and not to the last
+    /// one between them: it repeats one of this connection, or is too old to be compared and doesn't go on with the
+    /// last one.
+    pub(crate) fn claims(&self, packet: &Packet, last: &Connection) -> bool
+        ensures { result ≡ is_claimed self.now last.now packet.now }
+    {
+        match self.sighting_of(packet) {
+            Some(Sighting::Copy { .. }) => true,
+            Some(Sighting::TooOld) => !last.goes_on_with(packet),
+            _ => false,
+        }
+    }
+
+    // Whether a packet between these ends repeats one of its end byte for byte.
+    fn is_copy(&self, packet: &Packet) -> bool
+        ensures { result ≡ is_copy_in self.now packet.now }
+    {
+        match self.sighting_of(packet) {
+            Some(sighting) => sighting.is_copy(),
+            None => false,
+        }
+    }
+
+    // Whether a packet between these ends that comes so is a late copy.
+    fn is_late_copy(&self, packet: &Packet, arrival: Arrival) -> bool
+        ensures { result ≡ is_late_copy self.now packet.now arrival }
+    {
+        arrival.is_late() && (self.is_copy(packet) || self.is_opened_by(packet))
+    }
+
+    /// Takes a packet in that comes so. No memory is taken.
+    pub(crate) fn add(&mut self, packet: &Packet, arrival: Arrival)
+        ensures late_copies { IsSome (sender_in self.old packet.now)
+            → self.new.late_copies ≡ late_copies_with self.old packet.now arrival }
+        ensures last_record { IsSome (sender_in self.old packet.now)
+            → last_record_in self.new ≡ last_record_with self.old packet.now arrival }
+        ensures same { HasSameOpening self.old self.new }
+        ensures repeated { self.new.repeated ≡ self.old.repeated }
     {
         let Some(sender) = self.sender_of(packet) else {
-            return Ok(());
+            return;
         };
-        self.add_to_channel(sender, packet)?;
+        self.channels.add(sender, &packet.way.route, packet.record);
         self.lengths.add(&packet.fits);
-        self.last_record = packet.record;
-        self.last_time = packet.time;
-        let sighting = match sender {
+        self.note_record(packet, arrival);
+        let sighting = self.add_to_party(sender, packet);
+        if let Some(quiet) = &mut self.quiet {
+            quiet.add(sender, packet, sighting);
+        }
+    }
+
+    // Keeps the record of a packet that comes so.
+    fn note_record(&mut self, packet: &Packet, arrival: Arrival)
+        ensures late_copies { self.new.late_copies ≡ late_copies_with self.old packet.now arrival }
+        ensures last_record { last_record_in self.new ≡ last_record_with self.old packet.now arrival }
+        ensures same { HasSameOpening self.old self.new }
+        ensures repeated { self.new.repeated ≡ self.old.repeated }
+    {
+        let is_late_copy = self.is_late_copy(packet, arrival);
+        if is_late_copy {
+            self.late_copies = Some(with_copy(self.late_copies, packet.record));
+        }
+        if !matches!(arrival, Arrival::LateBehindAnother) {
+            self.last_record = packet.record;
+            self.last_time = packet.time;
+            self.is_last_late_copy = is_late_copy;
+        }
+    }
+
+    fn add_to_party(&mut self, sender: End, packet: &Packet) -> Sighting
+        ensures late_copies { self.new.late_copies ≡ self.old.late_copies }
+        ensures last_record { last_record_in self.new ≡ last_record_in self.old }
+        ensures same { HasSameOpening self.old self.new }
+        ensures repeated { self.new.repeated ≡ self.old.repeated }
+    {
+        match sender {
             End::First => self.first.add(packet),
             End::Second => self.second.add(packet),
-        };
-        if self.has_opening() {
-            return Ok(());
         }
-        self.quiet.add(sender, packet, sighting)
-    }
-
-    /// Whether the packet is between these two ends.
-    #[cfg(test)]
-    pub(crate) fn has_ends_of(&self, packet: &Packet) -> bool {
-        self.sender_of(packet).is_some()
-    }
-
-    fn find_channel(&self, channel: Channel) -> Option<usize> {
-        self.channels
-            .iter()
-            .position(|counts| counts.channel == channel)
-    }
-
-    fn add_to_channel(&mut self, sender: End, packet: &Packet) -> Result<(), Fault>
-        ensures err { IfErr result (λ f. f ≡ no_memory) }
-    {
-        let channel = channel_of(sender, &packet.way.route);
-        if let Some(place) = self.find_channel(channel) {
-            if let Some(counts) = self.channels.get_mut(place) {
-                counts.add(sender);
-            }
-            return Ok(());
-        }
-        if self.channels.len() >= MOST_CHANNELS {
-            self.on_other_channels = self.on_other_channels.saturating_add(1);
-            return Ok(());
-        }
-        let mut counts = ChannelCounts::new(channel, packet.record);
-        counts.add(sender);
-        if self.channels.push(counts).is_err() {
-            return Err(Fault::at(Fault::NO_MEMORY, 0));
-        }
-        Ok(())
     }
 }

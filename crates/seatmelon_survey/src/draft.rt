@@ -264,7 +264,11 @@ fn write_limits<W: Sink>(writer: &mut W) -> Result<(), Fault>
 fn write_window<W: Sink>(writer: &mut W, connection: &Connection) -> Result<(), Fault>
     ensures written { AsWritten result (W.failure_count writer.old) (W.failure_count writer.new) }
 {
-    let (first, origin) = match connection.quiet.earliest() {
+    let earliest = match &connection.quiet {
+        Some(quiet) => quiet.earliest(),
+        None => None,
+    };
+    let (first, origin) = match earliest {
         Some(point) => (
             u64::from(point.record).saturating_add(1),
             "the first record after the quiet point\n",
@@ -277,7 +281,10 @@ fn write_window<W: Sink>(writer: &mut W, connection: &Connection) -> Result<(), 
     write_number(writer, "first_record", first)?;
     write_words(writer, origin)?;
     write_number(writer, "last_record", u64::from(connection.last_record()))?;
-    write_words(writer, "the connection's last packet\n")
+    write_words(writer, "the connection's last packet")?;
+    let late = parts![", a late copy"];
+    write_parts_if(writer, connection.is_last_late_copy, &late)?;
+    write_words(writer, "\n")
 }
 
 // Writes a channel as a table.
@@ -363,13 +370,8 @@ pub fn write_draft<W: Sink>(writer: &mut W, connection: &Connection) -> Result<(
     write_sendmax(writer, roles)?;
     write_limits(writer)?;
     write_window(writer, connection)?;
-    if !connection.has_opening() {
-        let candidates = connection.quiet.candidates();
-        write_quiet_points(writer, candidates, roles.is_first_client)?;
+    if let Some(quiet) = &connection.quiet {
+        write_quiet_points(writer, quiet.candidates(), roles.is_first_client)?;
     }
-    write_channels(
-        writer,
-        connection.channels.as_slice(),
-        roles.is_first_client,
-    )
+    write_channels(writer, connection.channels.counts(), roles.is_first_client)
 }

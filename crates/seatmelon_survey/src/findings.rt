@@ -1,27 +1,69 @@
 //! What was found in a capture.
-ghost use Rattle.std.specs.Prelude.{◌≡◌, IfErr, OnOk};
+ghost use Rattle.std.specs.Prelude.{◌≡◌, false, Some, IfErr, OnErr, OnOk, slice_get};
+ghost use Rattle.std.specs.Option.{option_and_then, option_map_or};
 ghost use Rattle.rasta_pcap.specs.Fault.{no_memory};
 ghost use Rattle.rasta_pcap.specs.Devices.{AsWritten};
+ghost use Rattle.seatmelon_survey.specs.Belonging.{opening_in};
 
 #[cfg(test)]
 mod tests;
 
 use crate::connection::Connection;
-use crate::lengths::Trials;
-use crate::packet::{LastDatagram, Packet, packet_in};
-use crate::places::{Ends, Places};
+use crate::late_copies::Arrival;
+use crate::packet::{Packet, packet_in};
+use crate::places::{Ends, Opening, Places};
+use crate::recognizer::Recognizer;
 use crate::report::{write_connection, write_summary};
 use rasta_pcap::{CaptureTime, Fault, Record, Sink};
+use rasta_pdu::Kind;
 use std::alloc::Global;
+use std::marker::Model;
 
 // How many connections are told apart.
 const MOST_CONNECTIONS: usize = 1024;
 
+// Where a packet between two ends belongs.
+#[derive(Clone, Copy, Debug, PartialEq, Eq)]
+enum Destination {
+    // To another connection, which it begins.
+    Another,
+
+    // To the last connection between the ends, in its course.
+    Last(usize),
+
+    // To the connection whose opening it repeats late, beside the last one between the ends.
+    Repeated { place: usize, last: usize },
+
+    // To a connection behind a late copy of its opening, beside the last one between the ends.
+    BehindRepeated { place: usize, last: usize },
+}
+
+// What a packet opens, if it's a connection request.
+fn opening_in(packet: &Packet) -> Option<Opening>
+    ensures { result ≡ opening_in packet.now }
+{
+    if !matches!(packet.kind, Kind::ConnectionRequest) {
+        return None;
+    }
+    Some(Opening {
+        ends: Ends::of(&packet.way),
+        hash: packet.hash,
+    })
+}
+
+// How a packet comes to a connection whose opening crossed late, where the last one between its ends stands there.
+fn late_arrival(place: usize, last: usize) -> Arrival {
+    if place == last {
+        Arrival::Late
+    } else {
+        Arrival::LateBehindAnother
+    }
+}
+
 /// The connections that a capture seems to hold.
 #[derive(Debug, Drop)]
 pub struct Survey {
-    trials: Trials,
-    last: LastDatagram,
+    recognizer: Recognizer,
     connections: Vec<Connection>,
     places: Places,
     pub(crate) records: u32,
@@ -29,7 +71,20 @@ pub struct Survey {
     pub(crate) left_out: u64,
 }
 
+impl Model for Survey {
+    ghost use Rattle.seatmelon_survey.specs.Findings.{Findings};
+
+    ghost Value = { Findings };
+
+    ghost view = { λ s. record { connections = s.connections.items; records = s.records; packets = s.packets; left_out = s.left_out } };
+
+    ghost use Rattle.seatmelon_survey.specs.Belonging.{ArePlaced};
+
+    ghost invariant = { λ s. ArePlaced s.connections.items s.places };
+}
+
 impl Survey {
+    ghost use Rattle.seatmelon_survey.specs.Belonging.{destination_after, destination_behind, destination_of, is_claimed, opened_among, opening_in};
     ghost use Rattle.seatmelon_survey.specs.Survey.{connections_in, records_in};
 
     // Nothing found yet.
@@ -37,8 +92,7 @@ impl Survey {
         ensures { records_in result ≡ 0 }
     {
         Survey {
-            trials: Trials::new(),
-            last: LastDatagram::new(alloc),
+            recognizer: Recognizer::new(alloc),
             connections: Vec::new(alloc),
             places: Places::new(alloc),
             records: 0,
@@ -54,7 +108,7 @@ impl Survey {
         self.connections.as_slice()
     }
 
-    // Takes the next record in, which was captured at this time.
+    // Takes the next record in, which was captured at this time. If memory is refused, nothing has changed.
     pub(crate) fn add_record(
         &mut self,
         alloc: Global,
@@ -62,44 +116,144 @@ impl Survey {
         time: Option<CaptureTime>,
     ) -> Result<(), Fault>
         ensures counted { OnOk result (records_in self.new ≡ found.now.number) }
+        ensures unchanged { OnErr result (self.new ≡ self.old) }
         ensures err { IfErr result (λ f. f ≡ no_memory) }
     {
-        if let Some(packet) = packet_in(&self.trials, &mut self.last, found, time) {
+        if let Some(packet) = packet_in(&mut self.recognizer, found, time) {
             self.add_packet(alloc, &packet)?;
+            self.packets = self.packets.saturating_add(1);
         }
         self.records = found.number;
         Ok(())
     }
 
     fn add_packet(&mut self, alloc: Global, packet: &Packet) -> Result<(), Fault>
+        ensures unchanged { OnErr result (self.new ≡ self.old) }
         ensures err { IfErr result (λ f. f ≡ no_memory) }
     {
-        self.packets = self.packets.saturating_add(1);
-        let ends = Ends::of(&packet.way);
-        if let Some(place) = self.places.find(ends)
-            && let Some(connection) = self.connections.get_mut(place)
-            && !connection.is_followed_by(packet)
-        {
-            return connection.add(packet);
+        match self.destination_of(packet) {
+            Destination::Another => return self.begin(alloc, packet),
+            Destination::Last(place) => self.add_at(place, packet, Arrival::InCourse),
+            Destination::Repeated { place, last } => {
+                self.set_repeated(last, Some(place));
+                self.add_at(place, packet, late_arrival(place, last));
+            }
+            Destination::BehindRepeated { place, last } => {
+                self.add_at(place, packet, late_arrival(place, last));
+            }
         }
-        self.begin(alloc, ends, packet)
+        Ok(())
     }
 
-    // Begins a connection between these ends with this packet.
-    fn begin(&mut self, alloc: Global, ends: Ends, packet: &Packet) -> Result<(), Fault>
+    // Where a packet belongs.
+    fn destination_of(&mut self, packet: &Packet) -> Destination
+        ensures value { result ≡ destination_of (connections_in self.old) packet.now }
+        ensures unchanged { self.new ≡ self.old }
+    {
+        match self.places.find(Ends::of(&packet.way)) {
+            Some(last) => self.destination_beside(last, packet),
+            None => Destination::Another,
+        }
+    }
+
+    // Where a packet belongs, where the last connection between its ends stands there.
+    fn destination_beside(&self, last: usize, packet: &Packet) -> Destination
+        ensures { result ≡ destination_after (connections_in self.now) packet.now (Some last) }
+    {
+        let Some(connection) = self.connections.get(last) else {
+            return Destination::Another;
+        };
+        if let Some(place) = self.find_opened(packet) {
+            return if place == last && !connection.has_ending() {
+                Destination::Last(last)
+            } else {
+                Destination::Repeated { place, last }
+            };
+        }
+        if connection.is_followed_by(packet) {
+            return Destination::Another;
+        }
+        self.destination_behind(last, connection, packet)
+    }
+
+    // The place of the connection that a packet opened, if it's a connection request that did.
+    fn find_opened(&self, packet: &Packet) -> Option<usize>
+        ensures { result ≡ option_and_then (λ o. opened_among o (connections_in self.now)) (opening_in packet.now) }
+    {
+        let opening = opening_in(packet)?;
+        self.places.find_opened(opening)
+    }
+
+    // Where a packet belongs that opened no connection and begins none, where the last connection between its ends, which
+    // is this one, stands there.
+    fn destination_behind(
+        &self,
+        last: usize,
+        connection: &Connection,
+        packet: &Packet,
+    ) -> Destination
+        ensures { result ≡ destination_behind (connections_in self.now) last connection.now packet.now connection.now.repeated }
+    {
+        match connection.repeated() {
+            Some(place) if place == last || self.is_claimed(place, connection, packet) => {
+                Destination::BehindRepeated { place, last }
+            }
+            _ => Destination::Last(last),
+        }
+    }
+
+    // Whether the connection at this place, whose opening crossed late, claims a packet from the last one between the
+    // same ends.
+    fn is_claimed(&self, place: usize, last: &Connection, packet: &Packet) -> bool
+        ensures { result ≡ option_map_or (λ c. is_claimed c last.now packet.now) (slice_get (connections_in self.now) place) false }
+    {
+        match self.connections.get(place) {
+            Some(repeated) => repeated.claims(packet, last),
+            None => false,
+        }
+    }
+
+    fn set_repeated(&mut self, last: usize, place: Option<usize>) {
+        let Some(connection) = self.connections.get_mut(last) else {
+            return;
+        };
+        connection.set_repeated(place);
+    }
+
+    fn add_at(&mut self, place: usize, packet: &Packet, arrival: Arrival) {
+        let Some(connection) = self.connections.get_mut(place) else {
+            return;
+        };
+        connection.add(packet, arrival);
+    }
+
+    // Begins a connection with this packet, once there is memory for all of it.
+    fn begin(&mut self, alloc: Global, packet: &Packet) -> Result<(), Fault>
+        ensures unchanged { OnErr result (self.new ≡ self.old) }
         ensures err { IfErr result (λ f. f ≡ no_memory) }
     {
-        if self.connections.len() >= MOST_CONNECTIONS {
-            self.left_out = self.left_out.saturating_add(1);
+        let place = self.connections.len();
+        if place >= MOST_CONNECTIONS {
+            self.leave_out(packet);
             return Ok(());
         }
         let mut connection = Connection::new(alloc, packet)?;
-        connection.add(packet)?;
-        self.places.set(ends, self.connections.len())?;
-        if self.connections.push(connection).is_err() {
-            return Err(Fault::at(Fault::NO_MEMORY, 0));
-        }
+        connection.add(packet, Arrival::InCourse);
+        self.connections.try_reserve(1)?;
+        self.places.reserve()?;
+        self.places
+            .set(Ends::of(&packet.way), opening_in(packet), place);
+        self.connections.push_reserved(connection);
         Ok(())
+    }
+
+    // Leaves a packet out that begins a connection. From it on the last connection between its ends is followed by
+    // another one.
+    fn leave_out(&mut self, packet: &Packet) {
+        self.left_out = self.left_out.saturating_add(1);
+        if let Some(last) = self.places.find(Ends::of(&packet.way)) {
+            self.set_repeated(last, None);
+        }
     }
 
     /// Writes what was found, as plain text: how much was read, and a block for each connection.

@@ -1,4 +1,7 @@
 //! The lengths of codes that fit.
+ghost use Rattle.std.specs.Prelude.{◌≡◌};
+ghost use Rattle.seatmelon_survey.specs.Features.{fit_by, fits_any, fits_by, fits_by_codes};
+
 use rasta_pdu::{Channel, Fault, Params, Side, decode};
 use rasta_udp::Endpoint;
 
@@ -37,7 +40,9 @@ pub const NO_FITS: Fits = Fits {
 
 impl Fits {
     /// Whether the form fits any length.
-    pub fn any(&self) -> bool {
+    pub fn any(&self) -> bool
+        ensures { result ≡ fits_any self.now }
+    {
         self.no_code != Fit::None || self.short_code != Fit::None || self.long_code != Fit::None
     }
 }
@@ -71,7 +76,10 @@ fn trial(code_length: u8, check_length: u8) -> Option<Params> {
     )
 }
 
-fn fit_of(params: &Option<Params>, datagram: &[u8]) -> Fit {
+#[inline(always)]
+fn fit_of(params: &Option<Params>, datagram: &[u8]) -> Fit
+    ensures { result ≡ fit_by params.now datagram.now }
+{
     let Some(params) = params else {
         return Fit::None;
     };
@@ -98,6 +106,18 @@ impl CodeTrials {
             long_code: trial(16, check_length),
         }
     }
+
+    // How a datagram with a check code of this length fits each length of the safety code.
+    fn fits_of(&self, datagram: &[u8], check_length: u8) -> Fits
+        ensures { result ≡ fits_by_codes self.now check_length datagram.now }
+    {
+        Fits {
+            no_code: fit_of(&self.no_code, datagram),
+            short_code: fit_of(&self.short_code, datagram),
+            long_code: fit_of(&self.long_code, datagram),
+            check_length,
+        }
+    }
 }
 
 /// The parameters by which the lengths of the codes are tried.
@@ -119,18 +139,16 @@ impl Trials {
     }
 
     /// How a datagram fits each length of the safety code, whatever its ids.
-    pub fn fits_of(&self, datagram: &[u8], check_length: u8) -> Fits {
+    #[tactic(auto, unfolding(crate::specs::Features::fits_by))]
+    pub fn fits_of(&self, datagram: &[u8], check_length: u8) -> Fits
+        ensures { result ≡ fits_by self.now check_length datagram.now }
+    {
         let trials = match check_length {
             0 => &self.no_check,
             2 => &self.short_check,
             _ => &self.long_check,
         };
-        Fits {
-            no_code: fit_of(&trials.no_code, datagram),
-            short_code: fit_of(&trials.short_code, datagram),
-            long_code: fit_of(&trials.long_code, datagram),
-            check_length,
-        }
+        trials.fits_of(datagram, check_length)
     }
 }
 

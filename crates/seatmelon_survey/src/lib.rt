@@ -6,6 +6,7 @@ mod connection;
 mod draft;
 mod findings;
 mod kinds;
+mod late_copies;
 mod lengths;
 #[cfg(test)]
 mod made;
@@ -16,6 +17,7 @@ mod places;
 mod quiet;
 mod quiet_draft;
 mod reading;
+mod recognizer;
 mod report;
 mod route;
 mod text;

@@ -1,5 +1,6 @@
 //! Made records, for tests.
 use crate::kinds::KINDS;
+use rasta_draws::Draws;
 use rasta_pdu::{Body, Channel, Endpoint, Kind, Params, PduParts, Side, encode};
 use std::alloc::Global;
 
@@ -26,39 +27,6 @@ const FRONT: [u8; 16] = *b"\x02\x00\x00\x00\x00\x02\x02\x00\x00\x00\x00\x01\x08\
 
 // IPv4 after its length, up to the addresses.
 const MIDDLE: [u8; 8] = *b"\x00\x00\x00\x00\x40\x11\x00\x00";
-
-/// Numbers that look random, by SplitMix64.
-#[derive(Clone, Copy, Debug)]
-pub struct Draws {
-    state: u64,
-}
-
-impl Draws {
-    /// Those of a seed.
-    pub fn new(seed: u64) -> Draws {
-        Draws { state: seed }
-    }
-
-    /// The next number.
-    pub fn draw(&mut self) -> u64 {
-        self.state = self.state.wrapping_add(0x9e37_79b9_7f4a_7c15);
-        let mixed = (self.state ^ (self.state >> 30)).wrapping_mul(0xbf58_476d_1ce4_e5b9);
-        let mixed = (mixed ^ (mixed >> 27)).wrapping_mul(0x94d0_49bb_1331_11eb);
-        mixed ^ (mixed >> 31)
-    }
-
-    /// The next number, below `count`, which counts as 1 where it is 0.
-    pub fn below(&mut self, count: u32) -> u32 {
-        let drawn = self.draw() % u64::from(count.max(1));
-        u32::try_from(drawn).unwrap_or(0)
-    }
-
-    /// One of these.
-    pub fn pick<T: Copy>(&mut self, choices: &[T]) -> Option<T> {
-        let count = u32::try_from(choices.len()).ok()?;
-        choices.get(self.below(count) as usize).copied()
-    }
-}
 
 /// A PDU to be made.
 #[derive(Clone, Copy, Debug)]

@@ -1,7 +1,8 @@
 //! The redundancy layer's numbers of an end.
-ghost use Rattle.std.specs.Prelude.{◌≡◌, IfErr};
+ghost use Rattle.std.specs.Prelude.{◌≡◌, ◌%◌, ◌==◌, IfErr};
 ghost use Rattle.rasta_pcap.specs.Fault.{no_memory};
 ghost use Rattle.seatmelon_survey.specs.Numbers.{IsStanding};
+ghost use Rattle.seatmelon_survey.specs.Sightings.{compared, expected_number, is_copy, remembered_at, sighting_in, standing_in};
 
 use crate::packet::Packet;
 use rasta_pcap::Fault;
@@ -32,6 +33,15 @@ pub enum Sighting {
     TooOld,
 }
 
+impl Sighting {
+    /// Whether the packet repeats an earlier one byte for byte.
+    pub fn is_copy(&self) -> bool
+        ensures { result ≡ is_copy self.now }
+    {
+        matches!(self, Sighting::Copy { .. })
+    }
+}
+
 // Where a number stands beside the one that is expected.
 #[derive(Clone, Copy, Debug, PartialEq, Eq)]
 enum Standing {
@@ -41,7 +51,8 @@ enum Standing {
 }
 
 fn standing_of(number: u32, expected: u32) -> Standing
-    ensures { IsStanding result number expected }
+    ensures standing { IsStanding result number expected }
+    ensures value { result ≡ standing_in number expected }
 {
     let ahead = number.wrapping_sub(expected);
     if ahead == 0 {
@@ -106,7 +117,9 @@ pub struct Numbers {
     counts: NumberCounts,
 }
 
-fn slot_of(number: u32) -> usize {
+fn slot_of(number: u32) -> usize
+    ensures { result ≡ number % 256 }
+{
     (number % REMEMBERED) as usize
 }
 
@@ -131,23 +144,59 @@ impl Numbers {
         self.counts
     }
 
-    /// Takes the number of a packet in, and says what the packet is.
-    pub fn add(&mut self, packet: &Packet) -> Sighting {
-        let expected = self.expected.unwrap_or(packet.number);
-        match standing_of(packet.number, expected) {
-            Standing::Expected => self.go_on(packet),
-            Standing::Ahead(missing) => {
-                self.add_gap(packet, expected, missing);
-                self.go_on(packet)
-            }
-            Standing::Behind(distance) => self.look_back(packet, distance),
+    // The number that is expected; before the first packet, that of any.
+    fn expected_at(&self, packet: &Packet) -> u32
+        ensures { result ≡ expected_number self.now packet.now }
+    {
+        self.expected.unwrap_or(packet.number)
+    }
+
+    /// Whether a packet has the number that is expected. Before the first packet any number is.
+    pub fn is_expected(&self, packet: &Packet) -> bool
+        ensures { result ≡ (packet.now.number == expected_number self.now packet.now) }
+    {
+        packet.number == self.expected_at(packet)
+    }
+
+    /// What a packet is beside those that were taken in.
+    pub fn sighting_of(&self, packet: &Packet) -> Sighting
+        ensures { result ≡ sighting_in self.now packet.now }
+    {
+        match standing_of(packet.number, self.expected_at(packet)) {
+            Standing::Expected | Standing::Ahead(_) => Sighting::First,
+            Standing::Behind(distance) if distance > REMEMBERED => Sighting::TooOld,
+            Standing::Behind(_) => self.compare(packet),
         }
     }
 
-    fn go_on(&mut self, packet: &Packet) -> Sighting {
+    /// Takes the number of a packet in, and says what the packet is.
+    pub fn add(&mut self, packet: &Packet) -> Sighting
+        ensures { result ≡ sighting_in self.old packet.now }
+    {
+        let sighting = self.sighting_of(packet);
+        match sighting {
+            Sighting::First => self.go_on(packet),
+            Sighting::Late => {
+                self.counts.late = self.counts.late.saturating_add(1);
+                self.remember(packet);
+            }
+            Sighting::Copy { .. } => self.counts.copies = self.counts.copies.saturating_add(1),
+            Sighting::DifferingCopy { .. } => {
+                self.counts.differing = self.counts.differing.saturating_add(1);
+            }
+            Sighting::TooOld => self.counts.too_old = self.counts.too_old.saturating_add(1),
+        }
+        sighting
+    }
+
+    // Takes in a packet that is not behind the others.
+    fn go_on(&mut self, packet: &Packet) {
+        let expected = self.expected_at(packet);
+        if let Standing::Ahead(missing) = standing_of(packet.number, expected) {
+            self.add_gap(packet, expected, missing);
+        }
         self.expected = Some(packet.number.wrapping_add(1));
         self.remember(packet);
-        Sighting::First
     }
 
     fn remember(&mut self, packet: &Packet) {
@@ -168,7 +217,9 @@ impl Numbers {
     }
 
     // The packet of this number that is remembered.
-    fn recall(&self, number: u32) -> Option<Remembered> {
+    fn recall(&self, number: u32) -> Option<Remembered>
+        ensures { result ≡ remembered_at self.now number }
+    {
         let earlier = self.remembered.get(slot_of(number)).copied()??;
         if earlier.number == number {
             Some(earlier)
@@ -177,29 +228,18 @@ impl Numbers {
         }
     }
 
-    fn look_back(&mut self, packet: &Packet, distance: u32) -> Sighting {
-        if distance > REMEMBERED {
-            self.counts.too_old = self.counts.too_old.saturating_add(1);
-            return Sighting::TooOld;
-        }
+    // What a packet is beside the one of its number.
+    fn compare(&self, packet: &Packet) -> Sighting
+        ensures { result ≡ compared packet.now.hash (remembered_at self.now packet.now.number) }
+    {
         match self.recall(packet.number) {
-            Some(earlier) if packet.hash == earlier.hash => {
-                self.counts.copies = self.counts.copies.saturating_add(1);
-                Sighting::Copy {
-                    first: earlier.record,
-                }
-            }
-            Some(earlier) => {
-                self.counts.differing = self.counts.differing.saturating_add(1);
-                Sighting::DifferingCopy {
-                    first: earlier.record,
-                }
-            }
-            None => {
-                self.counts.late = self.counts.late.saturating_add(1);
-                self.remember(packet);
-                Sighting::Late
-            }
+            Some(earlier) if packet.hash == earlier.hash => Sighting::Copy {
+                first: earlier.record,
+            },
+            Some(earlier) => Sighting::DifferingCopy {
+                first: earlier.record,
+            },
+            None => Sighting::Late,
         }
     }
 }

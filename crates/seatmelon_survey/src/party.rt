@@ -1,6 +1,7 @@
 //! One of the two ends of a connection.
-ghost use Rattle.std.specs.Prelude.{◌≡◌, IfErr};
+ghost use Rattle.std.specs.Prelude.{◌≡◌, IfErr, IfOk};
 ghost use Rattle.rasta_pcap.specs.Fault.{no_memory};
+ghost use Rattle.seatmelon_survey.specs.Sightings.{goes_on, sighting_in};
 
 use crate::kinds::KindCounts;
 use crate::numbers::{Numbers, Sighting};
@@ -32,6 +33,7 @@ impl Party {
     ///
     /// Refused by [`Fault::NO_MEMORY`].
     pub fn new(alloc: Global, id: u32) -> Result<Party, Fault>
+        ensures id { IfOk result (λ p. p.id ≡ id) }
         ensures err { IfErr result (λ f. f ≡ no_memory) }
     {
         Ok(Party {
@@ -43,8 +45,18 @@ impl Party {
         })
     }
 
+    /// Whether a packet that it sent has the next number, or repeats one byte for byte.
+    pub fn goes_on_with(&self, packet: &Packet) -> bool
+        ensures { result ≡ goes_on self.now.numbers packet.now }
+    {
+        self.numbers.is_expected(packet) || self.numbers.sighting_of(packet).is_copy()
+    }
+
     /// Takes a packet in that it sent, and says what it is among the others.
-    pub fn add(&mut self, packet: &Packet) -> Sighting {
+    pub fn add(&mut self, packet: &Packet) -> Sighting
+        ensures sighting { result ≡ sighting_in self.old.numbers packet.now }
+        ensures id { self.new.id ≡ self.old.id }
+    {
         let sighting = self.numbers.add(packet);
         if matches!(sighting, Sighting::First | Sighting::Late) {
             self.kinds.add(packet.kind);
@@ -54,7 +66,9 @@ impl Party {
     }
 
     // Keeps what the first opening and the first ending say.
-    fn note(&mut self, packet: &Packet) {
+    fn note(&mut self, packet: &Packet)
+        ensures { self.new.id ≡ self.old.id }
+    {
         if self.offer.is_none() {
             self.offer = packet.offer;
         }

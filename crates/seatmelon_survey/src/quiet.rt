@@ -1,5 +1,5 @@
 //! Points at which a connection seems to be quiet.
-ghost use Rattle.std.specs.Prelude.{◌≡◌, IfErr};
+ghost use Rattle.std.specs.Prelude.{◌≡◌, ◌≤◌, IfErr, vec_capacity};
 ghost use Rattle.rasta_pcap.specs.Fault.{no_memory};
 
 use crate::channel::End;
@@ -197,16 +197,21 @@ pub struct QuietPoints {
     first: Progress,
     second: Progress,
     candidates: Vec<Candidate>,
+    ghost has_room: { 24 ≤ vec_capacity candidates },
 }
 
 impl QuietPoints {
-    /// None yet.
-    pub fn new(alloc: Global) -> QuietPoints {
-        QuietPoints {
+    /// None yet, with room for all that are kept.
+    ///
+    /// Refused by [`Fault::NO_MEMORY`].
+    pub fn new(alloc: Global) -> Result<QuietPoints, Fault>
+        ensures err { IfErr result (λ f. f ≡ no_memory) }
+    {
+        Ok(QuietPoints {
             first: NOTHING_SENT,
             second: NOTHING_SENT,
-            candidates: Vec::new(alloc),
-        }
+            candidates: Vec::with_capacity(alloc, MOST_CANDIDATES)?,
+        })
     }
 
     /// The candidates, in their order.
@@ -223,16 +228,14 @@ impl QuietPoints {
         Some(candidate.point)
     }
 
-    /// Takes a packet in that this end sent.
-    pub fn add(&mut self, sender: End, packet: &Packet, sighting: Sighting) -> Result<(), Fault>
-        ensures err { IfErr result (λ f. f ≡ no_memory) }
-    {
+    /// Takes a packet in that this end sent. No memory is taken.
+    pub fn add(&mut self, sender: End, packet: &Packet, sighting: Sighting) {
         match sighting {
             Sighting::First => self.send(sender, packet),
             Sighting::Copy { first } | Sighting::DifferingCopy { first } => self.forget_from(first),
             Sighting::Late | Sighting::TooOld => self.candidates.clear(),
         }
-        self.propose(packet.record)
+        self.propose(packet.record);
     }
 
     fn other(&self, sender: End) -> &Progress {
@@ -269,14 +272,12 @@ impl QuietPoints {
     }
 
     // Makes the point after this record a candidate, if both ends are at rest.
-    fn propose(&mut self, record: u32) -> Result<(), Fault>
-        ensures err { IfErr result (λ f. f ≡ no_memory) }
-    {
+    fn propose(&mut self, record: u32) {
         let (Some(first), Some(second)) = (self.first.at_rest(), self.second.at_rest()) else {
-            return Ok(());
+            return;
         };
         if self.candidates.len() >= MOST_CANDIDATES {
-            return Ok(());
+            return;
         }
         let point = Point {
             record,
@@ -288,9 +289,6 @@ impl QuietPoints {
             awaits_first: true,
             awaits_second: true,
         };
-        if self.candidates.push(candidate).is_err() {
-            return Err(Fault::at(Fault::NO_MEMORY, 0));
-        }
-        Ok(())
+        self.candidates.push_reserved(candidate);
     }
 }

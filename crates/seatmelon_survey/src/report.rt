@@ -132,6 +132,27 @@ fn write_ending<W: Sink>(writer: &mut W, name: &'static str, party: &Party) -> R
     )
 }
 
+// Writes how many late copies there are, and in which records.
+fn write_late_copies<W: Sink>(writer: &mut W, connection: &Connection) -> Result<(), Fault>
+    ensures written { AsWritten result (W.failure_count writer.old) (W.failure_count writer.new) }
+{
+    let Some(copies) = connection.late_copies else {
+        return Ok(());
+    };
+    write_parts(
+        writer,
+        &parts![
+            "  late copies of its opening and of what came behind it: ",
+            copies.count,
+            ", the first in record ",
+            copies.first_record,
+            ", the last in record ",
+            copies.last_record,
+            "\n"
+        ],
+    )
+}
+
 // Writes a channel: its ends, first that of the connection's first end.
 fn write_channel<W: Sink>(
     writer: &mut W,
@@ -334,7 +355,8 @@ fn write_frame<W: Sink>(
     write_ending(writer, names.second, &connection.second)?;
     let is_open = !connection.has_ending();
     let parts = parts!["  no disconnection request was captured\n"];
-    write_parts_if(writer, is_open, &parts)
+    write_parts_if(writer, is_open, &parts)?;
+    write_late_copies(writer, connection)
 }
 
 /// Writes the block of a connection, whose place counts from 0.
@@ -348,12 +370,12 @@ pub fn write_connection<W: Sink>(
     let names = names_in(connection);
     write_parts(writer, &numbered("\nconnection ", place.saturating_add(1)))?;
     write_frame(writer, names, connection)?;
-    write_channels(writer, names, connection.channels.as_slice())?;
+    write_channels(writer, names, connection.channels.counts())?;
     let further = numbered(
         "  packets on further channels: ",
-        connection.on_other_channels,
+        connection.channels.on_others,
     );
-    write_parts_if(writer, connection.on_other_channels > 0, &further)?;
+    write_parts_if(writer, connection.channels.on_others > 0, &further)?;
     write_lengths(writer, &connection.lengths)?;
     write_sent(writer, names.first, &connection.first)?;
     write_sent(writer, names.second, &connection.second)

@@ -1,29 +1,12 @@
 //! The text of a draft, and what it answers where a writer goes wrong.
 use crate::drafts::{DRAFT_CASES, DraftCase};
+use crate::files::file_with;
 use crate::survey_tests::compare_front;
 use rasta_pcap::Counted;
 use rasta_pcap::devices::FailAt;
-use rasta_rows::file_of;
 use seatmelon_survey::{Connection, Survey, survey};
 use std::alloc::Global;
 use std::test::Fail;
-
-// The length of a file's header.
-const HEADER: usize = 24;
-
-// The file of a case.
-fn file_in(alloc: Global, case: &DraftCase) -> Option<Vec<u8>> {
-    let mut file = Vec::new(alloc);
-    for (settings, packets) in case.parts {
-        let (_, part) = file_of(alloc, settings, packets)?;
-        let from = if file.is_empty() { 0 } else { HEADER };
-        file.extend_from_slice(part.get(from..)?).ok()?;
-    }
-    for &(place, byte) in case.changes {
-        *file.get_mut(place)? = byte;
-    }
-    Some(file)
-}
 
 fn draft_of(alloc: Global, connection: &Connection) -> Option<Vec<u8>> {
     let mut writer = Counted::new(Vec::new(alloc));
@@ -32,7 +15,7 @@ fn draft_of(alloc: Global, connection: &Connection) -> Option<Vec<u8>> {
 }
 
 fn surveyed(alloc: Global, case: &DraftCase) -> Option<Survey> {
-    let file = file_in(alloc, case)?;
+    let file = file_with(alloc, case.parts, case.changes)?;
     survey(alloc, &mut Counted::new(file.as_slice())).ok()
 }
 

@@ -1,11 +1,11 @@
 //! Captures, and the drafts that are wanted of a connection in them.
+use crate::files::{Change, Part};
 
-/// A capture: what `rasta_rows` reads of some settings and packets, one after the other, with some bytes changed
-/// (where, and to what); the place of a connection, and its draft.
+/// A capture, which is a file of these parts with these changes; the place of a connection, and its draft.
 #[derive(Clone, Copy)]
 pub struct DraftCase {
-    pub parts: &'static [(&'static str, &'static str)],
-    pub changes: &'static [(usize, u8)],
+    pub parts: &'static [Part],
+    pub changes: &'static [Change],
     pub place: usize,
     pub want: &'static str,
 }
@@ -43,7 +43,7 @@ check_length = 0 # fits the length of ", $count, " of ", $count, " packets\n";
     };
     (
         [$parts:expr, $changes:expr, $place:literal] $first:literal to $last:literal; $($ids:literal),+;
-        $($lengths:literal),+; offers $offers:literal; from $from:literal $begins:literal;
+        $($lengths:literal),+; offers $offers:literal; from $from:literal $begins:literal; $(ends with $ends:literal;)?
         $(quiet after $quiet:literal: $points:literal;)? $(note $note:literal;)?
         $(channel $client:literal, $server:literal in $record:literal;)+ $($further:literal;)?
     ) => {
@@ -58,7 +58,7 @@ check_length = 0 # fits the length of ", $count, " of ", $count, " packets\n";
                 $($ids,)+ $($lengths,)+ "n_sendmax = 20 # ", $offers, "
 t_max = 1800 # from the engineering data, in milliseconds
 slack = 0 # from the engineering data, in milliseconds
-first_record = ", $from, " # the ", $begins, "\nlast_record = ", $last, " # the connection's last packet\n",
+first_record = ", $from, " # the ", $begins, "\nlast_record = ", $last, " # the connection's last packet", $(", ", $ends,)? "\n",
                 $("\n# No opening was captured. After record ", $quiet, " both ends seem to be up and to owe each other nothing: a quiet point.
 # It is a premise of every answer: only the engineering data or a log can confirm it.\n", $points,)?
                 $("\n# ", $note, "\n",)?
@@ -101,6 +101,27 @@ const SECOND_CONNECTION: DraftCase = draft!(
     [[("data plain", "0 1 5 0 1")], [(436, 0)], 1] 4 to 5; request in 4; no codes in 2;
     offers "offered by the server in record 5"; from 4 "connection's first packet";
     channel "10.0.0.1:5000", "10.0.0.2:5000" in 4;
+);
+
+// The opening crosses once more after the end.
+const OPENING_AGAIN: DraftCase = draft!(
+    [[("data plain", "0 1 5 0 1")], [], 0] 1 to 5; request in 1; no codes in 5;
+    offers "the client offered 20 in record 1, the server 20 in record 2"; from 1 "connection's first packet"; ends with "a late copy";
+    channel "10.0.0.1:5000", "10.0.0.2:5000" in 1;
+);
+
+// The same, and then another packet.
+const GOES_ON: DraftCase = draft!(
+    [[("data plain", "0 1 5 0 1 4")], [], 0] 1 to 6; request in 1; no codes in 6;
+    offers "the client offered 20 in record 1, the server 20 in record 2"; from 1 "connection's first packet";
+    channel "10.0.0.1:5000", "10.0.0.2:5000" in 1;
+);
+
+// The opening crosses once more after the end, and again after another connection has begun.
+const OPENING_AGAIN_BEHIND_ANOTHER: DraftCase = draft!(
+    [[("byes plain", "0 1 2 0 6 0 1")], [], 0] 1 to 4; request in 1; no codes in 6;
+    offers "the client offered 20 in record 1, the server 20 in record 2"; from 1 "connection's first packet"; ends with "a late copy";
+    channel "10.0.0.1:5000", "10.0.0.2:5000" in 1;
 );
 
 // The client offers 10.
@@ -248,11 +269,14 @@ quiet.server = { next_sn = 502, clock = 9060 } # its last PDU is in record 4
 );
 
 /// Each form of the text.
-pub const DRAFT_CASES: [DraftCase; 14] = [
+pub const DRAFT_CASES: [DraftCase; 17] = [
     HANDSHAKE,
     OWN_START_WORDS,
     TWO_CHANNELS,
     SECOND_CONNECTION,
+    OPENING_AGAIN,
+    GOES_ON,
+    OPENING_AGAIN_BEHIND_ANOTHER,
     DIFFERING_OFFERS,
     NO_OFFER,
     RESPONSE_FIRST,

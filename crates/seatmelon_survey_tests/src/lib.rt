@@ -8,4 +8,6 @@ mod draft_tests;
 #[cfg(test)]
 mod drafts;
 #[cfg(test)]
+mod files;
+#[cfg(test)]
 mod survey_tests;

@@ -1,5 +1,6 @@
 //! The text of a survey, and what it answers where a device goes wrong.
 use crate::cases::{CASES, Case};
+use crate::files::file_with;
 use rasta_pcap::devices::{FailAt, Pieces};
 use rasta_pcap::{Counted, Fault, Sink, Source};
 use rasta_rows::file_of;
@@ -10,8 +11,7 @@ use std::test::Fail;
 
 // The file of a case.
 fn file_in(alloc: Global, case: &Case) -> Option<Vec<u8>> {
-    let (_, file) = file_of(alloc, case.settings, case.packets)?;
-    Some(file)
+    file_with(alloc, case.parts, case.changes)
 }
 
 // What a file that comes in pieces of this size holds.
@@ -29,11 +29,11 @@ fn text_of(alloc: Global, survey: &Survey) -> Option<Vec<u8>> {
 #[test]
 fn texts(rt: HostRuntime) -> Result<(), Fail> {
     for case in CASES {
-        let file = file_in(rt.alloc(), &case).ok_or(case.packets)?;
+        let file = file_in(rt.alloc(), &case).ok_or(case.want)?;
         for most in [1, 7, 4096] {
             let found = surveyed(rt.alloc(), &file, most).ok().ok_or("a survey")?;
             let text = text_of(rt.alloc(), &found).ok_or("a text")?;
-            assert_eq!(rt; text.as_slice(), case.want.as_bytes(), "{}", case.packets);
+            assert_eq!(rt; text.as_slice(), case.want.as_bytes(), "{:?}", case.parts);
         }
     }
     Ok(())

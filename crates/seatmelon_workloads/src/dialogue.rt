@@ -1,8 +1,8 @@
 //! Two ends that keep the rules, and the capture of what they send.
 use crate::capture::Capture;
-use crate::random::Random;
 use crate::traffic::Traffic;
 use rasta_cert::Entry;
+use rasta_draws::Draws;
 use rasta_end::Why;
 use rasta_pdu::{Body, Channel, Endpoint, Kind, Params, PduParts, Side, encode};
 use std::alloc::Global;
@@ -43,7 +43,7 @@ struct End {
 }
 
 impl End {
-    fn new(random: &mut Random) -> End {
+    fn new(random: &mut Draws) -> End {
         End {
             number: random.below(u32::MAX),
             sn: random.below(u32::MAX),
@@ -89,7 +89,7 @@ pub struct Dialogue<'a> {
     params: &'a Params,
     noise: &'a [u8],
     seed: u32,
-    random: Random,
+    random: Draws,
     client: End,
     server: End,
     recorded: Recorded,
@@ -103,7 +103,7 @@ pub struct Dialogue<'a> {
 
 /// Bytes that look random.
 pub fn noise(alloc: Global, seed: u32) -> Option<Vec<u8>> {
-    let mut random = Random::new(seed, 1);
+    let mut random = Draws::sequence(seed, 1);
     let mut bytes = Vec::new(alloc);
     bytes.try_reserve(NOISE).ok()?;
     for _ in 0..NOISE / 8 {
@@ -112,8 +112,8 @@ pub fn noise(alloc: Global, seed: u32) -> Option<Vec<u8>> {
     Some(bytes)
 }
 
-// The two places between which a PDU of this side crosses on a channel.
-fn way_of(side: Side, channel: &Channel) -> (Endpoint, Endpoint) {
+/// The two places between which a PDU of this side crosses on a channel.
+pub fn way_of(side: Side, channel: &Channel) -> (Endpoint, Endpoint) {
     match side {
         Side::Client => (channel.client, channel.server),
         Side::Server => (channel.server, channel.client),
@@ -130,7 +130,7 @@ impl<'a> Dialogue<'a> {
         seed: u32,
         capacity: usize,
     ) -> Option<Dialogue<'a>> {
-        let mut random = Random::new(seed, 2);
+        let mut random = Draws::sequence(seed, 2);
         Some(Dialogue {
             traffic,
             params,
@@ -194,7 +194,7 @@ impl<'a> Dialogue<'a> {
             Side::Client => 1 << 32,
             Side::Server => 2 << 32,
         };
-        let mut random = Random::new(self.seed, sequence | u64::from(unit));
+        let mut random = Draws::sequence(self.seed, sequence | u64::from(unit));
         let noise = self.noise;
         let mut messages: [&'a [u8]; 3] = [&[], &[], &[]];
         let count = random.below(self.traffic.messages.min(3)) as usize + 1;

@@ -2,7 +2,7 @@
 use crate::dialogue::{Dialogue, Moment, Recorded, noise};
 use crate::folding::{Folded, Folding};
 use crate::port::make_port;
-use crate::traffic::{BURSTS, BUSY, DAY, LARGE, Traffic};
+use crate::traffic::{BURSTS, BUSY, DAY, LARGE, SINGLE, Traffic};
 use rasta_cert::{Certificate, Entry};
 use rasta_pcap::{Buffered, Counted};
 use rasta_pdu::{Fault, Params, Side, Sink, Source};
@@ -31,6 +31,12 @@ pub enum Job {
     Check,
     Survey,
     Show,
+
+    /// A survey of a port where copies cross some packets later.
+    Mirrored,
+
+    /// A survey and the PDUs of one channel, where nothing crosses twice.
+    Single,
 }
 
 // How often a capture is read: up to some moments, each later than the one before.
@@ -64,6 +70,8 @@ impl Job {
             "check" => Some(Job::Check),
             "survey" => Some(Job::Survey),
             "show" => Some(Job::Show),
+            "mirrored" => Some(Job::Mirrored),
+            "single" => Some(Job::Single),
             _ => None,
         }
     }
@@ -71,11 +79,12 @@ impl Job {
     // What crosses in each of its two captures.
     fn traffic(self) -> [Traffic; 2] {
         match self {
-            Job::Explain | Job::Survey => [DAY, DAY],
+            Job::Explain | Job::Survey | Job::Mirrored => [DAY, DAY],
             Job::Json => [LARGE, LARGE],
             Job::Audit => [DAY, BURSTS],
             Job::Check => [BUSY, LARGE],
             Job::Show => [BUSY, BURSTS],
+            Job::Single => [SINGLE, SINGLE],
         }
     }
 }
@@ -176,7 +185,7 @@ fn run_command<R: Source, W: Sink>(
     writer: &mut W,
 ) -> Result<u8, Fault> {
     match job {
-        Job::Show => run_show(alloc, &case.params, reader, writer),
+        Job::Show | Job::Single => run_show(alloc, &case.params, reader, writer),
         Job::Check => run_check(alloc, &case.params, reader, &case.certificate, writer),
         _ => run_audit(alloc, &case.params, reader, writer),
     }
@@ -240,7 +249,8 @@ fn survey(alloc: Global, capture: &[u8], folded: &mut Folded) -> Option<u8> {
     Some(u8::from(survey.connections().is_empty()))
 }
 
-fn tell(rt: &(impl Print + AllocGlobal), status: Option<u8>, folded: Folded) -> io::Result<()> {
+// Prints what came of a job, and answers whether something did.
+fn tell(rt: &(impl Print + AllocGlobal), status: Option<u8>, folded: Folded) -> io::Result<bool> {
     let Folded {
         len,
         sum,
@@ -248,25 +258,41 @@ fn tell(rt: &(impl Print + AllocGlobal), status: Option<u8>, folded: Folded) -> 
         rest,
     } = folded;
     match status {
-        Some(status) => println!(rt; "status {status}, {len} bytes, {sum:x} {sums:x} {rest:x}"),
-        None => println!(rt; "nothing came of it"),
+        Some(status) => println!(rt; "status {status}, {len} bytes, {sum:x} {sums:x} {rest:x}")?,
+        None => println!(rt; "nothing came of it")?,
     }
+    Ok(status.is_some())
 }
 
+// How many PDUs cross at most between a packet and its copy, where these don't follow each other.
+const BETWEEN: u32 = 10;
+
 // Surveys the capture of a port, up to each of its moments.
-fn run_survey(rt: &(impl Print + AllocGlobal), seed: u32, records: u32) -> io::Result<()> {
-    let Some(port) = make_port(rt.alloc(), seed, records) else {
+fn run_survey(
+    rt: &(impl Print + AllocGlobal),
+    seed: u32,
+    records: u32,
+    waiting: u32,
+) -> io::Result<bool> {
+    let Some(port) = make_port(rt.alloc(), seed, records, waiting) else {
         return tell(rt, None, Folded::new());
     };
+    let mut came = true;
     for part in &port.moments {
         let mut folded = Folded::new();
         let status = match port.capture.bytes().get(..*part) {
             Some(capture) => survey(rt.alloc(), capture, &mut folded),
             None => None,
         };
-        tell(rt, status, folded)?;
+        came &= tell(rt, status, folded)?;
     }
-    Ok(())
+    Ok(came)
+}
+
+// Surveys a capture, and then shows its PDUs.
+fn survey_and_show(alloc: Global, case: &Case<'_>, folded: &mut Folded) -> Option<u8> {
+    survey(alloc, case.capture, folded)?;
+    command(alloc, Job::Single, case, folded)
 }
 
 // Does a job on a day, up to a moment.
@@ -285,6 +311,7 @@ fn run_case(
             let without = left_out(alloc, turn, packets)?;
             explain(alloc, job, &case, without, folded)
         }
+        Job::Single => survey_and_show(alloc, &case, folded),
         _ => command(alloc, job, &case, folded),
     }
 }
@@ -296,35 +323,38 @@ fn run_day(
     turn: u32,
     seed: u32,
     packets: u32,
-) -> io::Result<()> {
+) -> io::Result<bool> {
     let [first, second] = job.traffic();
     let traffic = if turn % 2 == 0 { first } else { second };
     let Some(day) = make_day(rt.alloc(), traffic, seed, packets) else {
         return tell(rt, None, Folded::new());
     };
+    let mut came = true;
     for moment in &day.moments {
         let mut folded = Folded::new();
         let status = run_case(rt.alloc(), job, turn, packets, &day, *moment, &mut folded);
-        tell(rt, status, folded)?;
+        came &= tell(rt, status, folded)?;
     }
-    Ok(())
+    Ok(came)
 }
 
 /// Does a job on so many captures of at least so many packets, on each as a whole and twice up to a moment before its
-/// end, and prints what came of it.
+/// end, and prints what came of it. Answers whether something came of each.
 pub fn run_job(
     rt: &(impl Print + AllocGlobal),
     job: Job,
     seed: u32,
     turns: u32,
     packets: u32,
-) -> io::Result<()> {
+) -> io::Result<bool> {
+    let mut came = true;
     for turn in 0..turns {
         let seed = seed.wrapping_add(turn.wrapping_mul(0x9e37_79b9));
-        match job {
-            Job::Survey => run_survey(rt, seed, packets)?,
+        came &= match job {
+            Job::Survey => run_survey(rt, seed, packets, 1)?,
+            Job::Mirrored => run_survey(rt, seed, packets, BETWEEN)?,
             _ => run_day(rt, job, turn, seed, packets)?,
-        }
+        };
     }
-    Ok(())
+    Ok(came)
 }

@@ -1,5 +1,6 @@
 //! The jobs that users wait for, on captures that are made in memory: `JOB SEED TURNS PACKETS` does a job on so many
-//! captures of at least so many packets, and prints what came of each. Each seed makes other captures.
+//! captures of at least so many packets, and prints what came of each. Each seed makes other captures. The status is
+//! 0 only where something came of each of them.
 #![tactic(auto)]
 
 mod capture;
@@ -7,15 +8,15 @@ mod dialogue;
 mod folding;
 mod jobs;
 mod port;
-mod random;
 mod traffic;
 
 use jobs::{Job, run_job};
+use std::process::ExitCode;
 use std::rt::Env;
 use std::{env, io};
 
 const USAGE: &str =
-    "usage: seatmelon_workloads explain|json|audit|check|survey|show SEED TURNS PACKETS";
+    "usage: seatmelon_workloads explain|json|audit|check|survey|show|mirrored|single SEED TURNS PACKETS";
 
 // What the words after the program's name ask for.
 #[derive(Clone, Copy, Debug)]
@@ -45,15 +46,26 @@ fn requested(rt: &(impl Env + AllocGlobal)) -> io::Result<Option<Request>> {
     }
 }
 
-fn main(rt: HostRuntime) -> io::Result<()> {
-    match requested(&rt)? {
+// Does what is asked for, and answers whether something came of it.
+fn run(rt: &(impl Env + Print + AllocGlobal)) -> io::Result<bool> {
+    match requested(rt)? {
         Some(request) => run_job(
-            &rt,
+            rt,
             request.job,
             request.seed,
             request.turns,
             request.packets,
         ),
-        None => println!(rt; "{USAGE}"),
+        None => {
+            println!(rt; "{USAGE}")?;
+            Ok(false)
+        }
+    }
+}
+
+fn main(rt: HostRuntime) -> ExitCode {
+    match run(&rt) {
+        Ok(true) => ExitCode::SUCCESS,
+        Ok(false) | Err(_) => ExitCode::FAILURE,
     }
 }

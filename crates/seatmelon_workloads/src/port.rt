@@ -1,15 +1,13 @@
 //! A mirrored port: many connections at once, among other traffic, whose openings came before.
 use crate::capture::Capture;
-use crate::dialogue::{NOISE, noise};
-use crate::random::Random;
+use crate::dialogue::{NOISE, noise, way_of};
+use rasta_draws::Draws;
 use rasta_pdu::{Body, Channel, Endpoint, Kind, Params, PduParts, Side, encode};
 use std::alloc::Global;
+use std::collections::VecDeque;
 
 // How many connections cross the port.
 const CONNECTIONS: u32 = 300;
-
-// On how many channels each PDU crosses.
-const CHANNELS: u8 = 2;
 
 const CODE_LENGTH: u8 = 8;
 
@@ -49,7 +47,7 @@ struct Line {
 }
 
 impl Sender {
-    fn new(random: &mut Random) -> Sender {
+    fn new(random: &mut Draws) -> Sender {
         Sender {
             number: random.below(u32::MAX),
             sn: random.below(u32::MAX),
@@ -82,7 +80,7 @@ fn channel(connection: u32, number: u8) -> Option<Channel> {
 }
 
 impl Line {
-    fn new(connection: u32, random: &mut Random) -> Option<Line> {
+    fn new(connection: u32, random: &mut Draws) -> Option<Line> {
         let channels = [channel(connection, 0)?, channel(connection, 1)?];
         let client = connection.checked_mul(2)?.checked_add(1000)?;
         let server = client.checked_add(1)?;
@@ -160,7 +158,7 @@ impl Line {
 }
 
 // A message, once in a while.
-fn message<'a>(random: &mut Random, noise: &'a [u8]) -> Option<&'a [u8]> {
+fn message<'a>(random: &mut Draws, noise: &'a [u8]) -> Option<&'a [u8]> {
     if !random.happens(DATA) {
         return None;
     }
@@ -169,7 +167,7 @@ fn message<'a>(random: &mut Random, noise: &'a [u8]) -> Option<&'a [u8]> {
     noise.get(at as usize..at.checked_add(len)? as usize)
 }
 
-fn lines(alloc: Global, random: &mut Random) -> Option<Vec<Line>> {
+fn lines(alloc: Global, random: &mut Draws) -> Option<Vec<Line>> {
     let mut lines = Vec::new(alloc);
     for connection in 0..CONNECTIONS {
         lines.push(Line::new(connection, random)?).ok()?;
@@ -177,12 +175,60 @@ fn lines(alloc: Global, random: &mut Random) -> Option<Vec<Line>> {
     Some(lines)
 }
 
-// Lets the next PDU of a line cross on each of its channels.
+// A copy that has still to cross, between these places.
+#[derive(Drop)]
+struct Copied {
+    from: Endpoint,
+    to: Endpoint,
+    datagram: Vec<u8>,
+}
+
+// The copies that have still to cross, the oldest first, of which fewer than so many wait: with 1 each copy crosses
+// right behind its packet.
+#[derive(Drop)]
+struct Waiting {
+    copies: VecDeque<Copied>,
+    most: u32,
+}
+
+impl Waiting {
+    fn new(alloc: Global, most: u32) -> Waiting {
+        Waiting {
+            copies: VecDeque::new(alloc),
+            most,
+        }
+    }
+
+    fn add(&mut self, alloc: Global, from: Endpoint, to: Endpoint, bytes: &[u8]) -> Option<()> {
+        let mut datagram = Vec::new(alloc);
+        datagram.extend_from_slice(bytes).ok()?;
+        let copied = Copied { from, to, datagram };
+        self.copies.push_back(copied).ok()
+    }
+
+    // Lets the oldest copies cross until no more wait than may.
+    fn release(&mut self, random: &mut Draws, capture: &mut Capture) -> Option<()> {
+        let left = if self.most > 1 {
+            random.below(self.most) as usize
+        } else {
+            0
+        };
+        for _ in left..self.copies.len() {
+            let copied = self.copies.pop_front()?;
+            capture.add_datagram(copied.from, copied.to, &copied.datagram)?;
+        }
+        Some(())
+    }
+}
+
+// Lets the next PDU of a line cross on its first channel, and its copy on the second one at once or later.
 fn cross(
+    alloc: Global,
     line: &mut Line,
-    random: &mut Random,
+    random: &mut Draws,
     noise: &[u8],
     datagram: &mut Vec<u8>,
+    waiting: &mut Waiting,
     capture: &mut Capture,
 ) -> Option<()> {
     let side = if random.happens(2) {
@@ -191,14 +237,12 @@ fn cross(
         Side::Server
     };
     line.write(side, message(random, noise), datagram)?;
-    for channel in line.params.channel().iter().take(usize::from(CHANNELS)) {
-        let (from, to) = match side {
-            Side::Client => (channel.client, channel.server),
-            Side::Server => (channel.server, channel.client),
-        };
-        capture.add_datagram(from, to, datagram)?;
-    }
-    Some(())
+    let [first, second] = *line.params.channel().first_chunk::<2>()?;
+    let (from, to) = way_of(side, &first);
+    capture.add_datagram(from, to, datagram)?;
+    let (from, to) = way_of(side, &second);
+    waiting.add(alloc, from, to, datagram)?;
+    waiting.release(random, capture)
 }
 
 /// The capture of a port, and its lengths at some moments.
@@ -209,13 +253,14 @@ pub struct Port {
 }
 
 /// What crosses a port, at least so many records, with the moments at which eight and nine tenths of them have crossed,
-/// and the last.
-pub fn make_port(alloc: Global, seed: u32, records: u32) -> Option<Port> {
+/// and the last. Before a copy crosses, fewer than `waiting` PDUs cross after its packet, mostly of other connections.
+pub fn make_port(alloc: Global, seed: u32, records: u32, waiting: u32) -> Option<Port> {
     let noise = noise(alloc, seed)?;
-    let mut random = Random::new(seed, 3);
+    let mut random = Draws::sequence(seed, 3);
     let mut lines = lines(alloc, &mut random)?;
     let mut capture = Capture::new(alloc, (records as usize).checked_mul(ROOM)?)?;
     let mut datagram = Vec::new(alloc);
+    let mut waiting = Waiting::new(alloc, waiting);
     let mut moments = Vec::new(alloc);
     for part in 8..=10 {
         let due = u64::from(records) * part / 10;
@@ -225,7 +270,15 @@ pub fn make_port(alloc: Global, seed: u32, records: u32) -> Option<Port> {
             }
             let place = random.below(CONNECTIONS) as usize;
             let line = lines.get_mut(place)?;
-            cross(line, &mut random, &noise, &mut datagram, &mut capture)?;
+            cross(
+                alloc,
+                line,
+                &mut random,
+                &noise,
+                &mut datagram,
+                &mut waiting,
+                &mut capture,
+            )?;
             if random.happens(FOREIGN) {
                 capture.add_foreign()?;
             }

@@ -63,6 +63,15 @@ pub const BURSTS: Traffic = Traffic {
     ..DAY
 };
 
+/// One network alone: each PDU crosses once.
+pub const SINGLE: Traffic = Traffic {
+    code_length: 16,
+    channels: 1,
+    late: 0,
+    foreign: 0,
+    ..DAY
+};
+
 /// Longer safety codes, and data every other time.
 pub const BUSY: Traffic = Traffic {
     code_length: 16,

@@ -66,7 +66,7 @@ pub few_of : (k : Crossing) → IsCrossing k → (side : Side) → length (sent_
 few_of k h side = grind arith
 
 -- the packet of a first copy
-pub first_packet : (k : Crossing) (side : Side) (number place : ℕ) → IsCrossing k → option_map (λ (c : FirstCopy). c.place) (copy_with (sent_by k side) number) ≡ Some place
+first_packet : (k : Crossing) (side : Side) (number place : ℕ) → IsCrossing k → option_map (λ (c : FirstCopy). c.place) (copy_with (sent_by k side) number) ≡ Some place
     → (c : FirstCopy) × (b : Packet) × (copy_with (sent_by k side) number ≡ Some c) × (slice_get k.packets place ≡ Some b) × (b.payload ≡ redundancy_bytes k.params side c.pdu)
 first_packet k side number place h e =
     let w = mapped_some (λ (c : FirstCopy). c.place) (copy_with (sent_by k side) number) place e in
@@ -90,7 +90,7 @@ pub repeated : (k : Crossing) (a : Packet) (d : RedundancyPdu) (place : ℕ) (r 
 repeated k a d place r h e f g = grind (arith, first_packet, known_by)
 
 -- the next number is no known one
-pub next_unknown : (k : Crossing) (side : Side) (n : ℕ) → IsCrossing k → is_next_number (sent_by k side) n ≡ true → (o : Option FirstCopy) → copy_with (sent_by k side) n ≡ o → o ≡ None
+next_unknown : (k : Crossing) (side : Side) (n : ℕ) → IsCrossing k → is_next_number (sent_by k side) n ≡ true → (o : Option FirstCopy) → copy_with (sent_by k side) n ≡ o → o ≡ None
 next_unknown k side n h e None f = refl
 next_unknown k side n h e (Some c) f =
     let w = copy_found (sent_by k side) n c f in

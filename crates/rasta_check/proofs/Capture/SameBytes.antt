@@ -1,10 +1,10 @@
 -- Packets with the bytes of a first copy.
-use Rattle.std.proofs.Common.{◌≡◌, ◌≤◌, ℕ, length, Bool, true, List, Option, Some, None, Ok, slice_get, refl, ap, sym, ◌∙◌, subst, arith, IfSome, if◌then◌else◌}
-use Rattle.rasta_check.proofs.Prelude.{option_map, bytes_eq, bytes_eq-Decides, Side, Packet, redundancy_bytes, decode_of, FirstCopy, Spells, copy_with, packet_fault}
-use Rattle.rasta_check.proofs.Prelude.{is_next_number, position_of_number, Crossing, IsCrossing, sent_by, sent_after}
+use Rattle.std.proofs.Common.{◌≡◌, ◌≤◌, ℕ, length, Bool, true, List, Option, Some, None, Ok, slice_get, refl, ap, sym, ◌∙◌, subst, arith, if◌then◌else◌}
+use Rattle.rasta_check.proofs.Prelude.{bytes_eq, bytes_eq-Decides, Side, Packet, redundancy_bytes, decode_of, FirstCopy, Spells, copy_with, packet_fault}
+use Rattle.rasta_check.proofs.Prelude.{position_of_number, Crossing, IsCrossing, sent_by, sent_after}
 use Rattle.rasta_pcap.specs.Fault.{copy_differs}
 use Rattle.rasta_check.specs.Capture.Crossing.{number_in_bytes}
-use Rattle.rasta_check.proofs.Capture.Crossings.{few_of, first_packet, known_by, length_spelled, list_of, next_unknown, number_spelled, place_within}
+use Rattle.rasta_check.proofs.Capture.Crossings.{few_of, known_by, length_spelled, list_of, number_spelled}
 use Rattle.rasta_check.proofs.Capture.FaultlessLists.{ordered}
 use Rattle.rasta_check.proofs.Capture.PacketFaults.{copy_found, copy_none, reads}
 use Rattle.rasta_check.proofs.Capture.Positions.{number_named, number_once}
@@ -39,17 +39,6 @@ module _ (k : Crossing) (h : IsCrossing k) (side : Side) (position : ℕ) (c : F
     pub same_found : position_of_number (sent_by k side) (number_in_bytes bytes) ≡ Some position
     same_found = subst (λ (n : ℕ). position_of_number (sent_by k side) n ≡ Some position) (sym same_number) named
 
-    pub same_copy : copy_with (sent_by k side) (number_in_bytes bytes) ≡ Some c
-    same_copy = subst (λ (n : ℕ). copy_with (sent_by k side) n ≡ Some c) (sym same_number) (first (copy_with (sent_by k side) c.pdu.number) refl)
-
-    -- which isn't the next
-    pub same_known : is_next_number (sent_by k side) (number_in_bytes bytes) ≡ true → ⊥
-    same_known next = (let none = next_unknown k side (number_in_bytes bytes) h next (copy_with (sent_by k side) (number_in_bytes bytes)) refl in let some = same_copy in cc)
-
-    -- and whose packet has these bytes
-    pub same_packet : (b : Packet) → slice_get k.packets c.place ≡ Some b → b.payload ≡ bytes
-    same_packet b at = (let w = (list_of k h side).firsts position c there in let e = w.3.same in cc)
-
 -- a packet with the bytes of a first copy is read, and has no fault
 pub same_judged : (k : Crossing) → IsCrossing k → (a : Packet) (position : ℕ) (c : FirstCopy) → slice_get (sent_by k a.side) position ≡ Some c → a.payload ≡ redundancy_bytes k.params a.side c.pdu
     → (decode_of k.params a.side a.payload ≡ Ok c.pdu) × Spells k.params a.side c.pdu a.payload × (packet_fault k.params (sent_by k a.side) a ≡ None) × (sent_after k a ≡ sent_by k a.side)
@@ -59,19 +48,3 @@ same_judged k h a position c there same =
     let w = known_by k a c.pdu (Some c) r (first k h a.side position c there _ refl) in
     let e : bytes_eq (redundancy_bytes k.params a.side c.pdu) a.payload ≡ true = (bytes_eq-Decides _ _).1 (sym same) in
     (r, s, w.0 ∙ ap (λ (b : Bool). if b then None else Some copy_differs) e, w.1)
-
--- the packet at a first copy's place has its bytes
-pub same_there : (k : Crossing) (side : Side) (number place : ℕ) (bytes : List ℕ) (r : Bool) → IsCrossing k
-    → option_map (λ (c : FirstCopy). c.place) (copy_with (sent_by k side) number) ≡ Some place → IfSome (slice_get k.packets place) (λ (b : Packet). r ≡ bytes_eq b.payload bytes)
-    → r ≡ true → (position : ℕ) × (c : FirstCopy) × (slice_get (sent_by k side) position ≡ Some c) × (bytes ≡ redundancy_bytes k.params side c.pdu)
-same_there k side number place bytes r h e f t =
-    let w = first_packet k side number place h e in
-    let at = copy_found (sent_by k side) number w.0 w.2 in
-    let same : r ≡ bytes_eq w.1.payload bytes = rw w.3 at f in
-    let is : w.1.payload ≡ bytes = (bytes_eq-Decides w.1.payload bytes).0 (sym same ∙ t) in
-    (at.0, w.0, at.1, sym is ∙ w.4)
-
--- ---- what the code looks up
-
--- the packet of the bytes of a first copy
-pub ruleset same_places = (same_length, same_copy, same_known, same_packet, first_packet, place_within, bytes_eq-Decides)

@@ -1,5 +1,5 @@
 -- What a store keeps at its positions and places.
-use Rattle.std.proofs.Common.{◌≡◌, ℕ, List, [], ◌∷◌, map, Bool, true, false, nat_eq, Option, Some, None, slice_get, refl, ap, sym, ◌∙◌, subst, arith, IfSome, if◌then◌else◌}
+use Rattle.std.proofs.Common.{◌≡◌, ℕ, List, [], ◌∷◌, map, Bool, false, nat_eq, Option, Some, None, slice_get, refl, ap, sym, ◌∙◌, subst, arith, if◌then◌else◌}
 use Rattle.rasta_check.proofs.Prelude.{option_map, bytes_eq, nat_tests, bytes_eq-Decides, length-map, slice_get_past, Side, number_gap, Packet, Parameters, RedundancyPdu}
 use Rattle.rasta_check.proofs.Prelude.{redundancy_bytes, decode_of, StoredPacket, FirstCopy, Spells, copy_with, is_next_number, packet_fault, Kept, KeptDatagrams, kept_by}
 use Rattle.rasta_check.proofs.Prelude.{position_of_number, position_of_place, Crossing, sent_by, sent_after, IsStore, crossing_by, get_mapped, slice_get_some, map_at}
@@ -116,12 +116,14 @@ module _ (k : Crossing) (a : Packet) (pdu : RedundancyPdu) (reads : decode_of k.
   abbrev sent : List FirstCopy
   sent = sent_by k a.side
 
-  -- its bytes are compared
-  pub repeats_at : (position : ℕ) (r : Bool) → position_of_number sent pdu.number ≡ Some position
-      → IfSome (slice_get sent position) (λ (c : FirstCopy). r ≡ bytes_eq (redundancy_bytes k.params a.side c.pdu) a.payload)
-      → (c : FirstCopy) × (slice_get sent position ≡ Some c) × (packet_fault k.params sent a ≡ (if r then None else Some copy_differs)) × (sent_after k a ≡ sent)
-      × (r ≡ true → a.payload ≡ redundancy_bytes k.params a.side c.pdu)
-  repeats_at position r e h = grind (arith, number_found, known_by, copy_of_position, bytes_eq-Decides)
+  -- it isn't that first copy's, so it differs
+  pub differs_at : (position : ℕ) → position_of_number sent pdu.number ≡ Some position
+      → ((i : ℕ) (c : FirstCopy) → slice_get sent i ≡ Some c → a.payload ≡ redundancy_bytes k.params a.side c.pdu → ⊥)
+      → packet_fault k.params sent a ≡ Some copy_differs
+  differs_at position e new =
+      let c = number_found sent pdu.number position e in
+      let differs = new position c.0 c.1 in
+      grind (arith, known_by, copy_of_position, bytes_eq-Decides)
 
   -- no first copy has its number, which isn't the next
   pub skips : position_of_number sent pdu.number ≡ None → is_next_number sent pdu.number ≡ false → packet_fault k.params sent a ≡ Some number_gap

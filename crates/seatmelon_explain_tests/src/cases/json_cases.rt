@@ -4,10 +4,10 @@ use crate::cases::{Case, PLAIN, file_cases, packet_cases, script_cases, step_cas
 
 /// The whole text on the explained case.
 pub const EXPLAINED_JSON: &str = r#"
-{"program":"seatmelon 0.1.0, proved with rattle-kit-13b logic dac8208d650f15bf",
+{"program":"seatmelon 0.1.0, proved with Rattle, logic dac8208d650f15bf",
 "capture":{"name":"c","sha256":"e56454b33ee136b1ec869d81d2ac3181b8675027c9d9a55fbeeda50c6825eb8c"},
 "parameters":{"name":"p","sha256":"690d7880e356248a4f526b2a78d7367e4412615a8a85f47eafa354a793430538"},
-"certificate":null,"without":[],"records_read":5,"packets":5,
+"certificate":null,"without":[],"records_read":5,"window":null,"packets":5,
 "channels":[{"channel":1,"from_client":3,"from_server":2},{"channel":2,"from_client":0,"from_server":0}],
 "records_passed_over":0,"offers":[],"verdict":"explained","packets_explained":5,
 "premises":[
@@ -32,10 +32,10 @@ pub const EXPLAINED_JSON: &str = r#"
 /// A number that was used twice.
 pub const COPY_DIFFERS: Case = Case {
     want: r#"
-{"program":"seatmelon 0.1.0, proved with rattle-kit-13b logic dac8208d650f15bf",
+{"program":"seatmelon 0.1.0, proved with Rattle, logic dac8208d650f15bf",
 "capture":{"name":"c","sha256":"258e24914ad231903b7d57519765f9685bb05da39d69920567de16b223b1ac71"},
 "parameters":{"name":"p","sha256":"690d7880e356248a4f526b2a78d7367e4412615a8a85f47eafa354a793430538"},
-"certificate":null,"without":[],"records_read":7,"packets":7,
+"certificate":null,"without":[],"records_read":7,"window":null,"packets":7,
 "channels":[{"channel":1,"from_client":4,"from_server":2},{"channel":2,"from_client":1,"from_server":0}],
 "records_passed_over":0,"offers":[],"verdict":"refused",
 "fault":{"number":27,"name":"CopyDiffers",
@@ -59,10 +59,10 @@ pub const COPY_DIFFERS: Case = Case {
 pub const NO_PACKETS: Case = Case {
     without: &[3, 5],
     want: r#"
-{"program":"seatmelon 0.1.0, proved with rattle-kit-13b logic dac8208d650f15bf",
+{"program":"seatmelon 0.1.0, proved with Rattle, logic dac8208d650f15bf",
 "capture":{"name":"c","sha256":"704e5e5b3234433c01fcfd1b20a306e77e985038120492dc53965c3edd38a4ea"},
 "parameters":{"name":"p","sha256":"690d7880e356248a4f526b2a78d7367e4412615a8a85f47eafa354a793430538"},
-"certificate":null,"without":[3,5],"records_read":0,"packets":0,
+"certificate":null,"without":[3,5],"records_read":0,"window":null,"packets":0,
 "channels":[{"channel":1,"from_client":0,"from_server":0},{"channel":2,"from_client":0,"from_server":0}],
 "records_passed_over":0,"offers":[],"verdict":"no_packets"}
 "#,

@@ -1,61 +1,153 @@
 //! Surveys, against the former search for a packet's connection, which looks at all connections.
 use super::*;
-use crate::made::{Draws, MadePdu, datagram_of, frame_of};
+use crate::made::{MadePdu, datagram_of, frame_of};
+use crate::numbers::Sighting;
 use crate::packet::tests::former_packet_in;
+use rasta_draws::Draws;
 use rasta_pcap::{Counted, FractionUnit};
 use rasta_pdu::Kind;
 use std::process::Abort;
 use std::test::Fail;
 
-impl Survey {
+// A late copy of an opening, or a new opening that is left out, while the last connection between its ends stands
+// there.
+#[derive(Clone, Copy)]
+struct LateOpening {
+    last: usize,
+    // The place of the connection that it opened.
+    place: Option<usize>,
+}
+
+// Whether a packet is between the ends of a connection.
+fn has_ends_of(connection: &Connection, packet: &Packet) -> bool {
+    let (first, second) = connection.ids();
+    let ids = (packet.way.sender, packet.way.receiver);
+    ids == (first, second) || ids == (second, first)
+}
+
+// A survey as it was made: by walks over all connections, and over all openings that came late.
+#[derive(Drop)]
+struct Former {
+    survey: Survey,
+    late: Vec<LateOpening>,
+}
+
+impl Former {
+    fn new(alloc: Global) -> Former {
+        Former {
+            survey: Survey::new(alloc),
+            late: Vec::new(alloc),
+        }
+    }
+
     // Takes the next record in as it was taken in.
-    fn add_former_record(
+    fn add_record(
         &mut self,
         alloc: Global,
         found: &Record<'_>,
         time: Option<CaptureTime>,
-    ) -> Result<(), Fault> {
-        if let Some(packet) = former_packet_in(&self.trials, found, time) {
-            self.add_former_packet(alloc, &packet)?;
+    ) -> Option<()> {
+        if let Some(packet) = former_packet_in(&self.survey.recognizer.trials, found, time) {
+            self.add_packet(alloc, &packet)?;
+            self.survey.packets = self.survey.packets.saturating_add(1);
         }
-        self.records = found.number;
-        Ok(())
+        self.survey.records = found.number;
+        Some(())
     }
 
     // The place of the last connection between the ends of the packet.
     fn find_last(&self, packet: &Packet) -> Option<usize> {
         let mut last = None;
-        for (place, connection) in self.connections.iter().enumerate() {
-            if connection.has_ends_of(packet) {
+        for (place, connection) in self.survey.connections.iter().enumerate() {
+            if has_ends_of(connection, packet) {
                 last = Some(place);
             }
         }
         last
     }
 
-    fn add_former_packet(&mut self, alloc: Global, packet: &Packet) -> Result<(), Fault> {
-        self.packets = self.packets.saturating_add(1);
-        if let Some(place) = self.find_last(packet)
-            && let Some(connection) = self.connections.get_mut(place)
-            && !connection.is_followed_by(packet)
-        {
-            return connection.add(packet);
+    // The place of the connection that the packet opened.
+    fn find_opened(&self, packet: &Packet) -> Option<usize> {
+        self.survey
+            .connections
+            .iter()
+            .position(|connection| connection.is_opened_by(packet))
+    }
+
+    // The place of the connection whose opening came late, while the last one between its ends stands there.
+    fn find_late(&self, last: usize) -> Option<usize> {
+        let mut place = None;
+        for late in &self.late {
+            if late.last == last {
+                place = late.place;
+            }
         }
-        self.begin_former(alloc, packet)
+        place
+    }
+
+    fn connection(&self, place: usize) -> Option<&Connection> {
+        self.survey.connections.get(place)
+    }
+
+    // Whether the packet belongs to the connection there, behind a late copy of its opening, and not to the last one.
+    fn is_of(&self, place: usize, last: usize, packet: &Packet) -> Option<bool> {
+        let late = self.connection(place)?;
+        let last = self.connection(last)?;
+        Some(match late.sighting_of(packet) {
+            Some(Sighting::Copy { .. }) => true,
+            Some(Sighting::TooOld) => !last.goes_on_with(packet),
+            _ => false,
+        })
+    }
+
+    fn add_at(&mut self, place: usize, packet: &Packet, arrival: Arrival) -> Option<()> {
+        let connection = self.survey.connections.get_mut(place)?;
+        connection.add(packet, arrival);
+        Some(())
+    }
+
+    // Takes in what comes late to the connection there.
+    fn add_late(&mut self, place: usize, last: usize, packet: &Packet) -> Option<()> {
+        if place == last {
+            self.add_at(place, packet, Arrival::Late)
+        } else {
+            self.add_at(place, packet, Arrival::LateBehindAnother)
+        }
+    }
+
+    fn add_packet(&mut self, alloc: Global, packet: &Packet) -> Option<()> {
+        let Some(last) = self.find_last(packet) else {
+            return self.begin(alloc, packet);
+        };
+        if let Some(place) = self.find_opened(packet) {
+            if place == last && !self.connection(last)?.has_ending() {
+                return self.add_at(last, packet, Arrival::InCourse);
+            }
+            let place = Some(place);
+            self.late.push(LateOpening { last, place }).ok()?;
+            return self.add_late(place?, last, packet);
+        }
+        if self.connection(last)?.is_followed_by(packet) {
+            self.late.push(LateOpening { last, place: None }).ok()?;
+            return self.begin(alloc, packet);
+        }
+        match self.find_late(last) {
+            Some(place) if place == last || self.is_of(place, last, packet)? => {
+                self.add_late(place, last, packet)
+            }
+            _ => self.add_at(last, packet, Arrival::InCourse),
+        }
     }
 
     // Begins a connection with this packet.
-    fn begin_former(&mut self, alloc: Global, packet: &Packet) -> Result<(), Fault> {
-        if self.connections.len() >= MOST_CONNECTIONS {
-            self.left_out = self.left_out.saturating_add(1);
-            return Ok(());
+    fn begin(&mut self, alloc: Global, packet: &Packet) -> Option<()> {
+        if self.survey.connections.len() >= MOST_CONNECTIONS {
+            self.survey.left_out = self.survey.left_out.saturating_add(1);
+            return Some(());
         }
-        let mut connection = Connection::new(alloc, packet)?;
-        connection.add(packet)?;
-        if self.connections.push(connection).is_err() {
-            return Err(Fault::at(Fault::NO_MEMORY, 0));
-        }
-        Ok(())
+        let mut connection = Connection::new(alloc, packet).ok()?;
+        connection.add(packet, Arrival::InCourse);
+        self.survey.connections.push(connection).ok()
     }
 }
 
@@ -63,7 +155,7 @@ impl Survey {
 #[derive(Drop)]
 struct Both {
     new: Survey,
-    former: Survey,
+    former: Former,
     differing: u32,
 }
 
@@ -71,14 +163,15 @@ impl Both {
     fn new(alloc: Global) -> Both {
         Both {
             new: Survey::new(alloc),
-            former: Survey::new(alloc),
+            former: Former::new(alloc),
             differing: 0,
         }
     }
 
     // Compares where the last connection between the ends of a record's packet stands.
     fn compare_place(&mut self, found: &Record<'_>) {
-        let Some(packet) = former_packet_in(&self.former.trials, found, None) else {
+        let Some(packet) = former_packet_in(&self.former.survey.recognizer.trials, found, None)
+        else {
             return;
         };
         let place = self.new.places.find(Ends::of(&packet.way));
@@ -95,7 +188,7 @@ impl Both {
             unit: FractionUnit::Microseconds,
         });
         self.new.add_record(alloc, found, time).ok()?;
-        self.former.add_former_record(alloc, found, time).ok()
+        self.former.add_record(alloc, found, time)
     }
 }
 
@@ -107,19 +200,34 @@ struct Traffic {
     ends: u32,
     // Of how many PDUs one asks for a connection or ends it.
     rare: u32,
+    // Below which the numbers are.
+    numbers: u32,
+    // Of eight PDUs, how many repeat any earlier one.
+    earlier: u32,
 }
 
-// The PDU of the next record.
-fn next_pdu(draws: &mut Draws, traffic: &Traffic) -> Option<MadePdu> {
+// A PDU that no earlier one is meant to repeat.
+fn new_pdu(draws: &mut Draws, traffic: &Traffic) -> Option<MadePdu> {
     let low = draws.below(traffic.ends);
     let high = draws.below(traffic.ends).wrapping_add(1_000_000);
     let (sender, receiver) = draws.pick(&[(low, high), (high, low)])?;
     let mut pdu = MadePdu::any(draws, sender, receiver)?;
+    pdu.number = draws.below(traffic.numbers);
     pdu.kind = match draws.below(traffic.rare) {
         0 => draws.pick(&[Kind::ConnectionRequest, Kind::DisconnectionRequest])?,
         _ => draws.pick(&[Kind::Data, Kind::Heartbeat, Kind::ConnectionResponse])?,
     };
     Some(pdu)
+}
+
+// The PDU of the next record: often that of the last one or of an earlier one once more.
+fn next_pdu(draws: &mut Draws, traffic: &Traffic, before: &[MadePdu]) -> Option<MadePdu> {
+    let drawn = draws.below(8);
+    match before.last() {
+        Some(last) if drawn < 2 => Some(*last),
+        Some(_) if drawn - 2 < traffic.earlier => draws.pick(before),
+        _ => new_pdu(draws, traffic),
+    }
 }
 
 // The frame of a PDU, on any channel.
@@ -130,16 +238,15 @@ fn frame_with(alloc: Global, draws: &mut Draws, pdu: &MadePdu) -> Option<Vec<u8>
     frame_of(alloc, channel, is_back, datagram.as_slice())
 }
 
-// Surveys of made records, of which many are copies of the one before. After each it is asked where its packet's
+// Surveys of made records, of which many are copies of earlier ones. After each it is asked where its packet's
 // connection stands, which changes nothing for the next one; now and then before it too.
 fn surveyed(alloc: Global, seed: u64, traffic: &Traffic) -> Option<Both> {
     let mut draws = Draws::new(seed);
     let mut both = Both::new(alloc);
-    let mut pdu = next_pdu(&mut draws, traffic)?;
+    let mut before = Vec::new(alloc);
     for number in 1..traffic.records {
-        if draws.below(4) > 0 {
-            pdu = next_pdu(&mut draws, traffic)?;
-        }
+        let pdu = next_pdu(&mut draws, traffic, before.as_slice())?;
+        before.push(pdu).ok()?;
         let frame = frame_with(alloc, &mut draws, &pdu)?;
         let found = Record {
             number,
@@ -163,50 +270,85 @@ fn text_of(alloc: Global, survey: &Survey) -> Option<Vec<u8>> {
 // Whether both surveys have the same text.
 fn have_same_text(alloc: Global, both: &Both) -> Option<bool> {
     let text = text_of(alloc, &both.new)?;
-    let former = text_of(alloc, &both.former)?;
+    let former = text_of(alloc, &both.former.survey)?;
     Some(text.as_slice() == former.as_slice())
 }
 
-// Compares the surveys of this traffic, and answers how many packets were left out.
-fn compare<R: Abort + AllocGlobal>(rt: &R, seed: u64, traffic: &Traffic) -> Result<u64, Fail> {
+// Compares the surveys of this traffic, and answers the new one.
+fn compare<R: Abort + AllocGlobal>(rt: &R, seed: u64, traffic: &Traffic) -> Result<Survey, Fail> {
     let both = surveyed(rt.alloc(), seed, traffic).ok_or("memory")?;
     assert_eq!(rt; both.differing, 0, "{traffic:?}");
     let is_same = have_same_text(rt.alloc(), &both).ok_or("memory")?;
     assert!(rt; is_same, "{traffic:?}");
-    Ok(both.new.left_out)
+    Ok(both.new)
 }
 
-const TRAFFIC: [Traffic; 4] = [
+// How many late copies the connections took in.
+fn late_copies(survey: &Survey) -> u64 {
+    let mut count = 0u64;
+    for connection in survey.connections() {
+        let copies = connection.late_copies.map_or(0, |copies| copies.count);
+        count = count.saturating_add(copies);
+    }
+    count
+}
+
+const TRAFFIC: [Traffic; 6] = [
     Traffic {
         records: 200,
         ends: 1,
         rare: 1000,
+        numbers: 4,
+        earlier: 1,
     },
     Traffic {
         records: 500,
         ends: 1,
         rare: 10,
+        numbers: 4,
+        earlier: 3,
+    },
+    Traffic {
+        records: 500,
+        ends: 1,
+        rare: 8,
+        numbers: 2000,
+        earlier: 4,
+    },
+    Traffic {
+        records: 500,
+        ends: 1,
+        rare: 8,
+        numbers: u32::MAX,
+        earlier: 4,
     },
     Traffic {
         records: 500,
         ends: 3,
-        rare: 40,
+        rare: 10,
+        numbers: 4,
+        earlier: 3,
     },
     Traffic {
         records: 1000,
         ends: 20,
         rare: 20,
+        numbers: 4,
+        earlier: 2,
     },
 ];
 
 #[test]
 fn connections_are_as_before(rt: HostRuntime) -> Result<(), Fail> {
+    let mut late = 0u64;
     for traffic in TRAFFIC {
         for seed in 0..2 {
-            let left_out = compare(&rt, seed, &traffic)?;
-            assert_eq!(rt; left_out, 0, "{traffic:?}");
+            let survey = compare(&rt, seed, &traffic)?;
+            assert_eq!(rt; survey.left_out, 0, "{traffic:?}");
+            late = late.saturating_add(late_copies(&survey));
         }
     }
+    assert!(rt; late > 200, "{late}");
     Ok(())
 }
 
@@ -217,9 +359,11 @@ fn many_ends_are_as_before(rt: HostRuntime) -> Result<(), Fail> {
         records: 1800,
         ends: 100,
         rare: 20,
+        numbers: 4,
+        earlier: 0,
     };
-    let left_out = compare(&rt, 1, &traffic)?;
-    assert!(rt; left_out > 0);
+    let survey = compare(&rt, 1, &traffic)?;
+    assert!(rt; survey.left_out > 0);
     Ok(())
 }
 
@@ -230,8 +374,11 @@ fn many_beginnings_are_as_before(rt: HostRuntime) -> Result<(), Fail> {
         records: 3800,
         ends: 2,
         rare: 1,
+        numbers: 2000,
+        earlier: 1,
     };
-    let left_out = compare(&rt, 1, &traffic)?;
-    assert!(rt; left_out > 0);
+    let survey = compare(&rt, 1, &traffic)?;
+    assert!(rt; survey.left_out > 0);
+    assert!(rt; late_copies(&survey) > 200);
     Ok(())
 }

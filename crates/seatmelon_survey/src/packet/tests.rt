@@ -1,7 +1,10 @@
 //! Packets, against the former way to find them, which looks at each datagram anew.
 use super::*;
-use crate::lengths::Fit;
-use crate::made::{Draws, MadePdu, datagram_of, frame_of};
+use crate::lengths::{Fit, Trials};
+use crate::made::{MadePdu, datagram_of, frame_of};
+use crate::recognizer::features_by;
+use rasta_draws::Draws;
+use std::alloc::Global;
 use std::test::Fail;
 
 /// The packet that a record holds, as it was found.
@@ -21,8 +24,8 @@ pub fn former_packet_in(
         receiver: u32_at(bytes, RECEIVER_AT),
         route,
     };
-    let fits = trials.fits_of(bytes, check_length(bytes)?);
-    if !is_between_two_ends(&way) || !fits.any() {
+    let Features { fits, hash } = features_by(trials, bytes)?;
+    if !is_between_two_ends(&way) {
         return None;
     }
     Some(Packet {
@@ -38,7 +41,7 @@ pub fn former_packet_in(
         fits,
         offer: offer_in(found.number, kind, bytes),
         reason: reason_in(kind, bytes),
-        hash: hash_of(bytes),
+        hash,
     })
 }
 
@@ -150,7 +153,7 @@ impl Seen {
 fn compared(alloc: Global, seed: u64, records: u32) -> Option<Seen> {
     let mut draws = Draws::new(seed);
     let trials = Trials::new();
-    let mut last = LastDatagram::new(alloc);
+    let mut recognizer = Recognizer::new(alloc);
     let mut before = Vec::new(alloc);
     let mut seen = Seen {
         nothing: 0,
@@ -166,7 +169,7 @@ fn compared(alloc: Global, seed: u64, records: u32) -> Option<Seen> {
             bytes: frame.as_slice(),
         };
         let former = former_packet_in(&trials, &found, None);
-        seen.add(former, packet_in(&trials, &mut last, &found, None));
+        seen.add(former, packet_in(&mut recognizer, &found, None));
         before.push(bytes).ok()?;
     }
     Some(seen)

@@ -1,6 +1,6 @@
 //! Times, against the former way to write them, piece by piece.
 use super::*;
-use crate::made::Draws;
+use rasta_draws::Draws;
 use rasta_pcap::Counted;
 use std::alloc::Global;
 use std::test::Fail;

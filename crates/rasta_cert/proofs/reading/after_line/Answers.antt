@@ -1,7 +1,7 @@
 use Rattle.std.proofs.Common.{sym, ◌∙◌}
 use Rattle.std.proofs.lemmas.Bool.{false≢true}
 use Rattle.std.proofs.lemmas.Slice.Eq.{bytes_eq-Decides}
-use Rattle.rasta_cert.proofs.FieldLemmas.{line_injective}
+use Rattle.rasta_cert.proofs.EntryLemmas.{line_injective}
 use Rattle.rasta_cert.proofs.reading.after_line.Goals as goal
 
 pub returns-else-eq-clause-none : goal.returns-else-eq-clause-none

@@ -1,7 +1,6 @@
 use Rattle.std.proofs.Common.{arith, List, ℕ, Option, ◌≡◌, Some, sym, ◌∙◌}
 use Rattle.rasta_check.proofs.Prelude.{Side, option_map, packet_of, value_of, FirstCopy, copy_with, Crossing, sent_by}
 use Rattle.rasta_check.proofs.Capture.Crossings.{is_next_pdu, place_within, repeated}
-use Rattle.rasta_check.proofs.Capture.SameBytes.{same_judged}
 use Rattle.rasta_check.proofs.crossing.Sent.judge.Goals as goal
 
 known_at : (k : Crossing) (list : List FirstCopy) (side : Side) (number given place : ℕ) (o : Option ℕ) → list ≡ sent_by k side → given ≡ number
@@ -10,18 +9,6 @@ known_at k list side number given place o l n e f = rw (← l, ← n) (sym e ∙
 
 pub has_bytes-requires : goal.has_bytes-requires
 has_bytes-requires c = grind (arith, place_within, known_at)
-
-pub returns-then-is_repeated-clause-spelled : goal.returns-then-is_repeated-clause-spelled
-returns-then-is_repeated-clause-spelled c =
-    let e = c.is_repeated.ensures.same c.if-is_repeated.true in
-    let w = same_judged c.args.self.now c.is_repeated.ensures.crossing (packet_of c.args.found) e.0 e.1 e.2 e.3 in
-    (e.1.pdu, w.0, w.1)
-
-pub returns-then-is_repeated-clause-value : goal.returns-then-is_repeated-clause-value
-returns-then-is_repeated-clause-value c =
-    let e = c.is_repeated.ensures.same c.if-is_repeated.true in
-    let w = same_judged c.args.self.now c.is_repeated.ensures.crossing (packet_of c.args.found) e.0 e.1 e.2 e.3 in
-    (w.2, w.3)
 
 pub returns-then-has_bytes-clause-value : goal.returns-then-has_bytes-clause-value
 returns-then-has_bytes-clause-value c =

@@ -1,8 +1,8 @@
-use Rattle.std.proofs.Common.{Some, None, ap, sym, ◌∙◌, if◌then◌else◌}
+use Rattle.std.proofs.Common.{sym, ◌∙◌}
 use Rattle.rasta_check.proofs.Prelude.{packet_of, value_of}
 use Rattle.rasta_check.proofs.Capture.Crossings.{is_next_pdu}
 use Rattle.rasta_check.proofs.Capture.SameBytes.{same_judged}
-use Rattle.rasta_check.proofs.Internals.StoreLists.{repeats_at, skips}
+use Rattle.rasta_check.proofs.Internals.StoreLists.{differs_at, skips}
 use Rattle.rasta_check.proofs.crossing_store.Store.judge.Goals as goal
 
 pub returns-then-is_next-clause-value : goal.returns-then-is_next-clause-value
@@ -24,17 +24,10 @@ returns-in-Some-clause-value c =
     let w = same_judged c.args.self.now c.repeated.ensures.crossing (packet_of c.args.found.now) c.in-Some.position e.0 e.1 e.2 in
     (w.2, (e.0, e.1, e.2, w.3))
 
-pub returns-then-has_bytes-clause-value : goal.returns-then-has_bytes-clause-value
-returns-then-has_bytes-clause-value c =
-    let w = repeats_at c.args.self.now (packet_of c.args.found.now) (value_of c.in-Ok.pdu) (rw c.kept_params-p.ensures.value at c.in-Ok.ensures.value) c.in-Some-position_of.position c.has_bytes.result
-    (rw c.number-number.ensures at (sym c.position_of.ensures.value ∙ c.in-Some-position_of.is)) c.has_bytes.ensures in
-    (w.2 ∙ ap (λ b. if b then None else Some 27) c.if-has_bytes.true, (w.0, w.1, w.4 c.if-has_bytes.true, w.3))
-
-pub returns-else-has_bytes-clause-value : goal.returns-else-has_bytes-clause-value
-returns-else-has_bytes-clause-value c =
-    let w = repeats_at c.args.self.now (packet_of c.args.found.now) (value_of c.in-Ok.pdu) (rw c.kept_params-p.ensures.value at c.in-Ok.ensures.value) c.in-Some-position_of.position c.has_bytes.result
-    (rw c.number-number.ensures at (sym c.position_of.ensures.value ∙ c.in-Some-position_of.is)) c.has_bytes.ensures in
-    w.2 ∙ ap (λ b. if b then None else Some 27) c.if-has_bytes.false
+pub returns-in-Some-position_of-clause-value : goal.returns-in-Some-position_of-clause-value
+returns-in-Some-position_of-clause-value c =
+    differs_at c.args.self.now (packet_of c.args.found.now) (value_of c.in-Ok.pdu) (rw c.kept_params-p.ensures.value at c.in-Ok.ensures.value) c.in-Some-position_of.field-0
+    (rw c.number-number.ensures at (sym c.position_of.ensures.value ∙ c.in-Some-position_of.is)) c.in_default.ensures.value
 
 pub returns-in-None-clause-value : goal.returns-in-None-clause-value
 returns-in-None-clause-value c =

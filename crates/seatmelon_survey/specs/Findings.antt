@@ -1,0 +1,11 @@
+-- What was found in a capture.
+use Rattle.std.specs.Prelude.{ℕ, List}
+use Rattle.seatmelon_survey.specs.declared.connection.Connection.{Connection}
+
+-- the connections, in the order of their first records; how many records were read, how many of them are packets with
+-- the form of RaSTA, and how many of these belong to further connections, which were left out
+pub record Findings : Type 0 where
+  pub connections : List Connection
+  pub records : ℕ
+  pub packets : ℕ
+  pub left_out : ℕ
