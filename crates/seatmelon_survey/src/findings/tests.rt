@@ -25,17 +25,33 @@ fn has_ends_of(connection: &Connection, packet: &Packet) -> bool {
     ids == (first, second) || ids == (second, first)
 }
 
+// How much a survey read.
+#[derive(Clone, Copy, PartialEq, Eq)]
+struct Totals {
+    records: u32,
+    packets: u64,
+    left_out: u64,
+}
+
 // A survey as it was made: by walks over all connections, and over all openings that came late.
 #[derive(Drop)]
 struct Former {
-    survey: Survey,
+    recognizer: Recognizer,
+    connections: Vec<Connection>,
+    totals: Totals,
     late: Vec<LateOpening>,
 }
 
 impl Former {
     fn new(alloc: Global) -> Former {
         Former {
-            survey: Survey::new(alloc),
+            recognizer: Recognizer::new(alloc),
+            connections: Vec::new(alloc),
+            totals: Totals {
+                records: 0,
+                packets: 0,
+                left_out: 0,
+            },
             late: Vec::new(alloc),
         }
     }
@@ -47,18 +63,18 @@ impl Former {
         found: &Record<'_>,
         time: Option<CaptureTime>,
     ) -> Option<()> {
-        if let Some(packet) = former_packet_in(&self.survey.recognizer.trials, found, time) {
+        if let Some(packet) = former_packet_in(&self.recognizer.trials, found, time) {
             self.add_packet(alloc, &packet)?;
-            self.survey.packets = self.survey.packets.saturating_add(1);
+            self.totals.packets = self.totals.packets.saturating_add(1);
         }
-        self.survey.records = found.number;
+        self.totals.records = found.number;
         Some(())
     }
 
     // The place of the last connection between the ends of the packet.
     fn find_last(&self, packet: &Packet) -> Option<usize> {
         let mut last = None;
-        for (place, connection) in self.survey.connections.iter().enumerate() {
+        for (place, connection) in self.connections.iter().enumerate() {
             if has_ends_of(connection, packet) {
                 last = Some(place);
             }
@@ -68,8 +84,7 @@ impl Former {
 
     // The place of the connection that the packet opened.
     fn find_opened(&self, packet: &Packet) -> Option<usize> {
-        self.survey
-            .connections
+        self.connections
             .iter()
             .position(|connection| connection.is_opened_by(packet))
     }
@@ -86,7 +101,7 @@ impl Former {
     }
 
     fn connection(&self, place: usize) -> Option<&Connection> {
-        self.survey.connections.get(place)
+        self.connections.get(place)
     }
 
     // Whether the packet belongs to the connection there, behind a late copy of its opening, and not to the last one.
@@ -101,7 +116,7 @@ impl Former {
     }
 
     fn add_at(&mut self, place: usize, packet: &Packet, arrival: Arrival) -> Option<()> {
-        let connection = self.survey.connections.get_mut(place)?;
+        let connection = self.connections.get_mut(place)?;
         connection.add(packet, arrival);
         Some(())
     }
@@ -141,13 +156,13 @@ impl Former {
 
     // Begins a connection with this packet.
     fn begin(&mut self, alloc: Global, packet: &Packet) -> Option<()> {
-        if self.survey.connections.len() >= MOST_CONNECTIONS {
-            self.survey.left_out = self.survey.left_out.saturating_add(1);
+        if self.connections.len() >= MOST_CONNECTIONS {
+            self.totals.left_out = self.totals.left_out.saturating_add(1);
             return Some(());
         }
         let mut connection = Connection::new(alloc, packet).ok()?;
         connection.add(packet, Arrival::InCourse);
-        self.survey.connections.push(connection).ok()
+        self.connections.push(connection).ok()
     }
 }
 
@@ -170,8 +185,7 @@ impl Both {
 
     // Compares where the last connection between the ends of a record's packet stands.
     fn compare_place(&mut self, found: &Record<'_>) {
-        let Some(packet) = former_packet_in(&self.former.survey.recognizer.trials, found, None)
-        else {
+        let Some(packet) = former_packet_in(&self.former.recognizer.trials, found, None) else {
             return;
         };
         let place = self.new.places.find(Ends::of(&packet.way));
@@ -261,24 +275,35 @@ fn surveyed(alloc: Global, seed: u64, traffic: &Traffic) -> Option<Both> {
     Some(both)
 }
 
-fn text_of(alloc: Global, survey: &Survey) -> Option<Vec<u8>> {
+fn totals_of(survey: &Survey) -> Totals {
+    Totals {
+        records: survey.records,
+        packets: survey.packets,
+        left_out: survey.left_out,
+    }
+}
+
+fn text_of(alloc: Global, connections: &[Connection]) -> Option<Vec<u8>> {
     let mut writer = Counted::new(Vec::new(alloc));
-    survey.write(&mut writer).ok()?;
+    for (place, connection) in connections.iter().enumerate() {
+        write_connection(&mut writer, place as u64, connection).ok()?;
+    }
     Some(writer.into_inner())
 }
 
-// Whether both surveys have the same text.
-fn have_same_text(alloc: Global, both: &Both) -> Option<bool> {
-    let text = text_of(alloc, &both.new)?;
-    let former = text_of(alloc, &both.former.survey)?;
-    Some(text.as_slice() == former.as_slice())
+// Whether both surveys tell the same.
+fn tell_the_same(alloc: Global, both: &Both) -> Option<bool> {
+    let text = text_of(alloc, both.new.connections())?;
+    let former = text_of(alloc, both.former.connections.as_slice())?;
+    let have_same_totals = totals_of(&both.new) == both.former.totals;
+    Some(have_same_totals && text.as_slice() == former.as_slice())
 }
 
 // Compares the surveys of this traffic, and answers the new one.
 fn compare<R: Abort + AllocGlobal>(rt: &R, seed: u64, traffic: &Traffic) -> Result<Survey, Fail> {
     let both = surveyed(rt.alloc(), seed, traffic).ok_or("memory")?;
     assert_eq!(rt; both.differing, 0, "{traffic:?}");
-    let is_same = have_same_text(rt.alloc(), &both).ok_or("memory")?;
+    let is_same = tell_the_same(rt.alloc(), &both).ok_or("memory")?;
     assert!(rt; is_same, "{traffic:?}");
     Ok(both.new)
 }
