@@ -6,13 +6,14 @@
 Run it at the top of a fresh clone, with nothing beside it. It is `rt ci` (or `rt must-fail NAME..`) with a clock
 round each proof, each crate's tests and each must-fail edit: OUT gets a line for each step as it ends (minute of its
 start and of its end, seconds, jobs, what it was), and standard output is that of the gate, whose last line is its
-verdict.
+verdict. The line of an edit goes on with the seconds of its check's stages, where they take a tenth or more.
 """
 import importlib.machinery
 import importlib.util
 import os
 import shutil
 import sys
+import tempfile
 import threading
 import time
 
@@ -29,6 +30,7 @@ def load_gate():
 
 def main():
     gate, started, lock = load_gate(), time.time(), threading.Lock()
+    stages = threading.local()
     out = open(sys.argv[1], "w", encoding="utf-8")
 
     def told(begun, jobs, what):
@@ -47,17 +49,25 @@ def main():
 
         return run
 
-    in_lanes, must_fail, run_program = gate.in_lanes, gate.must_fail, gate.run
+    in_lanes, must_fail, checked, run_program = gate.in_lanes, gate.must_fail, gate.checked, gate.run
 
     def lanes(tasks):
         return in_lanes({key: (*it[:3], timed(it[3], key)) for key, it in tasks.items()})
+
+    def with_stages(crate, texts, flags, *others):
+        with tempfile.NamedTemporaryFile("r", encoding="utf-8") as file:
+            try:
+                return checked(crate, texts, [*flags, "--stage-times", file.name], *others)
+            finally:
+                found = [line.split() for line in file if line.startswith("stage ")]
+                stages.told = "".join(f" {name} {float(took):.1f}" for _, name, took, _ in found if float(took) >= 0.1)
 
     def edit(crate, file, *others):
         begun = time.time()
         try:
             return must_fail(crate, file, *others)
         finally:
-            told(begun, 1, f"edit {crate.name}/{os.path.basename(file)}")
+            told(begun, 1, f"edit {crate.name}/{os.path.basename(file)}{getattr(stages, 'told', '')}")
 
     def program(crate, tests, ending=""):
         begun = time.time()
@@ -66,7 +76,7 @@ def main():
         finally:
             told(begun, 1, f"run {crate.name}{' tests' if tests else ''}{ending}")
 
-    gate.in_lanes, gate.must_fail, gate.run = lanes, edit, program
+    gate.in_lanes, gate.must_fail, gate.checked, gate.run = lanes, edit, with_stages, program
     return gate.main(sys.argv[2:] or ["ci"])
 
 
