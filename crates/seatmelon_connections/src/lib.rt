@@ -10,7 +10,7 @@ mod party;
 mod quiet;
 mod quiet_draft;
 
-pub use channel::{ChannelCounts, Channels, End};
+pub use channel::{ChannelCounts, Channels};
 pub use connection::Connection;
 pub use late_copies::{Arrival, LateCopies};
 pub use numbers::{Gap, NumberCounts, Numbers, Sighting};

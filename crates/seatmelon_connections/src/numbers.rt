@@ -91,11 +91,21 @@ pub struct Gap {
 #[derive(Clone, Copy, Debug)]
 pub struct NumberCounts {
     pub gaps: u64,
+
+    /// How many numbers were missing in all gaps, also those that came late.
     pub missing: u64,
     pub first_gap: Option<Gap>,
+
+    /// Packets that repeat an earlier one byte for byte.
     pub copies: u64,
+
+    /// Packets that have an earlier one's number and differ from it.
     pub differing: u64,
+
+    /// Packets that came after a later number, the first ones of their numbers.
     pub late: u64,
+
+    /// Packets too far behind to be compared.
     pub too_old: u64,
 }
 

@@ -19,6 +19,8 @@ pub struct Ending {
 #[derive(Debug, Drop)]
 pub struct Party {
     pub id: u32,
+
+    /// Of its packets, without copies.
     pub kinds: KindCounts,
     pub numbers: Numbers,
 

@@ -21,12 +21,14 @@ pub enum Fit {
     StartWords,
 }
 
-/// How a PDU fits each length of the safety code, and how long its check code is.
+/// How a PDU fits each length of the safety code (none, 8 bytes, 16 bytes), and how long its check code is.
 #[derive(Clone, Copy, Debug, PartialEq, Eq)]
 pub struct Fits {
     pub no_code: Fit,
     pub short_code: Fit,
     pub long_code: Fit,
+
+    /// In bytes: 0, 2 or 4.
     pub check_length: u8,
 }
 
@@ -155,7 +157,10 @@ impl Trials {
 /// How many PDUs fit a length of the safety code.
 #[derive(Clone, Copy, Debug)]
 pub struct FitCount {
+    /// Those whose form fits.
     pub forms: u64,
+
+    /// Those of them whose safety code is right if the digest begins with MD4's own start words.
     pub start_words: u64,
 }
 
@@ -227,7 +232,8 @@ const NONE: FitCount = FitCount {
     start_words: 0,
 };
 
-/// How many PDUs of a connection fit each length of its codes.
+/// How many PDUs of a connection fit each length of its codes: safety codes of 0, 8 and 16 bytes, and check codes of 0, 2
+/// and 4 bytes.
 #[derive(Clone, Copy, Debug)]
 pub struct Lengths {
     pub pdus: u64,

@@ -49,16 +49,23 @@ pub struct Offer {
 pub struct Way {
     pub sender: u32,
     pub receiver: u32,
+
+    /// From its source, as the client, to its destination.
     pub route: Channel,
 }
 
 /// A packet that has the form of RaSTA.
 #[derive(Clone, Copy, Debug, PartialEq, Eq)]
 pub struct Packet {
+    /// The number of its record, from 1.
     pub record: u32,
+
+    /// When it was captured, where that is known.
     pub time: Option<CaptureTime>,
     pub way: Way,
     pub kind: Kind,
+
+    /// Of the redundancy layer.
     pub number: u32,
     pub sn: u32,
     pub cs: u32,

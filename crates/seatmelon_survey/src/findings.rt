@@ -165,7 +165,8 @@ impl Survey {
         Ok(())
     }
 
-    /// The place of the last connection between the ends of a PDU that goes this way, whichever of them sends it.
+    /// The place, among [`Survey::connections`], of the last one between the ends of a PDU that goes this way. What was
+    /// found is remembered, so that the same ends are found sooner the next time.
     pub fn last_between(&mut self, way: &Way) -> Option<usize>
         ensures value { result ≡ last_between (ends_of way.now.sender way.now.receiver) (connections_in self.old) }
         ensures unchanged { self.new ≡ self.old }
