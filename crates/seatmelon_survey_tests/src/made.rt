@@ -29,7 +29,7 @@ const FRONT: [u8; 16] = *b"\x02\x00\x00\x00\x00\x02\x02\x00\x00\x00\x00\x01\x08\
 const MIDDLE: [u8; 8] = *b"\x00\x00\x00\x00\x40\x11\x00\x00";
 
 /// A PDU to be made.
-#[derive(Clone, Copy, Debug)]
+#[derive(Clone, Copy)]
 pub struct MadePdu {
     pub sender: u32,
     pub receiver: u32,

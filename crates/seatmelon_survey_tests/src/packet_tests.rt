@@ -187,7 +187,7 @@ fn next(alloc: Global, draws: &mut Draws, before: &[Vec<u8>]) -> Option<Vec<u8>>
 }
 
 // How often a record was found to hold what.
-#[derive(Clone, Copy, Debug, PartialEq, Eq)]
+#[derive(Clone, Copy, Debug)]
 struct Seen {
     nothing: u32,
     packets: u32,
