@@ -1,6 +1,6 @@
 -- Which connection is drafted.
 use Rattle.std.specs.Prelude.{◌≡◌, ◌⊎◌, ℕ, ◌-◌, ◌<◌, ◌≤◌, List, Some, length, slice_get}
-use Rattle.seatmelon_survey.specs.declared.connection.Connection.{Connection}
+use Rattle.seatmelon_connections.specs.declared.connection.Connection.{Connection}
 use Rattle.seatmelon_commands.specs.declared.answer.Answer.{Answer}
 use Rattle.seatmelon_commands.specs.declared.answer.Answer.TheVariants.{Survey, Draft}
 

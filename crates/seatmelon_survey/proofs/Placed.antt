@@ -3,11 +3,13 @@ use Rattle.std.proofs.Common.{◌≡◌, ◌∙◌, ℕ, ◌+◌, min, max, Bool
 use Rattle.std.proofs.lemmas.List.{length-map, map-append}
 use Rattle.std.specs.Option.{option_map}
 use Rattle.std.proofs.Math.Seq.{map-set_same}
-use Rattle.seatmelon_survey.specs.declared.connection.Connection.{Connection}
-use Rattle.seatmelon_survey.specs.declared.packet.Packet.{Packet}
+use Rattle.seatmelon_packets.specs.declared.packet.Packet.{Packet}
+use Rattle.seatmelon_connections.specs.declared.connection.Connection.{Connection}
+use Rattle.seatmelon_connections.specs.Comparing.{HasSameOpening, request_in}
+use Rattle.seatmelon_connections.specs.Noted.{first_id_in, request_of, second_id_in}
 use Rattle.seatmelon_survey.specs.declared.places.Ends.{Ends}
 use Rattle.seatmelon_survey.specs.declared.places.Opening.{Opening}
-use Rattle.seatmelon_survey.specs.Belonging.{ArePlaced, HasSameOpening, ends_of, is_between, last_place, last_true, opening_between, opening_in, opening_of, or_first, request_in}
+use Rattle.seatmelon_survey.specs.Belonging.{ArePlaced, ends_of, is_between, last_place, last_true, opening_between, opening_in, opening_of, or_first}
 use Rattle.seatmelon_survey.specs.Places.{Tables, is_opening, last_at, opened_at, same_ends}
 
 -- ends with the lower and the higher one of two ids are those of the ids
@@ -60,7 +62,7 @@ last_place-push test xs x =
 
 -- a connection begins, and its place is set
 pub ArePlaced-push : (cs : List Connection) (s t : Tables) (c : Connection) (ends : Ends) (opening : Option Opening) (place : ℕ)
-    → place ≡ length cs → ends ≡ ends_of c.first.id c.second.id → opening ≡ opening_of c
+    → place ≡ length cs → ends ≡ ends_of (first_id_in c) (second_id_in c) → opening ≡ opening_of c
     → ((e : Ends) → last_at t e ≡ cond (same_ends ends e) (Some place) (last_at s e))
     → ((o : Opening) → opened_at t o ≡ cond (is_opening opening o) (Some place) (opened_at s o))
     → ArePlaced cs s → ArePlaced (cs ++ c ∷ []) t
@@ -70,10 +72,10 @@ ArePlaced-push cs s t c ends opening place at between opened last_set opened_set
 }
 
 -- a connection that begins with a packet has the ends and the opening of the packet
-pub opening_of-begun : (c d : Connection) (p : Packet) → c.first.id ≡ p.way.sender → c.second.id ≡ p.way.receiver → c.request ≡ request_in p
+pub opening_of-begun : (c d : Connection) (p : Packet) → first_id_in c ≡ p.way.sender → second_id_in c ≡ p.way.receiver → request_of c ≡ request_in p
     → HasSameOpening c d → opening_in p ≡ opening_of d
 opening_of-begun c d p first second request same = λ i. option_map (opening_between (sym (same.first ∙ first) i) (sym (same.second ∙ second) i)) (sym (same.request ∙ request) i)
 
-pub ends_of-begun : (c d : Connection) (p : Packet) → c.first.id ≡ p.way.sender → c.second.id ≡ p.way.receiver → HasSameOpening c d
-    → ends_of p.way.sender p.way.receiver ≡ ends_of d.first.id d.second.id
+pub ends_of-begun : (c d : Connection) (p : Packet) → first_id_in c ≡ p.way.sender → second_id_in c ≡ p.way.receiver → HasSameOpening c d
+    → ends_of p.way.sender p.way.receiver ≡ ends_of (first_id_in d) (second_id_in d)
 ends_of-begun c d p first second same = λ i. ends_of (sym (same.first ∙ first) i) (sym (same.second ∙ second) i)

@@ -1,6 +1,6 @@
 -- What was found in a capture.
 use Rattle.std.specs.Prelude.{ℕ, List}
-use Rattle.seatmelon_survey.specs.declared.connection.Connection.{Connection}
+use Rattle.seatmelon_connections.specs.declared.connection.Connection.{Connection}
 
 -- the connections, in the order of their first records; how many records were read, how many of them are packets with
 -- the form of RaSTA, and how many of these belong to further connections, which were left out

@@ -1,10 +1,5 @@
 pub mod Findings
 pub mod Survey
 pub mod Extents
-pub mod Numbers
-pub mod Features
-pub mod Recognizing
-pub mod Sightings
-pub mod LateCopies
 pub mod Belonging
 pub mod Places

@@ -5,25 +5,20 @@ ghost use Rattle.rasta_pcap.specs.Fault.{no_memory};
 ghost use Rattle.rasta_pcap.specs.Devices.{AsWritten};
 ghost use Rattle.seatmelon_survey.specs.Belonging.{opening_in};
 
-#[cfg(test)]
-mod tests;
-
-use crate::connection::Connection;
-use crate::late_copies::Arrival;
-use crate::packet::{Packet, packet_in};
 use crate::places::{Ends, Opening, Places};
-use crate::recognizer::Recognizer;
 use crate::report::{write_connection, write_summary};
 use rasta_pcap::{CaptureTime, Fault, Record, Sink};
 use rasta_pdu::Kind;
+use seatmelon_connections::{Arrival, Connection};
+use seatmelon_packets::{Packet, Recognizer, Way, packet_in};
 use std::alloc::Global;
 use std::marker::Model;
 
-// How many connections are told apart.
-const MOST_CONNECTIONS: usize = 1024;
+/// How many connections are told apart: packets that would begin further ones are left out.
+pub const MOST_CONNECTIONS: usize = 1024;
 
 // Where a packet between two ends belongs.
-#[derive(Clone, Copy, Debug, PartialEq, Eq)]
+#[derive(Clone, Copy)]
 enum Destination {
     // To another connection, which it begins.
     Another,
@@ -66,9 +61,9 @@ pub struct Survey {
     recognizer: Recognizer,
     connections: Vec<Connection>,
     places: Places,
-    pub(crate) records: u32,
-    pub(crate) packets: u64,
-    pub(crate) left_out: u64,
+    records: u32,
+    packets: u64,
+    left_out: u64,
 }
 
 impl Model for Survey {
@@ -84,11 +79,13 @@ impl Model for Survey {
 }
 
 impl Survey {
-    ghost use Rattle.seatmelon_survey.specs.Belonging.{destination_after, destination_behind, destination_of, is_claimed, opened_among, opening_in};
+    ghost use Rattle.seatmelon_connections.specs.Comparing.{is_claimed};
+    ghost use Rattle.seatmelon_connections.specs.Noted.{repeated_in};
+    ghost use Rattle.seatmelon_survey.specs.Belonging.{destination_after, destination_behind, destination_of, ends_of, last_between, opened_among, opening_in};
     ghost use Rattle.seatmelon_survey.specs.Survey.{connections_in, records_in};
 
-    // Nothing found yet.
-    pub(crate) fn new(alloc: Global) -> Survey
+    /// Nothing found yet.
+    pub fn new(alloc: Global) -> Survey
         ensures { records_in result ≡ 0 }
     {
         Survey {
@@ -108,8 +105,31 @@ impl Survey {
         self.connections.as_slice()
     }
 
-    // Takes the next record in, which was captured at this time. If memory is refused, nothing has changed.
-    pub(crate) fn add_record(
+    /// How many records were taken in.
+    pub fn records(&self) -> u32
+        ensures { result ≡ records_in self.now }
+    {
+        self.records
+    }
+
+    /// How many of these hold a packet that has the form of RaSTA.
+    pub fn packets(&self) -> u64
+        ensures { result ≡ self.now.packets }
+    {
+        self.packets
+    }
+
+    /// How many of these packets were left out, since they would have begun further connections.
+    pub fn left_out(&self) -> u64
+        ensures { result ≡ self.now.left_out }
+    {
+        self.left_out
+    }
+
+    /// Takes the next record in, which was captured at this time. If memory is refused, nothing has changed.
+    ///
+    /// Refused by [`Fault::NO_MEMORY`] alone.
+    pub fn add_record(
         &mut self,
         alloc: Global,
         found: &Record<'_>,
@@ -145,12 +165,21 @@ impl Survey {
         Ok(())
     }
 
+    /// The place, among [`Survey::connections`], of the last one between the ends of a PDU that goes this way. What was
+    /// found is remembered, so that the same ends are found sooner the next time.
+    pub fn last_between(&mut self, way: &Way) -> Option<usize>
+        ensures value { result ≡ last_between (ends_of way.now.sender way.now.receiver) (connections_in self.old) }
+        ensures unchanged { self.new ≡ self.old }
+    {
+        self.places.find(Ends::of(way))
+    }
+
     // Where a packet belongs.
     fn destination_of(&mut self, packet: &Packet) -> Destination
         ensures value { result ≡ destination_of (connections_in self.old) packet.now }
         ensures unchanged { self.new ≡ self.old }
     {
-        match self.places.find(Ends::of(&packet.way)) {
+        match self.last_between(&packet.way) {
             Some(last) => self.destination_beside(last, packet),
             None => Destination::Another,
         }
@@ -192,7 +221,7 @@ impl Survey {
         connection: &Connection,
         packet: &Packet,
     ) -> Destination
-        ensures { result ≡ destination_behind (connections_in self.now) last connection.now packet.now connection.now.repeated }
+        ensures { result ≡ destination_behind (connections_in self.now) last connection.now packet.now (repeated_in connection.now) }
     {
         match connection.repeated() {
             Some(place) if place == last || self.is_claimed(place, connection, packet) => {
@@ -251,7 +280,7 @@ impl Survey {
     // another one.
     fn leave_out(&mut self, packet: &Packet) {
         self.left_out = self.left_out.saturating_add(1);
-        if let Some(last) = self.places.find(Ends::of(&packet.way)) {
+        if let Some(last) = self.last_between(&packet.way) {
             self.set_repeated(last, None);
         }
     }

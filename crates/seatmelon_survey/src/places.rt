@@ -7,8 +7,8 @@ ghost use Rattle.seatmelon_survey.specs.Places.{is_opening, last_at, opened_at, 
 ghost use Rattle.seatmelon_survey.specs.declared.places.Ends.{Ends};
 ghost use Rattle.seatmelon_survey.specs.declared.places.Opening.{Opening};
 
-use crate::packet::Way;
 use rasta_pcap::Fault;
+use seatmelon_packets::Way;
 use std::alloc::Global;
 use std::collections::HashMap;
 use std::marker::Model;

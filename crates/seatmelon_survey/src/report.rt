@@ -1,29 +1,25 @@
 //! The text of a survey.
 ghost use Rattle.rasta_pcap.specs.Devices.{AsWritten};
 
-use crate::channel::ChannelCounts;
-use crate::connection::Connection;
 use crate::findings::Survey;
-use crate::kinds::{KINDS, name_of};
-use crate::lengths::{FitCount, Lengths};
-use crate::numbers::NumberCounts;
-use crate::party::Party;
-use crate::text::{numbered, parts, write_parts, write_parts_if, write_words};
 use rasta_pcap::{Fault, Sink};
+use seatmelon_connections::{ChannelCounts, Connection, NumberCounts, Party};
+use seatmelon_packets::{FitCount, KINDS, Lengths, name_of};
+use seatmelon_text::{numbered, parts, write_parts, write_parts_if, write_words};
 
 /// Writes how much was read.
 pub fn write_summary<W: Sink>(writer: &mut W, survey: &Survey) -> Result<(), Fault>
     ensures written { AsWritten result (W.failure_count writer.old) (W.failure_count writer.new) }
 {
-    let records = u64::from(survey.records);
-    let passed_over = records.saturating_sub(survey.packets);
+    let records = u64::from(survey.records());
+    let passed_over = records.saturating_sub(survey.packets());
     write_parts(
         writer,
         &parts![
             "records: ",
             records,
             "\npackets of RaSTA: ",
-            survey.packets,
+            survey.packets(),
             "\nother records, passed over: ",
             passed_over,
             "\n"
@@ -31,15 +27,15 @@ pub fn write_summary<W: Sink>(writer: &mut W, survey: &Survey) -> Result<(), Fau
     )?;
     let left_out = numbered(
         "packets of further connections, left out: ",
-        survey.left_out,
+        survey.left_out(),
     );
-    write_parts_if(writer, survey.left_out > 0, &left_out)?;
+    write_parts_if(writer, survey.left_out() > 0, &left_out)?;
     let none = parts!["no packet of a RaSTA connection\n"];
     write_parts_if(writer, survey.connections().is_empty(), &none)
 }
 
 // What the ends are called: by their roles where the opening was captured.
-#[derive(Clone, Copy, Debug)]
+#[derive(Clone, Copy)]
 struct EndNames {
     first: &'static str,
     second: &'static str,
@@ -77,7 +73,7 @@ fn write_id<W: Sink>(writer: &mut W, name: &'static str, party: &Party) -> Resul
 fn write_times<W: Sink>(writer: &mut W, connection: &Connection) -> Result<(), Fault>
     ensures written { AsWritten result (W.failure_count writer.old) (W.failure_count writer.new) }
 {
-    let (Some(first), Some(last)) = (connection.first_time, connection.last_time) else {
+    let (Some(first), Some(last)) = (connection.first_time(), connection.last_time()) else {
         return Ok(());
     };
     write_parts(
@@ -136,7 +132,7 @@ fn write_ending<W: Sink>(writer: &mut W, name: &'static str, party: &Party) -> R
 fn write_late_copies<W: Sink>(writer: &mut W, connection: &Connection) -> Result<(), Fault>
     ensures written { AsWritten result (W.failure_count writer.old) (W.failure_count writer.new) }
 {
-    let Some(copies) = connection.late_copies else {
+    let Some(copies) = connection.late_copies() else {
         return Ok(());
     };
     write_parts(
@@ -348,18 +344,20 @@ fn write_frame<W: Sink>(
 ) -> Result<(), Fault>
     ensures written { AsWritten result (W.failure_count writer.old) (W.failure_count writer.new) }
 {
-    write_id(writer, names.first, &connection.first)?;
-    write_id(writer, names.second, &connection.second)?;
+    write_id(writer, names.first, connection.first())?;
+    write_id(writer, names.second, connection.second())?;
     write_extent(writer, connection)?;
-    write_ending(writer, names.first, &connection.first)?;
-    write_ending(writer, names.second, &connection.second)?;
+    write_ending(writer, names.first, connection.first())?;
+    write_ending(writer, names.second, connection.second())?;
     let is_open = !connection.has_ending();
     let parts = parts!["  no disconnection request was captured\n"];
     write_parts_if(writer, is_open, &parts)?;
     write_late_copies(writer, connection)
 }
 
-/// Writes the block of a connection, whose place counts from 0.
+/// Writes the block of a connection, whose place counts from 0, as plain text.
+///
+/// Refused by [`Fault::WRITE_FAILED`] alone.
 pub fn write_connection<W: Sink>(
     writer: &mut W,
     place: u64,
@@ -370,13 +368,13 @@ pub fn write_connection<W: Sink>(
     let names = names_in(connection);
     write_parts(writer, &numbered("\nconnection ", place.saturating_add(1)))?;
     write_frame(writer, names, connection)?;
-    write_channels(writer, names, connection.channels.counts())?;
+    write_channels(writer, names, connection.channels().counts())?;
     let further = numbered(
         "  packets on further channels: ",
-        connection.channels.on_others,
+        connection.channels().on_others,
     );
-    write_parts_if(writer, connection.channels.on_others > 0, &further)?;
-    write_lengths(writer, &connection.lengths)?;
-    write_sent(writer, names.first, &connection.first)?;
-    write_sent(writer, names.second, &connection.second)
+    write_parts_if(writer, connection.channels().on_others > 0, &further)?;
+    write_lengths(writer, connection.lengths())?;
+    write_sent(writer, names.first, connection.first())?;
+    write_sent(writer, names.second, connection.second())
 }

@@ -1,5 +1,5 @@
 use Rattle.std.proofs.Common.{subst}
-use Rattle.seatmelon_survey.specs.Belonging.{HasSameOpening}
+use Rattle.seatmelon_connections.specs.Comparing.{HasSameOpening}
 use Rattle.seatmelon_survey.proofs.Placed.{ArePlaced-set}
 use Rattle.seatmelon_survey.proofs.findings.Survey.add_at.Goals as goal
 

@@ -1,0 +1,5 @@
+pub mod Numbers
+pub mod Sightings
+pub mod LateCopies
+pub mod Noted
+pub mod Comparing

@@ -1,0 +1,42 @@
+-- What is noted of a connection.
+use Rattle.std.specs.Prelude.{ℕ, Bool, Option, ◌||◌, is_some}
+use Rattle.seatmelon_connections.specs.declared.connection.Connection.{Connection}
+use Rattle.seatmelon_connections.specs.declared.connection.Request.{Request}
+use Rattle.seatmelon_connections.specs.declared.late_copies.LateCopies.{LateCopies}
+
+-- the number of a connection's first record, from 1
+abbrev pub first_record_in : Connection → ℕ
+first_record_in c = c.first_record
+
+abbrev pub last_record_in : Connection → ℕ
+last_record_in c = c.last_record
+
+-- the id of the end that sent the first packet
+abbrev pub first_id_in : Connection → ℕ
+first_id_in c = c.first.id
+
+abbrev pub second_id_in : Connection → ℕ
+second_id_in c = c.second.id
+
+-- the request that opened a connection, if it was captured
+abbrev pub request_of : Connection → Option Request
+request_of c = c.request
+
+-- a connection request was captured
+abbrev pub has_opening_in : Connection → Bool
+has_opening_in c = is_some c.request
+
+-- an end's disconnection request was captured
+abbrev pub has_ending_in : Connection → Bool
+has_ending_in c = is_some c.first.ending || is_some c.second.ending
+
+-- the late copies of the opening, and of what came behind it
+abbrev pub late_copies_in : Connection → Option LateCopies
+late_copies_in c = c.late_copies
+
+-- the place of the connection between the same ends whose opening crossed late last, since this one began
+abbrev pub repeated_in : Connection → Option ℕ
+repeated_in c = c.repeated
+
+abbrev pub with_repeated : Connection → Option ℕ → Connection
+with_repeated c place = record c { repeated = place }

@@ -1,0 +1,71 @@
+-- What a packet is among those of its end, by its number and its bytes.
+use Rattle.std.specs.Prelude.{ℕ, ◌+◌, ◌-◌, ◌%◌, ◌^◌, Bool, true, false, ◌==◌, ◌||◌, nat_lt, if◌then◌else◌, Option, Some, None, slice_get, unwrap_or}
+use Rattle.seatmelon_connections.specs.declared.numbers.Numbers.{Numbers}
+use Rattle.seatmelon_connections.specs.declared.numbers.Remembered.{Remembered}
+use Rattle.seatmelon_connections.specs.declared.numbers.Sighting.{Sighting}
+use Rattle.seatmelon_connections.specs.declared.numbers.Sighting.TheVariants.{First, Late, Copy, DifferingCopy, TooOld}
+use Rattle.seatmelon_connections.specs.declared.numbers.Standing.{Standing}
+use Rattle.seatmelon_connections.specs.declared.numbers.Standing.TheVariants.{Expected, Ahead, Behind}
+use Rattle.seatmelon_packets.specs.declared.packet.Packet.{Packet}
+
+-- how far a number is ahead of an earlier one, where numbers of 32 bits wrap around
+abbrev pub ahead_of : ℕ → ℕ → ℕ
+ahead_of earlier number = (number + (2 ^ 32 - earlier)) % 2 ^ 32
+
+-- where a number stands beside the expected one: less than half of the numbers ahead of it, or else behind it
+abbrev pub standing_in : ℕ → ℕ → Standing
+standing_in number expected =
+    let ahead = ahead_of expected number in
+    if ahead == 0 then Expected
+    else if nat_lt ahead (2 ^ 31) then Ahead ahead
+    else Behind (ahead_of number expected)
+
+-- the number that an end is expected to send: before its first packet, that of any
+abbrev pub expected_number : Numbers → Packet → ℕ
+expected_number n p = unwrap_or n.expected p.number
+
+-- what is remembered of a packet of this number, where this stands at its place
+abbrev pub with_number : ℕ → Option (Option Remembered) → Option Remembered
+with_number number (Some (Some r)) = if r.number == number then Some r else None
+with_number number (Some None) = None
+with_number number None = None
+
+-- what is remembered of the packet of a number
+abbrev pub remembered_at : Numbers → ℕ → Option Remembered
+remembered_at n number = with_number number (slice_get n.remembered.items (number % 256))
+
+-- a packet whose bytes have this hash, beside the remembered one of its number
+abbrev pub compared : ℕ → Option Remembered → Sighting
+compared hash None = Late
+compared hash (Some r) = if hash == r.hash then Copy r.«record» else DifferingCopy r.«record»
+
+-- a packet whose number stands so, beside the remembered one of its number
+abbrev pub sighting_at : Standing → ℕ → Option Remembered → Sighting
+sighting_at Expected hash r = First
+sighting_at (Ahead missing) hash r = First
+sighting_at (Behind distance) hash r = if nat_lt 256 distance then TooOld else compared hash r
+
+-- what a packet is: the first of its number, if that is the expected one or ahead of it; too old, if it is behind by
+-- more than 256; and else what it is beside the remembered one of its number
+abbrev pub sighting_in : Numbers → Packet → Sighting
+sighting_in n p = sighting_at (standing_in p.number (expected_number n p)) p.hash (remembered_at n p.number)
+
+-- a packet repeats an earlier one byte for byte
+abbrev pub is_copy : Sighting → Bool
+is_copy (Copy first) = true
+is_copy First = false
+is_copy Late = false
+is_copy (DifferingCopy first) = false
+is_copy TooOld = false
+
+-- a packet is too old to be compared
+abbrev pub is_too_old : Sighting → Bool
+is_too_old TooOld = true
+is_too_old First = false
+is_too_old Late = false
+is_too_old (Copy first) = false
+is_too_old (DifferingCopy first) = false
+
+-- a packet of an end goes on with what it sent: it has the expected number, or repeats an earlier one byte for byte
+abbrev pub goes_on : Numbers → Packet → Bool
+goes_on n p = (p.number == expected_number n p) || is_copy (sighting_in n p)

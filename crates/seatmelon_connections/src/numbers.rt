@@ -1,0 +1,255 @@
+//! The redundancy layer's numbers of an end.
+ghost use Rattle.std.specs.Prelude.{◌≡◌, ◌%◌, ◌==◌, IfErr};
+ghost use Rattle.rasta_pcap.specs.Fault.{no_memory};
+ghost use Rattle.seatmelon_connections.specs.Numbers.{IsStanding};
+ghost use Rattle.seatmelon_connections.specs.Sightings.{compared, expected_number, is_copy, remembered_at, sighting_in, standing_in};
+
+use rasta_pcap::Fault;
+use seatmelon_packets::Packet;
+use std::alloc::Global;
+
+// With how many of an end's numbers a copy is compared.
+const REMEMBERED: u32 = 256;
+
+/// Half of the numbers: a number that is so far from the expected one or further is behind it.
+pub const HALF: u32 = 0x8000_0000;
+
+/// What a packet is among those of its end.
+#[derive(Clone, Copy, Debug)]
+pub enum Sighting {
+    /// The first one of its number.
+    First,
+
+    /// The first one of its number, after a later number.
+    Late,
+
+    /// One that repeats the packet of an earlier record byte for byte.
+    Copy { first: u32 },
+
+    /// One of the number of an earlier record's packet that differs from it.
+    DifferingCopy { first: u32 },
+
+    /// One too far behind to be compared.
+    TooOld,
+}
+
+impl Sighting {
+    /// Whether the packet repeats an earlier one byte for byte.
+    pub(crate) fn is_copy(&self) -> bool
+        ensures { result ≡ is_copy self.now }
+    {
+        matches!(self, Sighting::Copy { .. })
+    }
+}
+
+// Where a number stands beside the one that is expected.
+#[derive(Clone, Copy)]
+enum Standing {
+    Expected,
+    Ahead(u32),
+    Behind(u32),
+}
+
+fn standing_of(number: u32, expected: u32) -> Standing
+    ensures standing { IsStanding result number expected }
+    ensures value { result ≡ standing_in number expected }
+{
+    let ahead = number.wrapping_sub(expected);
+    if ahead == 0 {
+        Standing::Expected
+    } else if ahead < HALF {
+        Standing::Ahead(ahead)
+    } else {
+        Standing::Behind(expected.wrapping_sub(number))
+    }
+}
+
+// A packet that is remembered.
+#[derive(Clone, Copy, Debug)]
+struct Remembered {
+    record: u32,
+    number: u32,
+    hash: u64,
+}
+
+fn remembered_of(packet: &Packet) -> Remembered {
+    Remembered {
+        record: packet.record,
+        number: packet.number,
+        hash: packet.hash,
+    }
+}
+
+/// A gap: the first number that is missing, and the record that shows it.
+#[derive(Clone, Copy, Debug)]
+pub struct Gap {
+    pub missing: u32,
+    pub record: u32,
+}
+
+/// What the numbers of an end show.
+#[derive(Clone, Copy, Debug)]
+pub struct NumberCounts {
+    pub gaps: u64,
+
+    /// How many numbers were missing in all gaps, also those that came late.
+    pub missing: u64,
+    pub first_gap: Option<Gap>,
+
+    /// Packets that repeat an earlier one byte for byte.
+    pub copies: u64,
+
+    /// Packets that have an earlier one's number and differ from it.
+    pub differing: u64,
+
+    /// Packets that came after a later number, the first ones of their numbers.
+    pub late: u64,
+
+    /// Packets too far behind to be compared.
+    pub too_old: u64,
+}
+
+const NOTHING: NumberCounts = NumberCounts {
+    gaps: 0,
+    missing: 0,
+    first_gap: None,
+    copies: 0,
+    differing: 0,
+    late: 0,
+    too_old: 0,
+};
+
+/// The redundancy layer's numbers of an end, of which the last 256 are remembered.
+#[derive(Debug, Drop)]
+pub struct Numbers {
+    expected: Option<u32>,
+    remembered: Vec<Option<Remembered>>,
+    counts: NumberCounts,
+}
+
+fn slot_of(number: u32) -> usize
+    ensures { result ≡ number % 256 }
+{
+    (number % REMEMBERED) as usize
+}
+
+impl Numbers {
+    /// None yet.
+    ///
+    /// Refused by [`Fault::NO_MEMORY`].
+    pub(crate) fn new(alloc: Global) -> Result<Numbers, Fault>
+        ensures err { IfErr result (λ f. f ≡ no_memory) }
+    {
+        let mut remembered = Vec::new(alloc);
+        remembered.resize(REMEMBERED as usize, None)?;
+        Ok(Numbers {
+            expected: None,
+            remembered,
+            counts: NOTHING,
+        })
+    }
+
+    /// What the numbers show.
+    pub fn counts(&self) -> NumberCounts {
+        self.counts
+    }
+
+    // The number that is expected; before the first packet, that of any.
+    fn expected_at(&self, packet: &Packet) -> u32
+        ensures { result ≡ expected_number self.now packet.now }
+    {
+        self.expected.unwrap_or(packet.number)
+    }
+
+    /// Whether a packet has the number that is expected. Before the first packet any number is.
+    pub(crate) fn is_expected(&self, packet: &Packet) -> bool
+        ensures { result ≡ (packet.now.number == expected_number self.now packet.now) }
+    {
+        packet.number == self.expected_at(packet)
+    }
+
+    /// What a packet is beside those that were taken in.
+    pub(crate) fn sighting_of(&self, packet: &Packet) -> Sighting
+        ensures { result ≡ sighting_in self.now packet.now }
+    {
+        match standing_of(packet.number, self.expected_at(packet)) {
+            Standing::Expected | Standing::Ahead(_) => Sighting::First,
+            Standing::Behind(distance) if distance > REMEMBERED => Sighting::TooOld,
+            Standing::Behind(_) => self.compare(packet),
+        }
+    }
+
+    /// Takes the number of a packet in, and says what the packet is.
+    pub(crate) fn add(&mut self, packet: &Packet) -> Sighting
+        ensures { result ≡ sighting_in self.old packet.now }
+    {
+        let sighting = self.sighting_of(packet);
+        match sighting {
+            Sighting::First => self.go_on(packet),
+            Sighting::Late => {
+                self.counts.late = self.counts.late.saturating_add(1);
+                self.remember(packet);
+            }
+            Sighting::Copy { .. } => self.counts.copies = self.counts.copies.saturating_add(1),
+            Sighting::DifferingCopy { .. } => {
+                self.counts.differing = self.counts.differing.saturating_add(1);
+            }
+            Sighting::TooOld => self.counts.too_old = self.counts.too_old.saturating_add(1),
+        }
+        sighting
+    }
+
+    // Takes in a packet that is not behind the others.
+    fn go_on(&mut self, packet: &Packet) {
+        let expected = self.expected_at(packet);
+        if let Standing::Ahead(missing) = standing_of(packet.number, expected) {
+            self.add_gap(packet, expected, missing);
+        }
+        self.expected = Some(packet.number.wrapping_add(1));
+        self.remember(packet);
+    }
+
+    fn remember(&mut self, packet: &Packet) {
+        if let Some(slot) = self.remembered.get_mut(slot_of(packet.number)) {
+            *slot = Some(remembered_of(packet));
+        }
+    }
+
+    fn add_gap(&mut self, packet: &Packet, expected: u32, missing: u32) {
+        self.counts.gaps = self.counts.gaps.saturating_add(1);
+        self.counts.missing = self.counts.missing.saturating_add(u64::from(missing));
+        if self.counts.first_gap.is_none() {
+            self.counts.first_gap = Some(Gap {
+                missing: expected,
+                record: packet.record,
+            });
+        }
+    }
+
+    // The packet of this number that is remembered.
+    fn recall(&self, number: u32) -> Option<Remembered>
+        ensures { result ≡ remembered_at self.now number }
+    {
+        let earlier = self.remembered.get(slot_of(number)).copied()??;
+        if earlier.number == number {
+            Some(earlier)
+        } else {
+            None
+        }
+    }
+
+    // What a packet is beside the one of its number.
+    fn compare(&self, packet: &Packet) -> Sighting
+        ensures { result ≡ compared packet.now.hash (remembered_at self.now packet.now.number) }
+    {
+        match self.recall(packet.number) {
+            Some(earlier) if packet.hash == earlier.hash => Sighting::Copy {
+                first: earlier.record,
+            },
+            Some(earlier) => Sighting::DifferingCopy {
+                first: earlier.record,
+            },
+            None => Sighting::Late,
+        }
+    }
+}

@@ -1,0 +1,15 @@
+//! Packets that have the form of RaSTA, found without any recorded parameters: what each one holds, and which lengths
+//! of the codes it fits.
+#![tactic(auto)]
+
+mod kinds;
+mod lengths;
+mod packet;
+mod recognizer;
+mod route;
+
+pub use kinds::{KINDS, KindCounts, name_of};
+pub use lengths::{Fit, FitCount, Fits, LengthFit, Lengths, Trials, likeliest};
+pub use packet::{Offer, Packet, Way, packet_in};
+pub use recognizer::{Features, Recognizer, features_by};
+pub use route::route_in;

@@ -1,6 +1,0 @@
-use Rattle.std.proofs.Common.{◌≡◌}
-use Rattle.seatmelon_survey.proofs.draft.write_other_lengths.Given as goal
-
--- no write failed
-abbrev pub invariant-loop-other : goal.invariant-loop-other
-invariant-loop-other g l = g.W.Sink.failure_count l.writer ≡ g.W.Sink.failure_count l.fn.writer

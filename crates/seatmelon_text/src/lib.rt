@@ -1,0 +1,8 @@
+//! Lines of plain text out of words, numbers, addresses and times.
+#![tactic(auto)]
+
+mod text;
+mod time;
+
+pub use text::{Part, numbered, write_parts, write_parts_if, write_words};
+pub use time::write_time;
