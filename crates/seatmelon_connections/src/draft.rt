@@ -8,8 +8,8 @@ use crate::quiet_draft::write_quiet_points;
 use rasta_pcap::{Fault, Sink};
 use rasta_pdu::Kind;
 use rasta_udp::Channel;
+use seatmelon_lines::{Part, numbered, parts, write_parts, write_parts_if, write_words};
 use seatmelon_packets::{LengthFit, Offer, likeliest};
-use seatmelon_text::{Part, numbered, parts, write_parts, write_parts_if, write_words};
 
 // How many channels a parameter file may have.
 const MOST_CHANNELS: u64 = 4;

@@ -10,5 +10,5 @@ pub use findings::{MOST_CONNECTIONS, Survey};
 pub use reading::survey;
 pub use report::write_connection;
 pub use seatmelon_connections::Connection;
+pub use seatmelon_lines::write_time;
 pub use seatmelon_packets::name_of;
-pub use seatmelon_text::write_time;

@@ -4,8 +4,8 @@ ghost use Rattle.rasta_pcap.specs.Devices.{AsWritten};
 use crate::findings::Survey;
 use rasta_pcap::{Fault, Sink};
 use seatmelon_connections::{ChannelCounts, Connection, NumberCounts, Party};
+use seatmelon_lines::{numbered, parts, write_parts, write_parts_if, write_words};
 use seatmelon_packets::{FitCount, KINDS, Lengths, name_of};
-use seatmelon_text::{numbered, parts, write_parts, write_parts_if, write_words};
 
 /// Writes how much was read.
 pub fn write_summary<W: Sink>(writer: &mut W, survey: &Survey) -> Result<(), Fault>

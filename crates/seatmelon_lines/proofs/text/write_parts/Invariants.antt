@@ -1,5 +1,5 @@
 use Rattle.std.proofs.Common.{◌≡◌}
-use Rattle.seatmelon_text.proofs.text.write_parts.Given as goal
+use Rattle.seatmelon_lines.proofs.text.write_parts.Given as goal
 
 -- no write failed
 abbrev pub invariant-loop-part : goal.invariant-loop-part
