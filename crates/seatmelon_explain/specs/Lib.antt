@@ -1,5 +1,2 @@
-pub mod Judged
 pub mod Outcomes
-pub mod Reading
 pub mod Telling
-pub mod Window

@@ -2,11 +2,11 @@
 use Rattle.std.specs.Prelude.{◌≡◌, ℕ, List, Option, None, Some, Ok, option_map, ⊤}
 use Rattle.rasta_pdu.specs.Params.{Parameters}
 use Rattle.rasta_check.specs.Capture.Reading.{Crossing, crossing_of}
-use Rattle.seatmelon_explain.specs.Judged.{IsExplained}
-use Rattle.seatmelon_explain.specs.declared.first_reading.Stored.{Stored}
-use Rattle.seatmelon_explain.specs.declared.first_reading.Stored.TheVariants.{Crossed, Refused}
-use Rattle.seatmelon_explain.specs.declared.page.Page.{Page}
-use Rattle.seatmelon_explain.specs.declared.page.Texts.{Texts}
+use Rattle.seatmelon_reading.specs.Judged.{IsExplained}
+use Rattle.seatmelon_reading.specs.declared.first_reading.Stored.{Stored}
+use Rattle.seatmelon_reading.specs.declared.first_reading.Stored.TheVariants.{Crossed, Refused}
+use Rattle.seatmelon_telling.specs.declared.page.Page.{Page}
+use Rattle.seatmelon_telling.specs.declared.page.Texts.{Texts}
 
 -- the text of the certificate, where one was given
 abbrev pub certificate_in : Texts → Option (List ℕ)

@@ -1,10 +1,10 @@
 -- What is told of a capture.
-use Rattle.seatmelon_explain.specs.declared.data.Verdict.{Verdict}
-use Rattle.seatmelon_explain.specs.declared.data.Verdict.TheVariants as verdicts
 use Rattle.seatmelon_explain.specs.declared.explaining.Outcome.{Outcome}
 use Rattle.seatmelon_explain.specs.declared.explaining.Outcome.TheVariants as outcomes
-use Rattle.seatmelon_explain.specs.declared.finding.Finding.{Finding}
-use Rattle.seatmelon_explain.specs.declared.finding.Finding.TheVariants as findings
+use Rattle.seatmelon_telling.specs.declared.data.Verdict.{Verdict}
+use Rattle.seatmelon_telling.specs.declared.data.Verdict.TheVariants as verdicts
+use Rattle.seatmelon_telling.specs.declared.finding.Finding.{Finding}
+use Rattle.seatmelon_telling.specs.declared.finding.Finding.TheVariants as findings
 
 -- what a capture comes to
 abbrev pub finding_outcome : Finding → Outcome

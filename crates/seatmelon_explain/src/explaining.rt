@@ -1,21 +1,20 @@
 //! A verdict on a capture, in words or as data.
 ghost use Rattle.std.specs.Prelude.{◌≡◌, ◌⊎◌, [], IfErr, IfOk};
 ghost use Rattle.rasta_pcap.specs.Fault.{no_memory, read_failed, write_failed};
-ghost use Rattle.seatmelon_explain.specs.Judged.{IsExplained, IsJudged};
 ghost use Rattle.seatmelon_explain.specs.Outcomes.{IsFileExplained, IsSomeExplained, IsStoredExplained, certificate_in, certificate_of};
 ghost use Rattle.seatmelon_explain.specs.declared.explaining.Outcome.TheVariants.{Changed, Explained};
+ghost use Rattle.seatmelon_reading.specs.Judged.{IsExplained, IsJudged};
 
-use crate::explained::write_explained;
-use crate::finding::Finding;
-use crate::first_reading::{CaptureRefusal, Stored, first_reading};
 use crate::json::write_json;
-use crate::page::{Choices, Form, Names, Page, Texts, write_no_packets};
-use crate::refusal::{wanted_in, write_capture_refusal, write_refused, write_unscripted};
-use crate::sightings::{Wanted, second_reading};
-use crate::verdict::{Verdict, judge};
 use rasta_check::Store;
 use rasta_pcap::{Fault, Sink, Source};
 use rasta_pdu::Params;
+use seatmelon_reading::first_reading::first_reading;
+use seatmelon_reading::{CaptureRefusal, Stored, Verdict, Wanted, judge, second_reading};
+use seatmelon_telling::{
+    Choices, Finding, Form, Names, Page, Texts, wanted_in, write_capture_refusal, write_explained,
+    write_no_packets, write_refused, write_unscripted,
+};
 use std::alloc::Global;
 
 /// What an explanation came to.

@@ -3,14 +3,14 @@ ghost use Rattle.std.specs.Prelude.{◌≡◌, ◌⊎◌, IfErr, IfOk};
 ghost use Rattle.rasta_pcap.specs.Fault.{no_memory, write_failed};
 ghost use Rattle.seatmelon_explain.specs.Telling.{data_outcome, finding_outcome};
 
-use crate::data::{Account, Number, Offer, Verdict};
-use crate::explained_data::explained_data;
-use crate::finding::Finding;
-use crate::page::{PROGRAM, Page, passed_over};
-use crate::page_data::{certificate_data, channels_data, file_data, offers_data, window_data};
-use crate::refusal_data::{capture_refusal_data, refused_data, unscripted_data};
-use crate::text::add;
 use rasta_pcap::{Fault, Sink, write_all};
+use seatmelon_telling::data::{Account, Number, Offer, Verdict};
+use seatmelon_telling::explained_data::explained_data;
+use seatmelon_telling::{
+    Finding, PROGRAM, Page, capture_refusal_data, certificate_data, channels_data, file_data,
+    offers_data, passed_over, refused_data, unscripted_data, window_data,
+};
+use seatmelon_text::add;
 use sha2::{Digest, Sha256};
 use std::alloc::Global;
 
