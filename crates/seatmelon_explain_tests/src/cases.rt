@@ -1,4 +1,5 @@
-//! Captures, and the texts that are wanted of them.
+//! Captures, and the texts that are wanted of them. Each table is one text, which one function names: each of many
+//! texts costs a proof more than all of them in one.
 pub mod file_cases;
 pub mod json_cases;
 pub mod packet_cases;
@@ -7,38 +8,103 @@ pub mod script_cases;
 pub mod step_cases;
 pub mod window_cases;
 
-/// A capture of `rasta_rows` with some bytes changed (where, and to what), the parameters that a word names, a
-/// certificate (empty where there is none), the records that are left out, and what is told after what was read.
+use rasta_pdu::Params;
+use rasta_rows::{file_of, params_of};
+use std::alloc::Global;
+
+/// What stands before each case of a table.
+pub const MARK: &str = "== ";
+
+/// A capture of `rasta_rows`, the changes of its bytes, the records that are left out, the parameters that a word names,
+/// a certificate, with `; ` in the place of each line feed, what the case has of its own, and what is wanted.
 #[derive(Clone, Copy)]
-pub struct Case {
-    pub parameters: &'static str,
-    pub settings: &'static str,
-    pub packets: &'static str,
-    pub changes: &'static [(usize, u8)],
-    pub certificate: &'static str,
-    pub without: &'static [u32],
-    pub want: &'static str,
+pub struct Case<'a> {
+    pub settings: &'a str,
+    pub packets: &'a str,
+    pub changes: &'a str,
+    pub without: &'a str,
+    pub parameters: &'a str,
+    pub certificate: &'a str,
+    pub name: &'a str,
+    pub want: &'a str,
 }
 
-/// No packet, and no codes: what a case says of itself stands in the place of this.
-pub const PLAIN: Case = Case {
-    parameters: "plain",
-    settings: "data plain",
-    packets: "-",
-    changes: &[],
-    certificate: "",
-    without: &[],
-    want: "",
-};
+/// The case of these lines: `SETTINGS: PACKETS | CHANGES | WITHOUT | PARAMETERS | CERTIFICATE | NAME`, of which the last
+/// words may be missing, and what is wanted.
+pub fn case_in(lines: &str) -> Option<Case<'_>> {
+    let (head, want) = lines.split_once('\n')?;
+    let mut words = head.split(" | ");
+    let (settings, packets) = words.next()?.split_once(": ")?;
+    Some(Case {
+        settings,
+        packets,
+        changes: words.next().unwrap_or(""),
+        without: words.next().unwrap_or(""),
+        parameters: words.next().unwrap_or("plain"),
+        certificate: words.next().unwrap_or(""),
+        name: words.next().unwrap_or(packets),
+        want,
+    })
+}
 
-/// Data that are confirmed.
-pub const EXPLAINED: Case = Case {
-    packets: "0 1 2 3 4",
-    ..PLAIN
-};
+/// What a case gives to an explanation.
+#[derive(Drop)]
+pub struct Given {
+    pub params: Params,
+    pub file: Vec<u8>,
+    pub without: Vec<u32>,
+    certificate: String,
+}
 
-/// The whole text on it.
-pub const EXPLAINED_TEXT: &str = "\
+impl Given {
+    /// The text of the certificate, if there is one.
+    pub fn certificate(&self) -> Option<&[u8]> {
+        if self.certificate.is_empty() {
+            None
+        } else {
+            Some(self.certificate.as_bytes())
+        }
+    }
+}
+
+// Changes a byte of a file: `PLACE=BYTE`.
+fn change(file: &mut [u8], change: &str) -> Option<()> {
+    let (place, byte) = change.split_once('=')?;
+    let place: usize = place.parse().ok()?;
+    *file.get_mut(place)? = byte.parse().ok()?;
+    Some(())
+}
+
+fn file_in(alloc: Global, case: &Case<'_>) -> Option<Vec<u8>> {
+    let (_, mut file) = file_of(alloc, case.settings, case.packets)?;
+    for words in case.changes.split_whitespace() {
+        change(&mut file, words)?;
+    }
+    Some(file)
+}
+
+fn numbers_in(alloc: Global, words: &str) -> Option<Vec<u32>> {
+    let mut numbers = Vec::new(alloc);
+    for word in words.split_whitespace() {
+        numbers.push(word.parse().ok()?).ok()?;
+    }
+    Some(numbers)
+}
+
+impl Case<'_> {
+    /// What the case gives; none where it has no form or memory runs out.
+    pub fn given(&self, alloc: Global) -> Option<Given> {
+        Some(Given {
+            params: params_of(self.parameters)?,
+            file: file_in(alloc, self)?,
+            without: numbers_in(alloc, self.without)?,
+            certificate: self.certificate.replace(alloc, "; ", "\n").ok()?,
+        })
+    }
+}
+
+const EXPLAINED: &str = r#"
+== data plain: 0 1 2 3 4 |  |  | plain |  | Data that are confirmed.
 capture: c
   SHA-256: e56454b33ee136b1ec869d81d2ac3181b8675027c9d9a55fbeeda50c6825eb8c
 parameters: p
@@ -75,87 +141,16 @@ client to server: 2 of 2 messages surely taken
     data: record 4, 1970-01-01 00:00:00.000000 UTC, channel 1
     proof: record 5, 1970-01-01 00:00:00.000000 UTC, channel 1
     hex: ab01
-    text: \\xab\\x01
+    text: \xab\x01
   message 1
     data: record 4, 1970-01-01 00:00:00.000000 UTC, channel 1
     proof: record 5, 1970-01-01 00:00:00.000000 UTC, channel 1
     empty
 
 server to client: 0 of 0 messages surely taken
-";
+"#;
 
-/// The text on a refusal: the fault and its meaning; what it is found at; what may be the cause; where to look.
-macro_rules! refused {
-    ($fault:literal, $meaning:literal; $($place:literal),*; because $cause:literal; see $next:literal) => {
-        concat!(
-            "refused by ", $fault, ":\n  ", $meaning, "\n\n", $($place,)*
-            "may be the cause:\n  ", $cause, "\nlook next at:\n  ", $next, "\n"
-        )
-    };
+/// Data that are confirmed, and the whole text on them.
+pub fn explained() -> Option<Case<'static>> {
+    case_in(EXPLAINED.split_once(MARK)?.1)
 }
-
-pub(crate) use refused;
-
-/// The same of a PDU: words before it, as of whose it is; its record; its type, redundancy number, SN, CS, TS and CTS,
-/// and lines after these; what may be the cause; where to look.
-macro_rules! refused_pdu {
-    (
-        $fault:literal, $meaning:literal; $($whose:literal),+; PDU in $record:literal: $kind:literal, $number:literal,
-        $sn:literal, $cs:literal, $ts:literal, $cts:literal, $after:literal; because $cause:literal; see $next:literal
-    ) => {
-        refused!(
-            $fault, $meaning;
-            $($whose,)+ " PDU in record ", $record, ", 1970-01-01 00:00:00.000000 UTC, channel 1\n  type: ", $kind,
-            "\n  redundancy number: ", $number, "\n  SN: ", $sn, "\n  CS: ", $cs, "\n  TS: ", $ts, "\n  CTS: ", $cts, "\n",
-            $after, "\n";
-            because $cause; see $next
-        )
-    };
-}
-
-pub(crate) use refused_pdu;
-
-/// A case of a certificate that is refused at an entry: the parameters, the settings and the packets; the certificate;
-/// the fault and its meaning; the entry's number, end and line; words, or the PDU that it makes or takes, with the
-/// lines on its messages, or the packet that it names.
-macro_rules! refused_entry {
-    (
-        $parameters:literal, $settings:literal, $packets:literal; $certificate:literal; $fault:literal, $meaning:literal;
-        entry $number:literal of $end:literal, line $line:literal; $($place:tt)+
-    ) => {
-        Case {
-            parameters: $parameters,
-            settings: $settings,
-            packets: $packets,
-            certificate: $certificate,
-            want: refused_place!(
-                $fault, $meaning; "entry ", $number, " of the ", $end, "'s script, line ", $line, " of the certificate\n";
-                $($place)+;
-                because "the certificate is wrong: another one may explain the same packets";
-                see "the entry and those before it; and what seatmelon explain says without a certificate"
-            ),
-            ..PLAIN
-        }
-    };
-}
-
-pub(crate) use refused_entry;
-
-/// The text on what is refused after these words: words, or a PDU, or a packet of a record.
-macro_rules! refused_place {
-    ($fault:literal, $meaning:literal; $($entry:literal),+; $words:literal; because $($closing:tt)+) => {
-        refused!($fault, $meaning; $($entry,)+ $words, "\n\n"; because $($closing)+)
-    };
-    ($fault:literal, $meaning:literal; $($entry:literal),+; packet in $record:literal; because $($closing:tt)+) => {
-        refused!(
-            $fault, $meaning;
-            $($entry,)+ "the packet that it names is in record ", $record,
-            ", 1970-01-01 00:00:00.000000 UTC, channel 1\n\n"; because $($closing)+
-        )
-    };
-    ($fault:literal, $meaning:literal; $($entry:literal),+; $whose:literal; $($pdu:tt)+) => {
-        refused_pdu!($fault, $meaning; $($entry,)+ $whose; $($pdu)+)
-    };
-}
-
-pub(crate) use refused_place;

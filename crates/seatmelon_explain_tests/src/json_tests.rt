@@ -1,12 +1,11 @@
 //! The JSON of an explanation.
-use crate::cases::json_cases::{COPY_DIFFERS, EXPLAINED_JSON, NO_PACKETS, PARTS, QUIET_JSON};
-use crate::cases::window_cases::WINDOW_CASES;
-use crate::cases::{Case, EXPLAINED};
-use crate::explain_tests::{file_in, params_in, written};
+use crate::cases::json_cases::{parts, quiet, whole};
+use crate::cases::window_cases::{window_case_in, windows};
+use crate::cases::{Given, MARK, case_in};
+use crate::explain_tests::{params_in, written};
 use rasta_pcap::devices::FailAt;
 use rasta_pcap::{Counted, Fault};
 use rasta_pdu::{Params, Quiet, QuietEnd};
-use rasta_rows::params_of;
 use seatmelon_explain::Form;
 use std::alloc::Global;
 use std::str;
@@ -22,14 +21,13 @@ fn joined(alloc: Global, lines: &str) -> Result<String, Fail> {
 }
 
 // The JSON text on a case, without the line feed at its end.
-fn json_of(alloc: Global, case: &Case, params: &Params) -> Result<Vec<u8>, Fail> {
-    let file = file_in(alloc, case).ok_or("a file")?;
+fn json_of(alloc: Global, given: &Given, params: &Params) -> Result<Vec<u8>, Fail> {
     let mut writer = Counted::new(Vec::new(alloc));
-    let mut first = Counted::new(file.as_slice());
-    let mut again = Counted::new(file.as_slice());
+    let mut first = Counted::new(given.file.as_slice());
+    let mut again = Counted::new(given.file.as_slice());
     let outcome = written(
         alloc,
-        case,
+        given,
         params,
         Form::Json,
         &mut first,
@@ -44,22 +42,13 @@ fn json_of(alloc: Global, case: &Case, params: &Params) -> Result<Vec<u8>, Fail>
     }
 }
 
-// The JSON text on a case with the parameters that it names.
-fn json_in(alloc: Global, case: &Case) -> Result<Vec<u8>, Fail> {
-    let params = params_of(case.parameters).ok_or("parameters")?;
-    json_of(alloc, case, &params)
-}
-
 #[test]
 fn whole_json(rt: HostRuntime) -> Result<(), Fail> {
-    let whole = [
-        (EXPLAINED, EXPLAINED_JSON),
-        (COPY_DIFFERS, COPY_DIFFERS.want),
-        (NO_PACKETS, NO_PACKETS.want),
-    ];
-    for (case, want) in whole {
-        let text = json_in(rt.alloc(), &case)?;
-        let want = joined(rt.alloc(), want)?;
+    for lines in whole().split(MARK).skip(1) {
+        let case = case_in(lines).ok_or("a case")?;
+        let given = case.given(rt.alloc()).ok_or("what it gives")?;
+        let text = json_of(rt.alloc(), &given, &given.params)?;
+        let want = joined(rt.alloc(), case.want)?;
         assert_eq!(rt; str::from_utf8(&text)?, want.as_str());
     }
     Ok(())
@@ -67,11 +56,13 @@ fn whole_json(rt: HostRuntime) -> Result<(), Fail> {
 
 #[test]
 fn parts_of_json(rt: HostRuntime) -> Result<(), Fail> {
-    for case in PARTS {
-        let text = json_in(rt.alloc(), &case)?;
+    for lines in parts().split(MARK).skip(1) {
+        let case = case_in(lines).ok_or("a case")?;
+        let given = case.given(rt.alloc()).ok_or("what it gives")?;
+        let text = json_of(rt.alloc(), &given, &given.params)?;
         let want = joined(rt.alloc(), case.want)?;
-        let text = str::from_utf8(&text)?;
-        assert!(rt; text.contains(want.as_str()), "{text}");
+        let has_it = has_part(&text, want.as_str());
+        assert_eq!(rt; has_it, Some(true), "{}", case.name);
     }
     Ok(())
 }
@@ -84,12 +75,15 @@ fn has_part(text: &[u8], part: &str) -> Option<bool> {
 
 #[test]
 fn windows_in_json(rt: HostRuntime) -> Result<(), Fail> {
-    for window in &WINDOW_CASES {
-        let params = params_in(window).ok_or("parameters")?;
-        let text = json_of(rt.alloc(), &window.case, &params)?;
+    for lines in windows().split(MARK).skip(1) {
+        let window = window_case_in(lines).ok_or("a case")?;
+        let given = window.case.given(rt.alloc()).ok_or("what it gives")?;
+        let params = params_in(&given.params, &window).ok_or("parameters")?;
+        let text = json_of(rt.alloc(), &given, &params)?;
         for part in [window.json, window.later_json] {
             let want = joined(rt.alloc(), part)?;
-            assert_eq!(rt; has_part(&text, want.as_str()), Some(true), "{want}");
+            let has_it = has_part(&text, want.as_str());
+            assert_eq!(rt; has_it, Some(true), "{want}");
         }
     }
     Ok(())
@@ -114,29 +108,28 @@ const QUIET: Quiet = Quiet {
 #[test]
 fn numbers_above_the_whole_doubles(rt: HostRuntime) -> Result<(), Fail> {
     let params = rasta_rows::params(20, 0, Some(QUIET)).ok_or("parameters")?;
-    let case = Case {
-        packets: "3",
-        ..EXPLAINED
-    };
-    let text = json_of(rt.alloc(), &case, &params)?;
-    let want = joined(rt.alloc(), QUIET_JSON)?;
-    let text = str::from_utf8(&text)?;
-    assert!(rt; text.contains(want.as_str()), "{text}");
+    let lines = quiet().split(MARK).nth(1).ok_or("a case")?;
+    let case = case_in(lines).ok_or("a case")?;
+    let given = case.given(rt.alloc()).ok_or("what it gives")?;
+    let text = json_of(rt.alloc(), &given, &params)?;
+    let want = joined(rt.alloc(), case.want)?;
+    assert_eq!(rt; has_part(&text, want.as_str()), Some(true));
     Ok(())
 }
 
 // Each write fails in turn: what was written begins the text.
 #[test]
 fn failing_writes_of_json(rt: HostRuntime) -> Result<(), Fail> {
-    let params = params_of(NO_PACKETS.parameters).ok_or("parameters")?;
-    let file = file_in(rt.alloc(), &NO_PACKETS).ok_or("a file")?;
-    let mut first = Counted::new(file.as_slice());
-    let mut again = Counted::new(file.as_slice());
+    let lines = whole().split(MARK).last().ok_or("a case")?;
+    let case = case_in(lines).ok_or("a case")?;
+    let given = case.given(rt.alloc()).ok_or("what it gives")?;
+    let mut first = Counted::new(given.file.as_slice());
+    let mut again = Counted::new(given.file.as_slice());
     let mut writer = Counted::new(FailAt::new(Vec::new(rt.alloc()), 1));
     let outcome = written(
         rt.alloc(),
-        &NO_PACKETS,
-        &params,
+        &given,
+        &given.params,
         Form::Json,
         &mut first,
         &mut again,

@@ -2,7 +2,7 @@
 ghost use Rattle.std.specs.Prelude.{◌≡◌, IfErr};
 ghost use Rattle.rasta_pcap.specs.Fault.{write_failed};
 
-use crate::cases::EXPLAINED;
+use crate::cases::explained;
 use crate::explain_tests::written;
 use rasta_pcap::{Counted, Fault, Sink, write_all};
 use rasta_pdu::{Body, Kind, Params, PduParts, Side, encode};
@@ -59,6 +59,9 @@ const LENGTHS: [usize; 26] = [
     0, 1, 15, 16, 17, 48, 63, 64, 65, 80, 126, 127, 128, 251, 252, 253, 254, 255, 256, 257, 300,
     504, 506, 508, 600, 1400,
 ];
+
+// The settings of the opening, and of what confirms the data.
+const SETTINGS: &str = "data plain";
 
 // What precedes the bytes of each message, after its number.
 const PLACES: &str = "
@@ -168,22 +171,23 @@ fn add_record(file: &mut Vec<u8>, datagram: &[u8]) -> Option<()> {
 
 // An opening, data with these messages, and what confirms them.
 fn capture(alloc: Global, all: &[Vec<u8>]) -> Option<(Params, Vec<u8>)> {
-    let (params, mut file) = file_of(alloc, EXPLAINED.settings, "0 1 2")?;
+    let (params, mut file) = file_of(alloc, SETTINGS, "0 1 2")?;
     let datagram = datagram(alloc, &params, all)?;
     add_record(&mut file, &datagram)?;
-    let (_, last) = file_of(alloc, EXPLAINED.settings, "4")?;
+    let (_, last) = file_of(alloc, SETTINGS, "4")?;
     file.extend_from_slice(last.get(24..)?).ok()?;
     Some((params, file))
 }
 
 // What is told of a capture in this form, after these words.
 fn told(alloc: Global, params: &Params, file: &[u8], form: Form, words: &str) -> Option<Vec<u8>> {
+    let given = explained()?.given(alloc)?;
     let mut first = Counted::new(file);
     let mut again = Counted::new(file);
     let mut writer = Counted::new(Vec::new(alloc));
     let outcome = written(
         alloc,
-        &EXPLAINED,
+        &given,
         params,
         form,
         &mut first,

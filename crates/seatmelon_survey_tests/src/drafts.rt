@@ -1,229 +1,337 @@
 //! Captures, and the drafts that are wanted of a connection in them.
-use crate::files::{Change, Part};
+use crate::cases::{Case, case_in};
 
-/// A capture, which is a file of these parts with these changes; the place of a connection, and its draft.
+/// A capture, the place of a connection in it, and its draft.
 #[derive(Clone, Copy)]
-pub struct DraftCase {
-    pub parts: &'static [Part],
-    pub changes: &'static [Change],
+pub struct DraftCase<'a> {
     pub place: usize,
-    pub want: &'static str,
+    pub case: Case<'a>,
 }
 
-// A case: its parts, changes and place; then what its draft says beside the words that all drafts share: the records,
-// the ids, the lengths of the codes, the offers, where the window begins, a quiet point or another note, the channels,
-// and those that have no place.
-macro_rules! draft {
-    // The ids, where the connection request was captured.
-    ($case:tt $first:literal to $last:literal; request in $record:literal; $($more:tt)+) => {
-        draft!(
-            $case $first to $last;
-            "client_id = 96 # sender of the connection request in record ", $record, "\nserver_id = 97 # its receiver\n";
-            $($more)+
-        )
-    };
-    // The ids, where no end has shown its role.
-    ($case:tt $first:literal to $last:literal; roles unseen, $client:literal and $server:literal; $($more:tt)+) => {
-        draft!(
-            $case $first to $last;
-            "client_id = ", $client, " # from the engineering data: end 1 of the survey, which may be the server\nserver_id = ",
-            $server, " # from the engineering data: end 2 of the survey\n";
-            $($more)+
-        )
-    };
-    // The lengths of the codes, where packets have none.
-    ($case:tt $first:literal to $last:literal; $($ids:literal),+; no codes in $count:literal; $($more:tt)+) => {
-        draft!(
-            $case $first to $last; $($ids),+;
-            "code_length = 0 # fits the length of ", $count, " of ", $count, " packets
-md4_start = \"67452301efcdab8998badcfe10325476\" # MD4's own start words; without a safety code they have no effect
-check_length = 0 # fits the length of ", $count, " of ", $count, " packets\n";
-            $($more)+
-        )
-    };
-    (
-        [$parts:expr, $changes:expr, $place:literal] $first:literal to $last:literal; $($ids:literal),+;
-        $($lengths:literal),+; offers $offers:literal; from $from:literal $begins:literal; $(ends with $ends:literal;)?
-        $(quiet after $quiet:literal: $points:literal;)? $(note $note:literal;)?
-        $(channel $client:literal, $server:literal in $record:literal;)+ $($further:literal;)?
-    ) => {
-        DraftCase {
-            parts: &$parts,
-            changes: &$changes,
-            place: $place,
-            want: concat!(
-                "# A draft of the parameters of the connection in the records ", $first, " to ", $last, " of a capture.
+/// The case of these lines: `PLACE | PARTS | CHANGES | NAME`, and the draft.
+pub fn draft_case_in(lines: &str) -> Option<DraftCase<'_>> {
+    let (place, lines) = lines.split_once(" | ")?;
+    Some(DraftCase {
+        place: place.parse().ok()?,
+        case: case_in(lines)?,
+    })
+}
+
+// Each form of a draft, behind `== ` a case.
+const DRAFTS: &str = r#"
+== 0 | data plain: 0 1 2 |  | Handshake.
+# A draft of the parameters of the connection in the records 1 to 3 of a capture.
 # Each line tells where its value was seen; one from the engineering data is a placeholder.
-# A draft is a guess from the form of packets: compare each line with the engineering data.\n\n",
-                $($ids,)+ $($lengths,)+ "n_sendmax = 20 # ", $offers, "
+# A draft is a guess from the form of packets: compare each line with the engineering data.
+
+client_id = 96 # sender of the connection request in record 1
+server_id = 97 # its receiver
+code_length = 0 # fits the length of 3 of 3 packets
+md4_start = "67452301efcdab8998badcfe10325476" # MD4's own start words; without a safety code they have no effect
+check_length = 0 # fits the length of 3 of 3 packets
+n_sendmax = 20 # the client offered 20 in record 1, the server 20 in record 2
 t_max = 1800 # from the engineering data, in milliseconds
 slack = 0 # from the engineering data, in milliseconds
-first_record = ", $from, " # the ", $begins, "\nlast_record = ", $last, " # the connection's last packet", $(", ", $ends,)? "\n",
-                $("\n# No opening was captured. After record ", $quiet, " both ends seem to be up and to owe each other nothing: a quiet point.
-# It is a premise of every answer: only the engineering data or a log can confirm it.\n", $points,)?
-                $("\n# ", $note, "\n",)?
-                $("\n[[channel]]\nclient = \"", $client, "\" # seen in record ", $record,
-                "\nserver = \"", $server, "\" # seen in record ", $record, "\n",)+
-                $($further)?
-            ),
-        }
-    };
-}
+first_record = 1 # the connection's first packet
+last_record = 3 # the connection's last packet
 
-const HANDSHAKE: DraftCase = draft!(
-    [[("data plain", "0 1 2")], [], 0] 1 to 3; request in 1; no codes in 3;
-    offers "the client offered 20 in record 1, the server 20 in record 2"; from 1 "connection's first packet";
-    channel "10.0.0.1:5000", "10.0.0.2:5000" in 1;
-);
+[[channel]]
+client = "10.0.0.1:5000" # seen in record 1
+server = "10.0.0.2:5000" # seen in record 1
+== 0 | data code16: 0 1 2 3 4 5 |  | Own start words.
+# A draft of the parameters of the connection in the records 1 to 6 of a capture.
+# Each line tells where its value was seen; one from the engineering data is a placeholder.
+# A draft is a guess from the form of packets: compare each line with the engineering data.
 
-const OWN_START_WORDS: DraftCase = draft!(
-    [[("data code16", "0 1 2 3 4 5")], [], 0] 1 to 6; request in 1;
-    "code_length = 16 # fits the length of 6 of 6 packets
-md4_start = \"67452301efcdab8998badcfe10325476\" # MD4's own start words fit 6 of 6 safety codes
-check_length = 0 # fits the length of 6 of 6 packets\n";
-    offers "the client offered 20 in record 1, the server 20 in record 2"; from 1 "connection's first packet";
-    channel "10.0.0.1:5000", "10.0.0.2:5000" in 1;
-);
+client_id = 96 # sender of the connection request in record 1
+server_id = 97 # its receiver
+code_length = 16 # fits the length of 6 of 6 packets
+md4_start = "67452301efcdab8998badcfe10325476" # MD4's own start words fit 6 of 6 safety codes
+check_length = 0 # fits the length of 6 of 6 packets
+n_sendmax = 20 # the client offered 20 in record 1, the server 20 in record 2
+t_max = 1800 # from the engineering data, in milliseconds
+slack = 0 # from the engineering data, in milliseconds
+first_record = 1 # the connection's first packet
+last_record = 6 # the connection's last packet
 
-// The opening crossed on both channels.
-const TWO_CHANNELS: DraftCase = draft!(
-    [[("checked check4", "0 0@2 1@2 1 2 0@2")], [], 0] 1 to 6; request in 1;
-    "code_length = 0 # fits the length of 6 of 6 packets
-md4_start = \"67452301efcdab8998badcfe10325476\" # MD4's own start words; without a safety code they have no effect
-check_length = 4 # fits the length of 6 of 6 packets\n";
-    offers "the client offered 20 in record 1, the server 20 in record 3"; from 1 "connection's first packet";
-    channel "10.0.0.1:5000", "10.0.0.2:5000" in 1;
-    channel "10.0.1.1:5001", "10.0.1.2:5001" in 2;
-);
+[[channel]]
+client = "10.0.0.1:5000" # seen in record 1
+server = "10.0.0.2:5000" # seen in record 1
+== 0 | checked check4: 0 0@2 1@2 1 2 0@2 |  | The opening crossed on both channels.
+# A draft of the parameters of the connection in the records 1 to 6 of a capture.
+# Each line tells where its value was seen; one from the engineering data is a placeholder.
+# A draft is a guess from the form of packets: compare each line with the engineering data.
 
-// The second of two connections; its request offers 0, which no parameter file can have.
-const SECOND_CONNECTION: DraftCase = draft!(
-    [[("data plain", "0 1 5 0 1")], [(436, 0)], 1] 4 to 5; request in 4; no codes in 2;
-    offers "offered by the server in record 5"; from 4 "connection's first packet";
-    channel "10.0.0.1:5000", "10.0.0.2:5000" in 4;
-);
+client_id = 96 # sender of the connection request in record 1
+server_id = 97 # its receiver
+code_length = 0 # fits the length of 6 of 6 packets
+md4_start = "67452301efcdab8998badcfe10325476" # MD4's own start words; without a safety code they have no effect
+check_length = 4 # fits the length of 6 of 6 packets
+n_sendmax = 20 # the client offered 20 in record 1, the server 20 in record 3
+t_max = 1800 # from the engineering data, in milliseconds
+slack = 0 # from the engineering data, in milliseconds
+first_record = 1 # the connection's first packet
+last_record = 6 # the connection's last packet
 
-// The opening crosses once more after the end.
-const OPENING_AGAIN: DraftCase = draft!(
-    [[("data plain", "0 1 5 0 1")], [], 0] 1 to 5; request in 1; no codes in 5;
-    offers "the client offered 20 in record 1, the server 20 in record 2"; from 1 "connection's first packet"; ends with "a late copy";
-    channel "10.0.0.1:5000", "10.0.0.2:5000" in 1;
-);
+[[channel]]
+client = "10.0.0.1:5000" # seen in record 1
+server = "10.0.0.2:5000" # seen in record 1
 
-// The same, and then another packet.
-const GOES_ON: DraftCase = draft!(
-    [[("data plain", "0 1 5 0 1 4")], [], 0] 1 to 6; request in 1; no codes in 6;
-    offers "the client offered 20 in record 1, the server 20 in record 2"; from 1 "connection's first packet";
-    channel "10.0.0.1:5000", "10.0.0.2:5000" in 1;
-);
+[[channel]]
+client = "10.0.1.1:5001" # seen in record 2
+server = "10.0.1.2:5001" # seen in record 2
+== 1 | data plain: 0 1 5 0 1 | 436=0 | The second of two connections; its request offers 0, which no parameter file can have.
+# A draft of the parameters of the connection in the records 4 to 5 of a capture.
+# Each line tells where its value was seen; one from the engineering data is a placeholder.
+# A draft is a guess from the form of packets: compare each line with the engineering data.
 
-// The opening crosses once more after the end, and again after another connection has begun.
-const OPENING_AGAIN_BEHIND_ANOTHER: DraftCase = draft!(
-    [[("byes plain", "0 1 2 0 6 0 1")], [], 0] 1 to 4; request in 1; no codes in 6;
-    offers "the client offered 20 in record 1, the server 20 in record 2"; from 1 "connection's first packet"; ends with "a late copy";
-    channel "10.0.0.1:5000", "10.0.0.2:5000" in 1;
-);
+client_id = 96 # sender of the connection request in record 4
+server_id = 97 # its receiver
+code_length = 0 # fits the length of 2 of 2 packets
+md4_start = "67452301efcdab8998badcfe10325476" # MD4's own start words; without a safety code they have no effect
+check_length = 0 # fits the length of 2 of 2 packets
+n_sendmax = 20 # offered by the server in record 5
+t_max = 1800 # from the engineering data, in milliseconds
+slack = 0 # from the engineering data, in milliseconds
+first_record = 4 # the connection's first packet
+last_record = 5 # the connection's last packet
 
-// The client offers 10.
-const DIFFERING_OFFERS: DraftCase = draft!(
-    [[("data plain", "0 1")], [(122, 10)], 0] 1 to 2; request in 1; no codes in 2;
-    offers "from the engineering data: the client offered 10 in record 1, the server 20 in record 2"; from 1 "connection's first packet";
-    channel "10.0.0.1:5000", "10.0.0.2:5000" in 1;
-);
+[[channel]]
+client = "10.0.0.1:5000" # seen in record 4
+server = "10.0.0.2:5000" # seen in record 4
+== 0 | data plain: 0 1 5 0 1 |  | The opening crosses once more after the end.
+# A draft of the parameters of the connection in the records 1 to 5 of a capture.
+# Each line tells where its value was seen; one from the engineering data is a placeholder.
+# A draft is a guess from the form of packets: compare each line with the engineering data.
 
-// Both ends offer 0.
-const NO_OFFER: DraftCase = draft!(
-    [[("data plain", "0 1")], [(122, 0), (230, 0)], 0] 1 to 2; request in 1; no codes in 2;
-    offers "from the engineering data: no offer of one was captured"; from 1 "connection's first packet";
-    channel "10.0.0.1:5000", "10.0.0.2:5000" in 1;
-);
+client_id = 96 # sender of the connection request in record 1
+server_id = 97 # its receiver
+code_length = 0 # fits the length of 5 of 5 packets
+md4_start = "67452301efcdab8998badcfe10325476" # MD4's own start words; without a safety code they have no effect
+check_length = 0 # fits the length of 5 of 5 packets
+n_sendmax = 20 # the client offered 20 in record 1, the server 20 in record 2
+t_max = 1800 # from the engineering data, in milliseconds
+slack = 0 # from the engineering data, in milliseconds
+first_record = 1 # the connection's first packet
+last_record = 5 # the connection's last packet, a late copy
 
-// The request was not captured, but the response was.
-const RESPONSE_FIRST: DraftCase = draft!(
-    [[("data plain", "1 2")], [], 0] 1 to 2;
-    "client_id = 96 # receiver of what the server sent
-server_id = 97 # sender of the connection response in record 1\n";
-    no codes in 2;
-    offers "offered by the server in record 1"; from 1 "connection's first packet";
-    note "No opening was captured. An audit needs a quiet point, from the engineering data or a log.";
-    channel "10.0.0.1:5000", "10.0.0.2:5000" in 1;
-);
+[[channel]]
+client = "10.0.0.1:5000" # seen in record 1
+server = "10.0.0.2:5000" # seen in record 1
+== 0 | data plain: 0 1 5 0 1 4 |  | The same, and then another packet.
+# A draft of the parameters of the connection in the records 1 to 6 of a capture.
+# Each line tells where its value was seen; one from the engineering data is a placeholder.
+# A draft is a guess from the form of packets: compare each line with the engineering data.
 
-const OTHER_START_WORDS: DraftCase = draft!(
-    [[("data zeros16", "4 3")], [], 0] 1 to 2; roles unseen, 97 and 96;
-    "code_length = 16 # fits the length of 2 of 2 packets
-md4_start = \"67452301efcdab8998badcfe10325476\" # from the engineering data: MD4's own start words fit 0 of 2 safety codes
-check_length = 0 # fits the length of 2 of 2 packets\n";
-    offers "from the engineering data: no offer of one was captured"; from 1 "connection's first packet";
-    note "No opening was captured. An audit needs a quiet point, from the engineering data or a log.";
-    channel "10.0.0.2:5000", "10.0.0.1:5000" in 1;
-);
+client_id = 96 # sender of the connection request in record 1
+server_id = 97 # its receiver
+code_length = 0 # fits the length of 6 of 6 packets
+md4_start = "67452301efcdab8998badcfe10325476" # MD4's own start words; without a safety code they have no effect
+check_length = 0 # fits the length of 6 of 6 packets
+n_sendmax = 20 # the client offered 20 in record 1, the server 20 in record 2
+t_max = 1800 # from the engineering data, in milliseconds
+slack = 0 # from the engineering data, in milliseconds
+first_record = 1 # the connection's first packet
+last_record = 6 # the connection's last packet
 
-// Packets without a safety code, and then packets with one.
-const SEVERAL_LENGTHS: DraftCase = draft!(
-    [[("data plain", "0 1 2"), ("data code16", "3 4")], [], 0] 1 to 5; request in 1;
-    "code_length = 0 # from the engineering data, since none fits all packets: fits the length of 3 of 5 packets; 16 fits 2
-md4_start = \"67452301efcdab8998badcfe10325476\" # MD4's own start words; without a safety code they have no effect
-check_length = 0 # fits the length of 5 of 5 packets\n";
-    offers "the client offered 20 in record 1, the server 20 in record 2"; from 1 "connection's first packet";
-    channel "10.0.0.1:5000", "10.0.0.2:5000" in 1;
-);
+[[channel]]
+client = "10.0.0.1:5000" # seen in record 1
+server = "10.0.0.2:5000" # seen in record 1
+== 0 | byes plain: 0 1 2 0 6 0 1 |  | The opening crosses once more after the end, and again after another connection has begun.
+# A draft of the parameters of the connection in the records 1 to 4 of a capture.
+# Each line tells where its value was seen; one from the engineering data is a placeholder.
+# A draft is a guess from the form of packets: compare each line with the engineering data.
 
-// Copies of a request from six ports.
-const SIX_CHANNELS: DraftCase = draft!(
-    [[("data plain", "0 0 0 0 0 0")], [(182, 20), (290, 21), (398, 22), (506, 23), (614, 24)], 0] 1 to 6; request in 1; no codes in 6;
-    offers "offered by the client in record 1"; from 1 "connection's first packet";
-    channel "10.0.0.1:5000", "10.0.0.2:5000" in 1;
-    channel "10.0.0.1:5256", "10.0.0.2:5000" in 2;
-    channel "10.0.0.1:5512", "10.0.0.2:5000" in 3;
-    channel "10.0.0.1:5768", "10.0.0.2:5000" in 4;
-    "
+client_id = 96 # sender of the connection request in record 1
+server_id = 97 # its receiver
+code_length = 0 # fits the length of 6 of 6 packets
+md4_start = "67452301efcdab8998badcfe10325476" # MD4's own start words; without a safety code they have no effect
+check_length = 0 # fits the length of 6 of 6 packets
+n_sendmax = 20 # the client offered 20 in record 1, the server 20 in record 2
+t_max = 1800 # from the engineering data, in milliseconds
+slack = 0 # from the engineering data, in milliseconds
+first_record = 1 # the connection's first packet
+last_record = 4 # the connection's last packet, a late copy
+
+[[channel]]
+client = "10.0.0.1:5000" # seen in record 1
+server = "10.0.0.2:5000" # seen in record 1
+== 0 | data plain: 0 1 | 122=10 | The client offers 10.
+# A draft of the parameters of the connection in the records 1 to 2 of a capture.
+# Each line tells where its value was seen; one from the engineering data is a placeholder.
+# A draft is a guess from the form of packets: compare each line with the engineering data.
+
+client_id = 96 # sender of the connection request in record 1
+server_id = 97 # its receiver
+code_length = 0 # fits the length of 2 of 2 packets
+md4_start = "67452301efcdab8998badcfe10325476" # MD4's own start words; without a safety code they have no effect
+check_length = 0 # fits the length of 2 of 2 packets
+n_sendmax = 20 # from the engineering data: the client offered 10 in record 1, the server 20 in record 2
+t_max = 1800 # from the engineering data, in milliseconds
+slack = 0 # from the engineering data, in milliseconds
+first_record = 1 # the connection's first packet
+last_record = 2 # the connection's last packet
+
+[[channel]]
+client = "10.0.0.1:5000" # seen in record 1
+server = "10.0.0.2:5000" # seen in record 1
+== 0 | data plain: 0 1 | 122=0 230=0 | Both ends offer 0.
+# A draft of the parameters of the connection in the records 1 to 2 of a capture.
+# Each line tells where its value was seen; one from the engineering data is a placeholder.
+# A draft is a guess from the form of packets: compare each line with the engineering data.
+
+client_id = 96 # sender of the connection request in record 1
+server_id = 97 # its receiver
+code_length = 0 # fits the length of 2 of 2 packets
+md4_start = "67452301efcdab8998badcfe10325476" # MD4's own start words; without a safety code they have no effect
+check_length = 0 # fits the length of 2 of 2 packets
+n_sendmax = 20 # from the engineering data: no offer of one was captured
+t_max = 1800 # from the engineering data, in milliseconds
+slack = 0 # from the engineering data, in milliseconds
+first_record = 1 # the connection's first packet
+last_record = 2 # the connection's last packet
+
+[[channel]]
+client = "10.0.0.1:5000" # seen in record 1
+server = "10.0.0.2:5000" # seen in record 1
+== 0 | data plain: 1 2 |  | The request was not captured, but the response was.
+# A draft of the parameters of the connection in the records 1 to 2 of a capture.
+# Each line tells where its value was seen; one from the engineering data is a placeholder.
+# A draft is a guess from the form of packets: compare each line with the engineering data.
+
+client_id = 96 # receiver of what the server sent
+server_id = 97 # sender of the connection response in record 1
+code_length = 0 # fits the length of 2 of 2 packets
+md4_start = "67452301efcdab8998badcfe10325476" # MD4's own start words; without a safety code they have no effect
+check_length = 0 # fits the length of 2 of 2 packets
+n_sendmax = 20 # offered by the server in record 1
+t_max = 1800 # from the engineering data, in milliseconds
+slack = 0 # from the engineering data, in milliseconds
+first_record = 1 # the connection's first packet
+last_record = 2 # the connection's last packet
+
+# No opening was captured. An audit needs a quiet point, from the engineering data or a log.
+
+[[channel]]
+client = "10.0.0.1:5000" # seen in record 1
+server = "10.0.0.2:5000" # seen in record 1
+== 0 | data zeros16: 4 3 |  | Other start words.
+# A draft of the parameters of the connection in the records 1 to 2 of a capture.
+# Each line tells where its value was seen; one from the engineering data is a placeholder.
+# A draft is a guess from the form of packets: compare each line with the engineering data.
+
+client_id = 97 # from the engineering data: end 1 of the survey, which may be the server
+server_id = 96 # from the engineering data: end 2 of the survey
+code_length = 16 # fits the length of 2 of 2 packets
+md4_start = "67452301efcdab8998badcfe10325476" # from the engineering data: MD4's own start words fit 0 of 2 safety codes
+check_length = 0 # fits the length of 2 of 2 packets
+n_sendmax = 20 # from the engineering data: no offer of one was captured
+t_max = 1800 # from the engineering data, in milliseconds
+slack = 0 # from the engineering data, in milliseconds
+first_record = 1 # the connection's first packet
+last_record = 2 # the connection's last packet
+
+# No opening was captured. An audit needs a quiet point, from the engineering data or a log.
+
+[[channel]]
+client = "10.0.0.2:5000" # seen in record 1
+server = "10.0.0.1:5000" # seen in record 1
+== 0 | data plain: 0 1 2; data code16: 3 4 |  | Packets without a safety code, and then packets with one.
+# A draft of the parameters of the connection in the records 1 to 5 of a capture.
+# Each line tells where its value was seen; one from the engineering data is a placeholder.
+# A draft is a guess from the form of packets: compare each line with the engineering data.
+
+client_id = 96 # sender of the connection request in record 1
+server_id = 97 # its receiver
+code_length = 0 # from the engineering data, since none fits all packets: fits the length of 3 of 5 packets; 16 fits 2
+md4_start = "67452301efcdab8998badcfe10325476" # MD4's own start words; without a safety code they have no effect
+check_length = 0 # fits the length of 5 of 5 packets
+n_sendmax = 20 # the client offered 20 in record 1, the server 20 in record 2
+t_max = 1800 # from the engineering data, in milliseconds
+slack = 0 # from the engineering data, in milliseconds
+first_record = 1 # the connection's first packet
+last_record = 5 # the connection's last packet
+
+[[channel]]
+client = "10.0.0.1:5000" # seen in record 1
+server = "10.0.0.2:5000" # seen in record 1
+== 0 | data plain: 0 0 0 0 0 0 | 182=20 290=21 398=22 506=23 614=24 | Copies of a request from six ports.
+# A draft of the parameters of the connection in the records 1 to 6 of a capture.
+# Each line tells where its value was seen; one from the engineering data is a placeholder.
+# A draft is a guess from the form of packets: compare each line with the engineering data.
+
+client_id = 96 # sender of the connection request in record 1
+server_id = 97 # its receiver
+code_length = 0 # fits the length of 6 of 6 packets
+md4_start = "67452301efcdab8998badcfe10325476" # MD4's own start words; without a safety code they have no effect
+check_length = 0 # fits the length of 6 of 6 packets
+n_sendmax = 20 # offered by the client in record 1
+t_max = 1800 # from the engineering data, in milliseconds
+slack = 0 # from the engineering data, in milliseconds
+first_record = 1 # the connection's first packet
+last_record = 6 # the connection's last packet
+
+[[channel]]
+client = "10.0.0.1:5000" # seen in record 1
+server = "10.0.0.2:5000" # seen in record 1
+
+[[channel]]
+client = "10.0.0.1:5256" # seen in record 2
+server = "10.0.0.2:5000" # seen in record 2
+
+[[channel]]
+client = "10.0.0.1:5512" # seen in record 3
+server = "10.0.0.2:5000" # seen in record 3
+
+[[channel]]
+client = "10.0.0.1:5768" # seen in record 4
+server = "10.0.0.2:5000" # seen in record 4
+
 # A further channel, seen in record 5, which can't stand beside those above:
 # client 10.0.0.1:6024, server 10.0.0.2:5000
 
 # A further channel, seen in record 6, which can't stand beside those above:
 # client 10.0.0.1:6280, server 10.0.0.2:5000
-";
-);
+== 0 | data plain: 0 0 | 177=2 181=1 | A copy of the request whose addresses are exchanged.
+# A draft of the parameters of the connection in the records 1 to 2 of a capture.
+# Each line tells where its value was seen; one from the engineering data is a placeholder.
+# A draft is a guess from the form of packets: compare each line with the engineering data.
 
-// A copy of the request whose addresses are exchanged.
-const BACKWARDS: DraftCase = draft!(
-    [[("data plain", "0 0")], [(177, 2), (181, 1)], 0] 1 to 2; request in 1; no codes in 2;
-    offers "offered by the client in record 1"; from 1 "connection's first packet";
-    channel "10.0.0.1:5000", "10.0.0.2:5000" in 1;
-    "
+client_id = 96 # sender of the connection request in record 1
+server_id = 97 # its receiver
+code_length = 0 # fits the length of 2 of 2 packets
+md4_start = "67452301efcdab8998badcfe10325476" # MD4's own start words; without a safety code they have no effect
+check_length = 0 # fits the length of 2 of 2 packets
+n_sendmax = 20 # offered by the client in record 1
+t_max = 1800 # from the engineering data, in milliseconds
+slack = 0 # from the engineering data, in milliseconds
+first_record = 1 # the connection's first packet
+last_record = 2 # the connection's last packet
+
+[[channel]]
+client = "10.0.0.1:5000" # seen in record 1
+server = "10.0.0.2:5000" # seen in record 1
+
 # A further channel, seen in record 2, which can't stand beside those above:
 # client 10.0.0.2:5000, server 10.0.0.1:5000
-";
-);
+== 0 | data plain: 3 4 2 4 2 4 | 280=10 296=103 300=245 304=6 305=4 374=42 390=246 394=103 398=92 468=11 484=104 488=246 492=10 493=4 562=43 578=247 582=104 586=94 | Begun in the midst of a connection: data, and then heartbeats of both ends in turn.
+# A draft of the parameters of the connection in the records 1 to 6 of a capture.
+# Each line tells where its value was seen; one from the engineering data is a placeholder.
+# A draft is a guess from the form of packets: compare each line with the engineering data.
 
-// Carries on the numbers and times of data and of heartbeats that both ends send in turn.
-const IN_TURN: [(usize, u8); 18] = [
-    (280, 10),
-    (296, 103),
-    (300, 245),
-    (304, 6),
-    (305, 4),
-    (374, 42),
-    (390, 246),
-    (394, 103),
-    (398, 92),
-    (468, 11),
-    (484, 104),
-    (488, 246),
-    (492, 10),
-    (493, 4),
-    (562, 43),
-    (578, 247),
-    (582, 104),
-    (586, 94),
-];
+client_id = 96 # from the engineering data: end 1 of the survey, which may be the server
+server_id = 97 # from the engineering data: end 2 of the survey
+code_length = 0 # fits the length of 6 of 6 packets
+md4_start = "67452301efcdab8998badcfe10325476" # MD4's own start words; without a safety code they have no effect
+check_length = 0 # fits the length of 6 of 6 packets
+n_sendmax = 20 # from the engineering data: no offer of one was captured
+t_max = 1800 # from the engineering data, in milliseconds
+slack = 0 # from the engineering data, in milliseconds
+first_record = 3 # the first record after the quiet point
+last_record = 6 # the connection's last packet
 
-// Begun in the midst of a connection: data, and then heartbeats of both ends in turn.
-const QUIET_POINTS: DraftCase = draft!(
-    [[("data plain", "3 4 2 4 2 4")], IN_TURN, 0] 1 to 6; roles unseen, 96 and 97; no codes in 6;
-    offers "from the engineering data: no offer of one was captured"; from 3 "first record after the quiet point";
-    quiet after 2: "\
+# No opening was captured. After record 2 both ends seem to be up and to owe each other nothing: a quiet point.
+# It is a premise of every answer: only the engineering data or a log can confirm it.
 quiet.client = { next_sn = 103, clock = 1020, handed_ts = 1020 } # its last PDU is in record 1, its last data in record 1
 quiet.server = { next_sn = 502, clock = 9050, handed_ts = 9000 } # its last PDU is in record 2; an older time stamp is confirmed in record 3
 
@@ -236,55 +344,61 @@ quiet.server = { next_sn = 502, clock = 9050, handed_ts = 9000 } # its last PDU 
 # first_record = 5
 # quiet.client = { next_sn = 104, clock = 1030, handed_ts = 1020 } # its last PDU is in record 3, its last data in record 1
 # quiet.server = { next_sn = 503, clock = 9052, handed_ts = 9000 } # its last PDU is in record 4; an older time stamp is confirmed in record 5
-";
-    channel "10.0.0.1:5000", "10.0.0.2:5000" in 1;
-);
 
-// The same, where the data PDU crosses once more after the fourth packet.
-const LATE_COPY: DraftCase = draft!(
-    [
-        [("data plain", "3 4 2 4 3 2 4")],
-        [(280, 10), (296, 103), (300, 245), (304, 6), (305, 4), (374, 42), (390, 246), (394, 103), (398, 92),
-            (568, 11), (584, 104), (588, 246), (592, 10), (593, 4), (662, 43), (678, 247), (682, 104), (686, 94)],
-        0
-    ]
-    1 to 7; roles unseen, 96 and 97; no codes in 7;
-    offers "from the engineering data: no offer of one was captured"; from 6 "first record after the quiet point";
-    quiet after 5: "\
+[[channel]]
+client = "10.0.0.1:5000" # seen in record 1
+server = "10.0.0.2:5000" # seen in record 1
+== 0 | data plain: 3 4 2 4 3 2 4 | 280=10 296=103 300=245 304=6 305=4 374=42 390=246 394=103 398=92 568=11 584=104 588=246 592=10 593=4 662=43 678=247 682=104 686=94 | The same, where the data PDU crosses once more after the fourth packet.
+# A draft of the parameters of the connection in the records 1 to 7 of a capture.
+# Each line tells where its value was seen; one from the engineering data is a placeholder.
+# A draft is a guess from the form of packets: compare each line with the engineering data.
+
+client_id = 96 # from the engineering data: end 1 of the survey, which may be the server
+server_id = 97 # from the engineering data: end 2 of the survey
+code_length = 0 # fits the length of 7 of 7 packets
+md4_start = "67452301efcdab8998badcfe10325476" # MD4's own start words; without a safety code they have no effect
+check_length = 0 # fits the length of 7 of 7 packets
+n_sendmax = 20 # from the engineering data: no offer of one was captured
+t_max = 1800 # from the engineering data, in milliseconds
+slack = 0 # from the engineering data, in milliseconds
+first_record = 6 # the first record after the quiet point
+last_record = 7 # the connection's last packet
+
+# No opening was captured. After record 5 both ends seem to be up and to owe each other nothing: a quiet point.
+# It is a premise of every answer: only the engineering data or a log can confirm it.
 quiet.client = { next_sn = 104, clock = 1030, handed_ts = 1020 } # its last PDU is in record 3, its last data in record 1
 quiet.server = { next_sn = 503, clock = 9052, handed_ts = 9000 } # its last PDU is in record 4; an older time stamp is confirmed in record 6
-";
-    channel "10.0.0.1:5000", "10.0.0.2:5000" in 1;
-);
 
-// Begun before a retransmission: the point after it is the first quiet one.
-const RETRANSMISSION: DraftCase = draft!(
-    [[("lost plain", "2 3 4 5 6 7 8 9 10 18")], [], 0] 1 to 10; roles unseen, 96 and 97; no codes in 10;
-    offers "from the engineering data: no offer of one was captured"; from 9 "first record after the quiet point";
-    quiet after 8: "\
+[[channel]]
+client = "10.0.0.1:5000" # seen in record 1
+server = "10.0.0.2:5000" # seen in record 1
+== 0 | lost plain: 2 3 4 5 6 7 8 9 10 18 |  | Begun before a retransmission: the point after it is the first quiet one.
+# A draft of the parameters of the connection in the records 1 to 10 of a capture.
+# Each line tells where its value was seen; one from the engineering data is a placeholder.
+# A draft is a guess from the form of packets: compare each line with the engineering data.
+
+client_id = 96 # from the engineering data: end 1 of the survey, which may be the server
+server_id = 97 # from the engineering data: end 2 of the survey
+code_length = 0 # fits the length of 10 of 10 packets
+md4_start = "67452301efcdab8998badcfe10325476" # MD4's own start words; without a safety code they have no effect
+check_length = 0 # fits the length of 10 of 10 packets
+n_sendmax = 20 # from the engineering data: no offer of one was captured
+t_max = 1800 # from the engineering data, in milliseconds
+slack = 0 # from the engineering data, in milliseconds
+first_record = 9 # the first record after the quiet point
+last_record = 10 # the connection's last packet
+
+# No opening was captured. After record 8 both ends seem to be up and to owe each other nothing: a quiet point.
+# It is a premise of every answer: only the engineering data or a log can confirm it.
 quiet.client = { next_sn = 108, clock = 1080, handed_ts = 1072 } # its last PDU is in record 8, its last data in record 7
 quiet.server = { next_sn = 502, clock = 9060 } # its last PDU is in record 4
-";
-    channel "10.0.0.1:5000", "10.0.0.2:5000" in 1;
-);
 
-/// Each form of the text.
-pub const DRAFT_CASES: [DraftCase; 17] = [
-    HANDSHAKE,
-    OWN_START_WORDS,
-    TWO_CHANNELS,
-    SECOND_CONNECTION,
-    OPENING_AGAIN,
-    GOES_ON,
-    OPENING_AGAIN_BEHIND_ANOTHER,
-    DIFFERING_OFFERS,
-    NO_OFFER,
-    RESPONSE_FIRST,
-    OTHER_START_WORDS,
-    SEVERAL_LENGTHS,
-    SIX_CHANNELS,
-    BACKWARDS,
-    QUIET_POINTS,
-    LATE_COPY,
-    RETRANSMISSION,
-];
+[[channel]]
+client = "10.0.0.1:5000" # seen in record 1
+server = "10.0.0.2:5000" # seen in record 1
+"#;
+
+/// The lines of the cases of a draft.
+pub fn drafts() -> &'static str {
+    DRAFTS
+}

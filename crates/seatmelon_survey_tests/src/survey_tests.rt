@@ -1,5 +1,5 @@
 //! The text of a survey, and what it answers where a device goes wrong.
-use crate::cases::{CASES, Case};
+use crate::cases::{Case, MARK, case_in, surveys};
 use crate::files::file_with;
 use rasta_pcap::devices::{FailAt, Pieces};
 use rasta_pcap::{Counted, Fault, Sink, Source};
@@ -10,8 +10,12 @@ use std::process::Abort;
 use std::test::Fail;
 
 // The file of a case.
-fn file_in(alloc: Global, case: &Case) -> Option<Vec<u8>> {
+fn file_in(alloc: Global, case: &Case<'_>) -> Option<Vec<u8>> {
     file_with(alloc, case.parts, case.changes)
+}
+
+fn first_case() -> Option<Case<'static>> {
+    case_in(surveys().split(MARK).nth(1)?)
 }
 
 // What a file that comes in pieces of this size holds.
@@ -28,12 +32,13 @@ fn text_of(alloc: Global, survey: &Survey) -> Option<Vec<u8>> {
 
 #[test]
 fn texts(rt: HostRuntime) -> Result<(), Fail> {
-    for case in CASES {
-        let file = file_in(rt.alloc(), &case).ok_or(case.want)?;
+    for lines in surveys().split(MARK).skip(1) {
+        let case = case_in(lines).ok_or("a case")?;
+        let file = file_in(rt.alloc(), &case).ok_or("a file")?;
         for most in [1, 7, 4096] {
             let found = surveyed(rt.alloc(), &file, most).ok().ok_or("a survey")?;
             let text = text_of(rt.alloc(), &found).ok_or("a text")?;
-            assert_eq!(rt; text.as_slice(), case.want.as_bytes(), "{:?}", case.parts);
+            assert_eq!(rt; text.as_slice(), case.want.as_bytes(), "{}", case.name);
         }
     }
     Ok(())
@@ -53,8 +58,8 @@ fn cut_capture(rt: HostRuntime) -> Result<(), Fail> {
 // Each read fails in turn: the survey is the same, or the failure is told.
 #[test]
 fn failing_reads(rt: HostRuntime) -> Result<(), Fail> {
-    let case = CASES.first().ok_or("a case")?;
-    let file = file_in(rt.alloc(), case).ok_or("a file")?;
+    let case = first_case().ok_or("a case")?;
+    let file = file_in(rt.alloc(), &case).ok_or("a file")?;
     for call in 1..60 {
         let mut reader = Counted::new(FailAt::new(Pieces::new(&file, 9), call));
         let outcome = survey(rt.alloc(), &mut reader);
@@ -94,8 +99,8 @@ pub fn compare_front<R: Abort + AllocGlobal>(
 // Each write fails in turn.
 #[test]
 fn failing_writes(rt: HostRuntime) -> Result<(), Fail> {
-    let case = CASES.first().ok_or("a case")?;
-    let file = file_in(rt.alloc(), case).ok_or("a file")?;
+    let case = first_case().ok_or("a case")?;
+    let file = file_in(rt.alloc(), &case).ok_or("a file")?;
     let found = surveyed(rt.alloc(), &file, 4096).ok().ok_or("a survey")?;
     for call in 1..200 {
         let mut writer = Counted::new(FailAt::new(Vec::new(rt.alloc()), call));

@@ -1,9 +1,8 @@
-//! Captures, and what is wanted of them as JSON. A JSON text stands here over several lines, each without the
-//! spaces before it; the line feeds between them are no part of it.
-use crate::cases::{Case, PLAIN, file_cases, packet_cases, script_cases, step_cases};
+//! Captures, and what is wanted of them as JSON. A JSON text stands here over several lines; the line feeds between
+//! them are no part of it.
 
-/// The whole text on the explained case.
-pub const EXPLAINED_JSON: &str = r#"
+const WHOLE: &str = r#"
+== data plain: 0 1 2 3 4 |  |  | plain |  | Data that are confirmed.
 {"program":"seatmelon 0.1.0, proved with Rattle, logic dac8208d650f15bf",
 "capture":{"name":"c","sha256":"e56454b33ee136b1ec869d81d2ac3181b8675027c9d9a55fbeeda50c6825eb8c"},
 "parameters":{"name":"p","sha256":"690d7880e356248a4f526b2a78d7367e4412615a8a85f47eafa354a793430538"},
@@ -27,11 +26,7 @@ pub const EXPLAINED_JSON: &str = r#"
 "proof":{"record":5,"time":"1970-01-01 00:00:00.000000 UTC","channel":1},
 "hex":"","text":""}]},
 {"from":"server","to":"client","surely_taken":0,"sent":0,"messages":[]}]}
-"#;
-
-/// A number that was used twice.
-pub const COPY_DIFFERS: Case = Case {
-    want: r#"
+== data plain: 0 1 2 3 4 5 6@2 |  |  | plain |  | A number that was used twice.
 {"program":"seatmelon 0.1.0, proved with Rattle, logic dac8208d650f15bf",
 "capture":{"name":"c","sha256":"258e24914ad231903b7d57519765f9685bb05da39d69920567de16b223b1ac71"},
 "parameters":{"name":"p","sha256":"690d7880e356248a4f526b2a78d7367e4412615a8a85f47eafa354a793430538"},
@@ -51,103 +46,55 @@ pub const COPY_DIFFERS: Case = Case {
 "first_copy":{"record":6,"time":"1970-01-01 00:00:00.000000 UTC","channel":1},"first_copy_bytes":null,
 "differences":[{"at":28,"found":"ff","first_copy":"fe"}],"may_differ_further":false},
 "line":null,"entry":null,"pdu":null,"rule":null}
-"#,
-    ..packet_cases::COPY_DIFFERS
-};
-
-/// No packet at all, with records left out.
-pub const NO_PACKETS: Case = Case {
-    without: &[3, 5],
-    want: r#"
+== data plain: - |  | 3 5 | plain |  | No packet at all, with records left out.
 {"program":"seatmelon 0.1.0, proved with Rattle, logic dac8208d650f15bf",
 "capture":{"name":"c","sha256":"704e5e5b3234433c01fcfd1b20a306e77e985038120492dc53965c3edd38a4ea"},
 "parameters":{"name":"p","sha256":"690d7880e356248a4f526b2a78d7367e4412615a8a85f47eafa354a793430538"},
 "certificate":null,"without":[3,5],"records_read":0,"window":null,"packets":0,
 "channels":[{"channel":1,"from_client":0,"from_server":0},{"channel":2,"from_client":0,"from_server":0}],
 "records_passed_over":0,"offers":[],"verdict":"no_packets"}
-"#,
-    ..PLAIN
-};
+"#;
 
-const CODE: Case = Case {
-    want: r#"
+/// Cases with their whole JSON.
+pub fn whole() -> &'static str {
+    WHOLE
+}
+
+const PARTS: &str = r#"
+== data code16: 0 1 2 2 flip |  |  | code16 |  | A late copy with a flipped bit.
 "trouble":{"code_found":"7a9bef200a8e93ad6ea9b769f0c39b06","code_due":"7a9bef200a8e93ad6ea9b769f0c39b07",
 "first_copy":{"record":3,"time":"1970-01-01 00:00:00.000000 UTC","channel":1},"first_copy_bytes":null,
 "differences":[{"at":51,"found":"06","first_copy":"07"}],"may_differ_further":false},
 "line":null,"entry":null,"pdu":null,"rule":null}
-"#,
-    ..packet_cases::CODE
-};
-
-const TOO_SHORT: Case = Case {
-    want: r#"
+== data plain: 2 |  |  | code16 |  | A heartbeat without a safety code, where one of 16 bytes is recorded.
 "sn":101,"cs":500,"ts":1010,"cts":9000},"payload_and_codes":""},
 "trouble":{"least_bytes_due":52},"line":null,
-"#,
-    ..packet_cases::TOO_SHORT
-};
-
-const SAFETY_LENGTH: Case = Case {
-    want: r#""trouble":{"safety_length_field_due":42},"line":null,"#,
-    ..packet_cases::SAFETY_LENGTH
-};
-
-const REDUNDANCY_LENGTH: Case = Case {
-    want: r#""trouble":{"length_field_due":50},"line":null,"#,
-    ..packet_cases::REDUNDANCY_LENGTH
-};
-
-const IDS: Case = Case {
-    want: r#""trouble":{"receiver_due":97,"sender_due":96},"line":null,"#,
-    ..packet_cases::IDS
-};
-
-const NUMBER_GAP: Case = Case {
-    want: r#"
+== data plain: 0 | 90=41 |  | plain |  | A wrong length of the safety layer.
+"trouble":{"safety_length_field_due":42},"line":null,
+== data plain: 0 | 82=51 |  | plain |  | A wrong length of the redundancy layer.
+"trouble":{"length_field_due":50},"line":null,
+== data plain: 0 | 94=98 |  | plain |  | The ids of other ends.
+"trouble":{"receiver_due":97,"sender_due":96},"line":null,
+== data plain: 0 1 3 2 |  |  | plain |  | The missing packet crosses later.
 "trouble":{"number_due":8,"number_found":9,
 "crosses_later":{"record":4,"time":"1970-01-01 00:00:00.000000 UTC","channel":1}},
-"#,
-    ..packet_cases::NUMBER_GAP
-};
-
-const CUT_RECORD: Case = Case {
-    want: r#"
+== data plain: 0 1 cut |  |  | plain |  | A file that is cut in a record.
 "record":{"record":2,"time":null},"packet":null,"trouble":null,"line":null,"entry":null,"pdu":null,"rule":null}
-"#,
-    ..file_cases::CUT_RECORD
-};
-
-const OTHER_SENDMAX: Case = Case {
-    want: r#"
+== data plain: 0 1 2 |  |  | narrow | rasta-certificate 2;  | A certificate of another version.
 "offers":[{"end":"client","offered":20,"recorded":1},{"end":"server","offered":20,"recorded":1}],
 "verdict":"refused","fault":{"number":30,"name":"Syntax",
 "meaning":"this line isn't one that a certificate has there",
 "cause":"the certificate is wrong: another one may explain the same packets",
 "next_step":"this line of the certificate"},
 "record":null,"packet":null,"trouble":null,"line":1,"entry":null,"pdu":null,"rule":null}
-"#,
-    ..script_cases::OTHER_SENDMAX
-};
-
-const NOT_ALLOWED: Case = Case {
-    want: r#"
+== data plain: 0 1 2 |  |  | plain | rasta-certificate 1; client; make 0 1000 open; take 2 40; make 2 1010 reply; server; take 1 7; make 1 9000 beat; end;  | An entry of the server.
 "line":null,"entry":{"number":2,"end":"server","line":8},
 "pdu":{"end":"server","packet":{"record":2,"time":"1970-01-01 00:00:00.000000 UTC","channel":1},
 "fields":{"type":6201,"type_name":"connection response","redundancy_number":40,
 "sn":500,"cs":100,"ts":9000,"cts":1000,"messages":[]}},"rule":null}
-"#,
-    ..step_cases::NOT_ALLOWED
-};
-
-const NEVER_CROSSES: Case = Case {
-    want: r#""entry":{"number":2,"end":"client","line":4},"pdu":null,"rule":null}"#,
-    ..script_cases::NEVER_CROSSES
-};
-
-// Data, and no opening before it.
-const WITHOUT_OPENING: Case = Case {
-    packets: "3",
-    want: r#"
+== data plain: 0 1 2 |  |  | plain | rasta-certificate 1; client; make 0 1000 open; take 2 41; make 2 1010 reply; server; take 1 7; make 1 9000 reply; end;  | It takes a packet that never crosses.
+"entry":{"number":2,"end":"client","line":4},"pdu":null,"rule":null}
+== data plain: 3 |  |  | plain |  | Data, and no opening before it.
 "cause":"the capture begins in the middle of the connection, and the parameters record no quiet point;
  or the opening is there, but outside the window or on a channel that isn't recorded",
 "next_step":"the quiet points that seatmelon draft proposes, one of which the engineering data or a log
@@ -158,58 +105,29 @@ const WITHOUT_OPENING: Case = Case {
 "messages":[{"hex":"ab01","text":"\\xab\\x01"},{"hex":"","text":""}]}},
 "rule":{"words":"CS 500 confirms a PDU of the server, and none crosses",
 "number_due":null,"number_found":null,"peer_pdu":null}}
-"#,
-    ..PLAIN
-};
-
-const TYPE: Case = Case {
-    want: r#""trouble":{"type_found":6144},"line":null,"#,
-    ..packet_cases::TYPE
-};
-
-// The version of an opening has a byte that is no digit.
-const VERSION: Case = Case {
-    packets: "0",
-    changes: &[(118, 255)],
-    want: r#"
+== data plain: 0 | 92=0 |  | plain |  | An unknown type.
+"trouble":{"type_found":6144},"line":null,
+== data plain: 0 | 118=255 |  | plain |  | The version of an opening has a byte that is no digit.
 "trouble":{"payload_due":"14 bytes, which begin with a version of four digits","payload_bytes":14,
 "version":{"hex":"ff333033","text":"\\xff303"},"cut_message":null},"line":null,
-"#,
-    ..PLAIN
-};
-
-const CUT_MESSAGE: Case = Case {
-    packets: "3",
-    changes: &[(118, 5)],
-    want: r#"
+== data plain: 3 | 118=5 |  | plain |  | A message that is cut.
 "payload_bytes":6,"version":null,"cut_message":{"at":0,"length":5,"left":4}},"line":null,
-"#,
-    ..PLAIN
-};
-
-// What the client confirms crosses later.
-const CONFIRMS_LATER: Case = Case {
-    packets: "0 2 1",
-    want: r#"
+== data plain: 0 2 1 |  |  | plain |  | What the client confirms crosses later.
 "rule":{"words":"CS 500 confirms a PDU of the server that crosses later","number_due":null,"number_found":null,
 "peer_pdu":{"end":"server","packet":{"record":3,"time":"1970-01-01 00:00:00.000000 UTC","channel":1},
 "fields":{"type":6201,"type_name":"connection response","redundancy_number":40,
 "sn":500,"cs":100,"ts":9000,"cts":1000,"messages":[]}}}}
-"#,
-    ..PLAIN
-};
-
-const SEQUENCE_NUMBER: Case = Case {
-    settings: "timed plain",
-    packets: "0 1 2 14",
-    want: r#"
+== timed plain: 0 1 2 14 |  |  | plain |  | Another SN than the next one.
 "rule":{"words":"SN isn't the next one of this end","number_due":102,"number_found":112,"peer_pdu":null}}
-"#,
-    ..PLAIN
-};
+"#;
 
-/// A part of what is wanted of a capture from a quiet point, where one clock is the greatest that is a number.
-pub const QUIET_JSON: &str = r#"
+/// Cases with a part of their JSON, of each kind.
+pub fn parts() -> &'static str {
+    PARTS
+}
+
+const QUIET: &str = r#"
+== data plain: 3 |  |  | plain |  | A capture from a quiet point where one clock is the greatest that is a number.
 "The quiet point before record 1 is true, and no copy of an earlier packet comes after it."],
 "quiet_point":{"first_record":1,
 "client":{"next_sn":102,"clock":1010,"deadline":9007199254740992,"handed_ts":null},
@@ -220,22 +138,7 @@ pub const QUIET_JSON: &str = r#"
 "hex":"ab01","text":"\\xab\\x01"},
 "#;
 
-/// A part of what is wanted, of each kind.
-pub const PARTS: [Case; 16] = [
-    CODE,
-    TOO_SHORT,
-    SAFETY_LENGTH,
-    REDUNDANCY_LENGTH,
-    IDS,
-    NUMBER_GAP,
-    CUT_RECORD,
-    OTHER_SENDMAX,
-    NOT_ALLOWED,
-    NEVER_CROSSES,
-    WITHOUT_OPENING,
-    TYPE,
-    VERSION,
-    CUT_MESSAGE,
-    CONFIRMS_LATER,
-    SEQUENCE_NUMBER,
-];
+/// A case with a part of its JSON, where one clock of its quiet point is the greatest that is a number.
+pub fn quiet() -> &'static str {
+    QUIET
+}
