@@ -1,13 +1,14 @@
 #!/usr/bin/env python3
 """Writes answers at the goals at which must-fail edits are refused, so that the gate takes less time.
 
-    answer_refusals.py CRATE [EDIT..]
+    answer_refusals.py CRATE
 
-Run it at the top of a clone in which `rt check` passed in CRATE's folder. It tries each edit of the crate, or those that
-are named, over what that check kept. Where a goal has no answer, the check of an edit works out what to write for it,
-which takes a fifth of its time and more. Such a goal gets an answer in `proofs/.../Answers.antt`, if one of a few calls
-of a tactic proves it in the code as it stands. A line for each edit says its seconds before, the goals, and what became
-of them. Afterwards the crate is to be checked as a whole. Plain Python 3, no other packages.
+Where a goal has no answer, the check of an edit tries all its tactics before it refuses, and then works out what to
+write for the goal. The script finds these goals by applying many edits of the crate at once, one for each function, in
+a few checks, and those that such a check says nothing of one by one. It writes an answer for each goal, in
+`proofs/.../Answers.antt`, that one call of a tactic proves in the code as it stands. Run it at the top of a clone in
+which `rt check` passed in CRATE's folder. Its last line counts the goals, and those that have an answer now. Plain
+Python 3, no other packages.
 """
 import importlib.machinery
 import importlib.util
@@ -17,14 +18,27 @@ import shutil
 import subprocess
 import sys
 import tempfile
-import time
+from collections import defaultdict, namedtuple
 from pathlib import Path
 
 sys.dont_write_bytecode = True
 
-# What is tried, in turn: a term, and the names of std that it needs.
-TRIED = (("search rules", ["rules"]), ("search (rules, tests)", ["rules", "tests"]), ("grind arith", ["arith"]))
-NOTE = re.compile(r"note: (src/\S+?):(\d+):\d+: .*?\(`([^`]+)`\)")
+COMMON, STEPS = "Rattle.std.proofs.Common", "Rattle.std.proofs.lemmas.Grind"
+# What is tried, in turn: a term, and the names that it needs, by module.
+TRIED = (
+    ("search rules", {COMMON: ["rules"]}),
+    ("grind (arith, common_steps)", {COMMON: ["arith"], STEPS: ["common_steps"]}),
+)
+# Where a check says what to write: a file, and lines of it; and where an answer is wrong.
+OFFER = re.compile(r"^help: (?:write|add to|change) (?:\./)?(proofs/\S+/Answers\.antt)", re.M)
+GOAL = re.compile(r"^    pub (\S+) : goal\.\1\n    \1((?: \S+)*) = \?", re.M)
+GOALS = re.compile(r"^    (use \S+\.Goals as goal)$", re.M)
+WRONG = re.compile(r"^(?:\./)?(proofs/\S+/Answers\.antt):(\d+):\d+: error", re.M)
+NOTE = re.compile(r"^note: (src/\S+?):(\d+):\d+:", re.M)
+FUNCTION = re.compile(r"\s*(?:pub(?:\([a-z]+\))? )?(?:const )?(?:unsafe )?fn (\w+)")
+
+# An edit: its name, what it turns as files, old and new lines, and the functions in which it does so.
+Edit = namedtuple("Edit", "name turns functions")
 
 
 def load_gate():
@@ -35,92 +49,168 @@ def load_gate():
     return module
 
 
-def function_at(folder, file, line):
-    """The name of the function in which a line of a file stands."""
-    for text in reversed((folder / file).read_text(encoding="utf-8").split("\n")[:line]):
-        found = re.match(r"\s*(?:pub(?:\([a-z]+\))? )?(?:const )?fn (\w+)", text)
-        if found:
-            return found[1]
-    return None
+def function_at(text, line):
+    """The line, from 0, of the head of the function in which a line of a text stands; the line itself outside of one."""
+    lines = text.split("\n")
+    return next((at for at in range(line, -1, -1) if FUNCTION.match(lines[at])), line)
 
 
-def open_goals(gate, crate, edit):
-    """The goals that stay open with an edit, by the path of their function, and how long its check took."""
-    folder, begun = Path(crate.folder), time.time()
-    texts, why = gate.read_edit(str(edit), crate.folder)
-    if why:
-        sys.exit(f"{edit}: {why}")
-    with tempfile.TemporaryDirectory() as room:
-        shutil.copytree(f"{crate.folder}/out/incremental", f"{room}/seed", copy_function=gate.link_or_copy)
-        ran = gate.checked(crate, texts, ["--jobs", "1", "--progress"], f"{room}/seed")
-    paths = re.findall(rf"^checked {crate.name}::(\S+), ", ran.stdout, re.M)
-    goals = {}
-    for file, line, goal in NOTE.findall(ran.stdout):
-        name = function_at(folder, file, int(line))
-        module = "::".join(Path(file).with_suffix("").parts[1:])
-        fit = [it for it in paths if it.split("::")[-1] == name and f"::{it}".startswith(f"::{module}::")]
-        if len(fit) == 1:
-            goals.setdefault(fit[0], []).append(goal)
-    return goals, time.time() - begun
+class Tried:
+    """The edits of a crate, and the checks that try them."""
+
+    def __init__(self, gate, crate):
+        self.gate, self.crate, self.folder = gate, crate, Path(crate.folder)
+        self.said = []
+
+    def text(self, file):
+        return (self.folder / file).read_text(encoding="utf-8")
+
+    def edit(self, path):
+        turns, file, old = [], None, None
+        for line in Path(path).read_text(encoding="utf-8").split("\n"):
+            head, _, rest = line.partition(": ")
+            if head == "file":
+                file = rest.strip()
+            elif head == "old":
+                old = rest
+            elif line.startswith("new:"):
+                turns.append((file, old, rest))
+        functions = {(file, function_at(self.text(file), self.text(file).split(old)[0].count("\n"))) for file, old, _ in turns}
+        return Edit(Path(path).stem, turns, functions)
+
+    def edits(self):
+        found = [self.edit(it) for it in sorted((self.folder / "must-fail").glob("*.edit"))]
+        # An edit of a statement is refused wherever it is used.
+        return [it for it in found if all(file.startswith("src/") for file, _, _ in it.turns)]
+
+    def check(self, edits):
+        """What a check says with these edits, and their functions whose own goals it names."""
+        texts = {}
+        for edit in edits:
+            for file, old, new in edit.turns:
+                texts[file] = texts.get(file, self.text(file)).replace(old, new)
+        with tempfile.TemporaryDirectory() as room:
+            self.gate.linked(f"{self.folder}/out/incremental", f"{room}/seed")
+            said = self.gate.checked(self.crate, texts, ["--jobs", "1", "--progress"], f"{room}/seed").stdout
+        self.said.append(said)
+        found = {(file, function_at(texts.get(file) or self.text(file), int(line) - 1)) for file, line in NOTE.findall(said)}
+        named = {file.split("/")[-2] for file, _ in WRONG.findall(said)}
+        heads = {it: FUNCTION.match(self.text(it[0]).split("\n")[it[1]]) for edit in edits for it in edit.functions}
+        return found | {it for it, head in heads.items() if head and head[1] in named}
+
+    def run(self):
+        """Tries all edits: many in one check, as long as that says something of one of them, then each alone."""
+        left = self.edits()
+        while True:
+            batch, used = [], set()
+            for edit in left:
+                if not edit.functions & used:
+                    batch.append(edit)
+                    used |= edit.functions
+            found = self.check(batch) if batch else set()
+            done = {it.name for it in batch if it.functions & found}
+            print(f"{len(batch)} edits in one check: goals of {len(done)}", flush=True)
+            left = [it for it in left if it.name not in done]
+            if not done:
+                break
+        for edit in left:
+            self.check([edit])
 
 
-def with_answers(text, crate, path, answers):
-    """The text of a function's answers with these more: goals, each with its term and the names of std in it."""
-    words = sorted({word for _, words in answers.values() for word in words})
-    common = re.search(r"^use Rattle\.std\.proofs\.Common\.\{([^}]*)\}$", text, re.M)
-    if common:
-        have = [it.strip() for it in common[1].split(",")]
-        all_words = ", ".join([*[it for it in words if it not in have], *have])
-        text = text.replace(common[0], f"use Rattle.std.proofs.Common.{{{all_words}}}")
-    else:
-        text = f"use Rattle.std.proofs.Common.{{{', '.join(words)}}}\n{text}"
-    if " as goal" not in text:
-        text += f"use Rattle.{crate.name}.proofs.{path.replace('::', '.')}.Goals as goal\n"
-    for goal, (term, _) in answers.items():
-        text += f"\npub {goal} : goal.{goal}\n{goal} c = {term}\n"
+def offered(said):
+    """The goals that stayed open, by file: the arguments of each, and the file's line for its goals."""
+    goals, heads = defaultdict(dict), {}
+    for text in said:
+        found = list(OFFER.finditer(text))
+        for here, after in zip(found, [*found[1:], None]):
+            part = text[here.end() : after.start() if after else len(text)]
+            head = GOALS.search(part)
+            if head:
+                heads[here[1]] = head[1]
+            goals[here[1]].update(GOAL.findall(part))
+    return goals, heads
+
+
+def with_imports(text, names):
+    """The text of a file with these names of a module imported, each once."""
+    for module, words in names.items():
+        line = re.search(rf"^use {re.escape(module)}\.\{{([^}}]*)\}}$", text, re.M)
+        have = [it.strip() for it in line[1].split(",")] if line else []
+        new = f"use {module}.{{{', '.join([*[it for it in words if it not in have], *have])}}}"
+        text = text.replace(line[0], new) if line else f"{new}\n{text}"
     return text
 
 
-def answer(crate, path, goals):
-    """Writes what proves these goals of a function, and returns the goals that it does so for."""
-    file = Path(crate.folder, "proofs", *path.split("::"), "Answers.antt")
-    before = file.read_text(encoding="utf-8") if file.exists() else ""
-    left = [it for it in dict.fromkeys(goals) if f"pub {it} :" not in before]
-    kept = {}
-    for term, words in TRIED:
-        if not left:
-            break
-        file.parent.mkdir(parents=True, exist_ok=True)
-        file.write_text(with_answers(before, crate, path, {**kept, **{it: (term, words) for it in left}}), encoding="utf-8")
-        ran = subprocess.run(["rt", "check", "--only", path], cwd=crate.folder, stdin=subprocess.DEVNULL,
-            stdout=subprocess.PIPE, stderr=subprocess.STDOUT, text=True, check=False)
-        wrong = {it for it in left if f"error: `{it}`" in ran.stdout}
-        if ran.returncode and not wrong:
-            break
-        kept.update({it: (term, words) for it in left if it not in wrong})
-        left = [it for it in left if it in wrong]
-    if kept:
-        file.write_text(with_answers(before, crate, path, kept), encoding="utf-8")
-    elif before:
-        file.write_text(before, encoding="utf-8")
-    elif file.exists():
-        file.unlink()
-    return list(kept)
+def with_answers(text, head, answers):
+    """The text of a function's answers with these more: a goal, its arguments and the term."""
+    if " as goal" not in text:
+        text += f"{head}\n"
+    names = defaultdict(list)
+    for _, _, (_, needed) in answers:
+        for module, words in needed.items():
+            names[module] += [it for it in words if it not in names[module]]
+    for goal, given, (term, _) in answers:
+        text += f"\npub {goal} : goal.{goal}\n{goal}{given} = {term}\n"
+    return with_imports(text, names)
+
+
+class Answers:
+    """The answers of a crate's goals, and the check that judges them."""
+
+    def __init__(self, folder, goals, heads):
+        self.folder, self.goals, self.heads = folder, goals, heads
+        self.before = {it: (folder / it).read_text(encoding="utf-8") if (folder / it).exists() else "" for it in goals}
+
+    def missing(self):
+        return {(file, goal) for file, its in self.goals.items() for goal in its
+            if file in self.heads and f"pub {goal} :" not in self.before[file]}
+
+    def write(self, answers):
+        for file, text in self.before.items():
+            its = [(goal, self.goals[file][goal], term) for (at, goal), term in sorted(answers.items()) if at == file]
+            if its:
+                (self.folder / file).parent.mkdir(parents=True, exist_ok=True)
+                (self.folder / file).write_text(with_answers(text, self.heads[file], its), encoding="utf-8")
+            elif text:
+                (self.folder / file).write_text(text, encoding="utf-8")
+            else:
+                (self.folder / file).unlink(missing_ok=True)
+
+    def wrong(self):
+        """The goals whose answers a check refuses; it ends where the check fails for another reason."""
+        ran = subprocess.run(["rt", "check"], cwd=self.folder, stdin=subprocess.DEVNULL, stdout=subprocess.PIPE,
+            stderr=subprocess.STDOUT, text=True, check=False)
+        found = set()
+        for file, line in WRONG.findall(ran.stdout):
+            lines = (self.folder / file).read_text(encoding="utf-8").split("\n")[: int(line)]
+            found.add((file, next(it.split(" ")[1] for it in reversed(lines) if it.startswith("pub "))))
+        if ran.returncode and not found:
+            sys.exit(ran.stdout)
+        return found
 
 
 def main():
-    if len(sys.argv) < 2:
+    if len(sys.argv) != 2:
         sys.exit(__doc__)
     gate = load_gate()
     gate.rtlib.guarded()
-    crate = next(it for it in gate.rtlib.crates_below(os.getcwd()) if it.name == sys.argv[1])
-    for edit in sorted(Path(crate.folder, "must-fail").glob("*.edit")):
-        if sys.argv[2:] and edit.stem not in sys.argv[2:]:
-            continue
-        goals, seconds = open_goals(gate, crate, edit)
-        for path, names in goals.items():
-            found = answer(crate, path, names)
-            print(f"{edit.stem}: {seconds:.0f} s, {path}: {len(found)} of {len(set(names))} answered: {' '.join(names)}", flush=True)
+    gate.Crate.cuts_libraries = True
+    crate = next(it for it in gate.crates_of(os.getcwd()) if it.name == sys.argv[1])
+    tried = Tried(gate, crate)
+    tried.run()
+    answers = Answers(tried.folder, *offered(tried.said))
+    left, kept = answers.missing(), {}
+    count = len(left)
+    for term in TRIED:
+        answers.write({**kept, **dict.fromkeys(left, term)})
+        wrong = answers.wrong() & left if left else set()
+        kept.update(dict.fromkeys(left - wrong, term))
+        left = wrong
+    answers.write(kept)
+    answers.wrong()
+    for file, goal in sorted(left):
+        print(f"no answer: {file} {goal}")
+    print(f"{crate.name}: {count} goals, {len(kept)} answered")
 
 
 if __name__ == "__main__":

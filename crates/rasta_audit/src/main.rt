@@ -3,19 +3,10 @@
 //! CERT` what a certificate explains of them, and `audit CAPTURE PARAMS` builds and checks.
 #![tactic(auto)]
 
-mod command;
-mod failure;
-mod files;
-mod form;
-mod running;
-#[cfg(test)]
-mod tests;
-
-use crate::command::{form, words};
-use crate::failure::{Failure, status};
-use crate::files::{capture_at, file_at, finish, output};
-use crate::form::Form;
-pub use crate::running::run_form;
+pub use rasta_commands::run_form;
+use rasta_commands::{
+    Failure, Form, capture_at, file_at, finish, output, parse, status, words,
+};
 pub use rasta_params::params;
 use rasta_pdu::Fault;
 pub use rasta_show::run_show;
@@ -41,7 +32,7 @@ fn write_form<R: AllocGlobal + Files + Print>(rt: &R, form: &Form<'_>) -> Result
 
 fn answer<R: AllocGlobal + Env + Files + Print>(rt: &R) -> Result<u8, Failure> {
     let words = words(rt)?;
-    let form = form(rt.alloc(), &words)?;
+    let form = parse(rt.alloc(), &words)?;
     write_form(rt, &form).map_err(Failure::Refused)
 }
 

@@ -11,6 +11,8 @@ mod check_tests;
 #[cfg(test)]
 mod device_tests;
 #[cfg(test)]
+mod form_tests;
+#[cfg(test)]
 mod piece_tests;
 #[cfg(test)]
 mod show_tests;

@@ -11,20 +11,19 @@ use std::alloc::Global;
 use std::io;
 use std::io::{Read, Write};
 use std::process::Abort;
-use std::test::Fail;
 
 // The words of a text.
-fn words_in(alloc: Global, text: &str) -> Result<Vec<String>, Fail> {
+fn words_in(alloc: Global, text: &str) -> Option<Vec<String>> {
     let mut list = Vec::new(alloc);
     for word in text.split(' ') {
         if !word.is_empty() {
-            list.push(String::from_str(alloc, word)?)?;
+            list.push(String::from_str(alloc, word).ok()?).ok()?;
         }
     }
-    Ok(list)
+    Some(list)
 }
 
-fn explaining_text(alloc: Global, explaining: &Explaining<'_>) -> Result<String, Fail> {
+fn explaining_text(alloc: Global, explaining: &Explaining<'_>) -> Option<String> {
     let Explaining {
         capture,
         parameters,
@@ -33,22 +32,29 @@ fn explaining_text(alloc: Global, explaining: &Explaining<'_>) -> Result<String,
         form,
     } = explaining;
     let certificate = certificate.unwrap_or("-");
-    Ok(format!(in alloc; "explain {capture} {parameters} {certificate} {without:?} {form:?}")?)
+    format!(in alloc; "explain {capture} {parameters} {certificate} {without:?} {form:?}").ok()
 }
 
 // The request as a text, or what is wrong with the words.
-fn request_text(alloc: Global, words: &[String]) -> Result<String, Fail> {
+fn request_text(alloc: Global, words: &[String]) -> Option<String> {
     match parse(alloc, words) {
-        Ok(Request::Survey { capture }) => Ok(format!(in alloc; "survey {capture}")?),
+        Ok(Request::Survey { capture }) => format!(in alloc; "survey {capture}").ok(),
         Ok(Request::Draft { capture, number }) => {
-            Ok(format!(in alloc; "draft {number} of {capture}")?)
+            format!(in alloc; "draft {number} of {capture}").ok()
         }
         Ok(Request::Explain(explaining)) => explaining_text(alloc, &explaining),
         Err(error) => {
             let kind = error.kind();
-            Ok(format!(in alloc; "{kind:?}")?)
+            format!(in alloc; "{kind:?}").ok()
         }
     }
+}
+
+// Whether the words of a row ask for what it says.
+fn is_asked(alloc: Global, row: &str) -> Option<bool> {
+    let (words, want) = row.split_once(" | ")?;
+    let list = words_in(alloc, words)?;
+    Some(request_text(alloc, &list)?.as_str() == want)
 }
 
 // Words, and what they ask for.
@@ -103,13 +109,10 @@ survey c --without 7 | UnknownArgument
 ";
 
 #[test]
-fn requests_of_the_command_line(rt: HostRuntime) -> Result<(), Fail> {
+fn requests_of_the_command_line(rt: HostRuntime) {
     for row in REQUESTS.lines() {
-        let (words, want) = row.split_once(" | ").ok_or("a row")?;
-        let list = words_in(rt.alloc(), words)?;
-        assert_eq!(rt; request_text(rt.alloc(), &list)?.as_str(), want);
+        assert_eq!(rt; is_asked(rt.alloc(), row), Some(true), "{row}");
     }
-    Ok(())
 }
 
 // A classic capture without a record.
@@ -124,77 +127,79 @@ struct Refused {
 const REFUSED: [Refused; 9] = [
     Refused {
         file: b"",
-        text: "c: the file ends inside its header (13 CutHeader)",
+        text: "1 c: the file ends inside its header (13 CutHeader)",
     },
     Refused {
         file: b"\x1f\x8b\x08\0\0\0\0\0",
-        text: "c: the file ends inside its header (13 CutHeader)\nthis is a gzip file: gunzip it first",
+        text: "1 c: the file ends inside its header (13 CutHeader)\nthis is a gzip file: gunzip it first",
     },
     Refused {
         file: b"\x1f\x8b\x08\0\0\0\0\0\0\x03 a body of twenty bytes",
-        text: "c: this is not a classic libpcap file (10 NotPcap)\nthis is a gzip file: gunzip it first",
+        text: "1 c: this is not a classic libpcap file (10 NotPcap)\nthis is a gzip file: gunzip it first",
     },
     Refused {
         file: b"\x0a\x0d\x0d\x0a\x1c\0\0\0\x4d\x3c\x2b\x1a\x01\0\0\0\xff\xff\xff\xff\xff\xff\xff\xff\x1c\0\0\0",
-        text: "c: this is not a classic libpcap file (10 NotPcap)\n\
+        text: "1 c: this is not a classic libpcap file (10 NotPcap)\n\
                this is a pcapng file: editcap -F pcap IN OUT makes a classic one",
     },
     Refused {
         file: b"client_id = 96\nserver_id = 97\n",
-        text: "c: this is not a classic libpcap file (10 NotPcap)\n\
+        text: "1 c: this is not a classic libpcap file (10 NotPcap)\n\
                this looks like a text file; CAPTURE is the file that holds the packets",
     },
     Refused {
         file: b"\x7fELF, but of more than twenty-four bytes",
-        text: "c: this is not a classic libpcap file (10 NotPcap)",
+        text: "1 c: this is not a classic libpcap file (10 NotPcap)",
     },
     Refused {
         file: b"\xd4\xc3\xb2\xa1\x02\0\x05\0\0\0\0\0\0\0\0\0\0\0\x04\0\x01\0\0\0",
-        text: "c: this is not version 2.4 of the libpcap format (11 Version)",
+        text: "1 c: this is not version 2.4 of the libpcap format (11 Version)",
     },
     Refused {
         file: b"\xd4\xc3\xb2\xa1\x02\0\x04\0\0\0\0\0\0\0\0\0\0\0\x04\0\x71\0\0\0",
-        text: "c: its frames are not Ethernet frames (12 LinkType)",
+        text: "1 c: its frames are not Ethernet frames (12 LinkType)",
     },
     Refused {
         file: b"\xd4\xc3\xb2\xa1\x02\0\x04\0\0\0\0\0\0\0\0\0\0\0\x04\0\x01\0\0\0\x01",
-        text: "c: the file ends inside record 1 (14 CutRecord)",
+        text: "1 c: the file ends inside record 1 (14 CutRecord)",
     },
 ];
 
-// Whether a reader's survey fails so.
-fn expect_failure<R: Abort + AllocGlobal, D: Read + Drop>(
-    rt: &R,
-    file: D,
-    text: &str,
-    code: u8,
-) -> Result<(), Fail> {
-    match survey_of(rt.alloc(), "c", file) {
-        Ok(_) => Err("refused")?,
-        Err(failure) => {
-            assert_eq!(rt; failure.to_string(rt.alloc())?.as_str(), text);
-            assert_eq!(rt; status(&failure), code);
-            Ok(())
-        }
-    }
+// Why a reader's survey fails, behind the status of the program; none where it doesn't.
+fn failure_text<D: Read + Drop>(alloc: Global, file: D) -> Option<String> {
+    let failure = survey_of(alloc, "c", file).err()?;
+    format!(in alloc; "{} {failure}", status(&failure)).ok()
+}
+
+// Whether a file's survey fails so, in one piece and byte by byte.
+fn is_refused(alloc: Global, refused: &Refused) -> Option<bool> {
+    let whole = failure_text(alloc, refused.file)?;
+    let pieces = failure_text(alloc, Pieces::new(refused.file, 1))?;
+    Some(whole.as_str() == refused.text && pieces.as_str() == refused.text)
 }
 
 #[test]
-fn refused_captures(rt: HostRuntime) -> Result<(), Fail> {
+fn refused_captures(rt: HostRuntime) {
     for refused in &REFUSED {
-        expect_failure(&rt, refused.file, refused.text, 1)?;
-        expect_failure(&rt, Pieces::new(refused.file, 1), refused.text, 1)?;
+        assert_eq!(rt;
+            is_refused(rt.alloc(), refused),
+            Some(true),
+            "{}",
+            refused.text
+        );
     }
-    Ok(())
+}
+
+// How many connections a capture's survey finds.
+fn connections_in<D: Read + Drop>(alloc: Global, file: D) -> Option<usize> {
+    let survey = survey_of(alloc, "c", file).ok()?;
+    Some(survey.connections().len())
 }
 
 #[test]
-fn a_capture_without_a_record(rt: HostRuntime) -> Result<(), Fail> {
-    match survey_of(rt.alloc(), "c", Pieces::new(NO_RECORD, 5)) {
-        Ok(survey) => assert!(rt; survey.connections().is_empty()),
-        Err(_) => Err("a capture")?,
-    }
-    Ok(())
+fn a_capture_without_a_record(rt: HostRuntime) {
+    let count = connections_in(rt.alloc(), Pieces::new(NO_RECORD, 5));
+    assert_eq!(rt; count, Some(0));
 }
 
 // A device that the system refuses with this number.
@@ -211,44 +216,58 @@ impl Read for Broken {
     }
 }
 
-#[test]
-fn reasons_of_the_system(rt: HostRuntime) -> Result<(), Fail> {
-    expect_failure(&rt, Broken { number: 5 }, "c: Input/output error", 3)?;
-    expect_failure(&rt, Broken { number: 21 }, "c: Is a directory", 3)
+// Whether a reader's survey fails so.
+fn fails<D: Read + Drop>(alloc: Global, file: D, text: &str) -> Option<bool> {
+    Some(failure_text(alloc, file)?.as_str() == text)
 }
 
 #[test]
-fn a_reader_that_fails_at_each_call(rt: HostRuntime) -> Result<(), Fail> {
+fn reasons_of_the_system(rt: HostRuntime) {
+    let broken = Broken { number: 5 };
+    assert_eq!(rt;
+        fails(rt.alloc(), broken, "3 c: Input/output error"),
+        Some(true)
+    );
+    let broken = Broken { number: 21 };
+    assert_eq!(rt;
+        fails(rt.alloc(), broken, "3 c: Is a directory"),
+        Some(true)
+    );
+}
+
+#[test]
+fn a_reader_that_fails_at_each_call(rt: HostRuntime) {
     for call in 1..=3 {
         let file = FailAt::new(Pieces::new(NO_RECORD, 12), call);
-        expect_failure(&rt, file, "c: other error", 3)?;
+        assert_eq!(rt;
+            fails(rt.alloc(), file, "3 c: other error"),
+            Some(true),
+            "{call}"
+        );
     }
-    Ok(())
+}
+
+// Why a survey can't be written there, behind the status of the program; none where it can.
+fn unwritten_text(alloc: Global, device: FailAt<Vec<u8>>) -> Option<String> {
+    let survey = survey_of(alloc, "c", NO_RECORD.as_slice()).ok()?;
+    let failure = write_answer(alloc, &Answer::Survey(&survey), device).err()?;
+    format!(in alloc; "{} {failure}", status(&failure)).ok()
 }
 
 // Whether a survey can't be written there, for this reason.
-fn expect_unwritten<R: Abort + AllocGlobal>(
-    rt: &R,
-    device: FailAt<Vec<u8>>,
-    text: &str,
-) -> Result<(), Fail> {
-    let survey = survey_of(rt.alloc(), "c", NO_RECORD.as_slice()).map_err(|_| "a capture")?;
-    match write_answer(rt.alloc(), &Answer::Survey(&survey), device) {
-        Ok(()) => Err("refused")?,
-        Err(failure) => {
-            assert_eq!(rt; failure.to_string(rt.alloc())?.as_str(), text);
-            assert_eq!(rt; status(&failure), 3);
-            Ok(())
-        }
-    }
+fn is_unwritten(alloc: Global, device: FailAt<Vec<u8>>, text: &str) -> Option<bool> {
+    Some(unwritten_text(alloc, device)?.as_str() == text)
 }
 
 #[test]
-fn writers_that_fail(rt: HostRuntime) -> Result<(), Fail> {
-    let failing = FailAt::new(Vec::new(rt.alloc()), 1);
-    expect_unwritten(&rt, failing, "standard output: other error")?;
-    let idle = FailAt::idle_at(Vec::new(rt.alloc()), 1);
-    expect_unwritten(&rt, idle, "standard output: writing failed")
+fn writers_that_fail(rt: HostRuntime) {
+    let alloc = rt.alloc();
+    let failing = FailAt::new(Vec::new(alloc), 1);
+    let is_told = is_unwritten(alloc, failing, "3 standard output: other error");
+    assert_eq!(rt; is_told, Some(true));
+    let idle = FailAt::idle_at(Vec::new(alloc), 1);
+    let is_told = is_unwritten(alloc, idle, "3 standard output: writing failed");
+    assert_eq!(rt; is_told, Some(true));
 }
 
 // A capture of one connection request.
@@ -261,36 +280,42 @@ const ONE_REQUEST: &[u8; 132] = b"\xd4\xc3\xb2\xa1\x02\0\x04\0\0\0\0\0\0\0\0\0\0
     \x2a\0\x38\x18\x61\0\0\0\x60\0\0\0\x64\0\0\0\0\0\0\0\xe8\x03\0\0\0\0\0\0\
     0303\x14\0\0\0\0\0\0\0\0\0";
 
-// What is written for a draft of the connection of this number, or why nothing is.
-fn draft_text(alloc: Global, file: &[u8], number: u64) -> Result<Vec<u8>, Fail> {
-    let survey = survey_of(alloc, "c", file).map_err(|_| "a capture")?;
+// What is written for a draft of the connection of this number, or why nothing is, behind the status.
+fn draft_text(alloc: Global, file: &[u8], number: u64) -> Option<Vec<u8>> {
+    let survey = survey_of(alloc, "c", file).ok()?;
     let mut text = Vec::new(alloc);
     match draft_in(alloc, "c", &survey, number) {
-        Ok(answer) => write_answer(alloc, &answer, &mut text).map_err(|_| "a text")?,
-        Err(failure) => write!(text, "{} {failure}", status(&failure))?,
+        Ok(answer) => write_answer(alloc, &answer, &mut text).ok()?,
+        Err(failure) => write!(text, "{} {failure}", status(&failure)).ok()?,
     }
-    Ok(text)
+    Some(text)
+}
+
+// Whether the text of a draft begins so.
+fn is_drafted(alloc: Global, file: &[u8], number: u64, begin: &str) -> Option<bool> {
+    Some(draft_text(alloc, file, number)?.starts_with(begin.as_bytes()))
+}
+
+// A number, and how the text of a draft of that connection begins.
+const DRAFTS: &str = "\
+1 # A draft of the parameters of the connection in the records 1 to 1 \n\
+0 2 c: there is no connection 0: a survey finds 1\n\
+2 2 c: there is no connection 2: a survey finds 1\n\
+";
+
+// Whether a draft of the one request begins as a row says.
+fn is_draft_of(alloc: Global, row: &str) -> Option<bool> {
+    let (number, begin) = row.split_once(' ')?;
+    is_drafted(alloc, ONE_REQUEST, number.parse().ok()?, begin)
 }
 
 #[test]
-fn drafts_by_number(rt: HostRuntime) -> Result<(), Fail> {
-    let draft = draft_text(rt.alloc(), ONE_REQUEST, 1)?;
-    assert!(rt;
-        draft.starts_with(b"# A draft of the parameters of the connection in the records 1 to 1 ")
-    );
-    let missing = b"2 c: there is no connection 0: a survey finds 1";
-    assert_eq!(rt;
-        draft_text(rt.alloc(), ONE_REQUEST, 0)?.as_slice(),
-        missing.as_slice()
-    );
-    let missing = b"2 c: there is no connection 2: a survey finds 1";
-    assert_eq!(rt;
-        draft_text(rt.alloc(), ONE_REQUEST, 2)?.as_slice(),
-        missing.as_slice()
-    );
-    let survey = draft_text(rt.alloc(), NO_RECORD, 1)?;
-    assert!(rt; survey.starts_with(b"records: 0\n"));
-    Ok(())
+fn drafts_by_number(rt: HostRuntime) {
+    for row in DRAFTS.lines() {
+        assert_eq!(rt; is_draft_of(rt.alloc(), row), Some(true), "{row}");
+    }
+    let is_survey = is_drafted(rt.alloc(), NO_RECORD, 1, "records: 0\n");
+    assert_eq!(rt; is_survey, Some(true));
 }
 
 // Parameter files, and what is said of them.
@@ -346,36 +371,41 @@ const REFUSED_PARAMETERS: [Refused; 10] = [
     },
 ];
 
-#[test]
-fn refused_parameters(rt: HostRuntime) -> Result<(), Fail> {
-    for refused in &REFUSED_PARAMETERS {
-        match params_in(rt.alloc(), "p", refused.file) {
-            Ok(_) => Err(refused.text)?,
-            Err(failure) => {
-                assert_eq!(rt; failure.to_string(rt.alloc())?.as_str(), refused.text);
-                assert_eq!(rt; status(&failure), 2);
-            }
-        }
-    }
-    Ok(())
+// Whether these parameters are refused so.
+fn is_told(alloc: Global, refused: &Refused) -> Option<bool> {
+    let failure = params_in(alloc, "p", refused.file).err()?;
+    let text = failure.to_string(alloc).ok()?;
+    Some(text.as_str() == refused.text && status(&failure) == 2)
 }
 
 #[test]
-fn files_that_are_read_whole(rt: HostRuntime) -> Result<(), Fail> {
-    match whole_of(rt.alloc(), "p", Pieces::new(NO_RECORD, 5)) {
-        Ok(bytes) => assert_eq!(rt; bytes.as_slice(), NO_RECORD.as_slice()),
-        Err(_) => Err("a file")?,
+fn refused_parameters(rt: HostRuntime) {
+    for refused in &REFUSED_PARAMETERS {
+        assert_eq!(rt;
+            is_told(rt.alloc(), refused),
+            Some(true),
+            "{}",
+            refused.text
+        );
     }
-    match whole_of(rt.alloc(), "p", Broken { number: 5 }) {
-        Ok(_) => Err("refused")?,
-        Err(failure) => {
-            assert_eq!(rt;
-                failure.to_string(rt.alloc())?.as_str(),
-                "p: Input/output error"
-            );
-        }
-    }
-    Ok(())
+}
+
+// Whether a file is read whole as these bytes.
+fn is_read_whole(alloc: Global, bytes: &[u8]) -> Option<bool> {
+    let read = whole_of(alloc, "p", Pieces::new(bytes, 5)).ok()?;
+    Some(read.as_slice() == bytes)
+}
+
+// Whether a file can't be read, for this reason.
+fn is_unread(alloc: Global, text: &str) -> Option<bool> {
+    let failure = whole_of(alloc, "p", Broken { number: 5 }).err()?;
+    Some(failure.to_string(alloc).ok()?.as_str() == text)
+}
+
+#[test]
+fn files_that_are_read_whole(rt: HostRuntime) {
+    assert_eq!(rt; is_read_whole(rt.alloc(), NO_RECORD), Some(true));
+    assert_eq!(rt; is_unread(rt.alloc(), "p: Input/output error"), Some(true));
 }
 
 // Parameters by which the client of the request opens the connection.
@@ -383,81 +413,89 @@ const PARAMETERS: &[u8] =
     b"client_id = 96\nserver_id = 97\ncode_length = 0\ncheck_length = 0\nn_sendmax = 20\n\
     t_max = 1800\nslack = 0\n[[channel]]\nclient = \"10.0.0.1:5000\"\nserver = \"10.0.0.2:5000\"\n";
 
-// What the two readings come to, in a word or as the text of a failure, and the program's status.
-fn explained<A: Read + Drop, B: Read + Drop, W: Write + Drop>(
-    alloc: Global,
-    first: A,
-    again: B,
-    device: W,
-) -> Result<String, Fail> {
-    let params = params_in(alloc, "p", PARAMETERS).map_err(|_| "parameters")?;
-    let explaining = Explaining {
+// What is to be explained.
+fn explaining<'a>(alloc: Global) -> Explaining<'a> {
+    Explaining {
         capture: "c",
         parameters: "p",
         certificate: None,
         without: Vec::new(alloc),
         form: Form::Text,
-    };
-    let inputs = Inputs {
-        params,
-        parameters: Vec::new(alloc),
-        certificate: None,
-    };
-    match explain_of(alloc, &explaining, &inputs, first, again, device) {
-        Ok(explanation) => {
-            let code = status_of_outcome(explanation.outcome);
-            let (outcome, kind) = (explanation.outcome, explanation.kind);
-            Ok(format!(in alloc; "{code} {outcome:?} {kind:?}")?)
-        }
-        Err(failure) => Ok(format!(in alloc; "{} {failure}", status(&failure))?),
     }
 }
 
-// What the same capture, twice, comes to.
-fn explained_twice(alloc: Global, file: &[u8]) -> Result<String, Fail> {
-    explained(alloc, file, Pieces::new(file, 7), Vec::new(alloc))
+// What the two readings come to, in a word or as the text of a failure, behind the program's status.
+fn explained<A: Read + Drop, B: Read + Drop, W: Write + Drop>(
+    alloc: Global,
+    first: A,
+    again: B,
+    device: W,
+) -> Option<String> {
+    let inputs = Inputs {
+        params: params_in(alloc, "p", PARAMETERS).ok()?,
+        parameters: Vec::new(alloc),
+        certificate: None,
+    };
+    match explain_of(alloc, &explaining(alloc), &inputs, first, again, device) {
+        Ok(explanation) => {
+            let code = status_of_outcome(explanation.outcome);
+            let (outcome, kind) = (explanation.outcome, explanation.kind);
+            format!(in alloc; "{code} {outcome:?} {kind:?}").ok()
+        }
+        Err(failure) => format!(in alloc; "{} {failure}", status(&failure)).ok(),
+    }
 }
 
-#[test]
-fn explanations(rt: HostRuntime) -> Result<(), Fail> {
-    let text = explained_twice(rt.alloc(), ONE_REQUEST)?;
-    assert_eq!(rt; text.as_str(), "0 Explained Capture");
-    let text = explained_twice(rt.alloc(), NO_RECORD)?;
-    assert_eq!(rt; text.as_str(), "1 NoPackets Capture");
-    let text = explained_twice(rt.alloc(), PARAMETERS)?;
-    assert_eq!(rt; text.as_str(), "1 Refused Text");
-    let text = explained(
-        rt.alloc(),
-        ONE_REQUEST.as_slice(),
-        NO_RECORD.as_slice(),
-        Vec::new(rt.alloc()),
-    )?;
-    assert_eq!(rt;
-        text.as_str(),
-        "3 c: two readings of it differ: nothing is said of a capture that changes"
-    );
-    Ok(())
+// Whether a capture that is read so comes to this text.
+fn comes_to<A: Read + Drop, B: Read + Drop>(
+    alloc: Global,
+    first: A,
+    again: B,
+    text: &str,
+) -> Option<bool> {
+    Some(explained(alloc, first, again, Vec::new(alloc))?.as_str() == text)
 }
 
+// Whether the same capture, twice, comes to this text.
+fn comes_to_twice(alloc: Global, file: &[u8], text: &str) -> Option<bool> {
+    comes_to(alloc, file, Pieces::new(file, 7), text)
+}
+
+const CHANGED: &str = "3 c: two readings of it differ: nothing is said of a capture that changes";
+
 #[test]
-fn explanations_over_devices_that_fail(rt: HostRuntime) -> Result<(), Fail> {
+fn explanations(rt: HostRuntime) {
     let alloc = rt.alloc();
-    let text = explained(
-        alloc,
-        Broken { number: 5 },
-        NO_RECORD.as_slice(),
-        Vec::new(alloc),
-    )?;
-    assert_eq!(rt; text.as_str(), "3 c: Input/output error");
-    let text = explained(
-        alloc,
-        NO_RECORD.as_slice(),
-        Broken { number: 21 },
-        Vec::new(alloc),
-    )?;
-    assert_eq!(rt; text.as_str(), "3 c: Is a directory");
+    assert_eq!(rt;
+        comes_to_twice(alloc, ONE_REQUEST, "0 Explained Capture"),
+        Some(true)
+    );
+    assert_eq!(rt;
+        comes_to_twice(alloc, NO_RECORD, "1 NoPackets Capture"),
+        Some(true)
+    );
+    assert_eq!(rt;
+        comes_to_twice(alloc, PARAMETERS, "1 Refused Text"),
+        Some(true)
+    );
+    let is_told = comes_to(alloc, ONE_REQUEST.as_slice(), NO_RECORD.as_slice(), CHANGED);
+    assert_eq!(rt; is_told, Some(true));
+}
+
+// Whether an explanation can't be written there, for this reason.
+fn is_unexplained(alloc: Global, device: FailAt<Vec<u8>>, text: &str) -> Option<bool> {
+    let (first, again) = (NO_RECORD.as_slice(), NO_RECORD.as_slice());
+    Some(explained(alloc, first, again, device)?.as_str() == text)
+}
+
+#[test]
+fn explanations_over_devices_that_fail(rt: HostRuntime) {
+    let (alloc, file) = (rt.alloc(), NO_RECORD.as_slice());
+    let is_told = comes_to(alloc, Broken { number: 5 }, file, "3 c: Input/output error");
+    assert_eq!(rt; is_told, Some(true));
+    let is_told = comes_to(alloc, file, Broken { number: 21 }, "3 c: Is a directory");
+    assert_eq!(rt; is_told, Some(true));
     let device = FailAt::new(Vec::new(alloc), 1);
-    let text = explained(alloc, NO_RECORD.as_slice(), NO_RECORD.as_slice(), device)?;
-    assert_eq!(rt; text.as_str(), "3 standard output: other error");
-    Ok(())
+    let is_told = is_unexplained(alloc, device, "3 standard output: other error");
+    assert_eq!(rt; is_told, Some(true));
 }

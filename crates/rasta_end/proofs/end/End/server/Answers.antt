@@ -1,0 +1,5 @@
+use Rattle.std.proofs.Common.{rules}
+use Rattle.rasta_end.proofs.end.End.server.Goals as goal
+
+pub returns : goal.returns
+returns c = search rules
