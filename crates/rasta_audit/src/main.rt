@@ -4,9 +4,7 @@
 #![tactic(auto)]
 
 pub use rasta_commands::run_form;
-use rasta_commands::{
-    Failure, Form, capture_at, file_at, finish, output, parse, status, words,
-};
+use rasta_commands::{Failure, Form, capture_at, file_at, finish, output, parse, status, words};
 pub use rasta_params::params;
 use rasta_pdu::Fault;
 pub use rasta_show::run_show;
