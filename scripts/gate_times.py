@@ -6,11 +6,13 @@
 Run it at the top of a fresh clone, with nothing beside it. It is `rt ci` (or `rt must-fail NAME..`) with a clock
 round each proof, each crate's tests and each must-fail edit: OUT gets a line for each step as it ends (minute of its
 start and of its end, seconds, jobs, what it was), and standard output is that of the gate, whose last line is its
-verdict. The line of an edit goes on with the seconds of its check's stages, where they take a tenth or more.
+verdict. The line of an edit goes on with the seconds of its check's stages, where they take a tenth or more. The last
+line of OUT is the minutes of processors that all steps took together.
 """
 import importlib.machinery
 import importlib.util
 import os
+import resource
 import shutil
 import sys
 import tempfile
@@ -77,7 +79,10 @@ def main():
             told(begun, 1, f"run {crate.name}{' tests' if tests else ''}{ending}")
 
     gate.in_lanes, gate.must_fail, gate.checked, gate.run = lanes, edit, with_stages, program
-    return gate.main(sys.argv[2:] or ["ci"])
+    status = gate.main(sys.argv[2:] or ["ci"])
+    used = resource.getrusage(resource.RUSAGE_CHILDREN)
+    print(f"{(used.ru_utime + used.ru_stime) / 60:6.1f} minutes of processors", file=out, flush=True)
+    return status
 
 
 if __name__ == "__main__":
