@@ -10,7 +10,7 @@ use rasta_pdu::{Fault, Side};
 use std::marker::Model;
 
 /// Why a script can't go on. A contract sees no rule.
-#[derive(Debug, Drop)]
+#[derive(Drop)]
 pub(crate) struct Halt {
     // None where the script is out of memory.
     rule: Option<Rule>,

@@ -14,7 +14,7 @@ pub struct Obstacle {
 }
 
 /// Why a pass can't go on.
-#[derive(Debug, Drop)]
+#[derive(Drop)]
 pub(crate) enum Stop {
     OutOfMemory,
     Blocked(Obstacle),

@@ -10,7 +10,7 @@ use rasta_pdu::{Kind, Params, Pdu, Side};
 
 /// Where the positions of a peer begin: after a quiet point its quiet PDU is position 0, and its sent list
 /// begins at 1.
-#[derive(Clone, Copy, Debug)]
+#[derive(Clone, Copy)]
 pub(crate) struct Peer {
     quiet_sn: Option<u32>,
 }

@@ -58,7 +58,7 @@ impl<'a> Model for ScriptBuilder<'a> {
 }
 
 // How far an end has come: a take that changes none of it has no effect.
-#[derive(Clone, Copy, Debug, PartialEq, Eq)]
+#[derive(Clone, Copy, PartialEq, Eq)]
 struct Progress {
     accepted: u64,
     owed: usize,

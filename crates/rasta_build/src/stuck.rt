@@ -5,7 +5,7 @@ ghost use Rattle.rasta_build.specs.Choices.{stuck_by};
 use rasta_pdu::Fault;
 
 /// Why a script can't go on.
-#[derive(Clone, Copy, Debug, PartialEq, Eq)]
+#[derive(Clone, Copy, PartialEq, Eq)]
 pub(crate) enum Stuck {
     /// No step of the end explains the packet.
     Unexplained,

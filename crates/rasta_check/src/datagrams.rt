@@ -7,7 +7,7 @@ use std::alloc::{AllocError, Global};
 use std::marker::Model;
 
 /// Where a datagram stands, and the place at which it crossed.
-#[derive(Clone, Copy, Debug)]
+#[derive(Clone, Copy)]
 pub(crate) struct Span {
     start: usize,
     place: u32,
@@ -49,7 +49,7 @@ fn keep(
 }
 
 /// Datagrams of both sides, in the order in which they came, and those of each side by position.
-#[derive(Debug, Drop)]
+#[derive(Drop)]
 pub(crate) struct Datagrams {
     bytes: Vec<u8>,
     client: Vec<Span>,

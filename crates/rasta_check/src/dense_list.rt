@@ -10,7 +10,7 @@ use std::alloc::{AllocError, Global};
 use std::marker::Model;
 
 /// A sent list as a vector: the position of a number is its distance from the first number.
-#[derive(Debug, Drop)]
+#[derive(Drop)]
 pub struct DenseList<'a> {
     copies: Vec<(u32, Pdu<'a>)>,
     places: PlaceTable,

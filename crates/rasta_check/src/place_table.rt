@@ -5,7 +5,7 @@ ghost use Rattle.rasta_check.specs.Capture.Lists.{marked};
 use std::alloc::{AllocError, Global};
 
 /// The position that stands at each place, where one does.
-#[derive(Debug, Drop)]
+#[derive(Drop)]
 pub(crate) struct PlaceTable {
     // One more than the position at the place, or 0.
     marks: Vec<u32>,

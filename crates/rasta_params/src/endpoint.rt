@@ -50,7 +50,7 @@ fn parts<'a>(text: &'a str, separator: char) -> Option<(&'a str, &'a str)>
 }
 
 // Four texts with points between them.
-#[derive(Clone, Copy, Debug)]
+#[derive(Clone, Copy)]
 struct Four<'a> {
     first: &'a str,
     second: &'a str,

@@ -30,7 +30,7 @@ pub struct TakenUnit<'a> {
 }
 
 // A PDU that a side made. That of a quiet point has no datagram.
-#[derive(Clone, Copy, Debug)]
+#[derive(Clone, Copy)]
 struct MadePdu<'a> {
     kind: Kind,
     sn: u32,

@@ -66,34 +66,42 @@ impl From<AllocError> for Failure {
     }
 }
 
+// What a fault says, before the number of the record and behind it; a fault of the file's header names no record.
+fn words_on(number: u8) -> (&'static str, &'static str) {
+    match number {
+        Fault::NOT_PCAP => ("this is not a classic libpcap file", ""),
+        Fault::VERSION => ("this is not version 2.4 of the libpcap format", ""),
+        Fault::LINK_TYPE => ("its frames are not Ethernet frames", ""),
+        Fault::CUT_HEADER => ("the file ends inside its header", ""),
+        Fault::CUT_RECORD => ("the file ends inside record ", ""),
+        Fault::TOO_MANY => ("record ", " is one too many"),
+        Fault::RECORD_TOO_LONG => ("record ", " has more than 262144 bytes"),
+        _ => ("record ", " is refused"),
+    }
+}
+
+// What is told of a file of this kind, after a line feed.
+fn advice_on(kind: FileKind) -> &'static str {
+    match kind {
+        FileKind::Gzip => "\nthis is a gzip file: gunzip it first",
+        FileKind::Pcapng => "\nthis is a pcapng file: editcap -F pcap IN OUT makes a classic one",
+        FileKind::Text => {
+            "\nthis looks like a text file; CAPTURE is the file that holds the packets"
+        }
+        FileKind::Capture | FileKind::Other => "",
+    }
+}
+
 impl fmt::Display for Refusal {
     fn fmt<W: fmt::Write>(&self, f: &mut fmt::Formatter<W>) -> fmt::Result {
-        let record = self.fault.place;
-        match self.fault.number {
-            Fault::NOT_PCAP => write!(f, "this is not a classic libpcap file")?,
-            Fault::VERSION => write!(f, "this is not version 2.4 of the libpcap format")?,
-            Fault::LINK_TYPE => write!(f, "its frames are not Ethernet frames")?,
-            Fault::CUT_HEADER => write!(f, "the file ends inside its header")?,
-            Fault::CUT_RECORD => write!(f, "the file ends inside record {record}")?,
-            Fault::TOO_MANY => write!(f, "record {record} is one too many")?,
-            Fault::RECORD_TOO_LONG => write!(f, "record {record} has more than 262144 bytes")?,
-            _ => write!(f, "record {record} is refused")?,
+        let Refusal { fault, kind } = self;
+        let (before, behind) = words_on(fault.number);
+        f.write_str(before)?;
+        if fault.place > 0 {
+            write!(f, "{}{behind}", fault.place)?;
         }
-        let number = self.fault.number;
-        let name = self.fault.name();
-        write!(f, " ({number} {name})")?;
-        match self.kind {
-            FileKind::Gzip => write!(f, "\nthis is a gzip file: gunzip it first"),
-            FileKind::Pcapng => write!(
-                f,
-                "\nthis is a pcapng file: editcap -F pcap IN OUT makes a classic one"
-            ),
-            FileKind::Text => write!(
-                f,
-                "\nthis looks like a text file; CAPTURE is the file that holds the packets"
-            ),
-            FileKind::Capture | FileKind::Other => Ok(()),
-        }
+        let advice = advice_on(*kind);
+        write!(f, " ({} {}){advice}", fault.number, fault.name())
     }
 }
 

@@ -12,7 +12,7 @@ use std::alloc::Global;
 use std::{fmt, str};
 
 /// A key of a parameter file, and what may stand there.
-#[derive(Clone, Copy, Debug)]
+#[derive(Clone, Copy)]
 struct Key {
     name: &'static str,
     form: &'static str,

@@ -23,7 +23,7 @@ const OPENING: Body<&[&[u8]]> = Body::Opening {
 const PERIOD: u32 = 300;
 
 /// What a PDU says, and why it is made.
-#[derive(Clone, Copy, Debug)]
+#[derive(Clone, Copy)]
 enum Says {
     Nothing(Kind, Why),
     Opens(Kind, Why),
@@ -32,7 +32,7 @@ enum Says {
 }
 
 // An end: the numbers of its next PDU, its clock, what it accepted last, and how many units it offered.
-#[derive(Clone, Copy, Debug)]
+#[derive(Clone, Copy)]
 struct End {
     number: u32,
     sn: u32,

@@ -19,7 +19,7 @@ const USAGE: &str =
     "usage: seatmelon_workloads explain|json|audit|check|survey|show|mirrored|single SEED TURNS PACKETS";
 
 // What the words after the program's name ask for.
-#[derive(Clone, Copy, Debug)]
+#[derive(Clone, Copy)]
 struct Request {
     job: Job,
     seed: u32,

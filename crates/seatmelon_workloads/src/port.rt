@@ -31,7 +31,7 @@ const ROOM: usize = 128;
 const PERIOD: u32 = 2000;
 
 // What an end sends next.
-#[derive(Clone, Copy, Debug)]
+#[derive(Clone, Copy)]
 struct Sender {
     number: u32,
     sn: u32,
