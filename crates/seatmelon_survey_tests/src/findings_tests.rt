@@ -8,8 +8,6 @@ use seatmelon_connections::{Arrival, Connection, Sighting};
 use seatmelon_packets::{Packet, Trials};
 use seatmelon_survey::{MOST_CONNECTIONS, Survey, write_connection};
 use std::alloc::Global;
-use std::process::Abort;
-use std::test::Fail;
 
 // A late copy of an opening, or a new opening that is left out, while the last connection between its ends stands
 // there.
@@ -206,10 +204,31 @@ impl Both {
         self.new.add_record(alloc, found, time).ok()?;
         self.former.add_record(alloc, found, time)
     }
+
+    // Takes the record of a PDU in. After each it is asked where its packet's connection stands, which changes nothing
+    // for the next one; now and then before it too.
+    fn add_pdu(
+        &mut self,
+        alloc: Global,
+        draws: &mut Draws,
+        number: u32,
+        pdu: &MadePdu,
+    ) -> Option<()> {
+        let frame = frame_with(alloc, draws, pdu)?;
+        let found = Record {
+            number,
+            bytes: frame.as_slice(),
+        };
+        if draws.below(4) == 0 {
+            self.compare_place(&found);
+        }
+        self.add(alloc, &found)?;
+        self.compare_place(&found);
+        Some(())
+    }
 }
 
 // How the records of a test are made.
-#[derive(Clone, Copy, Debug)]
 struct Traffic {
     records: u32,
     // How many ends there are on each side.
@@ -254,27 +273,16 @@ fn frame_with(alloc: Global, draws: &mut Draws, pdu: &MadePdu) -> Option<Vec<u8>
     frame_of(alloc, channel, is_back, datagram.as_slice())
 }
 
-// Surveys of made records, of which many are copies of earlier ones. After each it is asked where its packet's
-// connection stands, which changes nothing for the next one; now and then before it too.
-fn surveyed(alloc: Global, seed: u64, traffic: &Traffic) -> Option<Both> {
+// Takes made records in, of which many are copies of earlier ones.
+fn add_all(alloc: Global, both: &mut Both, seed: u64, traffic: &Traffic) -> Option<()> {
     let mut draws = Draws::new(seed);
-    let mut both = Both::new(alloc);
     let mut before = Vec::new(alloc);
     for number in 1..traffic.records {
         let pdu = next_pdu(&mut draws, traffic, before.as_slice())?;
         before.push(pdu).ok()?;
-        let frame = frame_with(alloc, &mut draws, &pdu)?;
-        let found = Record {
-            number,
-            bytes: frame.as_slice(),
-        };
-        if draws.below(4) == 0 {
-            both.compare_place(&found);
-        }
-        both.add(alloc, &found)?;
-        both.compare_place(&found);
+        both.add_pdu(alloc, &mut draws, number, &pdu)?;
     }
-    Some(both)
+    Some(())
 }
 
 fn totals_of(survey: &Survey) -> Totals {
@@ -301,15 +309,6 @@ fn tell_the_same(alloc: Global, both: &Both) -> Option<bool> {
     Some(have_same_totals && text.as_slice() == former.as_slice())
 }
 
-// Compares the surveys of this traffic, and answers the new one.
-fn compare<R: Abort + AllocGlobal>(rt: &R, seed: u64, traffic: &Traffic) -> Result<Survey, Fail> {
-    let both = surveyed(rt.alloc(), seed, traffic).ok_or("memory")?;
-    assert_eq!(rt; both.differing, 0, "{traffic:?}");
-    let is_same = tell_the_same(rt.alloc(), &both).ok_or("memory")?;
-    assert!(rt; is_same, "{traffic:?}");
-    Ok(both.new)
-}
-
 // How many late copies the connections took in.
 fn late_copies(survey: &Survey) -> u64 {
     let mut count = 0u64;
@@ -318,6 +317,15 @@ fn late_copies(survey: &Survey) -> u64 {
         count = count.saturating_add(copies);
     }
     count
+}
+
+// Whether the surveys of this traffic tell the same, how many packets they leave out, and how many late copies they
+// take in.
+fn compared(alloc: Global, seed: u64, traffic: &Traffic) -> Option<(bool, u64, u64)> {
+    let mut both = Both::new(alloc);
+    add_all(alloc, &mut both, seed, traffic)?;
+    let is_same = both.differing == 0 && tell_the_same(alloc, &both)?;
+    Some((is_same, both.new.left_out(), late_copies(&both.new)))
 }
 
 const TRAFFIC: [Traffic; 6] = [
@@ -365,47 +373,51 @@ const TRAFFIC: [Traffic; 6] = [
     },
 ];
 
+// Whether the surveys of this traffic tell the same and leave out nothing; their late copies are counted on.
+fn are_as_before(alloc: Global, seed: u64, traffic: &Traffic, late: &mut u64) -> Option<bool> {
+    let (is_same, left_out, copies) = compared(alloc, seed, traffic)?;
+    *late = late.saturating_add(copies);
+    Some(is_same && left_out == 0)
+}
+
 #[test]
-fn connections_are_as_before(rt: HostRuntime) -> Result<(), Fail> {
+fn connections_are_as_before(rt: HostRuntime) {
     let mut late = 0u64;
-    for traffic in TRAFFIC {
+    for (place, traffic) in TRAFFIC.iter().enumerate() {
         for seed in 0..2 {
-            let survey = compare(&rt, seed, &traffic)?;
-            assert_eq!(rt; survey.left_out(), 0, "{traffic:?}");
-            late = late.saturating_add(late_copies(&survey));
+            let are_same = are_as_before(rt.alloc(), seed, traffic, &mut late);
+            assert_eq!(rt; are_same, Some(true), "traffic {place}, seed {seed}");
         }
     }
     assert!(rt; late > 200, "{late}");
-    Ok(())
 }
 
 // More connections than are told apart, between many ends.
+const MANY_ENDS: Traffic = Traffic {
+    records: 1800,
+    ends: 100,
+    rare: 20,
+    numbers: 4,
+    earlier: 0,
+};
+
 #[test]
-fn many_ends_are_as_before(rt: HostRuntime) -> Result<(), Fail> {
-    let traffic = Traffic {
-        records: 1800,
-        ends: 100,
-        rare: 20,
-        numbers: 4,
-        earlier: 0,
-    };
-    let survey = compare(&rt, 1, &traffic)?;
-    assert!(rt; survey.left_out() > 0);
-    Ok(())
+fn many_ends_are_as_before(rt: HostRuntime) {
+    let found = compared(rt.alloc(), 1, &MANY_ENDS);
+    assert!(rt; matches!(found, Some((true, left_out, _)) if left_out > 0));
 }
 
 // More connections than are told apart, between few ends.
+const MANY_BEGINNINGS: Traffic = Traffic {
+    records: 3800,
+    ends: 2,
+    rare: 1,
+    numbers: 2000,
+    earlier: 1,
+};
+
 #[test]
-fn many_beginnings_are_as_before(rt: HostRuntime) -> Result<(), Fail> {
-    let traffic = Traffic {
-        records: 3800,
-        ends: 2,
-        rare: 1,
-        numbers: 2000,
-        earlier: 1,
-    };
-    let survey = compare(&rt, 1, &traffic)?;
-    assert!(rt; survey.left_out() > 0);
-    assert!(rt; late_copies(&survey) > 200);
-    Ok(())
+fn many_beginnings_are_as_before(rt: HostRuntime) {
+    let found = compared(rt.alloc(), 1, &MANY_BEGINNINGS);
+    assert!(rt; matches!(found, Some((true, left_out, late)) if left_out > 0 && late > 200));
 }

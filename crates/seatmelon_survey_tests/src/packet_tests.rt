@@ -11,7 +11,6 @@ use seatmelon_packets::{
     Features, Fit, Fits, Offer, Packet, Recognizer, Trials, Way, features_by, packet_in, route_in,
 };
 use std::alloc::Global;
-use std::test::Fail;
 
 // Offsets and lengths in a datagram, in bytes.
 const NUMBER_AT: usize = 4;
@@ -187,7 +186,7 @@ fn next(alloc: Global, draws: &mut Draws, before: &[Vec<u8>]) -> Option<Vec<u8>>
 }
 
 // How often a record was found to hold what.
-#[derive(Clone, Copy, Debug)]
+#[derive(Clone, Copy)]
 struct Seen {
     nothing: u32,
     packets: u32,
@@ -230,26 +229,36 @@ fn compared(alloc: Global, seed: u64, records: u32) -> Option<Seen> {
     };
     for number in 0..records {
         let bytes = next(alloc, &mut draws, before.as_slice())?;
-        let frame = frame_of(alloc, 1, draws.below(2) == 0, bytes.as_slice())?;
+        before.push(bytes).ok()?;
+        let frame = frame_of(alloc, 1, draws.below(2) == 0, before.last()?.as_slice())?;
         let found = Record {
             number,
             bytes: frame.as_slice(),
         };
         let former = former_packet_in(&trials, &found, None);
         seen.add(former, packet_in(&mut recognizer, &found, None));
-        before.push(bytes).ok()?;
     }
     Some(seen)
 }
 
+// Whether the packets of so many records are found as before, and there are enough of each kind.
+fn are_as_before(alloc: Global, seed: u64) -> Option<bool> {
+    let Seen {
+        nothing,
+        packets,
+        with_start_words,
+        differing,
+    } = compared(alloc, seed, 2000)?;
+    Some(differing == 0 && nothing > 200 && packets > 1000 && with_start_words > 400)
+}
+
 #[test]
-fn packets_are_as_before(rt: HostRuntime) -> Result<(), Fail> {
+fn packets_are_as_before(rt: HostRuntime) {
     for seed in 0..4 {
-        let seen = compared(rt.alloc(), seed, 2000).ok_or("memory")?;
-        assert_eq!(rt; seen.differing, 0, "with seed {seed}");
-        assert!(rt; seen.nothing > 200, "{seen:?}");
-        assert!(rt; seen.packets > 1000, "{seen:?}");
-        assert!(rt; seen.with_start_words > 400, "{seen:?}");
+        assert_eq!(rt;
+            are_as_before(rt.alloc(), seed),
+            Some(true),
+            "with seed {seed}"
+        );
     }
-    Ok(())
 }

@@ -4,15 +4,8 @@ use crate::files::file_with;
 use rasta_pcap::devices::{FailAt, Pieces};
 use rasta_pcap::{Counted, Fault, Sink, Source};
 use rasta_rows::file_of;
-use seatmelon_survey::{Survey, survey};
+use seatmelon_survey::{Connection, Survey, survey};
 use std::alloc::Global;
-use std::process::Abort;
-use std::test::Fail;
-
-// The file of a case.
-fn file_in(alloc: Global, case: &Case<'_>) -> Option<Vec<u8>> {
-    file_with(alloc, case.parts, case.changes)
-}
 
 fn first_case() -> Option<Case<'static>> {
     case_in(surveys().split(MARK).nth(1)?)
@@ -30,84 +23,100 @@ fn text_of(alloc: Global, survey: &Survey) -> Option<Vec<u8>> {
     Some(writer.into_inner())
 }
 
+// The text of the survey of a file that comes in pieces of this size.
+fn text_in(alloc: Global, file: &[u8], most: usize) -> Option<Vec<u8>> {
+    let found = surveyed(alloc, file, most).ok()?;
+    text_of(alloc, &found)
+}
+
+// Whether the survey of a case, whose file comes in pieces of this size, has the text that is wanted.
+fn is_surveyed(alloc: Global, lines: &str, most: usize) -> Option<bool> {
+    let case = case_in(lines)?;
+    let file = file_with(alloc, case.parts, case.changes)?;
+    let text = text_in(alloc, &file, most)?;
+    Some(text.as_slice() == case.want.as_bytes())
+}
+
 #[test]
-fn texts(rt: HostRuntime) -> Result<(), Fail> {
+fn texts(rt: HostRuntime) {
     for lines in surveys().split(MARK).skip(1) {
-        let case = case_in(lines).ok_or("a case")?;
-        let file = file_in(rt.alloc(), &case).ok_or("a file")?;
         for most in [1, 7, 4096] {
-            let found = surveyed(rt.alloc(), &file, most).ok().ok_or("a survey")?;
-            let text = text_of(rt.alloc(), &found).ok_or("a text")?;
-            assert_eq!(rt; text.as_slice(), case.want.as_bytes(), "{}", case.name);
+            assert_eq!(rt;
+                is_surveyed(rt.alloc(), lines, most),
+                Some(true),
+                "{most} {lines}"
+            );
         }
     }
-    Ok(())
+}
+
+// Why a capture is refused that is cut in its last record.
+fn refusal_of_cut(alloc: Global) -> Option<Fault> {
+    let (_, file) = file_of(alloc, "data plain", "0 1 2 cut")?;
+    surveyed(alloc, &file, 7).err()
 }
 
 // A capture that is cut in its last record is refused at that record.
 #[test]
-fn cut_capture(rt: HostRuntime) -> Result<(), Fail> {
-    let (_, file) = file_of(rt.alloc(), "data plain", "0 1 2 cut").ok_or("a file")?;
-    let refused = surveyed(rt.alloc(), &file, 7).err().ok_or("a refusal")?;
-    assert_eq!(rt; refused, Fault::at(Fault::CUT_RECORD, 3));
-    let refused = surveyed(rt.alloc(), &[], 7).err().ok_or("a refusal")?;
-    assert_eq!(rt; refused, Fault::at(Fault::CUT_HEADER, 0));
-    Ok(())
+fn cut_capture(rt: HostRuntime) {
+    let refused = refusal_of_cut(rt.alloc());
+    assert_eq!(rt; refused, Some(Fault::at(Fault::CUT_RECORD, 3)));
+    let refused = surveyed(rt.alloc(), &[], 7).err();
+    assert_eq!(rt; refused, Some(Fault::at(Fault::CUT_HEADER, 0)));
 }
 
-// Each read fails in turn: the survey is the same, or the failure is told.
-#[test]
-fn failing_reads(rt: HostRuntime) -> Result<(), Fail> {
-    let case = first_case().ok_or("a case")?;
-    let file = file_in(rt.alloc(), &case).ok_or("a file")?;
-    for call in 1..60 {
-        let mut reader = Counted::new(FailAt::new(Pieces::new(&file, 9), call));
-        let outcome = survey(rt.alloc(), &mut reader);
-        let has_failed = Source::failures(&reader) > 0;
-        match outcome {
-            Ok(found) => {
-                assert!(rt; !has_failed);
-                let text = text_of(rt.alloc(), &found).ok_or("a text")?;
-                assert_eq!(rt; text.as_slice(), case.want.as_bytes());
-            }
-            Err(fault) => {
-                assert_eq!(rt;
-                    (has_failed, fault),
-                    (true, Fault::at(Fault::READ_FAILED, 0))
-                );
-            }
+// Whether the survey of the first case is the same where a read may fail, or the failure is told.
+fn is_surveyed_or_told(alloc: Global, call: u64) -> Option<bool> {
+    let case = first_case()?;
+    let file = file_with(alloc, case.parts, case.changes)?;
+    let mut reader = Counted::new(FailAt::new(Pieces::new(&file, 9), call));
+    let outcome = survey(alloc, &mut reader);
+    let has_failed = Source::failures(&reader) > 0;
+    match outcome {
+        Ok(found) => {
+            let text = text_of(alloc, &found)?;
+            Some(!has_failed && text.as_slice() == case.want.as_bytes())
         }
+        Err(fault) => Some(has_failed && fault == Fault::at(Fault::READ_FAILED, 0)),
     }
-    Ok(())
 }
 
-/// After a writer that may have failed: what was written begins the text, and a failure is told.
-pub fn compare_front<R: Abort + AllocGlobal>(
-    rt: &R,
-    writer: Counted<FailAt<Vec<u8>>>,
-    is_told: bool,
-    want: &str,
-) -> Result<(), Fail> {
+// Each read fails in turn.
+#[test]
+fn failing_reads(rt: HostRuntime) {
+    for call in 1..60 {
+        assert_eq!(rt; is_surveyed_or_told(rt.alloc(), call), Some(true), "{call}");
+    }
+}
+
+/// After a writer that may have failed: whether what was written begins the text, and a failure is told.
+pub fn is_front(writer: Counted<FailAt<Vec<u8>>>, is_told: bool, want: &str) -> bool {
     let has_failed = Sink::failures(&writer) > 0;
     let text = writer.into_inner().into_inner();
-    assert!(rt; want.as_bytes().starts_with(&text));
-    assert_eq!(rt; text.len() < want.len(), has_failed);
-    assert_eq!(rt; is_told, has_failed);
-    Ok(())
+    let is_cut = text.len() < want.len();
+    want.as_bytes().starts_with(&text) && is_cut == has_failed && is_told == has_failed
+}
+
+// Whether the survey of the first case is written, or its front up to a write that fails, which is told.
+fn is_surveyed_in_front(alloc: Global, call: u64) -> Option<bool> {
+    let case = first_case()?;
+    let file = file_with(alloc, case.parts, case.changes)?;
+    let found = surveyed(alloc, &file, 4096).ok()?;
+    let mut writer = Counted::new(FailAt::new(Vec::new(alloc), call));
+    let is_told = found.write(&mut writer).is_err();
+    Some(is_front(writer, is_told, case.want))
 }
 
 // Each write fails in turn.
 #[test]
-fn failing_writes(rt: HostRuntime) -> Result<(), Fail> {
-    let case = first_case().ok_or("a case")?;
-    let file = file_in(rt.alloc(), &case).ok_or("a file")?;
-    let found = surveyed(rt.alloc(), &file, 4096).ok().ok_or("a survey")?;
+fn failing_writes(rt: HostRuntime) {
     for call in 1..200 {
-        let mut writer = Counted::new(FailAt::new(Vec::new(rt.alloc()), call));
-        let is_told = found.write(&mut writer).is_err();
-        compare_front(&rt, writer, is_told, case.want)?;
+        assert_eq!(rt;
+            is_surveyed_in_front(rt.alloc(), call),
+            Some(true),
+            "{call}"
+        );
     }
-    Ok(())
 }
 
 fn overwrite(file: &mut Vec<u8>, from: usize, bytes: &[u8]) -> Option<()> {
@@ -127,41 +136,43 @@ fn file_at_noon(alloc: Global, is_in_nanoseconds: bool) -> Option<Vec<u8>> {
     Some(file)
 }
 
-// The line of a survey that tells when packets were captured.
-fn line_of_times(alloc: Global, is_in_nanoseconds: bool) -> Option<String> {
+// Whether this is the line of a survey that tells when packets were captured.
+fn is_line_of_times(alloc: Global, is_in_nanoseconds: bool, line: &str) -> Option<bool> {
     let file = file_at_noon(alloc, is_in_nanoseconds)?;
-    let text = text_of(alloc, &surveyed(alloc, &file, 4096).ok()?)?;
-    let line = std::str::from_utf8(&text).ok()?.lines().nth(8)?;
-    String::from_str(alloc, line).ok()
+    let text = text_in(alloc, &file, 4096)?;
+    Some(std::str::from_utf8(&text).ok()?.lines().nth(8)? == line)
 }
 
 #[test]
-fn times(rt: HostRuntime) -> Result<(), Fail> {
-    let line = line_of_times(rt.alloc(), false).ok_or("a line")?;
-    assert_eq!(rt;
-        line.as_str(),
-        "  captured from 2024-11-24 12:00:00.000005 to 2024-11-24 12:00:00.000005 UTC"
-    );
-    let line = line_of_times(rt.alloc(), true).ok_or("a line")?;
-    assert_eq!(rt;
-        line.as_str(),
-        "  captured from 2024-11-24 12:00:00.000000005 to 2024-11-24 12:00:00.000000005 UTC"
-    );
-    Ok(())
+fn times(rt: HostRuntime) {
+    let line = "  captured from 2024-11-24 12:00:00.000005 to 2024-11-24 12:00:00.000005 UTC";
+    assert_eq!(rt; is_line_of_times(rt.alloc(), false, line), Some(true));
+    let line = "  captured from 2024-11-24 12:00:00.000000005 to 2024-11-24 12:00:00.000000005 UTC";
+    assert_eq!(rt; is_line_of_times(rt.alloc(), true, line), Some(true));
 }
 
-// What the calls answer of two connections of the same ends, the second of which another request begins.
+// The first and the last record of a connection, and whether it has an opening and an ending.
+fn extent_of(connection: &Connection) -> (u32, u32, bool, bool) {
+    (
+        connection.first_record(),
+        connection.last_record(),
+        connection.has_opening(),
+        connection.has_ending(),
+    )
+}
+
+// Whether the calls answer so of two connections of the same ends, the second of which another request begins.
+fn are_two_connections(alloc: Global) -> Option<bool> {
+    let (_, file) = file_of(alloc, "byes plain", "0 1 5 6")?;
+    let found = surveyed(alloc, &file, 4096).ok()?;
+    let connections = found.connections();
+    let (first, second) = (connections.first()?, connections.last()?);
+    let are_two = connections.len() == 2 && first.ids() == (96, 97);
+    let is_first = extent_of(first) == (1, 3, true, false);
+    Some(are_two && is_first && extent_of(second) == (4, 4, true, false))
+}
+
 #[test]
-fn connections(rt: HostRuntime) -> Result<(), Fail> {
-    let (_, file) = file_of(rt.alloc(), "byes plain", "0 1 5 6").ok_or("a file")?;
-    let found = surveyed(rt.alloc(), &file, 4096).ok().ok_or("a survey")?;
-    assert_eq!(rt; found.connections().len(), 2);
-    let first = found.connections().first().ok_or("the first")?;
-    assert_eq!(rt; first.ids(), (96, 97));
-    assert_eq!(rt; (first.first_record(), first.last_record()), (1, 3));
-    assert!(rt; first.has_opening() && !first.has_ending());
-    let second = found.connections().last().ok_or("the last")?;
-    assert_eq!(rt; (second.first_record(), second.last_record()), (4, 4));
-    assert!(rt; second.has_opening() && !second.has_ending());
-    Ok(())
+fn connections(rt: HostRuntime) {
+    assert_eq!(rt; are_two_connections(rt.alloc()), Some(true));
 }

@@ -5,7 +5,6 @@ use rasta_draws::Draws;
 use rasta_pcap::{CaptureTime, Counted, Fault, FractionUnit, Sink, write_all};
 use seatmelon_survey::write_time;
 use std::alloc::Global;
-use std::test::Fail;
 
 // The beginning of 1970, in days from the calendar's first one.
 const EPOCH: u32 = 4_371_587;
@@ -97,21 +96,27 @@ const FRACTIONS: [u32; 9] = [
     u32::MAX,
 ];
 
-// Whether these seconds are written as they were, with each fraction in each unit.
-fn are_as_before(alloc: Global, seconds: u32) -> Option<bool> {
-    for unit in [FractionUnit::Microseconds, FractionUnit::Nanoseconds] {
-        for fraction in FRACTIONS {
-            let time = CaptureTime {
-                seconds,
-                fraction,
-                unit,
-            };
-            if !is_as_before(alloc, time)? {
-                return Some(false);
-            }
+// Whether these seconds are written as they were, with each fraction in a unit.
+fn are_as_before_in(alloc: Global, seconds: u32, unit: FractionUnit) -> Option<bool> {
+    for fraction in FRACTIONS {
+        let time = CaptureTime {
+            seconds,
+            fraction,
+            unit,
+        };
+        if !is_as_before(alloc, time)? {
+            return Some(false);
         }
     }
     Some(true)
+}
+
+// Whether these seconds are written as they were, with each fraction in each unit.
+fn are_as_before(alloc: Global, seconds: u32) -> Option<bool> {
+    Some(
+        are_as_before_in(alloc, seconds, FractionUnit::Microseconds)?
+            && are_as_before_in(alloc, seconds, FractionUnit::Nanoseconds)?,
+    )
 }
 
 // The first seconds, the ends of an hour and of a day, those of February in 1972, 1973, 2000 and 2100, the ends of
@@ -152,17 +157,19 @@ const SECONDS: [u32; 32] = [
 ];
 
 #[test]
-fn chosen_times_are_as_before(rt: HostRuntime) -> Result<(), Fail> {
+fn chosen_times_are_as_before(rt: HostRuntime) {
     for seconds in SECONDS {
-        let are_same = are_as_before(rt.alloc(), seconds).ok_or("memory")?;
-        assert!(rt; are_same, "at {seconds}");
+        assert_eq!(rt;
+            are_as_before(rt.alloc(), seconds),
+            Some(true),
+            "at {seconds}"
+        );
     }
-    Ok(())
 }
 
 // Of each day the first and the last second.
 #[test]
-fn days_are_as_before(rt: HostRuntime) -> Result<(), Fail> {
+fn days_are_as_before(rt: HostRuntime) {
     for day in 0..=u32::MAX / DAY {
         let first = day.wrapping_mul(DAY);
         for seconds in [first, first.saturating_add(DAY - 1)] {
@@ -171,20 +178,20 @@ fn days_are_as_before(rt: HostRuntime) -> Result<(), Fail> {
                 fraction: day,
                 unit: FractionUnit::Microseconds,
             };
-            let is_same = is_as_before(rt.alloc(), time).ok_or("memory")?;
-            assert!(rt; is_same, "at {seconds}");
+            assert_eq!(rt; is_as_before(rt.alloc(), time), Some(true), "at {seconds}");
         }
     }
-    Ok(())
 }
 
 #[test]
-fn drawn_times_are_as_before(rt: HostRuntime) -> Result<(), Fail> {
+fn drawn_times_are_as_before(rt: HostRuntime) {
     let mut draws = Draws::new(1);
     for _ in 0..2000 {
         let seconds = draws.below(u32::MAX);
-        let are_same = are_as_before(rt.alloc(), seconds).ok_or("memory")?;
-        assert!(rt; are_same, "at {seconds}");
+        assert_eq!(rt;
+            are_as_before(rt.alloc(), seconds),
+            Some(true),
+            "at {seconds}"
+        );
     }
-    Ok(())
 }
