@@ -1,17 +1,26 @@
 //! The verdict on captures and certificates in memory.
-use crate::cases::{Command, case_of, expect};
+use crate::cases::{Case, Command, case_of, row_at, rows, tells};
 use crate::show_tests::number_in;
-use crate::verdict_rows::ROWS;
-use std::test::Fail;
+use std::alloc::Global;
+use std::process::Abort;
+
+// Whether a check by the certificate of a case tells this of a file.
+fn tells_of(alloc: Global, case: &Case, file: &[u8], want: &str) -> Option<bool> {
+    let check = Command::Check(case.certificate.as_bytes());
+    tells(alloc, check, &case.params, file, want)
+}
+
+// Whether a check tells what a row says.
+fn is_checked(alloc: Global, row: &str) -> Option<bool> {
+    let case = case_of(alloc, row)?;
+    tells_of(alloc, &case, &case.file, case.want.as_str())
+}
 
 #[test]
-fn certificates_are_checked(rt: HostRuntime) -> Result<(), Fail> {
-    for row in ROWS.lines() {
-        let case = case_of(rt.alloc(), row).ok_or("a row")?;
-        let check = Command::Check(case.certificate.as_bytes());
-        expect(&rt, check, &case.params, &case.file, case.want.as_str())?;
+fn certificates_are_checked(rt: HostRuntime) {
+    for row in rows().lines() {
+        assert_eq!(rt; is_checked(rt.alloc(), row), Some(true), "{row}");
     }
-    Ok(())
 }
 
 // The handshake's file, cut to a number of bytes: from this one, to that one, and the text.
@@ -34,18 +43,28 @@ fn bounds_in(row: &str) -> Option<(u32, u32, &str)> {
     ))
 }
 
-#[test]
-fn cut_files_are_checked(rt: HostRuntime) -> Result<(), Fail> {
-    let row = ROWS.lines().nth(1).ok_or("the handshake")?;
-    let case = case_of(rt.alloc(), row).ok_or("a row")?;
-    let check = Command::Check(case.certificate.as_bytes());
-    for row in CUTS.lines() {
-        let (first, last, want) = bounds_in(row).ok_or("a row")?;
-        let want = format!(in rt.alloc(); "{want}\n")?;
-        for len in first..=last {
-            let front = case.file.get(..len as usize).ok_or("a beginning")?;
-            expect(&rt, check, &case.params, front, want.as_str())?;
+// Whether a check of the handshake's first bytes tells this, for each number of them within these bounds.
+fn tells_of_each(alloc: Global, first: u32, last: u32, want: &str) -> Option<bool> {
+    let case = case_of(alloc, row_at(1))?;
+    for len in first..=last {
+        let front = case.file.get(..len as usize)?;
+        if tells_of(alloc, &case, front, want) != Some(true) {
+            return Some(false);
         }
     }
-    expect(&rt, check, &case.params, &case.file, case.want.as_str())
+    Some(true)
+}
+
+// Whether the handshake's file, cut so, is told of so; the text of a row has a line feed at its end.
+fn is_cut_so(alloc: Global, row: &str) -> Option<bool> {
+    let (first, last, want) = bounds_in(row)?;
+    tells_of_each(alloc, first, last, want)
+}
+
+#[test]
+fn cut_files_are_checked(rt: HostRuntime) {
+    for row in CUTS.split_inclusive('\n') {
+        assert_eq!(rt; is_cut_so(rt.alloc(), row), Some(true), "{row}");
+    }
+    assert_eq!(rt; is_checked(rt.alloc(), row_at(1)), Some(true));
 }

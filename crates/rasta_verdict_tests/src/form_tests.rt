@@ -3,26 +3,33 @@ use rasta_commands::{Failure, parse, status};
 use rasta_pdu::{Fault, Side};
 use std::alloc::Global;
 use std::process::Abort;
-use std::test::Fail;
 
 // The words of a text.
-fn words_in(alloc: Global, text: &str) -> Result<Vec<String>, Fail> {
+fn words_in(alloc: Global, text: &str) -> Option<Vec<String>> {
     let mut list = Vec::new(alloc);
     for word in text.split(' ') {
         if !word.is_empty() {
-            list.push(String::from_str(alloc, word)?)?;
+            list.push(String::from_str(alloc, word).ok()?).ok()?;
         }
     }
-    Ok(list)
+    Some(list)
 }
 
 // The form as a text, or the usage line's word where the words are refused by it.
-fn form_text(alloc: Global, words: &[String]) -> Result<String, Fail> {
+fn form_text(alloc: Global, words: &[String]) -> Option<String> {
     match parse(alloc, words) {
-        Ok(form) => Ok(format!(in alloc; "{form:?}")?),
-        Err(Failure::Usage) => Ok(String::from_str(alloc, "usage")?),
-        Err(Failure::Refused(_)) => Err("memory")?,
+        Ok(form) => format!(in alloc; "{form:?}").ok(),
+        Err(Failure::Usage) => String::from_str(alloc, "usage").ok(),
+        Err(Failure::Refused(_)) => None,
     }
+}
+
+// Whether the words of a row have the form that it says.
+fn is_of_form(alloc: Global, row: &str) -> Option<bool> {
+    let (words, want) = row.split_once(" | ")?;
+    let list = words_in(alloc, words)?;
+    let text = form_text(alloc, &list)?.replace(alloc, "\"", "'").ok()?;
+    Some(text.as_str() == want)
 }
 
 // Words, and their form, if they are one.
@@ -48,14 +55,10 @@ explain c p | usage
 ";
 
 #[test]
-fn forms_of_the_command_line(rt: HostRuntime) -> Result<(), Fail> {
+fn forms_of_the_command_line(rt: HostRuntime) {
     for row in FORMS.lines() {
-        let (words, want) = row.split_once(" | ").ok_or("a row")?;
-        let list = words_in(rt.alloc(), words)?;
-        let text = form_text(rt.alloc(), &list)?.replace(rt.alloc(), "\"", "'")?;
-        assert_eq!(rt; text.as_str(), want);
+        assert_eq!(rt; is_of_form(rt.alloc(), row), Some(true), "{row}");
     }
-    Ok(())
 }
 
 // Number and place of a fault, the status of the program, and the text of the failure.
@@ -86,24 +89,27 @@ fn failure_in(words: &str, end: Option<Side>) -> Option<(Failure, u32)> {
     Some((Failure::Refused(fault), code))
 }
 
-fn expect_failure<R: Abort + AllocGlobal>(
-    rt: &R,
-    failure: &Failure,
-    text: &str,
-    code: u32,
-) -> Result<(), Fail> {
-    assert_eq!(rt; failure.to_string(rt.alloc())?.as_str(), text);
-    assert_eq!(rt; u32::from(status(failure)), code);
-    Ok(())
+// Whether a failure has this text and this status.
+fn is_told(alloc: Global, failure: &Failure, text: &str, code: u32) -> Option<bool> {
+    let told = failure.to_string(alloc).ok()?;
+    Some(told.as_str() == text && u32::from(status(failure)) == code)
+}
+
+// Whether the failure of a row has the text and the status that it says.
+fn is_told_so(alloc: Global, row: &str) -> Option<bool> {
+    let (words, text) = row.split_once(" | ")?;
+    let end = text.ends_with("client").then_some(Side::Client);
+    let (failure, code) = failure_in(words, end)?;
+    is_told(alloc, &failure, text, code)
 }
 
 #[test]
-fn failures_as_texts_and_statuses(rt: HostRuntime) -> Result<(), Fail> {
+fn failures_as_texts_and_statuses(rt: HostRuntime) {
     for row in FAILURES.lines() {
-        let (words, text) = row.split_once(" | ").ok_or("a row")?;
-        let end = text.ends_with("client").then_some(Side::Client);
-        let (failure, code) = failure_in(words, end).ok_or("a row")?;
-        expect_failure(&rt, &failure, text, code)?;
+        assert_eq!(rt; is_told_so(rt.alloc(), row), Some(true), "{row}");
     }
-    expect_failure(&rt, &Failure::Usage, "usage", 2)
+    assert_eq!(rt;
+        is_told(rt.alloc(), &Failure::Usage, "usage", 2),
+        Some(true)
+    );
 }

@@ -1,87 +1,90 @@
 //! The four commands over captures that come in pieces, and what they have read when.
 ghost use Rattle.std.specs.Prelude.{None};
 
-use crate::cases::{Case, Command, case_of, run, told};
+use crate::cases::{Case, Command, case_of, commands_of, outcome_of, row_at, rows, told};
 use crate::show_tests::parameters;
-use crate::verdict_rows::ROWS;
 use rasta_pcap::Counted;
 use rasta_pcap::devices::{FailAt, Pieces};
 use rasta_pdu::{Params, Source};
 use rasta_show::run_show;
+use std::alloc::Global;
 use std::cell::Cell;
 use std::io;
 use std::io::{Read, Write};
 use std::process::Abort;
-use std::test::Fail;
 
 // Whether a command says of a capture in pieces what it says of the whole.
-fn expect_pieces<R: Abort + AllocGlobal>(
-    rt: &R,
-    command: Command<'_>,
-    case: &Case<'_>,
-    pieces: Pieces<'_>,
-) -> Result<(), Fail> {
-    let (honest, status) = told(rt, command, &case.params, &case.file)?;
+fn tells_of(alloc: Global, command: Command<'_>, case: &Case, pieces: Pieces<'_>) -> Option<bool> {
+    let (honest, status) = told(alloc, command, &case.params, &case.file)?;
     let mut reader = Counted::new(pieces);
-    let mut writer = Counted::new(Vec::new(rt.alloc()));
-    let outcome = run(rt.alloc(), command, &case.params, &mut reader, &mut writer);
-    assert_eq!(rt; outcome, Ok(status), "{}", case.name);
-    assert_eq!(rt;
-        writer.into_inner().as_slice(),
-        honest.as_slice(),
-        "{}",
-        case.name
-    );
-    Ok(())
+    let (outcome, text) = outcome_of(alloc, command, &case.params, &mut reader);
+    Some(outcome == Ok(status) && text.as_slice() == honest.as_slice())
+}
+
+// Whether it does so in pieces of each size.
+fn tells_of_all(alloc: Global, command: Command<'_>, case: &Case) -> bool {
+    tells_of(alloc, command, case, Pieces::new(&case.file, 1)) == Some(true)
+        && tells_of(alloc, command, case, Pieces::new(&case.file, 7)) == Some(true)
+        && tells_of(alloc, command, case, Pieces::new(&case.file, 4096)) == Some(true)
+}
+
+// Whether each command does so of a row.
+fn comes_in_pieces(alloc: Global, row: &str) -> Option<bool> {
+    let case = case_of(alloc, row)?;
+    for command in commands_of(&case) {
+        if !tells_of_all(alloc, command, &case) {
+            return Some(false);
+        }
+    }
+    Some(true)
 }
 
 #[test]
-fn captures_come_in_pieces(rt: HostRuntime) -> Result<(), Fail> {
-    for row in ROWS.lines() {
-        let case = case_of(rt.alloc(), row).ok_or("a row")?;
-        let check = Command::Check(case.certificate.as_bytes());
-        for command in [Command::Show, Command::Build, check, Command::Audit] {
-            expect_pieces(&rt, command, &case, Pieces::new(&case.file, 1))?;
-            expect_pieces(&rt, command, &case, Pieces::new(&case.file, 7))?;
-            expect_pieces(&rt, command, &case, Pieces::new(&case.file, 4096))?;
-        }
+fn captures_come_in_pieces(rt: HostRuntime) {
+    for row in rows().lines() {
+        assert_eq!(rt; comes_in_pieces(rt.alloc(), row), Some(true), "{row}");
     }
-    Ok(())
 }
 
 // Whether a command with a window of three records says of a file what it says of its first three, and asks a
 // reader that gives a byte a call for no more than these.
-fn expect_window<R: Abort + AllocGlobal>(
-    rt: &R,
+fn tells_of_window(
+    alloc: Global,
     command: Command<'_>,
     window: &Params,
     file: &[u8],
-    first_three: &Case<'_>,
-) -> Result<(), Fail> {
-    let (honest, status) = told(rt, command, &first_three.params, &first_three.file)?;
+    first_three: &Case,
+) -> Option<bool> {
+    let (honest, status) = told(alloc, command, &first_three.params, &first_three.file)?;
     let next = first_three.file.len() as u64 + 1;
     let mut reader = Counted::new(FailAt::new(Pieces::new(file, 1), next));
-    let mut writer = Counted::new(Vec::new(rt.alloc()));
-    let outcome = run(rt.alloc(), command, window, &mut reader, &mut writer);
-    assert_eq!(rt; Source::failures(&reader), 0);
-    assert_eq!(rt; outcome, Ok(status));
-    assert_eq!(rt; writer.into_inner().as_slice(), honest.as_slice());
-    Ok(())
+    let (outcome, text) = outcome_of(alloc, command, window, &mut reader);
+    let is_same = outcome == Ok(status) && text.as_slice() == honest.as_slice();
+    Some(is_same && Source::failures(&reader) == 0)
+}
+
+// Whether each command does so.
+fn is_window_of(alloc: Global, window: &Params, file: &[u8], first_three: &Case) -> bool {
+    for command in commands_of(first_three) {
+        if tells_of_window(alloc, command, window, file, first_three) != Some(true) {
+            return false;
+        }
+    }
+    true
+}
+
+// Whether it is so of data after a handshake.
+fn is_window_of_data(alloc: Global) -> Option<bool> {
+    let keys = "code_length = 0/check_length = 0/last_record = 3";
+    let window = parameters(alloc, keys)?;
+    let handshake = case_of(alloc, row_at(1))?;
+    let data = case_of(alloc, row_at(2))?;
+    Some(is_window_of(alloc, &window, &data.file, &handshake))
 }
 
 #[test]
-fn nothing_is_read_after_the_window(rt: HostRuntime) -> Result<(), Fail> {
-    let keys = "code_length = 0/check_length = 0/last_record = 3";
-    let window = parameters(rt.alloc(), keys).ok_or("parameters")?;
-    let handshake = ROWS.lines().nth(1).ok_or("the handshake")?;
-    let handshake = case_of(rt.alloc(), handshake).ok_or("a row")?;
-    let data = ROWS.lines().nth(2).ok_or("data")?;
-    let data = case_of(rt.alloc(), data).ok_or("a row")?;
-    let check = Command::Check(handshake.certificate.as_bytes());
-    for command in [Command::Show, Command::Build, check, Command::Audit] {
-        expect_window(&rt, command, &window, &data.file, &handshake)?;
-    }
-    Ok(())
+fn nothing_is_read_after_the_window(rt: HostRuntime) {
+    assert_eq!(rt; is_window_of_data(rt.alloc()), Some(true));
 }
 
 // How often the reader was asked, how many lines were written, and whether it was ever asked for a record with
@@ -136,24 +139,24 @@ impl<'a> Write for LoggedWriter<'a> {
     }
 }
 
+// The status with which data are shown, if they are, by devices that log their calls.
+fn shown(alloc: Global, log: &Log) -> Option<u8> {
+    let case = case_of(alloc, row_at(2))?;
+    let rest = case.file.as_slice();
+    let mut reader = Counted::new(LoggedReader { rest, log });
+    let mut writer = Counted::new(LoggedWriter { log });
+    run_show(alloc, &case.params, &mut reader, &mut writer).ok()
+}
+
 // The reader is asked for each of five records and for a sixth, and the sixth line is their count.
 #[test]
-fn each_line_is_written_before_the_next_record_is_read(rt: HostRuntime) -> Result<(), Fail> {
-    let row = ROWS.lines().nth(2).ok_or("data")?;
-    let case = case_of(rt.alloc(), row).ok_or("a row")?;
+fn each_line_is_written_before_the_next_record_is_read(rt: HostRuntime) {
     let log = Log {
         reads: Cell::new(0),
         lines: Cell::new(0),
         is_late: Cell::new(false),
     };
-    let mut reader = Counted::new(LoggedReader {
-        rest: &case.file,
-        log: &log,
-    });
-    let mut writer = Counted::new(LoggedWriter { log: &log });
-    let outcome = run_show(rt.alloc(), &case.params, &mut reader, &mut writer);
-    assert_eq!(rt; outcome, Ok(0));
-    assert_eq!(rt; (log.reads.get(), log.lines.get()), (12, 6));
-    assert!(rt; !log.is_late.get());
-    Ok(())
+    let status = shown(rt.alloc(), &log);
+    let told = (status, log.reads.get(), log.lines.get(), log.is_late.get());
+    assert_eq!(rt; told, (Some(0), 12, 6, false));
 }

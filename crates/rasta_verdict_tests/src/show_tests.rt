@@ -2,6 +2,7 @@
 //!
 //! Frames and datagrams are written in hexadecimal digits. A row of a table is a line with bars between
 //! its parts; a slash stands for the end of a line.
+use crate::cases::lines_of;
 use rasta_params::params;
 use rasta_pcap::Counted;
 use rasta_pcap::devices::Pieces;
@@ -9,7 +10,6 @@ use rasta_pdu::Params;
 use rasta_show::run_show;
 use std::alloc::Global;
 use std::process::Abort;
-use std::test::Fail;
 
 pub const LITTLE: &str = "d4c3b2a1";
 
@@ -119,38 +119,23 @@ fn capture_of(alloc: Global, magic: &str, tag: &str, datagrams: &str) -> Option<
     Some(file)
 }
 
-// The status and the text of a file in pieces.
-fn shown(alloc: Global, lines: &str, pieces: Pieces<'_>) -> Option<(u8, Vec<u8>)> {
-    let params = parameters(alloc, lines)?;
+// Whether this text is shown of a file in pieces, with the status that it calls for.
+fn is_shown_of(alloc: Global, params: &Params, pieces: Pieces<'_>, want: &str) -> bool {
     let mut reader = Counted::new(pieces);
     let mut writer = Counted::new(Vec::new(alloc));
-    let status = run_show(alloc, &params, &mut reader, &mut writer).ok()?;
-    Some((status, writer.into_inner()))
+    let outcome = run_show(alloc, params, &mut reader, &mut writer);
+    let due = u8::from(want.starts_with("refused"));
+    outcome == Ok(due) && writer.into_inner().as_slice() == want.as_bytes()
 }
 
-// Whether the wanted text is shown of a file, with the status that it calls for, in pieces of each size.
-fn expect<R: Abort + AllocGlobal>(
-    rt: &R,
-    lines: &str,
-    file: &[u8],
-    want: &str,
-) -> Result<(), Fail> {
-    expect_in_pieces(rt, lines, Pieces::new(file, 1), want)?;
-    expect_in_pieces(rt, lines, Pieces::new(file, 7), want)?;
-    expect_in_pieces(rt, lines, Pieces::new(file, 4096), want)
-}
-
-fn expect_in_pieces<R: Abort + AllocGlobal>(
-    rt: &R,
-    lines: &str,
-    pieces: Pieces<'_>,
-    want: &str,
-) -> Result<(), Fail> {
-    let (status, text) = shown(rt.alloc(), lines, pieces).ok_or("a text")?;
-    let lines = format!(in rt.alloc(); "{want}/")?.replace(rt.alloc(), "/", "\n")?;
-    assert_eq!(rt; text.as_slice(), lines.as_bytes(), "{want}");
-    assert_eq!(rt; status, u8::from(want.starts_with("refused")));
-    Ok(())
+// Whether the wanted text is shown of a file in pieces of each size.
+fn is_shown(alloc: Global, lines: &str, file: &[u8], want: &str) -> Option<bool> {
+    let params = parameters(alloc, lines)?;
+    let want = lines_of(alloc, want)?;
+    let is_same = is_shown_of(alloc, &params, Pieces::new(file, 1), want.as_str())
+        && is_shown_of(alloc, &params, Pieces::new(file, 7), want.as_str())
+        && is_shown_of(alloc, &params, Pieces::new(file, 4096), want.as_str());
+    Some(is_same)
 }
 
 // The range of the heartbeat's frame that is replaced, by which bytes, how many bytes were captured, and
@@ -211,15 +196,19 @@ fn file_of_change(alloc: Global, change: &str) -> Option<Vec<u8>> {
     file_of(alloc, &[&frame])
 }
 
+// Whether the change of a row is shown so.
+fn is_frame_shown(alloc: Global, row: &str) -> Option<bool> {
+    let (change, want) = row.split_once(" | ")?;
+    let file = file_of_change(alloc, change)?;
+    let want = if want == "heartbeat" { SHOWN } else { want };
+    is_shown(alloc, NO_CODES, &file, want)
+}
+
 #[test]
-fn frames_by_their_table(rt: HostRuntime) -> Result<(), Fail> {
+fn frames_by_their_table(rt: HostRuntime) {
     for row in FRAMES.lines() {
-        let (change, want) = row.split_once(" | ").ok_or("a row")?;
-        let file = file_of_change(rt.alloc(), change).ok_or("a file")?;
-        let want = if want == "heartbeat" { SHOWN } else { want };
-        expect(&rt, NO_CODES, &file, want)?;
+        assert_eq!(rt; is_frame_shown(rt.alloc(), row), Some(true), "{row}");
     }
-    Ok(())
 }
 
 // How many bytes there are of a file of one heartbeat, and what is shown.
@@ -232,15 +221,20 @@ const CUTS: &str = "\
 124 | 0 1 1 client 8 0 6220 101 500 1010 9000 - - -/packets 1
 ";
 
+// Whether the cut of a row is shown so.
+fn is_cut_shown(alloc: Global, row: &str) -> Option<bool> {
+    let (place, want) = row.split_once(" | ")?;
+    let place = place_in(Some(place))?;
+    let mut file = file_of_change(alloc, "0 0  84")?;
+    file.truncate(place);
+    is_shown(alloc, NO_CODES, &file, want)
+}
+
 #[test]
-fn files_that_end_early(rt: HostRuntime) -> Result<(), Fail> {
+fn files_that_end_early(rt: HostRuntime) {
     for row in CUTS.lines() {
-        let (place, want) = row.split_once(" | ").ok_or("a row")?;
-        let mut file = file_of_change(rt.alloc(), "0 0  84").ok_or("a file")?;
-        file.truncate(place_in(Some(place)).ok_or("a place")?);
-        expect(&rt, NO_CODES, &file, want)?;
+        assert_eq!(rt; is_cut_shown(rt.alloc(), row), Some(true), "{row}");
     }
-    Ok(())
 }
 
 // The magic of a file, and the tag of its frames.
@@ -263,15 +257,19 @@ const HANDSHAKE_SHOWN: &str =
 2 3 1 client 8 0 6220 101 500 1010 9000 - - -/\
 packets 3";
 
+// Whether the handshake is shown in a file as a row says.
+fn is_handshake_shown(alloc: Global, row: &str) -> Option<bool> {
+    let (magic, tag) = row.split_once(" |")?;
+    let file = capture_of(alloc, magic, tag.trim(), HANDSHAKE)?;
+    is_shown(alloc, NO_CODES, &file, HANDSHAKE_SHOWN)
+}
+
 // The handshake in each kind of file, and with a tag.
 #[test]
-fn handshake(rt: HostRuntime) -> Result<(), Fail> {
+fn handshake(rt: HostRuntime) {
     for row in FORMATS.lines() {
-        let (magic, tag) = row.split_once(" |").ok_or("a row")?;
-        let file = capture_of(rt.alloc(), magic, tag.trim(), HANDSHAKE).ok_or("a file")?;
-        expect(&rt, NO_CODES, &file, HANDSHAKE_SHOWN)?;
+        assert_eq!(rt; is_handshake_shown(rt.alloc(), row), Some(true), "{row}");
     }
-    Ok(())
 }
 
 // Lines of the parameter file, datagrams, and what is shown of them: data of two messages, of which the
@@ -307,15 +305,19 @@ server:2a0000002a000000200048186000000061000000ffffffff6b000000ffffffff30040000f
 packets 5
 ";
 
+// Whether the datagrams of a row are shown so.
+fn are_datagrams_shown(alloc: Global, row: &str) -> Option<bool> {
+    let (lines, row) = row.split_once(" | ")?;
+    let (datagrams, want) = row.split_once(" | ")?;
+    let file = capture_of(alloc, LITTLE, "", datagrams)?;
+    is_shown(alloc, lines, &file, want)
+}
+
 #[test]
-fn bodies_and_codes(rt: HostRuntime) -> Result<(), Fail> {
+fn bodies_and_codes(rt: HostRuntime) {
     for row in CASES.lines() {
-        let (lines, row) = row.split_once(" | ").ok_or("a row")?;
-        let (datagrams, want) = row.split_once(" | ").ok_or("a row")?;
-        let file = capture_of(rt.alloc(), LITTLE, "", datagrams).ok_or("a file")?;
-        expect(&rt, lines, &file, want)?;
+        assert_eq!(rt; are_datagrams_shown(rt.alloc(), row), Some(true), "{row}");
     }
-    Ok(())
 }
 
 // Lines of the parameter file, and what is shown.
@@ -336,13 +338,17 @@ fn file_with_windows(alloc: Global) -> Option<Vec<u8>> {
     Some(file)
 }
 
+// Whether the file is shown so by the parameters of a row.
+fn is_window_shown(alloc: Global, row: &str) -> Option<bool> {
+    let (lines, want) = row.split_once(" | ")?;
+    let file = file_with_windows(alloc)?;
+    is_shown(alloc, lines, &file, want)
+}
+
 // Records outside the window aren't judged, and a copy has a line of its own.
 #[test]
-fn windows(rt: HostRuntime) -> Result<(), Fail> {
-    let file = file_with_windows(rt.alloc()).ok_or("a file")?;
+fn windows(rt: HostRuntime) {
     for row in WINDOWS.lines() {
-        let (lines, want) = row.split_once(" | ").ok_or("a row")?;
-        expect(&rt, lines, &file, want)?;
+        assert_eq!(rt; is_window_shown(rt.alloc(), row), Some(true), "{row}");
     }
-    Ok(())
 }

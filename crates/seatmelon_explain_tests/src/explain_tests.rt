@@ -5,7 +5,7 @@ use crate::cases::rule_cases::{RULE, TROUBLE, layouts, rules};
 use crate::cases::script_cases::scripts;
 use crate::cases::step_cases::steps;
 use crate::cases::window_cases::{WindowCase, window_case_in, windows};
-use crate::cases::{Given, MARK, case_in, explained};
+use crate::cases::{Case, Given, MARK, case_in, explained};
 use rasta_pcap::devices::{FailAt, Pieces};
 use rasta_pcap::{Counted, Fault, Sink, Source};
 use rasta_pdu::Params;
@@ -13,7 +13,6 @@ use seatmelon_explain::{Choices, Form, Names, Outcome, Texts, explain};
 use std::alloc::Global;
 use std::process::Abort;
 use std::str;
-use std::test::Fail;
 
 /// Explains a case by these parameters and these two readers.
 pub fn written<R: Source, A: Source, W: Sink>(
@@ -43,32 +42,41 @@ pub fn written<R: Source, A: Source, W: Sink>(
     )
 }
 
-// Explains a case in words.
-fn told<R: Source, A: Source, W: Sink>(
+/// What two readings of a case come to by these parameters, and what is written; none where a device fails.
+pub fn told<R: Source>(
     alloc: Global,
     given: &Given,
+    params: &Params,
+    form: Form,
     first: &mut R,
-    again: &mut A,
-    writer: &mut W,
-) -> Result<Outcome, Fault> {
-    written(
-        alloc,
-        given,
-        &given.params,
-        Form::Text,
-        first,
-        again,
-        writer,
-    )
+    again: &[u8],
+) -> Option<(Outcome, Vec<u8>)> {
+    let mut again = Counted::new(again);
+    let mut writer = Counted::new(Vec::new(alloc));
+    let outcome = written(alloc, given, params, form, first, &mut again, &mut writer);
+    Some((outcome.ok()?, writer.into_inner()))
+}
+
+/// What is written on a case by these parameters.
+pub fn text_by(alloc: Global, given: &Given, params: &Params, form: Form) -> Option<Vec<u8>> {
+    let mut first = Counted::new(given.file.as_slice());
+    let (_, text) = told(alloc, given, params, form, &mut first, &given.file)?;
+    Some(text)
 }
 
 // The text on a case whose file comes in pieces of this size.
-fn text_of(alloc: Global, given: &Given, most: usize) -> Option<Vec<u8>> {
+fn text_of(alloc: Global, case: &Case<'_>, most: usize) -> Option<Vec<u8>> {
+    let given = case.given(alloc)?;
     let mut first = Counted::new(Pieces::new(&given.file, most.max(1)));
-    let mut again = Counted::new(given.file.as_slice());
-    let mut writer = Counted::new(Vec::new(alloc));
-    told(alloc, given, &mut first, &mut again, &mut writer).ok()?;
-    Some(writer.into_inner())
+    let (_, text) = told(
+        alloc,
+        &given,
+        &given.params,
+        Form::Text,
+        &mut first,
+        &given.file,
+    )?;
+    Some(text)
 }
 
 // What is told after what was read.
@@ -78,34 +86,42 @@ fn verdict_in(text: &[u8]) -> Option<&str> {
     Some(verdict)
 }
 
-// Compares the text on each case, read in pieces of one byte and of many, with the one that is wanted.
-fn compare<R: Abort + AllocGlobal>(rt: &R, cases: &str) -> Result<(), Fail> {
+// Whether the text on a case, read in pieces of this size, is the one that is wanted.
+fn is_told_of(alloc: Global, case: &Case<'_>, most: usize) -> Option<bool> {
+    let text = text_of(alloc, case, most)?;
+    Some(verdict_in(&text) == Some(case.want))
+}
+
+// Whether it is, in pieces of one byte and of many.
+fn is_told(alloc: Global, lines: &str) -> Option<bool> {
+    let case = case_in(lines)?;
+    Some(is_told_of(alloc, &case, 1) == Some(true) && is_told_of(alloc, &case, 4096) == Some(true))
+}
+
+// The first of these cases on which another text is written than is wanted.
+fn first_wrong(alloc: Global, cases: &'static str) -> Option<&'static str> {
     for lines in cases.split(MARK).skip(1) {
-        let case = case_in(lines).ok_or("a case")?;
-        let given = case.given(rt.alloc()).ok_or("what it gives")?;
-        for most in [1, 4096] {
-            let text = text_of(rt.alloc(), &given, most).ok_or("a text")?;
-            let verdict = verdict_in(&text).ok_or("a verdict")?;
-            assert_eq!(rt; verdict, case.want, "{}", case.name);
+        if is_told(alloc, lines) != Some(true) {
+            return Some(lines);
         }
     }
-    Ok(())
+    None
 }
 
 #[test]
-fn refused_files(rt: HostRuntime) -> Result<(), Fail> {
-    compare(&rt, files())
+fn refused_files(rt: HostRuntime) {
+    assert_eq!(rt; first_wrong(rt.alloc(), files()), None);
 }
 
 #[test]
-fn refused_packets(rt: HostRuntime) -> Result<(), Fail> {
-    compare(&rt, packets())
+fn refused_packets(rt: HostRuntime) {
+    assert_eq!(rt; first_wrong(rt.alloc(), packets()), None);
 }
 
 #[test]
-fn refused_scripts(rt: HostRuntime) -> Result<(), Fail> {
-    compare(&rt, scripts())?;
-    compare(&rt, steps())
+fn refused_scripts(rt: HostRuntime) {
+    assert_eq!(rt; first_wrong(rt.alloc(), scripts()), None);
+    assert_eq!(rt; first_wrong(rt.alloc(), steps()), None);
 }
 
 // What is told after these words, up to the next empty line.
@@ -115,26 +131,31 @@ fn part_after<'a>(text: &'a [u8], words: &str) -> Option<&'a str> {
     Some(part)
 }
 
-// Compares what is told on each case after these words with what is wanted.
-fn compare_parts<R: Abort + AllocGlobal>(rt: &R, cases: &str, words: &str) -> Result<(), Fail> {
+// Whether what is told on a case after these words is what is wanted.
+fn is_told_after(alloc: Global, words: &str, lines: &str) -> Option<bool> {
+    let case = case_in(lines)?;
+    let text = text_of(alloc, &case, 4096)?;
+    Some(part_after(&text, words) == Some(case.want.trim_end()))
+}
+
+// The first of these cases on which something else is told after these words.
+fn first_wrong_after(alloc: Global, words: &str, cases: &'static str) -> Option<&'static str> {
     for lines in cases.split(MARK).skip(1) {
-        let case = case_in(lines).ok_or("a case")?;
-        let given = case.given(rt.alloc()).ok_or("what it gives")?;
-        let text = text_of(rt.alloc(), &given, 4096).ok_or("a text")?;
-        let part = part_after(&text, words).ok_or(case.packets)?;
-        assert_eq!(rt; part, case.want.trim_end(), "{}", case.name);
+        if is_told_after(alloc, words, lines) != Some(true) {
+            return Some(lines);
+        }
     }
-    Ok(())
+    None
 }
 
 #[test]
-fn told_rules(rt: HostRuntime) -> Result<(), Fail> {
-    compare_parts(&rt, rules(), RULE)
+fn told_rules(rt: HostRuntime) {
+    assert_eq!(rt; first_wrong_after(rt.alloc(), RULE, rules()), None);
 }
 
 #[test]
-fn told_layouts(rt: HostRuntime) -> Result<(), Fail> {
-    compare_parts(&rt, layouts(), TROUBLE)
+fn told_layouts(rt: HostRuntime) {
+    assert_eq!(rt; first_wrong_after(rt.alloc(), TROUBLE, layouts()), None);
 }
 
 /// The parameters of a case, for the records of its window.
@@ -159,20 +180,7 @@ pub fn params_in(named: &Params, window: &WindowCase<'_>) -> Option<Params> {
 fn text_in(alloc: Global, window: &WindowCase<'_>) -> Option<Vec<u8>> {
     let given = window.case.given(alloc)?;
     let params = params_in(&given.params, window)?;
-    let mut first = Counted::new(given.file.as_slice());
-    let mut again = Counted::new(given.file.as_slice());
-    let mut writer = Counted::new(Vec::new(alloc));
-    let outcome = written(
-        alloc,
-        &given,
-        &params,
-        Form::Text,
-        &mut first,
-        &mut again,
-        &mut writer,
-    );
-    outcome.ok()?;
-    Some(writer.into_inner())
+    text_by(alloc, &given, &params, Form::Text)
 }
 
 // What a text tells after its first part.
@@ -188,102 +196,126 @@ fn tells_window(text: &[u8], window: &WindowCase<'_>) -> Option<bool> {
     Some(rest.starts_with(window.text) && rest.contains(window.later))
 }
 
+// Whether the text on a case does so.
+fn is_window_told(alloc: Global, lines: &str) -> Option<bool> {
+    let window = window_case_in(lines)?;
+    let text = text_in(alloc, &window)?;
+    tells_window(&text, &window)
+}
+
 #[test]
-fn told_windows(rt: HostRuntime) -> Result<(), Fail> {
+fn told_windows(rt: HostRuntime) {
     for lines in windows().split(MARK).skip(1) {
-        let window = window_case_in(lines).ok_or("a case")?;
-        let text = text_in(rt.alloc(), &window).ok_or("a text")?;
+        assert_eq!(rt; is_window_told(rt.alloc(), lines), Some(true), "{lines}");
+    }
+}
+
+// Whether the whole text on data that are confirmed is the one that is wanted.
+fn is_told_whole(alloc: Global) -> Option<bool> {
+    let case = explained()?;
+    let text = text_of(alloc, &case, 7)?;
+    Some(text.as_slice() == case.want.as_bytes())
+}
+
+#[test]
+fn whole_text(rt: HostRuntime) {
+    assert_eq!(rt; is_told_whole(rt.alloc()), Some(true));
+}
+
+// More bytes than a file has: with so many, its front is the whole.
+const WHOLE: usize = usize::MAX;
+
+// The first bytes of a file, or the whole if it has fewer.
+fn front_of(file: &[u8], len: usize) -> &[u8] {
+    file.get(..len).unwrap_or(file)
+}
+
+// What two fronts of a file come to as two readings of one, and whether nothing is written.
+fn outcome_of(alloc: Global, first: usize, again: usize) -> Option<(Outcome, bool)> {
+    let given = explained()?.given(alloc)?;
+    let mut first = Counted::new(front_of(&given.file, first));
+    let again = front_of(&given.file, again);
+    let (outcome, text) = told(alloc, &given, &given.params, Form::Text, &mut first, again)?;
+    Some((outcome, text.is_empty()))
+}
+
+#[test]
+fn outcomes(rt: HostRuntime) {
+    for (first, again, outcome) in [
+        (WHOLE, WHOLE, Outcome::Explained),
+        (24, 24, Outcome::NoPackets),
+        (30, 30, Outcome::Refused),
+        (WHOLE, 30, Outcome::Changed),
+    ] {
+        let is_silent = outcome == Outcome::Changed;
         assert_eq!(rt;
-            tells_window(&text, &window),
-            Some(true),
-            "{:?}",
-            str::from_utf8(&text)
+            outcome_of(rt.alloc(), first, again),
+            Some((outcome, is_silent))
         );
     }
-    Ok(())
 }
 
-#[test]
-fn whole_text(rt: HostRuntime) -> Result<(), Fail> {
-    let case = explained().ok_or("a case")?;
-    let given = case.given(rt.alloc()).ok_or("what it gives")?;
-    let text = text_of(rt.alloc(), &given, 7).ok_or("a text")?;
-    assert_eq!(rt; text.as_slice(), case.want.as_bytes());
-    Ok(())
-}
-
-// What two files come to as two readings of one, and how much is written.
-fn outcome_of(
-    alloc: Global,
-    given: &Given,
-    first: &[u8],
-    again: &[u8],
-) -> Option<(Outcome, usize)> {
+// Whether the text is the same where this read of the first reading fails, and an earlier one of the second, or the
+// failure is told and nothing is written.
+fn is_right_at_read(alloc: Global, call: u64) -> Option<bool> {
+    let case = explained()?;
+    let given = case.given(alloc)?;
+    let mut first = Counted::new(FailAt::new(Pieces::new(&given.file, 9), call));
+    let call = call.saturating_sub(90);
+    let mut again = Counted::new(FailAt::new(Pieces::new(&given.file, 9), call));
     let mut writer = Counted::new(Vec::new(alloc));
-    let mut first = Counted::new(first);
-    let mut again = Counted::new(again);
-    let outcome = told(alloc, given, &mut first, &mut again, &mut writer);
-    Some((outcome.ok()?, writer.into_inner().len()))
+    let outcome = written(
+        alloc,
+        &given,
+        &given.params,
+        Form::Text,
+        &mut first,
+        &mut again,
+        &mut writer,
+    );
+    let has_failed = Source::failures(&first) > 0 || Source::failures(&again) > 0;
+    let text = writer.into_inner();
+    Some(if has_failed {
+        outcome == Err(Fault::at(Fault::READ_FAILED, 0)) && text.is_empty()
+    } else {
+        outcome == Ok(Outcome::Explained) && text.as_slice() == case.want.as_bytes()
+    })
 }
 
+// Each read of either reading fails in turn.
 #[test]
-fn outcomes(rt: HostRuntime) -> Result<(), Fail> {
-    let case = explained().ok_or("a case")?;
-    let given = case.given(rt.alloc()).ok_or("what it gives")?;
-    let file = given.file.as_slice();
-    let (outcome, _) = outcome_of(rt.alloc(), &given, file, file).ok_or("explained")?;
-    assert_eq!(rt; outcome, Outcome::Explained);
-    let front = file.get(..24).ok_or("a header")?;
-    let (outcome, _) = outcome_of(rt.alloc(), &given, front, front).ok_or("no packets")?;
-    assert_eq!(rt; outcome, Outcome::NoPackets);
-    let front = file.get(..30).ok_or("a part")?;
-    let (outcome, _) = outcome_of(rt.alloc(), &given, front, front).ok_or("refused")?;
-    assert_eq!(rt; outcome, Outcome::Refused);
-    let (outcome, len) = outcome_of(rt.alloc(), &given, file, front).ok_or("changed")?;
-    assert_eq!(rt; (outcome, len), (Outcome::Changed, 0));
-    Ok(())
-}
-
-// Each read of either reading fails in turn: the text is the same, or the failure is told and nothing is written.
-#[test]
-fn failing_reads(rt: HostRuntime) -> Result<(), Fail> {
-    let case = explained().ok_or("a case")?;
-    let given = case.given(rt.alloc()).ok_or("what it gives")?;
+fn failing_reads(rt: HostRuntime) {
     for call in 0..200 {
-        let pieces = Pieces::new(&given.file, 9);
-        let mut first = Counted::new(FailAt::new(pieces, call));
-        let pieces = Pieces::new(&given.file, 9);
-        let mut again = Counted::new(FailAt::new(pieces, call.saturating_sub(90)));
-        let mut writer = Counted::new(Vec::new(rt.alloc()));
-        let outcome = told(rt.alloc(), &given, &mut first, &mut again, &mut writer);
-        let has_failed = Source::failures(&first) > 0 || Source::failures(&again) > 0;
-        let text = writer.into_inner();
-        if has_failed {
-            assert_eq!(rt; outcome, Err(Fault::at(Fault::READ_FAILED, 0)));
-            assert!(rt; text.is_empty());
-        } else {
-            assert_eq!(rt; outcome, Ok(Outcome::Explained));
-            assert_eq!(rt; text.as_slice(), case.want.as_bytes());
-        }
+        assert_eq!(rt; is_right_at_read(rt.alloc(), call), Some(true), "{call}");
     }
-    Ok(())
 }
 
-// Each write fails in turn: what was written begins the text, and the failure is told.
+// Whether what is written where this write fails begins the text, and the failure is told.
+fn is_right_at_write(alloc: Global, call: u64) -> Option<bool> {
+    let case = explained()?;
+    let given = case.given(alloc)?;
+    let mut first = Counted::new(given.file.as_slice());
+    let mut again = Counted::new(given.file.as_slice());
+    let mut writer = Counted::new(FailAt::new(Vec::new(alloc), call));
+    let outcome = written(
+        alloc,
+        &given,
+        &given.params,
+        Form::Text,
+        &mut first,
+        &mut again,
+        &mut writer,
+    );
+    let has_failed = Sink::failures(&writer) > 0;
+    let text = writer.into_inner().into_inner();
+    let is_told = (text.len() < case.want.len(), outcome.is_err()) == (has_failed, has_failed);
+    Some(is_told && case.want.as_bytes().starts_with(&text))
+}
+
+// Each write fails in turn.
 #[test]
-fn failing_writes(rt: HostRuntime) -> Result<(), Fail> {
-    let case = explained().ok_or("a case")?;
-    let given = case.given(rt.alloc()).ok_or("what it gives")?;
+fn failing_writes(rt: HostRuntime) {
     for call in 1..400 {
-        let mut first = Counted::new(given.file.as_slice());
-        let mut again = Counted::new(given.file.as_slice());
-        let mut writer = Counted::new(FailAt::new(Vec::new(rt.alloc()), call));
-        let outcome = told(rt.alloc(), &given, &mut first, &mut again, &mut writer);
-        let has_failed = Sink::failures(&writer) > 0;
-        let text = writer.into_inner().into_inner();
-        assert!(rt; case.want.as_bytes().starts_with(&text));
-        assert_eq!(rt; text.len() < case.want.len(), has_failed);
-        assert_eq!(rt; outcome.is_err(), has_failed);
+        assert_eq!(rt; is_right_at_write(rt.alloc(), call), Some(true), "{call}");
     }
-    Ok(())
 }

@@ -1,92 +1,95 @@
 //! The JSON of an explanation.
 use crate::cases::json_cases::{parts, quiet, whole};
-use crate::cases::window_cases::{window_case_in, windows};
-use crate::cases::{Given, MARK, case_in};
-use crate::explain_tests::{params_in, written};
+use crate::cases::window_cases::{WindowCase, window_case_in, windows};
+use crate::cases::{Case, Given, MARK, case_in};
+use crate::explain_tests::{params_in, text_by, written};
 use rasta_pcap::devices::FailAt;
 use rasta_pcap::{Counted, Fault};
 use rasta_pdu::{Params, Quiet, QuietEnd};
 use seatmelon_explain::Form;
 use std::alloc::Global;
+use std::process::Abort;
 use std::str;
-use std::test::Fail;
 
 // The JSON text that stands there over several lines.
-fn joined(alloc: Global, lines: &str) -> Result<String, Fail> {
+fn joined(alloc: Global, lines: &str) -> Option<String> {
     let mut text = String::new(alloc);
     for line in lines.lines() {
-        text.push_str(line)?;
+        text.push_str(line).ok()?;
     }
-    Ok(text)
+    Some(text)
 }
 
-// The JSON text on a case, without the line feed at its end.
-fn json_of(alloc: Global, given: &Given, params: &Params) -> Result<Vec<u8>, Fail> {
-    let mut writer = Counted::new(Vec::new(alloc));
-    let mut first = Counted::new(given.file.as_slice());
-    let mut again = Counted::new(given.file.as_slice());
-    let outcome = written(
-        alloc,
-        given,
-        params,
-        Form::Json,
-        &mut first,
-        &mut again,
-        &mut writer,
-    );
-    outcome.map_err(|_| "an outcome")?;
-    let mut text = writer.into_inner();
+// The JSON text on what is given, without the line feed at its end.
+fn json_by(alloc: Global, given: &Given, params: &Params) -> Option<Vec<u8>> {
+    let mut text = text_by(alloc, given, params, Form::Json)?;
     match text.pop() {
-        Some(b'\n') => Ok(text),
-        _ => Err("a line feed")?,
+        Some(b'\n') => Some(text),
+        _ => None,
     }
 }
 
+// The JSON text on a case.
+fn json_of(alloc: Global, case: &Case<'_>) -> Option<Vec<u8>> {
+    let given = case.given(alloc)?;
+    json_by(alloc, &given, &given.params)
+}
+
+// Whether the JSON on a case is the one that is wanted.
+fn is_whole(alloc: Global, lines: &str) -> Option<bool> {
+    let case = case_in(lines)?;
+    let text = json_of(alloc, &case)?;
+    let want = joined(alloc, case.want)?;
+    Some(text.as_slice() == want.as_bytes())
+}
+
 #[test]
-fn whole_json(rt: HostRuntime) -> Result<(), Fail> {
+fn whole_json(rt: HostRuntime) {
     for lines in whole().split(MARK).skip(1) {
-        let case = case_in(lines).ok_or("a case")?;
-        let given = case.given(rt.alloc()).ok_or("what it gives")?;
-        let text = json_of(rt.alloc(), &given, &given.params)?;
-        let want = joined(rt.alloc(), case.want)?;
-        assert_eq!(rt; str::from_utf8(&text)?, want.as_str());
+        assert_eq!(rt; is_whole(rt.alloc(), lines), Some(true), "{lines}");
     }
-    Ok(())
+}
+
+// Whether a text has a part, which stands there over several lines.
+fn has_part(alloc: Global, text: &[u8], part: &str) -> Option<bool> {
+    let part = joined(alloc, part)?;
+    Some(str::from_utf8(text).ok()?.contains(part.as_str()))
+}
+
+// Whether the JSON on a case has the part that is wanted.
+fn has_wanted_part(alloc: Global, lines: &str) -> Option<bool> {
+    let case = case_in(lines)?;
+    let text = json_of(alloc, &case)?;
+    has_part(alloc, &text, case.want)
 }
 
 #[test]
-fn parts_of_json(rt: HostRuntime) -> Result<(), Fail> {
+fn parts_of_json(rt: HostRuntime) {
     for lines in parts().split(MARK).skip(1) {
-        let case = case_in(lines).ok_or("a case")?;
-        let given = case.given(rt.alloc()).ok_or("what it gives")?;
-        let text = json_of(rt.alloc(), &given, &given.params)?;
-        let want = joined(rt.alloc(), case.want)?;
-        let has_it = has_part(&text, want.as_str());
-        assert_eq!(rt; has_it, Some(true), "{}", case.name);
+        assert_eq!(rt; has_wanted_part(rt.alloc(), lines), Some(true), "{lines}");
     }
-    Ok(())
 }
 
-// Whether a text has a part.
-fn has_part(text: &[u8], part: &str) -> Option<bool> {
-    let text = str::from_utf8(text).ok()?;
-    Some(text.contains(part))
+// The JSON text on a case of which only the records of a window are judged.
+fn json_in(alloc: Global, window: &WindowCase<'_>) -> Option<Vec<u8>> {
+    let given = window.case.given(alloc)?;
+    let params = params_in(&given.params, window)?;
+    json_by(alloc, &given, &params)
+}
+
+// Whether the JSON on such a case has both parts that are wanted.
+fn has_window(alloc: Global, lines: &str) -> Option<bool> {
+    let window = window_case_in(lines)?;
+    let text = json_in(alloc, &window)?;
+    let has_first = has_part(alloc, &text, window.json) == Some(true);
+    Some(has_first && has_part(alloc, &text, window.later_json) == Some(true))
 }
 
 #[test]
-fn windows_in_json(rt: HostRuntime) -> Result<(), Fail> {
+fn windows_in_json(rt: HostRuntime) {
     for lines in windows().split(MARK).skip(1) {
-        let window = window_case_in(lines).ok_or("a case")?;
-        let given = window.case.given(rt.alloc()).ok_or("what it gives")?;
-        let params = params_in(&given.params, &window).ok_or("parameters")?;
-        let text = json_of(rt.alloc(), &given, &params)?;
-        for part in [window.json, window.later_json] {
-            let want = joined(rt.alloc(), part)?;
-            let has_it = has_part(&text, want.as_str());
-            assert_eq!(rt; has_it, Some(true), "{want}");
-        }
+        assert_eq!(rt; has_window(rt.alloc(), lines), Some(true), "{lines}");
     }
-    Ok(())
 }
 
 // A quiet point whose deadlines are 2^53 and one more.
@@ -105,29 +108,28 @@ const QUIET: Quiet = Quiet {
     },
 };
 
-#[test]
-fn numbers_above_the_whole_doubles(rt: HostRuntime) -> Result<(), Fail> {
-    let params = rasta_rows::params(20, 0, Some(QUIET)).ok_or("parameters")?;
-    let lines = quiet().split(MARK).nth(1).ok_or("a case")?;
-    let case = case_in(lines).ok_or("a case")?;
-    let given = case.given(rt.alloc()).ok_or("what it gives")?;
-    let text = json_of(rt.alloc(), &given, &params)?;
-    let want = joined(rt.alloc(), case.want)?;
-    assert_eq!(rt; has_part(&text, want.as_str()), Some(true));
-    Ok(())
+// Whether the JSON of a case has the part that is wanted by parameters with this quiet point.
+fn has_quiet_point(alloc: Global) -> Option<bool> {
+    let params = rasta_rows::params(20, 0, Some(QUIET))?;
+    let case = case_in(quiet().split(MARK).nth(1)?)?;
+    let given = case.given(alloc)?;
+    let text = json_by(alloc, &given, &params)?;
+    has_part(alloc, &text, case.want)
 }
 
-// Each write fails in turn: what was written begins the text.
 #[test]
-fn failing_writes_of_json(rt: HostRuntime) -> Result<(), Fail> {
-    let lines = whole().split(MARK).last().ok_or("a case")?;
-    let case = case_in(lines).ok_or("a case")?;
-    let given = case.given(rt.alloc()).ok_or("what it gives")?;
+fn numbers_above_the_whole_doubles(rt: HostRuntime) {
+    assert_eq!(rt; has_quiet_point(rt.alloc()), Some(true));
+}
+
+// Whether the failure of the first write is told, and nothing is written.
+fn is_failure_told(alloc: Global) -> Option<bool> {
+    let given = case_in(whole().split(MARK).last()?)?.given(alloc)?;
     let mut first = Counted::new(given.file.as_slice());
     let mut again = Counted::new(given.file.as_slice());
-    let mut writer = Counted::new(FailAt::new(Vec::new(rt.alloc()), 1));
+    let mut writer = Counted::new(FailAt::new(Vec::new(alloc), 1));
     let outcome = written(
-        rt.alloc(),
+        alloc,
         &given,
         &given.params,
         Form::Json,
@@ -135,7 +137,12 @@ fn failing_writes_of_json(rt: HostRuntime) -> Result<(), Fail> {
         &mut again,
         &mut writer,
     );
-    assert_eq!(rt; outcome, Err(Fault::at(Fault::WRITE_FAILED, 0)));
-    assert!(rt; writer.into_inner().into_inner().is_empty());
-    Ok(())
+    let text = writer.into_inner().into_inner();
+    Some(outcome == Err(Fault::at(Fault::WRITE_FAILED, 0)) && text.is_empty())
+}
+
+// The first write fails: nothing is written.
+#[test]
+fn failing_writes_of_json(rt: HostRuntime) {
+    assert_eq!(rt; is_failure_told(rt.alloc()), Some(true));
 }

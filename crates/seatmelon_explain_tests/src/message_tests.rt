@@ -3,13 +3,14 @@ ghost use Rattle.std.specs.Prelude.{◌≡◌, IfErr};
 ghost use Rattle.rasta_pcap.specs.Fault.{write_failed};
 
 use crate::cases::explained;
-use crate::explain_tests::written;
+use crate::explain_tests::told;
 use rasta_pcap::{Counted, Fault, Sink, write_all};
 use rasta_pdu::{Body, Kind, Params, PduParts, Side, encode};
 use rasta_rows::file_of;
 use seatmelon_explain::{Form, Outcome};
 use std::alloc::Global;
-use std::test::Fail;
+use std::process::Abort;
+use std::str;
 
 // The former code, byte by byte, as it was: from here to `write_text`.
 const DIGITS: [u8; 16] = *b"0123456789abcdef";
@@ -84,6 +85,13 @@ enum Bytes {
     // Runs of these.
     Mixed,
 }
+
+const KINDS: [Bytes; 4] = [
+    Bytes::Backslashes,
+    Bytes::Printable,
+    Bytes::Unprintable,
+    Bytes::Mixed,
+];
 
 // The next number that looks random, by a linear congruential generator.
 fn draw(state: &mut u64) -> u8 {
@@ -179,27 +187,23 @@ fn capture(alloc: Global, all: &[Vec<u8>]) -> Option<(Params, Vec<u8>)> {
     Some((params, file))
 }
 
-// What is told of a capture in this form, after these words.
-fn told(alloc: Global, params: &Params, file: &[u8], form: Form, words: &str) -> Option<Vec<u8>> {
+// What is written on a capture of these messages, if it is explained.
+fn text_of(alloc: Global, all: &[Vec<u8>], form: Form) -> Option<Vec<u8>> {
+    let (params, file) = capture(alloc, all)?;
     let given = explained()?.given(alloc)?;
-    let mut first = Counted::new(file);
-    let mut again = Counted::new(file);
-    let mut writer = Counted::new(Vec::new(alloc));
-    let outcome = written(
-        alloc,
-        &given,
-        params,
-        form,
-        &mut first,
-        &mut again,
-        &mut writer,
-    );
-    if outcome.ok()? != Outcome::Explained {
-        return None;
+    let mut first = Counted::new(file.as_slice());
+    let (outcome, text) = told(alloc, &given, &params, form, &mut first, &file)?;
+    if outcome == Outcome::Explained {
+        Some(text)
+    } else {
+        None
     }
-    let text = String::from_utf8(writer.into_inner()).ok()?;
-    let (_, rest) = text.split_once(words)?;
-    rest.as_bytes().to_vec(alloc).ok()
+}
+
+// What a text has after these words.
+fn rest_after<'a>(text: &'a [u8], words: &str) -> Option<&'a [u8]> {
+    let (_, rest) = str::from_utf8(text).ok()?.split_once(words)?;
+    Some(rest.as_bytes())
 }
 
 // Writes a message as the former code did.
@@ -230,26 +234,23 @@ fn former(alloc: Global, all: &[Vec<u8>]) -> Option<Vec<u8>> {
     Some(writer.into_inner())
 }
 
+// Whether messages of this kind are told as the former code told them.
+fn are_told(alloc: Global, kind: Bytes, seed: u64) -> Option<bool> {
+    let all = messages(alloc, kind, seed)?;
+    let wanted = former(alloc, &all)?;
+    let text = text_of(alloc, &all, Form::Text)?;
+    Some(rest_after(&text, " messages surely taken\n") == Some(wanted.as_slice()))
+}
+
 #[test]
-fn messages_in_words(rt: HostRuntime) -> Result<(), Fail> {
-    let kinds = [
-        Bytes::Backslashes,
-        Bytes::Printable,
-        Bytes::Unprintable,
-        Bytes::Mixed,
-    ];
-    for (seed, kind) in kinds.into_iter().chain([Bytes::Mixed; 8]).enumerate() {
-        let all = messages(rt.alloc(), kind, seed as u64).ok_or("messages")?;
-        let (params, file) = capture(rt.alloc(), &all).ok_or("a capture")?;
-        let words = " messages surely taken\n";
-        let text = told(rt.alloc(), &params, &file, Form::Text, words).ok_or("a text")?;
-        let wanted = former(rt.alloc(), &all).ok_or("the former text")?;
-        assert!(rt;
-            text.as_slice() == wanted.as_slice(),
+fn messages_in_words(rt: HostRuntime) {
+    for (seed, kind) in KINDS.into_iter().chain([Bytes::Mixed; 8]).enumerate() {
+        assert_eq!(rt;
+            are_told(rt.alloc(), kind, seed as u64),
+            Some(true),
             "{kind:?}, seed {seed}"
         );
     }
-    Ok(())
 }
 
 // What precedes the first message in JSON.
@@ -301,20 +302,21 @@ fn former_json(alloc: Global, all: &[Vec<u8>]) -> Option<Vec<u8>> {
     Some(json)
 }
 
+// Whether the JSON of messages of this kind has the texts that the former code wrote.
+fn are_told_in_json(alloc: Global, kind: Bytes, seed: u64) -> Option<bool> {
+    let all = messages(alloc, kind, seed)?;
+    let wanted = former_json(alloc, &all)?;
+    let text = text_of(alloc, &all, Form::Json)?;
+    Some(rest_after(&text, WORDS_IN_JSON) == Some(wanted.as_slice()))
+}
+
 #[test]
-fn messages_in_json(rt: HostRuntime) -> Result<(), Fail> {
-    let kinds = [
-        Bytes::Backslashes,
-        Bytes::Printable,
-        Bytes::Unprintable,
-        Bytes::Mixed,
-    ];
-    for (seed, kind) in kinds.into_iter().enumerate() {
-        let all = messages(rt.alloc(), kind, seed as u64).ok_or("messages")?;
-        let (params, file) = capture(rt.alloc(), &all).ok_or("a capture")?;
-        let text = told(rt.alloc(), &params, &file, Form::Json, WORDS_IN_JSON).ok_or("a text")?;
-        let wanted = former_json(rt.alloc(), &all).ok_or("the former text")?;
-        assert!(rt; text.as_slice() == wanted.as_slice(), "{kind:?}");
+fn messages_in_json(rt: HostRuntime) {
+    for (seed, kind) in KINDS.into_iter().enumerate() {
+        assert_eq!(rt;
+            are_told_in_json(rt.alloc(), kind, seed as u64),
+            Some(true),
+            "{kind:?}"
+        );
     }
-    Ok(())
 }
