@@ -269,21 +269,24 @@ const ROWS: &str = "\
 14 + \\n
 ";
 
-fn push_named(text: &mut Vec<u8>, name: u8) -> Option<()> {
-    match name {
-        b't' => text.push(b'\t').ok(),
-        b'r' => text.push(b'\r').ok(),
-        b'0' => text.push(0).ok(),
-        b'x' => text.push(0xff).ok(),
-        b'n' => text.push(b'\n').ok(),
-        b'z' => {
-            for _ in 0..1000 {
-                text.push(b'0').ok()?;
-            }
-            Some(())
-        }
-        _ => None,
+fn push_zeros(text: &mut Vec<u8>) -> Option<()> {
+    for _ in 0..1000 {
+        text.push(b'0').ok()?;
     }
+    Some(())
+}
+
+fn push_named(text: &mut Vec<u8>, name: u8) -> Option<()> {
+    let byte = match name {
+        b't' => b'\t',
+        b'r' => b'\r',
+        b'0' => 0,
+        b'x' => 0xff,
+        b'n' => b'\n',
+        b'z' => return push_zeros(text),
+        _ => return None,
+    };
+    text.push(byte).ok()
 }
 
 // The line of a row, and its end.
