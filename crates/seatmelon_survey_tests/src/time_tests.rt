@@ -96,27 +96,21 @@ const FRACTIONS: [u32; 9] = [
     u32::MAX,
 ];
 
-// Whether these seconds are written as they were, with each fraction in a unit.
-fn are_as_before_in(alloc: Global, seconds: u32, unit: FractionUnit) -> Option<bool> {
-    for fraction in FRACTIONS {
-        let time = CaptureTime {
-            seconds,
-            fraction,
-            unit,
-        };
-        if !is_as_before(alloc, time)? {
-            return Some(false);
+// Whether these seconds are written as they were, with each fraction in each unit.
+fn are_as_before(alloc: Global, seconds: u32) -> Option<bool> {
+    for unit in [FractionUnit::Microseconds, FractionUnit::Nanoseconds] {
+        for fraction in FRACTIONS {
+            let time = CaptureTime {
+                seconds,
+                fraction,
+                unit,
+            };
+            if !is_as_before(alloc, time)? {
+                return Some(false);
+            }
         }
     }
     Some(true)
-}
-
-// Whether these seconds are written as they were, with each fraction in each unit.
-fn are_as_before(alloc: Global, seconds: u32) -> Option<bool> {
-    Some(
-        are_as_before_in(alloc, seconds, FractionUnit::Microseconds)?
-            && are_as_before_in(alloc, seconds, FractionUnit::Nanoseconds)?,
-    )
 }
 
 // The first seconds, the ends of an hour and of a day, those of February in 1972, 1973, 2000 and 2100, the ends of
