@@ -7,9 +7,8 @@ mod tests;
 
 use clap::Error;
 use clap::error::ErrorKind;
-use seatmelon_commands::{
-    Failure, Request, draft_file, explain_files, parse, reason_of, status, survey_file,
-};
+use seatmelon_commands::{Failure, draft_file, explain_files, reason_of, status, survey_file};
+use seatmelon_words::{Request, parse};
 use std::io;
 use std::process::ExitCode;
 use std::rt::{Env, Files};

@@ -3,10 +3,11 @@ ghost use Rattle.std.specs.Prelude.{None};
 
 use rasta_pcap::devices::{FailAt, Pieces};
 use seatmelon_commands::{
-    Answer, Explaining, Inputs, Request, draft_in, explain_of, params_in, parse, status,
-    status_of_outcome, survey_of, whole_of, write_answer,
+    Answer, Explaining, Inputs, draft_in, explain_of, params_in, status, status_of_outcome,
+    survey_of, whole_of, write_answer,
 };
 use seatmelon_explain::Form;
+use seatmelon_words::{Request, parse};
 use std::alloc::Global;
 use std::io;
 use std::io::{Read, Write};

@@ -1,7 +1,7 @@
 -- What an explanation says of a capture.
 use Rattle.std.specs.Prelude.{◌≡◌, ℕ, List, [], Option, option_map}
 use Rattle.seatmelon_explain.specs.Outcomes.{IsFileExplained}
-use Rattle.seatmelon_commands.specs.declared.command.Explaining.{Explaining}
+use Rattle.seatmelon_commands.specs.declared.explaining.Explaining.{Explaining}
 use Rattle.seatmelon_commands.specs.declared.explaining.Inputs.{Inputs}
 
 -- the text of the certificate, where one is named

@@ -6,7 +6,6 @@ ghost use Rattle.seatmelon_commands.specs.Explained.{certificate_in, IsCaptureEx
 ghost use Rattle.seatmelon_commands.specs.Failing.{status_of, IsOfExplaining};
 
 use crate::answer::unwritten;
-use crate::command::Explaining;
 use crate::failure::Failure;
 use crate::file_kind::{FileKind, file_kind};
 use crate::parameters::params_in;
@@ -14,12 +13,23 @@ use crate::reading::{BUFFER, unread, whole_file};
 use crate::watched::Watched;
 use rasta_pcap::{Buffered, Counted, Fault, Sink, Source};
 use rasta_pdu::Params;
-use seatmelon_explain::{Choices, Names, Outcome, Texts, explain};
+use seatmelon_explain::{Choices, Form, Names, Outcome, Texts, explain};
 use std::alloc::Global;
 use std::fs::File;
 use std::io::{BufWriter, Read, Write};
 use std::rt::Files;
 use std::{fs, io};
+
+/// What is to be explained: the paths of the files, the numbers of the records that are left out, rising, and
+/// what is written.
+#[derive(Debug, Drop)]
+pub struct Explaining<'a> {
+    pub capture: &'a str,
+    pub parameters: &'a str,
+    pub certificate: Option<&'a str>,
+    pub without: Vec<u32>,
+    pub form: Form,
+}
 
 /// What was read beside the capture: the parameters, and the bytes of both files.
 #[derive(Debug, Drop)]

@@ -1,9 +1,8 @@
-//! The commands of the program `seatmelon`, over any files and devices: what the words ask for, surveys, drafts and
-//! explanations, and what is said where one of them fails.
+//! The commands of the program `seatmelon`, over any files and devices: surveys, drafts and explanations, and what is
+//! said where one of them fails.
 #![tactic(auto)]
 
 mod answer;
-mod command;
 mod drafting;
 mod explaining;
 mod failure;
@@ -15,9 +14,10 @@ mod surveying;
 mod watched;
 
 pub use answer::{Answer, write_answer};
-pub use command::{Explaining, Request, parse};
 pub use drafting::{draft_file, draft_in};
-pub use explaining::{Explanation, Inputs, explain_files, explain_of, status_of_outcome};
+pub use explaining::{
+    Explaining, Explanation, Inputs, explain_files, explain_of, status_of_outcome,
+};
 pub use failure::{Failure, Refusal, reason_of, status};
 pub use file_kind::FileKind;
 pub use parameters::{ParameterRefusal, params_in};

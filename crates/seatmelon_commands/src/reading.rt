@@ -15,6 +15,16 @@ use std::rt::Files;
 /// How many bytes of a capture are read at once.
 pub const BUFFER: usize = 65_536;
 
+// Why a file can't be read, for this reason.
+fn unread_for(alloc: Global, path: &str, reason: String) -> Failure
+    ensures { status_of result ≡ 3 }
+{
+    match String::from_str(alloc, path) {
+        Ok(path) => Failure::Reading { path, reason },
+        Err(_) => Failure::OutOfMemory,
+    }
+}
+
 /// Why a file can't be read.
 pub fn unread(alloc: Global, path: &str, error: Option<io::Error>) -> Failure
     ensures { status_of result ≡ 3 }
@@ -23,9 +33,9 @@ pub fn unread(alloc: Global, path: &str, error: Option<io::Error>) -> Failure
         Some(error) => reason_of(alloc, &error),
         None => String::from_str(alloc, "reading failed"),
     };
-    match (String::from_str(alloc, path), reason) {
-        (Ok(path), Ok(reason)) => Failure::Reading { path, reason },
-        _ => Failure::OutOfMemory,
+    match reason {
+        Ok(reason) => unread_for(alloc, path, reason),
+        Err(_) => Failure::OutOfMemory,
     }
 }
 

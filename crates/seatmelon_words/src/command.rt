@@ -2,19 +2,9 @@
 use clap::builder::ValueParser;
 use clap::error::ErrorKind;
 use clap::{Arg, ArgAction, ArgMatches, Command, Error, value_parser};
+use seatmelon_commands::Explaining;
 use seatmelon_explain::Form;
 use std::alloc::{AllocError, Global};
-
-/// What is to be explained: the paths of the files, the numbers of the records that are left out, rising, and
-/// what is written.
-#[derive(Debug, Drop)]
-pub struct Explaining<'a> {
-    pub capture: &'a str,
-    pub parameters: &'a str,
-    pub certificate: Option<&'a str>,
-    pub without: Vec<u32>,
-    pub form: Form,
-}
 
 /// What the program is asked for.
 #[derive(Debug, Drop)]
