@@ -151,26 +151,34 @@ fn params_of(alloc: Global, keys: &str) -> Option<Params> {
     }
 }
 
-// The parts of a row.
-fn parts_of(row: &str) -> Option<[&str; 5]> {
+// A row but for its name, as texts.
+#[derive(Clone, Copy)]
+struct Parts<'a> {
+    keys: &'a str,
+    packets: &'a str,
+    certificate: &'a str,
+    want: &'a str,
+}
+
+fn parts_of(row: &str) -> Option<Parts<'_>> {
     let mut parts = row.split(" | ");
-    Some([
-        parts.next()?,
-        parts.next()?,
-        parts.next()?,
-        parts.next()?,
-        parts.next()?,
-    ])
+    let _name = parts.next()?;
+    Some(Parts {
+        keys: parts.next()?,
+        packets: parts.next()?,
+        certificate: parts.next()?,
+        want: parts.next()?,
+    })
 }
 
 /// Reads a row: its name, further keys of the parameters, packets, a certificate, and a text.
 pub fn case_of(alloc: Global, row: &str) -> Option<Case> {
-    let [_, keys, packets, certificate, want] = parts_of(row)?;
+    let parts = parts_of(row)?;
     Some(Case {
-        params: params_of(alloc, keys)?,
-        file: capture_of(alloc, packets)?,
-        certificate: lines_of(alloc, certificate)?,
-        want: lines_of(alloc, want)?,
+        params: params_of(alloc, parts.keys)?,
+        file: capture_of(alloc, parts.packets)?,
+        certificate: lines_of(alloc, parts.certificate)?,
+        want: lines_of(alloc, parts.want)?,
     })
 }
 
