@@ -24,17 +24,17 @@ from pathlib import Path
 sys.dont_write_bytecode = True
 
 COMMON, STEPS = "Rattle.std.proofs.Common", "Rattle.std.proofs.lemmas.Grind"
-# What is tried, in turn: a term, and the names that it needs, by module.
-TRIED = (
-    ("search rules", {COMMON: ["rules"]}),
-    ("grind (arith, common_steps)", {COMMON: ["arith"], STEPS: ["common_steps"]}),
-)
+# What is tried: a term, the definitions that it unfolds, and the names that it needs, by module.
+Term = namedtuple("Term", "text unfolding names")
+# What a function's attribute names: definitions that are unfolded, and lemmas.
+Attribute = namedtuple("Attribute", "unfolding using")
 # Where a check says what to write: a file, and lines of it; and where an answer is wrong.
 OFFER = re.compile(r"^help: (?:write|add to|change) (?:\./)?(proofs/\S+/Answers\.antt)", re.M)
 GOAL = re.compile(r"^    pub (\S+) : goal\.\1\n    \1((?: \S+)*) = \?", re.M)
 GOALS = re.compile(r"^    (use \S+\.Goals as goal)$", re.M)
 WRONG = re.compile(r"^(?:\./)?(proofs/\S+/Answers\.antt):(\d+):\d+: error", re.M)
 NOTE = re.compile(r"^note: (src/\S+?):(\d+):\d+:", re.M)
+TACTIC = re.compile(r"#\[tactic\(auto(.*?)\)\]\n((?:\s*#\[[^\n]*\n)*)([^\n]*)", re.S)
 FUNCTION = re.compile(r"\s*(?:pub(?:\([a-z]+\))? )?(?:const )?(?:unsafe )?fn (\w+)")
 
 # An edit: its name, what it turns as files, old and new lines, and the functions in which it does so.
@@ -131,6 +131,46 @@ def offered(said):
     return goals, heads
 
 
+def attributes(crate):
+    """What the attributes of a crate's functions name, by the module and the name of the function."""
+    found = {}
+    for path in sorted(Path(crate.folder).glob("src/**/*.rt")):
+        text = path.read_text(encoding="utf-8")
+        module = str(path.relative_to(Path(crate.folder) / "src").with_suffix(""))
+        for said, _, head in TACTIC.findall(text):
+            name = FUNCTION.match(head)
+            if name:
+                parts = [re.search(rf"{word}\((.*?)\)", said + ")") for word in ("unfolding", "using")]
+                found[module, name[1]] = Attribute(*([it.strip() for it in part[1].split(",")] if part else [] for part in parts))
+    return found
+
+
+def imported(crate, paths):
+    """The names of paths of a crate, by their modules in the prover."""
+    names = defaultdict(list)
+    for path in paths:
+        first, *inner, name = path.split("::")
+        names[".".join(["Rattle", crate.name if first == "crate" else first, *inner])].append(name)
+    return names
+
+
+def terms(crate, given, file):
+    """What is tried for the goals of a function, in turn."""
+    module, name = file[len("proofs/") :].split("/")[:-2], file.split("/")[-2]
+    its = next((given[at] for end in range(len(module), 0, -1) if (at := ("/".join(module[:end]), name)) in given), Attribute([], []))
+    unfolded, lemmas = imported(crate, its.unfolding), imported(crate, its.using)
+    definitions, named = ([it for its in names.values() for it in its] for names in (unfolded, lemmas))
+    grind = f"grind ({', '.join(['arith', 'common_steps', *named])})"
+    steps = {COMMON: ["arith"], STEPS: ["common_steps"], **lemmas}
+    tried = [Term("search rules", [], {COMMON: ["rules"]}), Term("grind (arith, common_steps)", [], {COMMON: ["arith"], STEPS: ["common_steps"]})]
+    if named:
+        tried.append(Term(grind, [], steps))
+    if definitions:
+        tried.append(Term("search rules", definitions, {COMMON: ["rules"], **unfolded}))
+        tried.append(Term(grind, definitions, {**steps, **unfolded}))
+    return tried
+
+
 def with_imports(text, names):
     """The text of a file with these names of a module imported, each once."""
     for module, words in names.items():
@@ -146,11 +186,12 @@ def with_answers(text, head, answers):
     if " as goal" not in text:
         text += f"{head}\n"
     names = defaultdict(list)
-    for _, _, (_, needed) in answers:
-        for module, words in needed.items():
+    for _, _, term in answers:
+        for module, words in term.names.items():
             names[module] += [it for it in words if it not in names[module]]
-    for goal, given, (term, _) in answers:
-        text += f"\npub {goal} : goal.{goal}\n{goal}{given} = {term}\n"
+    for goal, given, term in answers:
+        unfolding = f"unfolding {' '.join(term.unfolding)}\n" if term.unfolding else ""
+        text += f"\npub {goal} : goal.{goal}\n{unfolding}{goal}{given} = {term.text}\n"
     return with_imports(text, names)
 
 
@@ -201,11 +242,15 @@ def main():
     answers = Answers(tried.folder, *offered(tried.said))
     left, kept = answers.missing(), {}
     count = len(left)
-    for term in TRIED:
-        answers.write({**kept, **dict.fromkeys(left, term)})
-        wrong = answers.wrong() & left if left else set()
-        kept.update(dict.fromkeys(left - wrong, term))
-        left = wrong
+    given = attributes(crate)
+    tried_terms = {it: terms(crate, given, it[0]) for it in left}
+    for turn in range(max(map(len, tried_terms.values()), default=0)):
+        now = {it: tried_terms[it][turn] for it in left if turn < len(tried_terms[it])}
+        answers.write({**kept, **now})
+        wrong = answers.wrong() if now else set()
+        proved = {it: term for it, term in now.items() if it not in wrong}
+        kept.update(proved)
+        left -= set(proved)
     answers.write(kept)
     answers.wrong()
     for file, goal in sorted(left):

@@ -6,7 +6,7 @@ use crate::rules::Rule;
 use rasta_pdu::{Fault, Side};
 
 /// A first copy that no end makes where it crossed: its side, its place from 0, and the rule that refuses it.
-#[derive(Clone, Copy, Debug, PartialEq, Eq)]
+#[derive(Clone, Copy, PartialEq, Eq)]
 pub struct Obstacle {
     pub side: Side,
     pub place: u32,

@@ -3,7 +3,7 @@ use rasta_pdu::Kind;
 
 /// The rule by which an end that keeps the rules doesn't make a PDU at its place. A `number` is the redundancy
 /// number of a PDU of the peer, and a `fault` the number of a [`rasta_pdu::Fault`].
-#[derive(Clone, Copy, Debug, PartialEq, Eq)]
+#[derive(Clone, Copy, PartialEq, Eq)]
 pub enum Rule {
     /// Its CS confirms a PDU of the peer, and none crosses.
     PeerIsSilent,

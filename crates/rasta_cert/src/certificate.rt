@@ -11,7 +11,7 @@ use std::marker::Model;
 pub const MOST_ENTRIES: usize = 4_000_000;
 
 /// The scripts of both ends: at most 4,000,000 entries together.
-#[derive(Debug, Drop)]
+#[derive(Drop)]
 pub struct Certificate {
     client: Vec<Entry>,
     server: Vec<Entry>,

@@ -3,7 +3,7 @@ use rasta_end::Why;
 
 /// One step of an end, as a certificate names it. Packets are those of the connection, in the order of
 /// the file, counted from 0.
-#[derive(Clone, Copy, Debug, PartialEq, Eq)]
+#[derive(Clone, Copy, PartialEq, Eq)]
 pub enum Entry {
     /// The end takes the PDU of this redundancy number of its peer, after `slot` packets have crossed.
     Take { slot: u32, number: u32 },

@@ -5,7 +5,7 @@ ghost use Rattle.rasta_check.specs.Verdict.Listed.{listed_of};
 use std::marker::Model;
 
 /// A message that was surely taken.
-#[derive(Clone, Copy, Debug)]
+#[derive(Clone, Copy)]
 pub struct Taken<'a> {
     /// Its number in the list, from 0.
     pub message: u64,

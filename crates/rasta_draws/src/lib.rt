@@ -6,7 +6,7 @@ use rand_core::{Rng, SeedableRng};
 use rand_xoshiro::SplitMix64;
 
 /// A sequence of numbers that look random.
-#[derive(Debug, Drop)]
+#[derive(Drop)]
 pub struct Draws {
     generator: SplitMix64,
 }

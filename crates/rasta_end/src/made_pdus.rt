@@ -15,7 +15,7 @@ use std::alloc::{AllocError, Global};
 use std::marker::Model;
 
 /// What an end made last before a quiet point, as far as it is recorded.
-#[derive(Clone, Copy, Debug)]
+#[derive(Clone, Copy)]
 pub struct QuietPdu {
     pub sn: u32,
     pub cs: u32,
@@ -24,7 +24,7 @@ pub struct QuietPdu {
 }
 
 /// A PDU that was made, with the number of its unit and the units conveyed through it.
-#[derive(Clone, Copy, Debug)]
+#[derive(Clone, Copy)]
 pub struct MadePdu<'a> {
     pdu: Pdu<'a>,
     unit: Option<usize>,

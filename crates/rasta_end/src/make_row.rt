@@ -11,7 +11,7 @@ use crate::why::Why;
 use rasta_pdu::{Kind, Side};
 
 /// A row of the make table.
-#[derive(Clone, Copy, Debug)]
+#[derive(Clone, Copy)]
 pub enum MakeRow {
     /// The connection request.
     Opens,

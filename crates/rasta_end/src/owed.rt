@@ -8,7 +8,7 @@ ghost use Rattle.rasta_end.specs.Kept.{owed_list, owed_reply, owed_request, firs
 use crate::make_row::MakeRow;
 
 /// Something owed, named by the PDU that pays it.
-#[derive(Clone, Copy, Debug)]
+#[derive(Clone, Copy)]
 pub enum Owed {
     ConnectionResponse,
     FirstHeartbeat,
@@ -19,7 +19,7 @@ pub enum Owed {
 }
 
 /// What a row of the make table wants of what is owed.
-#[derive(Clone, Copy, Debug)]
+#[derive(Clone, Copy)]
 pub enum Demand {
     First(Owed),
     Nothing,
@@ -62,7 +62,7 @@ impl Demand {
 }
 
 /// What an end owes, in order: a reply, units to be sent again, a retransmission request.
-#[derive(Clone, Copy, Debug)]
+#[derive(Clone, Copy)]
 pub struct Owes {
     pub reply: Option<Owed>,
     /// The number of the first of the units.

@@ -4,7 +4,7 @@ ghost use Rattle.rasta_end.specs.State;
 
 /// The phase of an end: closed, or waiting for a connection request, or opening, or connected; a
 /// connected end may wait for a retransmission, or be in one.
-#[derive(Clone, Copy, Debug, PartialEq, Eq)]
+#[derive(Clone, Copy, PartialEq, Eq)]
 pub enum Phase {
     Closed,
     Down,

@@ -9,7 +9,7 @@ use crate::phase::Phase;
 use rasta_pdu::{Kind, Side};
 
 /// A row of the take table.
-#[derive(Clone, Copy, Debug)]
+#[derive(Clone, Copy)]
 pub enum TakeRow {
     /// A connection request.
     Opened,
@@ -52,7 +52,7 @@ pub fn carries_unit(kind: Kind) -> bool
 }
 
 /// Where a PDU stands and what it confirms: it is in sequence, it stands ahead, its CS is valid.
-#[derive(Clone, Copy, Debug)]
+#[derive(Clone, Copy)]
 pub struct Standing {
     pub next: bool,
     pub ahead: bool,

@@ -1,7 +1,7 @@
 //! The reasons for which an end makes a PDU.
 
 /// Why an end makes a PDU: the row of the make table that it follows.
-#[derive(Clone, Copy, Debug, PartialEq, Eq)]
+#[derive(Clone, Copy, PartialEq, Eq)]
 pub enum Why {
     /// The client opens the connection.
     Open,

@@ -146,13 +146,9 @@ fn each_write_goes_wrong_in_turn(rt: HostRuntime) {
     }
 }
 
-// How many bytes are read, or the kind of the error.
-fn read_once<R: Read>(reader: &mut R, buf: &mut [u8]) -> Result<usize, ErrorKind> {
-    reader.read(buf).map_err(|error| error.kind())
-}
-
-fn count_once<S: Source>(reader: &mut S, buf: &mut [u8]) -> Result<usize, ErrorKind> {
-    reader.read(buf).map_err(|error| error.kind())
+// How many bytes a call moved, or the kind of its error.
+fn moved(outcome: io::Result<usize>) -> Result<usize, ErrorKind> {
+    outcome.map_err(|error| error.kind())
 }
 
 // The first call is the device's, the second fails, and the device is then as it was.
@@ -160,11 +156,14 @@ fn count_once<S: Source>(reader: &mut S, buf: &mut [u8]) -> Result<usize, ErrorK
 fn reader_answers_what_its_device_answers(rt: HostRuntime) {
     let mut reader = Counted::new(FailAt::new(Pieces::new(TEXT.as_bytes(), 7), 2));
     let mut buf = [0; 9];
-    assert_eq!(rt; count_once(&mut reader, &mut buf), Ok(7));
+    assert_eq!(rt; moved(Source::read(&mut reader, &mut buf)), Ok(7));
     assert_eq!(rt; buf.as_slice(), b"twenty \0\0".as_slice());
-    assert_eq!(rt; count_once(&mut reader, &mut buf), Err(ErrorKind::Other));
+    assert_eq!(rt;
+        moved(Source::read(&mut reader, &mut buf)),
+        Err(ErrorKind::Other)
+    );
     let mut device = reader.into_inner();
-    assert_eq!(rt; read_once(&mut device, &mut buf), Ok(7));
+    assert_eq!(rt; moved(device.read(&mut buf)), Ok(7));
     assert_eq!(rt; buf.as_slice(), b"bytes o\0\0".as_slice());
 }
 
@@ -177,18 +176,17 @@ fn buffer_gives_what_its_source_gives(rt: HostRuntime) {
         panic!(rt; "out of memory");
     };
     let mut buf = [0; 3];
-    assert_eq!(rt; count_once(&mut reader, &mut buf), Ok(3));
+    assert_eq!(rt; moved(Source::read(&mut reader, &mut buf)), Ok(3));
     assert_eq!(rt; buf.as_slice(), b"twe".as_slice());
-    assert_eq!(rt; count_once(&mut reader, &mut buf), Ok(1));
+    assert_eq!(rt; moved(Source::read(&mut reader, &mut buf)), Ok(1));
     assert_eq!(rt; buf[0], b'n');
-    assert_eq!(rt; count_once(&mut reader, &mut buf), Err(ErrorKind::Other));
+    assert_eq!(rt;
+        moved(Source::read(&mut reader, &mut buf)),
+        Err(ErrorKind::Other)
+    );
     assert_eq!(rt; Source::failures(&reader), 1);
     let rest = read_all(rt.alloc(), &mut reader).ok();
     assert_eq!(rt; rest.as_deref(), Some(b"ty bytes of text".as_slice()));
-}
-
-fn write_once<W: Sink>(writer: &mut W, buf: &[u8]) -> Result<usize, ErrorKind> {
-    writer.write(buf).map_err(|error| error.kind())
 }
 
 // The second call takes no byte, and is counted.
@@ -198,9 +196,9 @@ fn writer_answers_what_its_device_answers(rt: HostRuntime) {
         taken: Vec::new(rt.alloc()),
     };
     let mut writer = Counted::new(FailAt::idle_at(sips, 2));
-    assert_eq!(rt; write_once(&mut writer, b"xy"), Ok(1));
-    assert_eq!(rt; write_once(&mut writer, b"xy"), Ok(0));
-    assert_eq!(rt; write_once(&mut writer, b"xy"), Ok(1));
+    assert_eq!(rt; moved(Sink::write(&mut writer, b"xy")), Ok(1));
+    assert_eq!(rt; moved(Sink::write(&mut writer, b"xy")), Ok(0));
+    assert_eq!(rt; moved(Sink::write(&mut writer, b"xy")), Ok(1));
     assert_eq!(rt; Sink::failures(&writer), 1);
     let taken = writer.into_inner().into_inner().taken;
     assert_eq!(rt; taken.as_slice(), b"xx".as_slice());

@@ -16,7 +16,7 @@ use std::alloc::Global;
 use toml::{Table, Value};
 
 /// The ids of the two ends.
-#[derive(Clone, Copy, Debug)]
+#[derive(Clone, Copy)]
 pub struct Ids {
     pub client_id: u32,
     pub server_id: u32,
@@ -24,7 +24,7 @@ pub struct Ids {
 
 /// The layout of the PDUs: the lengths of safety code and check code, in bytes, and the start words of
 /// the digest that safety codes are taken from.
-#[derive(Clone, Copy, Debug)]
+#[derive(Clone, Copy)]
 pub struct Layout {
     pub code_length: u8,
     pub md4_start: [u32; 4],
@@ -32,7 +32,7 @@ pub struct Layout {
 }
 
 /// The limits of the protocol: a number of PDUs, and milliseconds.
-#[derive(Clone, Copy, Debug)]
+#[derive(Clone, Copy)]
 pub struct Limits {
     pub n_sendmax: u32,
     pub t_max: u32,
@@ -40,7 +40,7 @@ pub struct Limits {
 }
 
 /// The window of records, from 1.
-#[derive(Clone, Copy, Debug)]
+#[derive(Clone, Copy)]
 pub struct Window {
     pub first_record: u32,
     pub last_record: u32,

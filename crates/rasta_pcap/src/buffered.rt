@@ -11,7 +11,7 @@ use std::alloc::Global;
 use std::io;
 
 // Bytes that were read and not yet given: `memory[start..end]`.
-#[derive(Debug, Drop)]
+#[derive(Drop)]
 pub struct Held {
     memory: Vec<u8>,
     start: usize,
@@ -74,7 +74,7 @@ impl Held {
 }
 
 /// A [`Source`] that is read a buffer at a time, and gives what that gives.
-#[derive(Debug, Drop)]
+#[derive(Drop)]
 pub struct Buffered<S> {
     source: S,
     held: Held,

@@ -49,7 +49,7 @@ pub trait Sink {
 }
 
 /// Makes a [`Source`] of any reader and a [`Sink`] of any writer, which answers what that answers.
-#[derive(Debug, Drop)]
+#[derive(Drop)]
 pub struct Counted<D> {
     device: D,
     failures: u64,

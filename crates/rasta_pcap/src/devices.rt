@@ -34,7 +34,7 @@ pub trait WriteDevice: Write {
 }
 
 /// A reader over memory that gives at most so many bytes a call.
-#[derive(Debug, Drop)]
+#[derive(Drop)]
 pub struct Pieces<'a> {
     rest: &'a [u8],
     most: usize,
@@ -91,7 +91,7 @@ impl WriteDevice for Vec<u8> {
 }
 
 /// What goes wrong at a call.
-#[derive(Clone, Copy, Debug, PartialEq, Eq)]
+#[derive(Clone, Copy, PartialEq, Eq)]
 pub enum Mishap {
     /// The call answers an error.
     Fails,
@@ -102,7 +102,7 @@ pub enum Mishap {
 
 /// A reader or writer that answers what another one does, but for one read or write, which goes
 /// wrong and leaves that other one as it was. Flushes go through and are not counted.
-#[derive(Debug, Drop)]
+#[derive(Drop)]
 pub struct FailAt<D> {
     device: D,
     mishap: Mishap,

@@ -7,14 +7,14 @@ use byteorder::{BigEndian, ByteOrder, LittleEndian};
 use std::marker::Model;
 
 /// A record of a file: its number, from 1, and its captured bytes, a slice of the file.
-#[derive(Clone, Copy, Debug, PartialEq, Eq)]
+#[derive(Clone, Copy, PartialEq, Eq)]
 pub struct Record<'a> {
     pub number: u32,
     pub bytes: &'a [u8],
 }
 
 /// The byte order of the computer that wrote a file.
-#[derive(Clone, Copy, Debug, PartialEq, Eq)]
+#[derive(Clone, Copy, PartialEq, Eq)]
 pub enum Endianness {
     Little,
     Big,
@@ -72,7 +72,7 @@ impl Endianness {
 
 /// A cursor over the records of a file in the classic libpcap format, version 2.4, link type 1
 /// (Ethernet), in either byte order, with microseconds or nanoseconds.
-#[derive(Debug, Drop)]
+#[derive(Drop)]
 pub struct Pcap<'a> {
     order: Endianness,
     rest: &'a [u8],

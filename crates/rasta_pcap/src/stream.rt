@@ -18,7 +18,7 @@ use crate::time::{CaptureTime, FractionUnit, time_in, unit_in};
 use std::alloc::Global;
 
 /// Whether a reading goes on.
-#[derive(Clone, Copy, Debug, PartialEq, Eq)]
+#[derive(Clone, Copy, PartialEq, Eq)]
 pub enum Progress {
     /// Records may follow.
     Reading,
@@ -31,7 +31,7 @@ pub enum Progress {
 }
 
 // The bytes of one record, in memory that is kept for the next.
-#[derive(Debug, Drop)]
+#[derive(Drop)]
 pub struct RecordBuffer {
     memory: Vec<u8>,
     len: usize,
@@ -128,7 +128,7 @@ fn judge_front(order: Endianness, count: u32, front: &[u8]) -> Result<Option<usi
 }
 
 /// Reads the records of a capture, one at a time, from the reader that each call is passed.
-#[derive(Debug, Drop)]
+#[derive(Drop)]
 pub struct RecordReader {
     order: Endianness,
     unit: FractionUnit,
@@ -248,7 +248,7 @@ impl RecordReader {
 }
 
 /// The records of a capture that comes from a reader.
-#[derive(Debug, Drop)]
+#[derive(Drop)]
 pub struct Stream<R> {
     reader: R,
     records: RecordReader,

@@ -5,14 +5,14 @@ ghost use Rattle.rasta_pcap.specs.Times.{unit_of, time_of};
 use crate::pcap::{Endianness, NANOSECONDS};
 
 /// The unit of the fraction of a second.
-#[derive(Clone, Copy, Debug, PartialEq, Eq)]
+#[derive(Clone, Copy, PartialEq, Eq)]
 pub enum FractionUnit {
     Microseconds,
     Nanoseconds,
 }
 
 /// When a record was captured, as its file says: not judged, and often the clock of one computer alone.
-#[derive(Clone, Copy, Debug, PartialEq, Eq)]
+#[derive(Clone, Copy, PartialEq, Eq)]
 pub struct CaptureTime {
     /// Seconds since the beginning of 1970, UTC.
     pub seconds: u32,

@@ -8,7 +8,7 @@ use std::marker::Model;
 
 /// One datagram, by which its copies are known: a PDU crosses on several channels, mostly one copy right behind the
 /// other. A datagram is copied only where copies were met, so that nothing is spent where each comes once.
-#[derive(Debug, Drop)]
+#[derive(Drop)]
 pub struct LastDatagram {
     // None is kept where they are empty.
     bytes: Vec<u8>,

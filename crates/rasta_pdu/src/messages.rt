@@ -7,7 +7,7 @@ use crate::bytes::u16_at;
 use crate::layout::LENGTH_LEN;
 
 /// The messages of a payload, in their order. Each is a slice of the datagram.
-#[derive(Clone, Debug, Drop)]
+#[derive(Clone, Drop)]
 pub struct Messages<'a> {
     pub(crate) rest: &'a [u8],
 }

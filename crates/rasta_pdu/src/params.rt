@@ -10,7 +10,7 @@ use std::marker::Model;
 
 /// The parameters that are recorded of a connection: values that it can have, by which its capture is
 /// read and judged.
-#[derive(Clone, Copy, Debug)]
+#[derive(Clone, Copy)]
 pub struct Params {
     client_id: u32,
     server_id: u32,

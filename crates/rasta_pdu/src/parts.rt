@@ -9,7 +9,7 @@ use crate::params::Params;
 
 /// The parts of a datagram: a PDU of the redundancy layer, with the PDU of the safety and retransmission
 /// layer in it. Ids and safety code are those of the parameters and the sending side.
-#[derive(Clone, Copy, Debug, PartialEq, Eq)]
+#[derive(Clone, Copy, PartialEq, Eq)]
 pub struct PduParts<'a> {
     /// The redundancy layer's sequence number.
     pub number: u32,

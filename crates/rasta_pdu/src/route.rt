@@ -6,7 +6,7 @@ ghost use Rattle.rasta_pdu.specs.Params.{are_distinct, routes, same_endpoint, sa
 use rasta_udp::{Channel, Endpoint};
 
 /// One way over a channel.
-#[derive(Clone, Copy, Debug)]
+#[derive(Clone, Copy)]
 pub struct Route {
     pub source: Endpoint,
     pub destination: Endpoint,

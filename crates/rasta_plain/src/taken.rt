@@ -14,7 +14,7 @@ use rasta_pdu::{Body, Kind, Params, Pdu, QuietEnd, Side};
 use std::alloc::{AllocError, Global};
 
 /// The first copy of a PDU: the place of its packet, counted from 0, and the PDU.
-#[derive(Clone, Copy, Debug)]
+#[derive(Clone, Copy)]
 pub struct FirstCopy<'a> {
     pub place: u32,
     pub pdu: Pdu<'a>,
@@ -22,7 +22,7 @@ pub struct FirstCopy<'a> {
 
 /// A unit that was surely taken: its data PDU, the place of that, and the place of the first PDU of the
 /// peer that shows it.
-#[derive(Clone, Copy, Debug)]
+#[derive(Clone, Copy)]
 pub struct TakenUnit<'a> {
     pub pdu: Pdu<'a>,
     pub data_place: u32,

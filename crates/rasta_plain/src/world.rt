@@ -18,7 +18,7 @@ use std::alloc::{AllocError, Global};
 use std::marker::Model;
 
 /// What a station may do, or what may happen to it.
-#[derive(Clone, Copy, Debug)]
+#[derive(Clone, Copy)]
 pub enum Move<'a> {
     /// It makes the PDU that the payload spells, which crosses on this channel, from 1.
     Make {

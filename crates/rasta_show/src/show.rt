@@ -25,7 +25,7 @@ use rasta_udp::{Datagram, datagram};
 use std::alloc::Global;
 
 /// What a record is: of no interest, a packet of the connection, or refused.
-#[derive(Clone, Copy, Debug)]
+#[derive(Clone, Copy)]
 pub enum Seen<'a> {
     PassedOver,
     Packet(ShownPacket<'a>),

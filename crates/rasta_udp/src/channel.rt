@@ -17,7 +17,7 @@ pub struct Channel {
 
 /// A datagram of a channel: the channel's number, from 1, the sending side, and the payload of UDP,
 /// a slice of the frame.
-#[derive(Clone, Copy, Debug, PartialEq, Eq)]
+#[derive(Clone, Copy, PartialEq, Eq)]
 pub struct Datagram<'a> {
     pub channel: u8,
     pub side: Side,

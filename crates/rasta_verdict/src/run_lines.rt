@@ -9,7 +9,7 @@ use rasta_pdu::Side;
 use rasta_show::end_name;
 
 /// When and why an end made a packet.
-#[derive(Clone, Copy, Debug)]
+#[derive(Clone, Copy)]
 pub struct Made {
     /// In milliseconds.
     pub clock: u64,

@@ -14,7 +14,7 @@ use rasta_pcap::write_all;
 use rasta_pdu::{Fault, Side, Sink};
 
 /// What is left of both scripts.
-#[derive(Clone, Copy, Debug)]
+#[derive(Clone, Copy)]
 pub struct Rests<'s> {
     pub client: &'s [Entry],
     pub server: &'s [Entry],

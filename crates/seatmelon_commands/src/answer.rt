@@ -14,7 +14,7 @@ use std::io::{BufWriter, Write};
 const BUFFER: usize = 65_536;
 
 /// What the program writes.
-#[derive(Clone, Copy, Debug)]
+#[derive(Clone, Copy)]
 pub enum Answer<'a> {
     /// What was found in a capture.
     Survey(&'a Survey),

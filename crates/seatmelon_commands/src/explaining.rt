@@ -22,7 +22,7 @@ use std::{fs, io};
 
 /// What is to be explained: the paths of the files, the numbers of the records that are left out, rising, and
 /// what is written.
-#[derive(Debug, Drop)]
+#[derive(Drop)]
 pub struct Explaining<'a> {
     pub capture: &'a str,
     pub parameters: &'a str,
@@ -32,7 +32,7 @@ pub struct Explaining<'a> {
 }
 
 /// What was read beside the capture: the parameters, and the bytes of both files.
-#[derive(Debug, Drop)]
+#[derive(Drop)]
 pub struct Inputs {
     pub params: Params,
     pub parameters: Vec<u8>,
@@ -40,7 +40,7 @@ pub struct Inputs {
 }
 
 /// What an explanation came to, and what kind of file the capture seems to be.
-#[derive(Clone, Copy, Debug)]
+#[derive(Clone, Copy)]
 pub struct Explanation {
     pub outcome: Outcome,
     pub kind: FileKind,

@@ -21,7 +21,7 @@ pub enum End {
 
 /// How many packets crossed on a channel in each direction, and in which record the first one. Its client is
 /// the first end.
-#[derive(Clone, Copy, Debug)]
+#[derive(Clone, Copy)]
 pub struct ChannelCounts {
     pub channel: Channel,
     pub first_record: u32,
@@ -66,7 +66,7 @@ impl ChannelCounts {
 }
 
 /// The channels of a connection, of which 16 are told apart.
-#[derive(Debug, Drop)]
+#[derive(Drop)]
 pub struct Channels {
     counts: Vec<ChannelCounts>,
 

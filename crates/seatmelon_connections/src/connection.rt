@@ -16,7 +16,7 @@ use seatmelon_packets::{Lengths, Packet};
 use std::alloc::Global;
 
 // A connection request: its numbers, and the hash of its bytes.
-#[derive(Clone, Copy, Debug)]
+#[derive(Clone, Copy)]
 struct Request {
     number: u32,
     sn: u32,
@@ -37,7 +37,7 @@ fn request_in(packet: &Packet) -> Option<Request>
 }
 
 /// A connection that a capture seems to hold.
-#[derive(Debug, Drop)]
+#[derive(Drop)]
 pub struct Connection {
     request: Option<Request>,
     pub(crate) first: Party,

@@ -3,7 +3,7 @@ ghost use Rattle.std.specs.Prelude.{◌≡◌};
 ghost use Rattle.seatmelon_connections.specs.LateCopies.{is_late, late_copies_after};
 
 /// How a packet comes to its connection.
-#[derive(Clone, Copy, Debug)]
+#[derive(Clone, Copy)]
 pub enum Arrival {
     /// In the connection's course.
     InCourse,
@@ -25,7 +25,7 @@ impl Arrival {
 }
 
 /// How many late copies a connection took in, and in which records the first and the last one are.
-#[derive(Clone, Copy, Debug)]
+#[derive(Clone, Copy)]
 pub struct LateCopies {
     pub count: u64,
     pub first_record: u32,

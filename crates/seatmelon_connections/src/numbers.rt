@@ -15,7 +15,7 @@ const REMEMBERED: u32 = 256;
 pub const HALF: u32 = 0x8000_0000;
 
 /// What a packet is among those of its end.
-#[derive(Clone, Copy, Debug)]
+#[derive(Clone, Copy)]
 pub enum Sighting {
     /// The first one of its number.
     First,
@@ -65,7 +65,7 @@ fn standing_of(number: u32, expected: u32) -> Standing
 }
 
 // A packet that is remembered.
-#[derive(Clone, Copy, Debug)]
+#[derive(Clone, Copy)]
 struct Remembered {
     record: u32,
     number: u32,
@@ -81,14 +81,14 @@ fn remembered_of(packet: &Packet) -> Remembered {
 }
 
 /// A gap: the first number that is missing, and the record that shows it.
-#[derive(Clone, Copy, Debug)]
+#[derive(Clone, Copy)]
 pub struct Gap {
     pub missing: u32,
     pub record: u32,
 }
 
 /// What the numbers of an end show.
-#[derive(Clone, Copy, Debug)]
+#[derive(Clone, Copy)]
 pub struct NumberCounts {
     pub gaps: u64,
 
@@ -120,7 +120,7 @@ const NOTHING: NumberCounts = NumberCounts {
 };
 
 /// The redundancy layer's numbers of an end, of which the last 256 are remembered.
-#[derive(Debug, Drop)]
+#[derive(Drop)]
 pub struct Numbers {
     expected: Option<u32>,
     remembered: Vec<Option<Remembered>>,

@@ -9,14 +9,14 @@ use seatmelon_packets::{KindCounts, Offer, Packet};
 use std::alloc::Global;
 
 /// A disconnection request: its record and its reason.
-#[derive(Clone, Copy, Debug)]
+#[derive(Clone, Copy)]
 pub struct Ending {
     pub record: u32,
     pub reason: u16,
 }
 
 /// What one end of a connection sent.
-#[derive(Debug, Drop)]
+#[derive(Drop)]
 pub struct Party {
     pub id: u32,
 

@@ -13,14 +13,14 @@ use std::alloc::Global;
 const MOST_CANDIDATES: usize = 24;
 
 /// A time stamp, and the record in which it was seen.
-#[derive(Clone, Copy, Debug)]
+#[derive(Clone, Copy)]
 pub struct Stamp {
     pub ts: u32,
     pub record: u32,
 }
 
 /// The time stamp of an end's last data, and how it is known.
-#[derive(Clone, Copy, Debug)]
+#[derive(Clone, Copy)]
 pub enum LastData {
     /// The data was captured in this record.
     Sent(Stamp),
@@ -30,7 +30,7 @@ pub enum LastData {
 }
 
 /// What an end sent last: the sequence number, the time stamp, and the time stamp of its last data.
-#[derive(Clone, Copy, Debug)]
+#[derive(Clone, Copy)]
 pub struct LastSent {
     kind: Kind,
     pub sn: u32,
@@ -48,7 +48,7 @@ impl LastSent {
 }
 
 /// A point of a connection: after which record, and what each end had sent last.
-#[derive(Clone, Copy, Debug)]
+#[derive(Clone, Copy)]
 pub struct Point {
     pub record: u32,
     pub first: LastSent,
@@ -56,7 +56,7 @@ pub struct Point {
 }
 
 /// A point that may be quiet, and which ends have still to confirm what the other one sent before it.
-#[derive(Clone, Copy, Debug)]
+#[derive(Clone, Copy)]
 pub struct Candidate {
     pub point: Point,
     awaits_first: bool,
@@ -113,7 +113,7 @@ fn reaches(number: u32, earlier: u32) -> bool {
 }
 
 // How far an end is in what it has to send.
-#[derive(Clone, Copy, Debug)]
+#[derive(Clone, Copy)]
 struct Progress {
     first_ts: Option<u32>,
     last: Option<LastSent>,
@@ -192,7 +192,7 @@ impl Progress {
 /// After such a point each end's first PDU confirms the last one that the other sent before it, or a later one. No
 /// request for a retransmission is unanswered, no retransmission is under way, and no copy of an earlier packet
 /// crosses later.
-#[derive(Debug, Drop)]
+#[derive(Drop)]
 pub struct QuietPoints {
     first: Progress,
     second: Progress,

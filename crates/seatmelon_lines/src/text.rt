@@ -7,7 +7,7 @@ use rasta_pcap::{CaptureTime, Fault, Sink, write_all};
 use rasta_udp::Endpoint;
 
 /// A part of a line.
-#[derive(Clone, Copy, Debug)]
+#[derive(Clone, Copy)]
 pub enum Part {
     /// Words as they stand.
     Words(&'static str),

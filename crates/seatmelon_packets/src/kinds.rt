@@ -45,7 +45,7 @@ pub fn name_of(kind: Kind) -> &'static str {
 }
 
 /// How many PDUs of each type there are.
-#[derive(Clone, Copy, Debug)]
+#[derive(Clone, Copy)]
 pub struct KindCounts {
     counts: [u64; 8],
 }

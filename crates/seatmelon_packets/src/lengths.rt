@@ -9,7 +9,7 @@ use rasta_udp::Endpoint;
 const MD4_START: [u32; 4] = [0x6745_2301, 0xefcd_ab89, 0x98ba_dcfe, 0x1032_5476];
 
 /// How a PDU fits a length of the safety code.
-#[derive(Clone, Copy, Debug, PartialEq, Eq)]
+#[derive(Clone, Copy, PartialEq, Eq)]
 pub enum Fit {
     /// Its form doesn't fit.
     None,
@@ -22,7 +22,7 @@ pub enum Fit {
 }
 
 /// How a PDU fits each length of the safety code (none, 8 bytes, 16 bytes), and how long its check code is.
-#[derive(Clone, Copy, Debug, PartialEq, Eq)]
+#[derive(Clone, Copy, PartialEq, Eq)]
 pub struct Fits {
     pub no_code: Fit,
     pub short_code: Fit,
@@ -93,7 +93,7 @@ fn fit_of(params: &Option<Params>, datagram: &[u8]) -> Fit
 }
 
 // The parameters by which each length of the safety code is tried.
-#[derive(Clone, Copy, Debug)]
+#[derive(Clone, Copy)]
 struct CodeTrials {
     no_code: Option<Params>,
     short_code: Option<Params>,
@@ -123,7 +123,7 @@ impl CodeTrials {
 }
 
 /// The parameters by which the lengths of the codes are tried.
-#[derive(Clone, Copy, Debug)]
+#[derive(Clone, Copy)]
 pub struct Trials {
     no_check: CodeTrials,
     short_check: CodeTrials,
@@ -155,7 +155,7 @@ impl Trials {
 }
 
 /// How many PDUs fit a length of the safety code.
-#[derive(Clone, Copy, Debug)]
+#[derive(Clone, Copy)]
 pub struct FitCount {
     /// Those whose form fits.
     pub forms: u64,
@@ -179,7 +179,7 @@ impl FitCount {
 
 /// A length of a code in bytes, how many PDUs have the form that it asks for, and in how many of these the code
 /// is right.
-#[derive(Clone, Copy, Debug)]
+#[derive(Clone, Copy)]
 pub struct LengthFit {
     pub length: u8,
     pub forms: u64,
@@ -234,7 +234,7 @@ const NONE: FitCount = FitCount {
 
 /// How many PDUs of a connection fit each length of its codes: safety codes of 0, 8 and 16 bytes, and check codes of 0, 2
 /// and 4 bytes.
-#[derive(Clone, Copy, Debug)]
+#[derive(Clone, Copy)]
 pub struct Lengths {
     pub pdus: u64,
     pub no_code: FitCount,

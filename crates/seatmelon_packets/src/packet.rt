@@ -37,7 +37,7 @@ const REASON_AT: usize = 38;
 const BYE_END: usize = 40;
 
 /// What an end says of itself at the opening, in which record: its version, four digits, and its N_sendmax.
-#[derive(Clone, Copy, Debug, PartialEq, Eq)]
+#[derive(Clone, Copy, PartialEq, Eq)]
 pub struct Offer {
     pub record: u32,
     pub version: [u8; 4],
@@ -45,7 +45,7 @@ pub struct Offer {
 }
 
 /// The ids and the way of a PDU.
-#[derive(Clone, Copy, Debug, PartialEq, Eq)]
+#[derive(Clone, Copy, PartialEq, Eq)]
 pub struct Way {
     pub sender: u32,
     pub receiver: u32,
@@ -55,7 +55,7 @@ pub struct Way {
 }
 
 /// A packet that has the form of RaSTA.
-#[derive(Clone, Copy, Debug, PartialEq, Eq)]
+#[derive(Clone, Copy, PartialEq, Eq)]
 pub struct Packet {
     /// The number of its record, from 1.
     pub record: u32,

@@ -16,7 +16,7 @@ const PAYLOAD_AT: usize = 36;
 
 /// What takes a while to find out of a datagram: how it fits each length of the safety code, and its hash, by which
 /// copies are compared.
-#[derive(Clone, Copy, Debug)]
+#[derive(Clone, Copy)]
 pub struct Features {
     pub fits: Fits,
 
@@ -26,7 +26,7 @@ pub struct Features {
 
 /// Finds the features of datagrams. A PDU crosses on several channels, mostly one copy right behind the other, whose
 /// features needn't be found again.
-#[derive(Debug, Drop)]
+#[derive(Drop)]
 pub struct Recognizer {
     trials: Trials,
     last: LastDatagram,

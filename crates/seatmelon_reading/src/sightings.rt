@@ -11,7 +11,7 @@ use seatmelon_sifting::Sifted;
 use std::alloc::Global;
 
 /// Where and when a packet was captured, and on which channel.
-#[derive(Clone, Copy, Debug)]
+#[derive(Clone, Copy)]
 pub struct Sighting {
     /// The number of its record, from 1.
     pub record: u32,
@@ -23,14 +23,14 @@ pub struct Sighting {
 }
 
 /// How many packets of each end a channel has.
-#[derive(Clone, Copy, Debug)]
+#[derive(Clone, Copy)]
 pub struct ChannelCount {
     pub client: u64,
     pub server: u64,
 }
 
 /// What a refusal asks for: the first packet of an end with that number, but for the refused one.
-#[derive(Clone, Copy, Debug)]
+#[derive(Clone, Copy)]
 pub struct Wanted {
     pub side: Side,
 

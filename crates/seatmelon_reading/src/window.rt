@@ -8,7 +8,7 @@ use rasta_pdu::Params;
 const MOST_RECORDS: u32 = 4_000_000_000;
 
 /// The recorded window, as it is told of a capture.
-#[derive(Clone, Copy, Debug)]
+#[derive(Clone, Copy)]
 pub struct Window {
     /// The recorded first record, from 1.
     pub first_record: u32,
@@ -18,7 +18,7 @@ pub struct Window {
 }
 
 /// Where a record stands.
-#[derive(Clone, Copy, Debug, PartialEq, Eq)]
+#[derive(Clone, Copy, PartialEq, Eq)]
 pub enum Standing {
     Before,
     Inside,

@@ -17,7 +17,7 @@ const CAPTURED_END: u32 = 12;
 const BIG_ENDIAN: u8 = 0xa1;
 
 // What a byte of a capture belongs to.
-#[derive(Clone, Copy, Debug, PartialEq, Eq)]
+#[derive(Clone, Copy, PartialEq, Eq)]
 enum Part {
     FileHeader,
     RecordHeader,
@@ -25,7 +25,7 @@ enum Part {
 }
 
 /// Bytes of one part: how many, and where they begin in their record's frame, from 0; nowhere in a header.
-#[derive(Clone, Copy, Debug, PartialEq, Eq)]
+#[derive(Clone, Copy, PartialEq, Eq)]
 pub struct Piece {
     pub len: usize,
     pub offset: Option<u32>,
@@ -42,7 +42,7 @@ fn count_of(left: u32, bytes: &[u8]) -> u32
 
 /// Goes along the bytes of a capture in the classic libpcap format, and tells which record's frame each
 /// belongs to.
-#[derive(Clone, Copy, Debug)]
+#[derive(Clone, Copy)]
 pub struct Framing {
     part: Part,
     // How many bytes of the part have passed.

@@ -56,7 +56,7 @@ fn late_arrival(place: usize, last: usize) -> Arrival {
 }
 
 /// The connections that a capture seems to hold.
-#[derive(Debug, Drop)]
+#[derive(Drop)]
 pub struct Survey {
     recognizer: Recognizer,
     connections: Vec<Connection>,

@@ -14,7 +14,7 @@ use std::collections::HashMap;
 use std::marker::Model;
 
 /// The ids of two ends, the lower one first: packets both ways have the same.
-#[derive(Clone, Copy, Debug, PartialEq, Eq, Hash)]
+#[derive(Clone, Copy, PartialEq, Eq, Hash)]
 pub struct Ends {
     low: u32,
     high: u32,
@@ -34,14 +34,14 @@ impl Ends {
 }
 
 // Two ends, and the place of the last connection between them.
-#[derive(Clone, Copy, Debug)]
+#[derive(Clone, Copy)]
 struct Placed {
     ends: Ends,
     place: usize,
 }
 
 /// A connection request between two ends, by the hash of its bytes.
-#[derive(Clone, Copy, Debug, PartialEq, Eq, Hash)]
+#[derive(Clone, Copy, PartialEq, Eq, Hash)]
 pub struct Opening {
     pub ends: Ends,
     pub hash: u64,
@@ -50,7 +50,7 @@ pub struct Opening {
 /// Where connections stand: the last one between two ends, and the one that a request opened. Tables find them in
 /// constant time, however many connections there are. The ends that were found or set last are asked before their
 /// table: mostly the next packet is between them too.
-#[derive(Debug, Drop)]
+#[derive(Drop)]
 pub struct Places {
     last: HashMap<Ends, usize>,
     recent: Option<Placed>,

@@ -7,7 +7,7 @@ use serde::{Described, Serialize, Serializer};
 const MOST_NUMBER: u64 = 9_007_199_254_740_992;
 
 /// A number of 64 bits: a string of its digits where it is above 2^53, which readers of JSON may round.
-#[derive(Clone, Copy, Debug)]
+#[derive(Clone, Copy)]
 pub struct Number(pub u64);
 
 impl Described for Number {}
@@ -30,7 +30,7 @@ pub struct File<'a> {
 }
 
 /// The recorded window: its records, and how many packets of the recorded channels stand before it and behind it.
-#[derive(Clone, Copy, Debug, Serialize)]
+#[derive(Clone, Copy, Serialize)]
 pub struct Window {
     pub first_record: u32,
     pub last_record: Option<u32>,
@@ -39,7 +39,7 @@ pub struct Window {
 }
 
 /// How many packets of each end a channel has.
-#[derive(Clone, Copy, Debug, Serialize)]
+#[derive(Clone, Copy, Serialize)]
 pub struct Channel {
     pub channel: Number,
     pub from_client: Number,
@@ -47,7 +47,7 @@ pub struct Channel {
 }
 
 /// The N_sendmax that an end offers at the opening, where the parameters have another.
-#[derive(Clone, Copy, Debug, Serialize)]
+#[derive(Clone, Copy, Serialize)]
 pub struct Offer {
     pub end: &'static str,
     pub offered: u16,
@@ -63,7 +63,7 @@ pub struct Place {
 }
 
 /// Where an end stands at the quiet point.
-#[derive(Clone, Copy, Debug, Serialize)]
+#[derive(Clone, Copy, Serialize)]
 pub struct QuietEnd {
     pub next_sn: u32,
     pub clock: Number,
@@ -72,7 +72,7 @@ pub struct QuietEnd {
 }
 
 /// The quiet point at which what is judged begins.
-#[derive(Clone, Copy, Debug, Serialize)]
+#[derive(Clone, Copy, Serialize)]
 pub struct QuietPoint {
     pub first_record: u32,
     pub client: QuietEnd,
@@ -127,7 +127,7 @@ pub struct RefusedRecord {
 }
 
 /// The fields of a datagram before its payload, but for the reserve: those that it goes as far as.
-#[derive(Clone, Copy, Debug, Serialize)]
+#[derive(Clone, Copy, Serialize)]
 pub struct Fields {
     #[serde(rename = "type")]
     pub kind: Option<u32>,
@@ -208,7 +208,7 @@ pub enum Trouble {
 
 /// A message for which the payload ends too soon: where it begins, its length where the payload goes so far, and
 /// how many bytes are left for it.
-#[derive(Clone, Copy, Debug, Serialize)]
+#[derive(Clone, Copy, Serialize)]
 pub struct CutMessage {
     pub at: Number,
     pub length: Option<u32>,
@@ -216,7 +216,7 @@ pub struct CutMessage {
 }
 
 /// An entry of a script.
-#[derive(Clone, Copy, Debug, Serialize)]
+#[derive(Clone, Copy, Serialize)]
 pub struct ScriptEntry {
     pub number: u32,
     pub end: &'static str,

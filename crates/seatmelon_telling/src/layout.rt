@@ -73,7 +73,7 @@ fn whole_messages(payload: &[u8]) -> usize {
 
 /// A message of a payload that ends too soon for it: where it begins, its length where the payload goes so far,
 /// and how many bytes are left for it.
-#[derive(Clone, Copy, Debug)]
+#[derive(Clone, Copy)]
 pub struct CutMessage {
     pub at: usize,
     pub len: Option<u32>,
@@ -94,7 +94,7 @@ fn cut_message(payload: &[u8]) -> Option<CutMessage> {
 }
 
 /// What a payload is, and what it should be.
-#[derive(Clone, Copy, Debug)]
+#[derive(Clone, Copy)]
 pub struct Layout<'a> {
     /// What the type of its datagram has as its payload.
     pub due: &'static str,

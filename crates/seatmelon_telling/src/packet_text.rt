@@ -201,7 +201,7 @@ fn write_code<W: Sink>(writer: &mut W, what: &'static str, code: &[u8]) -> Resul
 }
 
 /// The safety code of a datagram, and the digest whose first bytes are due in its place.
-#[derive(Clone, Copy, Debug)]
+#[derive(Clone, Copy)]
 pub struct Codes<'a> {
     pub found: &'a [u8],
     digest: [u8; 16],
@@ -241,7 +241,7 @@ pub fn write_codes<W: Sink>(writer: &mut W, params: &Params, datagram: &[u8]) ->
 const MOST_SHOWN: usize = 16;
 
 /// A byte in which a datagram differs from its first copy.
-#[derive(Clone, Copy, Debug, Default)]
+#[derive(Clone, Copy, Default)]
 pub struct Difference {
     pub at: usize,
     pub byte: u8,

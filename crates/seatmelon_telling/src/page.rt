@@ -10,7 +10,7 @@ use seatmelon_text::{Part, parts, write_parts, write_words};
 use sha2::{Digest, Sha256};
 
 /// How the files are named in the text.
-#[derive(Clone, Copy, Debug)]
+#[derive(Clone, Copy)]
 pub struct Names<'a> {
     pub capture: &'a str,
     pub parameters: &'a str,
@@ -18,7 +18,7 @@ pub struct Names<'a> {
 }
 
 /// The small files, whole: their SHA-256 is shown.
-#[derive(Clone, Copy, Debug)]
+#[derive(Clone, Copy)]
 pub struct Texts<'a> {
     pub parameters: &'a [u8],
     pub certificate: Option<&'a [u8]>,
@@ -35,7 +35,7 @@ pub enum Form {
 }
 
 /// Which records are left out, by their rising numbers, and what is written.
-#[derive(Clone, Copy, Debug)]
+#[derive(Clone, Copy)]
 pub struct Choices<'a> {
     pub without: &'a [u32],
     pub form: Form,

@@ -12,7 +12,7 @@ pub fn list_of(store: &Store, side: Side) -> SpanList<'_> {
 }
 
 /// A message that an end sent: its number, from 0, the place of the packet that has it first, and its bytes.
-#[derive(Clone, Copy, Debug)]
+#[derive(Clone, Copy)]
 pub struct SentMessage<'a> {
     pub message: u64,
     pub data_index: u32,

@@ -76,7 +76,7 @@ fn meaning_of_step(number: u8) -> &'static str {
 }
 
 /// What may be the cause of a fault, and what to look at next.
-#[derive(Clone, Copy, Debug)]
+#[derive(Clone, Copy)]
 pub struct Hint {
     pub cause: &'static str,
     pub next_step: &'static str,

@@ -13,7 +13,7 @@ use std::alloc::{AllocError, Global};
 const ROOM: usize = 256;
 
 /// A part of a line.
-#[derive(Clone, Copy, Debug)]
+#[derive(Clone, Copy)]
 pub enum Part<'a> {
     /// Words as they stand.
     Words(&'a str),

@@ -7,7 +7,7 @@ use seatmelon_explain::Form;
 use std::alloc::{AllocError, Global};
 
 /// What the program is asked for.
-#[derive(Debug, Drop)]
+#[derive(Drop)]
 pub enum Request<'a> {
     /// Which connections a capture seems to hold.
     Survey { capture: &'a str },

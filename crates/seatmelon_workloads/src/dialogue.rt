@@ -56,7 +56,7 @@ impl End {
 }
 
 /// A moment: the bytes of the capture and the entries of both ends up to then.
-#[derive(Clone, Copy, Debug)]
+#[derive(Clone, Copy)]
 pub struct Moment {
     pub bytes: usize,
     pub client: usize,

@@ -7,7 +7,7 @@ const WORD: usize = 8;
 
 /// What was written: how many bytes, and two sums of the words that they make, the second of which says where each
 /// stood.
-#[derive(Clone, Copy, Debug)]
+#[derive(Clone, Copy)]
 pub struct Folded {
     pub len: u64,
     pub sum: u64,
@@ -17,7 +17,7 @@ pub struct Folded {
 }
 
 /// A device that folds what is written to it, whatever the pieces in which it comes.
-#[derive(Debug, Drop)]
+#[derive(Drop)]
 pub struct Folding<'a> {
     folded: &'a mut Folded,
 }

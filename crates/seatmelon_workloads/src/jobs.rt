@@ -23,7 +23,7 @@ const BUFFER: usize = 65_536;
 const ROOM: usize = 128;
 
 /// A job.
-#[derive(Clone, Copy, Debug, PartialEq, Eq)]
+#[derive(Clone, Copy, PartialEq, Eq)]
 pub enum Job {
     Explain,
     Json,

@@ -1,7 +1,7 @@
 //! What crosses between two ends.
 
 /// What two ends send, and what becomes of it on its way. A number of times of 0 is never.
-#[derive(Clone, Copy, Debug)]
+#[derive(Clone, Copy)]
 pub struct Traffic {
     /// Bytes of the safety code: 0, 8 or 16.
     pub code_length: u8,

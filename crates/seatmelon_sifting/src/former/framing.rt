@@ -15,7 +15,7 @@ const CAPTURED_END: u32 = 12;
 const BIG_ENDIAN: u8 = 0xa1;
 
 // What a byte of a capture belongs to.
-#[derive(Clone, Copy, Debug, PartialEq, Eq)]
+#[derive(Clone, Copy, PartialEq, Eq)]
 enum Part {
     FileHeader,
     RecordHeader,
@@ -24,7 +24,7 @@ enum Part {
 
 /// Goes along the bytes of a capture in the classic libpcap format, and tells which record's frame each
 /// belongs to.
-#[derive(Clone, Copy, Debug)]
+#[derive(Clone, Copy)]
 pub struct Framing {
     part: Part,
     // How many bytes of the part have passed.
