@@ -151,6 +151,11 @@ def through_a_pipe(part, command, capture, *more):
     return answer
 
 
+def in_place_of(answer, name, capture):
+    """The answer on a capture by its path, from that by another name of it."""
+    return answer[0], answer[1].replace(f"capture: {name}\n", f"capture: {capture}\n"), answer[2]
+
+
 def files(part):
     capture, parameters = SAMPLES / "handshake.pcap", SAMPLES / "handshake.toml"
     missing, packed, newer = part.folder / "missing", part.folder / "c.pcap.gz", part.folder / "c.pcapng"
@@ -158,11 +163,15 @@ def files(part):
     newer.write_bytes(b"\x0a\x0d\x0d\x0a" + bytes(60))
     answer = through_a_pipe(part, "survey", capture)
     part.judge("survey, a pipe", answer[0] == 0 and "connection 1" in answer[1], answer)
+    whole = part.call("explain", capture, parameters)
     answer = through_a_pipe(part, "explain", capture, parameters)
-    part.judge("explain, a pipe", answer[0] == 2 and answer[1] == "" and "pipe" in answer[2], answer)
+    part.judge("explain, a pipe", in_place_of(answer, part.folder / "pipe", capture) == whole, answer)
     data = capture.read_bytes()
-    part.expect("survey, standard input", 0, "connection 1", "", "survey", "/dev/stdin", input=data)
-    part.expect("explain, standard input", 2, "", "pipe", "explain", "/dev/stdin", parameters, input=data)
+    for name in ("-", "/dev/stdin"):
+        answer = part.call("explain", name, parameters, input=data)
+        part.judge(f"explain, {name}", in_place_of(answer, name, capture) == whole, answer)
+        part.expect(f"survey, {name}", 0, "connection 1", "", "survey", name, input=data)
+        part.expect(f"draft, {name}", 0, "client_id", "", "draft", name, "1", input=data)
     for words in (("survey",), ("draft", "1"), ("explain", parameters)):
         command, *more = words
         part.expect(f"{command}, a directory", 3, "", "irectory", command, part.folder, *more)

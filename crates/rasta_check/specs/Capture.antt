@@ -1,5 +1,7 @@
 -- What a capture holds: the packets that crossed, what each side sent, and faults.
+pub mod Building
 pub mod Crossing
 pub mod Lists
+pub mod Passages
 pub mod Reading
 pub mod Faults

@@ -6,7 +6,8 @@ ghost use Rattle.rasta_pdu.specs.Pdu.{RedundancyPdu, decode_of, redundancy_bytes
 ghost use Rattle.rasta_check.specs.Capture.Crossing.{FirstCopy, Spells, is_next_number, number_in_bytes, packet_fault};
 ghost use Rattle.rasta_check.specs.Internals.Datagrams.{kept_by};
 ghost use Rattle.rasta_check.specs.Capture.Lists.{copy_of, position_of_number, position_of_place};
-ghost use Rattle.rasta_check.specs.Capture.Reading.{Crossing, IsCrossing, sent_by, with_packet, nothing_crossed, after_packet, after_frame, after_record};
+ghost use Rattle.rasta_check.specs.Capture.Reading.{Crossing, IsCrossing, sent_by, with_packet, nothing_crossed, after_packet, after_frame, after_record, packet_at, packet_found};
+ghost use Rattle.rasta_check.specs.Capture.Passages.{passage_in};
 ghost use Rattle.rasta_check.specs.Internals.Stored.{IsJudged, IsStore, crossing_by, first_copy_bytes};
 ghost use Rattle.rasta_check.specs.Model.Theorem.{most_packets};
 ghost use Rattle.rasta_check.specs.Capture.Crossing.{IsRecorded};
@@ -14,6 +15,7 @@ ghost use Rattle.rasta_check.specs.Model.World.{most_sent};
 
 use crate::crossing::{MOST_PACKETS, MOST_SENT, number_in};
 use crate::datagrams::Datagrams;
+use crate::passage::Passage;
 use crate::span_list::SpanList;
 use rasta_pcap::{Fault, Record, Side};
 use rasta_pdu::{Params, Pdu, decode, read_decoded};
@@ -148,6 +150,19 @@ impl Store {
     {
         let (place, bytes) = self.datagrams.get(side, position)?;
         Some((place, read_decoded(&self.params, side, bytes)))
+    }
+
+    /// The place and the datagram at a position of a side's sent list.
+    #[tactic(auto, using(crate::proofs::Internals::StoreLists::kept_at))]
+    pub fn datagram(&self, side: Side, position: u32) -> Option<(u32, &[u8])>
+        ensures value { MatchOption result (slice_get (sent_by self.now side) position ≡ None)
+            (λ x. (copy : FirstCopy) × (slice_get (sent_by self.now side) position ≡ Some copy) × (x.0 ≡ copy.place)
+            × (x.1.now ≡ redundancy_bytes self.now.params side copy.pdu)) }
+        ensures crossing { IsCrossing self.now }
+    {
+        // A field is read, so what a store holds is known.
+        let _ = &self.params;
+        self.datagrams.get(side, position)
     }
 
     // The redundancy number at a position of a side's sent list.
@@ -302,9 +317,10 @@ impl Store {
     #[tactic(auto, unfolding(crate::specs::Capture::Reading::after_packet))]
     fn add_packet(&mut self, number: u32, found: &Datagram<'_>) -> Result<(), Fault>
         requires { IsRecorded self.old.params found.now.channel }
-        ensures { MatchResult result
+        ensures value { MatchResult result
             (λ _. after_packet self.old number (packet_of found.now) ≡ Ok self.new)
             (λ f. (f ≡ no_memory) ⊎ (after_packet self.old number (packet_of found.now) ≡ Err f)) }
+        ensures kept { OnErr result (self.new ≡ self.old) }
     {
         let known = match self.judge(found) {
             Ok(known) => known,
@@ -317,28 +333,38 @@ impl Store {
         Ok(())
     }
 
-    // Adds what a record of the window holds.
-    fn add_frame(&mut self, record: &Record<'_>) -> Result<(), Fault>
-        ensures { MatchResult result
-            (λ _. after_frame self.old «record».now.number (packet_in self.old.params.channels «record».now.bytes.now) ≡ Ok self.new)
+    // Adds what a record of the window holds, and says where its packet crossed.
+    fn add_frame(&mut self, record: &Record<'_>) -> Result<Option<Passage>, Fault>
+        ensures value { MatchResult result
+            (λ o. (after_frame self.old «record».now.number (packet_in self.old.params.channels «record».now.bytes.now) ≡ Ok self.new)
+            × (o ≡ passage_in (packet_found (packet_in self.old.params.channels «record».now.bytes.now))))
             (λ f. (f ≡ no_memory) ⊎ (after_frame self.old «record».now.number (packet_in self.old.params.channels «record».now.bytes.now) ≡ Err f)) }
+        ensures kept { OnErr result (self.new ≡ self.old) }
     {
         match datagram(record, self.params.channel()) {
-            Ok(None) => Ok(()),
-            Ok(Some(found)) => self.add_packet(record.number, &found),
+            Ok(None) => Ok(None),
+            Ok(Some(found)) => {
+                self.add_packet(record.number, &found)?;
+                Ok(Some(Passage {
+                    side: found.side,
+                    channel: found.channel,
+                }))
+            }
             Err(fault) => Err(Fault::at(fault.number, record.number)),
         }
     }
 
-    // Adds what a record holds, unless it stands before the window.
+    // Adds what a record holds, unless it stands before the window, and says where its packet crossed.
     #[tactic(auto, unfolding(crate::specs::Capture::Reading::after_record))]
-    pub(crate) fn add_record(&mut self, record: &Record<'_>) -> Result<(), Fault>
-        ensures { MatchResult result
-            (λ _. after_record self.old («record».now.number, «record».now.bytes.now) ≡ Ok self.new)
+    pub(crate) fn add_record(&mut self, record: &Record<'_>) -> Result<Option<Passage>, Fault>
+        ensures value { MatchResult result
+            (λ o. (after_record self.old («record».now.number, «record».now.bytes.now) ≡ Ok self.new)
+            × (o ≡ passage_in (packet_at self.old.params («record».now.number, «record».now.bytes.now))))
             (λ f. (f ≡ no_memory) ⊎ (after_record self.old («record».now.number, «record».now.bytes.now) ≡ Err f)) }
+        ensures kept { OnErr result (self.new ≡ self.old) }
     {
         if record.number < self.params.first_record() {
-            Ok(())
+            Ok(None)
         } else {
             self.add_frame(record)
         }

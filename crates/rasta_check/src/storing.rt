@@ -34,7 +34,7 @@ fn add_next<R: Source>(
         Ok(Some(number)) => {
             let bytes = records.buffer();
             match store.add_record(&Record { number, bytes }) {
-                Ok(()) => Ok(true),
+                Ok(_) => Ok(true),
                 Err(fault) => Err(fault),
             }
         }

@@ -1,5 +1,5 @@
 -- A source through a buffer.
-use Rattle.std.specs.Prelude.{List, ℕ, Option, slice_range}
+use Rattle.std.specs.Prelude.{List, ℕ, ◌++◌, Option, slice_range}
 use Rattle.std.specs.Io.KnownBytes.{prepend_known}
 use Rattle.rasta_pcap.specs.declared.buffered.Buffered.{Buffered}
 use Rattle.rasta_pcap.specs.declared.buffered.Held.{Held}
@@ -17,3 +17,7 @@ source_of b = b.source
 -- what it holds, and then what its source will give
 abbrev pub left_in : {S : Type 0} → (S → Option (List ℕ)) → Buffered S → Option (List ℕ)
 left_in remaining b = prepend_known (held_by b) (remaining (source_of b))
+
+-- its source has noted what passed, and what it holds
+abbrev pub noted_by : {S : Type 0} → (S → List ℕ → Type 0) → Buffered S → List ℕ → Type 0
+noted_by notes b passed = notes (source_of b) (passed ++ held_by b)

@@ -3,7 +3,9 @@ pub mod Devices
 pub mod Pieces
 pub mod FailAt
 pub mod Capture
+pub mod Captured
 pub mod Filling
+pub mod Noting
 pub mod Fronts
 pub mod Extent
 pub mod Times

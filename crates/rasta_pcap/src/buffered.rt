@@ -4,6 +4,7 @@ ghost use Rattle.std.specs.Io.{ReadsAtMost};
 ghost use Rattle.std.specs.Io.KnownBytes.{IsAtEnd, Keeps, ReadConsumes, prepend_known};
 ghost use Rattle.rasta_pcap.specs.Fault.{no_memory};
 ghost use Rattle.rasta_pcap.specs.Devices.{after_read};
+ghost use Rattle.rasta_pcap.specs.Noting.{given, NotesOn};
 
 use crate::counted::Source;
 use crate::fault::Fault;
@@ -64,6 +65,7 @@ impl Held {
         ensures held { IfOk result (λ n. n ≡ length (bytes_held self.new)) }
         ensures end { IfOk result (λ n. n ≡ 0 → IsAtEnd (S.remaining source.new)) }
         ensures counted { S.failure_count source.new ≡ after_read (S.failure_count source.old) result }
+        ensures noted { NotesOn S.notes source.old source.new (bytes_held self.new) }
     {
         self.start = 0;
         self.end = 0;
@@ -81,7 +83,7 @@ pub struct Buffered<S> {
 }
 
 impl<S: Source> Buffered<S> {
-    ghost use Rattle.rasta_pcap.specs.Buffered.{held_by, left_in, source_of};
+    ghost use Rattle.rasta_pcap.specs.Buffered.{held_by, left_in, noted_by, source_of};
 
     /// The source, of which nothing was read, and a buffer of so many bytes.
     ///
@@ -98,12 +100,21 @@ impl<S: Source> Buffered<S> {
         Ok(Buffered { source, held })
     }
 
+    /// Gives the source back, without what was read of it and not yet given.
+    pub fn into_inner(self) -> S
+        ensures { result ≡ source_of self }
+    {
+        let Buffered { source, .. } = self;
+        source
+    }
+
     // How many bytes it holds; where it holds none, it reads once.
     fn fill(&mut self) -> io::Result<usize>
         ensures bytes { Keeps (left_in S.remaining self.old) (left_in S.remaining self.new) }
         ensures held { IfOk result (λ n. n ≡ length (held_by self.new)) }
         ensures end { IfOk result (λ n. n ≡ 0 → IsAtEnd (S.remaining (source_of self.new))) }
         ensures counted { S.failure_count (source_of self.new) ≡ after_read (S.failure_count (source_of self.old)) result }
+        ensures noted { NotesOn (noted_by S.notes) self.old self.new [] }
     {
         match self.held.len() {
             0 => self.held.refill(&mut self.source),
@@ -118,6 +129,7 @@ impl<S: Source> Buffered<S> {
         ensures bound { ReadsAtMost result buf.new }
         ensures bytes { ReadConsumes (left_in S.remaining self.old) (left_in S.remaining self.new) result buf.new }
         ensures counted { S.failure_count (source_of self.new) ≡ after_read (S.failure_count (source_of self.old)) result }
+        ensures noted { NotesOn (noted_by S.notes) self.old self.new (given result buf.new) }
     {
         let n = self.fill()?.min(buf.len());
         self.held.give(&mut buf[..n]);
@@ -126,11 +138,13 @@ impl<S: Source> Buffered<S> {
 }
 
 impl<S: Source> Source for Buffered<S> {
-    ghost use Rattle.rasta_pcap.specs.Buffered.{left_in, source_of};
+    ghost use Rattle.rasta_pcap.specs.Buffered.{left_in, noted_by, source_of};
 
     ghost remaining = { left_in S.remaining };
 
     ghost failure_count = { λ b. S.failure_count (source_of b) };
+
+    ghost notes = { noted_by S.notes };
 
     #[inline(always)]
     fn read(&mut self, buf: &mut [u8]) -> io::Result<usize> {

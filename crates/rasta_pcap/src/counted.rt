@@ -3,6 +3,7 @@ ghost use Rattle.std.specs.Prelude.{◌≡◌, ℕ, List, [], Option, Ok, IfOk, 
 ghost use Rattle.std.specs.Io.{ReadsAtMost, WritesAtMost};
 ghost use Rattle.std.specs.Io.KnownBytes.{ReadConsumes, WriteAppends, IsAtEnd, Consumes};
 ghost use Rattle.rasta_pcap.specs.Fault.{no_memory, read_failed};
+ghost use Rattle.rasta_pcap.specs.Noting.{given, NotesOn};
 ghost use Rattle.rasta_pcap.specs.Devices.{after_read, after_write, one_failure_more, HasFailed, Writes, AsWritten};
 
 use crate::fault::Fault;
@@ -18,11 +19,15 @@ pub trait Source {
     /// How many calls have failed, up to the greatest count.
     ghost failure_count: { Self → ℕ };
 
+    /// What it has noted of the bytes that passed it.
+    ghost notes: { Self → List ℕ → Type 0 };
+
     /// Reads into the front of `buf`. `Ok(0)` at a buffer that isn't empty is the end of input.
     fn read(&mut self, buf: &mut [u8]) -> io::Result<usize>
         ensures bound { ReadsAtMost result buf.new }
         ensures bytes { ReadConsumes (remaining self.old) (remaining self.new) result buf.new }
-        ensures counted { failure_count self.new ≡ after_read (failure_count self.old) result };
+        ensures counted { failure_count self.new ≡ after_read (failure_count self.old) result }
+        ensures noted { NotesOn notes self.old self.new (given result buf.new) };
 
     /// How many calls have failed, up to the greatest `u64`.
     fn failures(&self) -> u64
@@ -92,6 +97,8 @@ impl<D: Read> Source for Counted<D> {
 
     ghost failure_count = { failures_of };
 
+    ghost notes = { λ _ _. Unit {0} };
+
     fn read(&mut self, buf: &mut [u8]) -> io::Result<usize> {
         let outcome = self.device.read(buf);
         if outcome.is_err() {
@@ -130,6 +137,8 @@ impl<S: Source> Source for &mut S {
     ghost remaining = { λ s. S.remaining s.now };
 
     ghost failure_count = { λ s. S.failure_count s.now };
+
+    ghost notes = { λ s. S.notes s.now };
 
     fn read(&mut self, buf: &mut [u8]) -> io::Result<usize> {
         Source::read(&mut **self, buf)

@@ -3,6 +3,7 @@ ghost use Rattle.std.specs.Prelude.{◌≡◌, ◌≤◌, take, length, IfOk, If
 ghost use Rattle.rasta_pcap.specs.Fault.{read_failed};
 ghost use Rattle.rasta_pcap.specs.Devices.{HasFailed};
 ghost use Rattle.rasta_pcap.specs.Filling.{IsFilled, ReadsUpTo};
+ghost use Rattle.rasta_pcap.specs.Noting.{PassesOn};
 
 use crate::counted::Source;
 use crate::fault::Fault;
@@ -18,6 +19,7 @@ pub fn fill<S: Source>(reader: &mut S, buf: &mut [u8], len: usize) -> Result<usi
     ensures err { IfErr result (λ f. (f ≡ read_failed)
         × HasFailed (S.failure_count reader.old) (S.failure_count reader.new)) }
     ensures begun { OnErr result (ReadsUpTo len (S.remaining reader.old) (S.remaining reader.new)) }
+    ensures passed { PassesOn S.remaining S.notes reader.old reader.new }
 {
     let mut filled = 0;
     while filled < len {

@@ -7,6 +7,7 @@ ghost use Rattle.rasta_pcap.specs.Capture.{max_captured, max_records};
 ghost use Rattle.rasta_pcap.specs.Extent.{ReadsWithinRecord};
 ghost use Rattle.rasta_pcap.specs.Filling.{IsFilled, ReadsUpTo};
 ghost use Rattle.rasta_pcap.specs.Fronts.{front_of};
+ghost use Rattle.rasta_pcap.specs.Noting.{PassesOn};
 
 use crate::counted::Source;
 use crate::fault::Fault;
@@ -67,6 +68,7 @@ impl RecordBuffer {
         ensures err { IfErr result (λ f. ((f ≡ no_memory) × (memory_of self.old < len) × (reader.new ≡ reader.old))
             ⊎ ((f ≡ read_failed) × HasFailed (S.failure_count reader.old) (S.failure_count reader.new)
             × ReadsUpTo len (S.remaining reader.old) (S.remaining reader.new))) }
+        ensures passed { PassesOn S.remaining S.notes reader.old reader.new }
     {
         self.len = read_front(reader, &mut self.memory, len)?;
         Ok(())
@@ -99,6 +101,7 @@ fn read_front<S: Source>(reader: &mut S, memory: &mut Vec<u8>, len: usize) -> Re
     ensures err { IfErr result (λ f. ((f ≡ no_memory) × (vec_len memory.old < len) × (reader.new ≡ reader.old))
         ⊎ ((f ≡ read_failed) × HasFailed (S.failure_count reader.old) (S.failure_count reader.new)
         × ReadsUpTo len (S.remaining reader.old) (S.remaining reader.new))) }
+    ensures passed { PassesOn S.remaining S.notes reader.old reader.new }
 {
     make_room(memory, len)?;
     fill(reader, memory, len)
@@ -157,6 +160,7 @@ impl RecordReader {
             ⊎ RefusesHeader f (S.remaining reader.old) (S.remaining reader.new)) }
         ensures bounded { ReadsUpTo 24 (S.remaining reader.old) (S.remaining reader.new) }
         ensures steady { OnOk result (S.failure_count reader.new ≡ S.failure_count reader.old) }
+        ensures passed { PassesOn S.remaining S.notes reader.old reader.new }
     {
         let mut header = [0; FILE_HEADER];
         let filled = fill(reader, &mut header, FILE_HEADER)?;
@@ -171,7 +175,8 @@ impl RecordReader {
         })
     }
 
-    /// The bytes of the record read last, at most 262,144.
+    /// The bytes of the record read last, at most 262,144; of one that is refused those that were read, and none at the
+    /// end.
     pub fn buffer(&self) -> &[u8]
         ensures bytes { result.now ≡ lent_by self.now }
         ensures bound { length result.now ≤ max_captured }
@@ -196,6 +201,7 @@ impl RecordReader {
         ensures step { Advances self.old self.new (S.remaining reader.old) (S.remaining reader.new)
             (S.failure_count reader.old) (S.failure_count reader.new) result }
         ensures idle { progress_of self.old ≢ Reading → (reader.new ≡ reader.old) × (self.new ≡ self.old) }
+        ensures passed { PassesOn S.remaining S.notes reader.old reader.new }
     {
         match self.progress {
             Progress::Reading => {}
@@ -231,8 +237,10 @@ impl RecordReader {
         ensures unit { unit_in self.new ≡ unit_in self.old }
         ensures count { count_in self.new ≡ count_after (count_in self.old) result }
         ensures progress { progress_of self.new ≡ progress_of self.old }
+        ensures passed { PassesOn S.remaining S.notes reader.old reader.new }
     {
         let mut front = [0; RECORD_HEADER];
+        self.buffer.len = 0;
         let filled = fill(reader, &mut front, RECORD_HEADER)?;
         let Some(captured) = judge_front(self.order, self.count, &front[..filled])? else {
             return Ok(None);
@@ -310,7 +318,8 @@ impl<R: Source + Drop> Stream<R> {
         self.records.advance(&mut self.reader)
     }
 
-    /// The bytes of the record read last, at most 262,144.
+    /// The bytes of the record read last, at most 262,144; of one that is refused those that were read, and none at the
+    /// end.
     pub fn buffer(&self) -> &[u8]
         ensures bytes { result.now ≡ lent_by (records_of self.now) }
         ensures bound { length result.now ≤ max_captured }

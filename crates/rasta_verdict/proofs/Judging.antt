@@ -13,7 +13,7 @@ use Rattle.rasta_verdict.specs.declared.verdict.Verdict.{Verdict}
 use Rattle.rasta_verdict.specs.declared.verdict.Verdict.TheVariants as verdicts
 use Rattle.rasta_check.proofs.Verdict.FileVerdicts.{same_params}
 use Rattle.rasta_verdict.specs.Claims.{ClaimsHeadline}
-use Rattle.rasta_verdict.specs.Judged.{IsChecked, IsJudged, IsRefusedBy, status_of_verdict, text_of_verdict}
+use Rattle.rasta_verdict.specs.Judged.{IsChecked, IsJudged, status_of_verdict, text_of_verdict}
 use Rattle.std.specs.List.{flat_map}
 use Rattle.rasta_check.specs.Run.Lines.{Line}
 use Rattle.rasta_check.proofs.Run.Simulation.{simulation}
@@ -55,20 +55,13 @@ is_checked p k scripts (Err f) same said unfit fits claim crossing = ⊎_elim
     (λ (none : f ≡ no_memory). inr none) unfit)
     (λ (none : f ≡ no_memory). inr none) said
 
--- the checker's refusal is the verdict
-pub refusal_judged : (r : Result Verdict Fault) (k : Crossing) (scripts : Scripts) (fault : Fault) → IfOk r (IsRefusal fault)
-    → IsChecked k scripts (Err fault) → IfOk r (IsJudged k scripts)
-refusal_judged r k scripts fault h said = if_ok_map r
-    (λ (v : Verdict) (w : IsRefusal fault v). subst (IsJudged k scripts) (sym w.0)
-    (⊎_elim (λ (refused : IsRefusedBy k scripts fault). refused)
-    (λ (none : fault ≡ no_memory). absurd (w.1 none)) said)) h
-
 abbrev pub Told : Crossing → Scripts → Verdict → Type 0
 Told k scripts v = (p : Parameters) (file text : List ℕ) → crossing_of p file ≡ Ok k → text ≡ certificate_text scripts → IsCertificate scripts
     → IsVerdict p text file (text_of_verdict v) (status_of_verdict v)
 
 one : (k : Crossing) (scripts : Scripts) (v : Verdict) → IsJudged k scripts v → Told k scripts v
-one k scripts (verdicts.Refused fault) judged p file text crossed is valid = verdict.script_refused k scripts fault crossed is valid judged.0
+one k scripts (verdicts.Unscripted fault) judged p file text crossed is valid = absurd judged
+one k scripts (verdicts.Refused fault certificate) judged p file text crossed is valid = verdict.script_refused k scripts fault crossed is valid judged.1.0
 one k scripts (verdicts.Explained e) judged p file text crossed is valid =
     subst (λ (j : Crossing). IsVerdict p text file (verdict.explained_text j e.certificate (report.explained e.report)) 0) (sym judged.0)
     (subst (λ (s : Scripts). IsVerdict p text file (verdict.explained_text k s (report.explained e.report)) 0) (sym judged.1)
@@ -85,7 +78,8 @@ abbrev pub Claimed : Parameters → List ℕ → Verdict → Type 0
 Claimed p file v = ClaimsHeadline p file (text_of_verdict v) (status_of_verdict v)
 
 claim : (p : Parameters) (file : List ℕ) (k : Crossing) (scripts : Scripts) (v : Verdict) → crossing_of p file ≡ Ok k → IsJudged k scripts v → Claimed p file v
-claim p file k scripts (verdicts.Refused fault) crossed judged status = absurd (cc)
+claim p file k scripts (verdicts.Unscripted fault) crossed judged status = absurd (cc)
+claim p file k scripts (verdicts.Refused fault certificate) crossed judged status = absurd (cc)
 claim p file k scripts (verdicts.Explained e) crossed judged status = record {
   crossing = e.store.now;
   scripts = e.certificate;
@@ -99,10 +93,10 @@ claim p file k scripts (verdicts.Explained e) crossed judged status = record {
       (subst (λ (q : Parameters). Headline q k.packets (report.explained e.report)) (same_params p file k crossed) judged.3);
 }
 
-refused_claims : (p : Parameters) (file : List ℕ) (fault : Fault) → Claimed p file (verdicts.Refused fault)
+refused_claims : (p : Parameters) (file : List ℕ) (fault : Fault) → Claimed p file (verdicts.Unscripted fault)
 refused_claims p file fault status = absurd (cc)
 
-pub refusal_of : (r : Result Verdict Fault) (fault : Fault) → IfOk r (IsRefusal fault) → IfOk r (λ v. v ≡ verdicts.Refused fault)
+pub refusal_of : (r : Result Verdict Fault) (fault : Fault) → IfOk r (IsRefusal fault) → IfOk r (λ v. v ≡ verdicts.Unscripted fault)
 refusal_of r fault h = if_ok_map r (λ (v : Verdict) (w : IsRefusal fault v). w.0) h
 
 -- of every capture of which this crossed
@@ -115,7 +109,7 @@ judged_claims r k scripts h = if_ok_map r
     (λ (v : Verdict) (judged : IsJudged k scripts v) (p : Parameters) (file : List ℕ) (crossed : crossing_of p file ≡ Ok k). claim p file k scripts v crossed judged) h
 
 -- a refusal claims nothing
-pub refusal_claims : (r : Result Verdict Fault) (k : Crossing) (fault : Fault) → IfOk r (λ v. v ≡ verdicts.Refused fault) → IfOk r (ClaimedOf k)
+pub refusal_claims : (r : Result Verdict Fault) (k : Crossing) (fault : Fault) → IfOk r (λ v. v ≡ verdicts.Unscripted fault) → IfOk r (ClaimedOf k)
 refusal_claims r k fault h = if_ok_map r
-    (λ (v : Verdict) (w : v ≡ verdicts.Refused fault) (p : Parameters) (file : List ℕ) (crossed : crossing_of p file ≡ Ok k).
+    (λ (v : Verdict) (w : v ≡ verdicts.Unscripted fault) (p : Parameters) (file : List ℕ) (crossed : crossing_of p file ≡ Ok k).
     subst (Claimed p file) (sym w) (refused_claims p file fault)) h

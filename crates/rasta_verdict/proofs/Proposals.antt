@@ -39,7 +39,8 @@ Fit k scripts = BothFit k.params (length k.packets) k.client k.server scripts
 
 judged_outcome : (tell : Telling) (p : Parameters) (file : List ℕ) (k : Crossing) (scripts : Scripts) (v : Verdict) → crossing_of p file ≡ Ok k
     → IsCertificate scripts → Fit k scripts → IsJudged k scripts v → Outcome p file tell v
-judged_outcome tell p file k scripts (verdicts.Refused fault) crossed valid fit judged = absurd (judged.1 fit)
+judged_outcome tell p file k scripts (verdicts.Unscripted fault) crossed valid fit judged = absurd judged
+judged_outcome tell p file k scripts (verdicts.Refused fault certificate) crossed valid fit judged = absurd (judged.1.1 fit)
 judged_outcome tell p file k scripts (verdicts.Explained e) crossed valid fit judged =
     subst (λ (j : Crossing). IsOutcome tell p file (tell j e.certificate (report.explained e.report)) 0) (sym judged.0)
     (subst (λ (s : Scripts). IsOutcome tell p file (tell k s (report.explained e.report)) 0) (sym judged.1)
@@ -80,7 +81,8 @@ abbrev pub DecidedOf : Crossing → Verdict → Type 0
 DecidedOf k v = (tell : Telling) (p : Parameters) (file : List ℕ) → crossing_of p file ≡ Ok k → Decides p file (told_verdict tell v) (status_of_verdict v)
 
 judged_decides : (k : Crossing) (scripts : Scripts) (v : Verdict) → Fit k scripts → IsJudged k scripts v → DecidedOf k v
-judged_decides k scripts (verdicts.Refused fault) fit judged tell p file crossed = absurd (judged.1 fit)
+judged_decides k scripts (verdicts.Unscripted fault) fit judged tell p file crossed = absurd judged
+judged_decides k scripts (verdicts.Refused fault certificate) fit judged tell p file crossed = absurd (judged.1.1 fit)
 judged_decides k scripts (verdicts.Explained e) fit judged tell p file crossed = λ j same. inl refl
 
 -- scripts that fit are explained
@@ -124,12 +126,22 @@ refused_decides p file fault text status refused k crossed = absurd (cc)
 
 -- an audit tells a verdict by its text
 pub audit_text : (v : Verdict) → told_verdict explained_text v ≡ text_of_verdict v
-audit_text (verdicts.Refused fault) = refl
+audit_text (verdicts.Unscripted fault) = refl
+audit_text (verdicts.Refused fault certificate) = refl
 audit_text (verdicts.Explained e) = refl
 
 -- a verdict that refuses is told by the line of its fault
-pub refusal_is_told : (tell : Telling) (v : Verdict) (fault : Fault) → v ≡ verdicts.Refused fault → refused_line fault ≡ told_verdict tell v
-refusal_is_told tell v fault e = ap (told_verdict tell) (sym e)
+abbrev pub RefusesBy : Fault → Verdict → Type 0
+RefusesBy fault v = (v ≡ verdicts.Unscripted fault) ⊎ ((scripts : Scripts) × (v ≡ verdicts.Refused fault scripts))
+
+pub refusal_is_told : (tell : Telling) (v : Verdict) (fault : Fault) → RefusesBy fault v → refused_line fault ≡ told_verdict tell v
+refusal_is_told tell v fault (inl e) = ap (told_verdict tell) (sym e)
+refusal_is_told tell v fault (inr e) = ap (told_verdict tell) (sym e.1)
+
+-- its status is 1
+pub refusal_has_status : (v : Verdict) (fault : Fault) → RefusesBy fault v → status_of_verdict v ≡ 1
+refusal_has_status v fault (inl e) = ap status_of_verdict e
+refusal_has_status v fault (inr e) = ap status_of_verdict e.1
 
 -- ---- each file has a text
 

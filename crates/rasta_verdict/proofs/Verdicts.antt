@@ -81,7 +81,7 @@ if_ok_map (Ok v) f h = f v h
 if_ok_map (Err e) f h = tt
 
 abbrev pub IsRefusal : Fault → Verdict → Type 0
-IsRefusal fault v = (v ≡ verdicts.Refused fault) × (fault ≢ no_memory)
+IsRefusal fault v = (v ≡ verdicts.Unscripted fault) × (fault ≢ no_memory)
 
 pub refusal_told : (r : Result Verdict Fault) (fault : Fault) → IfOk r (IsRefusal fault) → IfOk r HasToldRun
 refusal_told r fault h = if_ok_map r (λ (v : Verdict) (w : IsRefusal fault v). subst HasToldRun (sym w.0) tt) h

@@ -15,22 +15,25 @@ use Rattle.rasta_verdict.specs.ToldRun.{IsToldRun}
 use Rattle.rasta_verdict.specs.Verdict.{explained_text}
 use Rattle.rasta_verdict.specs.declared.verdict.Explanation.{Explanation}
 use Rattle.rasta_verdict.specs.declared.verdict.Verdict.{Verdict}
-use Rattle.rasta_verdict.specs.declared.verdict.Verdict.TheVariants.{Refused, Explained}
+use Rattle.rasta_verdict.specs.declared.verdict.Verdict.TheVariants.{Unscripted, Refused, Explained}
 
 abbrev pub text_of_explanation : Explanation → List ℕ
 text_of_explanation e = explained_text e.store.now e.certificate (explained e.report)
 
 abbrev pub text_of_verdict : Verdict → List ℕ
-text_of_verdict (Refused fault) = refused_line fault
+text_of_verdict (Unscripted fault) = refused_line fault
+text_of_verdict (Refused fault scripts) = refused_line fault
 text_of_verdict (Explained e) = text_of_explanation e
 
 abbrev pub status_of_verdict : Verdict → ℕ
-status_of_verdict (Refused fault) = 1
+status_of_verdict (Unscripted fault) = 1
+status_of_verdict (Refused fault scripts) = 1
 status_of_verdict (Explained e) = 0
 
 -- the run of an explanation can be written in one pass
 abbrev pub HasToldRun : Verdict → Type 0
-HasToldRun (Refused fault) = Unit {0}
+HasToldRun (Unscripted fault) = Unit {0}
+HasToldRun (Refused fault scripts) = Unit {0}
 HasToldRun (Explained e) = IsTold e.store.now e.certificate
 
 -- the checker refuses these scripts by this fault, and they don't both fit
@@ -48,7 +51,8 @@ IsChecked k scripts (Err fault) = IsRefusedBy k scripts fault ⊎ (fault ≡ no_
 
 -- the verdict on what crossed and these scripts
 abbrev pub IsJudged : Crossing → Scripts → Verdict → Type 0
-IsJudged k scripts (Refused fault) = IsRefusedBy k scripts fault
+IsJudged k scripts (Unscripted fault) = ⊥
+IsJudged k scripts (Refused fault certificate) = (certificate ≡ scripts) × IsRefusedBy k scripts fault
 IsJudged k scripts (Explained e) = (e.store.now ≡ k) × (e.certificate ≡ scripts)
     × IsScriptVerdict k.params (length k.packets) k.client k.server scripts (Ok (explained e.report))
     × Headline k.params k.packets (explained e.report)
@@ -56,5 +60,6 @@ IsJudged k scripts (Explained e) = (e.store.now ≡ k) × (e.certificate ≡ scr
 
 -- the text of a verdict whose explanation is told so
 abbrev pub told_verdict : Telling → Verdict → List ℕ
-told_verdict tell (Refused fault) = refused_line fault
+told_verdict tell (Unscripted fault) = refused_line fault
+told_verdict tell (Refused fault scripts) = refused_line fault
 told_verdict tell (Explained e) = tell e.store.now e.certificate (explained e.report)

@@ -4,6 +4,7 @@ pub mod Told
 pub mod Verdict
 pub mod Passed
 pub mod Judged
+pub mod Given
 pub mod Proposed
 pub mod Decided
 pub mod Claims

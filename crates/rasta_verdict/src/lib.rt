@@ -3,6 +3,7 @@
 
 mod audit;
 mod check;
+mod given;
 mod proposed;
 mod run_lines;
 mod run_text;
@@ -12,3 +13,5 @@ mod verdict;
 
 pub use audit::{run_audit, run_build};
 pub use check::{run_check, run_check_by_value};
+pub use given::judge_by;
+pub use verdict::{Explanation, Verdict};

@@ -1,15 +1,16 @@
 //! What becomes of what crossed, for which a certificate is proposed.
-ghost use Rattle.std.specs.Prelude.{◌≡◌, List, ℕ, Ok, IfErr, IfOk};
+ghost use Rattle.std.specs.Prelude.{◌≡◌, List, ℕ, None, Ok, IfErr, IfOk};
 ghost use Rattle.rasta_pcap.specs.Fault.{no_memory};
 ghost use Rattle.rasta_pcap.specs.Devices.{Writes, AsWritten};
 ghost use Rattle.rasta_pdu.specs.Params.{Parameters};
 ghost use Rattle.rasta_check.specs.Capture.Reading.{crossing_of};
 ghost use Rattle.rasta_verdict.specs.Claims.{ClaimsHeadline};
+ghost use Rattle.rasta_verdict.specs.Given.{IsVerdictOn};
 ghost use Rattle.rasta_verdict.specs.Judged.{HasToldRun, status_of_verdict, text_of_verdict, told_verdict};
 ghost use Rattle.rasta_verdict.specs.Decided.{Decides};
 ghost use Rattle.rasta_verdict.specs.Proposed.{IsOutcome, Telling, built_text};
 
-use crate::verdict::{Verdict, judge_scripts, refused};
+use crate::verdict::{Verdict, judge_scripts, unscripted};
 use rasta_build::propose_lists;
 use rasta_cert::write;
 use rasta_check::Store;
@@ -28,6 +29,7 @@ pub fn judge_proposed<'a>(alloc: Global, store: &'a Store) -> Result<Verdict<'a>
         → Decides p file (told_verdict tell v) (status_of_verdict v)) }
     ensures headline { IfOk result (λ v. (p : Parameters) (file : List ℕ) → crossing_of p file ≡ Ok store.now
         → ClaimsHeadline p file (text_of_verdict v) (status_of_verdict v)) }
+    ensures judged { IfOk result (IsVerdictOn store.now None) }
     ensures told { IfOk result HasToldRun }
     ensures err { IfErr result (λ f. f ≡ no_memory) }
 {
@@ -39,7 +41,7 @@ pub fn judge_proposed<'a>(alloc: Global, store: &'a Store) -> Result<Verdict<'a>
         &store.server(),
     ) {
         Ok(certificate) => judge_scripts(alloc, store, certificate),
-        Err(fault) => refused(fault),
+        Err(fault) => unscripted(fault),
     }
 }
 
@@ -55,7 +57,7 @@ pub fn write_found<W: Sink>(verdict: &Verdict<'_>, writer: &mut W) -> Result<u8,
             write(&explanation.certificate, writer)?;
             Ok(0)
         }
-        Verdict::Refused(fault) => {
+        Verdict::Unscripted(fault) | Verdict::Refused(fault, _) => {
             write_all(writer, refusal_line(*fault).as_bytes())?;
             Ok(1)
         }

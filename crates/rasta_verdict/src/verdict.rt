@@ -1,5 +1,5 @@
 //! The verdict on what crossed and a certificate, and its text.
-ghost use Rattle.std.specs.Prelude.{◌≡◌, ◌≢◌, ◌⊎◌, List, ℕ, Ok, IfErr, IfOk};
+ghost use Rattle.std.specs.Prelude.{◌≡◌, ◌≢◌, ◌⊎◌, List, ℕ, Ok, Some, IfErr, IfOk};
 ghost use Rattle.rasta_pcap.specs.Fault.{no_memory};
 ghost use Rattle.rasta_pcap.specs.Devices.{Writes, AsWritten};
 ghost use Rattle.rasta_pdu.specs.Params.{Parameters};
@@ -10,6 +10,7 @@ ghost use Rattle.rasta_verdict.specs.declared.verdict.Verdict.TheVariants as ver
 ghost use Rattle.rasta_verdict.specs.Told.{IsTold};
 ghost use Rattle.rasta_verdict.specs.Verdict.{IsVerdict, explained_line};
 ghost use Rattle.rasta_verdict.specs.Claims.{ClaimsHeadline};
+ghost use Rattle.rasta_verdict.specs.Given.{IsVerdictOn};
 ghost use Rattle.rasta_verdict.specs.Judged.{HasToldRun, IsChecked, IsJudged, status_of_verdict, text_of_explanation, text_of_verdict};
 
 use crate::run_text::write_run;
@@ -31,22 +32,27 @@ pub struct Explanation<'a> {
     pub report: Report<'a>,
 }
 
-/// A refusal, by its fault; or what explains a capture.
+/// What becomes of what crossed.
 #[derive(Drop)]
 pub enum Verdict<'a> {
-    Refused(Fault),
+    /// A certificate's text isn't one, or none is found.
+    Unscripted(Fault),
+
+    /// The checker refuses the scripts.
+    Refused(Fault, Certificate),
+
     Explained(Explanation<'a>),
 }
 
 /// A refusal is a verdict; a lack of memory is none.
-pub fn refused<'a>(fault: Fault) -> Result<Verdict<'a>, Fault>
-    ensures ok { IfOk result (λ v. (v ≡ verdicts.Refused fault) × (fault ≢ no_memory)) }
+pub fn unscripted<'a>(fault: Fault) -> Result<Verdict<'a>, Fault>
+    ensures ok { IfOk result (λ v. (v ≡ verdicts.Unscripted fault) × (fault ≢ no_memory)) }
     ensures err { IfErr result (λ f. f ≡ no_memory) }
 {
     if fault.number == Fault::NO_MEMORY {
         Err(Fault::at(Fault::NO_MEMORY, 0))
     } else {
-        Ok(Verdict::Refused(fault))
+        Ok(Verdict::Unscripted(fault))
     }
 }
 
@@ -67,7 +73,8 @@ fn verdict_by<'a>(
             certificate,
             report,
         })),
-        Err(fault) => refused(fault),
+        Err(fault) if fault.number == Fault::NO_MEMORY => Err(Fault::at(Fault::NO_MEMORY, 0)),
+        Err(fault) => Ok(Verdict::Refused(fault, certificate)),
     }
 }
 
@@ -107,12 +114,13 @@ pub fn judge<'a, C: AsSlice<u8> + Drop>(
         → IsVerdict p (C.items certificate) file (text_of_verdict v) (status_of_verdict v)) }
     ensures headline { IfOk result (λ v. (p : Parameters) (file : List ℕ) → crossing_of p file ≡ Ok store.now
         → ClaimsHeadline p file (text_of_verdict v) (status_of_verdict v)) }
+    ensures judged { IfOk result (IsVerdictOn store.now (Some (C.items certificate))) }
     ensures told { IfOk result HasToldRun }
     ensures err { IfErr result (λ f. f ≡ no_memory) }
 {
     match certificate_of(alloc, certificate) {
         Ok(certificate) => judge_scripts(alloc, store, certificate),
-        Err(fault) => refused(fault),
+        Err(fault) => unscripted(fault),
     }
 }
 
@@ -168,7 +176,7 @@ pub fn write_verdict<W: Sink>(verdict: &Verdict<'_>, writer: &mut W) -> Result<u
             write_explanation(explanation, writer)?;
             Ok(0)
         }
-        Verdict::Refused(fault) => {
+        Verdict::Unscripted(fault) | Verdict::Refused(fault, _) => {
             write_all(writer, refusal_line(*fault).as_bytes())?;
             Ok(1)
         }

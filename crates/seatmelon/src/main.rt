@@ -10,8 +10,10 @@ use clap::error::ErrorKind;
 use seatmelon_commands::{Failure, draft_file, explain_files, reason_of, status, survey_file};
 use seatmelon_words::{Request, parse};
 use std::io;
+use std::io::{Input, IsTerminal};
 use std::process::ExitCode;
 use std::rt::{Env, Files};
+use std::time::Clock;
 
 // The words after the program's name.
 fn words<R: AllocGlobal + Env>(rt: &R) -> Result<Vec<String>, Failure> {
@@ -41,18 +43,22 @@ fn tell<R: AllocGlobal + Print + Eprint>(rt: &R, error: &Error) -> Result<u8, Fa
     }
 }
 
-fn run<R: AllocGlobal + Env + Files + Print + Eprint>(rt: &R) -> Result<u8, Failure> {
+// `is_told` says whether standard error is told how far a long reading got.
+fn run<R: AllocGlobal + Clock + Env + Files + Input + Print + Eprint>(
+    rt: &R,
+    is_told: bool,
+) -> Result<u8, Failure> {
     let words = words(rt)?;
     match parse(rt.alloc(), &words) {
         Ok(Request::Survey { capture }) => survey_file(rt, capture),
         Ok(Request::Draft { capture, number }) => draft_file(rt, capture, number),
-        Ok(Request::Explain(explaining)) => explain_files(rt, &explaining),
+        Ok(Request::Explain(explaining)) => explain_files(rt, &explaining, is_told),
         Err(error) => tell(rt, &error),
     }
 }
 
 fn main(rt: HostRuntime) -> ExitCode {
-    match run(&rt) {
+    match run(&rt, rt.stderr().is_terminal()) {
         Ok(code) => ExitCode::from(code),
         Err(failure) => {
             // Where standard error fails too, the status alone tells.

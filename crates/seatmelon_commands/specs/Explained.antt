@@ -1,5 +1,7 @@
 -- What an explanation says of a capture.
-use Rattle.std.specs.Prelude.{◌≡◌, ℕ, List, [], Option, option_map}
+use Rattle.std.specs.Prelude.{◌≡◌, ℕ, List, Option, option_map}
+use Rattle.seatmelon_account.specs.declared.account.Inputs as given
+use Rattle.seatmelon_explain.specs.Outcomes as outcomes
 use Rattle.seatmelon_explain.specs.Outcomes.{IsFileExplained}
 use Rattle.seatmelon_commands.specs.declared.explaining.Explaining.{Explaining}
 use Rattle.seatmelon_commands.specs.declared.explaining.Inputs.{Inputs}
@@ -8,6 +10,12 @@ use Rattle.seatmelon_commands.specs.declared.explaining.Inputs.{Inputs}
 abbrev pub certificate_in : Inputs → Option (List ℕ)
 certificate_in inputs = option_map (λ text. text.items) inputs.certificate
 
--- where no record is left out, the file, where it is known, has no fault, and what crossed by it is explained
+-- the records of the file that stay, where it is known, have no fault, and what crossed by them is explained
 abbrev pub IsCaptureExplained : Explaining → Inputs → Option (List ℕ) → Type 0
-IsCaptureExplained explaining inputs file = explaining.without.items ≡ [] → IsFileExplained inputs.params (certificate_in inputs) file
+IsCaptureExplained explaining inputs file = IsFileExplained inputs.params explaining.without.items (certificate_in inputs) file
+
+-- this stands beside a capture
+pub record IsGivenFor (explaining : Explaining) (inputs : Inputs) (g : given.Inputs) : Type 0 where
+  pub params : g.params.now ≡ inputs.params
+  pub without : g.without.now ≡ explaining.without.items
+  pub certificate : outcomes.certificate_in g.texts ≡ certificate_in inputs

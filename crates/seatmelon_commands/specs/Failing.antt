@@ -1,19 +1,17 @@
 -- The exit status of a failure.
 use Rattle.std.specs.Prelude.{◌≡◌, ◌⊎◌, ℕ, ◌==◌, ◌||◌, if◌then◌else◌}
 use Rattle.seatmelon_commands.specs.declared.failure.Failure.{Failure}
-use Rattle.seatmelon_commands.specs.declared.failure.Failure.TheVariants.{OutOfMemory, Arguments, Reading, Writing, Refused, NoConnection, Parameters, NoFile, Changed}
+use Rattle.seatmelon_commands.specs.declared.failure.Failure.TheVariants.{OutOfMemory, Arguments, Reading, Writing, Refused, NoConnection, Parameters}
 
--- a capture; words and parameters; memory, devices and files that change
+-- a capture; words and parameters; memory and devices
 abbrev pub status_of : Failure → ℕ
 status_of (Refused path refusal) = 1
 status_of Arguments = 2
 status_of (NoConnection path number count) = 2
 status_of (Parameters path refusal) = 2
-status_of (NoFile path) = 2
 status_of OutOfMemory = 3
 status_of (Reading path reason) = 3
 status_of (Writing reason) = 3
-status_of (Changed path) = 3
 
 -- memory and reading; the capture
 abbrev pub status_of_fault : ℕ → ℕ

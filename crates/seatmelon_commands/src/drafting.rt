@@ -10,6 +10,7 @@ use crate::surveying::{status_of_survey, survey_at};
 use seatmelon_survey::Survey;
 use std::alloc::Global;
 use std::io;
+use std::io::Input;
 use std::rt::Files;
 
 // Why there is no draft of a connection.
@@ -50,7 +51,7 @@ pub fn draft_in<'a>(
 
 /// Surveys the capture of that path, and writes the draft of the connection of that number to standard output.
 /// Answers the program's status: where no connection was found it is 1, and the survey is written.
-pub fn draft_file<R: AllocGlobal + Files + Print>(
+pub fn draft_file<R: AllocGlobal + Files + Input + Print>(
     rt: &R,
     path: &str,
     number: u64,

@@ -1,24 +1,25 @@
 //! The command `explain`.
 ghost use Rattle.std.specs.Prelude.{◌≡◌, ◌≢◌, ◌≤◌, IfErr, IfOk, Ok};
-ghost use Rattle.seatmelon_explain.specs.declared.explaining.Outcome.TheVariants.{Changed, Explained};
-ghost use Rattle.seatmelon_explain.specs.Outcomes;
-ghost use Rattle.seatmelon_commands.specs.Explained.{certificate_in, IsCaptureExplained};
+ghost use Rattle.seatmelon_explain.specs.declared.explaining.Outcome.TheVariants.{Explained};
+ghost use Rattle.seatmelon_commands.specs.Explained.{IsCaptureExplained, IsGivenFor};
 ghost use Rattle.seatmelon_commands.specs.Failing.{status_of, IsOfExplaining};
 
 use crate::answer::unwritten;
 use crate::failure::Failure;
 use crate::file_kind::{FileKind, file_kind};
 use crate::parameters::params_in;
-use crate::reading::{BUFFER, unread, whole_file};
+use crate::progress::{Progress, len_at};
+use crate::reading::{BUFFER, STANDARD_INPUT, unread, whole_file};
 use crate::watched::Watched;
-use rasta_pcap::{Buffered, Counted, Fault, Sink, Source};
+use rasta_pcap::{Counted, Fault};
 use rasta_pdu::Params;
-use seatmelon_explain::{Choices, Form, Names, Outcome, Texts, explain};
+use seatmelon_explain::{Form, Names, Outcome, Texts, explain};
 use std::alloc::Global;
 use std::fs::File;
-use std::io::{BufWriter, Read, Write};
+use std::io;
+use std::io::{BufWriter, Input, Read, Write};
 use std::rt::Files;
-use std::{fs, io};
+use std::time::Clock;
 
 /// What is to be explained: the paths of the files, the numbers of the records that are left out, rising, and
 /// what is written.
@@ -46,49 +47,23 @@ pub struct Explanation {
     pub kind: FileKind,
 }
 
-impl Inputs {
-    fn texts(&self) -> Texts<'_>
-        ensures { Outcomes.certificate_in result ≡ certificate_in self.now }
-    {
-        Texts {
-            parameters: self.parameters.as_slice(),
-            certificate: self.certificate.as_deref(),
-        }
-    }
-}
-
-// Reads the capture twice, through buffers, and writes what it comes to.
-fn write_explanation<R: Source, A: Source, W: Sink>(
-    alloc: Global,
-    explaining: &Explaining<'_>,
-    inputs: &Inputs,
-    first: &mut R,
-    again: &mut A,
-    writer: &mut W,
-) -> Result<Outcome, Fault>
-    ensures { IfOk result (λ o. o ≡ Explained → IsCaptureExplained explaining.now inputs.now (R.remaining first.old)) }
+// What stands beside a capture that is to be explained.
+fn given<'a>(explaining: &'a Explaining<'_>, inputs: &'a Inputs) -> seatmelon_explain::Inputs<'a>
+    ensures { IsGivenFor explaining.now inputs.now result }
 {
-    let names = Names {
-        capture: explaining.capture,
-        parameters: explaining.parameters,
-        certificate: explaining.certificate,
-    };
-    let choices = Choices {
+    seatmelon_explain::Inputs {
+        names: Names {
+            capture: explaining.capture,
+            parameters: explaining.parameters,
+            certificate: explaining.certificate,
+        },
+        texts: Texts {
+            parameters: inputs.parameters.as_slice(),
+            certificate: inputs.certificate.as_deref(),
+        },
+        params: &inputs.params,
         without: explaining.without.as_slice(),
-        form: explaining.form,
-    };
-    let mut first = Buffered::new(alloc, first, BUFFER)?;
-    let mut again = Buffered::new(alloc, again, BUFFER)?;
-    explain(
-        alloc,
-        &names,
-        &inputs.texts(),
-        &inputs.params,
-        &choices,
-        &mut first,
-        &mut again,
-        writer,
-    )
+    }
 }
 
 // What was written came to this, once all of it is out.
@@ -119,52 +94,36 @@ fn unexplained(
     }
 }
 
-// Why a capture whose two readings differ isn't explained.
-fn changed(alloc: Global, path: &str) -> Failure
-    ensures { status_of result ≡ 3 }
-{
-    match String::from_str(alloc, path) {
-        Ok(path) => Failure::Changed { path },
-        Err(_) => Failure::OutOfMemory,
-    }
-}
-
-/// Explains the capture that both readers give, and writes that to a device, all of it.
-pub fn explain_of<A: Read + Drop, B: Read + Drop, W: Write + Drop>(
+/// Explains the capture that a reader gives, and writes that to a device, all of it.
+pub fn explain_of<D: Read + Drop, W: Write + Drop>(
     alloc: Global,
     explaining: &Explaining<'_>,
     inputs: &Inputs,
-    first: A,
-    again: B,
+    file: D,
     device: W,
 ) -> Result<Explanation, Failure>
-    // Where no record is left out, the capture has no fault, and the checker answers a report on what crossed by it.
-    ensures explained { IfOk result (λ e. e.outcome ≡ Explained → IsCaptureExplained explaining.now inputs.now (A.remaining first)) }
-    ensures changed { IfOk result (λ e. e.outcome ≢ Changed) }
+    // The records that stay have no fault, and the checker answers a report on what crossed by them.
+    ensures explained { IfOk result (λ e. e.outcome ≡ Explained → IsCaptureExplained explaining.now inputs.now (D.remaining file)) }
     ensures err { IfErr result (λ failure. status_of failure ≡ 3) }
 {
     let Ok(buffered) = BufWriter::with_capacity(alloc, BUFFER, Watched::new(device)) else {
         return Err(Failure::OutOfMemory);
     };
-    let mut first = Counted::new(Watched::new(first));
-    let mut again = Counted::new(Watched::new(again));
+    let mut source = Counted::new(Watched::new(file));
     let mut sink = Counted::new(buffered);
-    let outcome = write_explanation(alloc, explaining, inputs, &mut first, &mut again, &mut sink);
+    let given = given(explaining, inputs);
+    let outcome = explain(alloc, &given, explaining.form, &mut source, &mut sink);
     let mut buffered = sink.into_inner();
     let outcome = flushed(outcome, &mut buffered);
-    let (first, again) = (first.into_inner(), again.into_inner());
+    let source = source.into_inner();
     let (device, _) = buffered.into_parts();
     let path = explaining.capture;
     match outcome {
-        Ok(Outcome::Changed) => Err(changed(alloc, path)),
         Ok(outcome) => Ok(Explanation {
             outcome,
-            kind: file_kind(first.start()),
+            kind: file_kind(source.start()),
         }),
-        Err(fault) => {
-            let reading = first.error().or(again.error());
-            Err(unexplained(alloc, path, fault, reading, device.error()))
-        }
+        Err(fault) => Err(unexplained(alloc, path, fault, source.error(), device.error())),
     }
 }
 
@@ -175,53 +134,31 @@ pub fn status_of_outcome(outcome: Outcome) -> u8
 {
     match outcome {
         Outcome::Explained => 0,
-        Outcome::Refused | Outcome::NoPackets | Outcome::Changed => 1,
+        Outcome::Refused | Outcome::NoPackets => 1,
     }
 }
 
-// Why a capture can't be read twice.
-fn no_file(alloc: Global, path: &str) -> Failure
-    ensures { IsOfExplaining result }
-{
-    match String::from_str(alloc, path) {
-        Ok(path) => Failure::NoFile { path },
-        Err(_) => Failure::OutOfMemory,
-    }
-}
-
-// Refuses what can be read only once: a pipe, a terminal or another device. A directory fails where it is read.
-fn require_file<R: AllocGlobal + Files>(rt: &R, path: &str) -> Result<(), Failure>
-    ensures { IfErr result IsOfExplaining }
-{
-    match fs::metadata(rt, path) {
-        Ok(metadata) if metadata.is_file() || metadata.is_dir() => Ok(()),
-        Ok(_) => Err(no_file(rt.alloc(), path)),
-        Err(error) => Err(unread(rt.alloc(), path, Some(error))),
-    }
-}
-
-fn open<R: AllocGlobal + Files>(rt: &R, path: &str) -> Result<R::File, Failure>
-    ensures { IfErr result (λ failure. status_of failure ≡ 3) }
-{
-    match File::open(rt, path) {
-        Ok(file) => Ok(file),
-        Err(error) => Err(unread(rt.alloc(), path, Some(error))),
-    }
-}
-
-// Opens the capture twice, and explains it on standard output.
-fn explain_capture<R: AllocGlobal + Files + Print>(
+// Explains the capture on standard output.
+fn explain_capture<R: AllocGlobal + Files + Input + Print + Eprint + Clock>(
     rt: &R,
     explaining: &Explaining<'_>,
     inputs: &Inputs,
+    is_told: bool,
 ) -> Result<Explanation, Failure>
     ensures { IfErr result IsOfExplaining }
 {
-    let path = explaining.capture;
-    require_file(rt, path)?;
-    let first = open(rt, path)?;
-    let again = open(rt, path)?;
-    explain_of(rt.alloc(), explaining, inputs, first, again, io::writer(rt))
+    let (alloc, path, device) = (rt.alloc(), explaining.capture, io::writer(rt));
+    if path == STANDARD_INPUT {
+        let input = Progress::new(rt, rt.reader(), None, is_told);
+        return explain_of(alloc, explaining, inputs, input, device);
+    }
+    match File::open(rt, path) {
+        Ok(file) => {
+            let file = Progress::new(rt, file, len_at(rt, path), is_told);
+            explain_of(alloc, explaining, inputs, file, device)
+        }
+        Err(error) => Err(unread(alloc, path, Some(error))),
+    }
 }
 
 // Tells on standard error what else the capture seems to be.
@@ -269,17 +206,19 @@ fn read_inputs<R: AllocGlobal + Files>(
     })
 }
 
-/// Reads the parameters, and then the certificate where one is named, and explains the capture on standard output.
-/// Answers the program's status.
-pub fn explain_files<R: AllocGlobal + Files + Print + Eprint>(
+/// Reads the parameters, and then the certificate where one is named, and explains the capture on standard output. If
+/// `is_told`, standard error says how many megabytes were read of one that takes longer than a second. Answers the
+/// program's status.
+pub fn explain_files<R: AllocGlobal + Files + Input + Print + Eprint + Clock>(
     rt: &R,
     explaining: &Explaining<'_>,
+    is_told: bool,
 ) -> Result<u8, Failure>
     ensures ok { IfOk result (λ status. status ≤ 1) }
     ensures err { IfErr result IsOfExplaining }
 {
     let inputs = read_inputs(rt, explaining)?;
-    let explanation = explain_capture(rt, explaining, &inputs)?;
+    let explanation = explain_capture(rt, explaining, &inputs, is_told)?;
     advise(rt, explaining.capture, explanation.kind);
     Ok(status_of_outcome(explanation.outcome))
 }

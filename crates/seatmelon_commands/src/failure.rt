@@ -39,14 +39,6 @@ pub enum Failure {
         path: String,
         refusal: ParameterRefusal,
     },
-    #[error("{path}: this is a pipe or a device, and CAPTURE is read twice: write it to a file first")]
-    NoFile {
-        path: String,
-    },
-    #[error("{path}: two readings of it differ: nothing is said of a capture that changes")]
-    Changed {
-        path: String,
-    },
 }
 
 /// Why a capture is refused, and what kind of file it seems to be.
@@ -114,20 +106,13 @@ pub fn reason_of(alloc: Global, error: &io::Error) -> Result<String, AllocError>
     }
 }
 
-/// The exit status of a failure: 1 for a refused capture, 2 for words and parameters, 3 for memory, devices and files
-/// that change.
+/// The exit status of a failure: 1 for a refused capture, 2 for words and parameters, 3 for memory and devices.
 pub fn status(failure: &Failure) -> u8
     ensures { result ≡ status_of failure.now }
 {
     match failure {
         Failure::Refused { .. } => 1,
-        Failure::Arguments
-        | Failure::NoConnection { .. }
-        | Failure::Parameters { .. }
-        | Failure::NoFile { .. } => 2,
-        Failure::OutOfMemory
-        | Failure::Reading { .. }
-        | Failure::Writing(_)
-        | Failure::Changed { .. } => 3,
+        Failure::Arguments | Failure::NoConnection { .. } | Failure::Parameters { .. } => 2,
+        Failure::OutOfMemory | Failure::Reading { .. } | Failure::Writing(_) => 3,
     }
 }

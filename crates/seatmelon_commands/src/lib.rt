@@ -9,6 +9,7 @@ mod failure;
 mod file_kind;
 mod key_lines;
 mod parameters;
+mod progress;
 mod reading;
 mod surveying;
 mod watched;

@@ -12,8 +12,11 @@ use std::io;
 use std::io::Read;
 use std::rt::Files;
 
-/// How many bytes of a capture are read at once.
+/// How many bytes of a capture are read at once, and of an answer written.
 pub const BUFFER: usize = 65_536;
+
+/// The name under which a capture is read from standard input.
+pub const STANDARD_INPUT: &str = "-";
 
 // Why a file can't be read, for this reason.
 fn unread_for(alloc: Global, path: &str, reason: String) -> Failure

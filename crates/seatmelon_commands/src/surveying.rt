@@ -6,14 +6,14 @@ ghost use Rattle.seatmelon_commands.specs.Failing.{status_of, TellsOf, IsOfFiles
 use crate::answer::{Answer, write_answer};
 use crate::failure::{Failure, Refusal};
 use crate::file_kind::file_kind;
-use crate::reading::{BUFFER, unread};
+use crate::reading::{BUFFER, STANDARD_INPUT, unread};
 use crate::watched::Watched;
 use rasta_pcap::{Buffered, Counted, Fault};
 use seatmelon_survey::{Survey, survey};
 use std::alloc::Global;
 use std::fs::File;
 use std::io;
-use std::io::Read;
+use std::io::{Input, Read};
 use std::rt::Files;
 
 // Why a capture isn't surveyed, by the fault and what was read of its file.
@@ -49,11 +49,14 @@ pub fn survey_of<D: Read + Drop>(alloc: Global, path: &str, file: D) -> Result<S
     outcome.map_err(|fault| refused(alloc, path, fault, &file))
 }
 
-/// Surveys the capture of that path.
-pub fn survey_at<R: AllocGlobal + Files>(rt: &R, path: &str) -> Result<Survey, Failure>
+/// Surveys the capture of that path; `-` is standard input.
+pub fn survey_at<R: AllocGlobal + Files + Input>(rt: &R, path: &str) -> Result<Survey, Failure>
     ensures err { IfErr result (λ failure. IsOfFiles failure) }
 {
     let alloc = rt.alloc();
+    if path == STANDARD_INPUT {
+        return survey_of(alloc, path, rt.reader());
+    }
     match File::open(rt, path) {
         Ok(file) => survey_of(alloc, path, file),
         Err(error) => Err(unread(alloc, path, Some(error))),
@@ -69,7 +72,10 @@ pub fn status_of_survey(survey: &Survey) -> u8
 }
 
 /// Surveys the capture of that path, and writes the survey to standard output. Answers the program's status.
-pub fn survey_file<R: AllocGlobal + Files + Print>(rt: &R, path: &str) -> Result<u8, Failure>
+pub fn survey_file<R: AllocGlobal + Files + Input + Print>(
+    rt: &R,
+    path: &str,
+) -> Result<u8, Failure>
     ensures ok { IfOk result (λ status. status ≤ 1) }
     ensures err { IfErr result (λ failure. IsOfFiles failure) }
 {

@@ -1,31 +1,43 @@
 -- What an outcome says of a capture.
 use Rattle.std.specs.Prelude.{◌≡◌, ℕ, List, Option, None, Some, Ok, option_map, ⊤}
 use Rattle.rasta_pdu.specs.Params.{Parameters}
-use Rattle.rasta_check.specs.Capture.Reading.{Crossing, crossing_of}
-use Rattle.seatmelon_reading.specs.Judged.{IsExplained}
-use Rattle.seatmelon_reading.specs.declared.first_reading.Stored.{Stored}
-use Rattle.seatmelon_reading.specs.declared.first_reading.Stored.TheVariants.{Crossed, Refused}
-use Rattle.seatmelon_telling.specs.declared.page.Page.{Page}
-use Rattle.seatmelon_telling.specs.declared.page.Texts.{Texts}
+use Rattle.rasta_check.specs.Capture.Reading.{Crossing}
+use Rattle.rasta_verdict.specs.Given.{IsExplained}
+use Rattle.seatmelon_account.specs.Account.{IsAccount}
+use Rattle.seatmelon_account.specs.declared.account.Account.{Account}
+use Rattle.seatmelon_account.specs.declared.account.Inputs.{Inputs}
+use Rattle.seatmelon_account.specs.declared.account.Texts.{Texts}
+use Rattle.seatmelon_account.specs.declared.account.Verdict.{Verdict}
+use Rattle.seatmelon_account.specs.declared.account.Verdict.TheVariants as verdicts
+use Rattle.seatmelon_explain.specs.declared.explaining.Outcome.{Outcome}
+use Rattle.seatmelon_explain.specs.declared.explaining.Outcome.TheVariants as outcomes
+use Rattle.seatmelon_reading.specs.Reading.{IsReading, crossing_without}
+use Rattle.seatmelon_reading.specs.declared.reading.Reading.{Reading}
+
+-- what the verdict of an account comes to
+abbrev pub outcome_in : Verdict → Outcome
+outcome_in verdicts.NoPackets = outcomes.NoPackets
+outcome_in (verdicts.Refused refusal) = outcomes.Refused
+outcome_in (verdicts.Explained explained) = outcomes.Explained
 
 -- the text of the certificate, where one was given
 abbrev pub certificate_in : Texts → Option (List ℕ)
 certificate_in texts = option_map (λ text. text.now) texts.certificate
 
--- the text of the certificate of a page
-abbrev pub certificate_of : Page → Option (List ℕ)
-certificate_of page = certificate_in page.texts
-
 -- something that crossed is explained
 abbrev pub IsSomeExplained : Option (List ℕ) → Type 0
 IsSomeExplained text = (k : Crossing) × IsExplained k text
 
--- something crossed, and it is explained
-abbrev pub IsStoredExplained : Stored → Option (List ℕ) → Type 0
-IsStoredExplained (Crossed k) text = IsExplained k text
-IsStoredExplained (Refused r) text = ⊥
+-- the records of the file that stay, where it is known, have no fault, and what crossed by them is explained
+abbrev pub IsFileExplained : Parameters → List ℕ → Option (List ℕ) → Option (List ℕ) → Type 0
+IsFileExplained p without text None = ⊤
+IsFileExplained p without text (Some file) = (k : Crossing) × (crossing_without p without file ≡ Ok k) × IsExplained k text
 
--- the file, where it is known, has no fault, and what crossed by it is explained
-abbrev pub IsFileExplained : Parameters → Option (List ℕ) → Option (List ℕ) → Type 0
-IsFileExplained p text None = ⊤
-IsFileExplained p text (Some file) = (k : Crossing) × (crossing_of p file ≡ Ok k) × IsExplained k text
+-- an account of what was read comes to this
+abbrev pub IsToldBy : Inputs → Reading → Outcome → Type 0
+IsToldBy inputs reading outcome = (a : Account) × IsAccount inputs reading a × (outcome ≡ outcome_in a.verdict)
+
+-- an account of what was read of the file, where it is known, comes to this
+abbrev pub IsFileTold : Inputs → Option (List ℕ) → Outcome → Type 0
+IsFileTold inputs None outcome = ⊤
+IsFileTold inputs (Some file) outcome = (r : Reading) × IsReading inputs.params.now inputs.without.now file r × IsToldBy inputs r outcome

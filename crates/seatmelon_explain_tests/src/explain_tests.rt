@@ -9,19 +9,18 @@ use crate::cases::{Case, Given, MARK, case_in, explained};
 use rasta_pcap::devices::{FailAt, Pieces};
 use rasta_pcap::{Counted, Fault, Sink, Source};
 use rasta_pdu::Params;
-use seatmelon_explain::{Choices, Form, Names, Outcome, Texts, explain};
+use seatmelon_explain::{Form, Inputs, Names, Outcome, Texts, explain};
 use std::alloc::Global;
 use std::process::Abort;
 use std::str;
 
-/// Explains a case by these parameters and these two readers.
-pub fn written<R: Source, A: Source, W: Sink>(
+/// Explains a case by these parameters and this reader.
+pub fn written<'a, R: Source, W: Sink>(
     alloc: Global,
-    given: &Given,
-    params: &Params,
+    given: &'a Given,
+    params: &'a Params,
     form: Form,
-    first: &mut R,
-    again: &mut A,
+    reader: &mut R,
     writer: &mut W,
 ) -> Result<Outcome, Fault> {
     let names = Names {
@@ -33,49 +32,40 @@ pub fn written<R: Source, A: Source, W: Sink>(
         parameters: b"client_id = 96",
         certificate: given.certificate(),
     };
-    let choices = Choices {
+    let inputs = Inputs {
+        names,
+        texts,
+        params,
         without: given.without.as_slice(),
-        form,
     };
-    explain(
-        alloc, &names, &texts, params, &choices, first, again, writer,
-    )
+    explain(alloc, &inputs, form, reader, writer)
 }
 
-/// What two readings of a case come to by these parameters, and what is written; none where a device fails.
+/// What a case comes to by these parameters, and what is written; none where a device fails.
 pub fn told<R: Source>(
     alloc: Global,
     given: &Given,
     params: &Params,
     form: Form,
-    first: &mut R,
-    again: &[u8],
+    reader: &mut R,
 ) -> Option<(Outcome, Vec<u8>)> {
-    let mut again = Counted::new(again);
     let mut writer = Counted::new(Vec::new(alloc));
-    let outcome = written(alloc, given, params, form, first, &mut again, &mut writer);
+    let outcome = written(alloc, given, params, form, reader, &mut writer);
     Some((outcome.ok()?, writer.into_inner()))
 }
 
 /// What is written on a case by these parameters.
 pub fn text_by(alloc: Global, given: &Given, params: &Params, form: Form) -> Option<Vec<u8>> {
-    let mut first = Counted::new(given.file.as_slice());
-    let (_, text) = told(alloc, given, params, form, &mut first, &given.file)?;
+    let mut reader = Counted::new(given.file.as_slice());
+    let (_, text) = told(alloc, given, params, form, &mut reader)?;
     Some(text)
 }
 
 // The text on a case whose file comes in pieces of this size.
 fn text_of(alloc: Global, case: &Case<'_>, most: usize) -> Option<Vec<u8>> {
     let given = case.given(alloc)?;
-    let mut first = Counted::new(Pieces::new(&given.file, most.max(1)));
-    let (_, text) = told(
-        alloc,
-        &given,
-        &given.params,
-        Form::Text,
-        &mut first,
-        &given.file,
-    )?;
+    let mut reader = Counted::new(Pieces::new(&given.file, most.max(1)));
+    let (_, text) = told(alloc, &given, &given.params, Form::Text, &mut reader)?;
     Some(text)
 }
 
@@ -230,62 +220,51 @@ fn front_of(file: &[u8], len: usize) -> &[u8] {
     file.get(..len).unwrap_or(file)
 }
 
-// What two fronts of a file come to as two readings of one, and whether nothing is written.
-fn outcome_of(alloc: Global, first: usize, again: usize) -> Option<(Outcome, bool)> {
+// What the front of a file comes to, and whether nothing is written.
+fn outcome_of(alloc: Global, len: usize) -> Option<(Outcome, bool)> {
     let given = explained()?.given(alloc)?;
-    let mut first = Counted::new(front_of(&given.file, first));
-    let again = front_of(&given.file, again);
-    let (outcome, text) = told(alloc, &given, &given.params, Form::Text, &mut first, again)?;
+    let mut reader = Counted::new(front_of(&given.file, len));
+    let (outcome, text) = told(alloc, &given, &given.params, Form::Text, &mut reader)?;
     Some((outcome, text.is_empty()))
 }
 
 #[test]
 fn outcomes(rt: HostRuntime) {
-    for (first, again, outcome) in [
-        (WHOLE, WHOLE, Outcome::Explained),
-        (24, 24, Outcome::NoPackets),
-        (30, 30, Outcome::Refused),
-        (WHOLE, 30, Outcome::Changed),
+    for (len, outcome) in [
+        (WHOLE, Outcome::Explained),
+        (24, Outcome::NoPackets),
+        (30, Outcome::Refused),
     ] {
-        let is_silent = outcome == Outcome::Changed;
-        assert_eq!(rt;
-            outcome_of(rt.alloc(), first, again),
-            Some((outcome, is_silent))
-        );
+        assert_eq!(rt; outcome_of(rt.alloc(), len), Some((outcome, false)));
     }
 }
 
-// Whether the text is the same where this read of the first reading fails, and an earlier one of the second, or the
-// failure is told and nothing is written.
+// Whether the text is the same where this read fails, or the failure is told and nothing is written.
 fn is_right_at_read(alloc: Global, call: u64) -> Option<bool> {
     let case = explained()?;
     let given = case.given(alloc)?;
-    let mut first = Counted::new(FailAt::new(Pieces::new(&given.file, 9), call));
-    let call = call.saturating_sub(90);
-    let mut again = Counted::new(FailAt::new(Pieces::new(&given.file, 9), call));
+    let mut reader = Counted::new(FailAt::new(Pieces::new(&given.file, 9), call));
     let mut writer = Counted::new(Vec::new(alloc));
     let outcome = written(
         alloc,
         &given,
         &given.params,
         Form::Text,
-        &mut first,
-        &mut again,
+        &mut reader,
         &mut writer,
     );
-    let has_failed = Source::failures(&first) > 0 || Source::failures(&again) > 0;
     let text = writer.into_inner();
-    Some(if has_failed {
+    Some(if Source::failures(&reader) > 0 {
         outcome == Err(Fault::at(Fault::READ_FAILED, 0)) && text.is_empty()
     } else {
         outcome == Ok(Outcome::Explained) && text.as_slice() == case.want.as_bytes()
     })
 }
 
-// Each read of either reading fails in turn.
+// Each read fails in turn.
 #[test]
 fn failing_reads(rt: HostRuntime) {
-    for call in 0..200 {
+    for call in 0..110 {
         assert_eq!(rt; is_right_at_read(rt.alloc(), call), Some(true), "{call}");
     }
 }
@@ -294,16 +273,14 @@ fn failing_reads(rt: HostRuntime) {
 fn is_right_at_write(alloc: Global, call: u64) -> Option<bool> {
     let case = explained()?;
     let given = case.given(alloc)?;
-    let mut first = Counted::new(given.file.as_slice());
-    let mut again = Counted::new(given.file.as_slice());
+    let mut reader = Counted::new(given.file.as_slice());
     let mut writer = Counted::new(FailAt::new(Vec::new(alloc), call));
     let outcome = written(
         alloc,
         &given,
         &given.params,
         Form::Text,
-        &mut first,
-        &mut again,
+        &mut reader,
         &mut writer,
     );
     let has_failed = Sink::failures(&writer) > 0;

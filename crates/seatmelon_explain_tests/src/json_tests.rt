@@ -4,7 +4,7 @@ use crate::cases::window_cases::{WindowCase, window_case_in, windows};
 use crate::cases::{Case, Given, MARK, case_in};
 use crate::explain_tests::{params_in, text_by, written};
 use rasta_pcap::devices::FailAt;
-use rasta_pcap::{Counted, Fault};
+use rasta_pcap::{Counted, Sink};
 use rasta_pdu::{Params, Quiet, QuietEnd};
 use seatmelon_explain::Form;
 use std::alloc::Global;
@@ -122,27 +122,36 @@ fn numbers_above_the_whole_doubles(rt: HostRuntime) {
     assert_eq!(rt; has_quiet_point(rt.alloc()), Some(true));
 }
 
-// Whether the failure of the first write is told, and nothing is written.
-fn is_failure_told(alloc: Global) -> Option<bool> {
-    let given = case_in(whole().split(MARK).last()?)?.given(alloc)?;
-    let mut first = Counted::new(given.file.as_slice());
-    let mut again = Counted::new(given.file.as_slice());
-    let mut writer = Counted::new(FailAt::new(Vec::new(alloc), 1));
+// The last case.
+fn last_case() -> Option<Case<'static>> {
+    case_in(whole().split(MARK).last()?)
+}
+
+// Whether what is written where this write fails begins the JSON, and the failure is told.
+fn is_right_at_write(alloc: Global, call: u64) -> Option<bool> {
+    let case = last_case()?;
+    let given = case.given(alloc)?;
+    let want = joined(alloc, case.want)?;
+    let mut reader = Counted::new(given.file.as_slice());
+    let mut writer = Counted::new(FailAt::new(Vec::new(alloc), call));
     let outcome = written(
         alloc,
         &given,
         &given.params,
         Form::Json,
-        &mut first,
-        &mut again,
+        &mut reader,
         &mut writer,
     );
+    let has_failed = Sink::failures(&writer) > 0;
     let text = writer.into_inner().into_inner();
-    Some(outcome == Err(Fault::at(Fault::WRITE_FAILED, 0)) && text.is_empty())
+    let is_told = (text.len() <= want.len(), outcome.is_err()) == (has_failed, has_failed);
+    Some(is_told && (!has_failed || want.as_bytes().starts_with(&text)))
 }
 
-// The first write fails: nothing is written.
+// Each write fails in turn.
 #[test]
 fn failing_writes_of_json(rt: HostRuntime) {
-    assert_eq!(rt; is_failure_told(rt.alloc()), Some(true));
+    for call in 1..500 {
+        assert_eq!(rt; is_right_at_write(rt.alloc(), call), Some(true), "{call}");
+    }
 }

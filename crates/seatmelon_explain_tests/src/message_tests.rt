@@ -191,8 +191,8 @@ fn capture(alloc: Global, all: &[Vec<u8>]) -> Option<(Params, Vec<u8>)> {
 fn text_of(alloc: Global, all: &[Vec<u8>], form: Form) -> Option<Vec<u8>> {
     let (params, file) = capture(alloc, all)?;
     let given = explained()?.given(alloc)?;
-    let mut first = Counted::new(file.as_slice());
-    let (outcome, text) = told(alloc, &given, &params, form, &mut first, &file)?;
+    let mut reader = Counted::new(file.as_slice());
+    let (outcome, text) = told(alloc, &given, &params, form, &mut reader)?;
     if outcome == Outcome::Explained {
         Some(text)
     } else {

@@ -1,1 +1,4 @@
-pub mod Files
+pub mod Noted
+pub mod Passing
+pub mod Summing
+pub mod Told

@@ -1,3 +1,6 @@
-pub mod Judged
+pub mod Noted
+pub mod Passing
 pub mod Reading
+pub mod Summing
+pub mod Told
 pub mod Window

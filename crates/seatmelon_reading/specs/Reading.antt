@@ -1,19 +1,72 @@
--- What the first reading of a capture says of its bytes, where these are known.
-use Rattle.std.specs.Prelude.{◌≡◌, ◌≢◌, ℕ, List, Option, None, Some, Ok, Err, ⊤}
+-- What a reading of a capture says of its file, where some records are left out.
+use Rattle.std.specs.Prelude.{◌≡◌, ◌≢◌, ⊤, ℕ, List, filter, not, nat_lt, Bool, Option, None, Some, Result, Ok, Err, if◌then◌else◌}
+use Rattle.sha2.specs.Sha256.{sha256}
+use Rattle.std.specs.Option.{ForSome}
 use Rattle.rasta_pcap.specs.declared.fault.Fault.{Fault}
+use Rattle.rasta_pcap.specs.Capture.{Numbered, reading_of}
+use Rattle.rasta_pcap.specs.Capture as captures
+use Rattle.rasta_pcap.specs.Captured.{captured_in}
 use Rattle.rasta_pcap.specs.Fault.{no_memory, read_failed}
 use Rattle.rasta_pdu.specs.Params.{Parameters}
-use Rattle.rasta_check.specs.Capture.Reading.{crossing_of}
-use Rattle.seatmelon_reading.specs.declared.first_reading.Stored.{Stored}
-use Rattle.seatmelon_reading.specs.declared.first_reading.Stored.TheVariants.{Crossed, Refused}
+use Rattle.rasta_check.specs.Capture.Building.{crossed_in}
+use Rattle.rasta_check.specs.Capture.Reading.{Crossing, after_reading, after_record, nothing_crossed}
+use Rattle.seatmelon_reading.specs.Noted.{AreNotes, is_left_out}
+use Rattle.seatmelon_reading.specs.declared.capture_refusal.CaptureRefusal.{CaptureRefusal}
+use Rattle.seatmelon_reading.specs.declared.pass.Pass.{Pass}
+use Rattle.seatmelon_reading.specs.declared.reading.Reading.{Reading}
+use Rattle.seatmelon_reading.specs.Told.{IsTrueOf}
 
--- this crossed by the file, or this is its first fault
-abbrev pub IsRead : Parameters → Stored → Option (List ℕ) → Type 0
-IsRead p stored None = ⊤
-IsRead p (Crossed k) (Some file) = crossing_of p file ≡ Ok k
-IsRead p (Refused r) (Some file) = crossing_of p file ≡ Err r.fault
+-- the records that stay
+abbrev pub stays : List ℕ → Numbered → Bool
+stays without r = not (is_left_out without r.0)
 
--- this tells a fault, which is no lack of memory and no failed read
-abbrev pub IsRefusal : Fault → Stored → Type 0
-IsRefusal fault (Crossed k) = ⊥
-IsRefusal fault (Refused r) = (r.fault ≡ fault) × (fault ≢ no_memory) × (fault ≢ read_failed)
+abbrev pub reading_without : List ℕ → captures.Reading → captures.Reading
+reading_without without r = record { records = filter (stays without) r.records; fault = r.fault }
+
+-- what crossed by the records of a file that stay, up to the last record of the window, or the first fault
+abbrev pub crossing_without : Parameters → List ℕ → List ℕ → Result Crossing Fault
+crossing_without p without file = after_reading (nothing_crossed p) (reading_without without (reading_of p.last_record file))
+
+-- ---- on the way
+
+-- what crossed, or the first fault
+abbrev pub standing_with : Crossing → Option CaptureRefusal → Result Crossing Fault
+standing_with k None = Ok k
+standing_with k (Some refusal) = Err refusal.fault
+
+abbrev pub standing_in : Pass → Result Crossing Fault
+standing_in pass = standing_with (crossed_in pass.builder) pass.refusal
+
+-- a record is judged unless it stands behind the window
+abbrev pub after_judged : Parameters → Result Crossing Fault → Numbered → Result Crossing Fault
+after_judged p (Err first) r = Err first
+after_judged p (Ok k) r = if nat_lt p.last_record r.0 then Ok k else after_record k r
+
+-- one that is left out is passed over
+abbrev pub after_next : Parameters → List ℕ → Result Crossing Fault → Numbered → Result Crossing Fault
+after_next p without standing r = if is_left_out without r.0 then standing else after_judged p standing r
+
+-- the fault that ends the reading counts unless it stands behind the window
+abbrev pub after_end : Parameters → Result Crossing Fault → Fault → Result Crossing Fault
+after_end p (Err first) fault = Err first
+after_end p (Ok k) fault = if nat_lt p.last_record fault.place then Ok k else Err fault
+
+-- parameters, records that are left out, and notes are as they were
+pub record IsSameBut (old new : Pass) : Type 0 where
+  pub params : new.params ≡ old.params
+  pub without : new.without.now ≡ old.without.now
+  pub notes : new.notes ≡ old.notes
+
+-- ---- the whole
+
+-- this was read of a file
+pub record IsReading (p : Parameters) (without file : List ℕ) (r : Reading) : Type 0 where
+  pub crossed : standing_with r.store r.refusal ≡ crossing_without p without file
+  pub noted : AreNotes p without (captured_in file) r.notes
+  pub told : ForSome r.refusal (IsTrueOf p without (captured_in file))
+  pub summed : r.digest ≡ sha256 file
+
+-- it tells a fault, which is no lack of memory and no failed read
+abbrev pub TellsFault : Option CaptureRefusal → Type 0
+TellsFault None = ⊤
+TellsFault (Some refusal) = (refusal.fault ≢ no_memory) × (refusal.fault ≢ read_failed)

@@ -9,7 +9,7 @@ use Rattle.seatmelon_reading.specs.declared.window.Standing.TheVariants.{Before,
 abbrev pub StandsSo : Parameters → ℕ → Standing → Type 0
 StandsSo p number Before = number < p.first_record
 StandsSo p number Inside = (p.first_record ≤ number) × (number ≤ p.last_record)
-StandsSo p number Behind = p.last_record < number
+StandsSo p number Behind = (p.first_record ≤ number) × (p.last_record < number)
 
 -- a window is recorded: without one it is all records that a capture can have
 abbrev pub IsBounded : Parameters → Type 0

@@ -1,15 +1,15 @@
-//! What is told of a capture rests on this: its two readings, its window of records, and the verdict on what
-//! crossed. Nothing here is trusted: the checker judges.
+//! What is told of a capture rests on this: one reading of it, and its window of records. Nothing here is trusted: the
+//! checker judges.
 #![tactic(auto)]
 
-mod explanation;
-pub mod first_reading;
-mod sightings;
-mod verdict;
+mod capture_refusal;
+mod notes;
+mod pass;
+mod reading;
+mod summed;
 mod window;
 
-pub use explanation::Explanation;
-pub use first_reading::{CaptureRefusal, Stored};
-pub use sightings::{ChannelCount, Sighting, Sightings, Wanted, second_reading};
-pub use verdict::{Verdict, judge};
+pub use capture_refusal::{Beside, CaptureRefusal};
+pub use notes::{ChannelCount, Notes, Sighting};
+pub use reading::{Reading, read_capture};
 pub use window::{Window, window_in};

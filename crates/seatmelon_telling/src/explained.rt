@@ -2,12 +2,11 @@
 ghost use Rattle.std.specs.Prelude.{◌≡◌, IfErr};
 ghost use Rattle.rasta_pcap.specs.Fault.{write_failed};
 
-use crate::page::{Page, write_offers, write_place, write_read, write_records, write_without};
-use crate::sent_messages::{SentMessage, SentMessages, list_of, sent_count};
-use rasta_check::{SpanList, Store, Taken};
+use crate::page::{write_place, write_records, write_without};
 use rasta_pcap::{Fault, Side, Sink};
 use rasta_pdu::QuietEnd;
-use seatmelon_reading::Explanation;
+use seatmelon_account::{Account, Direction, Explained, Message, Start};
+use seatmelon_reading::Sighting;
 use seatmelon_text::{Part, parts, write_parts, write_words};
 
 const SAYS: &str = "\
@@ -38,8 +37,8 @@ const FROM_LATER_OPENING: &str =
 
 /// The premises of 'explained', but for where what is judged begins. Where there is no safety code, anybody can
 /// have sent a packet.
-pub fn premises(page: &Page<'_>) -> [&'static str; 4] {
-    let strangers = if page.params.code_length() > 0 {
+pub fn premises(explained: &Explained<'_>) -> [&'static str; 4] {
+    let strangers = if explained.has_code {
         NO_VALID_STRANGERS
     } else {
         NO_STRANGERS
@@ -52,22 +51,17 @@ pub fn premises(page: &Page<'_>) -> [&'static str; 4] {
     ]
 }
 
-/// The premise where no quiet point is recorded. Packets before the window are earlier ones.
-pub fn opening_premise(page: &Page<'_>) -> &'static str {
-    if page.sightings.before > 0 {
-        FROM_LATER_OPENING
-    } else {
-        FROM_OPENING
+/// The premise on where what is judged begins, but for the end of its sentence.
+pub fn start_premise(start: &Start) -> [Part<'static>; 3] {
+    match start {
+        Start::Opening => parts![FROM_OPENING, "", ""],
+        Start::LaterOpening => parts![FROM_LATER_OPENING, "", ""],
+        Start::Quiet(record, _) => parts![
+            "The quiet point before record ",
+            *record,
+            " is true, and no copy of an earlier packet comes after it"
+        ],
     }
-}
-
-/// The premise of a capture with a quiet point, but for its end.
-pub fn quiet_premise(page: &Page<'_>) -> [Part<'static>; 3] {
-    parts![
-        "The quiet point before record ",
-        page.params.first_record(),
-        " is true, and no copy of an earlier packet comes after it"
-    ]
 }
 
 // Writes a number that may be missing.
@@ -108,17 +102,19 @@ fn write_premise<W: Sink>(writer: &mut W, words: &str) -> Result<(), Fault>
 }
 
 // Writes where what is judged begins.
-fn write_start<W: Sink>(writer: &mut W, page: &Page<'_>) -> Result<(), Fault>
+fn write_start<W: Sink>(writer: &mut W, start: &Start) -> Result<(), Fault>
     ensures err { IfErr result (λ f. f ≡ write_failed) }
 {
-    let Some(quiet) = page.params.quiet() else {
-        return write_premise(writer, opening_premise(page));
-    };
     write_words(writer, "  ")?;
-    write_parts(writer, &quiet_premise(page))?;
-    write_words(writer, ":\n")?;
-    write_quiet_end(writer, Side::Client, &quiet.client)?;
-    write_quiet_end(writer, Side::Server, &quiet.server)
+    write_parts(writer, &start_premise(start))?;
+    match start {
+        Start::Opening | Start::LaterOpening => write_words(writer, "\n"),
+        Start::Quiet(_, quiet) => {
+            write_words(writer, ":\n")?;
+            write_quiet_end(writer, Side::Client, &quiet.client)?;
+            write_quiet_end(writer, Side::Server, &quiet.server)
+        }
+    }
 }
 
 // Writes the bytes of a message.
@@ -140,102 +136,65 @@ fn write_bytes<W: Sink>(writer: &mut W, bytes: &[u8]) -> Result<(), Fault>
     )
 }
 
-// Writes a message that was surely taken.
-fn write_taken<W: Sink>(writer: &mut W, page: &Page<'_>, taken: &Taken<'_>) -> Result<(), Fault>
-    ensures err { IfErr result (λ f. f ≡ write_failed) }
-{
-    write_parts(writer, &parts!["  message ", taken.message, "\n    data: "])?;
-    write_place(writer, page, taken.data_index)?;
-    write_words(writer, "    proof: ")?;
-    write_place(writer, page, taken.proof_index)?;
-    write_bytes(writer, taken.bytes)
-}
-
-fn write_taken_list<W: Sink>(
+// Writes a message, with its proof where it was surely taken.
+fn write_message<W: Sink>(
     writer: &mut W,
-    page: &Page<'_>,
-    list: &[Taken<'_>],
+    packets: &[Sighting],
+    message: &Message<'_>,
 ) -> Result<(), Fault>
     ensures err { IfErr result (λ f. f ≡ write_failed) }
 {
-    for taken in list {
-        write_taken(writer, page, taken)?;
-    }
-    Ok(())
-}
-
-// Writes a message that isn't listed.
-fn write_unlisted<W: Sink>(
-    writer: &mut W,
-    page: &Page<'_>,
-    sent: &SentMessage<'_>,
-) -> Result<(), Fault>
-    ensures err { IfErr result (λ f. f ≡ write_failed) }
-{
+    let not_shown = if message.proof.is_none() {
+        ": not shown"
+    } else {
+        ""
+    };
     write_parts(
         writer,
-        &parts!["  message ", sent.message, ": not shown\n    data: "],
+        &parts!["  message ", message.number, not_shown, "\n    data: "],
     )?;
-    write_place(writer, page, sent.data_index)?;
-    write_bytes(writer, sent.bytes)
-}
-
-// Writes the messages of an end that aren't listed: those after the first `listed`.
-fn write_rest<W: Sink>(
-    writer: &mut W,
-    page: &Page<'_>,
-    list: SpanList<'_>,
-    listed: u64,
-) -> Result<(), Fault>
-    ensures err { IfErr result (λ f. f ≡ write_failed) }
-{
-    let mut messages = SentMessages::new(list);
-    for _ in 0..u64::MAX {
-        let Some(sent) = messages.advance() else {
-            break;
-        };
-        if sent.message >= listed {
-            write_unlisted(writer, page, &sent)?;
-        }
+    write_place(writer, packets, message.data)?;
+    if let Some(proof) = message.proof {
+        write_words(writer, "    proof: ")?;
+        write_place(writer, packets, proof)?;
     }
-    Ok(())
+    write_bytes(writer, message.bytes)
 }
 
-// Writes the messages that an end sent: those that were surely taken, and the rest.
+// Writes the messages that an end sent.
 fn write_direction<W: Sink>(
     writer: &mut W,
-    page: &Page<'_>,
-    store: &Store,
-    sender: Side,
-    taken: &[Taken<'_>],
+    packets: &[Sighting],
+    direction: &Direction<'_>,
 ) -> Result<(), Fault>
     ensures err { IfErr result (λ f. f ≡ write_failed) }
 {
-    let listed = taken.len() as u64;
     write_parts(
         writer,
         &parts![
             "\n",
-            sender,
+            direction.sender,
             " to ",
-            sender.other(),
+            direction.sender.other(),
             ": ",
-            listed,
+            direction.taken,
             " of ",
-            sent_count(list_of(store, sender)),
+            direction.messages.len() as u64,
             " messages surely taken\n"
         ],
     )?;
-    write_taken_list(writer, page, taken)?;
-    write_rest(writer, page, list_of(store, sender), listed)
+    for message in &direction.messages {
+        write_message(writer, packets, message)?;
+    }
+    Ok(())
 }
 
 // Writes the verdict in one sentence.
-fn write_sentence<W: Sink>(writer: &mut W, page: &Page<'_>, packets: u32) -> Result<(), Fault>
+fn write_sentence<W: Sink>(writer: &mut W, account: &Account<'_>, packets: u32) -> Result<(), Fault>
     ensures err { IfErr result (λ f. f ≡ write_failed) }
 {
     write_words(writer, "explained")?;
-    write_without(writer, page.without)?;
+    write_without(writer, account.without)?;
     write_parts(
         writer,
         &parts![
@@ -244,47 +203,31 @@ fn write_sentence<W: Sink>(writer: &mut W, page: &Page<'_>, packets: u32) -> Res
             " packets"
         ],
     )?;
-    write_records(writer, page, ", the packets in ")?;
+    write_records(writer, account, ", the packets in ")?;
     write_words(writer, "\n\n")
 }
 
 // Writes what the verdict says, and what it rests on.
-fn write_meaning<W: Sink>(writer: &mut W, page: &Page<'_>) -> Result<(), Fault>
+fn write_meaning<W: Sink>(writer: &mut W, explained: &Explained<'_>) -> Result<(), Fault>
     ensures err { IfErr result (λ f. f ≡ write_failed) }
 {
     write_words(writer, SAYS)?;
-    for words in premises(page) {
+    for words in premises(explained) {
         write_premise(writer, words)?;
     }
-    write_start(writer, page)
+    write_start(writer, &explained.start)
 }
 
 /// Writes the text on an explained capture.
 pub fn write_explained<W: Sink>(
     writer: &mut W,
-    page: &Page<'_>,
-    explanation: &Explanation<'_>,
+    account: &Account<'_>,
+    explained: &Explained<'_>,
 ) -> Result<(), Fault>
     ensures err { IfErr result (λ f. f ≡ write_failed) }
 {
-    let store = explanation.store();
-    let report = explanation.report();
-    write_read(writer, page)?;
-    write_offers(writer, page, store)?;
-    write_sentence(writer, page, report.packets)?;
-    write_meaning(writer, page)?;
-    write_direction(
-        writer,
-        page,
-        store,
-        Side::Client,
-        report.server_taken.as_slice(),
-    )?;
-    write_direction(
-        writer,
-        page,
-        store,
-        Side::Server,
-        report.client_taken.as_slice(),
-    )
+    write_sentence(writer, account, explained.packets)?;
+    write_meaning(writer, explained)?;
+    write_direction(writer, account.packets, &explained.client)?;
+    write_direction(writer, account.packets, &explained.server)
 }

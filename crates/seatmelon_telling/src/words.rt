@@ -1,5 +1,6 @@
 //! What faults mean, what may be their cause, and what to look at next.
 use rasta_pcap::Fault;
+use seatmelon_account::{Refusal, Subject};
 
 /// What a fault means.
 pub fn meaning_of(number: u8) -> &'static str {
@@ -82,19 +83,30 @@ pub struct Hint {
     pub next_step: &'static str,
 }
 
-/// The hint on packets that begin in the middle of a connection, where no quiet point is recorded.
-pub const WITHOUT_OPENING: Hint = Hint {
+// The hint on packets that begin in the middle of a connection, where no quiet point is recorded.
+const WITHOUT_OPENING: Hint = Hint {
     cause: "the capture begins in the middle of the connection, and the parameters record no quiet point;
   or the opening is there, but outside the window or on a channel that isn't recorded",
     next_step: "the quiet points that seatmelon draft proposes, one of which the engineering data or a log
   has to confirm; or the window and the channels in the parameters",
 };
 
-/// The hint on a fault.
-pub fn hint_on(number: u8) -> Hint {
+// The hint on a fault.
+fn hint_on(number: u8) -> Hint {
     Hint {
         cause: cause_of(number),
         next_step: next_step_of(number),
+    }
+}
+
+/// The hint on a refusal.
+pub fn hint_of(refusal: &Refusal<'_>) -> Hint {
+    match refusal.subject {
+        Subject::Unexplained {
+            lacks_opening: true,
+            ..
+        } => WITHOUT_OPENING,
+        _ => hint_on(refusal.fault.number),
     }
 }
 

@@ -1,6 +1,9 @@
 //! Lines of plain text: what they are made of, and how each part of them is spelled.
 #![tactic(auto)]
 
+pub mod json;
 mod text;
 
-pub use text::{Part, add, name_of_end, sentence_of, text_of, write_parts, write_words};
+pub use text::{
+    Part, add, name_of_end, sentence_of, text_of, write_part, write_parts, write_words,
+};

@@ -9,8 +9,8 @@ use rasta_show::write_hex;
 use seatmelon_lines::write_time;
 use std::alloc::{AllocError, Global};
 
-// How many bytes of a text are written at once.
-const ROOM: usize = 256;
+/// How many bytes of a text are written at once.
+pub(crate) const ROOM: usize = 256;
 
 /// A part of a line.
 #[derive(Clone, Copy)]
@@ -94,8 +94,8 @@ fn write_number<W: Sink>(writer: &mut W, n: u64) -> Result<(), Fault>
     write_all(writer, buffer.format(n).as_bytes())
 }
 
-// Puts the two digits of a byte into a room for them.
-fn put_digits(byte: u8, room: &mut [u8])
+/// Puts the two digits of a byte into a room for them.
+pub(crate) fn put_digits(byte: u8, room: &mut [u8])
     requires { length room.old ≡ 2 }
     ensures { room.new ≡ encode_lower (byte ∷ []) }
 {
@@ -153,7 +153,8 @@ pub fn name_of_end(side: Side) -> &'static str {
     }
 }
 
-fn write_part<W: Sink>(writer: &mut W, part: Part<'_>) -> Result<(), Fault>
+/// Writes a part.
+pub fn write_part<W: Sink>(writer: &mut W, part: Part<'_>) -> Result<(), Fault>
     ensures err { IfErr result (λ f. f ≡ write_failed) }
 {
     match part {

@@ -38,12 +38,12 @@ Exit status:
   0  two ends that keep the rules could have sent the packets
   1  the capture, its packets or the certificate are refused, or no packet is of the connection
   2  the arguments are wrong, or the parameters are refused
-  3  memory, reading or writing failed, or the capture changed meanwhile";
+  3  memory, reading or writing failed";
 
 fn capture<'a>(alloc: Global) -> Arg<'a> {
     Arg::new(alloc, "capture")
         .value_name("CAPTURE")
-        .help("A classic libpcap file of Ethernet frames; a FIFO or /dev/stdin will do")
+        .help("A classic libpcap file of Ethernet frames; - is standard input")
         .required(true)
 }
 
@@ -86,10 +86,6 @@ fn json<'a>(alloc: Global) -> Arg<'a> {
 }
 
 fn explain<'a>(alloc: Global) -> Result<Command<'a>, AllocError> {
-    let capture = Arg::new(alloc, "capture")
-        .value_name("CAPTURE")
-        .help("A classic libpcap file of Ethernet frames; it is read twice, so no pipe will do")
-        .required(true);
     let parameters = Arg::new(alloc, "params")
         .value_name("PARAMS")
         .help("The connection's parameter file")
@@ -102,7 +98,7 @@ fn explain<'a>(alloc: Global) -> Result<Command<'a>, AllocError> {
             "Tells in words whether the rules can explain a connection, and which messages were surely taken",
         )
         .after_help(EXPLAIN_STATUSES)
-        .arg(capture)?
+        .arg(capture(alloc))?
         .arg(parameters)?
         .arg(certificate)?
         .arg(without(alloc))?

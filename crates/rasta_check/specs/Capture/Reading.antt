@@ -97,6 +97,16 @@ after_frame k number (Err fault) = Err (fault_at fault.number number)
 unfoldable pub after_record : Crossing → Numbered → Result Crossing Fault
 after_record k r = if nat_lt r.0 k.params.first_record then Ok k else after_frame k r.0 (packet_in k.params.channels r.1)
 
+-- ---- the packet in a record
+
+abbrev pub packet_found : Result (Option Packet) Fault → Option Packet
+packet_found (Ok packet) = packet
+packet_found (Err fault) = None
+
+-- the packet of the connection that a record holds; none before the window
+abbrev pub packet_at : Parameters → Numbered → Option Packet
+packet_at p r = if nat_lt r.0 p.first_record then None else packet_found (packet_in p.channels r.1)
+
 -- ---- a file
 
 abbrev pub at_end : Crossing → Option Fault → Result Crossing Fault

@@ -10,7 +10,7 @@ returns-in-Err-add_record-clause-err g c =
     ⊎_elim
     (λ e. inl (inl e))
     (λ e. inr (next_faulty k c.args.records.now c.in-Ok-Some.number _ c.in-Err-add_record.fault _ _ found (ap (λ b. after_record k (c.in-Ok-Some.number, b)) (sym c.buffer-bytes.ensures.bytes) ∙ e)))
-    c.in-Err-add_record.ensures
+    c.in-Err-add_record.ensures.value
 
 pub returns-in-Err : goal.returns-in-Err
 returns-in-Err g c =

@@ -33,18 +33,18 @@ pub returns-in-Ok-clause-headline : goal.returns-in-Ok-clause-headline
 returns-in-Ok-clause-headline c = judged_claims c.judge_scripts.result c.args.store.now c.in-Ok.certificate c.judge_scripts.ensures.judged
 
 pub returns-in-Err-clause-stands : goal.returns-in-Err-clause-stands
-returns-in-Err-clause-stands c = none_stands c.refused.result c.args.store.now c.client.result c.server.result c.in-Err.fault c.in-Err.ensures.refused c.refused.ensures.ok
+returns-in-Err-clause-stands c = none_stands c.unscripted.result c.args.store.now c.client.result c.server.result c.in-Err.fault c.in-Err.ensures.refused c.unscripted.ensures.ok
 
 pub returns-in-Err-clause-decided : goal.returns-in-Err-clause-decided
 returns-in-Err-clause-decided c =
     let same : ◌≡◌ {A = Asked} (c.params.result, c.len.result, c.client.result, c.server.result) (_, _, c.args.store.now.client, c.args.store.now.server) =
     (λ i. (c.params.ensures.value i, c.len.ensures.value i, c.client.ensures.value i, c.server.ensures.value i)) in
-    none_decided c.refused.result c.args.store.now c.client.result c.server.result c.in-Err.fault c.client.ensures.crossing
+    none_decided c.unscripted.result c.args.store.now c.client.result c.server.result c.in-Err.fault c.client.ensures.crossing
     (subst (λ (x : Asked). IsComplete x.0 x.2 x.3 (Err c.in-Err.fault)) same (subst (IsComplete c.params.result c.client.result c.server.result) c.in-Err.is c.propose_lists.ensures.complete))
-    c.in-Err.ensures.refused c.refused.ensures.ok
+    c.in-Err.ensures.refused c.unscripted.ensures.ok
 
 pub returns-in-Err-clause-told : goal.returns-in-Err-clause-told
-returns-in-Err-clause-told c = refusal_told c.refused.result c.in-Err.fault c.refused.ensures.ok
+returns-in-Err-clause-told c = refusal_told c.unscripted.result c.in-Err.fault c.unscripted.ensures.ok
 
 pub returns-in-Err-clause-headline : goal.returns-in-Err-clause-headline
-returns-in-Err-clause-headline c = refusal_claims c.refused.result c.args.store.now c.in-Err.fault (refusal_of c.refused.result c.in-Err.fault c.refused.ensures.ok)
+returns-in-Err-clause-headline c = refusal_claims c.unscripted.result c.args.store.now c.in-Err.fault (refusal_of c.unscripted.result c.in-Err.fault c.unscripted.ensures.ok)

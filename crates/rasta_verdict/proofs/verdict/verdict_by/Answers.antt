@@ -1,7 +1,5 @@
 use Rattle.std.proofs.Common.{refl, subst}
 use Rattle.rasta_verdict.specs.Judged.{IsChecked}
-use Rattle.rasta_verdict.proofs.Judging.{refusal_judged}
-use Rattle.rasta_verdict.proofs.Verdicts.{refusal_told}
 use Rattle.rasta_verdict.proofs.verdict.verdict_by.Goals as goal
 
 pub returns-in-Ok-clause-judged : goal.returns-in-Ok-clause-judged
@@ -13,11 +11,3 @@ pub returns-in-Ok-clause-told : goal.returns-in-Ok-clause-told
 returns-in-Ok-clause-told c =
     let said = subst (IsChecked c.args.store.now c.args.certificate) c.in-Ok.is c.requires in
     said.0
-
-pub returns-in-Err-clause-judged : goal.returns-in-Err-clause-judged
-returns-in-Err-clause-judged c =
-    let said = subst (IsChecked c.args.store.now c.args.certificate) c.in-Err.is c.requires in
-    refusal_judged c.refused.result c.args.store.now c.args.certificate c.in-Err.fault c.refused.ensures.ok said
-
-pub returns-in-Err-clause-told : goal.returns-in-Err-clause-told
-returns-in-Err-clause-told c = refusal_told c.refused.result c.in-Err.fault c.refused.ensures.ok

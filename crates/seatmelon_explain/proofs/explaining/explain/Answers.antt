@@ -1,9 +1,11 @@
-use Rattle.seatmelon_explain.proofs.Files.{outcome_explained, outcome_judged}
+use Rattle.seatmelon_explain.proofs.Telling.{outcome_explained, outcome_judged, outcome_told}
 use Rattle.seatmelon_explain.proofs.explaining.explain.Goals as goal
 
 pub returns-clause-explained : goal.returns-clause-explained
-returns-clause-explained g c = outcome_explained c.args.params.now c.in_ok-stored.stored _ _ c.args.choices.now.without.now c.explain_stored.result
-    c.in_ok-stored.ensures.read c.explain_stored.ensures.explained
+returns-clause-explained g c = outcome_explained c.args.inputs.now c.in_ok-reading.reading _ c.tell.result c.in_ok-reading.ensures.read c.tell.ensures.told
 
 pub returns-clause-judged : goal.returns-clause-judged
-returns-clause-judged g c = outcome_judged c.in_ok-stored.stored _ c.explain_stored.result c.explain_stored.ensures.explained
+returns-clause-judged g c = outcome_judged c.args.inputs.now c.in_ok-reading.reading c.tell.result c.tell.ensures.told
+
+pub returns-clause-told : goal.returns-clause-told
+returns-clause-told g c = outcome_told c.args.inputs.now c.in_ok-reading.reading _ c.tell.result c.in_ok-reading.ensures.read c.tell.ensures.told

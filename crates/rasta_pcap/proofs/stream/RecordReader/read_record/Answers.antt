@@ -11,6 +11,7 @@ use Rattle.rasta_pcap.specs.Stream.{ReadsJust, bytes_in, order_in, unit_in, coun
 use Rattle.rasta_pcap.specs.Times.{time_of}
 use Rattle.rasta_pcap.proofs.Extents.{filled-ReadsUpTo, ReadsWithinRecord-bytes, ReadsWithinRecord-header}
 use Rattle.rasta_pcap.proofs.Fronts.{front_of-some, lacks_memory, reads_record, reads_up_to, refuses_body, refuses_front, taken_front}
+use Rattle.rasta_pcap.proofs.Noting.{PassesOn-then}
 use Rattle.rasta_pcap.proofs.stream.RecordReader.read_record.Goals as goal
 
 pub returns-in_err-captured-clause-err : goal.returns-in_err-captured-clause-err
@@ -136,3 +137,15 @@ returns-clause-within g c =
     let said : front_of (order_in c.args.self.now) (count_in c.args.self.now) front ≡ Ok (Some captured) = sym c.in_ok-captured.ensures ∙ ap found c.in-Some.is in
     ReadsWithinRecord-bytes (order_in c.args.self.now) (count_in c.args.self.now) captured front (g.S.Source.remaining c.args.reader.now) mid new
     c.in_ok-filled.ensures.filled said (filled-ReadsUpTo captured (bytes_in c.read.new.self) mid new c.in_ok-read.ensures.filled)
+
+pub returns-in_err-read-clause-passed : goal.returns-in_err-read-clause-passed
+returns-in_err-read-clause-passed g c =
+    PassesOn-then g.S.Source.remaining g.S.Source.notes c.args.reader.now c.fill.new.reader c.read.new.reader c.in_ok-filled.ensures.passed c.in_err-read.ensures.passed
+
+pub returns-then-lend-captured-clause-passed : goal.returns-then-lend-captured-clause-passed
+returns-then-lend-captured-clause-passed g c =
+    PassesOn-then g.S.Source.remaining g.S.Source.notes c.args.reader.now c.fill.new.reader c.read.new.reader c.in_ok-filled.ensures.passed c.in_ok-read.ensures.passed
+
+pub returns-clause-passed : goal.returns-clause-passed
+returns-clause-passed g c =
+    PassesOn-then g.S.Source.remaining g.S.Source.notes c.args.reader.now c.fill.new.reader c.read.new.reader c.in_ok-filled.ensures.passed c.in_ok-read.ensures.passed

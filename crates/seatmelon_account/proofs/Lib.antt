@@ -1,0 +1,2 @@
+pub mod SentMessages
+pub mod Told

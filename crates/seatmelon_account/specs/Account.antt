@@ -1,0 +1,46 @@
+-- What an account tells of what was read.
+use Rattle.std.specs.Prelude.{◌≡◌, ℕ, List, length, take, Option, None, Some, option_map}
+use Rattle.sha2.specs.Sha256.{sha256}
+use Rattle.rasta_check.specs.Capture.Reading.{Crossing}
+use Rattle.rasta_check.specs.Verdict.Report as reports
+use Rattle.rasta_verdict.specs.Given.{IsExplainedBy, IsRefusedBy}
+use Rattle.seatmelon_reading.specs.declared.capture_refusal.CaptureRefusal.{CaptureRefusal}
+use Rattle.seatmelon_reading.specs.declared.reading.Reading.{Reading}
+use Rattle.seatmelon_account.specs.Messages.{IsDirection}
+use Rattle.seatmelon_account.specs.Refusals.{TellsRecord}
+use Rattle.seatmelon_account.specs.declared.account.Account.{Account}
+use Rattle.seatmelon_account.specs.declared.account.File.{File}
+use Rattle.seatmelon_account.specs.declared.account.Inputs.{Inputs}
+use Rattle.seatmelon_account.specs.declared.account.Verdict.{Verdict}
+use Rattle.seatmelon_account.specs.declared.refusal.Refusal.{Refusal}
+use Rattle.seatmelon_account.specs.declared.account.Verdict.TheVariants.{NoPackets, Refused, Explained}
+
+-- the fault that is told is that of the capture, with its record, or that of the verdict on what crossed
+abbrev pub IsToldRefusal : Crossing → Option CaptureRefusal → Option (List ℕ) → Refusal → Type 0
+IsToldRefusal k (Some refusal) text told = (told.fault ≡ refusal.fault) × TellsRecord refusal told.subject
+IsToldRefusal k None text told = IsRefusedBy k text told.fault
+
+-- the verdict, and what is told of it
+abbrev pub IsToldOf : Crossing → Option CaptureRefusal → Option (List ℕ) → Verdict → Type 0
+IsToldOf k refusal text NoPackets = (refusal ≡ None) × (length k.packets ≡ 0)
+IsToldOf k refusal text (Refused told) = IsToldRefusal k refusal text told
+IsToldOf k refusal text (Explained e) = (refusal ≡ None) × ((report : reports.Explained) × IsExplainedBy k text report
+    × (e.packets ≡ report.packets) × IsDirection k.client report.server_taken e.client × IsDirection k.server report.client_taken e.server)
+
+abbrev pub text_in : Inputs → Option (List ℕ)
+text_in i = option_map (λ text. text.now) i.texts.certificate
+
+abbrev pub sum_of : File → List ℕ
+sum_of file = file.sum
+
+-- this is told of what was read
+pub record IsAccount (i : Inputs) (r : Reading) (a : Account) : Type 0 where
+  pub capture : a.capture.sum ≡ r.digest
+  pub parameters : a.parameters.sum ≡ sha256 i.texts.parameters.now
+  pub certificate : option_map sum_of a.certificate ≡ option_map sha256 (text_in i)
+  pub records : a.records ≡ r.notes.records
+  pub packets : a.packets.now ≡ r.notes.packets.items
+  pub channels : a.channels.now ≡ take (length i.params.now.channels) r.notes.channels
+  pub before : a.before ≡ r.notes.before
+  pub behind : a.behind ≡ r.notes.behind
+  pub verdict : IsToldOf r.store r.refusal (text_in i) a.verdict

@@ -1,0 +1,59 @@
+-- The messages that an end sent, as they are told.
+use Rattle.std.specs.Prelude.{◌≡◌, ℕ, List, map, length, take, filter_map, flat_map, slice_get, Option, Some, option_map}
+use Rattle.rasta_pdu.specs.Pdu.{messages_in}
+use Rattle.rasta_check.specs.Capture.Crossing.{FirstCopy}
+use Rattle.rasta_check.specs.Model.Taken.{data_copies}
+use Rattle.rasta_check.specs.Verdict.Listed.{ListedMessage}
+use Rattle.seatmelon_account.specs.declared.messages.Direction.{Direction}
+use Rattle.seatmelon_account.specs.declared.messages.Message.{Message}
+
+-- a message, and the place of the first copy of its data
+pub record Placed : Type 0 where
+  pub data_place : ℕ
+  pub message : List ℕ
+
+abbrev pub placed_at : ℕ → List ℕ → Placed
+placed_at place m = record { data_place = place; message = m }
+
+abbrev pub messages_of_copy : FirstCopy → List Placed
+messages_of_copy c = map (placed_at c.place) (messages_in c.pdu.safety.body)
+
+-- all messages that an end sent, in order: those of its data, each once
+abbrev pub messages_sent : List FirstCopy → List Placed
+messages_sent sent = flat_map messages_of_copy (data_copies sent)
+
+-- a message as it is told
+abbrev pub placed_of : Message → Placed
+placed_of m = record { data_place = m.data; message = m.bytes.now }
+
+-- what is told as surely taken
+abbrev pub taken_of : Message → Option ListedMessage
+taken_of m = option_map (λ (proof : ℕ). record { number = m.number; data_place = m.data; proof_place = proof; message = m.bytes.now }) m.proof
+
+-- all that was sent is told, in order, and what is listed is told as surely taken, and nothing else
+pub record AreMessages (sent : List FirstCopy) (listed : List ListedMessage) (messages : List Message) : Type 0 where
+  pub all : map placed_of messages ≡ messages_sent sent
+  pub numbered : (i : ℕ) (m : Message) → slice_get messages i ≡ Some m → m.number ≡ i
+  pub taken : filter_map taken_of messages ≡ listed
+
+pub record IsDirection (sent : List FirstCopy) (listed : List ListedMessage) (d : Direction) : Type 0 where
+  pub count : d.taken ≡ length listed
+  pub messages : AreMessages sent listed d.messages.items
+
+-- ---- on the way
+
+-- the place of the proof of the message with this number, where it is listed
+abbrev pub proof_in : List ListedMessage → ℕ → Option ℕ
+proof_in listed number = option_map (λ (l : ListedMessage). l.proof_place) (slice_get listed number)
+
+-- messages have their numbers, and those that are listed their proofs
+abbrev pub ProvedBy : List ListedMessage → List Message → Type 0
+ProvedBy listed messages = (i : ℕ) (m : Message) → slice_get messages i ≡ Some m → (m.number ≡ i) × (m.proof ≡ proof_in listed i)
+
+abbrev pub listed_placed : ListedMessage → Placed
+listed_placed l = record { data_place = l.data_place; message = l.message }
+
+-- what is listed are the first of the messages that were sent, with their numbers
+pub record AreFirst (sent : List Placed) (listed : List ListedMessage) : Type 0 where
+  pub numbered : (i : ℕ) (l : ListedMessage) → slice_get listed i ≡ Some l → l.number ≡ i
+  pub first : map listed_placed listed ≡ take (length listed) sent

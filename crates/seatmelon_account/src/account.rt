@@ -1,0 +1,276 @@
+//! What is told of a capture.
+ghost use Rattle.std.specs.Prelude.{◌≡◌, take, None, length, IfErr, IfOk};
+ghost use Rattle.sha2.specs.Sha256.{sha256};
+ghost use Rattle.rasta_pcap.specs.Fault.{no_memory};
+ghost use Rattle.rasta_verdict.specs.declared.verdict.Verdict.TheVariants as verdicts;
+ghost use Rattle.rasta_verdict.specs.Given.{IsVerdictOn};
+ghost use Rattle.seatmelon_account.specs.Account.{IsAccount, IsToldOf, text_in};
+ghost use Rattle.seatmelon_account.specs.Messages.{IsDirection};
+
+use crate::crossed::list_of;
+use crate::explained::{Explained, start_of};
+use crate::messages::direction_of;
+use crate::refusal::{Refusal, capture_refusal, scripts_refusal, unscripted};
+use rasta_build::{Obstacle, find_obstacle};
+use rasta_check::{SentList, SpanList, Store};
+use rasta_pcap::{Fault, Side};
+use rasta_pdu::{Body, Params};
+use rasta_verdict::judge_by;
+use seatmelon_reading::{ChannelCount, Reading, Sighting, Window, window_in};
+use sha2::{Digest, Sha256};
+use std::alloc::Global;
+
+/// How the files are named.
+#[derive(Clone, Copy)]
+pub struct Names<'a> {
+    pub capture: &'a str,
+    pub parameters: &'a str,
+    pub certificate: Option<&'a str>,
+}
+
+/// The small files, whole.
+#[derive(Clone, Copy)]
+pub struct Texts<'a> {
+    pub parameters: &'a [u8],
+    pub certificate: Option<&'a [u8]>,
+}
+
+/// What stands beside a capture.
+#[derive(Clone, Copy)]
+pub struct Inputs<'a> {
+    pub names: Names<'a>,
+    pub texts: Texts<'a>,
+    pub params: &'a Params,
+
+    /// The records that are left out, by their rising numbers.
+    pub without: &'a [u32],
+}
+
+/// A file that was read, and its SHA-256.
+#[derive(Clone, Copy)]
+pub struct File<'a> {
+    pub name: &'a str,
+    pub sum: [u8; 32],
+}
+
+/// The N_sendmax that an end offers at the opening, where the parameters have another.
+#[derive(Clone, Copy)]
+pub struct Offer {
+    pub end: Side,
+    pub offered: u16,
+    pub recorded: u16,
+}
+
+/// The verdict, with all that is told of it.
+#[derive(Drop)]
+pub enum Verdict<'a> {
+    /// No packet of the connection is in the window.
+    NoPackets,
+
+    /// The capture, its packets or the certificate are refused.
+    Refused(Refusal<'a>),
+
+    /// Two ends that keep the rules can have sent the packets.
+    Explained(Explained<'a>),
+}
+
+/// What was read, and the verdict with all that is told of it.
+#[derive(Drop)]
+pub struct Account<'a> {
+    pub capture: File<'a>,
+    pub parameters: File<'a>,
+    pub certificate: Option<File<'a>>,
+
+    /// The records that are left out, by their rising numbers.
+    pub without: &'a [u32],
+
+    /// How many records were read.
+    pub records: u32,
+
+    /// The window; none where no window is recorded.
+    pub window: Option<Window>,
+
+    /// The packets of the connection in the window, by place.
+    pub packets: &'a [Sighting],
+
+    /// How many of these each recorded channel has.
+    pub channels: &'a [ChannelCount],
+
+    /// How many packets of the recorded channels stand before the window, and how many behind it.
+    pub before: u64,
+    pub behind: u64,
+
+    /// What the client and the server offer.
+    pub offers: [Option<Offer>; 2],
+
+    pub verdict: Verdict<'a>,
+}
+
+impl<'a> Account<'a> {
+    /// How many records are no packets of the recorded channels.
+    pub fn passed_over(&self) -> u64 {
+        u64::from(self.records)
+            .saturating_sub(self.packets.len() as u64)
+            .saturating_sub(self.before)
+            .saturating_sub(self.behind)
+    }
+}
+
+// A file and its SHA-256.
+fn file_of<'a>(name: &'a str, text: &[u8]) -> File<'a>
+    ensures { result.sum ≡ sha256 text.now }
+{
+    let mut sum = [0; 32];
+    sum.copy_from_slice(&Sha256::digest(text));
+    File { name, sum }
+}
+
+// What an end offers at the opening, where the parameters have something else.
+fn offer_of(params: &Params, end: Side, list: &SpanList<'_>) -> Option<Offer> {
+    let (_, pdu) = list.get(0)?;
+    let recorded = params.n_sendmax();
+    match pdu.body() {
+        Body::Opening { sendmax, .. } if sendmax != recorded => Some(Offer {
+            end,
+            offered: sendmax,
+            recorded,
+        }),
+        _ => None,
+    }
+}
+
+// What the ends offer, where packets crossed and the capture has no fault.
+fn offers_in(params: &Params, reading: &Reading) -> [Option<Offer>; 2] {
+    if reading.refusal.is_some() {
+        return [None, None];
+    }
+    let store = &reading.store;
+    [
+        offer_of(params, Side::Client, &store.client()),
+        offer_of(params, Side::Server, &store.server()),
+    ]
+}
+
+// What the builder can't get over where it finds nothing.
+fn obstacle_behind(alloc: Global, store: &Store, fault: Fault) -> Result<Option<Obstacle>, Fault>
+    ensures err { IfErr result (λ f. f ≡ no_memory) }
+{
+    if fault.number != Fault::NOT_FOUND {
+        return Ok(None);
+    }
+    find_obstacle(
+        alloc,
+        &store.params(),
+        store.len(),
+        &store.client(),
+        &store.server(),
+    )
+}
+
+// What is told of what explains a capture.
+#[tactic(auto, using(crate::proofs::Told::client_first, crate::proofs::Told::server_first))]
+fn explained<'a>(
+    alloc: Global,
+    inputs: &Inputs<'a>,
+    reading: &'a Reading,
+    explanation: &rasta_verdict::Explanation<'a>,
+) -> Result<Explained<'a>, Fault>
+    requires { IsVerdictOn reading.now.store (text_in inputs.now) (verdicts.Explained explanation.now) }
+    ensures packets { IfOk result (λ e. e.packets ≡ explanation.now.report.packets) }
+    ensures client { IfOk result (λ e. IsDirection reading.now.store.client explanation.now.report.server_taken e.client) }
+    ensures server { IfOk result (λ e. IsDirection reading.now.store.server explanation.now.report.client_taken e.server) }
+    ensures err { IfErr result (λ f. f ≡ no_memory) }
+{
+    let store = &reading.store;
+    let report = &explanation.report;
+    let (client, server) = (list_of(store, Side::Client), list_of(store, Side::Server));
+    Ok(Explained {
+        packets: report.packets,
+        has_code: inputs.params.code_length() > 0,
+        start: start_of(inputs.params, &reading.notes),
+        client: direction_of(alloc, Side::Client, &client, report.server_taken.as_slice())?,
+        server: direction_of(alloc, Side::Server, &server, report.client_taken.as_slice())?,
+    })
+}
+
+// The verdict on what crossed.
+fn judged<'a>(
+    alloc: Global,
+    inputs: &Inputs<'a>,
+    reading: &'a Reading,
+) -> Result<Verdict<'a>, Fault>
+    ensures told { IfOk result (IsToldOf reading.now.store None (text_in inputs.now)) }
+    ensures err { IfErr result (λ f. f ≡ no_memory) }
+{
+    let store = &reading.store;
+    match judge_by(alloc, store, inputs.texts.certificate)? {
+        rasta_verdict::Verdict::Explained(explanation) => Ok(Verdict::Explained(explained(
+            alloc,
+            inputs,
+            reading,
+            &explanation,
+        )?)),
+        rasta_verdict::Verdict::Refused(fault, certificate) => {
+            Ok(Verdict::Refused(scripts_refusal(store, fault, &certificate)))
+        }
+        rasta_verdict::Verdict::Unscripted(fault) => {
+            let met = obstacle_behind(alloc, store, fault)?;
+            Ok(Verdict::Refused(unscripted(store, fault, met)))
+        }
+    }
+}
+
+// The verdict on what was read.
+fn verdict_on<'a>(
+    alloc: Global,
+    inputs: &Inputs<'a>,
+    reading: &'a Reading,
+) -> Result<Verdict<'a>, Fault>
+    ensures told { IfOk result (IsToldOf reading.now.store reading.now.refusal (text_in inputs.now)) }
+    ensures err { IfErr result (λ f. f ≡ no_memory) }
+{
+    match &reading.refusal {
+        Some(refusal) => Ok(Verdict::Refused(capture_refusal(inputs.params, refusal))),
+        None if reading.store.len() == 0 => Ok(Verdict::NoPackets),
+        None => judged(alloc, inputs, reading),
+    }
+}
+
+// The counts of the recorded channels.
+fn channels_in<'a>(params: &Params, counts: &'a [ChannelCount]) -> &'a [ChannelCount]
+    ensures { result.now ≡ take (length params.now.channels) counts.now }
+{
+    let recorded = params.channel().len();
+    &counts[..recorded.min(counts.len())]
+}
+
+/// What is told of a capture that was read. Refused by [`Fault::NO_MEMORY`] alone.
+pub fn account_of<'a>(
+    alloc: Global,
+    inputs: &Inputs<'a>,
+    reading: &'a Reading,
+) -> Result<Account<'a>, Fault>
+    ensures account { IfOk result (IsAccount inputs.now reading.now) }
+    ensures err { IfErr result (λ f. f ≡ no_memory) }
+{
+    let Inputs { names, texts, .. } = *inputs;
+    let notes = &reading.notes;
+    let name = names.certificate.unwrap_or("-");
+    Ok(Account {
+        capture: File {
+            name: names.capture,
+            sum: reading.digest,
+        },
+        parameters: file_of(names.parameters, texts.parameters),
+        certificate: texts.certificate.map(|text| file_of(name, text)),
+        without: inputs.without,
+        records: notes.records,
+        window: window_in(inputs.params, notes.records),
+        packets: notes.packets.as_slice(),
+        channels: channels_in(inputs.params, &notes.channels),
+        before: notes.before,
+        behind: notes.behind,
+        offers: offers_in(inputs.params, reading),
+        verdict: verdict_on(alloc, inputs, reading)?,
+    })
+}

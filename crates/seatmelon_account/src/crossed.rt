@@ -1,0 +1,47 @@
+//! Packets that crossed.
+ghost use Rattle.std.specs.Prelude.{◌≡◌};
+ghost use Rattle.rasta_check.specs.Capture.Reading.{sent_by};
+
+use rasta_check::{SentList, SpanList, Store};
+use rasta_pcap::Side;
+use rasta_pdu::Pdu;
+
+/// A packet that crossed at a place, and its PDU where it is a first copy of this end.
+#[derive(Drop)]
+pub struct Crossed<'a> {
+    pub side: Side,
+    pub place: u32,
+    pub pdu: Option<Pdu<'a>>,
+}
+
+/// What an end sent.
+pub fn list_of(store: &Store, side: Side) -> SpanList<'_>
+    ensures { result ≡ sent_by store.now side }
+{
+    match side {
+        Side::Client => store.client(),
+        Side::Server => store.server(),
+    }
+}
+
+/// The PDU of an end at a place, if a first copy crossed there.
+pub fn pdu_at<'a>(list: &SpanList<'a>, place: u32) -> Option<Pdu<'a>> {
+    let position = list.at_place(place)?;
+    let (_, pdu) = list.get(position)?;
+    Some(pdu)
+}
+
+/// The packet of an end that has a redundancy number first.
+pub fn first_with(store: &Store, side: Side, number: u32) -> Option<Crossed<'_>> {
+    let list = list_of(store, side);
+    let (place, pdu) = list.get(list.position_of(number)?)?;
+    let pdu = Some(pdu);
+    Some(Crossed { side, place, pdu })
+}
+
+/// The packet at a place.
+pub fn packet_at(store: &Store, place: u32) -> Option<Crossed<'_>> {
+    let (side, _) = store.packet(place)?;
+    let pdu = pdu_at(&list_of(store, side), place);
+    Some(Crossed { side, place, pdu })
+}

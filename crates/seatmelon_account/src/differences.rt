@@ -1,0 +1,71 @@
+//! How a datagram differs from what is due.
+use crate::numbers::SAFETY_AT;
+use arrayvec::ArrayVec;
+use rasta_pdu::Params;
+
+/// Where the safety code of a datagram begins and ends, if the datagram is long enough.
+pub fn code_places(params: &Params, datagram: &[u8]) -> Option<(usize, usize)> {
+    let end = datagram
+        .len()
+        .checked_sub(usize::from(params.check_length()))?;
+    let start = end.checked_sub(usize::from(params.code_length()))?;
+    if start < SAFETY_AT {
+        return None;
+    }
+    Some((start, end))
+}
+
+/// The safety code of a datagram, and the digest whose first bytes are due in its place.
+#[derive(Clone, Copy)]
+pub struct Codes<'a> {
+    pub found: &'a [u8],
+    digest: [u8; 16],
+}
+
+impl Codes<'_> {
+    /// The code that is due.
+    pub fn due(&self) -> &[u8] {
+        &self.digest[..self.found.len().min(self.digest.len())]
+    }
+}
+
+/// The safety code that a datagram has, and the one that is due, if the datagram is long enough.
+pub fn codes_in<'a>(params: &Params, datagram: &'a [u8]) -> Option<Codes<'a>> {
+    let (start, end) = code_places(params, datagram)?;
+    if end > datagram.len() || start > end || start < SAFETY_AT {
+        return None;
+    }
+    Some(Codes {
+        found: &datagram[start..end],
+        digest: rasta_md4::digest(params.md4_start(), &datagram[SAFETY_AT..start]),
+    })
+}
+
+// The most bytes that are told of those that differ.
+const MOST_TOLD: usize = 16;
+
+/// A byte in which a datagram differs from its first copy.
+#[derive(Clone, Copy, Default)]
+pub struct Difference {
+    pub at: usize,
+    pub byte: u8,
+    pub first: u8,
+}
+
+/// In which bytes a datagram differs from its first copy, the first 16 of them.
+pub type Differences = ArrayVec<Difference, MOST_TOLD>;
+
+/// In which bytes a datagram differs from its first copy.
+pub fn differences(datagram: &[u8], first: &[u8]) -> Differences {
+    let mut differences = ArrayVec::new();
+    for (at, (byte, before)) in datagram.iter().zip(first.iter()).enumerate() {
+        if byte != before && !differences.is_full() {
+            differences.push(Difference {
+                at,
+                byte: *byte,
+                first: *before,
+            });
+        }
+    }
+    differences
+}

@@ -1,0 +1,28 @@
+//! What is told of a capture, as one value: what was read, and the verdict with all that is told of it. Texts and data
+//! are walks over it. Nothing here is trusted: the checker judges.
+#![tactic(auto)]
+
+mod account;
+mod crossed;
+mod differences;
+mod entries;
+mod explained;
+mod fields;
+mod layout;
+mod messages;
+mod numbers;
+mod refusal;
+mod rules;
+mod trouble;
+
+pub use account::{Account, File, Inputs, Names, Offer, Texts, Verdict, account_of};
+pub use crossed::Crossed;
+pub use differences::{Codes, Difference, Differences};
+pub use entries::{NamedPacket, RefusedEntry};
+pub use explained::{Explained, Start};
+pub use fields::{Fields, payload_and_codes};
+pub use layout::{CutMessage, Layout};
+pub use messages::{Direction, Message};
+pub use refusal::{Refusal, RefusedPacket, Subject};
+pub use rules::BrokenRule;
+pub use trouble::{FirstCopy, Trouble};

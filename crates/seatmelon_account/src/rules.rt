@@ -1,0 +1,91 @@
+//! The rule that refuses a PDU, found by a walk beside the verdict.
+use crate::crossed::{Crossed, first_with, list_of, pdu_at};
+use rasta_build::{Obstacle, Rule};
+use rasta_check::{SentList, SpanList, Store};
+use rasta_pcap::{Fault, Side};
+use rasta_pdu::{Params, Pdu};
+
+/// A rule that refuses a PDU.
+#[derive(Drop)]
+pub struct BrokenRule<'a> {
+    pub rule: Rule,
+
+    /// The PDU that it refuses.
+    pub pdu: Pdu<'a>,
+
+    /// The end to which that PDU was sent.
+    pub peer: Side,
+
+    /// The SN that was due in place of the one found, where the rule speaks of it.
+    pub sn_due: Option<u32>,
+
+    /// The number of the PDU that the rule speaks of, with its name.
+    pub found: Option<(&'static str, u32)>,
+
+    /// The PDU of the peer that the rule speaks of.
+    pub peer_pdu: Option<Crossed<'a>>,
+}
+
+// The redundancy number of the peer's PDU that a rule speaks of.
+fn number_in(rule: Rule) -> Option<u32> {
+    match rule {
+        Rule::ConfirmsLater { number }
+        | Rule::TakesEarlier { number }
+        | Rule::TakeRefused { number, .. }
+        | Rule::NotAccepted { number } => Some(number),
+        _ => None,
+    }
+}
+
+// The SN that is due at a place; none where the first PDU of an end may have any.
+fn sn_at(params: &Params, list: &SpanList<'_>, side: Side, place: u32) -> Option<u32> {
+    if let Some(before) = list.at_place(place)?.checked_sub(1) {
+        let (_, pdu) = list.get(before)?;
+        return Some(pdu.sn().wrapping_add(1));
+    }
+    let quiet = params.quiet()?;
+    match side {
+        Side::Client => Some(quiet.client.next_sn),
+        Side::Server => Some(quiet.server.next_sn),
+    }
+}
+
+// The SN that is due in place of the one found, where a rule speaks of it.
+fn sn_due(params: &Params, list: &SpanList<'_>, met: &Obstacle) -> Option<u32> {
+    match met.rule {
+        Rule::MakeRefused {
+            fault: Fault::SEQUENCE_NUMBER,
+        } => sn_at(params, list, met.side, met.place),
+        _ => None,
+    }
+}
+
+// The number of a PDU that a rule speaks of, with its name.
+fn found_in(rule: Rule, pdu: &Pdu<'_>) -> Option<(&'static str, u32)> {
+    let Rule::MakeRefused { fault } = rule else {
+        return None;
+    };
+    match fault {
+        Fault::SEQUENCE_NUMBER => Some(("SN", pdu.sn())),
+        Fault::CONFIRMED_NUMBER => Some(("CS", pdu.cs())),
+        Fault::CONFIRMED_TIME => Some(("CTS", pdu.cts())),
+        Fault::PAST_DEADLINE | Fault::TOO_EARLY_TIMEOUT => Some(("TS", pdu.ts())),
+        _ => None,
+    }
+}
+
+/// What is told of the rule that a walk met.
+pub fn broken_rule<'a>(store: &'a Store, met: &Obstacle) -> Option<BrokenRule<'a>> {
+    let list = list_of(store, met.side);
+    let pdu = pdu_at(&list, met.place)?;
+    let peer = met.side.other();
+    let found = found_in(met.rule, &pdu);
+    Some(BrokenRule {
+        rule: met.rule,
+        pdu,
+        peer,
+        sn_due: sn_due(&store.params(), &list, met),
+        found,
+        peer_pdu: number_in(met.rule).and_then(|number| first_with(store, peer, number)),
+    })
+}

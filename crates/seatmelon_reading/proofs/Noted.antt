@@ -1,0 +1,309 @@
+-- What is noted of one more record.
+use Rattle.std.proofs.Common.{◌≡◌, ◌∙◌, ℕ, zero, suc, ◌+◌, ◌<◌, ◌≤◌, List, [], ◌∷◌, ◌++◌, length, map, filter, cond, Bool, true, false, not, ◌&&◌, nat_eq, nat_le, Option, None, Some, Result, Ok, Err, ap, refl, sym, add-one, add-zero, append-nil, get_or, set, ◌≢◌, ◌⊎◌, ⊎_elim, subst, arith, min}
+use Rattle.std.proofs.lemmas.Bool.Decides.{nat_tests}
+use Rattle.std.proofs.lemmas.List.{length-append, length_push, map_push}
+use Rattle.std.proofs.lemmas.List.Elements.{filter-append, filter_map-append}
+use Rattle.std.specs.List.{cons_option}
+use Rattle.rasta_pcap.specs.declared.fault.Fault.{Fault}
+use Rattle.rasta_pcap.specs.declared.fault.Side.{Side}
+use Rattle.rasta_pcap.specs.declared.time.CaptureTime.{CaptureTime}
+use Rattle.rasta_pcap.specs.declared.fault.Side.TheVariants.{Client, Server}
+use Rattle.rasta_pcap.specs.Captured.{Captured}
+use Rattle.rasta_udp.specs.Frame.{Packet, packet_in}
+use Rattle.rasta_pdu.specs.Params.{Parameters}
+use Rattle.rasta_check.specs.declared.passage.Passage.{Passage}
+use Rattle.rasta_check.specs.Capture.Passages.{passage_of}
+use Rattle.seatmelon_reading.specs.Noted.{AreNotes, Seen, all_seen, count_on, count_with, counts_of, is_before, is_client, is_clients, is_servers, is_behind, is_inside, is_left_out, passage_seen, seen_by, seen_in, seen_inside, sighting_of}
+use Rattle.seatmelon_reading.specs.declared.notes.ChannelCount.{ChannelCount}
+use Rattle.seatmelon_reading.specs.declared.notes.Notes.{Notes}
+use Rattle.seatmelon_reading.specs.declared.notes.Sighting.{Sighting}
+
+-- ---- a record without a packet
+
+all-none : (p : Parameters) (without : List ℕ) (records : List Captured) (r : Captured) → seen_in p without r ≡ None
+    → all_seen p without (records ++ r ∷ []) ≡ all_seen p without records
+all-none p without records r none =
+    filter_map-append (seen_in p without) records (r ∷ []) ∙ ap (λ o. all_seen p without records ++ cons_option o []) none ∙ append-nil _
+
+-- the notes but for the count of records
+pub record SameNotes (old new : Notes) : Type 0 where
+  pub packets : new.packets ≡ old.packets
+  pub channels : new.channels ≡ old.channels
+  pub before : new.before ≡ old.before
+  pub behind : new.behind ≡ old.behind
+
+pub passed : (p : Parameters) (without : List ℕ) (records : List Captured) (r : Captured) (old new : Notes) → AreNotes p without records old
+    → SameNotes old new → new.records ≡ suc (length records) → seen_in p without r ≡ None → AreNotes p without (records ++ r ∷ []) new
+passed p without records r old new h same next none =
+    let all = sym (all-none p without records r none) in record {
+      read = next ∙ sym (add-one (length records)) ∙ sym (length_push records r);
+      packets = ap (λ v. v.items) same.packets ∙ h.packets ∙ ap (λ l. map sighting_of (filter (is_inside p) l)) all;
+      channels = same.channels ∙ h.channels ∙ ap (λ l. counts_of (filter (is_inside p) l)) all;
+      before = same.before ∙ h.before ∙ ap (λ l. length (filter (is_before p) l)) all;
+      behind = same.behind ∙ h.behind ∙ ap (λ l. length (filter (is_behind p) l)) all;
+    }
+
+-- ---- one with a packet
+
+module _ (p : Parameters) (without : List ℕ) (records : List Captured) (s : Seen) (some : seen_in p without s.captured ≡ Some s) where
+  all-some : all_seen p without (records ++ s.captured ∷ []) ≡ all_seen p without records ++ s ∷ []
+  all-some = filter_map-append (seen_in p without) records (s.captured ∷ []) ∙ ap (λ o. all_seen p without records ++ cons_option o []) some
+
+  filtered : (test : Seen → Bool) (b : Bool) → test s ≡ b
+      → filter test (all_seen p without (records ++ s.captured ∷ [])) ≡ filter test (all_seen p without records) ++ cond b (s ∷ []) []
+  filtered test b e = ap (filter test) all-some ∙ filter-append test (all_seen p without records) (s ∷ [])
+      ∙ ap (λ c. filter test (all_seen p without records) ++ cond c (s ∷ []) []) e
+
+  without_it : (test : Seen → Bool) → test s ≡ false → filter test (all_seen p without (records ++ s.captured ∷ [])) ≡ filter test (all_seen p without records)
+  without_it test e = filtered test false e ∙ append-nil _
+
+  one_more : (test : Seen → Bool) → test s ≡ true
+      → length (filter test (all_seen p without (records ++ s.captured ∷ []))) ≡ length (filter test (all_seen p without records)) + 1
+  one_more test e = ap length (filtered test true e) ∙ length-append (filter test (all_seen p without records)) (s ∷ [])
+
+  -- the notes after it, as far as they don't depend on where it stands
+  pub record Grows (old new : Notes) : Type 0 where
+    pub noted : AreNotes p without records old
+    pub next : new.records ≡ suc (length records)
+
+  read_next : (old new : Notes) → Grows old new → new.records ≡ length (records ++ s.captured ∷ [])
+  read_next old new g = g.next ∙ sym (add-one (length records)) ∙ sym (length_push records s.captured)
+
+  not_inside_before : is_before p s ≡ true → is_inside p s ≡ false
+  not_inside_before e = ap (λ b. not b && nat_le s.captured.number p.last_record) e
+
+  not_behind_before : is_before p s ≡ true → is_behind p s ≡ false
+  not_behind_before e = ap (λ b. not b && not (nat_le s.captured.number p.last_record)) e
+
+  pub before_window : (old new : Notes) → Grows old new → new.packets ≡ old.packets → new.channels ≡ old.channels
+      → new.before ≡ old.before + 1 → new.behind ≡ old.behind → is_before p s ≡ true → AreNotes p without (records ++ s.captured ∷ []) new
+  before_window old new g packets channels before behind e =
+      let inside = sym (without_it (is_inside p) (not_inside_before e)) in record {
+        read = read_next old new g;
+        packets = ap (λ v. v.items) packets ∙ g.noted.packets ∙ ap (map sighting_of) inside;
+        channels = channels ∙ g.noted.channels ∙ ap counts_of inside;
+        before = before ∙ ap (λ n. n + 1) g.noted.before ∙ sym (one_more (is_before p) e);
+        behind = behind ∙ g.noted.behind ∙ ap length (sym (without_it (is_behind p) (not_behind_before e)));
+      }
+
+  pub behind_window : (old new : Notes) → Grows old new → new.packets ≡ old.packets → new.channels ≡ old.channels
+      → new.before ≡ old.before → new.behind ≡ old.behind + 1 → is_before p s ≡ false → is_inside p s ≡ false → is_behind p s ≡ true
+      → AreNotes p without (records ++ s.captured ∷ []) new
+  behind_window old new g packets channels before behind not_before not_inside e =
+      let inside = sym (without_it (is_inside p) not_inside) in record {
+        read = read_next old new g;
+        packets = ap (λ v. v.items) packets ∙ g.noted.packets ∙ ap (map sighting_of) inside;
+        channels = channels ∙ g.noted.channels ∙ ap counts_of inside;
+        before = before ∙ g.noted.before ∙ ap length (sym (without_it (is_before p) not_before));
+        behind = behind ∙ ap (λ n. n + 1) g.noted.behind ∙ sym (one_more (is_behind p) e);
+      }
+
+  pub in_window : (old new : Notes) → Grows old new → new.packets.items ≡ old.packets.items ++ sighting_of s ∷ []
+      → new.channels ≡ counts_of (seen_inside p without records ++ s ∷ []) → new.before ≡ old.before → new.behind ≡ old.behind
+      → is_before p s ≡ false → is_inside p s ≡ true → is_behind p s ≡ false → AreNotes p without (records ++ s.captured ∷ []) new
+  in_window old new g packets channels before behind not_before e not_behind =
+      let inside = sym (filtered (is_inside p) true e) in record {
+        read = read_next old new g;
+        packets = packets ∙ ap (λ l. l ++ sighting_of s ∷ []) g.noted.packets ∙ sym (map_push sighting_of (seen_inside p without records) s) ∙ ap (map sighting_of) inside;
+        channels = channels ∙ ap counts_of inside;
+        before = before ∙ g.noted.before ∙ ap length (sym (without_it (is_before p) not_before));
+        behind = behind ∙ g.noted.behind ∙ ap length (sym (without_it (is_behind p) not_behind));
+      }
+
+-- ---- where it crossed
+
+pub none_seen : (o : Option Seen) → passage_seen o ≡ None → o ≡ None
+none_seen None e = refl
+none_seen (Some s) e = absurd cc
+
+-- the packet that was seen in this record
+pub record IsSeenIn (p : Parameters) (without : List ℕ) (r : Captured) (passage : Passage) : Type 0 where
+  pub packet : Packet
+  pub is : seen_in p without r ≡ Some (record { captured = r; packet = packet })
+  pub crossed : passage ≡ passage_of packet
+
+abbrev crossing_at : Passage → Option Passage
+crossing_at passage = Some passage
+
+seen_by_record : (p : Parameters) (without : List ℕ) (r : Captured) (passage : Passage) (left_out : Bool) (found : Result (Option Packet) Fault)
+    → is_left_out without r.number ≡ left_out → packet_in p.channels r.bytes ≡ found → passage_seen (cond left_out None (seen_by r found)) ≡ crossing_at passage
+    → IsSeenIn p without r passage
+seen_by_record p without r passage true found stays is e = absurd cc
+seen_by_record p without r passage false (Err fault) stays is e = absurd cc
+seen_by_record p without r passage false (Ok None) stays is e = absurd cc
+seen_by_record p without r passage false (Ok (Some packet)) stays is e = record {
+  packet = packet;
+  is = ap (λ b. cond b None (seen_by r (packet_in p.channels r.bytes))) stays ∙ ap (seen_by r) is;
+  crossed = cc;
+}
+
+pub some_seen : (p : Parameters) (without : List ℕ) (r : Captured) (passage : Passage) → passage_seen (seen_in p without r) ≡ Some passage → IsSeenIn p without r passage
+some_seen p without r passage e = seen_by_record p without r passage (is_left_out without r.number) (packet_in p.channels r.bytes) refl refl e
+
+-- ---- counts of the channels
+
+abbrev of_both : ℕ → ℕ → ChannelCount
+of_both client server = record { client = client; server = server }
+
+filter_more : (test : Seen → Bool) (seen : List Seen) (s : Seen) (b : Bool) → test s ≡ b
+    → length (filter test (seen ++ s ∷ [])) ≡ length (filter test seen) + cond b 1 0
+filter_more test seen s true e =
+    ap length (filter-append test seen (s ∷ []) ∙ ap (λ c. filter test seen ++ cond c (s ∷ []) []) e) ∙ length-append (filter test seen) (s ∷ [])
+filter_more test seen s false e =
+    ap length (filter-append test seen (s ∷ []) ∙ ap (λ c. filter test seen ++ cond c (s ∷ []) []) e ∙ append-nil _) ∙ sym (add-zero _)
+
+count_more : (seen : List Seen) (s : Seen) (channel : ℕ) (clients servers : Bool) → is_clients channel s ≡ clients → is_servers channel s ≡ servers
+    → count_on (seen ++ s ∷ []) channel ≡ of_both ((count_on seen channel).client + cond clients 1 0) ((count_on seen channel).server + cond servers 1 0)
+count_more seen s channel clients servers c d =
+    ap (λ n. of_both n (count_on (seen ++ s ∷ []) channel).server) (filter_more (is_clients channel) seen s clients c)
+    ∙ ap (of_both ((count_on seen channel).client + cond clients 1 0)) (filter_more (is_servers channel) seen s servers d)
+
+-- a packet of another channel changes no count
+count_other : (seen : List Seen) (s : Seen) (channel : ℕ) → nat_eq s.packet.channel channel ≡ false → count_on (seen ++ s ∷ []) channel ≡ count_on seen channel
+count_other seen s channel e =
+    count_more seen s channel false false (ap (λ b. b && is_client s.packet.side) e) (ap (λ b. b && not (is_client s.packet.side)) e)
+    ∙ ap (λ n. of_both n ((count_on seen channel).server + 0)) (add-zero _) ∙ ap (of_both (count_on seen channel).client) (add-zero _)
+
+count_same : (seen : List Seen) (s : Seen) (channel : ℕ) (side : Side) → nat_eq s.packet.channel channel ≡ true → s.packet.side ≡ side
+    → count_on (seen ++ s ∷ []) channel ≡ count_with (count_on seen channel) side
+count_same seen s channel Client e is =
+    count_more seen s channel true false (ap (λ b. b && is_client s.packet.side) e ∙ ap is_client is) (ap (λ b. b && not (is_client s.packet.side)) e ∙ ap (λ d. not (is_client d)) is)
+    ∙ ap (of_both ((count_on seen channel).client + 1)) (add-zero _)
+count_same seen s channel Server e is =
+    count_more seen s channel false true (ap (λ b. b && is_client s.packet.side) e ∙ ap is_client is) (ap (λ b. b && not (is_client s.packet.side)) e ∙ ap (λ d. not (is_client d)) is)
+    ∙ ap (λ n. of_both n ((count_on seen channel).server + 1)) (add-zero _)
+
+-- four counts
+abbrev four : ChannelCount → ChannelCount → ChannelCount → ChannelCount → List ChannelCount
+four a b c d = a ∷ b ∷ c ∷ d ∷ []
+
+same_four : (a b c d e f g h : ChannelCount) → a ≡ e → b ≡ f → c ≡ g → d ≡ h → four a b c d ≡ four e f g h
+same_four a b c d e f g h first second third fourth =
+    ap (λ x. four x b c d) first ∙ ap (λ x. four e x c d) second ∙ ap (λ x. four e f x d) third ∙ ap (λ x. four e f g x) fourth
+
+unequal : (n m : ℕ) → n ≢ m → nat_eq n m ≡ false
+unequal n m e = grind (arith, nat_tests)
+
+equal : (n m : ℕ) → n ≡ m → nat_eq n m ≡ true
+equal n m e = grind (arith, nat_tests)
+
+-- no count changes by a channel that there can't be
+pub counts_beyond : (seen : List Seen) (s : Seen) → (s.packet.channel ≡ 0) ⊎ (4 < s.packet.channel) → counts_of (seen ++ s ∷ []) ≡ counts_of seen
+counts_beyond seen s beyond =
+    let other = λ (n : ℕ) (from : 1 ≤ n) (to : n ≤ 4). count_other seen s n (unequal s.packet.channel n (λ e. ⊎_elim (λ f. omega arith) (λ f. omega arith) beyond)) in
+    same_four _ _ _ _ _ _ _ _ (other 1 (omega arith) (omega arith)) (other 2 (omega arith) (omega arith)) (other 3 (omega arith) (omega arith)) (other 4 (omega arith) (omega arith))
+
+one_counted : (seen : List Seen) (s : Seen) (channel : ℕ) (count : ChannelCount) → s.packet.channel ≡ channel → count ≡ count_on seen channel
+    → count_with count s.packet.side ≡ count_on (seen ++ s ∷ []) channel
+one_counted seen s channel count e is = ap (λ n. count_with n s.packet.side) is ∙ sym (count_same seen s channel s.packet.side (equal _ _ e) refl)
+
+other_kept : (seen : List Seen) (s : Seen) (channel place : ℕ) → s.packet.channel ≡ place → place ≢ channel → count_on (seen ++ s ∷ []) channel ≡ count_on seen channel
+other_kept seen s channel place e differs = count_other seen s channel (unequal _ _ (λ f. differs (sym e ∙ f)))
+
+pub counts_within : (seen : List Seen) (s : Seen) (place : ℕ) (count d : ChannelCount) → place < 4 → s.packet.channel ≡ suc place
+    → count ≡ get_or (counts_of seen) place d → set (counts_of seen) place (count_with count s.packet.side) ≡ counts_of (seen ++ s ∷ [])
+counts_within seen s zero count d within e is =
+    same_four _ _ _ _ _ _ _ _ (one_counted seen s 1 count e is) (sym (other_kept seen s 2 _ e (λ f. omega arith))) (sym (other_kept seen s 3 _ e (λ f. omega arith))) (sym (other_kept seen s 4 _ e (λ f. omega arith)))
+counts_within seen s (suc zero) count d within e is =
+    same_four _ _ _ _ _ _ _ _ (sym (other_kept seen s 1 _ e (λ f. omega arith))) (one_counted seen s 2 count e is) (sym (other_kept seen s 3 _ e (λ f. omega arith))) (sym (other_kept seen s 4 _ e (λ f. omega arith)))
+counts_within seen s (suc (suc zero)) count d within e is =
+    same_four _ _ _ _ _ _ _ _ (sym (other_kept seen s 1 _ e (λ f. omega arith))) (sym (other_kept seen s 2 _ e (λ f. omega arith))) (one_counted seen s 3 count e is) (sym (other_kept seen s 4 _ e (λ f. omega arith)))
+counts_within seen s (suc (suc (suc zero))) count d within e is =
+    same_four _ _ _ _ _ _ _ _ (sym (other_kept seen s 1 _ e (λ f. omega arith))) (sym (other_kept seen s 2 _ e (λ f. omega arith))) (sym (other_kept seen s 3 _ e (λ f. omega arith))) (one_counted seen s 4 count e is)
+counts_within seen s (suc (suc (suc (suc place)))) count d within e is = absurd (omega arith)
+
+-- ---- bounds
+
+bound_kept : (b : Bool) (s : Seen) (kept seen : List Seen) → length kept ≤ length seen → length (cond b (s ∷ kept) kept) ≤ length (s ∷ seen)
+bound_kept true s kept seen h = omega arith
+bound_kept false s kept seen h = omega arith
+
+bound_seen : (o : Option Seen) (r : Captured) (seen : List Seen) (records : List Captured) → length seen ≤ length records → length (cons_option o seen) ≤ length (r ∷ records)
+bound_seen None r seen records h = omega arith
+bound_seen (Some s) r seen records h = omega arith
+
+filter_bound : (test : Seen → Bool) (seen : List Seen) → length (filter test seen) ≤ length seen
+filter_bound test [] = omega arith
+filter_bound test (s ∷ seen) = bound_kept (test s) s (filter test seen) seen (filter_bound test seen)
+
+seen_bound : (p : Parameters) (without : List ℕ) (records : List Captured) → length (all_seen p without records) ≤ length records
+seen_bound p without [] = omega arith
+seen_bound p without (r ∷ records) = bound_seen (seen_in p without r) r (all_seen p without records) records (seen_bound p without records)
+
+pub filtered_bound : (p : Parameters) (without : List ℕ) (records : List Captured) (test : Seen → Bool) → length (filter test (all_seen p without records)) ≤ length records
+filtered_bound p without records test = (let a = filter_bound test (all_seen p without records) in let b = seen_bound p without records in omega arith)
+
+pub count_bounds : (seen : List Seen) (channel : ℕ) → ((count_on seen channel).client ≤ length seen) × ((count_on seen channel).server ≤ length seen)
+count_bounds seen channel = (filter_bound (is_clients channel) seen, filter_bound (is_servers channel) seen)
+
+-- ---- a packet by where it stands
+
+saturated : (n bound : ℕ) → n ≤ bound → bound < 4294967296 → min (n + 1) 18446744073709551615 ≡ n + 1
+saturated n bound most few = omega arith
+
+module _ (p : Parameters) (without : List ℕ) (records : List Captured) (s : Seen) (some : seen_in p without s.captured ≡ Some s) (old new : Notes)
+    (noted : AreNotes p without records old) (next : new.records ≡ suc (length records)) (few : new.records < 4294967296)
+    (numbered : s.captured.number ≡ new.records) where
+  grows : Grows p without records s some old new
+  grows = record { noted = noted; next = next }
+
+  one_counted_more : (n : ℕ) (test : Seen → Bool) → n ≡ length (filter test (all_seen p without records)) → min (n + 1) 18446744073709551615 ≡ n + 1
+  one_counted_more n test is = (let most = filtered_bound p without records test in saturated n (length records) (omega (arith, is, most)) (omega (arith, next, few)))
+
+  pub noted_before : new.packets ≡ old.packets → new.channels ≡ old.channels → new.before ≡ min (old.before + 1) 18446744073709551615 → new.behind ≡ old.behind
+      → new.records < p.first_record → AreNotes p without (records ++ s.captured ∷ []) new
+  noted_before packets channels before behind stands =
+      before_window p without records s some old new grows packets channels (before ∙ one_counted_more old.before (is_before p) noted.before) behind
+      (grind (arith, nat_tests, numbered, stands))
+
+  pub noted_behind : new.packets ≡ old.packets → new.channels ≡ old.channels → new.before ≡ old.before → new.behind ≡ min (old.behind + 1) 18446744073709551615
+      → p.first_record ≤ new.records → p.last_record < new.records → AreNotes p without (records ++ s.captured ∷ []) new
+  noted_behind packets channels before behind first last =
+      let not_before : is_before p s ≡ false = grind (arith, nat_tests, numbered, first) in
+      let not_inside : nat_le s.captured.number p.last_record ≡ false = grind (arith, nat_tests, numbered, last) in
+      behind_window p without records s some old new grows packets channels before (behind ∙ one_counted_more old.behind (is_behind p) noted.behind) not_before
+      (ap (λ b. not (is_before p s) && b) not_inside ∙ ap (λ b. not b && false) not_before)
+      (ap (λ b. not (is_before p s) && not b) not_inside ∙ ap (λ b. not b && true) not_before)
+
+  pub noted_inside : new.packets.items ≡ old.packets.items ++ sighting_of s ∷ [] → new.channels ≡ counts_of (seen_inside p without records ++ s ∷ [])
+      → new.before ≡ old.before → new.behind ≡ old.behind → p.first_record ≤ new.records → new.records ≤ p.last_record
+      → AreNotes p without (records ++ s.captured ∷ []) new
+  noted_inside packets channels before behind first last =
+      let not_before : is_before p s ≡ false = grind (arith, nat_tests, numbered, first) in
+      let inside : nat_le s.captured.number p.last_record ≡ true = grind (arith, nat_tests, numbered, last) in
+      in_window p without records s some old new grows packets channels before behind not_before
+      (ap (λ b. not (is_before p s) && b) inside ∙ ap (λ b. not b && true) not_before)
+      (ap (λ b. not (is_before p s) && not b) inside ∙ ap (λ b. not b && false) not_before)
+
+pub inside_bound : (p : Parameters) (without : List ℕ) (records : List Captured) (number : ℕ) → number ≡ suc (length records) → number < 4294967296
+    → length (seen_inside p without records) < 4294967296
+inside_bound p without records number next few = (let most = filtered_bound p without records (is_inside p) in omega (arith, next, few, most))
+
+abbrev sighting : ℕ → Option CaptureTime → ℕ → Sighting
+sighting number time channel = record { «record» = number; time = time; channel = channel }
+
+pub same_sighting : (before : List Sighting) (s : Seen) (number : ℕ) (time : Option CaptureTime) (passage : Passage) → s.captured.number ≡ number
+    → time ≡ Some s.captured.time → passage ≡ passage_of s.packet → before ++ sighting number time passage.channel ∷ [] ≡ before ++ sighting_of s ∷ []
+same_sighting before s number time passage numbered timed crossed =
+    ap (λ (g : Sighting). before ++ g ∷ []) (ap (λ n. sighting n time passage.channel) (sym numbered) ∙ ap (λ t. sighting s.captured.number t passage.channel) timed
+    ∙ ap (λ (x : Passage). sighting s.captured.number (Some s.captured.time) x.channel) crossed)
+
+count_at : (seen : List Seen) (place : ℕ) (count d : ChannelCount) → place < 4 → count ≡ get_or (counts_of seen) place d → count ≡ count_on seen (suc place)
+count_at seen zero count d within e = e
+count_at seen (suc zero) count d within e = e
+count_at seen (suc (suc zero)) count d within e = e
+count_at seen (suc (suc (suc zero))) count d within e = e
+count_at seen (suc (suc (suc (suc place)))) count d within e = absurd (omega arith)
+
+-- the count at a place is exchanged for one with a packet more
+pub counted : (seen : List Seen) (s : Seen) (channels : List ChannelCount) (place : ℕ) (count d new : ChannelCount) (passage : Passage) → channels ≡ counts_of seen
+    → length seen < 4294967296 → passage ≡ passage_of s.packet → place < 4 → passage.channel ≡ suc place → count ≡ get_or channels place d
+    → (count.client < 4294967296 → count.server < 4294967296 → new ≡ count_with count passage.side) → set channels place new ≡ counts_of (seen ++ s ∷ [])
+counted seen s channels place count d new passage is few crossed within channel at more =
+    let here = subst (λ l. count ≡ get_or l place d) is at in
+    let bounds = count_bounds seen (suc place) in
+    let same = count_at seen place count d within here in
+    let clients : count.client ≤ length seen = subst (λ (n : ChannelCount). n.client ≤ length seen) (sym same) bounds.0 in
+    let servers : count.server ≤ length seen = subst (λ (n : ChannelCount). n.server ≤ length seen) (sym same) bounds.1 in
+    ap (λ l. set l place new) is ∙ ap (set (counts_of seen) place) (more (omega arith) (omega arith) ∙ ap (λ (x : Passage). count_with count x.side) crossed)
+    ∙ counts_within seen s place count d within (ap (λ (x : Passage). x.channel) (sym crossed) ∙ channel) here

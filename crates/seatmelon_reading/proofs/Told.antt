@@ -1,0 +1,168 @@
+-- What a refusal tells of one more record.
+use Rattle.std.proofs.Common.{◌≡◌, ◌∙◌, ◌⊎◌, ⊎_elim, ℕ, ◌≤◌, List, [], ◌∷◌, ◌++◌, map, filter, cond, filter_map, Bool, true, false, not, ◌&&◌, nat_lt, nat_le, Option, None, Some, Result, Ok, Err, ap, sym, subst, arith}
+use Rattle.std.proofs.lemmas.Bool.Decides.{nat_tests}
+use Rattle.std.specs.List.{Contains, cons_option}
+use Rattle.std.specs.Option.{ForSome}
+use Rattle.std.proofs.lemmas.List.{map-append}
+use Rattle.std.proofs.lemmas.List.Elements.{Contains-append_left, Contains-push, filter-append, filter_map-append}
+use Rattle.rasta_pcap.specs.declared.fault.Fault.{Fault}
+use Rattle.rasta_pcap.specs.declared.time.CaptureTime.{CaptureTime}
+use Rattle.rasta_pcap.specs.Fault.{fault_at, no_memory, too_many}
+use Rattle.rasta_pcap.specs.Capture.{Numbered}
+use Rattle.rasta_pcap.specs.Captured.{Captured, numbered}
+use Rattle.rasta_udp.specs.Frame.{Packet, packet_in}
+use Rattle.rasta_pdu.specs.Params.{Parameters}
+use Rattle.rasta_check.specs.Capture.Crossing.{packet_fault}
+use Rattle.rasta_check.specs.Capture.Reading.{Crossing, packet_found, after_frame, after_judged, after_packet, after_record, is_within, sent_by, with_packet}
+use Rattle.seatmelon_reading.specs.Noted.{AreNotes, Seen, all_seen, is_before, is_inside, is_left_out, seen_by, seen_in, seen_inside, sighting_of}
+use Rattle.seatmelon_reading.specs.Told.{IsMadeOf, IsSighted, IsTrueOf}
+use Rattle.seatmelon_reading.specs.declared.capture_refusal.CaptureRefusal.{CaptureRefusal}
+use Rattle.seatmelon_reading.specs.declared.notes.Notes.{Notes}
+use Rattle.seatmelon_reading.specs.declared.notes.Sighting.{Sighting}
+
+-- ---- the place of a fault
+
+err_place : (a f : Fault) → ◌≡◌ {A = Result Crossing Fault} (Err a) (Err f) → f.place ≡ a.place
+err_place a f e = (let same : a ≡ f = cc in ap (λ (x : Fault). x.place) (sym same))
+
+limits_place : (number : ℕ) (k : Crossing) (b : Bool) (f : Fault) → cond b (Ok k) (Err (fault_at too_many number)) ≡ Err f → f.place ≡ number
+limits_place number k true f e = absurd cc
+limits_place number k false f e = err_place (fault_at too_many number) f e
+
+judged_place : (k : Crossing) (number : ℕ) (packet : Packet) (fault : Option ℕ) (f : Fault) → after_judged k number packet fault ≡ Err f → f.place ≡ number
+judged_place k number packet (Some n) f e = err_place _ f e
+judged_place k number packet None f e = limits_place number (with_packet k packet) (is_within (with_packet k packet)) f e
+
+frame_place : (k : Crossing) (number : ℕ) (o : Result (Option Packet) Fault) (f : Fault) → after_frame k number o ≡ Err f → f.place ≡ number
+unfolding after_packet
+frame_place k number (Ok None) f e = absurd cc
+frame_place k number (Ok (Some packet)) f e = judged_place k number packet (packet_fault k.params (sent_by k packet.side) packet) f e
+frame_place k number (Err fault) f e = err_place (fault_at fault.number number) f e
+
+window_place : (k : Crossing) (r : Numbered) (b : Bool) (f : Fault) → cond b (Ok k) (after_frame k r.0 (packet_in k.params.channels r.1)) ≡ Err f → f.place ≡ r.0
+window_place k r true f e = absurd cc
+window_place k r false f e = frame_place k r.0 (packet_in k.params.channels r.1) f e
+
+-- the fault of a record names it
+pub record_place : (k : Crossing) (r : Numbered) (f : Fault) → after_record k r ≡ Err f → f.place ≡ r.0
+unfolding after_record
+record_place k r f e = window_place k r (nat_lt r.0 k.params.first_record) f e
+
+-- ---- packets of the connection
+
+abbrev sighting_so : ℕ → Option CaptureTime → ℕ → Sighting
+sighting_so number time channel = record { «record» = number; time = time; channel = channel }
+
+abbrev seen_of : Captured → Packet → Option Seen
+seen_of q packet = Some (record { captured = q; packet = packet })
+
+module _ (p : Parameters) (without : List ℕ) (records : List Captured) (q : Captured) where
+  -- what the record adds to them
+  abbrev added : List Sighting
+  added = map sighting_of (filter (is_inside p) (filter_map (seen_in p without) (q ∷ [])))
+
+  sighted_push : map sighting_of (seen_inside p without (records ++ q ∷ [])) ≡ map sighting_of (seen_inside p without records) ++ added
+  sighted_push = ap (λ l. map sighting_of (filter (is_inside p) l)) (filter_map-append (seen_in p without) records (q ∷ []))
+      ∙ ap (map sighting_of) (filter-append (is_inside p) (all_seen p without records) (filter_map (seen_in p without) (q ∷ [])))
+      ∙ map-append sighting_of (seen_inside p without records) (filter (is_inside p) (filter_map (seen_in p without) (q ∷ [])))
+
+  still_sighted : (s : Sighting) → IsSighted p without records s → IsSighted p without (records ++ q ∷ []) s
+  still_sighted s h = subst (λ (l : List Sighting). Contains l s) (sym sighted_push) (Contains-append_left _ added s h)
+
+  -- the packet of the record, where it stands in the window
+  pub sighted_last : (s : Seen) → seen_in p without q ≡ Some s → is_inside p s ≡ true → IsSighted p without (records ++ q ∷ []) (sighting_of s)
+  sighted_last s some inside =
+      let seen = ap (λ (o : Option Seen). cons_option o []) some in
+      let one = ap (λ l. map sighting_of (filter (is_inside p) l)) seen ∙ ap (λ (b : Bool). map sighting_of (cond b (s ∷ []) [])) inside in
+      subst (λ (l : List Sighting). Contains l (sighting_of s)) (sym (sighted_push ∙ ap (λ l. map sighting_of (seen_inside p without records) ++ l) one))
+      (Contains-push (map sighting_of (seen_inside p without records)) (sighting_of s))
+
+  seen_found : (a : Packet) (o : Result (Option Packet) Fault) → packet_found o ≡ Some a → seen_by q o ≡ Some (record { captured = q; packet = a })
+  seen_found a (Ok None) e = absurd cc
+  seen_found a (Ok (Some x)) e = (let same : x ≡ a = cc in ap (λ (y : Packet). seen_of q y) same)
+  seen_found a (Err f) e = absurd cc
+
+  pub sighted_found : (a : Packet) (number : ℕ) (bytes : List ℕ) (time : Option CaptureTime) → packet_found (packet_in p.channels bytes) ≡ Some a
+      → numbered q ≡ (number, bytes) → time ≡ Some q.time → is_left_out without number ≡ false → p.first_record ≤ number → number ≤ p.last_record
+      → IsSighted p without (records ++ q ∷ []) (sighting_so number time a.channel)
+  sighted_found a number bytes time found is timed stays first last =
+      let number_is : q.number ≡ number = ap (λ (n : Numbered). n.0) is in
+      let bytes_are : q.bytes ≡ bytes = ap (λ (n : Numbered). n.1) is in
+      let s : Seen = record { captured = q; packet = a } in
+      let here : seen_by q (packet_in p.channels q.bytes) ≡ Some s = seen_found a (packet_in p.channels q.bytes) (ap (λ b. packet_found (packet_in p.channels b)) bytes_are ∙ found) in
+      let kept : is_left_out without q.number ≡ false = ap (is_left_out without) number_is ∙ stays in
+      let some : seen_in p without q ≡ Some s = ap (λ (b : Bool). cond b None (seen_by q (packet_in p.channels q.bytes))) kept ∙ here in
+      let not_before : is_before p s ≡ false = grind (arith, nat_tests, number_is, first) in
+      let not_behind : nat_le q.number p.last_record ≡ true = grind (arith, nat_tests, number_is, last) in
+      let inside : is_inside p s ≡ true = ap (λ b. not (is_before p s) && b) not_behind ∙ ap (λ b. not b && true) not_before in
+      subst (λ (x : Sighting). IsSighted p without (records ++ q ∷ []) x)
+      (ap (λ n. sighting_so n (Some q.time) a.channel) number_is ∙ ap (λ t. sighting_so number t a.channel) (sym timed)) (sighted_last s some inside)
+
+  -- ---- a refusal
+
+  pub still_true : (r : CaptureRefusal) → IsTrueOf p without records r → IsTrueOf p without (records ++ q ∷ []) r
+  still_true r h = record {
+    timed = λ t e. (let c = h.timed t e in record { captured = c.captured; read = Contains-append_left records (q ∷ []) c.captured c.read; numbered = c.numbered; timed = c.timed; held = c.held });
+    beside = λ b e. still_sighted b.sighting (h.beside b e);
+  }
+
+  -- one that is made of the record
+  pub made_true : (f : Fault) (bytes : List ℕ) (time : Option CaptureTime) (notes : Notes) (r : CaptureRefusal) → AreNotes p without records notes
+      → IsMadeOf f bytes time notes r → f.place ≡ q.number → q.bytes ≡ bytes → time ≡ Some q.time → IsTrueOf p without (records ++ q ∷ []) r
+  made_true f bytes time notes r noted made place held timed = record {
+    timed = λ t e. record {
+      captured = q;
+      read = Contains-push records q;
+      numbered = sym place ∙ ap (λ (x : Fault). x.place) (sym made.fault);
+      timed = (let same : ◌≡◌ {A = Option CaptureTime} (Some q.time) (Some t) = sym timed ∙ sym made.time ∙ e in cc);
+      held = held ∙ sym made.frame;
+    };
+    beside = λ b e. still_sighted b.sighting (subst (λ (l : List Sighting). Contains l b.sighting) noted.packets (made.beside b e));
+  }
+
+  -- one that looked at the packet of the record
+  pub looked_true : (s : Sighting) (old new : CaptureRefusal) → IsTrueOf p without records old → new.fault ≡ old.fault → new.frame.items ≡ old.frame.items → new.time ≡ old.time
+      → ForSome new.beside (λ b. (old.beside ≡ Some b) ⊎ (b.sighting ≡ s)) → IsSighted p without (records ++ q ∷ []) s → IsTrueOf p without (records ++ q ∷ []) new
+  looked_true s old new h fault frame time beside sighted = record {
+    timed = λ t e. (let c = h.timed t (sym time ∙ e) in record {
+      captured = c.captured;
+      read = Contains-append_left records (q ∷ []) c.captured c.read;
+      numbered = c.numbered ∙ ap (λ (x : Fault). x.place) (sym fault);
+      timed = c.timed;
+      held = c.held ∙ sym frame;
+    });
+    beside = λ b e. ⊎_elim
+        (λ (same : old.beside ≡ Some b). still_sighted b.sighting (h.beside b same))
+        (λ (this : b.sighting ≡ s). subst (λ (x : Sighting). IsSighted p without (records ++ q ∷ []) x) (sym this) sighted)
+        (beside b e);
+  }
+
+  pub looked_next : (s : Sighting) (o : Option CaptureRefusal) (old new : CaptureRefusal) → o ≡ Some old → ForSome o (IsTrueOf p without records)
+      → (new.fault ≡ old.fault) × (new.frame.items ≡ old.frame.items) × (new.time ≡ old.time)
+      → ForSome new.beside (λ b. (old.beside ≡ Some b) ⊎ (b.sighting ≡ s)) → IsSighted p without (records ++ q ∷ []) s
+      → (r : CaptureRefusal) → ◌≡◌ {A = Option CaptureRefusal} (Some new) (Some r) → IsTrueOf p without (records ++ q ∷ []) r
+  looked_next s o old new is h kept beside sighted r e =
+      let same : new ≡ r = cc in
+      subst (IsTrueOf p without (records ++ q ∷ [])) same (looked_true s old new (h old is) kept.0 kept.1 kept.2 beside sighted)
+
+  -- the refusal of the record itself
+  pub made_next : (k : Crossing) (f : Fault) (number : ℕ) (bytes : List ℕ) (time : Option CaptureTime) (notes : Notes) (o : Option CaptureRefusal)
+      → ForSome o (IsMadeOf f bytes time notes) → AreNotes p without records notes → (f ≡ no_memory) ⊎ (after_record k (number, bytes) ≡ Err f) → (f ≡ no_memory → ⊥)
+      → numbered q ≡ (number, bytes) → time ≡ Some q.time → ForSome o (IsTrueOf p without (records ++ q ∷ []))
+  made_next k f number bytes time notes o made noted why known is timed r e = ⊎_elim
+      (λ (none : f ≡ no_memory). absurd (known none))
+      (λ (fails : after_record k (number, bytes) ≡ Err f). made_true f bytes time notes r noted (made r e)
+      (record_place k (number, bytes) f fails ∙ sym (ap (λ (n : Numbered). n.0) is)) (ap (λ (n : Numbered). n.1) is) timed)
+      why
+
+-- one that tells no time
+pub ended_true : (p : Parameters) (without : List ℕ) (records : List Captured) (f : Fault) (bytes : List ℕ) (notes : Notes) (r : CaptureRefusal) → AreNotes p without records notes
+    → IsMadeOf f bytes None notes r → IsTrueOf p without records r
+ended_true p without records f bytes notes r noted made = record {
+  timed = λ t e. (let none : ◌≡◌ {A = Option CaptureTime} None (Some t) = sym made.time ∙ e in absurd cc);
+  beside = λ b e. subst (λ (l : List Sighting). Contains l b.sighting) noted.packets (made.beside b e);
+}
+
+pub true_as : (p q : Parameters) (v w : List ℕ) (records : List Captured) (o : Option CaptureRefusal) → p ≡ q → v ≡ w
+    → ForSome o (IsTrueOf p v records) → ForSome o (IsTrueOf q w records)
+true_as p q v w records o e f h = λ r is. subst (λ (x : List ℕ). IsTrueOf q x records r) f (subst (λ (x : Parameters). IsTrueOf x v records r) e (h r is))

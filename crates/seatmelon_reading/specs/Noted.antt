@@ -1,0 +1,95 @@
+-- What is noted of a capture's records, where some are left out.
+use Rattle.std.specs.Prelude.{◌≡◌, ℕ, ◌+◌, List, [], ◌∷◌, length, map, filter, filter_map, nat_eq, nat_le, nat_lt, not, ◌&&◌, Bool, true, false, Option, None, Some, Result, Ok, Err, option_map, if◌then◌else◌}
+use Rattle.std.specs.List.{list_any}
+use Rattle.rasta_pcap.specs.declared.fault.Fault.{Fault}
+use Rattle.rasta_pcap.specs.declared.fault.Side.{Side}
+use Rattle.rasta_pcap.specs.declared.fault.Side.TheVariants.{Client, Server}
+use Rattle.rasta_pcap.specs.Captured.{Captured}
+use Rattle.rasta_udp.specs.Frame.{Packet, packet_in}
+use Rattle.rasta_pdu.specs.Params.{Parameters}
+use Rattle.rasta_check.specs.declared.passage.Passage.{Passage}
+use Rattle.rasta_check.specs.Capture.Passages.{passage_of}
+use Rattle.seatmelon_reading.specs.declared.notes.ChannelCount.{ChannelCount}
+use Rattle.seatmelon_reading.specs.declared.notes.Notes.{Notes}
+use Rattle.seatmelon_reading.specs.declared.notes.Sighting.{Sighting}
+
+-- a packet of the recorded channels, and the record that holds it
+pub record Seen : Type 0 where
+  pub captured : Captured
+  pub packet : Packet
+
+abbrev pub seen_by : Captured → Result (Option Packet) Fault → Option Seen
+seen_by r (Ok (Some packet)) = Some (record { captured = r; packet = packet })
+seen_by r (Ok None) = None
+seen_by r (Err fault) = None
+
+-- the record of this number is left out
+abbrev pub is_left_out : List ℕ → ℕ → Bool
+is_left_out without number = list_any (nat_eq number) without
+
+-- the packet of a record that isn't left out
+abbrev pub seen_in : Parameters → List ℕ → Captured → Option Seen
+seen_in p without r = if is_left_out without r.number then None else seen_by r (packet_in p.channels r.bytes)
+
+-- where it crossed
+abbrev pub passage_seen : Option Seen → Option Passage
+passage_seen s = option_map (λ (s : Seen). passage_of s.packet) s
+
+-- the packets of these records, in order
+abbrev pub all_seen : Parameters → List ℕ → List Captured → List Seen
+all_seen p without records = filter_map (seen_in p without) records
+
+abbrev pub is_before : Parameters → Seen → Bool
+is_before p s = nat_lt s.captured.number p.first_record
+
+abbrev pub is_inside : Parameters → Seen → Bool
+is_inside p s = not (is_before p s) && nat_le s.captured.number p.last_record
+
+abbrev pub is_behind : Parameters → Seen → Bool
+is_behind p s = not (is_before p s) && not (nat_le s.captured.number p.last_record)
+
+-- the packets of the connection: those in the window, by place
+abbrev pub seen_inside : Parameters → List ℕ → List Captured → List Seen
+seen_inside p without records = filter (is_inside p) (all_seen p without records)
+
+-- record, time and channel of a packet
+abbrev pub sighting_of : Seen → Sighting
+sighting_of s = record { «record» = s.captured.number; time = Some s.captured.time; channel = s.packet.channel }
+
+abbrev pub is_client : Side → Bool
+is_client Client = true
+is_client Server = false
+
+-- the client sent the packet on this channel, or the server did
+abbrev pub is_clients : ℕ → Seen → Bool
+is_clients channel s = nat_eq s.packet.channel channel && is_client s.packet.side
+
+abbrev pub is_servers : ℕ → Seen → Bool
+is_servers channel s = nat_eq s.packet.channel channel && not (is_client s.packet.side)
+
+-- how many of these packets each end sent on a channel
+abbrev pub count_on : List Seen → ℕ → ChannelCount
+count_on seen channel = record { client = length (filter (is_clients channel) seen); server = length (filter (is_servers channel) seen) }
+
+-- with one packet more of this end
+abbrev pub count_with : ChannelCount → Side → ChannelCount
+count_with count Client = record { client = count.client + 1; server = count.server }
+count_with count Server = record { client = count.client; server = count.server + 1 }
+
+-- the counts of the four channels that there can be
+abbrev pub counts_of : List Seen → List ChannelCount
+counts_of seen = map (count_on seen) (1 ∷ 2 ∷ 3 ∷ 4 ∷ [])
+
+-- what is noted but for the packets in the window
+pub record SameOutside (old new : Notes) : Type 0 where
+  pub read : new.records ≡ old.records
+  pub before : new.before ≡ old.before
+  pub behind : new.behind ≡ old.behind
+
+-- these are the notes of the records so far
+pub record AreNotes (p : Parameters) (without : List ℕ) (records : List Captured) (n : Notes) : Type 0 where
+  pub read : n.records ≡ length records
+  pub packets : n.packets.items ≡ map sighting_of (seen_inside p without records)
+  pub channels : n.channels ≡ counts_of (seen_inside p without records)
+  pub before : n.before ≡ length (filter (is_before p) (all_seen p without records))
+  pub behind : n.behind ≡ length (filter (is_behind p) (all_seen p without records))

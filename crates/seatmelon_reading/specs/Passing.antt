@@ -1,0 +1,77 @@
+-- The reading of a known file on its way.
+use Rattle.std.specs.Prelude.{◌≡◌, ℕ, suc, ◌-◌, ◌≤◌, List, [], ◌++◌, length, Bool, true, false, Option, Some, Result, Ok, Err, ⊤}
+use Rattle.std.specs.Option.{ForSome}
+use Rattle.rasta_pcap.specs.declared.fault.Fault.{Fault}
+use Rattle.rasta_pcap.specs.declared.pcap.Endianness.{Endianness}
+use Rattle.rasta_pcap.specs.declared.stream.Progress.TheVariants.{Reading}
+use Rattle.rasta_pcap.specs.declared.stream.RecordReader.{RecordReader}
+use Rattle.rasta_pcap.specs.declared.time.FractionUnit.{FractionUnit}
+use Rattle.rasta_pcap.specs.Capture.{cursor_at, max_records, reading}
+use Rattle.rasta_pcap.specs.Captured.{Captured, captured_from, captured_in}
+use Rattle.rasta_pcap.specs.Stream.{count_in, order_in, progress_of, unit_in}
+use Rattle.rasta_pdu.specs.Params.{Parameters}
+use Rattle.rasta_check.specs.Capture.Reading.{Crossing, after_reading, nothing_crossed}
+use Rattle.seatmelon_reading.specs.Noted.{AreNotes}
+use Rattle.seatmelon_reading.specs.Reading.{crossing_without, reading_without, standing_in}
+use Rattle.seatmelon_reading.specs.Told.{IsTrueOf}
+use Rattle.seatmelon_reading.specs.declared.pass.Pass.{Pass}
+
+-- what is to be read: by these parameters, without these records, what crosses, and what was captured
+pub record Whole : Type 0 where
+  pub params : Parameters
+  pub without : List ℕ
+  pub crossed : Result Crossing Fault
+  pub captured : List Captured
+
+abbrev pub whole_of : Parameters → List ℕ → List ℕ → Whole
+whole_of p without file = record { params = p; without = without; crossed = crossing_without p without file; captured = captured_in file }
+
+-- what crosses by at most so many more records, where this stands so far
+abbrev pub outcome_left : List ℕ → Result Crossing Fault → ℕ → Endianness → List ℕ → ℕ → Result Crossing Fault
+outcome_left without (Err fault) left order rest count = Err fault
+outcome_left without (Ok k) left order rest count = after_reading k (reading_without without (reading left (cursor_at order rest count)))
+
+-- after so many records: what crosses by the whole file crosses by the rest, and what is noted is noted of the records so far
+pub record IsOnWay (w : Whole) (order : Endianness) (unit : FractionUnit) (count : ℕ) (rest : List ℕ) (pass : Pass) : Type 0 where
+  pub params : pass.params ≡ w.params
+  pub without : pass.without.now ≡ w.without
+  pub done : List Captured
+  pub counted : length done ≡ count
+  pub within : w.params.last_record ≤ max_records
+  pub standing : outcome_left w.without (standing_in pass) (w.params.last_record - count) order rest count ≡ w.crossed
+  pub captured : done ++ captured_from (max_records - count) unit (cursor_at order rest count) ≡ w.captured
+  pub noted : AreNotes w.params w.without done pass.notes
+  pub told : ForSome pass.refusal (IsTrueOf w.params w.without done)
+
+-- at the end
+pub record IsThrough (w : Whole) (pass : Pass) : Type 0 where
+  pub standing : standing_in pass ≡ w.crossed
+  pub noted : AreNotes w.params w.without w.captured pass.notes
+  pub told : ForSome pass.refusal (IsTrueOf w.params w.without w.captured)
+
+-- the input is known, and a reader stands so on the way
+abbrev pub ReaderOnWay : Whole → RecordReader → Option (List ℕ) → Pass → Type 0
+ReaderOnWay w records input pass = (rest : List ℕ) × (input ≡ Some rest) × IsOnWay w (order_in records) (unit_in records) (count_in records) rest pass
+
+-- after one more record it is on the way, and where there was none it is through
+abbrev pub StepsTo : Bool → Whole → RecordReader → Option (List ℕ) → Pass → Type 0
+StepsTo true w records input pass = ReaderOnWay w records input pass
+StepsTo false w records input pass = IsThrough w pass
+
+-- the reading goes on after one more record
+pub record ReadsOn (old new : RecordReader) : Type 0 where
+  pub reading : progress_of new ≡ Reading
+  pub count : count_in new ≡ suc (count_in old)
+
+abbrev pub ReadsOnIf : Bool → RecordReader → RecordReader → Type 0
+ReadsOnIf true old new = ReadsOn old new
+ReadsOnIf false old new = ⊤
+
+-- nothing was read
+pub record IsBegun (pass : Pass) : Type 0 where
+  pub standing : standing_in pass ≡ Ok (nothing_crossed pass.params)
+  pub noted : AreNotes pass.params pass.without.now [] pass.notes
+
+-- a file was passed
+abbrev pub IsPassed : List ℕ → Pass → Pass → Type 0
+IsPassed file old new = IsBegun old → IsThrough (whole_of old.params old.without.now file) new

@@ -1,0 +1,184 @@
+//! Why a capture is refused, and what its other packets say of the refused one.
+ghost use Rattle.std.specs.Prelude.{◌≡◌, ◌⊎◌, Some, IfErr, IfOk, OnOk};
+ghost use Rattle.std.specs.List.{Contains};
+ghost use Rattle.std.specs.Option.{ForSome};
+ghost use Rattle.rasta_pcap.specs.Fault.{no_memory};
+
+use crate::notes::{Notes, Sighting};
+use rasta_check::{SentList, SpanList, Store};
+use rasta_pcap::{CaptureTime, Fault, Record, Side};
+use rasta_pdu::{Params, decode};
+use rasta_udp::{Datagram, datagram};
+use std::alloc::Global;
+
+/// A packet beside the refused one, and its datagram.
+#[derive(Drop)]
+pub struct Beside {
+    pub sighting: Sighting,
+    pub bytes: Vec<u8>,
+}
+
+// A packet of an end is asked for, with this redundancy number.
+#[derive(Clone, Copy)]
+struct Wanted {
+    side: Side,
+    number: u32,
+}
+
+/// A capture's fault, the refused record, and what the other packets say of it.
+#[derive(Drop)]
+pub struct CaptureRefusal {
+    pub fault: Fault,
+
+    /// The bytes of the refused record, as far as they were read.
+    pub frame: Vec<u8>,
+
+    /// When the refused record was captured, if it was read whole.
+    pub time: Option<CaptureTime>,
+
+    /// The number that the end of the refused packet was to use next.
+    pub next_number: Option<u32>,
+
+    /// The first other packet of the end with the number of the refused one; where numbers have a gap, the first later
+    /// one with the number that was due.
+    pub beside: Option<Beside>,
+
+    // What is still looked for behind the refused record.
+    wanted: Option<Wanted>,
+}
+
+// What an end sent.
+fn list_of(store: &Store, side: Side) -> SpanList<'_> {
+    match side {
+        Side::Client => store.client(),
+        Side::Server => store.server(),
+    }
+}
+
+// A copy of these bytes.
+fn copied(alloc: Global, bytes: &[u8]) -> Result<Vec<u8>, Fault>
+    ensures copy { IfOk result (λ copy. copy.items ≡ bytes.now) }
+    ensures err { IfErr result (λ f. f ≡ no_memory) }
+{
+    let mut copy = Vec::new(alloc);
+    copy.extend_from_slice(bytes)?;
+    Ok(copy)
+}
+
+// The redundancy number of a datagram, where it is long enough to have one.
+fn number_in(datagram: &[u8]) -> Option<u32> {
+    let bytes = datagram.get(4..8)?;
+    Some(u32::from_le_bytes(bytes.try_into().ok()?))
+}
+
+// The number that an end was to use next, after what crossed; none where it sent nothing.
+fn next_number(list: &SpanList<'_>) -> Option<u32> {
+    let (_, first) = list.get(0)?;
+    Some(first.number().wrapping_add(list.len()))
+}
+
+// The packet that a fault which speaks of an end asks for: after a gap the one that was due, else the one with the
+// number of the refused packet.
+fn wanted_packet(params: &Params, fault: Fault, frame: &[u8], next: Option<u32>) -> Option<Wanted> {
+    let side = fault.end?;
+    let record = Record {
+        number: fault.place,
+        bytes: frame,
+    };
+    let packet = datagram(&record, params.channel()).ok()??;
+    let number = match fault.number {
+        Fault::NUMBER_GAP => next?,
+        _ => number_in(packet.payload)?,
+    };
+    Some(Wanted { side, number })
+}
+
+// The first copy that crossed with the number that is asked for.
+fn packet_beside(
+    alloc: Global,
+    store: &Store,
+    notes: &Notes,
+    wanted: Wanted,
+) -> Result<Option<Beside>, Fault>
+    ensures noted { IfOk result (λ o. ForSome o (λ b. Contains notes.now.packets.items b.sighting)) }
+    ensures err { IfErr result (λ f. f ≡ no_memory) }
+{
+    let Some(position) = list_of(store, wanted.side).position_of(wanted.number) else {
+        return Ok(None);
+    };
+    let Some((place, bytes)) = store.datagram(wanted.side, position) else {
+        return Ok(None);
+    };
+    match notes.packets.get(place as usize) {
+        Some(sighting) => Ok(Some(Beside {
+            sighting: *sighting,
+            bytes: copied(alloc, bytes)?,
+        })),
+        None => Ok(None),
+    }
+}
+
+impl CaptureRefusal {
+    ghost use Rattle.seatmelon_reading.specs.Told.{IsMadeOf};
+
+    /// Of a record with these bytes, which was captured at this time, after what crossed before it.
+    ///
+    /// Refused by [`Fault::NO_MEMORY`] alone.
+    pub fn new(
+        alloc: Global,
+        store: &Store,
+        notes: &Notes,
+        fault: Fault,
+        frame: &[u8],
+        time: Option<CaptureTime>,
+    ) -> Result<CaptureRefusal, Fault>
+        ensures made { IfOk result (IsMadeOf fault frame.now time notes.now) }
+        ensures err { IfErr result (λ f. f ≡ no_memory) }
+    {
+        let next = fault
+            .end
+            .and_then(|side| next_number(&list_of(store, side)));
+        let mut refusal = CaptureRefusal {
+            fault,
+            frame: copied(alloc, frame)?,
+            time,
+            next_number: next,
+            beside: None,
+            wanted: wanted_packet(&store.params(), fault, frame, next),
+        };
+        if let Some(wanted) = refusal.wanted {
+            refusal.beside = packet_beside(alloc, store, notes, wanted)?;
+        }
+        Ok(refusal)
+    }
+
+    /// Looks at a packet behind the refused record, whether it is the one that is asked for.
+    ///
+    /// Refused by [`Fault::NO_MEMORY`] alone.
+    pub fn look_at(
+        &mut self,
+        alloc: Global,
+        params: &Params,
+        sighting: Sighting,
+        packet: &Datagram<'_>,
+    ) -> Result<(), Fault>
+        ensures kept { (self.new.fault ≡ self.old.fault) × (self.new.frame.items ≡ self.old.frame.items) × (self.new.time ≡ self.old.time) }
+        ensures beside { ForSome self.new.beside (λ b. (self.old.beside ≡ Some b) ⊎ (b.sighting ≡ sighting)) }
+        ensures err { IfErr result (λ f. f ≡ no_memory) }
+    {
+        let Some(wanted) = self.wanted else {
+            return Ok(());
+        };
+        if self.beside.is_some() || packet.side != wanted.side {
+            return Ok(());
+        }
+        match decode(params, packet.side, packet.payload) {
+            Ok(pdu) if pdu.number() == wanted.number => {
+                let bytes = copied(alloc, packet.payload)?;
+                self.beside = Some(Beside { sighting, bytes });
+                Ok(())
+            }
+            _ => Ok(()),
+        }
+    }
+}

@@ -1,0 +1,180 @@
+//! What is noted of a capture's records: how many there are, and where the packets of the connection stand.
+ghost use Rattle.std.specs.Prelude.{◌≡◌, suc, ◌++◌, ◌∷◌, [], ◌<◌, ◌≤◌, ◌⊎◌, ◌^◌, ℕ, List, length, None, Some, IfErr, OnOk};
+ghost use Rattle.rasta_pcap.specs.Captured.{Captured};
+ghost use Rattle.rasta_pcap.specs.Fault.{no_memory};
+ghost use Rattle.rasta_pdu.specs.Params.{Parameters};
+ghost use Rattle.rasta_check.specs.Capture.Passages.{passage_of};
+ghost use Rattle.seatmelon_reading.specs.Noted.{AreNotes, SameOutside, Seen, count_with, counts_of, passage_seen, seen_in};
+
+use crate::window::{Standing, standing_of};
+use rasta_check::Passage;
+use rasta_pcap::{CaptureTime, Fault, Side};
+use rasta_pdu::Params;
+use std::alloc::{AllocError, Global};
+
+/// Where and when a packet was captured, and on which channel.
+#[derive(Clone, Copy)]
+pub struct Sighting {
+    /// The number of its record, from 1.
+    pub record: u32,
+
+    pub time: Option<CaptureTime>,
+
+    /// The number of its channel, from 1.
+    pub channel: u8,
+}
+
+/// How many packets of each end a channel has.
+#[derive(Clone, Copy)]
+pub struct ChannelCount {
+    pub client: u64,
+    pub server: u64,
+}
+
+/// What is noted of the records that were read.
+#[derive(Drop)]
+pub struct Notes {
+    /// How many there are.
+    pub records: u32,
+
+    /// The packets of the connection in the window, by place.
+    pub packets: Vec<Sighting>,
+
+    /// How many of these each channel has.
+    pub channels: [ChannelCount; 4],
+
+    /// How many packets of the recorded channels stand before the window, and how many behind it.
+    pub before: u64,
+    pub behind: u64,
+}
+
+impl ChannelCount {
+    // With one packet more of this end.
+    fn with(self, side: Side) -> ChannelCount
+        ensures { self.client < 2 ^ 32 → self.server < 2 ^ 32 → result ≡ count_with self side }
+    {
+        let ChannelCount { client, server } = self;
+        match side {
+            Side::Client => ChannelCount {
+                client: client.saturating_add(1),
+                server,
+            },
+            Side::Server => ChannelCount {
+                client,
+                server: server.saturating_add(1),
+            },
+        }
+    }
+}
+
+// The place of a channel among the four that there can be.
+fn place_of(channel: u8) -> usize
+    ensures within { result < 4 → channel ≡ suc result }
+    ensures beyond { 4 ≤ result → (channel ≡ 0) ⊎ (4 < channel) }
+{
+    usize::from(channel.wrapping_sub(1))
+}
+
+// Counts a packet that crossed so.
+fn count(channels: &mut [ChannelCount; 4], passage: Passage)
+    ensures { (seen : List Seen) (s : Seen) → channels.old ≡ counts_of seen → length seen < 2 ^ 32 → passage ≡ passage_of s.packet
+        → channels.new ≡ counts_of (seen ++ s ∷ []) }
+{
+    let place = place_of(passage.channel);
+    if place < channels.len() {
+        channels[place] = channels[place].with(passage.side);
+    }
+}
+
+impl Notes {
+    /// Of no record.
+    pub fn new(alloc: Global) -> Notes
+        ensures { (p : Parameters) (without : List ℕ) → AreNotes p without [] result }
+    {
+        let none = ChannelCount {
+            client: 0,
+            server: 0,
+        };
+        Notes {
+            records: 0,
+            packets: Vec::new(alloc),
+            channels: [none; 4],
+            before: 0,
+            behind: 0,
+        }
+    }
+
+    // Takes in a record without a packet of the recorded channels.
+    fn pass(&mut self, number: u32)
+        ensures { (p : Parameters) (without : List ℕ) (records : List Captured) (r : Captured) → AreNotes p without records self.old
+            → number ≡ suc (length records) → seen_in p without r ≡ None → AreNotes p without (records ++ r ∷ []) self.new }
+    {
+        self.records = number;
+    }
+
+    // Takes in a packet in the window.
+    fn add_inside(&mut self, sighting: Sighting, passage: Passage) -> Result<(), AllocError>
+        ensures packets { OnOk result (self.new.packets.items ≡ self.old.packets.items ++ sighting ∷ []) }
+        ensures channels { (seen : List Seen) (s : Seen) → self.old.channels ≡ counts_of seen → length seen < 2 ^ 32 → passage ≡ passage_of s.packet
+            → OnOk result (self.new.channels ≡ counts_of (seen ++ s ∷ [])) }
+        ensures kept { SameOutside self.old self.new }
+    {
+        self.packets.push(sighting)?;
+        count(&mut self.channels, passage);
+        Ok(())
+    }
+
+    // Takes in a record, which was captured at this time, and where its packet crossed.
+    fn add(
+        &mut self,
+        params: &Params,
+        number: u32,
+        time: Option<CaptureTime>,
+        passage: Passage,
+    ) -> Result<(), Fault>
+        ensures noted { OnOk result ((without : List ℕ) (records : List Captured) (s : Seen) → AreNotes params.now without records self.old
+            → s.captured.number ≡ number → number ≡ suc (length records) → time ≡ Some s.captured.time
+            → seen_in params.now without s.captured ≡ Some s → passage ≡ passage_of s.packet
+            → AreNotes params.now without (records ++ s.captured ∷ []) self.new) }
+        ensures err { IfErr result (λ f. f ≡ no_memory) }
+    {
+        self.records = number;
+        match standing_of(params, number) {
+            Standing::Before => self.before = self.before.saturating_add(1),
+            Standing::Behind => self.behind = self.behind.saturating_add(1),
+            Standing::Inside => {
+                let channel = passage.channel;
+                let sighting = Sighting {
+                    record: number,
+                    time,
+                    channel,
+                };
+                self.add_inside(sighting, passage)?;
+            }
+        }
+        Ok(())
+    }
+
+    /// Takes in a record, which was captured at this time, and where its packet crossed, if it holds one of the
+    /// recorded channels.
+    pub fn note(
+        &mut self,
+        params: &Params,
+        number: u32,
+        time: Option<CaptureTime>,
+        passage: Option<Passage>,
+    ) -> Result<(), Fault>
+        ensures noted { OnOk result ((without : List ℕ) (records : List Captured) (r : Captured) → AreNotes params.now without records self.old
+            → r.number ≡ number → number ≡ suc (length records) → time ≡ Some r.time → passage ≡ passage_seen (seen_in params.now without r)
+            → AreNotes params.now without (records ++ r ∷ []) self.new) }
+        ensures err { IfErr result (λ f. f ≡ no_memory) }
+    {
+        match passage {
+            Some(passage) => self.add(params, number, time, passage),
+            None => {
+                self.pass(number);
+                Ok(())
+            }
+        }
+    }
+}

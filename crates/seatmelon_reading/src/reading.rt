@@ -1,0 +1,160 @@
+//! A capture, read once.
+ghost use Rattle.std.specs.Prelude.{◌≡◌, ◌⊎◌, IfErr, IfOk, IfSome, OnOk};
+ghost use Rattle.std.specs.Io.KnownBytes.{IsAtEnd};
+ghost use Rattle.rasta_pcap.specs.Fault.{no_memory, read_failed};
+ghost use Rattle.rasta_pcap.specs.Noting.{PassesOn};
+ghost use Rattle.sha2.specs.Sha256.{sha256};
+ghost use Rattle.rasta_pcap.specs.Stream.{count_in, progress_of};
+ghost use Rattle.rasta_pcap.specs.declared.stream.Progress.TheVariants.{Reading as StillReading};
+ghost use Rattle.seatmelon_reading.specs.Passing.{IsPassed, IsThrough, ReaderOnWay, ReadsOnIf, StepsTo, Whole};
+ghost use Rattle.seatmelon_reading.specs.Reading.{IsReading, TellsFault};
+
+use crate::capture_refusal::CaptureRefusal;
+use crate::notes::Notes;
+use crate::pass::Pass;
+use crate::summed::Summed;
+use rasta_check::Store;
+use rasta_pcap::stream::RecordReader;
+use rasta_pcap::{Buffered, Fault, Record, Source};
+use rasta_pdu::Params;
+use std::alloc::Global;
+
+// How many bytes are read at once.
+const BUFFER: usize = 65_536;
+
+// The most records of a capture.
+const MOST_RECORDS: u32 = 4_000_000_000;
+
+/// What a capture holds: what crossed by it up to its first fault, that fault, what is noted of its records, and the
+/// SHA-256 of its file.
+#[derive(Drop)]
+pub struct Reading {
+    pub store: Store,
+    pub refusal: Option<CaptureRefusal>,
+    pub notes: Notes,
+    pub digest: [u8; 32],
+}
+
+// Passes the next record of a capture; false where there is none, and where none can be read.
+fn pass_record<S: Source>(
+    alloc: Global,
+    records: &mut RecordReader,
+    source: &mut S,
+    pass: &mut Pass<'_>,
+) -> Result<bool, Fault>
+    requires { progress_of records.old ≡ StillReading }
+    ensures passed { PassesOn S.remaining S.notes source.old source.new }
+    ensures step { (w : Whole) → ReaderOnWay w records.old (S.remaining source.old) pass.old
+        → IfOk result (λ more. StepsTo more w records.new (S.remaining source.new) pass.new) }
+    ensures on { IfOk result (λ more. ReadsOnIf more records.old records.new) }
+    ensures err { IfErr result (λ f. (f ≡ no_memory) ⊎ (f ≡ read_failed)) }
+{
+    match records.advance(source) {
+        Ok(Some(number)) => {
+            let bytes = records.buffer();
+            pass.add(alloc, &Record { number, bytes }, records.time())?;
+            Ok(true)
+        }
+        Ok(None) => Ok(false),
+        Err(fault) => {
+            pass.end(alloc, fault, records.buffer())?;
+            Ok(false)
+        }
+    }
+}
+
+// Passes the records of a capture, up to its end or to where no record can be read.
+fn pass_records<S: Source>(
+    alloc: Global,
+    mut records: RecordReader,
+    source: &mut S,
+    pass: &mut Pass<'_>,
+) -> Result<(), Fault>
+    requires reading { progress_of records ≡ StillReading }
+    requires start { count_in records ≡ 0 }
+    ensures passed { PassesOn S.remaining S.notes source.old source.new }
+    ensures read { (w : Whole) → ReaderOnWay w records (S.remaining source.old) pass.old → OnOk result (IsThrough w pass.new) }
+    ensures err { IfErr result (λ f. (f ≡ no_memory) ⊎ (f ≡ read_failed)) }
+{
+    for _ in 0..MOST_RECORDS {
+        if !pass_record(alloc, &mut records, source, pass)? {
+            break;
+        }
+    }
+    Ok(())
+}
+
+// Passes a capture, up to its end or to where no record can be read.
+fn pass_capture<S: Source>(alloc: Global, source: &mut S, pass: &mut Pass<'_>) -> Result<(), Fault>
+    ensures passed { PassesOn S.remaining S.notes source.old source.new }
+    ensures read { IfSome (S.remaining source.old) (λ file. OnOk result (IsPassed file pass.old pass.new)) }
+    ensures err { IfErr result (λ f. (f ≡ no_memory) ⊎ (f ≡ read_failed)) }
+{
+    match RecordReader::open(alloc, source) {
+        Ok(records) => pass_records(alloc, records, source, pass),
+        Err(fault) => pass.end(alloc, fault, &[]),
+    }
+}
+
+// Reads to the end of input.
+fn drain<S: Source>(source: &mut S) -> Result<(), Fault>
+    ensures passed { PassesOn S.remaining S.notes source.old source.new }
+    ensures ended { OnOk result (IsAtEnd (S.remaining source.new)) }
+    ensures err { IfErr result (λ f. f ≡ read_failed) }
+{
+    let mut buffer = [0u8; 8192];
+    for _ in 0..u64::MAX {
+        match source.read(&mut buffer) {
+            Ok(0) => return Ok(()),
+            Ok(_) => {}
+            Err(_) => break,
+        }
+    }
+    Err(Fault::at(Fault::READ_FAILED, 0))
+}
+
+// Passes a capture to the end of its file, and answers the SHA-256 of it.
+fn pass_file<R: Source>(
+    alloc: Global,
+    reader: &mut R,
+    pass: &mut Pass<'_>,
+) -> Result<[u8; 32], Fault>
+    ensures read { IfSome (R.remaining reader.old) (λ file. OnOk result (IsPassed file pass.old pass.new)) }
+    ensures summed { IfSome (R.remaining reader.old) (λ file. IfOk result (λ digest. digest ≡ sha256 file)) }
+    ensures err { IfErr result (λ f. (f ≡ no_memory) ⊎ (f ≡ read_failed)) }
+{
+    let mut source = Buffered::new(alloc, Summed::new(reader), BUFFER)?;
+    pass_capture(alloc, &mut source, pass)?;
+    drain(&mut source)?;
+    Ok(source.into_inner().into_digest())
+}
+
+/// Reads a capture once, from its first byte to its last, through a buffer.
+///
+/// Refused by [`Fault::NO_MEMORY`] and [`Fault::READ_FAILED`] alone: a fault of the capture is part of what is read.
+pub fn read_capture<R: Source>(
+    alloc: Global,
+    params: &Params,
+    without: &[u32],
+    reader: &mut R,
+) -> Result<Reading, Fault>
+    // Of a file that is known it is told what crossed by it or its first fault, what is noted of its records, and its sum.
+    ensures read { IfSome (R.remaining reader.old) (λ file. IfOk result (IsReading params.now without.now file)) }
+    ensures fault { IfOk result (λ reading. TellsFault reading.refusal) }
+    ensures err { IfErr result (λ f. (f ≡ no_memory) ⊎ (f ≡ read_failed)) }
+{
+    let mut pass = Pass::new(alloc, params, without);
+    let digest = pass_file(alloc, reader, &mut pass)?;
+    let Pass {
+        builder,
+        refusal,
+        notes,
+        ..
+    } = pass;
+    Ok(Reading {
+        store: builder.finish(),
+        refusal,
+        notes,
+        digest,
+    })
+}

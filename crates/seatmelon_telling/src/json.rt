@@ -1,0 +1,189 @@
+//! An account as one JSON object.
+ghost use Rattle.std.specs.Prelude.{◌≡◌, IfErr};
+ghost use Rattle.rasta_pcap.specs.Fault.{write_failed};
+
+use crate::json_explained::write_explained;
+use crate::json_places::write_number_if;
+use crate::json_refusal::write_refusal;
+use crate::page::PROGRAM;
+use rasta_pcap::{Fault, Sink};
+use seatmelon_account::{Account, File, Offer, Verdict};
+use seatmelon_reading::{ChannelCount, Window};
+use seatmelon_text::json::{write_long, write_string};
+use seatmelon_text::{Part, parts, write_parts, write_words};
+
+// Writes a file's name and its SHA-256.
+fn write_file<W: Sink>(writer: &mut W, file: &File<'_>) -> Result<(), Fault>
+    ensures err { IfErr result (λ f. f ≡ write_failed) }
+{
+    write_words(writer, "{\"name\":")?;
+    write_string(writer, file.name)?;
+    write_parts(
+        writer,
+        &parts![",\"sha256\":\"", Part::Hex(&file.sum), "\"}"],
+    )
+}
+
+// Writes the name and the SHA-256 of the certificate, if one was given.
+fn write_certificate<W: Sink>(writer: &mut W, file: Option<&File<'_>>) -> Result<(), Fault>
+    ensures err { IfErr result (λ f. f ≡ write_failed) }
+{
+    match file {
+        Some(file) => write_file(writer, file),
+        None => write_words(writer, "null"),
+    }
+}
+
+// Writes the files that were read.
+fn write_files<W: Sink>(writer: &mut W, account: &Account<'_>) -> Result<(), Fault>
+    ensures err { IfErr result (λ f. f ≡ write_failed) }
+{
+    write_words(writer, ",\"capture\":")?;
+    write_file(writer, &account.capture)?;
+    write_words(writer, ",\"parameters\":")?;
+    write_file(writer, &account.parameters)?;
+    write_words(writer, ",\"certificate\":")?;
+    write_certificate(writer, account.certificate.as_ref())
+}
+
+// Writes which records were left out.
+fn write_without<W: Sink>(writer: &mut W, without: &[u32]) -> Result<(), Fault>
+    ensures err { IfErr result (λ f. f ≡ write_failed) }
+{
+    write_words(writer, ",\"without\":[")?;
+    let mut before = "";
+    for number in without {
+        write_parts(writer, &parts![before, *number])?;
+        before = ",";
+    }
+    write_words(writer, "]")
+}
+
+// Writes a number of 64 bits under a key.
+fn write_count<W: Sink>(writer: &mut W, key: &'static str, count: u64) -> Result<(), Fault>
+    ensures err { IfErr result (λ f. f ≡ write_failed) }
+{
+    write_parts(writer, &parts![",\"", key, "\":"])?;
+    write_long(writer, count)
+}
+
+// Writes the window, if one is recorded.
+fn write_window<W: Sink>(
+    writer: &mut W,
+    account: &Account<'_>,
+    window: Option<Window>,
+) -> Result<(), Fault>
+    ensures err { IfErr result (λ f. f ≡ write_failed) }
+{
+    let Some(window) = window else {
+        return write_words(writer, ",\"window\":null");
+    };
+    write_parts(
+        writer,
+        &parts![
+            ",\"window\":{\"first_record\":",
+            window.first_record,
+            ",\"last_record\":"
+        ],
+    )?;
+    write_number_if(writer, window.last_record)?;
+    write_count(writer, "packets_before", account.before)?;
+    write_count(writer, "packets_behind", account.behind)?;
+    write_words(writer, "}")
+}
+
+// Writes how many packets a channel has.
+fn write_channel<W: Sink>(
+    writer: &mut W,
+    before: &'static str,
+    number: u64,
+    count: ChannelCount,
+) -> Result<(), Fault>
+    ensures err { IfErr result (λ f. f ≡ write_failed) }
+{
+    write_parts(writer, &parts![before, "{\"channel\":", number])?;
+    write_count(writer, "from_client", count.client)?;
+    write_count(writer, "from_server", count.server)?;
+    write_words(writer, "}")
+}
+
+// Writes how many packets each recorded channel has.
+fn write_channels<W: Sink>(writer: &mut W, channels: &[ChannelCount]) -> Result<(), Fault>
+    ensures err { IfErr result (λ f. f ≡ write_failed) }
+{
+    write_words(writer, ",\"channels\":[")?;
+    let mut before = "";
+    for (place, count) in channels.iter().enumerate() {
+        write_channel(writer, before, (place as u64).saturating_add(1), *count)?;
+        before = ",";
+    }
+    write_words(writer, "]")
+}
+
+// Writes what the ends offer at the opening, where the parameters have something else.
+fn write_offers<W: Sink>(writer: &mut W, offers: [Option<Offer>; 2]) -> Result<(), Fault>
+    ensures err { IfErr result (λ f. f ≡ write_failed) }
+{
+    write_words(writer, ",\"offers\":[")?;
+    let mut before = "";
+    for offer in offers {
+        if let Some(offer) = offer {
+            write_parts(
+                writer,
+                &parts![
+                    before,
+                    "{\"end\":\"",
+                    offer.end,
+                    "\",\"offered\":",
+                    offer.offered,
+                    ",\"recorded\":",
+                    offer.recorded,
+                    "}"
+                ],
+            )?;
+            before = ",";
+        }
+    }
+    write_words(writer, "]")
+}
+
+// Writes how many records were read, and what they are.
+fn write_counts<W: Sink>(writer: &mut W, account: &Account<'_>) -> Result<(), Fault>
+    ensures err { IfErr result (λ f. f ≡ write_failed) }
+{
+    write_parts(writer, &parts![",\"records_read\":", account.records])?;
+    write_window(writer, account, account.window)?;
+    write_count(writer, "packets", account.packets.len() as u64)?;
+    write_channels(writer, account.channels)?;
+    write_count(writer, "records_passed_over", account.passed_over())?;
+    write_offers(writer, account.offers)
+}
+
+// Writes the verdict, with what is told of it.
+fn write_verdict<W: Sink>(writer: &mut W, account: &Account<'_>) -> Result<(), Fault>
+    ensures err { IfErr result (λ f. f ≡ write_failed) }
+{
+    match &account.verdict {
+        Verdict::NoPackets => write_words(writer, ",\"verdict\":\"no_packets\""),
+        Verdict::Refused(refusal) => {
+            write_words(writer, ",\"verdict\":\"refused\"")?;
+            write_refusal(writer, account.packets, refusal)
+        }
+        Verdict::Explained(explained) => {
+            write_words(writer, ",\"verdict\":\"explained\"")?;
+            write_explained(writer, account.packets, explained)
+        }
+    }
+}
+
+/// Writes an account as one JSON object and a line feed, as it is made.
+pub fn write_json<W: Sink>(writer: &mut W, account: &Account<'_>) -> Result<(), Fault>
+    ensures err { IfErr result (λ f. f ≡ write_failed) }
+{
+    write_parts(writer, &parts!["{\"program\":\"", PROGRAM, "\""])?;
+    write_files(writer, account)?;
+    write_without(writer, account.without)?;
+    write_counts(writer, account)?;
+    write_verdict(writer, account)?;
+    write_words(writer, "}\n")
+}

@@ -1,0 +1,171 @@
+//! What is told of an explained capture, as JSON.
+ghost use Rattle.std.specs.Prelude.{◌≡◌, IfErr};
+ghost use Rattle.rasta_pcap.specs.Fault.{write_failed};
+
+use crate::explained::{premises, start_premise};
+use crate::json_places::{write_number_if, write_place};
+use rasta_pcap::{Fault, Sink};
+use rasta_pdu::QuietEnd;
+use seatmelon_account::{Direction, Explained, Message, Start};
+use seatmelon_reading::Sighting;
+use seatmelon_text::json::{write_bytes, write_long, write_sentence};
+use seatmelon_text::{Part, parts, write_parts, write_words};
+
+// Writes the premise on where what is judged begins.
+fn write_start_premise<W: Sink>(writer: &mut W, start: &Start) -> Result<(), Fault>
+    ensures err { IfErr result (λ f. f ≡ write_failed) }
+{
+    let end = match start {
+        Start::Opening | Start::LaterOpening => "\"]",
+        Start::Quiet(..) => ".\"]",
+    };
+    write_words(writer, "\"")?;
+    write_parts(writer, &start_premise(start))?;
+    write_words(writer, end)
+}
+
+// Writes the premises of 'explained'.
+fn write_premises<W: Sink>(writer: &mut W, explained: &Explained<'_>) -> Result<(), Fault>
+    ensures err { IfErr result (λ f. f ≡ write_failed) }
+{
+    write_words(writer, ",\"premises\":[")?;
+    for words in premises(explained) {
+        write_sentence(writer, words)?;
+        write_words(writer, ",")?;
+    }
+    write_start_premise(writer, &explained.start)
+}
+
+// Writes where an end stands at the quiet point.
+fn write_quiet_end<W: Sink>(writer: &mut W, end: &QuietEnd) -> Result<(), Fault>
+    ensures err { IfErr result (λ f. f ≡ write_failed) }
+{
+    write_parts(writer, &parts!["{\"next_sn\":", end.next_sn, ",\"clock\":"])?;
+    write_long(writer, end.clock)?;
+    write_words(writer, ",\"deadline\":")?;
+    match end.deadline {
+        Some(deadline) => write_long(writer, deadline)?,
+        None => write_words(writer, "null")?,
+    }
+    write_words(writer, ",\"handed_ts\":")?;
+    write_number_if(writer, end.handed_ts)?;
+    write_words(writer, "}")
+}
+
+// Writes the quiet point, if one is recorded.
+fn write_quiet_point<W: Sink>(writer: &mut W, start: &Start) -> Result<(), Fault>
+    ensures err { IfErr result (λ f. f ≡ write_failed) }
+{
+    let Start::Quiet(first_record, quiet) = start else {
+        return write_words(writer, ",\"quiet_point\":null");
+    };
+    write_parts(
+        writer,
+        &parts![
+            ",\"quiet_point\":{\"first_record\":",
+            *first_record,
+            ",\"client\":"
+        ],
+    )?;
+    write_quiet_end(writer, &quiet.client)?;
+    write_words(writer, ",\"server\":")?;
+    write_quiet_end(writer, &quiet.server)?;
+    write_words(writer, "}")
+}
+
+// Writes the place of the proof of a message, or null.
+fn write_proof<W: Sink>(
+    writer: &mut W,
+    packets: &[Sighting],
+    proof: Option<u32>,
+) -> Result<(), Fault>
+    ensures err { IfErr result (λ f. f ≡ write_failed) }
+{
+    match proof {
+        Some(place) => write_place(writer, packets, place),
+        None => write_words(writer, "null"),
+    }
+}
+
+// Writes a message.
+fn write_message<W: Sink>(
+    writer: &mut W,
+    packets: &[Sighting],
+    message: &Message<'_>,
+) -> Result<(), Fault>
+    ensures err { IfErr result (λ f. f ≡ write_failed) }
+{
+    let is_taken = if message.proof.is_some() {
+        "true"
+    } else {
+        "false"
+    };
+    write_words(writer, "{\"message\":")?;
+    write_long(writer, message.number)?;
+    write_parts(
+        writer,
+        &parts![",\"surely_taken\":", is_taken, ",\"data\":"],
+    )?;
+    write_place(writer, packets, message.data)?;
+    write_words(writer, ",\"proof\":")?;
+    write_proof(writer, packets, message.proof)?;
+    write_parts(
+        writer,
+        &parts![",\"hex\":\"", Part::Hex(message.bytes), "\",\"text\":"],
+    )?;
+    write_bytes(writer, message.bytes)?;
+    write_words(writer, "}")
+}
+
+// Writes the messages that an end sent.
+fn write_direction<W: Sink>(
+    writer: &mut W,
+    packets: &[Sighting],
+    direction: &Direction<'_>,
+) -> Result<(), Fault>
+    ensures err { IfErr result (λ f. f ≡ write_failed) }
+{
+    let sender = direction.sender;
+    write_parts(
+        writer,
+        &parts![
+            "{\"from\":\"",
+            sender,
+            "\",\"to\":\"",
+            sender.other(),
+            "\",\"surely_taken\":"
+        ],
+    )?;
+    write_long(writer, direction.taken)?;
+    write_words(writer, ",\"sent\":")?;
+    write_long(writer, direction.messages.len() as u64)?;
+    write_words(writer, ",\"messages\":[")?;
+    let mut before = "";
+    for message in &direction.messages {
+        write_words(writer, before)?;
+        write_message(writer, packets, message)?;
+        before = ",";
+    }
+    write_words(writer, "]}")
+}
+
+/// Writes what is told of an explained capture, behind the verdict.
+pub fn write_explained<W: Sink>(
+    writer: &mut W,
+    packets: &[Sighting],
+    explained: &Explained<'_>,
+) -> Result<(), Fault>
+    ensures err { IfErr result (λ f. f ≡ write_failed) }
+{
+    write_parts(
+        writer,
+        &parts![",\"packets_explained\":", explained.packets],
+    )?;
+    write_premises(writer, explained)?;
+    write_quiet_point(writer, &explained.start)?;
+    write_words(writer, ",\"messages\":[")?;
+    write_direction(writer, packets, &explained.client)?;
+    write_words(writer, ",")?;
+    write_direction(writer, packets, &explained.server)?;
+    write_words(writer, "]")
+}

@@ -1,0 +1,362 @@
+//! Packets and what is wrong with them, as JSON.
+ghost use Rattle.std.specs.Prelude.{◌≡◌, IfErr};
+ghost use Rattle.rasta_pcap.specs.Fault.{write_failed};
+
+use crate::json_places::{write_hex_if, write_number_if, write_place, write_sighting_if};
+use crate::layout::layout_of;
+use crate::packet_text::{kind_name, shown_length};
+use rasta_pcap::{Fault, Sink};
+use rasta_pdu::Pdu;
+use seatmelon_account::{
+    Codes, Crossed, CutMessage, Differences, Fields, FirstCopy, Layout, RefusedPacket, Trouble,
+    payload_and_codes,
+};
+use seatmelon_reading::Sighting;
+use seatmelon_text::json::{write_bytes, write_long};
+use seatmelon_text::{Part, parts, write_parts, write_words};
+
+// Writes a number under a key, or null.
+fn write_field<W: Sink>(writer: &mut W, key: &'static str, number: Option<u32>) -> Result<(), Fault>
+    ensures err { IfErr result (λ f. f ≡ write_failed) }
+{
+    write_parts(writer, &parts![",\"", key, "\":"])?;
+    write_number_if(writer, number)
+}
+
+// Writes the name of a type, or null.
+fn write_type_name<W: Sink>(writer: &mut W, kind: Option<u32>) -> Result<(), Fault>
+    ensures err { IfErr result (λ f. f ≡ write_failed) }
+{
+    match kind {
+        Some(kind) => write_parts(writer, &parts![",\"type_name\":\"", kind_name(kind), "\""]),
+        None => write_words(writer, ",\"type_name\":null"),
+    }
+}
+
+// Writes the fields of a datagram.
+fn write_fields<W: Sink>(writer: &mut W, fields: &Fields) -> Result<(), Fault>
+    ensures err { IfErr result (λ f. f ≡ write_failed) }
+{
+    write_words(writer, "{\"type\":")?;
+    write_number_if(writer, fields.kind)?;
+    write_type_name(writer, fields.kind)?;
+    let numbers = [
+        ("length_field", fields.length),
+        ("redundancy_number", fields.number),
+        ("safety_length_field", fields.safety_length),
+        ("receiver", fields.receiver),
+        ("sender", fields.sender),
+        ("sn", fields.sn),
+        ("cs", fields.cs),
+        ("ts", fields.ts),
+        ("cts", fields.cts),
+    ];
+    for (key, number) in numbers {
+        write_field(writer, key, number)?;
+    }
+    write_words(writer, "}")
+}
+
+/// Writes the packet of a refused record, or null.
+pub fn write_packet_if<W: Sink>(
+    writer: &mut W,
+    packet: Option<&RefusedPacket<'_>>,
+) -> Result<(), Fault>
+    ensures err { IfErr result (λ f. f ≡ write_failed) }
+{
+    let Some(packet) = packet else {
+        return write_words(writer, "null");
+    };
+    write_parts(
+        writer,
+        &parts![
+            "{\"end\":\"",
+            packet.sender,
+            "\",\"channel\":",
+            packet.channel,
+            ",\"bytes\":",
+            shown_length(packet.datagram),
+            ",\"fields\":"
+        ],
+    )?;
+    write_fields(writer, &Fields::of(packet.datagram))?;
+    let rest = payload_and_codes(packet.datagram);
+    write_parts(
+        writer,
+        &parts![",\"payload_and_codes\":\"", Part::Hex(rest), "\"}"],
+    )
+}
+
+// Writes a number of 64 bits that is due, as the one member of an object.
+fn write_due<W: Sink>(writer: &mut W, key: &'static str, due: u64) -> Result<(), Fault>
+    ensures err { IfErr result (λ f. f ≡ write_failed) }
+{
+    write_parts(writer, &parts!["{\"", key, "\":"])?;
+    write_long(writer, due)?;
+    write_words(writer, "}")
+}
+
+// Writes in which bytes a packet differs from its first copy.
+fn write_differences<W: Sink>(writer: &mut W, differences: &Differences) -> Result<(), Fault>
+    ensures err { IfErr result (λ f. f ≡ write_failed) }
+{
+    let mut before = "{\"at\":";
+    for difference in differences.as_slice() {
+        write_words(writer, before)?;
+        write_long(writer, difference.at as u64)?;
+        write_parts(
+            writer,
+            &parts![
+                ",\"found\":\"",
+                Part::Byte(difference.byte),
+                "\",\"first_copy\":\"",
+                Part::Byte(difference.first),
+                "\"}"
+            ],
+        )?;
+        before = ",{\"at\":";
+    }
+    Ok(())
+}
+
+// Writes the safety code that was found and the one that was due, or null.
+fn write_codes<W: Sink>(writer: &mut W, codes: Option<&Codes<'_>>) -> Result<(), Fault>
+    ensures err { IfErr result (λ f. f ≡ write_failed) }
+{
+    write_words(writer, "{\"code_found\":")?;
+    write_hex_if(writer, codes.map(|codes| codes.found))?;
+    write_words(writer, ",\"code_due\":")?;
+    write_hex_if(writer, codes.map(Codes::due))
+}
+
+// Writes that no other packet has the number.
+fn write_no_copy<W: Sink>(writer: &mut W) -> Result<(), Fault>
+    ensures err { IfErr result (λ f. f ≡ write_failed) }
+{
+    write_words(
+        writer,
+        ",\"first_copy\":null,\"first_copy_bytes\":null,\"differences\":[],\"may_differ_further\":false}",
+    )
+}
+
+// Writes where the first copy of a packet stands, and how the packet differs from it.
+fn write_first_copy<W: Sink>(
+    writer: &mut W,
+    datagram: &[u8],
+    first: Option<&FirstCopy<'_>>,
+) -> Result<(), Fault>
+    ensures err { IfErr result (λ f. f ≡ write_failed) }
+{
+    let Some(first) = first else {
+        return write_no_copy(writer);
+    };
+    let is_longer = datagram.len() != first.bytes.len();
+    write_words(writer, ",\"first_copy\":")?;
+    write_sighting_if(writer, Some(&first.sighting))?;
+    write_words(writer, ",\"first_copy_bytes\":")?;
+    write_number_if(writer, is_longer.then_some(shown_length(first.bytes)))?;
+    write_words(writer, ",\"differences\":[")?;
+    write_differences(writer, &first.differences)?;
+    let ends = if first.differences.is_full() {
+        "],\"may_differ_further\":true}"
+    } else {
+        "],\"may_differ_further\":false}"
+    };
+    write_words(writer, ends)
+}
+
+// Writes which number was due, and where it crosses later.
+fn write_gap<W: Sink>(
+    writer: &mut W,
+    due: u32,
+    found: u32,
+    later: Option<&Sighting>,
+) -> Result<(), Fault>
+    ensures err { IfErr result (λ f. f ≡ write_failed) }
+{
+    write_parts(
+        writer,
+        &parts![
+            "{\"number_due\":",
+            due,
+            ",\"number_found\":",
+            found,
+            ",\"crosses_later\":"
+        ],
+    )?;
+    write_sighting_if(writer, later)?;
+    write_words(writer, "}")
+}
+
+// Writes bytes, in hexadecimal digits and as text.
+fn write_contents<W: Sink>(writer: &mut W, bytes: &[u8]) -> Result<(), Fault>
+    ensures err { IfErr result (λ f. f ≡ write_failed) }
+{
+    write_parts(
+        writer,
+        &parts!["{\"hex\":\"", Part::Hex(bytes), "\",\"text\":"],
+    )?;
+    write_bytes(writer, bytes)?;
+    write_words(writer, "}")
+}
+
+// Writes the message for which a payload ends too soon, or null.
+fn write_cut_message<W: Sink>(writer: &mut W, cut: Option<CutMessage>) -> Result<(), Fault>
+    ensures err { IfErr result (λ f. f ≡ write_failed) }
+{
+    let Some(cut) = cut else {
+        return write_words(writer, "null");
+    };
+    write_words(writer, "{\"at\":")?;
+    write_long(writer, cut.at as u64)?;
+    write_words(writer, ",\"length\":")?;
+    write_number_if(writer, cut.len)?;
+    write_words(writer, ",\"left\":")?;
+    write_long(writer, cut.left as u64)?;
+    write_words(writer, "}")
+}
+
+// Writes which payload is due, and what was found.
+fn write_payload<W: Sink>(writer: &mut W, layout: &Layout<'_>) -> Result<(), Fault>
+    ensures err { IfErr result (λ f. f ≡ write_failed) }
+{
+    write_parts(
+        writer,
+        &parts![
+            "{\"payload_due\":\"",
+            layout_of(layout.kind),
+            "\",\"payload_bytes\":"
+        ],
+    )?;
+    write_long(writer, layout.len as u64)?;
+    write_words(writer, ",\"version\":")?;
+    match layout.version {
+        Some(version) => write_contents(writer, version)?,
+        None => write_words(writer, "null")?,
+    }
+    write_words(writer, ",\"cut_message\":")?;
+    write_cut_message(writer, layout.cut)?;
+    write_words(writer, "}")
+}
+
+// Writes the ids that are due.
+fn write_ids<W: Sink>(writer: &mut W, receiver: u32, sender: u32) -> Result<(), Fault>
+    ensures err { IfErr result (λ f. f ≡ write_failed) }
+{
+    write_parts(
+        writer,
+        &parts![
+            "{\"receiver_due\":",
+            receiver,
+            ",\"sender_due\":",
+            sender,
+            "}"
+        ],
+    )
+}
+
+// Writes what is wrong with a packet, or null.
+fn write_trouble<W: Sink>(writer: &mut W, packet: &RefusedPacket<'_>) -> Result<(), Fault>
+    ensures err { IfErr result (λ f. f ≡ write_failed) }
+{
+    match &packet.trouble {
+        Trouble::Code(codes, first) => {
+            write_codes(writer, codes.as_ref())?;
+            write_first_copy(writer, packet.datagram, first.as_ref())
+        }
+        Trouble::Copy(first) => {
+            write_codes(writer, None)?;
+            write_first_copy(writer, packet.datagram, first.as_ref())
+        }
+        Trouble::Gap {
+            due: Some(due),
+            found,
+            later,
+        } => write_gap(writer, *due, *found, later.as_ref()),
+        Trouble::Ids { receiver, sender } => write_ids(writer, *receiver, *sender),
+        Trouble::Length(due) => write_due(writer, "length_field_due", *due),
+        Trouble::TooShort(least) => write_due(writer, "least_bytes_due", *least),
+        Trouble::SafetyLength(due) => write_due(writer, "safety_length_field_due", *due),
+        Trouble::Type(found) => write_due(writer, "type_found", u64::from(*found)),
+        Trouble::Payload(layout) => write_payload(writer, layout),
+        Trouble::Gap { due: None, .. } | Trouble::Other => write_words(writer, "null"),
+    }
+}
+
+/// Writes what is wrong with the packet of a refused record, or null.
+pub fn write_trouble_if<W: Sink>(
+    writer: &mut W,
+    packet: Option<&RefusedPacket<'_>>,
+) -> Result<(), Fault>
+    ensures err { IfErr result (λ f. f ≡ write_failed) }
+{
+    match packet {
+        Some(packet) => write_trouble(writer, packet),
+        None => write_words(writer, "null"),
+    }
+}
+
+// Writes the messages of a PDU.
+fn write_messages<W: Sink>(writer: &mut W, pdu: &Pdu<'_>) -> Result<(), Fault>
+    ensures err { IfErr result (λ f. f ≡ write_failed) }
+{
+    write_words(writer, ",\"messages\":[")?;
+    let mut before = "";
+    for message in pdu.messages() {
+        write_words(writer, before)?;
+        write_contents(writer, message)?;
+        before = ",";
+    }
+    write_words(writer, "]}")
+}
+
+// Writes the fields of a PDU.
+fn write_pdu<W: Sink>(writer: &mut W, pdu: &Pdu<'_>) -> Result<(), Fault>
+    ensures err { IfErr result (λ f. f ≡ write_failed) }
+{
+    let kind = pdu.kind().number();
+    write_parts(
+        writer,
+        &parts![
+            "{\"type\":",
+            kind,
+            ",\"type_name\":\"",
+            kind_name(u32::from(kind)),
+            "\",\"redundancy_number\":",
+            pdu.number(),
+            ",\"sn\":",
+            pdu.sn(),
+            ",\"cs\":",
+            pdu.cs(),
+            ",\"ts\":",
+            pdu.ts(),
+            ",\"cts\":",
+            pdu.cts()
+        ],
+    )?;
+    write_messages(writer, pdu)
+}
+
+/// Writes a packet that crossed, or null.
+pub fn write_crossed_if<W: Sink>(
+    writer: &mut W,
+    packets: &[Sighting],
+    crossed: Option<&Crossed<'_>>,
+) -> Result<(), Fault>
+    ensures err { IfErr result (λ f. f ≡ write_failed) }
+{
+    let Some(crossed) = crossed else {
+        return write_words(writer, "null");
+    };
+    write_parts(
+        writer,
+        &parts!["{\"end\":\"", crossed.side, "\",\"packet\":"],
+    )?;
+    write_place(writer, packets, crossed.place)?;
+    write_words(writer, ",\"fields\":")?;
+    match &crossed.pdu {
+        Some(pdu) => write_pdu(writer, pdu)?,
+        None => write_words(writer, "null")?,
+    }
+    write_words(writer, "}")
+}

@@ -1,0 +1,59 @@
+//! Values of JSON that may be missing, and places of packets.
+ghost use Rattle.std.specs.Prelude.{◌≡◌, IfErr};
+ghost use Rattle.rasta_pcap.specs.Fault.{write_failed};
+
+use rasta_pcap::{CaptureTime, Fault, Sink};
+use seatmelon_reading::Sighting;
+use seatmelon_text::{Part, parts, write_parts, write_words};
+
+/// Writes a number, or null.
+pub fn write_number_if<W: Sink>(writer: &mut W, number: Option<u32>) -> Result<(), Fault>
+    ensures err { IfErr result (λ f. f ≡ write_failed) }
+{
+    match number {
+        Some(number) => write_parts(writer, &parts![number]),
+        None => write_words(writer, "null"),
+    }
+}
+
+/// Writes bytes as a string of hexadecimal digits, or null.
+pub fn write_hex_if<W: Sink>(writer: &mut W, bytes: Option<&[u8]>) -> Result<(), Fault>
+    ensures err { IfErr result (λ f. f ≡ write_failed) }
+{
+    match bytes {
+        Some(bytes) => write_parts(writer, &parts!["\"", Part::Hex(bytes), "\""]),
+        None => write_words(writer, "null"),
+    }
+}
+
+/// Writes a time, or null.
+pub fn write_time_if<W: Sink>(writer: &mut W, time: Option<CaptureTime>) -> Result<(), Fault>
+    ensures err { IfErr result (λ f. f ≡ write_failed) }
+{
+    match time {
+        Some(time) => write_parts(writer, &parts!["\"", time, " UTC\""]),
+        None => write_words(writer, "null"),
+    }
+}
+
+/// Writes record, time and channel of a packet, or null.
+pub fn write_sighting_if<W: Sink>(writer: &mut W, sighting: Option<&Sighting>) -> Result<(), Fault>
+    ensures err { IfErr result (λ f. f ≡ write_failed) }
+{
+    let Some(sighting) = sighting else {
+        return write_words(writer, "null");
+    };
+    write_parts(
+        writer,
+        &parts!["{\"record\":", sighting.record, ",\"time\":"],
+    )?;
+    write_time_if(writer, sighting.time)?;
+    write_parts(writer, &parts![",\"channel\":", sighting.channel, "}"])
+}
+
+/// Writes record, time and channel of the packet at a place, or null.
+pub fn write_place<W: Sink>(writer: &mut W, packets: &[Sighting], place: u32) -> Result<(), Fault>
+    ensures err { IfErr result (λ f. f ≡ write_failed) }
+{
+    write_sighting_if(writer, packets.get(place as usize))
+}
