@@ -225,8 +225,7 @@ fn explain(
         },
     };
     let device = Folding::new(folded);
-    let bytes = case.capture;
-    let explanation = explain_of(alloc, &explaining, &inputs, bytes, bytes, device).ok()?;
+    let explanation = explain_of(alloc, &explaining, &inputs, case.capture, device).ok()?;
     Some(status_of_outcome(explanation.outcome))
 }
 
