@@ -77,6 +77,13 @@ def in_window(data):
     return f", the packets in records {window['first_record']} to {window['last_record']}" if window else ""
 
 
+def not_shown(taken, sent):
+    """What a line says of the messages of a direction that weren't shown to be taken."""
+    if taken == sent:
+        return ""
+    return f"; not shown: {taken}" if taken + 1 == sent else f"; not shown: {taken} to {sent - 1}"
+
+
 def explains(text, data, told):
     """Whether text and data tell of an explained capture what `check` tells."""
     lists, packets = taken_in(told), told.split()[1]
@@ -86,7 +93,7 @@ def explains(text, data, told):
         messages = [it["hex"] for it in direction["messages"] if it["surely_taken"]]
         right = right and messages == lists[direction["to"]] and direction["surely_taken"] == len(messages)
         line = f"{direction['from']} to {direction['to']}: {len(messages)} of {direction['sent']} messages surely taken"
-        right = right and line in text
+        right = right and f"{line}{not_shown(len(messages), direction['sent'])}\n" in text
     return right
 
 
@@ -183,6 +190,9 @@ def files(part):
     part.expect("explain, swapped", 2, "", "swapped", "explain", parameters, capture)
     part.expect("no command", 2, "", "Usage", )
     part.expect("unknown command", 2, "", "explain", "explian", capture, parameters)
+    part.expect("no such record", 2, "", "there is no record 99", "explain", capture, parameters, "--without", "99")
+    part.expect("a range that falls", 2, "", "--messages", "explain", capture, parameters, "--messages", "3-2")
+    part.expect("some messages as JSON", 2, "", "--json", "explain", capture, parameters, "--not-shown", "--json")
     part.expect("help", 0, "--without", "", "explain", "--help")
     part.expect("version", 0, "seatmelon", "", "--version")
 

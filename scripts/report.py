@@ -1,22 +1,27 @@
 #!/usr/bin/env python3
 """Runs the programs on a capture, and writes one page with all that they said.
 
-    report.py [--program PATH] [--seatmelon PATH] [--certificate FILE] [--without-show] CAPTURE PARAMS OUT.html
+    report.py [--program PATH] [--seatmelon PATH] [--certificate FILE] [--places A-B] [--without-show]
+              CAPTURE PARAMS OUT.html
 
 The page is viewer/index.html with the texts of `show`, of `build` (or the given certificate) and of `check`, or
 where no certificate is found of `audit`, the parameter file, the SHA-256 of each file and of the program, the
 kit's line (`rt version`), and the commands by which anyone checks it again. It needs no other file and no network.
-`rt run` in crates/rasta_audit leaves the program at its default path. Where `rt run` in crates/seatmelon has left the
-other one too, the page says how many packets of the recorded channels lie outside the window, if one is recorded.
+The programs are those that `rt run` leaves in crates/rasta_audit and crates/seatmelon, or else those on the path.
+Where there is a seatmelon, the page has the times of the records too, how many packets of the recorded channels lie
+outside the window, if one is recorded, and of a gap (28) the numbers due and found. With --places the page shows the
+packets at these places alone, until its filter is changed.
 
-The exit status is 0 where a page was written, whatever the answer, 2 where the words or a file are wrong.
-Plain Python 3, no other packages.
+The exit status is that of the answer: 0 where the packets are explained, 1 where something is refused or no packet is
+of the connection, 2 where the parameters are refused, 3 where memory, reading or writing failed. It is 2 too, with no
+page, where the words or a file are wrong. Plain Python 3, no other packages.
 """
 
 import argparse
 import hashlib
 import json
 import pathlib
+import re
 import shlex
 import shutil
 import subprocess
@@ -28,18 +33,40 @@ try:
 except ImportError:  # before Python 3.11
     tomllib = None
 
-TOP = pathlib.Path(__file__).resolve().parent.parent
-PAGE = TOP / "viewer/index.html"
-PROGRAM = TOP / "crates/rasta_audit/out/rasta_audit"
-SEATMELON = TOP / "crates/seatmelon/out/seatmelon"
+HERE = pathlib.Path(__file__).resolve().parent
+TOP = HERE.parent
 NOTHING = '<div id="report-data" hidden><!--null--></div>'
+
+# A line of `seatmelon show`: the number of the record and its time.
+LISTED = re.compile(rb" *([0-9]+)  ([0-9-]{10} [0-9:]{8}[.][0-9]+) ")
+
+
+def page_file():
+    """The page: in a checkout, or beside this script where both are installed."""
+    page = TOP / "viewer/index.html"
+    return page if page.is_file() else HERE / "index.html"
+
+
+def program_file(name):
+    """A program as `rt run` leaves it in a checkout, or else the one on the path."""
+    built = TOP / f"crates/{name}/out/{name}"
+    found = None if built.is_file() else shutil.which(name)
+    return pathlib.Path(found) if found else built
+
+
+def places_in(text):
+    found = re.fullmatch("([0-9]{1,10})-([0-9]{1,10})", text)
+    if not found or int(found[1]) > int(found[2]):
+        raise argparse.ArgumentTypeError("two places that don't fall are wanted, as in 40-60")
+    return [int(found[1]), int(found[2])]
 
 
 def words_of_command_line():
     asked = argparse.ArgumentParser(description="Writes a page with the answer about a capture.")
-    asked.add_argument("--program", type=pathlib.Path, default=PROGRAM, help="rasta_audit")
-    asked.add_argument("--seatmelon", type=pathlib.Path, default=SEATMELON, help="seatmelon, if it is built")
+    asked.add_argument("--program", type=pathlib.Path, default=program_file("rasta_audit"), help="rasta_audit")
+    asked.add_argument("--seatmelon", type=pathlib.Path, default=program_file("seatmelon"), help="seatmelon, if there is one")
     asked.add_argument("--certificate", type=pathlib.Path, help="a certificate to check by, in place of one that is built")
+    asked.add_argument("--places", type=places_in, metavar="A-B", help="show the packets at these places alone")
     asked.add_argument("--without-show", action="store_true", help="leave out the text of show, which is long")
     asked.add_argument("capture", type=pathlib.Path)
     asked.add_argument("parameters", type=pathlib.Path)
@@ -105,15 +132,32 @@ def connection_in(text):
         return None
 
 
-def window_in(seatmelon, capture, parameters):
-    """The window as `seatmelon explain` tells it; none where there is none, or no such program or answer."""
+def explanation_of(seatmelon, capture, parameters, certificate):
+    """What `seatmelon explain` says as JSON; nothing where there is no such program or answer."""
     if not seatmelon.is_file():
-        return None
-    call = subprocess.run([seatmelon.resolve(), "explain", "--json", "--", capture, parameters], capture_output=True)
+        return {}
+    files = [path for path in (capture, parameters, certificate) if path]
+    call = subprocess.run([seatmelon.resolve(), "explain", "--json", "--", *files], capture_output=True)
     try:
-        return json.loads(call.stdout).get("window")
+        return json.loads(call.stdout)
     except ValueError:
+        return {}
+
+
+def refusal_in(explanation):
+    """The refused record, and what is wrong with it, where a capture is refused."""
+    if explanation.get("verdict") != "refused":
         return None
+    return {"record": explanation.get("record"), "trouble": explanation.get("trouble")}
+
+
+def times_of(seatmelon, capture, parameters):
+    """The number and the time of each record that `seatmelon show` lists; nothing where there is no such program."""
+    if not seatmelon.is_file():
+        return []
+    call = subprocess.run([seatmelon.resolve(), "show", "--", capture, parameters], capture_output=True)
+    found = (LISTED.match(line) for line in call.stdout.splitlines())
+    return [[int(one[1]), one[2].decode()] for one in found if one]
 
 
 def commands_for(program, capture, parameters, certificate):
@@ -126,7 +170,8 @@ def report_of(asked, folder):
     program, capture, parameters = asked.program, asked.capture, asked.parameters
     certificate = asked.certificate or built_certificate(program, capture, parameters, folder)
     by_certificate = ("check", capture, parameters, certificate)
-    verdict = answer_of(program, *(by_certificate if certificate else ("audit", capture, parameters)))[1]
+    status, verdict = answer_of(program, *(by_certificate if certificate else ("audit", capture, parameters)))
+    explanation = explanation_of(asked.seatmelon, capture, parameters, asked.certificate)
     texts = [
         ("verdict", f"{capture.stem}.answer.txt", verdict),
         ("parameters", parameters.name, parameters.read_bytes()),
@@ -137,15 +182,24 @@ def report_of(asked, folder):
         files.append(described("certificate", certificate))
     if not asked.without_show:
         texts.append(("show", f"{capture.stem}.show.txt", answer_of(program, "show", capture, parameters)[1]))
-    return {
+    report = {
         "title": capture.name,
         "files": files,
         "kit": kit_line(),
         "commands": commands_for(program, capture, parameters, certificate),
         "connection": connection_in(decoded(parameters.read_bytes())),
-        "window": window_in(asked.seatmelon, capture, parameters),
+        "window": explanation.get("window"),
+        "refusal": refusal_in(explanation),
+        "times": times_of(asked.seatmelon, capture, parameters),
+        "places": asked.places,
         "texts": [{"kind": kind, "name": name, "text": decoded(data)} for kind, name, data in texts],
     }
+    return status_of(status, verdict), report
+
+
+def status_of(status, verdict):
+    """No packet of the connection is no answer, as for `seatmelon explain`."""
+    return 1 if verdict.startswith(b"explained 0\n") else status
 
 
 def embedded(report):
@@ -160,15 +214,22 @@ def main():
         if not path.is_file():
             print(f"no such file: {path}", file=sys.stderr)
             return 2
-    page = PAGE.read_text(encoding="utf-8")
+    if not asked.out.resolve().parent.is_dir():
+        print(f"no such folder: {asked.out.parent}", file=sys.stderr)
+        return 2
+    page = page_file().read_text(encoding="utf-8")
     if page.count(NOTHING) != 1:
-        print(f"{PAGE} has no place for a report", file=sys.stderr)
+        print(f"{page_file()} has no place for a report", file=sys.stderr)
         return 2
     with tempfile.TemporaryDirectory() as folder:
-        report = report_of(asked, pathlib.Path(folder))
+        status, report = report_of(asked, pathlib.Path(folder))
     filled = NOTHING.replace("null", embedded(report))
-    asked.out.write_text(page.replace(NOTHING, filled), encoding="utf-8")
-    return 0
+    try:
+        asked.out.write_text(page.replace(NOTHING, filled), encoding="utf-8")
+    except OSError as error:
+        print(f"{asked.out}: {error.strerror}", file=sys.stderr)
+        return 2
+    return status
 
 
 if __name__ == "__main__":

@@ -1,6 +1,6 @@
 -- A make at a later clock, and one that is refused.
-use Rattle.std.proofs.Common.{◌≡◌, ℕ, Bool, true, false, Option, Some, None, Result, Ok, Err, OnOk, refl, ap, sym, ◌∙◌, inl, inr}
-use Rattle.rasta_build.proofs.Prelude.{if◌then◌else◌, ◌==◌, too_early_timeout, Fault, Parameters, SafetyPdu, EndState, Why, make_fault, after_make, Built, made_at, IfErr}
+use Rattle.std.proofs.Common.{◌≡◌, ℕ, Bool, true, false, Option, Some, None, Result, OnOk, refl, ap, sym, ◌∙◌, inl, inr}
+use Rattle.rasta_build.proofs.Prelude.{if◌then◌else◌, ◌==◌, too_early_timeout, Fault, Parameters, SafetyPdu, EndState, Why, make_fault, after_make, Built, made_at}
 use Rattle.rasta_build.proofs.Prelude.{Unexplained}
 use Rattle.std.proofs.lemmas.Result.{on_ok_weaker}
 use Rattle.rasta_end.specs.Judged.{JudgedEnd}
@@ -9,14 +9,7 @@ use Rattle.rasta_cert.specs.declared.entry.Entry.TheVariants.{Make}
 use Rattle.rasta_build.specs.Built.{note}
 use Rattle.rasta_build.specs.Choices.{stuck_by}
 use Rattle.rasta_build.specs.Explaining.{make_by, make_when}
-use Rattle.std.specs.Result.{IsErrAnd}
-use Rattle.rasta_build.specs.declared.stuck.Stuck.{Stuck}
 use Rattle.rasta_build.specs.declared.stuck.Stuck.TheVariants.{NoMemory}
-
--- what a fault of an end says of its script, where it isn't for lack of memory
-pub if_stuck : {A X : Type 0} (r : Result A Stuck) (fault : Fault) → IsErrAnd r (λ (s : Stuck). s ≡ stuck_by fault) → (stuck_by fault ≡ Unexplained → X) → IfErr r (λ (s : Stuck). s ≡ Unexplained → X)
-if_stuck (Ok v) fault h k = tt
-if_stuck (Err s) fault h k = λ e. k (sym h ∙ e)
 
 -- where an end refuses a PDU for another reason than lack of memory, there is a fault
 refused : (p : Parameters) (e : EndState) (x : SafetyPdu) (clock : ℕ) (why : Why) (fault : Fault) → IsMakeRefusal p e x clock why fault → stuck_by fault ≡ Unexplained → (number : ℕ) × (make_fault p e x clock why ≡ Some number)

@@ -4,7 +4,7 @@ ghost use Rattle.rasta_build.specs.Choices.{stuck_by};
 ghost use Rattle.rasta_build.specs.Stopping.{IsHaltAt};
 
 use crate::obstacles::{Obstacle, Stop};
-use crate::rules::Rule;
+use crate::rules::{Confirmation, Rule};
 use crate::stuck::Stuck;
 use rasta_pdu::{Fault, Side};
 use std::marker::Model;
@@ -26,19 +26,22 @@ impl Model for Halt {
     ghost view = { λ h. stuck_for h.rule };
 }
 
-impl From<Fault> for Halt {
-    ghost from_gives = { λ fault stuck. stuck ≡ stuck_by fault };
-
-    // The fault is that of a make.
-    fn from(fault: Fault) -> Halt {
-        let rule = Rule::MakeRefused {
-            fault: fault.number,
+impl Halt {
+    /// By the fault of a make at this clock, where this sets the deadline of the end.
+    pub(crate) fn of_make(fault: Fault, clock: u64, confirmed: Option<Confirmation>) -> Halt
+        ensures { result ≡ stuck_by fault }
+    {
+        let rule = match fault.number {
+            Fault::PAST_DEADLINE | Fault::TOO_EARLY_TIMEOUT => Rule::Deadline {
+                fault: fault.number,
+                clock,
+                confirmed,
+            },
+            number => Rule::MakeRefused { fault: number },
         };
         Halt::of(Stuck::from(fault), rule)
     }
-}
 
-impl Halt {
     /// By this rule no step of the end explains the packet.
     pub(crate) fn by(rule: Rule) -> Halt
         ensures { result ≡ Stuck.Unexplained }

@@ -15,4 +15,4 @@ mod stuck;
 pub use obstacles::Obstacle;
 pub use proposal::{find_obstacle, propose, propose_lists};
 pub use rasta_pdu::{Fault, Side, Sink, Source};
-pub use rules::Rule;
+pub use rules::{Confirmation, Rule};

@@ -14,7 +14,7 @@ ghost use Rattle.rasta_build.specs.Explaining.{take_step, accept_step, accept_fr
 use crate::clock::clock_from;
 use crate::halt::Halt;
 use crate::peer::Peer;
-use crate::rules::Rule;
+use crate::rules::{Confirmation, Rule};
 use crate::stuck::Stuck;
 use rasta_cert::Entry;
 use rasta_check::SentList;
@@ -39,6 +39,8 @@ pub(crate) struct ScriptBuilder<'a> {
     next_take: u64,
     // How many requests are owed after the burst that is owed: 0 or 1.
     trail: usize,
+    // What sets the deadline; none where the quiet point does, or nothing. A contract doesn't see it.
+    confirmed: Option<Confirmation>,
 }
 
 impl<'a> Model for ScriptBuilder<'a> {
@@ -120,6 +122,7 @@ impl<'a> ScriptBuilder<'a> {
             clock,
             next_take,
             trail: 0,
+            confirmed: None,
         }
     }
 
@@ -278,10 +281,29 @@ impl<'a> ScriptBuilder<'a> {
         };
         self.take(slot, position, &pdu)?;
         match self.end.accepted().checked_sub(1) {
-            Some(last) if last == position => Ok(()),
+            Some(last) if last == position => {
+                self.note_confirmed(&pdu);
+                Ok(())
+            }
             _ => Err(Halt::by(Rule::NotAccepted {
                 number: pdu.number(),
             })),
+        }
+    }
+
+    // Notes what sets the deadline, where an accepted PDU of this kind does.
+    fn note_confirmed(&mut self, pdu: &Pdu<'a>)
+        ensures { self.new ≡ self.old }
+    {
+        if matches!(
+            pdu.kind(),
+            Kind::Heartbeat | Kind::Data | Kind::RetransmittedData
+        ) {
+            let age = ((self.clock % (1 << 32)) as u32).wrapping_sub(pdu.cts());
+            self.confirmed = Some(Confirmation {
+                number: pdu.number(),
+                time: self.clock.checked_sub(u64::from(age)),
+            });
         }
     }
 
@@ -496,7 +518,7 @@ impl<'a> ScriptBuilder<'a> {
             Err(fault) if fault.number == Fault::TOO_EARLY_TIMEOUT => {
                 self.make_later(params, place, pdu, clock, why)
             }
-            Err(fault) => Err(Halt::from(fault)),
+            Err(fault) => Err(Halt::of_make(fault, clock, self.confirmed)),
         }
     }
 
@@ -520,8 +542,10 @@ impl<'a> ScriptBuilder<'a> {
         let Some(clock) = clock_from(least, pdu.ts()) else {
             return Err(Halt::by(Rule::ClockTooLarge));
         };
-        self.end.make(pdu, clock, why)?;
-        self.note_make(place, clock, why)
+        match self.end.make(pdu, clock, why) {
+            Ok(()) => self.note_make(place, clock, why),
+            Err(fault) => Err(Halt::of_make(fault, clock, self.confirmed)),
+        }
     }
 
     // The earliest timeout by a deadline that is recorded with a quiet point.

@@ -1,13 +1,18 @@
 //! Tells which RaSTA connections a capture seems to hold, `survey CAPTURE`, writes a parameter file for one of them,
-//! `draft CAPTURE N`, and tells in words what the verdict on one is, `explain CAPTURE PARAMS [CERT]`.
+//! `draft CAPTURE N [--after RECORD [PARAMS]]`, lists its packets, `show CAPTURE PARAMS`, and tells in words what the
+//! verdict on it is, `explain CAPTURE PARAMS [CERT]`.
 #![tactic(auto)]
 
 #[cfg(test)]
 mod tests;
+mod version;
 
+use crate::version::write_version;
 use clap::Error;
 use clap::error::ErrorKind;
-use seatmelon_commands::{Failure, draft_file, explain_files, reason_of, status, survey_file};
+use seatmelon_commands::{
+    Failure, draft_file, explain_files, is_told, show_file, status, survey_file, unwritten,
+};
 use seatmelon_words::{Request, parse};
 use std::io;
 use std::io::{Input, IsTerminal};
@@ -28,31 +33,34 @@ fn words<R: AllocGlobal + Env>(rt: &R) -> Result<Vec<String>, Failure> {
 }
 
 // Help and the version, on standard output, or what is wrong with the words.
-fn tell<R: AllocGlobal + Print + Eprint>(rt: &R, error: &Error) -> Result<u8, Failure> {
-    match error.kind() {
-        ErrorKind::OutOfMemory => Err(Failure::OutOfMemory),
-        ErrorKind::DisplayHelp | ErrorKind::DisplayVersion => match error.print(rt) {
-            Ok(()) => Ok(0),
-            Err(error) => Err(Failure::Writing(reason_of(rt.alloc(), &error)?)),
-        },
+fn tell<R: AllocGlobal + Files + Print + Eprint>(rt: &R, error: &Error) -> Result<u8, Failure> {
+    let written = match error.kind() {
+        ErrorKind::OutOfMemory => return Err(Failure::OutOfMemory),
+        ErrorKind::DisplayHelp => error.print(rt),
+        ErrorKind::DisplayVersion => write_version(rt),
         _ => {
             // Where standard error fails too, the status alone tells.
             let _ = error.print(rt);
-            Ok(2)
+            return Ok(2);
         }
+    };
+    match written {
+        Ok(()) => Ok(0),
+        Err(error) => Err(unwritten(rt.alloc(), Some(error))),
     }
 }
 
-// `is_told` says whether standard error is told how far a long reading got.
+// `is_timed` says whether standard error is told how far a long reading got.
 fn run<R: AllocGlobal + Clock + Env + Files + Input + Print + Eprint>(
     rt: &R,
-    is_told: bool,
+    is_timed: bool,
 ) -> Result<u8, Failure> {
     let words = words(rt)?;
     match parse(rt.alloc(), &words) {
         Ok(Request::Survey { capture }) => survey_file(rt, capture),
-        Ok(Request::Draft { capture, number }) => draft_file(rt, capture, number),
-        Ok(Request::Explain(explaining)) => explain_files(rt, &explaining, is_told),
+        Ok(Request::Draft(drafting)) => draft_file(rt, &drafting),
+        Ok(Request::Show(showing)) => show_file(rt, &showing),
+        Ok(Request::Explain(explaining)) => explain_files(rt, &explaining, is_timed),
         Err(error) => tell(rt, &error),
     }
 }
@@ -61,8 +69,10 @@ fn main(rt: HostRuntime) -> ExitCode {
     match run(&rt, rt.stderr().is_terminal()) {
         Ok(code) => ExitCode::from(code),
         Err(failure) => {
-            // Where standard error fails too, the status alone tells.
-            let _ = eprintln!(rt; "seatmelon: {failure}");
+            if is_told(&failure) {
+                // Where standard error fails too, the status alone tells.
+                let _ = eprintln!(rt; "seatmelon: {failure}");
+            }
             ExitCode::from(status(&failure))
         }
     }

@@ -3,10 +3,11 @@ ghost use Rattle.std.specs.Prelude.{None};
 
 use rasta_pcap::devices::{FailAt, Pieces};
 use seatmelon_commands::{
-    Answer, Explaining, Inputs, draft_in, explain_of, params_in, status, status_of_outcome,
-    survey_of, whole_of, write_answer,
+    After, Answer, Draft, Drafting, Explaining, Inputs, Showing, draft_in, explain_of, is_told,
+    params_in, status, status_of_outcome, status_of_survey, survey_of, whole_of, with_params,
+    write_answer,
 };
-use seatmelon_explain::Form;
+use seatmelon_explain::{Extent, Form};
 use seatmelon_words::{Request, parse};
 use std::alloc::Global;
 use std::io;
@@ -24,6 +25,16 @@ fn words_in(alloc: Global, text: &str) -> Option<Vec<String>> {
     Some(list)
 }
 
+fn form_text(alloc: Global, form: Form) -> Option<String> {
+    match form {
+        Form::Json => String::from_str(alloc, "Json").ok(),
+        Form::Text(extent) if extent == Extent::ALL => String::from_str(alloc, "Text").ok(),
+        Form::Text(Extent { messages, is_whole }) => format!(in alloc;
+            "{messages:?} {is_whole}"
+        ).ok(),
+    }
+}
+
 fn explaining_text(alloc: Global, explaining: &Explaining<'_>) -> Option<String> {
     let Explaining {
         capture,
@@ -33,16 +44,42 @@ fn explaining_text(alloc: Global, explaining: &Explaining<'_>) -> Option<String>
         form,
     } = explaining;
     let certificate = certificate.unwrap_or("-");
-    format!(in alloc; "explain {capture} {parameters} {certificate} {without:?} {form:?}").ok()
+    let form = form_text(alloc, *form)?;
+    format!(in alloc; "explain {capture} {parameters} {certificate} {without:?} {form}").ok()
+}
+
+fn showing_text(alloc: Global, showing: &Showing<'_>) -> Option<String> {
+    let Showing {
+        capture,
+        parameters,
+        kinds,
+        first_record,
+        last_record,
+    } = showing;
+    format!(in alloc; "show {capture} {parameters} {kinds:?} {first_record} {last_record}").ok()
+}
+
+fn drafting_text(alloc: Global, drafting: &Drafting<'_>) -> Option<String> {
+    let Drafting {
+        capture,
+        number,
+        after,
+    } = drafting;
+    match after {
+        Some(After { record, parameters }) => {
+            let parameters = parameters.unwrap_or("-");
+            format!(in alloc; "draft {number} of {capture} after {record} {parameters}").ok()
+        }
+        None => format!(in alloc; "draft {number} of {capture}").ok(),
+    }
 }
 
 // The request as a text, or what is wrong with the words.
 fn request_text(alloc: Global, words: &[String]) -> Option<String> {
     match parse(alloc, words) {
         Ok(Request::Survey { capture }) => format!(in alloc; "survey {capture}").ok(),
-        Ok(Request::Draft { capture, number }) => {
-            format!(in alloc; "draft {number} of {capture}").ok()
-        }
+        Ok(Request::Draft(drafting)) => drafting_text(alloc, &drafting),
+        Ok(Request::Show(showing)) => showing_text(alloc, &showing),
         Ok(Request::Explain(explaining)) => explaining_text(alloc, &explaining),
         Err(error) => {
             let kind = error.kind();
@@ -69,6 +106,15 @@ draft c 1 | draft 1 of c
 draft c 0 | draft 0 of c
 draft c 018446744073709551615 | draft 18446744073709551615 of c
 draft -- -c 7 | draft 7 of -c
+draft c 1 --after 28 | draft 1 of c after 28 -
+draft c 1 --after=28 p | draft 1 of c after 28 p
+draft --after 4294967295 c 1 p | draft 1 of c after 4294967295 p
+show c p | show c p None 1 4294967295
+show -- -c -p | show -c -p None 1 4294967295
+show c p --types data | show c p Some([Data]) 1 4294967295
+show c p --types=6212,RETRRESP --record 7 | show c p Some([RetransmissionRequest, RetransmissionResponse]) 7 7
+show --record 3-9 c p --types ConnReq,ConnResp,DiscReq,HB,RetrData,heartbeat | show c p \
+Some([ConnectionRequest, ConnectionResponse, DisconnectionRequest, Heartbeat, RetransmittedData, Heartbeat]) 3 9
 explain c p | explain c p - [] Text
 explain c p z | explain c p z [] Text
 explain -- -c -p -z | explain -c -p -z [] Text
@@ -78,10 +124,16 @@ explain c --without 9 p --without 2 z --without 9 | explain c p z [2, 9] Text
 explain c p --without 1 --without 4294967295 | explain c p - [1, 4294967295] Text
 explain c p --json | explain c p - [] Json
 explain --json c --without 7 p z | explain c p z [7] Json
+explain c p --summary | explain c p - [] None false
+explain c p --whole | explain c p - [] Some(Selection { numbers: None, not_shown: false, of_record: None }) true
+explain c p --messages 3-7 --not-shown --record 9 | explain c p - [] \
+Some(Selection { numbers: Some((3, 7)), not_shown: true, of_record: Some(9) }) false
+explain c p --messages 0 | explain c p - [] Some(Selection { numbers: Some((0, 0)), not_shown: false, of_record: None }) false
 --help | DisplayHelp
 help | DisplayHelp
 survey --help | DisplayHelp
 draft --help | DisplayHelp
+show --help | DisplayHelp
 explain --help | DisplayHelp
 --version | DisplayVersion
 -V | DisplayVersion
@@ -92,12 +144,34 @@ survey c p | UnknownArgument
 survey -c | UnknownArgument
 draft | MissingRequiredArgument
 draft c | MissingRequiredArgument
-draft c 1 2 | UnknownArgument
+draft c 1 2 | MissingRequiredArgument
+draft c 1 --after 28 p 2 | UnknownArgument
+draft c 1 --after 0 | ValueValidation
+draft c 1 --after 4294967296 | ValueValidation
+draft c 1 --after | InvalidValue
+survey c --after 7 | UnknownArgument
 draft 1 c | ValueValidation
 draft c -1 | UnknownArgument
 draft c 18446744073709551616 | ValueValidation
+show c | MissingRequiredArgument
+show c p z | UnknownArgument
+show c p --types Data,Dat | ValueValidation
+show c p --types 6299 | ValueValidation
+show c p --types Data, | ValueValidation
+show c p --record 0 | ValueValidation
+show c p --record 0-2 | ValueValidation
+show c p --record 3-2 | ValueValidation
+show c p --record 3- | ValueValidation
+show c p --record x | ValueValidation
+show c p --record 4294967296 | ValueValidation
+show c p --without 7 | UnknownArgument
 explain c | MissingRequiredArgument
 explain c p z x | UnknownArgument
+explain c p --messages 7-3 | ValueValidation
+explain c p --messages x | ValueValidation
+explain c p --record 0 | ValueValidation
+explain c p --summary --whole | ArgumentConflict
+explain c p --not-shown --json | ArgumentConflict
 explain c p --without 0 | ValueValidation
 explain c p --without 4294967296 | ValueValidation
 explain c p --without x | ValueValidation
@@ -125,7 +199,7 @@ struct Refused {
     text: &'static str,
 }
 
-const REFUSED: [Refused; 9] = [
+const REFUSED: [Refused; 8] = [
     Refused {
         file: b"",
         text: "1 c: the file ends inside its header (13 CutHeader)",
@@ -160,15 +234,11 @@ const REFUSED: [Refused; 9] = [
         file: b"\xd4\xc3\xb2\xa1\x02\0\x04\0\0\0\0\0\0\0\0\0\0\0\x04\0\x71\0\0\0",
         text: "1 c: its frames are not Ethernet frames (12 LinkType)",
     },
-    Refused {
-        file: b"\xd4\xc3\xb2\xa1\x02\0\x04\0\0\0\0\0\0\0\0\0\0\0\x04\0\x01\0\0\0\x01",
-        text: "1 c: the file ends inside record 1 (14 CutRecord)",
-    },
 ];
 
 // Why a reader's survey fails, behind the status of the program; none where it doesn't.
 fn failure_text<D: Read + Drop>(alloc: Global, file: D) -> Option<String> {
-    let failure = survey_of(alloc, "c", file).err()?;
+    let failure = survey_of(alloc, "c", file, None).err()?;
     format!(in alloc; "{} {failure}", status(&failure)).ok()
 }
 
@@ -193,7 +263,7 @@ fn refused_captures(rt: HostRuntime) {
 
 // How many connections a capture's survey finds.
 fn connections_in<D: Read + Drop>(alloc: Global, file: D) -> Option<usize> {
-    let survey = survey_of(alloc, "c", file).ok()?;
+    let survey = survey_of(alloc, "c", file, None).ok()?;
     Some(survey.connections().len())
 }
 
@@ -250,7 +320,7 @@ fn a_reader_that_fails_at_each_call(rt: HostRuntime) {
 
 // Why a survey can't be written there, behind the status of the program; none where it can.
 fn unwritten_text(alloc: Global, device: FailAt<Vec<u8>>) -> Option<String> {
-    let survey = survey_of(alloc, "c", NO_RECORD.as_slice()).ok()?;
+    let survey = survey_of(alloc, "c", NO_RECORD.as_slice(), None).ok()?;
     let failure = write_answer(alloc, &Answer::Survey(&survey), device).err()?;
     format!(in alloc; "{} {failure}", status(&failure)).ok()
 }
@@ -258,6 +328,34 @@ fn unwritten_text(alloc: Global, device: FailAt<Vec<u8>>) -> Option<String> {
 // Whether a survey can't be written there, for this reason.
 fn is_unwritten(alloc: Global, device: FailAt<Vec<u8>>, text: &str) -> Option<bool> {
     Some(unwritten_text(alloc, device)?.as_str() == text)
+}
+
+// A device whose reader is gone.
+#[derive(Drop)]
+struct Closed;
+
+impl Write for Closed {
+    ghost contents = { λ c. None };
+
+    fn write(&mut self, _buf: &[u8]) -> io::Result<usize> {
+        Err(io::Error::from_raw_os_error(32))
+    }
+
+    fn flush(&mut self) -> io::Result<()> {
+        Ok(())
+    }
+}
+
+// The status where a survey is written to nobody, and whether that is told.
+fn closed_pipe(alloc: Global) -> Option<(u8, bool)> {
+    let survey = survey_of(alloc, "c", NO_RECORD.as_slice(), None).ok()?;
+    let failure = write_answer(alloc, &Answer::Survey(&survey), Closed).err()?;
+    Some((status(&failure), is_told(&failure)))
+}
+
+#[test]
+fn a_pipe_that_is_closed(rt: HostRuntime) {
+    assert_eq!(rt; closed_pipe(rt.alloc()), Some((3, false)));
 }
 
 #[test]
@@ -283,7 +381,7 @@ const ONE_REQUEST: &[u8; 132] = b"\xd4\xc3\xb2\xa1\x02\0\x04\0\0\0\0\0\0\0\0\0\0
 
 // What is written for a draft of the connection of this number, or why nothing is, behind the status.
 fn draft_text(alloc: Global, file: &[u8], number: u64) -> Option<Vec<u8>> {
-    let survey = survey_of(alloc, "c", file).ok()?;
+    let survey = survey_of(alloc, "c", file, None).ok()?;
     let mut text = Vec::new(alloc);
     match draft_in(alloc, "c", &survey, number) {
         Ok(answer) => write_answer(alloc, &answer, &mut text).ok()?,
@@ -303,6 +401,26 @@ fn is_missing(alloc: Global, number: u64, text: &str) -> Option<bool> {
 }
 
 const DRAFT: &str = "# A draft of the parameters of the connection in the records 1 to 1 ";
+
+// The one request, and of another record the first byte.
+const CUT: &str = "# The capture is not whole: the file ends inside record 2 (14 CutRecord)\n\
+    # Only the records before that were read.\n\
+    # A draft of the parameters of the connection in the records 1 to 1 ";
+
+// Whether a capture that ends inside its second record is drafted up to there, with status 1.
+fn is_drafted_in_front(alloc: Global) -> Option<bool> {
+    let mut file = Vec::new(alloc);
+    file.extend_from_slice(ONE_REQUEST).ok()?;
+    file.push(1).ok()?;
+    let survey = survey_of(alloc, "c", file.as_slice(), None).ok()?;
+    let is_told = status_of_survey(&survey) == 1;
+    Some(is_told && is_drafted(alloc, &file, CUT)?)
+}
+
+#[test]
+fn a_draft_of_a_capture_that_is_not_whole(rt: HostRuntime) {
+    assert_eq!(rt; is_drafted_in_front(rt.alloc()), Some(true));
+}
 
 #[test]
 fn drafts_by_number(rt: HostRuntime) {
@@ -343,12 +461,12 @@ const REFUSED_PARAMETERS: [Refused; 10] = [
     Refused {
         file: b"slack = 0\ntmax = 1\nclient_id = 96\nserver_id = 97\ncode_length = 0\ncheck_length = 0\n\
             n_sendmax = 20\nt_max = 1800\n[[channel]]\nclient = \"10.0.0.1:5000\"\nserver = \"10.0.0.2:5000\"\n",
-        text: "p: line 2: a parameter file has no such key (52 BadValue)",
+        text: "p: line 2: a parameter file has no key tmax; did you mean t_max? (52 BadValue)",
     },
     Refused {
         file: b"slack = 0\nclient_id = 96\nserver_id = 97\ncode_length = 0\ncheck_length = 0\n\
             n_sendmax = 20\nt_max = 1800\n[[channel]]\nclient = \"10.0.0.1:5000\"\nserver = \"10.0.0.2:5000\"\n[more]\n",
-        text: "p: line 11: a parameter file has no such key (52 BadValue)",
+        text: "p: line 11: a parameter file has no key more (52 BadValue)",
     },
     Refused {
         file: b"slack = 0\nclient_id = 96\nserver_id = 97\ncode_length = 0\ncheck_length = 0\n\
@@ -369,7 +487,7 @@ const REFUSED_PARAMETERS: [Refused; 10] = [
 ];
 
 // Whether these parameters are refused so.
-fn is_told(alloc: Global, refused: &Refused) -> Option<bool> {
+fn is_refused_so(alloc: Global, refused: &Refused) -> Option<bool> {
     let failure = params_in(alloc, "p", refused.file).err()?;
     let text = failure.to_string(alloc).ok()?;
     Some(text.as_str() == refused.text && status(&failure) == 2)
@@ -379,7 +497,7 @@ fn is_told(alloc: Global, refused: &Refused) -> Option<bool> {
 fn refused_parameters(rt: HostRuntime) {
     for refused in &REFUSED_PARAMETERS {
         assert_eq!(rt;
-            is_told(rt.alloc(), refused),
+            is_refused_so(rt.alloc(), refused),
             Some(true),
             "{}",
             refused.text
@@ -410,6 +528,39 @@ const PARAMETERS: &[u8] =
     b"client_id = 96\nserver_id = 97\ncode_length = 0\ncheck_length = 0\nn_sendmax = 20\n\
     t_max = 1800\nslack = 0\n[[channel]]\nclient = \"10.0.0.1:5000\"\nserver = \"10.0.0.2:5000\"\n";
 
+// The same, of another server.
+const OTHER_PARAMETERS: &[u8] =
+    b"client_id = 96\nserver_id = 98\ncode_length = 0\ncheck_length = 0\nn_sendmax = 20\n\
+    t_max = 1800\nslack = 0\n[[channel]]\nclient = \"10.0.0.1:5000\"\nserver = \"10.0.0.2:5000\"\n";
+
+// Why these parameters aren't kept in the draft of the one request, behind the status; nothing where they are.
+fn unkept_text(alloc: Global, parameters: &[u8]) -> Option<String> {
+    let survey = survey_of(alloc, "c", ONE_REQUEST.as_slice(), None).ok()?;
+    let params = params_in(alloc, "p", parameters).ok()?;
+    let draft = Draft {
+        connection: survey.connections().first()?,
+        fault: None,
+        kept: None,
+    };
+    match with_params(alloc, "p", 1, draft, &params) {
+        Ok(_) => String::from_str(alloc, "").ok(),
+        Err(failure) => format!(in alloc; "{} {failure}", status(&failure)).ok(),
+    }
+}
+
+// Whether these parameters are kept, or this is said of them.
+fn are_kept_or_told(alloc: Global, parameters: &[u8], text: &str) -> Option<bool> {
+    Some(unkept_text(alloc, parameters)?.as_str() == text)
+}
+
+#[test]
+fn parameters_of_other_ids_are_not_kept(rt: HostRuntime) {
+    let alloc = rt.alloc();
+    assert_eq!(rt; are_kept_or_told(alloc, PARAMETERS, ""), Some(true));
+    let text = "2 p: client_id and server_id are not those of connection 1";
+    assert_eq!(rt; are_kept_or_told(alloc, OTHER_PARAMETERS, text), Some(true));
+}
+
 // What is to be explained.
 fn explaining<'a>(alloc: Global) -> Explaining<'a> {
     Explaining {
@@ -417,7 +568,7 @@ fn explaining<'a>(alloc: Global) -> Explaining<'a> {
         parameters: "p",
         certificate: None,
         without: Vec::new(alloc),
-        form: Form::Text,
+        form: Form::Text(Extent::ALL),
     }
 }
 

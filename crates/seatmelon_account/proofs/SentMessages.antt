@@ -1,6 +1,7 @@
 -- The messages that are told, and those that a report lists.
-use Rattle.std.proofs.Common.{◌≡◌, ◌∙◌, ℕ, zero, suc, ◌+◌, List, [], ◌∷◌, ◌++◌, length, map, take, drop, filter_map, flat_map, slice_get, Some, ap, refl, sym, arith, append_assoc, take-append-drop}
+use Rattle.std.proofs.Common.{◌≡◌, ◌∙◌, ℕ, zero, suc, ◌+◌, List, [], ◌∷◌, ◌++◌, length, map, take, drop, filter_map, flat_map, slice_get, Some, is_some, nat_lt, ap, refl, sym, arith, append_assoc, take-append-drop}
 use lib.Seq.{take-append_seam}
+use Rattle.std.proofs.lemmas.Bool.Decides.{nat_tests}
 use Rattle.std.proofs.lemmas.List.{append-nil, length-map, map-append}
 use Rattle.rasta_check.proofs.Lists.{all_push, map_push}
 use Rattle.rasta_check.proofs.Verdict.ListSteps.{left_at}
@@ -59,6 +60,12 @@ listed_first p side own peer =
       numbered = λ i l e. numbers 0 taken i l e ∙ omega arith;
       first = placed ∙ front (units_taken made (pdus_of peer)) (data_copies own) ∙ ap (λ n. take n (messages_sent own)) (sym size);
     }
+
+-- as many have a proof as are listed
+pub is_listed : (listed : List ListedMessage) (i : ℕ) → is_some (proof_in listed i) ≡ nat_lt i (length listed)
+is_listed [] i = grind (arith, nat_tests)
+is_listed (l ∷ ls) zero = grind (arith, nat_tests)
+is_listed (l ∷ ls) (suc i) = is_listed ls i ∙ grind (arith, nat_tests)
 
 -- ---- messages are added
 

@@ -1,12 +1,17 @@
 -- What an account tells of what was read.
-use Rattle.std.specs.Prelude.{◌≡◌, ℕ, List, length, take, Option, None, Some, option_map}
+use Rattle.std.specs.Prelude.{◌≡◌, ℕ, List, [], ◌∷◌, length, take, Option, None, Some, option_map}
 use Rattle.sha2.specs.Sha256.{sha256}
+use Rattle.rasta_pcap.specs.declared.fault.Side.TheVariants.{Client, Server}
 use Rattle.rasta_check.specs.Capture.Reading.{Crossing}
 use Rattle.rasta_check.specs.Verdict.Report as reports
 use Rattle.rasta_verdict.specs.Given.{IsExplainedBy, IsRefusedBy}
 use Rattle.seatmelon_reading.specs.declared.capture_refusal.CaptureRefusal.{CaptureRefusal}
+use Rattle.seatmelon_reading.specs.declared.notes.Sighting.{Sighting}
 use Rattle.seatmelon_reading.specs.declared.reading.Reading.{Reading}
+use Rattle.seatmelon_reading.specs.declared.silence.Silence.{Silence}
+use Rattle.seatmelon_reading.specs.Silences.{IsLongestSilence}
 use Rattle.seatmelon_account.specs.Messages.{IsDirection}
+use Rattle.seatmelon_account.specs.Offers.{AreOffers}
 use Rattle.seatmelon_account.specs.Refusals.{TellsRecord}
 use Rattle.seatmelon_account.specs.declared.account.Account.{Account}
 use Rattle.seatmelon_account.specs.declared.account.File.{File}
@@ -17,7 +22,7 @@ use Rattle.seatmelon_account.specs.declared.account.Verdict.TheVariants.{NoPacke
 
 -- the fault that is told is that of the capture, with its record, or that of the verdict on what crossed
 abbrev pub IsToldRefusal : Crossing → Option CaptureRefusal → Option (List ℕ) → Refusal → Type 0
-IsToldRefusal k (Some refusal) text told = (told.fault ≡ refusal.fault) × TellsRecord refusal told.subject
+IsToldRefusal k (Some refusal) text told = (told.fault ≡ refusal.fault) × TellsRecord k refusal told.subject
 IsToldRefusal k None text told = IsRefusedBy k text told.fault
 
 -- the verdict, and what is told of it
@@ -33,14 +38,25 @@ text_in i = option_map (λ text. text.now) i.texts.certificate
 abbrev pub sum_of : File → List ℕ
 sum_of file = file.sum
 
+-- the longest silence of the client, and that of the server
+abbrev pub AreSilences : List Sighting → List (Option Silence) → Type 0
+AreSilences packets (client ∷ server ∷ []) = IsLongestSilence packets Client client × IsLongestSilence packets Server server
+AreSilences packets other = ⊥
+
 -- this is told of what was read
 pub record IsAccount (i : Inputs) (r : Reading) (a : Account) : Type 0 where
   pub capture : a.capture.sum ≡ r.digest
   pub parameters : a.parameters.sum ≡ sha256 i.texts.parameters.now
   pub certificate : option_map sum_of a.certificate ≡ option_map sha256 (text_in i)
+  pub params : a.params.now ≡ i.params.now
+  pub without : a.without.now ≡ i.without.now
   pub records : a.records ≡ r.notes.records
   pub packets : a.packets.now ≡ r.notes.packets.items
   pub channels : a.channels.now ≡ take (length i.params.now.channels) r.notes.channels
   pub before : a.before ≡ r.notes.before
   pub behind : a.behind ≡ r.notes.behind
+  pub passed : a.passed ≡ r.notes.passed
+  pub times : a.times ≡ r.notes.times
+  pub silences : AreSilences r.notes.packets.items a.silences
+  pub offers : AreOffers i.params.now.n_sendmax r.store a.offers
   pub verdict : IsToldOf r.store r.refusal (text_in i) a.verdict

@@ -1,5 +1,5 @@
 -- The messages that an end sent, as they are told.
-use Rattle.std.specs.Prelude.{◌≡◌, ℕ, List, map, length, take, filter_map, flat_map, slice_get, Option, Some, option_map}
+use Rattle.std.specs.Prelude.{◌≡◌, ℕ, ◌-◌, List, map, length, take, filter_map, flat_map, slice_get, Option, None, Some, is_some, option_map, nat_lt, if◌then◌else◌}
 use Rattle.rasta_pdu.specs.Pdu.{messages_in}
 use Rattle.rasta_check.specs.Capture.Crossing.{FirstCopy}
 use Rattle.rasta_check.specs.Model.Taken.{data_copies}
@@ -36,9 +36,18 @@ pub record AreMessages (sent : List FirstCopy) (listed : List ListedMessage) (me
   pub numbered : (i : ℕ) (m : Message) → slice_get messages i ≡ Some m → m.number ≡ i
   pub taken : filter_map taken_of messages ≡ listed
 
+-- what is told as surely taken are the first ones, so many
+abbrev pub AreFirstTaken : ℕ → List Message → Type 0
+AreFirstTaken taken messages = (i : ℕ) (m : Message) → slice_get messages i ≡ Some m → is_some m.proof ≡ nat_lt i taken
+
 pub record IsDirection (sent : List FirstCopy) (listed : List ListedMessage) (d : Direction) : Type 0 where
   pub count : d.taken ≡ length listed
   pub messages : AreMessages sent listed d.messages.items
+  pub first : AreFirstTaken d.taken d.messages.items
+
+-- the numbers of the first and of the last message that isn't among these first ones of so many
+abbrev pub not_shown : ℕ → ℕ → Option (ℕ × ℕ)
+not_shown taken sent = if nat_lt taken sent then Some (taken, sent - 1) else None
 
 -- ---- on the way
 

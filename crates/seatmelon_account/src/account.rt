@@ -1,22 +1,27 @@
 //! What is told of a capture.
-ghost use Rattle.std.specs.Prelude.{◌≡◌, take, None, length, IfErr, IfOk};
+ghost use Rattle.std.specs.Prelude.{◌≡◌, ◌<◌, ◌^◌, take, None, length, IfErr, IfOk};
 ghost use Rattle.sha2.specs.Sha256.{sha256};
 ghost use Rattle.rasta_pcap.specs.Fault.{no_memory};
 ghost use Rattle.rasta_verdict.specs.declared.verdict.Verdict.TheVariants as verdicts;
 ghost use Rattle.rasta_verdict.specs.Given.{IsVerdictOn};
-ghost use Rattle.seatmelon_account.specs.Account.{IsAccount, IsToldOf, text_in};
+ghost use Rattle.seatmelon_reading.specs.PassedOver.{total_of};
+ghost use Rattle.seatmelon_account.specs.Account.{AreSilences, IsAccount, IsToldOf, text_in};
 ghost use Rattle.seatmelon_account.specs.Messages.{IsDirection};
 
 use crate::crossed::list_of;
 use crate::explained::{Explained, start_of};
 use crate::messages::direction_of;
+use crate::offers::{Offers, offers_in};
 use crate::refusal::{Refusal, capture_refusal, scripts_refusal, unscripted};
 use rasta_build::{Obstacle, find_obstacle};
-use rasta_check::{SentList, SpanList, Store};
+use rasta_check::Store;
 use rasta_pcap::{Fault, Side};
-use rasta_pdu::{Body, Params};
+use rasta_pdu::Params;
 use rasta_verdict::judge_by;
-use seatmelon_reading::{ChannelCount, Reading, Sighting, Window, window_in};
+use seatmelon_reading::{
+    ChannelCount, PassedOver, Reading, Sighting, Silence, TimeNotes, Window, longest_silence,
+    window_in,
+};
 use sha2::{Digest, Sha256};
 use std::alloc::Global;
 
@@ -53,14 +58,6 @@ pub struct File<'a> {
     pub sum: [u8; 32],
 }
 
-/// The N_sendmax that an end offers at the opening, where the parameters have another.
-#[derive(Clone, Copy)]
-pub struct Offer {
-    pub end: Side,
-    pub offered: u16,
-    pub recorded: u16,
-}
-
 /// The verdict, with all that is told of it.
 #[derive(Drop)]
 pub enum Verdict<'a> {
@@ -81,6 +78,9 @@ pub struct Account<'a> {
     pub parameters: File<'a>,
     pub certificate: Option<File<'a>>,
 
+    /// By what is judged.
+    pub params: &'a Params,
+
     /// The records that are left out, by their rising numbers.
     pub without: &'a [u32],
 
@@ -100,19 +100,27 @@ pub struct Account<'a> {
     pub before: u64,
     pub behind: u64,
 
-    /// What the client and the server offer.
-    pub offers: [Option<Offer>; 2],
+    /// How many records hold no packet of the recorded channels, by why.
+    pub passed: PassedOver,
+
+    /// What is noted of the times of capture. None of it is part of the verdict.
+    pub times: TimeNotes,
+
+    /// The longest silence of the client and of the server in the window; none of an end that sent fewer than two packets.
+    pub silences: [Option<Silence>; 2],
+
+    /// What the ends offer at the opening.
+    pub offers: Offers,
 
     pub verdict: Verdict<'a>,
 }
 
 impl<'a> Account<'a> {
-    /// How many records are no packets of the recorded channels.
-    pub fn passed_over(&self) -> u64 {
-        u64::from(self.records)
-            .saturating_sub(self.packets.len() as u64)
-            .saturating_sub(self.before)
-            .saturating_sub(self.behind)
+    /// How many records hold no packet of the recorded channels.
+    pub fn passed_over(&self) -> u64
+        ensures { total_of self.now.passed < 2 ^ 64 → result ≡ total_of self.now.passed }
+    {
+        self.passed.total()
     }
 }
 
@@ -123,32 +131,6 @@ fn file_of<'a>(name: &'a str, text: &[u8]) -> File<'a>
     let mut sum = [0; 32];
     sum.copy_from_slice(&Sha256::digest(text));
     File { name, sum }
-}
-
-// What an end offers at the opening, where the parameters have something else.
-fn offer_of(params: &Params, end: Side, list: &SpanList<'_>) -> Option<Offer> {
-    let (_, pdu) = list.get(0)?;
-    let recorded = params.n_sendmax();
-    match pdu.body() {
-        Body::Opening { sendmax, .. } if sendmax != recorded => Some(Offer {
-            end,
-            offered: sendmax,
-            recorded,
-        }),
-        _ => None,
-    }
-}
-
-// What the ends offer, where packets crossed and the capture has no fault.
-fn offers_in(params: &Params, reading: &Reading) -> [Option<Offer>; 2] {
-    if reading.refusal.is_some() {
-        return [None, None];
-    }
-    let store = &reading.store;
-    [
-        offer_of(params, Side::Client, &store.client()),
-        offer_of(params, Side::Server, &store.server()),
-    ]
 }
 
 // What the builder can't get over where it finds nothing.
@@ -229,11 +211,22 @@ fn verdict_on<'a>(
     ensures told { IfOk result (IsToldOf reading.now.store reading.now.refusal (text_in inputs.now)) }
     ensures err { IfErr result (λ f. f ≡ no_memory) }
 {
+    let store = &reading.store;
     match &reading.refusal {
-        Some(refusal) => Ok(Verdict::Refused(capture_refusal(inputs.params, refusal))),
-        None if reading.store.len() == 0 => Ok(Verdict::NoPackets),
+        Some(refusal) => Ok(Verdict::Refused(capture_refusal(inputs.params, store, refusal))),
+        None if store.len() == 0 => Ok(Verdict::NoPackets),
         None => judged(alloc, inputs, reading),
     }
+}
+
+// The longest silence of each end.
+fn silences_in(packets: &[Sighting]) -> [Option<Silence>; 2]
+    ensures { AreSilences packets.now result }
+{
+    [
+        longest_silence(packets, Side::Client),
+        longest_silence(packets, Side::Server),
+    ]
 }
 
 // The counts of the recorded channels.
@@ -263,6 +256,7 @@ pub fn account_of<'a>(
         },
         parameters: file_of(names.parameters, texts.parameters),
         certificate: texts.certificate.map(|text| file_of(name, text)),
+        params: inputs.params,
         without: inputs.without,
         records: notes.records,
         window: window_in(inputs.params, notes.records),
@@ -270,7 +264,10 @@ pub fn account_of<'a>(
         channels: channels_in(inputs.params, &notes.channels),
         before: notes.before,
         behind: notes.behind,
-        offers: offers_in(inputs.params, reading),
+        passed: notes.passed,
+        times: notes.times,
+        silences: silences_in(notes.packets.as_slice()),
+        offers: offers_in(inputs.params, &reading.store),
         verdict: verdict_on(alloc, inputs, reading)?,
     })
 }

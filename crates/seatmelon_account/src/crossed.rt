@@ -4,7 +4,7 @@ ghost use Rattle.rasta_check.specs.Capture.Reading.{sent_by};
 
 use rasta_check::{SentList, SpanList, Store};
 use rasta_pcap::Side;
-use rasta_pdu::Pdu;
+use rasta_pdu::{Kind, Pdu};
 
 /// A packet that crossed at a place, and its PDU where it is a first copy of this end.
 #[derive(Drop)]
@@ -44,4 +44,12 @@ pub fn packet_at(store: &Store, place: u32) -> Option<Crossed<'_>> {
     let (side, _) = store.packet(place)?;
     let pdu = pdu_at(&list_of(store, side), place);
     Some(Crossed { side, place, pdu })
+}
+
+/// Whether the first packet that crossed opens the connection.
+pub fn has_opening(store: &Store) -> bool {
+    match packet_at(store, 0).and_then(|first| first.pdu) {
+        Some(pdu) => pdu.kind().is(Kind::ConnectionRequest),
+        None => false,
+    }
 }

@@ -1,5 +1,5 @@
 //! The fields of a datagram.
-use crate::numbers::{PAYLOAD_AT, number_at};
+use crate::numbers::{PAYLOAD_AT, SN_AT, number_at};
 
 /// The fields of a datagram before its payload, but for the reserve: those that it goes as far as.
 #[derive(Clone, Copy)]
@@ -26,7 +26,7 @@ impl Fields {
             safety_length: number_at(datagram, 8, 2),
             receiver: number_at(datagram, 12, 4),
             sender: number_at(datagram, 16, 4),
-            sn: number_at(datagram, 20, 4),
+            sn: number_at(datagram, SN_AT, 4),
             cs: number_at(datagram, 24, 4),
             ts: number_at(datagram, 28, 4),
             cts: number_at(datagram, 32, 4),

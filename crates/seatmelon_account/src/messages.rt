@@ -1,10 +1,10 @@
 //! The messages that an end sent, and which of them were surely taken.
-ghost use Rattle.std.specs.Prelude.{◌≡◌, ◌++◌, ◌∷◌, [], map, IfOk, OnOk, IfErr};
+ghost use Rattle.std.specs.Prelude.{◌≡◌, ◌++◌, ◌∷◌, [], length, map, IfOk, OnOk, IfErr};
 ghost use Rattle.rasta_pcap.specs.Fault.{no_memory};
 ghost use Rattle.rasta_pdu.specs.Pdu.{messages_in, value_of};
 ghost use Rattle.rasta_check.specs.Capture.Lists.{copy_of};
 ghost use Rattle.rasta_check.specs.Verdict.Listed.{listed_of};
-ghost use Rattle.seatmelon_account.specs.Messages.{AreFirst, IsDirection, ProvedBy, messages_sent, placed_at, placed_of, proof_in};
+ghost use Rattle.seatmelon_account.specs.Messages.{AreFirst, IsDirection, ProvedBy, messages_sent, not_shown, placed_at, placed_of, proof_in};
 
 use rasta_check::{SentList, SpanList, Taken};
 use rasta_pcap::{Fault, Side};
@@ -35,6 +35,21 @@ pub struct Direction<'a> {
     pub taken: u64,
 
     pub messages: Vec<Message<'a>>,
+}
+
+impl Direction<'_> {
+    /// The numbers of the first and of the last message that wasn't shown to be taken, if there is one: these, and all
+    /// between them.
+    pub fn not_shown(&self) -> Option<(u64, u64)>
+        ensures { result ≡ not_shown self.now.taken (length self.now.messages.items) }
+    {
+        let sent = self.messages.len() as u64;
+        if self.taken < sent {
+            Some((self.taken, sent - 1))
+        } else {
+            None
+        }
+    }
 }
 
 // The place of the proof of the message of that number, where it is listed.

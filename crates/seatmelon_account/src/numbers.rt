@@ -10,6 +10,9 @@ pub const SAFETY_AT: usize = 8;
 /// Where the type stands.
 pub const TYPE_AT: usize = 10;
 
+/// Where SN stands.
+pub const SN_AT: usize = 20;
+
 /// Where the payload begins.
 pub const PAYLOAD_AT: usize = 36;
 

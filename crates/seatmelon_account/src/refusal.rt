@@ -1,8 +1,9 @@
 //! What is told of a refusal.
 ghost use Rattle.std.specs.Prelude.{◌≡◌};
+ghost use Rattle.seatmelon_account.specs.Gaps.{TellsGap};
 ghost use Rattle.seatmelon_account.specs.Refusals.{TellsRecord};
 
-use crate::crossed::{Crossed, packet_at};
+use crate::crossed::{Crossed, has_opening, packet_at};
 use crate::entries::{RefusedEntry, refused_entry};
 use crate::rules::{BrokenRule, broken_rule};
 use crate::trouble::{Trouble, trouble_of};
@@ -12,7 +13,8 @@ use rasta_check::Store;
 use rasta_pcap::{CaptureTime, Fault, Record, Side};
 use rasta_pdu::{Kind, Params};
 use rasta_udp::{Datagram, datagram};
-use seatmelon_reading::CaptureRefusal;
+use seatmelon_packets::{Fits, Trials, features_by};
+use seatmelon_reading::{CaptureRefusal, CodeCount};
 
 /// The packet of a refused record.
 #[derive(Drop)]
@@ -24,6 +26,12 @@ pub struct RefusedPacket<'a> {
 
     pub datagram: &'a [u8],
     pub trouble: Trouble<'a>,
+
+    /// Whether no packet of the connection crossed before it.
+    pub is_first: bool,
+
+    /// The lengths of the codes that it fits, if it is the first and what is wrong with it may be a wrong length.
+    pub lengths: Option<Fits>,
 }
 
 /// What a refusal speaks of.
@@ -32,12 +40,13 @@ pub enum Subject<'a> {
     /// The header of the file.
     Header,
 
-    /// A record, from 1, when it was captured if it was read whole, and its packet, if it holds one of the recorded
-    /// channels.
+    /// A record, from 1, when it was captured if it was read whole, its packet, if it holds one of the recorded
+    /// channels, and the safety codes of the packets from there on.
     Record {
         record: u32,
         time: Option<CaptureTime>,
         packet: Option<RefusedPacket<'a>>,
+        codes: CodeCount,
     },
 
     /// A line of the certificate, from 1.
@@ -50,6 +59,9 @@ pub enum Subject<'a> {
 
         /// Whether no quiet point is recorded, and the first packet opens no connection.
         lacks_opening: bool,
+
+        /// Whether it is a PDU of the opening that the other end sends.
+        is_exchanged: bool,
     },
 
     /// An entry of a script.
@@ -72,21 +84,43 @@ fn datagram_in<'a>(params: &Params, refusal: &'a CaptureRefusal) -> Option<Datag
     datagram(&record, params.channel()).ok()?
 }
 
+// The lengths of the codes that a refused packet fits, if it is the first of all and they may be wrong.
+fn lengths_in(store: &Store, fault: Fault, datagram: &[u8]) -> Option<Fits> {
+    match fault.number {
+        Fault::TOO_SHORT | Fault::SAFETY_LENGTH | Fault::PAYLOAD if store.len() == 0 => {
+            Some(features_by(&Trials::new(), datagram)?.fits)
+        }
+        _ => None,
+    }
+}
+
 // The packet of a refused record, if it holds one of the recorded channels.
-fn packet_in<'a>(params: &Params, refusal: &'a CaptureRefusal) -> Option<RefusedPacket<'a>> {
+fn packet_in<'a>(
+    params: &Params,
+    store: &Store,
+    refusal: &'a CaptureRefusal,
+) -> Option<RefusedPacket<'a>>
+    ensures { TellsGap store.now result }
+{
     let packet = datagram_in(params, refusal)?;
     Some(RefusedPacket {
         sender: packet.side,
         channel: packet.channel,
         datagram: packet.payload,
-        trouble: trouble_of(params, refusal, &packet),
+        trouble: trouble_of(params, store, refusal, &packet),
+        is_first: store.len() == 0,
+        lengths: lengths_in(store, refusal.fault, packet.payload),
     })
 }
 
-/// What is told of a capture with a fault of its own.
-pub fn capture_refusal<'a>(params: &Params, refusal: &'a CaptureRefusal) -> Refusal<'a>
+/// What is told of a capture with a fault of its own, behind what crossed.
+pub fn capture_refusal<'a>(
+    params: &Params,
+    store: &Store,
+    refusal: &'a CaptureRefusal,
+) -> Refusal<'a>
     ensures fault { result.fault ≡ refusal.now.fault }
-    ensures told { TellsRecord refusal.now result.subject }
+    ensures told { TellsRecord store.now refusal.now result.subject }
 {
     let fault = refusal.fault;
     let subject = match fault.place {
@@ -94,7 +128,8 @@ pub fn capture_refusal<'a>(params: &Params, refusal: &'a CaptureRefusal) -> Refu
         record => Subject::Record {
             record,
             time: refusal.time,
-            packet: packet_in(params, refusal),
+            packet: packet_in(params, store, refusal),
+            codes: refusal.codes,
         },
     };
     Refusal { fault, subject }
@@ -102,12 +137,35 @@ pub fn capture_refusal<'a>(params: &Params, refusal: &'a CaptureRefusal) -> Refu
 
 // Whether no quiet point is recorded, and the first packet opens no connection.
 fn lacks_opening(store: &Store) -> bool {
-    if store.params().quiet().is_some() {
-        return false;
+    store.params().quiet().is_none() && !has_opening(store)
+}
+
+// Whether a packet is a PDU of the opening that the other end sends.
+fn is_exchanged(packet: Option<&Crossed<'_>>) -> bool {
+    match packet {
+        Some(
+            Crossed {
+                side,
+                pdu: Some(pdu),
+                ..
+            },
+        ) => match pdu.kind() {
+            Kind::ConnectionRequest => matches!(side, Side::Server),
+            Kind::ConnectionResponse => matches!(side, Side::Client),
+            _ => false,
+        },
+        _ => false,
     }
-    match packet_at(store, 0).and_then(|first| first.pdu) {
-        Some(pdu) => !pdu.kind().is(Kind::ConnectionRequest),
-        None => false,
+}
+
+// What is told of a packet that can't be explained.
+fn unexplained<'a>(store: &'a Store, place: u32, met: Option<Obstacle>) -> Subject<'a> {
+    let packet = packet_at(store, place);
+    Subject::Unexplained {
+        is_exchanged: is_exchanged(packet.as_ref()),
+        packet,
+        rule: met.and_then(|met| broken_rule(store, &met)),
+        lacks_opening: lacks_opening(store),
     }
 }
 
@@ -116,11 +174,7 @@ pub fn unscripted<'a>(store: &'a Store, fault: Fault, met: Option<Obstacle>) -> 
     ensures { result.fault ≡ fault }
 {
     let subject = match fault.number {
-        Fault::NOT_FOUND => Subject::Unexplained {
-            packet: packet_at(store, fault.place.saturating_sub(1)),
-            rule: met.and_then(|met| broken_rule(store, &met)),
-            lacks_opening: lacks_opening(store),
-        },
+        Fault::NOT_FOUND => unexplained(store, fault.place.saturating_sub(1), met),
         _ => Subject::Line(fault.place),
     };
     Refusal { fault, subject }

@@ -1,9 +1,26 @@
 //! The rule that refuses a PDU, found by a walk beside the verdict.
 use crate::crossed::{Crossed, first_with, list_of, pdu_at};
-use rasta_build::{Obstacle, Rule};
+use rasta_build::{Confirmation, Obstacle, Rule};
 use rasta_check::{SentList, SpanList, Store};
 use rasta_pcap::{Fault, Side};
 use rasta_pdu::{Params, Pdu};
+
+/// The deadline that a PDU misses: milliseconds of the clock of its end.
+#[derive(Clone, Copy)]
+pub struct Deadline {
+    /// At which it is made.
+    pub clock: u64,
+
+    /// That the CTS of the other end's PDU confirms; none where the quiet point has the deadline, or where it lies
+    /// before 0.
+    pub confirmed_time: Option<u64>,
+
+    pub t_max: u16,
+    pub slack: u16,
+
+    /// None where it lies before 0, or isn't known.
+    pub deadline: Option<u64>,
+}
 
 /// A rule that refuses a PDU.
 #[derive(Drop)]
@@ -22,7 +39,10 @@ pub struct BrokenRule<'a> {
     /// The number of the PDU that the rule speaks of, with its name.
     pub found: Option<(&'static str, u32)>,
 
-    /// The PDU of the peer that the rule speaks of.
+    /// The deadline that it misses, where the rule speaks of one.
+    pub deadline: Option<Deadline>,
+
+    /// The PDU of the peer that the rule speaks of, or that set the deadline.
     pub peer_pdu: Option<Crossed<'a>>,
 }
 
@@ -33,8 +53,36 @@ fn number_in(rule: Rule) -> Option<u32> {
         | Rule::TakesEarlier { number }
         | Rule::TakeRefused { number, .. }
         | Rule::NotAccepted { number } => Some(number),
+        Rule::Deadline { confirmed, .. } => Some(confirmed?.number),
         _ => None,
     }
+}
+
+// The deadline of an end: T_max after what was confirmed, or that of the quiet point.
+fn deadline_at(params: &Params, side: Side, confirmed: Option<Confirmation>) -> Option<u64> {
+    match confirmed {
+        Some(confirmed) => confirmed.time?.checked_add(u64::from(params.t_max())),
+        None => params.quiet()?.of(side).deadline,
+    }
+}
+
+// The deadline that a PDU misses, where a rule speaks of one.
+fn deadline_of(params: &Params, met: &Obstacle) -> Option<Deadline> {
+    let Rule::Deadline {
+        clock,
+        confirmed,
+        ..
+    } = met.rule
+    else {
+        return None;
+    };
+    Some(Deadline {
+        clock,
+        confirmed_time: confirmed.and_then(|confirmed| confirmed.time),
+        t_max: params.t_max(),
+        slack: params.slack(),
+        deadline: deadline_at(params, met.side, confirmed),
+    })
 }
 
 // The SN that is due at a place; none where the first PDU of an end may have any.
@@ -62,14 +110,14 @@ fn sn_due(params: &Params, list: &SpanList<'_>, met: &Obstacle) -> Option<u32> {
 
 // The number of a PDU that a rule speaks of, with its name.
 fn found_in(rule: Rule, pdu: &Pdu<'_>) -> Option<(&'static str, u32)> {
-    let Rule::MakeRefused { fault } = rule else {
-        return None;
-    };
-    match fault {
-        Fault::SEQUENCE_NUMBER => Some(("SN", pdu.sn())),
-        Fault::CONFIRMED_NUMBER => Some(("CS", pdu.cs())),
-        Fault::CONFIRMED_TIME => Some(("CTS", pdu.cts())),
-        Fault::PAST_DEADLINE | Fault::TOO_EARLY_TIMEOUT => Some(("TS", pdu.ts())),
+    match rule {
+        Rule::Deadline { .. } => Some(("TS", pdu.ts())),
+        Rule::MakeRefused { fault } => match fault {
+            Fault::SEQUENCE_NUMBER => Some(("SN", pdu.sn())),
+            Fault::CONFIRMED_NUMBER => Some(("CS", pdu.cs())),
+            Fault::CONFIRMED_TIME => Some(("CTS", pdu.cts())),
+            _ => None,
+        },
         _ => None,
     }
 }
@@ -86,6 +134,7 @@ pub fn broken_rule<'a>(store: &'a Store, met: &Obstacle) -> Option<BrokenRule<'a
         peer,
         sn_due: sn_due(&store.params(), &list, met),
         found,
+        deadline: deadline_of(&store.params(), met),
         peer_pdu: number_in(met.rule).and_then(|number| first_with(store, peer, number)),
     })
 }

@@ -1,7 +1,11 @@
 //! What is wrong with a packet.
+ghost use Rattle.rasta_check.specs.Capture.Reading.{sent_by};
+ghost use Rattle.seatmelon_account.specs.Gaps.{TellsTrouble};
+
 use crate::differences::{Codes, Differences, codes_in, differences};
+use crate::gap::{Gap, gap_of};
 use crate::layout::{Layout, layout_in, type_in};
-use crate::numbers::{NUMBER_AT, number_at};
+use rasta_check::Store;
 use rasta_pcap::{Fault, Side};
 use rasta_pdu::Params;
 use rasta_udp::Datagram;
@@ -30,19 +34,11 @@ pub enum Trouble<'a> {
     /// It differs from another packet with its number.
     Copy(Option<FirstCopy<'a>>),
 
-    /// The number that was due, if the end sent something before, the one that was found, and where the first packet
-    /// with the one that was due crosses later.
-    Gap {
-        due: Option<u32>,
-        found: u32,
-        later: Option<Sighting>,
-    },
+    /// Its number leaves a gap; none where its end sent nothing before.
+    Gap(Option<Gap>),
 
     /// The ids that are due.
-    Ids {
-        receiver: u32,
-        sender: u32,
-    },
+    Ids { receiver: u32, sender: u32 },
 
     /// The length field that is due.
     Length(u64),
@@ -73,26 +69,11 @@ fn first_copy<'a>(refusal: &'a CaptureRefusal, datagram: &[u8]) -> Option<FirstC
     })
 }
 
-// Which number was due, and where it crosses later.
-fn gap<'a>(refusal: &CaptureRefusal, datagram: &[u8]) -> Trouble<'a> {
-    Trouble::Gap {
-        due: refusal.next_number,
-        found: number_at(datagram, NUMBER_AT, 4).unwrap_or(0),
-        later: refusal.beside.as_ref().map(|beside| beside.sighting),
-    }
-}
-
-// The ids that are recorded of a sender and of its receiver.
-fn ids<'a>(params: &Params, sender: Side) -> Trouble<'a> {
+// The ids that are recorded of a sender and of its receiver, which stands first.
+fn ids(params: &Params, sender: Side) -> (u32, u32) {
     match sender {
-        Side::Client => Trouble::Ids {
-            receiver: params.server_id(),
-            sender: params.client_id(),
-        },
-        Side::Server => Trouble::Ids {
-            receiver: params.client_id(),
-            sender: params.server_id(),
-        },
+        Side::Client => (params.server_id(), params.client_id()),
+        Side::Server => (params.client_id(), params.server_id()),
     }
 }
 
@@ -107,18 +88,35 @@ fn safety_length(params: &Params, datagram: &[u8]) -> u64 {
     (datagram.len() as u64).saturating_sub(around)
 }
 
-/// What is wrong with the packet of a refused record.
+// The gap that the packet of a refused record shows.
+fn gap<'a>(store: &Store, refusal: &CaptureRefusal, packet: &Datagram<'a>) -> Trouble<'a>
+    ensures { TellsTrouble (sent_by store.now packet.now.side) result }
+{
+    let later = refusal.beside.as_ref().map(|beside| beside.sighting);
+    match gap_of(store, packet.side, packet.payload, later) {
+        Some(gap) => Trouble::Gap(Some(gap)),
+        None => Trouble::Gap(None),
+    }
+}
+
+/// What is wrong with the packet of a refused record, behind what crossed.
 pub fn trouble_of<'a>(
     params: &Params,
+    store: &Store,
     refusal: &'a CaptureRefusal,
     packet: &Datagram<'a>,
-) -> Trouble<'a> {
+) -> Trouble<'a>
+    ensures { TellsTrouble (sent_by store.now packet.now.side) result }
+{
     let datagram = packet.payload;
     match refusal.fault.number {
         Fault::CODE => Trouble::Code(codes_in(params, datagram), first_copy(refusal, datagram)),
         Fault::COPY_DIFFERS => Trouble::Copy(first_copy(refusal, datagram)),
-        Fault::NUMBER_GAP => gap(refusal, datagram),
-        Fault::IDS => ids(params, packet.side),
+        Fault::NUMBER_GAP => gap(store, refusal, packet),
+        Fault::IDS => {
+            let (receiver, sender) = ids(params, packet.side);
+            Trouble::Ids { receiver, sender }
+        }
         Fault::REDUNDANCY_LENGTH => Trouble::Length(datagram.len() as u64),
         Fault::TOO_SHORT => Trouble::TooShort(least_length(params)),
         Fault::SAFETY_LENGTH => Trouble::SafetyLength(safety_length(params, datagram)),

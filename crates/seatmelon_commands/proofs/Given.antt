@@ -1,5 +1,5 @@
 -- What stands beside a capture that is explained.
-use Rattle.std.proofs.Common.{◌≡◌, ℕ, List, Option, subst}
+use Rattle.std.proofs.Common.{ℕ, List, Option, subst}
 use Rattle.rasta_pdu.specs.Params.{Parameters}
 use Rattle.seatmelon_account.specs.declared.account.Inputs as given
 use Rattle.seatmelon_commands.specs.Explained.{IsCaptureExplained, IsGivenFor, certificate_in}

@@ -2,4 +2,5 @@ pub mod Drafts
 pub mod Explained
 pub mod Failing
 pub mod FileKinds
+pub mod Shown
 pub mod Watching

@@ -5,7 +5,9 @@ ghost use Rattle.seatmelon_commands.specs.Failing.{status_of};
 use crate::failure::{Failure, reason_of};
 use crate::watched::Watched;
 use rasta_pcap::{Counted, Fault, Sink};
-use seatmelon_survey::{Connection, Survey};
+use rasta_pdu::Params;
+use seatmelon_lines::write_words;
+use seatmelon_survey::{Connection, Survey, write_fault};
 use std::alloc::Global;
 use std::io;
 use std::io::{BufWriter, Write};
@@ -13,21 +15,49 @@ use std::io::{BufWriter, Write};
 // How many bytes of an answer are written at once.
 const BUFFER: usize = 65_536;
 
+/// A parameter file for a connection of a capture, whose fault it names, if there is one. If parameters are kept, only
+/// the window and the quiet point are new.
+#[derive(Clone, Copy)]
+pub struct Draft<'a> {
+    pub connection: &'a Connection,
+    pub fault: Option<Fault>,
+    pub kept: Option<&'a Params>,
+}
+
 /// What the program writes.
 #[derive(Clone, Copy)]
 pub enum Answer<'a> {
     /// What was found in a capture.
     Survey(&'a Survey),
 
-    /// A parameter file for a connection.
-    Draft(&'a Connection),
+    /// A parameter file.
+    Draft(Draft<'a>),
+}
+
+// Writes that a capture isn't whole, as a comment.
+fn write_fault_comment<W: Sink>(writer: &mut W, fault: Fault) -> Result<(), Fault> {
+    write_words(writer, "# The capture is not whole: ")?;
+    write_fault(writer, fault)?;
+    write_words(writer, "# Only the records before that were read.\n")
+}
+
+impl Draft<'_> {
+    fn write<W: Sink>(&self, writer: &mut W) -> Result<(), Fault> {
+        if let Some(fault) = self.fault {
+            write_fault_comment(writer, fault)?;
+        }
+        match self.kept {
+            Some(params) => self.connection.write_kept_draft(writer, params),
+            None => self.connection.write_draft(writer),
+        }
+    }
 }
 
 impl Answer<'_> {
     fn write<W: Sink>(&self, writer: &mut W) -> Result<(), Fault> {
         match self {
             Answer::Survey(survey) => survey.write(writer),
-            Answer::Draft(connection) => connection.write_draft(writer),
+            Answer::Draft(draft) => draft.write(writer),
         }
     }
 }
@@ -37,6 +67,7 @@ pub fn unwritten(alloc: Global, error: Option<io::Error>) -> Failure
     ensures { status_of result ≡ 3 }
 {
     let reason = match error {
+        Some(error) if error.kind() == io::ErrorKind::BrokenPipe => return Failure::ClosedPipe,
         Some(error) => reason_of(alloc, &error),
         None => String::from_str(alloc, "writing failed"),
     };

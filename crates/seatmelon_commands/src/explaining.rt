@@ -1,8 +1,9 @@
 //! The command `explain`.
 ghost use Rattle.std.specs.Prelude.{◌≡◌, ◌≢◌, ◌≤◌, IfErr, IfOk, Ok};
+ghost use Rattle.seatmelon_explain.specs.Outcomes.{NamesRecord};
 ghost use Rattle.seatmelon_explain.specs.declared.explaining.Outcome.TheVariants.{Explained};
 ghost use Rattle.seatmelon_commands.specs.Explained.{IsCaptureExplained, IsGivenFor};
-ghost use Rattle.seatmelon_commands.specs.Failing.{status_of, IsOfExplaining};
+ghost use Rattle.seatmelon_commands.specs.Failing.{status_of, IsOfExplaining, TellsWords};
 
 use crate::answer::unwritten;
 use crate::failure::Failure;
@@ -127,14 +128,42 @@ pub fn explain_of<D: Read + Drop, W: Write + Drop>(
     }
 }
 
-/// The program's status after an explanation: 0 where the packets are explained.
+// Why a capture isn't explained without a record that it doesn't have.
+fn no_record(alloc: Global, path: &str, number: u32, records: u32) -> Failure
+    ensures { TellsWords result }
+{
+    match String::from_str(alloc, path) {
+        Ok(path) => Failure::NoRecord {
+            path,
+            number,
+            records,
+        },
+        Err(_) => Failure::OutOfMemory,
+    }
+}
+
+/// The program's status after an explanation that was written: 0 where the packets are explained.
 pub fn status_of_outcome(outcome: Outcome) -> u8
     ensures explained { outcome ≡ Explained → result ≡ 0 }
     ensures other { outcome ≢ Explained → result ≡ 1 }
 {
     match outcome {
         Outcome::Explained => 0,
-        Outcome::Refused | Outcome::NoPackets => 1,
+        Outcome::Refused | Outcome::NoPackets | Outcome::NoRecord { .. } => 1,
+    }
+}
+
+// The program's status after an explanation, or why none was written.
+fn status_after(alloc: Global, path: &str, outcome: Outcome) -> Result<u8, Failure>
+    ensures ok { IfOk result (λ status. status ≤ 1) }
+    ensures explained { outcome ≡ Explained → result ≡ Ok 0 }
+    ensures other { IfOk result (λ status. outcome ≢ Explained → status ≡ 1) }
+    ensures missing { NamesRecord outcome → IfOk result (λ _. ⊥) }
+    ensures err { IfErr result TellsWords }
+{
+    match outcome {
+        Outcome::NoRecord { number, records } => Err(no_record(alloc, path, number, records)),
+        _ => Ok(status_of_outcome(outcome)),
     }
 }
 
@@ -220,5 +249,5 @@ pub fn explain_files<R: AllocGlobal + Files + Input + Print + Eprint + Clock>(
     let inputs = read_inputs(rt, explaining)?;
     let explanation = explain_capture(rt, explaining, &inputs, is_told)?;
     advise(rt, explaining.capture, explanation.kind);
-    Ok(status_of_outcome(explanation.outcome))
+    status_after(rt.alloc(), explaining.capture, explanation.outcome)
 }

@@ -1,10 +1,11 @@
 //! Why the program gives up.
 ghost use Rattle.std.specs.Prelude.{◌≡◌};
-ghost use Rattle.seatmelon_commands.specs.Failing.{status_of};
+ghost use Rattle.seatmelon_commands.specs.Failing.{is_told, status_of};
 
 use crate::file_kind::FileKind;
 use crate::parameters::ParameterRefusal;
 use rasta_pcap::Fault;
+use seatmelon_survey::{FaultWords, words_of_fault};
 use std::alloc::{AllocError, Global};
 use std::{fmt, io};
 use thiserror::Error;
@@ -23,6 +24,9 @@ pub enum Failure {
     },
     #[error("standard output: {0}")]
     Writing(String),
+    /// Nobody reads standard output any more: of this nothing is told.
+    #[error("standard output: nobody reads it")]
+    ClosedPipe,
     #[error("{path}: {refusal}")]
     Refused {
         path: String,
@@ -33,6 +37,17 @@ pub enum Failure {
         path: String,
         number: u64,
         count: u64,
+    },
+    #[error("{path}: there is no record {number} to be left out: the capture has {records}")]
+    NoRecord {
+        path: String,
+        number: u32,
+        records: u32,
+    },
+    #[error("{path}: client_id and server_id are not those of connection {number}")]
+    OtherIds {
+        path: String,
+        number: u64,
     },
     #[error("{path}: {refusal}")]
     Parameters {
@@ -58,20 +73,6 @@ impl From<AllocError> for Failure {
     }
 }
 
-// What a fault says, before the number of the record and behind it; a fault of the file's header names no record.
-fn words_on(number: u8) -> (&'static str, &'static str) {
-    match number {
-        Fault::NOT_PCAP => ("this is not a classic libpcap file", ""),
-        Fault::VERSION => ("this is not version 2.4 of the libpcap format", ""),
-        Fault::LINK_TYPE => ("its frames are not Ethernet frames", ""),
-        Fault::CUT_HEADER => ("the file ends inside its header", ""),
-        Fault::CUT_RECORD => ("the file ends inside record ", ""),
-        Fault::TOO_MANY => ("record ", " is one too many"),
-        Fault::RECORD_TOO_LONG => ("record ", " has more than 262144 bytes"),
-        _ => ("record ", " is refused"),
-    }
-}
-
 // What is told of a file of this kind, after a line feed.
 fn advice_on(kind: FileKind) -> &'static str {
     match kind {
@@ -87,7 +88,7 @@ fn advice_on(kind: FileKind) -> &'static str {
 impl fmt::Display for Refusal {
     fn fmt<W: fmt::Write>(&self, f: &mut fmt::Formatter<W>) -> fmt::Result {
         let Refusal { fault, kind } = self;
-        let (before, behind) = words_on(fault.number);
+        let FaultWords { before, behind } = words_of_fault(fault.number);
         f.write_str(before)?;
         if fault.place > 0 {
             write!(f, "{}{behind}", fault.place)?;
@@ -112,7 +113,25 @@ pub fn status(failure: &Failure) -> u8
 {
     match failure {
         Failure::Refused { .. } => 1,
-        Failure::Arguments | Failure::NoConnection { .. } | Failure::Parameters { .. } => 2,
+        Failure::Arguments
+        | Failure::NoConnection { .. }
+        | Failure::NoRecord { .. }
+        | Failure::OtherIds { .. }
+        | Failure::Parameters { .. } => 2,
         Failure::OutOfMemory | Failure::Reading { .. } | Failure::Writing(_) => 3,
+        Failure::ClosedPipe => 3,
+    }
+}
+
+/// Whether standard error is told of a failure.
+pub fn is_told(failure: &Failure) -> bool
+    ensures { result ≡ is_told failure.now }
+{
+    match failure {
+        Failure::ClosedPipe => false,
+        Failure::OutOfMemory | Failure::Arguments | Failure::Reading { .. } => true,
+        Failure::Writing(_) | Failure::Refused { .. } => true,
+        Failure::NoConnection { .. } | Failure::NoRecord { .. } => true,
+        Failure::OtherIds { .. } | Failure::Parameters { .. } => true,
     }
 }

@@ -1,7 +1,7 @@
 //! The lines of a parameter file on which its keys stand.
 
-// The keys that stand outside of every table.
-const TOP_KEYS: [&str; 12] = [
+/// The keys that stand outside of every table.
+pub const TOP_KEYS: [&str; 12] = [
     "client_id",
     "server_id",
     "code_length",
@@ -56,16 +56,32 @@ pub fn line_of_key(text: &str, name: &str) -> Option<usize> {
         .checked_add(1)
 }
 
-/// The first line, from 1, that begins with a key or a table's name that no parameter file has.
-pub fn line_of_unknown_key(text: &str) -> Option<usize> {
+// The name with which a line begins, of a key or of a table.
+fn name_in(line: &str) -> &str {
+    let line = line.trim_start_matches(&[' ', '\t', '[', '"', '\'']);
+    match line.split_once(&['=', '.', ']', '"', '\'', ' ', '\t']) {
+        Some((name, _)) => name,
+        None => line,
+    }
+}
+
+// The place, from 0, of the first line with a key, outside of tables, that no parameter file has; else with a table.
+fn place_of_unknown(text: &str) -> Option<usize> {
     let key = text
         .lines()
         .take_while(|line| !is_header(line))
         .position(is_unknown_key);
     match key {
-        Some(place) => place.checked_add(1),
-        None => text.lines().position(is_unknown_header)?.checked_add(1),
+        Some(place) => Some(place),
+        None => text.lines().position(is_unknown_header),
     }
+}
+
+/// The first line, from 1, that begins with a key or a table's name that no parameter file has, and that name.
+pub fn unknown_key_in(text: &str) -> Option<(usize, &str)> {
+    let place = place_of_unknown(text)?;
+    let line = text.lines().nth(place)?;
+    Some((place.checked_add(1)?, name_in(line)))
 }
 
 /// The line, from 1, of a place in a text.

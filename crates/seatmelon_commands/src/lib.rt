@@ -11,16 +11,19 @@ mod key_lines;
 mod parameters;
 mod progress;
 mod reading;
+mod showing;
 mod surveying;
+mod unknown_key;
 mod watched;
 
-pub use answer::{Answer, write_answer};
-pub use drafting::{draft_file, draft_in};
+pub use answer::{Answer, Draft, unwritten, write_answer};
+pub use drafting::{After, Drafting, draft_file, draft_in, with_params};
 pub use explaining::{
     Explaining, Explanation, Inputs, explain_files, explain_of, status_of_outcome,
 };
-pub use failure::{Failure, Refusal, reason_of, status};
+pub use failure::{Failure, Refusal, is_told, reason_of, status};
 pub use file_kind::FileKind;
 pub use parameters::{ParameterRefusal, params_in};
 pub use reading::whole_of;
-pub use surveying::{survey_file, survey_of};
+pub use showing::{Showing, show_file, show_of, status_of_listing};
+pub use surveying::{status_of_survey, survey_file, survey_of};

@@ -5,10 +5,11 @@ ghost use Rattle.seatmelon_commands.specs.Failing.{TellsWords};
 
 use crate::failure::Failure;
 use crate::file_kind::{FileKind, file_kind};
-use crate::key_lines::{line_of_key, line_of_place, line_of_unknown_key};
+use crate::key_lines::{line_of_key, line_of_place};
+use crate::unknown_key::{UnknownKey, unknown_key};
 use rasta_params::params;
 use rasta_pdu::{Fault, Params};
-use std::alloc::Global;
+use std::alloc::{AllocError, Global};
 use std::{fmt, str};
 
 /// A key of a parameter file, and what may stand there.
@@ -19,11 +20,13 @@ struct Key {
 }
 
 /// Why a parameter file is refused.
-#[derive(Clone, Copy, Debug)]
+#[derive(Debug, Drop)]
 pub struct ParameterRefusal {
     fault: Fault,
     // The line that seems to be at fault, from 1.
     line: Option<usize>,
+    // A key that no parameter file has, where one is missing or unknown.
+    unknown: Option<UnknownKey>,
     // What is wrong with a text that is no TOML document.
     error: Option<toml::de::Error>,
     kind: FileKind,
@@ -66,31 +69,44 @@ fn key_of(number: u32) -> Option<Key> {
     }
 }
 
-// The line of a parameter file at which a fault seems to be.
-fn line_of(text: &[u8], fault: Fault, error: Option<toml::de::Error>) -> Option<usize> {
-    if let Some(error) = error {
-        return line_of_place(text, error.span()?.start);
+// A key of a text that no parameter file has, where a key is missing or unknown.
+fn unknown_by(alloc: Global, text: &str, fault: Fault) -> Result<Option<UnknownKey>, AllocError> {
+    if fault.number == Fault::MISSING_KEY || key_of(fault.place).is_none() {
+        unknown_key(alloc, text)
+    } else {
+        Ok(None)
     }
-    let text = str::from_utf8(text).ok()?;
+}
+
+// The line of a parameter file at which a fault seems to be.
+fn line_of(text: &str, fault: Fault, unknown: Option<&UnknownKey>) -> Option<usize> {
     match key_of(fault.place) {
         Some(key) => line_of_key(text, key.name),
-        None => line_of_unknown_key(text),
+        None => unknown.map(|unknown| unknown.line),
     }
 }
 
 impl ParameterRefusal {
     // Why a parameter file of this text is refused by this fault.
-    fn new(alloc: Global, text: &[u8], fault: Fault) -> ParameterRefusal {
-        let error = match fault.number {
-            Fault::TOML => toml::table_from_slice(alloc, text).err(),
-            _ => None,
-        };
-        ParameterRefusal {
+    fn new(alloc: Global, text: &[u8], fault: Fault) -> Result<ParameterRefusal, AllocError> {
+        let mut refusal = ParameterRefusal {
             fault,
-            line: line_of(text, fault, error),
-            error,
+            line: None,
+            unknown: None,
+            error: None,
             kind: file_kind(text),
+        };
+        if fault.number == Fault::TOML {
+            refusal.error = toml::table_from_slice(alloc, text).err();
+            refusal.line = refusal
+                .error
+                .and_then(|error| error.span())
+                .and_then(|span| line_of_place(text, span.start));
+        } else if let Ok(text) = str::from_utf8(text) {
+            refusal.unknown = unknown_by(alloc, text, fault)?;
+            refusal.line = line_of(text, fault, refusal.unknown.as_ref());
         }
+        Ok(refusal)
     }
 
     // Whether a key is missing, although a line begins with it: in a table, where it has no effect.
@@ -120,7 +136,20 @@ impl ParameterRefusal {
                 write!(f, "this is no TOML document: {message}")
             }
             (None, Some(key)) => self.write_key(f, key),
-            (None, None) => write!(f, "a parameter file has no such key"),
+            (None, None) => match &self.unknown {
+                Some(unknown) => write!(f, "{unknown}"),
+                None => write!(f, "a parameter file has no such key"),
+            },
+        }
+    }
+
+    // The unknown key beside the one that is missing, if there is one.
+    fn write_unknown<W: fmt::Write>(&self, f: &mut fmt::Formatter<W>) -> fmt::Result {
+        match &self.unknown {
+            Some(unknown) if self.fault.number == Fault::MISSING_KEY => {
+                write!(f, "\nline {}: {unknown}", unknown.line)
+            }
+            _ => Ok(()),
         }
     }
 }
@@ -134,6 +163,7 @@ impl fmt::Display for ParameterRefusal {
         let number = self.fault.number;
         let name = self.fault.name();
         write!(f, " ({number} {name})")?;
+        self.write_unknown(f)?;
         match self.kind {
             FileKind::Capture | FileKind::Gzip | FileKind::Pcapng => write!(
                 f,
@@ -144,6 +174,16 @@ impl fmt::Display for ParameterRefusal {
     }
 }
 
+// That a parameter file is refused by this fault.
+fn refused(alloc: Global, path: &str, text: &[u8], fault: Fault) -> Result<Failure, AllocError>
+    ensures { IfOk result TellsWords }
+{
+    Ok(Failure::Parameters {
+        path: String::from_str(alloc, path)?,
+        refusal: ParameterRefusal::new(alloc, text, fault)?,
+    })
+}
+
 // Why there are no parameters.
 fn unparsed(alloc: Global, path: &str, text: &[u8], fault: Fault) -> Failure
     ensures { TellsWords result }
@@ -151,11 +191,8 @@ fn unparsed(alloc: Global, path: &str, text: &[u8], fault: Fault) -> Failure
     if fault.number == Fault::NO_MEMORY {
         return Failure::OutOfMemory;
     }
-    match String::from_str(alloc, path) {
-        Ok(path) => Failure::Parameters {
-            path,
-            refusal: ParameterRefusal::new(alloc, text, fault),
-        },
+    match refused(alloc, path, text, fault) {
+        Ok(failure) => failure,
         Err(_) => Failure::OutOfMemory,
     }
 }

@@ -1,6 +1,6 @@
 //! The command `survey`.
-ghost use Rattle.std.specs.Prelude.{◌≡◌, ◌<◌, ◌≤◌, length, IfErr, IfOk};
-ghost use Rattle.seatmelon_survey.specs.Survey.{connections_in};
+ghost use Rattle.std.specs.Prelude.{◌≡◌, ◌<◌, ◌≤◌, length, None, IfErr, IfOk, IsSome};
+ghost use Rattle.seatmelon_survey.specs.Survey.{connections_in, fault_in};
 ghost use Rattle.seatmelon_commands.specs.Failing.{status_of, TellsOf, IsOfFiles};
 
 use crate::answer::{Answer, write_answer};
@@ -9,7 +9,7 @@ use crate::file_kind::file_kind;
 use crate::reading::{BUFFER, STANDARD_INPUT, unread};
 use crate::watched::Watched;
 use rasta_pcap::{Buffered, Counted, Fault};
-use seatmelon_survey::{Survey, survey};
+use seatmelon_survey::{Behind, Survey, survey};
 use std::alloc::Global;
 use std::fs::File;
 use std::io;
@@ -36,13 +36,19 @@ fn refused<D>(alloc: Global, path: &str, fault: Fault, file: &Watched<D>) -> Fai
     }
 }
 
-/// Surveys what a reader gives; `path` is its name in the failure.
-pub fn survey_of<D: Read + Drop>(alloc: Global, path: &str, file: D) -> Result<Survey, Failure>
+/// Surveys what a reader gives; `path` is its name in the failure. The quiet points of one connection may be wanted behind
+/// a record.
+pub fn survey_of<D: Read + Drop>(
+    alloc: Global,
+    path: &str,
+    file: D,
+    behind: Option<Behind>,
+) -> Result<Survey, Failure>
     ensures err { IfErr result (λ failure. IsOfFiles failure) }
 {
     let mut source = Counted::new(Watched::new(file));
     let outcome = match Buffered::new(alloc, &mut source, BUFFER) {
-        Ok(mut reader) => survey(alloc, &mut reader),
+        Ok(mut reader) => survey(alloc, &mut reader, behind),
         Err(fault) => Err(fault),
     };
     let file = source.into_inner();
@@ -50,25 +56,30 @@ pub fn survey_of<D: Read + Drop>(alloc: Global, path: &str, file: D) -> Result<S
 }
 
 /// Surveys the capture of that path; `-` is standard input.
-pub fn survey_at<R: AllocGlobal + Files + Input>(rt: &R, path: &str) -> Result<Survey, Failure>
+pub fn survey_at<R: AllocGlobal + Files + Input>(
+    rt: &R,
+    path: &str,
+    behind: Option<Behind>,
+) -> Result<Survey, Failure>
     ensures err { IfErr result (λ failure. IsOfFiles failure) }
 {
     let alloc = rt.alloc();
     if path == STANDARD_INPUT {
-        return survey_of(alloc, path, rt.reader());
+        return survey_of(alloc, path, rt.reader(), behind);
     }
     match File::open(rt, path) {
-        Ok(file) => survey_of(alloc, path, file),
+        Ok(file) => survey_of(alloc, path, file, behind),
         Err(error) => Err(unread(alloc, path, Some(error))),
     }
 }
 
-/// The program's status after a survey: 1 where it found no connection.
+/// The program's status after a survey: 1 where it found no connection, or the capture isn't whole.
 pub fn status_of_survey(survey: &Survey) -> u8
     ensures none { length (connections_in survey.now) ≡ 0 → result ≡ 1 }
-    ensures some { 0 < length (connections_in survey.now) → result ≡ 0 }
+    ensures cut { IsSome (fault_in survey.now) → result ≡ 1 }
+    ensures some { 0 < length (connections_in survey.now) → fault_in survey.now ≡ None → result ≡ 0 }
 {
-    u8::from(survey.connections().is_empty())
+    u8::from(survey.connections().is_empty() || survey.fault().is_some())
 }
 
 /// Surveys the capture of that path, and writes the survey to standard output. Answers the program's status.
@@ -79,7 +90,7 @@ pub fn survey_file<R: AllocGlobal + Files + Input + Print>(
     ensures ok { IfOk result (λ status. status ≤ 1) }
     ensures err { IfErr result (λ failure. IsOfFiles failure) }
 {
-    let survey = survey_at(rt, path)?;
+    let survey = survey_at(rt, path, None)?;
     write_answer(rt.alloc(), &Answer::Survey(&survey), io::writer(rt))?;
     Ok(status_of_survey(&survey))
 }

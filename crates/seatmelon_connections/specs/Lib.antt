@@ -3,3 +3,5 @@ pub mod Sightings
 pub mod LateCopies
 pub mod Noted
 pub mod Comparing
+pub mod Quiet
+pub mod QuietPoints

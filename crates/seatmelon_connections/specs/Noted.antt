@@ -1,8 +1,10 @@
 -- What is noted of a connection.
-use Rattle.std.specs.Prelude.{ℕ, Bool, Option, ◌||◌, is_some}
+use Rattle.std.specs.Prelude.{ℕ, Bool, false, Option, ◌||◌, is_some}
+use Rattle.std.specs.Option.{option_and_then, option_map_or}
 use Rattle.seatmelon_connections.specs.declared.connection.Connection.{Connection}
 use Rattle.seatmelon_connections.specs.declared.connection.Request.{Request}
 use Rattle.seatmelon_connections.specs.declared.late_copies.LateCopies.{LateCopies}
+use Rattle.seatmelon_connections.specs.QuietPoints.{from_in, lacks_point_in}
 
 -- the number of a connection's first record, from 1
 abbrev pub first_record_in : Connection → ℕ
@@ -40,3 +42,11 @@ repeated_in c = c.repeated
 
 abbrev pub with_repeated : Connection → Option ℕ → Connection
 with_repeated c place = record c { repeated = place }
+
+-- the record behind which its quiet points are wanted, if they are wanted behind one
+abbrev pub quiet_from_in : Connection → Option ℕ
+quiet_from_in c = option_and_then from_in c.quiet
+
+-- they are, and none was found
+abbrev pub lacks_quiet_point_in : Connection → Bool
+lacks_quiet_point_in c = option_map_or lacks_point_in c.quiet false

@@ -6,12 +6,13 @@ ghost use Rattle.seatmelon_connections.specs.Comparing.{request_in};
 
 use crate::channel::{Channels, End};
 use crate::draft::write_draft;
+use crate::kept_draft::write_kept_draft;
 use crate::late_copies::{Arrival, LateCopies, with_copy};
 use crate::numbers::Sighting;
 use crate::party::Party;
 use crate::quiet::QuietPoints;
 use rasta_pcap::{CaptureTime, Fault, Sink};
-use rasta_pdu::Kind;
+use rasta_pdu::{Kind, Params};
 use seatmelon_packets::{Lengths, Packet};
 use std::alloc::Global;
 
@@ -45,7 +46,7 @@ pub struct Connection {
     pub(crate) channels: Channels,
     pub(crate) lengths: Lengths,
 
-    /// Of a connection whose opening was not captured.
+    /// Of a connection whose opening was not captured, or where they are wanted behind a record.
     pub(crate) quiet: Option<QuietPoints>,
     first_record: u32,
     last_record: u32,
@@ -60,21 +61,23 @@ pub struct Connection {
 
 impl Connection {
     ghost use Rattle.seatmelon_connections.specs.Comparing.{HasSameOpening, goes_on_with, is_claimed, is_copy_in, is_followed_by, is_late_copy, is_opened_by, late_copies_with, last_record_with, numbers_of, sender_in, sighting_by};
-    ghost use Rattle.seatmelon_connections.specs.Noted.{first_id_in, first_record_in, has_ending_in, has_opening_in, last_record_in, late_copies_in, repeated_in, request_of, second_id_in, with_repeated};
+    ghost use Rattle.seatmelon_connections.specs.Noted.{first_id_in, first_record_in, has_ending_in, has_opening_in, lacks_quiet_point_in, last_record_in, late_copies_in, quiet_from_in, repeated_in, request_of, second_id_in, with_repeated};
 
-    /// A connection that begins with this packet, which is still to be taken in ([`Connection::add`]).
+    /// A connection that begins with this packet, which is still to be taken in ([`Connection::add`]). If a record is
+    /// given, its draft has a quiet point behind that record, where only packets from there on are looked at.
     ///
     /// Refused by [`Fault::NO_MEMORY`].
-    pub fn new(alloc: Global, packet: &Packet) -> Result<Connection, Fault>
+    pub fn new(alloc: Global, packet: &Packet, from: Option<u32>) -> Result<Connection, Fault>
         ensures first { IfOk result (λ c. first_id_in c ≡ packet.now.way.sender) }
         ensures second { IfOk result (λ c. second_id_in c ≡ packet.now.way.receiver) }
         ensures request { IfOk result (λ c. request_of c ≡ request_in packet.now) }
+        ensures quiet { IfOk result (λ c. quiet_from_in c ≡ from) }
         ensures err { IfErr result (λ f. f ≡ no_memory) }
     {
         let request = request_in(packet);
-        let quiet = match request {
-            Some(_) => None,
-            None => Some(QuietPoints::new(alloc)?),
+        let quiet = match (request, from) {
+            (Some(_), None) => None,
+            (_, from) => Some(QuietPoints::new(alloc, from)?),
         };
         Ok(Connection {
             request,
@@ -174,6 +177,29 @@ impl Connection {
         ensures written { AsWritten result (W.failure_count writer.old) (W.failure_count writer.new) }
     {
         write_draft(writer, self)
+    }
+
+    /// Writes a parameter file with recorded parameters of the connection, in which only the window and the quiet point are
+    /// new. A connection that has no quiet points has no such file, and its own draft is written.
+    ///
+    /// Refused by [`Fault::WRITE_FAILED`] alone.
+    pub fn write_kept_draft<W: Sink>(&self, writer: &mut W, params: &Params) -> Result<(), Fault>
+        ensures written { AsWritten result (W.failure_count writer.old) (W.failure_count writer.new) }
+    {
+        match &self.quiet {
+            Some(quiet) => write_kept_draft(writer, self, quiet, params),
+            None => write_draft(writer, self),
+        }
+    }
+
+    /// Whether its draft has a quiet point behind a record, where one is wanted.
+    pub fn lacks_quiet_point(&self) -> bool
+        ensures { result ≡ lacks_quiet_point_in self.now }
+    {
+        match &self.quiet {
+            Some(quiet) => quiet.lacks_point(),
+            None => false,
+        }
     }
 
     // Which end sent the packet, if it is between these two ends.
@@ -293,6 +319,7 @@ impl Connection {
             → last_record_in self.new ≡ last_record_with self.old packet.now arrival }
         ensures same { HasSameOpening self.old self.new }
         ensures repeated { repeated_in self.new ≡ repeated_in self.old }
+        ensures quiet { quiet_from_in self.new ≡ quiet_from_in self.old }
     {
         let Some(sender) = self.sender_of(packet) else {
             return;
@@ -312,6 +339,7 @@ impl Connection {
         ensures last_record { last_record_in self.new ≡ last_record_with self.old packet.now arrival }
         ensures same { HasSameOpening self.old self.new }
         ensures repeated { self.new.repeated ≡ self.old.repeated }
+        ensures quiet { self.new.quiet ≡ self.old.quiet }
     {
         let is_late_copy = self.is_late_copy(packet, arrival);
         if is_late_copy {
@@ -329,6 +357,7 @@ impl Connection {
         ensures last_record { last_record_in self.new ≡ last_record_in self.old }
         ensures same { HasSameOpening self.old self.new }
         ensures repeated { self.new.repeated ≡ self.old.repeated }
+        ensures quiet { self.new.quiet ≡ self.old.quiet }
     {
         match sender {
             End::First => self.first.add(packet),

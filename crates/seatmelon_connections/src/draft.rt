@@ -5,6 +5,7 @@ use crate::channel::{ChannelCounts, reversed};
 use crate::connection::Connection;
 use crate::party::Party;
 use crate::quiet_draft::write_quiet_points;
+use crate::quiet_reasons::write_no_point;
 use rasta_pcap::{Fault, Sink};
 use rasta_pdu::Kind;
 use rasta_udp::Channel;
@@ -61,8 +62,8 @@ fn write_heading<W: Sink>(writer: &mut W, connection: &Connection) -> Result<(),
     )
 }
 
-// Writes a key with a number.
-fn write_number<W: Sink>(writer: &mut W, key: &'static str, value: u64) -> Result<(), Fault>
+/// Writes a key with a number.
+pub fn write_number<W: Sink>(writer: &mut W, key: &'static str, value: u64) -> Result<(), Fault>
     ensures written { AsWritten result (W.failure_count writer.old) (W.failure_count writer.new) }
 {
     write_parts(writer, &parts![key, " = ", value, " # "])
@@ -259,8 +260,8 @@ fn write_limits<W: Sink>(writer: &mut W) -> Result<(), Fault>
     )
 }
 
-// Writes the records: those of the connection, or only those after a quiet point.
-fn write_window<W: Sink>(writer: &mut W, connection: &Connection) -> Result<(), Fault>
+/// Writes the records: those of the connection, or only those after a quiet point.
+pub fn write_window<W: Sink>(writer: &mut W, connection: &Connection) -> Result<(), Fault>
     ensures written { AsWritten result (W.failure_count writer.old) (W.failure_count writer.new) }
 {
     let earliest = match &connection.quiet {
@@ -355,11 +356,14 @@ fn write_channels<W: Sink>(
     Ok(())
 }
 
-/// Writes a parameter file for a connection, with comments.
-pub fn write_draft<W: Sink>(writer: &mut W, connection: &Connection) -> Result<(), Fault>
+// Writes a parameter file for a connection.
+fn write_keys<W: Sink>(
+    writer: &mut W,
+    connection: &Connection,
+    roles: Roles<'_>,
+) -> Result<(), Fault>
     ensures written { AsWritten result (W.failure_count writer.old) (W.failure_count writer.new) }
 {
-    let roles = roles_in(connection);
     let lengths = connection.lengths;
     write_heading(writer, connection)?;
     write_roles(writer, connection, roles)?;
@@ -370,7 +374,21 @@ pub fn write_draft<W: Sink>(writer: &mut W, connection: &Connection) -> Result<(
     write_limits(writer)?;
     write_window(writer, connection)?;
     if let Some(quiet) = &connection.quiet {
-        write_quiet_points(writer, quiet.candidates(), roles.is_first_client)?;
+        write_quiet_points(writer, quiet, roles.is_first_client)?;
     }
     write_channels(writer, connection.channels.counts(), roles.is_first_client)
+}
+
+/// Writes a parameter file for a connection, with comments; or that the record behind which a quiet point is wanted has
+/// none.
+pub fn write_draft<W: Sink>(writer: &mut W, connection: &Connection) -> Result<(), Fault>
+    ensures written { AsWritten result (W.failure_count writer.old) (W.failure_count writer.new) }
+{
+    let roles = roles_in(connection);
+    match &connection.quiet {
+        Some(quiet) if quiet.lacks_point() => {
+            write_no_point(writer, connection, quiet, roles.is_first_client)
+        }
+        _ => write_keys(writer, connection, roles),
+    }
 }

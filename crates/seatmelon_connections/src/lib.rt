@@ -4,11 +4,13 @@
 mod channel;
 mod connection;
 mod draft;
+mod kept_draft;
 mod late_copies;
 mod numbers;
 mod party;
 mod quiet;
 mod quiet_draft;
+mod quiet_reasons;
 
 pub use channel::{ChannelCounts, Channels};
 pub use connection::Connection;

@@ -1,7 +1,7 @@
 //! The quiet points of a draft.
 ghost use Rattle.rasta_pcap.specs.Devices.{AsWritten};
 
-use crate::quiet::{Candidate, LastData, LastSent, Point};
+use crate::quiet::{LastData, LastSent, Point, QuietPoints};
 use rasta_pcap::{Fault, Sink};
 use seatmelon_lines::{numbered, parts, write_parts, write_parts_if};
 
@@ -73,18 +73,37 @@ fn write_ends<W: Sink>(
     }
 }
 
+// Writes why a quiet point is proposed: no opening was captured, or only packets from a record on are looked at.
+fn write_cause<W: Sink>(writer: &mut W, from: Option<u32>) -> Result<(), Fault>
+    ensures written { AsWritten result (W.failure_count writer.old) (W.failure_count writer.new) }
+{
+    match from {
+        Some(from) => write_parts(
+            writer,
+            &parts![
+                "\n# Packets before record ",
+                from,
+                " are not looked at, but for copies."
+            ],
+        ),
+        None => write_parts(writer, &parts!["\n# No opening was captured."]),
+    }
+}
+
 // Writes the point that the draft proposes.
 fn write_proposal<W: Sink>(
     writer: &mut W,
     point: &Point,
+    from: Option<u32>,
     is_first_client: bool,
 ) -> Result<(), Fault>
     ensures written { AsWritten result (W.failure_count writer.old) (W.failure_count writer.new) }
 {
+    write_cause(writer, from)?;
     write_parts(
         writer,
         &parts![
-            "\n# No opening was captured. After record ",
+            " After record ",
             point.record,
             " both ends seem to be up and to owe each other nothing: a quiet point.\n",
             "# It is a premise of every answer: only the engineering data or a log can confirm it.\n"
@@ -112,16 +131,16 @@ fn write_alternative<W: Sink>(
 /// Writes the quiet points: the first one as keys, and others as comments.
 pub fn write_quiet_points<W: Sink>(
     writer: &mut W,
-    candidates: &[Candidate],
+    quiet: &QuietPoints,
     is_first_client: bool,
 ) -> Result<(), Fault>
     ensures written { AsWritten result (W.failure_count writer.old) (W.failure_count writer.new) }
 {
     let mut written = 0u64;
-    for candidate in candidates {
+    for candidate in quiet.candidates() {
         if candidate.is_found() && written < MOST_POINTS {
             if written == 0 {
-                write_proposal(writer, &candidate.point, is_first_client)?;
+                write_proposal(writer, &candidate.point, quiet.from(), is_first_client)?;
             } else {
                 write_alternative(writer, &candidate.point, is_first_client)?;
             }

@@ -1,5 +1,6 @@
 -- What an account of what was read of a file says of that file.
-use Rattle.std.proofs.Common.{◌≡◌, ◌∙◌, ap, sym, ℕ, List, Option, None, Some, Result, Ok, Err, IfOk, IfSome}
+use Rattle.std.proofs.Common.{◌≡◌, ◌∙◌, ap, sym, ℕ, List, Option, None, Some, Result, Ok, Err, IfOk, IfSome, nat_lt}
+use Rattle.std.specs.List.{find}
 use Rattle.rasta_pcap.specs.declared.fault.Fault.{Fault}
 use Rattle.rasta_check.specs.Capture.Reading.{Crossing}
 use Rattle.rasta_verdict.specs.Given.{IsExplained}
@@ -7,7 +8,7 @@ use Rattle.seatmelon_account.specs.Account.{IsToldOf, text_in}
 use Rattle.seatmelon_account.specs.declared.account.Inputs.{Inputs}
 use Rattle.seatmelon_account.specs.declared.account.Verdict.{Verdict}
 use Rattle.seatmelon_account.specs.declared.account.Verdict.TheVariants as verdicts
-use Rattle.seatmelon_explain.specs.Outcomes.{IsFileExplained, IsFileTold, IsSomeExplained, IsToldBy, outcome_in}
+use Rattle.seatmelon_explain.specs.Outcomes.{IsFileExplained, IsFileTold, IsSomeExplained, IsToldBy, IsToldIf, outcome_in}
 use Rattle.seatmelon_explain.specs.declared.explaining.Outcome.{Outcome}
 use Rattle.seatmelon_explain.specs.declared.explaining.Outcome.TheVariants as outcomes
 use Rattle.seatmelon_reading.specs.Reading.{IsReading, standing_with}
@@ -21,9 +22,14 @@ verdict_explained k refusal text verdicts.NoPackets told is = absurd (cc)
 verdict_explained k refusal text (verdicts.Refused r) told is = absurd (cc)
 verdict_explained k refusal text (verdicts.Explained e) told is = (told.0, (told.1.0, told.1.1))
 
--- so does the account of what was read
+-- so does the account of what was read; there is one where no record that is to be left out is missing
+told_if : (missing : Option ℕ) (i : Inputs) (r : Reading) (o : Outcome) → IsToldIf missing i r o → o ≡ outcomes.Explained
+    → (r.refusal ≡ None) × IsExplained r.store (text_in i)
+told_if None i r o told is = verdict_explained r.store r.refusal (text_in i) told.0.verdict told.1.verdict (sym is ∙ told.2)
+told_if (Some number) i r o told is = absurd (cc)
+
 told_explained : (i : Inputs) (r : Reading) (o : Outcome) → IsToldBy i r o → o ≡ outcomes.Explained → (r.refusal ≡ None) × IsExplained r.store (text_in i)
-told_explained i r o told is = verdict_explained r.store r.refusal (text_in i) told.0.verdict told.1.verdict (sym is ∙ told.2)
+told_explained i r o told is = told_if (find (nat_lt r.notes.records) i.without.now) i r o told is
 
 -- what is explained of what was read is explained of the file
 file_explained : (i : Inputs) (r : Reading) (known : Option (List ℕ)) (o : Outcome)

@@ -1,5 +1,6 @@
 -- What an outcome says of a capture.
-use Rattle.std.specs.Prelude.{◌≡◌, ℕ, List, Option, None, Some, Ok, option_map, ⊤}
+use Rattle.std.specs.Prelude.{◌≡◌, ℕ, List, Option, None, Some, Ok, option_map, nat_lt, ⊤}
+use Rattle.std.specs.List.{find}
 use Rattle.rasta_pdu.specs.Params.{Parameters}
 use Rattle.rasta_check.specs.Capture.Reading.{Crossing}
 use Rattle.rasta_verdict.specs.Given.{IsExplained}
@@ -33,9 +34,24 @@ abbrev pub IsFileExplained : Parameters → List ℕ → Option (List ℕ) → O
 IsFileExplained p without text None = ⊤
 IsFileExplained p without text (Some file) = (k : Crossing) × (crossing_without p without file ≡ Ok k) × IsExplained k text
 
--- an account of what was read comes to this
+-- the first record that is to be left out and that a capture of so many doesn't have
+abbrev pub IsMissing : List ℕ → ℕ → Option ℕ → Type 0
+IsMissing without records found = found ≡ find (nat_lt records) without
+
+-- it names a record that the capture doesn't have
+abbrev pub NamesRecord : Outcome → Type 0
+NamesRecord outcomes.Explained = ⊥
+NamesRecord outcomes.Refused = ⊥
+NamesRecord outcomes.NoPackets = ⊥
+NamesRecord (outcomes.NoRecord number records) = ⊤
+
+-- where no record that is to be left out is missing, an account of what was read comes to this
+abbrev pub IsToldIf : Option ℕ → Inputs → Reading → Outcome → Type 0
+IsToldIf None inputs reading outcome = (a : Account) × IsAccount inputs reading a × (outcome ≡ outcome_in a.verdict)
+IsToldIf (Some number) inputs reading outcome = outcome ≡ outcomes.NoRecord number reading.notes.records
+
 abbrev pub IsToldBy : Inputs → Reading → Outcome → Type 0
-IsToldBy inputs reading outcome = (a : Account) × IsAccount inputs reading a × (outcome ≡ outcome_in a.verdict)
+IsToldBy inputs reading outcome = IsToldIf (find (nat_lt reading.notes.records) inputs.without.now) inputs reading outcome
 
 -- an account of what was read of the file, where it is known, comes to this
 abbrev pub IsFileTold : Inputs → Option (List ℕ) → Outcome → Type 0

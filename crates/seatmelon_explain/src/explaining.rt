@@ -1,11 +1,11 @@
 //! A verdict on a capture, in words or as data.
 ghost use Rattle.std.specs.Prelude.{◌≡◌, ◌⊎◌, IfErr, IfOk};
 ghost use Rattle.rasta_pcap.specs.Fault.{no_memory, read_failed, write_failed};
-ghost use Rattle.seatmelon_explain.specs.Outcomes.{IsFileExplained, IsFileTold, IsSomeExplained, IsToldBy, certificate_in, outcome_in};
+ghost use Rattle.seatmelon_explain.specs.Outcomes.{IsFileExplained, IsFileTold, IsMissing, IsSomeExplained, IsToldBy, NamesRecord, certificate_in, outcome_in};
 ghost use Rattle.seatmelon_explain.specs.declared.explaining.Outcome.TheVariants.{Explained};
 
 use rasta_pcap::{Fault, Sink, Source};
-use seatmelon_account::{Account, Inputs, Verdict, account_of};
+use seatmelon_account::{Account, Extent, Inputs, Verdict, account_of};
 use seatmelon_reading::{Reading, read_capture};
 use seatmelon_telling::{write_json, write_text};
 use std::alloc::Global;
@@ -13,8 +13,8 @@ use std::alloc::Global;
 /// What an explanation is written as.
 #[derive(Clone, Copy, Debug, PartialEq, Eq)]
 pub enum Form {
-    /// Words, for people.
-    Text,
+    /// Words, for people: so much of them.
+    Text(Extent),
 
     /// One JSON object with the same, for programs.
     Json,
@@ -31,6 +31,9 @@ pub enum Outcome {
 
     /// No packet of the connection is in the window.
     NoPackets,
+
+    /// The capture has no record of this number, which is to be left out, but so many records. Nothing is written.
+    NoRecord { number: u32, records: u32 },
 }
 
 // What an account tells that a capture comes to.
@@ -49,9 +52,16 @@ fn write_account<W: Sink>(form: Form, account: &Account<'_>, writer: &mut W) -> 
     ensures err { IfErr result (λ f. f ≡ write_failed) }
 {
     match form {
-        Form::Text => write_text(writer, account),
+        Form::Text(extent) => write_text(writer, account, &extent),
         Form::Json => write_json(writer, account),
     }
+}
+
+// The first record that is left out and that a capture of so many doesn't have.
+fn missing_record(without: &[u32], records: u32) -> Option<u32>
+    ensures { IsMissing without.now records result }
+{
+    without.iter().copied().find(|number| *number > records)
 }
 
 // Writes what is told of what was read.
@@ -65,7 +75,12 @@ fn tell<W: Sink>(
     ensures told { IfOk result (IsToldBy inputs.now reading.now) }
     ensures err { IfErr result (λ f. (f ≡ no_memory) ⊎ (f ≡ write_failed)) }
     ensures silent { IfErr result (λ f. (f ≡ write_failed) ⊎ (writer.new ≡ writer.old)) }
+    ensures missing { IfOk result (λ o. NamesRecord o → writer.new ≡ writer.old) }
 {
+    let records = reading.notes.records;
+    if let Some(number) = missing_record(inputs.without, records) {
+        return Ok(Outcome::NoRecord { number, records });
+    }
     let account = account_of(alloc, inputs, reading)?;
     write_account(form, &account, writer)?;
     Ok(outcome_of(&account))

@@ -5,4 +5,4 @@
 mod explaining;
 
 pub use explaining::{Form, Outcome, explain};
-pub use seatmelon_account::{Inputs, Names, Texts};
+pub use seatmelon_account::{Extent, Inputs, Names, Selection, Texts};

@@ -105,20 +105,29 @@ impl Case<'_> {
 
 const EXPLAINED: &str = r#"
 == data plain: 0 1 2 3 4 |  |  | plain |  | Data that are confirmed.
-capture: c
-  SHA-256: e56454b33ee136b1ec869d81d2ac3181b8675027c9d9a55fbeeda50c6825eb8c
-parameters: p
-  SHA-256: 690d7880e356248a4f526b2a78d7367e4412615a8a85f47eafa354a793430538
-certificate: none was given, so one is built
-program: seatmelon 0.1.0, proved with Rattle, logic dac8208d650f15bf
-
-records read: 5
-packets of the connection: 5
-  on channel 1: from the client 3, from the server 2
-  on channel 2: from the client 0, from the server 0
-records passed over: 0
-
 explained: two ends that keep the rules can have sent these 5 packets
+client to server: 2 of 2 messages surely taken
+server to client: 0 of 0 messages surely taken
+
+What was judged:
+  capture: c
+    SHA-256: e56454b33ee136b1ec869d81d2ac3181b8675027c9d9a55fbeeda50c6825eb8c
+  parameters: p
+    SHA-256: 690d7880e356248a4f526b2a78d7367e4412615a8a85f47eafa354a793430538
+  certificate: none was given, so one is built
+  program: seatmelon 0.1.0, proved with Rattle, logic dac8208d650f15bf
+  records read: 5
+  packets of the connection: 5
+    on channel 1, 10.0.0.1:5000 - 10.0.0.2:5000: from the client 3, from the server 2
+    on channel 2, 10.0.1.1:5001 - 10.0.1.2:5001: no packet
+  records passed over: 0
+  ids: client 96, server 97
+  lengths: safety code 0, check code 0
+  limits: N_sendmax 20, T_max 1800, slack 0
+  quiet point: none
+Times of capture, which no verdict reads:
+  longest silence of the client: 0.000000 ms, between records 1 and 3
+  longest silence of the server: 0.000000 ms, between records 2 and 5
 
 What this says:
   Some run of two ends that keep the rules, over a network that loses, repeats, delays and
@@ -136,18 +145,14 @@ What it rests on:
   For 'surely taken': both ends kept the rules.
   What is judged begins before the opening of the connection.
 
-client to server: 2 of 2 messages surely taken
-  message 0
-    data: record 4, 1970-01-01 00:00:00.000000 UTC, channel 1
-    proof: record 5, 1970-01-01 00:00:00.000000 UTC, channel 1
-    hex: ab01
-    text: \xab\x01
-  message 1
-    data: record 4, 1970-01-01 00:00:00.000000 UTC, channel 1
-    proof: record 5, 1970-01-01 00:00:00.000000 UTC, channel 1
-    empty
-
-server to client: 0 of 0 messages surely taken
+Messages (times are UTC; those without a date are of 1970-01-01):
+client to server 0: record 4, 1970-01-01 00:00:00.000000 UTC, channel 1
+  proof: record 5, 1970-01-01 00:00:00.000000 UTC, channel 1
+  hex: ab01
+  text: \xab\x01
+client to server 1: record 4, 1970-01-01 00:00:00.000000 UTC, channel 1
+  proof: record 5, 1970-01-01 00:00:00.000000 UTC, channel 1
+  empty
 "#;
 
 /// Data that are confirmed, and the whole text on them.

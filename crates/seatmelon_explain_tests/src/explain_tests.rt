@@ -9,7 +9,7 @@ use crate::cases::{Case, Given, MARK, case_in, explained};
 use rasta_pcap::devices::{FailAt, Pieces};
 use rasta_pcap::{Counted, Fault, Sink, Source};
 use rasta_pdu::Params;
-use seatmelon_explain::{Form, Inputs, Names, Outcome, Texts, explain};
+use seatmelon_explain::{Extent, Form, Inputs, Names, Outcome, Texts, explain};
 use std::alloc::Global;
 use std::process::Abort;
 use std::str;
@@ -65,14 +65,21 @@ pub fn text_by(alloc: Global, given: &Given, params: &Params, form: Form) -> Opt
 fn text_of(alloc: Global, case: &Case<'_>, most: usize) -> Option<Vec<u8>> {
     let given = case.given(alloc)?;
     let mut reader = Counted::new(Pieces::new(&given.file, most.max(1)));
-    let (_, text) = told(alloc, &given, &given.params, Form::Text, &mut reader)?;
+    let (_, text) = told(
+        alloc,
+        &given,
+        &given.params,
+        Form::Text(Extent::ALL),
+        &mut reader,
+    )?;
     Some(text)
 }
 
-// What is told after what was read.
+// What is told before what was judged.
 fn verdict_in(text: &[u8]) -> Option<&str> {
-    let (_, rest) = str::from_utf8(text).ok()?.split_once("\n\n")?;
-    let (_, verdict) = rest.split_once("\n\n")?;
+    let (verdict, _) = str::from_utf8(text)
+        .ok()?
+        .split_once("\nWhat was judged:\n")?;
     Some(verdict)
 }
 
@@ -170,20 +177,13 @@ pub fn params_in(named: &Params, window: &WindowCase<'_>) -> Option<Params> {
 fn text_in(alloc: Global, window: &WindowCase<'_>) -> Option<Vec<u8>> {
     let given = window.case.given(alloc)?;
     let params = params_in(&given.params, window)?;
-    text_by(alloc, &given, &params, Form::Text)
+    text_by(alloc, &given, &params, Form::Text(Extent::ALL))
 }
 
-// What a text tells after its first part.
-fn rest_of(text: &[u8]) -> Option<&str> {
-    let text = str::from_utf8(text).ok()?;
-    let (_, rest) = text.split_once("\n\n")?;
-    Some(rest)
-}
-
-// Whether a text tells the window of a case after its first part, and later what it has to.
+// Whether a text tells the verdict of a case and then its window, and later what it has to.
 fn tells_window(text: &[u8], window: &WindowCase<'_>) -> Option<bool> {
-    let rest = rest_of(text)?;
-    Some(rest.starts_with(window.text) && rest.contains(window.later))
+    let rest = str::from_utf8(text).ok()?.strip_prefix(window.verdict)?;
+    Some(rest.contains(window.text) && rest.contains(window.later))
 }
 
 // Whether the text on a case does so.
@@ -224,7 +224,13 @@ fn front_of(file: &[u8], len: usize) -> &[u8] {
 fn outcome_of(alloc: Global, len: usize) -> Option<(Outcome, bool)> {
     let given = explained()?.given(alloc)?;
     let mut reader = Counted::new(front_of(&given.file, len));
-    let (outcome, text) = told(alloc, &given, &given.params, Form::Text, &mut reader)?;
+    let (outcome, text) = told(
+        alloc,
+        &given,
+        &given.params,
+        Form::Text(Extent::ALL),
+        &mut reader,
+    )?;
     Some((outcome, text.is_empty()))
 }
 
@@ -249,7 +255,7 @@ fn is_right_at_read(alloc: Global, call: u64) -> Option<bool> {
         alloc,
         &given,
         &given.params,
-        Form::Text,
+        Form::Text(Extent::ALL),
         &mut reader,
         &mut writer,
     );
@@ -279,7 +285,7 @@ fn is_right_at_write(alloc: Global, call: u64) -> Option<bool> {
         alloc,
         &given,
         &given.params,
-        Form::Text,
+        Form::Text(Extent::ALL),
         &mut reader,
         &mut writer,
     );

@@ -7,7 +7,7 @@ use crate::explain_tests::told;
 use rasta_pcap::{Counted, Fault, Sink, write_all};
 use rasta_pdu::{Body, Kind, Params, PduParts, Side, encode};
 use rasta_rows::file_of;
-use seatmelon_explain::{Form, Outcome};
+use seatmelon_explain::{Extent, Form, Outcome, Selection};
 use std::alloc::Global;
 use std::process::Abort;
 use std::str;
@@ -65,10 +65,15 @@ const LENGTHS: [usize; 26] = [
 const SETTINGS: &str = "data plain";
 
 // What precedes the bytes of each message, after its number.
-const PLACES: &str = "
-    data: record 4, 1970-01-01 00:00:00.000000 UTC, channel 1
-    proof: record 5, 1970-01-01 00:00:00.000000 UTC, channel 1
+const PLACES: &str = ": record 4, 1970-01-01 00:00:00.000000 UTC, channel 1
+  proof: record 5, 1970-01-01 00:00:00.000000 UTC, channel 1
 ";
+
+// All messages, whole.
+const WHOLE: Extent = Extent {
+    messages: Some(Selection::ALL),
+    is_whole: true,
+};
 
 // The frame of the client up to its length: Ethernet, and IPv4.
 const FRONT: &[u8] = b"\x02\0\0\0\0\x02\x02\0\0\0\0\x01\x08\0\x45\0";
@@ -209,11 +214,11 @@ fn rest_after<'a>(text: &'a [u8], words: &str) -> Option<&'a [u8]> {
 // Writes a message as the former code did.
 fn write_former<W: Sink>(writer: &mut W, bytes: &[u8]) -> Result<(), Fault> {
     if bytes.is_empty() {
-        return write_all(writer, b"    empty\n");
+        return write_all(writer, b"  empty\n");
     }
-    write_all(writer, b"    hex: ")?;
+    write_all(writer, b"  hex: ")?;
     write_hex(writer, bytes)?;
-    write_all(writer, b"\n    text: ")?;
+    write_all(writer, b"\n  text: ")?;
     write_text(writer, bytes)?;
     write_all(writer, b"\n")
 }
@@ -222,15 +227,10 @@ fn write_former<W: Sink>(writer: &mut W, bytes: &[u8]) -> Result<(), Fault> {
 fn former(alloc: Global, all: &[Vec<u8>]) -> Option<Vec<u8>> {
     let mut writer = Counted::new(Vec::new(alloc));
     for (number, bytes) in all.iter().enumerate() {
-        let head = format!(in alloc; "  message {number}{PLACES}").ok()?;
+        let head = format!(in alloc; "client to server {number}{PLACES}").ok()?;
         write_all(&mut writer, head.as_bytes()).ok()?;
         write_former(&mut writer, bytes.as_slice()).ok()?;
     }
-    write_all(
-        &mut writer,
-        b"\nserver to client: 0 of 0 messages surely taken\n",
-    )
-    .ok()?;
     Some(writer.into_inner())
 }
 
@@ -238,8 +238,8 @@ fn former(alloc: Global, all: &[Vec<u8>]) -> Option<Vec<u8>> {
 fn are_told(alloc: Global, kind: Bytes, seed: u64) -> Option<bool> {
     let all = messages(alloc, kind, seed)?;
     let wanted = former(alloc, &all)?;
-    let text = text_of(alloc, &all, Form::Text)?;
-    Some(rest_after(&text, " messages surely taken\n") == Some(wanted.as_slice()))
+    let text = text_of(alloc, &all, Form::Text(WHOLE))?;
+    Some(rest_after(&text, " are of 1970-01-01):\n") == Some(wanted.as_slice()))
 }
 
 #[test]
@@ -254,14 +254,14 @@ fn messages_in_words(rt: HostRuntime) {
 }
 
 // What precedes the first message in JSON.
-const WORDS_IN_JSON: &str = r#","surely_taken":26,"sent":26,"messages":["#;
+const WORDS_IN_JSON: &str = r#","surely_taken":26,"sent":26,"not_shown":null,"messages":["#;
 
 // What precedes the digits of each message in JSON, after its number.
 const PLACES_IN_JSON: &str =
     r#","surely_taken":true,"data":{"record":4,"time":"1970-01-01 00:00:00.000000 UTC","channel":1},"proof":{"record":5,"time":"1970-01-01 00:00:00.000000 UTC","channel":1},"hex":""#;
 
 const END_IN_JSON: &str =
-    r#"]},{"from":"server","to":"client","surely_taken":0,"sent":0,"messages":[]}]}"#;
+    r#"]},{"from":"server","to":"client","surely_taken":0,"sent":0,"not_shown":null,"messages":[]}]}"#;
 
 // Adds printable text as a string of JSON has it.
 fn add_escaped(json: &mut Vec<u8>, text: &[u8]) -> Option<()> {

@@ -4,5 +4,5 @@
 mod text;
 mod time;
 
-pub use text::{Part, numbered, write_parts, write_parts_if, write_words};
-pub use time::write_time;
+pub use text::{Part, numbered, write_endpoint, write_parts, write_parts_if, write_words};
+pub use time::{write_date, write_digits, write_time, write_time_of_day};

@@ -102,7 +102,8 @@ fn write_address<W: Sink>(writer: &mut W, address: [u8; 4]) -> Result<(), Fault>
     write_number(writer, u64::from(fourth))
 }
 
-fn write_endpoint<W: Sink>(writer: &mut W, endpoint: Endpoint) -> Result<(), Fault>
+/// Writes an address and a port, as `10.0.0.1:5000`.
+pub fn write_endpoint<W: Sink>(writer: &mut W, endpoint: Endpoint) -> Result<(), Fault>
     ensures written { AsWritten result (W.failure_count writer.old) (W.failure_count writer.new) }
 {
     write_address(writer, endpoint.address)?;

@@ -51,8 +51,8 @@ fn front_of(seconds: u32) -> [u8; 20] {
     front
 }
 
-// Writes a number with zeros before it, so that it has that many digits at least.
-fn write_digits<W: Sink>(writer: &mut W, n: u32, width: usize) -> Result<(), Fault>
+/// Writes a number with zeros before it, so that it has that many digits at least, up to 9.
+pub fn write_digits<W: Sink>(writer: &mut W, n: u32, width: usize) -> Result<(), Fault>
     ensures written { AsWritten result (W.failure_count writer.old) (W.failure_count writer.new) }
 {
     let mut buffer = Buffer::new();
@@ -75,5 +75,20 @@ pub fn write_time<W: Sink>(writer: &mut W, time: CaptureTime) -> Result<(), Faul
     ensures written { AsWritten result (W.failure_count writer.old) (W.failure_count writer.new) }
 {
     write_all(writer, &front_of(time.seconds))?;
+    write_digits(writer, time.fraction, digits_of(time.unit))
+}
+
+/// Writes the date in UTC, as `2024-11-24`.
+pub fn write_date<W: Sink>(writer: &mut W, time: CaptureTime) -> Result<(), Fault>
+    ensures written { AsWritten result (W.failure_count writer.old) (W.failure_count writer.new) }
+{
+    write_all(writer, &front_of(time.seconds)[..10])
+}
+
+/// Writes the time of day in UTC, as `12:00:00.000000`.
+pub fn write_time_of_day<W: Sink>(writer: &mut W, time: CaptureTime) -> Result<(), Fault>
+    ensures written { AsWritten result (W.failure_count writer.old) (W.failure_count writer.new) }
+{
+    write_all(writer, &front_of(time.seconds)[11..])?;
     write_digits(writer, time.fraction, digits_of(time.unit))
 }

@@ -1,4 +1,12 @@
+pub mod Alike
+pub mod Codes
+pub mod Filters
+pub mod Moments
+pub mod Neighbours
 pub mod Noted
 pub mod Passing
+pub mod Readings
+pub mod Silences
+pub mod Sorts
 pub mod Summing
 pub mod Told

@@ -13,10 +13,13 @@ use Rattle.rasta_udp.specs.Frame.{Packet, packet_in}
 use Rattle.rasta_pdu.specs.Params.{Parameters}
 use Rattle.rasta_check.specs.declared.passage.Passage.{Passage}
 use Rattle.rasta_check.specs.Capture.Passages.{passage_of}
-use Rattle.seatmelon_reading.specs.Noted.{AreNotes, Seen, all_seen, count_on, count_with, counts_of, is_before, is_client, is_clients, is_servers, is_behind, is_inside, is_left_out, passage_seen, seen_by, seen_in, seen_inside, sighting_of}
+use Rattle.seatmelon_reading.specs.Noted.{AreNotes, Seen, all_seen, count_on, count_with, counts_of, is_before, is_client, is_clients, is_servers, is_behind, is_inside, is_left_out, passage_seen, passed_over, seen_by, seen_in, seen_inside, sighting_of}
+use Rattle.seatmelon_reading.specs.Times.{AreTimes}
 use Rattle.seatmelon_reading.specs.declared.notes.ChannelCount.{ChannelCount}
 use Rattle.seatmelon_reading.specs.declared.notes.Notes.{Notes}
 use Rattle.seatmelon_reading.specs.declared.notes.Sighting.{Sighting}
+use Rattle.seatmelon_reading.proofs.Filters.{length_filter-most, length_filter-push}
+use Rattle.seatmelon_reading.proofs.Sorts.{passed_over-seen}
 
 -- ---- a record without a packet
 
@@ -25,7 +28,7 @@ all-none : (p : Parameters) (without : List ℕ) (records : List Captured) (r : 
 all-none p without records r none =
     filter_map-append (seen_in p without) records (r ∷ []) ∙ ap (λ o. all_seen p without records ++ cons_option o []) none ∙ append-nil _
 
--- the notes but for the count of records
+-- the notes but for the count of records, what is passed over and times
 pub record SameNotes (old new : Notes) : Type 0 where
   pub packets : new.packets ≡ old.packets
   pub channels : new.channels ≡ old.channels
@@ -33,14 +36,17 @@ pub record SameNotes (old new : Notes) : Type 0 where
   pub behind : new.behind ≡ old.behind
 
 pub passed : (p : Parameters) (without : List ℕ) (records : List Captured) (r : Captured) (old new : Notes) → AreNotes p without records old
-    → SameNotes old new → new.records ≡ suc (length records) → seen_in p without r ≡ None → AreNotes p without (records ++ r ∷ []) new
-passed p without records r old new h same next none =
+    → SameNotes old new → new.records ≡ suc (length records) → seen_in p without r ≡ None → new.passed ≡ passed_over p without (records ++ r ∷ [])
+    → AreTimes (records ++ r ∷ []) new.times → AreNotes p without (records ++ r ∷ []) new
+passed p without records r old new h same next none sorted timed =
     let all = sym (all-none p without records r none) in record {
       read = next ∙ sym (add-one (length records)) ∙ sym (length_push records r);
       packets = ap (λ v. v.items) same.packets ∙ h.packets ∙ ap (λ l. map sighting_of (filter (is_inside p) l)) all;
       channels = same.channels ∙ h.channels ∙ ap (λ l. counts_of (filter (is_inside p) l)) all;
       before = same.before ∙ h.before ∙ ap (λ l. length (filter (is_before p) l)) all;
       behind = same.behind ∙ h.behind ∙ ap (λ l. length (filter (is_behind p) l)) all;
+      passed = sorted;
+      times = timed;
     }
 
 -- ---- one with a packet
@@ -65,6 +71,8 @@ module _ (p : Parameters) (without : List ℕ) (records : List Captured) (s : Se
   pub record Grows (old new : Notes) : Type 0 where
     pub noted : AreNotes p without records old
     pub next : new.records ≡ suc (length records)
+    pub passed : new.passed ≡ passed_over p without (records ++ s.captured ∷ [])
+    pub times : AreTimes (records ++ s.captured ∷ []) new.times
 
   read_next : (old new : Notes) → Grows old new → new.records ≡ length (records ++ s.captured ∷ [])
   read_next old new g = g.next ∙ sym (add-one (length records)) ∙ sym (length_push records s.captured)
@@ -84,6 +92,8 @@ module _ (p : Parameters) (without : List ℕ) (records : List Captured) (s : Se
         channels = channels ∙ g.noted.channels ∙ ap counts_of inside;
         before = before ∙ ap (λ n. n + 1) g.noted.before ∙ sym (one_more (is_before p) e);
         behind = behind ∙ g.noted.behind ∙ ap length (sym (without_it (is_behind p) (not_behind_before e)));
+        passed = g.passed;
+        times = g.times;
       }
 
   pub behind_window : (old new : Notes) → Grows old new → new.packets ≡ old.packets → new.channels ≡ old.channels
@@ -96,6 +106,8 @@ module _ (p : Parameters) (without : List ℕ) (records : List Captured) (s : Se
         channels = channels ∙ g.noted.channels ∙ ap counts_of inside;
         before = before ∙ g.noted.before ∙ ap length (sym (without_it (is_before p) not_before));
         behind = behind ∙ ap (λ n. n + 1) g.noted.behind ∙ sym (one_more (is_behind p) e);
+        passed = g.passed;
+        times = g.times;
       }
 
   pub in_window : (old new : Notes) → Grows old new → new.packets.items ≡ old.packets.items ++ sighting_of s ∷ []
@@ -108,6 +120,8 @@ module _ (p : Parameters) (without : List ℕ) (records : List Captured) (s : Se
         channels = channels ∙ ap counts_of inside;
         before = before ∙ g.noted.before ∙ ap length (sym (without_it (is_before p) not_before));
         behind = behind ∙ g.noted.behind ∙ ap length (sym (without_it (is_behind p) not_behind));
+        passed = g.passed;
+        times = g.times;
       }
 
 -- ---- where it crossed
@@ -145,18 +159,11 @@ some_seen p without r passage e = seen_by_record p without r passage (is_left_ou
 abbrev of_both : ℕ → ℕ → ChannelCount
 of_both client server = record { client = client; server = server }
 
-filter_more : (test : Seen → Bool) (seen : List Seen) (s : Seen) (b : Bool) → test s ≡ b
-    → length (filter test (seen ++ s ∷ [])) ≡ length (filter test seen) + cond b 1 0
-filter_more test seen s true e =
-    ap length (filter-append test seen (s ∷ []) ∙ ap (λ c. filter test seen ++ cond c (s ∷ []) []) e) ∙ length-append (filter test seen) (s ∷ [])
-filter_more test seen s false e =
-    ap length (filter-append test seen (s ∷ []) ∙ ap (λ c. filter test seen ++ cond c (s ∷ []) []) e ∙ append-nil _) ∙ sym (add-zero _)
-
 count_more : (seen : List Seen) (s : Seen) (channel : ℕ) (clients servers : Bool) → is_clients channel s ≡ clients → is_servers channel s ≡ servers
     → count_on (seen ++ s ∷ []) channel ≡ of_both ((count_on seen channel).client + cond clients 1 0) ((count_on seen channel).server + cond servers 1 0)
 count_more seen s channel clients servers c d =
-    ap (λ n. of_both n (count_on (seen ++ s ∷ []) channel).server) (filter_more (is_clients channel) seen s clients c)
-    ∙ ap (of_both ((count_on seen channel).client + cond clients 1 0)) (filter_more (is_servers channel) seen s servers d)
+    ap (λ n. of_both n (count_on (seen ++ s ∷ []) channel).server) (length_filter-push (is_clients channel) seen s clients c)
+    ∙ ap (of_both ((count_on seen channel).client + cond clients 1 0)) (length_filter-push (is_servers channel) seen s servers d)
 
 -- a packet of another channel changes no count
 count_other : (seen : List Seen) (s : Seen) (channel : ℕ) → nat_eq s.packet.channel channel ≡ false → count_on (seen ++ s ∷ []) channel ≡ count_on seen channel
@@ -214,27 +221,19 @@ counts_within seen s (suc (suc (suc (suc place)))) count d within e is = absurd 
 
 -- ---- bounds
 
-bound_kept : (b : Bool) (s : Seen) (kept seen : List Seen) → length kept ≤ length seen → length (cond b (s ∷ kept) kept) ≤ length (s ∷ seen)
-bound_kept true s kept seen h = omega arith
-bound_kept false s kept seen h = omega arith
-
 bound_seen : (o : Option Seen) (r : Captured) (seen : List Seen) (records : List Captured) → length seen ≤ length records → length (cons_option o seen) ≤ length (r ∷ records)
 bound_seen None r seen records h = omega arith
 bound_seen (Some s) r seen records h = omega arith
-
-filter_bound : (test : Seen → Bool) (seen : List Seen) → length (filter test seen) ≤ length seen
-filter_bound test [] = omega arith
-filter_bound test (s ∷ seen) = bound_kept (test s) s (filter test seen) seen (filter_bound test seen)
 
 seen_bound : (p : Parameters) (without : List ℕ) (records : List Captured) → length (all_seen p without records) ≤ length records
 seen_bound p without [] = omega arith
 seen_bound p without (r ∷ records) = bound_seen (seen_in p without r) r (all_seen p without records) records (seen_bound p without records)
 
 pub filtered_bound : (p : Parameters) (without : List ℕ) (records : List Captured) (test : Seen → Bool) → length (filter test (all_seen p without records)) ≤ length records
-filtered_bound p without records test = (let a = filter_bound test (all_seen p without records) in let b = seen_bound p without records in omega arith)
+filtered_bound p without records test = (let a = length_filter-most test (all_seen p without records) in let b = seen_bound p without records in omega arith)
 
 pub count_bounds : (seen : List Seen) (channel : ℕ) → ((count_on seen channel).client ≤ length seen) × ((count_on seen channel).server ≤ length seen)
-count_bounds seen channel = (filter_bound (is_clients channel) seen, filter_bound (is_servers channel) seen)
+count_bounds seen channel = (length_filter-most (is_clients channel) seen, length_filter-most (is_servers channel) seen)
 
 -- ---- a packet by where it stands
 
@@ -243,9 +242,9 @@ saturated n bound most few = omega arith
 
 module _ (p : Parameters) (without : List ℕ) (records : List Captured) (s : Seen) (some : seen_in p without s.captured ≡ Some s) (old new : Notes)
     (noted : AreNotes p without records old) (next : new.records ≡ suc (length records)) (few : new.records < 4294967296)
-    (numbered : s.captured.number ≡ new.records) where
+    (numbered : s.captured.number ≡ new.records) (same : new.passed ≡ old.passed) (timed : AreTimes (records ++ s.captured ∷ []) new.times) where
   grows : Grows p without records s some old new
-  grows = record { noted = noted; next = next }
+  grows = record { noted = noted; next = next; passed = same ∙ noted.passed ∙ sym (passed_over-seen p without records s.captured s some); times = timed }
 
   one_counted_more : (n : ℕ) (test : Seen → Bool) → n ≡ length (filter test (all_seen p without records)) → min (n + 1) 18446744073709551615 ≡ n + 1
   one_counted_more n test is = (let most = filtered_bound p without records test in saturated n (length records) (omega (arith, is, most)) (omega (arith, next, few)))
@@ -279,14 +278,15 @@ pub inside_bound : (p : Parameters) (without : List ℕ) (records : List Capture
     → length (seen_inside p without records) < 4294967296
 inside_bound p without records number next few = (let most = filtered_bound p without records (is_inside p) in omega (arith, next, few, most))
 
-abbrev sighting : ℕ → Option CaptureTime → ℕ → Sighting
-sighting number time channel = record { «record» = number; time = time; channel = channel }
+abbrev sighting : ℕ → Option CaptureTime → ℕ → Side → Sighting
+sighting number time channel sender = record { «record» = number; time = time; channel = channel; sender = sender }
 
 pub same_sighting : (before : List Sighting) (s : Seen) (number : ℕ) (time : Option CaptureTime) (passage : Passage) → s.captured.number ≡ number
-    → time ≡ Some s.captured.time → passage ≡ passage_of s.packet → before ++ sighting number time passage.channel ∷ [] ≡ before ++ sighting_of s ∷ []
+    → time ≡ Some s.captured.time → passage ≡ passage_of s.packet → before ++ sighting number time passage.channel passage.side ∷ [] ≡ before ++ sighting_of s ∷ []
 same_sighting before s number time passage numbered timed crossed =
-    ap (λ (g : Sighting). before ++ g ∷ []) (ap (λ n. sighting n time passage.channel) (sym numbered) ∙ ap (λ t. sighting s.captured.number t passage.channel) timed
-    ∙ ap (λ (x : Passage). sighting s.captured.number (Some s.captured.time) x.channel) crossed)
+    ap (λ (g : Sighting). before ++ g ∷ []) (ap (λ n. sighting n time passage.channel passage.side) (sym numbered)
+    ∙ ap (λ t. sighting s.captured.number t passage.channel passage.side) timed
+    ∙ ap (λ (x : Passage). sighting s.captured.number (Some s.captured.time) x.channel x.side) crossed)
 
 count_at : (seen : List Seen) (place : ℕ) (count d : ChannelCount) → place < 4 → count ≡ get_or (counts_of seen) place d → count ≡ count_on seen (suc place)
 count_at seen zero count d within e = e

@@ -3,6 +3,7 @@ use Rattle.std.proofs.Common.{◌≡◌, ◌≢◌, ◌∙◌, ℕ, zero, suc, �
 use Rattle.std.proofs.lemmas.Bool.{ltb-false, ltb-true}
 use Rattle.std.proofs.lemmas.Bool.Decides.{nat_tests}
 use Rattle.std.proofs.lemmas.List.{length_push}
+use Rattle.std.proofs.lemmas.List.Elements.{All-nil, All-push, All-weaker}
 use Rattle.std.specs.Option.{ForSome}
 use Rattle.rasta_pcap.specs.declared.fault.Fault.{Fault}
 use Rattle.rasta_pcap.specs.declared.fault.Side.{Side}
@@ -33,7 +34,7 @@ use Rattle.seatmelon_reading.specs.Window.{StandsSo}
 use Rattle.seatmelon_reading.specs.declared.capture_refusal.CaptureRefusal.{CaptureRefusal}
 use Rattle.seatmelon_reading.specs.declared.window.Standing.{Standing as Place}
 use Rattle.seatmelon_reading.specs.declared.window.Standing.TheVariants.{Before, Inside, Behind}
-use Rattle.seatmelon_reading.specs.Told.{IsTrueOf, TellsNext, TellsStill, TellsTrue}
+use Rattle.seatmelon_reading.specs.Told.{AreBefore, AreLower, IsTrueOf, TellsNext, TellsStill, TellsTrue}
 use Rattle.seatmelon_reading.specs.declared.notes.Notes.{Notes}
 use Rattle.seatmelon_reading.specs.declared.pass.Pass.{Pass}
 use Rattle.seatmelon_reading.proofs.Told.{true_as}
@@ -235,6 +236,13 @@ module _ (w : Whole) (order : Endianness) (unit : FractionUnit) (count : ℕ) (r
   true_before : TellsTrue old on.done
   true_before = true_as _ _ _ _ on.done old.refusal (sym on.params) (sym on.without) on.told
 
+  -- the records so far are those before the next
+  before_next : (number : ℕ) → number ≡ count + 1 → AreBefore number on.done
+  before_next number one = record {
+    count = (let counted = on.counted in omega (arith, one, counted));
+    lower = subst (λ n. AreLower n on.done) (sym (one ∙ add-one count)) on.lower;
+  }
+
   pub passed_record : (r : Numbered) (time : Option CaptureTime) (input : Option (List ℕ)) → NextOf order unit count r time rest input
       → standing_in new ≡ after_next old.params old.without.now (standing_in old) r → NotesNext old new r time → TellsNext old new r time
       → new.params ≡ old.params → new.without.now ≡ old.without.now → (left : List ℕ) × (input ≡ Some left) × IsOnWay w order unit r.0 left new
@@ -260,7 +268,10 @@ module _ (w : Whole) (order : Endianness) (unit : FractionUnit) (count : ℕ) (r
               ∙ ap (λ n. on.done ++ captured_from n unit c) less ∙ on.captured;
           noted = notes_as _ _ _ _ (on.done ++ q ∷ []) new.notes on.params on.without
               (noted on.done q notes_before refl (omega (arith, one, on.counted)) h.timed);
-          told = true_as _ _ _ _ (on.done ++ q ∷ []) new.refusal (params ∙ on.params) (without ∙ on.without) (told on.done q notes_before true_before refl h.timed);
+          told = true_as _ _ _ _ (on.done ++ q ∷ []) new.refusal (params ∙ on.params) (without ∙ on.without) (told on.done q notes_before (before_next r.0 one) true_before refl h.timed);
+          lower = All-push (λ (x : Captured). x.number < suc r.0) on.done q
+              (All-weaker (λ (x : Captured). x.number < suc count) (λ (x : Captured). x.number < suc r.0) (λ x below. omega (arith, one, below)) on.done on.lower)
+              (omega arith);
         },
       )
 
@@ -277,14 +288,15 @@ module _ (w : Whole) (order : Endianness) (unit : FractionUnit) (count : ℕ) (r
     told = true_all (captured_from-end (max_records - count) unit (cursor_at order rest count) is);
   }
 
-  pub passed_fault : (f : Fault) → next (cursor_at order rest count) ≡ Err f → standing_in new ≡ after_end old.params (standing_in old) f → IsSameBut old new → TellsStill old new → IsThrough w new
+  pub passed_fault : (f : Fault) → next (cursor_at order rest count) ≡ Err f → standing_in new ≡ after_end old.params (standing_in old) f → IsSameBut old new → TellsStill old new f.place → IsThrough w new
   passed_fault f is standing kept still = record {
     standing = standing ∙ ap (λ (p : Parameters). after_end p (standing_in old) f) on.params
         ∙ standing_end w.params w.without (standing_in old) order rest count f is ∙ on.standing;
     noted = subst (λ (n : Notes). AreNotes w.params w.without w.captured n) (sym kept.notes)
         (subst (λ l. AreNotes w.params w.without l old.notes) (captured_all (captured_from-fault (max_records - count) unit (cursor_at order rest count) f is)) on.noted);
     told = λ r e. subst (λ l. IsTrueOf w.params w.without l r) (captured_all (captured_from-fault (max_records - count) unit (cursor_at order rest count) f is))
-        (true_as _ _ _ _ on.done new.refusal (kept.params ∙ on.params) (kept.without ∙ on.without) (still on.done notes_before true_before) r e);
+        (true_as _ _ _ _ on.done new.refusal (kept.params ∙ on.params) (kept.without ∙ on.without)
+        (still on.done notes_before (subst (λ n. AreLower n on.done) (sym (fault_place f (count + 1) (next-fault_place (cursor_at order rest count) f is) ∙ add-one count)) on.lower) true_before) r e);
   }
 
   -- as many records as a capture can have
@@ -324,10 +336,11 @@ begun file rest order unit pass h within is told =
       captured = ap (λ n. captured_from n unit c) (none_before max_records) ∙ ap (λ u. captured_from max_records u c) told ∙ sym (captured_in-opened file c is);
       noted = h.noted;
       told = none_refused _ _ _ pass.refusal h.standing;
+      lower = All-nil (λ (x : Captured). x.number < 1);
     }
 
 pub begun_refused : (file : List ℕ) (f : Fault) (old new : Pass) → IsBegun old → opening file ≡ Err f → standing_in new ≡ after_end old.params (standing_in old) f
-    → IsSameBut old new → TellsStill old new → IsThrough (whole_of old.params old.without.now file) new
+    → IsSameBut old new → TellsStill old new f.place → IsThrough (whole_of old.params old.without.now file) new
 unfolding after_records
 begun_refused file f old new h is standing kept still =
     let p = old.params in
@@ -337,27 +350,26 @@ begun_refused file f old new h is standing kept still =
       noted = subst (λ (n : Notes). AreNotes p old.without.now (captured_in file) n) (sym kept.notes)
           (subst (λ l. AreNotes p old.without.now l old.notes) (sym (captured_in-refused file f is)) h.noted);
       told = λ r e. subst (λ l. IsTrueOf p old.without.now l r) (sym (captured_in-refused file f is))
-          (true_as _ _ _ _ [] new.refusal kept.params kept.without (still [] h.noted (none_refused _ _ _ old.refusal h.standing)) r e);
+          (true_as _ _ _ _ [] new.refusal kept.params kept.without (still [] h.noted (All-nil (λ (x : Captured). x.number < f.place)) (none_refused _ _ _ old.refusal h.standing)) r e);
     }
 
 -- ---- the notes of the next record
 
-abbrev NotesSo : Parameters → Notes → Notes → ℕ → Option CaptureTime → Option Passage → Type 0
-NotesSo p old new number time passage = (without : List ℕ) (records : List Captured) (r : Captured) → AreNotes p without records old
-    → r.number ≡ number → number ≡ suc (length records) → time ≡ Some r.time → passage ≡ passage_seen (seen_in p without r)
-    → AreNotes p without (records ++ r ∷ []) new
+abbrev NotesSo : Parameters → List ℕ → Notes → Notes → Numbered → Option CaptureTime → Option Passage → Type 0
+NotesSo p without old new r time passage = (records : List Captured) (q : Captured) → AreNotes p without records old
+    → numbered q ≡ r → q.number ≡ suc (length records) → time ≡ Some q.time → passage ≡ passage_seen (seen_in p without q)
+    → AreNotes p without (records ++ q ∷ []) new
 
 pub noted_next : (old mid : Pass) (new : Notes) (records : List Captured) (r : Captured) (number : ℕ) (bytes : List ℕ) (time : Option CaptureTime) (passage : Option Passage)
     → IsSameBut old mid → ((q : Captured) → numbered q ≡ (number, bytes) → passage ≡ passage_seen (seen_in old.params old.without.now q))
-    → NotesSo mid.params mid.notes new number time passage → AreNotes old.params old.without.now records old.notes
+    → NotesSo mid.params mid.without.now mid.notes new (number, bytes) time passage → AreNotes old.params old.without.now records old.notes
     → numbered r ≡ (number, bytes) → r.number ≡ suc (length records) → time ≡ Some r.time → AreNotes old.params old.without.now (records ++ r ∷ []) new
 noted_next old mid new records r number bytes time passage same found note noted is next timed =
-    let without = old.without.now in
-    let count : r.number ≡ number = ap (λ (n : Numbered). n.0) is in
-    let before = subst (λ (n : Notes). AreNotes mid.params without records n) (sym same.notes) (subst (λ (p : Parameters). AreNotes p without records old.notes) (sym same.params) noted) in
-    subst (λ (p : Parameters). AreNotes p without (records ++ r ∷ []) new) same.params
-    (note without records r before count (sym count ∙ next) timed
-    (subst (λ (p : Parameters). passage ≡ passage_seen (seen_in p without r)) (sym same.params) (found r is)))
+    let before = notes_as old.params mid.params old.without.now mid.without.now records mid.notes (sym same.params) (sym same.without)
+    (subst (λ (n : Notes). AreNotes old.params old.without.now records n) (sym same.notes) noted) in
+    let crossed : passage ≡ passage_seen (seen_in mid.params mid.without.now r) =
+    found r is ∙ ap (λ (p : Parameters). passage_seen (seen_in p old.without.now r)) (sym same.params) ∙ ap (λ (w : List ℕ). passage_seen (seen_in mid.params w r)) (sym same.without) in
+    notes_as mid.params old.params mid.without.now old.without.now (records ++ r ∷ []) new same.params same.without (note records r before is next timed crossed)
 
 -- ---- a reader's step
 
@@ -396,7 +408,7 @@ WhyNone old most f old_count new_count before after = FailsWithin most f old_cou
 
 pub reader_fault : (w : Whole) (old : RecordReader) (most : ℕ) (f : Fault) (old_count new_count : ℕ) (before after : Option (List ℕ)) (pass passed : Pass)
     → WhyNone old most f old_count new_count before after → f ≢ no_memory → f ≢ read_failed
-    → standing_in passed ≡ after_end pass.params (standing_in pass) f → IsSameBut pass passed → TellsStill pass passed → ReaderOnWay w old before pass → IsThrough w passed
+    → standing_in passed ≡ after_end pass.params (standing_in pass) f → IsSameBut pass passed → TellsStill pass passed f.place → ReaderOnWay w old before pass → IsThrough w passed
 reader_fault w old most f old_count new_count before after pass passed (inl failed) memory read standing kept still on = absurd (read failed.0)
 reader_fault w old most f old_count new_count before after pass passed (inr (inl lacks)) memory read standing kept still on = absurd (memory lacks.0)
 reader_fault w old most f old_count new_count before after pass passed (inr (inr refuses)) memory read standing kept still on =
@@ -420,7 +432,7 @@ reader_begun file records after pass h within opens tells none =
 
 pub reader_refused : (file : List ℕ) (f : Fault) (most old_count new_count : ℕ) (after : Option (List ℕ)) (old new : Pass)
     → FailsWithin most f old_count new_count (Some file) after ⊎ RefusesHeader f (Some file) after → f ≢ read_failed
-    → standing_in new ≡ after_end old.params (standing_in old) f → IsSameBut old new → TellsStill old new → IsBegun old → IsThrough (whole_of old.params old.without.now file) new
+    → standing_in new ≡ after_end old.params (standing_in old) f → IsSameBut old new → TellsStill old new f.place → IsBegun old → IsThrough (whole_of old.params old.without.now file) new
 reader_refused file f most old_count new_count after old new (inl failed) read standing kept still h = absurd (read failed.0)
 reader_refused file f most old_count new_count after old new (inr refuses) read standing kept still h =
     begun_refused file f old new h (known_header_refusal f file after refuses) standing kept still
@@ -459,7 +471,7 @@ capture_read (Some file) after records (Ok x) old new within opens tells none re
 
 pub capture_refused : {A : Type 0} (input after : Option (List ℕ)) (f : Fault) (most old_count new_count : ℕ) (result : Result A Fault) (old new : Pass)
     → FailsWithin most f old_count new_count input after ⊎ RefusesHeader f input after → OnOk result ((f ≢ no_memory) × (f ≢ read_failed))
-    → OnOk result (standing_in new ≡ after_end old.params (standing_in old) f) → IsSameBut old new → OnOk result (TellsStill old new) → IfSome input (λ file. OnOk result (IsPassed file old new))
+    → OnOk result (standing_in new ≡ after_end old.params (standing_in old) f) → IsSameBut old new → OnOk result (TellsStill old new f.place) → IfSome input (λ file. OnOk result (IsPassed file old new))
 capture_refused None after f most old_count new_count result old new why told standing kept still = tt
 capture_refused (Some file) after f most old_count new_count (Err e) old new why told standing kept still = tt
 capture_refused (Some file) after f most old_count new_count (Ok x) old new why told standing kept still =

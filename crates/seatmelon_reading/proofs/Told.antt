@@ -1,11 +1,12 @@
 -- What a refusal tells of one more record.
-use Rattle.std.proofs.Common.{◌≡◌, ◌∙◌, ◌⊎◌, ⊎_elim, ℕ, ◌≤◌, List, [], ◌∷◌, ◌++◌, map, filter, cond, filter_map, Bool, true, false, not, ◌&&◌, nat_lt, nat_le, Option, None, Some, Result, Ok, Err, ap, sym, subst, arith}
+use Rattle.std.proofs.Common.{◌≡◌, ◌∙◌, ◌⊎◌, inl, inr, ⊎_elim, ℕ, ◌≤◌, ◌<◌, List, [], ◌∷◌, ◌++◌, length, map, filter, cond, filter_map, Bool, true, false, not, ◌&&◌, nat_lt, nat_le, Option, None, Some, Result, Ok, Err, OnOk, ap, refl, sym, subst, arith}
 use Rattle.std.proofs.lemmas.Bool.Decides.{nat_tests}
 use Rattle.std.specs.List.{Contains, cons_option}
 use Rattle.std.specs.Option.{ForSome}
 use Rattle.std.proofs.lemmas.List.{map-append}
 use Rattle.std.proofs.lemmas.List.Elements.{Contains-append_left, Contains-push, filter-append, filter_map-append}
 use Rattle.rasta_pcap.specs.declared.fault.Fault.{Fault}
+use Rattle.rasta_pcap.specs.declared.fault.Side.{Side}
 use Rattle.rasta_pcap.specs.declared.time.CaptureTime.{CaptureTime}
 use Rattle.rasta_pcap.specs.Fault.{fault_at, no_memory, too_many}
 use Rattle.rasta_pcap.specs.Capture.{Numbered}
@@ -14,11 +15,20 @@ use Rattle.rasta_udp.specs.Frame.{Packet, packet_in}
 use Rattle.rasta_pdu.specs.Params.{Parameters}
 use Rattle.rasta_check.specs.Capture.Crossing.{packet_fault}
 use Rattle.rasta_check.specs.Capture.Reading.{Crossing, packet_found, after_frame, after_judged, after_packet, after_record, is_within, sent_by, with_packet}
+use Rattle.seatmelon_reading.specs.Codes.{codes_from, codes_next, codes_of, own_codes}
 use Rattle.seatmelon_reading.specs.Noted.{AreNotes, Seen, all_seen, is_before, is_inside, is_left_out, seen_by, seen_in, seen_inside, sighting_of}
-use Rattle.seatmelon_reading.specs.Told.{IsMadeOf, IsSighted, IsTrueOf}
+use Rattle.seatmelon_reading.specs.Told.{AreBefore, AreLower, IsMadeOf, IsSighted, IsTrueOf, TellsStill}
+use Rattle.seatmelon_reading.specs.Reading.{IsSameBut}
+use Rattle.seatmelon_reading.specs.Window.{StandsSo}
+use Rattle.seatmelon_reading.specs.declared.code_count.CodeCount.{CodeCount}
+use Rattle.seatmelon_reading.specs.declared.pass.Pass.{Pass}
+use Rattle.seatmelon_reading.specs.declared.window.Standing.{Standing}
+use Rattle.seatmelon_reading.specs.declared.window.Standing.TheVariants.{Before, Behind, Inside}
 use Rattle.seatmelon_reading.specs.declared.capture_refusal.CaptureRefusal.{CaptureRefusal}
 use Rattle.seatmelon_reading.specs.declared.notes.Notes.{Notes}
 use Rattle.seatmelon_reading.specs.declared.notes.Sighting.{Sighting}
+use Rattle.seatmelon_reading.proofs.Codes.{codes_from-lower, codes_from-most, codes_from-own, codes_from-push, inside_at, inside_none, inside_outside, inside_some}
+use Rattle.seatmelon_reading.proofs.Noted.{filtered_bound}
 
 -- ---- the place of a fault
 
@@ -50,8 +60,8 @@ record_place k r f e = window_place k r (nat_lt r.0 k.params.first_record) f e
 
 -- ---- packets of the connection
 
-abbrev sighting_so : ℕ → Option CaptureTime → ℕ → Sighting
-sighting_so number time channel = record { «record» = number; time = time; channel = channel }
+abbrev sighting_so : ℕ → Option CaptureTime → ℕ → Side → Sighting
+sighting_so number time channel sender = record { «record» = number; time = time; channel = channel; sender = sender }
 
 abbrev seen_of : Captured → Packet → Option Seen
 seen_of q packet = Some (record { captured = q; packet = packet })
@@ -84,7 +94,7 @@ module _ (p : Parameters) (without : List ℕ) (records : List Captured) (q : Ca
 
   pub sighted_found : (a : Packet) (number : ℕ) (bytes : List ℕ) (time : Option CaptureTime) → packet_found (packet_in p.channels bytes) ≡ Some a
       → numbered q ≡ (number, bytes) → time ≡ Some q.time → is_left_out without number ≡ false → p.first_record ≤ number → number ≤ p.last_record
-      → IsSighted p without (records ++ q ∷ []) (sighting_so number time a.channel)
+      → IsSighted p without (records ++ q ∷ []) (sighting_so number time a.channel a.side)
   sighted_found a number bytes time found is timed stays first last =
       let number_is : q.number ≡ number = ap (λ (n : Numbered). n.0) is in
       let bytes_are : q.bytes ≡ bytes = ap (λ (n : Numbered). n.1) is in
@@ -96,20 +106,66 @@ module _ (p : Parameters) (without : List ℕ) (records : List Captured) (q : Ca
       let not_behind : nat_le q.number p.last_record ≡ true = grind (arith, nat_tests, number_is, last) in
       let inside : is_inside p s ≡ true = ap (λ b. not (is_before p s) && b) not_behind ∙ ap (λ b. not b && true) not_before in
       subst (λ (x : Sighting). IsSighted p without (records ++ q ∷ []) x)
-      (ap (λ n. sighting_so n (Some q.time) a.channel) number_is ∙ ap (λ t. sighting_so number t a.channel) (sym timed)) (sighted_last s some inside)
+      (ap (λ n. sighting_so n (Some q.time) a.channel a.side) number_is ∙ ap (λ t. sighting_so number t a.channel a.side) (sym timed)) (sighted_last s some inside)
+
+  -- ---- a record that adds none
+
+  seen_nothing : (o : Result (Option Packet) Fault) → packet_found o ≡ None → seen_by q o ≡ None
+  seen_nothing (Ok None) e = refl
+  seen_nothing (Ok (Some x)) e = absurd cc
+  seen_nothing (Err f) e = refl
+
+  -- one that is left out
+  pub left_out_same : (number : ℕ) (bytes : List ℕ) → numbered q ≡ (number, bytes) → is_left_out without number ≡ true
+      → seen_inside p without (records ++ q ∷ []) ≡ seen_inside p without records
+  left_out_same number bytes is left_out =
+      inside_none p without records q
+      (ap (λ (b : Bool). cond b None (seen_by q (packet_in p.channels q.bytes))) (ap (λ (n : Numbered). is_left_out without n.0) is ∙ left_out))
+
+  -- one without a packet
+  pub none_same : (number : ℕ) (bytes : List ℕ) → packet_found (packet_in p.channels bytes) ≡ None → numbered q ≡ (number, bytes) → is_left_out without number ≡ false
+      → seen_inside p without (records ++ q ∷ []) ≡ seen_inside p without records
+  none_same number bytes none is stays =
+      inside_none p without records q
+      (ap (λ (b : Bool). cond b None (seen_by q (packet_in p.channels q.bytes))) (ap (λ (n : Numbered). is_left_out without n.0) is ∙ stays)
+      ∙ seen_nothing (packet_in p.channels q.bytes) (ap (λ (n : Numbered). packet_found (packet_in p.channels n.1)) is ∙ none))
+
+  -- one outside of the window
+  pub outside_same : (number : ℕ) (bytes : List ℕ) (place : Standing) → (place ≡ Before) ⊎ (place ≡ Behind) → StandsSo p number place → numbered q ≡ (number, bytes)
+      → seen_inside p without (records ++ q ∷ []) ≡ seen_inside p without records
+  outside_same number bytes Before outside stands is =
+      inside_outside p without records q
+      (λ s same.
+      let number_is : s.captured.number ≡ number = ap (λ (r : Captured). r.number) same ∙ ap (λ (n : Numbered). n.0) is in
+      let before : is_before p s ≡ true = grind (arith, nat_tests, number_is, stands) in
+      ap (λ b. not b && nat_le s.captured.number p.last_record) before)
+  outside_same number bytes Behind outside stands is =
+      inside_outside p without records q
+      (λ s same.
+      let number_is : s.captured.number ≡ number = ap (λ (r : Captured). r.number) same ∙ ap (λ (n : Numbered). n.0) is in
+      let first = stands.0 in
+      let last = stands.1 in
+      let not_before : is_before p s ≡ false = grind (arith, nat_tests, number_is, first) in
+      let behind : nat_le s.captured.number p.last_record ≡ false = grind (arith, nat_tests, number_is, last) in
+      ap (λ b. not (is_before p s) && b) behind ∙ ap (λ b. not b && false) not_before)
+  outside_same number bytes Inside (inl e) stands is = absurd cc
+  outside_same number bytes Inside (inr e) stands is = absurd cc
 
   -- ---- a refusal
 
-  pub still_true : (r : CaptureRefusal) → IsTrueOf p without records r → IsTrueOf p without (records ++ q ∷ []) r
-  still_true r h = record {
+  pub still_true : (r : CaptureRefusal) → seen_inside p without (records ++ q ∷ []) ≡ seen_inside p without records → IsTrueOf p without records r
+      → IsTrueOf p without (records ++ q ∷ []) r
+  still_true r same h = record {
     timed = λ t e. (let c = h.timed t e in record { captured = c.captured; read = Contains-append_left records (q ∷ []) c.captured c.read; numbered = c.numbered; timed = c.timed; held = c.held });
     beside = λ b e. still_sighted b.sighting (h.beside b e);
+    codes = h.codes ∙ ap (codes_from p r.fault.place) (sym same);
   }
 
   -- one that is made of the record
   pub made_true : (f : Fault) (bytes : List ℕ) (time : Option CaptureTime) (notes : Notes) (r : CaptureRefusal) → AreNotes p without records notes
-      → IsMadeOf f bytes time notes r → f.place ≡ q.number → q.bytes ≡ bytes → time ≡ Some q.time → IsTrueOf p without (records ++ q ∷ []) r
-  made_true f bytes time notes r noted made place held timed = record {
+      → IsMadeOf p f bytes time notes r → f.place ≡ q.number → q.bytes ≡ bytes → time ≡ Some q.time → AreLower q.number records → is_left_out without q.number ≡ false
+      → p.first_record ≤ q.number → q.number ≤ p.last_record → IsTrueOf p without (records ++ q ∷ []) r
+  made_true f bytes time notes r noted made place held timed lower stays first last = record {
     timed = λ t e. record {
       captured = q;
       read = Contains-push records q;
@@ -118,12 +174,16 @@ module _ (p : Parameters) (without : List ℕ) (records : List Captured) (q : Ca
       held = held ∙ sym made.frame;
     };
     beside = λ b e. still_sighted b.sighting (subst (λ (l : List Sighting). Contains l b.sighting) noted.packets (made.beside b e));
+    codes = made.codes ∙ ap (own_codes p bytes) timed ∙ ap (λ b. codes_of p (packet_found (packet_in p.channels b))) (sym held)
+        ∙ sym (codes_from-own p without records q lower stays first last)
+        ∙ ap (λ n. codes_from p n (seen_inside p without (records ++ q ∷ []))) (sym place ∙ ap (λ (x : Fault). x.place) (sym made.fault));
   }
 
   -- one that looked at the packet of the record
   pub looked_true : (s : Sighting) (old new : CaptureRefusal) → IsTrueOf p without records old → new.fault ≡ old.fault → new.frame.items ≡ old.frame.items → new.time ≡ old.time
-      → ForSome new.beside (λ b. (old.beside ≡ Some b) ⊎ (b.sighting ≡ s)) → IsSighted p without (records ++ q ∷ []) s → IsTrueOf p without (records ++ q ∷ []) new
-  looked_true s old new h fault frame time beside sighted = record {
+      → ForSome new.beside (λ b. (old.beside ≡ Some b) ⊎ (b.sighting ≡ s)) → IsSighted p without (records ++ q ∷ []) s
+      → new.codes ≡ codes_from p old.fault.place (seen_inside p without (records ++ q ∷ [])) → IsTrueOf p without (records ++ q ∷ []) new
+  looked_true s old new h fault frame time beside sighted codes = record {
     timed = λ t e. (let c = h.timed t (sym time ∙ e) in record {
       captured = c.captured;
       read = Contains-append_left records (q ∷ []) c.captured c.read;
@@ -135,34 +195,70 @@ module _ (p : Parameters) (without : List ℕ) (records : List Captured) (q : Ca
         (λ (same : old.beside ≡ Some b). still_sighted b.sighting (h.beside b same))
         (λ (this : b.sighting ≡ s). subst (λ (x : Sighting). IsSighted p without (records ++ q ∷ []) x) (sym this) sighted)
         (beside b e);
+    codes = codes ∙ ap (λ (x : Fault). codes_from p x.place (seen_inside p without (records ++ q ∷ []))) (sym fault);
   }
 
   pub looked_next : (s : Sighting) (o : Option CaptureRefusal) (old new : CaptureRefusal) → o ≡ Some old → ForSome o (IsTrueOf p without records)
       → (new.fault ≡ old.fault) × (new.frame.items ≡ old.frame.items) × (new.time ≡ old.time)
       → ForSome new.beside (λ b. (old.beside ≡ Some b) ⊎ (b.sighting ≡ s)) → IsSighted p without (records ++ q ∷ []) s
+      → (IsTrueOf p without records old → new.codes ≡ codes_from p old.fault.place (seen_inside p without (records ++ q ∷ [])))
       → (r : CaptureRefusal) → ◌≡◌ {A = Option CaptureRefusal} (Some new) (Some r) → IsTrueOf p without (records ++ q ∷ []) r
-  looked_next s o old new is h kept beside sighted r e =
+  looked_next s o old new is h kept beside sighted codes r e =
       let same : new ≡ r = cc in
-      subst (IsTrueOf p without (records ++ q ∷ [])) same (looked_true s old new (h old is) kept.0 kept.1 kept.2 beside sighted)
+      subst (IsTrueOf p without (records ++ q ∷ [])) same (looked_true s old new (h old is) kept.0 kept.1 kept.2 beside sighted (codes (h old is)))
+
+  -- the codes that it counts
+  pub looked_codes : (a : Packet) (number : ℕ) (bytes : List ℕ) (old new : CaptureRefusal) → packet_found (packet_in p.channels bytes) ≡ Some a → numbered q ≡ (number, bytes)
+      → is_left_out without number ≡ false → p.first_record ≤ number → number ≤ p.last_record → AreBefore number records → number < 4294967296
+      → (old.codes.judged < 4294967296 → old.codes.fitting < 4294967296 → new.codes ≡ codes_next p old.fault.place number a old.codes) → IsTrueOf p without records old
+      → new.codes ≡ codes_from p old.fault.place (seen_inside p without (records ++ q ∷ []))
+  looked_codes a number bytes old new found is stays first last before few codes h =
+      let number_is : q.number ≡ number = ap (λ (n : Numbered). n.0) is in
+      let bytes_are : q.bytes ≡ bytes = ap (λ (n : Numbered). n.1) is in
+      let s : Seen = record { captured = q; packet = a } in
+      let here : seen_by q (packet_in p.channels q.bytes) ≡ Some s = seen_found a (packet_in p.channels q.bytes) (ap (λ b. packet_found (packet_in p.channels b)) bytes_are ∙ found) in
+      let kept : is_left_out without q.number ≡ false = ap (is_left_out without) number_is ∙ stays in
+      let some : seen_in p without q ≡ Some s = ap (λ (b : Bool). cond b None (seen_by q (packet_in p.channels q.bytes))) kept ∙ here in
+      let grown = inside_some p without records q s some (inside_at p s (omega (arith, number_is, first)) (omega (arith, number_is, last))) in
+      let inside = filtered_bound p without records (is_inside p) in
+      let most = codes_from-most p old.fault.place (seen_inside p without records) s in
+      let count = before.count in
+      let judged : old.codes.judged ≤ length (seen_inside p without records) = subst (λ (c : CodeCount). c.judged ≤ length (seen_inside p without records)) (sym h.codes) most.0 in
+      let fitting : old.codes.fitting ≤ length (seen_inside p without records) = subst (λ (c : CodeCount). c.fitting ≤ length (seen_inside p without records)) (sym h.codes) most.1 in
+      codes (omega (arith, judged, inside, count, few)) (omega (arith, fitting, inside, count, few))
+      ∙ ap (λ n. codes_next p old.fault.place n a old.codes) (sym number_is) ∙ ap (codes_next p old.fault.place q.number a) h.codes
+      ∙ sym (codes_from-push p old.fault.place (seen_inside p without records) s) ∙ ap (codes_from p old.fault.place) (sym grown)
 
   -- the refusal of the record itself
   pub made_next : (k : Crossing) (f : Fault) (number : ℕ) (bytes : List ℕ) (time : Option CaptureTime) (notes : Notes) (o : Option CaptureRefusal)
-      → ForSome o (IsMadeOf f bytes time notes) → AreNotes p without records notes → (f ≡ no_memory) ⊎ (after_record k (number, bytes) ≡ Err f) → (f ≡ no_memory → ⊥)
-      → numbered q ≡ (number, bytes) → time ≡ Some q.time → ForSome o (IsTrueOf p without (records ++ q ∷ []))
-  made_next k f number bytes time notes o made noted why known is timed r e = ⊎_elim
+      → ForSome o (IsMadeOf p f bytes time notes) → AreNotes p without records notes → (f ≡ no_memory) ⊎ (after_record k (number, bytes) ≡ Err f) → (f ≡ no_memory → ⊥)
+      → numbered q ≡ (number, bytes) → time ≡ Some q.time → AreBefore number records → is_left_out without number ≡ false → p.first_record ≤ number → number ≤ p.last_record
+      → ForSome o (IsTrueOf p without (records ++ q ∷ []))
+  made_next k f number bytes time notes o made noted why known is timed before stays first last r e =
+      let number_is : q.number ≡ number = ap (λ (n : Numbered). n.0) is in ⊎_elim
       (λ (none : f ≡ no_memory). absurd (known none))
       (λ (fails : after_record k (number, bytes) ≡ Err f). made_true f bytes time notes r noted (made r e)
-      (record_place k (number, bytes) f fails ∙ sym (ap (λ (n : Numbered). n.0) is)) (ap (λ (n : Numbered). n.1) is) timed)
+      (record_place k (number, bytes) f fails ∙ sym number_is) (ap (λ (n : Numbered). n.1) is) timed
+      (subst (λ n. AreLower n records) (sym number_is) before.lower) (ap (is_left_out without) number_is ∙ stays) (omega (arith, number_is, first)) (omega (arith, number_is, last)))
       why
 
 -- one that tells no time
 pub ended_true : (p : Parameters) (without : List ℕ) (records : List Captured) (f : Fault) (bytes : List ℕ) (notes : Notes) (r : CaptureRefusal) → AreNotes p without records notes
-    → IsMadeOf f bytes None notes r → IsTrueOf p without records r
-ended_true p without records f bytes notes r noted made = record {
+    → IsMadeOf p f bytes None notes r → AreLower f.place records → IsTrueOf p without records r
+ended_true p without records f bytes notes r noted made lower = record {
   timed = λ t e. (let none : ◌≡◌ {A = Option CaptureTime} None (Some t) = sym made.time ∙ e in absurd cc);
   beside = λ b e. subst (λ (l : List Sighting). Contains l b.sighting) noted.packets (made.beside b e);
+  codes = made.codes ∙ sym (codes_from-lower p without f.place records lower) ∙ ap (λ (x : Fault). codes_from p x.place (seen_inside p without records)) (sym made.fault);
 }
 
 pub true_as : (p q : Parameters) (v w : List ℕ) (records : List Captured) (o : Option CaptureRefusal) → p ≡ q → v ≡ w
     → ForSome o (IsTrueOf p v records) → ForSome o (IsTrueOf q w records)
 true_as p q v w records o e f h = λ r is. subst (λ (x : List ℕ). IsTrueOf q x records r) f (subst (λ (x : Parameters). IsTrueOf x v records r) e (h r is))
+
+-- at the end, what was true still is
+pub ended_still : {A : Type 0} (result : Result A Fault) (old new : Pass) (f : Fault) (bytes : List ℕ) → OnOk result (ForSome new.refusal (IsMadeOf old.params f bytes None old.notes))
+    → IsSameBut old new → OnOk result (TellsStill old new f.place)
+ended_still (Ok x) old new f bytes made kept = λ records noted lower told.
+    true_as old.params new.params old.without.now new.without.now records new.refusal (sym kept.params) (sym kept.without)
+    (λ r e. ended_true old.params old.without.now records f bytes old.notes r noted (made r e) lower)
+ended_still (Err e) old new f bytes made kept = tt

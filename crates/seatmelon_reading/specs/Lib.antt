@@ -1,6 +1,10 @@
+pub mod Codes
 pub mod Noted
+pub mod PassedOver
 pub mod Passing
 pub mod Reading
+pub mod Silences
 pub mod Summing
+pub mod Times
 pub mod Told
 pub mod Window

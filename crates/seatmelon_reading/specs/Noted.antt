@@ -10,8 +10,13 @@ use Rattle.rasta_pdu.specs.Params.{Parameters}
 use Rattle.rasta_check.specs.declared.passage.Passage.{Passage}
 use Rattle.rasta_check.specs.Capture.Passages.{passage_of}
 use Rattle.seatmelon_reading.specs.declared.notes.ChannelCount.{ChannelCount}
+use Rattle.seatmelon_reading.specs.PassedOver.{is_for, why_by}
+use Rattle.seatmelon_reading.specs.Times.{AreTimes}
 use Rattle.seatmelon_reading.specs.declared.notes.Notes.{Notes}
 use Rattle.seatmelon_reading.specs.declared.notes.Sighting.{Sighting}
+use Rattle.seatmelon_reading.specs.declared.passed_over.PassedOver.{PassedOver}
+use Rattle.seatmelon_reading.specs.declared.passed_over.WhyPassed.{WhyPassed}
+use Rattle.seatmelon_reading.specs.declared.passed_over.WhyPassed.TheVariants.{LeftOut, NotUdp, Tagged, Elsewhere, Unreadable}
 
 -- a packet of the recorded channels, and the record that holds it
 pub record Seen : Type 0 where
@@ -30,6 +35,10 @@ is_left_out without number = list_any (nat_eq number) without
 -- the packet of a record that isn't left out
 abbrev pub seen_in : Parameters → List ℕ → Captured → Option Seen
 seen_in p without r = if is_left_out without r.number then None else seen_by r (packet_in p.channels r.bytes)
+
+-- why a record is passed over; none where it holds a packet of the recorded channels
+abbrev pub why_passed : Parameters → List ℕ → Captured → Option WhyPassed
+why_passed p without r = if is_left_out without r.number then Some LeftOut else why_by p.channels r.bytes (packet_in p.channels r.bytes)
 
 -- where it crossed
 abbrev pub passage_seen : Option Seen → Option Passage
@@ -52,9 +61,9 @@ is_behind p s = not (is_before p s) && not (nat_le s.captured.number p.last_reco
 abbrev pub seen_inside : Parameters → List ℕ → List Captured → List Seen
 seen_inside p without records = filter (is_inside p) (all_seen p without records)
 
--- record, time and channel of a packet
+-- record, time, channel and sender of a packet
 abbrev pub sighting_of : Seen → Sighting
-sighting_of s = record { «record» = s.captured.number; time = Some s.captured.time; channel = s.packet.channel }
+sighting_of s = record { «record» = s.captured.number; time = Some s.captured.time; channel = s.packet.channel; sender = s.packet.side }
 
 abbrev pub is_client : Side → Bool
 is_client Client = true
@@ -80,11 +89,26 @@ count_with count Server = record { client = count.client; server = count.server 
 abbrev pub counts_of : List Seen → List ChannelCount
 counts_of seen = map (count_on seen) (1 ∷ 2 ∷ 3 ∷ 4 ∷ [])
 
+-- how many of these records are passed over for this reason
+abbrev pub count_for : Parameters → List ℕ → List Captured → WhyPassed → ℕ
+count_for p without records why = length (filter (λ r. is_for why (why_passed p without r)) records)
+
+abbrev pub passed_over : Parameters → List ℕ → List Captured → PassedOver
+passed_over p without records = record {
+  left_out = count_for p without records LeftOut;
+  not_udp = count_for p without records NotUdp;
+  tagged = count_for p without records Tagged;
+  elsewhere = count_for p without records Elsewhere;
+  unreadable = count_for p without records Unreadable;
+}
+
 -- what is noted but for the packets in the window
 pub record SameOutside (old new : Notes) : Type 0 where
   pub read : new.records ≡ old.records
   pub before : new.before ≡ old.before
   pub behind : new.behind ≡ old.behind
+  pub passed : new.passed ≡ old.passed
+  pub times : new.times ≡ old.times
 
 -- these are the notes of the records so far
 pub record AreNotes (p : Parameters) (without : List ℕ) (records : List Captured) (n : Notes) : Type 0 where
@@ -93,3 +117,5 @@ pub record AreNotes (p : Parameters) (without : List ℕ) (records : List Captur
   pub channels : n.channels ≡ counts_of (seen_inside p without records)
   pub before : n.before ≡ length (filter (is_before p) (all_seen p without records))
   pub behind : n.behind ≡ length (filter (is_behind p) (all_seen p without records))
+  pub passed : n.passed ≡ passed_over p without records
+  pub times : AreTimes records n.times

@@ -13,7 +13,7 @@ use Rattle.rasta_pdu.specs.Params.{Parameters}
 use Rattle.rasta_check.specs.Capture.Reading.{Crossing, after_reading, nothing_crossed}
 use Rattle.seatmelon_reading.specs.Noted.{AreNotes}
 use Rattle.seatmelon_reading.specs.Reading.{crossing_without, reading_without, standing_in}
-use Rattle.seatmelon_reading.specs.Told.{IsTrueOf}
+use Rattle.seatmelon_reading.specs.Told.{AreLower, IsTrueOf}
 use Rattle.seatmelon_reading.specs.declared.pass.Pass.{Pass}
 
 -- what is to be read: by these parameters, without these records, what crosses, and what was captured
@@ -42,6 +42,7 @@ pub record IsOnWay (w : Whole) (order : Endianness) (unit : FractionUnit) (count
   pub captured : done ++ captured_from (max_records - count) unit (cursor_at order rest count) ≡ w.captured
   pub noted : AreNotes w.params w.without done pass.notes
   pub told : ForSome pass.refusal (IsTrueOf w.params w.without done)
+  pub lower : AreLower (suc count) done
 
 -- at the end
 pub record IsThrough (w : Whole) (pass : Pass) : Type 0 where

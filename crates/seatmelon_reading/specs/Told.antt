@@ -1,5 +1,5 @@
 -- What a refusal tells of the records so far.
-use Rattle.std.specs.Prelude.{◌≡◌, ℕ, List, [], ◌∷◌, ◌++◌, map, false, Option, Some}
+use Rattle.std.specs.Prelude.{◌≡◌, ℕ, suc, ◌<◌, List, [], ◌∷◌, ◌++◌, length, map, All, false, Option, Some}
 use Rattle.std.specs.List.{Contains}
 use Rattle.std.specs.Option.{ForSome}
 use Rattle.rasta_pcap.specs.declared.fault.Fault.{Fault}
@@ -7,6 +7,7 @@ use Rattle.rasta_pcap.specs.declared.time.CaptureTime.{CaptureTime}
 use Rattle.rasta_pcap.specs.Capture.{Numbered}
 use Rattle.rasta_pcap.specs.Captured.{Captured, numbered}
 use Rattle.rasta_pdu.specs.Params.{Parameters}
+use Rattle.seatmelon_reading.specs.Codes.{codes_from, own_codes}
 use Rattle.seatmelon_reading.specs.Noted.{AreNotes, is_left_out, seen_inside, sighting_of}
 use Rattle.seatmelon_reading.specs.declared.capture_refusal.CaptureRefusal.{CaptureRefusal}
 use Rattle.seatmelon_reading.specs.declared.notes.Notes.{Notes}
@@ -25,33 +26,46 @@ pub record IsCapturedAt (records : List Captured) (r : CaptureRefusal) (time : C
 abbrev pub IsSighted : Parameters → List ℕ → List Captured → Sighting → Type 0
 IsSighted p without records sighting = Contains (map sighting_of (seen_inside p without records)) sighting
 
--- A time that is told of the refused record is that of the captured record with its number, and what is told beside it is
--- a packet of the connection.
+-- A time that is told of the refused record is that of the captured record with its number, what is told beside it is a
+-- packet of the connection, and the safety codes that are counted are those of the packets of the connection from the
+-- record of the fault on.
 pub record IsTrueOf (p : Parameters) (without : List ℕ) (records : List Captured) (r : CaptureRefusal) : Type 0 where
   pub timed : ForSome r.time (IsCapturedAt records r)
   pub beside : ForSome r.beside (λ b. IsSighted p without records b.sighting)
+  pub codes : r.codes ≡ codes_from p r.fault.place (seen_inside p without records)
 
 -- ---- on the way
 
 -- a refusal as it is made
-pub record IsMadeOf (f : Fault) (bytes : List ℕ) (captured : Option CaptureTime) (notes : Notes) (r : CaptureRefusal) : Type 0 where
+pub record IsMadeOf (p : Parameters) (f : Fault) (bytes : List ℕ) (captured : Option CaptureTime) (notes : Notes) (r : CaptureRefusal) : Type 0 where
   pub fault : r.fault ≡ f
   pub frame : r.frame.items ≡ bytes
   pub time : r.time ≡ captured
   pub beside : ForSome r.beside (λ b. Contains notes.packets.items b.sighting)
+  pub codes : r.codes ≡ own_codes p bytes captured
 
 abbrev pub TellsTrue : Pass → List Captured → Type 0
 TellsTrue pass records = ForSome pass.refusal (IsTrueOf pass.params pass.without.now records)
 
+-- each of these records has a lower number
+abbrev pub AreLower : ℕ → List Captured → Type 0
+AreLower number records = All (λ (r : Captured). r.number < number) records
+
+-- these are the records before the one of this number
+pub record AreBefore (number : ℕ) (records : List Captured) : Type 0 where
+  pub count : number ≡ suc (length records)
+  pub lower : AreLower number records
+
 -- what was true of the records so far is true of one more, which was captured at this time
 abbrev pub TellsNext : Pass → Pass → Numbered → Option CaptureTime → Type 0
-TellsNext old new r time = (records : List Captured) (q : Captured) → AreNotes old.params old.without.now records old.notes → TellsTrue old records
-    → numbered q ≡ r → time ≡ Some q.time → TellsTrue new (records ++ q ∷ [])
+TellsNext old new r time = (records : List Captured) (q : Captured) → AreNotes old.params old.without.now records old.notes → AreBefore r.0 records
+    → TellsTrue old records → numbered q ≡ r → time ≡ Some q.time → TellsTrue new (records ++ q ∷ [])
 
 -- of a record that stays
 abbrev pub TellsStaying : Pass → Pass → Numbered → Option CaptureTime → Type 0
 TellsStaying old new r time = is_left_out old.without.now r.0 ≡ false → TellsNext old new r time
 
--- what was true of the records so far still is
-abbrev pub TellsStill : Pass → Pass → Type 0
-TellsStill old new = (records : List Captured) → AreNotes old.params old.without.now records old.notes → TellsTrue old records → TellsTrue new records
+-- what was true of the records so far, all of them before this place, still is
+abbrev pub TellsStill : Pass → Pass → ℕ → Type 0
+TellsStill old new place = (records : List Captured) → AreNotes old.params old.without.now records old.notes → AreLower place records → TellsTrue old records
+    → TellsTrue new records

@@ -1,9 +1,12 @@
 //! Why a capture is refused, and what its other packets say of the refused one.
-ghost use Rattle.std.specs.Prelude.{◌≡◌, ◌⊎◌, Some, IfErr, IfOk, OnOk};
+ghost use Rattle.std.specs.Prelude.{◌≡◌, ◌⊎◌, ◌<◌, ◌^◌, Some, IfErr, IfOk, OnOk};
 ghost use Rattle.std.specs.List.{Contains};
 ghost use Rattle.std.specs.Option.{ForSome};
 ghost use Rattle.rasta_pcap.specs.Fault.{no_memory};
+ghost use Rattle.rasta_udp.specs.Frame.{packet_of};
+ghost use Rattle.seatmelon_reading.specs.Codes.{codes_next};
 
+use crate::code_count::CodeCount;
 use crate::notes::{Notes, Sighting};
 use rasta_check::{SentList, SpanList, Store};
 use rasta_pcap::{CaptureTime, Fault, Record, Side};
@@ -35,6 +38,9 @@ pub struct CaptureRefusal {
 
     /// When the refused record was captured, if it was read whole.
     pub time: Option<CaptureTime>,
+
+    /// The safety codes of the packets of the connection from the refused one on.
+    pub codes: CodeCount,
 
     /// The number that the end of the refused packet was to use next.
     pub next_number: Option<u32>,
@@ -126,13 +132,14 @@ impl CaptureRefusal {
     /// Refused by [`Fault::NO_MEMORY`] alone.
     pub fn new(
         alloc: Global,
+        params: &Params,
         store: &Store,
         notes: &Notes,
         fault: Fault,
         frame: &[u8],
         time: Option<CaptureTime>,
     ) -> Result<CaptureRefusal, Fault>
-        ensures made { IfOk result (IsMadeOf fault frame.now time notes.now) }
+        ensures made { IfOk result (IsMadeOf params.now fault frame.now time notes.now) }
         ensures err { IfErr result (λ f. f ≡ no_memory) }
     {
         let next = fault
@@ -142,9 +149,10 @@ impl CaptureRefusal {
             fault,
             frame: copied(alloc, frame)?,
             time,
+            codes: CodeCount::of_record(params, frame, time),
             next_number: next,
             beside: None,
-            wanted: wanted_packet(&store.params(), fault, frame, next),
+            wanted: wanted_packet(params, fault, frame, next),
         };
         if let Some(wanted) = refusal.wanted {
             refusal.beside = packet_beside(alloc, store, notes, wanted)?;
@@ -152,7 +160,8 @@ impl CaptureRefusal {
         Ok(refusal)
     }
 
-    /// Looks at a packet behind the refused record, whether it is the one that is asked for.
+    /// Looks at a packet of the connection behind the refused record: at its safety code, and whether it is the one that
+    /// is asked for.
     ///
     /// Refused by [`Fault::NO_MEMORY`] alone.
     pub fn look_at(
@@ -163,6 +172,27 @@ impl CaptureRefusal {
         packet: &Datagram<'_>,
     ) -> Result<(), Fault>
         ensures kept { (self.new.fault ≡ self.old.fault) × (self.new.frame.items ≡ self.old.frame.items) × (self.new.time ≡ self.old.time) }
+        ensures beside { ForSome self.new.beside (λ b. (self.old.beside ≡ Some b) ⊎ (b.sighting ≡ sighting)) }
+        ensures codes { self.old.codes.judged < 2 ^ 32 → self.old.codes.fitting < 2 ^ 32
+            → self.new.codes ≡ codes_next params.now self.old.fault.place sighting.«record» (packet_of packet.now) self.old.codes }
+        ensures err { IfErr result (λ f. f ≡ no_memory) }
+    {
+        if self.fault.place <= sighting.record {
+            self.codes = self.codes.with_packet(params, packet);
+        }
+        self.seek(alloc, params, sighting, packet)
+    }
+
+    // Looks at a packet behind the refused record, whether it is the one that is asked for.
+    fn seek(
+        &mut self,
+        alloc: Global,
+        params: &Params,
+        sighting: Sighting,
+        packet: &Datagram<'_>,
+    ) -> Result<(), Fault>
+        ensures kept { (self.new.fault ≡ self.old.fault) × (self.new.frame.items ≡ self.old.frame.items) × (self.new.time ≡ self.old.time)
+            × (self.new.codes ≡ self.old.codes) }
         ensures beside { ForSome self.new.beside (λ b. (self.old.beside ≡ Some b) ⊎ (b.sighting ≡ sighting)) }
         ensures err { IfErr result (λ f. f ≡ no_memory) }
     {

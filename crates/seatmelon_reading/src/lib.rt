@@ -3,13 +3,22 @@
 #![tactic(auto)]
 
 mod capture_refusal;
+mod code_count;
+mod frames;
 mod notes;
 mod pass;
+mod passed_over;
 mod reading;
+mod silence;
 mod summed;
+mod times;
 mod window;
 
 pub use capture_refusal::{Beside, CaptureRefusal};
+pub use code_count::CodeCount;
 pub use notes::{ChannelCount, Notes, Sighting};
+pub use passed_over::PassedOver;
 pub use reading::{Reading, read_capture};
+pub use silence::{Silence, longest_silence};
+pub use times::{Noticed, TimeNotes};
 pub use window::{Window, window_in};

@@ -1,18 +1,21 @@
 //! What is noted of a capture's records: how many there are, and where the packets of the connection stand.
 ghost use Rattle.std.specs.Prelude.{◌≡◌, suc, ◌++◌, ◌∷◌, [], ◌<◌, ◌≤◌, ◌⊎◌, ◌^◌, ℕ, List, length, None, Some, IfErr, OnOk};
-ghost use Rattle.rasta_pcap.specs.Captured.{Captured};
+ghost use Rattle.rasta_pcap.specs.Captured.{Captured, numbered};
 ghost use Rattle.rasta_pcap.specs.Fault.{no_memory};
 ghost use Rattle.rasta_pdu.specs.Params.{Parameters};
 ghost use Rattle.rasta_check.specs.Capture.Passages.{passage_of};
-ghost use Rattle.seatmelon_reading.specs.Noted.{AreNotes, SameOutside, Seen, count_with, counts_of, passage_seen, seen_in};
+ghost use Rattle.seatmelon_reading.specs.Noted.{AreNotes, SameOutside, Seen, count_with, counts_of, passage_seen, seen_in, why_passed};
 
+use crate::frames::why_passed;
+use crate::passed_over::{PassedOver, WhyPassed};
+use crate::times::TimeNotes;
 use crate::window::{Standing, standing_of};
 use rasta_check::Passage;
-use rasta_pcap::{CaptureTime, Fault, Side};
+use rasta_pcap::{CaptureTime, Fault, Record, Side};
 use rasta_pdu::Params;
 use std::alloc::{AllocError, Global};
 
-/// Where and when a packet was captured, and on which channel.
+/// Where and when a packet was captured, on which channel, and who sent it.
 #[derive(Clone, Copy)]
 pub struct Sighting {
     /// The number of its record, from 1.
@@ -22,6 +25,8 @@ pub struct Sighting {
 
     /// The number of its channel, from 1.
     pub channel: u8,
+
+    pub sender: Side,
 }
 
 /// How many packets of each end a channel has.
@@ -46,6 +51,11 @@ pub struct Notes {
     /// How many packets of the recorded channels stand before the window, and how many behind it.
     pub before: u64,
     pub behind: u64,
+
+    /// How many records hold no packet of the recorded channels.
+    pub passed: PassedOver,
+
+    pub times: TimeNotes,
 }
 
 impl ChannelCount {
@@ -101,15 +111,20 @@ impl Notes {
             channels: [none; 4],
             before: 0,
             behind: 0,
+            passed: PassedOver::NONE,
+            times: TimeNotes::NONE,
         }
     }
 
-    // Takes in a record without a packet of the recorded channels.
-    fn pass(&mut self, number: u32)
+    // Takes in a record without a packet of the recorded channels, and why.
+    fn pass(&mut self, number: u32, time: Option<CaptureTime>, why: WhyPassed)
         ensures { (p : Parameters) (without : List ℕ) (records : List Captured) (r : Captured) → AreNotes p without records self.old
-            → number ≡ suc (length records) → seen_in p without r ≡ None → AreNotes p without (records ++ r ∷ []) self.new }
+            → r.number ≡ number → number ≡ suc (length records) → time ≡ Some r.time → seen_in p without r ≡ None
+            → why_passed p without r ≡ Some why → AreNotes p without (records ++ r ∷ []) self.new }
     {
         self.records = number;
+        self.times.add(number, time);
+        self.passed = self.passed.with(why);
     }
 
     // Takes in a packet in the window.
@@ -139,15 +154,16 @@ impl Notes {
         ensures err { IfErr result (λ f. f ≡ no_memory) }
     {
         self.records = number;
+        self.times.add(number, time);
         match standing_of(params, number) {
             Standing::Before => self.before = self.before.saturating_add(1),
             Standing::Behind => self.behind = self.behind.saturating_add(1),
             Standing::Inside => {
-                let channel = passage.channel;
                 let sighting = Sighting {
                     record: number,
                     time,
-                    channel,
+                    channel: passage.channel,
+                    sender: passage.side,
                 };
                 self.add_inside(sighting, passage)?;
             }
@@ -160,19 +176,21 @@ impl Notes {
     pub fn note(
         &mut self,
         params: &Params,
-        number: u32,
+        without: &[u32],
+        record: &Record<'_>,
         time: Option<CaptureTime>,
         passage: Option<Passage>,
     ) -> Result<(), Fault>
-        ensures noted { OnOk result ((without : List ℕ) (records : List Captured) (r : Captured) → AreNotes params.now without records self.old
-            → r.number ≡ number → number ≡ suc (length records) → time ≡ Some r.time → passage ≡ passage_seen (seen_in params.now without r)
-            → AreNotes params.now without (records ++ r ∷ []) self.new) }
+        ensures noted { OnOk result ((records : List Captured) (r : Captured) → AreNotes params.now without.now records self.old
+            → numbered r ≡ («record».now.number, «record».now.bytes.now) → r.number ≡ suc (length records) → time ≡ Some r.time
+            → passage ≡ passage_seen (seen_in params.now without.now r) → AreNotes params.now without.now (records ++ r ∷ []) self.new) }
         ensures err { IfErr result (λ f. f ≡ no_memory) }
     {
+        let number = record.number;
         match passage {
             Some(passage) => self.add(params, number, time, passage),
             None => {
-                self.pass(number);
+                self.pass(number, time, why_passed(params, without, record));
                 Ok(())
             }
         }

@@ -94,7 +94,7 @@ impl<'a> Pass<'a> {
         time: Option<CaptureTime>,
     ) -> Result<(), Fault>
         ensures standing { OnOk result (standing_in self.new ≡ Err fault) }
-        ensures made { OnOk result (ForSome self.new.refusal (IsMadeOf fault frame.now time self.old.notes)) }
+        ensures made { OnOk result (ForSome self.new.refusal (IsMadeOf self.old.params fault frame.now time self.old.notes)) }
         ensures told { OnOk result ((fault ≢ no_memory) × (fault ≢ read_failed)) }
         ensures kept { IsSameBut self.old self.new }
         ensures err { IfErr result (λ f. (f ≡ no_memory) ⊎ (f ≡ read_failed)) }
@@ -103,7 +103,15 @@ impl<'a> Pass<'a> {
             return Err(Fault::at(fault.number, 0));
         }
         let store = self.builder.store();
-        let refusal = CaptureRefusal::new(alloc, store, &self.notes, fault, frame, time)?;
+        let refusal = CaptureRefusal::new(
+            alloc,
+            &self.params,
+            store,
+            &self.notes,
+            fault,
+            frame,
+            time,
+        )?;
         self.refusal = Some(refusal);
         Ok(())
     }
@@ -119,7 +127,7 @@ impl<'a> Pass<'a> {
         requires inside { (self.old.params.first_record ≤ «record».now.number) × («record».now.number ≤ self.old.params.last_record) }
         ensures standing { OnOk result (standing_in self.new
             ≡ after_judged self.old.params (standing_in self.old) («record».now.number, «record».now.bytes.now)) }
-        ensures told { OnOk result (TellsNext self.old self.new («record».now.number, «record».now.bytes.now) time) }
+        ensures told { OnOk result (TellsStaying self.old self.new («record».now.number, «record».now.bytes.now) time) }
         ensures found { IfOk result (λ o. o ≡ passages.passage_in (packet_found (packet_in self.old.params.channels «record».now.bytes.now))) }
         ensures kept { IsSameBut self.old self.new }
         ensures err { IfErr result (λ f. (f ≡ no_memory) ⊎ (f ≡ read_failed)) }
@@ -154,6 +162,7 @@ impl<'a> Pass<'a> {
             record: record.number,
             time,
             channel: found.channel,
+            sender: found.side,
         };
         if let Some(refusal) = &mut self.refusal {
             refusal.look_at(alloc, &self.params, sighting, &found)?;
@@ -222,7 +231,8 @@ impl<'a> Pass<'a> {
         ensures err { IfErr result (λ f. (f ≡ no_memory) ⊎ (f ≡ read_failed)) }
     {
         let passage = self.pass_next(alloc, record, time)?;
-        self.notes.note(&self.params, record.number, time, passage)
+        self.notes
+            .note(&self.params, self.without, record, time, passage)
     }
 
     /// Takes in the fault that ended the reading, with what was read of its record.
@@ -231,7 +241,7 @@ impl<'a> Pass<'a> {
     pub fn end(&mut self, alloc: Global, fault: Fault, frame: &[u8]) -> Result<(), Fault>
         ensures standing { OnOk result (standing_in self.new ≡ after_end self.old.params (standing_in self.old) fault) }
         ensures told { OnOk result ((fault ≢ no_memory) × (fault ≢ read_failed)) }
-        ensures still { OnOk result (TellsStill self.old self.new) }
+        ensures still { OnOk result (TellsStill self.old self.new fault.place) }
         ensures kept { IsSameBut self.old self.new }
         ensures err { IfErr result (λ f. (f ≡ no_memory) ⊎ (f ≡ read_failed)) }
     {

@@ -1,36 +1,56 @@
--- A capture that is read record by record.
-use Rattle.std.proofs.Common.{◌≡◌, ◌⊎◌, ◌+◌, ℕ, [], List, Option, ⊎_elim, ap, inl, inr, subst, sym}
+-- A capture that is read record by record, and why no further record is read.
+use Rattle.std.proofs.Common.{◌≡◌, ◌⊎◌, ◌+◌, ◌≤◌, ◌++◌, ℕ, [], List, Option, Err, Bool, true, false, ap, arith, inl, inr, length, nat_eq, nat_le, nat_lt, refl, subst, sym}
+use Rattle.std.proofs.lemmas.Bool.{leb-false}
 use Rattle.rasta_pcap.specs.declared.fault.Fault.{Fault}
 use Rattle.rasta_pcap.specs.declared.pcap.Endianness.{Endianness}
-use Rattle.rasta_pcap.specs.Capture.{Cursor, Numbered}
+use Rattle.rasta_pcap.specs.Capture.{Cursor, Numbered, cursor_at, max_captured, max_records, next, next_bytes, next_length}
 use Rattle.rasta_pcap.specs.Devices.{HasFailed}
-use Rattle.rasta_pcap.specs.Extent.{HasRead}
-use Rattle.rasta_pcap.specs.Fault.{no_memory, read_failed}
-use Rattle.rasta_pcap.specs.Stream.{FailsWithin, LacksMemory, ReadsRecord, RefusesRecord}
-use Rattle.seatmelon_survey.specs.Extents.{RefusesCapture, RefusesNext}
+use Rattle.rasta_pcap.specs.Fault.{cut_record, fault_at, no_memory, not_pcap, read_failed, record_too_long, too_many}
+use Rattle.rasta_pcap.specs.Stream.{FailsWithin, LacksMemory, ReadsRecord, RefusesHeader, RefusesRecord}
+use Rattle.rasta_pcap.proofs.Steps.{Outcome, tested}
 
 -- a record's number is that of the record before it and one
 pub record-number : (order : Endianness) (count : ℕ) (r : Numbered) (old new : Option (List ℕ)) → ReadsRecord order count r old new
     → r.0 ≡ count + 1
 record-number order count r old new found = sym (ap (λ (c : Cursor). c.count) (found.each []).1)
 
--- why no further record is read, by what the reader had left at first
-pub stopped : (f : Fault) (order : Endianness) (read count room most : ℕ) (first old new : Option (List ℕ)) (first_count old_count new_count : ℕ)
-    → HasRead order read first old → count ≡ read → old_count ≡ first_count
-    → FailsWithin most f old_count new_count old new ⊎ (LacksMemory order room f old new ⊎ RefusesRecord order count f old new)
-    → (f ≡ no_memory) ⊎ (((f ≡ read_failed) × HasFailed first_count new_count) ⊎ RefusesCapture f first new)
-stopped f order read count room most first old new first_count old_count new_count before counted same why =
-    ⊎_elim
-    (λ failed. inr (inl (failed.0, subst (λ n. HasFailed n new_count) same failed.1)))
-    (λ other. ⊎_elim
-    (λ lacks. inl lacks.0)
-    (λ refuses.
-    let next : RefusesNext f first new = record {
-      order = order;
-      count = count;
-      middle = old;
-      read = subst (λ n. HasRead order n first old) (sym counted) before;
-      refused = refuses;
-    } in inr (inr (inr next)))
-    other)
-    why
+-- ---- the number of a record's fault
+
+abbrev faulty : Fault → Outcome
+faulty f = Err f
+
+number_of : (f : Fault) (number place : ℕ) → faulty (fault_at number place) ≡ faulty f → 10 ≤ number → 10 ≤ f.number
+number_of f number place h least = let e : fault_at number place ≡ f = cc in rw (← e) least
+
+tested-number : (ended full short long cut : Bool) (place : ℕ) (r : Numbered) (f : Fault) → tested ended full short long cut place r ≡ Err f
+    → 10 ≤ f.number
+tested-number true full short long cut place r f h = absurd (cc)
+tested-number false true short long cut place r f h = number_of f too_many place h (omega arith)
+tested-number false false true long cut place r f h = number_of f cut_record place h (omega arith)
+tested-number false false false true cut place r f h = number_of f record_too_long place h (omega arith)
+tested-number false false false false true place r f h = number_of f cut_record place h (omega arith)
+tested-number false false false false false place r f h = absurd (cc)
+
+next-number : (c : Cursor) (f : Fault) → next c ≡ Err f → 10 ≤ f.number
+next-number c f h =
+    let size = length c.rest in
+    let captured = next_length c in
+    tested-number (nat_eq size 0) (nat_le max_records c.count) (nat_lt size 16) (nat_lt max_captured captured)
+    (nat_lt size (16 + captured)) (c.count + 1) (c.count + 1, next_bytes c) f h
+
+-- ---- why no further record is read
+
+abbrev WhyNone : Endianness → ℕ → ℕ → ℕ → Fault → ℕ → ℕ → Option (List ℕ) → Option (List ℕ) → Type 0
+WhyNone order count room most f old_count new_count old new =
+    FailsWithin most f old_count new_count old new ⊎ (LacksMemory order room f old new ⊎ RefusesRecord order count f old new)
+
+-- a fault that is none of the capture: memory or the reader failed
+pub failed : (f : Fault) (order : Endianness) (count room most first_count old_count new_count : ℕ) (first old new : Option (List ℕ))
+    → nat_le not_pcap f.number ≡ false → old_count ≡ first_count → WhyNone order count room most f old_count new_count old new
+    → (f ≡ no_memory) ⊎ (((f ≡ read_failed) × HasFailed first_count new_count) ⊎ RefusesHeader f first new)
+failed f order count room most first_count old_count new_count first old new is same (inl why) =
+    inr (inl (why.0, subst (λ n. HasFailed n new_count) same why.1))
+failed f order count room most first_count old_count new_count first old new is same (inr (inl lacking)) = inl lacking.0
+failed f order count room most first_count old_count new_count first old new is same (inr (inr refused)) =
+    let below = leb-false not_pcap f.number is in
+    let least = next-number (cursor_at order (refused.bytes ++ []) count) f (refused.each [] (λ e. refl)) in absurd (omega (arith, below, least))

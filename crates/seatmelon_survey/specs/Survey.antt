@@ -1,11 +1,16 @@
 -- What a survey counted.
-use Rattle.std.specs.Prelude.{ℕ, List}
+use Rattle.std.specs.Prelude.{ℕ, List, Option}
+use Rattle.rasta_pcap.specs.declared.fault.Fault.{Fault}
 use Rattle.seatmelon_connections.specs.declared.connection.Connection.{Connection}
 use Rattle.seatmelon_survey.specs.declared.findings.Survey.{Survey}
 
 -- how many records were read
 abbrev pub records_in : Survey → ℕ
 records_in s = s.records
+
+-- the fault of the record behind them, if there is one
+abbrev pub fault_in : Survey → Option Fault
+fault_in s = s.fault
 
 -- the connections, in the order of their first records
 abbrev pub connections_in : Survey → List Connection

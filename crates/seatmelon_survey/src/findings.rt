@@ -1,15 +1,17 @@
 //! What was found in a capture.
-ghost use Rattle.std.specs.Prelude.{◌≡◌, false, Some, IfErr, OnErr, OnOk, slice_get};
+ghost use Rattle.std.specs.Prelude.{◌≡◌, false, Some, None, IfErr, OnErr, OnOk, slice_get};
 ghost use Rattle.std.specs.Option.{option_and_then, option_map_or};
 ghost use Rattle.rasta_pcap.specs.Fault.{no_memory};
 ghost use Rattle.rasta_pcap.specs.Devices.{AsWritten};
 ghost use Rattle.seatmelon_survey.specs.Belonging.{opening_in};
 
+use crate::fault_words::write_fault;
 use crate::places::{Ends, Opening, Places};
 use crate::report::{write_connection, write_summary};
 use rasta_pcap::{CaptureTime, Fault, Record, Sink};
 use rasta_pdu::Kind;
 use seatmelon_connections::{Arrival, Connection};
+use seatmelon_lines::write_words;
 use seatmelon_packets::{Packet, Recognizer, Way, packet_in};
 use std::alloc::Global;
 use std::marker::Model;
@@ -55,15 +57,24 @@ fn late_arrival(place: usize, last: usize) -> Arrival {
     }
 }
 
+/// Behind which record a connection's quiet points are wanted; its place is that among all, from 0.
+#[derive(Clone, Copy)]
+pub struct Behind {
+    pub place: usize,
+    pub record: u32,
+}
+
 /// The connections that a capture seems to hold.
 #[derive(Drop)]
 pub struct Survey {
+    behind: Option<Behind>,
     recognizer: Recognizer,
     connections: Vec<Connection>,
     places: Places,
     records: u32,
     packets: u64,
     left_out: u64,
+    fault: Option<Fault>,
 }
 
 impl Model for Survey {
@@ -71,7 +82,7 @@ impl Model for Survey {
 
     ghost Value = { Findings };
 
-    ghost view = { λ s. record { connections = s.connections.items; records = s.records; packets = s.packets; left_out = s.left_out } };
+    ghost view = { λ s. record { connections = s.connections.items; records = s.records; packets = s.packets; left_out = s.left_out; fault = s.fault } };
 
     ghost use Rattle.seatmelon_survey.specs.Belonging.{ArePlaced};
 
@@ -82,19 +93,22 @@ impl Survey {
     ghost use Rattle.seatmelon_connections.specs.Comparing.{is_claimed};
     ghost use Rattle.seatmelon_connections.specs.Noted.{repeated_in};
     ghost use Rattle.seatmelon_survey.specs.Belonging.{destination_after, destination_behind, destination_of, ends_of, last_between, opened_among, opening_in};
-    ghost use Rattle.seatmelon_survey.specs.Survey.{connections_in, records_in};
+    ghost use Rattle.seatmelon_survey.specs.Survey.{connections_in, fault_in, records_in};
 
-    /// Nothing found yet.
-    pub fn new(alloc: Global) -> Survey
-        ensures { records_in result ≡ 0 }
+    /// Nothing found yet. The quiet points of one connection may be wanted behind a record.
+    pub fn new(alloc: Global, behind: Option<Behind>) -> Survey
+        ensures records { records_in result ≡ 0 }
+        ensures fault { fault_in result ≡ None }
     {
         Survey {
+            behind,
             recognizer: Recognizer::new(alloc),
             connections: Vec::new(alloc),
             places: Places::new(alloc),
             records: 0,
             packets: 0,
             left_out: 0,
+            fault: None,
         }
     }
 
@@ -126,6 +140,20 @@ impl Survey {
         self.left_out
     }
 
+    /// The fault of the record behind those that were taken in; none where the capture was whole.
+    pub fn fault(&self) -> Option<Fault>
+        ensures { result ≡ fault_in self.now }
+    {
+        self.fault
+    }
+
+    /// Keeps the fault of the record behind those that were taken in.
+    pub fn set_fault(&mut self, fault: Fault)
+        ensures { self.new ≡ record self.old { fault = Some fault } }
+    {
+        self.fault = Some(fault);
+    }
+
     /// Takes the next record in, which was captured at this time. If memory is refused, nothing has changed.
     ///
     /// Refused by [`Fault::NO_MEMORY`] alone.
@@ -136,6 +164,7 @@ impl Survey {
         time: Option<CaptureTime>,
     ) -> Result<(), Fault>
         ensures counted { OnOk result (records_in self.new ≡ found.now.number) }
+        ensures fault { fault_in self.new ≡ fault_in self.old }
         ensures unchanged { OnErr result (self.new ≡ self.old) }
         ensures err { IfErr result (λ f. f ≡ no_memory) }
     {
@@ -148,6 +177,7 @@ impl Survey {
     }
 
     fn add_packet(&mut self, alloc: Global, packet: &Packet) -> Result<(), Fault>
+        ensures fault { fault_in self.new ≡ fault_in self.old }
         ensures unchanged { OnErr result (self.new ≡ self.old) }
         ensures err { IfErr result (λ f. f ≡ no_memory) }
     {
@@ -242,22 +272,33 @@ impl Survey {
         }
     }
 
-    fn set_repeated(&mut self, last: usize, place: Option<usize>) {
+    fn set_repeated(&mut self, last: usize, place: Option<usize>)
+        ensures { fault_in self.new ≡ fault_in self.old }
+    {
         let Some(connection) = self.connections.get_mut(last) else {
             return;
         };
         connection.set_repeated(place);
     }
 
-    fn add_at(&mut self, place: usize, packet: &Packet, arrival: Arrival) {
+    fn add_at(&mut self, place: usize, packet: &Packet, arrival: Arrival)
+        ensures { fault_in self.new ≡ fault_in self.old }
+    {
         let Some(connection) = self.connections.get_mut(place) else {
             return;
         };
         connection.add(packet, arrival);
     }
 
+    // The record behind which the quiet points of the connection at this place are wanted.
+    fn quiet_from(&self, place: usize) -> Option<u32> {
+        let behind = self.behind.filter(|behind| behind.place == place)?;
+        Some(behind.record)
+    }
+
     // Begins a connection with this packet, once there is memory for all of it.
     fn begin(&mut self, alloc: Global, packet: &Packet) -> Result<(), Fault>
+        ensures fault { fault_in self.new ≡ fault_in self.old }
         ensures unchanged { OnErr result (self.new ≡ self.old) }
         ensures err { IfErr result (λ f. f ≡ no_memory) }
     {
@@ -266,7 +307,7 @@ impl Survey {
             self.leave_out(packet);
             return Ok(());
         }
-        let mut connection = Connection::new(alloc, packet)?;
+        let mut connection = Connection::new(alloc, packet, self.quiet_from(place))?;
         connection.add(packet, Arrival::InCourse);
         self.connections.try_reserve(1)?;
         self.places.reserve()?;
@@ -278,14 +319,17 @@ impl Survey {
 
     // Leaves a packet out that begins a connection. From it on the last connection between its ends is followed by
     // another one.
-    fn leave_out(&mut self, packet: &Packet) {
+    fn leave_out(&mut self, packet: &Packet)
+        ensures { fault_in self.new ≡ fault_in self.old }
+    {
         self.left_out = self.left_out.saturating_add(1);
         if let Some(last) = self.last_between(&packet.way) {
             self.set_repeated(last, None);
         }
     }
 
-    /// Writes what was found, as plain text: how much was read, and a block for each connection.
+    /// Writes what was found, as plain text: how much was read, a block for each connection, and the fault, if there is
+    /// one.
     ///
     /// Refused by [`Fault::WRITE_FAILED`] alone.
     pub fn write<W: Sink>(&self, writer: &mut W) -> Result<(), Fault>
@@ -295,6 +339,10 @@ impl Survey {
         for (place, connection) in self.connections.iter().enumerate() {
             write_connection(writer, place as u64, connection)?;
         }
-        Ok(())
+        let Some(fault) = self.fault else {
+            return Ok(());
+        };
+        write_words(writer, "\n")?;
+        write_fault(writer, fault)
     }
 }

@@ -1,12 +1,14 @@
 //! What a capture seems to hold: the RaSTA connections in it, found without any recorded parameters.
 #![tactic(auto)]
 
+mod fault_words;
 mod findings;
 mod places;
 mod reading;
 mod report;
 
-pub use findings::{MOST_CONNECTIONS, Survey};
+pub use fault_words::{FaultWords, words_of_fault, write_fault};
+pub use findings::{Behind, MOST_CONNECTIONS, Survey};
 pub use reading::survey;
 pub use report::write_connection;
 pub use seatmelon_connections::Connection;

@@ -1,32 +1,50 @@
 //! Reading a capture.
-ghost use Rattle.std.specs.Prelude.{◌≡◌, ◌⊎◌, IfErr, IfOk, OnOk};
-ghost use Rattle.rasta_pcap.specs.Fault.{no_memory, read_failed};
+ghost use Rattle.std.specs.Prelude.{◌≡◌, ◌⊎◌, IfErr, IfOk, None, nat_le};
+ghost use Rattle.rasta_pcap.specs.Fault.{no_memory, not_pcap, read_failed};
 ghost use Rattle.rasta_pcap.specs.Devices.{HasFailed};
-ghost use Rattle.seatmelon_survey.specs.Extents.{ReadsWhole, RefusesCapture};
-ghost use Rattle.seatmelon_survey.specs.Survey.{records_in};
+ghost use Rattle.rasta_pcap.specs.Stream.{RefusesHeader};
+ghost use Rattle.seatmelon_survey.specs.Extents.{ReadsRecords};
+ghost use Rattle.seatmelon_survey.specs.Survey.{fault_in, records_in};
 
-use crate::findings::Survey;
+use crate::findings::{Behind, Survey};
 use rasta_pcap::stream::RecordReader;
 use rasta_pcap::{Fault, Record, Source};
 use std::alloc::Global;
 
-/// Reads a capture to its end and answers the connections that it seems to hold. What isn't RaSTA over
-/// UDP is passed over.
+// Whether a fault is one of the capture, and no lack of memory or failed read.
+fn is_refusal(fault: Fault) -> bool
+    ensures { result ≡ nat_le not_pcap fault.number }
+{
+    fault.number >= Fault::NOT_PCAP
+}
+
+/// Reads a capture to its end, or up to a record that has a fault, and answers the connections that it seems to hold.
+/// What isn't RaSTA over UDP is passed over. The quiet points of one connection may be wanted behind a record.
 ///
-/// Refused by [`Fault::NO_MEMORY`], [`Fault::READ_FAILED`], and as the capture's header or one of its
-/// records is refused, at that record.
-pub fn survey<R: Source>(alloc: Global, reader: &mut R) -> Result<Survey, Fault>
-    ensures whole { IfOk result (λ s. ReadsWhole (records_in s) (R.remaining reader.old) (R.remaining reader.new)) }
-    ensures steady { OnOk result (R.failure_count reader.new ≡ R.failure_count reader.old) }
+/// Refused by [`Fault::NO_MEMORY`], [`Fault::READ_FAILED`], and as the capture's header is refused. The fault of a record
+/// is part of the survey.
+pub fn survey<R: Source>(
+    alloc: Global,
+    reader: &mut R,
+    behind: Option<Behind>,
+) -> Result<Survey, Fault>
+    ensures records { IfOk result (λ s. ReadsRecords (fault_in s) (records_in s) (R.remaining reader.old) (R.remaining reader.new)) }
+    ensures steady { IfOk result (λ s. fault_in s ≡ None → R.failure_count reader.new ≡ R.failure_count reader.old) }
     ensures err { IfErr result (λ f. (f ≡ no_memory)
         ⊎ (((f ≡ read_failed) × HasFailed (R.failure_count reader.old) (R.failure_count reader.new))
-        ⊎ RefusesCapture f (R.remaining reader.old) (R.remaining reader.new))) }
+        ⊎ RefusesHeader f (R.remaining reader.old) (R.remaining reader.new))) }
 {
     let mut records = RecordReader::open(alloc, reader)?;
-    let mut survey = Survey::new(alloc);
+    let mut survey = Survey::new(alloc, behind);
     for _ in 0..u64::MAX {
-        let Some(number) = records.advance(reader)? else {
-            return Ok(survey);
+        let number = match records.advance(reader) {
+            Ok(Some(number)) => number,
+            Ok(None) => return Ok(survey),
+            Err(fault) if is_refusal(fault) => {
+                survey.set_fault(fault);
+                return Ok(survey);
+            }
+            Err(fault) => return Err(fault),
         };
         let bytes = records.buffer();
         survey.add_record(alloc, &Record { number, bytes }, records.time())?;

@@ -344,6 +344,39 @@ records: 1
 packets of RaSTA: 0
 other records, passed over: 1
 no packet of a RaSTA connection
+== data plain: 0 1 2 cut |  | Cut in its last record.
+records: 2
+packets of RaSTA: 2
+other records, passed over: 0
+
+connection 1
+  client id 96, version 0303, N_sendmax 20
+  server id 97, version 0303, N_sendmax 20
+  records 1 to 2
+  captured from 1970-01-01 00:00:00.000000 to 1970-01-01 00:00:00.000000 UTC
+  opened by the client at record 1
+  no disconnection request was captured
+  channel 1: 10.0.0.1:5000 - 10.0.0.2:5000, packets to the server: 1, to the client: 1
+  a safety code of 0 bytes fits the length of 2 of 2 packets
+  a check code of 0 bytes fits the length of 2 of 2 packets
+  client sent connection request: 1
+  server sent connection response: 1
+
+the file ends inside record 3 (14 CutRecord)
+== data plain: 0 cut |  | Cut in its first record.
+records: 0
+packets of RaSTA: 0
+other records, passed over: 0
+no packet of a RaSTA connection
+
+the file ends inside record 1 (14 CutRecord)
+== data plain: 0 | 34=8 | A record that says it has 524380 bytes.
+records: 0
+packets of RaSTA: 0
+other records, passed over: 0
+no packet of a RaSTA connection
+
+record 1 has more than 262144 bytes (18 RecordTooLong)
 == data plain: - |  | Empty.
 records: 0
 packets of RaSTA: 0

@@ -1,18 +1,26 @@
 //! Captures, and the drafts that are wanted of a connection in them.
 use crate::cases::{Case, case_in};
+use seatmelon_survey::Behind;
 
-/// A capture, the place of a connection in it, and its draft.
+/// A capture, the place of a connection in it, the record behind which a quiet point is wanted, if one is, and the draft.
 #[derive(Clone, Copy)]
 pub struct DraftCase<'a> {
     pub place: usize,
+    pub behind: Option<Behind>,
     pub case: Case<'a>,
 }
 
-/// The case of these lines: `PLACE | PARTS | CHANGES | NAME`, and the draft.
+/// The case of these lines: `PLACE | PARTS | CHANGES | NAME`, and the draft. Behind the place may stand `behind RECORD`.
 pub fn draft_case_in(lines: &str) -> Option<DraftCase<'_>> {
-    let (place, lines) = lines.split_once(" | ")?;
+    let (words, lines) = lines.split_once(" | ")?;
+    let (place, record) = match words.split_once(" behind ") {
+        Some((place, record)) => (place, Some(record.parse().ok()?)),
+        None => (words, None),
+    };
+    let place = place.parse().ok()?;
     Some(DraftCase {
-        place: place.parse().ok()?,
+        place,
+        behind: record.map(|record| Behind { place, record }),
         case: case_in(lines)?,
     })
 }
@@ -396,6 +404,50 @@ quiet.server = { next_sn = 502, clock = 9060 } # its last PDU is in record 4
 [[channel]]
 client = "10.0.0.1:5000" # seen in record 1
 server = "10.0.0.2:5000" # seen in record 1
+== 0 behind 4 | lost plain: 0 1 2 4 5 6 7 8 9 10 18 |  | A packet is missing before record 4.
+# A draft of the parameters of the connection in the records 1 to 11 of a capture.
+# Each line tells where its value was seen; one from the engineering data is a placeholder.
+# A draft is a guess from the form of packets: compare each line with the engineering data.
+
+client_id = 96 # sender of the connection request in record 1
+server_id = 97 # its receiver
+code_length = 0 # fits the length of 11 of 11 packets
+md4_start = "67452301efcdab8998badcfe10325476" # MD4's own start words; without a safety code they have no effect
+check_length = 0 # fits the length of 11 of 11 packets
+n_sendmax = 20 # the client offered 20 in record 1, the server 20 in record 2
+t_max = 1800 # from the engineering data, in milliseconds
+slack = 0 # from the engineering data, in milliseconds
+first_record = 10 # the first record after the quiet point
+last_record = 11 # the connection's last packet
+
+# Packets before record 4 are not looked at, but for copies. After record 9 both ends seem to be up and to owe each other nothing: a quiet point.
+# It is a premise of every answer: only the engineering data or a log can confirm it.
+quiet.client = { next_sn = 108, clock = 1080, handed_ts = 1072 } # its last PDU is in record 9, its last data in record 8
+quiet.server = { next_sn = 502, clock = 9060 } # its last PDU is in record 5
+
+[[channel]]
+client = "10.0.0.1:5000" # seen in record 1
+server = "10.0.0.2:5000" # seen in record 1
+== 0 behind 4 | data plain: 0 1 2 3 4 |  | Nothing crosses behind the only point.
+# The connection in the records 1 to 5 of a capture shows no quiet point behind record 4.
+# After record 5 both ends are at rest, but behind it the client sends nothing.
+== 0 behind 4 | data plain: 0 1 2 3 4 3 4 |  | The packets cross once more.
+# The connection in the records 1 to 7 of a capture shows no quiet point behind record 4.
+# After record 7 both ends are at rest, but behind it the client sends nothing.
+# The point after record 6 is ruled out by record 7, which has the number of the packet in record 5.
+== 0 behind 6 | directly plain: 0 1 2 3 5 6 4 8 |  | A response to a request before record 6.
+# The connection in the records 1 to 8 of a capture shows no quiet point behind record 6.
+# What the server sends last, in record 8, is of the type retransmission response, and not heartbeat, data or retransmission request.
+# The point after record 7 is ruled out by record 8, a retransmission response to what was asked for before it.
+== 0 behind 5 | lost plain: 0 1 2 4 5 |  | A request without a response, of the end that alone sends.
+# The connection in the records 1 to 5 of a capture shows no quiet point behind record 5.
+# From there on the client sends nothing.
+== 0 behind 4 | lost plain: 0 1 2 4 5 |  | A request without a response.
+# The connection in the records 1 to 5 of a capture shows no quiet point behind record 4.
+# The retransmission request of the server in record 5 has no response.
+== 0 behind 9 | data plain: 0 1 2 |  | Behind the last record.
+# The connection in the records 1 to 3 of a capture shows no quiet point behind record 9.
+# From there on the client sends nothing.
 "#;
 
 /// The lines of the cases of a draft.

@@ -160,7 +160,7 @@ impl Former {
             self.totals.left_out = self.totals.left_out.saturating_add(1);
             return Some(());
         }
-        let mut connection = Connection::new(alloc, packet).ok()?;
+        let mut connection = Connection::new(alloc, packet, None).ok()?;
         connection.add(packet, Arrival::InCourse);
         self.connections.push(connection).ok()
     }
@@ -177,7 +177,7 @@ struct Both {
 impl Both {
     fn new(alloc: Global) -> Both {
         Both {
-            new: Survey::new(alloc),
+            new: Survey::new(alloc, None),
             former: Former::new(alloc),
             differing: 0,
         }

@@ -14,7 +14,7 @@ fn first_case() -> Option<Case<'static>> {
 // What a file that comes in pieces of this size holds.
 fn surveyed(alloc: Global, file: &[u8], most: usize) -> Result<Survey, Fault> {
     let most = most.max(1);
-    survey(alloc, &mut Counted::new(Pieces::new(file, most)))
+    survey(alloc, &mut Counted::new(Pieces::new(file, most)), None)
 }
 
 fn text_of(alloc: Global, survey: &Survey) -> Option<Vec<u8>> {
@@ -50,17 +50,17 @@ fn texts(rt: HostRuntime) {
     }
 }
 
-// Why a capture is refused that is cut in its last record.
-fn refusal_of_cut(alloc: Global) -> Option<Fault> {
+// The fault behind the records of a capture that is cut in its last record.
+fn fault_of_cut(alloc: Global) -> Option<Fault> {
     let (_, file) = file_of(alloc, "data plain", "0 1 2 cut")?;
-    surveyed(alloc, &file, 7).err()
+    surveyed(alloc, &file, 7).ok()?.fault()
 }
 
-// A capture that is cut in its last record is refused at that record.
+// A capture that is cut in its last record is surveyed up to that record; one that is cut in its header is refused.
 #[test]
 fn cut_capture(rt: HostRuntime) {
-    let refused = refusal_of_cut(rt.alloc());
-    assert_eq!(rt; refused, Some(Fault::at(Fault::CUT_RECORD, 3)));
+    let fault = fault_of_cut(rt.alloc());
+    assert_eq!(rt; fault, Some(Fault::at(Fault::CUT_RECORD, 3)));
     let refused = surveyed(rt.alloc(), &[], 7).err();
     assert_eq!(rt; refused, Some(Fault::at(Fault::CUT_HEADER, 0)));
 }
@@ -70,7 +70,7 @@ fn is_surveyed_or_told(alloc: Global, call: u64) -> Option<bool> {
     let case = first_case()?;
     let file = file_with(alloc, case.parts, case.changes)?;
     let mut reader = Counted::new(FailAt::new(Pieces::new(&file, 9), call));
-    let outcome = survey(alloc, &mut reader);
+    let outcome = survey(alloc, &mut reader, None);
     let has_failed = Source::failures(&reader) > 0;
     match outcome {
         Ok(found) => {

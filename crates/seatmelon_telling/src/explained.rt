@@ -2,14 +2,14 @@
 ghost use Rattle.std.specs.Prelude.{◌≡◌, IfErr};
 ghost use Rattle.rasta_pcap.specs.Fault.{write_failed};
 
-use crate::page::{write_place, write_records, write_without};
+use crate::messages::write_messages;
+use crate::page::{write_judged, write_records, write_without};
 use rasta_pcap::{Fault, Side, Sink};
 use rasta_pdu::QuietEnd;
-use seatmelon_account::{Account, Direction, Explained, Message, Start};
-use seatmelon_reading::Sighting;
+use seatmelon_account::{Account, Direction, Explained, Extent, Start};
 use seatmelon_text::{Part, parts, write_parts, write_words};
 
-const SAYS: &str = "\
+const SAYS: &str = "
 What this says:
   Some run of two ends that keep the rules, over a network that loses, repeats, delays and
   reorders packets, sends exactly these packets past the tap, in this order.
@@ -117,62 +117,13 @@ fn write_start<W: Sink>(writer: &mut W, start: &Start) -> Result<(), Fault>
     }
 }
 
-// Writes the bytes of a message.
-fn write_bytes<W: Sink>(writer: &mut W, bytes: &[u8]) -> Result<(), Fault>
-    ensures err { IfErr result (λ f. f ≡ write_failed) }
-{
-    if bytes.is_empty() {
-        return write_words(writer, "    empty\n");
-    }
-    write_parts(
-        writer,
-        &parts![
-            "    hex: ",
-            Part::Hex(bytes),
-            "\n    text: ",
-            Part::Text(bytes),
-            "\n"
-        ],
-    )
-}
-
-// Writes a message, with its proof where it was surely taken.
-fn write_message<W: Sink>(
-    writer: &mut W,
-    packets: &[Sighting],
-    message: &Message<'_>,
-) -> Result<(), Fault>
-    ensures err { IfErr result (λ f. f ≡ write_failed) }
-{
-    let not_shown = if message.proof.is_none() {
-        ": not shown"
-    } else {
-        ""
-    };
-    write_parts(
-        writer,
-        &parts!["  message ", message.number, not_shown, "\n    data: "],
-    )?;
-    write_place(writer, packets, message.data)?;
-    if let Some(proof) = message.proof {
-        write_words(writer, "    proof: ")?;
-        write_place(writer, packets, proof)?;
-    }
-    write_bytes(writer, message.bytes)
-}
-
-// Writes the messages that an end sent.
-fn write_direction<W: Sink>(
-    writer: &mut W,
-    packets: &[Sighting],
-    direction: &Direction<'_>,
-) -> Result<(), Fault>
+// Writes how many messages of an end were surely taken, and which weren't shown to be.
+fn write_taken<W: Sink>(writer: &mut W, direction: &Direction<'_>) -> Result<(), Fault>
     ensures err { IfErr result (λ f. f ≡ write_failed) }
 {
     write_parts(
         writer,
         &parts![
-            "\n",
             direction.sender,
             " to ",
             direction.sender.other(),
@@ -180,13 +131,18 @@ fn write_direction<W: Sink>(
             direction.taken,
             " of ",
             direction.messages.len() as u64,
-            " messages surely taken\n"
+            " messages surely taken"
         ],
     )?;
-    for message in &direction.messages {
-        write_message(writer, packets, message)?;
+    match direction.not_shown() {
+        Some((first, last)) if first == last => {
+            write_parts(writer, &parts!["; not shown: ", first, "\n"])
+        }
+        Some((first, last)) => {
+            write_parts(writer, &parts!["; not shown: ", first, " to ", last, "\n"])
+        }
+        None => write_words(writer, "\n"),
     }
-    Ok(())
 }
 
 // Writes the verdict in one sentence.
@@ -204,7 +160,7 @@ fn write_sentence<W: Sink>(writer: &mut W, account: &Account<'_>, packets: u32) 
         ],
     )?;
     write_records(writer, account, ", the packets in ")?;
-    write_words(writer, "\n\n")
+    write_words(writer, "\n")
 }
 
 // Writes what the verdict says, and what it rests on.
@@ -223,11 +179,17 @@ pub fn write_explained<W: Sink>(
     writer: &mut W,
     account: &Account<'_>,
     explained: &Explained<'_>,
+    extent: &Extent,
 ) -> Result<(), Fault>
     ensures err { IfErr result (λ f. f ≡ write_failed) }
 {
     write_sentence(writer, account, explained.packets)?;
+    write_taken(writer, &explained.client)?;
+    write_taken(writer, &explained.server)?;
+    write_judged(writer, account)?;
     write_meaning(writer, explained)?;
-    write_direction(writer, account.packets, &explained.client)?;
-    write_direction(writer, account.packets, &explained.server)
+    match extent.messages {
+        Some(selection) => write_messages(writer, account, explained, selection, extent.is_whole),
+        None => Ok(()),
+    }
 }

@@ -3,11 +3,13 @@ ghost use Rattle.std.specs.Prelude.{◌≡◌, IfErr};
 ghost use Rattle.rasta_pcap.specs.Fault.{write_failed};
 
 use crate::json_explained::write_explained;
+use crate::json_notes::{write_passed_over, write_times};
+use crate::json_params::{write_offers, write_params};
 use crate::json_places::write_number_if;
 use crate::json_refusal::write_refusal;
 use crate::page::PROGRAM;
 use rasta_pcap::{Fault, Sink};
-use seatmelon_account::{Account, File, Offer, Verdict};
+use seatmelon_account::{Account, File, Verdict};
 use seatmelon_reading::{ChannelCount, Window};
 use seatmelon_text::json::{write_long, write_string};
 use seatmelon_text::{Part, parts, write_parts, write_words};
@@ -59,8 +61,8 @@ fn write_without<W: Sink>(writer: &mut W, without: &[u32]) -> Result<(), Fault>
     write_words(writer, "]")
 }
 
-// Writes a number of 64 bits under a key.
-fn write_count<W: Sink>(writer: &mut W, key: &'static str, count: u64) -> Result<(), Fault>
+/// Writes a number of 64 bits under a key.
+pub fn write_count<W: Sink>(writer: &mut W, key: &'static str, count: u64) -> Result<(), Fault>
     ensures err { IfErr result (λ f. f ≡ write_failed) }
 {
     write_parts(writer, &parts![",\"", key, "\":"])?;
@@ -120,33 +122,6 @@ fn write_channels<W: Sink>(writer: &mut W, channels: &[ChannelCount]) -> Result<
     write_words(writer, "]")
 }
 
-// Writes what the ends offer at the opening, where the parameters have something else.
-fn write_offers<W: Sink>(writer: &mut W, offers: [Option<Offer>; 2]) -> Result<(), Fault>
-    ensures err { IfErr result (λ f. f ≡ write_failed) }
-{
-    write_words(writer, ",\"offers\":[")?;
-    let mut before = "";
-    for offer in offers {
-        if let Some(offer) = offer {
-            write_parts(
-                writer,
-                &parts![
-                    before,
-                    "{\"end\":\"",
-                    offer.end,
-                    "\",\"offered\":",
-                    offer.offered,
-                    ",\"recorded\":",
-                    offer.recorded,
-                    "}"
-                ],
-            )?;
-            before = ",";
-        }
-    }
-    write_words(writer, "]")
-}
-
 // Writes how many records were read, and what they are.
 fn write_counts<W: Sink>(writer: &mut W, account: &Account<'_>) -> Result<(), Fault>
     ensures err { IfErr result (λ f. f ≡ write_failed) }
@@ -156,7 +131,10 @@ fn write_counts<W: Sink>(writer: &mut W, account: &Account<'_>) -> Result<(), Fa
     write_count(writer, "packets", account.packets.len() as u64)?;
     write_channels(writer, account.channels)?;
     write_count(writer, "records_passed_over", account.passed_over())?;
-    write_offers(writer, account.offers)
+    write_passed_over(writer, account.passed)?;
+    write_times(writer, account)?;
+    write_params(writer, account.params)?;
+    write_offers(writer, &account.offers)
 }
 
 // Writes the verdict, with what is told of it.

@@ -3,7 +3,7 @@ ghost use Rattle.std.specs.Prelude.{◌≡◌, IfErr};
 ghost use Rattle.rasta_pcap.specs.Fault.{write_failed};
 
 use crate::explained::{premises, start_premise};
-use crate::json_places::{write_number_if, write_place};
+use crate::json_places::{write_long_if, write_number_if, write_place};
 use rasta_pcap::{Fault, Sink};
 use rasta_pdu::QuietEnd;
 use seatmelon_account::{Direction, Explained, Message, Start};
@@ -43,10 +43,7 @@ fn write_quiet_end<W: Sink>(writer: &mut W, end: &QuietEnd) -> Result<(), Fault>
     write_parts(writer, &parts!["{\"next_sn\":", end.next_sn, ",\"clock\":"])?;
     write_long(writer, end.clock)?;
     write_words(writer, ",\"deadline\":")?;
-    match end.deadline {
-        Some(deadline) => write_long(writer, deadline)?,
-        None => write_words(writer, "null")?,
-    }
+    write_long_if(writer, end.deadline)?;
     write_words(writer, ",\"handed_ts\":")?;
     write_number_if(writer, end.handed_ts)?;
     write_words(writer, "}")
@@ -117,6 +114,20 @@ fn write_message<W: Sink>(
     write_words(writer, "}")
 }
 
+// Writes the numbers of the first and of the last message that wasn't shown to be taken, or null.
+fn write_not_shown<W: Sink>(writer: &mut W, numbers: Option<(u64, u64)>) -> Result<(), Fault>
+    ensures err { IfErr result (λ f. f ≡ write_failed) }
+{
+    let Some((first, last)) = numbers else {
+        return write_words(writer, ",\"not_shown\":null");
+    };
+    write_words(writer, ",\"not_shown\":{\"first\":")?;
+    write_long(writer, first)?;
+    write_words(writer, ",\"last\":")?;
+    write_long(writer, last)?;
+    write_words(writer, "}")
+}
+
 // Writes the messages that an end sent.
 fn write_direction<W: Sink>(
     writer: &mut W,
@@ -139,6 +150,7 @@ fn write_direction<W: Sink>(
     write_long(writer, direction.taken)?;
     write_words(writer, ",\"sent\":")?;
     write_long(writer, direction.messages.len() as u64)?;
+    write_not_shown(writer, direction.not_shown())?;
     write_words(writer, ",\"messages\":[")?;
     let mut before = "";
     for message in &direction.messages {

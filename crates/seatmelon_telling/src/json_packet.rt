@@ -8,9 +8,10 @@ use crate::packet_text::{kind_name, shown_length};
 use rasta_pcap::{Fault, Sink};
 use rasta_pdu::Pdu;
 use seatmelon_account::{
-    Codes, Crossed, CutMessage, Differences, Fields, FirstCopy, Layout, RefusedPacket, Trouble,
-    payload_and_codes,
+    Codes, Crossed, CutMessage, Differences, Fields, FirstCopy, Gap, Layout, Numbers,
+    RefusedPacket, Trouble, payload_and_codes,
 };
+use seatmelon_packets::{Fit, Fits};
 use seatmelon_reading::Sighting;
 use seatmelon_text::json::{write_bytes, write_long};
 use seatmelon_text::{Part, parts, write_parts, write_words};
@@ -165,27 +166,51 @@ fn write_first_copy<W: Sink>(
     write_words(writer, ends)
 }
 
-// Writes which number was due, and where it crosses later.
-fn write_gap<W: Sink>(
-    writer: &mut W,
-    due: u32,
-    found: u32,
-    later: Option<&Sighting>,
-) -> Result<(), Fault>
+// Writes the two numbers of a PDU.
+fn write_numbers<W: Sink>(writer: &mut W, numbers: Numbers) -> Result<(), Fault>
     ensures err { IfErr result (λ f. f ≡ write_failed) }
 {
     write_parts(
         writer,
         &parts![
+            ",\"redundancy_number\":",
+            numbers.redundancy,
+            ",\"sn\":",
+            numbers.sn,
+            "}"
+        ],
+    )
+}
+
+// Writes a gap: which numbers were due and found, where it begins, and where the number that was due crosses later.
+fn write_gap<W: Sink>(writer: &mut W, packets: &[Sighting], gap: &Gap) -> Result<(), Fault>
+    ensures err { IfErr result (λ f. f ≡ write_failed) }
+{
+    let due = gap.due();
+    write_parts(
+        writer,
+        &parts![
             "{\"number_due\":",
-            due,
+            due.redundancy,
             ",\"number_found\":",
-            found,
-            ",\"crosses_later\":"
+            gap.found
         ],
     )?;
-    write_sighting_if(writer, later)?;
-    write_words(writer, "}")
+    write_field(writer, "sn_due", Some(due.sn))?;
+    write_field(writer, "sn_found", gap.sn_found)?;
+    write_field(writer, "numbers_skipped", Some(gap.skipped()))?;
+    write_field(writer, "sns_skipped", gap.sn_skipped())?;
+    write_words(writer, ",\"last_before\":{\"packet\":")?;
+    write_place(writer, packets, gap.last.place)?;
+    write_numbers(writer, gap.last.numbers)?;
+    write_words(writer, ",\"crosses_later\":")?;
+    write_sighting_if(writer, gap.later.as_ref())?;
+    let ends = if gap.has_opening {
+        ",\"has_opening\":true}"
+    } else {
+        ",\"has_opening\":false}"
+    };
+    write_words(writer, ends)
 }
 
 // Writes bytes, in hexadecimal digits and as text.
@@ -256,7 +281,11 @@ fn write_ids<W: Sink>(writer: &mut W, receiver: u32, sender: u32) -> Result<(), 
 }
 
 // Writes what is wrong with a packet, or null.
-fn write_trouble<W: Sink>(writer: &mut W, packet: &RefusedPacket<'_>) -> Result<(), Fault>
+fn write_trouble<W: Sink>(
+    writer: &mut W,
+    packets: &[Sighting],
+    packet: &RefusedPacket<'_>,
+) -> Result<(), Fault>
     ensures err { IfErr result (λ f. f ≡ write_failed) }
 {
     match &packet.trouble {
@@ -268,32 +297,58 @@ fn write_trouble<W: Sink>(writer: &mut W, packet: &RefusedPacket<'_>) -> Result<
             write_codes(writer, None)?;
             write_first_copy(writer, packet.datagram, first.as_ref())
         }
-        Trouble::Gap {
-            due: Some(due),
-            found,
-            later,
-        } => write_gap(writer, *due, *found, later.as_ref()),
+        Trouble::Gap(Some(gap)) => write_gap(writer, packets, gap),
         Trouble::Ids { receiver, sender } => write_ids(writer, *receiver, *sender),
         Trouble::Length(due) => write_due(writer, "length_field_due", *due),
         Trouble::TooShort(least) => write_due(writer, "least_bytes_due", *least),
         Trouble::SafetyLength(due) => write_due(writer, "safety_length_field_due", *due),
         Trouble::Type(found) => write_due(writer, "type_found", u64::from(*found)),
         Trouble::Payload(layout) => write_payload(writer, layout),
-        Trouble::Gap { due: None, .. } | Trouble::Other => write_words(writer, "null"),
+        Trouble::Gap(None) | Trouble::Other => write_words(writer, "null"),
     }
 }
 
 /// Writes what is wrong with the packet of a refused record, or null.
 pub fn write_trouble_if<W: Sink>(
     writer: &mut W,
+    packets: &[Sighting],
     packet: Option<&RefusedPacket<'_>>,
 ) -> Result<(), Fault>
     ensures err { IfErr result (λ f. f ≡ write_failed) }
 {
     match packet {
-        Some(packet) => write_trouble(writer, packet),
+        Some(packet) => write_trouble(writer, packets, packet),
         None => write_words(writer, "null"),
     }
+}
+
+/// Writes which lengths of the codes a refused packet fits, or null.
+pub fn write_lengths_if<W: Sink>(writer: &mut W, lengths: Option<Fits>) -> Result<(), Fault>
+    ensures err { IfErr result (λ f. f ≡ write_failed) }
+{
+    let Some(fits) = lengths else {
+        return write_words(writer, "null");
+    };
+    write_parts(
+        writer,
+        &parts![
+            "{\"check_length\":",
+            fits.check_length,
+            ",\"code_lengths\":["
+        ],
+    )?;
+    let mut before = "";
+    for (length, fit) in [
+        (0u8, fits.no_code),
+        (8, fits.short_code),
+        (16, fits.long_code),
+    ] {
+        if fit != Fit::None {
+            write_parts(writer, &parts![before, length])?;
+            before = ",";
+        }
+    }
+    write_words(writer, "]}")
 }
 
 // Writes the messages of a PDU.

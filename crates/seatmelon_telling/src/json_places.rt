@@ -4,6 +4,7 @@ ghost use Rattle.rasta_pcap.specs.Fault.{write_failed};
 
 use rasta_pcap::{CaptureTime, Fault, Sink};
 use seatmelon_reading::Sighting;
+use seatmelon_text::json::write_long;
 use seatmelon_text::{Part, parts, write_parts, write_words};
 
 /// Writes a number, or null.
@@ -12,6 +13,16 @@ pub fn write_number_if<W: Sink>(writer: &mut W, number: Option<u32>) -> Result<(
 {
     match number {
         Some(number) => write_parts(writer, &parts![number]),
+        None => write_words(writer, "null"),
+    }
+}
+
+/// Writes a number of 64 bits, or null.
+pub fn write_long_if<W: Sink>(writer: &mut W, number: Option<u64>) -> Result<(), Fault>
+    ensures err { IfErr result (λ f. f ≡ write_failed) }
+{
+    match number {
+        Some(number) => write_long(writer, number),
         None => write_words(writer, "null"),
     }
 }

@@ -2,15 +2,15 @@
 ghost use Rattle.std.specs.Prelude.{◌≡◌, IfErr};
 ghost use Rattle.rasta_pcap.specs.Fault.{write_failed};
 
-use crate::json_packet::{write_crossed_if, write_packet_if, write_trouble_if};
-use crate::json_places::{write_number_if, write_time_if};
+use crate::json_packet::{write_crossed_if, write_lengths_if, write_packet_if, write_trouble_if};
+use crate::json_places::{write_long_if, write_number_if, write_time_if};
 use crate::rule::sentence;
 use crate::words::{hint_of, meaning_of};
 use rasta_pcap::{CaptureTime, Fault, Sink};
 use seatmelon_account::{
-    BrokenRule, Crossed, NamedPacket, Refusal, RefusedEntry, RefusedPacket, Subject,
+    BrokenRule, Crossed, Deadline, NamedPacket, Refusal, RefusedEntry, RefusedPacket, Subject,
 };
-use seatmelon_reading::Sighting;
+use seatmelon_reading::{CodeCount, Sighting};
 use seatmelon_text::json::{write_long, write_sentence};
 use seatmelon_text::{Part, parts, write_parts, write_words};
 
@@ -38,12 +38,24 @@ fn write_fault<W: Sink>(writer: &mut W, refusal: &Refusal<'_>) -> Result<(), Fau
     write_words(writer, "}")
 }
 
+// Writes how many safety codes could be judged from the refused packet on, and how many of them are right.
+fn write_codes<W: Sink>(writer: &mut W, codes: CodeCount) -> Result<(), Fault>
+    ensures err { IfErr result (λ f. f ≡ write_failed) }
+{
+    write_words(writer, ",\"codes_judged\":")?;
+    write_long(writer, codes.judged)?;
+    write_words(writer, ",\"codes_fitting\":")?;
+    write_long(writer, codes.fitting)
+}
+
 // Writes the refused record, its packet and what is wrong with it.
 fn write_record<W: Sink>(
     writer: &mut W,
+    packets: &[Sighting],
     record: u32,
     time: Option<CaptureTime>,
     packet: Option<&RefusedPacket<'_>>,
+    codes: CodeCount,
 ) -> Result<(), Fault>
     ensures err { IfErr result (λ f. f ≡ write_failed) }
 {
@@ -55,18 +67,28 @@ fn write_record<W: Sink>(
     write_words(writer, "},\"packet\":")?;
     write_packet_if(writer, packet)?;
     write_words(writer, ",\"trouble\":")?;
-    write_trouble_if(writer, packet)
+    write_trouble_if(writer, packets, packet)?;
+    write_words(writer, ",\"lengths_fitting\":")?;
+    write_lengths_if(writer, packet.and_then(|packet| packet.lengths))?;
+    write_codes(writer, codes)
 }
 
 // Writes that there is no refused record.
 fn write_no_record<W: Sink>(writer: &mut W) -> Result<(), Fault>
     ensures err { IfErr result (λ f. f ≡ write_failed) }
 {
-    write_words(writer, ",\"record\":null,\"packet\":null,\"trouble\":null")
+    write_words(
+        writer,
+        ",\"record\":null,\"packet\":null,\"trouble\":null,\"lengths_fitting\":null,\"codes_judged\":null,\"codes_fitting\":null",
+    )
 }
 
 // Writes the refused record, if there is one.
-fn write_record_if<W: Sink>(writer: &mut W, subject: &Subject<'_>) -> Result<(), Fault>
+fn write_record_if<W: Sink>(
+    writer: &mut W,
+    packets: &[Sighting],
+    subject: &Subject<'_>,
+) -> Result<(), Fault>
     ensures err { IfErr result (λ f. f ≡ write_failed) }
 {
     match subject {
@@ -74,7 +96,8 @@ fn write_record_if<W: Sink>(writer: &mut W, subject: &Subject<'_>) -> Result<(),
             record,
             time,
             packet,
-        } => write_record(writer, *record, *time, packet.as_ref()),
+            codes,
+        } => write_record(writer, packets, *record, *time, packet.as_ref(), *codes),
         _ => write_no_record(writer),
     }
 }
@@ -139,6 +162,31 @@ fn rule_in<'s, 'a>(subject: &'s Subject<'a>) -> Option<&'s BrokenRule<'a>> {
     }
 }
 
+// Writes the deadline that a PDU misses, and what it comes from, or null.
+fn write_deadline_if<W: Sink>(writer: &mut W, deadline: Option<&Deadline>) -> Result<(), Fault>
+    ensures err { IfErr result (λ f. f ≡ write_failed) }
+{
+    let Some(deadline) = deadline else {
+        return write_words(writer, "null");
+    };
+    write_words(writer, "{\"clock\":")?;
+    write_long(writer, deadline.clock)?;
+    write_words(writer, ",\"confirmed_time\":")?;
+    write_long_if(writer, deadline.confirmed_time)?;
+    write_parts(
+        writer,
+        &parts![
+            ",\"t_max\":",
+            deadline.t_max,
+            ",\"slack\":",
+            deadline.slack,
+            ",\"deadline\":"
+        ],
+    )?;
+    write_long_if(writer, deadline.deadline)?;
+    write_words(writer, "}")
+}
+
 // Writes a rule that refuses a PDU, or null.
 fn write_rule_if<W: Sink>(
     writer: &mut W,
@@ -158,6 +206,8 @@ fn write_rule_if<W: Sink>(
     write_number_if(writer, rule.found.map(|(_, number)| number))?;
     write_words(writer, ",\"peer_pdu\":")?;
     write_crossed_if(writer, packets, rule.peer_pdu.as_ref())?;
+    write_words(writer, ",\"deadline\":")?;
+    write_deadline_if(writer, rule.deadline.as_ref())?;
     write_words(writer, "}")
 }
 
@@ -171,7 +221,7 @@ pub fn write_refusal<W: Sink>(
 {
     let subject = &refusal.subject;
     write_fault(writer, refusal)?;
-    write_record_if(writer, subject)?;
+    write_record_if(writer, packets, subject)?;
     write_line_if(writer, subject)?;
     write_entry_if(writer, subject)?;
     write_words(writer, ",\"pdu\":")?;

@@ -2,12 +2,17 @@
 #![tactic(auto)]
 
 mod explained;
+mod gap;
 mod json;
 mod json_explained;
+mod json_notes;
 mod json_packet;
+mod json_params;
 mod json_places;
 mod json_refusal;
 mod layout;
+mod messages;
+mod notes;
 mod packet_text;
 mod page;
 mod refusal;

@@ -1,9 +1,12 @@
-//! What each text begins with: what was read.
+//! What was judged: what was read, and by which parameters.
 ghost use Rattle.std.specs.Prelude.{◌≡◌, IfErr};
 ghost use Rattle.rasta_pcap.specs.Fault.{write_failed};
 
+use crate::notes::{write_passed_over, write_times};
 use rasta_pcap::{CaptureTime, Fault, Sink};
-use seatmelon_account::{Account, File, Offer};
+use rasta_pdu::Params;
+use rasta_udp::Channel;
+use seatmelon_account::{Account, File, Offer, Offers};
 use seatmelon_reading::{ChannelCount, Sighting, Window};
 use seatmelon_text::{Part, parts, write_parts, write_words};
 
@@ -17,10 +20,11 @@ fn write_file<W: Sink>(writer: &mut W, what: &str, file: &File<'_>) -> Result<()
     write_parts(
         writer,
         &parts![
+            "  ",
             what,
             ": ",
             file.name,
-            "\n  SHA-256: ",
+            "\n    SHA-256: ",
             Part::Hex(&file.sum),
             "\n"
         ],
@@ -33,7 +37,7 @@ fn write_certificate<W: Sink>(writer: &mut W, account: &Account<'_>) -> Result<(
 {
     match &account.certificate {
         Some(file) => write_file(writer, "certificate", file),
-        None => write_words(writer, "certificate: none was given, so one is built\n"),
+        None => write_words(writer, "  certificate: none was given, so one is built\n"),
     }
 }
 
@@ -57,20 +61,30 @@ fn write_left_out<W: Sink>(writer: &mut W, without: &[u32]) -> Result<(), Fault>
     if without.is_empty() {
         return Ok(());
     }
-    write_words(writer, "read")?;
+    write_words(writer, "  read")?;
     write_without(writer, without)?;
     write_words(writer, ": left out as of no connection\n")
 }
 
-fn write_channel<W: Sink>(writer: &mut W, number: u64, count: ChannelCount) -> Result<(), Fault>
+// Writes how many packets a channel has, behind its number.
+fn write_channel<W: Sink>(
+    writer: &mut W,
+    channel: &Channel,
+    count: ChannelCount,
+) -> Result<(), Fault>
     ensures err { IfErr result (λ f. f ≡ write_failed) }
 {
     write_parts(
         writer,
+        &parts![", ", channel.client, " - ", channel.server, ": "],
+    )?;
+    if count.client == 0 && count.server == 0 {
+        return write_words(writer, "no packet\n");
+    }
+    write_parts(
+        writer,
         &parts![
-            "  on channel ",
-            number,
-            ": from the client ",
+            "from the client ",
             count.client,
             ", from the server ",
             count.server,
@@ -111,7 +125,7 @@ fn write_window<W: Sink>(writer: &mut W, account: &Account<'_>) -> Result<(), Fa
     let Some(window) = account.window else {
         return Ok(());
     };
-    write_records(writer, account, "window: ")?;
+    write_records(writer, account, "  window: ")?;
     match window.last_record {
         Some(_) => write_words(writer, "\n"),
         None => write_words(writer, ", and the capture has none\n"),
@@ -128,7 +142,7 @@ fn write_outside<W: Sink>(writer: &mut W, account: &Account<'_>) -> Result<(), F
     write_parts(
         writer,
         &parts![
-            "packets of the recorded channels before the window: ",
+            "  packets of the recorded channels before the window: ",
             account.before,
             ", behind it: ",
             account.behind,
@@ -138,11 +152,16 @@ fn write_outside<W: Sink>(writer: &mut W, account: &Account<'_>) -> Result<(), F
 }
 
 // Writes how many packets each recorded channel has.
-fn write_channels<W: Sink>(writer: &mut W, channels: &[ChannelCount]) -> Result<(), Fault>
+fn write_channels<W: Sink>(writer: &mut W, account: &Account<'_>) -> Result<(), Fault>
     ensures err { IfErr result (λ f. f ≡ write_failed) }
 {
-    for (place, count) in channels.iter().enumerate() {
-        write_channel(writer, (place as u64).saturating_add(1), *count)?;
+    let recorded = account.params.channel().iter();
+    for (place, (channel, count)) in recorded.zip(account.channels).enumerate() {
+        write_parts(
+            writer,
+            &parts!["    on channel ", (place as u64).saturating_add(1)],
+        )?;
+        write_channel(writer, channel, *count)?;
     }
     Ok(())
 }
@@ -151,31 +170,77 @@ fn write_channels<W: Sink>(writer: &mut W, channels: &[ChannelCount]) -> Result<
 fn write_counts<W: Sink>(writer: &mut W, account: &Account<'_>) -> Result<(), Fault>
     ensures err { IfErr result (λ f. f ≡ write_failed) }
 {
-    write_parts(writer, &parts!["\nrecords read: ", account.records, "\n"])?;
+    write_parts(writer, &parts!["  records read: ", account.records, "\n"])?;
+    write_left_out(writer, account.without)?;
     write_window(writer, account)?;
     let packets = account.packets.len() as u64;
     write_parts(
         writer,
-        &parts!["packets of the connection: ", packets, "\n"],
+        &parts!["  packets of the connection: ", packets, "\n"],
     )?;
-    write_channels(writer, account.channels)?;
+    write_channels(writer, account)?;
     write_outside(writer, account)?;
+    write_passed_over(writer, account)
+}
+
+/// The start words of the safety code's digest, highest digit first.
+pub fn start_words(params: &Params) -> [u8; 16] {
+    let [first, second, third, fourth] = params.md4_start();
+    let mut bytes = [0; 16];
+    bytes[..4].copy_from_slice(&first.to_be_bytes());
+    bytes[4..8].copy_from_slice(&second.to_be_bytes());
+    bytes[8..12].copy_from_slice(&third.to_be_bytes());
+    bytes[12..].copy_from_slice(&fourth.to_be_bytes());
+    bytes
+}
+
+// Writes ids, lengths and limits.
+fn write_params<W: Sink>(writer: &mut W, params: &Params) -> Result<(), Fault>
+    ensures err { IfErr result (λ f. f ≡ write_failed) }
+{
     write_parts(
         writer,
-        &parts!["records passed over: ", account.passed_over(), "\n\n"],
+        &parts![
+            "  ids: client ",
+            params.client_id(),
+            ", server ",
+            params.server_id(),
+            "\n  lengths: safety code ",
+            params.code_length(),
+            ", check code ",
+            params.check_length(),
+            "\n"
+        ],
+    )?;
+    if params.code_length() > 0 {
+        let words = start_words(params);
+        write_parts(writer, &parts!["  start words: ", Part::Hex(&words), "\n"])?;
+    }
+    write_parts(
+        writer,
+        &parts![
+            "  limits: N_sendmax ",
+            params.n_sendmax(),
+            ", T_max ",
+            params.t_max(),
+            ", slack ",
+            params.slack(),
+            "\n"
+        ],
     )
 }
 
-/// Writes what was read.
-pub fn write_read<W: Sink>(writer: &mut W, account: &Account<'_>) -> Result<(), Fault>
+// Writes whether a quiet point is recorded.
+fn write_quiet<W: Sink>(writer: &mut W, params: &Params) -> Result<(), Fault>
     ensures err { IfErr result (λ f. f ≡ write_failed) }
 {
-    write_left_out(writer, account.without)?;
-    write_file(writer, "capture", &account.capture)?;
-    write_file(writer, "parameters", &account.parameters)?;
-    write_certificate(writer, account)?;
-    write_parts(writer, &parts!["program: ", PROGRAM, "\n"])?;
-    write_counts(writer, account)
+    match params.quiet() {
+        Some(_) => write_parts(
+            writer,
+            &parts!["  quiet point: before record ", params.first_record(), "\n"],
+        ),
+        None => write_words(writer, "  quiet point: none\n"),
+    }
 }
 
 // Writes what an end offers at the opening, where the parameters have something else.
@@ -188,24 +253,52 @@ fn write_offer<W: Sink>(writer: &mut W, offer: Option<Offer>) -> Result<(), Faul
     write_parts(
         writer,
         &parts![
-            "the ",
+            "  the ",
             offer.end,
             "'s opening offers N_sendmax ",
             offer.offered,
             ", and the parameters have ",
             offer.recorded,
-            "\n\n"
+            "\n"
         ],
     )
 }
 
-/// Writes what the ends offer at the opening, where the parameters have something else.
-pub fn write_offers<W: Sink>(writer: &mut W, account: &Account<'_>) -> Result<(), Fault>
+// Writes what the ends offer at the opening, where it differs.
+fn write_offers<W: Sink>(writer: &mut W, offers: &Offers) -> Result<(), Fault>
     ensures err { IfErr result (λ f. f ≡ write_failed) }
 {
-    let [client, server] = account.offers;
-    write_offer(writer, client)?;
-    write_offer(writer, server)
+    write_offer(writer, offers.client)?;
+    write_offer(writer, offers.server)?;
+    let Some(versions) = &offers.versions else {
+        return Ok(());
+    };
+    write_parts(
+        writer,
+        &parts![
+            "  the client's opening offers version ",
+            Part::Text(&versions.client),
+            ", and the server's ",
+            Part::Text(&versions.server),
+            "\n"
+        ],
+    )
+}
+
+/// Writes what was judged.
+pub fn write_judged<W: Sink>(writer: &mut W, account: &Account<'_>) -> Result<(), Fault>
+    ensures err { IfErr result (λ f. f ≡ write_failed) }
+{
+    write_words(writer, "\nWhat was judged:\n")?;
+    write_file(writer, "capture", &account.capture)?;
+    write_file(writer, "parameters", &account.parameters)?;
+    write_certificate(writer, account)?;
+    write_parts(writer, &parts!["  program: ", PROGRAM, "\n"])?;
+    write_counts(writer, account)?;
+    write_params(writer, account.params)?;
+    write_quiet(writer, account.params)?;
+    write_offers(writer, &account.offers)?;
+    write_times(writer, account)
 }
 
 /// Writes a time after a comma, if there is one.
@@ -254,5 +347,6 @@ This says nothing about the ends.
 May be the cause: an address or a port of a channel is wrong, or the window is.
 Look next at: seatmelon survey CAPTURE, which lists the connections that the capture seems to hold.
 ",
-    )
+    )?;
+    write_judged(writer, account)
 }

@@ -2,17 +2,19 @@
 ghost use Rattle.std.specs.Prelude.{◌≡◌, IfErr};
 ghost use Rattle.rasta_pcap.specs.Fault.{write_failed};
 
+use crate::gap::write_gap;
 use crate::layout::write_payload_due;
 use crate::packet_text::{write_codes, write_datagram, write_differences, write_pdu};
-use crate::page::{write_place, write_sighting, write_time_if, write_without};
+use crate::page::{write_judged, write_place, write_sighting, write_time_if, write_without};
 use crate::rule::write_rule;
-use crate::words::{Hint, hint_of, meaning_of};
+use crate::words::{Hint, fits_none, hint_of, meaning_of};
 use rasta_pcap::{Fault, Sink};
 use seatmelon_account::{
     Account, Crossed, FirstCopy, NamedPacket, Refusal, RefusedEntry, RefusedPacket, Subject,
     Trouble,
 };
-use seatmelon_reading::Sighting;
+use seatmelon_packets::{Fit, Fits};
+use seatmelon_reading::{CodeCount, Sighting};
 use seatmelon_text::{parts, write_parts, write_words};
 
 // Writes number, name and meaning of a fault.
@@ -60,37 +62,6 @@ fn write_first_copy<W: Sink>(
     write_differences(writer, datagram, first)
 }
 
-// Writes where the number that was due crosses later.
-fn write_later<W: Sink>(writer: &mut W, later: Option<&Sighting>) -> Result<(), Fault>
-    ensures err { IfErr result (λ f. f ≡ write_failed) }
-{
-    match later {
-        Some(sighting) => {
-            write_words(writer, " crosses later: ")?;
-            write_sighting(writer, sighting)?;
-            write_words(writer, "\n")
-        }
-        None => write_words(writer, " doesn't cross later in the window\n"),
-    }
-}
-
-// Writes which number was due and which was found.
-fn write_gap<W: Sink>(writer: &mut W, due: u32, found: u32) -> Result<(), Fault>
-    ensures err { IfErr result (λ f. f ≡ write_failed) }
-{
-    write_parts(
-        writer,
-        &parts![
-            "  redundancy number due: ",
-            due,
-            "\n  redundancy number found: ",
-            found,
-            "\n  ",
-            due
-        ],
-    )
-}
-
 // Writes a number that is due, as a line.
 fn write_due<W: Sink>(writer: &mut W, what: &str, due: u64) -> Result<(), Fault>
     ensures err { IfErr result (λ f. f ≡ write_failed) }
@@ -134,6 +105,7 @@ fn write_least<W: Sink>(writer: &mut W, least: u64) -> Result<(), Fault>
 // Writes what is wrong with a packet.
 fn write_trouble<W: Sink>(
     writer: &mut W,
+    packets: &[Sighting],
     fault: Fault,
     datagram: &[u8],
     trouble: &Trouble<'_>,
@@ -149,15 +121,8 @@ fn write_trouble<W: Sink>(
             write_first_copy(writer, datagram, first.as_ref())
         }
         Trouble::Copy(first) => write_first_copy(writer, datagram, first.as_ref()),
-        Trouble::Gap {
-            due: Some(due),
-            found,
-            later,
-        } => {
-            write_gap(writer, *due, *found)?;
-            write_later(writer, later.as_ref())
-        }
-        Trouble::Gap { due: None, .. } => Ok(()),
+        Trouble::Gap(Some(gap)) => write_gap(writer, packets, gap),
+        Trouble::Gap(None) => Ok(()),
         Trouble::Ids { receiver, sender } => write_ids(writer, *receiver, *sender),
         Trouble::Length(due) => write_due(writer, "length field", *due),
         Trouble::TooShort(least) => write_least(writer, *least),
@@ -168,11 +133,56 @@ fn write_trouble<W: Sink>(
     }
 }
 
+// Writes which lengths of the codes the first packet fits, where they may be wrong.
+fn write_lengths<W: Sink>(writer: &mut W, lengths: Option<Fits>) -> Result<(), Fault>
+    ensures err { IfErr result (λ f. f ≡ write_failed) }
+{
+    let Some(fits) = lengths else {
+        return Ok(());
+    };
+    write_parts(
+        writer,
+        &parts![
+            "  lengths that it fits: check code ",
+            fits.check_length,
+            ", safety code"
+        ],
+    )?;
+    let mut before = " ";
+    for (length, fit) in [
+        (0u8, fits.no_code),
+        (8, fits.short_code),
+        (16, fits.long_code),
+    ] {
+        if fit != Fit::None {
+            write_parts(writer, &parts![before, length])?;
+            before = " or ";
+        }
+    }
+    write_words(writer, "\n")
+}
+
+// Writes that no safety code fits the start words, where that is so.
+fn write_misfits<W: Sink>(writer: &mut W, codes: CodeCount) -> Result<(), Fault>
+    ensures err { IfErr result (λ f. f ≡ write_failed) }
+{
+    write_parts(
+        writer,
+        &parts![
+            "  none of the ",
+            codes.judged,
+            " codes fits the recorded start words\n"
+        ],
+    )
+}
+
 // Writes the packet of a refused record.
 fn write_packet<W: Sink>(
     writer: &mut W,
-    fault: Fault,
+    packets: &[Sighting],
+    refusal: &Refusal<'_>,
     packet: &RefusedPacket<'_>,
+    codes: CodeCount,
 ) -> Result<(), Fault>
     ensures err { IfErr result (λ f. f ≡ write_failed) }
 {
@@ -187,7 +197,18 @@ fn write_packet<W: Sink>(
         ],
     )?;
     write_datagram(writer, packet.datagram)?;
-    write_trouble(writer, fault, packet.datagram, &packet.trouble)
+    write_trouble(
+        writer,
+        packets,
+        refusal.fault,
+        packet.datagram,
+        &packet.trouble,
+    )?;
+    write_lengths(writer, packet.lengths)?;
+    if fits_none(packet, codes) {
+        write_misfits(writer, codes)?;
+    }
+    Ok(())
 }
 
 // Writes a packet that crossed.
@@ -254,13 +275,15 @@ fn write_entry<W: Sink>(
 // Writes a refused record.
 fn write_record<W: Sink>(
     writer: &mut W,
+    packets: &[Sighting],
     refusal: &Refusal<'_>,
     packet: Option<&RefusedPacket<'_>>,
+    codes: CodeCount,
 ) -> Result<(), Fault>
     ensures err { IfErr result (λ f. f ≡ write_failed) }
 {
     match packet {
-        Some(packet) => write_packet(writer, refusal.fault, packet),
+        Some(packet) => write_packet(writer, packets, refusal, packet, codes),
         None => write_words(writer, "\n"),
     }
 }
@@ -279,10 +302,11 @@ fn write_subject<W: Sink>(
             record,
             time,
             packet,
+            codes,
         } => {
             write_parts(writer, &parts!["\nrecord ", *record])?;
             write_time_if(writer, *time)?;
-            write_record(writer, refusal, packet.as_ref())
+            write_record(writer, packets, refusal, packet.as_ref(), *codes)
         }
         Subject::Line(line) => {
             write_parts(writer, &parts!["\nline ", *line, " of the certificate\n"])
@@ -311,5 +335,6 @@ pub fn write_refusal<W: Sink>(
 {
     write_fault(writer, account, refusal.fault)?;
     write_subject(writer, account.packets, refusal)?;
-    write_hint(writer, hint_of(refusal))
+    write_hint(writer, hint_of(refusal))?;
+    write_judged(writer, account)
 }

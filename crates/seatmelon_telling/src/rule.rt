@@ -7,7 +7,7 @@ use crate::words::meaning_of;
 use rasta_build::Rule;
 use rasta_pcap::{Fault, Side, Sink};
 use rasta_pdu::Pdu;
-use seatmelon_account::{BrokenRule, Crossed};
+use seatmelon_account::{BrokenRule, Crossed, Deadline};
 use seatmelon_reading::Sighting;
 use seatmelon_text::{Part, parts, write_parts, write_words};
 
@@ -18,7 +18,7 @@ fn confirming(rule: Rule, cs: u32, peer: Side) -> [Part<'static>; 5] {
     let peer = Part::End(peer);
     let (middle, end, after) = match rule {
         Rule::PeerIsSilent => (" confirms a PDU of the ", peer, ", and none crosses"),
-        Rule::ConfirmsNone => (" is the SN of no PDU of the ", peer, " that crosses"),
+        Rule::ConfirmsNone => (" is the SN of no PDU of the ", peer, " in the window"),
         Rule::ConfirmsLater { .. } => (" confirms a PDU of the ", peer, " that crosses later"),
         Rule::ConfirmsEarlier { confirmed } => (
             " confirms less than was confirmed before: SN ",
@@ -73,7 +73,9 @@ fn sentence_on(rule: Rule, pdu: &Pdu<'_>, peer: Side) -> [Part<'static>; 5] {
             " wants a clock of 2^64 or more",
             "",
         ),
-        Rule::MakeRefused { fault } => (meaning_of(fault), NONE, "", ""),
+        Rule::MakeRefused { fault } | Rule::Deadline { fault, .. } => {
+            (meaning_of(fault), NONE, "", "")
+        }
         _ => return confirming(rule, pdu.cs(), peer),
     };
     parts![before, name, between, after, NONE]
@@ -84,11 +86,11 @@ pub fn sentence(broken: &BrokenRule<'_>) -> [Part<'static>; 5] {
     sentence_on(broken.rule, &broken.pdu, broken.peer)
 }
 
-// Writes which PDU of the peer a rule speaks of, if it speaks of one.
+// Writes which PDU of the peer a rule speaks of, or which set the deadline, if there is one.
 fn write_named<W: Sink>(
     writer: &mut W,
     packets: &[Sighting],
-    named: Option<&Crossed<'_>>,
+    broken: &BrokenRule<'_>,
 ) -> Result<(), Fault>
     ensures err { IfErr result (λ f. f ≡ write_failed) }
 {
@@ -98,11 +100,16 @@ fn write_named<W: Sink>(
             pdu: Some(pdu),
             ..
         },
-    ) = named
+    ) = &broken.peer_pdu
     else {
         return Ok(());
     };
-    write_parts(writer, &parts!["  that PDU: SN ", pdu.sn(), ", "])?;
+    let name = if broken.deadline.is_some() {
+        "  the PDU that set the deadline: SN "
+    } else {
+        "  that PDU: SN "
+    };
+    write_parts(writer, &parts![name, pdu.sn(), ", "])?;
     write_place(writer, packets, *place)
 }
 
@@ -131,6 +138,35 @@ fn write_numbers<W: Sink>(writer: &mut W, broken: &BrokenRule<'_>) -> Result<(),
     }
 }
 
+// Writes a moment of a clock that may lie before its 0, as a line.
+fn write_moment<W: Sink>(writer: &mut W, name: &str, moment: Option<u64>) -> Result<(), Fault>
+    ensures err { IfErr result (λ f. f ≡ write_failed) }
+{
+    match moment {
+        Some(moment) => write_parts(writer, &parts!["  ", name, ": ", moment, "\n"]),
+        None => Ok(()),
+    }
+}
+
+// Writes the deadline that a PDU misses, and what it comes from.
+fn write_deadline<W: Sink>(writer: &mut W, deadline: &Deadline) -> Result<(), Fault>
+    ensures err { IfErr result (λ f. f ≡ write_failed) }
+{
+    write_moment(writer, "clock", Some(deadline.clock))?;
+    write_moment(writer, "confirmed time", deadline.confirmed_time)?;
+    write_parts(
+        writer,
+        &parts![
+            "  T_max: ",
+            deadline.t_max,
+            ", slack: ",
+            deadline.slack,
+            "\n"
+        ],
+    )?;
+    write_moment(writer, "deadline", deadline.deadline)
+}
+
 /// Writes the rule that refuses a PDU.
 pub fn write_rule<W: Sink>(
     writer: &mut W,
@@ -145,6 +181,10 @@ pub fn write_rule<W: Sink>(
     )?;
     write_parts(writer, &sentence(broken))?;
     write_words(writer, "\n")?;
-    write_named(writer, packets, broken.peer_pdu.as_ref())?;
-    write_numbers(writer, broken)
+    write_named(writer, packets, broken)?;
+    write_numbers(writer, broken)?;
+    match &broken.deadline {
+        Some(deadline) => write_deadline(writer, deadline),
+        None => Ok(()),
+    }
 }

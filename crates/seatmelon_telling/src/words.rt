@@ -1,6 +1,8 @@
 //! What faults mean, what may be their cause, and what to look at next.
+use crate::gap::{Reason, reason_of};
 use rasta_pcap::Fault;
-use seatmelon_account::{Refusal, Subject};
+use seatmelon_account::{Fields, Gap, Refusal, RefusedPacket, Subject, Trouble};
+use seatmelon_reading::CodeCount;
 
 /// What a fault means.
 pub fn meaning_of(number: u8) -> &'static str {
@@ -91,6 +93,25 @@ const WITHOUT_OPENING: Hint = Hint {
   has to confirm; or the window and the channels in the parameters",
 };
 
+// The hint on a packet that the other end should have sent.
+const EXCHANGED: Hint = Hint {
+    cause: "are client and server exchanged in the parameters?",
+    next_step: "the ids and the channels in the parameters, and the engineering data",
+};
+
+// The hint where no safety code fits.
+const WRONG_START_WORDS: Hint = Hint {
+    cause: "the start words of the parameters are unknown or wrong; or their lengths of the codes are",
+    next_step: "md4_start in the engineering data; what can be read without it, with seatmelon show",
+};
+
+const WITHOUT_COPY: &str = "what --without with its record says";
+
+const BEHIND_GAP: &str =
+    "the packets of this end around the missing number, with seatmelon show; up to the gap the capture
+  can be explained with last_record, and behind it from a quiet point, of which
+  seatmelon draft CAPTURE N --after RECORD PARAMS proposes some";
+
 // The hint on a fault.
 fn hint_on(number: u8) -> Hint {
     Hint {
@@ -99,14 +120,70 @@ fn hint_on(number: u8) -> Hint {
     }
 }
 
+/// Whether no safety code of the capture fits the recorded start words.
+pub fn fits_none(packet: &RefusedPacket<'_>, codes: CodeCount) -> bool {
+    matches!(packet.trouble, Trouble::Code(..))
+        && packet.is_first
+        && codes.judged > 0
+        && codes.fitting == 0
+}
+
+// Whether receiver and sender of a packet stand for each other.
+fn has_exchanged_ids(packet: &RefusedPacket<'_>) -> bool {
+    let Trouble::Ids { receiver, sender } = packet.trouble else {
+        return false;
+    };
+    let fields = Fields::of(packet.datagram);
+    fields.receiver == Some(sender) && fields.sender == Some(receiver)
+}
+
+// What a gap may come from.
+fn cause_of_gap(gap: &Gap) -> &'static str {
+    match (reason_of(gap), gap.has_opening) {
+        (Reason::Overtaken, _) => "the packet that was due was overtaken before it reached the tap",
+        (Reason::Late, true) => "a late copy of a packet of an earlier connection",
+        (Reason::Late, false) => "a late copy of a packet from before the capture",
+        (Reason::WholePdus, _) => "the tap missed whole PDUs, or they were cut from the file",
+        (Reason::Numbers, _) => "an end left a number out",
+    }
+}
+
+// The hint on a refused packet.
+fn hint_on_packet(fault: u8, packet: &RefusedPacket<'_>, codes: CodeCount) -> Hint {
+    let hint = hint_on(fault);
+    match &packet.trouble {
+        Trouble::Code(..) if fits_none(packet, codes) => WRONG_START_WORDS,
+        Trouble::Code(_, None) | Trouble::Copy(None) => Hint {
+            cause: hint.cause,
+            next_step: WITHOUT_COPY,
+        },
+        Trouble::Gap(Some(gap)) => Hint {
+            cause: cause_of_gap(gap),
+            next_step: BEHIND_GAP,
+        },
+        Trouble::Ids { .. } if has_exchanged_ids(packet) => EXCHANGED,
+        _ => hint,
+    }
+}
+
 /// The hint on a refusal.
 pub fn hint_of(refusal: &Refusal<'_>) -> Hint {
-    match refusal.subject {
+    let number = refusal.fault.number;
+    match &refusal.subject {
+        Subject::Unexplained {
+            is_exchanged: true,
+            ..
+        } => EXCHANGED,
         Subject::Unexplained {
             lacks_opening: true,
             ..
         } => WITHOUT_OPENING,
-        _ => hint_on(refusal.fault.number),
+        Subject::Record {
+            packet: Some(packet),
+            codes,
+            ..
+        } => hint_on_packet(number, packet, *codes),
+        _ => hint_on(number),
     }
 }
 
@@ -162,16 +239,13 @@ fn next_step_of(number: u8) -> &'static str {
         Fault::FRAGMENT | Fault::RECORD_TOO_LONG | Fault::BAD_UDP => {
             "the frame; if it isn't part of the connection, leave it out with --without"
         }
-        Fault::NUMBER_GAP => {
-            "the packets of this end around the missing number; up to the gap the capture can be
-  explained with last_record, and after it from a quiet point"
-        }
+        Fault::NUMBER_GAP => BEHIND_GAP,
         Fault::COPY_DIFFERS | Fault::CODE => {
             "how this packet differs from its first copy, and what --without with its record says"
         }
         20..=29 => "the packet's sender, and what --without with its record says",
         Fault::NOT_FOUND => {
-            "this packet and those before it, with rasta_audit show; and what --without says"
+            "this packet and those before it, with seatmelon show; and what --without says"
         }
         Fault::SYNTAX => "this line of the certificate",
         _ => "the entry and those before it; and what seatmelon explain says without a certificate",

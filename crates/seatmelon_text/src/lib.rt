@@ -4,6 +4,4 @@
 pub mod json;
 mod text;
 
-pub use text::{
-    Part, add, name_of_end, sentence_of, text_of, write_part, write_parts, write_words,
-};
+pub use text::{Part, width, write_part, write_parts, write_words};

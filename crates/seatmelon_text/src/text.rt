@@ -1,13 +1,13 @@
 //! Lines of plain text.
 ghost use Rattle.std.specs.Prelude.{◌≡◌, ◌≤◌, ◌∷◌, [], length, IfErr};
 ghost use Rattle.hex.specs.Hex.{encode_lower};
-ghost use Rattle.rasta_pcap.specs.Fault.{no_memory, write_failed};
+ghost use Rattle.rasta_pcap.specs.Fault.{write_failed};
 
 use itoa::Buffer;
-use rasta_pcap::{CaptureTime, Counted, Fault, Side, Sink, write_all};
+use rasta_pcap::{CaptureTime, Fault, FractionUnit, Side, Sink, write_all};
 use rasta_show::write_hex;
-use seatmelon_lines::write_time;
-use std::alloc::{AllocError, Global};
+use rasta_udp::Endpoint;
+use seatmelon_lines::{write_date, write_digits, write_endpoint, write_time, write_time_of_day};
 
 /// How many bytes of a text are written at once.
 pub(crate) const ROOM: usize = 256;
@@ -32,6 +32,18 @@ pub enum Part<'a> {
 
     /// Date and time of day, in UTC.
     Time(CaptureTime),
+
+    /// The date alone, in UTC.
+    Date(CaptureTime),
+
+    /// The time of day alone, in UTC.
+    TimeOfDay(CaptureTime),
+
+    /// Nanoseconds, in milliseconds with six digits behind the point.
+    Milliseconds(u64),
+
+    /// An address and a port.
+    Endpoint(Endpoint),
 
     /// The name of an end.
     End(Side),
@@ -70,6 +82,12 @@ impl<'a> From<u64> for Part<'a> {
 impl<'a> From<CaptureTime> for Part<'a> {
     fn from(time: CaptureTime) -> Part<'a> {
         Part::Time(time)
+    }
+}
+
+impl<'a> From<Endpoint> for Part<'a> {
+    fn from(endpoint: Endpoint) -> Part<'a> {
+        Part::Endpoint(endpoint)
     }
 }
 
@@ -145,12 +163,21 @@ fn write_text<W: Sink>(writer: &mut W, bytes: &[u8]) -> Result<(), Fault>
     write_all(writer, &room[..len])
 }
 
-/// The name of an end.
-pub fn name_of_end(side: Side) -> &'static str {
+// The name of an end.
+fn name_of_end(side: Side) -> &'static str {
     match side {
         Side::Client => "client",
         Side::Server => "server",
     }
+}
+
+// Writes so many nanoseconds in milliseconds, with six digits behind the point.
+fn write_milliseconds<W: Sink>(writer: &mut W, nanoseconds: u64) -> Result<(), Fault>
+    ensures err { IfErr result (λ f. f ≡ write_failed) }
+{
+    write_number(writer, nanoseconds / 1_000_000)?;
+    write_all(writer, b".")?;
+    write_digits(writer, (nanoseconds % 1_000_000) as u32, 6)
 }
 
 /// Writes a part.
@@ -164,6 +191,10 @@ pub fn write_part<W: Sink>(writer: &mut W, part: Part<'_>) -> Result<(), Fault>
         Part::Byte(byte) => write_hex(&[byte], writer),
         Part::Text(bytes) => write_text(writer, bytes),
         Part::Time(time) => write_time(writer, time),
+        Part::Date(time) => write_date(writer, time),
+        Part::TimeOfDay(time) => write_time_of_day(writer, time),
+        Part::Milliseconds(nanoseconds) => write_milliseconds(writer, nanoseconds),
+        Part::Endpoint(endpoint) => write_endpoint(writer, endpoint),
         Part::End(side) => write_all(writer, name_of_end(side).as_bytes()),
     }
 }
@@ -185,58 +216,54 @@ pub fn write_words<W: Sink>(writer: &mut W, words: &str) -> Result<(), Fault>
     write_all(writer, words.as_bytes())
 }
 
-// How many bytes the text of a part has at least, of those that can be long.
-fn least_len(part: &Part<'_>) -> usize {
+// How many columns a number takes.
+fn digits_of(n: u64) -> usize {
+    Buffer::new().format(n).len()
+}
+
+// How many columns bytes take as text.
+fn text_width(bytes: &[u8]) -> usize {
+    let mut width = 0usize;
+    for byte in bytes {
+        width = width.saturating_add(match byte {
+            b'\\' => 2,
+            b' '..=b'~' => 1,
+            _ => 4,
+        });
+    }
+    width
+}
+
+// How many columns a time of day takes.
+fn time_width(time: CaptureTime) -> usize {
+    match time.unit {
+        FractionUnit::Microseconds => 15,
+        FractionUnit::Nanoseconds => 18,
+    }
+}
+
+// How many columns a part takes, where its words are ASCII, and the fraction of a time is below a second.
+fn width_of(part: Part<'_>) -> usize {
     match part {
+        Part::Words(words) => words.len(),
+        Part::Number(n) => digits_of(n),
         Part::Hex(bytes) => bytes.len().saturating_mul(2),
-        Part::Text(bytes) => bytes.len(),
-        _ => 0,
+        Part::Byte(_) => 2,
+        Part::Text(bytes) => text_width(bytes),
+        Part::Time(time) => time_width(time).saturating_add(11),
+        Part::Date(_) => 10,
+        Part::TimeOfDay(time) => time_width(time),
+        Part::Milliseconds(nanoseconds) => { digits_of(nanoseconds / 1_000_000).saturating_add(7) }
+        Part::Endpoint(_) => 21,
+        Part::End(_) => 6,
     }
 }
 
-/// Parts, one after the other, as a text of its own. Refused by [`Fault::NO_MEMORY`] alone.
-pub fn text_of(alloc: Global, parts: &[Part<'_>]) -> Result<String, Fault>
-    ensures err { IfErr result (λ f. f ≡ no_memory) }
-{
-    let mut room = 0usize;
+/// How many columns parts take at most, one after the other, where their words are ASCII.
+pub fn width(parts: &[Part<'_>]) -> usize {
+    let mut width = 0usize;
     for part in parts {
-        room = room.saturating_add(least_len(part));
+        width = width.saturating_add(width_of(*part));
     }
-    let mut writer = Counted::new(Vec::with_capacity(alloc, room)?);
-    if write_parts(&mut writer, parts).is_err() {
-        return Err(Fault::at(Fault::NO_MEMORY, 0));
-    }
-    match String::from_utf8(writer.into_inner()) {
-        Ok(text) => Ok(text),
-        Err(_) => Err(Fault::at(Fault::NO_MEMORY, 0)),
-    }
-}
-
-// Adds a line to a sentence.
-fn add_line(sentence: &mut String, line: &str) -> Result<(), AllocError> {
-    if !sentence.is_empty() {
-        sentence.push(' ')?;
-    }
-    sentence.push_str(line.trim_start())
-}
-
-/// Words that go over several lines, in one line. Refused by [`Fault::NO_MEMORY`] alone.
-pub fn sentence_of(alloc: Global, words: &str) -> Result<String, Fault>
-    ensures err { IfErr result (λ f. f ≡ no_memory) }
-{
-    let mut sentence = String::new(alloc);
-    for line in words.lines() {
-        add_line(&mut sentence, line)?;
-    }
-    Ok(sentence)
-}
-
-/// Adds an item to a list. Refused by [`Fault::NO_MEMORY`] alone.
-pub fn add<T: Drop>(list: &mut Vec<T>, item: T) -> Result<(), Fault>
-    ensures err { IfErr result (λ f. f ≡ no_memory) }
-{
-    match list.push(item) {
-        Ok(()) => Ok(()),
-        Err(_) => Err(Fault::at(Fault::NO_MEMORY, 0)),
-    }
+    width
 }

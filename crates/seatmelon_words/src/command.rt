@@ -1,9 +1,10 @@
 //! The command line.
+use crate::show;
 use clap::builder::ValueParser;
 use clap::error::ErrorKind;
 use clap::{Arg, ArgAction, ArgMatches, Command, Error, value_parser};
-use seatmelon_commands::Explaining;
-use seatmelon_explain::Form;
+use seatmelon_commands::{After, Drafting, Explaining, Showing};
+use seatmelon_explain::{Extent, Form, Selection};
 use std::alloc::{AllocError, Global};
 
 /// What the program is asked for.
@@ -13,7 +14,10 @@ pub enum Request<'a> {
     Survey { capture: &'a str },
 
     /// A parameter file for the connection of this number, from 1.
-    Draft { capture: &'a str, number: u64 },
+    Draft(Drafting<'a>),
+
+    /// The packets of a connection, one by one.
+    Show(Showing<'a>),
 
     /// The verdict on a capture, in words or as data.
     Explain(Explaining<'a>),
@@ -22,15 +26,15 @@ pub enum Request<'a> {
 const SURVEY_STATUSES: &str = "\
 Exit status:
   0  the capture holds at least one connection
-  1  it holds none, or it is refused
+  1  it holds none, or it is refused or not whole
   2  the arguments are wrong
   3  memory, reading or writing failed";
 
 const DRAFT_STATUSES: &str = "\
 Exit status:
   0  the draft is written
-  1  the capture holds no connection, or it is refused
-  2  the arguments are wrong, or there is no connection of that number
+  1  the capture holds no connection, it is refused or not whole, or no quiet point was found behind RECORD
+  2  the arguments are wrong, there is no connection of that number, or PARAMS is refused or of other ids
   3  memory, reading or writing failed";
 
 const EXPLAIN_STATUSES: &str = "\
@@ -40,7 +44,8 @@ Exit status:
   2  the arguments are wrong, or the parameters are refused
   3  memory, reading or writing failed";
 
-fn capture<'a>(alloc: Global) -> Arg<'a> {
+// The first word of each command.
+pub(crate) fn capture<'a>(alloc: Global) -> Arg<'a> {
     Arg::new(alloc, "capture")
         .value_name("CAPTURE")
         .help("A classic libpcap file of Ethernet frames; - is standard input")
@@ -60,11 +65,28 @@ fn draft<'a>(alloc: Global) -> Result<Command<'a>, AllocError> {
         .help("The number that the survey gives the connection")
         .value_parser(value_parser!(u64))
         .required(true);
+    let parameters = Arg::new(alloc, "params")
+        .value_name("PARAMS")
+        .help(
+            "With --after: a parameter file whose values are kept, but for the window and the quiet point",
+        )
+        .requires_arg("after")?;
     Command::new(alloc, "draft")
         .about("Writes a parameter file for one of them, to be compared with the engineering data")
         .after_help(DRAFT_STATUSES)
         .arg(capture(alloc))?
-        .arg(number)
+        .arg(number)?
+        .arg(parameters)?
+        .arg(after(alloc))
+}
+
+// The option that asks for quiet points behind a record.
+fn after<'a>(alloc: Global) -> Arg<'a> {
+    Arg::new(alloc, "after")
+        .long("after")
+        .value_name("RECORD")
+        .help("Proposes quiet points behind the record of this number, as behind a gap")
+        .value_parser(ValueParser::unsigned(1, 4_294_967_295))
 }
 
 // The option that leaves a record out; it may stand again and again.
@@ -85,6 +107,54 @@ fn json<'a>(alloc: Global) -> Arg<'a> {
         .action(ArgAction::SetTrue)
 }
 
+// The option that leaves the messages out.
+fn summary<'a>(alloc: Global) -> Result<Arg<'a>, AllocError> {
+    Arg::new(alloc, "summary")
+        .long("summary")
+        .help("Stops before the messages")
+        .action(ArgAction::SetTrue)
+        .conflicts_with("messages")?
+        .conflicts_with("not_shown")?
+        .conflicts_with("record")?
+        .conflicts_with("whole")?
+        .conflicts_with("json")
+}
+
+// The options that choose among the messages, which JSON always has, all of them.
+fn messages<'a>(alloc: Global) -> Result<Arg<'a>, AllocError> {
+    Arg::new(alloc, "messages")
+        .long("messages")
+        .value_name("A-B")
+        .help("Tells the messages with these numbers alone, of either direction")
+        .conflicts_with("json")
+}
+
+fn not_shown<'a>(alloc: Global) -> Result<Arg<'a>, AllocError> {
+    Arg::new(alloc, "not_shown")
+        .long("not-shown")
+        .help("Tells the messages alone that weren't shown to be taken")
+        .action(ArgAction::SetTrue)
+        .conflicts_with("json")
+}
+
+fn of_record<'a>(alloc: Global) -> Result<Arg<'a>, AllocError> {
+    Arg::new(alloc, "record")
+        .long("record")
+        .value_name("N")
+        .help("Tells the messages alone whose data or proof is in the record of this number")
+        .value_parser(ValueParser::unsigned(1, 4_294_967_295))
+        .conflicts_with("json")
+}
+
+// The option that cuts no message.
+fn whole<'a>(alloc: Global) -> Result<Arg<'a>, AllocError> {
+    Arg::new(alloc, "whole")
+        .long("whole")
+        .help("Tells messages of more than 64 bytes whole")
+        .action(ArgAction::SetTrue)
+        .conflicts_with("json")
+}
+
 fn explain<'a>(alloc: Global) -> Result<Command<'a>, AllocError> {
     let parameters = Arg::new(alloc, "params")
         .value_name("PARAMS")
@@ -102,6 +172,11 @@ fn explain<'a>(alloc: Global) -> Result<Command<'a>, AllocError> {
         .arg(parameters)?
         .arg(certificate)?
         .arg(without(alloc))?
+        .arg(summary(alloc)?)?
+        .arg(messages(alloc)?)?
+        .arg(not_shown(alloc)?)?
+        .arg(of_record(alloc)?)?
+        .arg(whole(alloc)?)?
         .arg(json(alloc))
 }
 
@@ -114,6 +189,7 @@ fn command<'a>(alloc: Global) -> Result<Command<'a>, AllocError> {
         .subcommand_required(true)
         .subcommand(survey(alloc)?)?
         .subcommand(draft(alloc)?)?
+        .subcommand(show::command(alloc, capture(alloc))?)?
         .subcommand(explain(alloc)?)
 }
 
@@ -130,13 +206,63 @@ fn left_out(alloc: Global, matches: &ArgMatches<'_>) -> Result<Vec<u32>, AllocEr
     Ok(numbers)
 }
 
-// What is to be written.
-fn form_in(matches: &ArgMatches<'_>) -> Form {
-    if matches.get_flag("json") {
-        Form::Json
+// The range of numbers that a text spells: `A-B`, or `A` alone.
+fn range_in(text: &str) -> Option<(u64, u64)> {
+    let (first, last) = text.split_once('-').unwrap_or((text, text));
+    let range = (first.parse().ok()?, last.parse().ok()?);
+    if range.0 <= range.1 {
+        Some(range)
     } else {
-        Form::Text
+        None
     }
+}
+
+// That an option has no range of numbers.
+fn no_range(alloc: Global, text: &str) -> Result<Error, Error> {
+    let message = format!(in alloc;
+        "invalid value '{text}' for '--messages <A-B>': a number, or two that don't fall, with a hyphen"
+    )?;
+    let mut command = explain(alloc)?.bin_name("seatmelon explain")?;
+    Ok(command.error(ErrorKind::ValueValidation, message.as_str())?)
+}
+
+// The numbers of the messages that are chosen, if some are.
+fn numbers_in(alloc: Global, matches: &ArgMatches<'_>) -> Result<Option<(u64, u64)>, Error> {
+    let Some(text) = matches.get_str("messages") else {
+        return Ok(None);
+    };
+    match range_in(text) {
+        Some(range) => Ok(Some(range)),
+        None => Err(no_range(alloc, text)?),
+    }
+}
+
+// Which messages are chosen.
+fn selection_in(alloc: Global, matches: &ArgMatches<'_>) -> Result<Selection, Error> {
+    Ok(Selection {
+        numbers: numbers_in(alloc, matches)?,
+        not_shown: matches.get_flag("not_shown"),
+        of_record: match matches.get_str("record") {
+            Some(number) => number.parse().ok(),
+            None => None,
+        },
+    })
+}
+
+// What is to be written.
+fn form_in(alloc: Global, matches: &ArgMatches<'_>) -> Result<Form, Error> {
+    if matches.get_flag("json") {
+        return Ok(Form::Json);
+    }
+    let messages = if matches.get_flag("summary") {
+        None
+    } else {
+        Some(selection_in(alloc, matches)?)
+    };
+    Ok(Form::Text(Extent {
+        messages,
+        is_whole: matches.get_flag("whole"),
+    }))
 }
 
 // What the words of `explain` ask for.
@@ -144,7 +270,7 @@ fn explaining_in<'a>(
     alloc: Global,
     matches: &ArgMatches<'a>,
     capture: &'a str,
-) -> Result<Option<Request<'a>>, AllocError> {
+) -> Result<Option<Request<'a>>, Error> {
     let Some(parameters) = matches.get_str("params") else {
         return Ok(None);
     };
@@ -153,20 +279,24 @@ fn explaining_in<'a>(
         parameters,
         certificate: matches.get_str("certificate"),
         without: left_out(alloc, matches)?,
-        form: form_in(matches),
+        form: form_in(alloc, matches)?,
     })))
 }
 
 fn drafting_in<'a>(matches: &ArgMatches<'a>, capture: &'a str) -> Option<Request<'a>> {
-    let number = matches.get_one("number")?;
-    Some(Request::Draft { capture, number })
+    let after = matches.get_one("after").map(|record| After {
+        record,
+        parameters: matches.get_str("params"),
+    });
+    Some(Request::Draft(Drafting {
+        capture,
+        number: matches.get_one("number")?,
+        after,
+    }))
 }
 
 // What the words of a command ask for.
-fn request_in<'a>(
-    alloc: Global,
-    matches: &ArgMatches<'a>,
-) -> Result<Option<Request<'a>>, AllocError> {
+fn request_in<'a>(alloc: Global, matches: &ArgMatches<'a>) -> Result<Option<Request<'a>>, Error> {
     let Some((name, inner)) = matches.subcommand() else {
         return Ok(None);
     };
@@ -175,7 +305,8 @@ fn request_in<'a>(
     };
     match name {
         "survey" => Ok(Some(Request::Survey { capture })),
-        "explain" => explaining_in(alloc, inner, capture),
+        "show" => Ok(show::showing_in(alloc, inner, capture)?.map(Request::Show)),
+        "explain" => Ok(explaining_in(alloc, inner, capture)?),
         _ => Ok(drafting_in(inner, capture)),
     }
 }

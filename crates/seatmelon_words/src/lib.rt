@@ -3,5 +3,6 @@
 #![tactic(auto)]
 
 mod command;
+mod show;
 
 pub use command::{Request, parse};

@@ -11,7 +11,7 @@ use rasta_verdict::{run_audit, run_check};
 use seatmelon_commands::{
     Answer, Explaining, Inputs, explain_of, params_in, status_of_outcome, survey_of, write_answer,
 };
-use seatmelon_explain::Form;
+use seatmelon_explain::{Extent, Form};
 use std::alloc::Global;
 use std::io;
 use std::io::{BufWriter, Write};
@@ -221,7 +221,7 @@ fn explain(
         without,
         form: match job {
             Job::Json => Form::Json,
-            _ => Form::Text,
+            _ => Form::Text(Extent::ALL),
         },
     };
     let device = Folding::new(folded);
@@ -243,7 +243,7 @@ fn left_out(alloc: Global, turn: u32, packets: u32) -> Option<Vec<u32>> {
 
 // Surveys a port.
 fn survey(alloc: Global, capture: &[u8], folded: &mut Folded) -> Option<u8> {
-    let survey = survey_of(alloc, "port.pcap", capture).ok()?;
+    let survey = survey_of(alloc, "port.pcap", capture, None).ok()?;
     write_answer(alloc, &Answer::Survey(&survey), Folding::new(folded)).ok()?;
     Some(u8::from(survey.connections().is_empty()))
 }

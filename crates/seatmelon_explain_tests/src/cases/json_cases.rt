@@ -8,7 +8,19 @@ const WHOLE: &str = r#"
 "parameters":{"name":"p","sha256":"690d7880e356248a4f526b2a78d7367e4412615a8a85f47eafa354a793430538"},
 "certificate":null,"without":[],"records_read":5,"window":null,"packets":5,
 "channels":[{"channel":1,"from_client":3,"from_server":2},{"channel":2,"from_client":0,"from_server":0}],
-"records_passed_over":0,"offers":[],"verdict":"explained","packets_explained":5,
+"records_passed_over":0,"passed_over":{"left_out":0,"not_udp":0,"tagged":0,"elsewhere":0,"unreadable":0},
+"times":{"falling":{"records":0,"first":null},"overlong_fractions":{"records":0,"first":null},
+"longest_silence":{"client":{"nanoseconds":0,
+"from":{"record":1,"time":"1970-01-01 00:00:00.000000 UTC","channel":1},
+"to":{"record":3,"time":"1970-01-01 00:00:00.000000 UTC","channel":1}},
+"server":{"nanoseconds":0,
+"from":{"record":2,"time":"1970-01-01 00:00:00.000000 UTC","channel":1},
+"to":{"record":5,"time":"1970-01-01 00:00:00.000000 UTC","channel":1}}}},
+"judged_by":{"client_id":96,"server_id":97,"code_length":0,"md4_start":"67452301efcdab8998badcfe10325476",
+"check_length":0,"n_sendmax":20,"t_max":1800,"slack":0,
+"channel":[{"client":"10.0.0.1:5000","server":"10.0.0.2:5000"},{"client":"10.0.1.1:5001","server":"10.0.1.2:5001"}]},
+"offers":[],"versions":null,
+"verdict":"explained","packets_explained":5,
 "premises":[
 "Whatever an end sent reached the tap, in the order in which it was sent, and the capture has all of it, in that order.",
 "Nobody else sent a packet between the recorded addresses.",
@@ -16,7 +28,7 @@ const WHOLE: &str = r#"
 "For 'surely taken': both ends kept the rules.",
 "What is judged begins before the opening of the connection."],
 "quiet_point":null,
-"messages":[{"from":"client","to":"server","surely_taken":2,"sent":2,"messages":[
+"messages":[{"from":"client","to":"server","surely_taken":2,"sent":2,"not_shown":null,"messages":[
 {"message":0,"surely_taken":true,
 "data":{"record":4,"time":"1970-01-01 00:00:00.000000 UTC","channel":1},
 "proof":{"record":5,"time":"1970-01-01 00:00:00.000000 UTC","channel":1},
@@ -25,14 +37,26 @@ const WHOLE: &str = r#"
 "data":{"record":4,"time":"1970-01-01 00:00:00.000000 UTC","channel":1},
 "proof":{"record":5,"time":"1970-01-01 00:00:00.000000 UTC","channel":1},
 "hex":"","text":""}]},
-{"from":"server","to":"client","surely_taken":0,"sent":0,"messages":[]}]}
+{"from":"server","to":"client","surely_taken":0,"sent":0,"not_shown":null,"messages":[]}]}
 == data plain: 0 1 2 3 4 5 6@2 |  |  | plain |  | A number that was used twice.
 {"program":"seatmelon 0.1.0, proved with Rattle, logic dac8208d650f15bf",
 "capture":{"name":"c","sha256":"258e24914ad231903b7d57519765f9685bb05da39d69920567de16b223b1ac71"},
 "parameters":{"name":"p","sha256":"690d7880e356248a4f526b2a78d7367e4412615a8a85f47eafa354a793430538"},
 "certificate":null,"without":[],"records_read":7,"window":null,"packets":7,
 "channels":[{"channel":1,"from_client":4,"from_server":2},{"channel":2,"from_client":1,"from_server":0}],
-"records_passed_over":0,"offers":[],"verdict":"refused",
+"records_passed_over":0,"passed_over":{"left_out":0,"not_udp":0,"tagged":0,"elsewhere":0,"unreadable":0},
+"times":{"falling":{"records":0,"first":null},"overlong_fractions":{"records":0,"first":null},
+"longest_silence":{"client":{"nanoseconds":0,
+"from":{"record":1,"time":"1970-01-01 00:00:00.000000 UTC","channel":1},
+"to":{"record":3,"time":"1970-01-01 00:00:00.000000 UTC","channel":1}},
+"server":{"nanoseconds":0,
+"from":{"record":2,"time":"1970-01-01 00:00:00.000000 UTC","channel":1},
+"to":{"record":5,"time":"1970-01-01 00:00:00.000000 UTC","channel":1}}}},
+"judged_by":{"client_id":96,"server_id":97,"code_length":0,"md4_start":"67452301efcdab8998badcfe10325476",
+"check_length":0,"n_sendmax":20,"t_max":1800,"slack":0,
+"channel":[{"client":"10.0.0.1:5000","server":"10.0.0.2:5000"},{"client":"10.0.1.1:5001","server":"10.0.1.2:5001"}]},
+"offers":[],"versions":null,
+"verdict":"refused",
 "fault":{"number":27,"name":"CopyDiffers",
 "meaning":"this redundancy number has crossed before, with other bytes",
 "cause":"a bit flipped on the line; a stranger; or an end that used a number twice",
@@ -45,14 +69,22 @@ const WHOLE: &str = r#"
 "trouble":{"code_found":null,"code_due":null,
 "first_copy":{"record":6,"time":"1970-01-01 00:00:00.000000 UTC","channel":1},"first_copy_bytes":null,
 "differences":[{"at":28,"found":"ff","first_copy":"fe"}],"may_differ_further":false},
-"line":null,"entry":null,"pdu":null,"rule":null}
-== data plain: - |  | 3 5 | plain |  | No packet at all, with records left out.
+"lengths_fitting":null,"codes_judged":0,"codes_fitting":0,"line":null,"entry":null,"pdu":null,"rule":null}
+== data plain: - |  |  | plain |  | No packet at all.
 {"program":"seatmelon 0.1.0, proved with Rattle, logic dac8208d650f15bf",
 "capture":{"name":"c","sha256":"704e5e5b3234433c01fcfd1b20a306e77e985038120492dc53965c3edd38a4ea"},
 "parameters":{"name":"p","sha256":"690d7880e356248a4f526b2a78d7367e4412615a8a85f47eafa354a793430538"},
-"certificate":null,"without":[3,5],"records_read":0,"window":null,"packets":0,
+"certificate":null,"without":[],"records_read":0,"window":null,"packets":0,
 "channels":[{"channel":1,"from_client":0,"from_server":0},{"channel":2,"from_client":0,"from_server":0}],
-"records_passed_over":0,"offers":[],"verdict":"no_packets"}
+"records_passed_over":0,"passed_over":{"left_out":0,"not_udp":0,"tagged":0,"elsewhere":0,"unreadable":0},
+"times":{"falling":{"records":0,"first":null},"overlong_fractions":{"records":0,"first":null},
+"longest_silence":{"client":null,
+"server":null}},
+"judged_by":{"client_id":96,"server_id":97,"code_length":0,"md4_start":"67452301efcdab8998badcfe10325476",
+"check_length":0,"n_sendmax":20,"t_max":1800,"slack":0,
+"channel":[{"client":"10.0.0.1:5000","server":"10.0.0.2:5000"},{"client":"10.0.1.1:5001","server":"10.0.1.2:5001"}]},
+"offers":[],"versions":null,
+"verdict":"no_packets"}
 "#;
 
 /// Cases with their whole JSON.
@@ -65,28 +97,34 @@ const PARTS: &str = r#"
 "trouble":{"code_found":"7a9bef200a8e93ad6ea9b769f0c39b06","code_due":"7a9bef200a8e93ad6ea9b769f0c39b07",
 "first_copy":{"record":3,"time":"1970-01-01 00:00:00.000000 UTC","channel":1},"first_copy_bytes":null,
 "differences":[{"at":51,"found":"06","first_copy":"07"}],"may_differ_further":false},
-"line":null,"entry":null,"pdu":null,"rule":null}
+"lengths_fitting":null,"codes_judged":1,"codes_fitting":0,"line":null,"entry":null,"pdu":null,"rule":null}
 == data plain: 2 |  |  | code16 |  | A heartbeat without a safety code, where one of 16 bytes is recorded.
 "sn":101,"cs":500,"ts":1010,"cts":9000},"payload_and_codes":""},
-"trouble":{"least_bytes_due":52},"line":null,
+"trouble":{"least_bytes_due":52},"lengths_fitting":{"check_length":0,"code_lengths":[0]},
+"codes_judged":0,"codes_fitting":0,"line":null,
 == data plain: 0 | 90=41 |  | plain |  | A wrong length of the safety layer.
-"trouble":{"safety_length_field_due":42},"line":null,
+"trouble":{"safety_length_field_due":42},
+"lengths_fitting":null,"codes_judged":0,"codes_fitting":0,"line":null,
 == data plain: 0 | 82=51 |  | plain |  | A wrong length of the redundancy layer.
-"trouble":{"length_field_due":50},"line":null,
+"trouble":{"length_field_due":50},
+"lengths_fitting":null,"codes_judged":0,"codes_fitting":0,"line":null,
 == data plain: 0 | 94=98 |  | plain |  | The ids of other ends.
-"trouble":{"receiver_due":97,"sender_due":96},"line":null,
+"trouble":{"receiver_due":97,"sender_due":96},
+"lengths_fitting":null,"codes_judged":0,"codes_fitting":0,"line":null,
 == data plain: 0 1 3 2 |  |  | plain |  | The missing packet crosses later.
-"trouble":{"number_due":8,"number_found":9,
-"crosses_later":{"record":4,"time":"1970-01-01 00:00:00.000000 UTC","channel":1}},
+"trouble":{"number_due":8,"number_found":9,"sn_due":101,"sn_found":102,"numbers_skipped":1,"sns_skipped":1,
+"last_before":{"packet":{"record":1,"time":"1970-01-01 00:00:00.000000 UTC","channel":1},"redundancy_number":7,"sn":100},
+"crosses_later":{"record":4,"time":"1970-01-01 00:00:00.000000 UTC","channel":1},"has_opening":true},
 == data plain: 0 1 cut |  |  | plain |  | A file that is cut in a record.
-"record":{"record":2,"time":null},"packet":null,"trouble":null,"line":null,"entry":null,"pdu":null,"rule":null}
+"record":{"record":2,"time":null},"packet":null,"trouble":null,"lengths_fitting":null,"codes_judged":0,"codes_fitting":0,"line":null,"entry":null,"pdu":null,"rule":null}
 == data plain: 0 1 2 |  |  | narrow | rasta-certificate 2;  | A certificate of another version.
-"offers":[{"end":"client","offered":20,"recorded":1},{"end":"server","offered":20,"recorded":1}],
+"offers":[{"end":"client","offered":20,"recorded":1},{"end":"server","offered":20,"recorded":1}],"versions":null,
 "verdict":"refused","fault":{"number":30,"name":"Syntax",
 "meaning":"this line isn't one that a certificate has there",
 "cause":"the certificate is wrong: another one may explain the same packets",
 "next_step":"this line of the certificate"},
-"record":null,"packet":null,"trouble":null,"line":1,"entry":null,"pdu":null,"rule":null}
+"record":null,"packet":null,"trouble":null,
+"lengths_fitting":null,"codes_judged":null,"codes_fitting":null,"line":1,"entry":null,"pdu":null,"rule":null}
 == data plain: 0 1 2 |  |  | plain | rasta-certificate 1; client; make 0 1000 open; take 2 40; make 2 1010 reply; server; take 1 7; make 1 9000 beat; end;  | An entry of the server.
 "line":null,"entry":{"number":2,"end":"server","line":8},
 "pdu":{"end":"server","packet":{"record":2,"time":"1970-01-01 00:00:00.000000 UTC","channel":1},
@@ -99,26 +137,35 @@ const PARTS: &str = r#"
  or the opening is there, but outside the window or on a channel that isn't recorded",
 "next_step":"the quiet points that seatmelon draft proposes, one of which the engineering data or a log
  has to confirm; or the window and the channels in the parameters"},
-"record":null,"packet":null,"trouble":null,"line":null,"entry":null,
+"record":null,"packet":null,"trouble":null,
+"lengths_fitting":null,"codes_judged":null,"codes_fitting":null,"line":null,"entry":null,
 "pdu":{"end":"client","packet":{"record":1,"time":"1970-01-01 00:00:00.000000 UTC","channel":1},
 "fields":{"type":6240,"type_name":"data","redundancy_number":9,"sn":102,"cs":500,"ts":1020,"cts":9000,
 "messages":[{"hex":"ab01","text":"\\xab\\x01"},{"hex":"","text":""}]}},
 "rule":{"words":"CS 500 confirms a PDU of the server, and none crosses",
-"number_due":null,"number_found":null,"peer_pdu":null}}
+"number_due":null,"number_found":null,"peer_pdu":null,"deadline":null}}
 == data plain: 0 | 92=0 |  | plain |  | An unknown type.
-"trouble":{"type_found":6144},"line":null,
+"trouble":{"type_found":6144},
+"lengths_fitting":null,"codes_judged":0,"codes_fitting":0,"line":null,
 == data plain: 0 | 118=255 |  | plain |  | The version of an opening has a byte that is no digit.
 "trouble":{"payload_due":"14 bytes, which begin with a version of four digits","payload_bytes":14,
-"version":{"hex":"ff333033","text":"\\xff303"},"cut_message":null},"line":null,
+"version":{"hex":"ff333033","text":"\\xff303"},"cut_message":null},
+"lengths_fitting":null,"codes_judged":0,"codes_fitting":0,"line":null,
 == data plain: 3 | 118=5 |  | plain |  | A message that is cut.
-"payload_bytes":6,"version":null,"cut_message":{"at":0,"length":5,"left":4}},"line":null,
+"payload_bytes":6,"version":null,"cut_message":{"at":0,"length":5,"left":4}},
+"lengths_fitting":null,"codes_judged":0,"codes_fitting":0,"line":null,
 == data plain: 0 2 1 |  |  | plain |  | What the client confirms crosses later.
 "rule":{"words":"CS 500 confirms a PDU of the server that crosses later","number_due":null,"number_found":null,
 "peer_pdu":{"end":"server","packet":{"record":3,"time":"1970-01-01 00:00:00.000000 UTC","channel":1},
 "fields":{"type":6201,"type_name":"connection response","redundancy_number":40,
-"sn":500,"cs":100,"ts":9000,"cts":1000,"messages":[]}}}}
+"sn":500,"cs":100,"ts":9000,"cts":1000,"messages":[]}},"deadline":null}}
+== timed plain: 0 1 2 5 |  |  | plain |  | A packet past its deadline.
+"peer_pdu":{"end":"client","packet":{"record":3,"time":"1970-01-01 00:00:00.000000 UTC","channel":1},
+"fields":{"type":6220,"type_name":"heartbeat","redundancy_number":8,
+"sn":101,"cs":500,"ts":1010,"cts":9000,"messages":[]}},
+"deadline":{"clock":10801,"confirmed_time":9000,"t_max":1800,"slack":0,"deadline":10800}}}
 == timed plain: 0 1 2 14 |  |  | plain |  | Another SN than the next one.
-"rule":{"words":"SN isn't the next one of this end","number_due":102,"number_found":112,"peer_pdu":null}}
+"rule":{"words":"SN isn't the next one of this end","number_due":102,"number_found":112,"peer_pdu":null,"deadline":null}}
 "#;
 
 /// Cases with a part of their JSON, of each kind.
@@ -132,7 +179,7 @@ const QUIET: &str = r#"
 "quiet_point":{"first_record":1,
 "client":{"next_sn":102,"clock":1010,"deadline":9007199254740992,"handed_ts":null},
 "server":{"next_sn":501,"clock":9000,"deadline":"9007199254740993","handed_ts":8950}},
-"messages":[{"from":"client","to":"server","surely_taken":0,"sent":2,"messages":[
+"messages":[{"from":"client","to":"server","surely_taken":0,"sent":2,"not_shown":{"first":0,"last":1},"messages":[
 {"message":0,"surely_taken":false,
 "data":{"record":1,"time":"1970-01-01 00:00:00.000000 UTC","channel":1},"proof":null,
 "hex":"ab01","text":"\\xab\\x01"},

@@ -44,6 +44,7 @@ record 1, 1970-01-01 00:00:00.000000 UTC, channel 1, from the client
   CTS: 9000
 what is wrong with it:
   bytes of the datagram due: 52 or more
+  lengths that it fits: check code 0, safety code 0
 
 may be the cause:
   a stranger on the recorded addresses; an end that broke the rules; a damaged packet; or,
@@ -121,6 +122,7 @@ record 1, 1970-01-01 00:00:00.000000 UTC, channel 1, from the client
 what is wrong with it:
   payload due: 14 bytes, which begin with a version of four digits
   bytes of the payload: 30
+  lengths that it fits: check code 0, safety code 16
 
 may be the cause:
   a stranger on the recorded addresses; an end that broke the rules; a damaged packet; or,
@@ -225,14 +227,18 @@ record 3, 1970-01-01 00:00:00.000000 UTC, channel 1, from the client
 what is wrong with it:
   redundancy number due: 8
   redundancy number found: 9
+  SN due: 101
+  SN found: 102
+  the end's last number before it: 7, SN 100, first in record 1, 1970-01-01 00:00:00.000000 UTC, channel 1
   8 crosses later: record 4, 1970-01-01 00:00:00.000000 UTC, channel 1
+  the capture has the opening of the connection
 
 may be the cause:
-  the tap missed a packet, or it was overtaken before the tap; an end left a number out; or,
-  at the first records, this is a late copy of a packet from before the capture
+  the packet that was due was overtaken before it reached the tap
 look next at:
-  the packets of this end around the missing number; up to the gap the capture can be
-  explained with last_record, and after it from a quiet point
+  the packets of this end around the missing number, with seatmelon show; up to the gap the capture
+  can be explained with last_record, and behind it from a quiet point, of which
+  seatmelon draft CAPTURE N --after RECORD PARAMS proposes some
 == data plain: 0 1 3 |  |  | plain |  | A packet is missing.
 refused by 28 NumberGap:
   this redundancy number has not crossed before, and isn't the next
@@ -253,14 +259,19 @@ record 3, 1970-01-01 00:00:00.000000 UTC, channel 1, from the client
 what is wrong with it:
   redundancy number due: 8
   redundancy number found: 9
+  SN due: 101
+  SN found: 102
+  the end's last number before it: 7, SN 100, first in record 1, 1970-01-01 00:00:00.000000 UTC, channel 1
   8 doesn't cross later in the window
+  both numbers skip 1, as where so many whole PDUs never reached the tap or were cut from the file
+  the capture has the opening of the connection
 
 may be the cause:
-  the tap missed a packet, or it was overtaken before the tap; an end left a number out; or,
-  at the first records, this is a late copy of a packet from before the capture
+  the tap missed whole PDUs, or they were cut from the file
 look next at:
-  the packets of this end around the missing number; up to the gap the capture can be
-  explained with last_record, and after it from a quiet point
+  the packets of this end around the missing number, with seatmelon show; up to the gap the capture
+  can be explained with last_record, and behind it from a quiet point, of which
+  seatmelon draft CAPTURE N --after RECORD PARAMS proposes some
 == data plain: 0 1 2 3 |  | 3 | plain |  | The same where the heartbeat of a whole capture is left out.
 refused by 28 NumberGap without record 3:
   this redundancy number has not crossed before, and isn't the next
@@ -281,14 +292,19 @@ record 4, 1970-01-01 00:00:00.000000 UTC, channel 1, from the client
 what is wrong with it:
   redundancy number due: 8
   redundancy number found: 9
+  SN due: 101
+  SN found: 102
+  the end's last number before it: 7, SN 100, first in record 1, 1970-01-01 00:00:00.000000 UTC, channel 1
   8 doesn't cross later in the window
+  both numbers skip 1, as where so many whole PDUs never reached the tap or were cut from the file
+  the capture has the opening of the connection
 
 may be the cause:
-  the tap missed a packet, or it was overtaken before the tap; an end left a number out; or,
-  at the first records, this is a late copy of a packet from before the capture
+  the tap missed whole PDUs, or they were cut from the file
 look next at:
-  the packets of this end around the missing number; up to the gap the capture can be
-  explained with last_record, and after it from a quiet point
+  the packets of this end around the missing number, with seatmelon show; up to the gap the capture
+  can be explained with last_record, and behind it from a quiet point, of which
+  seatmelon draft CAPTURE N --after RECORD PARAMS proposes some
 == data plain: 2 |  |  | plain |  | A heartbeat, and no opening before it.
 refused by 60 NotFound:
   no two ends that keep the rules send packets that begin with those up to this one
@@ -327,7 +343,7 @@ may be the cause:
   an end broke the rules; a stranger; a wrong parameter or quiet point; or an honest end
   repeated a retransmission request, both opened as client, or the connection was opened twice
 look next at:
-  this packet and those before it, with rasta_audit show; and what --without says
+  this packet and those before it, with seatmelon show; and what --without says
 "#;
 
 /// The cases of refused packets.

@@ -10,7 +10,7 @@ const RULES: &str = r#"
 == data plain: 0 2 |  |  | plain |  | The client's opening offers a PDU that no server answers.
   CS 500 confirms a PDU of the server, and none crosses
 == opened plain: 0 1 6 |  |  | plain
-  CS 499 is the SN of no PDU of the server that crosses
+  CS 499 is the SN of no PDU of the server in the window
 == data plain: 0 2 1 |  |  | plain
   CS 500 confirms a PDU of the server that crosses later
   that PDU: SN 500, record 3, 1970-01-01 00:00:00.000000 UTC, channel 1
@@ -38,7 +38,12 @@ const RULES: &str = r#"
   CTS found: 9001
 == timed plain: 0 1 2 5 |  |  | plain
   the deadline and the slack have passed
+  the PDU that set the deadline: SN 101, record 3, 1970-01-01 00:00:00.000000 UTC, channel 1
   TS found: 10801
+  clock: 10801
+  confirmed time: 9000
+  T_max: 1800, slack: 0
+  deadline: 10800
 == byes plain: 0 1 5 6 |  |  | plain |  | A second opening.
   the end can't make this PDU in this phase for this reason
 "#;
@@ -52,9 +57,11 @@ const LAYOUTS: &str = r#"
 == data code16: 2 |  |  | plain |  | The safety code is no part of a payload.
   payload due: none
   bytes of the payload: 16
+  lengths that it fits: check code 0, safety code 16
 == data code16: 5 |  |  | plain
   payload due: 4 bytes
   bytes of the payload: 20
+  lengths that it fits: check code 0, safety code 16
 == data plain: 0 | 118=255 |  | plain
   payload due: 14 bytes, which begin with a version of four digits
   bytes of the payload: 14

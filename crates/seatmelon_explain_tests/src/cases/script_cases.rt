@@ -12,10 +12,6 @@ may be the cause:
 look next at:
   this line of the certificate
 == data plain: 0 1 2 |  |  | narrow | rasta-certificate 2;  | A certificate of another version.
-the client's opening offers N_sendmax 20, and the parameters have 1
-
-the server's opening offers N_sendmax 20, and the parameters have 1
-
 refused by 30 Syntax:
   this line isn't one that a certificate has there
 

@@ -1,7 +1,7 @@
-use Rattle.std.proofs.Common.{sym}
+use Rattle.std.proofs.Common.{◌∙◌, ap, is_some, map, nat_lt, sym}
 use Rattle.std.proofs.lemmas.List.{length-map}
 use Rattle.rasta_check.specs.Verdict.Listed.{listed_of}
-use Rattle.seatmelon_account.proofs.SentMessages.{told_as_taken}
+use Rattle.seatmelon_account.proofs.SentMessages.{is_listed, told_as_taken}
 use Rattle.seatmelon_account.proofs.messages.direction_of.Goals as goal
 
 pub returns-clause-direction : goal.returns-clause-direction
@@ -14,4 +14,6 @@ returns-clause-direction c =
         numbered = λ i m e. (made.numbered i m e).0;
         taken = told_as_taken _ _ messages c.requires made.numbered made.all;
       };
+      first = λ i m e. ap is_some (made.numbered i m e).1 ∙ is_listed (map listed_of c.args.listed.now) i
+          ∙ ap (nat_lt i) (length-map c.args.listed.now listed_of);
     }

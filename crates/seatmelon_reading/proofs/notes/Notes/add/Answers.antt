@@ -1,14 +1,18 @@
-use Rattle.std.proofs.Common.{◌∙◌, refl, sym, arith}
+use Rattle.std.proofs.Common.{◌∙◌, [], ◌∷◌, ◌++◌, refl, sym, subst, arith}
+use Rattle.seatmelon_reading.specs.Times.{AreTimes}
+use Rattle.seatmelon_reading.specs.declared.times.TimeNotes.{TimeNotes}
 use Rattle.seatmelon_reading.proofs.Noted.{noted_before, noted_behind, noted_inside, same_sighting, inside_bound}
 use Rattle.seatmelon_reading.proofs.notes.Notes.add.Goals as goal
 
 pub returns-in-Before-clause-noted : goal.returns-in-Before-clause-noted
 returns-in-Before-clause-noted c without records s noted numbered next timed some crossed =
-    noted_before c.args.params.now without records s some _ _ noted next c.ranges.number.fits numbered refl refl c.saturating_add-self.ensures refl c.in-Before.ensures
+    let times = c.add.ensures records s.captured noted.times (omega (arith, next, c.ranges.number.fits)) numbered timed in
+    noted_before c.args.params.now without records s some c.args.self.now _ noted next c.ranges.number.fits numbered refl times refl refl c.saturating_add-self.ensures refl c.in-Before.ensures
 
 pub returns-in-Behind-clause-noted : goal.returns-in-Behind-clause-noted
 returns-in-Behind-clause-noted c without records s noted numbered next timed some crossed =
-    noted_behind c.args.params.now without records s some _ _ noted next c.ranges.number.fits numbered refl refl refl c.saturating_add-self-in-Behind.ensures
+    let times = c.add.ensures records s.captured noted.times (omega (arith, next, c.ranges.number.fits)) numbered timed in
+    noted_behind c.args.params.now without records s some c.args.self.now _ noted next c.ranges.number.fits numbered refl times refl refl refl c.saturating_add-self-in-Behind.ensures
     c.in-Behind.ensures.0 c.in-Behind.ensures.1
 
 pub returns-in_ok-add_inside-in-Inside-clause-noted :
@@ -17,7 +21,9 @@ returns-in_ok-add_inside-in-Inside-clause-noted c without records s noted number
     let p = c.args.params.now in
     let e = c.in_ok-add_inside-in-Inside.ensures in
     let read = e.kept.read in
+    let times = c.add.ensures records s.captured noted.times (omega (arith, next, c.ranges.number.fits)) numbered timed in
     noted_inside p without records s some c.args.self.now c.add_inside.new.self noted (read ∙ next) (omega (arith, read, c.ranges.number.fits)) (numbered ∙ sym read)
+    e.kept.passed (subst (λ (t : TimeNotes). AreTimes (records ++ s.captured ∷ []) t) (sym e.kept.times) times)
     (e.packets ∙ same_sighting c.args.self.now.packets.items s c.args.number c.args.time c.args.passage numbered timed crossed)
     (e.channels _ s noted.channels (inside_bound p without records c.args.number next c.ranges.number.fits) crossed) e.kept.before e.kept.behind
     (omega (arith, read, c.in-Inside.ensures)) (omega (arith, read, c.in-Inside.ensures))

@@ -1,15 +1,19 @@
-use Rattle.std.proofs.Common.{◌∙◌, sym}
+use Rattle.std.proofs.Common.{◌∙◌, ap, sym}
 use Rattle.std.proofs.lemmas.Result.{IfOk-weaker}
+use Rattle.rasta_pcap.specs.Capture.{Numbered}
 use Rattle.seatmelon_reading.proofs.Noted.{none_seen, some_seen}
 use Rattle.seatmelon_reading.proofs.notes.Notes.note.Goals as goal
 
 pub returns-in-Some-clause-noted : goal.returns-in-Some-clause-noted
 returns-in-Some-clause-noted c = IfOk-weaker c.add.result _ _
-    (λ _ noted without records r before numbered next timed crossed.
-    let seen = some_seen c.args.params.now without r c.in-Some.passage (sym crossed ∙ c.in-Some.is) in
-    noted without records (record { captured = r; packet = seen.packet }) before numbered next timed seen.is seen.crossed)
+    (λ _ noted records r before is next timed crossed.
+    let seen = some_seen c.args.params.now c.args.without.now r c.in-Some.passage (sym crossed ∙ c.in-Some.is) in
+    let numbered = ap (λ (n : Numbered). n.0) is in
+    noted c.args.without.now records (record { captured = r; packet = seen.packet }) before numbered (sym numbered ∙ next) timed seen.is seen.crossed)
     c.add.ensures.noted
 
 pub returns-in-None-clause-noted : goal.returns-in-None-clause-noted
-returns-in-None-clause-noted c without records r before numbered next timed crossed =
-    c.pass.ensures c.args.params.now without records r before next (none_seen _ (sym crossed ∙ c.in-None.is))
+returns-in-None-clause-noted c records r before is next timed crossed =
+    let numbered = ap (λ (n : Numbered). n.0) is in
+    let none = none_seen _ (sym crossed ∙ c.in-None.is) in
+    c.pass.ensures c.args.params.now c.args.without.now records r before numbered (sym numbered ∙ next) timed none (c.why_passed.ensures r is none)

@@ -1,7 +1,10 @@
-use Rattle.std.proofs.Common.{refl}
+use Rattle.std.proofs.Common.{refl, arith}
 use Rattle.seatmelon_reading.proofs.Noted.{passed}
+use Rattle.seatmelon_reading.proofs.Sorts.{passed_next}
 use Rattle.seatmelon_reading.proofs.notes.Notes.pass.Goals as goal
 
 pub returns : goal.returns
-returns c p without records r noted next none =
-    passed p without records r _ _ noted (record { packets = refl; channels = refl; before = refl; behind = refl }) next none
+returns c p without records r noted numbered next timed none why =
+    passed p without records r c.args.self.now _ noted (record { packets = refl; channels = refl; before = refl; behind = refl }) next none
+    (passed_next p without records r c.args.self.now.passed c.with-self.result c.args.why c.args.number noted.passed (omega (arith, next)) c.ranges.number.fits why c.with-self.ensures)
+    (c.add.ensures records r noted.times (omega (arith, next, c.ranges.number.fits)) numbered timed)

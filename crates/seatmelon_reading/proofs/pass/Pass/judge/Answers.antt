@@ -13,8 +13,8 @@ invariant_of-self c = record {
 }
 
 pub returns-in_ok-refuse-in-Err-clause-told : goal.returns-in_ok-refuse-in-Err-clause-told
-returns-in_ok-refuse-in-Err-clause-told c records q noted true is timed =
+returns-in_ok-refuse-in-Err-clause-told c stays records q noted before true is timed =
     let refuse = c.in_ok-refuse-in-Err.ensures in
     true_as _ _ _ _ (records ++ q ∷ []) c.refuse.new.self.refusal (sym refuse.kept.params) (sym refuse.kept.without)
     (made_next c.args.self.now.params c.args.self.now.without.now records q (crossed_in c.args.self.now.builder) c.in-Err.fault c.args.record.now.number c.args.record.now.bytes.now
-    c.args.time c.args.self.now.notes c.refuse.new.self.refusal refuse.made noted c.in-Err.ensures.value refuse.told.0 is timed)
+    c.args.time c.args.self.now.notes c.refuse.new.self.refusal refuse.made noted c.in-Err.ensures.value refuse.told.0 is timed before stays c.requires.inside.0 c.requires.inside.1)

@@ -1,0 +1,94 @@
+//! A gap in the redundancy numbers of an end.
+ghost use Rattle.std.specs.Prelude.{◌≡◌, IfSome};
+ghost use Rattle.rasta_check.specs.Capture.Reading.{sent_by};
+ghost use Rattle.seatmelon_account.specs.Gaps.{IsLastOf};
+
+use crate::crossed::{has_opening, list_of};
+use crate::numbers::{NUMBER_AT, SN_AT, number_at};
+use rasta_check::{SentList, SpanList, Store};
+use rasta_pcap::Side;
+use seatmelon_reading::Sighting;
+
+/// The two numbers of a PDU: that of the redundancy layer, and SN.
+#[derive(Clone, Copy)]
+pub struct Numbers {
+    pub redundancy: u32,
+    pub sn: u32,
+}
+
+/// The first packet of an end with its last number before a gap.
+#[derive(Clone, Copy)]
+pub struct LastBefore {
+    pub place: u32,
+    pub numbers: Numbers,
+}
+
+/// A gap in the numbers of an end.
+#[derive(Clone, Copy)]
+pub struct Gap {
+    pub last: LastBefore,
+
+    /// The numbers behind the gap; SN is none where the datagram is too short for it.
+    pub found: u32,
+    pub sn_found: Option<u32>,
+
+    /// Where the first packet with the number that was due crosses later.
+    pub later: Option<Sighting>,
+
+    /// Whether the connection was opened by the first packet that crossed.
+    pub has_opening: bool,
+}
+
+impl Numbers {
+    // Those of the next PDU.
+    fn next(self) -> Numbers {
+        Numbers {
+            redundancy: self.redundancy.wrapping_add(1),
+            sn: self.sn.wrapping_add(1),
+        }
+    }
+}
+
+impl Gap {
+    /// The numbers that were due.
+    pub fn due(&self) -> Numbers {
+        self.last.numbers.next()
+    }
+
+    /// How many redundancy numbers are skipped, modulo 2^32.
+    pub fn skipped(&self) -> u32 {
+        self.found.wrapping_sub(self.due().redundancy)
+    }
+
+    /// How many SNs are skipped, modulo 2^32.
+    pub fn sn_skipped(&self) -> Option<u32> {
+        Some(self.sn_found?.wrapping_sub(self.due().sn))
+    }
+}
+
+// What an end sent last.
+fn last_of(list: &SpanList<'_>) -> Option<LastBefore>
+    ensures { IfSome result (IsLastOf list.now) }
+{
+    let (place, pdu) = list.get(list.len().checked_sub(1)?)?;
+    Some(LastBefore {
+        place,
+        numbers: Numbers {
+            redundancy: pdu.number(),
+            sn: pdu.sn(),
+        },
+    })
+}
+
+/// The gap that the datagram of an end shows, behind what crossed; none where this end sent nothing before it.
+pub fn gap_of(store: &Store, side: Side, datagram: &[u8], later: Option<Sighting>) -> Option<Gap>
+    ensures { IfSome result (λ gap. IsLastOf (sent_by store.now side) gap.last) }
+{
+    Some(Gap {
+        last: last_of(&list_of(store, side))?,
+        found: number_at(datagram, NUMBER_AT, 4)?,
+        sn_found: number_at(datagram, SN_AT, 4),
+        later,
+        has_opening: has_opening(store),
+    })
+}

@@ -1,0 +1,153 @@
+//! Why a record holds no packet of the recorded channels.
+ghost use Rattle.std.specs.Prelude.{◌≡◌, ◌+◌, ◌≤◌, length, Some, None};
+ghost use Rattle.rasta_pcap.specs.Captured.{Captured, numbered};
+ghost use Rattle.rasta_udp.specs.Frame.{fields_of, header_length_of, is_tagged, number_at, packet_in};
+ghost use Rattle.seatmelon_reading.specs.Noted.{seen_in, why_passed};
+ghost use Rattle.seatmelon_reading.specs.PassedOver.{has_outer_tag, is_behind_tag, is_behind_tags, is_of_channels, is_udp, untagged, why_not};
+
+use crate::passed_over::WhyPassed;
+use byteorder::{BigEndian, ByteOrder};
+use rasta_pcap::Record;
+use rasta_pdu::Params;
+use rasta_udp::{Channel, datagram};
+
+// Type fields of Ethernet II: a packet of IPv4, a tag of IEEE 802.1Q, and one of IEEE 802.1ad.
+const IPV4: u16 = 0x0800;
+
+const TAGGED: u16 = 0x8100;
+
+const SERVICE_TAGGED: u16 = 0x88a8;
+
+// The protocol number of UDP.
+const UDP: u8 = 17;
+
+// Where fields stand in a frame without a tag.
+const TYPE_AT: usize = 12;
+
+const VERSION_AT: usize = 14;
+
+const PROTOCOL_AT: usize = 23;
+
+// Lengths in bytes; the header of IPv4 has options beyond the least.
+const TAG: usize = 4;
+
+const ETHERNET_HEADER: usize = 14;
+
+const LEAST_IPV4_HEADER: usize = 20;
+
+#[tactic(auto, unfolding(rasta_udp::specs::Frame::number_at))]
+fn u16_at(bytes: &[u8], place: usize) -> u16
+    requires { place + 2 ≤ length bytes.now }
+    ensures { result ≡ number_at 2 place bytes.now }
+{
+    BigEndian::read_u16(&bytes[place..])
+}
+
+// The length of the IPv4 header, in bytes.
+fn header_length(frame: &[u8]) -> usize
+    requires { 15 ≤ length frame.now }
+    ensures { result ≡ header_length_of frame.now }
+{
+    4 * (frame[VERSION_AT] & 0x0f) as usize
+}
+
+// Whether a frame without a tag holds UDP over IPv4.
+fn is_udp(frame: &[u8]) -> bool
+    ensures { result ≡ is_udp (fields_of frame.now) }
+{
+    frame.len() >= ETHERNET_HEADER + LEAST_IPV4_HEADER
+        && u16_at(frame, TYPE_AT) == IPV4
+        && frame[VERSION_AT] >> 4 == 4
+        && header_length(frame) >= LEAST_IPV4_HEADER
+        && frame[PROTOCOL_AT] == UDP
+}
+
+// Whether the frame has a tag that is passed over where datagrams are read.
+fn is_tagged(frame: &[u8]) -> bool
+    ensures { result ≡ is_tagged frame.now }
+{
+    frame.len() >= 16 && u16_at(frame, TYPE_AT) == TAGGED
+}
+
+// Whether a frame holds UDP over IPv4.
+fn holds_udp(frame: &[u8]) -> bool
+    ensures { result ≡ is_udp (fields_of (untagged frame.now)) }
+{
+    if is_tagged(frame) {
+        // Nothing of the first 12 bytes is read.
+        is_udp(&frame[TAG..])
+    } else {
+        is_udp(frame)
+    }
+}
+
+fn has_outer_tag(frame: &[u8]) -> bool
+    ensures { result ≡ has_outer_tag frame.now }
+{
+    if frame.len() < 16 {
+        return false;
+    }
+    let found = u16_at(frame, TYPE_AT);
+    found == TAGGED || found == SERVICE_TAGGED
+}
+
+// Whether a frame holds a packet of the channels, or a faulty one of their hosts.
+fn is_of_channels(frame: &[u8], channels: &[Channel]) -> bool
+    requires { length channels.now ≤ 255 }
+    ensures { result ≡ is_of_channels (packet_in channels.now frame.now) }
+{
+    let record = Record {
+        number: 0,
+        bytes: frame,
+    };
+    match datagram(&record, channels) {
+        Ok(None) => false,
+        Ok(Some(_)) | Err(_) => true,
+    }
+}
+
+// Whether it holds one without its outer tag.
+fn is_behind_tag(frame: &[u8], channels: &[Channel]) -> bool
+    requires { length channels.now ≤ 255 }
+    ensures { result ≡ is_behind_tag channels.now frame.now }
+{
+    // Nothing of the first 12 bytes is read.
+    has_outer_tag(frame) && is_of_channels(&frame[TAG..], channels)
+}
+
+// Whether it holds one without its outer tag, or without two of them.
+fn is_behind_tags(frame: &[u8], channels: &[Channel]) -> bool
+    requires { length channels.now ≤ 255 }
+    ensures { result ≡ is_behind_tags channels.now frame.now }
+{
+    has_outer_tag(frame)
+        && (is_behind_tag(frame, channels) || is_behind_tag(&frame[TAG..], channels))
+}
+
+// Why a frame holds no packet of the channels, and no faulty one of their hosts.
+fn why_not(frame: &[u8], channels: &[Channel]) -> WhyPassed
+    requires { length channels.now ≤ 255 }
+    ensures { result ≡ why_not channels.now frame.now }
+{
+    if is_behind_tags(frame, channels) {
+        WhyPassed::Tagged
+    } else if holds_udp(frame) {
+        WhyPassed::Elsewhere
+    } else {
+        WhyPassed::NotUdp
+    }
+}
+
+/// Why a record holds no packet of the recorded channels.
+pub fn why_passed(params: &Params, without: &[u32], record: &Record<'_>) -> WhyPassed
+    ensures { (r : Captured) → numbered r ≡ («record».now.number, «record».now.bytes.now) → seen_in params.now without.now r ≡ None
+        → why_passed params.now without.now r ≡ Some result }
+{
+    if without.contains(&record.number) {
+        return WhyPassed::LeftOut;
+    }
+    match datagram(record, params.channel()) {
+        Ok(_) => why_not(record.bytes, params.channel()),
+        Err(_) => WhyPassed::Unreadable,
+    }
+}

@@ -1,0 +1,66 @@
+//! What was passed over, and times of capture, as JSON.
+ghost use Rattle.std.specs.Prelude.{◌≡◌, IfErr};
+ghost use Rattle.rasta_pcap.specs.Fault.{write_failed};
+
+use crate::json::write_count;
+use crate::json_places::{write_number_if, write_sighting_if};
+use rasta_pcap::{Fault, Sink};
+use seatmelon_account::Account;
+use seatmelon_reading::{Noticed, PassedOver, Silence};
+use seatmelon_text::json::write_long;
+use seatmelon_text::{parts, write_parts, write_words};
+
+/// Writes how many records hold no packet of the recorded channels, by why.
+pub fn write_passed_over<W: Sink>(writer: &mut W, passed: PassedOver) -> Result<(), Fault>
+    ensures err { IfErr result (λ f. f ≡ write_failed) }
+{
+    write_words(writer, ",\"passed_over\":{\"left_out\":")?;
+    write_long(writer, passed.left_out)?;
+    write_count(writer, "not_udp", passed.not_udp)?;
+    write_count(writer, "tagged", passed.tagged)?;
+    write_count(writer, "elsewhere", passed.elsewhere)?;
+    write_count(writer, "unreadable", passed.unreadable)?;
+    write_words(writer, "}")
+}
+
+// Writes of how many records something is noted, and the first of them.
+fn write_noticed<W: Sink>(writer: &mut W, key: &'static str, noticed: Noticed) -> Result<(), Fault>
+    ensures err { IfErr result (λ f. f ≡ write_failed) }
+{
+    write_parts(writer, &parts!["\"", key, "\":{\"records\":"])?;
+    write_long(writer, noticed.count)?;
+    write_words(writer, ",\"first\":")?;
+    write_number_if(writer, noticed.first)?;
+    write_words(writer, "},")
+}
+
+// Writes the longest silence of an end, or null.
+fn write_silence<W: Sink>(writer: &mut W, silence: Option<&Silence>) -> Result<(), Fault>
+    ensures err { IfErr result (λ f. f ≡ write_failed) }
+{
+    let Some(silence) = silence else {
+        return write_words(writer, "null");
+    };
+    write_words(writer, "{\"nanoseconds\":")?;
+    write_long(writer, silence.nanoseconds())?;
+    write_words(writer, ",\"from\":")?;
+    write_sighting_if(writer, Some(&silence.before))?;
+    write_words(writer, ",\"to\":")?;
+    write_sighting_if(writer, Some(&silence.after))?;
+    write_words(writer, "}")
+}
+
+/// Writes what is noted of the times of capture.
+pub fn write_times<W: Sink>(writer: &mut W, account: &Account<'_>) -> Result<(), Fault>
+    ensures err { IfErr result (λ f. f ≡ write_failed) }
+{
+    let [client, server] = &account.silences;
+    write_words(writer, ",\"times\":{")?;
+    write_noticed(writer, "falling", account.times.falling)?;
+    write_noticed(writer, "overlong_fractions", account.times.overlong)?;
+    write_words(writer, "\"longest_silence\":{\"client\":")?;
+    write_silence(writer, client.as_ref())?;
+    write_words(writer, ",\"server\":")?;
+    write_silence(writer, server.as_ref())?;
+    write_words(writer, "}}")
+}

@@ -1,0 +1,286 @@
+#!/usr/bin/env python3
+"""A day of somebody new with captures that aren't known: makes them, and does with them what docs/INVESTIGATORS.md says.
+
+    day.py [--seatmelon PATH] [--packets N] [--keep FOLDER]
+
+The captures are made by the ends of random_runs.py over a calm network: a whole port with five connections, copies of
+an opening and strangers between them; one with start words of its own; one in which a packet is missing; and one with
+many packets (400,000). Prints for each task its commands and the seconds that they took; a task that doesn't come out
+as it should is named, and the status is 1.
+Parameters come from drafts, with the values of the 'engineering data' in place of placeholders, as a person would fill
+them in. `rt run` in crates/seatmelon leaves the program. Plain Python 3, no other packages.
+"""
+
+import argparse
+import pathlib
+import random
+import re
+import struct
+import subprocess
+import sys
+import tempfile
+import time
+
+import random_runs
+import rows
+
+SEATMELON = rows.TOP / "crates/seatmelon/out/seatmelon"
+WORDS = (0x0F1E2D3C, 0x4B5A6978, 0x8796A5B4, 0xC3D2E1F0)
+MD4_WORDS = (0x67452301, 0xEFCDAB89, 0x98BADCFE, 0x10325476)
+BEGIN = 1_767_225_600  # 2026-01-01
+
+
+# ---- captures
+
+
+def md4(data, start):
+    """The MD4 digest of RFC 1320, which begins with these words."""
+    rounds = (
+        (lambda x, y, z: (x & y) | (~x & z), 0, tuple(range(16)), (3, 7, 11, 19)),
+        (lambda x, y, z: (x & y) | (x & z) | (y & z), 0x5A827999, (0, 4, 8, 12, 1, 5, 9, 13, 2, 6, 10, 14, 3, 7, 11, 15), (3, 5, 9, 13)),
+        (lambda x, y, z: x ^ y ^ z, 0x6ED9EBA1, (0, 8, 4, 12, 2, 10, 6, 14, 1, 9, 5, 13, 3, 11, 7, 15), (3, 9, 11, 15)),
+    )
+    state = list(start)
+    data += b"\x80" + bytes((55 - len(data)) % 64) + struct.pack("<Q", 8 * len(data))
+    for at in range(0, len(data), 64):
+        block, (a, b, c, d) = struct.unpack("<16I", data[at : at + 64]), state
+        for mix, constant, order, shifts in rounds:
+            for step, place in enumerate(order):
+                total = (a + mix(b, c, d) + block[place] + constant) & 0xFFFFFFFF
+                shift = shifts[step % 4]
+                a, b, c, d = d, (total << shift | total >> (32 - shift)) & 0xFFFFFFFF, b, c
+        state = [(old + new) & 0xFFFFFFFF for old, new in zip(state, (a, b, c, d))]
+    return struct.pack("<4I", *state)
+
+
+class Connection:
+    """A connection of two ends over a calm network: its parameters and its frames, each with its time."""
+
+    def __init__(self, seed, hosts, ids, start=MD4_WORDS, packets=150, copies=True):
+        self.chance, self.copies = random.Random(seed), copies
+        self.hosts, self.ids, self.start = hosts, ids, start
+        self.run = self.played(packets)
+        self.frames = list(self.sent())
+
+    def played(self, packets):
+        while True:
+            run = random_runs.Run(self.chance)
+            if not run.p.quiet:
+                break
+        run.p.n_sendmax, run.p.t_max, run.p.slack, run.loss = 20, 1800, 0, 0.0
+        while len(run.crossed) < packets:
+            run.step()
+        return run
+
+    def datagram(self, side, position):
+        plain = bytearray(random_runs.datagram(self.run, side, position))
+        client, server = self.ids
+        receiver, sender = ((server, client), (client, server))[side]
+        struct.pack_into("<II", plain, 12, receiver, sender)
+        safety = bytearray(plain[8:])
+        struct.pack_into("<H", safety, 0, len(safety) + 16)
+        safety += md4(bytes(safety), self.start)
+        front = struct.pack("<H", 8 + len(safety)) + bytes(plain[2:8])
+        return front + bytes(safety)
+
+    def frame(self, side, datagram):
+        client, server = (bytes((10, 1, self.hosts, end)) for end in (1, 2))
+        source, target = (client, server) if side == 0 else (server, client)
+        ip = struct.pack(">BBHHHBBH", 0x45, 0, 28 + len(datagram), 0, 0, 64, 17, 0) + source + target
+        udp = struct.pack(">HHHH", 5000, 5000, 8 + len(datagram), 0)
+        return bytes(12) + b"\x08\x00" + ip + udp + datagram
+
+    def sent(self):
+        moment, crossed = self.chance.random(), set()
+        for side, position, _, _ in self.run.crossed:
+            if self.copies or (side, position) not in crossed:
+                moment += self.chance.random() / 20
+                yield moment, self.frame(side, self.datagram(side, position))
+            crossed.add((side, position))
+
+    def values(self):
+        """What the engineering data say of it, by the keys of a parameter file."""
+        words = "".join(f"{word:08x}" for word in self.start)
+        return {"t_max": 1800, "slack": 0, "n_sendmax": 20, "md4_start": f'"{words}"'}
+
+
+def strangers(chance, count):
+    """Frames of no connection: of ARP, and of other services over UDP."""
+    for _ in range(count):
+        moment = chance.random() * 8
+        if chance.random() < 0.5:
+            yield moment, bytes(12) + b"\x08\x06" + bytes(28)
+        else:
+            body = chance.randbytes(20)
+            ip = struct.pack(">BBHHHBBH", 0x45, 0, 48, 0, 0, 64, 17, 0) + b"\x0a\x07\x07\x07\x0a\x07\x07\x08"
+            yield moment, bytes(12) + b"\x08\x00" + ip + struct.pack(">HHHH", 53, 53, 28, 0) + body
+
+
+def capture_of(frames):
+    """A classic capture of frames with their times, in the order of these."""
+    records = [struct.pack("<IHHiIII", 0xA1B2C3D4, 2, 4, 0, 0, 65_535, 1)]
+    for moment, frame in sorted(frames, key=lambda it: it[0]):
+        seconds = int(moment)
+        micros = int((moment - seconds) * 1_000_000)
+        records.append(struct.pack("<IIII", BEGIN + seconds, micros, len(frame), len(frame)) + frame)
+    return b"".join(records)
+
+
+# ---- tasks
+
+
+class Day:
+    def __init__(self, program, folder):
+        self.program, self.folder, self.wrong = program, folder, 0
+        self.commands, self.seconds = 0, 0.0
+
+    def path(self, name):
+        return self.folder / name
+
+    def call(self, *words):
+        """Status, and both texts of a call."""
+        begin = time.perf_counter()
+        ran = subprocess.run([self.program, *map(str, words)], capture_output=True, text=True)
+        self.commands, self.seconds = self.commands + 1, self.seconds + time.perf_counter() - begin
+        return ran.returncode, ran.stdout, ran.stderr
+
+    def expect(self, what, is_right, answer):
+        if not is_right:
+            self.wrong += 1
+            print(f"  {what}: {[str(it)[:400] for it in answer]}")
+
+    def task(self, what, run):
+        self.commands, self.seconds = 0, 0.0
+        run()
+        print(f"{what}: {self.commands} commands, {self.seconds:.1f} s", flush=True)
+
+    def filled_in(self, capture, number, values, name, *more):
+        """The path of a draft with the engineering data's values in place of its placeholders."""
+        status, text, error = self.call("draft", capture, number, *more)
+        self.expect(f"draft {number}", status == 0, (status, text, error))
+        for key, value in values.items():
+            text = re.sub(rf"(?m)^{key} = [^#\n]*", f"{key} = {value} ", text)
+        path = self.path(name)
+        path.write_text(text)
+        return path
+
+
+def whole_port(day):
+    """Five connections of one port: which are there, and which are in order."""
+    chance = random.Random("port")
+    connections = [Connection(f"port {n}", n, (96 + 2 * n, 97 + 2 * n), packets=190) for n in range(5)]
+    frames = [it for connection in connections for it in connection.frames]
+    late = connections[2].frames[:4]
+    frames += [(moment + 5, frame) for moment, frame in late]
+    capture = day.path("port.pcap")
+    capture.write_bytes(capture_of(frames + list(strangers(chance, 100))))
+    answer = day.call("survey", capture)
+    day.expect("five connections", answer[0] == 0 and answer[1].count("\nconnection ") == 5, answer)
+    explained = 0
+    for number in range(1, 6):
+        parameters = day.filled_in(capture, number, connections[0].values(), f"port-{number}.toml")
+        status, text, error = day.call("explain", capture, parameters, "--summary")
+        explained += text.startswith("explained:")
+    day.expect("explained", explained == 5, (explained,))
+
+
+def start_words(day):
+    """A connection with start words of its own, which the draft can't know."""
+    connection = Connection("words", 9, (96, 97), WORDS)
+    capture = day.path("words.pcap")
+    capture.write_bytes(capture_of(connection.frames))
+    values = connection.values()
+    known = {key: value for key, value in values.items() if key != "md4_start"}
+    parameters = day.filled_in(capture, 1, known, "words.toml")
+    answer = day.call("explain", capture, parameters)
+    count = f"none of the {len(connection.frames)} codes fits the recorded start words"
+    day.expect("unknown start words", answer[0] == 1 and count in answer[1], answer)
+    answer = day.call("show", capture, parameters, "--types", "data")
+    day.expect("show", answer[0] == 0 and "verdict" in answer[1], answer)
+    parameters = day.filled_in(capture, 1, values, "words.toml")
+    answer = day.call("explain", capture, parameters, "--summary")
+    day.expect("right start words", answer[0] == 0 and answer[1].startswith("explained:"), answer)
+
+
+def missing_packet(day):
+    """A packet in the middle never reached the tap: what stands before the gap and behind it is explained apart."""
+    connection = Connection("missing", 11, (96, 97), packets=400, copies=False)
+    capture = day.path("missing.pcap")
+    for place in range(120, 300):
+        frames = connection.frames[:place] + connection.frames[place + 1 :]
+        capture.write_bytes(capture_of(frames))
+        parameters = day.filled_in(capture, 1, connection.values(), "missing.toml")
+        status, text, error = day.call("explain", capture, parameters)
+        gap = re.search(r"refused by 28 NumberGap.*?^record (\d+),", text, re.S | re.M)
+        if gap and "both numbers skip 1" in text:
+            break
+    day.expect("refused at the gap", bool(gap), (status, text, error))
+    day.commands, day.seconds = 2, 0.0
+    record = int(gap.group(1))
+    before = day.path("before.toml")
+    before.write_text(re.sub(r"(?m)^last_record = \d+", f"last_record = {record - 1}", parameters.read_text()))
+    answer = day.call("explain", capture, before, "--summary")
+    day.expect("before the gap", answer[0] == 0 and answer[1].startswith("explained:"), answer)
+    status, text, error = day.call("draft", capture, 1, "--after", record, parameters)
+    behind = day.path("behind.toml")
+    behind.write_text(text)
+    day.expect("a quiet point behind the gap", status == 0 and "[quiet" in text or "quiet." in text, (status, text, error))
+    answer = day.call("explain", capture, behind, "--summary")
+    day.expect("behind the gap", answer[0] == 0 and answer[1].startswith("explained:"), answer)
+
+
+def many_packets(day, packets):
+    """As many packets as a working day has: what matters stands first."""
+    connection = Connection("many", 15, (96, 97), packets=packets)
+    capture = day.path("many.pcap")
+    capture.write_bytes(capture_of(connection.frames))
+    parameters = day.filled_in(capture, 1, connection.values(), "many.toml")
+    status, text, error = day.call("explain", capture, parameters, "--summary")
+    lines = text.splitlines()
+    right = status == 0 and lines[0].startswith("explained:") and lines[1].startswith("client to server: ")
+    day.expect("verdict and counts first", right and len(lines) < 60, (status, text, error))
+    answer = day.call("explain", capture, parameters, "--not-shown")
+    day.expect("not shown", answer[0] == 0 and len(answer[1].splitlines()) < 200, answer)
+
+
+def mistakes(day):
+    """What is mistyped leads on."""
+    connection = Connection("mistakes", 17, (96, 97))
+    capture = day.path("mistakes.pcap")
+    capture.write_bytes(capture_of(connection.frames))
+    parameters = day.filled_in(capture, 1, connection.values(), "mistakes.toml")
+    text = parameters.read_text()
+    day.path("key.toml").write_text(text.replace("t_max", "tmax"))
+    answer = day.call("explain", capture, day.path("key.toml"))
+    day.expect("a mistyped key", answer[0] == 2 and "did you mean t_max?" in answer[2], answer)
+    answer = day.call("explain", capture, parameters, "--without", "9999")
+    day.expect("a record that isn't there", answer[0] == 2 and "no record 9999" in answer[2], answer)
+    exchanged = text.replace("client_id", "other_id").replace("server_id", "client_id").replace("other_id", "server_id")
+    exchanged = re.sub(r'client = ("[^"]*")(.*)\nserver = ("[^"]*")', r"client = \3\2\nserver = \1", exchanged)
+    day.path("exchanged.toml").write_text(exchanged)
+    answer = day.call("explain", capture, day.path("exchanged.toml"))
+    day.expect("exchanged ends", answer[0] == 1 and "are client and server exchanged" in answer[1], answer)
+    answer = day.call("explain", day.path("exchanged.toml"), capture)
+    day.expect("exchanged files", answer[0] == 2 and "swapped" in answer[2], answer)
+
+
+def main():
+    asked = argparse.ArgumentParser(description="A day with captures that aren't known.")
+    asked.add_argument("--seatmelon", type=pathlib.Path, default=SEATMELON)
+    asked.add_argument("--packets", type=int, default=400_000)
+    asked.add_argument("--keep", type=pathlib.Path, help="a folder in which the captures stay")
+    asked = asked.parse_args()
+    with tempfile.TemporaryDirectory() as folder:
+        folder = asked.keep or pathlib.Path(folder)
+        folder.mkdir(parents=True, exist_ok=True)
+        day = Day(str(asked.seatmelon.resolve()), folder)
+        day.task("a whole port", lambda: whole_port(day))
+        day.task("start words of its own", lambda: start_words(day))
+        day.task("a missing packet", lambda: missing_packet(day))
+        day.task("many packets", lambda: many_packets(day, asked.packets))
+        day.task("mistakes", lambda: mistakes(day))
+    return day.wrong > 0
+
+
+if __name__ == "__main__":
+    sys.exit(main())
