@@ -2,11 +2,11 @@
 ghost use Rattle.std.specs.Prelude.{◌≡◌, IfErr};
 ghost use Rattle.rasta_pcap.specs.Fault.{write_failed};
 
-use crate::page::write_place;
+use crate::page::place_of;
 use rasta_pcap::{CaptureTime, Fault, Side, Sink};
 use seatmelon_account::{Account, Direction, Explained, Message, Selection};
 use seatmelon_reading::Sighting;
-use seatmelon_text::{Part, parts, width, write_parts, write_words};
+use seatmelon_text::{Part, Room, parts, put_parts, width, write_parts, write_words};
 
 // How many columns a line has at most.
 const MOST_COLUMNS: usize = 100;
@@ -76,8 +76,16 @@ fn content_in(bytes: &[u8]) -> [Part<'_>; 2] {
     }
 }
 
+// Who sends a message to whom, as it stands before the message's number.
+fn way_of(sender: Side) -> &'static str {
+    match sender {
+        Side::Client => "client to server ",
+        Side::Server => "server to client ",
+    }
+}
+
 // A message in one line.
-fn line_of<'a>(scene: &Scene<'_>, sender: Side, message: &Message<'a>) -> [Part<'a>; 21] {
+fn line_of<'a>(scene: &Scene<'_>, sender: Side, message: &Message<'a>) -> [Part<'a>; 18] {
     let [data, at, comma, time, channel, number] = place_in(scene, message.data);
     let nothing = Part::Words("");
     let (state, proof, place) = match message.proof {
@@ -87,10 +95,7 @@ fn line_of<'a>(scene: &Scene<'_>, sender: Side, message: &Message<'a>) -> [Part<
     let [record, of, then, moment, on, channel_of] = place;
     let [form, bytes] = content_in(message.bytes);
     parts![
-        sender,
-        " to ",
-        sender.other(),
-        " ",
+        way_of(sender),
         message.number,
         state,
         data,
@@ -111,37 +116,49 @@ fn line_of<'a>(scene: &Scene<'_>, sender: Side, message: &Message<'a>) -> [Part<
     ]
 }
 
-// Writes bytes, in hexadecimal and as text.
-fn write_both<W: Sink>(writer: &mut W, bytes: &[u8], extent: [Part<'_>; 4]) -> Result<(), Fault>
+// Puts bytes, in hexadecimal and as text.
+fn put_both<W: Sink>(
+    writer: &mut W,
+    room: &mut Room,
+    bytes: &[u8],
+    extent: [Part<'_>; 4],
+) -> Result<(), Fault>
     ensures err { IfErr result (λ f. f ≡ write_failed) }
 {
-    write_words(writer, "  hex")?;
-    write_parts(writer, &extent)?;
-    write_parts(writer, &parts![": ", Part::Hex(bytes), "\n  text"])?;
-    write_parts(writer, &extent)?;
-    write_parts(writer, &parts![": ", Part::Text(bytes), "\n"])
+    room.put(writer, b"  hex")?;
+    put_parts(writer, room, &extent)?;
+    put_parts(writer, room, &parts![": ", Part::Hex(bytes), "\n  text"])?;
+    put_parts(writer, room, &extent)?;
+    put_parts(writer, room, &parts![": ", Part::Text(bytes), "\n"])
 }
 
-// Writes the bytes of a message, as far as they are told.
-fn write_bytes<W: Sink>(writer: &mut W, is_whole: bool, bytes: &[u8]) -> Result<(), Fault>
+// Puts the bytes of a message, as far as they are told.
+fn put_bytes<W: Sink>(
+    writer: &mut W,
+    room: &mut Room,
+    is_whole: bool,
+    bytes: &[u8],
+) -> Result<(), Fault>
     ensures err { IfErr result (λ f. f ≡ write_failed) }
 {
     if bytes.is_empty() {
-        return write_words(writer, "  empty\n");
+        return room.put(writer, b"  empty\n");
     }
     match bytes.get(..FRONT) {
-        Some(front) if !is_whole && bytes.len() > LONG => write_both(
+        Some(front) if !is_whole && bytes.len() > LONG => put_both(
             writer,
+            room,
             front,
             parts![", the first ", FRONT as u64, " of ", bytes.len() as u64],
         ),
-        _ => write_both(writer, bytes, parts!["", "", "", ""]),
+        _ => put_both(writer, room, bytes, parts!["", "", "", ""]),
     }
 }
 
-// Writes a message in several lines.
-fn write_block<W: Sink>(
+// Puts a message in several lines.
+fn put_block<W: Sink>(
     writer: &mut W,
+    room: &mut Room,
     scene: &Scene<'_>,
     sender: Side,
     message: &Message<'_>,
@@ -153,21 +170,19 @@ fn write_block<W: Sink>(
     } else {
         ", not shown: "
     };
-    write_parts(
-        writer,
-        &parts![sender, " to ", sender.other(), " ", message.number, state],
-    )?;
-    write_place(writer, scene.packets, message.data)?;
+    put_parts(writer, room, &parts![way_of(sender), message.number, state])?;
+    put_parts(writer, room, &place_of(scene.packets, message.data))?;
     if let Some(proof) = message.proof {
-        write_words(writer, "  proof: ")?;
-        write_place(writer, scene.packets, proof)?;
+        room.put(writer, b"  proof: ")?;
+        put_parts(writer, room, &place_of(scene.packets, proof))?;
     }
-    write_bytes(writer, scene.is_whole, message.bytes)
+    put_bytes(writer, room, scene.is_whole, message.bytes)
 }
 
-// Writes a message: in one line, where that fits.
-fn write_message<W: Sink>(
+// Puts a message: in one line, where that fits.
+fn put_message<W: Sink>(
     writer: &mut W,
+    room: &mut Room,
     scene: &Scene<'_>,
     sender: Side,
     message: &Message<'_>,
@@ -177,11 +192,11 @@ fn write_message<W: Sink>(
     if message.bytes.len() <= MOST_COLUMNS {
         let line = line_of(scene, sender, message);
         if width(&line) <= MOST_COLUMNS {
-            write_parts(writer, &line)?;
-            return write_words(writer, "\n");
+            put_parts(writer, room, &line)?;
+            return room.put(writer, b"\n");
         }
     }
-    write_block(writer, scene, sender, message)
+    put_block(writer, room, scene, sender, message)
 }
 
 // Writes the messages of an end that are chosen, and answers whether there is one.
@@ -192,13 +207,15 @@ fn write_direction<W: Sink>(
 ) -> Result<bool, Fault>
     ensures err { IfErr result (λ f. f ≡ write_failed) }
 {
+    let mut room = Room::new();
     let mut is_any = false;
     for message in &direction.messages {
         if scene.selection.chooses(scene.packets, message) {
-            write_message(writer, scene, direction.sender, message)?;
+            put_message(writer, &mut room, scene, direction.sender, message)?;
             is_any = true;
         }
     }
+    room.write(writer)?;
     Ok(is_any)
 }
 

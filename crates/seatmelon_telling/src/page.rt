@@ -311,24 +311,39 @@ pub fn write_time_if<W: Sink>(writer: &mut W, time: Option<CaptureTime>) -> Resu
     }
 }
 
+// Record, time and channel of a packet.
+fn sighting_in(sighting: &Sighting) -> [Part<'static>; 6] {
+    let record = Part::Number(u64::from(sighting.record));
+    let channel = Part::Number(u64::from(sighting.channel));
+    match sighting.time {
+        Some(time) => parts!["record ", record, ", ", time, " UTC, channel ", channel],
+        None => parts!["record ", record, "", "", ", channel ", channel],
+    }
+}
+
+/// Record, time and channel of the packet at a place, as the rest of a line.
+pub fn place_of(packets: &[Sighting], place: u32) -> [Part<'static>; 7] {
+    match packets.get(place as usize) {
+        Some(sighting) => {
+            let [words, record, comma, time, on, channel] = sighting_in(sighting);
+            parts![words, record, comma, time, on, channel, "\n"]
+        }
+        None => parts!["place ", place, "\n", "", "", "", ""],
+    }
+}
+
 /// Writes record, time and channel of a packet.
 pub fn write_sighting<W: Sink>(writer: &mut W, sighting: &Sighting) -> Result<(), Fault>
     ensures err { IfErr result (λ f. f ≡ write_failed) }
 {
-    write_parts(writer, &parts!["record ", sighting.record])?;
-    write_time_if(writer, sighting.time)?;
-    write_parts(writer, &parts![", channel ", sighting.channel])
+    write_parts(writer, &sighting_in(sighting))
 }
 
 /// Writes record, time and channel of the packet at a place, as the rest of a line.
 pub fn write_place<W: Sink>(writer: &mut W, packets: &[Sighting], place: u32) -> Result<(), Fault>
     ensures err { IfErr result (λ f. f ≡ write_failed) }
 {
-    match packets.get(place as usize) {
-        Some(sighting) => write_sighting(writer, sighting)?,
-        None => write_parts(writer, &parts!["place ", place])?,
-    }
-    write_words(writer, "\n")
+    write_parts(writer, &place_of(packets, place))
 }
 
 /// Writes that no packet of the connection is in the window.

@@ -2,7 +2,8 @@
 ghost use Rattle.std.specs.Prelude.{◌≡◌, ◌≤◌, length, IfErr};
 ghost use Rattle.rasta_pcap.specs.Fault.{write_failed};
 
-use crate::text::{Part, ROOM, put_digits, write_part};
+use crate::room::ROOM;
+use crate::text::{Part, digits_of_byte, write_parts};
 use rasta_pcap::{Fault, Sink, write_all};
 use rasta_show::write_hex;
 
@@ -112,7 +113,7 @@ fn put_byte(byte: u8, room: &mut [u8]) -> usize
             room[0] = b'\\';
             room[1] = b'\\';
             room[2] = b'x';
-            put_digits(byte, &mut room[3..5]);
+            room[3..].copy_from_slice(&digits_of_byte(byte));
             5
         }
     }
@@ -144,7 +145,6 @@ pub fn write_long<W: Sink>(writer: &mut W, n: u64) -> Result<(), Fault>
     ensures err { IfErr result (λ f. f ≡ write_failed) }
 {
     let quote = if n > MOST_NUMBER { "\"" } else { "" };
-    write_part(writer, Part::Words(quote))?;
-    write_part(writer, Part::Number(n))?;
-    write_part(writer, Part::Words(quote))
+    let parts = [Part::Words(quote), Part::Number(n), Part::Words(quote)];
+    write_parts(writer, &parts)
 }

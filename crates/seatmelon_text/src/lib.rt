@@ -2,6 +2,8 @@
 #![tactic(auto)]
 
 pub mod json;
+mod room;
 mod text;
 
-pub use text::{Part, width, write_part, write_parts, write_words};
+pub use room::Room;
+pub use text::{Part, put_parts, width, write_part, write_parts, write_words};

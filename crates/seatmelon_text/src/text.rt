@@ -3,14 +3,15 @@ ghost use Rattle.std.specs.Prelude.{◌≡◌, ◌≤◌, ◌∷◌, [], length,
 ghost use Rattle.hex.specs.Hex.{encode_lower};
 ghost use Rattle.rasta_pcap.specs.Fault.{write_failed};
 
+use crate::room::Room;
 use itoa::Buffer;
 use rasta_pcap::{CaptureTime, Fault, FractionUnit, Side, Sink, write_all};
 use rasta_show::write_hex;
 use rasta_udp::Endpoint;
-use seatmelon_lines::{write_date, write_digits, write_endpoint, write_time, write_time_of_day};
+use seatmelon_lines::{TIME, date_in, time_in, time_of_day_in, write_digits, write_endpoint};
 
-/// How many bytes of a text are written at once.
-pub(crate) const ROOM: usize = 256;
+// The hexadecimal digits.
+const DIGITS: [u8; 16] = *b"0123456789abcdef";
 
 /// A part of a line.
 #[derive(Clone, Copy)]
@@ -105,62 +106,48 @@ macro_rules! parts {
     };
 }
 
-fn write_number<W: Sink>(writer: &mut W, n: u64) -> Result<(), Fault>
+// Puts a number.
+fn put_number<W: Sink>(writer: &mut W, room: &mut Room, n: u64) -> Result<(), Fault>
     ensures err { IfErr result (λ f. f ≡ write_failed) }
 {
     let mut buffer = Buffer::new();
-    write_all(writer, buffer.format(n).as_bytes())
+    room.put(writer, buffer.format(n).as_bytes())
 }
 
-/// Puts the two digits of a byte into a room for them.
-pub(crate) fn put_digits(byte: u8, room: &mut [u8])
-    requires { length room.old ≡ 2 }
-    ensures { room.new ≡ encode_lower (byte ∷ []) }
+/// The two digits of a byte.
+#[inline(always)]
+pub(crate) fn digits_of_byte(byte: u8) -> [u8; 2]
+    ensures { result ≡ encode_lower (byte ∷ []) }
 {
-    if hex::encode_to_slice([byte], room).is_err() {
-        unreachable!();
-    }
+    [
+        DIGITS[usize::from(byte / 16)],
+        DIGITS[usize::from(byte % 16)],
+    ]
 }
 
-// Puts a byte as text at the front of the room, and answers how many bytes it takes. A backslash is doubled.
-fn put_character(byte: u8, room: &mut [u8]) -> usize
-    requires { length room.now ≡ 4 }
-    ensures room { length room.new ≡ length room.old }
-    ensures most { result ≤ 4 }
-{
-    match byte {
-        b'\\' => {
-            room[0] = b'\\';
-            room[1] = b'\\';
-            2
-        }
-        b' '..=b'~' => {
-            room[0] = byte;
-            1
-        }
-        _ => {
-            room[0] = b'\\';
-            room[1] = b'x';
-            put_digits(byte, &mut room[2..4]);
-            4
-        }
-    }
-}
-
-// Writes bytes as text, as many at once as there is room for.
-fn write_text<W: Sink>(writer: &mut W, bytes: &[u8]) -> Result<(), Fault>
+// Puts bytes as text: a backslash is doubled, and a byte that isn't printable is told by its digits.
+fn put_text<W: Sink>(writer: &mut W, room: &mut Room, bytes: &[u8]) -> Result<(), Fault>
     ensures err { IfErr result (λ f. f ≡ write_failed) }
 {
-    let mut room = [0u8; ROOM];
-    let mut len = 0;
     for byte in bytes {
-        if len > ROOM - 4 {
-            write_all(writer, &room[..len])?;
-            len = 0;
+        match *byte {
+            b'\\' => room.put(writer, b"\\\\")?,
+            b' '..=b'~' => room.put(writer, &[*byte])?,
+            _ => {
+                let [high, low] = digits_of_byte(*byte);
+                room.put(writer, &[b'\\', b'x', high, low])?;
+            }
         }
-        len += put_character(*byte, &mut room[len..len + 4]);
     }
-    write_all(writer, &room[..len])
+    Ok(())
+}
+
+// Puts bytes in hexadecimal digits, which are spelled many at once.
+fn put_hex<W: Sink>(writer: &mut W, room: &mut Room, bytes: &[u8]) -> Result<(), Fault>
+    ensures err { IfErr result (λ f. f ≡ write_failed) }
+{
+    room.write(writer)?;
+    write_hex(bytes, writer)
 }
 
 // The name of an end.
@@ -171,42 +158,68 @@ fn name_of_end(side: Side) -> &'static str {
     }
 }
 
-// Writes so many nanoseconds in milliseconds, with six digits behind the point.
-fn write_milliseconds<W: Sink>(writer: &mut W, nanoseconds: u64) -> Result<(), Fault>
+// Puts so many nanoseconds in milliseconds, with six digits behind the point.
+fn put_milliseconds<W: Sink>(writer: &mut W, room: &mut Room, nanoseconds: u64) -> Result<(), Fault>
     ensures err { IfErr result (λ f. f ≡ write_failed) }
 {
-    write_number(writer, nanoseconds / 1_000_000)?;
-    write_all(writer, b".")?;
+    put_number(writer, room, nanoseconds / 1_000_000)?;
+    room.put(writer, b".")?;
+    room.write(writer)?;
     write_digits(writer, (nanoseconds % 1_000_000) as u32, 6)
 }
 
-/// Writes a part.
-pub fn write_part<W: Sink>(writer: &mut W, part: Part<'_>) -> Result<(), Fault>
+// Puts an address and a port.
+fn put_endpoint<W: Sink>(writer: &mut W, room: &mut Room, endpoint: Endpoint) -> Result<(), Fault>
     ensures err { IfErr result (λ f. f ≡ write_failed) }
 {
+    room.write(writer)?;
+    write_endpoint(writer, endpoint)
+}
+
+// Puts a part.
+fn put_part<W: Sink>(writer: &mut W, room: &mut Room, part: Part<'_>) -> Result<(), Fault>
+    ensures err { IfErr result (λ f. f ≡ write_failed) }
+{
+    let mut form = TIME;
     match part {
-        Part::Words(words) => write_all(writer, words.as_bytes()),
-        Part::Number(n) => write_number(writer, n),
-        Part::Hex(bytes) => write_hex(bytes, writer),
-        Part::Byte(byte) => write_hex(&[byte], writer),
-        Part::Text(bytes) => write_text(writer, bytes),
-        Part::Time(time) => write_time(writer, time),
-        Part::Date(time) => write_date(writer, time),
-        Part::TimeOfDay(time) => write_time_of_day(writer, time),
-        Part::Milliseconds(nanoseconds) => write_milliseconds(writer, nanoseconds),
-        Part::Endpoint(endpoint) => write_endpoint(writer, endpoint),
-        Part::End(side) => write_all(writer, name_of_end(side).as_bytes()),
+        Part::Words(words) => room.put(writer, words.as_bytes()),
+        Part::Number(n) => put_number(writer, room, n),
+        Part::Hex(bytes) => put_hex(writer, room, bytes),
+        Part::Byte(byte) => room.put(writer, &digits_of_byte(byte)),
+        Part::Text(bytes) => put_text(writer, room, bytes),
+        Part::Time(time) => room.put(writer, time_in(&mut form, time)),
+        Part::Date(time) => room.put(writer, date_in(&mut form, time)),
+        Part::TimeOfDay(time) => room.put(writer, time_of_day_in(&mut form, time)),
+        Part::Milliseconds(nanoseconds) => put_milliseconds(writer, room, nanoseconds),
+        Part::Endpoint(endpoint) => put_endpoint(writer, room, endpoint),
+        Part::End(side) => room.put(writer, name_of_end(side).as_bytes()),
     }
+}
+
+/// Puts parts into a room, one after the other, and writes what is there where they don't fit.
+pub fn put_parts<W: Sink>(writer: &mut W, room: &mut Room, parts: &[Part<'_>]) -> Result<(), Fault>
+    ensures err { IfErr result (λ f. f ≡ write_failed) }
+{
+    for part in parts {
+        put_part(writer, room, *part)?;
+    }
+    Ok(())
 }
 
 /// Writes parts, one after the other.
 pub fn write_parts<W: Sink>(writer: &mut W, parts: &[Part<'_>]) -> Result<(), Fault>
     ensures err { IfErr result (λ f. f ≡ write_failed) }
 {
-    for part in parts {
-        write_part(writer, *part)?;
-    }
-    Ok(())
+    let mut room = Room::new();
+    put_parts(writer, &mut room, parts)?;
+    room.write(writer)
+}
+
+/// Writes a part.
+pub fn write_part<W: Sink>(writer: &mut W, part: Part<'_>) -> Result<(), Fault>
+    ensures err { IfErr result (λ f. f ≡ write_failed) }
+{
+    write_parts(writer, &[part])
 }
 
 /// Writes words.
@@ -218,7 +231,7 @@ pub fn write_words<W: Sink>(writer: &mut W, words: &str) -> Result<(), Fault>
 
 // How many columns a number takes.
 fn digits_of(n: u64) -> usize {
-    Buffer::new().format(n).len()
+    n.max(1).ilog10() as usize + 1
 }
 
 // How many columns bytes take as text.

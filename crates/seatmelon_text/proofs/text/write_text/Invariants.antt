@@ -1,5 +1,0 @@
-use Rattle.std.proofs.Common.{◌≡◌, ◌≤◌, length}
-use Rattle.seatmelon_text.proofs.text.write_text.Given as goal
-
-abbrev pub invariant-loop-byte : goal.invariant-loop-byte
-invariant-loop-byte g l = (length l.room ≡ 256) × (l.len ≤ 256)
