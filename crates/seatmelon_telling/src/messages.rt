@@ -41,28 +41,21 @@ fn time_in<'a>(scene: &Scene<'_>, time: CaptureTime) -> Part<'a> {
     }
 }
 
-// Record, time and channel of the packet at a place, as they stand in a line.
-fn place_in<'a>(scene: &Scene<'_>, place: u32) -> [Part<'a>; 6] {
+// Record, time and channel of the packet at a place, as they stand in a line after these words.
+fn place_in<'a>(scene: &Scene<'_>, words: &'a str, place: u32) -> [Part<'a>; 7] {
     let Some(sighting) = scene.packets.get(place as usize) else {
-        return parts!["place ", place, "", "", "", ""];
+        return parts![words, "place ", place, "", "", "", ""];
     };
     let (comma, time) = match sighting.time {
-        Some(time) => (Part::Words(", "), time_in(scene, time)),
-        None => (Part::Words(""), Part::Words("")),
+        Some(time) => (", ", time_in(scene, time)),
+        None => ("", Part::Words("")),
     };
-    let record = Part::Number(u64::from(sighting.record));
-    if scene.is_single {
-        parts!["record ", record, comma, time, "", ""]
+    let (on, channel) = if scene.is_single {
+        ("", Part::Words(""))
     } else {
-        parts![
-            "record ",
-            record,
-            comma,
-            time,
-            ", channel ",
-            sighting.channel
-        ]
-    }
+        (", channel ", Part::Number(u64::from(sighting.channel)))
+    };
+    parts![words, "record ", sighting.record, comma, time, on, channel]
 }
 
 // The bytes of a message, as they stand in a line: as text, where they are printable.
@@ -84,36 +77,48 @@ fn way_of(sender: Side) -> &'static str {
     }
 }
 
-// A message in one line.
-fn line_of<'a>(scene: &Scene<'_>, sender: Side, message: &Message<'a>) -> [Part<'a>; 18] {
-    let [data, at, comma, time, channel, number] = place_in(scene, message.data);
-    let nothing = Part::Words("");
-    let (state, proof, place) = match message.proof {
-        Some(proof) => (": ", "; proof: ", place_in(scene, proof)),
-        None => (", not shown: ", "", [nothing; 6]),
+// What is between a message's number and the places of its packets.
+fn state_of(message: &Message<'_>) -> &'static str {
+    match message.proof {
+        Some(_) => ": ",
+        None => ", not shown: ",
+    }
+}
+
+// Puts a message in one line, if it fits, and answers whether it does. A line that doesn't is given up before its
+// bytes are looked at, where they are too many: each takes a column at least.
+fn put_line<W: Sink>(
+    writer: &mut W,
+    room: &mut Room,
+    scene: &Scene<'_>,
+    sender: Side,
+    message: &Message<'_>,
+) -> Result<bool, Fault>
+    ensures err { IfErr result (λ f. f ≡ write_failed) }
+{
+    let front = parts![way_of(sender), message.number];
+    let data = place_in(scene, state_of(message), message.data);
+    let proof = match message.proof {
+        Some(proof) => place_in(scene, "; proof: ", proof),
+        None => [Part::Words(""); 7],
     };
-    let [record, of, then, moment, on, channel_of] = place;
-    let [form, bytes] = content_in(message.bytes);
-    parts![
-        way_of(sender),
-        message.number,
-        state,
-        data,
-        at,
-        comma,
-        time,
-        channel,
-        number,
-        proof,
-        record,
-        of,
-        then,
-        moment,
-        on,
-        channel_of,
-        form,
-        bytes
-    ]
+    let left = MOST_COLUMNS
+        .saturating_sub(width(&front))
+        .saturating_sub(width(&data))
+        .saturating_sub(width(&proof));
+    if message.bytes.len() > left {
+        return Ok(false);
+    }
+    let content = content_in(message.bytes);
+    if width(&content) > left {
+        return Ok(false);
+    }
+    put_parts(writer, room, &front)?;
+    put_parts(writer, room, &data)?;
+    put_parts(writer, room, &proof)?;
+    put_parts(writer, room, &content)?;
+    room.put(writer, b"\n")?;
+    Ok(true)
 }
 
 // Puts bytes, in hexadecimal and as text.
@@ -165,11 +170,7 @@ fn put_block<W: Sink>(
 ) -> Result<(), Fault>
     ensures err { IfErr result (λ f. f ≡ write_failed) }
 {
-    let state = if message.proof.is_some() {
-        ": "
-    } else {
-        ", not shown: "
-    };
+    let state = state_of(message);
     put_parts(writer, room, &parts![way_of(sender), message.number, state])?;
     put_parts(writer, room, &place_of(scene.packets, message.data))?;
     if let Some(proof) = message.proof {
@@ -189,12 +190,8 @@ fn put_message<W: Sink>(
 ) -> Result<(), Fault>
     ensures err { IfErr result (λ f. f ≡ write_failed) }
 {
-    if message.bytes.len() <= MOST_COLUMNS {
-        let line = line_of(scene, sender, message);
-        if width(&line) <= MOST_COLUMNS {
-            put_parts(writer, room, &line)?;
-            return room.put(writer, b"\n");
-        }
+    if put_line(writer, room, scene, sender, message)? {
+        return Ok(());
     }
     put_block(writer, room, scene, sender, message)
 }

@@ -24,18 +24,28 @@ impl Room {
         }
     }
 
+    // Puts bytes behind those that are there, if they fit, and answers whether they do.
+    #[inline(always)]
+    fn append(&mut self, bytes: &[u8]) -> bool {
+        if bytes.len() > ROOM - self.len {
+            return false;
+        }
+        let end = self.len + bytes.len();
+        self.bytes[self.len..end].copy_from_slice(bytes);
+        self.len = end;
+        true
+    }
+
     /// Puts bytes behind those that are there. Where they don't fit, those that are there are written first.
     #[inline(always)]
     pub fn put<W: Sink>(&mut self, writer: &mut W, bytes: &[u8]) -> Result<(), Fault>
         ensures err { IfErr result (λ f. f ≡ write_failed) }
     {
-        if bytes.len() > ROOM - self.len {
-            return self.put_behind(writer, bytes);
+        if self.append(bytes) {
+            Ok(())
+        } else {
+            self.put_behind(writer, bytes)
         }
-        let end = self.len + bytes.len();
-        self.bytes[self.len..end].copy_from_slice(bytes);
-        self.len = end;
-        Ok(())
     }
 
     // Writes what is there, and puts bytes in its place; those that are longer than the room are written too.
@@ -44,12 +54,11 @@ impl Room {
         ensures err { IfErr result (λ f. f ≡ write_failed) }
     {
         self.write(writer)?;
-        if bytes.len() > ROOM {
-            return write_all(writer, bytes);
+        if self.append(bytes) {
+            Ok(())
+        } else {
+            write_all(writer, bytes)
         }
-        self.bytes[..bytes.len()].copy_from_slice(bytes);
-        self.len = bytes.len();
-        Ok(())
     }
 
     /// Writes what is there, and leaves the room empty.

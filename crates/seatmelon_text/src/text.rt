@@ -10,9 +10,6 @@ use rasta_show::write_hex;
 use rasta_udp::Endpoint;
 use seatmelon_lines::{TIME, date_in, time_in, time_of_day_in, write_digits, write_endpoint};
 
-// The hexadecimal digits.
-const DIGITS: [u8; 16] = *b"0123456789abcdef";
-
 /// A part of a line.
 #[derive(Clone, Copy)]
 pub enum Part<'a> {
@@ -119,10 +116,11 @@ fn put_number<W: Sink>(writer: &mut W, room: &mut Room, n: u64) -> Result<(), Fa
 pub(crate) fn digits_of_byte(byte: u8) -> [u8; 2]
     ensures { result ≡ encode_lower (byte ∷ []) }
 {
-    [
-        DIGITS[usize::from(byte / 16)],
-        DIGITS[usize::from(byte % 16)],
-    ]
+    let mut digits = [0; 2];
+    if hex::encode_to_slice([byte], &mut digits).is_err() {
+        unreachable!();
+    }
+    digits
 }
 
 // Puts bytes as text: a backslash is doubled, and a byte that isn't printable is told by its digits.
