@@ -2,6 +2,7 @@
 use Rattle.std.specs.Prelude.{◌≡◌, ℕ, List, [], ◌∷◌, length, take, Option, None, Some, option_map}
 use Rattle.sha2.specs.Sha256.{sha256}
 use Rattle.rasta_pcap.specs.declared.fault.Side.TheVariants.{Client, Server}
+use Rattle.rasta_pdu.specs.Params.{Parameters}
 use Rattle.rasta_check.specs.Capture.Reading.{Crossing}
 use Rattle.rasta_check.specs.Verdict.Report as reports
 use Rattle.rasta_verdict.specs.Given.{IsExplainedBy, IsRefusedBy}
@@ -12,7 +13,7 @@ use Rattle.seatmelon_reading.specs.declared.silence.Silence.{Silence}
 use Rattle.seatmelon_reading.specs.Silences.{IsLongestSilence}
 use Rattle.seatmelon_account.specs.Messages.{IsDirection}
 use Rattle.seatmelon_account.specs.Offers.{AreOffers}
-use Rattle.seatmelon_account.specs.Refusals.{TellsRecord}
+use Rattle.seatmelon_account.specs.Refusals.{TellsPlace, TellsRecord}
 use Rattle.seatmelon_account.specs.declared.account.Account.{Account}
 use Rattle.seatmelon_account.specs.declared.account.File.{File}
 use Rattle.seatmelon_account.specs.declared.account.Inputs.{Inputs}
@@ -20,16 +21,16 @@ use Rattle.seatmelon_account.specs.declared.account.Verdict.{Verdict}
 use Rattle.seatmelon_account.specs.declared.refusal.Refusal.{Refusal}
 use Rattle.seatmelon_account.specs.declared.account.Verdict.TheVariants.{NoPackets, Refused, Explained}
 
--- the fault that is told is that of the capture, with its record, or that of the verdict on what crossed
-abbrev pub IsToldRefusal : Crossing → Option CaptureRefusal → Option (List ℕ) → Refusal → Type 0
-IsToldRefusal k (Some refusal) text told = (told.fault ≡ refusal.fault) × TellsRecord k refusal told.subject
-IsToldRefusal k None text told = IsRefusedBy k text told.fault
+-- the fault that is told is that of the capture, with its record, or that of the verdict on what crossed, with its place
+abbrev pub IsToldRefusal : Parameters → Crossing → Option CaptureRefusal → Option (List ℕ) → Refusal → Type 0
+IsToldRefusal p k (Some refusal) text told = (told.fault ≡ refusal.fault) × TellsRecord p k refusal told.subject
+IsToldRefusal p k None text told = IsRefusedBy k text told.fault × TellsPlace k told.fault told.subject
 
 -- the verdict, and what is told of it
-abbrev pub IsToldOf : Crossing → Option CaptureRefusal → Option (List ℕ) → Verdict → Type 0
-IsToldOf k refusal text NoPackets = (refusal ≡ None) × (length k.packets ≡ 0)
-IsToldOf k refusal text (Refused told) = IsToldRefusal k refusal text told
-IsToldOf k refusal text (Explained e) = (refusal ≡ None) × ((report : reports.Explained) × IsExplainedBy k text report
+abbrev pub IsToldOf : Parameters → Crossing → Option CaptureRefusal → Option (List ℕ) → Verdict → Type 0
+IsToldOf p k refusal text NoPackets = (refusal ≡ None) × (length k.packets ≡ 0)
+IsToldOf p k refusal text (Refused told) = IsToldRefusal p k refusal text told
+IsToldOf p k refusal text (Explained e) = (refusal ≡ None) × ((report : reports.Explained) × IsExplainedBy k text report
     × (e.packets ≡ report.packets) × IsDirection k.client report.server_taken e.client × IsDirection k.server report.client_taken e.server)
 
 abbrev pub text_in : Inputs → Option (List ℕ)
@@ -59,4 +60,4 @@ pub record IsAccount (i : Inputs) (r : Reading) (a : Account) : Type 0 where
   pub times : a.times ≡ r.notes.times
   pub silences : AreSilences r.notes.packets.items a.silences
   pub offers : AreOffers i.params.now.n_sendmax r.store a.offers
-  pub verdict : IsToldOf r.store r.refusal (text_in i) a.verdict
+  pub verdict : IsToldOf i.params.now r.store r.refusal (text_in i) a.verdict

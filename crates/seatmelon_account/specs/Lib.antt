@@ -1,6 +1,10 @@
 pub mod Account
+pub mod Crossed
+pub mod Deadlines
+pub mod Fields
 pub mod Gaps
 pub mod Messages
 pub mod Offers
 pub mod Refusals
 pub mod Selection
+pub mod Troubles

@@ -181,7 +181,7 @@ fn judged<'a>(
     inputs: &Inputs<'a>,
     reading: &'a Reading,
 ) -> Result<Verdict<'a>, Fault>
-    ensures told { IfOk result (IsToldOf reading.now.store None (text_in inputs.now)) }
+    ensures told { IfOk result (IsToldOf inputs.now.params.now reading.now.store None (text_in inputs.now)) }
     ensures err { IfErr result (λ f. f ≡ no_memory) }
 {
     let store = &reading.store;
@@ -208,7 +208,7 @@ fn verdict_on<'a>(
     inputs: &Inputs<'a>,
     reading: &'a Reading,
 ) -> Result<Verdict<'a>, Fault>
-    ensures told { IfOk result (IsToldOf reading.now.store reading.now.refusal (text_in inputs.now)) }
+    ensures told { IfOk result (IsToldOf inputs.now.params.now reading.now.store reading.now.refusal (text_in inputs.now)) }
     ensures err { IfErr result (λ f. f ≡ no_memory) }
 {
     let store = &reading.store;

@@ -1,6 +1,8 @@
 //! Packets that crossed.
-ghost use Rattle.std.specs.Prelude.{◌≡◌};
+ghost use Rattle.std.specs.Prelude.{◌≡◌, option_map};
+ghost use Rattle.rasta_pdu.specs.Pdu.{value_of};
 ghost use Rattle.rasta_check.specs.Capture.Reading.{sent_by};
+ghost use Rattle.seatmelon_account.specs.Crossed.{IsCrossedAt, has_opening, pdu_at};
 
 use rasta_check::{SentList, SpanList, Store};
 use rasta_pcap::Side;
@@ -25,7 +27,9 @@ pub fn list_of(store: &Store, side: Side) -> SpanList<'_>
 }
 
 /// The PDU of an end at a place, if a first copy crossed there.
-pub fn pdu_at<'a>(list: &SpanList<'a>, place: u32) -> Option<Pdu<'a>> {
+pub fn pdu_at<'a>(list: &SpanList<'a>, place: u32) -> Option<Pdu<'a>>
+    ensures { option_map value_of result ≡ pdu_at list.now place }
+{
     let position = list.at_place(place)?;
     let (_, pdu) = list.get(position)?;
     Some(pdu)
@@ -40,14 +44,18 @@ pub fn first_with(store: &Store, side: Side, number: u32) -> Option<Crossed<'_>>
 }
 
 /// The packet at a place.
-pub fn packet_at(store: &Store, place: u32) -> Option<Crossed<'_>> {
+pub fn packet_at(store: &Store, place: u32) -> Option<Crossed<'_>>
+    ensures { IsCrossedAt store.now place result }
+{
     let (side, _) = store.packet(place)?;
     let pdu = pdu_at(&list_of(store, side), place);
     Some(Crossed { side, place, pdu })
 }
 
 /// Whether the first packet that crossed opens the connection.
-pub fn has_opening(store: &Store) -> bool {
+pub fn has_opening(store: &Store) -> bool
+    ensures { result ≡ has_opening store.now }
+{
     match packet_at(store, 0).and_then(|first| first.pdu) {
         Some(pdu) => pdu.kind().is(Kind::ConnectionRequest),
         None => false,

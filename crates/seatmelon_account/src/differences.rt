@@ -1,10 +1,17 @@
 //! How a datagram differs from what is due.
+ghost use Rattle.std.specs.Prelude.{◌≡◌, ◌≤◌, IfSome, length, take};
+ghost use Rattle.rasta_pdu.specs.Pdu.{check_at, code_at};
+ghost use Rattle.seatmelon_account.specs.Troubles.{AreCodes};
+
 use crate::numbers::SAFETY_AT;
 use arrayvec::ArrayVec;
 use rasta_pdu::Params;
 
 /// Where the safety code of a datagram begins and ends, if the datagram is long enough.
-pub fn code_places(params: &Params, datagram: &[u8]) -> Option<(usize, usize)> {
+pub fn code_places(params: &Params, datagram: &[u8]) -> Option<(usize, usize)>
+    ensures { IfSome result (λ places. (places ≡ (code_at params.now datagram.now, check_at params.now datagram.now))
+        × (8 ≤ places.0) × (places.0 ≤ places.1) × (places.1 ≤ length datagram.now)) }
+{
     let end = datagram
         .len()
         .checked_sub(usize::from(params.check_length()))?;
@@ -24,17 +31,18 @@ pub struct Codes<'a> {
 
 impl Codes<'_> {
     /// The code that is due.
-    pub fn due(&self) -> &[u8] {
+    pub fn due(&self) -> &[u8]
+        ensures { result.now ≡ take (length self.now.found.now) self.now.digest }
+    {
         &self.digest[..self.found.len().min(self.digest.len())]
     }
 }
 
 /// The safety code that a datagram has, and the one that is due, if the datagram is long enough.
-pub fn codes_in<'a>(params: &Params, datagram: &'a [u8]) -> Option<Codes<'a>> {
+pub fn codes_in<'a>(params: &Params, datagram: &'a [u8]) -> Option<Codes<'a>>
+    ensures { IfSome result (AreCodes params.now datagram.now) }
+{
     let (start, end) = code_places(params, datagram)?;
-    if end > datagram.len() || start > end || start < SAFETY_AT {
-        return None;
-    }
     Some(Codes {
         found: &datagram[start..end],
         digest: rasta_md4::digest(params.md4_start(), &datagram[SAFETY_AT..start]),

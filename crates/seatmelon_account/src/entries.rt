@@ -1,4 +1,6 @@
 //! Entries of scripts that the checker refuses.
+ghost use Rattle.std.specs.Prelude.{◌≡◌};
+
 use crate::crossed::{Crossed, first_with, list_of, pdu_at};
 use rasta_cert::{Certificate, Entry};
 use rasta_check::{SentList, Store};
@@ -102,7 +104,9 @@ pub fn refused_entry<'a>(
     store: &'a Store,
     certificate: &Certificate,
     fault: Fault,
-) -> RefusedEntry<'a> {
+) -> RefusedEntry<'a>
+    ensures { result.number ≡ fault.place }
+{
     let side = fault.end.unwrap_or(Side::Client);
     RefusedEntry {
         number: fault.place,

@@ -1,7 +1,8 @@
 //! A gap in the redundancy numbers of an end.
 ghost use Rattle.std.specs.Prelude.{◌≡◌, IfSome};
 ghost use Rattle.rasta_check.specs.Capture.Reading.{sent_by};
-ghost use Rattle.seatmelon_account.specs.Gaps.{IsLastOf};
+ghost use Rattle.seatmelon_account.specs.Crossed.{has_opening};
+ghost use Rattle.seatmelon_account.specs.Gaps.{IsGap, IsLastOf};
 
 use crate::crossed::{has_opening, list_of};
 use crate::numbers::{NUMBER_AT, SN_AT, number_at};
@@ -40,8 +41,12 @@ pub struct Gap {
 }
 
 impl Numbers {
+    ghost use Rattle.seatmelon_account.specs.Gaps.{next_numbers};
+
     // Those of the next PDU.
-    fn next(self) -> Numbers {
+    fn next(self) -> Numbers
+        ensures { result ≡ next_numbers self }
+    {
         Numbers {
             redundancy: self.redundancy.wrapping_add(1),
             sn: self.sn.wrapping_add(1),
@@ -50,18 +55,26 @@ impl Numbers {
 }
 
 impl Gap {
+    ghost use Rattle.seatmelon_account.specs.Gaps.{due_at, numbers_skipped, sns_skipped};
+
     /// The numbers that were due.
-    pub fn due(&self) -> Numbers {
+    pub fn due(&self) -> Numbers
+        ensures { result ≡ due_at self.now }
+    {
         self.last.numbers.next()
     }
 
     /// How many redundancy numbers are skipped, modulo 2^32.
-    pub fn skipped(&self) -> u32 {
+    pub fn skipped(&self) -> u32
+        ensures { result ≡ numbers_skipped self.now }
+    {
         self.found.wrapping_sub(self.due().redundancy)
     }
 
     /// How many SNs are skipped, modulo 2^32.
-    pub fn sn_skipped(&self) -> Option<u32> {
+    pub fn sn_skipped(&self) -> Option<u32>
+        ensures { result ≡ sns_skipped self.now }
+    {
         Some(self.sn_found?.wrapping_sub(self.due().sn))
     }
 }
@@ -82,7 +95,8 @@ fn last_of(list: &SpanList<'_>) -> Option<LastBefore>
 
 /// The gap that the datagram of an end shows, behind what crossed; none where this end sent nothing before it.
 pub fn gap_of(store: &Store, side: Side, datagram: &[u8], later: Option<Sighting>) -> Option<Gap>
-    ensures { IfSome result (λ gap. IsLastOf (sent_by store.now side) gap.last) }
+    ensures gap { IfSome result (IsGap (sent_by store.now side) (has_opening store.now) datagram.now) }
+    ensures later { IfSome result (λ gap. gap.later ≡ later) }
 {
     Some(Gap {
         last: last_of(&list_of(store, side))?,

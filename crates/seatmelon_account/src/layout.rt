@@ -1,5 +1,7 @@
 //! What a payload is, and what the type of its datagram has in its place.
-ghost use Rattle.std.specs.Prelude.{◌≤◌, ◌<◌, length, IfSome};
+ghost use Rattle.std.specs.Prelude.{◌≡◌, ◌≤◌, ◌<◌, length, IfSome};
+ghost use Rattle.std.specs.Option.{ForSome};
+ghost use Rattle.seatmelon_account.specs.Fields.{field_at};
 
 use crate::differences::code_places;
 use crate::numbers::{PAYLOAD_AT, TYPE_AT, number_at};
@@ -34,7 +36,9 @@ pub struct Layout<'a> {
 }
 
 /// The number that stands as the type of a datagram.
-pub fn type_in(datagram: &[u8]) -> u32 {
+pub fn type_in(datagram: &[u8]) -> u32
+    ensures { ForSome (field_at 2 10 datagram.now) (λ number. result ≡ number) }
+{
     number_at(datagram, TYPE_AT, 2).unwrap_or(0)
 }
 

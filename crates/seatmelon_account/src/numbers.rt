@@ -1,4 +1,7 @@
 //! The numbers in a datagram.
+ghost use Rattle.std.specs.Prelude.{◌≡◌, ◌⊎◌};
+ghost use Rattle.seatmelon_account.specs.Fields.{field_at};
+
 use byteorder::{ByteOrder, LittleEndian};
 
 /// Where the redundancy number stands in a datagram.
@@ -17,7 +20,9 @@ pub const SN_AT: usize = 20;
 pub const PAYLOAD_AT: usize = 36;
 
 /// The little-endian number of 2 or 4 bytes there, if the datagram goes so far.
-pub fn number_at(datagram: &[u8], at: usize, len: usize) -> Option<u32> {
+pub fn number_at(datagram: &[u8], at: usize, len: usize) -> Option<u32>
+    ensures { (len ≡ 2) ⊎ (len ≡ 4) → result ≡ field_at len at datagram.now }
+{
     if datagram.len() < at || datagram.len() - at < len {
         return None;
     }

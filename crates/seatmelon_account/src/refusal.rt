@@ -1,7 +1,9 @@
 //! What is told of a refusal.
-ghost use Rattle.std.specs.Prelude.{◌≡◌};
-ghost use Rattle.seatmelon_account.specs.Gaps.{TellsGap};
-ghost use Rattle.seatmelon_account.specs.Refusals.{TellsRecord};
+ghost use Rattle.std.specs.Prelude.{◌≡◌, ◌-◌, option_map};
+ghost use Rattle.rasta_udp.specs.Frame.{packet_of};
+ghost use Rattle.seatmelon_account.specs.Crossed as crossed_specs;
+ghost use Rattle.seatmelon_account.specs.Refusals.{TellsPlace, TellsRecord};
+ghost use Rattle.seatmelon_account.specs.Troubles.{TellsPacket, packet_refused};
 
 use crate::crossed::{Crossed, has_opening, packet_at};
 use crate::entries::{RefusedEntry, refused_entry};
@@ -76,7 +78,9 @@ pub struct Refusal<'a> {
 }
 
 // The datagram of a refused record, if it holds one of the recorded channels.
-fn datagram_in<'a>(params: &Params, refusal: &'a CaptureRefusal) -> Option<Datagram<'a>> {
+fn datagram_in<'a>(params: &Params, refusal: &'a CaptureRefusal) -> Option<Datagram<'a>>
+    ensures { option_map packet_of result ≡ packet_refused params.now refusal.now }
+{
     let record = Record {
         number: refusal.fault.place,
         bytes: &refusal.frame,
@@ -100,7 +104,7 @@ fn packet_in<'a>(
     store: &Store,
     refusal: &'a CaptureRefusal,
 ) -> Option<RefusedPacket<'a>>
-    ensures { TellsGap store.now result }
+    ensures { TellsPacket params.now store.now refusal.now result }
 {
     let packet = datagram_in(params, refusal)?;
     Some(RefusedPacket {
@@ -120,7 +124,7 @@ pub fn capture_refusal<'a>(
     refusal: &'a CaptureRefusal,
 ) -> Refusal<'a>
     ensures fault { result.fault ≡ refusal.now.fault }
-    ensures told { TellsRecord store.now refusal.now result.subject }
+    ensures told { TellsRecord params.now store.now refusal.now result.subject }
 {
     let fault = refusal.fault;
     let subject = match fault.place {
@@ -136,33 +140,35 @@ pub fn capture_refusal<'a>(
 }
 
 // Whether no quiet point is recorded, and the first packet opens no connection.
-fn lacks_opening(store: &Store) -> bool {
+fn lacks_opening(store: &Store) -> bool
+    ensures { result ≡ crossed_specs.lacks_opening store.now }
+{
     store.params().quiet().is_none() && !has_opening(store)
 }
 
 // Whether a packet is a PDU of the opening that the other end sends.
-fn is_exchanged(packet: Option<&Crossed<'_>>) -> bool {
-    match packet {
-        Some(
-            Crossed {
-                side,
-                pdu: Some(pdu),
-                ..
-            },
-        ) => match pdu.kind() {
-            Kind::ConnectionRequest => matches!(side, Side::Server),
-            Kind::ConnectionResponse => matches!(side, Side::Client),
-            _ => false,
-        },
-        _ => false,
+fn is_exchanged(packet: &Option<Crossed<'_>>) -> bool
+    ensures { result ≡ crossed_specs.is_exchanged packet.now }
+{
+    let Some(Crossed { side, pdu, .. }) = packet else {
+        return false;
+    };
+    let Some(pdu) = pdu else {
+        return false;
+    };
+    match side {
+        Side::Client => pdu.kind().is(Kind::ConnectionResponse),
+        Side::Server => pdu.kind().is(Kind::ConnectionRequest),
     }
 }
 
 // What is told of a packet that can't be explained.
-fn unexplained<'a>(store: &'a Store, place: u32, met: Option<Obstacle>) -> Subject<'a> {
-    let packet = packet_at(store, place);
+fn unexplained<'a>(store: &'a Store, fault: Fault, met: Option<Obstacle>) -> Subject<'a>
+    ensures { TellsPlace store.now fault result }
+{
+    let packet = packet_at(store, fault.place.saturating_sub(1));
     Subject::Unexplained {
-        is_exchanged: is_exchanged(packet.as_ref()),
+        is_exchanged: is_exchanged(&packet),
         packet,
         rule: met.and_then(|met| broken_rule(store, &met)),
         lacks_opening: lacks_opening(store),
@@ -171,10 +177,11 @@ fn unexplained<'a>(store: &'a Store, place: u32, met: Option<Obstacle>) -> Subje
 
 /// What is told of packets for which there are no scripts.
 pub fn unscripted<'a>(store: &'a Store, fault: Fault, met: Option<Obstacle>) -> Refusal<'a>
-    ensures { result.fault ≡ fault }
+    ensures fault { result.fault ≡ fault }
+    ensures told { TellsPlace store.now fault result.subject }
 {
     let subject = match fault.number {
-        Fault::NOT_FOUND => unexplained(store, fault.place.saturating_sub(1), met),
+        Fault::NOT_FOUND => unexplained(store, fault, met),
         _ => Subject::Line(fault.place),
     };
     Refusal { fault, subject }
@@ -182,7 +189,8 @@ pub fn unscripted<'a>(store: &'a Store, fault: Fault, met: Option<Obstacle>) -> 
 
 /// What is told of packets whose scripts the checker refuses.
 pub fn scripts_refusal<'a>(store: &'a Store, fault: Fault, certificate: &Certificate) -> Refusal<'a>
-    ensures { result.fault ≡ fault }
+    ensures fault { result.fault ≡ fault }
+    ensures told { TellsPlace store.now fault result.subject }
 {
     Refusal {
         fault,

@@ -1,4 +1,7 @@
 //! The rule that refuses a PDU, found by a walk beside the verdict.
+ghost use Rattle.std.specs.Prelude.{◌≡◌, IfSome, Some};
+ghost use Rattle.seatmelon_account.specs.Deadlines.{IsDeadline, deadline_by};
+
 use crate::crossed::{Crossed, first_with, list_of, pdu_at};
 use rasta_build::{Confirmation, Obstacle, Rule};
 use rasta_check::{SentList, SpanList, Store};
@@ -59,7 +62,9 @@ fn number_in(rule: Rule) -> Option<u32> {
 }
 
 // The deadline of an end: T_max after what was confirmed, or that of the quiet point.
-fn deadline_at(params: &Params, side: Side, confirmed: Option<Confirmation>) -> Option<u64> {
+fn deadline_at(params: &Params, side: Side, confirmed: Option<Confirmation>) -> Option<u64>
+    ensures { IfSome result (λ deadline. deadline_by params.now side confirmed ≡ Some deadline) }
+{
     match confirmed {
         Some(confirmed) => confirmed.time?.checked_add(u64::from(params.t_max())),
         None => params.quiet()?.of(side).deadline,
@@ -67,7 +72,9 @@ fn deadline_at(params: &Params, side: Side, confirmed: Option<Confirmation>) -> 
 }
 
 // The deadline that a PDU misses, where a rule speaks of one.
-fn deadline_of(params: &Params, met: &Obstacle) -> Option<Deadline> {
+fn deadline_of(params: &Params, met: &Obstacle) -> Option<Deadline>
+    ensures { IfSome result (IsDeadline params.now met.now) }
+{
     let Rule::Deadline {
         clock,
         confirmed,

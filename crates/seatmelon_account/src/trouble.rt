@@ -1,6 +1,8 @@
 //! What is wrong with a packet.
-ghost use Rattle.rasta_check.specs.Capture.Reading.{sent_by};
-ghost use Rattle.seatmelon_account.specs.Gaps.{TellsTrouble};
+ghost use Rattle.std.specs.Prelude.{◌≡◌, ◌+◌, ◌-◌, length};
+ghost use Rattle.rasta_udp.specs.Frame.{packet_of};
+ghost use Rattle.rasta_pdu.specs.Pdu.{check_at, receiver_of, sender_of};
+ghost use Rattle.seatmelon_account.specs.Troubles.{TellsOther, TellsTrouble};
 
 use crate::differences::{Codes, Differences, codes_in, differences};
 use crate::gap::{Gap, gap_of};
@@ -60,17 +62,23 @@ pub enum Trouble<'a> {
 }
 
 // The other packet with the number of a refused one, if there is one.
-fn first_copy<'a>(refusal: &'a CaptureRefusal, datagram: &[u8]) -> Option<FirstCopy<'a>> {
-    let beside = refusal.beside.as_ref()?;
-    Some(FirstCopy {
-        sighting: beside.sighting,
-        bytes: &beside.bytes,
-        differences: differences(datagram, &beside.bytes),
-    })
+fn first_copy<'a>(refusal: &'a CaptureRefusal, datagram: &[u8]) -> Option<FirstCopy<'a>>
+    ensures { TellsOther refusal.now result }
+{
+    match &refusal.beside {
+        Some(beside) => Some(FirstCopy {
+            sighting: beside.sighting,
+            bytes: &beside.bytes,
+            differences: differences(datagram, &beside.bytes),
+        }),
+        None => None,
+    }
 }
 
 // The ids that are recorded of a sender and of its receiver, which stands first.
-fn ids(params: &Params, sender: Side) -> (u32, u32) {
+fn ids(params: &Params, sender: Side) -> (u32, u32)
+    ensures { result ≡ (receiver_of params.now sender, sender_of params.now sender) }
+{
     match sender {
         Side::Client => (params.server_id(), params.client_id()),
         Side::Server => (params.client_id(), params.server_id()),
@@ -78,19 +86,28 @@ fn ids(params: &Params, sender: Side) -> (u32, u32) {
 }
 
 // The fewest bytes of a datagram with codes of these lengths.
-fn least_length(params: &Params) -> u64 {
+fn least_length(params: &Params) -> u64
+    ensures { result ≡ 36 + params.now.code_length + params.now.check_length }
+{
     LEAST_LENGTH + u64::from(params.code_length()) + u64::from(params.check_length())
 }
 
 // The length of the safety layer in a datagram.
-fn safety_length(params: &Params, datagram: &[u8]) -> u64 {
+fn safety_length(params: &Params, datagram: &[u8]) -> u64
+    ensures { result ≡ check_at params.now datagram.now - 8 }
+{
     let around = BEFORE_SAFETY + u64::from(params.check_length());
     (datagram.len() as u64).saturating_sub(around)
 }
 
 // The gap that the packet of a refused record shows.
-fn gap<'a>(store: &Store, refusal: &CaptureRefusal, packet: &Datagram<'a>) -> Trouble<'a>
-    ensures { TellsTrouble (sent_by store.now packet.now.side) result }
+fn gap<'a>(
+    params: &Params,
+    store: &Store,
+    refusal: &CaptureRefusal,
+    packet: &Datagram<'a>,
+) -> Trouble<'a>
+    ensures { TellsTrouble params.now store.now refusal.now (packet_of packet.now) result }
 {
     let later = refusal.beside.as_ref().map(|beside| beside.sighting);
     match gap_of(store, packet.side, packet.payload, later) {
@@ -106,13 +123,13 @@ pub fn trouble_of<'a>(
     refusal: &'a CaptureRefusal,
     packet: &Datagram<'a>,
 ) -> Trouble<'a>
-    ensures { TellsTrouble (sent_by store.now packet.now.side) result }
+    ensures { TellsTrouble params.now store.now refusal.now (packet_of packet.now) result }
 {
     let datagram = packet.payload;
     match refusal.fault.number {
         Fault::CODE => Trouble::Code(codes_in(params, datagram), first_copy(refusal, datagram)),
         Fault::COPY_DIFFERS => Trouble::Copy(first_copy(refusal, datagram)),
-        Fault::NUMBER_GAP => gap(store, refusal, packet),
+        Fault::NUMBER_GAP => gap(params, store, refusal, packet),
         Fault::IDS => {
             let (receiver, sender) = ids(params, packet.side);
             Trouble::Ids { receiver, sender }

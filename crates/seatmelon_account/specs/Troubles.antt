@@ -1,0 +1,62 @@
+-- What is told to be wrong with the packet of a refused record.
+use Rattle.std.specs.Prelude.{◌≡◌, ℕ, ◌+◌, ◌-◌, ◌==◌, List, [], length, take, slice_range, Option, None, Some, option_map, ⊤}
+use Rattle.std.specs.Option.{ForSome}
+use Rattle.rasta_md4.specs.Md4.{md4}
+use Rattle.rasta_udp.specs.Frame.{Packet, packet_in}
+use Rattle.rasta_pdu.specs.Params.{Parameters}
+use Rattle.rasta_pdu.specs.Pdu.{check_at, code_at, receiver_of, sender_of}
+use Rattle.rasta_check.specs.Capture.Reading.{Crossing, packet_found, sent_by}
+use Rattle.seatmelon_reading.specs.declared.capture_refusal.Beside.{Beside}
+use Rattle.seatmelon_reading.specs.declared.capture_refusal.CaptureRefusal.{CaptureRefusal}
+use Rattle.seatmelon_reading.specs.declared.notes.Sighting.{Sighting}
+use Rattle.seatmelon_account.specs.Crossed.{has_opening}
+use Rattle.seatmelon_account.specs.Fields.{field_at}
+use Rattle.seatmelon_account.specs.Gaps.{IsGap}
+use Rattle.seatmelon_account.specs.declared.differences.Codes.{Codes}
+use Rattle.seatmelon_account.specs.declared.refusal.RefusedPacket.{RefusedPacket}
+use Rattle.seatmelon_account.specs.declared.trouble.FirstCopy.{FirstCopy}
+use Rattle.seatmelon_account.specs.declared.trouble.Trouble.{Trouble}
+use Rattle.seatmelon_account.specs.declared.trouble.Trouble.TheVariants as troubles
+
+abbrev pub sighting_beside : Beside → Sighting
+sighting_beside b = b.sighting
+
+-- the safety code that is found in a datagram, and the digest of what it covers
+pub record AreCodes (p : Parameters) (datagram : List ℕ) (codes : Codes) : Type 0 where
+  pub found : codes.found.now ≡ slice_range datagram (code_at p datagram) (check_at p datagram)
+  pub digest : codes.digest ≡ md4 p.md4_start (slice_range datagram 8 (code_at p datagram))
+
+-- the other packet with the same number is told as it was found beside the refused one
+abbrev pub TellsOther : CaptureRefusal → Option FirstCopy → Type 0
+TellsOther r None = r.beside ≡ None
+TellsOther r (Some first) = (beside : Beside) × (r.beside ≡ Some beside) × (first.sighting ≡ beside.sighting) × (first.bytes.now ≡ beside.bytes.items)
+
+-- what is told of a packet with these parameters, behind what crossed
+abbrev pub TellsTrouble : Parameters → Crossing → CaptureRefusal → Packet → Trouble → Type 0
+TellsTrouble p k r packet (troubles.Gap None) = ⊤
+TellsTrouble p k r packet (troubles.Gap (Some gap)) =
+    IsGap (sent_by k packet.side) (has_opening k) packet.payload gap × (gap.later ≡ option_map sighting_beside r.beside)
+TellsTrouble p k r packet (troubles.Code codes first) = ForSome codes (AreCodes p packet.payload) × TellsOther r first
+TellsTrouble p k r packet (troubles.Copy first) = TellsOther r first
+TellsTrouble p k r packet (troubles.Ids receiver sender) = (receiver ≡ receiver_of p packet.side) × (sender ≡ sender_of p packet.side)
+TellsTrouble p k r packet (troubles.Length due) = due ≡ length packet.payload
+TellsTrouble p k r packet (troubles.TooShort least) = least ≡ 36 + p.code_length + p.check_length
+TellsTrouble p k r packet (troubles.SafetyLength due) = due ≡ check_at p packet.payload - 8
+TellsTrouble p k r packet (troubles.Type found) = ForSome (field_at 2 10 packet.payload) (λ (number : ℕ). found ≡ number)
+TellsTrouble p k r packet (troubles.Payload layout) = ⊤
+TellsTrouble p k r packet troubles.Other = ⊤
+
+-- the packet of the refused record is told, if it holds one of the recorded channels
+pub record IsRefusedPacket (p : Parameters) (k : Crossing) (r : CaptureRefusal) (packet : Packet) (told : RefusedPacket) : Type 0 where
+  pub sender : told.sender ≡ packet.side
+  pub channel : told.channel ≡ packet.channel
+  pub datagram : told.datagram.now ≡ packet.payload
+  pub trouble : TellsTrouble p k r packet told.trouble
+  pub first : told.is_first ≡ (length k.packets == 0)
+
+abbrev pub packet_refused : Parameters → CaptureRefusal → Option Packet
+packet_refused p r = packet_found (packet_in p.channels r.frame.items)
+
+abbrev pub TellsPacket : Parameters → Crossing → CaptureRefusal → Option RefusedPacket → Type 0
+TellsPacket p k r None = packet_refused p r ≡ None
+TellsPacket p k r (Some told) = (packet : Packet) × (packet_refused p r ≡ Some packet) × IsRefusedPacket p k r packet told
