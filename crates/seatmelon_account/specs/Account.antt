@@ -49,6 +49,7 @@ pub record IsAccount (i : Inputs) (r : Reading) (a : Account) : Type 0 where
   pub capture : a.capture.sum ≡ r.digest
   pub parameters : a.parameters.sum ≡ sha256 i.texts.parameters.now
   pub certificate : option_map sum_of a.certificate ≡ option_map sha256 (text_in i)
+  pub header : a.header ≡ r.header
   pub params : a.params.now ≡ i.params.now
   pub without : a.without.now ≡ i.without.now
   pub records : a.records ≡ r.notes.records

@@ -18,6 +18,7 @@ use rasta_check::Store;
 use rasta_pcap::{Fault, Side};
 use rasta_pdu::Params;
 use rasta_verdict::judge_by;
+use seatmelon_capture::FileHeader;
 use seatmelon_reading::{
     ChannelCount, PassedOver, Reading, Sighting, Silence, TimeNotes, Window, longest_silence,
     window_in,
@@ -77,6 +78,9 @@ pub struct Account<'a> {
     pub capture: File<'a>,
     pub parameters: File<'a>,
     pub certificate: Option<File<'a>>,
+
+    /// The header of the capture; none where its file is shorter, or begins with no magic number.
+    pub header: Option<FileHeader>,
 
     /// By what is judged.
     pub params: &'a Params,
@@ -256,6 +260,7 @@ pub fn account_of<'a>(
         },
         parameters: file_of(names.parameters, texts.parameters),
         certificate: texts.certificate.map(|text| file_of(name, text)),
+        header: reading.header,
         params: inputs.params,
         without: inputs.without,
         records: notes.records,

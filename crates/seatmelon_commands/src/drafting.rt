@@ -174,7 +174,11 @@ fn tell_fault<R: Eprint>(rt: &R, path: &str, survey: &Survey) {
         return;
     };
     let kind = FileKind::Capture;
-    let refusal = Refusal { fault, kind };
+    let refusal = Refusal {
+        fault,
+        kind,
+        header: None,
+    };
     // Where standard error fails too, the draft has told it.
     let _ = eprintln!(rt; "seatmelon: {path}: {refusal}\nonly the records before that were read");
 }

@@ -5,6 +5,7 @@ ghost use Rattle.seatmelon_commands.specs.Failing.{is_told, status_of};
 use crate::file_kind::FileKind;
 use crate::parameters::ParameterRefusal;
 use rasta_pcap::Fault;
+use seatmelon_capture::{FileHeader, link_type_name};
 use seatmelon_survey::{FaultWords, words_of_fault};
 use std::alloc::{AllocError, Global};
 use std::{fmt, io};
@@ -56,11 +57,12 @@ pub enum Failure {
     },
 }
 
-/// Why a capture is refused, and what kind of file it seems to be.
+/// Why a capture is refused, what kind of file it seems to be, and its header, if it has one.
 #[derive(Clone, Copy, Debug)]
 pub struct Refusal {
     pub fault: Fault,
     pub kind: FileKind,
+    pub header: Option<FileHeader>,
 }
 
 impl From<AllocError> for Failure {
@@ -73,9 +75,12 @@ impl From<AllocError> for Failure {
     }
 }
 
-// What is told of a file of this kind, after a line feed.
-fn advice_on(kind: FileKind) -> &'static str {
+// What is told of a file of this kind, or of frames that are of no use, after a line feed.
+fn advice_on(kind: FileKind, has_other_frames: bool) -> &'static str {
     match kind {
+        FileKind::Capture if has_other_frames => {
+            "\ncapture on an Ethernet interface, not on 'any': frames without Ethernet headers can't be converted"
+        }
         FileKind::Gzip => "\nthis is a gzip file: gunzip it first",
         FileKind::Pcapng => "\nthis is a pcapng file: editcap -F pcap IN OUT makes a classic one",
         FileKind::Text => {
@@ -85,15 +90,44 @@ fn advice_on(kind: FileKind) -> &'static str {
     }
 }
 
+// The link type of Ethernet.
+const ETHERNET: u16 = 1;
+
+// The link type that a fault speaks of: where it is that of Ethernet, its field says more than the type.
+fn refused_link_type(refusal: &Refusal) -> Option<u16> {
+    let header = refusal.header?;
+    match refusal.fault.number {
+        Fault::LINK_TYPE if header.link_type != ETHERNET => Some(header.link_type),
+        _ => None,
+    }
+}
+
+// Writes of which link type the frames are, if that is refused.
+fn write_link_type<W: fmt::Write>(
+    f: &mut fmt::Formatter<W>,
+    link_type: Option<u16>,
+) -> fmt::Result {
+    let Some(link_type) = link_type else {
+        return Ok(());
+    };
+    write!(f, " but of link type {link_type}")?;
+    match link_type_name(link_type) {
+        Some(name) => write!(f, " ({name})"),
+        None => Ok(()),
+    }
+}
+
 impl fmt::Display for Refusal {
     fn fmt<W: fmt::Write>(&self, f: &mut fmt::Formatter<W>) -> fmt::Result {
-        let Refusal { fault, kind } = self;
+        let Refusal { fault, kind, .. } = self;
         let FaultWords { before, behind } = words_of_fault(fault.number);
         f.write_str(before)?;
         if fault.place > 0 {
             write!(f, "{}{behind}", fault.place)?;
         }
-        let advice = advice_on(*kind);
+        let link_type = refused_link_type(self);
+        write_link_type(f, link_type)?;
+        let advice = advice_on(*kind, link_type.is_some());
         write!(f, " ({} {}){advice}", fault.number, fault.name())
     }
 }

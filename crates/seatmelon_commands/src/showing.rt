@@ -12,6 +12,7 @@ use crate::reading::{BUFFER, STANDARD_INPUT, unread, whole_file};
 use crate::watched::Watched;
 use rasta_pcap::{Counted, Fault};
 use rasta_pdu::{Kind, Params};
+use seatmelon_capture::{FileHeader, Keeping};
 use seatmelon_show::{Choice, Listing, Types, list};
 use std::alloc::Global;
 use std::fs::File;
@@ -65,11 +66,12 @@ fn flushed<W: Write>(listing: Result<Listing, Fault>, writer: &mut W) -> Result<
     }
 }
 
-// Why a capture isn't listed to its end, by the fault, and what is kept of its reader and of the writer.
+// Why a capture isn't listed to its end, by the fault, its header, and what is kept of its reader and of the writer.
 fn unlisted<D, W>(
     alloc: Global,
     path: &str,
     fault: Fault,
+    header: Option<FileHeader>,
     reader: &Watched<D>,
     writer: &Watched<W>,
 ) -> Failure
@@ -84,7 +86,11 @@ fn unlisted<D, W>(
             match String::from_str(alloc, path) {
                 Ok(path) => Failure::Refused {
                     path,
-                    refusal: Refusal { fault, kind },
+                    refusal: Refusal {
+                        fault,
+                        kind,
+                        header,
+                    },
                 },
                 Err(_) => Failure::OutOfMemory,
             }
@@ -108,16 +114,17 @@ pub fn show_of<D: Read + Drop, W: Write + Drop>(
     let Ok(buffered) = BufWriter::with_capacity(alloc, BUFFER, Watched::new(device)) else {
         return Err(Failure::OutOfMemory);
     };
-    let mut source = Counted::new(Watched::new(file));
+    let mut source = Keeping::new(Counted::new(Watched::new(file)));
     let mut sink = Counted::new(buffered);
     let listing = list(alloc, params, choice, &mut source, &mut sink);
     let mut buffered = sink.into_inner();
     let listing = flushed(listing, &mut buffered);
-    let reader = source.into_inner();
+    let header = source.header();
+    let reader = source.into_inner().into_inner();
     let (writer, _) = buffered.into_parts();
     match listing {
         Ok(listing) => Ok(listing),
-        Err(fault) => Err(unlisted(alloc, path, fault, &reader, &writer)),
+        Err(fault) => Err(unlisted(alloc, path, fault, header, &reader, &writer)),
     }
 }
 

@@ -1,7 +1,8 @@
 //! The command `survey`.
-ghost use Rattle.std.specs.Prelude.{◌≡◌, ◌<◌, ◌≤◌, length, None, IfErr, IfOk, IsSome};
+ghost use Rattle.std.specs.Prelude.{◌≡◌, ◌<◌, ◌≤◌, length, None, IfErr, IfOk, IfSome, IsSome};
 ghost use Rattle.seatmelon_survey.specs.Survey.{connections_in, fault_in};
 ghost use Rattle.seatmelon_commands.specs.Failing.{status_of, TellsOf, IsOfFiles};
+ghost use Rattle.seatmelon_commands.specs.Headers.{TellsHeader, TellsHeaderOf};
 
 use crate::answer::{Answer, write_answer};
 use crate::failure::{Failure, Refusal};
@@ -9,6 +10,7 @@ use crate::file_kind::file_kind;
 use crate::reading::{BUFFER, STANDARD_INPUT, unread};
 use crate::watched::Watched;
 use rasta_pcap::{Buffered, Counted, Fault};
+use seatmelon_capture::{FileHeader, Keeping};
 use seatmelon_survey::{Behind, Survey, survey};
 use std::alloc::Global;
 use std::fs::File;
@@ -16,9 +18,16 @@ use std::io;
 use std::io::{Input, Read};
 use std::rt::Files;
 
-// Why a capture isn't surveyed, by the fault and what was read of its file.
-fn refused<D>(alloc: Global, path: &str, fault: Fault, file: &Watched<D>) -> Failure
-    ensures { TellsOf fault.number result }
+// Why a capture isn't surveyed, by the fault, its header and what was read of its file.
+fn refused<D>(
+    alloc: Global,
+    path: &str,
+    fault: Fault,
+    header: Option<FileHeader>,
+    file: &Watched<D>,
+) -> Failure
+    ensures number { TellsOf fault.number result }
+    ensures header { TellsHeader header result }
 {
     match fault.number {
         Fault::NO_MEMORY => Failure::OutOfMemory,
@@ -28,7 +37,11 @@ fn refused<D>(alloc: Global, path: &str, fault: Fault, file: &Watched<D>) -> Fai
             match String::from_str(alloc, path) {
                 Ok(path) => Failure::Refused {
                     path,
-                    refusal: Refusal { fault, kind },
+                    refusal: Refusal {
+                        fault,
+                        kind,
+                        header,
+                    },
                 },
                 Err(_) => Failure::OutOfMemory,
             }
@@ -45,14 +58,24 @@ pub fn survey_of<D: Read + Drop>(
     behind: Option<Behind>,
 ) -> Result<Survey, Failure>
     ensures err { IfErr result (λ failure. IsOfFiles failure) }
+
+    // A header that is told is the one that the file begins with.
+    ensures header { IfSome (D.remaining file) (λ bytes. IfErr result (TellsHeaderOf bytes)) }
 {
-    let mut source = Counted::new(Watched::new(file));
-    let outcome = match Buffered::new(alloc, &mut source, BUFFER) {
-        Ok(mut reader) => survey(alloc, &mut reader, behind),
-        Err(fault) => Err(fault),
+    let source = Keeping::new(Counted::new(Watched::new(file)));
+    let Ok(mut reader) = Buffered::new(alloc, source, BUFFER) else {
+        return Err(Failure::OutOfMemory);
     };
-    let file = source.into_inner();
-    outcome.map_err(|fault| refused(alloc, path, fault, &file))
+    let outcome = survey(alloc, &mut reader, behind);
+    let source = reader.into_inner();
+    let header = source.header();
+    match outcome {
+        Ok(survey) => Ok(survey),
+        Err(fault) => {
+            let file = source.into_inner().into_inner();
+            Err(refused(alloc, path, fault, header, &file))
+        }
+    }
 }
 
 /// Surveys the capture of that path; `-` is standard input.

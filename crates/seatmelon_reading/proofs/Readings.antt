@@ -1,11 +1,13 @@
 -- A reading is made of what was passed.
-use Rattle.std.proofs.Common.{◌≡◌, ◌∙◌, ℕ, List, [], Option, None, Some, Result, Ok, IfSome, ap, sym, subst}
+use Rattle.std.proofs.Common.{◌≡◌, ◌∙◌, ℕ, List, [], take, Option, None, Some, Result, Ok, IfSome, ap, sym, subst}
 use Rattle.sha2.specs.Sha256.{sha256}
 use Rattle.rasta_pcap.specs.declared.fault.Fault.{Fault}
 use Rattle.rasta_pcap.specs.Captured.{Captured, captured_in}
 use Rattle.rasta_pdu.specs.Params.{Parameters}
 use Rattle.rasta_check.specs.Capture.Building.{crossed_in}
 use Rattle.rasta_check.specs.Capture.Reading.{Crossing, nothing_crossed}
+use Rattle.seatmelon_capture.specs.Header.{header_in}
+use Rattle.seatmelon_capture.specs.declared.header.FileHeader.{FileHeader}
 use Rattle.seatmelon_reading.specs.Noted.{AreNotes}
 use Rattle.seatmelon_reading.specs.Passing.{IsBegun, IsPassed}
 use Rattle.seatmelon_reading.specs.Reading.{IsReading, crossing_without, standing_in, standing_with}
@@ -19,12 +21,13 @@ crossed k = Ok k
 notes_with : (p q : Parameters) (v w : List ℕ) (records : List Captured) (n : Notes) → p ≡ q → v ≡ w → AreNotes p v records n → AreNotes q w records n
 notes_with p q v w records n e f h = subst (λ (x : List ℕ). AreNotes q x records n) f (subst (λ (x : Parameters). AreNotes x v records n) e h)
 
-pub reading_made : (p : Parameters) (without : List ℕ) (input : Option (List ℕ)) (start last : Pass) (store : Crossing) (digest : List ℕ) → start.params ≡ p
+pub reading_made : (p : Parameters) (without : List ℕ) (input : Option (List ℕ)) (start last : Pass) (store : Crossing) (digest : List ℕ) (header : Option FileHeader) → start.params ≡ p
     → start.without.now ≡ without → standing_in start ≡ Ok (nothing_crossed p) → AreNotes p without [] start.notes → store ≡ crossed_in last.builder
     → IfSome input (λ file. IsPassed file start last) → IfSome input (λ file. digest ≡ sha256 file)
-    → IfSome input (λ file. IsReading p without file (record { store = store; refusal = last.refusal; notes = last.notes; digest = digest }))
-reading_made p without None start last store digest params left_out standing noted is passed summed = tt
-reading_made p without (Some file) start last store digest params left_out standing noted is passed summed =
+    → IfSome input (λ file. header ≡ header_in (take 24 file))
+    → IfSome input (λ file. IsReading p without file (record { store = store; refusal = last.refusal; notes = last.notes; digest = digest; header = header }))
+reading_made p without None start last store digest header params left_out standing noted is passed summed told = tt
+reading_made p without (Some file) start last store digest header params left_out standing noted is passed summed told =
     let begun : IsBegun start = record {
       standing = standing ∙ ap (λ (q : Parameters). crossed (nothing_crossed q)) (sym params);
       noted = notes_with p start.params without start.without.now [] start.notes (sym params) (sym left_out) noted;
@@ -35,4 +38,5 @@ reading_made p without (Some file) start last store digest params left_out stand
       noted = notes_with start.params p start.without.now without (captured_in file) last.notes params left_out through.noted;
       told = true_as start.params p start.without.now without (captured_in file) last.refusal params left_out through.told;
       summed = summed;
+      header = told;
     }

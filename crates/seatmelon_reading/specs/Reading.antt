@@ -1,5 +1,5 @@
 -- What a reading of a capture says of its file, where some records are left out.
-use Rattle.std.specs.Prelude.{◌≡◌, ◌≢◌, ⊤, ℕ, List, filter, not, nat_lt, Bool, Option, None, Some, Result, Ok, Err, if◌then◌else◌}
+use Rattle.std.specs.Prelude.{◌≡◌, ◌≢◌, ⊤, ℕ, List, take, filter, not, nat_lt, Bool, Option, None, Some, Result, Ok, Err, if◌then◌else◌}
 use Rattle.sha2.specs.Sha256.{sha256}
 use Rattle.std.specs.Option.{ForSome}
 use Rattle.rasta_pcap.specs.declared.fault.Fault.{Fault}
@@ -10,6 +10,7 @@ use Rattle.rasta_pcap.specs.Fault.{no_memory, read_failed}
 use Rattle.rasta_pdu.specs.Params.{Parameters}
 use Rattle.rasta_check.specs.Capture.Building.{crossed_in}
 use Rattle.rasta_check.specs.Capture.Reading.{Crossing, after_reading, after_record, nothing_crossed}
+use Rattle.seatmelon_capture.specs.Header.{header_in}
 use Rattle.seatmelon_reading.specs.Noted.{AreNotes, is_left_out}
 use Rattle.seatmelon_reading.specs.declared.capture_refusal.CaptureRefusal.{CaptureRefusal}
 use Rattle.seatmelon_reading.specs.declared.pass.Pass.{Pass}
@@ -65,6 +66,7 @@ pub record IsReading (p : Parameters) (without file : List ℕ) (r : Reading) : 
   pub noted : AreNotes p without (captured_in file) r.notes
   pub told : ForSome r.refusal (IsTrueOf p without (captured_in file))
   pub summed : r.digest ≡ sha256 file
+  pub header : r.header ≡ header_in (take 24 file)
 
 -- it tells a fault, which is no lack of memory and no failed read
 abbrev pub TellsFault : Option CaptureRefusal → Type 0

@@ -1,11 +1,12 @@
 //! A capture, read once.
-ghost use Rattle.std.specs.Prelude.{◌≡◌, ◌⊎◌, IfErr, IfOk, IfSome, OnOk};
+ghost use Rattle.std.specs.Prelude.{◌≡◌, ◌⊎◌, take, IfErr, IfOk, IfSome, OnOk};
 ghost use Rattle.std.specs.Io.KnownBytes.{IsAtEnd};
 ghost use Rattle.rasta_pcap.specs.Fault.{no_memory, read_failed};
 ghost use Rattle.rasta_pcap.specs.Noting.{PassesOn};
 ghost use Rattle.sha2.specs.Sha256.{sha256};
 ghost use Rattle.rasta_pcap.specs.Stream.{count_in, progress_of};
 ghost use Rattle.rasta_pcap.specs.declared.stream.Progress.TheVariants.{Reading as StillReading};
+ghost use Rattle.seatmelon_capture.specs.Header.{header_in};
 ghost use Rattle.seatmelon_reading.specs.Passing.{IsPassed, IsThrough, ReaderOnWay, ReadsOnIf, StepsTo, Whole};
 ghost use Rattle.seatmelon_reading.specs.Reading.{IsReading, TellsFault};
 
@@ -17,6 +18,7 @@ use rasta_check::Store;
 use rasta_pcap::stream::RecordReader;
 use rasta_pcap::{Buffered, Fault, Record, Source};
 use rasta_pdu::Params;
+use seatmelon_capture::{FileHeader, Keeping};
 use std::alloc::Global;
 
 // How many bytes are read at once.
@@ -25,14 +27,24 @@ const BUFFER: usize = 65_536;
 // The most records of a capture.
 const MOST_RECORDS: u32 = 4_000_000_000;
 
+// What is told of a file as a whole: its SHA-256, and its header.
+#[derive(Clone, Copy)]
+struct FileFacts {
+    digest: [u8; 32],
+    header: Option<FileHeader>,
+}
+
 /// What a capture holds: what crossed by it up to its first fault, that fault, what is noted of its records, and the
-/// SHA-256 of its file.
+/// SHA-256 and the header of its file.
 #[derive(Drop)]
 pub struct Reading {
     pub store: Store,
     pub refusal: Option<CaptureRefusal>,
     pub notes: Notes,
     pub digest: [u8; 32],
+
+    /// None where the file is shorter than a header, or begins with no magic number.
+    pub header: Option<FileHeader>,
 }
 
 // Passes the next record of a capture; false where there is none, and where none can be read.
@@ -113,20 +125,25 @@ fn drain<S: Source>(source: &mut S) -> Result<(), Fault>
     Err(Fault::at(Fault::READ_FAILED, 0))
 }
 
-// Passes a capture to the end of its file, and answers the SHA-256 of it.
+// Passes a capture to the end of its file, and answers the SHA-256 and the header of it.
 fn pass_file<R: Source>(
     alloc: Global,
     reader: &mut R,
     pass: &mut Pass<'_>,
-) -> Result<[u8; 32], Fault>
+) -> Result<FileFacts, Fault>
     ensures read { IfSome (R.remaining reader.old) (λ file. OnOk result (IsPassed file pass.old pass.new)) }
-    ensures summed { IfSome (R.remaining reader.old) (λ file. IfOk result (λ digest. digest ≡ sha256 file)) }
+    ensures summed { IfSome (R.remaining reader.old) (λ file. IfOk result (λ facts. facts.digest ≡ sha256 file)) }
+    ensures header { IfSome (R.remaining reader.old) (λ file. IfOk result (λ facts. facts.header ≡ header_in (take 24 file))) }
     ensures err { IfErr result (λ f. (f ≡ no_memory) ⊎ (f ≡ read_failed)) }
 {
-    let mut source = Buffered::new(alloc, Summed::new(reader), BUFFER)?;
+    let mut source = Buffered::new(alloc, Keeping::new(Summed::new(reader)), BUFFER)?;
     pass_capture(alloc, &mut source, pass)?;
     drain(&mut source)?;
-    Ok(source.into_inner().into_digest())
+    let keeping = source.into_inner();
+    Ok(FileFacts {
+        header: keeping.header(),
+        digest: keeping.into_inner().into_digest(),
+    })
 }
 
 /// Reads a capture once, from its first byte to its last, through a buffer.
@@ -138,13 +155,14 @@ pub fn read_capture<R: Source>(
     without: &[u32],
     reader: &mut R,
 ) -> Result<Reading, Fault>
-    // Of a file that is known it is told what crossed by it or its first fault, what is noted of its records, and its sum.
+    // Of a file that is known it is told what crossed by it or its first fault, what is noted of its records, its sum and
+    // its header.
     ensures read { IfSome (R.remaining reader.old) (λ file. IfOk result (IsReading params.now without.now file)) }
     ensures fault { IfOk result (λ reading. TellsFault reading.refusal) }
     ensures err { IfErr result (λ f. (f ≡ no_memory) ⊎ (f ≡ read_failed)) }
 {
     let mut pass = Pass::new(alloc, params, without);
-    let digest = pass_file(alloc, reader, &mut pass)?;
+    let FileFacts { digest, header } = pass_file(alloc, reader, &mut pass)?;
     let Pass {
         builder,
         refusal,
@@ -156,5 +174,6 @@ pub fn read_capture<R: Source>(
         refusal,
         notes,
         digest,
+        header,
     })
 }

@@ -2,6 +2,7 @@
 ghost use Rattle.std.specs.Prelude.{◌≡◌, ◌⊎◌, IfErr, IfOk, None, nat_le};
 ghost use Rattle.rasta_pcap.specs.Fault.{no_memory, not_pcap, read_failed};
 ghost use Rattle.rasta_pcap.specs.Devices.{HasFailed};
+ghost use Rattle.rasta_pcap.specs.Noting.{PassesOn};
 ghost use Rattle.rasta_pcap.specs.Stream.{RefusesHeader};
 ghost use Rattle.seatmelon_survey.specs.Extents.{ReadsRecords};
 ghost use Rattle.seatmelon_survey.specs.Survey.{fault_in, records_in};
@@ -33,6 +34,7 @@ pub fn survey<R: Source>(
     ensures err { IfErr result (λ f. (f ≡ no_memory)
         ⊎ (((f ≡ read_failed) × HasFailed (R.failure_count reader.old) (R.failure_count reader.new))
         ⊎ RefusesHeader f (R.remaining reader.old) (R.remaining reader.new))) }
+    ensures passed { PassesOn R.remaining R.notes reader.old reader.new }
 {
     let mut records = RecordReader::open(alloc, reader)?;
     let mut survey = Survey::new(alloc, behind);

@@ -145,7 +145,7 @@ fn write_verdict<W: Sink>(writer: &mut W, account: &Account<'_>) -> Result<(), F
         Verdict::NoPackets => write_words(writer, ",\"verdict\":\"no_packets\""),
         Verdict::Refused(refusal) => {
             write_words(writer, ",\"verdict\":\"refused\"")?;
-            write_refusal(writer, account.packets, refusal)
+            write_refusal(writer, account, refusal)
         }
         Verdict::Explained(explained) => {
             write_words(writer, ",\"verdict\":\"explained\"")?;

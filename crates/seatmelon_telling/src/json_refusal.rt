@@ -2,24 +2,31 @@
 ghost use Rattle.std.specs.Prelude.{◌≡◌, IfErr};
 ghost use Rattle.rasta_pcap.specs.Fault.{write_failed};
 
+use crate::frames::write_link_type_json;
 use crate::json_packet::{write_crossed_if, write_lengths_if, write_packet_if, write_trouble_if};
 use crate::json_places::{write_long_if, write_number_if, write_time_if};
 use crate::rule::sentence;
-use crate::words::{hint_of, meaning_of};
+use crate::words::{hint_of, meaning_in};
 use rasta_pcap::{CaptureTime, Fault, Sink};
 use seatmelon_account::{
-    BrokenRule, Crossed, Deadline, NamedPacket, Refusal, RefusedEntry, RefusedPacket, Subject,
+    Account, BrokenRule, Crossed, Deadline, NamedPacket, Refusal, RefusedEntry, RefusedPacket,
+    Subject,
 };
+use seatmelon_capture::FileHeader;
 use seatmelon_reading::{CodeCount, Sighting};
 use seatmelon_text::json::{write_long, write_sentence};
 use seatmelon_text::{Part, parts, write_parts, write_words};
 
 // Writes a fault, and what to do about it.
-fn write_fault<W: Sink>(writer: &mut W, refusal: &Refusal<'_>) -> Result<(), Fault>
+fn write_fault<W: Sink>(
+    writer: &mut W,
+    refusal: &Refusal<'_>,
+    header: Option<FileHeader>,
+) -> Result<(), Fault>
     ensures err { IfErr result (λ f. f ≡ write_failed) }
 {
     let fault = refusal.fault;
-    let hint = hint_of(refusal);
+    let hint = hint_of(refusal, header);
     write_parts(
         writer,
         &parts![
@@ -30,12 +37,13 @@ fn write_fault<W: Sink>(writer: &mut W, refusal: &Refusal<'_>) -> Result<(), Fau
             "\",\"meaning\":"
         ],
     )?;
-    write_sentence(writer, meaning_of(fault.number))?;
+    write_sentence(writer, meaning_in(fault, header))?;
     write_words(writer, ",\"cause\":")?;
     write_sentence(writer, hint.cause)?;
     write_words(writer, ",\"next_step\":")?;
     write_sentence(writer, hint.next_step)?;
-    write_words(writer, "}")
+    write_words(writer, "}")?;
+    write_link_type_json(writer, fault, header)
 }
 
 // Writes how many safety codes could be judged from the refused packet on, and how many of them are right.
@@ -214,13 +222,14 @@ fn write_rule_if<W: Sink>(
 /// Writes what is told of a refusal, behind the verdict.
 pub fn write_refusal<W: Sink>(
     writer: &mut W,
-    packets: &[Sighting],
+    account: &Account<'_>,
     refusal: &Refusal<'_>,
 ) -> Result<(), Fault>
     ensures err { IfErr result (λ f. f ≡ write_failed) }
 {
     let subject = &refusal.subject;
-    write_fault(writer, refusal)?;
+    let packets = account.packets;
+    write_fault(writer, refusal, account.header)?;
     write_record_if(writer, packets, subject)?;
     write_line_if(writer, subject)?;
     write_entry_if(writer, subject)?;

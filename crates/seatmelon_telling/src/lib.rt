@@ -2,6 +2,7 @@
 #![tactic(auto)]
 
 mod explained;
+mod frames;
 mod gap;
 mod json;
 mod json_explained;

@@ -2,12 +2,13 @@
 ghost use Rattle.std.specs.Prelude.{◌≡◌, IfErr};
 ghost use Rattle.rasta_pcap.specs.Fault.{write_failed};
 
+use crate::frames::write_link_type;
 use crate::gap::write_gap;
 use crate::layout::write_payload_due;
 use crate::packet_text::{write_codes, write_datagram, write_differences, write_pdu};
 use crate::page::{write_judged, write_place, write_sighting, write_time_if, write_without};
 use crate::rule::write_rule;
-use crate::words::{Hint, fits_none, hint_of, meaning_of};
+use crate::words::{Hint, fits_none, hint_of, meaning_in, meaning_of};
 use rasta_pcap::{Fault, Sink};
 use seatmelon_account::{
     Account, Crossed, FirstCopy, NamedPacket, Refusal, RefusedEntry, RefusedPacket, Subject,
@@ -26,7 +27,9 @@ fn write_fault<W: Sink>(writer: &mut W, account: &Account<'_>, fault: Fault) -> 
         &parts!["refused by ", fault.number, " ", fault.name()],
     )?;
     write_without(writer, account.without)?;
-    write_parts(writer, &parts![":\n  ", meaning_of(fault.number), "\n"])
+    write_parts(writer, &parts![":\n  ", meaning_in(fault, account.header)])?;
+    write_link_type(writer, fault, account.header)?;
+    write_words(writer, "\n")
 }
 
 // Writes what may be the cause of a fault, and what to look at next.
@@ -335,6 +338,6 @@ pub fn write_refusal<W: Sink>(
 {
     write_fault(writer, account, refusal.fault)?;
     write_subject(writer, account.packets, refusal)?;
-    write_hint(writer, hint_of(refusal))?;
+    write_hint(writer, hint_of(refusal, account.header))?;
     write_judged(writer, account)
 }

@@ -1,7 +1,9 @@
 //! What faults mean, what may be their cause, and what to look at next.
+use crate::frames::{hint_on_frames, meaning_of_frames};
 use crate::gap::{Reason, reason_of};
 use rasta_pcap::Fault;
 use seatmelon_account::{Fields, Gap, Refusal, RefusedPacket, Subject, Trouble};
+use seatmelon_capture::FileHeader;
 use seatmelon_reading::CodeCount;
 
 /// What a fault means.
@@ -14,11 +16,18 @@ pub fn meaning_of(number: u8) -> &'static str {
     }
 }
 
+/// What the fault of a capture with this header means.
+pub fn meaning_in(fault: Fault, header: Option<FileHeader>) -> &'static str {
+    match fault.number {
+        Fault::LINK_TYPE => meaning_of_frames(header),
+        number => meaning_of(number),
+    }
+}
+
 fn meaning_of_capture(number: u8) -> &'static str {
     match number {
         Fault::NOT_PCAP => "this is not a classic libpcap file",
         Fault::VERSION => "this is not version 2.4 of the libpcap format",
-        Fault::LINK_TYPE => "the frames are not Ethernet frames",
         Fault::CUT_HEADER => "the file ends inside its header",
         Fault::CUT_RECORD => "the file ends inside this record",
         Fault::CUT_PACKET => "a datagram between the recorded hosts was not captured whole",
@@ -166,10 +175,11 @@ fn hint_on_packet(fault: u8, packet: &RefusedPacket<'_>, codes: CodeCount) -> Hi
     }
 }
 
-/// The hint on a refusal.
-pub fn hint_of(refusal: &Refusal<'_>) -> Hint {
+/// The hint on a refusal of a capture with this header.
+pub fn hint_of(refusal: &Refusal<'_>, header: Option<FileHeader>) -> Hint {
     let number = refusal.fault.number;
     match &refusal.subject {
+        Subject::Header if number == Fault::LINK_TYPE => hint_on_frames(header),
         Subject::Unexplained {
             is_exchanged: true,
             ..
@@ -189,9 +199,7 @@ pub fn hint_of(refusal: &Refusal<'_>) -> Hint {
 
 fn cause_of(number: u8) -> &'static str {
     match number {
-        Fault::NOT_PCAP | Fault::VERSION | Fault::LINK_TYPE => {
-            "the file has another format, or is compressed"
-        }
+        Fault::NOT_PCAP | Fault::VERSION => "the file has another format, or is compressed",
         Fault::CUT_HEADER | Fault::CUT_RECORD => "the file is not whole",
         Fault::CUT_PACKET => "the snapshot length of the capture was too small",
         Fault::RECORD_TOO_LONG => "the file is damaged, or segmentation was offloaded",
@@ -229,7 +237,7 @@ fn cause_in_packet(number: u8) -> &'static str {
 
 fn next_step_of(number: u8) -> &'static str {
     match number {
-        Fault::NOT_PCAP | Fault::VERSION | Fault::LINK_TYPE => {
+        Fault::NOT_PCAP | Fault::VERSION => {
             "editcap -F pcap IN OUT, which converts a capture (gunzip it first, if it is compressed)"
         }
         Fault::CUT_HEADER => "where the file comes from: it has to be copied again",

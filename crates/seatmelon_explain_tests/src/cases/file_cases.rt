@@ -17,14 +17,32 @@ may be the cause:
   the file has another format, or is compressed
 look next at:
   editcap -F pcap IN OUT, which converts a capture (gunzip it first, if it is compressed)
-== data plain: - | 20=113 |  | plain |  | Frames that aren't Ethernet.
+== data plain: - | 20=113 |  | plain |  | Frames of Linux's interface any.
 refused by 12 LinkType:
-  the frames are not Ethernet frames
+  the frames are not Ethernet frames but of link type 113 (Linux cooked capture)
 
 may be the cause:
-  the file has another format, or is compressed
+  the capture was made on the interface 'any'
 look next at:
-  editcap -F pcap IN OUT, which converts a capture (gunzip it first, if it is compressed)
+  an Ethernet interface, on which to capture again: a cooked capture has no Ethernet headers,
+  and can't be converted without making addresses up
+== data plain: - | 20=200 |  | plain |  | Frames of a link type without a name.
+refused by 12 LinkType:
+  the frames are not Ethernet frames but of link type 200
+
+may be the cause:
+  the capture was made on another kind of interface
+look next at:
+  an Ethernet interface, not 'any', on which to capture again: headers that weren't captured can't be
+  converted without making them up
+== data plain: - | 23=64 |  | plain |  | Ethernet frames, of which the link type says more.
+refused by 12 LinkType:
+  the field of the link type says more of the frames than that they are Ethernet
+
+may be the cause:
+  each frame ends with its check sequence, as the field of the link type can say
+look next at:
+  the settings of the capture, which has to be made again without the check sequences
 == data plain: - cut |  |  | plain |  | A file that is cut in its header.
 refused by 13 CutHeader:
   the file ends inside its header

@@ -1,6 +1,7 @@
 use Rattle.std.proofs.Common.{◌∙◌, ◌+◌, ℕ, ap, sym}
 use Rattle.rasta_pcap.specs.Stream.{count_in, order_in, room_in}
 use Rattle.rasta_pcap.proofs.Extents.{HasRead-more, HasRead-opened}
+use Rattle.rasta_pcap.proofs.Noting.{PassesOn-then}
 use Rattle.seatmelon_survey.proofs.Extents.{failed, record-number}
 use Rattle.seatmelon_survey.proofs.reading.survey.Goals as goal
 
@@ -13,6 +14,7 @@ loop-init g c =
       opened.start.0,
       c.new-survey.ensures.records,
       c.new-survey.ensures.fault,
+      opened.passed,
     )
 
 pub returns-in-Err-2-clause-err : goal.returns-in-Err-2-clause-err
@@ -33,4 +35,5 @@ loop-preserved g c =
       count ∙ number,
       c.in_ok-add_record.ensures.counted ∙ number,
       c.in_ok-add_record.ensures.fault ∙ c.loop.invariant.5,
+      PassesOn-then g.R.Source.remaining g.R.Source.notes _ c.loop.reader c.advance.new.reader c.loop.invariant.6 c.in-Ok-Some.ensures.passed,
     )

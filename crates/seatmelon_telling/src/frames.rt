@@ -1,0 +1,109 @@
+//! What the frames of a capture are, where they can't be judged.
+ghost use Rattle.std.specs.Prelude.{◌≡◌, IfErr};
+ghost use Rattle.rasta_pcap.specs.Fault.{write_failed};
+
+use crate::words::Hint;
+use rasta_pcap::{Fault, Sink};
+use seatmelon_capture::{FileHeader, link_type_name};
+use seatmelon_text::json::write_string;
+use seatmelon_text::{Part, parts, write_parts, write_words};
+
+// Link types: Ethernet, and what Linux captures on the interface 'any', in two versions.
+const ETHERNET: u16 = 1;
+
+const COOKED: u16 = 113;
+
+const COOKED_2: u16 = 276;
+
+// The hint on frames of Linux's interface 'any'.
+const ON_ANY: Hint = Hint {
+    cause: "the capture was made on the interface 'any'",
+    next_step: "an Ethernet interface, on which to capture again: a cooked capture has no Ethernet headers,
+  and can't be converted without making addresses up",
+};
+
+// The hint on frames of another link type.
+const ON_ANOTHER: Hint = Hint {
+    cause: "the capture was made on another kind of interface",
+    next_step: "an Ethernet interface, not 'any', on which to capture again: headers that weren't captured can't be
+  converted without making them up",
+};
+
+// The hint on Ethernet frames of which more is said.
+const WITH_MORE: Hint = Hint {
+    cause: "each frame ends with its check sequence, as the field of the link type can say",
+    next_step: "the settings of the capture, which has to be made again without the check sequences",
+};
+
+/// The hint on a capture that is refused for its link type.
+pub fn hint_on_frames(header: Option<FileHeader>) -> Hint {
+    match header.map(|header| header.link_type) {
+        Some(ETHERNET) => WITH_MORE,
+        Some(COOKED | COOKED_2) => ON_ANY,
+        _ => ON_ANOTHER,
+    }
+}
+
+/// What a refusal for the link type means.
+pub fn meaning_of_frames(header: Option<FileHeader>) -> &'static str {
+    match header.map(|header| header.link_type) {
+        Some(ETHERNET) => "the field of the link type says more of the frames than that they are Ethernet",
+        _ => "the frames are not Ethernet frames",
+    }
+}
+
+/// The link type that a fault speaks of.
+pub fn refused_link_type(fault: Fault, header: Option<FileHeader>) -> Option<u16> {
+    match fault.number {
+        Fault::LINK_TYPE => Some(header?.link_type),
+        _ => None,
+    }
+}
+
+// Writes the name of a link type in brackets, if it has one.
+fn write_name<W: Sink>(writer: &mut W, link_type: u16) -> Result<(), Fault>
+    ensures err { IfErr result (λ f. f ≡ write_failed) }
+{
+    match link_type_name(link_type) {
+        Some(name) => write_parts(writer, &parts![" (", name, ")"]),
+        None => Ok(()),
+    }
+}
+
+/// Writes of which link type the frames are, behind what the fault means, if it is refused.
+pub fn write_link_type<W: Sink>(
+    writer: &mut W,
+    fault: Fault,
+    header: Option<FileHeader>,
+) -> Result<(), Fault>
+    ensures err { IfErr result (λ f. f ≡ write_failed) }
+{
+    match refused_link_type(fault, header) {
+        None | Some(ETHERNET) => Ok(()),
+        Some(link_type) => {
+            write_parts(writer, &parts![" but of link type ", link_type])?;
+            write_name(writer, link_type)
+        }
+    }
+}
+
+/// Writes number and name of the link type that is refused, as JSON, or null.
+pub fn write_link_type_json<W: Sink>(
+    writer: &mut W,
+    fault: Fault,
+    header: Option<FileHeader>,
+) -> Result<(), Fault>
+    ensures err { IfErr result (λ f. f ≡ write_failed) }
+{
+    let Some(link_type) = refused_link_type(fault, header) else {
+        return write_words(writer, ",\"link_type\":null,\"link_type_name\":null");
+    };
+    write_parts(
+        writer,
+        &parts![",\"link_type\":", link_type, ",\"link_type_name\":"],
+    )?;
+    match link_type_name(link_type) {
+        Some(name) => write_string(writer, name),
+        None => write_words(writer, "null"),
+    }
+}
