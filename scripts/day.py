@@ -4,14 +4,15 @@
     day.py [--seatmelon PATH] [--packets N] [--keep FOLDER]
 
 The captures are made by the ends of random_runs.py over a calm network: a whole port with five connections, copies of
-an opening and strangers between them; one with start words of its own; one in which a packet is missing; and one with
-many packets (400,000). Prints for each task its commands and the seconds that they took; a task that doesn't come out
+an opening and strangers between them; one with start words of its own; one in which a packet is missing; one with
+many packets (400,000); and some with other link types. Prints for each task its commands and the seconds that they took; a task that doesn't come out
 as it should is named, and the status is 1.
 Parameters come from drafts, with the values of the 'engineering data' in place of placeholders, as a person would fill
 them in. `rt run` in crates/seatmelon leaves the program. Plain Python 3, no other packages.
 """
 
 import argparse
+import json
 import pathlib
 import random
 import re
@@ -243,6 +244,25 @@ def many_packets(day, packets):
     day.expect("not shown", answer[0] == 0 and len(answer[1].splitlines()) < 200, answer)
 
 
+def other_frames(day):
+    """Captures that weren't made on an Ethernet interface: what their frames are, and what can be done."""
+    connection = Connection("frames", 19, (96, 97))
+    ethernet, capture = capture_of(connection.frames), day.path("frames.pcap")
+    capture.write_bytes(ethernet)
+    parameters = day.filled_in(capture, 1, connection.values(), "frames.toml")
+    for number, name in ((113, "Linux cooked capture"), (276, "Linux cooked capture v2"), (200, None)):
+        capture.write_bytes(ethernet[:20] + struct.pack("<I", number) + ethernet[24:])
+        words = f"of link type {number}" + (f" ({name})" if name else "")
+        for command in (("survey", capture), ("draft", capture, 1), ("show", capture, parameters)):
+            answer = day.call(*command)
+            day.expect(command[0], answer[0] == 1 and words in answer[2] and "Ethernet interface" in answer[2], answer)
+        answer = day.call("explain", capture, parameters)
+        day.expect("explain", answer[0] == 1 and words in answer[1] and "Ethernet interface" in answer[1], answer)
+        status, text, error = day.call("explain", capture, parameters, "--json")
+        told = json.loads(text)
+        day.expect("JSON", status == 1 and (told["link_type"], told["link_type_name"]) == (number, name), (status, text, error))
+
+
 def mistakes(day):
     """What is mistyped leads on."""
     connection = Connection("mistakes", 17, (96, 97))
@@ -278,6 +298,7 @@ def main():
         day.task("start words of its own", lambda: start_words(day))
         day.task("a missing packet", lambda: missing_packet(day))
         day.task("many packets", lambda: many_packets(day, asked.packets))
+        day.task("frames of another link type", lambda: other_frames(day))
         day.task("mistakes", lambda: mistakes(day))
     return day.wrong > 0
 
