@@ -162,7 +162,8 @@ pub fn read_capture<R: Source>(
     ensures err { IfErr result (λ f. (f ≡ no_memory) ⊎ (f ≡ read_failed)) }
 {
     let mut pass = Pass::new(alloc, params, without);
-    let FileFacts { digest, header } = pass_file(alloc, reader, &mut pass)?;
+    let facts = pass_file(alloc, reader, &mut pass)?;
+    let FileFacts { digest, header } = facts;
     let Pass {
         builder,
         refusal,
