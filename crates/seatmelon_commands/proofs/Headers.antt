@@ -11,6 +11,9 @@ use Rattle.rasta_pcap.specs.declared.buffered.Buffered.{Buffered}
 use Rattle.seatmelon_capture.specs.Header.{header_by, header_in}
 use Rattle.rasta_pcap.specs.Capture.{order_of}
 use Rattle.seatmelon_capture.specs.declared.header.FileHeader.{FileHeader}
+use Rattle.seatmelon_commands.specs.Headers.{IsHeaderOf, TellsHeader, TellsHeaderOf}
+use Rattle.seatmelon_commands.specs.declared.failure.Failure.{Failure}
+use Rattle.seatmelon_commands.specs.declared.failure.Failure.TheVariants.{OutOfMemory, Arguments, Reading, Writing, ClosedPipe, Refused, NoConnection, NoRecord, OtherIds, Parameters}
 
 -- the beginning of a file, and what a source noted of it
 pub record IsBegun (notes : List ℕ → Type 0) (file : List ℕ) : Type 0 where
@@ -56,3 +59,23 @@ header_of_file front rest header is h e =
     let long : 24 ≤ length (take 24 front) = header_long (take 24 front) h (nat_lt (length (take 24 front)) 24) refl told in
     let within : 24 ≤ length front = omega (arith, long, length-take 24 front) in
     ap header_in (take-append-le 24 front rest within) ∙ sym told
+
+-- a header in what passed of a file is that of the file
+pub header_begun : (file : List ℕ) (notes : List ℕ → Type 0) (header : Option FileHeader) → ((front : List ℕ) → notes front → header ≡ header_in (take 24 front))
+    → IsBegun notes file → IsHeaderOf file header
+header_begun file notes header reads h =
+    subst (λ (f : List ℕ). IsHeaderOf f header) (sym h.whole) (header_of_file h.front h.rest header (reads h.front h.noted))
+
+-- a failure that tells this header tells that of the file
+pub told_of_file : (file : List ℕ) (header : Option FileHeader) (failure : Failure) → IsHeaderOf file header → TellsHeader header failure
+    → TellsHeaderOf file failure
+told_of_file file header (Refused path refusal) is told = subst (λ (o : Option FileHeader). IsHeaderOf file o) (sym told) is
+told_of_file file header OutOfMemory is told = tt
+told_of_file file header Arguments is told = tt
+told_of_file file header (Reading path reason) is told = tt
+told_of_file file header (Writing reason) is told = tt
+told_of_file file header ClosedPipe is told = tt
+told_of_file file header (NoConnection path number count) is told = tt
+told_of_file file header (NoRecord path number records) is told = tt
+told_of_file file header (OtherIds path number) is told = tt
+told_of_file file header (Parameters path refusal) is told = tt

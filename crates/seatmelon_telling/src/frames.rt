@@ -47,7 +47,8 @@ pub fn hint_on_frames(header: Option<FileHeader>) -> Hint {
 /// What a refusal for the link type means.
 pub fn meaning_of_frames(header: Option<FileHeader>) -> &'static str {
     match header.map(|header| header.link_type) {
-        Some(ETHERNET) => "the field of the link type says more of the frames than that they are Ethernet",
+        Some(ETHERNET) =>
+            "the field of the link type says more of the frames than that they are Ethernet",
         _ => "the frames are not Ethernet frames",
     }
 }
