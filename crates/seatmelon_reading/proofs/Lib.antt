@@ -8,5 +8,6 @@ pub mod Passing
 pub mod Readings
 pub mod Silences
 pub mod Sorts
+pub mod Stored
 pub mod Summing
 pub mod Told

@@ -26,10 +26,12 @@ use Rattle.rasta_pdu.specs.Params.{Parameters}
 use Rattle.rasta_check.specs.Capture.Crossing.{FirstCopy}
 use Rattle.rasta_check.specs.Capture.Reading.{Crossing, after_frame, after_packet, after_reading, after_record, after_records, and_then, crossing_with, nothing_crossed}
 use Rattle.rasta_check.specs.Capture.Reading as crossings
+use Rattle.rasta_check.specs.Capture.Building.{crossed_in}
 use Rattle.rasta_check.specs.declared.passage.Passage.{Passage}
 use Rattle.seatmelon_reading.specs.Noted.{AreNotes, is_left_out, passage_seen, seen_in}
 use Rattle.seatmelon_reading.specs.Passing.{IsBegun, IsOnWay, IsPassed, IsThrough, ReaderOnWay, Whole, outcome_left, whole_of}
-use Rattle.seatmelon_reading.specs.Reading.{IsSameBut, after_end, after_judged, after_next, reading_without, standing_in, standing_with}
+use Rattle.seatmelon_reading.proofs.Stored.{stored_begun, stored_end, stored_next}
+use Rattle.seatmelon_reading.specs.Reading.{HasCrossed, IsSameBut, StaysOnceRefused, after_end, after_judged, after_next, reading_without, standing_in, standing_with}
 use Rattle.seatmelon_reading.specs.Window.{StandsSo}
 use Rattle.seatmelon_reading.specs.declared.capture_refusal.CaptureRefusal.{CaptureRefusal}
 use Rattle.seatmelon_reading.specs.declared.window.Standing.{Standing as Place}
@@ -245,13 +247,15 @@ module _ (w : Whole) (order : Endianness) (unit : FractionUnit) (count : ℕ) (r
 
   pub passed_record : (r : Numbered) (time : Option CaptureTime) (input : Option (List ℕ)) → NextOf order unit count r time rest input
       → standing_in new ≡ after_next old.params old.without.now (standing_in old) r → NotesNext old new r time → TellsNext old new r time
-      → new.params ≡ old.params → new.without.now ≡ old.without.now → (left : List ℕ) × (input ≡ Some left) × IsOnWay w order unit r.0 left new
-  passed_record r time input h standing noted told params without =
+      → new.params ≡ old.params → new.without.now ≡ old.without.now → StaysOnceRefused old new → (left : List ℕ) × (input ≡ Some left) × IsOnWay w order unit r.0 left new
+  passed_record r time input h standing noted told params without stays =
       let c = cursor_at order rest count in
       let entry = next-is_next_entry c r h.is in
       let one : r.0 ≡ count + 1 = ap (λ (n : Numbered). n.0) entry.is in
       let q = captured_at unit c r in
-      let less : suc (max_records - r.0) ≡ max_records - count = omega (arith, one, entry.room) in (
+      let less : suc (max_records - r.0) ≡ max_records - count = omega (arith, one, entry.room) in
+      let stored = stored_next w.params w.without on.done q (crossed_in old.builder) (crossed_in new.builder) old.refusal new.refusal count (one ∙ add-one count) on.lower on.refused on.stored
+      (standing ∙ next_as _ _ _ _ (standing_in old) r on.params on.without) stays in (
         h.rest,
         h.left,
         record {
@@ -272,11 +276,16 @@ module _ (w : Whole) (order : Endianness) (unit : FractionUnit) (count : ℕ) (r
           lower = All-push (λ (x : Captured). x.number < suc r.0) on.done q
               (All-weaker (λ (x : Captured). x.number < suc count) (λ (x : Captured). x.number < suc r.0) (λ x below. omega (arith, one, below)) on.done on.lower)
               (omega arith);
+          stored = stored.0;
+          refused = stored.1;
         },
       )
 
   captured_all : captured_from (max_records - count) unit (cursor_at order rest count) ≡ [] → on.done ≡ w.captured
   captured_all none = sym (append-nil on.done) ∙ ap (λ l. on.done ++ l) (sym none) ∙ on.captured
+
+  stored_all : captured_from (max_records - count) unit (cursor_at order rest count) ≡ [] → HasCrossed w.params w.without w.captured (crossed_in old.builder) old.refusal
+  stored_all none = subst (λ l. HasCrossed w.params w.without l (crossed_in old.builder) old.refusal) (captured_all none) on.stored
 
   true_all : captured_from (max_records - count) unit (cursor_at order rest count) ≡ [] → ForSome old.refusal (IsTrueOf w.params w.without w.captured)
   true_all none = λ r e. subst (λ l. IsTrueOf w.params w.without l r) (captured_all none) (on.told r e)
@@ -286,6 +295,7 @@ module _ (w : Whole) (order : Endianness) (unit : FractionUnit) (count : ℕ) (r
     standing = sym (end_inside w.without (standing_in old) (left_after w.params count) order rest count is) ∙ on.standing;
     noted = subst (λ l. AreNotes w.params w.without l old.notes) (captured_all (captured_from-end (max_records - count) unit (cursor_at order rest count) is)) on.noted;
     told = true_all (captured_from-end (max_records - count) unit (cursor_at order rest count) is);
+    stored = stored_all (captured_from-end (max_records - count) unit (cursor_at order rest count) is);
   }
 
   pub passed_fault : (f : Fault) → next (cursor_at order rest count) ≡ Err f → standing_in new ≡ after_end old.params (standing_in old) f → IsSameBut old new → TellsStill old new f.place → IsThrough w new
@@ -297,6 +307,10 @@ module _ (w : Whole) (order : Endianness) (unit : FractionUnit) (count : ℕ) (r
     told = λ r e. subst (λ l. IsTrueOf w.params w.without l r) (captured_all (captured_from-fault (max_records - count) unit (cursor_at order rest count) f is))
         (true_as _ _ _ _ on.done new.refusal (kept.params ∙ on.params) (kept.without ∙ on.without)
         (still on.done notes_before (subst (λ n. AreLower n on.done) (sym (fault_place f (count + 1) (next-fault_place (cursor_at order rest count) f is) ∙ add-one count)) on.lower) true_before) r e);
+    stored = subst (λ l. HasCrossed w.params w.without l (crossed_in new.builder) new.refusal) (captured_all (captured_from-fault (max_records - count) unit (cursor_at order rest count) f is))
+        (stored_end w.params w.without on.done (crossed_in old.builder) (crossed_in new.builder) old.refusal new.refusal f
+        (subst (λ n. AreLower n on.done) (sym (fault_place f (count + 1) (next-fault_place (cursor_at order rest count) f is) ∙ add-one count)) on.lower) on.stored
+        (standing ∙ ap (λ (p : Parameters). after_end p (standing_in old) f) on.params) kept.stays);
   }
 
   -- as many records as a capture can have
@@ -308,6 +322,7 @@ module _ (w : Whole) (order : Endianness) (unit : FractionUnit) (count : ℕ) (r
         noted = subst (λ l. AreNotes w.params w.without l old.notes)
             (captured_all (ap (λ n. captured_from n unit (cursor_at order rest count)) none ∙ captured_from-none_left unit (cursor_at order rest count))) on.noted;
         told = true_all (ap (λ n. captured_from n unit (cursor_at order rest count)) none ∙ captured_from-none_left unit (cursor_at order rest count));
+        stored = stored_all (ap (λ n. captured_from n unit (cursor_at order rest count)) none ∙ captured_from-none_left unit (cursor_at order rest count));
       }
 
 -- ---- the header
@@ -337,6 +352,8 @@ begun file rest order unit pass h within is told =
       noted = h.noted;
       told = none_refused _ _ _ pass.refusal h.standing;
       lower = All-nil (λ (x : Captured). x.number < 1);
+      stored = stored_begun p pass.without.now (crossed_in pass.builder) pass.refusal h.standing;
+      refused = none_refused _ _ _ pass.refusal h.standing;
     }
 
 pub begun_refused : (file : List ℕ) (f : Fault) (old new : Pass) → IsBegun old → opening file ≡ Err f → standing_in new ≡ after_end old.params (standing_in old) f
@@ -351,6 +368,9 @@ begun_refused file f old new h is standing kept still =
           (subst (λ l. AreNotes p old.without.now l old.notes) (sym (captured_in-refused file f is)) h.noted);
       told = λ r e. subst (λ l. IsTrueOf p old.without.now l r) (sym (captured_in-refused file f is))
           (true_as _ _ _ _ [] new.refusal kept.params kept.without (still [] h.noted (All-nil (λ (x : Captured). x.number < f.place)) (none_refused _ _ _ old.refusal h.standing)) r e);
+      stored = subst (λ l. HasCrossed p old.without.now l (crossed_in new.builder) new.refusal) (sym (captured_in-refused file f is))
+          (stored_end p old.without.now [] (crossed_in old.builder) (crossed_in new.builder) old.refusal new.refusal f (All-nil (λ (x : Captured). x.number < f.place))
+          (stored_begun p old.without.now (crossed_in old.builder) old.refusal h.standing) standing kept.stays);
     }
 
 -- ---- the notes of the next record
@@ -382,13 +402,14 @@ pub reader_record : (w : Whole) (old new : RecordReader) (before after : Option 
     → ReadsRecord (order_in old) (count_in old) (number, bytes) before after → TellsTime (order_in old) (unit_in old) time before after
     → order_in new ≡ order_in old → unit_in new ≡ unit_in old → count_in new ≡ number
     → standing_in passed ≡ after_next pass.params pass.without.now (standing_in pass) (number, bytes) → NotesNext pass passed (number, bytes) time
-    → TellsNext pass passed (number, bytes) time → passed.params ≡ pass.params → passed.without.now ≡ pass.without.now → ReaderOnWay w old before pass → ReaderOnWay w new after passed
-reader_record w old new before after pass passed number bytes time read tells order unit count standing noted told params without on =
+    → TellsNext pass passed (number, bytes) time → passed.params ≡ pass.params → passed.without.now ≡ pass.without.now → StaysOnceRefused pass passed
+    → ReaderOnWay w old before pass → ReaderOnWay w new after passed
+reader_record w old new before after pass passed number bytes time read tells order unit count standing noted told params without stays on =
     let r : Numbered = (number, bytes) in
     let reads = subst (λ (o : Option (List ℕ)). ReadsRecord (order_in old) (count_in old) r o after) on.1 read in
     let times = subst (λ (o : Option (List ℕ)). TellsTime (order_in old) (unit_in old) time o after) on.1 tells in
     let step = passed_record w (order_in old) (unit_in old) (count_in old) on.0 pass passed on.2 r time after
-    (known_record (order_in old) (unit_in old) (count_in old) r time on.0 after reads times) standing noted told params without in
+    (known_record (order_in old) (unit_in old) (count_in old) r time on.0 after reads times) standing noted told params without stays in
     (step.0, step.1, on_way_as w (order_in old) (order_in new) (unit_in old) (unit_in new) number (count_in new) step.0 passed order unit count step.2)
 
 pub reader_number : (order : Endianness) (count number : ℕ) (bytes : List ℕ) (before after : Option (List ℕ)) → ReadsRecord order count (number, bytes) before after

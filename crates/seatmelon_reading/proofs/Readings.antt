@@ -10,7 +10,7 @@ use Rattle.seatmelon_capture.specs.Header.{header_in}
 use Rattle.seatmelon_capture.specs.declared.header.FileHeader.{FileHeader}
 use Rattle.seatmelon_reading.specs.Noted.{AreNotes}
 use Rattle.seatmelon_reading.specs.Passing.{IsBegun, IsPassed}
-use Rattle.seatmelon_reading.specs.Reading.{IsReading, crossing_without, standing_in, standing_with}
+use Rattle.seatmelon_reading.specs.Reading.{HasCrossed, IsReading, crossing_without, standing_in, standing_with}
 use Rattle.seatmelon_reading.specs.declared.notes.Notes.{Notes}
 use Rattle.seatmelon_reading.specs.declared.pass.Pass.{Pass}
 use Rattle.seatmelon_reading.proofs.Told.{true_as}
@@ -35,6 +35,9 @@ reading_made p without (Some file) start last store digest header params left_ou
     let through = passed begun in record {
       crossed = ap (λ (k : Crossing). standing_with k last.refusal) is ∙ through.standing
           ∙ ap (λ (q : Parameters). crossing_without q start.without.now file) params ∙ ap (λ (w : List ℕ). crossing_without p w file) left_out;
+      stored = subst (λ (k : Crossing). HasCrossed p without (captured_in file) k last.refusal) (sym is)
+          (subst (λ (w : List ℕ). HasCrossed p w (captured_in file) (crossed_in last.builder) last.refusal) left_out
+          (subst (λ (q : Parameters). HasCrossed q start.without.now (captured_in file) (crossed_in last.builder) last.refusal) params through.stored));
       noted = notes_with start.params p start.without.now without (captured_in file) last.notes params left_out through.noted;
       told = true_as start.params p start.without.now without (captured_in file) last.refusal params left_out through.told;
       summed = summed;

@@ -12,7 +12,8 @@ use Rattle.rasta_pcap.specs.Stream.{count_in, order_in, progress_of, unit_in}
 use Rattle.rasta_pdu.specs.Params.{Parameters}
 use Rattle.rasta_check.specs.Capture.Reading.{Crossing, after_reading, nothing_crossed}
 use Rattle.seatmelon_reading.specs.Noted.{AreNotes}
-use Rattle.seatmelon_reading.specs.Reading.{crossing_without, reading_without, standing_in}
+use Rattle.rasta_check.specs.Capture.Building.{crossed_in}
+use Rattle.seatmelon_reading.specs.Reading.{HasCrossed, crossing_without, reading_without, standing_in}
 use Rattle.seatmelon_reading.specs.Told.{AreLower, IsTrueOf}
 use Rattle.seatmelon_reading.specs.declared.pass.Pass.{Pass}
 
@@ -43,12 +44,15 @@ pub record IsOnWay (w : Whole) (order : Endianness) (unit : FractionUnit) (count
   pub noted : AreNotes w.params w.without done pass.notes
   pub told : ForSome pass.refusal (IsTrueOf w.params w.without done)
   pub lower : AreLower (suc count) done
+  pub stored : HasCrossed w.params w.without done (crossed_in pass.builder) pass.refusal
+  pub refused : ForSome pass.refusal (λ r. r.fault.place ≤ count)
 
 -- at the end
 pub record IsThrough (w : Whole) (pass : Pass) : Type 0 where
   pub standing : standing_in pass ≡ w.crossed
   pub noted : AreNotes w.params w.without w.captured pass.notes
   pub told : ForSome pass.refusal (IsTrueOf w.params w.without w.captured)
+  pub stored : HasCrossed w.params w.without w.captured (crossed_in pass.builder) pass.refusal
 
 -- the input is known, and a reader stands so on the way
 abbrev pub ReaderOnWay : Whole → RecordReader → Option (List ℕ) → Pass → Type 0

@@ -1,15 +1,15 @@
 -- What a reading of a capture says of its file, where some records are left out.
-use Rattle.std.specs.Prelude.{◌≡◌, ◌≢◌, ⊤, ℕ, List, take, filter, not, nat_lt, Bool, Option, None, Some, Result, Ok, Err, if◌then◌else◌}
+use Rattle.std.specs.Prelude.{◌≡◌, ◌≢◌, ⊤, ℕ, ◌&&◌, List, take, filter, map, not, nat_le, nat_lt, Bool, Option, None, Some, Result, Ok, Err, if◌then◌else◌}
 use Rattle.sha2.specs.Sha256.{sha256}
 use Rattle.std.specs.Option.{ForSome}
 use Rattle.rasta_pcap.specs.declared.fault.Fault.{Fault}
 use Rattle.rasta_pcap.specs.Capture.{Numbered, reading_of}
 use Rattle.rasta_pcap.specs.Capture as captures
-use Rattle.rasta_pcap.specs.Captured.{captured_in}
+use Rattle.rasta_pcap.specs.Captured.{Captured, captured_in, numbered}
 use Rattle.rasta_pcap.specs.Fault.{no_memory, read_failed}
 use Rattle.rasta_pdu.specs.Params.{Parameters}
 use Rattle.rasta_check.specs.Capture.Building.{crossed_in}
-use Rattle.rasta_check.specs.Capture.Reading.{Crossing, after_reading, after_record, nothing_crossed}
+use Rattle.rasta_check.specs.Capture.Reading.{Crossing, after_reading, after_record, after_records, nothing_crossed}
 use Rattle.seatmelon_capture.specs.Header.{header_in}
 use Rattle.seatmelon_reading.specs.Noted.{AreNotes, is_left_out}
 use Rattle.seatmelon_reading.specs.declared.capture_refusal.CaptureRefusal.{CaptureRefusal}
@@ -52,17 +52,41 @@ abbrev pub after_end : Parameters → Result Crossing Fault → Fault → Result
 after_end p (Err first) fault = Err first
 after_end p (Ok k) fault = if nat_lt p.last_record fault.place then Ok k else Err fault
 
+-- once the capture is refused, what crossed stays
+abbrev pub StaysOnceRefused : Pass → Pass → Type 0
+StaysOnceRefused old new = ForSome new.refusal (λ r. crossed_in new.builder ≡ crossed_in old.builder)
+
 -- parameters, records that are left out, and notes are as they were
 pub record IsSameBut (old new : Pass) : Type 0 where
   pub params : new.params ≡ old.params
   pub without : new.without.now ≡ old.without.now
   pub notes : new.notes ≡ old.notes
+  pub stays : StaysOnceRefused old new
+
+-- ---- what crossed before a fault
+
+-- the records that stay, up to the last of the window
+abbrev pub judged_of : Parameters → List ℕ → List Captured → List Numbered
+judged_of p without records = filter (λ (r : Numbered). stays without r && nat_le r.0 p.last_record) (map numbered records)
+
+-- the packets of these records are those that crossed
+abbrev pub HaveCrossed : Parameters → List ℕ → List Captured → Crossing → Type 0
+HaveCrossed p without records k = after_records (nothing_crossed p) (judged_of p without records) None ≡ Ok k
+
+abbrev pub records_before : ℕ → List Captured → List Captured
+records_before place records = filter (λ (r : Captured). nat_lt r.number place) records
+
+-- what crossed is that of all records of the window, or of those before the refused one
+abbrev pub HasCrossed : Parameters → List ℕ → List Captured → Crossing → Option CaptureRefusal → Type 0
+HasCrossed p without records k None = HaveCrossed p without records k
+HasCrossed p without records k (Some r) = HaveCrossed p without (records_before r.fault.place records) k
 
 -- ---- the whole
 
 -- this was read of a file
 pub record IsReading (p : Parameters) (without file : List ℕ) (r : Reading) : Type 0 where
   pub crossed : standing_with r.store r.refusal ≡ crossing_without p without file
+  pub stored : HasCrossed p without (captured_in file) r.store r.refusal
   pub noted : AreNotes p without (captured_in file) r.notes
   pub told : ForSome r.refusal (IsTrueOf p without (captured_in file))
   pub summed : r.digest ≡ sha256 file

@@ -66,7 +66,7 @@ fn passage_in(params: &Params, record: &Record<'_>) -> Option<Passage>
 }
 
 impl<'a> Pass<'a> {
-    ghost use Rattle.seatmelon_reading.specs.Reading.{IsSameBut, after_end, after_judged, after_next, standing_in};
+    ghost use Rattle.seatmelon_reading.specs.Reading.{IsSameBut, StaysOnceRefused, after_end, after_judged, after_next, standing_in};
     ghost use Rattle.seatmelon_reading.specs.Told.{IsMadeOf, TellsNext, TellsStaying, TellsStill};
 
     /// Before the first record.
@@ -228,6 +228,7 @@ impl<'a> Pass<'a> {
             → AreNotes self.old.params self.old.without.now (records ++ r ∷ []) self.new.notes) }
         ensures told { OnOk result (TellsNext self.old self.new («record».now.number, «record».now.bytes.now) time) }
         ensures kept { (self.new.params ≡ self.old.params) × (self.new.without.now ≡ self.old.without.now) }
+        ensures stays { StaysOnceRefused self.old self.new }
         ensures err { IfErr result (λ f. (f ≡ no_memory) ⊎ (f ≡ read_failed)) }
     {
         let passage = self.pass_next(alloc, record, time)?;

@@ -12,6 +12,6 @@ returns-in-Before c = record {
       still_true p without records q r
       (outside_same p without records q c.args.record.now.number c.args.record.now.bytes.now c.standing_of.result c.in-Before.is c.standing_of.ensures is) (true r e));
   found = c.passage_in.ensures;
-  kept = record { params = refl; without = refl; notes = refl };
+  kept = record { params = refl; without = refl; notes = refl; stays = λ r e. refl };
   err = tt;
 }
