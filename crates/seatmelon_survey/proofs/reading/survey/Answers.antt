@@ -37,3 +37,19 @@ loop-preserved g c =
       c.in_ok-add_record.ensures.fault ∙ c.loop.invariant.5,
       PassesOn-then g.R.Source.remaining g.R.Source.notes _ c.loop.reader c.advance.new.reader c.loop.invariant.6 c.in-Ok-Some.ensures.passed,
     )
+
+pub returns-in-Ok-None-clause-passed : goal.returns-in-Ok-None-clause-passed
+returns-in-Ok-None-clause-passed g c =
+    PassesOn-then g.R.Source.remaining g.R.Source.notes _ c.loop.reader c.advance.new.reader c.loop.invariant.6 c.in-Ok-None.ensures.passed
+
+pub returns-in-Err-clause-passed : goal.returns-in-Err-clause-passed
+returns-in-Err-clause-passed g c =
+    PassesOn-then g.R.Source.remaining g.R.Source.notes _ c.loop.reader c.advance.new.reader c.loop.invariant.6 c.in-Err.ensures.passed
+
+pub returns-in-Err-2-clause-passed : goal.returns-in-Err-2-clause-passed
+returns-in-Err-2-clause-passed g c =
+    PassesOn-then g.R.Source.remaining g.R.Source.notes _ c.loop.reader c.advance.new.reader c.loop.invariant.6 c.in-Err.ensures.passed
+
+pub returns-in_err-add_record-clause-passed : goal.returns-in_err-add_record-clause-passed
+returns-in_err-add_record-clause-passed g c =
+    PassesOn-then g.R.Source.remaining g.R.Source.notes _ c.loop.reader c.advance.new.reader c.loop.invariant.6 c.in-Ok-Some.ensures.passed
