@@ -1,6 +1,5 @@
 -- The header of a capture of which the beginning passed.
-use Rattle.std.proofs.Common.{◌≡◌, ◌∙◌, ◌≤◌, ◌<◌, ℕ, List, [], ◌∷◌, ◌++◌, length, take, Bool, true, false, cond, Option, None, Some, IfSome, ap, refl, sym, subst, append_assoc, arith, nat_lt, min}
-use Rattle.std.proofs.lemmas.Bool.{leb-false}
+use Rattle.std.proofs.Common.{◌≡◌, ◌∙◌, ◌≤◌, ℕ, List, [], ◌++◌, length, take, Bool, true, false, cond, Option, None, Some, IfSome, ap, refl, sym, subst, append_assoc, arith, nat_lt}
 use Rattle.std.proofs.lemmas.List.{length-take, take-append-le}
 use Rattle.std.specs.Io.KnownBytes.{Consumes, prepend_known}
 use Rattle.std.specs.Option.{ForSome}
@@ -79,3 +78,10 @@ told_of_file file header (NoConnection path number count) is told = tt
 told_of_file file header (NoRecord path number records) is told = tt
 told_of_file file header (OtherIds path number) is told = tt
 told_of_file file header (Parameters path refusal) is told = tt
+
+-- and so does one of a file of which the beginning passed, if its bytes are known
+pub told_of_begun : (input : Option (List ℕ)) (notes : List ℕ → Type 0) (header : Option FileHeader) (failure : Failure)
+    → ((front : List ℕ) → notes front → header ≡ header_in (take 24 front)) → TellsHeader header failure → IfSome input (IsBegun notes)
+    → IfSome input (λ bytes. TellsHeaderOf bytes failure)
+told_of_begun None notes header failure reads told h = tt
+told_of_begun (Some file) notes header failure reads told h = told_of_file file header failure (header_begun file notes header reads h) told
