@@ -1,0 +1,57 @@
+-- A source of a classic capture over one of a pcapng file.
+use Rattle.std.specs.Prelude.{◌≡◌, ℕ, List, ◌++◌, Option, Some, IfSome, option_map}
+use Rattle.std.specs.Io.KnownBytes.{prepend_known}
+use Rattle.seatmelon_pcapng.specs.Memory.{bytes_held, bytes_of}
+use Rattle.seatmelon_pcapng.specs.Progress.{refusal_by}
+use Rattle.seatmelon_pcapng.specs.Readings.{Next, State, next_of, reading_left, records_bytes}
+use Rattle.seatmelon_pcapng.specs.Sections.{interfaces_in, order_in}
+use Rattle.seatmelon_pcapng.specs.declared.classic.Classic.{Classic}
+use Rattle.seatmelon_pcapng.specs.declared.classic.Progress.{Progress}
+use Rattle.seatmelon_pcapng.specs.declared.classic.Progress.TheVariants.{InFront, InBlock, Ended}
+use Rattle.seatmelon_pcapng.specs.declared.interface.Interface.{Interface}
+use Rattle.seatmelon_pcapng.specs.declared.order.Order.{Order}
+use Rattle.seatmelon_pcapng.specs.declared.refusal.Refusal.{Refusal}
+
+abbrev pub source_of : {S : Type 0} → Classic S → S
+source_of c = c.source
+
+-- how many reads of it have failed
+abbrev pub failures_of : {S : Type 0} → Classic S → ℕ
+failures_of c = c.failures
+
+-- why the file is refused, once its end was met
+abbrev pub refusal_in : {S : Type 0} → Classic S → Option Refusal
+refusal_in c = refusal_by c.progress
+
+-- ---- what it will give
+
+-- these bytes, and the records of what follows
+abbrev pub given_by : Option Order → List Interface → ℕ → List ℕ → List ℕ → List ℕ
+given_by order interfaces at held rest = held ++ records_bytes (reading_left (record { order = order; interfaces = interfaces; at = at; rest = rest }))
+
+-- what it holds, and the records of what follows
+abbrev pub given_with : {S : Type 0} → Classic S → List ℕ → List ℕ
+given_with c rest = given_by (order_in c.section) (interfaces_in c.section) c.at (bytes_held c.held) rest
+
+-- what was read of a block, and what its source will give
+abbrev pub rest_in : {S : Type 0} → (S → Option (List ℕ)) → Classic S → Option (List ℕ)
+rest_in remaining c = prepend_known (bytes_of c.block) (remaining c.source)
+
+-- once it has ended, what it holds alone
+abbrev pub left_by : List ℕ → Option (List ℕ) → Progress → Option (List ℕ)
+left_by held known InFront = known
+left_by held known (InBlock front) = known
+left_by held known (Ended refusal) = Some held
+
+abbrev pub left_in : {S : Type 0} → (S → Option (List ℕ)) → Classic S → Option (List ℕ)
+left_in remaining c = left_by (bytes_held c.held) (option_map (given_with c) (rest_in remaining c)) c.progress
+
+-- ---- on the way
+
+-- where it stands, before these bytes
+abbrev pub state_with : {S : Type 0} → Classic S → List ℕ → State
+state_with c rest = record { order = order_in c.section; interfaces = interfaces_in c.section; at = c.at; rest = rest }
+
+-- this comes next, where it is known what follows
+abbrev pub Comes : {S : Type 0} → (S → Option (List ℕ)) → Classic S → Next → Type 0
+Comes remaining c next = IfSome (rest_in remaining c) (λ rest. next_of (state_with c rest) ≡ next)

@@ -1,0 +1,9 @@
+pub mod Blocks
+pub mod Classics
+pub mod Interfaces
+pub mod Memory
+pub mod Moments
+pub mod Orders
+pub mod Progress
+pub mod Readings
+pub mod Sections

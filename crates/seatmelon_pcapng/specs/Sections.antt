@@ -1,0 +1,11 @@
+-- A section, as far as it was read.
+use Rattle.std.specs.Prelude.{List, Option}
+use Rattle.seatmelon_pcapng.specs.declared.interface.Interface.{Interface}
+use Rattle.seatmelon_pcapng.specs.declared.order.Order.{Order}
+use Rattle.seatmelon_pcapng.specs.declared.section.Section.{Section}
+
+abbrev pub order_in : Section → Option Order
+order_in s = s.order
+
+abbrev pub interfaces_in : Section → List Interface
+interfaces_in s = s.interfaces.items

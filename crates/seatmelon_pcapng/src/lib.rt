@@ -1,0 +1,17 @@
+//! Captures in the pcapng format (draft-ietf-opsawg-pcapng), read as classic ones.
+#![tactic(auto)]
+
+mod block;
+mod classic;
+mod front;
+mod interface;
+pub mod laws;
+mod memory;
+mod order;
+mod refusal;
+mod section;
+mod time;
+
+pub use classic::Classic;
+pub use front::is_pcapng;
+pub use refusal::{Reason, Refusal};

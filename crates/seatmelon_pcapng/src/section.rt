@@ -1,0 +1,84 @@
+//! A section, as far as it was read.
+ghost use Rattle.std.specs.Prelude.{◌≡◌, ℕ, List, ◌∷◌, ◌++◌, [], None, Some, OnOk, OnErr};
+ghost use Rattle.seatmelon_pcapng.specs.Blocks.{interfaces_after};
+ghost use Rattle.seatmelon_pcapng.specs.Readings.{order_after, packets_in};
+ghost use Rattle.seatmelon_pcapng.specs.Sections.{interfaces_in, order_in};
+
+use crate::block::Turn;
+use crate::front::Front;
+use crate::interface::Interface;
+use crate::order::Order;
+use std::alloc::{AllocError, Global};
+
+/// Its byte order and its interfaces; no order before the first section.
+#[derive(Drop)]
+pub struct Section {
+    order: Option<Order>,
+    interfaces: Vec<Interface>,
+}
+
+impl Section {
+    /// None has begun.
+    pub fn new(alloc: Global) -> Section
+        ensures order { order_in result ≡ None }
+        ensures interfaces { interfaces_in result ≡ [] }
+    {
+        Section {
+            order: None,
+            interfaces: Vec::new(alloc),
+        }
+    }
+
+    /// Its byte order.
+    #[inline(always)]
+    pub fn order(&self) -> Option<Order>
+        ensures { result ≡ order_in self.now }
+    {
+        self.order
+    }
+
+    /// Its interfaces.
+    #[inline(always)]
+    pub fn interfaces(&self) -> &[Interface]
+        ensures { result.now ≡ interfaces_in self.now }
+    {
+        self.interfaces.as_slice()
+    }
+
+    // Another section begins.
+    fn begin(&mut self, order: Order)
+        ensures order { order_in self.new ≡ Some order }
+        ensures interfaces { interfaces_in self.new ≡ [] }
+    {
+        self.order = Some(order);
+        self.interfaces.clear();
+    }
+
+    // The section has one interface more.
+    fn describe(&mut self, interface: Interface) -> Result<(), AllocError>
+        ensures order { order_in self.new ≡ order_in self.old }
+        ensures interfaces { OnOk result (interfaces_in self.new ≡ interfaces_in self.old ++ interface ∷ []) }
+        ensures kept { OnErr result (interfaces_in self.new ≡ interfaces_in self.old) }
+    {
+        self.interfaces.push(interface)?;
+        Ok(())
+    }
+
+    /// Goes on behind a block. For want of memory it stays as it is, which no packet meets.
+    #[inline(always)]
+    pub fn pass(&mut self, front: Front, turn: &Turn) -> Result<(), AllocError>
+        ensures order { OnOk result (order_in self.new ≡ order_after (order_in self.old) front turn.now) }
+        ensures interfaces { OnOk result (interfaces_in self.new ≡ interfaces_after (interfaces_in self.old) turn.now) }
+        ensures kept { OnErr result ((order_in self.new ≡ order_in self.old) × (interfaces_in self.new ≡ interfaces_in self.old)) }
+        ensures no_packet { OnErr result ((block : List ℕ) → packets_in block turn.now ≡ []) }
+    {
+        match turn {
+            Turn::Section => {
+                self.begin(front.order);
+                Ok(())
+            }
+            Turn::Interface(interface) => self.describe(*interface),
+            Turn::Packet(_) | Turn::Other => Ok(()),
+        }
+    }
+}
