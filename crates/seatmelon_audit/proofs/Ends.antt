@@ -1,0 +1,74 @@
+-- A connection where the reading of a file ends.
+use Rattle.std.proofs.Common.{◌≡◌, ◌∙◌, inl, inr, suc, ◌<◌, ◌≤◌, List, [], ◌∷◌, length, cond, Bool, true, false, nat_eq, nat_lt, Option, None, Some, Result, ap, refl, sym, subst, arith}
+use Rattle.std.proofs.lemmas.Bool.Decides.{nat_tests}
+use Rattle.std.specs.Option.{option_map}
+use Rattle.std.specs.Prelude.{slice_get}
+use Rattle.rasta_pcap.specs.declared.fault.Fault.{Fault}
+use Rattle.rasta_pcap.specs.Captured.{Captured}
+use Rattle.rasta_pdu.specs.Params.{Parameters}
+use Rattle.rasta_check.specs.Capture.Building.{crossed_in}
+use Rattle.rasta_check.specs.Capture.Reading.{Crossing, and_then, at_end}
+use Rattle.rasta_check.specs.declared.store_builder.StoreBuilder.{StoreBuilder}
+use Rattle.seatmelon_audit.specs.Ends.{EndsBy, IsFaultAfter, crossed_to_end, fault_behind}
+use Rattle.seatmelon_audit.specs.Records.{IsStanding, crossed_by, subject_at, subject_behind, subject_of}
+use Rattle.seatmelon_audit.specs.declared.line.Line.{Line}
+use Rattle.seatmelon_audit.specs.declared.line.Stamp.{Stamp}
+use Rattle.seatmelon_audit.specs.declared.line.Standing.{Standing}
+use Rattle.seatmelon_audit.specs.declared.line.Standing.TheVariants.{OutOfMemory, Reading, Refused}
+use Rattle.seatmelon_audit.specs.declared.line.Subject.{Subject}
+
+abbrev Outcome : Type 0
+Outcome = Result Crossing Fault
+
+get_past : (xs : List Captured) → slice_get xs (length xs) ≡ None
+get_past [] = refl
+get_past (x ∷ xs) = get_past xs
+
+module _ (p : Parameters) (records : List Captured) (fault : Fault) (after : IsFaultAfter records fault) (some : 0 < p.last_record) where
+  inside_by : IsFaultAfter records fault → fault.place ≤ p.last_record → nat_lt (length records) p.last_record ≡ true
+  inside_by (inl (at, none)) inside = let size : length records ≡ 0 = ap length none in grind (arith, nat_tests, size, some)
+  inside_by (inr at) inside = grind (arith, nat_tests, at, inside)
+
+  behind_by : IsFaultAfter records fault → p.last_record < fault.place → nat_lt (length records) p.last_record ≡ false
+  behind_by (inl (at, none)) behind = absurd (omega (arith, at, behind))
+  behind_by (inr at) behind = grind (arith, nat_tests, at, behind)
+
+  subject_by : IsFaultAfter records fault → subject_behind fault.place ≡ subject_of records fault.place
+  subject_by (inl (at, none)) = ap subject_behind at ∙ sym (ap (subject_of records) at)
+  subject_by (inr at) =
+      let other : nat_eq (suc (length records)) 0 ≡ false = grind (arith, nat_tests) in
+      ap subject_behind at ∙ ap (λ (b : Bool). cond b None (Some (subject_at (suc (length records)) None))) other
+      ∙ sym (ap (subject_of records) at ∙ ap (λ (o : Option Captured). Some (subject_at (suc (length records)) (option_map (λ (r : Captured). r.time) o))) (get_past records))
+
+  -- nothing changes
+  stays : (s : Standing) (k : Crossing) (packets : List Stamp) → (s ≡ Reading → p.last_record < fault.place)
+      → IsStanding s (crossed_by p records) records p k packets → IsStanding s (crossed_to_end p records (Some fault)) records p k packets
+  stays Reading k packets behind h = (
+    ap (λ (s : Outcome). and_then s (λ (m : Crossing). at_end m (fault_behind p records (Some fault)))) h.0
+        ∙ ap (λ (b : Bool). at_end k (cond b (Some fault) None)) (behind_by after (behind refl)),
+    h.1,
+  )
+  stays (Refused refusal) k packets behind h = (ap (λ (s : Outcome). and_then s (λ (m : Crossing). at_end m (fault_behind p records (Some fault)))) h.0, h.1)
+  stays OutOfMemory k packets behind h = tt
+
+  refuses : (subject : Option Subject) (k : Crossing) (packets : List Stamp) → fault.place ≤ p.last_record → subject ≡ subject_behind fault.place
+      → IsStanding Reading (crossed_by p records) records p k packets
+      → IsStanding (Refused (record { fault = fault; subject = subject })) (crossed_to_end p records (Some fault)) records p k packets
+  refuses subject k packets inside names h = (
+    ap (λ (s : Outcome). and_then s (λ (m : Crossing). at_end m (fault_behind p records (Some fault)))) h.0
+        ∙ ap (λ (b : Bool). at_end k (cond b (Some fault) None)) (inside_by after inside),
+    names ∙ subject_by after,
+  )
+
+pub line_stays : (l : Line) (fault : Fault) → (l.standing ≡ Reading → l.params.last_record < fault.place) → EndsBy l l fault
+line_stays l fault behind records after some h = stays l.params records fault after some l.standing (crossed_in l.builder) l.packets.items behind h.standing
+
+pub line_refused : (old new : Line) (fault : Fault) (subject : Option Subject) → old.standing ≡ Reading → fault.place ≤ old.params.last_record → subject ≡ subject_behind fault.place
+    → new.builder ≡ old.builder → new.packets.items ≡ old.packets.items → new.standing ≡ Refused (record { fault = fault; subject = subject }) → EndsBy old new fault
+line_refused old new fault subject reading inside names builder packets refused records after some h =
+    let p = old.params in
+    let before = subst (λ (s : Standing). IsStanding s (crossed_by p records) records p (crossed_in old.builder) old.packets.items) reading h.standing in
+    subst (λ (s : Standing). IsStanding s (crossed_to_end p records (Some fault)) records p (crossed_in new.builder) new.packets.items) (sym refused)
+    (subst (λ (l : List Stamp). IsStanding (Refused (record { fault = fault; subject = subject })) (crossed_to_end p records (Some fault)) records p (crossed_in new.builder) l) (sym packets)
+    (subst (λ (b : StoreBuilder). IsStanding (Refused (record { fault = fault; subject = subject })) (crossed_to_end p records (Some fault)) records p (crossed_in b) old.packets.items) (sym builder)
+    (refuses p records fault after some subject (crossed_in old.builder) old.packets.items inside names before)))

@@ -1,0 +1,6 @@
+mod Ends
+mod Files
+mod Frames
+mod Knowing
+mod Standings
+mod Steps

@@ -1,0 +1,239 @@
+-- A connection with one record more.
+use Rattle.std.proofs.Common.{◌≡◌, ◌∙◌, ◌⊎◌, inl, inr, ℕ, zero, suc, ◌<◌, ◌≤◌, List, [], ◌∷◌, ◌++◌, length, map, cond, Bool, true, false, ◌&&◌, leb, nat_le, Option, None, Some, Result, Ok, Err, ap, refl, sym, subst, append-nil, arith}
+use Rattle.std.proofs.lemmas.Bool.{leb-true, leb-false}
+use Rattle.std.proofs.lemmas.Bool.Decides.{nat_tests}
+use Rattle.std.proofs.lemmas.List.{length_push, map-append, take-append-le, take_all}
+use Rattle.std.proofs.lemmas.List.Elements.{filter-append}
+use Rattle.std.specs.Option.{option_map}
+use Rattle.std.specs.Prelude.{is_some, slice_get}
+use Rattle.rasta_pcap.specs.declared.fault.Fault.{Fault}
+use Rattle.rasta_pcap.specs.declared.time.CaptureTime.{CaptureTime}
+use Rattle.rasta_pcap.specs.Capture.{Numbered}
+use Rattle.rasta_pcap.specs.Captured.{Captured, numbered}
+use Rattle.rasta_pdu.specs.Params.{Parameters}
+use Rattle.rasta_check.specs.Capture.Reading.{Crossing, after_record, after_records, and_then, nothing_crossed, packet_at}
+use Rattle.rasta_check.proofs.Lists.{get_next, slice_get_some}
+use Rattle.rasta_check.specs.declared.store_builder.StoreBuilder.{StoreBuilder}
+use Rattle.seatmelon_reading.proofs.Told.{record_place}
+use Rattle.rasta_check.specs.Capture.Building.{crossed_in}
+use Rattle.seatmelon_audit.specs.Lines.{IsJudged, IsLine, IsWithin, TakesIn}
+use Rattle.seatmelon_audit.specs.declared.line.Line.{Line}
+use Rattle.seatmelon_audit.specs.Records.{IsJudgedSo, IsStanding, crossed_by, holding, holds_packet, stamp_of, stamps_at, subject_at, subject_of}
+use Rattle.seatmelon_audit.specs.declared.line.Stamp.{Stamp}
+use Rattle.seatmelon_audit.specs.declared.line.Standing.{Standing}
+use Rattle.seatmelon_audit.specs.declared.line.Standing.TheVariants.{OutOfMemory, Reading, Refused}
+
+abbrev Outcome : Type 0
+Outcome = Result Crossing Fault
+
+-- ---- what crosses by one record more
+
+ok_then : (s : Outcome) → and_then s (λ (n : Crossing). Ok n) ≡ s
+ok_then (Ok k) = refl
+ok_then (Err f) = refl
+
+then_then : (s : Outcome) (xs : List Numbered) (r : Numbered)
+    → ((n : Crossing) → after_records n (xs ++ r ∷ []) None ≡ and_then (after_records n xs None) (λ (m : Crossing). after_record m r))
+    → and_then s (λ (n : Crossing). after_records n (xs ++ r ∷ []) None) ≡ and_then (and_then s (λ (n : Crossing). after_records n xs None)) (λ (m : Crossing). after_record m r)
+then_then (Ok k) xs r h = h k
+then_then (Err f) xs r h = refl
+
+records_push : (xs : List Numbered) (r : Numbered) (k : Crossing) → after_records k (xs ++ r ∷ []) None ≡ and_then (after_records k xs None) (λ (n : Crossing). after_record n r)
+unfolding after_records
+records_push [] r k = ok_then (after_record k r)
+records_push (x ∷ xs) r k = then_then (after_record k x) xs r (records_push xs r)
+
+front : (q : Captured) (xs : List Captured) (i : ℕ) (x : Captured) → slice_get xs i ≡ Some x → slice_get (xs ++ q ∷ []) i ≡ Some x
+front q [] i x e = absurd cc
+front q (y ∷ xs) zero x e = e
+front q (y ∷ xs) (suc i) x e = front q xs i x e
+
+crossed_none : (p : Parameters) → crossed_by p [] ≡ Ok (nothing_crossed p)
+unfolding after_records
+crossed_none p = ap (λ l. after_records (nothing_crossed p) (map numbered l) None) (take_all p.last_record [] (omega arith))
+
+module _ (p : Parameters) (records : List Captured) (q : Captured) (next : q.number ≡ suc (length records)) where
+  abbrev all : List Captured
+  all = records ++ q ∷ []
+
+  pub crossed_inside : q.number ≤ p.last_record → crossed_by p all ≡ and_then (crossed_by p records) (λ (n : Crossing). after_record n (numbered q))
+  crossed_inside inside =
+      let size = length_push records q in
+      ap (λ l. after_records (nothing_crossed p) (map numbered l) None) (take_all p.last_record all (omega (arith, next, inside, size)))
+      ∙ ap (λ l. after_records (nothing_crossed p) l None) (map-append numbered records (q ∷ []))
+      ∙ records_push (map numbered records) (numbered q) (nothing_crossed p)
+      ∙ ap (λ l. and_then (after_records (nothing_crossed p) (map numbered l) None) (λ (n : Crossing). after_record n (numbered q)))
+      (sym (take_all p.last_record records (omega (arith, next, inside))))
+
+  pub crossed_behind : p.last_record < q.number → crossed_by p all ≡ crossed_by p records
+  crossed_behind behind = ap (λ l. after_records (nothing_crossed p) (map numbered l) None) (take-append-le p.last_record records (q ∷ []) (omega (arith, next, behind)))
+
+  -- ---- its packet
+
+  kept_one : (b : Bool) → map stamp_of (cond b (q ∷ []) []) ≡ cond b (stamp_of q ∷ []) []
+  kept_one true = refl
+  kept_one false = refl
+
+  stamps_push : (b : Bool) → holds_packet p q ≡ b → map stamp_of (holding p all) ≡ map stamp_of (holding p records) ++ cond b (stamp_of q ∷ []) []
+  stamps_push b e = ap (map stamp_of) (filter-append (holds_packet p) records (q ∷ []) ∙ ap (λ c. holding p records ++ cond c (q ∷ []) []) e)
+      ∙ map-append stamp_of (holding p records) (cond b (q ∷ []) []) ∙ ap (λ l. map stamp_of (holding p records) ++ l) (kept_one b)
+
+  pub stamps_inside : q.number ≤ p.last_record → map stamp_of (holding p all) ≡ map stamp_of (holding p records) ++ stamps_at p (numbered q) q.time
+  stamps_inside inside =
+      let within : nat_le q.number p.last_record ≡ true = grind (arith, nat_tests, inside) in
+      stamps_push (is_some (packet_at p (numbered q))) (ap (λ b. b && is_some (packet_at p (numbered q))) within)
+
+  pub stamps_none : holds_packet p q ≡ false → map stamp_of (holding p all) ≡ map stamp_of (holding p records)
+  stamps_none e = stamps_push false e ∙ append-nil _
+
+  behind_none : p.last_record < q.number → holds_packet p q ≡ false
+  behind_none behind =
+      let beyond : nat_le q.number p.last_record ≡ false = grind (arith, nat_tests, behind) in
+      ap (λ b. b && is_some (packet_at p (numbered q))) beyond
+
+  -- ---- the record that a fault names
+
+  get_front : (i : ℕ) → i < length records → slice_get all i ≡ slice_get records i
+  get_front i h = let some = slice_get_some records i h in front q records i some.0 some.1 ∙ sym some.1
+
+  subject_kept : (place : ℕ) → place ≤ length records → subject_of all place ≡ subject_of records place
+  subject_kept zero h = refl
+  subject_kept (suc before) h = ap (λ (o : Option Captured). Some (subject_at (suc before) (option_map (λ (r : Captured). r.time) o))) (get_front before (omega (arith, h)))
+
+  subject_new : subject_of all (suc (length records)) ≡ Some (subject_at (suc (length records)) (Some q.time))
+  subject_new = ap (λ (o : Option Captured). Some (subject_at (suc (length records)) (option_map (λ (r : Captured). r.time) o))) (get_next records (q ∷ []))
+
+  -- ---- how it stands
+
+  pub judged_standing : (s : Standing) (k n : Crossing) (old new : List Stamp) (time : Option CaptureTime) → time ≡ Some q.time → q.number ≤ p.last_record
+      → IsJudgedSo s p k n old new (numbered q) time → IsStanding Reading (crossed_by p records) records p k old → IsStanding s (crossed_by p all) all p n new
+  judged_standing Reading k n old new time timed inside judged h = (
+    crossed_inside inside ∙ ap (λ (s : Outcome). and_then s (λ (m : Crossing). after_record m (numbered q))) h.0 ∙ judged.0,
+    judged.1 q.time timed ∙ ap (λ l. l ++ stamps_at p (numbered q) q.time) h.1 ∙ sym (stamps_inside inside),
+  )
+  judged_standing (Refused refusal) k n old new time timed inside judged h =
+      let place : refusal.fault.place ≡ suc (length records) = record_place k (numbered q) refusal.fault judged.0 ∙ next in (
+        crossed_inside inside ∙ ap (λ (s : Outcome). and_then s (λ (m : Crossing). after_record m (numbered q))) h.0 ∙ judged.0,
+        judged.1 ∙ ap (λ t. Some (subject_at q.number t)) timed ∙ ap (λ m. Some (subject_at m (Some q.time))) next ∙ sym subject_new ∙ ap (subject_of all) (sym place),
+      )
+  judged_standing OutOfMemory k n old new time timed inside judged h = tt
+
+  pub judged_within : (s : Standing) (k n : Crossing) (old new : List Stamp) (time : Option CaptureTime) → IsJudgedSo s p k n old new (numbered q) time → IsWithin s (length all)
+  judged_within Reading k n old new time judged = tt
+  judged_within (Refused refusal) k n old new time judged =
+      let place = record_place k (numbered q) refusal.fault judged.0 in
+      let size = length_push records q in
+      omega (arith, place, next, size)
+  judged_within OutOfMemory k n old new time judged = tt
+
+  -- ---- a record that changes nothing
+
+  refused_by : (f : Fault) → crossed_by p records ≡ Err f → (q.number ≤ p.last_record) ⊎ (p.last_record < q.number) → crossed_by p all ≡ Err f
+  refused_by f e (inl inside) = crossed_inside inside ∙ ap (λ (s : Outcome). and_then s (λ (m : Crossing). after_record m (numbered q))) e
+  refused_by f e (inr behind) = crossed_behind behind ∙ e
+
+  by_test : (t : Bool) → leb q.number p.last_record ≡ t → (q.number ≤ p.last_record) ⊎ (p.last_record < q.number)
+  by_test true e = inl (leb-true q.number p.last_record e)
+  by_test false e = inr (leb-false q.number p.last_record e)
+
+  -- of one that changes neither what crossed nor its packets
+  pub same_standing : (s : Standing) (k : Crossing) (packets : List Stamp) → (crossed_by p records ≡ Ok k → crossed_by p all ≡ Ok k) → holds_packet p q ≡ false → IsWithin s (length records)
+      → IsStanding s (crossed_by p records) records p k packets → IsStanding s (crossed_by p all) all p k packets
+  same_standing Reading k packets same none within h = (same h.0, h.1 ∙ sym (stamps_none none))
+  same_standing (Refused refusal) k packets same none within h =
+      (refused_by refusal.fault h.0 (by_test (leb q.number p.last_record) refl), h.1 ∙ sym (subject_kept refusal.fault.place within))
+  same_standing OutOfMemory k packets same none within h = tt
+
+  pub same_within : (s : Standing) → IsWithin s (length records) → IsWithin s (length all)
+  same_within Reading within = tt
+  same_within (Refused refusal) within = let size = length_push records q in omega (arith, within, size)
+  same_within OutOfMemory within = tt
+
+  -- of a connection that is judged no more
+  pub stopped_standing : (s : Standing) (k : Crossing) (packets : List Stamp) → (s ≡ Reading → ⊥) → IsWithin s (length records)
+      → IsStanding s (crossed_by p records) records p k packets → IsStanding s (crossed_by p all) all p k packets
+  stopped_standing Reading k packets shut within h = absurd (shut refl)
+  stopped_standing (Refused refusal) k packets shut within h =
+      (refused_by refusal.fault h.0 (by_test (leb q.number p.last_record) refl), h.1 ∙ sym (subject_kept refusal.fault.place within))
+  stopped_standing OutOfMemory k packets shut within h = tt
+
+  -- one behind the window
+  pub behind_standing : (s : Standing) (k : Crossing) (packets : List Stamp) → p.last_record < q.number → IsWithin s (length records)
+      → IsStanding s (crossed_by p records) records p k packets → IsStanding s (crossed_by p all) all p k packets
+  behind_standing s k packets behind = same_standing s k packets (λ e. crossed_behind behind ∙ e) (behind_none behind)
+
+-- ---- a connection
+
+abbrev StandsBy : List Captured → Line → Parameters → Type 0
+StandsBy records l p = IsStanding l.standing (crossed_by p records) records p (crossed_in l.builder) l.packets.items
+
+pub line_begun : (l : Line) (p : Parameters) → l.params ≡ p → l.standing ≡ Reading → crossed_in l.builder ≡ nothing_crossed p → l.packets.items ≡ [] → l.taken ≡ 0 → IsLine [] l
+line_begun l p params reading none packets taken = record {
+  standing = subst (λ (s : Standing). IsStanding s (crossed_by l.params []) [] l.params (crossed_in l.builder) l.packets.items) (sym reading)
+      (crossed_none l.params ∙ ap (λ (x : Parameters). Ok (nothing_crossed x)) params ∙ ap (λ (k : Crossing). Ok k) (sym none), packets);
+  within = subst (λ (s : Standing). IsWithin s 0) (sym reading) tt;
+  taken = omega (arith, taken);
+}
+
+first_of : (a b : Numbered) → a ≡ b → a.0 ≡ b.0
+first_of a b e = ap (λ (n : Numbered). n.0) e
+
+pub line_judged : (old new : Line) (r : Numbered) (time : Option CaptureTime) → old.standing ≡ Reading → r.0 ≤ old.params.last_record → IsJudged old new r time
+    → new.params ≡ old.params → new.taken ≡ r.0 → TakesIn old new r time
+line_judged old new r time reading inside judged params taken records q is next timed h =
+    let p = old.params in
+    let number = first_of _ _ is in
+    let size = length_push records q in
+    let same = subst (λ (x : Numbered). IsJudgedSo new.standing p (crossed_in old.builder) (crossed_in new.builder) old.packets.items new.packets.items x time) (sym is) judged in
+    let before = subst (λ (s : Standing). IsStanding s (crossed_by p records) records p (crossed_in old.builder) old.packets.items) reading h.standing in record {
+      standing = subst (StandsBy (records ++ q ∷ []) new) (sym params)
+          (judged_standing p records q (number ∙ next) new.standing (crossed_in old.builder) (crossed_in new.builder) old.packets.items new.packets.items time timed
+          (omega (arith, number, inside)) same before);
+      within = judged_within p records q (number ∙ next) new.standing (crossed_in old.builder) (crossed_in new.builder) old.packets.items new.packets.items time same;
+      taken = omega (arith, taken, next, size);
+    }
+
+-- what a record leaves as it was
+pub record SameLine (old new : Line) : Type 0 where
+  pub params : new.params ≡ old.params
+  pub builder : new.builder ≡ old.builder
+  pub packets : new.packets.items ≡ old.packets.items
+  pub standing : new.standing ≡ old.standing
+
+pub line_stopped : (old new : Line) (r : Numbered) (time : Option CaptureTime) → (old.standing ≡ Reading → ⊥) → SameLine old new → new.taken ≡ r.0 → TakesIn old new r time
+line_stopped old new r time shut same taken records q is next timed h =
+    let number = first_of _ _ is in
+    let size = length_push records q in record {
+      standing = subst (StandsBy (records ++ q ∷ []) new) (sym same.params)
+          (subst (λ (s : Standing). IsStanding s (crossed_by old.params (records ++ q ∷ [])) (records ++ q ∷ []) old.params (crossed_in new.builder) new.packets.items) (sym same.standing)
+          (subst (λ (l : List Stamp). IsStanding old.standing (crossed_by old.params (records ++ q ∷ [])) (records ++ q ∷ []) old.params (crossed_in new.builder) l) (sym same.packets)
+          (subst (λ (b : StoreBuilder). IsStanding old.standing (crossed_by old.params (records ++ q ∷ [])) (records ++ q ∷ []) old.params (crossed_in b) old.packets.items) (sym same.builder)
+          (stopped_standing old.params records q (number ∙ next) old.standing (crossed_in old.builder) old.packets.items shut h.within h.standing))));
+      within = subst (λ (s : Standing). IsWithin s (length (records ++ q ∷ []))) (sym same.standing) (same_within old.params records q (number ∙ next) old.standing h.within);
+      taken = omega (arith, taken, next, size);
+    }
+
+pub line_behind : (old new : Line) (r : Numbered) (time : Option CaptureTime) → old.params.last_record < r.0 → SameLine old new → new.taken ≡ r.0 → TakesIn old new r time
+line_behind old new r time behind same taken records q is next timed h =
+    let number = first_of _ _ is in
+    let size = length_push records q in record {
+      standing = subst (StandsBy (records ++ q ∷ []) new) (sym same.params)
+          (subst (λ (s : Standing). IsStanding s (crossed_by old.params (records ++ q ∷ [])) (records ++ q ∷ []) old.params (crossed_in new.builder) new.packets.items) (sym same.standing)
+          (subst (λ (l : List Stamp). IsStanding old.standing (crossed_by old.params (records ++ q ∷ [])) (records ++ q ∷ []) old.params (crossed_in new.builder) l) (sym same.packets)
+          (subst (λ (b : StoreBuilder). IsStanding old.standing (crossed_by old.params (records ++ q ∷ [])) (records ++ q ∷ []) old.params (crossed_in b) old.packets.items) (sym same.builder)
+          (behind_standing old.params records q (number ∙ next) old.standing (crossed_in old.builder) old.packets.items (omega (arith, number, behind)) h.within h.standing))));
+      within = subst (λ (s : Standing). IsWithin s (length (records ++ q ∷ []))) (sym same.standing) (same_within old.params records q (number ∙ next) old.standing h.within);
+      taken = omega (arith, taken, next, size);
+    }
+
+-- a record that changes neither what crossed nor the packets
+pub line_same : (l : Line) (records : List Captured) (q : Captured) → q.number ≡ suc (length records)
+    → (crossed_by l.params records ≡ Ok (crossed_in l.builder) → crossed_by l.params (records ++ q ∷ []) ≡ Ok (crossed_in l.builder)) → holds_packet l.params q ≡ false
+    → IsLine records l → IsLine (records ++ q ∷ []) l
+line_same l records q next same none h =
+    let size = length_push records q in
+    let few = h.taken in record {
+      standing = same_standing l.params records q next l.standing (crossed_in l.builder) l.packets.items same none h.within h.standing;
+      within = same_within l.params records q next l.standing h.within;
+      taken = omega (arith, few, size);
+    }

@@ -1,0 +1,16 @@
+use Rattle.std.proofs.Common.{subst, sym}
+use Rattle.seatmelon_audit.specs.All.{lines_in}
+use Rattle.seatmelon_audit.specs.Lines.{params_of}
+use Rattle.seatmelon_audit.specs.Sorting.{sorted_in}
+use Rattle.seatmelon_audit.specs.Ways.{KnowsAll, NamesAll}
+use Rattle.seatmelon_audit.proofs.Steps.{all_taken}
+use Rattle.seatmelon_audit.proofs.lines.Lines.add.Goals as goal
+
+pub returns-clause-lines : goal.returns-clause-lines
+returns-clause-lines c known =
+    all_taken (lines_in c.args.self.now) c.step_all.new.lines.items c.of_frame-ways.result.now (c.args.record.now.number, c.args.record.now.bytes.now) c.args.time
+    c.step_all.ensures.between c.step_all.ensures.taken
+    (subst (λ ps. NamesAll c.of_frame-ways.result.now ps c.args.record.now.bytes.now) (sym c.step_all.ensures.kept) (c.of_frame-ways.ensures (params_of (lines_in c.args.self.now)) known))
+
+pub returns-clause-known : goal.returns-clause-known
+returns-clause-known c known = subst (KnowsAll (sorted_in c.args.self.now.ways)) (sym c.step_all.ensures.kept) known

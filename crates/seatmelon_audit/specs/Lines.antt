@@ -1,0 +1,74 @@
+-- A connection on its way through the records of a capture.
+use Rattle.std.specs.Prelude.{◌≡◌, ⊤, ◌<◌, ◌≤◌, ℕ, suc, List, [], ◌∷◌, ◌++◌, length, map, slice_index_or, slice_set, Option, Some}
+use Rattle.std.specs.List.{Contains}
+use Rattle.rasta_pdu.specs.Params.{Parameters}
+use Rattle.seatmelon_audit.specs.declared.ways.Way.{Way}
+use Rattle.rasta_pcap.specs.declared.time.CaptureTime.{CaptureTime}
+use Rattle.rasta_pcap.specs.Capture.{Numbered}
+use Rattle.rasta_pcap.specs.Captured.{Captured, numbered}
+use Rattle.rasta_check.specs.Capture.Building.{crossed_in}
+use Rattle.seatmelon_audit.specs.Records.{IsJudgedSo, IsStanding, crossed_by}
+use Rattle.seatmelon_audit.specs.declared.line.Line.{Line}
+use Rattle.seatmelon_audit.specs.declared.line.Standing.{Standing}
+use Rattle.seatmelon_audit.specs.declared.line.Standing.TheVariants.{OutOfMemory, Reading, Refused}
+
+-- a fault names one of so many records
+abbrev pub IsWithin : Standing → ℕ → Type 0
+IsWithin Reading count = ⊤
+IsWithin (Refused refusal) count = refusal.fault.place ≤ count
+IsWithin OutOfMemory count = ⊤
+
+-- the connection stands as these records say
+pub record IsLine (records : List Captured) (l : Line) : Type 0 where
+  pub standing : IsStanding l.standing (crossed_by l.params records) records l.params (crossed_in l.builder) l.packets.items
+  pub within : IsWithin l.standing (length records)
+  pub taken : l.taken ≤ length records
+
+abbrev pub IsJudged : Line → Line → Numbered → Option CaptureTime → Type 0
+IsJudged old new r time = IsJudgedSo new.standing old.params (crossed_in old.builder) (crossed_in new.builder) old.packets.items new.packets.items r time
+
+-- what was so of the records before the next one, which was captured at this time, is so of it too
+abbrev pub TakesIn : Line → Line → Numbered → Option CaptureTime → Type 0
+TakesIn old new r time = (records : List Captured) (q : Captured) → numbered q ≡ r → r.0 ≡ suc (length records) → time ≡ Some q.time → IsLine records old → IsLine (records ++ q ∷ []) new
+
+-- ---- all connections
+
+-- a record is taken in once
+pub record IsStep (old new : Line) (r : Numbered) (time : Option CaptureTime) : Type 0 where
+  pub params : new.params ≡ old.params
+  pub taken : new.taken ≡ r.0
+  pub again : old.taken ≡ r.0 → new ≡ old
+  pub takes : (old.taken ≡ r.0 → ⊥) → TakesIn old new r time
+
+-- the connection at this place takes the record in, and no other one
+pub record IsStepAt (place : ℕ) (old new : List Line) (r : Numbered) (time : Option CaptureTime) : Type 0 where
+  pub past : length old ≤ place → new ≡ old
+  pub here : (d : Line) → place < length old → (m : Line) × (new ≡ slice_set old place m) × IsStep (slice_index_or old place d) m r time
+
+abbrev pub params_of : List Line → List Parameters
+params_of lines = map (λ (l : Line). l.params) lines
+
+-- each connection stands as these records say
+abbrev pub AreLines : List Captured → List Line → Type 0
+AreLines records lines = (i : ℕ) (d : Line) → i < length lines → IsLine records (slice_index_or lines i d)
+
+-- what was so of the records before the next one is so of it too
+abbrev pub AllTakeIn : List Line → List Line → Numbered → Option CaptureTime → Type 0
+AllTakeIn old new r time = (records : List Captured) (q : Captured) → numbered q ≡ r → r.0 ≡ suc (length records) → time ≡ Some q.time → AreLines records old → AreLines (records ++ q ∷ []) new
+
+-- ---- while the connections take in a record
+
+-- a connection that has taken it in, or not yet
+pub record IsBetween (records : List Captured) (q : Captured) (l : Line) : Type 0 where
+  pub after : l.taken ≡ q.number → IsLine (records ++ q ∷ []) l
+  pub before : (l.taken ≡ q.number → ⊥) → IsLine records l
+
+abbrev pub AreBetween : List Captured → Captured → List Line → Type 0
+AreBetween records q lines = (i : ℕ) (d : Line) → i < length lines → IsBetween records q (slice_index_or lines i d)
+
+abbrev pub AllBetween : List Line → List Line → Numbered → Option CaptureTime → Type 0
+AllBetween old new r time = (records : List Captured) (q : Captured) → numbered q ≡ r → r.0 ≡ suc (length records) → time ≡ Some q.time → AreBetween records q old → AreBetween records q new
+
+-- the connections of these ways have taken in the record of this number
+abbrev pub HaveTaken : List Way → ℕ → List Line → Type 0
+HaveTaken ways number lines = (w : Way) (d : Line) → Contains ways w → w.line < length lines → (slice_index_or lines w.line d).taken ≡ number

@@ -1,0 +1,170 @@
+//! A connection on its way through the records of a capture.
+ghost use Rattle.std.specs.Prelude.{◌≡◌, ◌≤◌};
+ghost use Rattle.rasta_check.specs.Capture.Building.{crossed_in};
+ghost use Rattle.seatmelon_audit.specs.Records.{subject_behind};
+
+use rasta_check::StoreBuilder;
+use rasta_pcap::{CaptureTime, Fault, Record};
+use rasta_pdu::Params;
+use std::alloc::Global;
+
+/// The record that holds a packet: its number, from 1, and when it was captured.
+#[derive(Clone, Copy)]
+pub struct Stamp {
+    pub record: u32,
+    pub time: CaptureTime,
+}
+
+/// The record that a refusal names: its number, from 1, and when it was captured, if it was read whole.
+#[derive(Clone, Copy)]
+pub struct Subject {
+    pub record: u32,
+    pub time: Option<CaptureTime>,
+}
+
+/// Why a connection is refused, and which record shows it; none where the fault is of the file's header.
+#[derive(Clone, Copy)]
+pub struct Refusal {
+    pub fault: Fault,
+    pub subject: Option<Subject>,
+}
+
+/// How a connection stands.
+#[derive(Clone, Copy)]
+pub enum Standing {
+    /// What crosses is stored.
+    Reading,
+
+    Refused(Refusal),
+
+    OutOfMemory,
+}
+
+/// A connection on its way.
+#[derive(Drop)]
+pub struct Line {
+    pub(crate) params: Params,
+    pub(crate) builder: StoreBuilder,
+
+    // The records that hold its packets, by place.
+    pub(crate) packets: Vec<Stamp>,
+    pub(crate) standing: Standing,
+
+    // The number of the record that was taken in last.
+    pub(crate) taken: u32,
+    ghost recorded: { (crossed_in builder).params ≡ params },
+}
+
+// The record of this number, which was not read whole; none for 0.
+fn subject_behind(number: u32) -> Option<Subject>
+    ensures { result ≡ subject_behind number }
+{
+    if number == 0 {
+        return None;
+    }
+    Some(Subject {
+        record: number,
+        time: None,
+    })
+}
+
+impl Line {
+    ghost use Rattle.std.specs.Prelude.{[]};
+    ghost use Rattle.seatmelon_audit.specs.Ends.{EndsBy};
+    ghost use Rattle.seatmelon_audit.specs.Lines.{IsJudged, IsLine, IsStep, TakesIn};
+    ghost use Rattle.seatmelon_audit.specs.Records.{IsNotedSo};
+    ghost use Rattle.seatmelon_audit.specs.declared.line.Standing.TheVariants.{Reading};
+
+    /// Before the first record.
+    pub fn new(alloc: Global, params: &Params) -> Line
+        ensures line { IsLine [] result }
+        ensures params { result.params ≡ params.now }
+    {
+        Line {
+            params: *params,
+            builder: StoreBuilder::new(alloc, *params),
+            packets: Vec::new(alloc),
+            standing: Standing::Reading,
+            taken: 0,
+        }
+    }
+
+    // Notes a packet of the record with this number.
+    fn note(&mut self, number: u32, time: Option<CaptureTime>)
+        requires reading { self.old.standing ≡ Reading }
+        ensures noted { IsNotedSo self.new.standing self.old.packets.items self.new.packets.items number time }
+        ensures kept { (self.new.params ≡ self.old.params) × (self.new.builder ≡ self.old.builder) × (self.new.taken ≡ self.old.taken) }
+    {
+        let Some(time) = time else {
+            return;
+        };
+        let stamp = Stamp {
+            record: number,
+            time,
+        };
+        if self.packets.push(stamp).is_err() {
+            self.standing = Standing::OutOfMemory;
+        }
+    }
+
+    // Judges a record up to the last one of the window.
+    fn judge(&mut self, record: &Record<'_>, time: Option<CaptureTime>)
+        requires reading { self.old.standing ≡ Reading }
+        ensures judged { IsJudged self.old self.new («record».now.number, «record».now.bytes.now) time }
+        ensures kept { (self.new.params ≡ self.old.params) × (self.new.taken ≡ self.old.taken) }
+    {
+        match self.builder.add(record) {
+            Ok(Some(_)) => self.note(record.number, time),
+            Ok(None) => {}
+            Err(fault) if fault.number == Fault::NO_MEMORY => {
+                self.standing = Standing::OutOfMemory;
+            }
+            Err(fault) => {
+                let subject = Some(Subject {
+                    record: record.number,
+                    time,
+                });
+                self.standing = Standing::Refused(Refusal { fault, subject });
+            }
+        }
+    }
+
+    /// Takes in the next record, which was captured at this time.
+    pub fn add(&mut self, record: &Record<'_>, time: Option<CaptureTime>)
+        ensures line { TakesIn self.old self.new («record».now.number, «record».now.bytes.now) time }
+        ensures taken { self.new.taken ≡ «record».now.number }
+        ensures kept { self.new.params ≡ self.old.params }
+    {
+        self.taken = record.number;
+        if let Standing::Reading = self.standing {
+            if record.number <= self.params.last_record() {
+                self.judge(record, time);
+            }
+        }
+    }
+
+    /// Takes in the next record, which was captured at this time, once.
+    pub fn step(&mut self, record: &Record<'_>, time: Option<CaptureTime>)
+        ensures { IsStep self.old self.new («record».now.number, «record».now.bytes.now) time }
+    {
+        if self.taken != record.number {
+            self.add(record, time);
+        }
+    }
+
+    /// Takes in the fault that ended the reading of the file: it is the connection's where it stands before the end of its
+    /// window.
+    pub fn end(&mut self, fault: Fault)
+        ensures line { EndsBy self.old self.new fault }
+        ensures kept { self.new.params ≡ self.old.params }
+    {
+        if let Standing::Reading = self.standing {
+            if fault.place <= self.params.last_record() {
+                self.standing = Standing::Refused(Refusal {
+                    fault,
+                    subject: subject_behind(fault.place),
+                });
+            }
+        }
+    }
+}

@@ -1,0 +1,74 @@
+//! All connections, on their way through the records of a capture.
+ghost use Rattle.std.specs.Prelude.{◌≡◌, ◌<◌, ◌^◌, [], length, IfOk};
+ghost use Rattle.seatmelon_audit.specs.Lines.{AllBetween, AllTakeIn, AreLines, HaveTaken, IsStepAt, params_of};
+ghost use Rattle.seatmelon_audit.specs.All.{IsKnown, lines_in};
+
+use crate::line::Line;
+use crate::ways::{Way, Ways};
+use rasta_pcap::{CaptureTime, Record};
+use rasta_pdu::Params;
+use std::alloc::{AllocError, Global};
+
+/// All connections, and which of them record which hosts.
+#[derive(Drop)]
+pub struct Lines {
+    pub(crate) lines: Vec<Line>,
+    pub(crate) ways: Ways,
+}
+
+// The connection at this place takes in a record, if there is one.
+fn step_at(lines: &mut Vec<Line>, place: usize, record: &Record<'_>, time: Option<CaptureTime>)
+    ensures { IsStepAt place lines.old.items lines.new.items («record».now.number, «record».now.bytes.now) time }
+{
+    if place < lines.len() {
+        lines[place].step(record, time);
+    }
+}
+
+// The connections of these ways take in a record.
+fn step_all(lines: &mut Vec<Line>, ways: &[Way], record: &Record<'_>, time: Option<CaptureTime>)
+    ensures between { AllBetween lines.old.items lines.new.items («record».now.number, «record».now.bytes.now) time }
+    ensures taken { HaveTaken ways.now «record».now.number lines.new.items }
+    ensures kept { params_of lines.new.items ≡ params_of lines.old.items }
+{
+    for way in ways {
+        step_at(lines, way.line as usize, record, time);
+    }
+}
+
+// The connections with these parameters, before the first record.
+fn lines_of(alloc: Global, params: &[Params]) -> Result<Vec<Line>, AllocError>
+    ensures lines { IfOk result (λ lines. AreLines [] lines.items) }
+    ensures params { IfOk result (λ lines. params_of lines.items ≡ params.now) }
+{
+    let mut lines = Vec::new(alloc);
+    for recorded in params {
+        lines.push(Line::new(alloc, recorded))?;
+    }
+    Ok(lines)
+}
+
+impl Lines {
+    /// Before the first record.
+    pub fn new(alloc: Global, params: &[Params]) -> Result<Lines, AllocError>
+        requires { length params.now < 2 ^ 32 }
+        ensures lines { IfOk result (λ all. AreLines [] (lines_in all)) }
+        ensures params { IfOk result (λ all. params_of (lines_in all) ≡ params.now) }
+        ensures known { IfOk result IsKnown }
+    {
+        let lines = lines_of(alloc, params)?;
+        let ways = Ways::new(alloc, params)?;
+        Ok(Lines { lines, ways })
+    }
+
+    /// Takes in the next record, which was captured at this time: it goes to the connections that record the hosts of its
+    /// frame, and to no other.
+    pub fn add(&mut self, record: &Record<'_>, time: Option<CaptureTime>)
+        ensures lines { IsKnown self.old → AllTakeIn (lines_in self.old) (lines_in self.new) («record».now.number, «record».now.bytes.now) time }
+        ensures params { params_of (lines_in self.new) ≡ params_of (lines_in self.old) }
+        ensures known { IsKnown self.old → IsKnown self.new }
+    {
+        let ways = self.ways.of_frame(record.bytes);
+        step_all(&mut self.lines, ways, record, time);
+    }
+}
