@@ -5,8 +5,8 @@
 
 The captures are made by the ends of random_runs.py over a calm network: a whole port with five connections, copies of
 an opening and strangers between them; one with start words of its own; one in which a packet is missing; one with
-many packets (400,000); and some with other link types. Prints for each task its commands and the seconds that they took; a task that doesn't come out
-as it should is named, and the status is 1.
+many packets (400,000); some with other link types; and some with a short snapshot length. Prints for each task its
+commands and the seconds that they took; a task that doesn't come out as it should is named, and the status is 1.
 Parameters come from drafts, with the values of the 'engineering data' in place of placeholders, as a person would fill
 them in. `rt run` in crates/seatmelon leaves the program. Plain Python 3, no other packages.
 """
@@ -263,6 +263,42 @@ def other_frames(day):
         day.expect("JSON", status == 1 and (told["link_type"], told["link_type_name"]) == (number, name), (status, text, error))
 
 
+def cut_to(capture, length):
+    """The same capture, made with this snapshot length."""
+    cut, at = [capture[:16] + struct.pack("<I", length) + capture[20:24]], 24
+    while at < len(capture):
+        front, captured = capture[at : at + 8], struct.unpack_from("<I", capture, at + 8)[0]
+        frame = capture[at + 16 : at + 16 + captured]
+        cut.append(front + struct.pack("<II", min(captured, length), captured) + frame[:length])
+        at += 16 + captured
+    return b"".join(cut)
+
+
+def short_snapshots(day):
+    """Captures with a short snapshot length: a survey says why there is no connection, or less of one."""
+    connection = Connection("short", 21, (96, 97))
+    whole, capture = capture_of(connection.frames), day.path("short.pcap")
+    capture.write_bytes(whole)
+    parameters = day.filled_in(capture, 1, connection.values(), "short.toml")
+    frames = [frame for _, frame in connection.frames]
+    for length in (40, 60, 96):
+        capture.write_bytes(cut_to(whole, length))
+        count = sum(len(frame) > length for frame in frames)
+        status, text, error = day.call("survey", capture)
+        lines = text.splitlines()
+        all_cut = f"UDP datagrams that were captured cut (snapshot length {length}): {count}"
+        only_cut = f"only in datagrams that were captured cut (snapshot length {length}): "
+        beside = f"  {count} datagrams of these hosts were captured cut (snapshot length {length})"
+        day.expect("all cut datagrams", all_cut in lines, (status, text, error))
+        has_whole = count < len(frames)
+        day.expect("beside a connection", (beside in lines) == has_whole, (status, text, error))
+        is_shown = length >= 54 and not has_whole
+        day.expect("in no connection", (only_cut in text) == is_shown, (status, text, error))
+        status, text, error = day.call("explain", capture, parameters)
+        told = f"snapshot length in the file's header: {length} bytes"
+        day.expect("explain", status == 1 and "refused by 15 CutPacket" in text and told in text, (status, text, error))
+
+
 def mistakes(day):
     """What is mistyped leads on."""
     connection = Connection("mistakes", 17, (96, 97))
@@ -299,6 +335,7 @@ def main():
         day.task("a missing packet", lambda: missing_packet(day))
         day.task("many packets", lambda: many_packets(day, asked.packets))
         day.task("frames of another link type", lambda: other_frames(day))
+        day.task("a capture with a short snapshot length", lambda: short_snapshots(day))
         day.task("mistakes", lambda: mistakes(day))
     return day.wrong > 0
 

@@ -1,11 +1,17 @@
 -- What is told to be wrong with the packet of a refused record.
-use Rattle.std.specs.Prelude.{◌≡◌, ℕ, ◌+◌, ◌-◌, ◌==◌, List, [], length, take, slice_range, Option, None, Some, option_map, ⊤}
+use Rattle.std.specs.Prelude.{◌≡◌, ℕ, ◌+◌, ◌-◌, ◌==◌, ◌&&◌, ◌||◌, Bool, true, false, List, [], length, take, slice_range, Option, None, Some, option_map, ⊤}
 use Rattle.std.specs.Option.{ForSome}
 use Rattle.rasta_md4.specs.Md4.{md4}
+use Rattle.rasta_pcap.specs.declared.fault.Fault.{Fault}
+use Rattle.rasta_pcap.specs.Fault.{safety_length, too_short, wrong_payload}
 use Rattle.rasta_udp.specs.Frame.{Packet, packet_in}
 use Rattle.rasta_pdu.specs.Params.{Parameters}
 use Rattle.rasta_pdu.specs.Pdu.{check_at, code_at, receiver_of, sender_of}
 use Rattle.rasta_check.specs.Capture.Reading.{Crossing, packet_found, sent_by}
+use Rattle.seatmelon_packets.specs.Features.{features_by}
+use Rattle.seatmelon_packets.specs.Trials.{all_trials}
+use Rattle.seatmelon_packets.specs.declared.lengths.Fits.{Fits}
+use Rattle.seatmelon_packets.specs.declared.recognizer.Features.{Features}
 use Rattle.seatmelon_reading.specs.declared.capture_refusal.Beside.{Beside}
 use Rattle.seatmelon_reading.specs.declared.capture_refusal.CaptureRefusal.{CaptureRefusal}
 use Rattle.seatmelon_reading.specs.declared.notes.Sighting.{Sighting}
@@ -46,6 +52,18 @@ TellsTrouble p k r packet (troubles.Type found) = ForSome (field_at 2 10 packet.
 TellsTrouble p k r packet (troubles.Payload layout) = ⊤
 TellsTrouble p k r packet troubles.Other = ⊤
 
+-- what is wrong with a packet may be that other lengths of the codes were recorded
+abbrev pub may_be_lengths : Fault → Bool
+may_be_lengths fault = (fault.number == too_short) || ((fault.number == safety_length) || (fault.number == wrong_payload))
+
+abbrev pub fits_of : Features → Fits
+fits_of found = found.fits
+
+-- the lengths that a datagram fits, where they are asked for
+abbrev pub lengths_if : Bool → List ℕ → Option Fits
+lengths_if true datagram = option_map fits_of (features_by all_trials datagram)
+lengths_if false datagram = None
+
 -- the packet of the refused record is told, if it holds one of the recorded channels
 pub record IsRefusedPacket (p : Parameters) (k : Crossing) (r : CaptureRefusal) (packet : Packet) (told : RefusedPacket) : Type 0 where
   pub sender : told.sender ≡ packet.side
@@ -53,6 +71,7 @@ pub record IsRefusedPacket (p : Parameters) (k : Crossing) (r : CaptureRefusal) 
   pub datagram : told.datagram.now ≡ packet.payload
   pub trouble : TellsTrouble p k r packet told.trouble
   pub first : told.is_first ≡ (length k.packets == 0)
+  pub lengths : told.lengths ≡ lengths_if (may_be_lengths r.fault && (length k.packets == 0)) packet.payload
 
 abbrev pub packet_refused : Parameters → CaptureRefusal → Option Packet
 packet_refused p r = packet_found (packet_in p.channels r.frame.items)

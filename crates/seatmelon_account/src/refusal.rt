@@ -1,9 +1,9 @@
 //! What is told of a refusal.
-ghost use Rattle.std.specs.Prelude.{◌≡◌, ◌-◌, option_map};
+ghost use Rattle.std.specs.Prelude.{◌≡◌, ◌-◌, ◌==◌, ◌&&◌, length, option_map};
 ghost use Rattle.rasta_udp.specs.Frame.{packet_of};
 ghost use Rattle.seatmelon_account.specs.Crossed as crossed_specs;
 ghost use Rattle.seatmelon_account.specs.Refusals.{TellsPlace, TellsRecord};
-ghost use Rattle.seatmelon_account.specs.Troubles.{TellsPacket, packet_refused};
+ghost use Rattle.seatmelon_account.specs.Troubles.{TellsPacket, lengths_if, may_be_lengths, packet_refused};
 
 use crate::crossed::{Crossed, has_opening, packet_at};
 use crate::entries::{RefusedEntry, refused_entry};
@@ -89,7 +89,9 @@ fn datagram_in<'a>(params: &Params, refusal: &'a CaptureRefusal) -> Option<Datag
 }
 
 // The lengths of the codes that a refused packet fits, if it is the first of all and they may be wrong.
-fn lengths_in(store: &Store, fault: Fault, datagram: &[u8]) -> Option<Fits> {
+fn lengths_in(store: &Store, fault: Fault, datagram: &[u8]) -> Option<Fits>
+    ensures { result ≡ lengths_if (may_be_lengths fault && (length store.now.packets == 0)) datagram.now }
+{
     match fault.number {
         Fault::TOO_SHORT | Fault::SAFETY_LENGTH | Fault::PAYLOAD if store.len() == 0 => {
             Some(features_by(&Trials::new(), datagram)?.fits)

@@ -1,8 +1,8 @@
 //! The command `survey`.
 ghost use Rattle.std.specs.Prelude.{◌≡◌, ◌<◌, ◌≤◌, length, None, IfErr, IfOk, IfSome, IsSome};
-ghost use Rattle.seatmelon_survey.specs.Survey.{connections_in, fault_in};
+ghost use Rattle.seatmelon_survey.specs.Survey.{connections_in, fault_in, header_of};
 ghost use Rattle.seatmelon_commands.specs.Failing.{status_of, TellsOf, IsOfFiles};
-ghost use Rattle.seatmelon_commands.specs.Headers.{TellsHeader, TellsHeaderOf};
+ghost use Rattle.seatmelon_commands.specs.Headers.{IsHeaderOf, TellsHeader, TellsHeaderOf};
 
 use crate::answer::{Answer, write_answer};
 use crate::failure::{Failure, Refusal};
@@ -60,7 +60,8 @@ pub fn survey_of<D: Read + Drop>(
     ensures err { IfErr result (λ failure. IsOfFiles failure) }
 
     // A header that is told is the one that the file begins with.
-    ensures header { IfSome (D.remaining file) (λ bytes. IfErr result (TellsHeaderOf bytes)) }
+    ensures refused { IfSome (D.remaining file) (λ bytes. IfErr result (TellsHeaderOf bytes)) }
+    ensures header { IfSome (D.remaining file) (λ bytes. IfOk result (λ s. IsHeaderOf bytes (header_of s))) }
 {
     let source = Keeping::new(Counted::new(Watched::new(file)));
     let Ok(mut reader) = Buffered::new(alloc, source, BUFFER) else {
@@ -70,7 +71,10 @@ pub fn survey_of<D: Read + Drop>(
     let source = reader.into_inner();
     let header = source.header();
     match outcome {
-        Ok(survey) => Ok(survey),
+        Ok(mut survey) => {
+            survey.set_header(header);
+            Ok(survey)
+        }
         Err(fault) => {
             let file = source.into_inner().into_inner();
             Err(refused(alloc, path, fault, header, &file))

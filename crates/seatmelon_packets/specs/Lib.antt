@@ -1,2 +1,4 @@
+pub mod Cut
 pub mod Features
 pub mod Recognizing
+pub mod Trials

@@ -1,6 +1,8 @@
 //! The lengths of codes that fit.
-ghost use Rattle.std.specs.Prelude.{◌≡◌};
+ghost use Rattle.std.specs.Prelude.{◌≡◌, Some};
+ghost use Rattle.rasta_pdu.specs.Params.{AreLengths};
 ghost use Rattle.seatmelon_packets.specs.Features.{fit_by, fits_any, fits_by, fits_by_codes};
+ghost use Rattle.seatmelon_packets.specs.Trials.{all_trials, codes_tried, trial_of};
 
 use rasta_pdu::{Channel, Fault, Params, Side, decode};
 use rasta_udp::Endpoint;
@@ -61,7 +63,11 @@ const ANY_CHANNEL: Channel = Channel {
     },
 };
 
-fn trial(code_length: u8, check_length: u8) -> Option<Params> {
+// Parameters with codes of these lengths, in bytes.
+fn trial(code_length: u8, check_length: u8) -> Option<Params>
+    requires { AreLengths code_length check_length }
+    ensures { result ≡ Some (trial_of code_length check_length) }
+{
     Params::new(
         1,
         2,
@@ -101,7 +107,11 @@ struct CodeTrials {
 }
 
 impl CodeTrials {
-    fn new(check_length: u8) -> CodeTrials {
+    // With a check code of this length, in bytes.
+    fn new(check_length: u8) -> CodeTrials
+        requires { AreLengths 0 check_length }
+        ensures { result ≡ codes_tried check_length }
+    {
         CodeTrials {
             no_code: trial(0, check_length),
             short_code: trial(8, check_length),
@@ -132,7 +142,9 @@ pub struct Trials {
 
 impl Trials {
     /// Of each length that the codes can have.
-    pub fn new() -> Trials {
+    pub fn new() -> Trials
+        ensures { result ≡ all_trials }
+    {
         Trials {
             no_check: CodeTrials::new(0),
             short_check: CodeTrials::new(2),

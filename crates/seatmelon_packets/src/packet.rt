@@ -1,13 +1,15 @@
 //! Packets that have the form of RaSTA.
-ghost use Rattle.std.specs.Prelude.{◌+◌, ◌≤◌, length};
+ghost use Rattle.std.specs.Prelude.{◌≡◌, ◌+◌, ◌≤◌, length, None};
+ghost use Rattle.seatmelon_packets.specs.Cut.{cut_in, cut_of};
 
+use crate::cut::{Cut, has_form};
 use crate::lengths::Fits;
 use crate::recognizer::{Features, Recognizer};
 use crate::route::route_in;
 use byteorder::{ByteOrder, LittleEndian};
 use rasta_pcap::CaptureTime;
 use rasta_pdu::Kind;
-use rasta_udp::{Channel, Record, datagram};
+use rasta_udp::{Channel, Fault, Record, datagram};
 
 // Offsets and lengths in a datagram, in bytes.
 const NUMBER_AT: usize = 4;
@@ -118,14 +120,27 @@ fn is_between_two_ends(way: &Way) -> bool {
     way.sender != way.receiver && client != server && client.port >= 1 && server.port >= 1
 }
 
-/// The packet that a record holds, if its datagram has the form of RaSTA for some lengths of the codes.
-pub fn packet_in(
+/// What is seen of a record.
+#[derive(Clone, Copy)]
+pub enum Sight {
+    /// A packet whose datagram has the form of RaSTA for some lengths of the codes.
+    Packet(Packet),
+
+    /// A datagram that wasn't captured whole, whatever it is.
+    Cut(Cut),
+
+    /// Neither.
+    Other,
+}
+
+// The packet that a datagram on this route holds, if it has the form of RaSTA for some lengths of the codes.
+fn packet_by(
     recognizer: &mut Recognizer,
-    found: &Record<'_>,
+    number: u32,
     time: Option<CaptureTime>,
+    route: Channel,
+    bytes: &[u8],
 ) -> Option<Packet> {
-    let route = route_in(found.bytes)?;
-    let bytes = datagram(found, &[route]).ok()??.payload;
     if bytes.len() < PAYLOAD_AT {
         return None;
     }
@@ -140,7 +155,7 @@ pub fn packet_in(
     }
     let Features { fits, hash } = recognizer.features_of(bytes)?;
     Some(Packet {
-        record: found.number,
+        record: number,
         time,
         way,
         kind,
@@ -150,8 +165,50 @@ pub fn packet_in(
         ts: u32_at(bytes, TS_AT),
         cts: u32_at(bytes, CTS_AT),
         fits,
-        offer: offer_in(found.number, kind, bytes),
+        offer: offer_in(number, kind, bytes),
         reason: reason_in(kind, bytes),
         hash,
     })
+}
+
+// A packet, if there is one.
+fn sight_of(packet: Option<Packet>) -> Sight
+    ensures { cut_of result ≡ None }
+{
+    match packet {
+        Some(packet) => Sight::Packet(packet),
+        None => Sight::Other,
+    }
+}
+
+/// What a record holds: a packet, or a datagram that wasn't captured whole.
+pub fn sight_in(recognizer: &mut Recognizer, found: &Record<'_>, time: Option<CaptureTime>) -> Sight
+    ensures { cut_of result ≡ cut_in found.now.bytes.now }
+{
+    let Some(route) = route_in(found.bytes) else {
+        return Sight::Other;
+    };
+    match datagram(found, &[route]) {
+        Ok(Some(datagram)) => {
+            let bytes = datagram.payload;
+            sight_of(packet_by(recognizer, found.number, time, route, bytes))
+        }
+        Err(fault) if fault.number == Fault::CUT_PACKET => Sight::Cut(Cut {
+            route,
+            has_form: has_form(found.bytes),
+        }),
+        Ok(None) | Err(_) => Sight::Other,
+    }
+}
+
+/// The packet that a record holds, if its datagram has the form of RaSTA for some lengths of the codes.
+pub fn packet_in(
+    recognizer: &mut Recognizer,
+    found: &Record<'_>,
+    time: Option<CaptureTime>,
+) -> Option<Packet> {
+    match sight_in(recognizer, found, time) {
+        Sight::Packet(packet) => Some(packet),
+        Sight::Cut(_) | Sight::Other => None,
+    }
 }

@@ -1,6 +1,6 @@
 //! What is found out of datagrams, of which copies follow each other.
-ghost use Rattle.std.specs.Prelude.{◌≡◌, ◌≤◌, length, true};
-ghost use Rattle.seatmelon_packets.specs.Features.{check_length_of, features_by, hash_of};
+ghost use Rattle.std.specs.Prelude.{◌≡◌, ◌<◌, ◌≤◌, ◌^◌, length, true};
+ghost use Rattle.seatmelon_packets.specs.Features.{check_length_in, check_length_of, features_by, hash_of};
 
 use crate::lengths::{Fits, NO_FITS, Trials};
 use byteorder::{ByteOrder, LittleEndian};
@@ -46,18 +46,26 @@ impl Model for Recognizer {
     ghost invariant = { IsKept };
 }
 
-// The length of the check code that is left after the safety PDU.
-fn check_length(datagram: &[u8]) -> Option<u8>
-    requires { 36 ≤ length datagram.now }
-    ensures { result ≡ check_length_of datagram.now }
+// The length of the check code that is left after a safety PDU of this length, which is at most 65,535.
+pub fn check_length_in(safety: usize, rest: usize) -> Option<u8>
+    requires { safety < 2 ^ 16 }
+    ensures { result ≡ check_length_in safety rest }
 {
-    let safety = usize::from(LittleEndian::read_u16(&datagram[SAFETY_AT..]));
-    match datagram.len() - SAFETY_AT {
+    match rest {
         rest if rest == safety => Some(0),
         rest if rest == safety + 2 => Some(2),
         rest if rest == safety + 4 => Some(4),
         _ => None,
     }
+}
+
+// The length of a datagram's check code.
+fn check_length(datagram: &[u8]) -> Option<u8>
+    requires { 36 ≤ length datagram.now }
+    ensures { result ≡ check_length_of datagram.now }
+{
+    let safety = usize::from(LittleEndian::read_u16(&datagram[SAFETY_AT..]));
+    check_length_in(safety, datagram.len() - SAFETY_AT)
 }
 
 fn hash_of(bytes: &[u8]) -> u64

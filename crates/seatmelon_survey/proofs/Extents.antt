@@ -5,9 +5,11 @@ use Rattle.rasta_pcap.specs.declared.fault.Fault.{Fault}
 use Rattle.rasta_pcap.specs.declared.pcap.Endianness.{Endianness}
 use Rattle.rasta_pcap.specs.Capture.{Cursor, Numbered, cursor_at, max_captured, max_records, next, next_bytes, next_length}
 use Rattle.rasta_pcap.specs.Devices.{HasFailed}
+use Rattle.rasta_pcap.specs.Extent.{HasRead}
 use Rattle.rasta_pcap.specs.Fault.{cut_record, fault_at, no_memory, not_pcap, read_failed, record_too_long, too_many}
 use Rattle.rasta_pcap.specs.Stream.{FailsWithin, LacksMemory, ReadsRecord, RefusesHeader, RefusesRecord}
 use Rattle.rasta_pcap.proofs.Steps.{Outcome, tested}
+use Rattle.seatmelon_survey.specs.Extents.{RefusesNext}
 
 -- a record's number is that of the record before it and one
 pub record-number : (order : Endianness) (count : ℕ) (r : Numbered) (old new : Option (List ℕ)) → ReadsRecord order count r old new
@@ -54,3 +56,17 @@ failed f order count room most first_count old_count new_count first old new is 
 failed f order count room most first_count old_count new_count first old new is same (inr (inr refused)) =
     let below = leb-false not_pcap f.number is in
     let least = next-number (cursor_at order (refused.bytes ++ []) count) f (refused.each [] (λ e. refl)) in absurd (omega (arith, below, least))
+
+no_fault_of_reading : (f : Fault) → f ≡ read_failed → nat_le not_pcap f.number ≡ true → ⊥
+no_fault_of_reading f same is = let e = subst (λ (g : Fault). nat_le not_pcap g.number ≡ true) same is in absurd cc
+
+no_fault_of_memory : (f : Fault) → f ≡ no_memory → nat_le not_pcap f.number ≡ true → ⊥
+no_fault_of_memory f same is = let e = subst (λ (g : Fault). nat_le not_pcap g.number ≡ true) same is in absurd cc
+
+-- a fault of the capture: the next record has it
+pub refused : (f : Fault) (order : Endianness) (count room most old_count new_count : ℕ) (first old new : Option (List ℕ))
+    → nat_le not_pcap f.number ≡ true → HasRead order count first old → WhyNone order count room most f old_count new_count old new
+    → RefusesNext f count first new
+refused f order count room most old_count new_count first old new is read (inl why) = absurd (no_fault_of_reading f why.0 is)
+refused f order count room most old_count new_count first old new is read (inr (inl lacking)) = absurd (no_fault_of_memory f lacking.0 is)
+refused f order count room most old_count new_count first old new is read (inr (inr why)) = record { order = order; middle = old; read = read; refused = why }

@@ -1,3 +1,4 @@
+pub mod CountedCuts
 pub mod Extents
 pub mod Tables
 pub mod Placed

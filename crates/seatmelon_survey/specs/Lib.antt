@@ -1,3 +1,6 @@
+pub mod CutNotes
+pub mod Cuts
+pub mod CutRecords
 pub mod Findings
 pub mod Survey
 pub mod Extents

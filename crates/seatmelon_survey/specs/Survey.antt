@@ -1,7 +1,9 @@
 -- What a survey counted.
 use Rattle.std.specs.Prelude.{ℕ, List, Option}
 use Rattle.rasta_pcap.specs.declared.fault.Fault.{Fault}
+use Rattle.seatmelon_capture.specs.declared.header.FileHeader.{FileHeader}
 use Rattle.seatmelon_connections.specs.declared.connection.Connection.{Connection}
+use Rattle.seatmelon_survey.specs.CutNotes.{CutNotes}
 use Rattle.seatmelon_survey.specs.declared.findings.Survey.{Survey}
 
 -- how many records were read
@@ -15,3 +17,11 @@ fault_in s = s.fault
 -- the connections, in the order of their first records
 abbrev pub connections_in : Survey → List Connection
 connections_in s = s.connections
+
+-- the datagrams that weren't captured whole
+abbrev pub cuts_of : Survey → CutNotes
+cuts_of s = s.cuts
+
+-- the header of the capture, if that was kept
+abbrev pub header_of : Survey → Option FileHeader
+header_of s = s.header

@@ -5,14 +5,17 @@ ghost use Rattle.rasta_pcap.specs.Fault.{no_memory};
 ghost use Rattle.rasta_pcap.specs.Devices.{AsWritten};
 ghost use Rattle.seatmelon_survey.specs.Belonging.{opening_in};
 
+use crate::cut_report::{write_cut_of, write_cut_pairs, write_cuts};
+use crate::cuts::Cuts;
 use crate::fault_words::write_fault;
 use crate::places::{Ends, Opening, Places};
 use crate::report::{write_connection, write_summary};
 use rasta_pcap::{CaptureTime, Fault, Record, Sink};
 use rasta_pdu::Kind;
+use seatmelon_capture::FileHeader;
 use seatmelon_connections::{Arrival, Connection};
 use seatmelon_lines::write_words;
-use seatmelon_packets::{Packet, Recognizer, Way, packet_in};
+use seatmelon_packets::{Packet, Recognizer, Sight, Way, sight_in};
 use std::alloc::Global;
 use std::marker::Model;
 
@@ -74,7 +77,9 @@ pub struct Survey {
     records: u32,
     packets: u64,
     left_out: u64,
+    cuts: Cuts,
     fault: Option<Fault>,
+    header: Option<FileHeader>,
 }
 
 impl Model for Survey {
@@ -82,7 +87,7 @@ impl Model for Survey {
 
     ghost Value = { Findings };
 
-    ghost view = { λ s. record { connections = s.connections.items; records = s.records; packets = s.packets; left_out = s.left_out; fault = s.fault } };
+    ghost view = { λ s. record { connections = s.connections.items; records = s.records; packets = s.packets; left_out = s.left_out; cuts = s.cuts; fault = s.fault; header = s.header } };
 
     ghost use Rattle.seatmelon_survey.specs.Belonging.{ArePlaced};
 
@@ -93,12 +98,16 @@ impl Survey {
     ghost use Rattle.seatmelon_connections.specs.Comparing.{is_claimed};
     ghost use Rattle.seatmelon_connections.specs.Noted.{repeated_in};
     ghost use Rattle.seatmelon_survey.specs.Belonging.{destination_after, destination_behind, destination_of, ends_of, last_between, opened_among, opening_in};
-    ghost use Rattle.seatmelon_survey.specs.Survey.{connections_in, fault_in, records_in};
+    ghost use Rattle.seatmelon_survey.specs.Survey.{connections_in, cuts_of, fault_in, header_of, records_in};
+    ghost use Rattle.seatmelon_survey.specs.CutNotes.{no_cuts};
+    ghost use Rattle.seatmelon_survey.specs.Cuts.{TakesCutIf};
+    ghost use Rattle.seatmelon_packets.specs.Cut.{cut_in};
 
     /// Nothing found yet. The quiet points of one connection may be wanted behind a record.
     pub fn new(alloc: Global, behind: Option<Behind>) -> Survey
         ensures records { records_in result ≡ 0 }
         ensures fault { fault_in result ≡ None }
+        ensures cuts { cuts_of result ≡ no_cuts }
     {
         Survey {
             behind,
@@ -108,7 +117,9 @@ impl Survey {
             records: 0,
             packets: 0,
             left_out: 0,
+            cuts: Cuts::new(alloc),
             fault: None,
+            header: None,
         }
     }
 
@@ -147,6 +158,27 @@ impl Survey {
         self.fault
     }
 
+    /// The datagrams that weren't captured whole.
+    pub fn cuts(&self) -> &Cuts
+        ensures { result.now ≡ cuts_of self.now }
+    {
+        &self.cuts
+    }
+
+    /// What the header of the capture says, where that was kept.
+    pub fn header(&self) -> Option<FileHeader>
+        ensures { result ≡ header_of self.now }
+    {
+        self.header
+    }
+
+    /// Keeps what the header of the capture says.
+    pub fn set_header(&mut self, header: Option<FileHeader>)
+        ensures { self.new ≡ record self.old { header = header } }
+    {
+        self.header = header;
+    }
+
     /// Keeps the fault of the record behind those that were taken in.
     pub fn set_fault(&mut self, fault: Fault)
         ensures { self.new ≡ record self.old { fault = Some fault } }
@@ -167,10 +199,15 @@ impl Survey {
         ensures fault { fault_in self.new ≡ fault_in self.old }
         ensures unchanged { OnErr result (self.new ≡ self.old) }
         ensures err { IfErr result (λ f. f ≡ no_memory) }
+        ensures cuts { OnOk result (TakesCutIf (cut_in found.now.bytes.now) (cuts_of self.old) (cuts_of self.new)) }
     {
-        if let Some(packet) = packet_in(&mut self.recognizer, found, time) {
-            self.add_packet(alloc, &packet)?;
-            self.packets = self.packets.saturating_add(1);
+        match sight_in(&mut self.recognizer, found, time) {
+            Sight::Packet(packet) => {
+                self.add_packet(alloc, &packet)?;
+                self.packets = self.packets.saturating_add(1);
+            }
+            Sight::Cut(cut) => self.cuts.add(&cut)?,
+            Sight::Other => {}
         }
         self.records = found.number;
         Ok(())
@@ -178,6 +215,7 @@ impl Survey {
 
     fn add_packet(&mut self, alloc: Global, packet: &Packet) -> Result<(), Fault>
         ensures fault { fault_in self.new ≡ fault_in self.old }
+        ensures cuts { cuts_of self.new ≡ cuts_of self.old }
         ensures unchanged { OnErr result (self.new ≡ self.old) }
         ensures err { IfErr result (λ f. f ≡ no_memory) }
     {
@@ -273,7 +311,8 @@ impl Survey {
     }
 
     fn set_repeated(&mut self, last: usize, place: Option<usize>)
-        ensures { fault_in self.new ≡ fault_in self.old }
+        ensures fault { fault_in self.new ≡ fault_in self.old }
+        ensures cuts { cuts_of self.new ≡ cuts_of self.old }
     {
         let Some(connection) = self.connections.get_mut(last) else {
             return;
@@ -282,7 +321,8 @@ impl Survey {
     }
 
     fn add_at(&mut self, place: usize, packet: &Packet, arrival: Arrival)
-        ensures { fault_in self.new ≡ fault_in self.old }
+        ensures fault { fault_in self.new ≡ fault_in self.old }
+        ensures cuts { cuts_of self.new ≡ cuts_of self.old }
     {
         let Some(connection) = self.connections.get_mut(place) else {
             return;
@@ -299,6 +339,7 @@ impl Survey {
     // Begins a connection with this packet, once there is memory for all of it.
     fn begin(&mut self, alloc: Global, packet: &Packet) -> Result<(), Fault>
         ensures fault { fault_in self.new ≡ fault_in self.old }
+        ensures cuts { cuts_of self.new ≡ cuts_of self.old }
         ensures unchanged { OnErr result (self.new ≡ self.old) }
         ensures err { IfErr result (λ f. f ≡ no_memory) }
     {
@@ -320,7 +361,8 @@ impl Survey {
     // Leaves a packet out that begins a connection. From it on the last connection between its ends is followed by
     // another one.
     fn leave_out(&mut self, packet: &Packet)
-        ensures { fault_in self.new ≡ fault_in self.old }
+        ensures fault { fault_in self.new ≡ fault_in self.old }
+        ensures cuts { cuts_of self.new ≡ cuts_of self.old }
     {
         self.left_out = self.left_out.saturating_add(1);
         if let Some(last) = self.last_between(&packet.way) {
@@ -336,9 +378,12 @@ impl Survey {
         ensures written { AsWritten result (W.failure_count writer.old) (W.failure_count writer.new) }
     {
         write_summary(writer, self)?;
+        write_cuts(writer, self)?;
         for (place, connection) in self.connections.iter().enumerate() {
             write_connection(writer, place as u64, connection)?;
+            write_cut_of(writer, self, connection)?;
         }
+        write_cut_pairs(writer, self)?;
         let Some(fault) = self.fault else {
             return Ok(());
         };

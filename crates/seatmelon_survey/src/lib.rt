@@ -1,12 +1,15 @@
 //! What a capture seems to hold: the RaSTA connections in it, found without any recorded parameters.
 #![tactic(auto)]
 
+mod cut_report;
+mod cuts;
 mod fault_words;
 mod findings;
 mod places;
 mod reading;
 mod report;
 
+pub use cuts::{CutCount, Cuts, Direction, MOST_DIRECTIONS};
 pub use fault_words::{FaultWords, words_of_fault, write_fault};
 pub use findings::{Behind, MOST_CONNECTIONS, Survey};
 pub use reading::survey;

@@ -4,8 +4,9 @@ ghost use Rattle.rasta_pcap.specs.Fault.{no_memory, not_pcap, read_failed};
 ghost use Rattle.rasta_pcap.specs.Devices.{HasFailed};
 ghost use Rattle.rasta_pcap.specs.Noting.{PassesOn};
 ghost use Rattle.rasta_pcap.specs.Stream.{RefusesHeader};
+ghost use Rattle.seatmelon_survey.specs.CutRecords.{CountsCuts};
 ghost use Rattle.seatmelon_survey.specs.Extents.{ReadsRecords};
-ghost use Rattle.seatmelon_survey.specs.Survey.{fault_in, records_in};
+ghost use Rattle.seatmelon_survey.specs.Survey.{cuts_of, fault_in, records_in};
 
 use crate::findings::{Behind, Survey};
 use rasta_pcap::stream::RecordReader;
@@ -34,6 +35,7 @@ pub fn survey<R: Source>(
     ensures err { IfErr result (λ f. (f ≡ no_memory)
         ⊎ (((f ≡ read_failed) × HasFailed (R.failure_count reader.old) (R.failure_count reader.new))
         ⊎ RefusesHeader f (R.remaining reader.old) (R.remaining reader.new))) }
+    ensures cuts { IfOk result (λ s. CountsCuts (records_in s) (R.remaining reader.old) (cuts_of s)) }
     ensures passed { PassesOn R.remaining R.notes reader.old reader.new }
 {
     let mut records = RecordReader::open(alloc, reader)?;

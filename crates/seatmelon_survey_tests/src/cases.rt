@@ -343,7 +343,16 @@ connection 2
 records: 1
 packets of RaSTA: 0
 other records, passed over: 1
+UDP datagrams that were captured cut: 1
 no packet of a RaSTA connection
+== data plain: 0%60 1%60 |  | Cut packets up to their types.
+records: 2
+packets of RaSTA: 0
+other records, passed over: 2
+no packet of a RaSTA connection
+UDP datagrams that were captured cut: 2
+
+only in datagrams that were captured cut: 10.0.0.1:5000 - 10.0.0.2:5000, 2 datagrams
 == data plain: 0 1 2 cut |  | Cut in its last record.
 records: 2
 packets of RaSTA: 2

@@ -2,6 +2,7 @@
 ghost use Rattle.std.specs.Prelude.{◌≡◌, IfErr};
 ghost use Rattle.rasta_pcap.specs.Fault.{write_failed};
 
+use crate::json_places::write_number_if;
 use crate::words::Hint;
 use rasta_pcap::{Fault, Sink};
 use seatmelon_capture::{FileHeader, link_type_name};
@@ -86,6 +87,47 @@ pub fn write_link_type<W: Sink>(
             write_name(writer, link_type)
         }
     }
+}
+
+// How many bytes of each frame were captured at most, where a fault says that a packet wasn't captured whole.
+fn told_snapshot(fault: Fault, header: Option<FileHeader>) -> Option<u32> {
+    match fault.number {
+        Fault::CUT_PACKET => Some(header?.snapshot_length),
+        _ => None,
+    }
+}
+
+/// Writes how many bytes of each frame were captured at most, as a line, where a packet wasn't captured whole.
+pub fn write_snapshot<W: Sink>(
+    writer: &mut W,
+    fault: Fault,
+    header: Option<FileHeader>,
+) -> Result<(), Fault>
+    ensures err { IfErr result (λ f. f ≡ write_failed) }
+{
+    match told_snapshot(fault, header) {
+        Some(length) => write_parts(
+            writer,
+            &parts![
+                "  snapshot length in the file's header: ",
+                length,
+                " bytes\n"
+            ],
+        ),
+        None => Ok(()),
+    }
+}
+
+/// Writes how many bytes of each frame were captured at most, as JSON, where a packet wasn't captured whole, or null.
+pub fn write_snapshot_json<W: Sink>(
+    writer: &mut W,
+    fault: Fault,
+    header: Option<FileHeader>,
+) -> Result<(), Fault>
+    ensures err { IfErr result (λ f. f ≡ write_failed) }
+{
+    write_words(writer, ",\"snapshot_length\":")?;
+    write_number_if(writer, told_snapshot(fault, header))
 }
 
 /// Writes number and name of the link type that is refused, as JSON, or null.

@@ -3,13 +3,13 @@ ghost use Rattle.std.specs.Prelude.{◌≡◌, IfErr};
 ghost use Rattle.rasta_pcap.specs.Fault.{write_failed};
 
 use crate::explained::{premises, start_premise};
-use crate::json_places::{write_long_if, write_number_if, write_place};
+use crate::json_places::{put_place, write_long_if, write_number_if};
 use rasta_pcap::{Fault, Sink};
 use rasta_pdu::QuietEnd;
 use seatmelon_account::{Direction, Explained, Message, Start};
 use seatmelon_reading::Sighting;
-use seatmelon_text::json::{write_bytes, write_long, write_sentence};
-use seatmelon_text::{Part, parts, write_parts, write_words};
+use seatmelon_text::json::{quotes_of, write_bytes, write_long, write_sentence};
+use seatmelon_text::{Part, Room, parts, put_parts, write_parts, write_words};
 
 // Writes the premise on where what is judged begins.
 fn write_start_premise<W: Sink>(writer: &mut W, start: &Start) -> Result<(), Fault>
@@ -70,48 +70,90 @@ fn write_quiet_point<W: Sink>(writer: &mut W, start: &Start) -> Result<(), Fault
     write_words(writer, "}")
 }
 
-// Writes the place of the proof of a message, or null.
-fn write_proof<W: Sink>(
+// Puts the place of the proof of a message, or null.
+fn put_proof<W: Sink>(
     writer: &mut W,
+    room: &mut Room,
     packets: &[Sighting],
     proof: Option<u32>,
 ) -> Result<(), Fault>
     ensures err { IfErr result (λ f. f ≡ write_failed) }
 {
     match proof {
-        Some(place) => write_place(writer, packets, place),
-        None => write_words(writer, "null"),
+        Some(place) => put_place(writer, room, packets, place),
+        None => room.put(writer, b"null"),
     }
 }
 
-// Writes a message.
-fn write_message<W: Sink>(
+// Puts what a message has before its bytes.
+fn put_front<W: Sink>(
     writer: &mut W,
+    room: &mut Room,
     packets: &[Sighting],
     message: &Message<'_>,
 ) -> Result<(), Fault>
     ensures err { IfErr result (λ f. f ≡ write_failed) }
 {
+    let quote = quotes_of(message.number);
     let is_taken = if message.proof.is_some() {
         "true"
     } else {
         "false"
     };
-    write_words(writer, "{\"message\":")?;
-    write_long(writer, message.number)?;
-    write_parts(
+    put_parts(
         writer,
-        &parts![",\"surely_taken\":", is_taken, ",\"data\":"],
+        room,
+        &parts![
+            "{\"message\":",
+            quote,
+            message.number,
+            quote,
+            ",\"surely_taken\":",
+            is_taken,
+            ",\"data\":"
+        ],
     )?;
-    write_place(writer, packets, message.data)?;
-    write_words(writer, ",\"proof\":")?;
-    write_proof(writer, packets, message.proof)?;
-    write_parts(
+    put_place(writer, room, packets, message.data)?;
+    room.put(writer, b",\"proof\":")?;
+    put_proof(writer, room, packets, message.proof)
+}
+
+// Puts a message. Its bytes aren't gathered in the room, since there may be many.
+fn put_message<W: Sink>(
+    writer: &mut W,
+    room: &mut Room,
+    packets: &[Sighting],
+    message: &Message<'_>,
+) -> Result<(), Fault>
+    ensures err { IfErr result (λ f. f ≡ write_failed) }
+{
+    put_front(writer, room, packets, message)?;
+    put_parts(
         writer,
+        room,
         &parts![",\"hex\":\"", Part::Hex(message.bytes), "\",\"text\":"],
     )?;
+    room.write(writer)?;
     write_bytes(writer, message.bytes)?;
-    write_words(writer, "}")
+    room.put(writer, b"}")
+}
+
+// Writes messages, one after the other.
+fn write_messages<W: Sink>(
+    writer: &mut W,
+    packets: &[Sighting],
+    messages: &[Message<'_>],
+) -> Result<(), Fault>
+    ensures err { IfErr result (λ f. f ≡ write_failed) }
+{
+    let mut room = Room::new();
+    let mut before = "";
+    for message in messages {
+        room.put(writer, before.as_bytes())?;
+        put_message(writer, &mut room, packets, message)?;
+        before = ",";
+    }
+    room.write(writer)
 }
 
 // Writes the numbers of the first and of the last message that wasn't shown to be taken, or null.
@@ -152,12 +194,7 @@ fn write_direction<W: Sink>(
     write_long(writer, direction.messages.len() as u64)?;
     write_not_shown(writer, direction.not_shown())?;
     write_words(writer, ",\"messages\":[")?;
-    let mut before = "";
-    for message in &direction.messages {
-        write_words(writer, before)?;
-        write_message(writer, packets, message)?;
-        before = ",";
-    }
+    write_messages(writer, packets, &direction.messages)?;
     write_words(writer, "]}")
 }
 

@@ -2,6 +2,7 @@
 ghost use Rattle.std.specs.Prelude.{◌≡◌, IfErr};
 ghost use Rattle.rasta_pcap.specs.Fault.{write_failed};
 
+use crate::code_lengths::write_code_lengths;
 use crate::json_places::{write_hex_if, write_number_if, write_place, write_sighting_if};
 use crate::layout::layout_of;
 use crate::packet_text::{kind_name, shown_length};
@@ -11,7 +12,7 @@ use seatmelon_account::{
     Codes, Crossed, CutMessage, Differences, Fields, FirstCopy, Gap, Layout, Numbers,
     RefusedPacket, Trouble, payload_and_codes,
 };
-use seatmelon_packets::{Fit, Fits};
+use seatmelon_packets::Fits;
 use seatmelon_reading::Sighting;
 use seatmelon_text::json::{write_bytes, write_long};
 use seatmelon_text::{Part, parts, write_parts, write_words};
@@ -337,17 +338,7 @@ pub fn write_lengths_if<W: Sink>(writer: &mut W, lengths: Option<Fits>) -> Resul
             ",\"code_lengths\":["
         ],
     )?;
-    let mut before = "";
-    for (length, fit) in [
-        (0u8, fits.no_code),
-        (8, fits.short_code),
-        (16, fits.long_code),
-    ] {
-        if fit != Fit::None {
-            write_parts(writer, &parts![before, length])?;
-            before = ",";
-        }
-    }
+    write_code_lengths(writer, &fits, "", ",")?;
     write_words(writer, "]}")
 }
 

@@ -5,7 +5,7 @@ ghost use Rattle.rasta_pcap.specs.Fault.{write_failed};
 use rasta_pcap::{CaptureTime, Fault, Sink};
 use seatmelon_reading::Sighting;
 use seatmelon_text::json::write_long;
-use seatmelon_text::{Part, parts, write_parts, write_words};
+use seatmelon_text::{Part, Room, parts, put_parts, write_parts, write_words};
 
 /// Writes a number, or null.
 pub fn write_number_if<W: Sink>(writer: &mut W, number: Option<u32>) -> Result<(), Fault>
@@ -47,6 +47,53 @@ pub fn write_time_if<W: Sink>(writer: &mut W, time: Option<CaptureTime>) -> Resu
     }
 }
 
+// Puts record, time and channel of a packet.
+fn put_sighting<W: Sink>(writer: &mut W, room: &mut Room, sighting: &Sighting) -> Result<(), Fault>
+    ensures err { IfErr result (λ f. f ≡ write_failed) }
+{
+    match sighting.time {
+        Some(time) => put_parts(
+            writer,
+            room,
+            &parts![
+                "{\"record\":",
+                sighting.record,
+                ",\"time\":\"",
+                time,
+                " UTC\",\"channel\":",
+                sighting.channel,
+                "}"
+            ],
+        ),
+        None => put_parts(
+            writer,
+            room,
+            &parts![
+                "{\"record\":",
+                sighting.record,
+                ",\"time\":null,\"channel\":",
+                sighting.channel,
+                "}"
+            ],
+        ),
+    }
+}
+
+/// Puts record, time and channel of the packet at a place, or null.
+pub fn put_place<W: Sink>(
+    writer: &mut W,
+    room: &mut Room,
+    packets: &[Sighting],
+    place: u32,
+) -> Result<(), Fault>
+    ensures err { IfErr result (λ f. f ≡ write_failed) }
+{
+    match packets.get(place as usize) {
+        Some(sighting) => put_sighting(writer, room, sighting),
+        None => room.put(writer, b"null"),
+    }
+}
+
 /// Writes record, time and channel of a packet, or null.
 pub fn write_sighting_if<W: Sink>(writer: &mut W, sighting: Option<&Sighting>) -> Result<(), Fault>
     ensures err { IfErr result (λ f. f ≡ write_failed) }
@@ -54,12 +101,9 @@ pub fn write_sighting_if<W: Sink>(writer: &mut W, sighting: Option<&Sighting>) -
     let Some(sighting) = sighting else {
         return write_words(writer, "null");
     };
-    write_parts(
-        writer,
-        &parts!["{\"record\":", sighting.record, ",\"time\":"],
-    )?;
-    write_time_if(writer, sighting.time)?;
-    write_parts(writer, &parts![",\"channel\":", sighting.channel, "}"])
+    let mut room = Room::new();
+    put_sighting(writer, &mut room, sighting)?;
+    room.write(writer)
 }
 
 /// Writes record, time and channel of the packet at a place, or null.

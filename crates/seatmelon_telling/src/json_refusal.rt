@@ -2,7 +2,7 @@
 ghost use Rattle.std.specs.Prelude.{◌≡◌, IfErr};
 ghost use Rattle.rasta_pcap.specs.Fault.{write_failed};
 
-use crate::frames::write_link_type_json;
+use crate::frames::{write_link_type_json, write_snapshot_json};
 use crate::json_packet::{write_crossed_if, write_lengths_if, write_packet_if, write_trouble_if};
 use crate::json_places::{write_long_if, write_number_if, write_time_if};
 use crate::rule::sentence;
@@ -43,7 +43,8 @@ fn write_fault<W: Sink>(
     write_words(writer, ",\"next_step\":")?;
     write_sentence(writer, hint.next_step)?;
     write_words(writer, "}")?;
-    write_link_type_json(writer, fault, header)
+    write_link_type_json(writer, fault, header)?;
+    write_snapshot_json(writer, fault, header)
 }
 
 // Writes how many safety codes could be judged from the refused packet on, and how many of them are right.

@@ -41,10 +41,34 @@ fn time_in<'a>(scene: &Scene<'_>, time: CaptureTime) -> Part<'a> {
     }
 }
 
-// Record, time and channel of the packet at a place, as they stand in a line after these words.
-fn place_in<'a>(scene: &Scene<'_>, words: &'a str, place: u32) -> [Part<'a>; 7] {
+// What a packet is to a message, as it stands before its record.
+#[derive(Clone, Copy)]
+struct Role {
+    record: &'static str,
+
+    // The same of a packet of which no record is known.
+    place: &'static str,
+}
+
+const DATA: Role = Role {
+    record: ": record ",
+    place: ": place ",
+};
+
+const DATA_NOT_SHOWN: Role = Role {
+    record: ", not shown: record ",
+    place: ", not shown: place ",
+};
+
+const PROOF: Role = Role {
+    record: "; proof: record ",
+    place: "; proof: place ",
+};
+
+// Record, time and channel of the packet at a place, as they stand in a line.
+fn place_in<'a>(scene: &Scene<'_>, role: Role, place: u32) -> [Part<'a>; 6] {
     let Some(sighting) = scene.packets.get(place as usize) else {
-        return parts![words, "place ", place, "", "", "", ""];
+        return parts![role.place, place, "", "", "", ""];
     };
     let (comma, time) = match sighting.time {
         Some(time) => (", ", time_in(scene, time)),
@@ -55,7 +79,7 @@ fn place_in<'a>(scene: &Scene<'_>, words: &'a str, place: u32) -> [Part<'a>; 7] 
     } else {
         (", channel ", Part::Number(u64::from(sighting.channel)))
     };
-    parts![words, "record ", sighting.record, comma, time, on, channel]
+    parts![role.record, sighting.record, comma, time, on, channel]
 }
 
 // The bytes of a message, as they stand in a line: as text, where they are printable.
@@ -85,6 +109,14 @@ fn state_of(message: &Message<'_>) -> &'static str {
     }
 }
 
+// What the packet of its data is to a message.
+fn role_of_data(message: &Message<'_>) -> Role {
+    match message.proof {
+        Some(_) => DATA,
+        None => DATA_NOT_SHOWN,
+    }
+}
+
 // Puts a message in one line, if it fits, and answers whether it does. A line that doesn't is given up before its
 // bytes are looked at, where they are too many: each takes a column at least.
 fn put_line<W: Sink>(
@@ -97,10 +129,10 @@ fn put_line<W: Sink>(
     ensures err { IfErr result (λ f. f ≡ write_failed) }
 {
     let front = parts![way_of(sender), message.number];
-    let data = place_in(scene, state_of(message), message.data);
+    let data = place_in(scene, role_of_data(message), message.data);
     let proof = match message.proof {
-        Some(proof) => place_in(scene, "; proof: ", proof),
-        None => [Part::Words(""); 7],
+        Some(proof) => place_in(scene, PROOF, proof),
+        None => [Part::Words(""); 6],
     };
     let left = MOST_COLUMNS
         .saturating_sub(width(&front))

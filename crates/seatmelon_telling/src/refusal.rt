@@ -2,7 +2,8 @@
 ghost use Rattle.std.specs.Prelude.{◌≡◌, IfErr};
 ghost use Rattle.rasta_pcap.specs.Fault.{write_failed};
 
-use crate::frames::write_link_type;
+use crate::code_lengths::write_code_lengths;
+use crate::frames::{write_link_type, write_snapshot};
 use crate::gap::write_gap;
 use crate::layout::write_payload_due;
 use crate::packet_text::{write_codes, write_datagram, write_differences, write_pdu};
@@ -14,7 +15,7 @@ use seatmelon_account::{
     Account, Crossed, FirstCopy, NamedPacket, Refusal, RefusedEntry, RefusedPacket, Subject,
     Trouble,
 };
-use seatmelon_packets::{Fit, Fits};
+use seatmelon_packets::Fits;
 use seatmelon_reading::{CodeCount, Sighting};
 use seatmelon_text::{parts, write_parts, write_words};
 
@@ -29,7 +30,8 @@ fn write_fault<W: Sink>(writer: &mut W, account: &Account<'_>, fault: Fault) -> 
     write_without(writer, account.without)?;
     write_parts(writer, &parts![":\n  ", meaning_in(fault, account.header)])?;
     write_link_type(writer, fault, account.header)?;
-    write_words(writer, "\n")
+    write_words(writer, "\n")?;
+    write_snapshot(writer, fault, account.header)
 }
 
 // Writes what may be the cause of a fault, and what to look at next.
@@ -151,17 +153,7 @@ fn write_lengths<W: Sink>(writer: &mut W, lengths: Option<Fits>) -> Result<(), F
             ", safety code"
         ],
     )?;
-    let mut before = " ";
-    for (length, fit) in [
-        (0u8, fits.no_code),
-        (8, fits.short_code),
-        (16, fits.long_code),
-    ] {
-        if fit != Fit::None {
-            write_parts(writer, &parts![before, length])?;
-            before = " or ";
-        }
-    }
+    write_code_lengths(writer, &fits, " ", " or ")?;
     write_words(writer, "\n")
 }
 

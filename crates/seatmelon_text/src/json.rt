@@ -1,5 +1,5 @@
 //! Strings of JSON (RFC 8259, section 7), written as they are spelled.
-ghost use Rattle.std.specs.Prelude.{◌≡◌, ◌≤◌, length, IfErr};
+ghost use Rattle.std.specs.Prelude.{◌≡◌, ◌≤◌, ◌^◌, ◌∷◌, [], length, nat_lt, if◌then◌else◌, IfErr};
 ghost use Rattle.rasta_pcap.specs.Fault.{write_failed};
 
 use crate::room::ROOM;
@@ -140,11 +140,19 @@ pub fn write_bytes<W: Sink>(writer: &mut W, bytes: &[u8]) -> Result<(), Fault>
 // A number up to which each whole number has a double of its own: 2^53.
 const MOST_NUMBER: u64 = 9_007_199_254_740_992;
 
-/// Writes a number of 64 bits: as a string of its digits where it is above 2^53, which readers of JSON may round.
+/// What stands before and behind a number of 64 bits: where it is above 2^53, which readers of JSON may round, it is a
+/// string of its digits.
+pub fn quotes_of(n: u64) -> &'static str
+    ensures { result.now ≡ (if nat_lt (2 ^ 53) n then 34 ∷ [] else []) }
+{
+    if n > MOST_NUMBER { "\"" } else { "" }
+}
+
+/// Writes a number of 64 bits, between its quotes.
 pub fn write_long<W: Sink>(writer: &mut W, n: u64) -> Result<(), Fault>
     ensures err { IfErr result (λ f. f ≡ write_failed) }
 {
-    let quote = if n > MOST_NUMBER { "\"" } else { "" };
+    let quote = quotes_of(n);
     let parts = [Part::Words(quote), Part::Number(n), Part::Words(quote)];
     write_parts(writer, &parts)
 }

@@ -178,16 +178,24 @@ fn put_endpoint<W: Sink>(writer: &mut W, room: &mut Room, endpoint: Endpoint) ->
 fn put_part<W: Sink>(writer: &mut W, room: &mut Room, part: Part<'_>) -> Result<(), Fault>
     ensures err { IfErr result (λ f. f ≡ write_failed) }
 {
-    let mut form = TIME;
     match part {
         Part::Words(words) => room.put(writer, words.as_bytes()),
         Part::Number(n) => put_number(writer, room, n),
         Part::Hex(bytes) => put_hex(writer, room, bytes),
         Part::Byte(byte) => room.put(writer, &digits_of_byte(byte)),
         Part::Text(bytes) => put_text(writer, room, bytes),
-        Part::Time(time) => room.put(writer, time_in(&mut form, time)),
-        Part::Date(time) => room.put(writer, date_in(&mut form, time)),
-        Part::TimeOfDay(time) => room.put(writer, time_of_day_in(&mut form, time)),
+        Part::Time(time) => {
+            let mut form = TIME;
+            room.put(writer, time_in(&mut form, time))
+        }
+        Part::Date(time) => {
+            let mut form = TIME;
+            room.put(writer, date_in(&mut form, time))
+        }
+        Part::TimeOfDay(time) => {
+            let mut form = TIME;
+            room.put(writer, time_of_day_in(&mut form, time))
+        }
         Part::Milliseconds(nanoseconds) => put_milliseconds(writer, room, nanoseconds),
         Part::Endpoint(endpoint) => put_endpoint(writer, room, endpoint),
         Part::End(side) => room.put(writer, name_of_end(side).as_bytes()),

@@ -61,9 +61,10 @@ may be the cause:
   the file is not whole
 look next at:
   last_record in the parameters, which can end the window before it
-== data plain: 0%50 |  |  | plain |  | A datagram that wasn't captured whole.
+== data plain: 0%50 | 16=50 17=0 18=0 19=0 |  | plain |  | A datagram that wasn't captured whole.
 refused by 15 CutPacket:
   a datagram between the recorded hosts was not captured whole
+  snapshot length in the file's header: 50 bytes
 
 record 1, 1970-01-01 00:00:00.000000 UTC
 

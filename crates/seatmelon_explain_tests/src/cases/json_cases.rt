@@ -61,7 +61,7 @@ const WHOLE: &str = r#"
 "meaning":"this redundancy number has crossed before, with other bytes",
 "cause":"a bit flipped on the line; a stranger; or an end that used a number twice",
 "next_step":"how this packet differs from its first copy, and what --without with its record says"},
-"link_type":null,"link_type_name":null,"record":{"record":7,"time":"1970-01-01 00:00:00.000000 UTC"},
+"link_type":null,"link_type_name":null,"snapshot_length":null,"record":{"record":7,"time":"1970-01-01 00:00:00.000000 UTC"},
 "packet":{"end":"client","channel":2,"bytes":40,
 "fields":{"type":6216,"type_name":"disconnection request","length_field":40,"redundancy_number":10,
 "safety_length_field":32,"receiver":97,"sender":96,"sn":103,"cs":501,"ts":2815,"cts":9050},
@@ -122,16 +122,18 @@ const PARTS: &str = r#"
 "cause":"the capture was made on the interface 'any'",
 "next_step":"an Ethernet interface, on which to capture again: a cooked capture has no Ethernet headers,
  and can't be converted without making addresses up"},
-"link_type":276,"link_type_name":"Linux cooked capture v2","record":null,
+"link_type":276,"link_type_name":"Linux cooked capture v2","snapshot_length":null,"record":null,
 == data plain: 0 | 20=200 |  | plain |  | Frames of a link type without a name.
-"link_type":200,"link_type_name":null,"record":null,
+"link_type":200,"link_type_name":null,"snapshot_length":null,"record":null,
+== data plain: 0%50 | 16=50 17=0 18=0 19=0 |  | plain |  | A datagram that wasn't captured whole.
+"link_type":null,"link_type_name":null,"snapshot_length":50,
 == data plain: 0 1 2 |  |  | narrow | rasta-certificate 2;  | A certificate of another version.
 "offers":[{"end":"client","offered":20,"recorded":1},{"end":"server","offered":20,"recorded":1}],"versions":null,
 "verdict":"refused","fault":{"number":30,"name":"Syntax",
 "meaning":"this line isn't one that a certificate has there",
 "cause":"the certificate is wrong: another one may explain the same packets",
 "next_step":"this line of the certificate"},
-"link_type":null,"link_type_name":null,"record":null,"packet":null,"trouble":null,
+"link_type":null,"link_type_name":null,"snapshot_length":null,"record":null,"packet":null,"trouble":null,
 "lengths_fitting":null,"codes_judged":null,"codes_fitting":null,"line":1,"entry":null,"pdu":null,"rule":null}
 == data plain: 0 1 2 |  |  | plain | rasta-certificate 1; client; make 0 1000 open; take 2 40; make 2 1010 reply; server; take 1 7; make 1 9000 beat; end;  | An entry of the server.
 "line":null,"entry":{"number":2,"end":"server","line":8},
@@ -145,7 +147,7 @@ const PARTS: &str = r#"
  or the opening is there, but outside the window or on a channel that isn't recorded",
 "next_step":"the quiet points that seatmelon draft proposes, one of which the engineering data or a log
  has to confirm; or the window and the channels in the parameters"},
-"link_type":null,"link_type_name":null,"record":null,"packet":null,"trouble":null,
+"link_type":null,"link_type_name":null,"snapshot_length":null,"record":null,"packet":null,"trouble":null,
 "lengths_fitting":null,"codes_judged":null,"codes_fitting":null,"line":null,"entry":null,
 "pdu":{"end":"client","packet":{"record":1,"time":"1970-01-01 00:00:00.000000 UTC","channel":1},
 "fields":{"type":6240,"type_name":"data","redundancy_number":9,"sn":102,"cs":500,"ts":1020,"cts":9000,

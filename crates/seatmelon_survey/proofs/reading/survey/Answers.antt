@@ -1,8 +1,15 @@
-use Rattle.std.proofs.Common.{◌∙◌, ◌+◌, ℕ, ap, sym}
+use Rattle.std.proofs.Common.{◌∙◌, ◌+◌, ℕ, List, Option, ap, subst, sym}
 use Rattle.rasta_pcap.specs.Stream.{count_in, order_in, room_in}
 use Rattle.rasta_pcap.proofs.Extents.{HasRead-more, HasRead-opened}
 use Rattle.rasta_pcap.proofs.Noting.{PassesOn-then}
-use Rattle.seatmelon_survey.proofs.Extents.{failed, record-number}
+use Rattle.seatmelon_packets.specs.Cut.{cut_in}
+use Rattle.seatmelon_survey.specs.Cuts.{TakesCutIf}
+use Rattle.seatmelon_survey.specs.Survey.{cuts_of, fault_in, records_in}
+use Rattle.seatmelon_survey.specs.Findings.{Findings}
+use Rattle.seatmelon_survey.proofs.CountedCuts.{HasCounted-more, HasCounted-opened}
+use Rattle.rasta_pcap.specs.Extent.{HasRead}
+use Rattle.seatmelon_survey.specs.Extents.{ReadsRecords, RefusesNext}
+use Rattle.seatmelon_survey.proofs.Extents.{failed, record-number, refused}
 use Rattle.seatmelon_survey.proofs.reading.survey.Goals as goal
 
 pub loop-init : goal.loop-init
@@ -14,6 +21,7 @@ loop-init g c =
       opened.start.0,
       c.new-survey.ensures.records,
       c.new-survey.ensures.fault,
+      HasCounted-opened _ _ _ _ opened.opened c.new-survey.ensures.cuts,
       opened.passed,
     )
 
@@ -35,21 +43,32 @@ loop-preserved g c =
       count ∙ number,
       c.in_ok-add_record.ensures.counted ∙ number,
       c.in_ok-add_record.ensures.fault ∙ c.loop.invariant.5,
-      PassesOn-then g.R.Source.remaining g.R.Source.notes _ c.loop.reader c.advance.new.reader c.loop.invariant.6 c.in-Ok-Some.ensures.passed,
+      rw step.order (HasCounted-more _ c.loop.counter _ _ _ _ _ _ _ c.loop.invariant.6 found (subst (λ b. TakesCutIf (cut_in b) (cuts_of c.loop.survey) (cuts_of c.add_record.new.self)) c.buffer-bytes.ensures.bytes c.in_ok-add_record.ensures.cuts)),
+      PassesOn-then g.R.Source.remaining g.R.Source.notes _ c.loop.reader c.advance.new.reader c.loop.invariant.7 c.in-Ok-Some.ensures.passed,
     )
 
 pub returns-in-Ok-None-clause-passed : goal.returns-in-Ok-None-clause-passed
 returns-in-Ok-None-clause-passed g c =
-    PassesOn-then g.R.Source.remaining g.R.Source.notes _ c.loop.reader c.advance.new.reader c.loop.invariant.6 c.in-Ok-None.ensures.passed
+    PassesOn-then g.R.Source.remaining g.R.Source.notes _ c.loop.reader c.advance.new.reader c.loop.invariant.7 c.in-Ok-None.ensures.passed
 
 pub returns-in-Err-clause-passed : goal.returns-in-Err-clause-passed
 returns-in-Err-clause-passed g c =
-    PassesOn-then g.R.Source.remaining g.R.Source.notes _ c.loop.reader c.advance.new.reader c.loop.invariant.6 c.in-Err.ensures.passed
+    PassesOn-then g.R.Source.remaining g.R.Source.notes _ c.loop.reader c.advance.new.reader c.loop.invariant.7 c.in-Err.ensures.passed
 
 pub returns-in-Err-2-clause-passed : goal.returns-in-Err-2-clause-passed
 returns-in-Err-2-clause-passed g c =
-    PassesOn-then g.R.Source.remaining g.R.Source.notes _ c.loop.reader c.advance.new.reader c.loop.invariant.6 c.in-Err.ensures.passed
+    PassesOn-then g.R.Source.remaining g.R.Source.notes _ c.loop.reader c.advance.new.reader c.loop.invariant.7 c.in-Err.ensures.passed
 
 pub returns-in_err-add_record-clause-passed : goal.returns-in_err-add_record-clause-passed
 returns-in_err-add_record-clause-passed g c =
-    PassesOn-then g.R.Source.remaining g.R.Source.notes _ c.loop.reader c.advance.new.reader c.loop.invariant.6 c.in-Ok-Some.ensures.passed
+    PassesOn-then g.R.Source.remaining g.R.Source.notes _ c.loop.reader c.advance.new.reader c.loop.invariant.7 c.in-Ok-Some.ensures.passed
+
+pub returns-in-Err-clause-records : goal.returns-in-Err-clause-records
+returns-in-Err-clause-records g c =
+    let fault = c.in-Err.fault in
+    let read = c.loop.invariant.0 in
+    let why = c.in-Err.ensures.step.err c.loop.invariant.2 in
+    let next = refused fault (order_in c.loop.records) (count_in c.loop.records) (room_in c.loop.records) _ _ _ _ _ _ (sym c.if-is_refusal.ensures)
+    (subst (λ (n : ℕ). HasRead (order_in c.loop.records) n (g.R.Source.remaining c.args.reader.now) (g.R.Source.remaining c.loop.reader)) (sym c.loop.invariant.3) read) why in
+    subst (λ (s : Findings). ReadsRecords s.fault s.records (g.R.Source.remaining c.args.reader.now) (g.R.Source.remaining c.advance.new.reader)) (sym c.set_fault.ensures)
+    (subst (λ (n : ℕ). RefusesNext fault n (g.R.Source.remaining c.args.reader.now) (g.R.Source.remaining c.advance.new.reader)) (c.loop.invariant.3 ∙ sym c.loop.invariant.4) next)
