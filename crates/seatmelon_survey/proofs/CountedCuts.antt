@@ -1,9 +1,9 @@
 -- Datagrams that weren't captured whole, as they are counted.
-use Rattle.std.proofs.Common.{◌≡◌, ◌∙◌, ℕ, ◌+◌, ◌==◌, ◌&&◌, min, Bool, true, false, cond, List, [], ◌∷◌, ◌++◌, length, map, filter, Option, Some, None, ap, sym, refl, subst, add-zero, append-nil, arith}
+use Rattle.std.proofs.Common.{◌≡◌, ◌∙◌, ℕ, ◌+◌, ◌==◌, ◌&&◌, Bool, true, false, cond, List, [], ◌∷◌, ◌++◌, length, filter, Option, Some, None, ap, sym, refl, subst, add-zero, append-nil, arith}
 use Rattle.std.proofs.lemmas.List.{flat_map_more, length-append, map-append}
 use Rattle.std.proofs.KnownBytes.{Consumes-trans}
 use Rattle.std.proofs.lemmas.List.Elements.{filter-append, filter_map-append}
-use Rattle.std.specs.List.{filter_map, cons_option, flat_map, AllByRecursion}
+use Rattle.std.specs.List.{cons_option, flat_map, AllByRecursion}
 use Rattle.std.specs.Map.{lookup}
 use Rattle.rasta_pcap.specs.declared.pcap.Endianness.{Endianness}
 use Rattle.rasta_pcap.specs.Capture.{Cursor, Entry, IsEntry, Numbered, cursor_after, cursor_at, entry_bytes}

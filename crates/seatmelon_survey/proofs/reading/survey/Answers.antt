@@ -1,10 +1,10 @@
-use Rattle.std.proofs.Common.{◌∙◌, ◌+◌, ℕ, List, Option, ap, subst, sym}
+use Rattle.std.proofs.Common.{◌∙◌, ◌+◌, ℕ, ap, subst, sym}
 use Rattle.rasta_pcap.specs.Stream.{count_in, order_in, room_in}
 use Rattle.rasta_pcap.proofs.Extents.{HasRead-more, HasRead-opened}
 use Rattle.rasta_pcap.proofs.Noting.{PassesOn-then}
 use Rattle.seatmelon_packets.specs.Cut.{cut_in}
 use Rattle.seatmelon_survey.specs.Cuts.{TakesCutIf}
-use Rattle.seatmelon_survey.specs.Survey.{cuts_of, fault_in, records_in}
+use Rattle.seatmelon_survey.specs.Survey.{cuts_of}
 use Rattle.seatmelon_survey.specs.Findings.{Findings}
 use Rattle.seatmelon_survey.proofs.CountedCuts.{HasCounted-more, HasCounted-opened}
 use Rattle.rasta_pcap.specs.Extent.{HasRead}
