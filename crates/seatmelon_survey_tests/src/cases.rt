@@ -343,8 +343,8 @@ connection 2
 records: 1
 packets of RaSTA: 0
 other records, passed over: 1
-UDP datagrams that were captured cut: 1
 no packet of a RaSTA connection
+UDP datagrams that were captured cut: 1
 == data plain: 0%60 1%60 |  | Cut packets up to their types.
 records: 2
 packets of RaSTA: 0
