@@ -1,8 +1,10 @@
 pub mod Account
 pub mod Crossed
 pub mod Deadlines
+pub mod Differences
 pub mod Fields
 pub mod Gaps
+pub mod Layouts
 pub mod Messages
 pub mod Offers
 pub mod Refusals

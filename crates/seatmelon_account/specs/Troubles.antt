@@ -16,8 +16,10 @@ use Rattle.seatmelon_reading.specs.declared.capture_refusal.Beside.{Beside}
 use Rattle.seatmelon_reading.specs.declared.capture_refusal.CaptureRefusal.{CaptureRefusal}
 use Rattle.seatmelon_reading.specs.declared.notes.Sighting.{Sighting}
 use Rattle.seatmelon_account.specs.Crossed.{has_opening}
+use Rattle.seatmelon_account.specs.Differences.{differing}
 use Rattle.seatmelon_account.specs.Fields.{field_at}
 use Rattle.seatmelon_account.specs.Gaps.{IsGap}
+use Rattle.seatmelon_account.specs.Layouts.{IsLayout}
 use Rattle.seatmelon_account.specs.declared.differences.Codes.{Codes}
 use Rattle.seatmelon_account.specs.declared.refusal.RefusedPacket.{RefusedPacket}
 use Rattle.seatmelon_account.specs.declared.trouble.FirstCopy.{FirstCopy}
@@ -32,24 +34,26 @@ pub record AreCodes (p : Parameters) (datagram : List ℕ) (codes : Codes) : Typ
   pub found : codes.found.now ≡ slice_range datagram (code_at p datagram) (check_at p datagram)
   pub digest : codes.digest ≡ md4 p.md4_start (slice_range datagram 8 (code_at p datagram))
 
--- the other packet with the same number is told as it was found beside the refused one
-abbrev pub TellsOther : CaptureRefusal → Option FirstCopy → Type 0
-TellsOther r None = r.beside ≡ None
-TellsOther r (Some first) = (beside : Beside) × (r.beside ≡ Some beside) × (first.sighting ≡ beside.sighting) × (first.bytes.now ≡ beside.bytes.items)
+-- the other packet with the same number is told as it was found beside the refused one, with the first bytes in which this
+-- datagram differs from it
+abbrev pub TellsOther : CaptureRefusal → List ℕ → Option FirstCopy → Type 0
+TellsOther r datagram None = r.beside ≡ None
+TellsOther r datagram (Some first) = (beside : Beside) × (r.beside ≡ Some beside) × (first.sighting ≡ beside.sighting) × (first.bytes.now ≡ beside.bytes.items)
+    × (first.differences.items ≡ take 16 (differing 0 datagram beside.bytes.items))
 
 -- what is told of a packet with these parameters, behind what crossed
 abbrev pub TellsTrouble : Parameters → Crossing → CaptureRefusal → Packet → Trouble → Type 0
 TellsTrouble p k r packet (troubles.Gap None) = ⊤
 TellsTrouble p k r packet (troubles.Gap (Some gap)) =
     IsGap (sent_by k packet.side) (has_opening k) packet.payload gap × (gap.later ≡ option_map sighting_beside r.beside)
-TellsTrouble p k r packet (troubles.Code codes first) = ForSome codes (AreCodes p packet.payload) × TellsOther r first
-TellsTrouble p k r packet (troubles.Copy first) = TellsOther r first
+TellsTrouble p k r packet (troubles.Code codes first) = ForSome codes (AreCodes p packet.payload) × TellsOther r packet.payload first
+TellsTrouble p k r packet (troubles.Copy first) = TellsOther r packet.payload first
 TellsTrouble p k r packet (troubles.Ids receiver sender) = (receiver ≡ receiver_of p packet.side) × (sender ≡ sender_of p packet.side)
 TellsTrouble p k r packet (troubles.Length due) = due ≡ length packet.payload
 TellsTrouble p k r packet (troubles.TooShort least) = least ≡ 36 + p.code_length + p.check_length
 TellsTrouble p k r packet (troubles.SafetyLength due) = due ≡ check_at p packet.payload - 8
 TellsTrouble p k r packet (troubles.Type found) = ForSome (field_at 2 10 packet.payload) (λ (number : ℕ). found ≡ number)
-TellsTrouble p k r packet (troubles.Payload layout) = ⊤
+TellsTrouble p k r packet (troubles.Payload layout) = IsLayout p packet.payload layout
 TellsTrouble p k r packet troubles.Other = ⊤
 
 -- what is wrong with a packet may be that other lengths of the codes were recorded

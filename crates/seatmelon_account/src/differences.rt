@@ -1,6 +1,7 @@
 //! How a datagram differs from what is due.
-ghost use Rattle.std.specs.Prelude.{◌≡◌, ◌≤◌, IfSome, length, take};
+ghost use Rattle.std.specs.Prelude.{◌≡◌, ◌<◌, ◌≤◌, IfSome, None, length, take};
 ghost use Rattle.rasta_pdu.specs.Pdu.{check_at, code_at};
+ghost use Rattle.seatmelon_account.specs.Differences.{differing};
 ghost use Rattle.seatmelon_account.specs.Troubles.{AreCodes};
 
 use crate::numbers::SAFETY_AT;
@@ -9,8 +10,9 @@ use rasta_pdu::Params;
 
 /// Where the safety code of a datagram begins and ends, if the datagram is long enough.
 pub fn code_places(params: &Params, datagram: &[u8]) -> Option<(usize, usize)>
-    ensures { IfSome result (λ places. (places ≡ (code_at params.now datagram.now, check_at params.now datagram.now))
+    ensures some { IfSome result (λ places. (places ≡ (code_at params.now datagram.now, check_at params.now datagram.now))
         × (8 ≤ places.0) × (places.0 ≤ places.1) × (places.1 ≤ length datagram.now)) }
+    ensures none { result ≡ None → code_at params.now datagram.now < 8 }
 {
     let end = datagram
         .len()
@@ -64,15 +66,14 @@ pub struct Difference {
 pub type Differences = ArrayVec<Difference, MOST_TOLD>;
 
 /// In which bytes a datagram differs from its first copy.
-pub fn differences(datagram: &[u8], first: &[u8]) -> Differences {
+pub fn differences(datagram: &[u8], first: &[u8]) -> Differences
+    ensures { result.items ≡ take 16 (differing 0 datagram.now first.now) }
+{
     let mut differences = ArrayVec::new();
-    for (at, (byte, before)) in datagram.iter().zip(first.iter()).enumerate() {
-        if byte != before && !differences.is_full() {
-            differences.push(Difference {
-                at,
-                byte: *byte,
-                first: *before,
-            });
+    for at in 0..datagram.len().min(first.len()) {
+        let (byte, first) = (datagram[at], first[at]);
+        if byte != first && !differences.is_full() {
+            differences.push(Difference { at, byte, first });
         }
     }
     differences

@@ -1,7 +1,8 @@
 //! What a payload is, and what the type of its datagram has in its place.
-ghost use Rattle.std.specs.Prelude.{◌≡◌, ◌≤◌, ◌<◌, length, IfSome};
+ghost use Rattle.std.specs.Prelude.{◌≡◌, ◌≤◌, ◌<◌, length, IfSome, None};
 ghost use Rattle.std.specs.Option.{ForSome};
 ghost use Rattle.seatmelon_account.specs.Fields.{field_at};
+ghost use Rattle.seatmelon_account.specs.Layouts.{IsLayout, IsWholeTo, TellsCut, ending, payload_of};
 
 use crate::differences::code_places;
 use crate::numbers::{PAYLOAD_AT, TYPE_AT, number_at};
@@ -42,15 +43,21 @@ pub fn type_in(datagram: &[u8]) -> u32
     number_at(datagram, TYPE_AT, 2).unwrap_or(0)
 }
 
-// The payload of a datagram, if it is long enough for codes of these lengths.
-fn payload_in<'a>(params: &Params, datagram: &'a [u8]) -> Option<&'a [u8]> {
-    let (end, _) = code_places(params, datagram)?;
-    datagram.get(PAYLOAD_AT..end)
+// The payload of a datagram, empty where it is too short for codes of these lengths.
+fn payload_in<'a>(params: &Params, datagram: &'a [u8]) -> &'a [u8]
+    ensures { result.now ≡ payload_of params.now datagram.now }
+{
+    match code_places(params, datagram) {
+        Some((end, _)) if PAYLOAD_AT <= end => &datagram[PAYLOAD_AT..end],
+        _ => &[],
+    }
 }
 
 // Where a message ends whose length stands there, if the payload goes so far.
 fn message_end(payload: &[u8], at: usize) -> Option<usize>
-    ensures { IfSome result (λ end. (at < end) × (end ≤ length payload.now)) }
+    requires { at ≤ length payload.now }
+    ensures end { result ≡ ending payload.now at }
+    ensures on { IfSome result (λ end. (at < end) × (end ≤ length payload.now)) }
 {
     let len = number_at(payload, at, 2)?;
     let end = at.checked_add(2)?.checked_add(len as usize)?;
@@ -62,7 +69,11 @@ fn message_end(payload: &[u8], at: usize) -> Option<usize>
 }
 
 // Where the whole messages end that a payload begins with.
-fn whole_messages(payload: &[u8]) -> usize {
+fn whole_messages(payload: &[u8]) -> usize
+    ensures whole { IsWholeTo payload.now result }
+    ensures most { result ≤ length payload.now }
+    ensures last { ending payload.now result ≡ None }
+{
     let mut at = 0;
     while let Some(end) = message_end(payload, at) {
         at = end;
@@ -71,7 +82,9 @@ fn whole_messages(payload: &[u8]) -> usize {
 }
 
 // The message for which a payload ends too soon, if there is one.
-fn cut_message(payload: &[u8]) -> Option<CutMessage> {
+fn cut_message(payload: &[u8]) -> Option<CutMessage>
+    ensures { TellsCut payload.now result }
+{
     let at = whole_messages(payload);
     if at >= payload.len() {
         return None;
@@ -84,9 +97,11 @@ fn cut_message(payload: &[u8]) -> Option<CutMessage> {
 }
 
 /// The payload of a datagram.
-pub fn layout_in<'a>(params: &Params, datagram: &'a [u8]) -> Layout<'a> {
+pub fn layout_in<'a>(params: &Params, datagram: &'a [u8]) -> Layout<'a>
+    ensures { IsLayout params.now datagram.now result }
+{
     let kind = type_in(datagram);
-    let payload = payload_in(params, datagram).unwrap_or(&[]);
+    let payload = payload_in(params, datagram);
     let version = match kind {
         6200 | 6201 if payload.len() == OPENING_LENGTH => payload.get(..VERSION_LENGTH),
         _ => None,

@@ -63,7 +63,7 @@ pub enum Trouble<'a> {
 
 // The other packet with the number of a refused one, if there is one.
 fn first_copy<'a>(refusal: &'a CaptureRefusal, datagram: &[u8]) -> Option<FirstCopy<'a>>
-    ensures { TellsOther refusal.now result }
+    ensures { TellsOther refusal.now datagram.now result }
 {
     match &refusal.beside {
         Some(beside) => Some(FirstCopy {
