@@ -1,5 +1,5 @@
 -- Packets that crossed, as they are told.
-use Rattle.std.specs.Prelude.{◌≡◌, ℕ, List, Bool, false, not, ◌&&◌, ◌||◌, Option, None, Some, is_none, slice_get, option_map}
+use Rattle.std.specs.Prelude.{◌≡◌, ℕ, List, Bool, false, not, ◌&&◌, Option, None, Some, is_none, slice_get, option_map}
 use Rattle.std.specs.Option.{option_and_then}
 use Rattle.rasta_pcap.specs.declared.fault.Side.{Side}
 use Rattle.rasta_pcap.specs.declared.fault.Side.TheVariants.{Client, Server}

@@ -1,5 +1,5 @@
 -- What is told to be wrong with the packet of a refused record.
-use Rattle.std.specs.Prelude.{◌≡◌, ℕ, ◌+◌, ◌-◌, ◌==◌, ◌&&◌, ◌||◌, Bool, true, false, List, [], length, take, slice_range, Option, None, Some, option_map, ⊤}
+use Rattle.std.specs.Prelude.{◌≡◌, ℕ, ◌+◌, ◌-◌, ◌==◌, ◌&&◌, ◌||◌, Bool, true, false, List, length, take, slice_range, Option, None, Some, option_map, ⊤}
 use Rattle.std.specs.Option.{ForSome}
 use Rattle.rasta_md4.specs.Md4.{md4}
 use Rattle.rasta_pcap.specs.declared.fault.Fault.{Fault}

@@ -1,7 +1,8 @@
 //! How a datagram differs from what is due.
-ghost use Rattle.std.specs.Prelude.{◌≡◌, ◌<◌, ◌≤◌, IfSome, None, length, take};
+ghost use Rattle.std.specs.Prelude.{◌≡◌, ◌<◌, ◌≤◌, ◌++◌, List, IfSome, None, length, take};
 ghost use Rattle.rasta_pdu.specs.Pdu.{check_at, code_at};
-ghost use Rattle.seatmelon_account.specs.Differences.{differing};
+ghost use Rattle.seatmelon_account.specs.Differences.{difference_at, differing};
+ghost use Rattle.seatmelon_account.specs.declared.differences.Difference.{Difference};
 ghost use Rattle.seatmelon_account.specs.Troubles.{AreCodes};
 
 use crate::numbers::SAFETY_AT;
@@ -65,16 +66,26 @@ pub struct Difference {
 /// In which bytes a datagram differs from its first copy, the first 16 of them.
 pub type Differences = ArrayVec<Difference, MOST_TOLD>;
 
+// Notes the bytes of both at a place, if they differ, and there is room.
+fn note(told: &mut Differences, at: usize, byte: u8, first: u8)
+    ensures { (all : List Difference) → told.old.items ≡ take 16 all → told.new.items ≡ take 16 (all ++ difference_at at byte first) }
+{
+    if byte == first {
+        return;
+    }
+    if told.is_full() {
+        return;
+    }
+    told.push(Difference { at, byte, first });
+}
+
 /// In which bytes a datagram differs from its first copy.
 pub fn differences(datagram: &[u8], first: &[u8]) -> Differences
     ensures { result.items ≡ take 16 (differing 0 datagram.now first.now) }
 {
     let mut differences = ArrayVec::new();
     for at in 0..datagram.len().min(first.len()) {
-        let (byte, first) = (datagram[at], first[at]);
-        if byte != first && !differences.is_full() {
-            differences.push(Difference { at, byte, first });
-        }
+        note(&mut differences, at, datagram[at], first[at]);
     }
     differences
 }

@@ -1,4 +1,4 @@
-use Rattle.std.proofs.Common.{◌≡◌, sym, subst}
+use Rattle.std.proofs.Common.{sym, subst}
 use Rattle.rasta_pcap.specs.declared.fault.Fault.{Fault}
 use Rattle.seatmelon_account.specs.Refusals.{TellsPlace}
 use Rattle.seatmelon_account.proofs.Told.{refused_by}
