@@ -64,10 +64,11 @@ pub fn write_cut_of<W: Sink>(
     if count == 0 {
         return Ok(());
     }
-    write_parts(
-        writer,
-        &parts!["  ", count, " datagrams of these hosts were captured cut"],
-    )?;
+    let words = match count {
+        1 => " datagram of these hosts was captured cut",
+        _ => " datagrams of these hosts were captured cut",
+    };
+    write_parts(writer, &parts!["  ", count, words])?;
     write_snapshot(writer, survey)?;
     write_words(writer, "\n")
 }
@@ -105,6 +106,10 @@ fn write_pair<W: Sink>(
 ) -> Result<(), Fault>
     ensures written { AsWritten result (W.failure_count writer.old) (W.failure_count writer.new) }
 {
+    let words = match datagrams {
+        1 => " datagram\n",
+        _ => " datagrams\n",
+    };
     write_words(writer, "only in datagrams that were captured cut")?;
     write_snapshot(writer, survey)?;
     write_parts(
@@ -116,7 +121,7 @@ fn write_pair<W: Sink>(
             route.server,
             ", ",
             datagrams,
-            " datagrams\n"
+            words
         ],
     )
 }

@@ -353,6 +353,25 @@ no packet of a RaSTA connection
 UDP datagrams that were captured cut: 2
 
 only in datagrams that were captured cut: 10.0.0.1:5000 - 10.0.0.2:5000, 2 datagrams
+== data plain: 0 1 2%60 |  | A cut packet of a connection.
+records: 3
+packets of RaSTA: 2
+other records, passed over: 1
+UDP datagrams that were captured cut: 1
+
+connection 1
+  client id 96, version 0303, N_sendmax 20
+  server id 97, version 0303, N_sendmax 20
+  records 1 to 2
+  captured from 1970-01-01 00:00:00.000000 to 1970-01-01 00:00:00.000000 UTC
+  opened by the client at record 1
+  no disconnection request was captured
+  channel 1: 10.0.0.1:5000 - 10.0.0.2:5000, packets to the server: 1, to the client: 1
+  a safety code of 0 bytes fits the length of 2 of 2 packets
+  a check code of 0 bytes fits the length of 2 of 2 packets
+  client sent connection request: 1
+  server sent connection response: 1
+  1 datagram of these hosts was captured cut
 == data plain: 0 1 2 cut |  | Cut in its last record.
 records: 2
 packets of RaSTA: 2
