@@ -1,6 +1,11 @@
+mod Ending
 mod Ends
 mod Files
 mod Frames
 mod Knowing
+mod OnWay
+mod Places
+mod Readings
 mod Standings
 mod Steps
+mod Through

@@ -1,7 +1,9 @@
 pub mod All
 pub mod Ends
+pub mod Files
 pub mod Hosts
 pub mod Lines
+pub mod Reading
 pub mod Records
 pub mod Sorting
 pub mod Ways

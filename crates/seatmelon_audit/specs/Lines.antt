@@ -40,10 +40,14 @@ pub record IsStep (old new : Line) (r : Numbered) (time : Option CaptureTime) : 
   pub again : old.taken ≡ r.0 → new ≡ old
   pub takes : (old.taken ≡ r.0 → ⊥) → TakesIn old new r time
 
--- the connection at this place takes the record in, and no other one
-pub record IsStepAt (place : ℕ) (old new : List Line) (r : Numbered) (time : Option CaptureTime) : Type 0 where
+-- the connection at this place becomes another one, and the others stay
+pub record IsChangedAt (Changes : Line → Line → Type 0) (place : ℕ) (old new : List Line) : Type 0 where
   pub past : length old ≤ place → new ≡ old
-  pub here : (d : Line) → place < length old → (m : Line) × (new ≡ slice_set old place m) × IsStep (slice_index_or old place d) m r time
+  pub here : (d : Line) → place < length old → (m : Line) × (new ≡ slice_set old place m) × Changes (slice_index_or old place d) m
+
+-- the connection at this place takes the record in, and no other one
+abbrev pub IsStepAt : ℕ → List Line → List Line → Numbered → Option CaptureTime → Type 0
+IsStepAt place old new r time = IsChangedAt (λ (a b : Line). IsStep a b r time) place old new
 
 abbrev pub params_of : List Line → List Parameters
 params_of lines = map (λ (l : Line). l.params) lines

@@ -4,4 +4,5 @@
 mod hosts;
 mod line;
 mod lines;
+mod reading;
 mod ways;

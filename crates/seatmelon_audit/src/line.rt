@@ -1,5 +1,6 @@
 //! A connection on its way through the records of a capture.
 ghost use Rattle.std.specs.Prelude.{◌≡◌, ◌≤◌};
+ghost use Rattle.rasta_pdu.specs.Params.{IsWindow};
 ghost use Rattle.rasta_check.specs.Capture.Building.{crossed_in};
 ghost use Rattle.seatmelon_audit.specs.Records.{subject_behind};
 
@@ -52,6 +53,7 @@ pub struct Line {
 
     // The number of the record that was taken in last.
     pub(crate) taken: u32,
+    ghost window: { IsWindow params.first_record params.last_record },
     ghost recorded: { (crossed_in builder).params ≡ params },
 }
 

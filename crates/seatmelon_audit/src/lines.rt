@@ -1,11 +1,12 @@
 //! All connections, on their way through the records of a capture.
 ghost use Rattle.std.specs.Prelude.{◌≡◌, ◌<◌, ◌^◌, [], length, IfOk};
 ghost use Rattle.seatmelon_audit.specs.Lines.{AllBetween, AllTakeIn, AreLines, HaveTaken, IsStepAt, params_of};
+ghost use Rattle.seatmelon_audit.specs.Ends.{AllEnd, IsEndAt};
 ghost use Rattle.seatmelon_audit.specs.All.{IsKnown, lines_in};
 
 use crate::line::Line;
 use crate::ways::{Way, Ways};
-use rasta_pcap::{CaptureTime, Record};
+use rasta_pcap::{CaptureTime, Fault, Record};
 use rasta_pdu::Params;
 use std::alloc::{AllocError, Global};
 
@@ -33,6 +34,25 @@ fn step_all(lines: &mut Vec<Line>, ways: &[Way], record: &Record<'_>, time: Opti
 {
     for way in ways {
         step_at(lines, way.line as usize, record, time);
+    }
+}
+
+// The connection at this place takes in the fault that ended the reading, if there is one.
+fn end_at(lines: &mut Vec<Line>, place: usize, fault: Fault)
+    ensures { IsEndAt place lines.old.items lines.new.items fault }
+{
+    if place < lines.len() {
+        lines[place].end(fault);
+    }
+}
+
+// All connections take in the fault that ended the reading.
+fn end_all(lines: &mut Vec<Line>, fault: Fault)
+    ensures lines { AllEnd lines.old.items lines.new.items fault }
+    ensures kept { params_of lines.new.items ≡ params_of lines.old.items }
+{
+    for place in 0..lines.len() {
+        end_at(lines, place, fault);
     }
 }
 
@@ -70,5 +90,21 @@ impl Lines {
     {
         let ways = self.ways.of_frame(record.bytes);
         step_all(&mut self.lines, ways, record, time);
+    }
+
+    /// The connections, in their order.
+    pub fn into_lines(self) -> Vec<Line>
+        ensures { result.items ≡ lines_in self }
+    {
+        let Lines { lines, .. } = self;
+        lines
+    }
+
+    /// Takes in the fault that ended the reading of the file.
+    pub fn end(&mut self, fault: Fault)
+        ensures lines { AllEnd (lines_in self.old) (lines_in self.new) fault }
+        ensures params { params_of (lines_in self.new) ≡ params_of (lines_in self.old) }
+    {
+        end_all(&mut self.lines, fault);
     }
 }
