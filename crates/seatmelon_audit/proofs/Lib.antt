@@ -2,6 +2,7 @@ mod Ending
 mod Ends
 mod Files
 mod Frames
+mod Holding
 mod Knowing
 mod OnWay
 mod Places

@@ -1,5 +1,5 @@
 -- The steps of the reading for all connections.
-use Rattle.std.proofs.Common.{◌≡◌, ◌≢◌, ◌∙◌, ◌⊎◌, inl, inr, ℕ, suc, ◌+◌, ◌<◌, List, [], ◌∷◌, ◌++◌, length, Option, None, Some, Result, Ok, Err, OnOk, IfSome, ap, refl, sym, subst, add-one, arith}
+use Rattle.std.proofs.Common.{◌≡◌, ◌≢◌, ◌∙◌, ◌⊎◌, inl, inr, ℕ, suc, ◌+◌, ◌<◌, ◌≤◌, Bool, true, false, not, cond, List, [], ◌∷◌, ◌++◌, length, Option, None, Some, Result, Ok, Err, OnOk, IfSome, ap, refl, sym, subst, add-one, arith}
 use Rattle.std.proofs.lemmas.List.{length_push}
 use Rattle.std.specs.Io.KnownBytes.{prepend_known}
 use Rattle.rasta_pcap.specs.declared.buffered.Buffered.{Buffered}
@@ -10,7 +10,7 @@ use Rattle.rasta_pcap.specs.declared.time.CaptureTime.{CaptureTime}
 use Rattle.rasta_pcap.specs.declared.time.FractionUnit.{FractionUnit}
 use Rattle.rasta_pcap.specs.Buffered.{held_by, left_in, source_of}
 use Rattle.rasta_pcap.specs.Capture.{Numbered, cursor_at, max_records, next}
-use Rattle.rasta_pcap.specs.Captured.{Captured, captured_at}
+use Rattle.rasta_pcap.specs.Captured.{Captured, captured_at, numbered}
 use Rattle.rasta_pcap.specs.Fault.{fault_at, no_memory, read_failed}
 use Rattle.rasta_pcap.specs.Stream.{FailsWithin, LacksMemory, MeetsEnd, Opens, ReadsRecord, RefusesHeader, RefusesRecord, count_in, order_in, room_in, unit_in}
 use Rattle.rasta_pcap.specs.Times.{TellsTime, TellsUnit}
@@ -18,9 +18,11 @@ use Rattle.rasta_pcap.proofs.Headers.{opening-fault_place}
 use Rattle.rasta_pcap.proofs.KnownFiles.{known_end, known_header, known_header_refusal, known_record, known_refusal}
 use Rattle.rasta_pcap.proofs.Steps.{next-fault_place, next-is_next_entry}
 use Rattle.rasta_pdu.specs.Params.{Parameters}
+use Rattle.seatmelon_reading.proofs.Filters.{length_filter-most, length_filter-push}
 use Rattle.seatmelon_audit.specs.All.{IsKnown, lines_in}
 use Rattle.seatmelon_audit.specs.Files.{IsOnWay, ReaderOnWay}
-use Rattle.seatmelon_audit.specs.Lines.{AllTakeIn, params_of}
+use Rattle.seatmelon_audit.specs.Lines.{AllTakeIn, TellsAny, params_of}
+use Rattle.seatmelon_audit.specs.Records.{is_any_held, others_in}
 use Rattle.seatmelon_audit.specs.Reading.{EndsReading, GoesOn, HasRead, IsReading, ReadsFile}
 use Rattle.seatmelon_audit.specs.declared.reading.Reading.{Reading}
 use Rattle.seatmelon_audit.proofs.OnWay.{IsWhole, begun, one_read, whole_at_end, whole_at_fault, whole_at_header, whole_at_most}
@@ -35,14 +37,38 @@ pub record TakesRecord (old new : Reading) (r : Numbered) (time : Option Capture
   pub known : IsKnown old.lines → IsKnown new.lines
   pub count : new.records ≡ r.0
   pub fault : new.fault ≡ old.fault
+  pub held : Bool
+  pub tells : IsKnown old.lines → TellsAny held (lines_in old.lines) r
+  pub others : old.others < max_records → new.others ≡ old.others + cond held 0 1
 
-read_more : (recorded : List Parameters) (done : List Captured) (q : Captured) (old new : Reading) (time : Option CaptureTime) → q.number ≡ suc (length done) → time ≡ Some q.time
+-- ---- the records of none of the connections
+
+one_other : (held : Bool) → ◌≡◌ {A = ℕ} (cond (not held) 1 0) (cond held 0 1)
+one_other true = refl
+one_other false = refl
+
+other_more : (recorded : List Parameters) (done : List Captured) (q : Captured) (held : Bool) → held ≡ is_any_held recorded (numbered q)
+    → length (others_in recorded (done ++ q ∷ [])) ≡ length (others_in recorded done) + cond held 0 1
+other_more recorded done q held e =
+    length_filter-push (λ (r : Captured). not (is_any_held recorded (numbered r))) done q (not held) (ap not (sym e))
+    ∙ ap (λ n. length (others_in recorded done) + n) (one_other held)
+
+others_few : (recorded : List Parameters) (done : List Captured) → length (others_in recorded done) ≤ length done
+others_few recorded done = length_filter-most (λ (r : Captured). not (is_any_held recorded (numbered r))) done
+
+read_more : (recorded : List Parameters) (done : List Captured) (q : Captured) (old new : Reading) (time : Option CaptureTime) → q.number ≡ suc (length done) → length done < max_records → time ≡ Some q.time
     → TakesRecord old new (q.number, q.bytes) time → HasRead recorded done old → HasRead recorded (done ++ q ∷ []) new
-read_more recorded done q old new time next timed takes h = record {
+read_more recorded done q old new time next room timed takes h = record {
   lines = takes.lines h.known done q refl next timed h.lines;
   params = takes.params ∙ h.params;
   known = takes.known h.known;
   count = takes.count ∙ next ∙ sym (add-one (length done)) ∙ sym (length_push done q);
+  others =
+      let few = others_few recorded done in
+      let before = h.others in
+      takes.others (omega (arith, few, before, room)) ∙ ap (λ n. n + cond takes.held 0 1) before
+      ∙ sym (other_more recorded done q takes.held
+      (takes.tells h.known done next h.lines ∙ ap (λ (ps : List Parameters). is_any_held ps (numbered q)) h.params));
   none = takes.fault ∙ h.none;
 }
 
@@ -51,6 +77,7 @@ all_read recorded file done r whole h = record {
   lines = all_unended file done (lines_in r.lines) whole h.lines;
   params = h.params;
   count = h.count ∙ ap length whole.captured;
+  others = h.others ∙ ap (λ l. length (others_in recorded l)) whole.captured;
   fault = h.none ∙ whole.fault;
 }
 
@@ -60,6 +87,7 @@ ended recorded file done f old new whole after ends h = record {
   lines = all_ended_by file done f (lines_in new.lines) whole (ends.lines done after h.lines);
   params = ends.params ∙ h.params;
   count = ends.count ∙ h.count ∙ ap length whole.captured;
+  others = ends.others ∙ h.others ∙ ap (λ l. length (others_in recorded l)) whole.captured;
   fault = ends.kept ∙ whole.fault;
 }
 
@@ -73,9 +101,9 @@ on_way_as file o order u unit n count rest done e f g on =
 
 pub record_step : (recorded : List Parameters) (file : List ℕ) (old new : RecordReader) (before after : Option (List ℕ)) (reading more : Reading) (number : ℕ) (bytes : List ℕ) (time : Option CaptureTime)
     → ReadsRecord (order_in old) (count_in old) (number, bytes) before after → TellsTime (order_in old) (unit_in old) time before after
-    → order_in new ≡ order_in old → unit_in new ≡ unit_in old → count_in new ≡ number → TakesRecord reading more (number, bytes) time
+    → order_in new ≡ order_in old → unit_in new ≡ unit_in old → count_in new ≡ number → count_in old < max_records → TakesRecord reading more (number, bytes) time
     → GoesOn recorded file old before reading → GoesOn recorded file new after more
-record_step recorded file old new before after reading more number bytes time read tells order unit count takes on =
+record_step recorded file old new before after reading more number bytes time read tells order unit count room takes on =
     let r : Numbered = (number, bytes) in
     let way = on.reader in
     let rest = way.rest in
@@ -94,7 +122,7 @@ record_step recorded file old new before after reading more number bytes time re
         on_way = on_way_as file (order_in old) (order_in new) (unit_in old) (unit_in new) number (count_in new) h.rest (on.done ++ q ∷ []) order unit count
             (one_read file (order_in old) (unit_in old) (count_in old) rest on.done way.on_way r time after h);
       };
-      read = read_more recorded on.done q reading more time next h.timed takes on.read;
+      read = read_more recorded on.done q reading more time next (let counted = way.on_way.counted in omega (arith, room, counted)) h.timed takes on.read;
     }
 
 pub end_step : (recorded : List Parameters) (file : List ℕ) (old : RecordReader) (before after : Option (List ℕ)) (reading : Reading) → MeetsEnd before after

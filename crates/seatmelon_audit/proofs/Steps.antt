@@ -91,11 +91,11 @@ unfolding after_record
 foreign_record k p q same none = foreign_by (nat_lt q.number k.params.first_record) k (packet_in k.params.channels q.bytes) q.number
     (ap (λ (x : Parameters). packet_in x.channels q.bytes) same ∙ none)
 
-none_found : (b : Bool) (found : Result (Option Packet) Fault) → found ≡ Ok None → is_some (cond b None (packet_found found)) ≡ false
+pub none_found : (b : Bool) (found : Result (Option Packet) Fault) → found ≡ Ok None → is_some (cond b None (packet_found found)) ≡ false
 none_found true found e = refl
 none_found false found e = ap (λ (o : Result (Option Packet) Fault). is_some (packet_found o)) e
 
-and_false : (a b : Bool) → b ≡ false → (a && b) ≡ false
+pub and_false : (a b : Bool) → b ≡ false → (a && b) ≡ false
 and_false true b e = e
 and_false false b e = refl
 

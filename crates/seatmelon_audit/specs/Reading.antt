@@ -9,6 +9,7 @@ use Rattle.seatmelon_audit.specs.All.{IsKnown, lines_in}
 use Rattle.seatmelon_audit.specs.Ends.{AllEnd}
 use Rattle.seatmelon_audit.specs.Files.{AreThrough, ReaderOnWay}
 use Rattle.seatmelon_audit.specs.Lines.{AreLines, params_of}
+use Rattle.seatmelon_audit.specs.Records.{others_in}
 use Rattle.seatmelon_audit.specs.declared.reading.Reading.{Reading}
 
 -- this was read of a file, for connections with these parameters
@@ -16,6 +17,7 @@ pub record IsReading (recorded : List Parameters) (file : List ℕ) (r : Reading
   pub lines : AreThrough file (lines_in r.lines)
   pub params : params_of (lines_in r.lines) ≡ recorded
   pub count : r.records ≡ length (captured_in file)
+  pub others : r.others ≡ length (others_in recorded (captured_in file))
   pub fault : r.fault ≡ (reading_of max_records file).fault
 
 -- ---- on the way
@@ -26,6 +28,7 @@ pub record HasRead (recorded : List Parameters) (done : List Captured) (r : Read
   pub params : params_of (lines_in r.lines) ≡ recorded
   pub known : IsKnown r.lines
   pub count : r.records ≡ length done
+  pub others : r.others ≡ length (others_in recorded done)
   pub none : r.fault ≡ None
 
 -- the records so far were read of a known file
@@ -48,4 +51,5 @@ pub record EndsReading (fault : Fault) (old new : Reading) : Type 0 where
   pub lines : AllEnd (lines_in old.lines) (lines_in new.lines) fault
   pub params : params_of (lines_in new.lines) ≡ params_of (lines_in old.lines)
   pub count : new.records ≡ old.records
+  pub others : new.others ≡ old.others
   pub kept : new.fault ≡ Some fault

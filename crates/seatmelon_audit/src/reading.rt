@@ -1,5 +1,5 @@
 //! A capture, read once for all connections.
-ghost use Rattle.std.specs.Prelude.{◌≡◌, ◌≢◌, ◌⊎◌, ◌↔◌, ◌<◌, ◌^◌, ℕ, List, length, IsTrue, IfErr, IfOk, IfSome, OnOk};
+ghost use Rattle.std.specs.Prelude.{◌≡◌, ◌≢◌, ◌⊎◌, ◌↔◌, ◌<◌, ◌+◌, if◌then◌else◌, ◌^◌, ℕ, List, length, IsTrue, IfErr, IfOk, IfSome, OnOk};
 ghost use Rattle.rasta_pcap.specs.Capture.{max_records};
 ghost use Rattle.rasta_pcap.specs.Fault.{no_memory, read_failed};
 ghost use Rattle.rasta_pcap.specs.Stream.{count_in, progress_of};
@@ -20,11 +20,13 @@ const BUFFER: usize = 65_536;
 // The most records of a capture.
 const MOST_RECORDS: u32 = 4_000_000_000;
 
-/// What was read: how each connection stands, how many records there are, and the fault that ended them.
+/// What was read: how each connection stands, how many records there are, how many of them hold no packet of any of
+/// the connections in its window, and the fault that ended them.
 #[derive(Drop)]
 pub struct Reading {
     pub lines: Lines,
     pub records: u32,
+    pub others: u32,
     pub fault: Option<Fault>,
 }
 
@@ -33,6 +35,17 @@ fn is_failure(fault: Fault) -> bool
     ensures { IsTrue result ↔ (fault.number ≡ 1) ⊎ (fault.number ≡ 2) }
 {
     matches!(fault.number, Fault::NO_MEMORY | Fault::READ_FAILED)
+}
+
+// How many records are held by none of the connections, with one more.
+fn count_other(others: u32, held: bool) -> u32
+    ensures { others < max_records → result ≡ others + (if held then 0 else 1) }
+{
+    if held {
+        others
+    } else {
+        others.saturating_add(1)
+    }
 }
 
 // Keeps the fault that ended the reading. A lack of memory, and a failed read, are errors.
@@ -65,7 +78,8 @@ fn read_record<S: Source>(
     match records.advance(source) {
         Ok(Some(number)) => {
             let bytes = records.buffer();
-            reading.lines.add(&Record { number, bytes }, records.time());
+            let held = reading.lines.add(&Record { number, bytes }, records.time());
+            reading.others = count_other(reading.others, held);
             reading.records = number;
             Ok(true)
         }
@@ -128,6 +142,7 @@ pub fn read_all<R: Source>(
     let mut reading = Reading {
         lines,
         records: 0,
+        others: 0,
         fault: None,
     };
     let mut source = Buffered::new(alloc, reader, BUFFER)?;

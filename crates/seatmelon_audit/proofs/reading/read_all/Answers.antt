@@ -8,5 +8,5 @@ returns-clause-read g c =
     let source = c.in_ok-source.ensures in
     file_read (g.R.Source.remaining c.args.reader.now) _ c.args.params.now _ c.read_capture.new.reading
     (left_known (λ (s : MutBor g.row.R.Denot). g.R.Source.remaining s.now) c.in_ok-source.source _ source.source source.empty)
-    (record { lines = begun.lines; params = begun.params; known = begun.known; count = refl; none = refl })
+    (record { lines = begun.lines; params = begun.params; known = begun.known; count = refl; others = refl; none = refl })
     c.in_ok-read_capture.ensures.read

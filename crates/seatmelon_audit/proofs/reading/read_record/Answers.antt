@@ -17,8 +17,8 @@ returns-in-Ok-Some-clause-step g c recorded file on =
     let count = rw c.in-Ok-Some.field-0-is at step.count in
     let read = subst (λ b. ReadsRecord (order_in old) (count_in old) (number, b) before after) (sym c.buffer-bytes.ensures.bytes) found in
     let tells = subst (λ t. TellsTime (order_in old) (unit_in old) t before after) (sym c.time.ensures) timed in
-    record_step recorded file old c.advance.new.self before after c.args.reading.now _ number c.buffer-bytes.result.now c.time.result read tells step.order step.unit count
-    (record { lines = c.add.ensures.lines; params = c.add.ensures.params; known = c.add.ensures.known; count = refl; fault = refl }) on
+    record_step recorded file old c.advance.new.self before after c.args.reading.now _ number c.buffer-bytes.result.now c.time.result read tells step.order step.unit count c.requires.room
+    (record { lines = c.add-held.ensures.lines; params = c.add-held.ensures.params; known = c.add-held.ensures.known; count = refl; fault = refl; held = c.add-held.result; tells = c.add-held.ensures.held; others = c.count_other-reading.ensures }) on
 
 pub returns-in-Ok-Some-clause-on : goal.returns-in-Ok-Some-clause-on
 returns-in-Ok-Some-clause-on g c =
