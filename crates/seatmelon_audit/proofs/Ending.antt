@@ -1,11 +1,9 @@
 -- All connections, while they take in the fault that ended the reading.
-use Rattle.std.proofs.Common.{◌≡◌, ◌∙◌, ⊎_elim, ℕ, ◌+◌, ◌<◌, ◌≤◌, List, length, get_or, Option, Some, ap, refl, sym, subst, arith}
+use Rattle.std.proofs.Common.{◌≡◌, ◌∙◌, ⊎_elim, ℕ, ◌+◌, ◌<◌, ◌≤◌, List, length, get_or, Some, refl, sym, subst, arith}
 use Rattle.rasta_pcap.specs.declared.fault.Fault.{Fault}
-use Rattle.rasta_pcap.specs.Captured.{Captured}
 use Rattle.rasta_pdu.specs.Params.{Parameters}
 use Rattle.rasta_check.specs.Capture.Building.{crossed_in}
 use Rattle.seatmelon_audit.specs.Ends.{AllEnd, AreEndedBelow, EndsBy, IsEndAt, crossed_to_end}
-use Rattle.seatmelon_audit.specs.Lines.{params_of}
 use Rattle.seatmelon_audit.specs.Records.{IsStanding}
 use Rattle.seatmelon_audit.specs.declared.line.Line.{Line}
 use Rattle.seatmelon_audit.proofs.Places.{at_changed, elsewhere, params_changed, same_at, same_count, same_or_other}

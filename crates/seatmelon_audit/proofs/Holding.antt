@@ -1,5 +1,5 @@
 -- Whether a record holds a packet of one of the connections.
-use Rattle.std.proofs.Common.{◌≡◌, ◌∙◌, ◌⊎◌, inl, inr, ⊎_elim, ℕ, zero, suc, ◌<◌, ◌≤◌, List, [], ◌∷◌, length, get_or, slice_get, Bool, true, false, ◌||◌, nat_lt, Option, None, Some, Ok, ap, refl, sym, subst, arith}
+use Rattle.std.proofs.Common.{◌≡◌, ◌∙◌, ◌⊎◌, inr, ⊎_elim, ℕ, zero, suc, ◌<◌, ◌≤◌, List, [], ◌∷◌, length, get_or, slice_get, Bool, true, false, ◌||◌, nat_lt, Option, None, Some, Ok, ap, refl, sym, subst, arith}
 use Rattle.std.proofs.lemmas.List.{length-map}
 use Rattle.std.proofs.lemmas.Option.{slice_get_within}
 use Rattle.std.specs.List.{list_any}
@@ -10,7 +10,7 @@ use Rattle.rasta_udp.specs.Frame.{packet_in}
 use Rattle.rasta_pdu.specs.Params.{Parameters}
 use Rattle.rasta_check.proofs.Lists.{slice_get_some}
 use Rattle.seatmelon_audit.specs.Lines.{AreLines, HaveTaken, HeldAt, IsStepAt, TellsAny, TellsHeld, params_of}
-use Rattle.seatmelon_audit.specs.Records.{is_any_held, is_held}
+use Rattle.seatmelon_audit.specs.Records.{is_held}
 use Rattle.seatmelon_audit.specs.Ways.{IsNamed, NamesAll}
 use Rattle.seatmelon_audit.specs.declared.line.Line.{Line}
 use Rattle.seatmelon_audit.specs.declared.ways.Way.{Way}

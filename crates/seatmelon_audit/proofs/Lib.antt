@@ -1,3 +1,6 @@
+mod Answering
+mod Auditing
+mod Counting
 mod Ending
 mod Ends
 mod Files

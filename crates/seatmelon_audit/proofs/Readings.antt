@@ -20,7 +20,7 @@ use Rattle.rasta_pcap.proofs.Steps.{next-fault_place, next-is_next_entry}
 use Rattle.rasta_pdu.specs.Params.{Parameters}
 use Rattle.seatmelon_reading.proofs.Filters.{length_filter-most, length_filter-push}
 use Rattle.seatmelon_audit.specs.All.{IsKnown, lines_in}
-use Rattle.seatmelon_audit.specs.Files.{IsOnWay, ReaderOnWay}
+use Rattle.seatmelon_audit.specs.Files.{IsOnWay}
 use Rattle.seatmelon_audit.specs.Lines.{AllTakeIn, TellsAny, params_of}
 use Rattle.seatmelon_audit.specs.Records.{is_any_held, others_in}
 use Rattle.seatmelon_audit.specs.Reading.{EndsReading, GoesOn, HasRead, IsReading, ReadsFile}

@@ -1,7 +1,6 @@
 -- Where a file was read, each connection stands as an audit of the file for it alone has it.
-use Rattle.std.proofs.Common.{◌≡◌, ◌∙◌, ℕ, ◌<◌, List, length, get_or, cond, Bool, true, false, nat_lt, Option, None, Some, Result, Ok, Err, ap, refl, sym, subst, arith}
+use Rattle.std.proofs.Common.{◌≡◌, ℕ, ◌<◌, List, length, get_or, cond, Bool, true, false, nat_lt, Option, None, Some, Result, Ok, Err, refl, sym, subst, arith}
 use Rattle.rasta_pcap.specs.declared.fault.Fault.{Fault}
-use Rattle.rasta_pcap.specs.Capture.{max_records, reading_of}
 use Rattle.rasta_pcap.specs.Captured.{Captured, captured_in}
 use Rattle.rasta_pdu.specs.Params.{Parameters}
 use Rattle.rasta_check.specs.Capture.Building.{crossed_in}
