@@ -1,5 +1,5 @@
 -- What becomes of a connection, by how it stands.
-use Rattle.std.proofs.Common.{◌≡◌, ◌≢◌, ◌∙◌, ℕ, suc, List, [], ◌∷◌, ◌++◌, length, map, None, Ok, Err, ap, refl, sym, subst, arith}
+use Rattle.std.proofs.Common.{◌≡◌, ◌≢◌, ◌∙◌, ℕ, suc, List, [], ◌∷◌, ◌++◌, length, map, None, Ok, Err, ap, refl, sym, subst, arith, Result}
 use Rattle.std.specs.List.{AllZip}
 use Rattle.rasta_pcap.specs.declared.fault.Fault.{Fault}
 use Rattle.rasta_pcap.specs.Captured.{captured_in}
@@ -14,7 +14,7 @@ use Rattle.rasta_check.specs.Verdict.Report as reports
 use Rattle.rasta_check.proofs.Script.Fits.{one_answer}
 use Rattle.rasta_verdict.specs.declared.verdict.Explanation.{Explanation}
 use Rattle.rasta_verdict.specs.declared.verdict.Verdict.TheVariants as verdicts
-use Rattle.rasta_verdict.specs.Given.{IsRefusedBy, IsVerdictOn, refused, unscripted}
+use Rattle.rasta_verdict.specs.Given.{IsRefusedBy, IsUnscripted, IsVerdictOn, refused, unscripted}
 use Rattle.rasta_verdict.proofs.Proposals.{found_none}
 use Rattle.seatmelon_audit.specs.Answers.{AreCounts, IsAnswer, IsAnswerOf, IsAnswerOn, IsExplained, IsUnexplained, RefusesBy, capture_refused, packets_in, subject_holding, unexplained}
 use Rattle.seatmelon_audit.specs.Files.{AreThrough}
@@ -40,17 +40,23 @@ never_refused : (k : Crossing) (scripts : Scripts) (fault : Fault) → BothFit k
 never_refused k scripts fault fits verdict =
     let same = one_answer k.params (length k.packets) k.client k.server scripts _ _ (both_fit fits) verdict in absurd cc
 
--- the builder's refusal, but for memory, names a place
-found_at : (k : Crossing) (fault : Fault) → IsCrossing k → fault ≢ no_memory → IsRefusedBy k None fault → (place : ℕ) × (fault ≡ fault_at not_found place)
-found_at k fault h known (unscripted why) =
-    found_none k.client k.server fault (answer_fault k.params (length k.packets) k.client k.server (Err fault) (lists_of k h) why.0) known
-found_at k fault h known (refused scripts proposed verdict) =
-    absurd (never_refused k scripts fault (answer_fits k.params (length k.packets) k.client k.server (Ok scripts) (lists_of k h) proposed).1 verdict)
+-- the builder's refusal, but for memory, names a place, and is complete
+found_at : (k : Crossing) (fault : Fault) → IsCrossing k → fault ≢ no_memory → IsUnscripted k None fault → IsUnexplained k fault
+found_at k fault h known why =
+    let found = found_none k.client k.server fault (answer_fault k.params (length k.packets) k.client k.server (Err fault) (lists_of k h) why.0) known in
+    let told : ◌≡◌ {A = Result Scripts Fault} (Err fault) (Err (fault_at not_found found.0)) = ap (λ (f : Fault). Err f) found.1 in
+    let sent = h.sent in record {
+      place = found.0;
+      found_none = found.1;
+      verdict = why;
+      none = λ rest. why.1.finds_none k.packets rest found.0 sent.client_sent sent.server_sent told;
+      exact = λ n. why.1.exact k.packets found.0 n h.recorded sent.client_sent sent.server_sent sent.few_packets sent.few_client sent.few_server told;
+    }
 
 unexplained_by : (k : Crossing) (fault told : Fault) → IsCrossing k → fault ≢ no_memory → told ≡ fault → IsRefusedBy k None fault → IsUnexplained k told
-unexplained_by k fault told h known same why =
-    let found = found_at k fault h known why in
-    subst (IsUnexplained k) (sym same) (record { place = found.0; found_none = found.1; refused = why })
+unexplained_by k fault told h known same (unscripted why) = subst (IsUnexplained k) (sym same) (found_at k fault h known why)
+unexplained_by k fault told h known same (refused scripts proposed verdict) =
+    absurd (never_refused k scripts fault (answer_fits k.params (length k.packets) k.client k.server (Ok scripts) (lists_of k h) proposed).1 verdict)
 
 pub refused_on : (k : Crossing) (packets : List Stamp) (fault : Fault) (a : Answer) → IsCrossing k → IsRefusedBy k None fault → RefusesBy fault packets a → IsAnswerOn k packets a
 refused_on k packets fault answers.NoPackets h why r = absurd r

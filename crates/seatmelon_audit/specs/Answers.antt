@@ -1,14 +1,16 @@
 -- What becomes of a connection.
-use Rattle.std.specs.Prelude.{◌≡◌, ◌≢◌, ⊤, ℕ, ◌-◌, List, [], length, map, slice_get, nat_eq, if◌then◌else◌, Option, None, Some, option_map, Ok, Err}
+use Rattle.std.specs.Prelude.{◌≡◌, ◌≢◌, ◌↔◌, ⊤, ℕ, ◌-◌, ◌<◌, ◌++◌, take, List, [], length, map, slice_get, nat_eq, if◌then◌else◌, Option, None, Some, option_map, Ok, Err}
 use Rattle.rasta_pcap.specs.declared.fault.Fault.{Fault}
 use Rattle.rasta_pcap.specs.Captured.{captured_in}
 use Rattle.rasta_pcap.specs.Fault.{fault_at, no_memory, not_found}
+use Rattle.rasta_udp.specs.Frame.{Packet}
 use Rattle.rasta_pdu.specs.Params.{Parameters}
+use Rattle.rasta_build.specs.Completeness.{CanCross}
 use Rattle.rasta_cert.specs.Certificate.{IsCertificate, Scripts}
 use Rattle.rasta_check.specs.Capture.Reading.{Crossing, crossing_of}
 use Rattle.rasta_check.specs.Verdict.Report.{IsScriptVerdict}
 use Rattle.rasta_check.specs.Verdict.Report as reports
-use Rattle.rasta_verdict.specs.Given.{IsRefusedBy}
+use Rattle.rasta_verdict.specs.Given.{IsUnscripted}
 use Rattle.seatmelon_audit.specs.Files.{StandsThrough}
 use Rattle.seatmelon_audit.specs.Messages.{IsConveyed}
 use Rattle.seatmelon_audit.specs.Records.{holding, stamp_of, subject_at, subject_of}
@@ -35,11 +37,14 @@ pub record IsExplained (k : Crossing) (e : Explained) : Type 0 where
   pub verdict : IsScriptVerdict k.params (length k.packets) k.client k.server scripts (Ok report)
   pub counts : AreCounts k report e
 
--- the verdict on what crossed, for which a certificate is proposed, refuses it at a place: none is found
+-- The verdict on what crossed, for which a certificate is proposed, refuses it at a place, counted from 1: none is found. No run of two
+-- ends within the limits sends packets that begin with those up to there, and some run sends exactly those before it.
 pub record IsUnexplained (k : Crossing) (fault : Fault) : Type 0 where
   pub place : ℕ
   pub found_none : fault ≡ fault_at not_found place
-  pub refused : IsRefusedBy k None fault
+  pub verdict : IsUnscripted k None fault
+  pub none : (rest : List Packet) → CanCross k.params (take place k.packets ++ rest) → ⊥
+  pub exact : (n : ℕ) → CanCross k.params (take n k.packets) ↔ n < place
 
 -- the record that holds the packet at a place, counted from 1; none if there is no packet
 abbrev pub subject_holding : List Stamp → ℕ → Option Subject
