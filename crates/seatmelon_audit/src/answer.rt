@@ -164,6 +164,7 @@ fn judged(alloc: Global, store: &Store, packets: &[Stamp]) -> Answer
             Answer::Explained(explained_of(store, &explanation.report))
         }
         Ok(Verdict::Unscripted(fault)) => refused(packets, fault),
+        // A certificate that is proposed fits, so that this is never met.
         Ok(Verdict::Refused(fault, _)) => refused(packets, fault),
         Err(_) => Answer::OutOfMemory,
     }
