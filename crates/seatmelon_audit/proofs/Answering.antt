@@ -107,6 +107,12 @@ pub map_same : {A : Type 0} (xs : List A) → map (λ (x : A). x) xs ≡ xs
 map_same [] = refl
 map_same (x ∷ xs) = ap (λ l. x ∷ l) (map_same xs)
 
+pub zip_count : {A B : Type 0} (R : A → B → Type 0) (xs : List A) (ys : List B) → AllZip R xs ys → length ys ≡ length xs
+zip_count R [] [] h = refl
+zip_count R [] (y ∷ ys) h = absurd h
+zip_count R (x ∷ xs) [] h = absurd h
+zip_count R (x ∷ xs) (y ∷ ys) h = (let rest = zip_count R xs ys h.1 in omega (arith, rest))
+
 pub answers_through : (file : List ℕ) (lines : List Line) (all : List Answer) → AllZip IsAnswerOf lines all → AreThrough file lines
     → AllZip (λ (p : Parameters) (a : Answer). IsAnswer p file a) (params_of lines) all
 answers_through file [] [] h through = tt

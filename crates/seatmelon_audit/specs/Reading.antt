@@ -12,6 +12,10 @@ use Rattle.seatmelon_audit.specs.Lines.{AreLines, params_of}
 use Rattle.seatmelon_audit.specs.Records.{others_in}
 use Rattle.seatmelon_audit.specs.declared.reading.Reading.{Reading}
 
+-- the parameters of the connections
+abbrev pub params_in : Reading → List Parameters
+params_in r = params_of (lines_in r.lines)
+
 -- this was read of a file, for connections with these parameters
 pub record IsReading (recorded : List Parameters) (file : List ℕ) (r : Reading) : Type 0 where
   pub lines : AreThrough file (lines_in r.lines)

@@ -31,6 +31,7 @@ fn answers_of(alloc: Global, lines: Vec<Line>) -> Result<Vec<Answer>, AllocError
 /// has no room, and by [`Fault::READ_FAILED`]; a connection that has no room is answered so by itself.
 pub fn audit<R: Source>(alloc: Global, params: &[Params], reader: &mut R) -> Result<Audit, Fault>
     requires { length params.now < 2 ^ 32 }
+    ensures count { IfOk result (λ a. length a.answers.items ≡ length params.now) }
     ensures audits { IfSome (R.remaining reader.old) (λ file. IfOk result (AreAudits params.now file)) }
     ensures err { IfErr result (λ f. (f ≡ no_memory) ⊎ (f ≡ read_failed)) }
 {

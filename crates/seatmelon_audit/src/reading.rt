@@ -6,7 +6,7 @@ ghost use Rattle.rasta_pcap.specs.Stream.{count_in, progress_of};
 ghost use Rattle.rasta_pcap.specs.declared.stream.Progress.TheVariants.{Reading as StillReading};
 ghost use Rattle.rasta_pdu.specs.Params.{Parameters};
 ghost use Rattle.seatmelon_reading.specs.Passing.{ReadsOnIf};
-ghost use Rattle.seatmelon_audit.specs.Reading.{EndsReading, GoesOn, IsReading, ReadsFile, StepsTo};
+ghost use Rattle.seatmelon_audit.specs.Reading.{EndsReading, GoesOn, IsReading, ReadsFile, StepsTo, params_in};
 
 use crate::lines::Lines;
 use rasta_pcap::stream::RecordReader;
@@ -52,6 +52,7 @@ fn count_other(others: u32, held: bool) -> u32
 fn end(reading: &mut Reading, fault: Fault) -> Result<(), Fault>
     ensures ended { OnOk result (EndsReading fault reading.old reading.new) }
     ensures told { OnOk result ((fault ≢ no_memory) × (fault ≢ read_failed)) }
+    ensures kept { params_in reading.new ≡ params_in reading.old }
     ensures err { IfErr result (λ f. (f ≡ no_memory) ⊎ (f ≡ read_failed)) }
 {
     if is_failure(fault) {
@@ -73,6 +74,7 @@ fn read_record<S: Source>(
     ensures step { (recorded : List Parameters) (file : List ℕ) → GoesOn recorded file records.old (S.remaining source.old) reading.old
         → IfOk result (λ more. StepsTo more recorded file records.new (S.remaining source.new) reading.new) }
     ensures on { IfOk result (λ more. ReadsOnIf more records.old records.new) }
+    ensures kept { params_in reading.new ≡ params_in reading.old }
     ensures err { IfErr result (λ f. (f ≡ no_memory) ⊎ (f ≡ read_failed)) }
 {
     match records.advance(source) {
@@ -101,6 +103,7 @@ fn read_records<S: Source>(
     requires start { count_in records ≡ 0 }
     ensures read { (recorded : List Parameters) (file : List ℕ) → GoesOn recorded file records (S.remaining source.old) reading.old
         → OnOk result (IsReading recorded file reading.new) }
+    ensures kept { params_in reading.new ≡ params_in reading.old }
     ensures err { IfErr result (λ f. (f ≡ no_memory) ⊎ (f ≡ read_failed)) }
 {
     for _ in 0..MOST_RECORDS {
@@ -118,6 +121,7 @@ fn read_capture<S: Source>(
     reading: &mut Reading,
 ) -> Result<(), Fault>
     ensures read { IfSome (S.remaining source.old) (λ file. OnOk result (ReadsFile file reading.old reading.new)) }
+    ensures kept { params_in reading.new ≡ params_in reading.old }
     ensures err { IfErr result (λ f. (f ≡ no_memory) ⊎ (f ≡ read_failed)) }
 {
     match RecordReader::open(alloc, source) {
@@ -136,6 +140,7 @@ pub fn read_all<R: Source>(
 ) -> Result<Reading, Fault>
     requires { length params.now < 2 ^ 32 }
     ensures read { IfSome (R.remaining reader.old) (λ file. IfOk result (IsReading params.now file)) }
+    ensures params { IfOk result (λ reading. params_in reading ≡ params.now) }
     ensures err { IfErr result (λ f. (f ≡ no_memory) ⊎ (f ≡ read_failed)) }
 {
     let lines = Lines::new(alloc, params)?;

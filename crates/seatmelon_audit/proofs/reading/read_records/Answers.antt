@@ -14,6 +14,7 @@ loop-preserved g c =
     let on = subst (λ (b : Bool). ReadsOnIf b c.loop.records c.read_record.new.records) more c.in_ok-read_record.ensures.on in record {
       reading = on.reading;
       counted = on.count ∙ sym (add-one _) ∙ ap (λ n. n + 1) c.loop.invariant.counted;
+      kept = c.in_ok-read_record.ensures.kept ∙ c.loop.invariant.kept;
       on_way = λ recorded file start. subst (λ (b : Bool). StepsTo b recorded file c.read_record.new.records (g.S.Source.remaining c.read_record.new.source) c.read_record.new.reading) more
           (c.in_ok-read_record.ensures.step recorded file (c.loop.invariant.on_way recorded file start));
     }
