@@ -60,15 +60,19 @@ module _ (p : Parameters) (records : List Captured) (fault : Fault) (after : IsF
     names ∙ subject_by after,
   )
 
+-- the window of a connection has a record
+ends_late : (l : Line) → 0 < l.params.last_record
+ends_late l = (let from = l.window.from_one in let order = l.window.in_order in omega (arith, from, order))
+
 pub line_stays : (l : Line) (fault : Fault) → (l.standing ≡ Reading → l.params.last_record < fault.place) → EndsBy l l fault
-line_stays l fault behind records after some h = stays l.params records fault after some l.standing (crossed_in l.builder) l.packets.items behind h.standing
+line_stays l fault behind records after h = stays l.params records fault after (ends_late l) l.standing (crossed_in l.builder) l.packets.items behind h.standing
 
 pub line_refused : (old new : Line) (fault : Fault) (subject : Option Subject) → old.standing ≡ Reading → fault.place ≤ old.params.last_record → subject ≡ subject_behind fault.place
     → new.builder ≡ old.builder → new.packets.items ≡ old.packets.items → new.standing ≡ Refused (record { fault = fault; subject = subject }) → EndsBy old new fault
-line_refused old new fault subject reading inside names builder packets refused records after some h =
+line_refused old new fault subject reading inside names builder packets refused records after h =
     let p = old.params in
     let before = subst (λ (s : Standing). IsStanding s (crossed_by p records) records p (crossed_in old.builder) old.packets.items) reading h.standing in
     subst (λ (s : Standing). IsStanding s (crossed_to_end p records (Some fault)) records p (crossed_in new.builder) new.packets.items) (sym refused)
     (subst (λ (l : List Stamp). IsStanding (Refused (record { fault = fault; subject = subject })) (crossed_to_end p records (Some fault)) records p (crossed_in new.builder) l) (sym packets)
     (subst (λ (b : StoreBuilder). IsStanding (Refused (record { fault = fault; subject = subject })) (crossed_to_end p records (Some fault)) records p (crossed_in b) old.packets.items) (sym builder)
-    (refuses p records fault after some subject (crossed_in old.builder) old.packets.items inside names before)))
+    (refuses p records fault after (ends_late old) subject (crossed_in old.builder) old.packets.items inside names before)))

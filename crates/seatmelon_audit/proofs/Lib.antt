@@ -1,6 +1,15 @@
+mod Answering
+mod Auditing
+mod Counting
+mod Ending
 mod Ends
 mod Files
 mod Frames
+mod Holding
 mod Knowing
+mod OnWay
+mod Places
+mod Readings
 mod Standings
 mod Steps
+mod Through

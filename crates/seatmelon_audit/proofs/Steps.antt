@@ -1,11 +1,7 @@
 -- All connections, with one record more.
-use Rattle.std.proofs.Common.{◌≡◌, ◌∙◌, ◌⊎◌, inl, inr, ⊎_elim, ℕ, zero, suc, ◌<◌, ◌≤◌, List, [], ◌∷◌, ◌++◌, length, get_or, cond, Bool, true, false, ◌&&◌, ltb, nat_eq, nat_lt, Option, None, Some, Result, Ok, ap, refl, sym, subst, arith}
-use Rattle.std.proofs.lemmas.Bool.{ltb-true, ltb-false}
-use Rattle.std.proofs.lemmas.Bool.Decides.{nat_tests}
-use Rattle.std.proofs.lemmas.List.{get_or-set_same, get_or-set_other, length-set}
+use Rattle.std.proofs.Common.{◌≡◌, ◌∙◌, ◌⊎◌, inl, inr, ⊎_elim, ℕ, zero, suc, ◌<◌, ◌≤◌, List, [], ◌∷◌, ◌++◌, length, get_or, cond, Bool, true, false, ◌&&◌, nat_lt, Option, None, Some, Result, Ok, ap, refl, sym, subst, arith}
 use Rattle.std.proofs.lemmas.List.Elements.{Contains-push_cases}
 use Rattle.std.proofs.lemmas.Option.{slice_get-get_or}
-use Rattle.std.proofs.Math.Seq.{map-set_same}
 use Rattle.std.specs.List.{Contains}
 use Rattle.std.specs.Prelude.{is_some}
 use Rattle.rasta_pcap.specs.declared.fault.Fault.{Fault}
@@ -21,24 +17,11 @@ use Rattle.seatmelon_audit.specs.Lines.{AllBetween, AllTakeIn, AreBetween, AreLi
 use Rattle.seatmelon_audit.specs.Ways.{IsNamed, NamesAll}
 use Rattle.seatmelon_audit.specs.declared.line.Line.{Line}
 use Rattle.seatmelon_audit.specs.declared.ways.Way.{Way}
+use Rattle.seatmelon_audit.proofs.Places.{at_changed, elsewhere, length_changed, less_or_not, params_changed, same_or_other}
 use Rattle.seatmelon_audit.proofs.Standings.{crossed_behind, crossed_inside, line_same}
 
 abbrev Outcome : Type 0
 Outcome = Result Crossing Fault
-
-same_by : (a b : ℕ) (t : Bool) → nat_eq a b ≡ t → (a ≡ b) ⊎ (a ≡ b → ⊥)
-same_by a b true e = inl (grind (arith, nat_tests, e))
-same_by a b false e = inr (λ h. grind (arith, nat_tests, e, h))
-
-same_or_other : (a b : ℕ) → (a ≡ b) ⊎ (a ≡ b → ⊥)
-same_or_other a b = same_by a b (nat_eq a b) refl
-
-less_by : (a b : ℕ) (t : Bool) → ltb a b ≡ t → (a < b) ⊎ (b ≤ a)
-less_by a b true e = inl (ltb-true a b e)
-less_by a b false e = inr (ltb-false a b e)
-
-less_or_not : (a b : ℕ) → (a < b) ⊎ (b ≤ a)
-less_or_not a b = less_by a b (ltb a b) refl
 
 number_of : (q : Captured) (r : Numbered) → numbered q ≡ r → q.number ≡ r.0
 number_of q r e = ap (λ (n : Numbered). n.0) e
@@ -59,62 +42,36 @@ between_one old new r time records q step is next timed between =
 -- ---- the connection at a place
 
 module _ (place : ℕ) (old new : List Line) (r : Numbered) (time : Option CaptureTime) (step : IsStepAt place old new r time) where
-  length_by : (l : List Line) → place < length old → l ≡ old → length new ≡ length old
-  length_by [] inside e = absurd (let none : length old ≡ 0 = ap length (sym e) in omega (arith, inside, none))
-  length_by (d ∷ ds) inside e = let h = step.here d inside in ap length h.1 ∙ length-set old place h.0
-
-  length_step : length new ≡ length old
-  length_step = ⊎_elim
-      (λ (inside : place < length old). length_by old inside refl)
-      (λ (past : length old ≤ place). ap length (step.past past))
-      (less_or_not place (length old))
-
-  at_place : (d : Line) → (inside : place < length old) → get_or new place d ≡ (step.here d inside).0
-  at_place d inside = let h = step.here d inside in ap (λ l. get_or l place d) h.1 ∙ get_or-set_same old place h.0 d inside
-
-  elsewhere : (i : ℕ) (d : Line) → (i ≡ place → ⊥) → get_or new i d ≡ get_or old i d
-  elsewhere i d other = ⊎_elim
-      (λ (inside : place < length old). let h = step.here d inside in ap (λ l. get_or l i d) h.1 ∙ get_or-set_other old place i h.0 d other)
-      (λ (past : length old ≤ place). ap (λ l. get_or l i d) (step.past past))
-      (less_or_not place (length old))
-
   pub between_step : AllBetween old new r time
   between_step records q is next timed between i d below =
-      let within : i < length old = (let size = length_step in omega (arith, below, size)) in
+      let within : i < length old = (let size = length_changed place old new step in omega (arith, below, size)) in
       ⊎_elim
       (λ (e : i ≡ place). let inside : place < length old = omega (arith, within, e) in
       let h = step.here d inside in
-      subst (λ n. IsBetween records q (get_or new n d)) (sym e) (subst (IsBetween records q) (sym (at_place d inside))
+      subst (λ n. IsBetween records q (get_or new n d)) (sym e) (subst (IsBetween records q) (sym (at_changed place old new step d inside))
       (between_one (get_or old place d) h.0 r time records q h.2 is next timed (between place d inside))))
-      (λ (other : i ≡ place → ⊥). subst (IsBetween records q) (sym (elsewhere i d other)) (between i d within))
+      (λ (other : i ≡ place → ⊥). subst (IsBetween records q) (sym (elsewhere place old new step i d other)) (between i d within))
       (same_or_other i place)
 
   taken_here : (n : ℕ) (d : Line) → n ≡ place → n < length new → (get_or new n d).taken ≡ r.0
   taken_here n d e below =
-      let inside : place < length old = (let size = length_step in omega (arith, below, e, size)) in
-      ap (λ m. (get_or new m d).taken) e ∙ ap (λ (l : Line). l.taken) (at_place d inside) ∙ (step.here d inside).2.taken
+      let inside : place < length old = (let size = length_changed place old new step in omega (arith, below, e, size)) in
+      ap (λ m. (get_or new m d).taken) e ∙ ap (λ (l : Line). l.taken) (at_changed place old new step d inside) ∙ (step.here d inside).2.taken
 
   taken_still : (n : ℕ) (d : Line) → n < length new → (get_or old n d).taken ≡ r.0 → (get_or new n d).taken ≡ r.0
   taken_still n d below h = ⊎_elim
       (λ (e : n ≡ place). taken_here n d e below)
-      (λ (other : n ≡ place → ⊥). ap (λ (l : Line). l.taken) (elsewhere n d other) ∙ h)
+      (λ (other : n ≡ place → ⊥). ap (λ (l : Line). l.taken) (elsewhere place old new step n d other) ∙ h)
       (same_or_other n place)
 
   pub taken_step : (ways : List Way) (w : Way) → w.line ≡ place → HaveTaken ways r.0 old → HaveTaken (ways ++ w ∷ []) r.0 new
   taken_step ways w at before v d among below = ⊎_elim
-      (λ (earlier : Contains ways v). taken_still v.line d below (before v d earlier (let size = length_step in omega (arith, below, size))))
+      (λ (earlier : Contains ways v). taken_still v.line d below (before v d earlier (let size = length_changed place old new step in omega (arith, below, size))))
       (λ (same : w ≡ v). taken_here v.line d (ap (λ (x : Way). x.line) (sym same) ∙ at) below)
       (Contains-push_cases ways w v among)
 
-  params_by : (l : List Line) → place < length old → l ≡ old → params_of new ≡ params_of old
-  params_by [] inside e = absurd (let none : length old ≡ 0 = ap length (sym e) in omega (arith, inside, none))
-  params_by (d ∷ ds) inside e = let h = step.here d inside in ap params_of h.1 ∙ map-set_same (λ (l : Line). l.params) old place h.0 d h.2.params
-
   pub params_step : params_of new ≡ params_of old
-  params_step = ⊎_elim
-      (λ (inside : place < length old). params_by old inside refl)
-      (λ (past : length old ≤ place). ap params_of (step.past past))
-      (less_or_not place (length old))
+  params_step = params_changed place old new step (λ a b h. h.params)
 
 pub between_then : (a b c : List Line) (r : Numbered) (time : Option CaptureTime) → AllBetween a b r time → AllBetween b c r time → AllBetween a c r time
 between_then a b c r time first second records q is next timed h = second records q is next timed (first records q is next timed h)
@@ -130,11 +87,11 @@ unfolding after_record
 foreign_record k p q same none = foreign_by (nat_lt q.number k.params.first_record) k (packet_in k.params.channels q.bytes) q.number
     (ap (λ (x : Parameters). packet_in x.channels q.bytes) same ∙ none)
 
-none_found : (b : Bool) (found : Result (Option Packet) Fault) → found ≡ Ok None → is_some (cond b None (packet_found found)) ≡ false
+pub none_found : (b : Bool) (found : Result (Option Packet) Fault) → found ≡ Ok None → is_some (cond b None (packet_found found)) ≡ false
 none_found true found e = refl
 none_found false found e = ap (λ (o : Result (Option Packet) Fault). is_some (packet_found o)) e
 
-and_false : (a b : Bool) → b ≡ false → (a && b) ≡ false
+pub and_false : (a b : Bool) → b ≡ false → (a && b) ≡ false
 and_false true b e = e
 and_false false b e = refl
 

@@ -1,11 +1,11 @@
 -- A connection where the reading of a file ends in a fault.
-use Rattle.std.specs.Prelude.{◌≡◌, ◌⊎◌, ◌<◌, suc, List, [], length, nat_lt, if◌then◌else◌, Option, None, Some, Result}
+use Rattle.std.specs.Prelude.{◌≡◌, ◌⊎◌, ◌<◌, ◌≤◌, ℕ, suc, List, [], length, nat_lt, slice_index_or, if◌then◌else◌, Option, None, Some, Result}
 use Rattle.rasta_pcap.specs.declared.fault.Fault.{Fault}
 use Rattle.rasta_pcap.specs.Captured.{Captured}
 use Rattle.rasta_pdu.specs.Params.{Parameters}
 use Rattle.rasta_check.specs.Capture.Building.{crossed_in}
 use Rattle.rasta_check.specs.Capture.Reading.{Crossing, and_then, at_end}
-use Rattle.seatmelon_audit.specs.Lines.{IsLine}
+use Rattle.seatmelon_audit.specs.Lines.{AreLines, IsChangedAt, IsLine, params_of}
 use Rattle.seatmelon_audit.specs.Records.{IsStanding, crossed_by}
 use Rattle.seatmelon_audit.specs.declared.line.Line.{Line}
 
@@ -23,5 +23,32 @@ crossed_to_end p records fault = and_then (crossed_by p records) (λ (k : Crossi
 
 -- what stood as the records say stands as the records and the fault say
 abbrev pub EndsBy : Line → Line → Fault → Type 0
-EndsBy old new fault = (records : List Captured) → IsFaultAfter records fault → 0 < old.params.last_record → IsLine records old
+EndsBy old new fault = (records : List Captured) → IsFaultAfter records fault → IsLine records old
     → IsStanding new.standing (crossed_to_end old.params records (Some fault)) records old.params (crossed_in new.builder) new.packets.items
+
+-- ---- all connections
+
+-- each connection stands as the records and the fault say
+abbrev pub AreEnded : List Captured → Fault → List Line → Type 0
+AreEnded records fault lines = (i : ℕ) (d : Line) → i < length lines → (let l = slice_index_or lines i d in
+    IsStanding l.standing (crossed_to_end l.params records (Some fault)) records l.params (crossed_in l.builder) l.packets.items)
+
+-- what stood as the records say stands as the records and the fault say
+abbrev pub AllEnd : List Line → List Line → Fault → Type 0
+AllEnd old new fault = (records : List Captured) → IsFaultAfter records fault → AreLines records old → AreEnded records fault new
+
+-- ---- while the connections take in the fault
+
+pub record IsEnd (fault : Fault) (old new : Line) : Type 0 where
+  pub ends : EndsBy old new fault
+  pub params : new.params ≡ old.params
+
+-- the connection at this place takes it in, and no other one
+abbrev pub IsEndAt : ℕ → List Line → List Line → Fault → Type 0
+IsEndAt place old new fault = IsChangedAt (IsEnd fault) place old new
+
+-- those below this place have taken it in, and the others not yet
+pub record AreEndedBelow (place : ℕ) (old new : List Line) (fault : Fault) : Type 0 where
+  pub params : params_of new ≡ params_of old
+  pub ended : (i : ℕ) (d : Line) → i < place → i < length old → EndsBy (slice_index_or old i d) (slice_index_or new i d) fault
+  pub same : (i : ℕ) (d : Line) → place ≤ i → slice_index_or new i d ≡ slice_index_or old i d

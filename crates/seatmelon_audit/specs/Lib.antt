@@ -1,7 +1,12 @@
 pub mod All
+pub mod Answers
+pub mod Audits
 pub mod Ends
+pub mod Files
 pub mod Hosts
 pub mod Lines
+pub mod Messages
+pub mod Reading
 pub mod Records
 pub mod Sorting
 pub mod Ways

@@ -1,5 +1,5 @@
 -- A connection on its way through the records of a capture.
-use Rattle.std.specs.Prelude.{◌≡◌, ⊤, ◌<◌, ◌≤◌, ℕ, suc, List, [], ◌∷◌, ◌++◌, length, map, slice_index_or, slice_set, Option, Some}
+use Rattle.std.specs.Prelude.{◌≡◌, ⊤, ◌⊎◌, ◌<◌, ◌≤◌, ℕ, suc, Bool, true, false, List, [], ◌∷◌, ◌++◌, length, map, slice_get, slice_index_or, slice_set, Option, Some}
 use Rattle.std.specs.List.{Contains}
 use Rattle.rasta_pdu.specs.Params.{Parameters}
 use Rattle.seatmelon_audit.specs.declared.ways.Way.{Way}
@@ -7,7 +7,7 @@ use Rattle.rasta_pcap.specs.declared.time.CaptureTime.{CaptureTime}
 use Rattle.rasta_pcap.specs.Capture.{Numbered}
 use Rattle.rasta_pcap.specs.Captured.{Captured, numbered}
 use Rattle.rasta_check.specs.Capture.Building.{crossed_in}
-use Rattle.seatmelon_audit.specs.Records.{IsJudgedSo, IsStanding, crossed_by}
+use Rattle.seatmelon_audit.specs.Records.{IsJudgedSo, IsStanding, crossed_by, is_any_held, is_held}
 use Rattle.seatmelon_audit.specs.declared.line.Line.{Line}
 use Rattle.seatmelon_audit.specs.declared.line.Standing.{Standing}
 use Rattle.seatmelon_audit.specs.declared.line.Standing.TheVariants.{OutOfMemory, Reading, Refused}
@@ -40,10 +40,23 @@ pub record IsStep (old new : Line) (r : Numbered) (time : Option CaptureTime) : 
   pub again : old.taken ≡ r.0 → new ≡ old
   pub takes : (old.taken ≡ r.0 → ⊥) → TakesIn old new r time
 
--- the connection at this place takes the record in, and no other one
-pub record IsStepAt (place : ℕ) (old new : List Line) (r : Numbered) (time : Option CaptureTime) : Type 0 where
+-- the connection at this place becomes another one, and the others stay
+pub record IsChangedAt (Changes : Line → Line → Type 0) (place : ℕ) (old new : List Line) : Type 0 where
   pub past : length old ≤ place → new ≡ old
-  pub here : (d : Line) → place < length old → (m : Line) × (new ≡ slice_set old place m) × IsStep (slice_index_or old place d) m r time
+  pub here : (d : Line) → place < length old → (m : Line) × (new ≡ slice_set old place m) × Changes (slice_index_or old place d) m
+
+-- the connection at this place takes the record in, and no other one
+abbrev pub IsStepAt : ℕ → List Line → List Line → Numbered → Option CaptureTime → Type 0
+IsStepAt place old new r time = IsChangedAt (λ (a b : Line). IsStep a b r time) place old new
+
+-- whether the connection holds the record, answered where it is taken in
+pub record HeldOnce (old : Line) (r : Numbered) (held : Bool) : Type 0 where
+  pub again : old.taken ≡ r.0 → held ≡ false
+  pub first : (old.taken ≡ r.0 → ⊥) → held ≡ is_held old.params r
+
+pub record HeldAt (place : ℕ) (old : List Line) (r : Numbered) (held : Bool) : Type 0 where
+  pub past : length old ≤ place → held ≡ false
+  pub here : (d : Line) → place < length old → HeldOnce (slice_index_or old place d) r held
 
 abbrev pub params_of : List Line → List Parameters
 params_of lines = map (λ (l : Line). l.params) lines
@@ -68,6 +81,16 @@ AreBetween records q lines = (i : ℕ) (d : Line) → i < length lines → IsBet
 
 abbrev pub AllBetween : List Line → List Line → Numbered → Option CaptureTime → Type 0
 AllBetween old new r time = (records : List Captured) (q : Captured) → numbered q ≡ r → r.0 ≡ suc (length records) → time ≡ Some q.time → AreBetween records q old → AreBetween records q new
+
+-- some connection holds the record; or none does of those that have taken it in since
+abbrev pub TellsHeld : Bool → List Line → List Line → Numbered → Type 0
+TellsHeld true first new r = (i : ℕ) × (p : Parameters) × (slice_get (params_of first) i ≡ Some p) × (is_held p r ≡ true)
+TellsHeld false first new r = (i : ℕ) (d : Line) → i < length first → (slice_index_or new i d).taken ≡ r.0
+    → ((slice_index_or first i d).taken ≡ r.0) ⊎ (is_held (slice_index_or first i d).params r ≡ false)
+
+-- whether one of these connections holds the next record
+abbrev pub TellsAny : Bool → List Line → Numbered → Type 0
+TellsAny held lines r = (records : List Captured) → r.0 ≡ suc (length records) → AreLines records lines → held ≡ is_any_held (params_of lines) r
 
 -- the connections of these ways have taken in the record of this number
 abbrev pub HaveTaken : List Way → ℕ → List Line → Type 0

@@ -1,5 +1,6 @@
 -- What the records of a capture say of a connection.
-use Rattle.std.specs.Prelude.{◌≡◌, ⊤, ℕ, zero, suc, List, [], ◌∷◌, ◌++◌, take, map, filter, nat_eq, nat_le, is_some, ◌&&◌, Bool, Option, None, Some, option_map, slice_get, Result, Ok, Err, if◌then◌else◌}
+use Rattle.std.specs.Prelude.{◌≡◌, ⊤, ℕ, zero, suc, List, [], ◌∷◌, ◌++◌, take, map, filter, not, nat_eq, nat_le, is_some, ◌&&◌, Bool, Option, None, Some, option_map, slice_get, Result, Ok, Err, if◌then◌else◌}
+use Rattle.std.specs.List.{list_any}
 use Rattle.rasta_pcap.specs.declared.fault.Fault.{Fault}
 use Rattle.rasta_pcap.specs.declared.time.CaptureTime.{CaptureTime}
 use Rattle.rasta_pcap.specs.Capture.{Numbered}
@@ -16,12 +17,23 @@ abbrev pub crossed_by : Parameters → List Captured → Result Crossing Fault
 crossed_by p records = after_records (nothing_crossed p) (map numbered (take p.last_record records)) None
 
 -- the record holds a packet of the connection, and stands in its window
+abbrev pub is_held : Parameters → Numbered → Bool
+is_held p r = nat_le r.0 p.last_record && is_some (packet_at p r)
+
 abbrev pub holds_packet : Parameters → Captured → Bool
-holds_packet p r = nat_le r.number p.last_record && is_some (packet_at p (numbered r))
+holds_packet p r = is_held p (numbered r)
+
+-- it does so of one of these connections
+abbrev pub is_any_held : List Parameters → Numbered → Bool
+is_any_held recorded r = list_any (λ (p : Parameters). is_held p r) recorded
 
 -- the records that do, by the places of their packets
 abbrev pub holding : Parameters → List Captured → List Captured
 holding p records = filter (holds_packet p) records
+
+-- the records that do of none of these connections
+abbrev pub others_in : List Parameters → List Captured → List Captured
+others_in recorded records = filter (λ (r : Captured). not (is_any_held recorded (numbered r))) records
 
 abbrev pub stamp_of : Captured → Stamp
 stamp_of r = record { «record» = r.number; time = r.time }

@@ -1,11 +1,14 @@
 //! A connection on its way through the records of a capture.
-ghost use Rattle.std.specs.Prelude.{◌≡◌, ◌≤◌};
+ghost use Rattle.std.specs.Prelude.{◌≡◌, ◌≤◌, is_some};
+ghost use Rattle.rasta_pdu.specs.Params.{IsWindow};
 ghost use Rattle.rasta_check.specs.Capture.Building.{crossed_in};
+ghost use Rattle.rasta_check.specs.Capture.Reading.{packet_at};
 ghost use Rattle.seatmelon_audit.specs.Records.{subject_behind};
 
 use rasta_check::StoreBuilder;
 use rasta_pcap::{CaptureTime, Fault, Record};
 use rasta_pdu::Params;
+use rasta_udp::datagram;
 use std::alloc::Global;
 
 /// The record that holds a packet: its number, from 1, and when it was captured.
@@ -52,6 +55,7 @@ pub struct Line {
 
     // The number of the record that was taken in last.
     pub(crate) taken: u32,
+    ghost window: { IsWindow params.first_record params.last_record },
     ghost recorded: { (crossed_in builder).params ≡ params },
 }
 
@@ -71,8 +75,8 @@ fn subject_behind(number: u32) -> Option<Subject>
 impl Line {
     ghost use Rattle.std.specs.Prelude.{[]};
     ghost use Rattle.seatmelon_audit.specs.Ends.{EndsBy};
-    ghost use Rattle.seatmelon_audit.specs.Lines.{IsJudged, IsLine, IsStep, TakesIn};
-    ghost use Rattle.seatmelon_audit.specs.Records.{IsNotedSo};
+    ghost use Rattle.seatmelon_audit.specs.Lines.{HeldOnce, IsJudged, IsLine, IsStep, TakesIn};
+    ghost use Rattle.seatmelon_audit.specs.Records.{IsNotedSo, is_held};
     ghost use Rattle.seatmelon_audit.specs.declared.line.Standing.TheVariants.{Reading};
 
     /// Before the first record.
@@ -87,6 +91,16 @@ impl Line {
             standing: Standing::Reading,
             taken: 0,
         }
+    }
+
+    // Whether a record, if it isn't before the window, holds a packet of the connection.
+    fn sees(&self, record: &Record<'_>) -> bool
+        ensures { result ≡ is_some (packet_at self.now.params («record».now.number, «record».now.bytes.now)) }
+    {
+        if record.number < self.params.first_record() {
+            return false;
+        }
+        matches!(datagram(record, self.params.channel()), Ok(Some(_)))
     }
 
     // Notes a packet of the record with this number.
@@ -107,17 +121,22 @@ impl Line {
         }
     }
 
-    // Judges a record up to the last one of the window.
-    fn judge(&mut self, record: &Record<'_>, time: Option<CaptureTime>)
+    // Judges a record up to the last one of the window, and answers whether it holds a packet of the connection.
+    fn judge(&mut self, record: &Record<'_>, time: Option<CaptureTime>) -> bool
         requires reading { self.old.standing ≡ Reading }
         ensures judged { IsJudged self.old self.new («record».now.number, «record».now.bytes.now) time }
         ensures kept { (self.new.params ≡ self.old.params) × (self.new.taken ≡ self.old.taken) }
+        ensures held { result ≡ is_some (packet_at self.old.params («record».now.number, «record».now.bytes.now)) }
     {
         match self.builder.add(record) {
-            Ok(Some(_)) => self.note(record.number, time),
-            Ok(None) => {}
+            Ok(Some(_)) => {
+                self.note(record.number, time);
+                true
+            }
+            Ok(None) => false,
             Err(fault) if fault.number == Fault::NO_MEMORY => {
                 self.standing = Standing::OutOfMemory;
+                self.sees(record)
             }
             Err(fault) => {
                 let subject = Some(Subject {
@@ -125,31 +144,39 @@ impl Line {
                     time,
                 });
                 self.standing = Standing::Refused(Refusal { fault, subject });
+                self.sees(record)
             }
         }
     }
 
-    /// Takes in the next record, which was captured at this time.
-    pub fn add(&mut self, record: &Record<'_>, time: Option<CaptureTime>)
+    /// Takes in the next record, which was captured at this time, and answers whether it holds a packet of the
+    /// connection in its window; also where the connection is judged no more.
+    pub fn add(&mut self, record: &Record<'_>, time: Option<CaptureTime>) -> bool
         ensures line { TakesIn self.old self.new («record».now.number, «record».now.bytes.now) time }
         ensures taken { self.new.taken ≡ «record».now.number }
         ensures kept { self.new.params ≡ self.old.params }
+        ensures held { result ≡ is_held self.old.params («record».now.number, «record».now.bytes.now) }
     {
         self.taken = record.number;
-        if let Standing::Reading = self.standing {
-            if record.number <= self.params.last_record() {
-                self.judge(record, time);
-            }
+        if record.number > self.params.last_record() {
+            return false;
+        }
+        match self.standing {
+            Standing::Reading => self.judge(record, time),
+            Standing::Refused(_) | Standing::OutOfMemory => self.sees(record),
         }
     }
 
-    /// Takes in the next record, which was captured at this time, once.
-    pub fn step(&mut self, record: &Record<'_>, time: Option<CaptureTime>)
-        ensures { IsStep self.old self.new («record».now.number, «record».now.bytes.now) time }
+    /// Takes in the next record, which was captured at this time, once, and then answers whether it holds a packet of the
+    /// connection in its window.
+    pub fn step(&mut self, record: &Record<'_>, time: Option<CaptureTime>) -> bool
+        ensures step { IsStep self.old self.new («record».now.number, «record».now.bytes.now) time }
+        ensures held { HeldOnce self.old («record».now.number, «record».now.bytes.now) result }
     {
-        if self.taken != record.number {
-            self.add(record, time);
+        if self.taken == record.number {
+            return false;
         }
+        self.add(record, time)
     }
 
     /// Takes in the fault that ended the reading of the file: it is the connection's where it stands before the end of its

@@ -1,11 +1,12 @@
 //! All connections, on their way through the records of a capture.
 ghost use Rattle.std.specs.Prelude.{◌≡◌, ◌<◌, ◌^◌, [], length, IfOk};
-ghost use Rattle.seatmelon_audit.specs.Lines.{AllBetween, AllTakeIn, AreLines, HaveTaken, IsStepAt, params_of};
+ghost use Rattle.seatmelon_audit.specs.Lines.{AllBetween, AllTakeIn, AreLines, HaveTaken, HeldAt, IsStepAt, TellsAny, TellsHeld, params_of};
+ghost use Rattle.seatmelon_audit.specs.Ends.{AllEnd, IsEndAt};
 ghost use Rattle.seatmelon_audit.specs.All.{IsKnown, lines_in};
 
 use crate::line::Line;
 use crate::ways::{Way, Ways};
-use rasta_pcap::{CaptureTime, Record};
+use rasta_pcap::{CaptureTime, Fault, Record};
 use rasta_pdu::Params;
 use std::alloc::{AllocError, Global};
 
@@ -16,23 +17,60 @@ pub struct Lines {
     pub(crate) ways: Ways,
 }
 
-// The connection at this place takes in a record, if there is one.
-fn step_at(lines: &mut Vec<Line>, place: usize, record: &Record<'_>, time: Option<CaptureTime>)
-    ensures { IsStepAt place lines.old.items lines.new.items («record».now.number, «record».now.bytes.now) time }
+// The connection at this place takes in a record, if there is one, and answers whether it holds a packet of it.
+fn step_at(
+    lines: &mut Vec<Line>,
+    place: usize,
+    record: &Record<'_>,
+    time: Option<CaptureTime>,
+) -> bool
+    ensures step { IsStepAt place lines.old.items lines.new.items («record».now.number, «record».now.bytes.now) time }
+    ensures held { HeldAt place lines.old.items («record».now.number, «record».now.bytes.now) result }
 {
     if place < lines.len() {
-        lines[place].step(record, time);
+        lines[place].step(record, time)
+    } else {
+        false
     }
 }
 
-// The connections of these ways take in a record.
-fn step_all(lines: &mut Vec<Line>, ways: &[Way], record: &Record<'_>, time: Option<CaptureTime>)
+// The connections of these ways take in a record, and answer whether it holds a packet of one of them.
+fn step_all(
+    lines: &mut Vec<Line>,
+    ways: &[Way],
+    record: &Record<'_>,
+    time: Option<CaptureTime>,
+) -> bool
     ensures between { AllBetween lines.old.items lines.new.items («record».now.number, «record».now.bytes.now) time }
     ensures taken { HaveTaken ways.now «record».now.number lines.new.items }
     ensures kept { params_of lines.new.items ≡ params_of lines.old.items }
+    ensures held { TellsHeld result lines.old.items lines.new.items («record».now.number, «record».now.bytes.now) }
 {
+    let mut held = false;
     for way in ways {
-        step_at(lines, way.line as usize, record, time);
+        if step_at(lines, way.line as usize, record, time) {
+            held = true;
+        }
+    }
+    held
+}
+
+// The connection at this place takes in the fault that ended the reading, if there is one.
+fn end_at(lines: &mut Vec<Line>, place: usize, fault: Fault)
+    ensures { IsEndAt place lines.old.items lines.new.items fault }
+{
+    if place < lines.len() {
+        lines[place].end(fault);
+    }
+}
+
+// All connections take in the fault that ended the reading.
+fn end_all(lines: &mut Vec<Line>, fault: Fault)
+    ensures lines { AllEnd lines.old.items lines.new.items fault }
+    ensures kept { params_of lines.new.items ≡ params_of lines.old.items }
+{
+    for place in 0..lines.len() {
+        end_at(lines, place, fault);
     }
 }
 
@@ -62,13 +100,30 @@ impl Lines {
     }
 
     /// Takes in the next record, which was captured at this time: it goes to the connections that record the hosts of its
-    /// frame, and to no other.
-    pub fn add(&mut self, record: &Record<'_>, time: Option<CaptureTime>)
+    /// frame, and to no other. Answers whether it holds a packet of a connection in its window.
+    pub fn add(&mut self, record: &Record<'_>, time: Option<CaptureTime>) -> bool
         ensures lines { IsKnown self.old → AllTakeIn (lines_in self.old) (lines_in self.new) («record».now.number, «record».now.bytes.now) time }
         ensures params { params_of (lines_in self.new) ≡ params_of (lines_in self.old) }
         ensures known { IsKnown self.old → IsKnown self.new }
+        ensures held { IsKnown self.old → TellsAny result (lines_in self.old) («record».now.number, «record».now.bytes.now) }
     {
         let ways = self.ways.of_frame(record.bytes);
-        step_all(&mut self.lines, ways, record, time);
+        step_all(&mut self.lines, ways, record, time)
+    }
+
+    /// The connections, in their order.
+    pub fn into_lines(self) -> Vec<Line>
+        ensures { result.items ≡ lines_in self }
+    {
+        let Lines { lines, .. } = self;
+        lines
+    }
+
+    /// Takes in the fault that ended the reading of the file.
+    pub fn end(&mut self, fault: Fault)
+        ensures lines { AllEnd (lines_in self.old) (lines_in self.new) fault }
+        ensures params { params_of (lines_in self.new) ≡ params_of (lines_in self.old) }
+    {
+        end_all(&mut self.lines, fault);
     }
 }
