@@ -85,3 +85,9 @@ pub told_of_begun : (input : Option (List ℕ)) (notes : List ℕ → Type 0) (h
     → IfSome input (λ bytes. TellsHeaderOf bytes failure)
 told_of_begun None notes header failure reads told h = tt
 told_of_begun (Some file) notes header failure reads told h = told_of_file file header failure (header_begun file notes header reads h) told
+
+-- a header in what passed of a file, if its bytes are known
+pub header_if_begun : (input : Option (List ℕ)) (notes : List ℕ → Type 0) (header : Option FileHeader)
+    → ((front : List ℕ) → notes front → header ≡ header_in (take 24 front)) → IfSome input (IsBegun notes) → IfSome input (λ bytes. IsHeaderOf bytes header)
+header_if_begun None notes header reads h = tt
+header_if_begun (Some file) notes header reads h = header_begun file notes header reads h
