@@ -1,5 +1,6 @@
 //! What the answers of an audit come to.
 ghost use Rattle.std.specs.Prelude.{◌≡◌, count_by};
+ghost use Rattle.std.specs.List.{list_all};
 ghost use Rattle.seatmelon_tally.specs.Counted.{is_explained, is_out_of_memory, is_refused, is_without_packets, status_in};
 
 use seatmelon_audit::{Answer, Audit};
@@ -42,37 +43,37 @@ fn is_out_of_memory(answer: &Answer) -> bool
     matches!(answer, Answer::OutOfMemory)
 }
 
-fn count_explained(answers: &[Answer]) -> u64
+fn count_explained(answers: &[Answer]) -> usize
     ensures { result ≡ count_by is_explained answers.now }
 {
     answers
         .iter()
         .filter(|answer| is_explained(*answer))
-        .count() as u64
+        .count()
 }
 
-fn count_refused(answers: &[Answer]) -> u64
+fn count_refused(answers: &[Answer]) -> usize
     ensures { result ≡ count_by is_refused answers.now }
 {
-    answers.iter().filter(|answer| is_refused(*answer)).count() as u64
+    answers.iter().filter(|answer| is_refused(*answer)).count()
 }
 
-fn count_without_packets(answers: &[Answer]) -> u64
+fn count_without_packets(answers: &[Answer]) -> usize
     ensures { result ≡ count_by is_without_packets answers.now }
 {
     answers
         .iter()
         .filter(|answer| is_without_packets(*answer))
-        .count() as u64
+        .count()
 }
 
-fn count_out_of_memory(answers: &[Answer]) -> u64
+fn count_out_of_memory(answers: &[Answer]) -> usize
     ensures { result ≡ count_by is_out_of_memory answers.now }
 {
     answers
         .iter()
         .filter(|answer| is_out_of_memory(*answer))
-        .count() as u64
+        .count()
 }
 
 impl Counts {
@@ -84,20 +85,26 @@ impl Counts {
     {
         let answers = audit.answers.as_slice();
         Counts {
-            explained: count_explained(answers),
-            refused: count_refused(answers),
-            without_packets: count_without_packets(answers),
-            out_of_memory: count_out_of_memory(answers),
+            explained: count_explained(answers) as u64,
+            refused: count_refused(answers) as u64,
+            without_packets: count_without_packets(answers) as u64,
+            out_of_memory: count_out_of_memory(answers) as u64,
             packets: audit.records.saturating_sub(audit.others),
         }
     }
+}
+
+fn are_explained(answers: &[Answer]) -> bool
+    ensures { result ≡ list_all is_explained answers.now }
+{
+    answers.iter().all(|answer| is_explained(answer))
 }
 
 /// The exit status: 0 where each connection is explained, else 1.
 pub fn status_of(audit: &Audit) -> u8
     ensures { result ≡ status_in audit.now.answers.items }
 {
-    if audit.answers.iter().all(|answer| is_explained(answer)) {
+    if are_explained(audit.answers.as_slice()) {
         0
     } else {
         1
