@@ -1,0 +1,179 @@
+//! An audit of many connections as one JSON object.
+ghost use Rattle.std.specs.Prelude.{◌≡◌, IfErr};
+ghost use Rattle.rasta_pcap.specs.Fault.{write_failed};
+
+use crate::counts::Counts;
+use rasta_pcap::{CaptureTime, Fault, Side, Sink};
+use seatmelon_audit::{Answer, Audit, Conveyed, Explained, Refusal, Subject};
+use seatmelon_text::json::{write_long, write_string};
+use seatmelon_text::{parts, write_parts, write_words};
+
+// Writes how many messages an end sent, and how many of them were surely taken, under its name.
+fn write_conveyed<W: Sink>(writer: &mut W, sender: Side, conveyed: Conveyed) -> Result<(), Fault>
+    ensures err { IfErr result (λ f. f ≡ write_failed) }
+{
+    write_parts(writer, &parts![",\"", sender, "\":{\"sent\":"])?;
+    write_long(writer, conveyed.sent)?;
+    write_words(writer, ",\"surely_taken\":")?;
+    write_long(writer, conveyed.taken)?;
+    write_words(writer, "}")
+}
+
+// Writes what is counted of a connection that is explained.
+fn write_explained<W: Sink>(writer: &mut W, explained: &Explained) -> Result<(), Fault>
+    ensures err { IfErr result (λ f. f ≡ write_failed) }
+{
+    write_words(writer, "\"explained\",\"packets\":")?;
+    write_long(writer, explained.packets)?;
+    write_conveyed(writer, Side::Client, explained.client)?;
+    write_conveyed(writer, Side::Server, explained.server)
+}
+
+// Writes when a record was captured, or null.
+fn write_time<W: Sink>(writer: &mut W, time: Option<CaptureTime>) -> Result<(), Fault>
+    ensures err { IfErr result (λ f. f ≡ write_failed) }
+{
+    match time {
+        Some(time) => write_parts(writer, &parts![",\"time\":\"", time, " UTC\""]),
+        None => write_words(writer, ",\"time\":null"),
+    }
+}
+
+// Writes the record that a refusal names, or nulls.
+fn write_subject<W: Sink>(writer: &mut W, subject: Option<Subject>) -> Result<(), Fault>
+    ensures err { IfErr result (λ f. f ≡ write_failed) }
+{
+    match subject {
+        Some(subject) => {
+            write_parts(writer, &parts![",\"record\":", subject.record])?;
+            write_time(writer, subject.time)
+        }
+        None => write_words(writer, ",\"record\":null,\"time\":null"),
+    }
+}
+
+// Writes the end that a refusal speaks of, or null.
+fn write_end<W: Sink>(writer: &mut W, end: Option<Side>) -> Result<(), Fault>
+    ensures err { IfErr result (λ f. f ≡ write_failed) }
+{
+    match end {
+        Some(end) => write_parts(writer, &parts![",\"end\":\"", end, "\""]),
+        None => write_words(writer, ",\"end\":null"),
+    }
+}
+
+// Writes number and name of a fault, as an object that is yet to be ended.
+fn write_fault<W: Sink>(writer: &mut W, fault: Fault) -> Result<(), Fault>
+    ensures err { IfErr result (λ f. f ≡ write_failed) }
+{
+    write_parts(
+        writer,
+        &parts![
+            "{\"number\":",
+            fault.number,
+            ",\"name\":\"",
+            fault.name(),
+            "\""
+        ],
+    )
+}
+
+// Writes why a connection is refused.
+fn write_refusal<W: Sink>(writer: &mut W, refusal: &Refusal) -> Result<(), Fault>
+    ensures err { IfErr result (λ f. f ≡ write_failed) }
+{
+    write_words(writer, "\"refused\",\"fault\":")?;
+    write_fault(writer, refusal.fault)?;
+    write_words(writer, "}")?;
+    write_subject(writer, refusal.subject)?;
+    write_end(writer, refusal.fault.end)
+}
+
+// Writes a verdict, with what is told of it.
+fn write_verdict<W: Sink>(writer: &mut W, answer: &Answer) -> Result<(), Fault>
+    ensures err { IfErr result (λ f. f ≡ write_failed) }
+{
+    match answer {
+        Answer::NoPackets => write_words(writer, "\"no_packets\""),
+        Answer::Refused(refusal) => write_refusal(writer, refusal),
+        Answer::Explained(explained) => write_explained(writer, explained),
+        Answer::OutOfMemory => write_words(writer, "\"out_of_memory\""),
+    }
+}
+
+// Writes what becomes of the connection of this name.
+fn write_answer<W: Sink>(
+    writer: &mut W,
+    before: &'static str,
+    name: &str,
+    answer: &Answer,
+) -> Result<(), Fault>
+    ensures err { IfErr result (λ f. f ≡ write_failed) }
+{
+    write_parts(writer, &parts![before, "{\"name\":"])?;
+    write_string(writer, name)?;
+    write_words(writer, ",\"verdict\":")?;
+    write_verdict(writer, answer)?;
+    write_words(writer, "}")
+}
+
+// Writes what becomes of each connection.
+fn write_answers<W: Sink>(writer: &mut W, names: &[String], answers: &[Answer]) -> Result<(), Fault>
+    ensures err { IfErr result (λ f. f ≡ write_failed) }
+{
+    let mut before = "";
+    for (name, answer) in names.iter().zip(answers.iter()) {
+        write_answer(writer, before, name.as_str(), answer)?;
+        before = ",";
+    }
+    Ok(())
+}
+
+// Writes the number of the record that a fault names, or null; a fault of the file's header names none.
+fn write_record<W: Sink>(writer: &mut W, place: u32) -> Result<(), Fault>
+    ensures err { IfErr result (λ f. f ≡ write_failed) }
+{
+    if place == 0 {
+        return write_words(writer, ",\"record\":null}");
+    }
+    write_parts(writer, &parts![",\"record\":", place, "}"])
+}
+
+// Writes the fault of the file, or null.
+fn write_file_fault<W: Sink>(writer: &mut W, fault: Option<Fault>) -> Result<(), Fault>
+    ensures err { IfErr result (λ f. f ≡ write_failed) }
+{
+    match fault {
+        Some(fault) => {
+            write_fault(writer, fault)?;
+            write_record(writer, fault.place)
+        }
+        None => write_words(writer, "null"),
+    }
+}
+
+/// Writes an audit as one JSON object and a line feed. The names stand in the order of the answers.
+pub fn write_audit_json<W: Sink>(
+    writer: &mut W,
+    names: &[String],
+    audit: &Audit,
+) -> Result<(), Fault>
+    ensures err { IfErr result (λ f. f ≡ write_failed) }
+{
+    write_words(writer, "{\"connections\":[")?;
+    write_answers(writer, names, audit.answers.as_slice())?;
+    write_parts(
+        writer,
+        &parts![
+            "],\"records\":",
+            audit.records,
+            ",\"packets\":",
+            Counts::of(audit).packets,
+            ",\"others\":",
+            audit.others,
+            ",\"fault\":"
+        ],
+    )?;
+    write_file_fault(writer, audit.fault)?;
+    write_words(writer, "}\n")
+}

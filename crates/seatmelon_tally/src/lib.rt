@@ -1,0 +1,10 @@
+//! Audits of many connections in words, and as JSON.
+#![tactic(auto)]
+
+mod counts;
+mod json;
+mod text;
+
+pub use counts::{Counts, status_of};
+pub use json::write_audit_json;
+pub use text::write_audit;

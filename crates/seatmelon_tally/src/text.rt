@@ -1,0 +1,215 @@
+//! An audit of many connections in words.
+ghost use Rattle.std.specs.Prelude.{◌≡◌, IfErr};
+ghost use Rattle.rasta_pcap.specs.Fault.{write_failed};
+
+use crate::counts::Counts;
+use rasta_pcap::{CaptureTime, Fault, Side, Sink};
+use seatmelon_audit::{Answer, Audit, Conveyed, Explained, Refusal, Subject};
+use seatmelon_survey::{FaultWords, words_of_fault};
+use seatmelon_text::{parts, write_parts, write_words};
+
+// What so many are called.
+fn named(count: u64, one: &'static str, many: &'static str) -> &'static str {
+    if count == 1 { one } else { many }
+}
+
+// Writes how many messages of an end were surely taken, of how many that it sent.
+fn write_conveyed<W: Sink>(
+    writer: &mut W,
+    sender: Side,
+    conveyed: Conveyed,
+    behind: &'static str,
+) -> Result<(), Fault>
+    ensures err { IfErr result (λ f. f ≡ write_failed) }
+{
+    write_parts(
+        writer,
+        &parts![
+            "; ",
+            sender,
+            " to ",
+            sender.other(),
+            ": ",
+            conveyed.taken,
+            " of ",
+            conveyed.sent,
+            behind
+        ],
+    )
+}
+
+// Writes what is counted of a connection that is explained.
+fn write_explained<W: Sink>(writer: &mut W, explained: &Explained) -> Result<(), Fault>
+    ensures err { IfErr result (λ f. f ≡ write_failed) }
+{
+    let packets = explained.packets;
+    write_parts(
+        writer,
+        &parts![
+            "explained, ",
+            packets,
+            named(packets, " packet", " packets")
+        ],
+    )?;
+    let messages = named(
+        explained.client.sent,
+        " message surely taken",
+        " messages surely taken",
+    );
+    write_conveyed(writer, Side::Client, explained.client, messages)?;
+    write_conveyed(writer, Side::Server, explained.server, "\n")
+}
+
+// Writes when a record was captured, if it was read whole.
+fn write_time_if<W: Sink>(writer: &mut W, time: Option<CaptureTime>) -> Result<(), Fault>
+    ensures err { IfErr result (λ f. f ≡ write_failed) }
+{
+    match time {
+        Some(time) => write_parts(writer, &parts![", ", time, " UTC"]),
+        None => Ok(()),
+    }
+}
+
+// Writes the record that a refusal names, if it names one.
+fn write_subject_if<W: Sink>(writer: &mut W, subject: Option<Subject>) -> Result<(), Fault>
+    ensures err { IfErr result (λ f. f ≡ write_failed) }
+{
+    match subject {
+        Some(subject) => {
+            write_parts(writer, &parts![", record ", subject.record])?;
+            write_time_if(writer, subject.time)
+        }
+        None => Ok(()),
+    }
+}
+
+// Writes the end that a refusal speaks of, if it speaks of one.
+fn write_end_if<W: Sink>(writer: &mut W, end: Option<Side>) -> Result<(), Fault>
+    ensures err { IfErr result (λ f. f ≡ write_failed) }
+{
+    match end {
+        Some(end) => write_parts(writer, &parts![", ", end]),
+        None => Ok(()),
+    }
+}
+
+// Writes why a connection is refused.
+fn write_refusal<W: Sink>(writer: &mut W, refusal: &Refusal) -> Result<(), Fault>
+    ensures err { IfErr result (λ f. f ≡ write_failed) }
+{
+    let fault = refusal.fault;
+    write_parts(
+        writer,
+        &parts!["refused by ", fault.number, " ", fault.name()],
+    )?;
+    write_subject_if(writer, refusal.subject)?;
+    write_end_if(writer, fault.end)?;
+    write_words(writer, "\n")
+}
+
+// Writes what becomes of the connection of this name, as a line.
+fn write_answer<W: Sink>(writer: &mut W, name: &str, answer: &Answer) -> Result<(), Fault>
+    ensures err { IfErr result (λ f. f ≡ write_failed) }
+{
+    write_parts(writer, &parts![name, ": "])?;
+    match answer {
+        Answer::NoPackets => write_words(writer, "no packets\n"),
+        Answer::Refused(refusal) => write_refusal(writer, refusal),
+        Answer::Explained(explained) => write_explained(writer, explained),
+        Answer::OutOfMemory => write_words(writer, "out of memory\n"),
+    }
+}
+
+// Writes the number of the record that a fault names, with the words behind it; a fault of the file's header names none.
+fn write_record_if<W: Sink>(writer: &mut W, fault: Fault, behind: &'static str) -> Result<(), Fault>
+    ensures err { IfErr result (λ f. f ≡ write_failed) }
+{
+    if fault.place == 0 {
+        return Ok(());
+    }
+    write_parts(writer, &parts![fault.place, behind])
+}
+
+// Writes what the fault of the file says, as a line.
+fn write_fault<W: Sink>(writer: &mut W, fault: Fault) -> Result<(), Fault>
+    ensures err { IfErr result (λ f. f ≡ write_failed) }
+{
+    let FaultWords { before, behind } = words_of_fault(fault.number);
+    write_words(writer, before)?;
+    write_record_if(writer, fault, behind)?;
+    write_parts(
+        writer,
+        &parts![" (", fault.number, " ", fault.name(), ")\n"],
+    )
+}
+
+// Writes what the fault of the file says, if it isn't whole.
+fn write_fault_if<W: Sink>(writer: &mut W, fault: Option<Fault>) -> Result<(), Fault>
+    ensures err { IfErr result (λ f. f ≡ write_failed) }
+{
+    match fault {
+        Some(fault) => write_fault(writer, fault),
+        None => Ok(()),
+    }
+}
+
+// Writes how many connections have become what; what none has become is left out.
+fn write_kinds<W: Sink>(writer: &mut W, counts: &Counts) -> Result<(), Fault>
+    ensures err { IfErr result (λ f. f ≡ write_failed) }
+{
+    let mut before = ": ";
+    for (count, kind) in [
+        (counts.explained, " explained"),
+        (counts.refused, " refused"),
+        (counts.without_packets, " without packets"),
+        (counts.out_of_memory, " out of memory"),
+    ] {
+        if count > 0 {
+            write_parts(writer, &parts![before, count, kind])?;
+            before = ", ";
+        }
+    }
+    Ok(())
+}
+
+// Writes how many connections, packets and records there are, as a line.
+fn write_counts<W: Sink>(writer: &mut W, audit: &Audit) -> Result<(), Fault>
+    ensures err { IfErr result (λ f. f ≡ write_failed) }
+{
+    let connections = audit.answers.len() as u64;
+    let counts = Counts::of(audit);
+    let packets = u64::from(counts.packets);
+    let others = u64::from(audit.others);
+    write_parts(
+        writer,
+        &parts![
+            connections,
+            named(connections, " connection", " connections")
+        ],
+    )?;
+    write_kinds(writer, &counts)?;
+    write_parts(
+        writer,
+        &parts![
+            "; ",
+            packets,
+            named(packets, " packet", " packets"),
+            "; ",
+            others,
+            named(others, " record", " records"),
+            " of none of them\n"
+        ],
+    )
+}
+
+/// Writes an audit in words: a line for each connection, with its name, in their order; what the fault of the file
+/// says, if it isn't whole; and how many there are of each kind. The names stand in the order of the answers.
+pub fn write_audit<W: Sink>(writer: &mut W, names: &[String], audit: &Audit) -> Result<(), Fault>
+    ensures err { IfErr result (λ f. f ≡ write_failed) }
+{
+    for (name, answer) in names.iter().zip(audit.answers.iter()) {
+        write_answer(writer, name.as_str(), answer)?;
+    }
+    write_fault_if(writer, audit.fault)?;
+    write_counts(writer, audit)
+}
