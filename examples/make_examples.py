@@ -1090,17 +1090,26 @@ LATE_COMMENT = """\
 # ---- what `explain` prints of the excerpt
 
 EXPLAINED = """\
-{capture}{parameters}certificate: none was given, so one is built
-program: seatmelon 0.1.0, proved with Rattle, logic dac8208d650f15bf
-
-records read: {records}
-window: records 4 to 22
-packets of the connection: {packets}
-{channels}packets of the recorded channels before the window: {before}, behind it: {behind}
-records passed over: {foreign}
-
 explained: two ends that keep the rules can have sent these {packets} packets, the packets in records 4 to 22
+client to server: 2 of 2 messages surely taken
+server to client: 0 of 0 messages surely taken
 
+What was judged:
+{capture}{parameters}  certificate: none was given, so one is built
+  program: seatmelon 0.1.0, proved with Rattle, logic dac8208d650f15bf
+  records read: {records}
+  window: records 4 to 22
+  packets of the connection: {packets}
+{channels}  packets of the recorded channels before the window: {before}, behind it: {behind}
+  records passed over: {foreign}
+    not IPv4 or UDP: {not_udp}
+    other addresses or ports: {elsewhere}
+  ids: client 96, server 97
+  lengths: safety code 0, check code 0
+  limits: N_sendmax 20, T_max 1800, slack 0
+  quiet point: none
+Times of capture, which no verdict reads:
+{silences}
 What this says:
   Some run of two ends that keep the rules, over a network that loses, repeats, delays and
   reorders packets, sends exactly these packets past the tap, in this order.
@@ -1117,22 +1126,29 @@ What it rests on:
   For 'surely taken': both ends kept the rules.
   What is judged begins before the opening of the connection, and no copy of an earlier packet comes after it.
 
-client to server: 2 of 2 messages surely taken
-{taken}
-server to client: 0 of 0 messages surely taken
-"""
+Messages (times are UTC; those without a date are of 2026-01-01):
+{taken}"""
 
 
 def sum_lines(what, name):
     """A file's name and its SHA-256."""
     digest = hashlib.sha256((HERE / name).read_bytes()).hexdigest()
-    return f"{what}: {name}\n  SHA-256: {digest}\n"
+    return f"  {what}: {name}\n    SHA-256: {digest}\n"
 
 
 def channel_line(packets, channel):
     sides = [pdu.side for _, other, pdu in packets if other == channel]
     counts = sides.count("client"), sides.count("server")
-    return "  on channel {}: from the client {}, from the server {}\n".format(channel, *counts)
+    ends = "{}:{} - {}:{}".format(*CHANNELS[channel - 1][0], *CHANNELS[channel - 1][1])
+    return "    on channel {}, {}: from the client {}, from the server {}\n".format(channel, ends, *counts)
+
+
+def silence_line(packets, side):
+    """The longest time between two packets of a side, where a record comes every 5 milliseconds."""
+    records = [record for record, _, pdu in packets if pdu.side == side]
+    pairs = list(zip(records, records[1:]))
+    first, second = max(pairs, key=lambda pair: pair[1] - pair[0])
+    return f"  longest silence of the {side}: {5 * (second - first)}.000000 ms, between records {first} and {second}\n"
 
 
 def sighting(packet):
@@ -1148,26 +1164,35 @@ def spelled(message):
 
 
 def taken_text(packets, taken):
-    """What is told of a message that was surely taken."""
+    """What is told of a message of the client that was surely taken."""
     number, data, proof, message = taken
-    places = f"    data: {sighting(packets[data])}\n    proof: {sighting(packets[proof])}\n"
-    return f"  message {number}\n{places}    hex: {message.hex()}\n    text: {spelled(message)}\n"
+    head = f"client to server {number}: {sighting(packets[data])}\n  proof: {sighting(packets[proof])}\n"
+    return head + f"  hex: {message.hex()}\n  text: {spelled(message)}\n"
+
+
+def is_udp(frame):
+    """Whether a frame has a packet of IPv4 with a datagram, if it has no tag."""
+    return frame[12:14] == b"\x08\x00" and frame[23] == 17
 
 
 def write_excerpt_text():
     """What `explain` prints of the excerpt and its parameters, which have been written."""
     every, window = excerpt_packets(), EXCERPT_WINDOW
     packets = [packet for packet in every if packet[0] in window]
-    records = len(list(excerpt_records()))
+    records = list(excerpt_records())
+    others = [held for held in records if not isinstance(held, tuple)]
     text = EXPLAINED.format(
         capture=sum_lines("capture", "excerpt.pcap"),
         parameters=sum_lines("parameters", "excerpt.toml"),
-        records=records,
+        records=len(records),
         packets=len(packets),
         channels="".join(channel_line(packets, channel) for channel in (1, 2)),
         before=sum(record < window.start for record, _, _ in every),
         behind=sum(record >= window.stop for record, _, _ in every),
-        foreign=records - len(every),
+        foreign=len(others),
+        not_udp=sum(not is_udp(frame) for frame in others),
+        elsewhere=sum(is_udp(frame) for frame in others),
+        silences="".join(silence_line(packets, side) for side in ("client", "server")),
         taken="".join(taken_text(packets, taken) for taken in EXCERPT_STORY.server_took),
     )
     (HERE / "expected" / "excerpt.explain.txt").write_bytes(text.encode())
