@@ -16,6 +16,12 @@ const LONG: usize = 64;
 
 const FRONT: usize = 32;
 
+// The most bytes of a message that a line has room for: beside numbers of one digit and times of day in microseconds, 21
+// columns are left where there is a proof, and 44 where there is none, 7 of them for `; text `.
+const MOST_SHOWN: usize = 14;
+
+const MOST_NOT_SHOWN: usize = 37;
+
 const DAY: u32 = 86_400;
 
 // What the lines of messages rest on.
@@ -212,6 +218,16 @@ fn put_block<W: Sink>(
     put_bytes(writer, room, scene.is_whole, message.bytes)
 }
 
+// Whether a line may have room for a message, by its bytes alone. To measure the line of each message of 20 bytes would take
+// some 2 % of an explanation's instructions.
+fn may_fit(message: &Message<'_>) -> bool {
+    let most = match message.proof {
+        Some(_) => MOST_SHOWN,
+        None => MOST_NOT_SHOWN,
+    };
+    message.bytes.len() <= most
+}
+
 // Puts a message: in one line, where that fits.
 fn put_message<W: Sink>(
     writer: &mut W,
@@ -222,7 +238,7 @@ fn put_message<W: Sink>(
 ) -> Result<(), Fault>
     ensures err { IfErr result (λ f. f ≡ write_failed) }
 {
-    if put_line(writer, room, scene, sender, message)? {
+    if may_fit(message) && put_line(writer, room, scene, sender, message)? {
         return Ok(());
     }
     put_block(writer, room, scene, sender, message)

@@ -111,16 +111,16 @@ fn put_number<W: Sink>(writer: &mut W, room: &mut Room, n: u64) -> Result<(), Fa
     room.put(writer, buffer.format(n).as_bytes())
 }
 
-// The hexadecimal digits, by their values.
-const DIGITS: [u8; 16] = *b"0123456789abcdef";
-
-/// The two digits of a byte, by a table: a long text has many of them.
+/// The two digits of a byte.
 #[inline(always)]
-#[tactic(auto, unfolding(hex::specs::Hex::encode_with))]
 pub(crate) fn digits_of_byte(byte: u8) -> [u8; 2]
     ensures { result ≡ encode_lower (byte ∷ []) }
 {
-    [DIGITS[(byte / 16) as usize], DIGITS[(byte % 16) as usize]]
+    let mut digits = [0; 2];
+    if hex::encode_to_slice([byte], &mut digits).is_err() {
+        unreachable!();
+    }
+    digits
 }
 
 // Puts bytes as text: a backslash is doubled, and a byte that isn't printable is told by its digits.
