@@ -1,6 +1,9 @@
 pub mod Captures
 pub mod Filled
+pub mod Gives
 pub mod Options
+pub mod Passing
+pub mod Refusals
 pub mod Steps
 pub mod Units
 pub mod Ways

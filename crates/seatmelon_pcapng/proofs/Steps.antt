@@ -249,3 +249,19 @@ spelled-goes s front turn e =
     ∙ spelled-more s front turn (reading_from (length s.rest - 1) next)
     ∙ ap (λ r. flat_map packet_bytes (packets_in (take front.len s.rest) turn) ++ records_bytes r)
     (enough (length s.rest - 1) (length (drop front.len s.rest)) next (omega (arith, size, whole.0, whole.1)) (omega (arith, size)))
+
+-- ---- the refusal at the end
+
+pub refusal-ended : (s : State) → s.rest ≡ [] → (reading_left s).refusal ≡ None
+refusal-ended s h = ap (λ (r : Reading). r.refusal) (reading-none (length s.rest) s (no_length s.rest h))
+
+pub refusal-refused : (s : State) (reason : Reason) → next_of s ≡ refused reason → (reading_left s).refusal ≡ Some (record { reason = reason; at = s.at })
+refusal-refused s reason e = ap (λ (r : Reading). r.refusal) (reading_left-suc s (refused reason) (refused-some s reason e) e)
+
+pub refusal-goes : (s : State) (front : Front) (turn : Turn) → next_of s ≡ goes front turn → (reading_left s).refusal ≡ (reading_left (state_after s (goes front turn))).refusal
+refusal-goes s front turn e =
+    let whole = goes-whole s front turn e in
+    let size : length (drop front.len s.rest) ≡ length s.rest - front.len = length-drop front.len s.rest in
+    ap (λ (r : Reading). r.refusal) (reading_left-suc s (goes front turn) (omega (arith, whole.0, whole.1)) e)
+    ∙ ap (λ (r : Reading). r.refusal) (enough (length s.rest - 1) (length (drop front.len s.rest)) (state_after s (goes front turn))
+    (omega (arith, size, whole.0, whole.1)) (omega (arith, size)))

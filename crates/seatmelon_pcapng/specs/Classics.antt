@@ -52,6 +52,24 @@ left_in remaining c = left_by (bytes_held c.held) (option_map (given_with c) (re
 abbrev pub state_with : {S : Type 0} → Classic S → List ℕ → State
 state_with c rest = record { order = order_in c.section; interfaces = interfaces_in c.section; at = c.at; rest = rest }
 
+-- the refusal that these bytes end with
+abbrev pub refusal_with : {S : Type 0} → Classic S → List ℕ → Option Refusal
+refusal_with c rest = (reading_left (state_with c rest)).refusal
+
+-- once it has ended, the refusal that it met
+abbrev pub refusal_left_by : Option (Option Refusal) → Progress → Option (Option Refusal)
+refusal_left_by known InFront = known
+refusal_left_by known (InBlock front) = known
+refusal_left_by known (Ended refusal) = Some refusal
+
+-- the refusal that what is left ends with, where it is known
+abbrev pub refusal_left : {S : Type 0} → (S → Option (List ℕ)) → Classic S → Option (Option Refusal)
+refusal_left remaining c = refusal_left_by (option_map (refusal_with c) (rest_in remaining c)) c.progress
+
+-- where it was known, it is still the same
+abbrev pub Stays : Option (Option Refusal) → Option (Option Refusal) → Type 0
+Stays old new = IfSome old (λ refusal. new ≡ Some refusal)
+
 -- this comes next, where it is known what follows
 abbrev pub Comes : {S : Type 0} → (S → Option (List ℕ)) → Classic S → Next → Type 0
 Comes remaining c next = IfSome (rest_in remaining c) (λ rest. next_of (state_with c rest) ≡ next)

@@ -1,5 +1,6 @@
 pub mod Blocks
 pub mod Classics
+pub mod Giving
 pub mod Interfaces
 pub mod Memory
 pub mod Moments

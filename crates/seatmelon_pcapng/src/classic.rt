@@ -1,9 +1,10 @@
 //! A source that gives the bytes of a classic capture while it reads those of a pcapng file.
-ghost use Rattle.std.specs.Prelude.{◌≡◌, ◌+◌, ◌≤◌, ◌<◌, [], true, length, option_map, Some, Ok, IfOk, IfErr, OnOk, OnErr};
+ghost use Rattle.std.specs.Prelude.{◌≡◌, ◌+◌, ◌≤◌, ◌<◌, [], true, length, option_map, Some, Ok, IfOk, IfErr, IfSome, OnOk, OnErr};
 ghost use Rattle.std.specs.Io.KnownBytes.{IsAtEnd, Keeps};
 ghost use Rattle.std.proofs.Props.{props};
 ghost use Rattle.std.specs.List.{flat_map};
 ghost use Rattle.rasta_pcap.specs.Fault.{no_memory};
+ghost use Rattle.rasta_pcap.specs.Noting.{PassesOn};
 ghost use Rattle.seatmelon_pcapng.specs.Blocks.{front_of, least_length, most_captured};
 ghost use Rattle.seatmelon_pcapng.specs.Memory.{bytes_held, bytes_of, room_of};
 ghost use Rattle.seatmelon_pcapng.specs.Progress.{IsPlaced};
@@ -96,7 +97,8 @@ fn spell(held: &mut Held, block: &[u8], turn: &Turn) -> Result<(), AllocError>
 }
 
 impl<S: Source> Classic<S> {
-    ghost use Rattle.seatmelon_pcapng.specs.Classics.{Comes, failures_of, left_in, refusal_in, source_of};
+    ghost use Rattle.seatmelon_pcapng.specs.Classics.{Comes, Stays, failures_of, left_in, refusal_in, refusal_left, source_of};
+    ghost use Rattle.seatmelon_pcapng.specs.Giving.{noted_by, told_as};
     ghost use Rattle.seatmelon_pcapng.specs.Progress.{HasEnded, IsReading};
     ghost use Rattle.seatmelon_pcapng.specs.Readings.Next.{goes, refused};
     ghost use Rattle.seatmelon_pcapng.specs.declared.classic.Progress.TheVariants.{InBlock, InFront};
@@ -109,6 +111,7 @@ impl<S: Source> Classic<S> {
         S: Drop,
         ensures left { IfOk result (λ c. left_in S.remaining c ≡ option_map (λ file. classic_of (reading_of file)) (S.remaining source)) }
         ensures failures { IfOk result (λ c. failures_of c ≡ 0) }
+        ensures noted { IfOk result (λ c. IfSome (S.remaining source) (λ file. S.notes source [] → noted_by S.remaining S.notes c (told_as file))) }
         ensures err { IfErr result (λ f. f ≡ no_memory) }
     {
         let mut block = Block::new(alloc);
@@ -164,6 +167,8 @@ impl<S: Source> Classic<S> {
         requires next { Comes S.remaining self.old (refused reason) }
         requires reading { IsReading self.old.progress }
         ensures left { Keeps (left_in S.remaining self.old) (left_in S.remaining self.new) }
+        ensures refusal { Stays (refusal_left S.remaining self.old) (refusal_left S.remaining self.new) }
+        ensures source { source_of self.new ≡ source_of self.old }
         ensures told { OnOk result (refusal_in self.new ≡ Some (record { reason = reason; at = self.old.at })) }
         ensures failures { failures_of self.new ≡ failures_of self.old }
     {
@@ -183,6 +188,8 @@ impl<S: Source> Classic<S> {
         requires whole { length (bytes_of self.old.block) ≡ front.len }
         requires within { EndsWithin front.len turn.now }
         ensures left { Keeps (left_in S.remaining self.old) (left_in S.remaining self.new) }
+        ensures refusal { Stays (refusal_left S.remaining self.old) (refusal_left S.remaining self.new) }
+        ensures source { source_of self.new ≡ source_of self.old }
         ensures failures { failures_of self.new ≡ failures_of self.old }
     {
         let is_held = spell(&mut self.held, self.block.bytes(), turn).is_ok();
@@ -200,6 +207,8 @@ impl<S: Source> Classic<S> {
         requires none { bytes_held self.old.held ≡ [] }
         requires reading { self.old.progress ≡ InFront }
         ensures left { Keeps (left_in S.remaining self.old) (left_in S.remaining self.new) }
+        ensures refusal { Stays (refusal_left S.remaining self.old) (refusal_left S.remaining self.new) }
+        ensures passed { PassesOn S.remaining S.notes (source_of self.old) (source_of self.new) }
         ensures failures { failures_of self.new ≡ failures_of self.old }
     {
         if !self.block.fill_to(&mut self.source, FRONT)? {
@@ -218,6 +227,8 @@ impl<S: Source> Classic<S> {
         requires few { length (bytes_of self.old.block) < 12 }
         requires at_end { IsAtEnd (S.remaining self.old.source) }
         ensures left { Keeps (left_in S.remaining self.old) (left_in S.remaining self.new) }
+        ensures refusal { Stays (refusal_left S.remaining self.old) (refusal_left S.remaining self.new) }
+        ensures source { source_of self.new ≡ source_of self.old }
         ensures failures { failures_of self.new ≡ failures_of self.old }
     {
         if self.block.bytes().is_empty() {
@@ -237,6 +248,8 @@ impl<S: Source> Classic<S> {
         requires whole { length (bytes_of self.old.block) ≡ 12 }
         requires least { (12 ≤ front.len) × (least_length front.kind ≤ front.len) }
         ensures left { Keeps (left_in S.remaining self.old) (left_in S.remaining self.new) }
+        ensures refusal { Stays (refusal_left S.remaining self.old) (refusal_left S.remaining self.new) }
+        ensures source { source_of self.new ≡ source_of self.old }
         ensures failures { failures_of self.new ≡ failures_of self.old }
     {
         if self.block.make_room(front.len).is_err() {
@@ -251,6 +264,8 @@ impl<S: Source> Classic<S> {
         requires none { bytes_held self.old.held ≡ [] }
         requires reading { self.old.progress ≡ InBlock front }
         ensures left { Keeps (left_in S.remaining self.old) (left_in S.remaining self.new) }
+        ensures refusal { Stays (refusal_left S.remaining self.old) (refusal_left S.remaining self.new) }
+        ensures passed { PassesOn S.remaining S.notes (source_of self.old) (source_of self.new) }
         ensures failures { failures_of self.new ≡ failures_of self.old }
     {
         if !self.block.fill_to(&mut self.source, front.len)? {
@@ -267,6 +282,8 @@ impl<S: Source> Classic<S> {
     fn prepare(&mut self) -> io::Result<()>
         ensures ready { OnOk result (bytes_held self.new.held ≡ [] → HasEnded self.new.progress) }
         ensures left { Keeps (left_in S.remaining self.old) (left_in S.remaining self.new) }
+        ensures refusal { Stays (refusal_left S.remaining self.old) (refusal_left S.remaining self.new) }
+        ensures passed { PassesOn S.remaining S.notes (source_of self.old) (source_of self.new) }
         ensures failures { failures_of self.new ≡ failures_of self.old }
     {
         for _ in 0..u64::MAX {
@@ -285,12 +302,13 @@ impl<S: Source> Classic<S> {
 
 impl<S: Source> Source for Classic<S> {
     ghost use Rattle.seatmelon_pcapng.specs.Classics.{failures_of, left_in};
+    ghost use Rattle.seatmelon_pcapng.specs.Giving.{noted_by};
 
     ghost remaining = { left_in S.remaining };
 
     ghost failure_count = { failures_of };
 
-    ghost notes = { λ _ _. Unit {0} };
+    ghost notes = { noted_by S.remaining S.notes };
 
     fn read(&mut self, buf: &mut [u8]) -> io::Result<usize> {
         match self.prepare() {

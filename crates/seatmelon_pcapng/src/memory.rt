@@ -2,6 +2,7 @@
 ghost use Rattle.std.specs.Prelude.{◌≡◌, ◌+◌, ◌≤◌, ◌<◌, ◌++◌, [], true, false, nat_eq, min, take, length, vec_len, IfOk, OnOk, OnErr};
 ghost use Rattle.std.specs.Io.{StartsWith};
 ghost use Rattle.std.specs.Io.KnownBytes.{IsAtEnd, Keeps, prepend_known};
+ghost use Rattle.rasta_pcap.specs.Noting.{PassesOn};
 
 use rasta_pcap::Source;
 use std::alloc::{AllocError, Global};
@@ -68,6 +69,7 @@ impl Block {
         ensures room { room_of self.new ≡ room_of self.old }
         ensures count { IfOk result (λ n. length (bytes_of self.new) ≡ length (bytes_of self.old) + n) }
         ensures end { IfOk result (λ n. n ≡ 0 → IsAtEnd (S.remaining source.new)) }
+        ensures passed { PassesOn S.remaining S.notes source.old source.new }
     {
         let n = source.read(&mut self.memory[self.filled..len])?;
         self.filled += n;
@@ -85,6 +87,7 @@ impl Block {
         ensures room { room_of self.new ≡ room_of self.old }
         ensures full { IfOk result (λ full. full ≡ true → length (bytes_of self.new) ≡ len) }
         ensures cut { IfOk result (λ full. full ≡ false → (length (bytes_of self.new) < len) × IsAtEnd (S.remaining source.new)) }
+        ensures passed { PassesOn S.remaining S.notes source.old source.new }
     {
         while self.filled < len {
             if self.read_on(source, len)? == 0 {

@@ -2,6 +2,7 @@ use Rattle.std.proofs.Common.{◌≡◌, ◌∙◌, [], ◌∷◌, sym}
 use Rattle.std.specs.Io.KnownBytes.{prepend_known}
 use Rattle.seatmelon_pcapng.specs.Memory.{bytes_held, bytes_of}
 use Rattle.seatmelon_pcapng.specs.Sections.{interfaces_in, order_in}
+use Rattle.seatmelon_pcapng.proofs.Refusals.{refusal-met}
 use Rattle.seatmelon_pcapng.proofs.Ways.{left-refused, not_err_so}
 use Rattle.seatmelon_pcapng.proofs.classic.Classic.refuse.Goals as goal
 
@@ -12,3 +13,9 @@ returns-clause-left g c =
     not_err_so c.put.result (bytes_held c.put.new.self ≡ 0 ∷ []) c.put.ensures.held (sym c.is_err.ensures.value ∙ c.if-is_err.false) in
     left-refused (order_in old.section) (interfaces_in old.section) old.at (bytes_held old.held) c.requires.none
     (prepend_known (bytes_of old.block) (g.S.Source.remaining old.source)) old.progress c.args.reason (bytes_held c.put.new.self) c.requires.reading c.requires.next mark
+
+pub returns-clause-refusal : goal.returns-clause-refusal
+returns-clause-refusal g c =
+    let old = c.args.self.now in
+    refusal-met (order_in old.section) (interfaces_in old.section) old.at (prepend_known (bytes_of old.block) (g.S.Source.remaining old.source)) old.progress c.args.reason
+    c.requires.reading c.requires.next
