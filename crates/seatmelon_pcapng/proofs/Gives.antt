@@ -1,7 +1,7 @@
 -- What a source of a classic capture has given of a file, and what it has noted of it.
-use Rattle.std.proofs.Common.{◌≡◌, ◌∙◌, ℕ, List, [], ◌∷◌, ◌++◌, append-nil, append_assoc, length, take, drop, Option, None, Some, IfSome, option_map, ap, sym, refl, subst}
+use Rattle.std.proofs.Common.{◌≡◌, ◌∙◌, ℕ, List, [], ◌∷◌, ◌++◌, append-nil, append_assoc, length, take, drop, Option, None, Some, option_map, ap, sym, refl, subst}
 use Rattle.std.specs.List.{flat_map}
-use Rattle.std.specs.Io.KnownBytes.{Consumes}
+use Rattle.std.specs.Io.KnownBytes.{Consumes, IsAtEnd}
 use Rattle.std.proofs.KnownBytes.{Consumes-nil, Consumes-trans}
 use Rattle.std.proofs.Math.Seq.{drop-append_seam, take-append_seam}
 use Rattle.rasta_pcap.specs.Noting.{PassesOn}
@@ -114,6 +114,10 @@ met known InFront refusal r is left = absurd cc
 met known (InBlock front) refusal r is left = absurd cc
 met known (Ended other) refusal r is left = (let same : other ≡ r = cc in sym same ∙ is)
 
+known_end : (left : Option (List ℕ)) (whole given : List ℕ) → Consumes (Some whole) left given → IsAtEnd left → left ≡ Some []
+known_end None whole given h end = absurd h
+known_end (Some rest) whole given h end = ap (λ (l : List ℕ). Some l) end
+
 module _ {S : Type 0} (remaining : S → Option (List ℕ)) (notes : S → List ℕ → Type 0) (c : Classic S) (file given : List ℕ) where
   -- a file that was told is the one that is noted
   pub gives-told : noted_by remaining notes c (told_as file ++ given) → Gives remaining notes c file given
@@ -125,6 +129,9 @@ module _ {S : Type 0} (remaining : S → Option (List ℕ)) (notes : S → List 
   pub gives-all : Gives remaining notes c file given → left_in remaining c ≡ Some [] → refusal_in c ≡ (reading_of file).refusal
   gives-all g all =
       all-given (order_in c.section) (interfaces_in c.section) c.at (bytes_held c.held) (rest_in remaining c) c.progress (reading_of file).refusal all g.refusal
+
+  pub gives-ended : Gives remaining notes c file given → IsAtEnd (left_in remaining c) → refusal_in c ≡ (reading_of file).refusal
+  gives-ended g end = gives-all g (known_end (left_in remaining c) (classic_of (reading_of file)) given g.left end)
 
   -- a refusal that was met is that of the file
   pub gives-refused : (refusal : Refusal) → Gives remaining notes c file given → refusal_in c ≡ Some refusal → (reading_of file).refusal ≡ Some refusal

@@ -1,6 +1,7 @@
 pub mod Captures
 pub mod Filled
 pub mod Gives
+pub mod Looking
 pub mod Options
 pub mod Passing
 pub mod Refusals

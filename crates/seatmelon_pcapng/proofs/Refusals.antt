@@ -4,7 +4,7 @@ use Rattle.std.specs.Io.KnownBytes.{Keeps, prepend_known}
 use Rattle.seatmelon_pcapng.specs.Blocks.{interfaces_after}
 use Rattle.seatmelon_pcapng.specs.Classics.{Stays, refusal_left_by}
 use Rattle.seatmelon_pcapng.specs.Progress.{IsReading}
-use Rattle.seatmelon_pcapng.specs.Readings.{State, next_of, order_after, reading_left, reading_of, state_after}
+use Rattle.seatmelon_pcapng.specs.Readings.{State, next_of, order_after, reading_left, reading_of}
 use Rattle.seatmelon_pcapng.specs.Readings.Next.{refused, goes}
 use Rattle.seatmelon_pcapng.specs.declared.block.Turn.{Turn}
 use Rattle.seatmelon_pcapng.specs.declared.classic.Progress.{Progress}

@@ -5,6 +5,7 @@ pub mod Interfaces
 pub mod Memory
 pub mod Moments
 pub mod Orders
+pub mod Peeked
 pub mod Progress
 pub mod Readings
 pub mod Sections

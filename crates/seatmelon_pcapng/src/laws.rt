@@ -1,9 +1,15 @@
 //! What the classic captures hold that pcapng files are read as.
-ghost use Rattle.std.specs.Prelude.{◌≡◌, ◌+◌, ◌<◌, ◌≤◌, ℕ, List, length, map, None, Some};
+ghost use Rattle.std.specs.Prelude.{◌≡◌, ◌+◌, ◌<◌, ◌≤◌, ℕ, List, ◌++◌, length, map, None, Some};
+ghost use Rattle.std.specs.Io.KnownBytes.{IsAtEnd};
 ghost use Rattle.rasta_pcap.specs.Capture.{IsCapture, IsRefused, max_records};
 ghost use Rattle.rasta_pcap.specs.Fault.{cut_record, fault_at};
+ghost use Rattle.seatmelon_pcapng.specs.Classics.{left_in, refusal_in};
+ghost use Rattle.seatmelon_pcapng.specs.Giving.{Gives, noted_by, told_as};
 ghost use Rattle.seatmelon_pcapng.specs.Readings.{Packet, classic_of, reading_of};
+ghost use Rattle.seatmelon_pcapng.specs.declared.classic.Classic.{Classic};
 ghost use Rattle.seatmelon_pcapng.specs.declared.refusal.Refusal.{Refusal};
+
+use rasta_pcap::Source;
 
 /// The classic capture of a file that isn't refused has just its packets as records.
 pub fn converted_is_capture()
@@ -16,4 +22,21 @@ pub fn refused_is_cut()
     ensures { (file : List ℕ) (refusal : Refusal) → (reading_of file).refusal ≡ Some refusal → length (reading_of file).packets < max_records
         → IsRefused max_records (classic_of (reading_of file)) (map (λ (p : Packet). p.bytes) (reading_of file).packets)
         (fault_at cut_record (length (reading_of file).packets + 1)) }
+{}
+
+/// A file that was told is the one of which a source has noted what it gave.
+pub fn told_file_is_noted<S: Source>()
+    ensures { (c : Classic S) (file given : List ℕ) → noted_by S.remaining S.notes c (told_as file ++ given) → Gives S.remaining S.notes c file given }
+{}
+
+/// Once all was given, the refusal that a source has met is that of the file, or none where that has none.
+pub fn refusal_is_of_the_file<S: Source>()
+    ensures { (c : Classic S) (file given : List ℕ) → Gives S.remaining S.notes c file given → IsAtEnd (left_in S.remaining c)
+        → refusal_in c ≡ (reading_of file).refusal }
+{}
+
+/// A refusal that a source has met is that of the file, whatever is left to be given.
+pub fn met_refusal_is_of_the_file<S: Source>()
+    ensures { (c : Classic S) (file given : List ℕ) (refusal : Refusal) → Gives S.remaining S.notes c file given → refusal_in c ≡ Some refusal
+        → (reading_of file).refusal ≡ Some refusal }
 {}

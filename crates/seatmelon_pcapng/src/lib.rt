@@ -8,10 +8,12 @@ mod interface;
 pub mod laws;
 mod memory;
 mod order;
+mod peeked;
 mod refusal;
 mod section;
 mod time;
 
 pub use classic::Classic;
 pub use front::is_pcapng;
+pub use peeked::Peeked;
 pub use refusal::{Reason, Refusal};

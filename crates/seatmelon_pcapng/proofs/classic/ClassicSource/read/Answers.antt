@@ -1,4 +1,4 @@
-use Rattle.std.proofs.Common.{take, [], ap, sym}
+use Rattle.std.proofs.Common.{take, []}
 use Rattle.std.proofs.KnownBytes.{Consumes-kept, Consumes-nil}
 use Rattle.seatmelon_pcapng.specs.Classics.{left_in, rest_in}
 use Rattle.seatmelon_pcapng.specs.Memory.{bytes_held}
