@@ -5,3 +5,5 @@
 mod conversion_tests;
 #[cfg(test)]
 mod made;
+#[cfg(test)]
+mod peeked_tests;
