@@ -136,3 +136,8 @@ module _ {S : Type 0} (remaining : S → Option (List ℕ)) (notes : S → List 
   -- a refusal that was met is that of the file
   pub gives-refused : (refusal : Refusal) → Gives remaining notes c file given → refusal_in c ≡ Some refusal → (reading_of file).refusal ≡ Some refusal
   gives-refused refusal g is = met (option_map (refusal_with c) (rest_in remaining c)) c.progress refusal (reading_of file).refusal is g.refusal
+
+-- what passed a source of which a file was told is what it gave of that file
+pub gives-passed : {S : Type 0} (remaining : S → Option (List ℕ)) (notes : S → List ℕ → Type 0) (old new : Classic S) (file : List ℕ) → noted_by remaining notes old (told_as file)
+    → (passed : PassesOn (left_in remaining) (noted_by remaining notes) old new) → Gives remaining notes new file passed.0
+gives-passed remaining notes old new file told passed = gives-told remaining notes new file passed.0 (passed.2 (told_as file) told)
