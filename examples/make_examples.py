@@ -21,7 +21,8 @@ Plain Python 3, no other packages. Run it anywhere: the files go beside it,
 
 each as NAME.pcap, NAME.toml and expected/NAME.txt, what `show` prints. Those from handshake to excerpt, and late_copies,
 have also NAME.cert and expected/NAME.check.txt, what `check` prints; the others expected/NAME.audit.txt, the refusal
-that `audit` prints. expected/excerpt.explain.txt is what `seatmelon explain excerpt.pcap excerpt.toml` prints, where the
+that `audit` prints. station/station.pcap holds three connections, whose parameter files stand beside it, and
+expected/station.audits.txt is what `seatmelon audit station/station.pcap station` prints. expected/excerpt.explain.txt is what `seatmelon explain excerpt.pcap excerpt.toml` prints, where the
 files stand, and expected/late_copies.survey.txt what `seatmelon survey` prints. Every run writes the same bytes. All
 addresses, clocks and numbers are made up.
 
@@ -76,11 +77,12 @@ class Connection(typing.NamedTuple):
     quiet: str = ""
     window: range = range(1, 4_000_000_001)
     window_keys: str = ""
+    server_id: int = SERVER_ID
 
 
 PARAMETERS = """\
 client_id = 96
-server_id = 97
+server_id = {server_id}
 
 {lengths}
 n_sendmax = 20
@@ -115,7 +117,7 @@ def parameters(comment, connection):
     """The text of a parameter file."""
     lengths = LENGTHS.format(connection) if connection.code_length else NO_LENGTHS
     tables = [CHANNEL.format(*client, *server) for client, server in connection.channels]
-    keys = PARAMETERS.format(lengths=lengths) + connection.window_keys
+    keys = PARAMETERS.format(server_id=connection.server_id, lengths=lengths) + connection.window_keys
     return comment + keys + "".join(tables) + connection.quiet
 
 
@@ -185,7 +187,8 @@ def codes_of(connection, safety, front):
 
 def datagram(connection, pdu):
     """The redundancy PDU with the safety PDU in it."""
-    ids = (SERVER_ID, CLIENT_ID) if pdu.side == "client" else (CLIENT_ID, SERVER_ID)
+    server_id = connection.server_id
+    ids = (server_id, CLIENT_ID) if pdu.side == "client" else (CLIENT_ID, server_id)
     payload = payload_of(pdu.body)
     size = 28 + len(payload) + connection.code_length
     safety = struct.pack("<HH6I", size, pdu.kind, *ids, pdu.sn, pdu.cs, pdu.ts, pdu.cts) + payload
@@ -227,9 +230,9 @@ def ethernet(destination, source, kind, payload, tag=b""):
     return destination + source + tag + struct.pack(">H", kind) + payload
 
 
-def frame_of(side, channel, payload, tag=b"", options=b"", padding=b"", with_checksum=True):
+def frame_of(side, channel, payload, tag=b"", options=b"", padding=b"", with_checksum=True, channels=None):
     """The frame in which this side sends a datagram on a channel, numbered from 1."""
-    client, server = CHANNELS[channel - 1]
+    client, server = (channels or CHANNELS)[channel - 1]
     source, destination = (client, server) if side == "client" else (server, client)
     macs = (SERVER_MAC, CLIENT_MAC) if side == "client" else (CLIENT_MAC, SERVER_MAC)
     datagram = udp(source[1], destination[1], payload)
@@ -460,7 +463,7 @@ def survey_text(connection, pdus, times):
     lines = [
         f"records: {len(pdus)}\npackets of RaSTA: {len(pdus)}\nother records, passed over: 0\n",
         "\nconnection 1\n",
-        f"  client id {CLIENT_ID}, {offer}\n  server id {SERVER_ID}, {offer}\n",
+        f"  client id {CLIENT_ID}, {offer}\n  server id {connection.server_id}, {offer}\n",
         f"  records 1 to {len(pdus)}\n",
         f"  captured from {time_text(times[0])} to {time_text(times[-1])} UTC\n",
         "  opened by the client at record 1\n",
@@ -546,7 +549,8 @@ def pdu_in(connection, side, whole):
     fields = [int.from_bytes(whole[i : i + 4], "little") for i in range(4, 36, 4)]
     number, kinds, receiver, sender, sn, cs, ts, cts = fields
     assert int.from_bytes(whole[:4], "little") == len(whole) and kinds & 0xFFFF == check_at - 8
-    ends = (CLIENT_ID, SERVER_ID) if side == "client" else (SERVER_ID, CLIENT_ID)
+    server_id = connection.server_id
+    ends = (CLIENT_ID, server_id) if side == "client" else (server_id, CLIENT_ID)
     assert (sender, receiver) == ends
     code = whole[code_at:check_at]
     assert code == md4(connection.md4_start, whole[8:code_at])[: len(code)]
@@ -1087,6 +1091,91 @@ LATE_COMMENT = """\
 """
 
 
+# ---- three connections of an interlocking with its field elements, and what `seatmelon audit` prints of them
+
+
+class Element(typing.NamedTuple):
+    """A field element: its connection, the PDUs and when the first one crosses, in milliseconds, and what becomes of it."""
+
+    name: str
+    connection: Connection
+    pdus: list
+    begin: int
+    story: Story | None
+    refusal: Refusal | None = None
+
+
+def element(name, server_id, row, pdus, begin, story, refusal=None):
+    """An element with this id, at an address of its own."""
+    channel = (("10.1.0.1", 5000), (f"10.1.{row}.2", 5000))
+    return Element(name, Connection([channel], 16, 4, OWN_START, server_id=server_id), pdus, begin, story, refusal)
+
+
+STATION_COMMENT = """\
+# Parameters of the connection with {} in station.pcap.
+
+"""
+
+
+def station_elements():
+    return [
+        element("points-7", 107, 7, BOTH_ASK, 2, BOTH_ASK_STORY),
+        element("signal-12", 112, 12, RETRANSMISSION, 0, RETRANSMISSION_STORY),
+        element("signal-13", 113, 13, MISSING_PACKET, 1, None, MISSING_REFUSAL),
+    ]
+
+
+def station_records(elements):
+    """The time, the frame and the element's name of each record, in their order; a frame of others is among them."""
+    records = [(START + 12_500, arp(1, CLIENT_MAC, "10.1.0.1", bytes(6), "10.1.7.2", BROADCAST), "")]
+    for each in elements:
+        for i, pdu in enumerate(each.pdus):
+            frame = frame_of(pdu.side, 1, datagram(each.connection, pdu), channels=each.connection.channels)
+            records.append((START + 1000 * (each.begin + 5 * i), frame, each.name))
+    return sorted(records)
+
+
+def sent_by(side, pdus):
+    """How many messages this side sent."""
+    return sum(len(pdu.body) for pdu in pdus if (pdu.side, pdu.kind) == (side, DATA))
+
+
+def audit_line(each, records):
+    """What is printed of an element's connection, if the records hold these packets."""
+    if each.refusal:
+        own = [number for number, (_, _, name) in enumerate(records, 1) if name == each.name]
+        record = own[each.refusal.record - 1]
+        time = time_text(records[record - 1][0])
+        told = f"refused by {each.refusal.number} {each.refusal.name}, record {record}, {time} UTC, {each.refusal.end}"
+    else:
+        client = f"{len(each.story.server_took)} of {sent_by('client', each.pdus)} messages surely taken"
+        server = f"{len(each.story.client_took)} of {sent_by('server', each.pdus)}"
+        told = f"explained, {len(each.pdus)} packets; client to server: {client}; server to client: {server}"
+    return f"station/{each.name}.toml: {told}\n"
+
+
+def write_station():
+    """The capture, its parameter files, and what `seatmelon audit` prints of them."""
+    elements = station_elements()
+    records = station_records(elements)
+    data = capture([(time, frame) for time, frame, _ in records])
+    (HERE / "station").mkdir(exist_ok=True)
+    (HERE / "station" / "station.pcap").write_bytes(data)
+    for each in elements:
+        own = [number for number, (_, _, name) in enumerate(records, 1) if name == each.name]
+        planned = planned_text(each.connection, [(number, 1, pdu) for number, pdu in zip(own, each.pdus)])
+        assert read_text(data, each.connection) == planned, each.name
+        text = parameters(STATION_COMMENT.format(each.name), each.connection)
+        (HERE / "station" / f"{each.name}.toml").write_bytes(text.encode())
+    packets = sum(len(each.pdus) for each in elements)
+    refused = sum(each.refusal is not None for each in elements)
+    lines = [audit_line(each, records) for each in elements]
+    counts = f"{len(elements) - refused} explained, {refused} refused; {packets} packets"
+    others = len(records) - packets
+    lines.append(f"{len(elements)} connections: {counts}; {others} record{'s' * (others != 1)} of none of them\n")
+    (HERE / "expected" / "station.audits.txt").write_bytes("".join(lines).encode())
+
+
 # ---- what `explain` prints of the excerpt
 
 EXPLAINED = """\
@@ -1261,4 +1350,5 @@ if __name__ == "__main__":
     late = Connection(CHANNELS[:1], 16, 4, OWN_START, window_keys=WHOLE_WINDOW)
     write("late_copies", late, in_turn(late, LATE_COPIES, LATE_TIMES), LATE_COMMENT)
     write_verdict("late_copies", LATE_COPIES, RETRANSMISSION_STORY)
+    write_station()
     write_survey("late_copies", late, LATE_COPIES, [START + 1000 * time for time in LATE_TIMES])

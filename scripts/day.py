@@ -5,7 +5,8 @@
 
 The captures are made by the ends of random_runs.py over a calm network: a whole port with five connections, copies of
 an opening and strangers between them; one with start words of its own; one in which a packet is missing; one with
-many packets (400,000); some with other link types; and some with a short snapshot length. Prints for each task its
+many packets (400,000); some with other link types; some with a short snapshot length; and one of forty connections, of
+which one lacks a packet. Prints for each task its
 commands and the seconds that they took; a task that doesn't come out as it should is named, and the status is 1.
 Parameters come from drafts, with the values of the 'engineering data' in place of placeholders, as a person would fill
 them in. `rt run` in crates/seatmelon leaves the program. Plain Python 3, no other packages.
@@ -299,6 +300,44 @@ def short_snapshots(day):
         day.expect("explain", status == 1 and "refused by 15 CutPacket" in text and told in text, (status, text, error))
 
 
+def fill_in(path, values):
+    """Writes the engineering data's values into a draft, in place of its placeholders."""
+    text = path.read_text()
+    for key, value in values.items():
+        text = re.sub(rf"(?m)^{key} = [^#\n]*", f"{key} = {value} ", text)
+    path.write_text(text)
+
+
+def all_connections(day):
+    """All connections of a capture at once, one of which lacks a packet: drafts, audits, and why one is refused."""
+    chance = random.Random("all")
+    connections = [Connection(f"all {n}", 50 + n, (200 + 2 * n, 201 + 2 * n), copies=False) for n in range(40)]
+    capture, folder = day.path("all.pcap"), day.path("all")
+    lacking = connections[17].frames
+    del lacking[next(place for place in range(len(lacking) // 2, len(lacking)) if is_followed(lacking, place))]
+    frames = [it for connection in connections for it in connection.frames]
+    capture.write_bytes(capture_of(frames + list(strangers(chance, 100))))
+    answer = day.call("survey", capture)
+    day.expect("forty connections", answer[0] == 0 and answer[1].count("\nconnection ") == 40, answer)
+    answer = day.call("draft", capture, "--all", folder)
+    day.expect("forty drafts", answer[0] == 0 and len(answer[1].splitlines()) == 40, answer)
+    for path in folder.glob("*.toml"):
+        fill_in(path, connections[0].values())
+    status, text, error = day.call("audit", capture, folder)
+    lines = text.splitlines()
+    refused = [line for line in lines if ": refused by 28 NumberGap, record " in line]
+    counts = f"40 connections: 39 explained, 1 refused; {len(frames)} packets; 100 records of none of them"
+    day.expect("one is refused", status == 1 and len(refused) == 1 and lines[-1] == counts, (status, lines[-1:], error))
+    answer = day.call("explain", capture, refused[0].split(":")[0], "--summary")
+    day.expect("why it is", answer[0] == 1 and "both numbers skip 1" in answer[1], answer)
+
+
+def is_followed(frames, place):
+    """Whether the sender of a frame sends another one behind it, so that its number is missed there."""
+    sender = frames[place][1][26:30]
+    return any(frame[26:30] == sender for _, frame in frames[place + 1 :])
+
+
 def mistakes(day):
     """What is mistyped leads on."""
     connection = Connection("mistakes", 17, (96, 97))
@@ -336,6 +375,7 @@ def main():
         day.task("many packets", lambda: many_packets(day, asked.packets))
         day.task("frames of another link type", lambda: other_frames(day))
         day.task("a capture with a short snapshot length", lambda: short_snapshots(day))
+        day.task("all connections", lambda: all_connections(day))
         day.task("mistakes", lambda: mistakes(day))
     return day.wrong > 0
 

@@ -7,6 +7,7 @@ The parts (all of them, if none is named):
 
     samples    surveys, drafts and explains each sample, as text and as JSON
     files      a pipe, standard input, a directory, a missing file, gzip, pcapng, a text, and swapped arguments
+    many       audits of all connections, from files, folders and pipes, and drafts of all
     limits     one PDU more than can be judged, and one entry more
 
 What an explanation has to say of a sample is read from the texts of examples/expected, which `rasta_audit` has to
@@ -197,6 +198,111 @@ def files(part):
     part.expect("version", 0, "seatmelon", "", "--version")
 
 
+# ---- many connections
+
+STATION = SAMPLES / "station"
+
+
+def same_told(text, data):
+    """Whether data tell of each connection what its line tells."""
+    lines = text.splitlines()
+    right = len(lines) == len(data["connections"]) + 1
+    for line, connection in zip(lines, data["connections"]):
+        told = f"{connection['name']}: "
+        if connection["verdict"] == "explained":
+            client, server = connection["client"], connection["server"]
+            told += f"explained, {connection['packets']} packets; client to server: {client['surely_taken']} of "
+            told += f"{client['sent']} messages surely taken; server to client: {server['surely_taken']} of {server['sent']}"
+        elif connection["verdict"] == "refused":
+            fault = connection["fault"]
+            told += f"refused by {fault['number']} {fault['name']}, record {connection['record']}, {connection['time']}"
+            told += f", {connection['end']}"
+        else:
+            told += connection["verdict"].replace("_", " ")
+        right = right and line == told
+    return right and f"; {data['packets']} packets; {data['others']} record" in lines[-1]
+
+
+def audits_of_the_sample(part):
+    stored = (SAMPLES / "expected" / "station.audits.txt").read_text()
+    whole = part.call("audit", "station/station.pcap", "station", cwd=SAMPLES)
+    part.judge("audit, a folder", whole == (1, stored, ""), whole)
+    names = [f"station/{path.name}" for path in sorted(STATION.glob("*.toml"))]
+    answer = part.call("audit", "station/station.pcap", *names, cwd=SAMPLES)
+    part.judge("audit, files", answer == whole, answer)
+    answer = part.call("audit", "-", "station", cwd=SAMPLES, input=(STATION / "station.pcap").read_bytes())
+    part.judge("audit, standard input", answer == whole, answer)
+    answer = part.call("audit", "--json", "station/station.pcap", "station", cwd=SAMPLES)
+    part.judge("audit, JSON", answer[0] == 1 and same_told(stored, json.loads(answer[1])), answer)
+    lines = stored.splitlines(True)
+    answer = part.call("audit", "station/station.pcap", names[1], names[0], names[1], cwd=SAMPLES)
+    told = lines[1] + lines[0] + lines[1] + "3 connections: 3 explained; 29 packets; 12 records of none of them\n"
+    part.judge("audit, a file twice", answer == (0, told, ""), answer)
+    answer = part.call("audit", "handshake.pcap", names[0], cwd=SAMPLES)
+    told = f"{names[0]}: no packets\n1 connection: 1 without packets; 0 packets; 3 records of none of them\n"
+    part.judge("audit, no packets", answer == (1, told, ""), answer)
+
+
+def audits_of_a_cut_capture(part):
+    cut = part.folder / "cut.pcap"
+    cut.write_bytes((STATION / "station.pcap").read_bytes()[:-1])
+    answer = part.call("audit", cut, STATION)
+    is_told = answer[1].count(", record 41\n") == 2 and "the file ends inside record 41 (14 CutRecord)\n" in answer[1]
+    part.judge("audit, cut", answer[0] == 1 and is_told and "refused by 28 NumberGap, record 21" in answer[1], answer)
+
+
+def wrong_parameter_files(part):
+    folder, capture = part.folder / "wrong", part.folder / "missing"
+    folder.mkdir()
+    part.expect("audit, an empty folder", 2, "", "has no parameter file", "audit", capture, folder)
+    (folder / "a.toml").write_text("client_id = x\n")
+    (folder / "b.toml").write_bytes((STATION / "signal-12.toml").read_bytes())
+    (folder / "c.toml").write_bytes((STATION / "signal-12.toml").read_bytes().replace(b"t_max", b"tmax"))
+    answer = part.call("audit", capture, folder)
+    told = f"seatmelon: {folder}/a.toml: line 1: ", f"seatmelon: {folder}/c.toml: t_max is missing"
+    is_told = all(words in answer[2] for words in told) and "b.toml" not in answer[2]
+    part.judge("audit, two wrong files", answer[0] == 2 and not answer[1] and is_told and str(capture) not in answer[2], answer)
+    (folder / "d.toml").symlink_to("nowhere")
+    answer = part.call("audit", capture, folder)
+    part.judge("audit, a link to nothing", answer[0] == 3 and "d.toml: No such file" in answer[2], answer)
+    many = part.folder / "many"
+    many.mkdir()
+    for number in range(4097):
+        (many / f"{number:04}.toml").write_text("")
+    part.expect("audit, too many files", 2, "", "more than 4096 parameter files", "audit", capture, many)
+    part.expect("audit, a missing capture", 3, "", str(capture), "audit", capture, STATION)
+    part.expect("audit, no parameters", 2, "", "<PARAMS>...", "audit", capture)
+
+
+def drafts_of_all(part):
+    folder = part.folder / "above" / "drafts"
+    answer = part.call("draft", STATION / "station.pcap", "--all", folder)
+    names = [f"{folder}/connection-{number:03}.toml" for number in (1, 2, 3)]
+    part.judge("draft --all", answer == (0, "".join(f"{name}\n" for name in names), ""), answer)
+    for number, name in enumerate(names, 1):
+        alone = part.call("draft", STATION / "station.pcap", str(number))
+        part.judge(f"draft {number}", alone == (0, pathlib.Path(name).read_text(), ""), alone)
+    pathlib.Path(names[0]).unlink()
+    second = pathlib.Path(names[1])
+    second.write_text("mine")
+    answer = part.call("draft", STATION / "station.pcap", "--all", folder)
+    part.judge("draft --all, a file is there", answer[:2] == (3, f"{names[0]}\n") and names[1] in answer[2], answer)
+    part.judge("draft --all, it stays", second.read_text() == "mine", answer)
+    empty = part.folder / "empty.pcap"
+    empty.write_bytes((STATION / "station.pcap").read_bytes()[:24])
+    answer = part.call("draft", empty, "--all", part.folder / "none")
+    part.judge("draft --all, no connection", answer[0] == 1 and not (part.folder / "none").exists(), answer)
+    part.expect("draft --all and a number", 2, "", "--all", "draft", empty, "1", "--all", part.folder)
+    part.expect("draft, no number", 2, "", "<N>", "draft", empty)
+
+
+def many(part):
+    audits_of_the_sample(part)
+    audits_of_a_cut_capture(part)
+    wrong_parameter_files(part)
+    drafts_of_all(part)
+
+
 # ---- limits
 
 ADVICE = """
@@ -242,7 +348,7 @@ def limits(part):
     part.expect("one entry more", 1, TOO_MANY_ENTRIES + ADVICE, "", "explain", capture, parameters, certificate)
 
 
-PARTS = (samples, files, limits)
+PARTS = (samples, files, many, limits)
 
 
 def try_part(run, program):

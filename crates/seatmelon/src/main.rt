@@ -1,6 +1,7 @@
 //! Tells which RaSTA connections a capture seems to hold, `survey CAPTURE`, writes a parameter file for one of them,
-//! `draft CAPTURE N [--after RECORD [PARAMS]]`, lists its packets, `show CAPTURE PARAMS`, and tells in words what the
-//! verdict on it is, `explain CAPTURE PARAMS [CERT]`.
+//! `draft CAPTURE N [--after RECORD [PARAMS]]`, or for all, `draft CAPTURE --all FOLDER`, lists its packets,
+//! `show CAPTURE PARAMS`, and tells in words what the verdict on it is, `explain CAPTURE PARAMS [CERT]`, or on many in one
+//! reading, `audit CAPTURE PARAMS..`.
 #![tactic(auto)]
 
 #[cfg(test)]
@@ -13,6 +14,7 @@ use clap::error::ErrorKind;
 use seatmelon_commands::{
     Failure, draft_file, explain_files, is_told, show_file, status, survey_file, unwritten,
 };
+use seatmelon_many::{audit_files, draft_all};
 use seatmelon_words::{Request, parse};
 use std::io;
 use std::io::{Input, IsTerminal};
@@ -51,7 +53,7 @@ fn tell<R: AllocGlobal + Files + Print + Eprint>(rt: &R, error: &Error) -> Resul
 }
 
 // `is_timed` says whether standard error is told how far a long reading got.
-fn run<R: AllocGlobal + Clock + Env + Files + Input + Print + Eprint>(
+fn run<R: AllocGlobal + Clock + Clone + Drop + Env + Eprint + Files + Input + Print>(
     rt: &R,
     is_timed: bool,
 ) -> Result<u8, Failure> {
@@ -59,6 +61,8 @@ fn run<R: AllocGlobal + Clock + Env + Files + Input + Print + Eprint>(
     match parse(rt.alloc(), &words) {
         Ok(Request::Survey { capture }) => survey_file(rt, capture),
         Ok(Request::Draft(drafting)) => draft_file(rt, &drafting),
+        Ok(Request::DraftAll(drafting)) => draft_all(rt, &drafting),
+        Ok(Request::Audit(auditing)) => audit_files(rt, &auditing, is_timed),
         Ok(Request::Show(showing)) => show_file(rt, &showing),
         Ok(Request::Explain(explaining)) => explain_files(rt, &explaining, is_timed),
         Err(error) => tell(rt, &error),

@@ -3,16 +3,18 @@ ghost use Rattle.std.specs.Prelude.{None};
 
 use rasta_pcap::devices::{FailAt, Pieces};
 use seatmelon_commands::{
-    After, Answer, Draft, Drafting, Explaining, Inputs, Showing, draft_in, explain_of, is_told,
-    params_in, status, status_of_outcome, status_of_survey, survey_of, whole_of, with_params,
-    write_answer,
+    After, Answer, Draft, Drafting, Explaining, Inputs, STANDARD_OUTPUT, Showing, draft_in,
+    explain_of, is_told, params_in, status, status_of_outcome, status_of_survey, survey_of,
+    whole_of, with_params, write_answer,
 };
 use seatmelon_explain::{Extent, Form};
+use seatmelon_many::{Auditing, DraftingAll, audit_of};
+use seatmelon_tally::status_of;
 use seatmelon_words::{Request, parse};
 use std::alloc::Global;
-use std::io;
 use std::io::{Read, Write};
 use std::process::Abort;
+use std::{io, str};
 
 // The words of a text.
 fn words_in(alloc: Global, text: &str) -> Option<Vec<String>> {
@@ -74,11 +76,31 @@ fn drafting_text(alloc: Global, drafting: &Drafting<'_>) -> Option<String> {
     }
 }
 
+fn auditing_text(alloc: Global, auditing: &Auditing<'_>) -> Option<String> {
+    let Auditing {
+        capture,
+        parameters,
+        form,
+    } = auditing;
+    let form = match form {
+        seatmelon_many::Form::Text => "Text",
+        seatmelon_many::Form::Json => "Json",
+    };
+    format!(in alloc; "audit {capture} {parameters:?} {form}").ok()
+}
+
+fn drafting_all_text(alloc: Global, drafting: DraftingAll<'_>) -> Option<String> {
+    let DraftingAll { capture, folder } = drafting;
+    format!(in alloc; "draft all of {capture} into {folder}").ok()
+}
+
 // The request as a text, or what is wrong with the words.
 fn request_text(alloc: Global, words: &[String]) -> Option<String> {
     match parse(alloc, words) {
         Ok(Request::Survey { capture }) => format!(in alloc; "survey {capture}").ok(),
         Ok(Request::Draft(drafting)) => drafting_text(alloc, &drafting),
+        Ok(Request::DraftAll(drafting)) => drafting_all_text(alloc, drafting),
+        Ok(Request::Audit(auditing)) => auditing_text(alloc, &auditing),
         Ok(Request::Show(showing)) => showing_text(alloc, &showing),
         Ok(Request::Explain(explaining)) => explaining_text(alloc, &explaining),
         Err(error) => {
@@ -109,6 +131,12 @@ draft -- -c 7 | draft 7 of -c
 draft c 1 --after 28 | draft 1 of c after 28 -
 draft c 1 --after=28 p | draft 1 of c after 28 p
 draft --after 4294967295 c 1 p | draft 1 of c after 4294967295 p
+draft c --all d | draft all of c into d
+draft --all=d -- -c | draft all of -c into d
+audit c p | audit c [\"p\"] Text
+audit - p q d/ | audit - [\"p\", \"q\", \"d/\"] Text
+audit c p p --json | audit c [\"p\", \"p\"] Json
+audit --json -- -c -p | audit -c [\"-p\"] Json
 show c p | show c p None 1 4294967295
 show -- -c -p | show -c -p None 1 4294967295
 show c p --types data | show c p Some([Data]) 1 4294967295
@@ -135,6 +163,7 @@ survey --help | DisplayHelp
 draft --help | DisplayHelp
 show --help | DisplayHelp
 explain --help | DisplayHelp
+audit --help | DisplayHelp
 --version | DisplayVersion
 -V | DisplayVersion
  | MissingSubcommand
@@ -146,6 +175,12 @@ draft | MissingRequiredArgument
 draft c | MissingRequiredArgument
 draft c 1 2 | MissingRequiredArgument
 draft c 1 --after 28 p 2 | UnknownArgument
+draft c 1 --all d | ArgumentConflict
+draft c --all d --after 7 | ArgumentConflict
+draft c --all | InvalidValue
+audit | MissingRequiredArgument
+audit c | MissingRequiredArgument
+audit c p --without 7 | UnknownArgument
 draft c 1 --after 0 | ValueValidation
 draft c 1 --after 4294967296 | ValueValidation
 draft c 1 --after | InvalidValue
@@ -327,7 +362,7 @@ fn a_reader_that_fails_at_each_call(rt: HostRuntime) {
 // Why a survey can't be written there, behind the status of the program; none where it can.
 fn unwritten_text(alloc: Global, device: FailAt<Vec<u8>>) -> Option<String> {
     let survey = survey_of(alloc, "c", NO_RECORD.as_slice(), None).ok()?;
-    let failure = write_answer(alloc, &Answer::Survey(&survey), device).err()?;
+    let failure = write_answer(alloc, STANDARD_OUTPUT, &Answer::Survey(&survey), device).err()?;
     format!(in alloc; "{} {failure}", status(&failure)).ok()
 }
 
@@ -355,7 +390,7 @@ impl Write for Closed {
 // The status where a survey is written to nobody, and whether that is told.
 fn closed_pipe(alloc: Global) -> Option<(u8, bool)> {
     let survey = survey_of(alloc, "c", NO_RECORD.as_slice(), None).ok()?;
-    let failure = write_answer(alloc, &Answer::Survey(&survey), Closed).err()?;
+    let failure = write_answer(alloc, STANDARD_OUTPUT, &Answer::Survey(&survey), Closed).err()?;
     Some((status(&failure), is_told(&failure)))
 }
 
@@ -390,7 +425,7 @@ fn draft_text(alloc: Global, file: &[u8], number: u64) -> Option<Vec<u8>> {
     let survey = survey_of(alloc, "c", file, None).ok()?;
     let mut text = Vec::new(alloc);
     match draft_in(alloc, "c", &survey, number) {
-        Ok(answer) => write_answer(alloc, &answer, &mut text).ok()?,
+        Ok(answer) => write_answer(alloc, STANDARD_OUTPUT, &answer, &mut text).ok()?,
         Err(failure) => write!(text, "{} {failure}", status(&failure)).ok()?,
     }
     Some(text)
@@ -636,5 +671,49 @@ fn explanations_over_devices_that_fail(rt: HostRuntime) {
     assert_eq!(rt; is_told, Some(true));
     let device = FailAt::new(Vec::new(alloc), 1);
     let is_told = is_unexplained(alloc, device, "3 standard output: other error");
+    assert_eq!(rt; is_told, Some(true));
+}
+
+// What an audit of two connections comes to, as its text or that of the failure, behind the program's status.
+fn audited<D: Read + Drop>(alloc: Global, file: D) -> Option<String> {
+    let auditing = Auditing {
+        capture: "c",
+        parameters: Vec::new(alloc),
+        form: seatmelon_many::Form::Text,
+    };
+    let names = words_in(alloc, "p q")?;
+    let params = [
+        params_in(alloc, "p", PARAMETERS).ok()?,
+        params_in(alloc, "q", OTHER_PARAMETERS).ok()?,
+    ];
+    let mut text = Vec::new(alloc);
+    match audit_of(alloc, &auditing, &names, &params, file, &mut text) {
+        Ok(audited) => {
+            let code = status_of(&audited.audit);
+            let text = str::from_utf8(&text).ok()?;
+            format!(in alloc; "{code} {text}").ok()
+        }
+        Err(failure) => format!(in alloc; "{} {failure}", status(&failure)).ok(),
+    }
+}
+
+// Whether an audit of what is read comes to this text.
+fn is_audited<D: Read + Drop>(alloc: Global, file: D, text: &str) -> Option<bool> {
+    Some(audited(alloc, file)?.as_str() == text)
+}
+
+const TWO_AUDITS: &str =
+    "1 p: explained, 1 packet; client to server: 0 of 0 messages surely taken; server to client: 0 of 0\n\
+    q: refused by 26 Ids, record 1, 1970-01-01 00:00:00.000000 UTC, client\n\
+    2 connections: 1 explained, 1 refused; 1 packet; 0 records of none of them\n";
+
+#[test]
+fn audits_of_two_connections(rt: HostRuntime) {
+    let alloc = rt.alloc();
+    let is_told = is_audited(alloc, ONE_REQUEST.as_slice(), TWO_AUDITS);
+    assert_eq!(rt; is_told, Some(true));
+    let is_told = is_audited(alloc, Pieces::new(ONE_REQUEST, 7), TWO_AUDITS);
+    assert_eq!(rt; is_told, Some(true));
+    let is_told = is_audited(alloc, Broken { number: 5 }, "3 c: Input/output error");
     assert_eq!(rt; is_told, Some(true));
 }

@@ -12,7 +12,7 @@ use Rattle.rasta_pcap.specs.Capture.{order_of}
 use Rattle.seatmelon_capture.specs.declared.header.FileHeader.{FileHeader}
 use Rattle.seatmelon_commands.specs.Headers.{IsHeaderOf, TellsHeader, TellsHeaderOf}
 use Rattle.seatmelon_commands.specs.declared.failure.Failure.{Failure}
-use Rattle.seatmelon_commands.specs.declared.failure.Failure.TheVariants.{OutOfMemory, Arguments, Reading, Writing, ClosedPipe, Refused, NoConnection, NoRecord, OtherIds, Parameters}
+use Rattle.seatmelon_commands.specs.declared.failure.Failure.TheVariants.{OutOfMemory, Arguments, Reading, Writing, ClosedPipe, Refused, NoConnection, NoRecord, OtherIds, Parameters, NoFiles, TooManyFiles}
 
 -- the beginning of a file, and what a source noted of it
 pub record IsBegun (notes : List ℕ → Type 0) (file : List ℕ) : Type 0 where
@@ -72,12 +72,14 @@ told_of_file file header (Refused path refusal) is told = subst (λ (o : Option 
 told_of_file file header OutOfMemory is told = tt
 told_of_file file header Arguments is told = tt
 told_of_file file header (Reading path reason) is told = tt
-told_of_file file header (Writing reason) is told = tt
+told_of_file file header (Writing path reason) is told = tt
 told_of_file file header ClosedPipe is told = tt
 told_of_file file header (NoConnection path number count) is told = tt
 told_of_file file header (NoRecord path number records) is told = tt
 told_of_file file header (OtherIds path number) is told = tt
 told_of_file file header (Parameters path refusal) is told = tt
+told_of_file file header (NoFiles path) is told = tt
+told_of_file file header (TooManyFiles most) is told = tt
 
 -- and so does one of a file of which the beginning passed, if its bytes are known
 pub told_of_begun : (input : Option (List ℕ)) (notes : List ℕ → Type 0) (header : Option FileHeader) (failure : Failure)

@@ -1,7 +1,7 @@
 -- The exit status of a failure.
 use Rattle.std.specs.Prelude.{◌≡◌, ◌⊎◌, ℕ, ◌==◌, ◌||◌, Bool, true, false, if◌then◌else◌}
 use Rattle.seatmelon_commands.specs.declared.failure.Failure.{Failure}
-use Rattle.seatmelon_commands.specs.declared.failure.Failure.TheVariants.{OutOfMemory, Arguments, Reading, Writing, ClosedPipe, Refused, NoConnection, NoRecord, OtherIds, Parameters}
+use Rattle.seatmelon_commands.specs.declared.failure.Failure.TheVariants.{OutOfMemory, Arguments, Reading, Writing, ClosedPipe, Refused, NoConnection, NoRecord, OtherIds, Parameters, NoFiles, TooManyFiles}
 
 -- a capture; words and parameters; memory and devices
 abbrev pub status_of : Failure → ℕ
@@ -11,9 +11,11 @@ status_of (NoConnection path number count) = 2
 status_of (NoRecord path number records) = 2
 status_of (OtherIds path number) = 2
 status_of (Parameters path refusal) = 2
+status_of (NoFiles path) = 2
+status_of (TooManyFiles most) = 2
 status_of OutOfMemory = 3
 status_of (Reading path reason) = 3
-status_of (Writing reason) = 3
+status_of (Writing path reason) = 3
 status_of ClosedPipe = 3
 
 -- standard error is told of each, but for a pipe that nobody reads any more
@@ -21,13 +23,15 @@ abbrev pub is_told : Failure → Bool
 is_told OutOfMemory = true
 is_told Arguments = true
 is_told (Reading path reason) = true
-is_told (Writing reason) = true
+is_told (Writing path reason) = true
 is_told ClosedPipe = false
 is_told (Refused path refusal) = true
 is_told (NoConnection path number count) = true
 is_told (NoRecord path number records) = true
 is_told (OtherIds path number) = true
 is_told (Parameters path refusal) = true
+is_told (NoFiles path) = true
+is_told (TooManyFiles most) = true
 
 -- memory and reading; the capture
 abbrev pub status_of_fault : ℕ → ℕ

@@ -4,7 +4,7 @@ use Rattle.std.specs.Option.{ForSome}
 use Rattle.seatmelon_capture.specs.declared.header.FileHeader.{FileHeader}
 use Rattle.seatmelon_capture.specs.Header.{header_in}
 use Rattle.seatmelon_commands.specs.declared.failure.Failure.{Failure}
-use Rattle.seatmelon_commands.specs.declared.failure.Failure.TheVariants.{OutOfMemory, Arguments, Reading, Writing, ClosedPipe, Refused, NoConnection, NoRecord, OtherIds, Parameters}
+use Rattle.seatmelon_commands.specs.declared.failure.Failure.TheVariants.{OutOfMemory, Arguments, Reading, Writing, ClosedPipe, Refused, NoConnection, NoRecord, OtherIds, Parameters, NoFiles, TooManyFiles}
 
 -- what is told of a header is so
 abbrev pub HeaderFits : (Option FileHeader → Type 0) → Failure → Type 0
@@ -12,12 +12,14 @@ HeaderFits fits (Refused path refusal) = fits refusal.header
 HeaderFits fits OutOfMemory = ⊤
 HeaderFits fits Arguments = ⊤
 HeaderFits fits (Reading path reason) = ⊤
-HeaderFits fits (Writing reason) = ⊤
+HeaderFits fits (Writing path reason) = ⊤
 HeaderFits fits ClosedPipe = ⊤
 HeaderFits fits (NoConnection path number count) = ⊤
 HeaderFits fits (NoRecord path number records) = ⊤
 HeaderFits fits (OtherIds path number) = ⊤
 HeaderFits fits (Parameters path refusal) = ⊤
+HeaderFits fits (NoFiles path) = ⊤
+HeaderFits fits (TooManyFiles most) = ⊤
 
 -- this header is told
 abbrev pub TellsHeader : Option FileHeader → Failure → Type 0

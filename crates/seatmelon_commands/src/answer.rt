@@ -2,18 +2,14 @@
 ghost use Rattle.std.specs.Prelude.{◌≡◌, IfErr};
 ghost use Rattle.seatmelon_commands.specs.Failing.{status_of};
 
-use crate::failure::{Failure, reason_of};
-use crate::watched::Watched;
-use rasta_pcap::{Counted, Fault, Sink};
+use crate::failure::Failure;
+use crate::output::{finish, output_to};
+use rasta_pcap::{Fault, Sink};
 use rasta_pdu::Params;
 use seatmelon_lines::write_words;
 use seatmelon_survey::{Connection, Survey, write_fault};
 use std::alloc::Global;
-use std::io;
-use std::io::{BufWriter, Write};
-
-// How many bytes of an answer are written at once.
-const BUFFER: usize = 65_536;
+use std::io::Write;
 
 /// A parameter file for a connection of a capture, whose fault it names, if there is one. If parameters are kept, only
 /// the window and the quiet point are new.
@@ -62,42 +58,16 @@ impl Answer<'_> {
     }
 }
 
-/// Why an answer can't be written.
-pub fn unwritten(alloc: Global, error: Option<io::Error>) -> Failure
-    ensures { status_of result ≡ 3 }
-{
-    let reason = match error {
-        Some(error) if error.kind() == io::ErrorKind::BrokenPipe => return Failure::ClosedPipe,
-        Some(error) => reason_of(alloc, &error),
-        None => String::from_str(alloc, "writing failed"),
-    };
-    match reason {
-        Ok(reason) => Failure::Writing(reason),
-        Err(_) => Failure::OutOfMemory,
-    }
-}
-
-/// Writes an answer, all of it.
+/// Writes an answer to the device of that name, all of it.
 pub fn write_answer<W: Write + Drop>(
     alloc: Global,
+    name: &str,
     answer: &Answer<'_>,
     device: W,
 ) -> Result<(), Failure>
     ensures err { IfErr result (λ failure. status_of failure ≡ 3) }
 {
-    let Ok(buffered) = BufWriter::with_capacity(alloc, BUFFER, Watched::new(device)) else {
-        return Err(Failure::OutOfMemory);
-    };
-    let mut sink = Counted::new(buffered);
-    let outcome = answer.write(&mut sink);
-    let mut buffered = sink.into_inner();
-    let flushed = match outcome {
-        Ok(()) => buffered.flush().is_ok(),
-        Err(_) => false,
-    };
-    if flushed {
-        return Ok(());
-    }
-    let (device, _) = buffered.into_parts();
-    Err(unwritten(alloc, device.error()))
+    let mut output = output_to(alloc, device)?;
+    let written = answer.write(&mut output);
+    finish(alloc, name, output, written)
 }

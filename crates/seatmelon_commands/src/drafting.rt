@@ -7,6 +7,7 @@ ghost use Rattle.seatmelon_commands.specs.Failing.{IsOfExplaining, TellsWords};
 use crate::answer::{Answer, Draft, write_answer};
 use crate::failure::{Failure, Refusal};
 use crate::file_kind::FileKind;
+use crate::output::STANDARD_OUTPUT;
 use crate::parameters::params_in;
 use crate::reading::whole_file;
 use crate::surveying::{status_of_survey, survey_at};
@@ -168,8 +169,8 @@ fn kept_params<R: AllocGlobal + Files>(
     }
 }
 
-// Tells on standard error that a capture isn't whole, since a draft mostly goes into a file.
-fn tell_fault<R: Eprint>(rt: &R, path: &str, survey: &Survey) {
+/// Tells on standard error that a capture isn't whole, since a draft mostly goes into a file.
+pub fn tell_fault<R: Eprint>(rt: &R, path: &str, survey: &Survey) {
     let Some(fault) = survey.fault() else {
         return;
     };
@@ -206,7 +207,7 @@ pub fn draft_file<R: AllocGlobal + Files + Input + Print + Eprint>(
     let kept = kept_params(rt, drafting)?;
     let survey = survey_at(rt, drafting.capture, behind_in(drafting))?;
     let answer = answer_in(rt.alloc(), drafting, &survey, kept.as_ref())?;
-    write_answer(rt.alloc(), &answer, io::writer(rt))?;
+    write_answer(rt.alloc(), STANDARD_OUTPUT, &answer, io::writer(rt))?;
     tell_fault(rt, drafting.capture, &survey);
     Ok(status_of_answer(&answer, &survey))
 }

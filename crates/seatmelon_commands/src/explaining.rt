@@ -5,9 +5,9 @@ ghost use Rattle.seatmelon_explain.specs.declared.explaining.Outcome.TheVariants
 ghost use Rattle.seatmelon_commands.specs.Explained.{IsCaptureExplained, IsGivenFor};
 ghost use Rattle.seatmelon_commands.specs.Failing.{status_of, IsOfExplaining, TellsWords};
 
-use crate::answer::unwritten;
 use crate::failure::Failure;
-use crate::file_kind::{FileKind, file_kind};
+use crate::file_kind::{FileKind, kind_of_start};
+use crate::output::unwritten;
 use crate::parameters::params_in;
 use crate::progress::{Progress, len_at};
 use crate::reading::{BUFFER, STANDARD_INPUT, unread, whole_file};
@@ -122,7 +122,7 @@ pub fn explain_of<D: Read + Drop, W: Write + Drop>(
     match outcome {
         Ok(outcome) => Ok(Explanation {
             outcome,
-            kind: file_kind(source.start()),
+            kind: kind_of_start(source.start()),
         }),
         Err(fault) => Err(unexplained(alloc, path, fault, source.error(), device.error())),
     }
@@ -190,8 +190,8 @@ fn explain_capture<R: AllocGlobal + Files + Input + Print + Eprint + Clock>(
     }
 }
 
-// Tells on standard error what else the capture seems to be.
-fn advise<R: Eprint>(rt: &R, path: &str, kind: FileKind) {
+/// Tells on standard error what else the capture seems to be.
+pub fn advise<R: Eprint>(rt: &R, path: &str, kind: FileKind) {
     let advice = match kind {
         FileKind::Text => "this looks like a text file: are CAPTURE and PARAMS swapped?",
         FileKind::Gzip => "this is a gzip file: gunzip it first",

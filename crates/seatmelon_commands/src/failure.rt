@@ -23,8 +23,11 @@ pub enum Failure {
         path: String,
         reason: String,
     },
-    #[error("standard output: {0}")]
-    Writing(String),
+    #[error("{path}: {reason}")]
+    Writing {
+        path: String,
+        reason: String,
+    },
     /// Nobody reads standard output any more: of this nothing is told.
     #[error("standard output: nobody reads it")]
     ClosedPipe,
@@ -54,6 +57,14 @@ pub enum Failure {
     Parameters {
         path: String,
         refusal: ParameterRefusal,
+    },
+    #[error("{path}: the folder has no parameter file: their names end in .toml")]
+    NoFiles {
+        path: String,
+    },
+    #[error("there are more than {most} parameter files")]
+    TooManyFiles {
+        most: usize,
     },
 }
 
@@ -152,7 +163,8 @@ pub fn status(failure: &Failure) -> u8
         | Failure::NoRecord { .. }
         | Failure::OtherIds { .. }
         | Failure::Parameters { .. } => 2,
-        Failure::OutOfMemory | Failure::Reading { .. } | Failure::Writing(_) => 3,
+        Failure::NoFiles { .. } | Failure::TooManyFiles { .. } => 2,
+        Failure::OutOfMemory | Failure::Reading { .. } | Failure::Writing { .. } => 3,
         Failure::ClosedPipe => 3,
     }
 }
@@ -164,8 +176,9 @@ pub fn is_told(failure: &Failure) -> bool
     match failure {
         Failure::ClosedPipe => false,
         Failure::OutOfMemory | Failure::Arguments | Failure::Reading { .. } => true,
-        Failure::Writing(_) | Failure::Refused { .. } => true,
+        Failure::Writing { .. } | Failure::Refused { .. } => true,
         Failure::NoConnection { .. } | Failure::NoRecord { .. } => true,
         Failure::OtherIds { .. } | Failure::Parameters { .. } => true,
+        Failure::NoFiles { .. } | Failure::TooManyFiles { .. } => true,
     }
 }

@@ -59,7 +59,7 @@ fn is_capture(start: &[u8]) -> bool
 }
 
 /// The kind of a file with these first bytes.
-pub fn file_kind(start: &[u8]) -> FileKind
+pub fn kind_of_start(start: &[u8]) -> FileKind
     ensures { result ≡ kind_of_start start.now }
 {
     if is_capture(start) {

@@ -8,6 +8,7 @@ mod explaining;
 mod failure;
 mod file_kind;
 mod key_lines;
+mod output;
 mod parameters;
 mod progress;
 mod reading;
@@ -16,14 +17,17 @@ mod surveying;
 mod unknown_key;
 mod watched;
 
-pub use answer::{Answer, Draft, unwritten, write_answer};
-pub use drafting::{After, Drafting, draft_file, draft_in, with_params};
+pub use answer::{Answer, Draft, write_answer};
+pub use drafting::{After, Drafting, draft_file, draft_in, tell_fault, with_params};
 pub use explaining::{
-    Explaining, Explanation, Inputs, explain_files, explain_of, status_of_outcome,
+    Explaining, Explanation, Inputs, advise, explain_files, explain_of, status_of_outcome,
 };
 pub use failure::{Failure, Refusal, is_told, reason_of, status};
-pub use file_kind::FileKind;
+pub use file_kind::{FileKind, kind_of_start};
+pub use output::{Output, STANDARD_OUTPUT, finish, output_to, unwritten, unwritten_at};
 pub use parameters::{ParameterRefusal, params_in};
-pub use reading::whole_of;
+pub use progress::{Progress, len_at};
+pub use reading::{STANDARD_INPUT, unread, whole_file, whole_of};
 pub use showing::{Showing, show_file, show_of, status_of_listing};
-pub use surveying::{status_of_survey, survey_file, survey_of};
+pub use surveying::{status_of_survey, survey_at, survey_file, survey_of, write_survey};
+pub use watched::Watched;

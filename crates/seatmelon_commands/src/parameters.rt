@@ -4,7 +4,7 @@ ghost use Rattle.rasta_params.specs.Keys.{ReadsParameters};
 ghost use Rattle.seatmelon_commands.specs.Failing.{TellsWords};
 
 use crate::failure::Failure;
-use crate::file_kind::{FileKind, file_kind};
+use crate::file_kind::{FileKind, kind_of_start};
 use crate::key_lines::{line_of_key, line_of_place};
 use crate::unknown_key::{UnknownKey, unknown_key};
 use rasta_params::params;
@@ -94,7 +94,7 @@ impl ParameterRefusal {
             line: None,
             unknown: None,
             error: None,
-            kind: file_kind(text),
+            kind: kind_of_start(text),
         };
         if fault.number == Fault::TOML {
             refusal.error = toml::table_from_slice(alloc, text).err();

@@ -4,9 +4,9 @@ ghost use Rattle.seatmelon_show.specs.Counted.{IsListingOf};
 ghost use Rattle.seatmelon_commands.specs.Failing.{IsOfFiles};
 ghost use Rattle.seatmelon_commands.specs.Shown.{IsChoiceOf, kinds_of};
 
-use crate::answer::unwritten;
 use crate::failure::{Failure, Refusal};
-use crate::file_kind::file_kind;
+use crate::file_kind::kind_of_start;
+use crate::output::unwritten;
 use crate::parameters::params_in;
 use crate::reading::{BUFFER, STANDARD_INPUT, unread, whole_file};
 use crate::watched::Watched;
@@ -82,7 +82,7 @@ fn unlisted<D, W>(
         Fault::READ_FAILED => unread(alloc, path, reader.error()),
         Fault::WRITE_FAILED => unwritten(alloc, writer.error()),
         _ => {
-            let kind = file_kind(reader.start());
+            let kind = kind_of_start(reader.start());
             match String::from_str(alloc, path) {
                 Ok(path) => Failure::Refused {
                     path,

@@ -6,7 +6,8 @@ ghost use Rattle.seatmelon_commands.specs.Headers.{IsHeaderOf, TellsHeader, Tell
 
 use crate::answer::{Answer, write_answer};
 use crate::failure::{Failure, Refusal};
-use crate::file_kind::file_kind;
+use crate::file_kind::kind_of_start;
+use crate::output::STANDARD_OUTPUT;
 use crate::reading::{BUFFER, STANDARD_INPUT, unread};
 use crate::watched::Watched;
 use rasta_pcap::{Buffered, Counted, Fault};
@@ -33,7 +34,7 @@ fn refused<D>(
         Fault::NO_MEMORY => Failure::OutOfMemory,
         Fault::READ_FAILED => unread(alloc, path, file.error()),
         _ => {
-            let kind = file_kind(file.start());
+            let kind = kind_of_start(file.start());
             match String::from_str(alloc, path) {
                 Ok(path) => Failure::Refused {
                     path,
@@ -109,6 +110,14 @@ pub fn status_of_survey(survey: &Survey) -> u8
     u8::from(survey.connections().is_empty() || survey.fault().is_some())
 }
 
+/// Writes a survey to standard output.
+pub fn write_survey<R: AllocGlobal + Print>(rt: &R, survey: &Survey) -> Result<(), Failure>
+    ensures { IfErr result (λ failure. status_of failure ≡ 3) }
+{
+    let answer = Answer::Survey(survey);
+    write_answer(rt.alloc(), STANDARD_OUTPUT, &answer, io::writer(rt))
+}
+
 /// Surveys the capture of that path, and writes the survey to standard output. Answers the program's status.
 pub fn survey_file<R: AllocGlobal + Files + Input + Print>(
     rt: &R,
@@ -118,6 +127,6 @@ pub fn survey_file<R: AllocGlobal + Files + Input + Print>(
     ensures err { IfErr result (λ failure. IsOfFiles failure) }
 {
     let survey = survey_at(rt, path, None)?;
-    write_answer(rt.alloc(), &Answer::Survey(&survey), io::writer(rt))?;
+    write_survey(rt, &survey)?;
     Ok(status_of_survey(&survey))
 }

@@ -46,8 +46,8 @@ module _ {S : Type 0} (remaining : S → Option (List ℕ)) (notes : S → List 
   )
 
   -- where nothing was read, and nothing given
-  pub noted-begins : (c : Classic S) (file : List ℕ) → remaining (source_of c) ≡ Some file → notes (source_of c) [] → left_in remaining c ≡ Some (classic_of (reading_of file))
-      → refusal_left remaining c ≡ Some (reading_of file).refusal → noted_by remaining notes c (told_as file)
+  pub noted-begins : (c : Classic S) (file : List ℕ) → remaining (source_of c) ≡ Some file → notes (source_of c) []
+      → left_in remaining c ≡ Some (classic_of (reading_of file)) → refusal_left remaining c ≡ Some (reading_of file).refusal → noted_by remaining notes c (told_as file)
   noted-begins c file is noted left refusal = (
     file,
     [],
@@ -109,7 +109,8 @@ module _ (order : Option Order) (interfaces : List Interface) (at : ℕ) (held :
   all-given known (InBlock front) r all is = none-known known r all is
   all-given known (Ended refusal) r all is = cc
 
-met : (known : Option (Option Refusal)) (p : Progress) (refusal : Refusal) (r : Option Refusal) → refusal_by p ≡ Some refusal → refusal_left_by known p ≡ Some r → r ≡ Some refusal
+met : (known : Option (Option Refusal)) (p : Progress) (refusal : Refusal) (r : Option Refusal) → refusal_by p ≡ Some refusal
+    → refusal_left_by known p ≡ Some r → r ≡ Some refusal
 met known InFront refusal r is left = absurd cc
 met known (InBlock front) refusal r is left = absurd cc
 met known (Ended other) refusal r is left = (let same : other ≡ r = cc in sym same ∙ is)
@@ -138,6 +139,6 @@ module _ {S : Type 0} (remaining : S → Option (List ℕ)) (notes : S → List 
   gives-refused refusal g is = met (option_map (refusal_with c) (rest_in remaining c)) c.progress refusal (reading_of file).refusal is g.refusal
 
 -- what passed a source of which a file was told is what it gave of that file
-pub gives-passed : {S : Type 0} (remaining : S → Option (List ℕ)) (notes : S → List ℕ → Type 0) (old new : Classic S) (file : List ℕ) → noted_by remaining notes old (told_as file)
-    → (passed : PassesOn (left_in remaining) (noted_by remaining notes) old new) → Gives remaining notes new file passed.0
+pub gives-passed : {S : Type 0} (remaining : S → Option (List ℕ)) (notes : S → List ℕ → Type 0) (old new : Classic S) (file : List ℕ)
+    → noted_by remaining notes old (told_as file) → (passed : PassesOn (left_in remaining) (noted_by remaining notes) old new) → Gives remaining notes new file passed.0
 gives-passed remaining notes old new file told passed = gives-told remaining notes new file passed.0 (passed.2 (told_as file) told)

@@ -1,5 +1,6 @@
 pub mod Captures
 pub mod Filled
+pub mod Formats
 pub mod Gives
 pub mod Looking
 pub mod Options

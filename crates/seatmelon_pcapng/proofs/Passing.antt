@@ -10,8 +10,8 @@ module _ {S : Type 0} (remaining : S → Option (List ℕ)) (notes : S → List 
   PassesOn-none s = ([], Consumes-nil (remaining s), λ passed noted. subst (notes s) (sym (append-nil passed)) noted)
 
   -- what a read gave has passed
-  pub PassesOn-read : {E : Type 0} (old new : S) (r : Result ℕ E) (buf : List ℕ) → ReadConsumes (remaining old) (remaining new) r buf → NotesOn notes old new (given r buf)
-      → PassesOn remaining notes old new
+  pub PassesOn-read : {E : Type 0} (old new : S) (r : Result ℕ E) (buf : List ℕ) → ReadConsumes (remaining old) (remaining new) r buf
+      → NotesOn notes old new (given r buf) → PassesOn remaining notes old new
   PassesOn-read old new (Ok n) buf bytes noted = (take n buf, bytes.0, noted)
   PassesOn-read old new (Err e) buf bytes noted = ([], Consumes-kept (remaining old) (remaining old) (remaining new) [] (Consumes-nil (remaining old)) bytes, noted)
 

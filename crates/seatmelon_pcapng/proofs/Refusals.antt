@@ -75,8 +75,9 @@ module _ (order : Option Order) (interfaces : List Interface) (at : ℕ) where
   refusal-none known p r end = by-reading _ _ p r (none-known known end)
 
   -- behind a block
-  gone-known : (block : List ℕ) (known : Option (List ℕ)) (front : Front) (turn : Turn) → IfSome (prepend_known block known) (λ rest. next_of (stands rest) ≡ goes front turn)
-      → length block ≡ front.len → (order' : Option Order) (interfaces' : List Interface) (at' : ℕ) (block' : List ℕ) → order' ≡ order_after order front turn
+  gone-known : (block : List ℕ) (known : Option (List ℕ)) (front : Front) (turn : Turn)
+      → IfSome (prepend_known block known) (λ rest. next_of (stands rest) ≡ goes front turn) → length block ≡ front.len
+      → (order' : Option Order) (interfaces' : List Interface) (at' : ℕ) (block' : List ℕ) → order' ≡ order_after order front turn
       → interfaces' ≡ interfaces_after interfaces turn → at' ≡ (at + front.len) % 2 ^ 64 → block' ≡ []
       → Stays (option_map (ends_with order interfaces at) (prepend_known block known)) (option_map (ends_with order' interfaces' at') (prepend_known block' known))
   gone-known block None front turn next whole order' interfaces' at' block' a b c d = tt
@@ -95,14 +96,16 @@ module _ (order : Option Order) (interfaces : List Interface) (at : ℕ) where
       → IfSome (prepend_known block known) (λ rest. next_of (stands rest) ≡ goes front turn) → length block ≡ front.len
       → (order' : Option Order) (interfaces' : List Interface) (at' : ℕ) (block' : List ℕ) → order' ≡ order_after order front turn
       → interfaces' ≡ interfaces_after interfaces turn → at' ≡ (at + front.len) % 2 ^ 64 → block' ≡ []
-      → Stays (refusal_left_by (option_map (ends_with order interfaces at) (prepend_known block known)) p) (option_map (ends_with order' interfaces' at') (prepend_known block' known))
+      → Stays (refusal_left_by (option_map (ends_with order interfaces at) (prepend_known block known)) p)
+      (option_map (ends_with order' interfaces' at') (prepend_known block' known))
   refusal-gone block known p front turn r next whole order' interfaces' at' block' a b c d =
       by-reading _ _ p r (gone-known block known front turn next whole order' interfaces' at' block' a b c d)
 
 -- ---- where nothing was read
 
-pub refusal-begins : (order : Option Order) (interfaces : List Interface) (at : ℕ) (block file : List ℕ) (known : Option (List ℕ)) → order ≡ None → interfaces ≡ [] → at ≡ 0
-    → block ≡ [] → known ≡ Some file → option_map (ends_with order interfaces at) (prepend_known block known) ≡ Some (reading_of file).refusal
+pub refusal-begins : (order : Option Order) (interfaces : List Interface) (at : ℕ) (block file : List ℕ) (known : Option (List ℕ))
+    → order ≡ None → interfaces ≡ [] → at ≡ 0 → block ≡ [] → known ≡ Some file
+    → option_map (ends_with order interfaces at) (prepend_known block known) ≡ Some (reading_of file).refusal
 refusal-begins order interfaces at block file None a b c d is = absurd cc
 refusal-begins order interfaces at block file (Some other) a b c d is =
     let same : other ≡ file = cc in

@@ -258,7 +258,8 @@ refusal-ended s h = ap (λ (r : Reading). r.refusal) (reading-none (length s.res
 pub refusal-refused : (s : State) (reason : Reason) → next_of s ≡ refused reason → (reading_left s).refusal ≡ Some (record { reason = reason; at = s.at })
 refusal-refused s reason e = ap (λ (r : Reading). r.refusal) (reading_left-suc s (refused reason) (refused-some s reason e) e)
 
-pub refusal-goes : (s : State) (front : Front) (turn : Turn) → next_of s ≡ goes front turn → (reading_left s).refusal ≡ (reading_left (state_after s (goes front turn))).refusal
+pub refusal-goes : (s : State) (front : Front) (turn : Turn) → next_of s ≡ goes front turn
+    → (reading_left s).refusal ≡ (reading_left (state_after s (goes front turn))).refusal
 refusal-goes s front turn e =
     let whole = goes-whole s front turn e in
     let size : length (drop front.len s.rest) ≡ length s.rest - front.len = length-drop front.len s.rest in

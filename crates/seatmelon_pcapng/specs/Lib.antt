@@ -1,5 +1,6 @@
 pub mod Blocks
 pub mod Classics
+pub mod Formats
 pub mod Giving
 pub mod Interfaces
 pub mod Memory

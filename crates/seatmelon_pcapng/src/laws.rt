@@ -4,8 +4,10 @@ ghost use Rattle.std.specs.Io.KnownBytes.{IsAtEnd};
 ghost use Rattle.rasta_pcap.specs.Capture.{IsCapture, IsRefused, max_records};
 ghost use Rattle.rasta_pcap.specs.Fault.{cut_record, fault_at};
 ghost use Rattle.seatmelon_pcapng.specs.Classics.{left_in, refusal_in};
+ghost use Rattle.seatmelon_pcapng.specs.Formats as formats;
 ghost use Rattle.seatmelon_pcapng.specs.Giving.{Gives, noted_by, told_as};
 ghost use Rattle.seatmelon_pcapng.specs.Readings.{Packet, classic_of, reading_of};
+ghost use Rattle.seatmelon_pcapng.specs.declared.capture.Capture.{Capture};
 ghost use Rattle.seatmelon_pcapng.specs.declared.classic.Classic.{Classic};
 ghost use Rattle.seatmelon_pcapng.specs.declared.refusal.Refusal.{Refusal};
 
@@ -39,4 +41,22 @@ pub fn refusal_is_of_the_file<S: Source>()
 pub fn met_refusal_is_of_the_file<S: Source>()
     ensures { (c : Classic S) (file given : List ℕ) (refusal : Refusal) → Gives S.remaining S.notes c file given → refusal_in c ≡ Some refusal
         → (reading_of file).refusal ≡ Some refusal }
+{}
+
+/// A file that was told is the one of which a capture in either format has noted what it gave.
+pub fn told_capture_is_noted<S: Source>()
+    ensures { (c : Capture S) (file given : List ℕ) → formats.noted_by S.remaining S.notes c (told_as file ++ given)
+        → formats.Gives S.remaining S.notes c file given }
+{}
+
+/// Once all was given, the refusal that such a capture has met is that of the file, or none where that has none.
+pub fn refusal_is_of_the_capture<S: Source>()
+    ensures { (c : Capture S) (file given : List ℕ) → formats.noted_by S.remaining S.notes c (told_as file ++ given)
+        → IsAtEnd (formats.left_in S.remaining c) → formats.refusal_in c ≡ formats.refusal_of file }
+{}
+
+/// A refusal that it has met is that of the file, whatever is left to be given.
+pub fn met_refusal_is_of_the_capture<S: Source>()
+    ensures { (c : Capture S) (file given : List ℕ) (refusal : Refusal) → formats.noted_by S.remaining S.notes c (told_as file ++ given)
+        → formats.refusal_in c ≡ Some refusal → formats.refusal_of file ≡ Some refusal }
 {}

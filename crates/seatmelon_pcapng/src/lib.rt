@@ -2,6 +2,7 @@
 #![tactic(auto)]
 
 mod block;
+mod capture;
 mod classic;
 mod front;
 mod interface;
@@ -13,6 +14,7 @@ mod refusal;
 mod section;
 mod time;
 
+pub use capture::Capture;
 pub use classic::Classic;
 pub use front::is_pcapng;
 pub use peeked::Peeked;

@@ -1,6 +1,7 @@
 //! A source whose first bytes were looked at.
 ghost use Rattle.std.specs.Prelude.{◌≡◌, ◌≤◌, [], ◌++◌, min, take, length, IfOk, IfErr, IfSome, OnOk};
 ghost use Rattle.std.specs.Io.KnownBytes.{Keeps};
+ghost use Rattle.rasta_pcap.specs.Devices.{HasFailed};
 ghost use Rattle.rasta_pcap.specs.Fault.{read_failed};
 ghost use Rattle.rasta_pcap.specs.Filling.{IsFilled};
 ghost use Rattle.rasta_pcap.specs.Noting.{NotesOn};
@@ -18,7 +19,7 @@ fn fill<S: Source>(source: &mut S, buf: &mut [u8]) -> Result<usize, Fault>
     ensures filled { IfOk result (λ n. IsFilled (length buf.old) (S.remaining source.old) (S.remaining source.new) (take n buf.new)) }
     ensures noted { IfOk result (λ n. NotesOn S.notes source.old source.new (take n buf.new)) }
     ensures steady { OnOk result (S.failure_count source.new ≡ S.failure_count source.old) }
-    ensures err { IfErr result (λ f. f ≡ read_failed) }
+    ensures err { IfErr result (λ f. (f ≡ read_failed) × HasFailed (S.failure_count source.old) (S.failure_count source.new)) }
 {
     let len = buf.len();
     let mut filled = 0;

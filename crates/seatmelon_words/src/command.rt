@@ -1,10 +1,11 @@
 //! The command line.
-use crate::show;
+use crate::{audit, show};
 use clap::builder::ValueParser;
 use clap::error::ErrorKind;
 use clap::{Arg, ArgAction, ArgMatches, Command, Error, value_parser};
 use seatmelon_commands::{After, Drafting, Explaining, Showing};
 use seatmelon_explain::{Extent, Form, Selection};
+use seatmelon_many::{Auditing, DraftingAll};
 use std::alloc::{AllocError, Global};
 
 /// What the program is asked for.
@@ -15,6 +16,12 @@ pub enum Request<'a> {
 
     /// A parameter file for the connection of this number, from 1.
     Draft(Drafting<'a>),
+
+    /// Parameter files for all connections.
+    DraftAll(DraftingAll<'a>),
+
+    /// The verdict on each of many connections.
+    Audit(Auditing<'a>),
 
     /// The packets of a connection, one by one.
     Show(Showing<'a>),
@@ -32,7 +39,7 @@ Exit status:
 
 const DRAFT_STATUSES: &str = "\
 Exit status:
-  0  the draft is written
+  0  the draft is written, or the drafts are
   1  the capture holds no connection, it is refused or not whole, or no quiet point was found behind RECORD
   2  the arguments are wrong, there is no connection of that number, or PARAMS is refused or of other ids
   3  memory, reading or writing failed";
@@ -64,7 +71,7 @@ fn draft<'a>(alloc: Global) -> Result<Command<'a>, AllocError> {
         .value_name("N")
         .help("The number that the survey gives the connection")
         .value_parser(value_parser!(u64))
-        .required(true);
+        .required_unless_present("all")?;
     let parameters = Arg::new(alloc, "params")
         .value_name("PARAMS")
         .help(
@@ -72,12 +79,28 @@ fn draft<'a>(alloc: Global) -> Result<Command<'a>, AllocError> {
         )
         .requires_arg("after")?;
     Command::new(alloc, "draft")
-        .about("Writes a parameter file for one of them, to be compared with the engineering data")
+        .about(
+            "Writes a parameter file for one of them, or for all, to be compared with the engineering data",
+        )
         .after_help(DRAFT_STATUSES)
         .arg(capture(alloc))?
         .arg(number)?
         .arg(parameters)?
-        .arg(after(alloc))
+        .arg(after(alloc))?
+        .arg(all(alloc)?)
+}
+
+// The option that asks for the drafts of all connections.
+fn all<'a>(alloc: Global) -> Result<Arg<'a>, AllocError> {
+    Arg::new(alloc, "all")
+        .long("all")
+        .value_name("FOLDER")
+        .help(
+            "Writes the drafts of all connections into this folder, where no file may stand in their way",
+        )
+        .conflicts_with("number")?
+        .conflicts_with("params")?
+        .conflicts_with("after")
 }
 
 // The option that asks for quiet points behind a record.
@@ -100,7 +123,7 @@ fn without<'a>(alloc: Global) -> Arg<'a> {
 }
 
 // The option that asks for data in place of words.
-fn json<'a>(alloc: Global) -> Arg<'a> {
+pub(crate) fn json<'a>(alloc: Global) -> Arg<'a> {
     Arg::new(alloc, "json")
         .long("json")
         .help("Writes the same as one JSON object, for programs")
@@ -190,7 +213,8 @@ fn command<'a>(alloc: Global) -> Result<Command<'a>, AllocError> {
         .subcommand(survey(alloc)?)?
         .subcommand(draft(alloc)?)?
         .subcommand(show::command(alloc, capture(alloc))?)?
-        .subcommand(explain(alloc)?)
+        .subcommand(explain(alloc)?)?
+        .subcommand(audit::command(alloc, capture(alloc))?)
 }
 
 // The numbers of the records that are left out, rising, each once.
@@ -284,6 +308,9 @@ fn explaining_in<'a>(
 }
 
 fn drafting_in<'a>(matches: &ArgMatches<'a>, capture: &'a str) -> Option<Request<'a>> {
+    if let Some(folder) = matches.get_str("all") {
+        return Some(Request::DraftAll(DraftingAll { capture, folder }));
+    }
     let after = matches.get_one("after").map(|record| After {
         record,
         parameters: matches.get_str("params"),
@@ -305,6 +332,7 @@ fn request_in<'a>(alloc: Global, matches: &ArgMatches<'a>) -> Result<Option<Requ
     };
     match name {
         "survey" => Ok(Some(Request::Survey { capture })),
+        "audit" => Ok(Some(Request::Audit(audit::auditing_in(alloc, inner, capture)?))),
         "show" => Ok(show::showing_in(alloc, inner, capture)?.map(Request::Show)),
         "explain" => Ok(explaining_in(alloc, inner, capture)?),
         _ => Ok(drafting_in(inner, capture)),

@@ -2,6 +2,7 @@
 //! must-fail edits: it has none, and is proved once.
 #![tactic(auto)]
 
+mod audit;
 mod command;
 mod show;
 

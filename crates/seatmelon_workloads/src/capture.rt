@@ -3,12 +3,15 @@ use rasta_pdu::Endpoint;
 use std::alloc::Global;
 
 // A classic libpcap file of Ethernet frames, its numbers with their lowest byte first.
-const HEADER: &[u8; 24] = b"\xd4\xc3\xb2\xa1\x02\0\x04\0\0\0\0\0\0\0\0\0\0\0\x04\0\x01\0\0\0";
+pub const HEADER: &[u8; 24] = b"\xd4\xc3\xb2\xa1\x02\0\x04\0\0\0\0\0\0\0\0\0\0\0\x04\0\x01\0\0\0";
 
 // A frame of TCP, which is of no connection.
 const FOREIGN: &[u8; 60] = b"\x02\0\0\0\0\x02\x02\0\0\0\0\x01\x08\0\
     \x45\0\0\x2e\0\0\0\0\x40\x06\0\0\x0a\0\0\x09\x0a\0\0\x08\
     \0\0\0\0\0\0\0\0\0\0\0\0\0\0\0\0\0\0\0\0\0\0\0\0\0\0";
+
+// The length of the header of a record.
+const RECORD_HEADER: usize = 16;
 
 // The lengths of both headers before a datagram.
 const IPV4_HEADER: u16 = 28;
@@ -42,6 +45,13 @@ fn record_of(seconds: u32, micros: u32, len: u32) -> [u8; 16] {
     let [e, f, g, h] = micros.to_le_bytes();
     let [i, j, k, l] = len.to_le_bytes();
     [a, b, c, d, e, f, g, h, i, j, k, l, i, j, k, l]
+}
+
+/// The record that begins at that place of a capture, with its header.
+pub fn record_at(bytes: &[u8], at: usize) -> Option<&[u8]> {
+    let rest = bytes.get(at..)?;
+    let len = u32::from_le_bytes(*rest.get(8..12)?.first_chunk::<4>()?);
+    rest.get(..(len as usize).checked_add(RECORD_HEADER)?)
 }
 
 /// A capture that grows.
@@ -103,6 +113,12 @@ impl Capture {
         self.add_header(u32::from(len).checked_add(FRAME)?)?;
         self.bytes.extend_from_slice(&frame).ok()?;
         self.bytes.extend_from_slice(datagram).ok()
+    }
+
+    /// Adds a record of another capture, with its header.
+    pub fn add_record(&mut self, record: &[u8]) -> Option<()> {
+        self.records = self.records.checked_add(1)?;
+        self.bytes.extend_from_slice(record).ok()
     }
 
     /// Adds a frame that is of no connection.

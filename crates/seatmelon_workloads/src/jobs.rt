@@ -2,6 +2,7 @@
 use crate::dialogue::{Dialogue, Moment, Recorded, noise};
 use crate::folding::{Folded, Folding};
 use crate::port::make_port;
+use crate::station::{Station, make_station};
 use crate::traffic::{BURSTS, BUSY, DAY, LARGE, SINGLE, Traffic};
 use rasta_cert::{Certificate, Entry};
 use rasta_pcap::{Buffered, Counted};
@@ -9,9 +10,12 @@ use rasta_pdu::{Fault, Params, Side, Sink, Source};
 use rasta_show::run_show;
 use rasta_verdict::{run_audit, run_check};
 use seatmelon_commands::{
-    Answer, Explaining, Inputs, explain_of, params_in, status_of_outcome, survey_of, write_answer,
+    Answer, Explaining, Inputs, STANDARD_OUTPUT, explain_of, params_in, status_of_outcome,
+    survey_of, write_answer,
 };
 use seatmelon_explain::{Extent, Form};
+use seatmelon_many::{Auditing, audit_of};
+use seatmelon_tally::status_of;
 use std::alloc::Global;
 use std::io;
 use std::io::{BufWriter, Write};
@@ -37,6 +41,9 @@ pub enum Job {
 
     /// A survey and the PDUs of one channel, where nothing crosses twice.
     Single,
+
+    /// An audit of all connections of a station.
+    Many,
 }
 
 // How often a capture is read: up to some moments, each later than the one before.
@@ -72,6 +79,7 @@ impl Job {
             "show" => Some(Job::Show),
             "mirrored" => Some(Job::Mirrored),
             "single" => Some(Job::Single),
+            "many" => Some(Job::Many),
             _ => None,
         }
     }
@@ -79,7 +87,7 @@ impl Job {
     // What crosses in each of its two captures.
     fn traffic(self) -> [Traffic; 2] {
         match self {
-            Job::Explain | Job::Survey | Job::Mirrored => [DAY, DAY],
+            Job::Explain | Job::Survey | Job::Mirrored | Job::Many => [DAY, DAY],
             Job::Json => [LARGE, LARGE],
             Job::Audit => [DAY, BURSTS],
             Job::Check => [BUSY, LARGE],
@@ -244,7 +252,8 @@ fn left_out(alloc: Global, turn: u32, packets: u32) -> Option<Vec<u32>> {
 // Surveys a port.
 fn survey(alloc: Global, capture: &[u8], folded: &mut Folded) -> Option<u8> {
     let survey = survey_of(alloc, "port.pcap", capture, None).ok()?;
-    write_answer(alloc, &Answer::Survey(&survey), Folding::new(folded)).ok()?;
+    let answer = Answer::Survey(&survey);
+    write_answer(alloc, STANDARD_OUTPUT, &answer, Folding::new(folded)).ok()?;
     Some(u8::from(survey.connections().is_empty()))
 }
 
@@ -281,6 +290,36 @@ fn run_survey(
         let mut folded = Folded::new();
         let status = match port.capture.bytes().get(..*part) {
             Some(capture) => survey(rt.alloc(), capture, &mut folded),
+            None => None,
+        };
+        came &= tell(rt, status, folded)?;
+    }
+    Ok(came)
+}
+
+// Audits the connections of a station, of whose parameters there are few.
+fn audit_many(alloc: Global, capture: &[u8], station: &Station, folded: &mut Folded) -> Option<u8> {
+    let auditing = Auditing {
+        capture: "station.pcap",
+        parameters: Vec::new(alloc),
+        form: seatmelon_many::Form::Text,
+    };
+    let params = station.params.get(..station.params.len().min(4096))?;
+    let device = Folding::new(folded);
+    let audited = audit_of(alloc, &auditing, &station.names, params, capture, device).ok()?;
+    Some(status_of(&audited.audit))
+}
+
+// Audits the connections of a station, up to each of its moments.
+fn run_many(rt: &(impl Print + AllocGlobal), seed: u32, packets: u32) -> io::Result<bool> {
+    let Some(station) = make_station(rt.alloc(), seed, packets) else {
+        return tell(rt, None, Folded::new());
+    };
+    let mut came = true;
+    for part in &station.moments {
+        let mut folded = Folded::new();
+        let status = match station.capture.bytes().get(..*part) {
+            Some(capture) => audit_many(rt.alloc(), capture, &station, &mut folded),
             None => None,
         };
         came &= tell(rt, status, folded)?;
@@ -352,6 +391,7 @@ pub fn run_job(
         came &= match job {
             Job::Survey => run_survey(rt, seed, packets, 1)?,
             Job::Mirrored => run_survey(rt, seed, packets, BETWEEN)?,
+            Job::Many => run_many(rt, seed, packets)?,
             _ => run_day(rt, job, turn, seed, packets)?,
         };
     }

@@ -8,6 +8,7 @@ mod dialogue;
 mod folding;
 mod jobs;
 mod port;
+mod station;
 mod traffic;
 
 use jobs::{Job, run_job};
@@ -16,7 +17,7 @@ use std::rt::Env;
 use std::{env, io};
 
 const USAGE: &str =
-    "usage: seatmelon_workloads explain|json|audit|check|survey|show|mirrored|single SEED TURNS PACKETS";
+    "usage: seatmelon_workloads explain|json|audit|check|survey|show|mirrored|single|many SEED TURNS PACKETS";
 
 // What the words after the program's name ask for.
 #[derive(Clone, Copy)]

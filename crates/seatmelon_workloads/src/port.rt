@@ -79,27 +79,31 @@ fn channel(connection: u32, number: u8) -> Option<Channel> {
     })
 }
 
+/// The parameters of the connection of this number.
+pub fn params_of(connection: u32) -> Option<Params> {
+    let channels = [channel(connection, 0)?, channel(connection, 1)?];
+    let client = connection.checked_mul(2)?.checked_add(1000)?;
+    let server = client.checked_add(1)?;
+    Params::new(
+        client,
+        server,
+        CODE_LENGTH,
+        WORDS,
+        0,
+        20,
+        1800,
+        0,
+        1,
+        4_000_000_000,
+        &channels,
+        None,
+    )
+}
+
 impl Line {
     fn new(connection: u32, random: &mut Draws) -> Option<Line> {
-        let channels = [channel(connection, 0)?, channel(connection, 1)?];
-        let client = connection.checked_mul(2)?.checked_add(1000)?;
-        let server = client.checked_add(1)?;
-        let params = Params::new(
-            client,
-            server,
-            CODE_LENGTH,
-            WORDS,
-            0,
-            20,
-            1800,
-            0,
-            1,
-            4_000_000_000,
-            &channels,
-            None,
-        )?;
         Some(Line {
-            params,
+            params: params_of(connection)?,
             client: Sender::new(random),
             server: Sender::new(random),
         })

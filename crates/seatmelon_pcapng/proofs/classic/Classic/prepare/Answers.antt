@@ -38,14 +38,16 @@ pub returns-then-not-is_empty-clause-passed : goal.returns-then-not-is_empty-cla
 returns-then-not-is_empty-clause-passed g c = c.loop.invariant.passed
 
 pub returns-in_err-read_front-in-InFront-clause-refusal : goal.returns-in_err-read_front-in-InFront-clause-refusal
-returns-in_err-read_front-in-InFront-clause-refusal g c = Stays-trans _ (refusal_left g.S.Source.remaining c.loop.self) _ c.loop.invariant.refusal c.read_front.ensures.refusal
+returns-in_err-read_front-in-InFront-clause-refusal g c =
+    Stays-trans _ (refusal_left g.S.Source.remaining c.loop.self) _ c.loop.invariant.refusal c.read_front.ensures.refusal
 
 pub returns-in_err-read_front-in-InFront-clause-passed : goal.returns-in_err-read_front-in-InFront-clause-passed
 returns-in_err-read_front-in-InFront-clause-passed g c =
     PassesOn-then g.S.Source.remaining g.S.Source.notes _ (source_of c.loop.self) _ c.loop.invariant.passed c.read_front.ensures.passed
 
 pub returns-in_err-read_block-in-InBlock-clause-refusal : goal.returns-in_err-read_block-in-InBlock-clause-refusal
-returns-in_err-read_block-in-InBlock-clause-refusal g c = Stays-trans _ (refusal_left g.S.Source.remaining c.loop.self) _ c.loop.invariant.refusal c.read_block.ensures.refusal
+returns-in_err-read_block-in-InBlock-clause-refusal g c =
+    Stays-trans _ (refusal_left g.S.Source.remaining c.loop.self) _ c.loop.invariant.refusal c.read_block.ensures.refusal
 
 pub returns-in_err-read_block-in-InBlock-clause-passed : goal.returns-in_err-read_block-in-InBlock-clause-passed
 returns-in_err-read_block-in-InBlock-clause-passed g c =

@@ -17,5 +17,6 @@ returns-clause-left g c =
 pub returns-clause-refusal : goal.returns-clause-refusal
 returns-clause-refusal g c =
     let old = c.args.self.now in
-    refusal-met (order_in old.section) (interfaces_in old.section) old.at (prepend_known (bytes_of old.block) (g.S.Source.remaining old.source)) old.progress c.args.reason
+    let known = prepend_known (bytes_of old.block) (g.S.Source.remaining old.source) in
+    refusal-met (order_in old.section) (interfaces_in old.section) old.at known old.progress c.args.reason
     c.requires.reading c.requires.next

@@ -11,8 +11,8 @@ pub returns-in-Ok-clause-noted : goal.returns-in-Ok-clause-noted
 returns-in-Ok-clause-noted g c =
     let ready = c.prepare.new.self in
     let remaining = g.S.Source.remaining in
-    let given = left-given (order_in ready.section) (interfaces_in ready.section) ready.at (bytes_held ready.held) (bytes_held c.give.new.self) (take c.give.result c.give.new.buf)
-    c.give.ensures.given (left_in remaining c.args.self.now) (rest_in remaining ready) ready.progress c.prepare.ensures.left in
+    let given = left-given (order_in ready.section) (interfaces_in ready.section) ready.at (bytes_held ready.held) (bytes_held c.give.new.self)
+    (take c.give.result c.give.new.buf) c.give.ensures.given (left_in remaining c.args.self.now) (rest_in remaining ready) ready.progress c.prepare.ensures.left in
     noted-more remaining g.S.Source.notes c.args.self.now _ (take c.give.result c.give.new.buf) c.prepare.ensures.passed given c.prepare.ensures.refusal
 
 pub returns-in-Err-clause-noted : goal.returns-in-Err-clause-noted

@@ -1,5 +1,5 @@
 use Rattle.std.proofs.Common.{rules}
-use Rattle.seatmelon_commands.proofs.file_kind.file_kind.Goals as goal
+use Rattle.seatmelon_commands.proofs.file_kind.kind_of_start.Goals as goal
 
 pub returns-else-is_text : goal.returns-else-is_text
 returns-else-is_text c = search rules

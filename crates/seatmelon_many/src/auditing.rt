@@ -1,0 +1,146 @@
+//! The command `audit`.
+ghost use Rattle.std.specs.Prelude.{◌≡◌, ◌<◌, ◌≤◌, ◌^◌, IfErr, IfOk, IfSome, length};
+ghost use Rattle.seatmelon_audit.specs.Audits.{AreAudits};
+ghost use Rattle.seatmelon_commands.specs.Failing.{status_of, IsOfExplaining};
+
+use crate::files::parameter_files;
+use crate::judging::{Judged, judge};
+use rasta_pcap::{Counted, Fault};
+use rasta_pdu::Params;
+use seatmelon_audit::{Audit, audit};
+use seatmelon_commands::{
+    Failure, FileKind, Progress, STANDARD_INPUT, STANDARD_OUTPUT, Watched, advise, finish,
+    kind_of_start, len_at, output_to, unread,
+};
+use seatmelon_tally::{status_of, write_audit, write_audit_json};
+use std::alloc::Global;
+use std::fs::File;
+use std::io;
+use std::io::{Input, Read, Write};
+use std::rt::Files;
+use std::time::Clock;
+
+/// What an audit is written as.
+#[derive(Clone, Copy)]
+pub enum Form {
+    Text,
+    Json,
+}
+
+/// What is to be audited: the path of a capture, those of parameter files and of folders of them, and what is written.
+#[derive(Drop)]
+pub struct Auditing<'a> {
+    pub capture: &'a str,
+    pub parameters: Vec<&'a str>,
+    pub form: Form,
+}
+
+/// What an audit came to, and what kind of file the capture seems to be.
+#[derive(Drop)]
+pub struct Audited {
+    pub audit: Audit,
+    pub kind: FileKind,
+}
+
+// Why there is no audit, by the fault and the error of the reader.
+fn unaudited(alloc: Global, path: &str, fault: Fault, error: Option<io::Error>) -> Failure
+    ensures { status_of result ≡ 3 }
+{
+    match fault.number {
+        Fault::READ_FAILED => unread(alloc, path, error),
+        _ => Failure::OutOfMemory,
+    }
+}
+
+// Writes an audit to a device, all of it.
+fn write_to<W: Write + Drop>(
+    alloc: Global,
+    form: Form,
+    names: &[String],
+    audit: &Audit,
+    device: W,
+) -> Result<(), Failure>
+    ensures { IfErr result (λ failure. status_of failure ≡ 3) }
+{
+    let mut output = output_to(alloc, device)?;
+    let written = match form {
+        Form::Text => write_audit(&mut output, names, audit),
+        Form::Json => write_audit_json(&mut output, names, audit),
+    };
+    finish(alloc, STANDARD_OUTPUT, output, written)
+}
+
+/// Audits the connections with these parameters, whose files have these names, in one reading of the capture that a reader
+/// gives, and writes that to a device, all of it. Nothing is written before the capture is at its end.
+pub fn audit_of<D: Read + Drop, W: Write + Drop>(
+    alloc: Global,
+    auditing: &Auditing<'_>,
+    names: &[String],
+    params: &[Params],
+    file: D,
+    device: W,
+) -> Result<Audited, Failure>
+    requires { length params.now < 2 ^ 32 }
+    ensures audits { IfSome (D.remaining file) (λ bytes. IfOk result (λ a. AreAudits params.now bytes a.audit)) }
+    ensures err { IfErr result (λ failure. status_of failure ≡ 3) }
+{
+    let mut source = Counted::new(Watched::new(file));
+    let audit = audit(alloc, params, &mut source);
+    let reader = source.into_inner();
+    match audit {
+        Ok(audit) => {
+            write_to(alloc, auditing.form, names, &audit, device)?;
+            Ok(Audited {
+                audit,
+                kind: kind_of_start(reader.start()),
+            })
+        }
+        Err(fault) => Err(unaudited(alloc, auditing.capture, fault, reader.error())),
+    }
+}
+
+// Audits the capture on standard output.
+fn audit_capture<R: AllocGlobal + Clock + Eprint + Files + Input + Print>(
+    rt: &R,
+    auditing: &Auditing<'_>,
+    names: &[String],
+    params: &[Params],
+    is_told: bool,
+) -> Result<Audited, Failure>
+    requires { length params.now < 2 ^ 32 }
+    ensures { IfErr result (λ failure. status_of failure ≡ 3) }
+{
+    let (alloc, path, device) = (rt.alloc(), auditing.capture, io::writer(rt));
+    if path == STANDARD_INPUT {
+        let input = Progress::new(rt, rt.reader(), None, is_told);
+        return audit_of(alloc, auditing, names, params, input, device);
+    }
+    match File::open(rt, path) {
+        Ok(file) => {
+            let file = Progress::new(rt, file, len_at(rt, path), is_told);
+            audit_of(alloc, auditing, names, params, file, device)
+        }
+        Err(error) => Err(unread(alloc, path, Some(error))),
+    }
+}
+
+/// Reads and judges all parameter files, and audits the capture for them on standard output. Where one of them is refused
+/// or can't be read, standard error is told of each, and the capture isn't opened. If `is_told`, standard error says how
+/// many megabytes were read of a capture that takes longer than a second. Answers the program's status.
+pub fn audit_files<R: AllocGlobal + Clock + Clone + Drop + Eprint + Files + Input + Print>(
+    rt: &R,
+    auditing: &Auditing<'_>,
+    is_told: bool,
+) -> Result<u8, Failure>
+    ensures ok { IfOk result (λ status. status ≤ 3) }
+    ensures err { IfErr result IsOfExplaining }
+{
+    let files = parameter_files(rt, auditing.parameters.as_slice())?;
+    let params = match judge(rt, &files)? {
+        Judged::All(params) => params,
+        Judged::Refused(status) => return Ok(status),
+    };
+    let audited = audit_capture(rt, auditing, files.names(), params.as_slice(), is_told)?;
+    advise(rt, auditing.capture, audited.kind);
+    Ok(status_of(&audited.audit))
+}

@@ -1,0 +1,141 @@
+//! Which parameter files are named.
+ghost use Rattle.std.specs.Prelude.{◌≡◌, ◌≤◌, IfErr, length};
+ghost use Rattle.seatmelon_commands.specs.Failing.{IsOfExplaining};
+
+use seatmelon_commands::{Failure, unread};
+use std::alloc::Global;
+use std::fs::DirEntry;
+use std::rt::Files;
+use std::{fs, io};
+
+/// The most parameter files of an audit.
+pub const MOST_FILES: usize = 4096;
+
+// How a parameter file of a folder is called.
+const EXTENSION: &str = "toml";
+
+/// The paths of parameter files, in their order: at most 4,096.
+#[derive(Drop)]
+pub struct ParameterFiles {
+    names: Vec<String>,
+    ghost many: { length names.items ≤ 4096 },
+}
+
+impl ParameterFiles {
+    ghost use Rattle.seatmelon_many.specs.Files.{count_in};
+
+    fn new(alloc: Global) -> ParameterFiles {
+        ParameterFiles {
+            names: Vec::new(alloc),
+        }
+    }
+
+    /// Their paths.
+    pub fn names(&self) -> &[String]
+        ensures { length result.now ≡ count_in self.now }
+    {
+        self.names.as_slice()
+    }
+
+    // Adds the file of that path.
+    fn add(&mut self, path: String) -> Result<(), Failure>
+        ensures { IfErr result IsOfExplaining }
+    {
+        if self.names.len() == MOST_FILES {
+            return Err(Failure::TooManyFiles { most: MOST_FILES });
+        }
+        match self.names.push(path) {
+            Ok(()) => Ok(()),
+            Err(_) => Err(Failure::OutOfMemory),
+        }
+    }
+}
+
+// Whether there is a folder at this path.
+fn is_folder<R: Files>(rt: &R, path: &str) -> bool {
+    match fs::metadata(rt, path) {
+        Ok(metadata) => metadata.is_dir(),
+        Err(_) => false,
+    }
+}
+
+// Whether an entry of a folder is a parameter file, by its name.
+fn is_parameter_file<R: Files>(rt: &R, entry: &DirEntry<R, Global>) -> bool {
+    entry.path().extension() == Some(EXTENSION) && !is_folder(rt, entry.path().as_str())
+}
+
+// The paths of the parameter files of a folder, in the order of their names.
+fn paths_in<R: AllocGlobal + Files + Clone + Drop>(
+    rt: &R,
+    folder: &str,
+) -> io::Result<Vec<String>> {
+    let mut paths = Vec::new(rt.alloc());
+    for entry in fs::read_dir(rt, folder)? {
+        let entry = entry?;
+        if is_parameter_file(rt, &entry) {
+            paths.push(String::from_str(rt.alloc(), entry.path().as_str())?)?;
+        }
+    }
+    paths.sort_unstable();
+    Ok(paths)
+}
+
+// That a folder has no parameter file.
+fn no_files(alloc: Global, folder: &str) -> Failure
+    ensures { IsOfExplaining result }
+{
+    match String::from_str(alloc, folder) {
+        Ok(path) => Failure::NoFiles { path },
+        Err(_) => Failure::OutOfMemory,
+    }
+}
+
+// Why a folder's files aren't known.
+fn unlisted(alloc: Global, folder: &str, error: io::Error) -> Failure
+    ensures { IsOfExplaining result }
+{
+    match error.kind() {
+        io::ErrorKind::OutOfMemory => Failure::OutOfMemory,
+        _ => unread(alloc, folder, Some(error)),
+    }
+}
+
+// Adds the parameter files of a folder.
+fn add_folder<R: AllocGlobal + Files + Clone + Drop>(
+    rt: &R,
+    folder: &str,
+    files: &mut ParameterFiles,
+) -> Result<(), Failure>
+    ensures { IfErr result IsOfExplaining }
+{
+    let paths = match paths_in(rt, folder) {
+        Ok(paths) => paths,
+        Err(error) => return Err(unlisted(rt.alloc(), folder, error)),
+    };
+    if paths.is_empty() {
+        return Err(no_files(rt.alloc(), folder));
+    }
+    for path in paths {
+        files.add(path)?;
+    }
+    Ok(())
+}
+
+/// The parameter files that these paths name: a file names itself, and a folder those of its files whose names end in
+/// `.toml`, in the order of their names.
+pub fn parameter_files<R: AllocGlobal + Files + Clone + Drop>(
+    rt: &R,
+    paths: &[&str],
+) -> Result<ParameterFiles, Failure>
+    ensures { IfErr result IsOfExplaining }
+{
+    let mut files = ParameterFiles::new(rt.alloc());
+    for path in paths {
+        if is_folder(rt, path) {
+            add_folder(rt, path, &mut files)?;
+        } else {
+            files.add(String::from_str(rt.alloc(), path)?)?;
+        }
+    }
+    Ok(files)
+}
